@@ -1,0 +1,96 @@
+-- The month and the day of each day of a year that begins on March 1st, by computing them all.
+use Rattle.std.proofs.Common.{◌≡◌, ℕ, ◌+◌, ◌-◌, ◌<◌, ◌≤◌, Bool, true, false, cond, eqb, ltb, leb, ◌&&◌, List, [], ◌∷◌, get_or, refl, arith}
+use Rattle.std.proofs.lemmas.Bool.Decides.{nat_tests}
+use Rattle.tz_base.proofs.Below.{all_below, passes_at}
+use Rattle.tz_base.specs.Cycles.{march_month, march_month_day}
+use Rattle.tz_base.specs.Days.{month_length, months_length}
+
+-- the months' table
+is_right_place : Bool → List ℕ → ℕ → Bool
+is_right_place leap table place = eqb (get_or table place 0) (months_length leap place) && leb (get_or table place 0) 335
+
+abbrev normal_table : List ℕ
+normal_table = 0 ∷ 31 ∷ 59 ∷ 90 ∷ 120 ∷ 151 ∷ 181 ∷ 212 ∷ 243 ∷ 273 ∷ 304 ∷ 334 ∷ []
+
+abbrev leap_table : List ℕ
+leap_table = 0 ∷ 31 ∷ 60 ∷ 91 ∷ 121 ∷ 152 ∷ 182 ∷ 213 ∷ 244 ∷ 274 ∷ 305 ∷ 335 ∷ []
+
+right_normal : all_below (is_right_place false normal_table) 12 ≡ true
+unfolding all_below is_right_place month_length months_length
+right_normal = refl
+
+right_leap : all_below (is_right_place true leap_table) 12 ≡ true
+unfolding all_below is_right_place month_length months_length
+right_leap = refl
+
+told_place : (leap : Bool) (table : List ℕ) (place : ℕ) → is_right_place leap table place ≡ true → (get_or table place 0 ≡ months_length leap place) × (get_or table place 0 ≤ 335)
+unfolding is_right_place
+told_place leap table place h = (grind (arith, nat_tests), grind (arith, nat_tests))
+
+pub months_length-normal : (place : ℕ) → place < 12 → (get_or normal_table place 0 ≡ months_length false place) × (get_or normal_table place 0 ≤ 335)
+months_length-normal place h = told_place false normal_table place (passes_at (is_right_place false normal_table) 12 place right_normal h)
+
+pub months_length-leap : (place : ℕ) → place < 12 → (get_or leap_table place 0 ≡ months_length true place) × (get_or leap_table place 0 ≤ 335)
+months_length-leap place h = told_place true leap_table place (passes_at (is_right_place true leap_table) 12 place right_leap h)
+
+-- a day before January lies in the month that is found, after the months before it
+is_right_before_january : Bool → ℕ → Bool
+is_right_before_january leap day =
+    let m = march_month day in
+    let d = march_month_day day in
+    leb 3 m && leb m 12 && eqb (months_length leap (m - 1) + d) (cond leap 60 59 + day) && ltb d (month_length leap m)
+
+-- a day from January 1st on likewise; the last day is one of leap years alone
+is_right_from_january : Bool → ℕ → Bool
+is_right_from_january leap day =
+    let m = march_month (306 + day) in
+    let d = march_month_day (306 + day) in
+    leb 13 m && leb m 14 && eqb (months_length leap (m - 13) + d) day && (ltb d (month_length leap (m - 12)))
+
+before_january : (leap : Bool) → all_below (is_right_before_january leap) 306 ≡ true
+unfolding all_below is_right_before_january march_month march_month_day month_length months_length
+before_january false = refl
+before_january true = refl
+
+from_january_normal : all_below (is_right_from_january false) 59 ≡ true
+unfolding all_below is_right_from_january march_month march_month_day month_length months_length
+from_january_normal = refl
+
+from_january_leap : all_below (is_right_from_january true) 60 ≡ true
+unfolding all_below is_right_from_january march_month march_month_day month_length months_length
+from_january_leap = refl
+
+-- what the month and the day of a day are, before January
+pub record IsBeforeJanuary (leap : Bool) (day : ℕ) : Type 0 where
+  pub low : 3 ≤ march_month day
+  pub high : march_month day ≤ 12
+  pub place : months_length leap (march_month day - 1) + march_month_day day ≡ cond leap 60 59 + day
+  pub inside : march_month_day day < month_length leap (march_month day)
+
+-- and from January 1st on
+pub record IsFromJanuary (leap : Bool) (day : ℕ) : Type 0 where
+  pub low : 13 ≤ march_month day
+  pub high : march_month day ≤ 14
+  pub place : months_length leap (march_month day - 13) + march_month_day day + 306 ≡ day
+  pub inside : march_month_day day < month_length leap (march_month day - 12)
+
+pub month_before_january : (leap : Bool) (day : ℕ) → day < 306 → IsBeforeJanuary leap day
+unfolding is_right_before_january
+month_before_january leap day h =
+    let right = passes_at (is_right_before_january leap) 306 day (before_january leap) h in
+    grind (arith, nat_tests)
+
+from_january : (leap : Bool) (day : ℕ) → day < 60 → (day ≡ 59 → leap ≡ true) → is_right_from_january leap day ≡ true
+from_january true day h last = passes_at (is_right_from_january true) 60 day from_january_leap h
+from_january false day h last = passes_at (is_right_from_january false) 59 day from_january_normal (below day h last)
+  where
+    below : (day : ℕ) → day < 60 → (day ≡ 59 → false ≡ true) → day < 59
+    below day h last = grind arith
+
+told_from_january : (leap : Bool) (d day : ℕ) → 306 + d ≡ day → is_right_from_january leap d ≡ true → IsFromJanuary leap day
+unfolding is_right_from_january
+told_from_january leap d day same right = rw (← same) (grind (arith, nat_tests))
+
+pub month_from_january : (leap : Bool) (day : ℕ) → 306 ≤ day → day ≤ 365 → (day ≡ 365 → leap ≡ true) → IsFromJanuary leap day
+month_from_january leap day low high last =
+    told_from_january leap (day - 306) day (omega arith) (from_january leap (day - 306) (omega arith) (λ e. last (omega arith)))

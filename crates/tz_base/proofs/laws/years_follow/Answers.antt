@@ -1,0 +1,6 @@
+-- The closed form gains the year's length.
+use Rattle.tz_base.proofs.DayLemmas.{first_day-next}
+use Rattle.tz_base.proofs.laws.years_follow.Goals as goal
+
+pub returns : goal.returns
+returns c = first_day-next

@@ -1,0 +1,300 @@
+//! The proleptic Gregorian calendar over all years of 32 bits, both ways.
+//!
+//! A reading counts the seconds from 1970-01-01 00:00:00 to the fields of a date time, whatever clock shows them.
+
+ghost use Rattle.std.specs.Prelude.{◌≡◌, ℕ, ◌+◌, ◌-◌, ◌*◌, ◌/◌, ◌^◌, ◌<◌, ◌≤◌, true, ℤ, pos, negsuc, ◌+ℤ◌, ◌-ℤ◌, ◌*ℤ◌, ◌≤ℤ◌, OnOk, IfErr, IfSome, IfNone, FitsSigned};
+ghost use Rattle.std.specs.Int.{w64};
+ghost use Rattle.tz_base.specs.Cycles.{days_of_years as closed_days, days_of_march_years, march_month, march_month_day};
+ghost use Rattle.tz_base.specs.Days.{is_leap, month_length, months_length, first_day, day_number, week_day_of, IsDateOf};
+ghost use Rattle.tz_base.specs.Fields.{IsMonth, IsValid, IsFirstFault, IsCivil, IsReading, day_of, reading as reading_of, total_nanoseconds_of, IsTimespec};
+
+use crate::constants::{NANOSECONDS_PER_SECOND, SECONDS_PER_DAY};
+use crate::error::datetime::DateTimeError;
+
+/// The seven fields of a date time, in the order in which they are compared.
+#[derive(Clone, Copy, Debug, PartialEq, Eq, PartialOrd, Ord)]
+pub struct Fields {
+    /// The year; 0 is the year before 1.
+    pub year: i32,
+    /// The month, from 1 to 12.
+    pub month: u8,
+    /// The day of the month, from 1.
+    pub month_day: u8,
+    /// The hour, from 0 to 23.
+    pub hour: u8,
+    /// The minute, from 0 to 59.
+    pub minute: u8,
+    /// The second, from 0 to 60.
+    pub second: u8,
+    /// The nanoseconds, below a second.
+    pub nanoseconds: u32,
+}
+
+/// Years that are added to make every year of 32 bits positive: 5368710 cycles of 400 years.
+const ADDED_YEARS: i64 = 2_147_484_000;
+
+/// The days from January 1st of the year -2147484000 to 1970-01-01.
+const ADDED_DAYS: i64 = 784_353_144_398;
+
+/// Their seconds.
+const ADDED_SECONDS: i64 = 67_768_111_675_987_200;
+
+/// Days before each month of a year that is not leap.
+const DAYS_BEFORE_MONTH_NORMAL: [u16; 12] = [0, 31, 59, 90, 120, 151, 181, 212, 243, 273, 304, 334];
+
+/// Days before each month of a leap year.
+const DAYS_BEFORE_MONTH_LEAP: [u16; 12] = [0, 31, 60, 91, 121, 152, 182, 213, 244, 274, 305, 335];
+
+/// Whether the year is leap.
+#[tactic(auto, unfolding(crate::specs::Days::is_leap))]
+pub fn is_leap_year(year: i32) -> bool
+    ensures { result ≡ is_leap year }
+{
+    let years = year.unsigned_abs();
+    years % 400 == 0 || (years % 4 == 0 && years % 100 != 0)
+}
+
+/// How many days the month has.
+#[tactic(auto, unfolding(crate::specs::Days::month_length))]
+pub fn days_in_month(year: i32, month: u8) -> u8
+    requires { IsMonth month }
+    ensures { result ≡ month_length (is_leap year) month }
+{
+    match month {
+        2 => { if is_leap_year(year) { 29 } else { 28 } }
+        4 | 6 | 9 | 11 => 30,
+        _ => 31,
+    }
+}
+
+/// The days of so many years, the first of which 400 divides.
+#[tactic(auto, unfolding(crate::specs::Cycles::days_of_years))]
+fn days_of_years(years: u64) -> u64
+    requires { years < 2 ^ 33 }
+    ensures value { result ≡ closed_days years }
+    ensures bound { result < 2 ^ 42 }
+{
+    365 * years + (years + 3) / 4 - (years + 99) / 100 + (years + 399) / 400
+}
+
+/// The year, moved by cycles of 400 years until no year of 32 bits is negative.
+fn moved_year(year: i32) -> u64
+    ensures value { pos result ≡ year +ℤ pos 2147484000 }
+    ensures bound { result < 2 ^ 33 }
+{
+    (i64::from(year) + ADDED_YEARS) as u64
+}
+
+/// The number of January 1st of the year, where 1970-01-01 has the number 0.
+pub fn first_day_of_year(year: i32) -> i64
+    ensures value { result ≡ first_day year }
+    ensures bound { (negsuc 784353015832 ≤ℤ result) × (result ≤ℤ pos 784351576412) }
+{
+    days_of_years(moved_year(year)) as i64 - ADDED_DAYS
+}
+
+/// The days of the year before the month.
+fn days_before_month(leap: bool, month: u8) -> u16
+    requires { IsMonth month }
+    ensures value { result ≡ months_length leap (month - 1) }
+    ensures bound { result ≤ 335 }
+{
+    let place = usize::from(month) - 1;
+    if leap {
+        DAYS_BEFORE_MONTH_LEAP[place]
+    } else {
+        DAYS_BEFORE_MONTH_NORMAL[place]
+    }
+}
+
+/// The number of the day, where 1970-01-01 has the number 0. A day past the end of its month counts on.
+#[tactic(auto, unfolding(crate::specs::Days::day_number))]
+pub fn days_since_unix_epoch(year: i32, month: u8, month_day: u8) -> i64
+    requires month { IsMonth month }
+    requires month_day { 1 ≤ month_day }
+    ensures value { result ≡ day_number year month month_day }
+    ensures bound { (negsuc 784353015832 ≤ℤ result) × (result ≤ℤ pos 784351577001) }
+{
+    let days_before = days_before_month(is_leap_year(year), month) + u16::from(month_day) - 1;
+    first_day_of_year(year) + i64::from(days_before)
+}
+
+/// The week day of a day by its number, from Sunday = 0.
+#[tactic(auto, unfolding(crate::specs::Days::week_day_of))]
+pub fn week_day_of_day(day: i64) -> u8
+    requires { (negsuc (2 ^ 62) ≤ℤ day) × (day ≤ℤ pos (2 ^ 62)) }
+    ensures value { pos result ≡ week_day_of day }
+    ensures bound { result < 7 }
+{
+    (day + 4).rem_euclid(7) as u8
+}
+
+/// The year that begins on March 1st, and the day of it, from 0. Both are counted from March 1st of a year that 400 divides.
+fn march_year(day: u64) -> (u64, u64)
+    requires { day < 2 ^ 42 }
+    ensures value { days_of_march_years result.0 + result.1 ≡ day }
+    ensures bound { (result.0 < 2 ^ 35) × (result.1 ≤ 365) }
+    ensures leap { result.1 ≡ 365 → is_leap (pos (result.0 + 1)) ≡ true }
+{
+    let quarters = 4 * day + 3;
+    let century = quarters / 146_097;
+    let quarters_of_century = 4 * (quarters % 146_097 / 4) + 3;
+    let year = quarters_of_century / 1461;
+    (100 * century + year, quarters_of_century % 1461 / 4)
+}
+
+/// The month of a day of a year that begins on March 1st, from 3 to 14, and the day of that month, from 0.
+#[tactic(auto, unfolding(crate::specs::Cycles::march_month, crate::specs::Cycles::march_month_day))]
+fn month_of_march_day(day: u32) -> (u8, u8)
+    requires { day ≤ 365 }
+    ensures month { result.0 ≡ march_month day }
+    ensures day { result.1 ≡ march_month_day day }
+    ensures before_january { day < 306 → result.0 ≤ 12 }
+    ensures from_january { 306 ≤ day → 13 ≤ result.0 }
+    ensures bound { result.1 ≤ 30 }
+{
+    let parts = 2141 * day + 197_913;
+    ((parts / 65_536) as u8, (parts % 65_536 / 2141) as u8)
+}
+
+/// The year of 32 bits that a moved year stands for.
+fn year_of_moved(moved: u64) -> i32
+    requires { (352 ≤ moved) × (moved ≤ 4294967647) }
+    ensures { result +ℤ pos 2147484000 ≡ pos moved }
+{
+    (moved as i64 - ADDED_YEARS) as i32
+}
+
+/// The year, the month and the day of the month of a day that is counted from January 1st of the year -2147484000.
+fn date_of_day(day: u64) -> (i32, u8, u8)
+    requires { (128565 ≤ day) × (day ≤ 1568704721174) }
+    ensures { IsDateOf (pos day -ℤ pos 784353144398) result.0 result.1 result.2 }
+{
+    let (march_year, day_of_year) = march_year(day - 60);
+    let (month, month_day) = month_of_march_day(day_of_year as u32);
+    if day_of_year < 306 {
+        (year_of_moved(march_year), month, month_day + 1)
+    } else {
+        (year_of_moved(march_year + 1), month - 12, month_day + 1)
+    }
+}
+
+/// The reading, counted from January 1st of the year -2147484000.
+fn moved_reading(reading: i64) -> u64
+    requires { IsReading reading }
+    ensures { pos result ≡ reading +ℤ pos 67768111675987200 }
+{
+    (reading + ADDED_SECONDS) as u64
+}
+
+impl Fields {
+    /// Whether the fields are those of a date time; second 60 is one of every minute.
+    pub fn check(&self) -> Result<(), DateTimeError>
+        ensures ok { OnOk result (IsValid self.now) }
+        ensures err { IfErr result (IsFirstFault self.now) }
+    {
+        if self.month < 1 || self.month > 12 {
+            return Err(DateTimeError::InvalidMonth);
+        }
+        if self.month_day < 1 || self.month_day > 31 {
+            return Err(DateTimeError::InvalidMonthDay);
+        }
+        if self.hour > 23 {
+            return Err(DateTimeError::InvalidHour);
+        }
+        if self.minute > 59 {
+            return Err(DateTimeError::InvalidMinute);
+        }
+        if self.second > 60 {
+            return Err(DateTimeError::InvalidSecond);
+        }
+        if self.nanoseconds >= NANOSECONDS_PER_SECOND {
+            return Err(DateTimeError::InvalidNanoseconds);
+        }
+        if self.month_day > days_in_month(self.year, self.month) {
+            return Err(DateTimeError::InvalidMonthDay);
+        }
+        Ok(())
+    }
+
+    /// The seconds from 1970-01-01 00:00:00 to the fields. Second 60 reads as the next minute's first second.
+    pub fn reading(&self) -> i64
+        requires { IsValid self.now }
+        ensures value { result ≡ reading_of self.now }
+        ensures bound { (negsuc 67768100567971199 ≤ℤ result) × (result ≤ℤ pos 67767976233532800) }
+    {
+        let second_of_day = 3600 * u32::from(self.hour)
+            + 60 * u32::from(self.minute)
+            + u32::from(self.second);
+        SECONDS_PER_DAY * self.day() + i64::from(second_of_day)
+    }
+
+    /// The number of the day of the fields, where 1970-01-01 has the number 0.
+    fn day(&self) -> i64
+        requires { IsValid self.now }
+        ensures value { result ≡ day_of self.now }
+        ensures bound { (negsuc 784353015832 ≤ℤ result) × (result ≤ℤ pos 784351576776) }
+    {
+        days_since_unix_epoch(self.year, self.month, self.month_day)
+    }
+
+    /// The fields that a clock shows at the reading.
+    pub fn from_reading(reading: i64, nanoseconds: u32) -> Fields
+        requires in_range { IsReading reading }
+        requires part { nanoseconds < 1000000000 }
+        ensures { IsCivil reading nanoseconds result }
+    {
+        let seconds = moved_reading(reading);
+        let (year, month, month_day) = date_of_day(seconds / 86_400);
+        let second_of_day = (seconds % 86_400) as u32;
+        Fields {
+            year,
+            month,
+            month_day,
+            hour: (second_of_day / 3600) as u8,
+            minute: (second_of_day % 3600 / 60) as u8,
+            second: (second_of_day % 60) as u8,
+            nanoseconds,
+        }
+    }
+
+    /// The week day, from Sunday = 0.
+    pub fn week_day(&self) -> u8
+        requires { IsValid self.now }
+        ensures value { pos result ≡ week_day_of (day_of self.now) }
+        ensures bound { result < 7 }
+    {
+        week_day_of_day(self.day())
+    }
+
+    /// The day of the year, from January 1st = 0.
+    pub fn year_day(&self) -> u16
+        requires { IsValid self.now }
+        ensures value { pos result ≡ day_of self.now -ℤ first_day self.now.year }
+        ensures bound { result ≤ 365 }
+    {
+        days_before_month(is_leap_year(self.year), self.month) + u16::from(self.month_day) - 1
+    }
+}
+
+/// Nanoseconds from 1970-01-01T00:00:00Z on.
+pub fn total_nanoseconds(unix_time: i64, nanoseconds: u32) -> i128
+    ensures { result ≡ total_nanoseconds_of unix_time nanoseconds }
+{
+    i128::from(NANOSECONDS_PER_SECOND) * i128::from(unix_time) + i128::from(nanoseconds)
+}
+
+/// The seconds of a total of nanoseconds, rounded down, and the nanoseconds that are over, if the seconds fit 64 bits.
+pub fn timespec(total: i128) -> Option<(i64, u32)>
+    ensures found { IfSome result (λ t. IsTimespec total t.0 t.1) }
+    ensures none { IfNone result ((seconds : ℤ) (nanoseconds : ℕ) → IsTimespec total seconds nanoseconds → ¬ FitsSigned w64 seconds) }
+{
+    let nanoseconds_per_second = i128::from(NANOSECONDS_PER_SECOND);
+    let seconds = total.div_euclid(nanoseconds_per_second);
+    let nanoseconds = total.rem_euclid(nanoseconds_per_second) as u32;
+    let seconds = i64::try_from(seconds).ok()?;
+    Some((seconds, nanoseconds))
+}
+
+#[cfg(test)]
+mod tests;

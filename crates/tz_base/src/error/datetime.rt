@@ -1,0 +1,26 @@
+//! Why fields make no date time.
+
+use thiserror::Error;
+
+/// The field that is out of range.
+#[derive(Clone, Copy, Debug, PartialEq, Eq, Error)]
+pub enum DateTimeError {
+    /// The month is not in 1 to 12.
+    #[error("invalid month")]
+    InvalidMonth,
+    /// The day is not in 1 to 31, or is past the end of its month.
+    #[error("invalid month day")]
+    InvalidMonthDay,
+    /// The hour is above 23.
+    #[error("invalid hour")]
+    InvalidHour,
+    /// The minute is above 59.
+    #[error("invalid minute")]
+    InvalidMinute,
+    /// The second is above 60.
+    #[error("invalid second")]
+    InvalidSecond,
+    /// The nanoseconds are a second or more.
+    #[error("invalid nanoseconds")]
+    InvalidNanoseconds,
+}

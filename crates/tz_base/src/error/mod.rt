@@ -1,0 +1,69 @@
+//! Why a call was refused.
+
+mod conversions;
+pub mod datetime;
+pub mod parse;
+pub mod timezone;
+
+use crate::error::datetime::DateTimeError;
+use crate::error::parse::{TzFileError, TzStringError};
+use crate::error::timezone::{LocalTimeTypeError, TimeZoneError, TransitionRuleError};
+use std::alloc::AllocError;
+use thiserror::Error;
+
+/// Any refusal of the crate but a fault of reading a file.
+#[derive(Debug, Drop, Error)]
+pub enum TzError {
+    /// The bytes are no TZif file.
+    #[error("invalid TZ file: {0}")]
+    TzFile(TzFileError),
+    /// The text is no TZ text.
+    #[error("invalid TZ string: {0}")]
+    TzString(TzStringError),
+    /// The parts make no local time type.
+    #[error("invalid local time type: {0}")]
+    LocalTimeType(LocalTimeTypeError),
+    /// The parts make no transition rule.
+    #[error("invalid transition rule: {0}")]
+    TransitionRule(TransitionRuleError),
+    /// The parts make no time zone.
+    #[error("invalid time zone: {0}")]
+    TimeZone(TimeZoneError),
+    /// The fields make no date time.
+    #[error("invalid date time: {0}")]
+    DateTime(DateTimeError),
+    /// A value lies outside the range that its type has.
+    #[error("out of range operation")]
+    OutOfRange,
+    /// The zone has no clock at the instant.
+    #[error("no local time type is available for the specified timestamp")]
+    NoAvailableLocalTimeType,
+    /// Memory was refused.
+    #[error("no memory")]
+    Memory(AllocError),
+}
+
+/// Any refusal of the crate.
+#[derive(Debug, Drop, Error)]
+pub enum Error {
+    /// A file could not be read.
+    #[error(transparent)]
+    Io(anyhow::Error),
+    /// Every other refusal.
+    #[error(transparent)]
+    Tz(TzError),
+}
+
+/// Why a file reader gave no bytes.
+#[derive(Debug, Drop, Error)]
+pub enum ReadFault {
+    /// Memory was refused.
+    #[error("no memory")]
+    Memory(AllocError),
+    /// The file could not be read.
+    #[error(transparent)]
+    Failed(anyhow::Error),
+}
+
+#[cfg(test)]
+mod tests;

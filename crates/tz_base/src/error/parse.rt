@@ -1,0 +1,93 @@
+//! Why bytes or a text make no time zone.
+
+use crate::error::timezone::{LocalTimeTypeError, TransitionRuleError};
+use std::num::ParseIntError;
+use std::str::Utf8Error;
+use thiserror::Error;
+
+/// Why the next bytes are not what they have to be.
+#[derive(Clone, Copy, Debug, PartialEq, Eq, Error)]
+pub enum ParseDataError {
+    /// The bytes end too early.
+    #[error("unexpected end of data")]
+    UnexpectedEof,
+    /// Another byte stands where a certain one is needed.
+    #[error("invalid data")]
+    InvalidData,
+}
+
+/// Why a text is no TZ text.
+#[derive(Debug, Drop, PartialEq, Eq, Error)]
+pub enum TzStringError {
+    /// The bytes are no UTF-8. It is never answered, since digits alone are converted.
+    #[error(transparent)]
+    Utf8(Utf8Error),
+    /// Digits are missing, or their number does not fit its type.
+    #[error(transparent)]
+    ParseInt(ParseIntError),
+    /// A byte is missing or wrong.
+    #[error(transparent)]
+    ParseData(ParseDataError),
+    /// The hour of an offset is above 24.
+    #[error("invalid offset hour")]
+    InvalidOffsetHour,
+    /// The minute of an offset is above 59.
+    #[error("invalid offset minute")]
+    InvalidOffsetMinute,
+    /// The second of an offset is above 59.
+    #[error("invalid offset second")]
+    InvalidOffsetSecond,
+    /// The hour of a day time is outside its range.
+    #[error("invalid day time hour")]
+    InvalidDayTimeHour,
+    /// The minute of a day time is above 59.
+    #[error("invalid day time minute")]
+    InvalidDayTimeMinute,
+    /// The second of a day time is above 59.
+    #[error("invalid day time second")]
+    InvalidDayTimeSecond,
+    /// A daylight name is not followed by rules.
+    #[error("missing DST start and end rules")]
+    MissingDstStartEndRules,
+    /// Bytes follow the end of the text.
+    #[error("remaining data after parsing TZ string")]
+    RemainingData,
+    /// The text is empty.
+    #[error("empty TZ string")]
+    Empty,
+}
+
+/// Why bytes are no TZif file.
+#[derive(Debug, Drop, PartialEq, Eq, Error)]
+pub enum TzFileError {
+    /// The footer is no UTF-8.
+    #[error(transparent)]
+    Utf8(Utf8Error),
+    /// Bytes are missing.
+    #[error(transparent)]
+    ParseData(ParseDataError),
+    /// The header does not begin with `TZif`.
+    #[error("invalid magic number")]
+    InvalidMagicNumber,
+    /// The version is none of those that are read.
+    #[error("unsupported TZ file version")]
+    UnsupportedTzFileVersion,
+    /// The counts of the header do not fit together.
+    #[error("invalid header")]
+    InvalidHeader,
+    /// The footer does not lie between line feeds, or is no text.
+    #[error("invalid footer")]
+    InvalidFooter,
+    /// A daylight byte is neither 0 nor 1.
+    #[error("invalid DST indicator")]
+    InvalidDstIndicator,
+    /// A name does not lie in the name bytes.
+    #[error("invalid time zone designation char index")]
+    InvalidTimeZoneDesignationCharIndex,
+    /// Indicators of a type do not fit together.
+    #[error("invalid couple of standard/wall and UT/local indicators")]
+    InvalidStdWallUtLocal,
+    /// Bytes follow the block of a version 1 file.
+    #[error("remaining data after the end of a TZif v1 data block")]
+    RemainingDataV1,
+}

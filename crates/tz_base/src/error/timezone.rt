@@ -1,0 +1,66 @@
+//! Why parts make no local time type, transition rule or time zone.
+
+use thiserror::Error;
+
+/// Why parts make no local time type.
+#[derive(Clone, Copy, Debug, PartialEq, Eq, Error)]
+pub enum LocalTimeTypeError {
+    /// The designation does not have 1 to 7 bytes.
+    #[error("time zone designation must have between 3 and 7 characters")]
+    InvalidTimeZoneDesignationLength,
+    /// A byte of the designation is not an ASCII letter or digit, `+` or `-`.
+    #[error("invalid characters in time zone designation")]
+    InvalidTimeZoneDesignationChar,
+    /// The offset is the least `i32`.
+    #[error("invalid UTC offset")]
+    InvalidUtcOffset,
+}
+
+/// Why parts make no transition rule.
+#[derive(Clone, Copy, Debug, PartialEq, Eq, Error)]
+pub enum TransitionRuleError {
+    /// The number of the day is outside its range.
+    #[error("invalid rule day julian day")]
+    InvalidRuleDayJulianDay,
+    /// The month is not in 1 to 12.
+    #[error("invalid rule day month")]
+    InvalidRuleDayMonth,
+    /// The week is not in 1 to 5.
+    #[error("invalid rule day week")]
+    InvalidRuleDayWeek,
+    /// The week day is not in 0 to 6.
+    #[error("invalid rule day week day")]
+    InvalidRuleDayWeekDay,
+    /// The standard offset is not above -25 and below 26 hours.
+    #[error("invalid standard time UTC offset")]
+    InvalidStdUtcOffset,
+    /// The daylight offset is not above -25 and below 26 hours.
+    #[error("invalid Daylight Saving Time UTC offset")]
+    InvalidDstUtcOffset,
+    /// A day time is a week or more away from the day.
+    #[error("invalid DST start or end time")]
+    InvalidDstStartEndTime,
+    /// Start and end change their order from one year to another.
+    #[error("DST transition rules are not consistent from one year to another")]
+    InconsistentRule,
+}
+
+/// Why parts make no time zone.
+#[derive(Clone, Copy, Debug, PartialEq, Eq, Error)]
+pub enum TimeZoneError {
+    /// There is no local time type.
+    #[error("list of local time types must not be empty")]
+    NoLocalTimeType,
+    /// A transition names a type that is not there.
+    #[error("invalid local time type index")]
+    InvalidLocalTimeTypeIndex,
+    /// Transitions do not rise.
+    #[error("invalid transition")]
+    InvalidTransition,
+    /// The leap seconds are no table of leap seconds.
+    #[error("invalid leap second")]
+    InvalidLeapSecond,
+    /// The extra rule has another type at the last transition.
+    #[error("extra transition rule is inconsistent with the last transition")]
+    InconsistentExtraRule,
+}
