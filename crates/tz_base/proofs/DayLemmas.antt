@@ -9,7 +9,8 @@ use Rattle.tz_base.proofs.Below.{all_below, passes_at}
 use Rattle.tz_base.proofs.YearLemmas.{first_day-moved, year_length-moved, days_of_years-suc, days_of_years_bounds, days_of_years_last}
 
 -- a day in its parts
-pub day_number-is : (year : ℤ) (month month_day : ℕ) → day_number year month month_day ≡ first_day year +ℤ pos (months_length (is_leap year) (month - 1)) +ℤ pos month_day -ℤ pos 1
+pub day_number-is : (year : ℤ) (month month_day : ℕ)
+    → day_number year month month_day ≡ first_day year +ℤ pos (months_length (is_leap year) (month - 1)) +ℤ pos month_day -ℤ pos 1
 unfolding day_number
 day_number-is year month month_day = refl
 
@@ -45,7 +46,8 @@ first_day-next (negsuc n) =
     omega (arith, ints, days_of_years-suc (399 * (n + 1)))
 
 -- a valid day lies before the next year
-pub day_in_year : (year : ℤ) (month month_day : ℕ) → 1 ≤ month → month ≤ 12 → 1 ≤ month_day → month_day ≤ month_length (is_leap year) month → (first_day year ≤ℤ day_number year month month_day) × ((day_number year month month_day +ℤ pos 1) ≤ℤ first_day (year +ℤ pos 1))
+pub day_in_year : (year : ℤ) (month month_day : ℕ) → 1 ≤ month → month ≤ 12 → 1 ≤ month_day → month_day ≤ month_length (is_leap year) month
+    → (first_day year ≤ℤ day_number year month month_day) × ((day_number year month month_day +ℤ pos 1) ≤ℤ first_day (year +ℤ pos 1))
 day_in_year year month month_day low high day_low day_high =
     let same : suc (month - 1) ≡ month = omega arith in
     let months = rw same at (months_length-le_year (is_leap year) (month - 1) (omega arith)) in

@@ -6,3 +6,4 @@ pub mod DayLemmas
 pub mod DateLemmas
 pub mod ReadingLemmas
 pub mod OrderLemmas
+pub mod EndLemmas

@@ -23,7 +23,8 @@ right_leap : all_below (is_right_place true leap_table) 12 ≡ true
 unfolding all_below is_right_place month_length months_length
 right_leap = refl
 
-told_place : (leap : Bool) (table : List ℕ) (place : ℕ) → is_right_place leap table place ≡ true → (get_or table place 0 ≡ months_length leap place) × (get_or table place 0 ≤ 335)
+told_place : (leap : Bool) (table : List ℕ) (place : ℕ) → is_right_place leap table place ≡ true
+    → (get_or table place 0 ≡ months_length leap place) × (get_or table place 0 ≤ 335)
 unfolding is_right_place
 told_place leap table place h = (grind (arith, nat_tests), grind (arith, nat_tests))
 

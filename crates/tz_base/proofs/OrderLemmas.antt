@@ -105,7 +105,7 @@ date_unique y m d y' m' d' day day' e =
     (year, month, same_day y m d y' m' d' year month f g)
 
 -- the day of civil fields
-valid_day : (f : Fields) → IsValid f → IsDay f.year f.month f.month_day
+pub valid_day : (f : Fields) → IsValid f → IsDay f.year f.month f.month_day
 valid_day f valid = record { month_is = valid.in_range.month; month_day_is = (valid.in_range.month_day.0, valid.in_month) }
 
 fields_from : ℤ → ℕ → ℕ → ℕ → ℕ → ℕ → ℕ → Fields

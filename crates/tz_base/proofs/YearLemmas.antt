@@ -74,6 +74,12 @@ unfolding days_of_years
 days_of_years_last n h = omega arith
 
 -- the years of 32 bits, and their first days
-pub days_of_years_bounds : (year : ℤ) (n : ℕ) → SFits w32 year → pos n ≡ year +ℤ pos 2147484000 → (352 ≤ n) × (n ≤ 4294967647) × (128565 ≤ days_of_years n) × (days_of_years n ≤ 1568704720810)
+pub days_of_years_bounds : (year : ℤ) (n : ℕ) → SFits w32 year → pos n ≡ year +ℤ pos 2147484000
+    → (352 ≤ n) × (n ≤ 4294967647) × (128565 ≤ days_of_years n) × (days_of_years n ≤ 1568704720810)
 unfolding days_of_years
-days_of_years_bounds year n fits e = (omega (arith, ints, fits.sfits), omega (arith, ints, fits.sfits), omega (arith, ints, fits.sfits), omega (arith, ints, fits.sfits))
+days_of_years_bounds year n fits e = (
+  omega (arith, ints, fits.sfits),
+  omega (arith, ints, fits.sfits),
+  omega (arith, ints, fits.sfits),
+  omega (arith, ints, fits.sfits),
+)

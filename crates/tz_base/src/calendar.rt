@@ -2,7 +2,7 @@
 //!
 //! A reading counts the seconds from 1970-01-01 00:00:00 to the fields of a date time, whatever clock shows them.
 
-ghost use Rattle.std.specs.Prelude.{◌≡◌, ℕ, ◌+◌, ◌-◌, ◌*◌, ◌/◌, ◌^◌, ◌<◌, ◌≤◌, true, ℤ, pos, negsuc, ◌+ℤ◌, ◌-ℤ◌, ◌*ℤ◌, ◌≤ℤ◌, OnOk, IfErr, IfSome, IfNone, FitsSigned};
+ghost use Rattle.std.specs.Prelude.{◌≡◌, ℕ, ◌+◌, ◌-◌, ◌*◌, ◌/◌, ◌^◌, ◌<◌, ◌≤◌, true, ℤ, pos, negsuc, ◌+ℤ◌, ◌-ℤ◌, ◌*ℤ◌, ◌≤ℤ◌, OnOk, IfErr, IfSome, IfNone, MatchBool, FitsSigned};
 ghost use Rattle.std.specs.Int.{w64};
 ghost use Rattle.tz_base.specs.Cycles.{days_of_years as closed_days, days_of_march_years, march_month, march_month_day};
 ghost use Rattle.tz_base.specs.Days.{is_leap, month_length, months_length, first_day, day_number, week_day_of, IsDateOf};
@@ -38,6 +38,12 @@ const ADDED_DAYS: i64 = 784_353_144_398;
 
 /// Their seconds.
 const ADDED_SECONDS: i64 = 67_768_111_675_987_200;
+
+/// The reading of the first second of the years of 32 bits.
+const FIRST_READING: i64 = -67_768_100_567_971_200;
+
+/// The reading of their last second.
+const LAST_READING: i64 = 67_767_976_233_532_799;
 
 /// Days before each month of a year that is not leap.
 const DAYS_BEFORE_MONTH_NORMAL: [u16; 12] = [0, 31, 59, 90, 120, 151, 181, 212, 243, 273, 304, 334];
@@ -177,6 +183,13 @@ fn date_of_day(day: u64) -> (i32, u8, u8)
     } else {
         (year_of_moved(march_year + 1), month - 12, month_day + 1)
     }
+}
+
+/// Whether the reading lies in a year of 32 bits.
+pub fn is_reading(reading: i64) -> bool
+    ensures { MatchBool result (IsReading reading) (¬ IsReading reading) }
+{
+    (FIRST_READING..=LAST_READING).contains(&reading)
 }
 
 /// The reading, counted from January 1st of the year -2147484000.

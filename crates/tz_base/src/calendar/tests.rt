@@ -370,3 +370,57 @@ fn totals_go_both_ways(rt: HostRuntime) {
         assert_eq!(rt; timespec(total), None);
     }
 }
+
+#[test]
+fn fields_are_compared_from_the_year_on(rt: HostRuntime) {
+    let fields = Fields {
+        year: 0,
+        month: 2,
+        month_day: 2,
+        hour: 2,
+        minute: 2,
+        second: 2,
+        nanoseconds: 2,
+    };
+    let rising = [
+        Fields {
+            year: -1,
+            month: 3,
+            ..fields
+        },
+        Fields {
+            month: 1,
+            month_day: 3,
+            ..fields
+        },
+        Fields {
+            month_day: 1,
+            hour: 3,
+            ..fields
+        },
+        Fields {
+            hour: 1,
+            minute: 3,
+            ..fields
+        },
+        Fields {
+            minute: 1,
+            second: 3,
+            ..fields
+        },
+        Fields {
+            second: 1,
+            nanoseconds: 3,
+            ..fields
+        },
+        Fields {
+            nanoseconds: 1,
+            ..fields
+        },
+        fields,
+    ];
+    for (earlier, later) in rising.iter().zip(rising.iter().skip(1)) {
+        assert!(rt; earlier < later);
+    }
+    assert_eq!(rt; fields, rising[7]);
+}
