@@ -1,0 +1,3 @@
+pub mod RuleTypes
+pub mod SameLemmas
+pub mod Casts

@@ -1,0 +1,38 @@
+-- Equality of what is kept is equality of what is shown.
+use Rattle.std.proofs.Common.{◌≡◌, refl, ap, sym, ◌∙◌, ◌&&◌, ◌==◌, Bool, true, false, bytes_eq, ℕ, ℤ, List, Option, Some, None, IfSome, option_map, Decides, int_eq}
+use Rattle.std.specs.Option.{option_eq}
+use Rattle.std.specs.Bool.{beq}
+use Rattle.std.proofs.lemmas.Bool.{false≢true}
+use Rattle.std.proofs.lemmas.Bool.Decides.{same_from_decides, Decides-eqb, Decides-int_eq, Decides-like, Decides-and}
+use Rattle.std.proofs.lemmas.Slice.Eq.{bytes_eq-Decides}
+use Rattle.tz_rule.specs.Designation.{IsKept, IsKeptType, name_of, kept, kept_name, shown}
+use Rattle.tz_rule.specs.Same.{same_type, Decides-beq}
+use Rattle.tz_rule.specs.declared.timezone.local_time_type.Designation.{Designation}
+use Rattle.tz_rule.specs.declared.timezone.local_time_type.LocalTimeType.TheInside.{Inside}
+
+abbrev same_designation : Designation → Designation → Bool
+same_designation d e = bytes_eq d.bytes e.bytes && d.len == e.len
+
+Decides-same_designation : (d e : Designation) → Decides (same_designation d e) (d ≡ e)
+Decides-same_designation d e =
+    Decides-like (same_designation d e) (λ h. same_parts h.0 h.1) (λ p. (ap (λ x. x.bytes) p, ap (λ x. x.len) p)) (Decides-and (bytes_eq d.bytes e.bytes) (d.len == e.len) (bytes_eq-Decides d.bytes e.bytes) (Decides-eqb d.len e.len))
+  where
+    same_parts : d.bytes ≡ e.bytes → d.len ≡ e.len → d ≡ e
+    same_parts b l = ap (λ x. let r : Designation = record d { bytes = x } in r) b ∙ ap (λ x. let r : Designation = record e { len = x } in r) l
+
+same_name : (d e : Designation) → IsKept d → IsKept e → name_of d ≡ name_of e → d ≡ e
+same_name d e k l p = sym (kept_name d k) ∙ ap kept p ∙ kept_name e l
+
+-- designations are equal where their names are
+pub option_eq-kept : (x y : Option Designation) → IfSome x IsKept → IfSome y IsKept → option_eq same_designation x y ≡ option_eq bytes_eq (option_map name_of x) (option_map name_of y)
+option_eq-kept None None k l = refl
+option_eq-kept None (Some e) k l = refl
+option_eq-kept (Some d) None k l = refl
+option_eq-kept (Some d) (Some e) k l =
+    same_from_decides (same_designation d e) (bytes_eq (name_of d) (name_of e)) (Decides-same_designation d e) (Decides-like (bytes_eq (name_of d) (name_of e)) (same_name d e k l) (ap name_of) (bytes_eq-Decides (name_of d) (name_of e)))
+
+-- types with one offset and one flag are equal where their designations are
+pub same_type-shown : (a b : Inside) → IsKeptType a → IsKeptType b → a.ut_offset ≡ b.ut_offset → a.is_dst ≡ b.is_dst → option_eq same_designation a.time_zone_designation b.time_zone_designation ≡ same_type (shown a) (shown b)
+same_type-shown a b k l o d =
+    option_eq-kept a.time_zone_designation b.time_zone_designation k.designation_is l.designation_is
+    ∙ rw ((Decides-int_eq a.ut_offset b.ut_offset).1 o, (Decides-beq a.is_dst b.is_dst).1 d) refl

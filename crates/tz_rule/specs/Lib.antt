@@ -1,0 +1,10 @@
+pub use Rattle.tz_base.specs.Days
+pub use Rattle.tz_base.specs.Fields
+pub mod LocalType
+pub mod Designation
+pub mod JulianDay
+pub mod MonthWeek
+pub mod Rule
+pub mod Same
+pub mod SameDay
+pub mod SameRule

@@ -1,0 +1,203 @@
+//! Local time types.
+
+ghost use Rattle.std.specs.Prelude.{◌≡◌, ℕ, ◌≤◌, ◌↔◌, OnOk, IfOk, IfErr, IsTrue};
+ghost use Rattle.tz_rule.specs.LocalType.{IsFirstTypeFault, IsLocalType, IsDesignationByte, plain_type, designation_text};
+
+use std::marker::Model;
+use std::{fmt, str};
+use tz_base::error::timezone::LocalTimeTypeError;
+
+/// A name of one to seven ASCII bytes.
+#[derive(Clone, Copy, Debug, PartialEq, Eq)]
+pub(super) struct Designation {
+    bytes: [u8; 7],
+    len: u8,
+}
+
+/// A local time type: an offset that is added to UTC, a daylight flag and a name.
+#[derive(Clone, Copy)]
+pub struct LocalTimeType {
+    ut_offset: i32,
+    is_dst: bool,
+    time_zone_designation: Option<Designation>,
+}
+
+impl Model for LocalTimeType {
+    ghost use Rattle.tz_rule.specs.LocalType.{LocalType};
+
+    ghost Value = { LocalType };
+
+    ghost use Rattle.std.specs.Prelude.{option_map};
+    ghost use Rattle.tz_rule.specs.Designation.{shown, kept, kept_shown, IsKeptType};
+
+    ghost view = { shown };
+
+    ghost invariant = { IsKeptType };
+
+    ghost inverse = { λ t. record { ut_offset = t.ut_offset; is_dst = t.is_dst; time_zone_designation = option_map kept t.designation } };
+
+    ghost inverse_ok = { λ t k. kept_shown t k };
+}
+
+impl PartialEq for LocalTimeType {
+    ghost use Rattle.std.specs.Cmp.{partial_equiv_from_equiv};
+    ghost use Rattle.tz_rule.specs.Same.{same_type, Decides-same_type, IsEquivalence-from_equality};
+
+    ghost eq = { same_type };
+
+    ghost laws = { partial_equiv_from_equiv (IsEquivalence-from_equality same_type Decides-same_type) };
+
+    fn eq(&self, other: &LocalTimeType) -> bool {
+        self.ut_offset == other.ut_offset
+            && self.is_dst == other.is_dst
+            && self.time_zone_designation == other.time_zone_designation
+    }
+}
+
+impl Eq for LocalTimeType {
+    ghost use Rattle.tz_rule.specs.Same.{same_type, Decides-same_type, IsEquivalence-from_equality};
+
+    ghost laws = { IsEquivalence-from_equality same_type Decides-same_type };
+}
+
+impl fmt::Debug for LocalTimeType {
+    fn fmt<W: fmt::Write>(&self, f: &mut fmt::Formatter<W>) -> fmt::Result {
+        f.debug_struct("LocalTimeType")
+            .field("ut_offset", &self.ut_offset)
+            .field("is_dst", &self.is_dst)
+            .field("time_zone_designation", &self.designation())
+            .finish()
+    }
+}
+
+/// Whether a name may have the byte.
+fn is_designation_byte(byte: u8) -> bool
+    ensures { IsTrue result ↔ IsDesignationByte byte }
+{
+    matches!(byte, b'0'..=b'9' | b'A'..=b'Z' | b'a'..=b'z' | b'+' | b'-')
+}
+
+impl Designation {
+    ghost use Rattle.tz_rule.specs.Designation.{IsKept, name_of};
+    ghost use Rattle.tz_rule.specs.LocalType.{IsDesignation, IsDesignationLength};
+    ghost use Rattle.tz_base.specs.declared.error.timezone.LocalTimeTypeError.TheVariants as faults;
+    ghost use Rattle.std.specs.Prelude.{All, IfOk, IfErr, OnOk, ◌⊎◌, ◌≡◌};
+
+    /// Keeps a name.
+    fn new(name: &[u8]) -> Result<Designation, LocalTimeTypeError>
+        ensures kept { IfOk result (λ d. IsKept d × (name_of d ≡ name.now)) }
+        ensures err { IfErr result (λ e. ((e ≡ faults.InvalidTimeZoneDesignationLength) × ¬ IsDesignationLength name.now)
+            ⊎ ((e ≡ faults.InvalidTimeZoneDesignationChar) × IsDesignationLength name.now × ¬ All IsDesignationByte name.now)) }
+    {
+        if name.is_empty() || name.len() > 7 {
+            return Err(LocalTimeTypeError::InvalidTimeZoneDesignationLength);
+        }
+        if !name.iter().all(|byte| is_designation_byte(*byte)) {
+            return Err(LocalTimeTypeError::InvalidTimeZoneDesignationChar);
+        }
+        let mut bytes = [0; 7];
+        bytes[..name.len()].copy_from_slice(name);
+        Ok(Designation {
+            bytes,
+            len: name.len() as u8,
+        })
+    }
+
+    /// The name.
+    fn as_str(&self) -> &str
+        requires { IsKept self.now }
+        ensures { result.now ≡ name_of self.now }
+    {
+        unsafe { str::from_utf8_unchecked(&self.bytes[..usize::from(self.len)]) }
+    }
+}
+
+impl LocalTimeType {
+    ghost use Rattle.tz_rule.specs.LocalType.{LocalType, IsLocalType, IsFirstTypeFault, type_of, plain_type, designation_text, IsOffset};
+    ghost use Rattle.std.specs.Option.{option_copied};
+    ghost use Rattle.std.specs.Prelude.{pos};
+    ghost use Rattle.tz_base.specs.declared.error.timezone.LocalTimeTypeError.TheVariants as faults;
+
+    /// The type with this offset in seconds, this daylight flag and this name of 1 to 7 bytes of `0-9A-Za-z+-`. (RFC 8536, section 3.2)
+    ///
+    /// The first fault is named: `InvalidUtcOffset` for `i32::MIN`, `InvalidTimeZoneDesignationLength`, `InvalidTimeZoneDesignationChar`.
+    pub fn new(
+        ut_offset: i32,
+        is_dst: bool,
+        time_zone_designation: Option<&[u8]>,
+    ) -> Result<Self, LocalTimeTypeError>
+        ensures value { IfOk result (λ t. t ≡ type_of ut_offset is_dst (option_copied time_zone_designation.entry)) }
+        ensures ok { OnOk result (IsLocalType (type_of ut_offset is_dst (option_copied time_zone_designation.entry))) }
+        ensures err { IfErr result (IsFirstTypeFault (type_of ut_offset is_dst (option_copied time_zone_designation.entry))) }
+    {
+        if ut_offset == i32::MIN {
+            return Err(LocalTimeTypeError::InvalidUtcOffset);
+        }
+        let time_zone_designation = match time_zone_designation {
+            Some(name) => Some(Designation::new(name)?),
+            None => None,
+        };
+        Ok(LocalTimeType {
+            ut_offset,
+            is_dst,
+            time_zone_designation,
+        })
+    }
+
+    /// The type of UTC, without a name.
+    pub fn utc() -> Self
+        ensures { result ≡ plain_type (pos 0) }
+    {
+        LocalTimeType {
+            ut_offset: 0,
+            is_dst: false,
+            time_zone_designation: None,
+        }
+    }
+
+    /// The type with this offset in seconds, without a name.
+    pub fn with_ut_offset(ut_offset: i32) -> Result<Self, LocalTimeTypeError>
+        ensures value { IfOk result (λ t. t ≡ plain_type ut_offset) }
+        ensures ok { OnOk result (IsOffset ut_offset) }
+        ensures err { IfErr result (λ e. (e ≡ faults.InvalidUtcOffset) × ¬ IsOffset ut_offset) }
+    {
+        LocalTimeType::new(ut_offset, false, None)
+    }
+
+    /// Seconds that are added to UTC.
+    pub fn ut_offset(&self) -> i32
+        ensures { result ≡ self.now.ut_offset }
+    {
+        self.ut_offset
+    }
+
+    /// Whether this is daylight saving time.
+    pub fn is_dst(&self) -> bool
+        ensures { result ≡ self.now.is_dst }
+    {
+        self.is_dst
+    }
+
+    /// The name, empty where there is none.
+    pub fn time_zone_designation(&self) -> &str
+        ensures { result.now ≡ designation_text self.now }
+    {
+        match self.designation() {
+            Some(name) => name,
+            None => "",
+        }
+    }
+
+    /// The name, if there is one.
+    fn designation(&self) -> Option<&str>
+        ensures { option_copied result ≡ self.now.designation }
+    {
+        match &self.time_zone_designation {
+            Some(designation) => Some(designation.as_str()),
+            None => None,
+        }
+    }
+}
+
+#[cfg(test)]
+mod tests;

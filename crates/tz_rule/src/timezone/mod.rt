@@ -1,0 +1,10 @@
+//! Local time types, rule days and rules.
+
+mod local_time_type;
+mod rule;
+mod rule_day;
+pub(crate) mod utc;
+
+pub use local_time_type::LocalTimeType;
+pub use rule::TransitionRule;
+pub use rule_day::{Julian0WithLeap, Julian1WithoutLeap, MonthWeekDay, RuleDay};

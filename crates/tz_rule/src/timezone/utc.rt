@@ -1,0 +1,60 @@
+//! The parts of UTC's zone, in memory of the program's own.
+//!
+//! A static holds no type with a model. So the statics are of plain types whose fields lie as those of the types with a model do, and are lent as these.
+
+ghost use Rattle.std.specs.Prelude.{◌≡◌, [], ◌∷◌, false, pos};
+ghost use Rattle.tz_rule.specs.LocalType.{plain_type};
+
+use super::local_time_type::Designation;
+use super::{LocalTimeType, TransitionRule};
+use std::slice;
+
+/// The fields of a local time type.
+struct TypeFields {
+    ut_offset: i32,
+    is_dst: bool,
+    time_zone_designation: Option<Designation>,
+}
+
+static UTC_TYPE: TypeFields = TypeFields {
+    ut_offset: 0,
+    is_dst: false,
+    time_zone_designation: None,
+};
+
+/// The list that has UTC's type alone.
+pub fn utc_types() -> &'static [LocalTimeType]
+    ensures { result.now ≡ plain_type (pos 0) ∷ [] }
+{
+    slice::from_ref(utc_type(&UTC_TYPE))
+}
+
+/// UTC's type, from its fields.
+fn utc_type(fields: &TypeFields) -> &LocalTimeType
+    requires { fields.now ≡ record { ut_offset = pos 0; is_dst = false; time_zone_designation = None } }
+    ensures { result.now ≡ plain_type (pos 0) }
+{
+    unsafe { &*(fields as *const TypeFields as *const LocalTimeType) }
+}
+
+/// The fields of a rule.
+enum RuleFields {
+    Fixed(TypeFields),
+}
+
+static NO_RULE: Option<RuleFields> = None;
+
+/// No extra rule.
+pub fn no_rule() -> &'static Option<TransitionRule>
+    ensures { result.now ≡ None }
+{
+    no_rule_of(&NO_RULE)
+}
+
+/// No extra rule, from its fields.
+fn no_rule_of(fields: &Option<RuleFields>) -> &Option<TransitionRule>
+    requires { fields.now ≡ None }
+    ensures { result.now ≡ None }
+{
+    unsafe { &*(fields as *const Option<RuleFields> as *const Option<TransitionRule>) }
+}
