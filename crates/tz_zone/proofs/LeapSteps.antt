@@ -1,0 +1,153 @@
+-- Leap seconds as two functions of their places: when each is reached, which correction holds, and where a leap time takes effect.
+use Rattle.std.proofs.Common.{◌≡◌, ℕ, zero, suc, ◌+◌, ◌-◌, ◌*◌, ◌<◌, ◌≤◌, ◌⊎◌, inl, inr, refl, sym, ap, arith, ℤ, pos, negsuc, neg_ℤ, ◌+ℤ◌, ◌-ℤ◌, ◌≤ℤ◌, ◌<ℤ◌}
+use Rattle.std.specs.Prelude.{unsigned_abs}
+use Rattle.std.proofs.lemmas.Int.{ints, by_lt_z}
+use Rattle.std.proofs.lemmas.Bool.{cases_lt}
+
+-- place i has time t i, and c i is the correction before it
+pub record AreSteps (n : ℕ) (t c : ℕ → ℤ) : Type 0 where
+  pub none : c 0 ≡ pos 0
+  pub first : 0 < n → pos 0 ≤ℤ t 0
+  pub step : (i : ℕ) → i < n → ((c (i + 1) -ℤ c i) ≡ pos 1) ⊎ ((c (i + 1) -ℤ c i) ≡ negsuc 0)
+  pub apart : (i : ℕ) → i + 1 < n → (t i +ℤ pos 2419199) ≤ℤ t (i + 1)
+
+-- place i is reached at u
+abbrev pub Reached : (ℕ → ℤ) → (ℕ → ℤ) → ℕ → ℤ → Type 0
+Reached t c i u = t i ≤ℤ (u +ℤ c i)
+
+-- just the first k places are reached at u
+pub record IsCount (n : ℕ) (t c : ℕ → ℤ) (u : ℤ) (k : ℕ) : Type 0 where
+  pub within : k ≤ n
+  pub reached : (i : ℕ) → i < k → Reached t c i u
+  pub beyond : (i : ℕ) → k ≤ i → i < n → (u +ℤ c i) <ℤ t i
+
+module _ (n : ℕ) (t c : ℕ → ℤ) (steps : AreSteps n t c) where
+  -- corrections grow by one second at most
+  pub correction_bound : (i : ℕ) → i ≤ n → (neg_ℤ (pos i) ≤ℤ c i) × (c i ≤ℤ pos i)
+  correction_bound zero h = (omega (arith, ints, steps.none), omega (arith, ints, steps.none))
+  correction_bound (suc i) h =
+      let before = correction_bound i (omega arith) in
+      let next : i + 1 ≡ suc i = omega arith in
+      elim (steps.step i (omega arith)) [
+        | inl e ↦ (omega (arith, ints, ap c next, before), omega (arith, ints, ap c next, before))
+        | inr e ↦ (omega (arith, ints, ap c next, before), omega (arith, ints, ap c next, before))
+      ]
+
+  -- times grow by at least four weeks, less a second
+  pub time_bound : (i : ℕ) → i < n → pos (2419199 * i) ≤ℤ t i
+  time_bound zero h = omega (arith, ints, steps.first h)
+  time_bound (suc i) h =
+      let next : i + 1 ≡ suc i = omega arith in
+      omega (arith, ints, ap t next, time_bound i (omega arith), steps.apart i (omega arith))
+
+  pub times_rise : (i m : ℕ) → i + m < n → (t i +ℤ pos (2419199 * m)) ≤ℤ t (i + m)
+  times_rise i zero h =
+      let same : i + 0 ≡ i = omega arith in
+      omega (arith, ints, ap t same)
+  times_rise i (suc m) h =
+      let next : i + m + 1 ≡ i + suc m = omega arith in
+      omega (arith, ints, ap t next, times_rise i m (omega arith), steps.apart (i + m) (omega arith))
+
+  -- what is reached later is reached after what comes before it
+  reached_before : (i : ℕ) (u : ℤ) → i + 1 < n → Reached t c (i + 1) u → Reached t c i u
+  reached_before i u h r =
+      elim (steps.step i (omega arith)) [
+        | inl e ↦ omega (arith, ints, steps.apart i h)
+        | inr e ↦ omega (arith, ints, steps.apart i h)
+      ]
+
+  pub reached_down : (i m : ℕ) (u : ℤ) → i + m < n → Reached t c (i + m) u → Reached t c i u
+  reached_down i zero u h r =
+      let same : i + 0 ≡ i = omega arith in
+      omega (arith, ints, ap t same, ap c same)
+  reached_down i (suc m) u h r =
+      let next : i + m + 1 ≡ i + suc m = omega arith in
+      reached_down i m u (omega arith) (reached_before (i + m) u (omega arith) (omega (arith, ints, ap t next, ap c next)))
+
+  -- counts rise with the instant
+  pub count_mono : (u w : ℤ) (k m : ℕ) → u ≤ℤ w → IsCount n t c u k → IsCount n t c w m → k ≤ m
+  count_mono u w k m h a b =
+      elim (cases_lt m k) [
+        | inl less ↦ absurd (omega (arith, ints, a.reached m less, b.beyond m (omega arith) (omega (arith, a.within))))
+        | inr more ↦ more
+      ]
+
+  -- the leap time rises with the instant, or stays for one second
+  pub leap_mono : (u w : ℤ) (k m : ℕ) → u ≤ℤ w → IsCount n t c u k → IsCount n t c w m → (u +ℤ c k) ≤ℤ (w +ℤ c m)
+  leap_mono u w k m h a b =
+      by_counts k m (count_mono u w k m h a b) a b
+    where
+      by_counts : (k m : ℕ) → k ≤ m → IsCount n t c u k → IsCount n t c w m → (u +ℤ c k) ≤ℤ (w +ℤ c m)
+      by_counts k zero more a b =
+          let same : k ≡ zero = omega arith in
+          omega (arith, ints, ap c same)
+      by_counts k (suc m) more a b =
+          elim (cases_lt k (suc m)) [
+            | inl less ↦
+                let next : m + 1 ≡ suc m = omega arith in
+                let place : k + (m - k) ≡ m = omega arith in
+                let reached = b.reached m (omega arith) in
+                let beyond = a.beyond k (omega arith) (omega (arith, b.within)) in
+                let rise = times_rise k (m - k) (omega (arith, b.within)) in
+                elim (steps.step m (omega (arith, b.within))) [
+                  | inl e ↦ omega (arith, ints, ap c next, ap t place)
+                  | inr e ↦ omega (arith, ints, ap c next, ap t place)
+                ]
+            | inr more' ↦
+                let same : k ≡ suc m = omega arith in
+                omega (arith, ints, ap c same)
+          ]
+
+-- just the first k times are at most v
+pub record IsTimeCount (n : ℕ) (t : ℕ → ℤ) (v : ℤ) (k : ℕ) : Type 0 where
+  pub within : k ≤ n
+  pub come : (i : ℕ) → i < k → t i ≤ℤ v
+  pub later : (i : ℕ) → k ≤ i → i < n → v <ℤ t i
+
+-- the instant of leap time v: v less the correction, but not before the last leap second is reached
+pub record IsMoment (t c : ℕ → ℤ) (v : ℤ) (k : ℕ) (u : ℤ) : Type 0 where
+  pub after : v ≤ℤ (u +ℤ c k)
+  pub reached : (i : ℕ) → suc i ≡ k → t i ≤ℤ (u +ℤ c i)
+  pub tight : ((u +ℤ c k) ≡ v) ⊎ ((i : ℕ) × (suc i ≡ k) × ((u +ℤ c i) ≡ t i))
+
+module _ (n : ℕ) (t c : ℕ → ℤ) (steps : AreSteps n t c) where
+  -- at that instant just the leap seconds up to v are reached
+  pub moment_count : (v u : ℤ) (k : ℕ) → IsTimeCount n t v k → IsMoment t c v k u → IsCount n t c u k
+  moment_count v u k times moment = record {
+    within = times.within;
+    reached = λ i h.
+        let last : suc (k - 1) ≡ k = omega arith in
+        let place : i + (k - 1 - i) ≡ k - 1 = omega arith in
+        reached_down n t c steps i (k - 1 - i) u (omega (arith, times.within)) (rw place (moment.reached (k - 1) last));
+    beyond = λ i low high. beyond_from i low high moment.tight;
+  }
+    where
+      from_next : (i : ℕ) → k ≤ i → i < n → (u +ℤ c k) <ℤ t k → (u +ℤ c i) <ℤ t i
+      from_next i low high h =
+          by_lt_z (u +ℤ c i) (t i) (λ e. e) (λ r.
+          let place : k + (i - k) ≡ i = omega arith in
+          let down = reached_down n t c steps k (i - k) u (omega arith) (rw place r) in
+          absurd (omega (arith, ints, down)))
+
+      beyond_from : (i : ℕ) → k ≤ i → i < n → ((u +ℤ c k) ≡ v) ⊎ ((i : ℕ) × (suc i ≡ k) × ((u +ℤ c i) ≡ t i)) → (u +ℤ c i) <ℤ t i
+      beyond_from i low high (inl e) = from_next i low high (omega (arith, ints, times.later k (omega arith) (omega arith)))
+      beyond_from i low high (inr (j, last, e)) =
+          let next : j + 1 ≡ k = omega arith in
+          from_next i low high
+          (elim (steps.step j (omega (arith, times.within))) [
+            | inl s ↦ omega (arith, ints, ap c next, ap t next, steps.apart j (omega arith))
+            | inr s ↦ omega (arith, ints, ap c next, ap t next, steps.apart j (omega arith))
+          ])
+
+  -- before that instant no leap time has come to v
+  pub moment_least : (v u w : ℤ) (k m : ℕ) → IsTimeCount n t v k → IsMoment t c v k u → w <ℤ u → IsCount n t c w m → (w +ℤ c m) <ℤ v
+  moment_least v u w k m times moment before count =
+      elim (cases_lt m k) [
+        | inl less ↦ omega (arith, ints, count.beyond m (omega arith) (omega (arith, times.within)), times.come m less)
+        | inr more ↦
+            let same : m ≡ k = omega (arith, count_mono n t c steps w u m k (omega (arith, ints)) count (moment_count v u k times moment)) in
+            elim moment.tight [
+              | inl e ↦ omega (arith, ints, ap c same)
+              | inr (i, last, e) ↦ absurd (omega (arith, ints, count.reached i (omega arith)))
+            ]
+      ]

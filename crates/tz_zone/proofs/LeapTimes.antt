@@ -1,0 +1,144 @@
+-- Leap times and effects of a list of leap seconds: values, refusals, order, and that each has one value.
+use Rattle.std.proofs.Common.{◌≡◌, ◌≢◌, ℕ, zero, suc, ◌+◌, ◌-◌, ◌*◌, ◌^◌, ◌<◌, ◌≤◌, ◌⊎◌, inl, inr, refl, sym, ap, ◌∙◌, arith, ℤ, pos, negsuc, neg_ℤ, ◌+ℤ◌, ◌-ℤ◌, ◌≤ℤ◌, ◌<ℤ◌, List, length}
+use Rattle.std.specs.Prelude.{slice_get}
+use Rattle.std.proofs.lemmas.Int.{ints, by_lt_z}
+use Rattle.std.proofs.lemmas.Bool.{cases_lt}
+use Rattle.std.proofs.lemmas.Option.{slice_get_within}
+use mir.Syntax.{w64}
+use mir.Val.{SFits}
+use Rattle.tz_zone.specs.Table.{Leap}
+use Rattle.tz_zone.specs.LeapTime.{IsInstant, correction_before, IsReached, IsCorrection, IsLeapTimeRefused, IsLeapTime, HasComeTo, IsEffect, IsEffectRefused}
+use Rattle.tz_zone.specs.ValidZone.{AreLeapSeconds}
+use Rattle.tz_zone.proofs.LeapSteps.{AreSteps, IsCount, correction_bound, time_bound, reached_down, leap_mono, count_mono, IsTimeCount, IsMoment, moment_count, moment_least}
+use Rattle.tz_zone.proofs.LeapLists.{time_at, time_at-is, correction_before-suc, IsReachedCount, AreSteps-from_leaps, IsReached-below, IsReached-at, IsCorrection-from_count, correction_from_count, count_exists}
+
+-- instants are the numbers of 64 bits
+pub IsInstant-from_bounds : (z : ℤ) → negsuc 9223372036854775807 ≤ℤ z → z ≤ℤ pos 9223372036854775807 → IsInstant z
+IsInstant-from_bounds (pos n) low high = record { sfits = omega (arith, ints) }
+IsInstant-from_bounds (negsuc n) low high = record { sfits = omega (arith, ints) }
+
+pub instant_bounds : (z : ℤ) → IsInstant z → (negsuc 9223372036854775807 ≤ℤ z) × (z ≤ℤ pos 9223372036854775807)
+instant_bounds (pos n) fits = (omega (arith, ints, fits.sfits), omega (arith, ints, fits.sfits))
+instant_bounds (negsuc n) fits = (omega (arith, ints, fits.sfits), omega (arith, ints, fits.sfits))
+
+-- what is no instant, and not too small, is above them all
+above_instants : (z : ℤ) → ¬ IsInstant z → negsuc 9223372036854775807 ≤ℤ z → pos 9223372036854775807 <ℤ z
+above_instants z outside low = by_lt_z (pos 9223372036854775807) z (λ h. h) (λ h. absurd (outside (IsInstant-from_bounds z low h)))
+
+module _ (leaps : List Leap) (are : AreLeapSeconds leaps) where
+  steps : AreSteps (length leaps) (time_at leaps) (correction_before leaps)
+  steps = AreSteps-from_leaps leaps are
+
+  -- the leap time, where it is not refused, is the instant with the correction
+  pub IsLeapTime-from_count : (u : ℤ) (k : ℕ) → IsReachedCount leaps u k → ¬ IsLeapTimeRefused leaps u → IsLeapTime leaps u (u +ℤ correction_before leaps k)
+  IsLeapTime-from_count u k count answered = record { not_refused = answered; value = (correction_before leaps k, IsCorrection-from_count leaps u k count, refl) }
+
+  pub leap_time_from_count : (u v : ℤ) (k : ℕ) → IsReachedCount leaps u k → IsLeapTime leaps u v → v ≡ u +ℤ correction_before leaps k
+  leap_time_from_count u v k count leap = leap.value.2 ∙ ap (λ c. u +ℤ c) (correction_from_count leaps u leap.value.0 k count leap.value.1)
+
+  -- an instant has one leap time
+  pub leap_time_unique : (u v v' : ℤ) → IsLeapTime leaps u v → IsLeapTime leaps u v' → v ≡ v'
+  leap_time_unique u v v' a b =
+      let count = count_exists leaps are u in
+      leap_time_from_count u v count.0 count.1 a ∙ sym (leap_time_from_count u v' count.0 count.1 b)
+
+  -- leap times do not fall
+  pub leap_time_mono : (u w v v' : ℤ) → u ≤ℤ w → IsLeapTime leaps u v → IsLeapTime leaps w v' → v ≤ℤ v'
+  leap_time_mono u w v v' h a b =
+      let here = count_exists leaps are u in
+      let there = count_exists leaps are w in
+      let order = leap_mono (length leaps) (time_at leaps) (correction_before leaps) steps u w here.0 there.0 h here.1 there.1 in
+      rw (leap_time_from_count u v here.0 here.1 a, leap_time_from_count w v' there.0 there.1 b) order
+
+  -- a correction that leaves the instants leaves them above
+  refused_above : (u : ℤ) (i : ℕ) (l : Leap) → IsReached leaps i l u → ¬ IsInstant (u +ℤ l.correction) → pos 9223372036854775807 <ℤ (u +ℤ l.correction)
+  refused_above u i l r outside =
+      let inside : i < length leaps = omega (arith, slice_get_within leaps i l r.0) in
+      let time = time_at-is leaps i l r.0 in
+      let low = time_bound (length leaps) (time_at leaps) (correction_before leaps) steps i inside in
+      let here = correction_before-suc leaps i l r.0 in
+      let next : i + 1 ≡ suc i = omega arith in
+      let moved = ap (correction_before leaps) next in
+      above_instants (u +ℤ l.correction) outside
+      (elim (steps.step i inside) [
+        | inl e ↦ omega (arith, ints, r.1)
+        | inr e ↦ omega (arith, ints, r.1)
+      ])
+
+  -- where an instant has no leap time, no later one has
+  pub refused_later : (u w : ℤ) → u ≤ℤ w → IsLeapTimeRefused leaps u → IsLeapTimeRefused leaps w
+  refused_later u w h (i, l, r, outside) =
+      let above = refused_above u i l r outside in
+      (i, l, (r.0, omega (arith, ints, r.1)), λ fits. absurd (omega (arith, ints, instant_bounds (w +ℤ l.correction) fits)))
+
+  -- and none is refused within 80000000000000000 seconds of 1970
+  pub not_refused_within : (u : ℤ) → u ≤ℤ pos 80000000000000000 → ¬ IsLeapTimeRefused leaps u
+  not_refused_within u h (i, l, r, outside) =
+      let above = refused_above u i l r outside in
+      let inside : i < length leaps = omega (arith, slice_get_within leaps i l r.0) in
+      let time = time_at-is leaps i l r.0 in
+      let low = time_bound (length leaps) (time_at leaps) (correction_before leaps) steps i inside in
+      let here = correction_before-suc leaps i l r.0 in
+      let bound = correction_bound (length leaps) (time_at leaps) (correction_before leaps) steps i (omega arith) in
+      let next = correction_bound (length leaps) (time_at leaps) (correction_before leaps) steps (suc i) (omega arith) in
+      absurd (omega (arith, ints, r.1, bound, next))
+
+  -- the sum of an instant and its correction is one of 64 bits where none is refused
+  pub leap_time_fits : (u : ℤ) (k : ℕ) → IsReachedCount leaps u k → IsInstant u → ¬ IsLeapTimeRefused leaps u → IsInstant (u +ℤ correction_before leaps k)
+  leap_time_fits u zero count fits answered =
+      let same : (u +ℤ pos 0) ≡ u = omega (arith, ints) in
+      rw same fits
+  leap_time_fits u (suc k) count fits answered =
+      let last = IsReached-at leaps u (suc k) k count (omega arith) in
+      by_bounds (u +ℤ correction_before leaps (suc k)) (λ outside. answered (k, last.0, last.1, λ inside. outside (rw (sym last.2) at inside)))
+    where
+      by_bounds : (z : ℤ) → ¬ ¬ IsInstant z → IsInstant z
+      by_bounds z h =
+          by_lt_z z (negsuc 9223372036854775807)
+          (λ low. absurd (h (λ inside. absurd (omega (arith, ints, instant_bounds z inside)))))
+          (λ low. by_lt_z (pos 9223372036854775807) z
+          (λ high. absurd (h (λ inside. absurd (omega (arith, ints, instant_bounds z inside)))))
+          (λ high. IsInstant-from_bounds z low high))
+
+  -- no leap time comes to v before its moment
+  pub least_from_moment : (v u : ℤ) (k : ℕ) → IsTimeCount (length leaps) (time_at leaps) v k → IsMoment (time_at leaps) (correction_before leaps) v k u → (w : ℤ) → HasComeTo leaps v w → u ≤ℤ w
+  least_from_moment v u k times moment w come =
+      by_lt_z w u
+      (λ before.
+      let count = count_exists leaps are w in
+      let less = moment_least (length leaps) (time_at leaps) (correction_before leaps) steps v u w k count.0 times moment before count.1 in
+      absurd (omega (arith, ints, leap_time_from_count w come.0 count.0 count.1 come.1, come.2)))
+      (λ h. h)
+
+  -- the moment of a leap time is its effect, unless it is no instant or has no leap time itself
+  pub IsEffect-from_moment : (v u : ℤ) (k : ℕ) → v ≢ negsuc 9223372036854775807 → IsTimeCount (length leaps) (time_at leaps) v k → IsMoment (time_at leaps) (correction_before leaps) v k u → IsInstant u → ¬ IsLeapTimeRefused leaps u → IsEffect leaps v u
+  IsEffect-from_moment v u k high times moment instant answered =
+      let count = moment_count (length leaps) (time_at leaps) (correction_before leaps) steps v u k times moment in
+      record {
+        not_least = high;
+        instant = instant;
+        has_come = (u +ℤ correction_before leaps k, IsLeapTime-from_count u k count answered, moment.after);
+        least = least_from_moment v u k times moment;
+      }
+
+  -- the moment of a leap time of 64 bits is not below them
+  pub moment_low : (v u : ℤ) (k : ℕ) → negsuc 9223372036854775807 ≤ℤ v → IsTimeCount (length leaps) (time_at leaps) v k → IsMoment (time_at leaps) (correction_before leaps) v k u → negsuc 9223372036854775807 ≤ℤ u
+  moment_low v u k low times moment = by_tight moment.tight
+    where
+      by_count : (k : ℕ) → IsTimeCount (length leaps) (time_at leaps) v k → (u +ℤ correction_before leaps k) ≡ v → negsuc 9223372036854775807 ≤ℤ u
+      by_count zero times e = omega (arith, ints)
+      by_count (suc i) times e =
+          let time = time_bound (length leaps) (time_at leaps) (correction_before leaps) steps i (omega (arith, times.within)) in
+          let bound = correction_bound (length leaps) (time_at leaps) (correction_before leaps) steps (suc i) times.within in
+          omega (arith, ints, times.come i (omega arith), bound)
+
+      by_tight : ((u +ℤ correction_before leaps k) ≡ v) ⊎ ((i : ℕ) × (suc i ≡ k) × ((u +ℤ correction_before leaps i) ≡ time_at leaps i)) → negsuc 9223372036854775807 ≤ℤ u
+      by_tight (inl e) = by_count k times e
+      by_tight (inr (i, last, e)) =
+          let time = time_bound (length leaps) (time_at leaps) (correction_before leaps) steps i (omega (arith, times.within)) in
+          let bound = correction_bound (length leaps) (time_at leaps) (correction_before leaps) steps i (omega (arith, times.within)) in
+          omega (arith, ints, bound)
+
+  -- a leap time has one effect
+  pub effect_unique : (v u u' : ℤ) → IsEffect leaps v u → IsEffect leaps v u' → u ≡ u'
+  effect_unique v u u' a b = omega (arith, ints, a.least u' b.has_come, b.least u a.has_come)

@@ -1,0 +1,9 @@
+pub mod LeapSteps
+pub mod LeapLists
+pub mod LeapTimes
+pub mod LeapMoments
+pub mod RisingTimes
+pub mod LeapAnswers
+pub mod TableChecks
+pub mod RuleChecks
+pub mod Clocks

@@ -1,0 +1,63 @@
+-- Lists of items whose times rise: what comes up to a time is the front of the list.
+use Rattle.std.proofs.Common.{◌≡◌, ℕ, zero, suc, ◌+◌, ◌-◌, ◌<◌, ◌≤◌, arith, ap, sym, ◌∙◌, ℤ, ◌≤ℤ◌, ◌<ℤ◌, List, length, get_or, Some, inl, inr}
+use Rattle.std.specs.Prelude.{slice_get}
+use Rattle.std.proofs.lemmas.Int.{ints, by_lt_z}
+use Rattle.std.proofs.lemmas.Bool.{cases_lt}
+use Rattle.std.proofs.lemmas.Option.{slice_get_within, slice_get-get_or, same_Some}
+use Rattle.tz_zone.specs.Table.{Change, Leap}
+use Rattle.tz_zone.specs.ValidZone.{AreLeapSeconds, IsRising}
+use Rattle.tz_zone.proofs.LeapSteps.{times_rise}
+use Rattle.tz_zone.proofs.LeapLists.{time_at, time_at-is, AreSteps-from_leaps, item_at}
+
+-- an item has a smaller time than each later one
+abbrev pub Rise : {X : Type 0} → (X → ℤ) → List X → Type 0
+Rise {X} time xs = (i j : ℕ) (x y : X) → i < j → slice_get xs i ≡ Some x → slice_get xs j ≡ Some y → time x <ℤ time y
+
+module _ {X : Type 0} (time : X → ℤ) (xs : List X) (rise : Rise time xs) (v : ℤ) (k : ℕ) (within : k ≤ length xs) where
+  pub come_before_turn : ((place : ℕ) → place + 1 ≡ k → (x : X) × (slice_get xs place ≡ Some x) × (time x ≤ℤ v)) → (i : ℕ) (x : X) → i < k → slice_get xs i ≡ Some x → time x ≤ℤ v
+  come_before_turn before i x h at =
+      let last = before (k - 1) (omega arith) in
+      elim (cases_lt i (k - 1)) [
+        | inl less ↦ omega (arith, ints, rise i (k - 1) x last.0 less at last.1, last.2)
+        | inr more ↦
+            let place : i ≡ k - 1 = omega arith in
+            let same : x ≡ last.0 = same_Some x last.0 (sym at ∙ ap (slice_get xs) place ∙ last.1) in
+            rw same last.2
+      ]
+
+  pub later_from_turn : (k < length xs → ¬ ((x : X) × (slice_get xs k ≡ Some x) × (time x ≤ℤ v))) → (i : ℕ) (x : X) → k ≤ i → slice_get xs i ≡ Some x → v <ℤ time x
+  later_from_turn after i x h at =
+      by_lt_z v (time x) (λ e. e) (λ not_later.
+      let inside = slice_get_within xs i x at in
+      let here : (y : X) × (slice_get xs k ≡ Some y) = (get_or xs k x, slice_get-get_or xs k x (omega arith)) in
+      elim (cases_lt k i) [
+        | inl less ↦ absurd (after (omega arith) (here.0, here.1, omega (arith, ints, rise k i here.0 x less here.1 at)))
+        | inr more ↦
+            let place : k ≡ i = omega arith in
+            let same : here.0 ≡ x = same_Some here.0 x (sym here.1 ∙ ap (slice_get xs) place ∙ at) in
+            absurd (after (omega arith) (x, ap (slice_get xs) place ∙ at, not_later))
+      ])
+
+-- the times of transitions rise
+pub transitions_rise : (transitions : List Change) → IsRising transitions → Rise (λ (change : Change). change.unix_leap_time) transitions
+transitions_rise transitions rising i j x y h at at' =
+    let place : i + suc (j - i - 1) ≡ j = omega arith in
+    by_steps (j - i - 1) i x y at (ap (slice_get transitions) place ∙ at')
+  where
+    by_steps : (m i : ℕ) (x y : Change) → slice_get transitions i ≡ Some x → slice_get transitions (i + suc m) ≡ Some y → x.unix_leap_time <ℤ y.unix_leap_time
+    by_steps zero i x y at at' =
+        let next : i + 1 ≡ i + suc zero = omega arith in
+        rising i x y at (ap (slice_get transitions) next ∙ at')
+    by_steps (suc m) i x y at at' =
+        let inside = slice_get_within transitions (i + suc (suc m)) y at' in
+        let next : slice_get transitions (i + 1) ≡ Some (get_or transitions (i + 1) x) = slice_get-get_or transitions (i + 1) x (omega arith) in
+        let place : i + 1 + suc m ≡ i + suc (suc m) = omega arith in
+        omega (arith, ints, rising i x (get_or transitions (i + 1) x) at next, by_steps m (i + 1) (get_or transitions (i + 1) x) y next (ap (slice_get transitions) place ∙ at'))
+
+-- and those of leap seconds
+pub leap_seconds_rise : (leaps : List Leap) → AreLeapSeconds leaps → Rise (λ (l : Leap). l.unix_leap_time) leaps
+leap_seconds_rise leaps are i j x y h at at' =
+    let place : i + (j - i) ≡ j = omega arith in
+    let inside = slice_get_within leaps j y at' in
+    let rise = times_rise (length leaps) (time_at leaps) _ (AreSteps-from_leaps leaps are) i (j - i) (omega arith) in
+    omega (arith, ints, time_at-is leaps i x at, time_at-is leaps j y at', ap (time_at leaps) place)

@@ -1,0 +1,35 @@
+-- The comparison is the one that the definition makes, in numbers of 128 bits.
+use Rattle.std.proofs.Common.{◌≡◌, ℕ, refl, arith, rules, sym, ◌∙◌, ap, ℤ, ◌+ℤ◌, ◌≤ℤ◌, ◌<ℤ◌, Bool, true, false, List, Some}
+use Rattle.std.specs.Prelude.{slice_get, MatchBool}
+use Rattle.std.proofs.lemmas.Int.{ints}
+use Rattle.std.proofs.lemmas.Option.{slice_get_read, same_Some, get_or_from_slice_get}
+use lib.Signed.{le_z}
+use mir.Syntax.{w64, w128}
+use mir.Val.{SFits, to_z, of_z}
+use Rattle.tz_zone.specs.Table.{Leap}
+use Rattle.tz_zone.specs.LeapTime.{IsReached, correction_before}
+use Rattle.tz_zone.proofs.inner.ReachedAtPlaces.passes_at.Goals as goal
+
+by_test : (a b : ℤ) (P : Type 0) → (a ≤ℤ b → P) → (P → a ≤ℤ b) → MatchBool (le_z a b) P (¬ P)
+by_test a b P f g = at (le_z a b) refl
+  where
+    at : (t : Bool) → t ≡ le_z a b → MatchBool t P (¬ P)
+    at true e = f (grind (arith, ints))
+    at false e = λ p. let order = g p in grind (arith, ints)
+
+pub returns : goal.returns
+returns c =
+    let s = c.args.self.now in
+    let fits : SFits w64 s.unix_time = search rules in
+    let item = c.index-self-place.result in
+    let at = slice_get_read s.leap_seconds.now _ c.args.place item refl c.requires c.index-self-place.is in
+    let time = c.unix_leap_time-time.ensures in
+    let correction = c.correction_before-correction.ensures in
+    let read = get_or_from_slice_get s.leap_seconds.now c.args.place item item at in
+    let read_time = ap (λ (l : Leap). l.unix_leap_time) read in
+    by_test (to_z w128 (of_z w128 c.from.result)) _ ((l : Leap) × IsReached s.leap_seconds.now c.args.place l s.unix_time)
+    (λ order. (item, (at, omega (arith, ints))))
+    (λ r.
+    let same : r.0 ≡ item = same_Some r.0 item (sym r.1.0 ∙ at) in
+    let moved = ap (λ (l : Leap). l.unix_leap_time) same in
+    omega (arith, ints, r.1.1))

@@ -1,0 +1,10 @@
+pub use Rattle.tz_rule.specs.Days
+pub use Rattle.tz_rule.specs.Fields
+pub use Rattle.tz_rule.specs.LocalType
+pub use Rattle.tz_rule.specs.Rule
+pub mod Table
+pub mod LeapTime
+pub mod Clock
+pub mod ValidZone
+pub mod ZoneRef
+pub mod SameZone

@@ -1,0 +1,230 @@
+//! What the crates above use of zones and their users do not: leap times, and where they take effect.
+
+ghost use Rattle.std.specs.Prelude.{◌≡◌, ℕ, ◌+◌, true, false, ◌<◌, ◌≤◌, ◌↔◌, ◌+ℤ◌, ◌≤ℤ◌, ◌<ℤ◌, length, slice_get, ℤ, IsTrue, IfOk, IfErr, MatchBool, Some, ◌-ℤ◌};
+ghost use Rattle.tz_zone.specs.Table.{Change, Leap};
+ghost use Rattle.tz_zone.specs.LeapTime.{IsInstant, correction_before as correction_at_place, IsReached, IsLeapTimeRefused, IsLeapTime, IsMomentOf, IsEffect, IsEffectRefused};
+ghost use Rattle.tz_zone.specs.ValidZone.{AreLeapSeconds, IsRising};
+
+use crate::timezone::{LeapSecond, Transition};
+use crate::turn::{Places, turn};
+use tz_base::error::TzError;
+
+/// Instants up to this one have a leap time, whatever the leap seconds.
+const SURELY_ANSWERED: i64 = 80_000_000_000_000_000;
+
+/// The correction before a place of the list: 0 before the first.
+fn correction_before(leap_seconds: &[LeapSecond], place: usize) -> i32
+    requires { place ≤ length leap_seconds.now }
+    ensures { result ≡ correction_at_place leap_seconds.now place }
+{
+    if place == 0 {
+        return 0;
+    }
+    leap_seconds[place - 1].correction()
+}
+
+/// How many leap seconds are reached at an instant.
+fn leap_seconds_reached(leap_seconds: &[LeapSecond], unix_time: i64) -> usize
+    requires { AreLeapSeconds leap_seconds.now }
+    ensures within { result ≤ length leap_seconds.now }
+    ensures reached { (i : ℕ) (l : Leap) → i < result → slice_get leap_seconds.now i ≡ Some l → IsReached leap_seconds.now i l unix_time }
+    ensures beyond { (i : ℕ) (l : Leap) → IsReached leap_seconds.now i l unix_time → i < result }
+{
+    turn(&ReachedAt {
+        leap_seconds,
+        unix_time,
+    })
+}
+
+/// Leap seconds, tested whether they are reached at an instant.
+#[derive(Clone, Copy)]
+struct ReachedAt<'a> {
+    leap_seconds: &'a [LeapSecond],
+    unix_time: i64,
+}
+
+impl Places for ReachedAt<'_> {
+    ghost use Rattle.std.specs.Prelude.{ℕ, length};
+    ghost use Rattle.tz_zone.specs.Table.{Leap};
+    ghost use Rattle.tz_zone.specs.LeapTime.{IsReached};
+
+    ghost count = { λ s. length s.leap_seconds.now };
+
+    ghost passes = { λ s place. (l : Leap) × IsReached s.leap_seconds.now place l s.unix_time };
+
+    fn len(&self) -> usize {
+        self.leap_seconds.len()
+    }
+
+    fn passes_at(&self, place: usize) -> bool {
+        let correction = correction_before(self.leap_seconds, place);
+        let time = self.leap_seconds[place].unix_leap_time();
+        i128::from(time) <= i128::from(self.unix_time) + i128::from(correction)
+    }
+}
+
+/// Leap seconds, tested whether their time is not above a leap time.
+#[derive(Clone, Copy)]
+struct LeapSecondsUpTo<'a> {
+    leap_seconds: &'a [LeapSecond],
+    unix_leap_time: i64,
+}
+
+impl Places for LeapSecondsUpTo<'_> {
+    ghost use Rattle.std.specs.Prelude.{ℕ, ◌≡◌, ◌≤ℤ◌, Some, length, slice_get};
+    ghost use Rattle.tz_zone.specs.Table.{Leap};
+
+    ghost count = { λ s. length s.leap_seconds.now };
+
+    ghost passes = { λ s place. (l : Leap) × (slice_get s.leap_seconds.now place ≡ Some l) × (l.unix_leap_time ≤ℤ s.unix_leap_time) };
+
+    fn len(&self) -> usize {
+        self.leap_seconds.len()
+    }
+
+    fn passes_at(&self, place: usize) -> bool {
+        self.leap_seconds[place].unix_leap_time() <= self.unix_leap_time
+    }
+}
+
+/// Transitions, tested whether their time is not above a leap time.
+#[derive(Clone, Copy)]
+struct TransitionsUpTo<'a> {
+    transitions: &'a [Transition],
+    unix_leap_time: i64,
+}
+
+impl Places for TransitionsUpTo<'_> {
+    ghost use Rattle.std.specs.Prelude.{ℕ, ◌≡◌, ◌≤ℤ◌, Some, length, slice_get};
+    ghost use Rattle.tz_zone.specs.Table.{Change};
+
+    ghost count = { λ s. length s.transitions.now };
+
+    ghost passes = { λ s place. (change : Change) × (slice_get s.transitions.now place ≡ Some change) × (change.unix_leap_time ≤ℤ s.unix_leap_time) };
+
+    fn len(&self) -> usize {
+        self.transitions.len()
+    }
+
+    fn passes_at(&self, place: usize) -> bool {
+        self.transitions[place].unix_leap_time() <= self.unix_leap_time
+    }
+}
+
+/// Whether the instant stays in 64 bits with each of the corrections.
+fn stays_with_all(leap_seconds: &[LeapSecond], unix_time: i64) -> bool
+    ensures { MatchBool result
+        ((i : ℕ) (l : Leap) → slice_get leap_seconds.now i ≡ Some l → IsInstant (unix_time +ℤ l.correction))
+        ((i : ℕ) × (l : Leap) × (slice_get leap_seconds.now i ≡ Some l) × ¬ IsInstant (unix_time +ℤ l.correction)) }
+{
+    for leap_second in leap_seconds {
+        if unix_time
+            .checked_add(i64::from(leap_second.correction()))
+            .is_none()
+        {
+            return false;
+        }
+    }
+    true
+}
+
+/// Whether the instant has a leap time, where so many leap seconds are reached.
+fn has_leap_time(leap_seconds: &[LeapSecond], unix_time: i64, reached: usize) -> bool
+    requires leaps { AreLeapSeconds leap_seconds.now }
+    requires within { reached ≤ length leap_seconds.now }
+    requires reached { (i : ℕ) (l : Leap) → i < reached → slice_get leap_seconds.now i ≡ Some l → IsReached leap_seconds.now i l unix_time }
+    requires beyond { (i : ℕ) (l : Leap) → IsReached leap_seconds.now i l unix_time → i < reached }
+    ensures { MatchBool result (¬ IsLeapTimeRefused leap_seconds.now unix_time) (IsLeapTimeRefused leap_seconds.now unix_time) }
+{
+    if unix_time <= SURELY_ANSWERED {
+        return true;
+    }
+    stays_with_all(&leap_seconds[..reached], unix_time)
+}
+
+/// The leap time of an instant. (RFC 8536, section 2)
+pub fn leap(leap_seconds: &[LeapSecond], unix_time: i64) -> Result<i64, TzError>
+    requires { AreLeapSeconds leap_seconds.now }
+    ensures ok { IfOk result (λ v. IsLeapTime leap_seconds.now unix_time v) }
+    ensures err { IfErr result (λ e. (e ≡ TzError.OutOfRange) × IsLeapTimeRefused leap_seconds.now unix_time) }
+{
+    let reached = leap_seconds_reached(leap_seconds, unix_time);
+    if !has_leap_time(leap_seconds, unix_time, reached) {
+        return Err(TzError::OutOfRange);
+    }
+    let correction = correction_before(leap_seconds, reached);
+    Ok(unix_time + i64::from(correction))
+}
+
+/// How many leap seconds have a time that is not above a leap time.
+fn leap_seconds_up_to(leap_seconds: &[LeapSecond], unix_leap_time: i64) -> usize
+    requires { AreLeapSeconds leap_seconds.now }
+    ensures within { result ≤ length leap_seconds.now }
+    ensures come { (i : ℕ) (l : Leap) → i < result → slice_get leap_seconds.now i ≡ Some l → l.unix_leap_time ≤ℤ unix_leap_time }
+    ensures later { (i : ℕ) (l : Leap) → result ≤ i → slice_get leap_seconds.now i ≡ Some l → unix_leap_time <ℤ l.unix_leap_time }
+{
+    turn(&LeapSecondsUpTo {
+        leap_seconds,
+        unix_leap_time,
+    })
+}
+
+/// A time less a correction.
+fn less(time: i64, correction: i32) -> i128
+    ensures { result ≡ time -ℤ correction }
+{
+    i128::from(time) - i128::from(correction)
+}
+
+/// The moment of a leap time by the leap seconds up to it, which may lie past 64 bits: the leap time less the correction, but not
+/// before the last of them is reached.
+fn moment(leap_seconds: &[LeapSecond], unix_leap_time: i64) -> i128
+    requires { AreLeapSeconds leap_seconds.now }
+    ensures { IsMomentOf leap_seconds.now unix_leap_time result }
+{
+    let count = leap_seconds_up_to(leap_seconds, unix_leap_time);
+    if count == 0 {
+        return less(unix_leap_time, 0);
+    }
+    let last = &leap_seconds[count - 1];
+    let shifted = less(unix_leap_time, last.correction());
+    let reached = less(
+        last.unix_leap_time(),
+        correction_before(leap_seconds, count - 1),
+    );
+    shifted.max(reached)
+}
+
+/// The instant at which a leap time takes effect: the least one whose leap time is not below it.
+pub fn effect(leap_seconds: &[LeapSecond], unix_leap_time: i64) -> Result<i64, TzError>
+    requires { AreLeapSeconds leap_seconds.now }
+    ensures ok { IfOk result (λ u. IsEffect leap_seconds.now unix_leap_time u) }
+    ensures err { IfErr result (λ e. (e ≡ TzError.OutOfRange) × IsEffectRefused leap_seconds.now unix_leap_time) }
+{
+    if unix_leap_time == i64::MIN {
+        return Err(TzError::OutOfRange);
+    }
+    let Ok(unix_time) = i64::try_from(moment(leap_seconds, unix_leap_time)) else {
+        return Err(TzError::OutOfRange);
+    };
+    match leap(leap_seconds, unix_time) {
+        Ok(_) => Ok(unix_time),
+        Err(error) => Err(error),
+    }
+}
+
+/// How many transitions have a time that is not above a leap time.
+pub fn transitions_up_to(transitions: &[Transition], unix_leap_time: i64) -> usize
+    requires { IsRising transitions.now }
+    ensures within { result ≤ length transitions.now }
+    ensures come { (i : ℕ) (change : Change) → i < result → slice_get transitions.now i ≡ Some change → change.unix_leap_time ≤ℤ unix_leap_time }
+    ensures later { (i : ℕ) (change : Change) → result ≤ i → slice_get transitions.now i ≡ Some change → unix_leap_time <ℤ change.unix_leap_time }
+{
+    turn(&TransitionsUpTo {
+        transitions,
+        unix_leap_time,
+    })
+}
+
+#[cfg(test)]
+mod tests;

@@ -1,0 +1,6 @@
+//! Time zones: transitions, leap seconds and an extra rule, and the clock that they make.
+#![tactic(auto)]
+
+pub mod inner;
+pub mod timezone;
+mod turn;

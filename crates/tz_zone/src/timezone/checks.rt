@@ -1,0 +1,154 @@
+//! The checks of a zone's parts.
+
+ghost use Rattle.std.specs.Prelude.{◌≡◌, ◌≢◌, ℕ, pos, ◌+ℤ◌, ◌-ℤ◌, ◌≤ℤ◌, ◌<◌, length, [], OnOk, IfOk, IfErr, MatchBool};
+ghost use Rattle.tz_rule.specs.LocalType.{LocalType};
+ghost use Rattle.tz_zone.specs.Table.{zone_with};
+ghost use Rattle.tz_zone.specs.ValidZone.{IsRuleTypeAt, IsOneSecond, MayBeFirst, MayFollow, AreLeapSeconds, HasTypeAtPlace, RisesAtPlace, IsFirstTransitionFault, IsSoundTable, IsRuleFault, RuleAnswers, RuleAgrees, IsValidZone, IsFirstZoneFault};
+
+use super::{LeapSecond, LocalTimeType, Transition, TransitionRule};
+use crate::inner;
+use tz_base::error::TzError;
+use tz_base::error::timezone::TimeZoneError;
+
+/// Whether the transition at a place names one of so many types.
+fn has_type_at(transitions: &[Transition], types: usize, place: usize) -> bool
+    requires { place < length transitions.now }
+    ensures { MatchBool result (HasTypeAtPlace transitions.now types place) (¬ HasTypeAtPlace transitions.now types place) }
+{
+    transitions[place].local_time_type_index() < types
+}
+
+/// Whether the transition at a place comes before the next one.
+fn rises_at(transitions: &[Transition], place: usize) -> bool
+    requires { place < length transitions.now }
+    ensures { MatchBool result (RisesAtPlace transitions.now place) (¬ RisesAtPlace transitions.now place) }
+{
+    if place + 1 == transitions.len() {
+        return true;
+    }
+    transitions[place].unix_leap_time() < transitions[place + 1].unix_leap_time()
+}
+
+/// Each transition names one of so many types, and comes before the next one.
+fn check_transitions(transitions: &[Transition], types: usize) -> Result<(), TimeZoneError>
+    ensures ok { OnOk result ((i : ℕ) → HasTypeAtPlace transitions.now types i × RisesAtPlace transitions.now i) }
+    ensures err { IfErr result (IsFirstTransitionFault transitions.now types) }
+{
+    for i in 0..transitions.len() {
+        if !has_type_at(transitions, types, i) {
+            return Err(TimeZoneError::InvalidLocalTimeTypeIndex);
+        }
+        if !rises_at(transitions, i) {
+            return Err(TimeZoneError::InvalidTransition);
+        }
+    }
+    Ok(())
+}
+
+/// Whether a leap second may come first.
+fn may_be_first(leap_second: &LeapSecond) -> bool
+    ensures { MatchBool result (MayBeFirst leap_second.now) (¬ MayBeFirst leap_second.now) }
+{
+    leap_second.unix_leap_time() >= 0 && leap_second.correction().unsigned_abs() == 1
+}
+
+/// Whether two corrections differ by one second.
+fn is_one_second_apart(correction: i32, next: i32) -> bool
+    ensures { MatchBool result (IsOneSecond (next -ℤ correction)) (¬ IsOneSecond (next -ℤ correction)) }
+{
+    (i64::from(next) - i64::from(correction)).unsigned_abs() == 1
+}
+
+/// Whether a leap time comes at least 28 days after another one, less a second.
+fn is_far_from(time: i64, next: i64) -> bool
+    ensures { MatchBool result ((time +ℤ pos 2419199) ≤ℤ next) (¬ ((time +ℤ pos 2419199) ≤ℤ next)) }
+{
+    i128::from(time) + 2_419_199 <= i128::from(next)
+}
+
+/// Whether a leap second may follow another one.
+fn may_follow(leap_second: &LeapSecond, next: &LeapSecond) -> bool
+    ensures { MatchBool result (MayFollow leap_second.now next.now) (¬ MayFollow leap_second.now next.now) }
+{
+    is_far_from(leap_second.unix_leap_time(), next.unix_leap_time())
+        && is_one_second_apart(leap_second.correction(), next.correction())
+}
+
+/// Whether the leap seconds are a table of such.
+fn are_leap_seconds(leap_seconds: &[LeapSecond]) -> bool
+    ensures { MatchBool result (AreLeapSeconds leap_seconds.now) (¬ AreLeapSeconds leap_seconds.now) }
+{
+    if leap_seconds.is_empty() {
+        return true;
+    }
+    if !may_be_first(&leap_seconds[0]) {
+        return false;
+    }
+    for i in 1..leap_seconds.len() {
+        if !may_follow(&leap_seconds[i - 1], &leap_seconds[i]) {
+            return false;
+        }
+    }
+    true
+}
+
+/// The type that a rule answers where a leap time takes effect.
+fn rule_type_at<'a>(
+    rule: &'a TransitionRule,
+    leap_seconds: &[LeapSecond],
+    unix_leap_time: i64,
+) -> Result<&'a LocalTimeType, TzError>
+    requires { AreLeapSeconds leap_seconds.now }
+    ensures ok { IfOk result (λ t. IsRuleTypeAt leap_seconds.now rule.now unix_leap_time t.now) }
+    ensures err { IfErr result (λ e. (e ≡ TzError.OutOfRange) × ((t : LocalType) → ¬ IsRuleTypeAt leap_seconds.now rule.now unix_leap_time t)) }
+{
+    match inner::effect(leap_seconds, unix_leap_time) {
+        Ok(unix_time) => tz_rule::inner::find_local_time_type(rule, unix_time),
+        Err(error) => Err(error),
+    }
+}
+
+/// The extra rule answers at the last transition, with that transition's type.
+fn check_extra_rule(
+    transitions: &[Transition],
+    local_time_types: &[LocalTimeType],
+    leap_seconds: &[LeapSecond],
+    extra_rule: &Option<TransitionRule>,
+) -> Result<(), TzError>
+    requires { IsSoundTable (zone_with transitions.now local_time_types.now leap_seconds.now extra_rule.now) }
+    ensures answers { OnOk result (RuleAnswers (zone_with transitions.now local_time_types.now leap_seconds.now extra_rule.now)) }
+    ensures agrees { OnOk result (RuleAgrees (zone_with transitions.now local_time_types.now leap_seconds.now extra_rule.now)) }
+    ensures err { IfErr result (IsRuleFault (zone_with transitions.now local_time_types.now leap_seconds.now extra_rule.now)) }
+{
+    let Some(rule) = extra_rule else {
+        return Ok(());
+    };
+    let Some(last) = transitions.last() else {
+        return Ok(());
+    };
+    let rule_type = rule_type_at(rule, leap_seconds, last.unix_leap_time())?;
+    if *rule_type != local_time_types[last.local_time_type_index()] {
+        return Err(TzError::TimeZone(TimeZoneError::InconsistentExtraRule));
+    }
+    Ok(())
+}
+
+/// Checks the parts of a zone, in the order in which their faults are named.
+pub(crate) fn check_parts(
+    transitions: &[Transition],
+    local_time_types: &[LocalTimeType],
+    leap_seconds: &[LeapSecond],
+    extra_rule: &Option<TransitionRule>,
+) -> Result<(), TzError>
+    ensures ok { OnOk result (IsValidZone (zone_with transitions.now local_time_types.now leap_seconds.now extra_rule.now)) }
+    ensures err { IfErr result (IsFirstZoneFault (zone_with transitions.now local_time_types.now leap_seconds.now extra_rule.now)) }
+{
+    if local_time_types.is_empty() {
+        return Err(TzError::TimeZone(TimeZoneError::NoLocalTimeType));
+    }
+    check_transitions(transitions, local_time_types.len())?;
+    if !are_leap_seconds(leap_seconds) {
+        return Err(TzError::TimeZone(TimeZoneError::InvalidLeapSecond));
+    }
+    check_extra_rule(transitions, local_time_types, leap_seconds, extra_rule)
+}

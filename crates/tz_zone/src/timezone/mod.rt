@@ -1,0 +1,18 @@
+//! Transitions, leap seconds and time zones.
+
+mod checks;
+mod leap_second;
+mod transition;
+mod zone;
+mod zone_ref;
+
+pub use leap_second::LeapSecond;
+pub use transition::Transition;
+pub use tz_rule::timezone::{
+    Julian0WithLeap, Julian1WithoutLeap, LocalTimeType, MonthWeekDay, RuleDay, TransitionRule,
+};
+pub use zone::TimeZone;
+pub use zone_ref::TimeZoneRef;
+
+#[cfg(test)]
+mod tests;

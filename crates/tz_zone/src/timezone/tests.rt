@@ -1,0 +1,545 @@
+//! Zones and their clocks: which parts make a zone, and what is looked up around transitions, leap seconds and the ends of 64 bits.
+
+use super::*;
+use std::alloc::{Allocator, Global};
+use std::process::Abort;
+use std::test::Fail;
+use tz_base::error::TzError;
+use tz_base::error::timezone::TimeZoneError::{
+    InconsistentExtraRule, InvalidLeapSecond, InvalidLocalTimeTypeIndex, InvalidTransition,
+    NoLocalTimeType,
+};
+use tz_base::error::timezone::{LocalTimeTypeError, TimeZoneError};
+
+/// A refusal that can be compared.
+#[derive(Clone, Copy, Debug, PartialEq, Eq)]
+enum Fault {
+    Zone(TimeZoneError),
+    OutOfRange,
+    NoType,
+    Other,
+}
+
+/// The refusal, to be compared.
+fn named(error: TzError) -> Fault {
+    match error {
+        TzError::TimeZone(part) => Fault::Zone(part),
+        TzError::OutOfRange => Fault::OutOfRange,
+        TzError::NoAvailableLocalTimeType => Fault::NoType,
+        _ => Fault::Other,
+    }
+}
+
+/// What makes a zone, as numbers.
+#[derive(Clone, Copy)]
+struct Parts<'a> {
+    /// Leap times, and the numbers of the types that hold from there on.
+    transitions: &'a [(i64, usize)],
+    /// The types' offsets.
+    ut_offsets: &'a [i32],
+    /// Leap times and corrections.
+    leap_seconds: &'a [(i64, i32)],
+    /// The offset of a fixed rule.
+    rule_offset: Option<i32>,
+}
+
+/// The type of UTC alone.
+const UTC: Parts<'static> = Parts {
+    transitions: &[],
+    ut_offsets: &[0],
+    leap_seconds: &[],
+    rule_offset: None,
+};
+
+impl<'a> Parts<'a> {
+    fn with_transitions(self, transitions: &'a [(i64, usize)]) -> Self {
+        Parts {
+            transitions,
+            ..self
+        }
+    }
+
+    fn with_types(self, ut_offsets: &'a [i32]) -> Self {
+        Parts { ut_offsets, ..self }
+    }
+
+    fn with_leap_seconds(self, leap_seconds: &'a [(i64, i32)]) -> Self {
+        Parts {
+            leap_seconds,
+            ..self
+        }
+    }
+
+    fn with_rule(self, ut_offset: i32) -> Self {
+        Parts {
+            rule_offset: Some(ut_offset),
+            ..self
+        }
+    }
+
+    fn transitions<A: Allocator + Copy>(&self, alloc: A) -> Result<Vec<Transition, A>, TzError> {
+        let mut transitions = Vec::new(alloc);
+        for (unix_leap_time, index) in self.transitions {
+            transitions.push(Transition::new(*unix_leap_time, *index))?;
+        }
+        Ok(transitions)
+    }
+
+    fn local_time_types<A: Allocator + Copy>(
+        &self,
+        alloc: A,
+    ) -> Result<Vec<LocalTimeType, A>, TzError> {
+        let mut local_time_types = Vec::new(alloc);
+        for ut_offset in self.ut_offsets {
+            local_time_types.push(LocalTimeType::with_ut_offset(*ut_offset)?)?;
+        }
+        Ok(local_time_types)
+    }
+
+    fn leap_seconds<A: Allocator + Copy>(&self, alloc: A) -> Result<Vec<LeapSecond, A>, TzError> {
+        let mut leap_seconds = Vec::new(alloc);
+        for (unix_leap_time, correction) in self.leap_seconds {
+            leap_seconds.push(LeapSecond::new(*unix_leap_time, *correction))?;
+        }
+        Ok(leap_seconds)
+    }
+
+    fn extra_rule(&self) -> Result<Option<TransitionRule>, LocalTimeTypeError> {
+        match self.rule_offset {
+            Some(ut_offset) => Ok(Some(TransitionRule::Fixed(LocalTimeType::with_ut_offset(
+                ut_offset,
+            )?))),
+            None => Ok(None),
+        }
+    }
+
+    /// The zone that owns the parts.
+    fn zone<A: Allocator + Copy>(&self, alloc: A) -> Result<TimeZone<A>, TzError> {
+        TimeZone::new(
+            self.transitions(alloc)?,
+            self.local_time_types(alloc)?,
+            self.leap_seconds(alloc)?,
+            self.extra_rule()?,
+        )
+    }
+
+    /// How a zone that borrows the parts is refused.
+    fn borrowed_fault(&self, alloc: Global) -> Result<Option<Fault>, TzError> {
+        let transitions = self.transitions(alloc)?;
+        let local_time_types = self.local_time_types(alloc)?;
+        let leap_seconds = self.leap_seconds(alloc)?;
+        let extra_rule = self.extra_rule()?;
+        let zone = TimeZoneRef::new(&transitions, &local_time_types, &leap_seconds, &extra_rule);
+        Ok(zone.err().map(named))
+    }
+}
+
+/// The offset of the clock's type.
+fn offset_at<A: Allocator + Copy>(zone: &TimeZone<A>, unix_time: i64) -> Result<i32, Fault> {
+    match zone.find_local_time_type(unix_time) {
+        Ok(local_time_type) => Ok(local_time_type.ut_offset()),
+        Err(error) => Err(named(error)),
+    }
+}
+
+/// The clock has these offsets at instants.
+fn expect_offsets(rt: &impl Abort, zone: &TimeZone, lookups: &[(i64, Result<i32, Fault>)]) {
+    for (unix_time, expected) in lookups {
+        assert_eq!(rt; offset_at(zone, *unix_time), *expected, "at {unix_time}");
+    }
+}
+
+/// Both kinds of zone are refused so, or accepted.
+fn expect_fault(
+    rt: &impl Abort,
+    alloc: Global,
+    parts: Parts<'_>,
+    expected: Option<Fault>,
+) -> Result<(), TzError> {
+    assert_eq!(rt; parts.zone(alloc).err().map(named), expected);
+    assert_eq!(rt; parts.borrowed_fault(alloc)?, expected);
+    Ok(())
+}
+
+#[test]
+fn zones_are_accepted(rt: HostRuntime) -> Result<(), Fail> {
+    for parts in [
+        UTC,
+        UTC.with_rule(3600),
+        UTC.with_transitions(&[(i64::MIN, 0), (i64::MAX, 0)]),
+        UTC.with_leap_seconds(&[(0, -1)]),
+        UTC.with_leap_seconds(&[(i64::MAX, 1)]),
+        UTC.with_leap_seconds(&[(0, 1), (2_419_199, 2)]),
+        UTC.with_leap_seconds(&[(0, 1), (2_419_199, 0)]),
+        UTC.with_transitions(&[(i64::MIN + 1, 0)]).with_rule(0),
+        UTC.with_transitions(&[(i64::MAX, 0)]).with_rule(0),
+        UTC.with_transitions(&[(i64::MAX, 0)])
+            .with_leap_seconds(&[(0, 1)])
+            .with_rule(0),
+        UTC.with_transitions(&[(i64::MAX, 0)])
+            .with_leap_seconds(&[(0, -1)]),
+        UTC.with_types(&[0, 3600])
+            .with_transitions(&[(0, 0), (1, 1)])
+            .with_rule(3600),
+    ] {
+        expect_fault(&rt, rt.alloc(), parts, None)?;
+    }
+    Ok(())
+}
+
+#[test]
+fn zones_are_refused(rt: HostRuntime) -> Result<(), Fail> {
+    for (parts, expected) in [
+        (UTC.with_types(&[]), NoLocalTimeType),
+        (UTC.with_transitions(&[(0, 5)]), InvalidLocalTimeTypeIndex),
+        (UTC.with_transitions(&[(0, 1)]), InvalidLocalTimeTypeIndex),
+        (UTC.with_transitions(&[(5, 0), (5, 9)]), InvalidTransition),
+        (UTC.with_transitions(&[(5, 0), (4, 0)]), InvalidTransition),
+        (
+            UTC.with_transitions(&[(5, 9), (5, 0)]),
+            InvalidLocalTimeTypeIndex,
+        ),
+        (
+            UTC.with_transitions(&[(5, 0), (6, 9)]),
+            InvalidLocalTimeTypeIndex,
+        ),
+        (UTC.with_leap_seconds(&[(-1, 1)]), InvalidLeapSecond),
+        (UTC.with_leap_seconds(&[(0, 2)]), InvalidLeapSecond),
+        (UTC.with_leap_seconds(&[(0, 0)]), InvalidLeapSecond),
+        (UTC.with_leap_seconds(&[(0, i32::MIN)]), InvalidLeapSecond),
+        (
+            UTC.with_leap_seconds(&[(0, 1), (2_419_198, 2)]),
+            InvalidLeapSecond,
+        ),
+        (
+            UTC.with_leap_seconds(&[(0, 1), (2_419_199, 1)]),
+            InvalidLeapSecond,
+        ),
+        (
+            UTC.with_leap_seconds(&[(0, 1), (2_419_199, 3)]),
+            InvalidLeapSecond,
+        ),
+        (
+            UTC.with_leap_seconds(&[(0, 1), (2_419_199, i32::MIN)]),
+            InvalidLeapSecond,
+        ),
+        (
+            UTC.with_leap_seconds(&[(i64::MAX, 1), (0, 2)]),
+            InvalidLeapSecond,
+        ),
+        (
+            UTC.with_transitions(&[(0, 0)]).with_rule(3600),
+            InconsistentExtraRule,
+        ),
+        (
+            UTC.with_types(&[0, 3600])
+                .with_transitions(&[(0, 1), (1, 0)])
+                .with_rule(3600),
+            InconsistentExtraRule,
+        ),
+    ] {
+        expect_fault(&rt, rt.alloc(), parts, Some(Fault::Zone(expected)))?;
+    }
+    Ok(())
+}
+
+/// The last transition never takes effect, so that the rule has no type there.
+#[test]
+fn zones_are_out_of_range(rt: HostRuntime) -> Result<(), Fail> {
+    for parts in [
+        UTC.with_transitions(&[(i64::MIN, 0)]),
+        UTC.with_transitions(&[(i64::MIN, 0)])
+            .with_leap_seconds(&[(0, 1)]),
+        UTC.with_transitions(&[(i64::MAX, 0)])
+            .with_leap_seconds(&[(0, -1)]),
+    ] {
+        expect_fault(&rt, rt.alloc(), parts, None)?;
+        let with_rule = parts.with_rule(0);
+        expect_fault(&rt, rt.alloc(), with_rule, Some(Fault::OutOfRange))?;
+    }
+    Ok(())
+}
+
+/// Each zone has the fault that is expected, and all that are named after it.
+#[test]
+fn the_first_fault_of_a_zone_is_named(rt: HostRuntime) -> Result<(), Fail> {
+    let rule = UTC.with_rule(3600).with_transitions(&[(i64::MIN, 0)]);
+    let leap_second = rule.with_leap_seconds(&[(0, 2)]);
+    let transition = leap_second.with_transitions(&[(i64::MIN, 0), (i64::MIN, 1)]);
+    let index = leap_second.with_transitions(&[(i64::MIN, 1), (i64::MIN, 0)]);
+    for (parts, expected) in [
+        (rule, Fault::OutOfRange),
+        (leap_second, Fault::Zone(InvalidLeapSecond)),
+        (transition, Fault::Zone(InvalidTransition)),
+        (index, Fault::Zone(InvalidLocalTimeTypeIndex)),
+        (index.with_types(&[]), Fault::Zone(NoLocalTimeType)),
+    ] {
+        expect_fault(&rt, rt.alloc(), parts, Some(expected))?;
+    }
+    Ok(())
+}
+
+#[test]
+fn clocks_of_zones(rt: HostRuntime) -> Result<(), Fail> {
+    let no_type = Err(Fault::NoType);
+    let two_types = UTC.with_types(&[0, 3600]);
+    for (parts, offsets) in [
+        (
+            UTC,
+            [(i64::MIN, Ok(0)), (0, Ok(0)), (i64::MAX, Ok(0))].as_slice(),
+        ),
+        (
+            UTC.with_rule(3600),
+            [(i64::MIN, Ok(3600)), (0, Ok(3600)), (i64::MAX, Ok(3600))].as_slice(),
+        ),
+        (
+            two_types
+                .with_transitions(&[(-2147483648, 0), (0, 1)])
+                .with_rule(3600),
+            [(-1, Ok(0)), (0, Ok(3600))].as_slice(),
+        ),
+        (
+            UTC.with_transitions(&[(0, 0)]),
+            [
+                (i64::MIN, Ok(0)),
+                (-1, Ok(0)),
+                (0, no_type),
+                (i64::MAX, no_type),
+            ]
+            .as_slice(),
+        ),
+        // before the first transition it is type number 0, whatever the transitions name
+        (
+            UTC.with_types(&[1, 2, 3])
+                .with_transitions(&[(0, 1), (10, 2)]),
+            [
+                (i64::MIN, Ok(1)),
+                (-1, Ok(1)),
+                (0, Ok(2)),
+                (9, Ok(2)),
+                (10, no_type),
+            ]
+            .as_slice(),
+        ),
+    ] {
+        expect_offsets(&rt, &parts.zone(rt.alloc())?, offsets);
+    }
+    Ok(())
+}
+
+/// Two transitions that a second more holds, or that stand beside it, take effect at one instant.
+#[test]
+fn clocks_around_a_leap_second(rt: HostRuntime) -> Result<(), Fail> {
+    let no_type = Err(Fault::NoType);
+    let two_types = UTC.with_types(&[0, 3600]).with_rule(3600);
+    let less = two_types.with_leap_seconds(&[(100, -1)]);
+    let more = two_types.with_leap_seconds(&[(100, 1)]);
+    for (parts, offsets) in [
+        (
+            less.with_transitions(&[(100, 1)]),
+            [(99, Ok(0)), (100, Ok(0)), (101, Ok(3600))].as_slice(),
+        ),
+        (
+            more.with_transitions(&[(99, 1)]),
+            [(98, Ok(0)), (99, Ok(3600))].as_slice(),
+        ),
+        (
+            more.with_transitions(&[(100, 1)]),
+            [(99, Ok(0)), (100, Ok(3600))].as_slice(),
+        ),
+        (
+            more.with_transitions(&[(101, 1)]),
+            [(99, Ok(0)), (100, Ok(3600))].as_slice(),
+        ),
+        (
+            more.with_transitions(&[(102, 1)]),
+            [(99, Ok(0)), (100, Ok(0)), (101, Ok(3600))].as_slice(),
+        ),
+        (
+            more.with_types(&[0, 3600, 7200])
+                .with_transitions(&[(100, 1), (101, 2)])
+                .with_rule(7200),
+            [(99, Ok(0)), (100, Ok(7200))].as_slice(),
+        ),
+        (
+            UTC.with_types(&[0, 1, 2, 3])
+                .with_transitions(&[
+                    (100, 1),
+                    (101, 2),
+                    (2_419_299, 3),
+                    (2_419_300, 0),
+                    (2_419_302, 1),
+                ])
+                .with_leap_seconds(&[(100, 1), (2_419_299, 2)]),
+            [
+                (99, Ok(0)),
+                (100, Ok(2)),
+                (2_419_297, Ok(2)),
+                (2_419_298, Ok(0)),
+                (2_419_299, Ok(0)),
+                (2_419_300, no_type),
+            ]
+            .as_slice(),
+        ),
+    ] {
+        expect_offsets(&rt, &parts.zone(rt.alloc())?, offsets);
+    }
+    Ok(())
+}
+
+/// Transitions and instants at both ends of 64 bits.
+#[test]
+fn clocks_at_both_ends(rt: HostRuntime) -> Result<(), Fail> {
+    let out_of_range = Err(Fault::OutOfRange);
+    let no_type = Err(Fault::NoType);
+    let ends = UTC
+        .with_types(&[0, 1, 2])
+        .with_transitions(&[(i64::MIN, 1), (i64::MAX, 2)]);
+    for (parts, offsets) in [
+        (
+            ends,
+            [
+                (i64::MIN, Ok(1)),
+                (0, Ok(1)),
+                (i64::MAX - 1, Ok(1)),
+                (i64::MAX, no_type),
+            ]
+            .as_slice(),
+        ),
+        (
+            ends.with_rule(2),
+            [(i64::MIN, Ok(1)), (i64::MAX - 1, Ok(1)), (i64::MAX, Ok(2))].as_slice(),
+        ),
+        (
+            ends.with_leap_seconds(&[(0, 1)]).with_rule(2),
+            [
+                (i64::MIN, Ok(1)),
+                (i64::MAX - 2, Ok(1)),
+                (i64::MAX - 1, Ok(2)),
+                (i64::MAX, out_of_range),
+            ]
+            .as_slice(),
+        ),
+        (
+            ends.with_leap_seconds(&[(0, -1)]),
+            [(i64::MIN, Ok(1)), (i64::MAX, Ok(1))].as_slice(),
+        ),
+        (
+            UTC.with_transitions(&[(i64::MAX, 0)])
+                .with_leap_seconds(&[(0, 1)]),
+            [
+                (i64::MAX - 2, Ok(0)),
+                (i64::MAX - 1, no_type),
+                (i64::MAX, out_of_range),
+            ]
+            .as_slice(),
+        ),
+        // without transitions leap seconds are not looked at
+        (
+            UTC.with_leap_seconds(&[(0, 1)]),
+            [(i64::MAX, Ok(0))].as_slice(),
+        ),
+    ] {
+        expect_offsets(&rt, &parts.zone(rt.alloc())?, offsets);
+    }
+    Ok(())
+}
+
+/// Each of the three parts of a type counts where the extra rule is compared with the last transition.
+#[test]
+fn the_rule_has_the_last_type(rt: HostRuntime) -> Result<(), Fail> {
+    let transitions = [Transition::new(0, 1)];
+    let local_time_types = [
+        LocalTimeType::utc(),
+        LocalTimeType::new(3600, true, Some(b"CEST"))?,
+    ];
+    for (ut_offset, is_dst, name, expected) in [
+        (3600, true, b"CEST".as_slice(), None),
+        (3601, true, b"CEST".as_slice(), Some(InconsistentExtraRule)),
+        (3600, false, b"CEST".as_slice(), Some(InconsistentExtraRule)),
+        (3600, true, b"CET".as_slice(), Some(InconsistentExtraRule)),
+    ] {
+        let fixed = LocalTimeType::new(ut_offset, is_dst, Some(name))?;
+        let extra_rule = Some(TransitionRule::Fixed(fixed));
+        let zone = TimeZoneRef::new(&transitions, &local_time_types, &[], &extra_rule);
+        assert_eq!(rt; zone.err().map(named), expected.map(Fault::Zone));
+    }
+    Ok(())
+}
+
+/// Transitions a thousand seconds apart, to three types in turn.
+#[test]
+fn ten_thousand_transitions(rt: HostRuntime) -> Result<(), Fail> {
+    let alloc = rt.alloc();
+    let mut transitions = Vec::new(alloc);
+    for i in 0..10_000u16 {
+        transitions.push(Transition::new(i64::from(i) * 1000, usize::from(i % 3)))?;
+    }
+    let local_time_types = UTC.with_types(&[0, 3600, 7200]).local_time_types(alloc)?;
+    let zone = TimeZone::new(transitions, local_time_types, Vec::new(alloc), None)?;
+    assert_eq!(rt; offset_at(&zone, -1), Ok(0));
+    for i in 0..9_999u16 {
+        let begin = i64::from(i) * 1000;
+        let expected = Ok(i32::from(i % 3) * 3600);
+        assert_eq!(rt; offset_at(&zone, begin), expected, "{i}");
+        assert_eq!(rt; offset_at(&zone, begin + 999), expected, "{i}");
+    }
+    assert_eq!(rt; offset_at(&zone, 9_999_000), Err(Fault::NoType));
+    Ok(())
+}
+
+/// The types before a transition at 0 and from there on, of a zone that is gone when they are handed out.
+fn lent<'a>(
+    transitions: &'a [Transition],
+    local_time_types: &'a [LocalTimeType],
+    extra_rule: &'a Option<TransitionRule>,
+) -> Result<(&'a LocalTimeType, &'a LocalTimeType), TzError> {
+    let zone = TimeZoneRef::new(transitions, local_time_types, &[], extra_rule)?;
+    Ok((
+        zone.find_local_time_type(-1)?,
+        zone.find_local_time_type(0)?,
+    ))
+}
+
+/// A type is lent for as long as the zone's list lives, and not only for as long as the zone.
+#[test]
+fn types_outlive_the_zone(rt: HostRuntime) -> Result<(), Fail> {
+    let later = LocalTimeType::with_ut_offset(3600)?;
+    let transitions = [Transition::new(0, 1)];
+    let local_time_types = [LocalTimeType::utc(), later];
+    let extra_rule = Some(TransitionRule::Fixed(later));
+    let types = lent(&transitions, &local_time_types, &extra_rule)?;
+    assert_eq!(rt; types, (&LocalTimeType::utc(), &later));
+    Ok(())
+}
+
+#[test]
+fn a_zone_has_its_parts(rt: HostRuntime) -> Result<(), Fail> {
+    let utc = LocalTimeType::utc();
+    let transitions = [Transition::new(0, 0)];
+    let local_time_types = [utc];
+    let leap_seconds = [LeapSecond::new(100, 1)];
+    let extra_rule = Some(TransitionRule::Fixed(utc));
+    let zone = TimeZoneRef::new(&transitions, &local_time_types, &leap_seconds, &extra_rule)?;
+    assert_eq!(rt; zone.transitions(), transitions.as_slice());
+    assert_eq!(rt; zone.local_time_types(), local_time_types.as_slice());
+    assert_eq!(rt; zone.leap_seconds(), leap_seconds.as_slice());
+    assert!(rt; matches!(zone.extra_rule(), Some(TransitionRule::Fixed(fixed)) if *fixed == utc));
+    Ok(())
+}
+
+#[test]
+fn transitions_and_leap_seconds_have_their_parts(rt: HostRuntime) {
+    let transition = Transition::new(-5, 7);
+    assert_eq!(rt; transition.unix_leap_time(), -5);
+    assert_eq!(rt; transition.local_time_type_index(), 7);
+    assert!(rt; transition == Transition::new(-5, 7));
+    assert!(rt; transition != Transition::new(-5, 6));
+    assert!(rt; transition != Transition::new(-4, 7));
+    let leap_second = LeapSecond::new(5, -7);
+    assert_eq!(rt; leap_second.unix_leap_time(), 5);
+    assert_eq!(rt; leap_second.correction(), -7);
+    assert!(rt; leap_second == LeapSecond::new(5, -7));
+    assert!(rt; leap_second != LeapSecond::new(5, 7));
+    assert!(rt; leap_second != LeapSecond::new(4, -7));
+}

@@ -1,0 +1,154 @@
+//! Time zones that own their parts.
+
+ghost use Rattle.tz_zone.specs.Table.{zone_with};
+ghost use Rattle.tz_zone.specs.ValidZone.{IsSoundTable, IsSoundTable-prop, IsValidZone};
+
+use super::checks::check_parts;
+use super::{LeapSecond, LocalTimeType, TimeZoneRef, Transition, TransitionRule};
+use std::alloc::{Allocator, Global};
+use tz_base::error::TzError;
+
+/// A time zone that owns its parts, on one allocator.
+#[derive(Debug, Drop)]
+pub struct TimeZone<A: Allocator + Copy = Global> {
+    transitions: Vec<Transition, A>,
+    local_time_types: Vec<LocalTimeType, A>,
+    leap_seconds: Vec<LeapSecond, A>,
+    extra_rule: Option<TransitionRule>,
+    ghost sound: { IsSoundTable (zone_with transitions.items local_time_types.items leap_seconds.items extra_rule) } by { IsSoundTable-prop (zone_with transitions.items local_time_types.items leap_seconds.items extra_rule) },
+    ghost valid: { ∥ IsValidZone (zone_with transitions.items local_time_types.items leap_seconds.items extra_rule) ∥₁ },
+}
+
+impl<A: Allocator + Copy> PartialEq for TimeZone<A> {
+    ghost use Rattle.std.specs.Cmp.{on_per, partial_equiv_from_equiv};
+    ghost use Rattle.tz_rule.specs.Same.{IsEquivalence-from_equality};
+    ghost use Rattle.tz_zone.specs.SameZone.{same_zone, Decides-same_zone};
+    ghost use Rattle.tz_zone.specs.ZoneRef.{own_zone_of};
+
+    ghost eq = { λ a b. same_zone (own_zone_of a) (own_zone_of b) };
+
+    ghost laws = { on_per own_zone_of (partial_equiv_from_equiv (IsEquivalence-from_equality same_zone Decides-same_zone)) };
+
+    fn eq(&self, other: &TimeZone<A>) -> bool {
+        self.as_ref() == other.as_ref()
+    }
+}
+
+impl<A: Allocator + Copy> Eq for TimeZone<A> {
+    ghost use Rattle.std.specs.Cmp.{on_equiv};
+    ghost use Rattle.tz_rule.specs.Same.{IsEquivalence-from_equality};
+    ghost use Rattle.tz_zone.specs.SameZone.{same_zone, Decides-same_zone};
+    ghost use Rattle.tz_zone.specs.ZoneRef.{own_zone_of};
+
+    ghost laws = { on_equiv own_zone_of (IsEquivalence-from_equality same_zone Decides-same_zone) };
+}
+
+impl<A: Allocator + Copy> TimeZone<A> {
+    ghost use Rattle.std.specs.Prelude.{◌≡◌, ◌⊎◌, [], ◌∷◌, None, pos, alloc_error, IfOk, IfErr, OnOk};
+    ghost use Rattle.tz_base.specs.declared.error.timezone.LocalTimeTypeError.TheVariants as faults;
+    ghost use Rattle.tz_rule.specs.LocalType.{plain_type, IsOffset};
+    ghost use Rattle.tz_zone.specs.Table.{zone_with};
+    ghost use Rattle.tz_zone.specs.Clock.{IsClock, IsLookupFault};
+    ghost use Rattle.tz_zone.specs.ValidZone.{IsValidZone, IsFirstZoneFault};
+    ghost use Rattle.tz_zone.specs.ZoneRef.{zone_of, own_zone_of};
+
+    /// The zone with these parts. (RFC 8536, section 3.2)
+    ///
+    /// Refused as by [`TimeZoneRef::new`]. Lists that make no zone are dropped.
+    pub fn new(
+        transitions: Vec<Transition, A>,
+        local_time_types: Vec<LocalTimeType, A>,
+        leap_seconds: Vec<LeapSecond, A>,
+        extra_rule: Option<TransitionRule>,
+    ) -> Result<Self, TzError>
+        ensures parts { IfOk result (λ z. own_zone_of z ≡ zone_with transitions.items local_time_types.items leap_seconds.items extra_rule) }
+        ensures ok { OnOk result (IsValidZone (zone_with transitions.items local_time_types.items leap_seconds.items extra_rule)) }
+        ensures err { IfErr result (IsFirstZoneFault (zone_with transitions.items local_time_types.items leap_seconds.items extra_rule)) }
+    {
+        check_parts(&transitions, &local_time_types, &leap_seconds, &extra_rule)?;
+        Ok(TimeZone {
+            transitions,
+            local_time_types,
+            leap_seconds,
+            extra_rule,
+        })
+    }
+
+    /// The zone that has UTC's type alone.
+    pub fn utc(alloc: A) -> Result<Self, TzError>
+        ensures ok { IfOk result (λ z. own_zone_of z ≡ zone_with [] (plain_type (pos 0) ∷ []) [] None) }
+        ensures err { IfErr result (λ e. e ≡ TzError.Memory alloc_error) }
+    {
+        TimeZone::with_type(alloc, LocalTimeType::utc())
+    }
+
+    /// The zone that has one type alone, with this offset from UTC in seconds. `InvalidUtcOffset`, for the least offset, comes before memory is taken.
+    pub fn fixed(alloc: A, ut_offset: i32) -> Result<Self, TzError>
+        ensures ok { IfOk result (λ z. IsOffset ut_offset × (own_zone_of z ≡ zone_with [] (plain_type ut_offset ∷ []) [] None)) }
+        ensures err { IfErr result (λ e. ((e ≡ TzError.LocalTimeType faults.InvalidUtcOffset) × ¬ IsOffset ut_offset) ⊎ ((e ≡ TzError.Memory alloc_error) × IsOffset ut_offset)) }
+    {
+        let local_time_type = LocalTimeType::with_ut_offset(ut_offset)?;
+        TimeZone::with_type(alloc, local_time_type)
+    }
+
+    /// The zone that has one type alone.
+    fn with_type(alloc: A, local_time_type: LocalTimeType) -> Result<Self, TzError>
+        ensures ok { IfOk result (λ z. own_zone_of z ≡ zone_with [] (local_time_type ∷ []) [] None) }
+        ensures err { IfErr result (λ e. e ≡ TzError.Memory alloc_error) }
+    {
+        let local_time_types = Vec::from_array(alloc, [local_time_type])?;
+        Ok(TimeZone {
+            transitions: Vec::new(alloc),
+            local_time_types,
+            leap_seconds: Vec::new(alloc),
+            extra_rule: None,
+        })
+    }
+
+    /// The same zone again, on the same allocator.
+    pub fn try_clone(&self) -> Result<Self, TzError>
+        ensures ok { IfOk result (λ z. own_zone_of z ≡ own_zone_of self.now) }
+        ensures err { IfErr result (λ e. e ≡ TzError.Memory alloc_error) }
+    {
+        let transitions = self.transitions.clone()?;
+        let local_time_types = self.local_time_types.clone()?;
+        let leap_seconds = self.leap_seconds.clone()?;
+        Ok(TimeZone {
+            transitions,
+            local_time_types,
+            leap_seconds,
+            extra_rule: self.extra_rule,
+        })
+    }
+
+    /// The zone, borrowed.
+    pub fn as_ref(&self) -> TimeZoneRef<'_>
+        ensures { zone_of result ≡ own_zone_of self.now }
+    {
+        TimeZoneRef::from_valid_parts(
+            &self.transitions,
+            &self.local_time_types,
+            &self.leap_seconds,
+            &self.extra_rule,
+        )
+    }
+
+    /// The clock's type at an instant, as [`TimeZoneRef::find_local_time_type`] answers.
+    pub fn find_local_time_type(&self, unix_time: i64) -> Result<&LocalTimeType, TzError>
+        ensures ok { IfOk result (λ t. IsClock (own_zone_of self.now) unix_time t.now) }
+        ensures err { IfErr result (IsLookupFault (own_zone_of self.now) unix_time) }
+    {
+        self.as_ref().find_local_time_type(unix_time)
+    }
+
+    /// The clock's type at the current instant, which the caller hands in as Unix seconds.
+    pub fn find_current_local_time_type(&self, unix_time: i64) -> Result<&LocalTimeType, TzError>
+        ensures ok { IfOk result (λ t. IsClock (own_zone_of self.now) unix_time t.now) }
+        ensures err { IfErr result (IsLookupFault (own_zone_of self.now) unix_time) }
+    {
+        self.find_local_time_type(unix_time)
+    }
+}
+
+#[cfg(test)]
+mod tests;

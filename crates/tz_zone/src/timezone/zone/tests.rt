@@ -1,0 +1,164 @@
+//! Zones that own their parts: with memory enough, and with each growth refused in turn.
+
+use super::*;
+use std::alloc::AllocError;
+use std::test::Fail;
+use tz_base::error::timezone::{LocalTimeTypeError, TimeZoneError};
+use tz_base::refusing::Refusing;
+
+/// Two transitions, two types and a leap second.
+fn parts<A: Allocator + Copy>(
+    alloc: A,
+) -> Result<
+    (
+        Vec<Transition, A>,
+        Vec<LocalTimeType, A>,
+        Vec<LeapSecond, A>,
+    ),
+    TzError,
+> {
+    let mut transitions = Vec::new(alloc);
+    transitions.push(Transition::new(0, 1))?;
+    transitions.push(Transition::new(7200, 0))?;
+    let mut local_time_types = Vec::new(alloc);
+    local_time_types.push(LocalTimeType::utc())?;
+    local_time_types.push(LocalTimeType::new(3600, true, Some(b"BST"))?)?;
+    let mut leap_seconds = Vec::new(alloc);
+    leap_seconds.push(LeapSecond::new(100, 1))?;
+    Ok((transitions, local_time_types, leap_seconds))
+}
+
+/// The zone of the two transitions, which goes on in UTC.
+fn two_transitions<A: Allocator + Copy>(alloc: A) -> Result<TimeZone<A>, TzError> {
+    let (transitions, local_time_types, leap_seconds) = parts(alloc)?;
+    let extra_rule = Some(TransitionRule::Fixed(LocalTimeType::utc()));
+    TimeZone::new(transitions, local_time_types, leap_seconds, extra_rule)
+}
+
+/// Whether two zones have the same parts.
+fn have_same_parts(one: TimeZoneRef<'_>, other: TimeZoneRef<'_>) -> bool {
+    let have_same_rule = match (one.extra_rule(), other.extra_rule()) {
+        (None, None) => true,
+        (Some(TransitionRule::Fixed(one)), Some(TransitionRule::Fixed(other))) => one == other,
+        _ => false,
+    };
+    one.transitions() == other.transitions()
+        && one.local_time_types() == other.local_time_types()
+        && one.leap_seconds() == other.leap_seconds()
+        && have_same_rule
+}
+
+/// Whether a call was refused for want of memory.
+fn is_memory<T>(answer: &Result<T, TzError>) -> bool {
+    matches!(answer, Err(TzError::Memory(AllocError)))
+}
+
+#[test]
+fn zones_of_one_type(rt: HostRuntime) -> Result<(), Fail> {
+    let none = None;
+    for ut_offset in [i32::MIN + 1, -3600, 0, i32::MAX] {
+        let plain = LocalTimeType::with_ut_offset(ut_offset)?;
+        let types = [plain];
+        let expected = TimeZoneRef::new(&[], &types, &[], &none)?;
+        let zone = TimeZone::fixed(rt.alloc(), ut_offset)?;
+        assert!(rt; have_same_parts(zone.as_ref(), expected), "{ut_offset}");
+        if ut_offset == 0 {
+            let utc = TimeZone::utc(rt.alloc())?;
+            assert!(rt; have_same_parts(utc.as_ref(), expected));
+        }
+        for unix_time in [i64::MIN, 0, i64::MAX] {
+            assert_eq!(rt; *zone.find_local_time_type(unix_time)?, plain);
+            assert_eq!(rt; *zone.find_current_local_time_type(unix_time)?, plain);
+        }
+    }
+    Ok(())
+}
+
+#[test]
+fn the_current_type_is_that_of_the_moment_given(rt: HostRuntime) -> Result<(), Fail> {
+    let zone = two_transitions(rt.alloc())?;
+    for (unix_time, ut_offset) in [(-1, 0), (0, 3600), (7198, 3600), (7199, 0)] {
+        let local_time_type = zone.find_current_local_time_type(unix_time)?;
+        assert_eq!(rt; local_time_type.ut_offset(), ut_offset, "at {unix_time}");
+    }
+    let over = TimeZone::new(
+        zone.transitions,
+        zone.local_time_types,
+        zone.leap_seconds,
+        None,
+    )?;
+    assert!(rt;
+        matches!(
+            over.find_current_local_time_type(7199),
+            Err(TzError::NoAvailableLocalTimeType)
+        )
+    );
+    Ok(())
+}
+
+/// The offset is refused first, whether there is memory or not.
+#[test]
+fn one_type_with_each_growth_refused(rt: HostRuntime) {
+    for left in 0..2u64 {
+        let heap = Refusing::new(rt.alloc(), left);
+        assert_eq!(rt; is_memory(&TimeZone::utc(&heap)), left == 0);
+        assert_eq!(rt; heap.held(), 0);
+        let heap = Refusing::new(rt.alloc(), left);
+        assert_eq!(rt; is_memory(&TimeZone::fixed(&heap, 3600)), left == 0);
+        assert_eq!(rt; heap.held(), 0);
+        let heap = Refusing::new(rt.alloc(), left);
+        assert!(rt;
+            matches!(
+                TimeZone::fixed(&heap, i32::MIN),
+                Err(TzError::LocalTimeType(LocalTimeTypeError::InvalidUtcOffset))
+            )
+        );
+        assert_eq!(rt; heap.refused(), 0);
+    }
+}
+
+/// A clone takes its source's allocator: one block for each list that is not empty.
+#[test]
+fn a_clone_with_each_growth_refused(rt: HostRuntime) -> Result<(), Fail> {
+    let mut blocks = 0u64;
+    for left in 0..20u64 {
+        let heap = Refusing::new(rt.alloc(), left);
+        if let Ok(zone) = two_transitions(&heap) {
+            let held = heap.held();
+            let clone = zone.try_clone();
+            match &clone {
+                Ok(clone) => {
+                    assert_eq!(rt; heap.held(), held.wrapping_mul(2));
+                    assert!(rt; have_same_parts(clone.as_ref(), zone.as_ref()));
+                    blocks = held;
+                }
+                Err(_) => {
+                    assert!(rt; is_memory(&clone));
+                    assert_eq!(rt; heap.held(), held);
+                    assert_eq!(rt; heap.refused(), 1);
+                }
+            }
+        }
+        assert_eq!(rt; heap.held(), 0);
+    }
+    assert_eq!(rt; blocks, 3);
+    Ok(())
+}
+
+/// Lists that make no zone are given back to their allocator.
+#[test]
+fn refused_parts_are_dropped(rt: HostRuntime) -> Result<(), Fail> {
+    let heap = Refusing::new(rt.alloc(), u64::MAX);
+    let (transitions, local_time_types, leap_seconds) = parts(&heap)?;
+    assert_eq!(rt; heap.held(), 3);
+    let extra_rule = Some(TransitionRule::Fixed(LocalTimeType::with_ut_offset(1)?));
+    let zone = TimeZone::new(transitions, local_time_types, leap_seconds, extra_rule);
+    assert!(rt;
+        matches!(
+            zone,
+            Err(TzError::TimeZone(TimeZoneError::InconsistentExtraRule))
+        )
+    );
+    assert_eq!(rt; heap.held(), 0);
+    Ok(())
+}

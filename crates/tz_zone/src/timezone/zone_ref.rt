@@ -1,0 +1,197 @@
+//! Borrowed time zones.
+
+ghost use Rattle.tz_zone.specs.Table.{zone_with};
+ghost use Rattle.tz_zone.specs.ValidZone.{IsSoundTable, IsSoundTable-prop, IsValidZone};
+
+use super::checks::check_parts;
+use super::{LeapSecond, LocalTimeType, Transition, TransitionRule};
+use crate::inner;
+use tz_base::error::TzError;
+
+/// A borrowed time zone.
+///
+/// Before its last transition the transitions tell its clock, and from there on the extra rule does.
+#[derive(Clone, Copy, Debug)]
+pub struct TimeZoneRef<'a> {
+    transitions: &'a [Transition],
+    local_time_types: &'a [LocalTimeType],
+    leap_seconds: &'a [LeapSecond],
+    extra_rule: &'a Option<TransitionRule>,
+    ghost sound: { IsSoundTable (zone_with transitions.now local_time_types.now leap_seconds.now extra_rule.now) } by { IsSoundTable-prop (zone_with transitions.now local_time_types.now leap_seconds.now extra_rule.now) },
+    ghost valid: { ∥ IsValidZone (zone_with transitions.now local_time_types.now leap_seconds.now extra_rule.now) ∥₁ },
+}
+
+impl<'a> PartialEq for TimeZoneRef<'a> {
+    ghost use Rattle.std.specs.Cmp.{on_per, partial_equiv_from_equiv};
+    ghost use Rattle.tz_rule.specs.Same.{IsEquivalence-from_equality};
+    ghost use Rattle.tz_zone.specs.SameZone.{same_zone, Decides-same_zone};
+    ghost use Rattle.tz_zone.specs.ZoneRef.{zone_of};
+
+    ghost eq = { λ a b. same_zone (zone_of a) (zone_of b) };
+
+    ghost laws = { on_per zone_of (partial_equiv_from_equiv (IsEquivalence-from_equality same_zone Decides-same_zone)) };
+
+    fn eq(&self, other: &TimeZoneRef<'a>) -> bool {
+        self.transitions == other.transitions
+            && self.local_time_types == other.local_time_types
+            && self.leap_seconds == other.leap_seconds
+            && self.extra_rule == other.extra_rule
+    }
+}
+
+impl<'a> Eq for TimeZoneRef<'a> {
+    ghost use Rattle.std.specs.Cmp.{on_equiv};
+    ghost use Rattle.tz_rule.specs.Same.{IsEquivalence-from_equality};
+    ghost use Rattle.tz_zone.specs.SameZone.{same_zone, Decides-same_zone};
+    ghost use Rattle.tz_zone.specs.ZoneRef.{zone_of};
+
+    ghost laws = { on_equiv zone_of (IsEquivalence-from_equality same_zone Decides-same_zone) };
+}
+
+impl<'a> TimeZoneRef<'a> {
+    ghost use Rattle.std.specs.Prelude.{◌≡◌, [], ◌∷◌, None, pos, IfOk, IfErr, OnOk};
+    ghost use Rattle.tz_rule.specs.LocalType.{plain_type};
+    ghost use Rattle.tz_rule.specs.LocalType.{LocalType};
+    ghost use Rattle.tz_zone.specs.Table.{zone_with};
+    ghost use Rattle.tz_zone.specs.Clock.{IsClock, IsTransitionType, IsTypeWithout, IsTypeAfter, IsFaultAfter, IsLookupFault};
+    ghost use Rattle.tz_zone.specs.ValidZone.{IsSoundTable, IsValidZone, IsFirstZoneFault};
+    ghost use Rattle.tz_zone.specs.ZoneRef.{zone_of};
+
+    /// The zone with these parts. (RFC 8536, section 3.2)
+    ///
+    /// The first fault is named: `NoLocalTimeType`; for each transition in turn `InvalidLocalTimeTypeIndex` and `InvalidTransition`, whose
+    /// times must rise; `InvalidLeapSecond`; and where there are a rule and a transition, `OutOfRange` where the last transition never takes
+    /// effect or the rule has no type there, and `InconsistentExtraRule` where its type there is another than the transition's.
+    pub fn new(
+        transitions: &'a [Transition],
+        local_time_types: &'a [LocalTimeType],
+        leap_seconds: &'a [LeapSecond],
+        extra_rule: &'a Option<TransitionRule>,
+    ) -> Result<Self, TzError>
+        ensures parts { IfOk result (λ z. zone_of z ≡ zone_with transitions.now local_time_types.now leap_seconds.now extra_rule.now) }
+        ensures ok { OnOk result (IsValidZone (zone_with transitions.now local_time_types.now leap_seconds.now extra_rule.now)) }
+        ensures err { IfErr result (IsFirstZoneFault (zone_with transitions.now local_time_types.now leap_seconds.now extra_rule.now)) }
+    {
+        check_parts(transitions, local_time_types, leap_seconds, extra_rule)?;
+        Ok(TimeZoneRef {
+            transitions,
+            local_time_types,
+            leap_seconds,
+            extra_rule,
+        })
+    }
+
+    /// The zone with parts that are known to make one.
+    pub(crate) fn from_valid_parts(
+        transitions: &'a [Transition],
+        local_time_types: &'a [LocalTimeType],
+        leap_seconds: &'a [LeapSecond],
+        extra_rule: &'a Option<TransitionRule>,
+    ) -> Self
+        requires sound { IsSoundTable (zone_with transitions.now local_time_types.now leap_seconds.now extra_rule.now) }
+        requires valid { ∥ IsValidZone (zone_with transitions.now local_time_types.now leap_seconds.now extra_rule.now) ∥₁ }
+        ensures { zone_of result ≡ zone_with transitions.now local_time_types.now leap_seconds.now extra_rule.now }
+    {
+        TimeZoneRef {
+            transitions,
+            local_time_types,
+            leap_seconds,
+            extra_rule,
+        }
+    }
+
+    /// The zone that has UTC's type alone. Takes no memory.
+    pub fn utc() -> TimeZoneRef<'static>
+        ensures { zone_of result ≡ zone_with [] (plain_type (pos 0) ∷ []) [] None }
+    {
+        TimeZoneRef {
+            transitions: &[],
+            local_time_types: tz_rule::inner::utc_types(),
+            leap_seconds: &[],
+            extra_rule: tz_rule::inner::no_rule(),
+        }
+    }
+
+    /// The transitions, in order.
+    pub fn transitions(&self) -> &'a [Transition]
+        ensures { result.now ≡ (zone_of self.now).transitions }
+    {
+        self.transitions
+    }
+
+    /// The local time types, which the transitions name by their numbers.
+    pub fn local_time_types(&self) -> &'a [LocalTimeType]
+        ensures { result.now ≡ (zone_of self.now).types }
+    {
+        self.local_time_types
+    }
+
+    /// The leap seconds, in order.
+    pub fn leap_seconds(&self) -> &'a [LeapSecond]
+        ensures { result.now ≡ (zone_of self.now).leap_seconds }
+    {
+        self.leap_seconds
+    }
+
+    /// The rule from the last transition on.
+    pub fn extra_rule(&self) -> &'a Option<TransitionRule>
+        ensures { result.now ≡ (zone_of self.now).extra_rule }
+    {
+        self.extra_rule
+    }
+
+    /// The clock's type at an instant. (RFC 8536, section 3.2)
+    ///
+    /// From the last transition on it is the extra rule's. Without a rule there is none: `NoAvailableLocalTimeType`.
+    /// `OutOfRange` tells that the instant has no leap time, or lies in a year in which the rule has no answer.
+    pub fn find_local_time_type(&self, unix_time: i64) -> Result<&'a LocalTimeType, TzError>
+        ensures ok { IfOk result (λ t. IsClock (zone_of self.now) unix_time t.now) }
+        ensures err { IfErr result (IsLookupFault (zone_of self.now) unix_time) }
+    {
+        let Some(last) = self.transitions.last() else {
+            return self.type_without_transitions(unix_time);
+        };
+        let unix_leap_time = inner::leap(self.leap_seconds, unix_time)?;
+        if unix_leap_time < last.unix_leap_time() {
+            Ok(self.type_of_transitions(unix_leap_time))
+        } else {
+            self.type_after_transitions(unix_time)
+        }
+    }
+
+    /// The type where there are no transitions.
+    fn type_without_transitions(&self, unix_time: i64) -> Result<&'a LocalTimeType, TzError>
+        ensures ok { IfOk result (λ t. IsTypeWithout (zone_of self.now) (zone_of self.now).extra_rule unix_time t.now) }
+        ensures err { IfErr result (λ e. (e ≡ TzError.OutOfRange) × ((t : LocalType) → ¬ IsTypeWithout (zone_of self.now) (zone_of self.now).extra_rule unix_time t)) }
+    {
+        match self.extra_rule {
+            Some(rule) => tz_rule::inner::find_local_time_type(rule, unix_time),
+            None => Ok(&self.local_time_types[0]),
+        }
+    }
+
+    /// The type from the last transition on.
+    fn type_after_transitions(&self, unix_time: i64) -> Result<&'a LocalTimeType, TzError>
+        ensures ok { IfOk result (λ t. IsTypeAfter (zone_of self.now).extra_rule unix_time t.now) }
+        ensures err { IfErr result (IsFaultAfter (zone_of self.now).extra_rule unix_time) }
+    {
+        match self.extra_rule {
+            Some(rule) => tz_rule::inner::find_local_time_type(rule, unix_time),
+            None => Err(TzError::NoAvailableLocalTimeType),
+        }
+    }
+
+    /// The type of the last transition whose time is not above a leap time, or type number 0.
+    fn type_of_transitions(&self, unix_leap_time: i64) -> &'a LocalTimeType
+        ensures { IsTransitionType (zone_of self.now) unix_leap_time result.now }
+    {
+        let count = inner::transitions_up_to(self.transitions, unix_leap_time);
+        if count == 0 {
+            return &self.local_time_types[0];
+        }
+        &self.local_time_types[self.transitions[count - 1].local_time_type_index()]
+    }
+}
+
+#[cfg(test)]
+mod tests;

@@ -1,0 +1,37 @@
+//! UTC's borrowed zone, and equality of zones.
+
+use super::*;
+use crate::timezone::TimeZone;
+use std::test::Fail;
+
+#[test]
+fn utc_has_one_type(rt: HostRuntime) -> Result<(), Fail> {
+    let zone = TimeZoneRef::utc();
+    assert!(rt; zone.transitions().is_empty());
+    assert!(rt; zone.leap_seconds().is_empty());
+    let types = zone.local_time_types();
+    assert_eq!(rt; types.len(), 1);
+    assert_eq!(rt; types[0], LocalTimeType::utc());
+    assert_eq!(rt; types[0].time_zone_designation(), "");
+    assert!(rt; zone.extra_rule().is_none());
+    let copied_rule = *zone.extra_rule();
+    assert!(rt; copied_rule.is_none());
+    for unix_time in [i64::MIN, -1, 0, i64::MAX] {
+        let found = zone.find_local_time_type(unix_time).map_err(|_| "no type")?;
+        assert_eq!(rt; *found, LocalTimeType::utc());
+    }
+    Ok(())
+}
+
+#[test]
+fn zones_are_equal_by_their_parts(rt: HostRuntime) -> Result<(), Fail> {
+    let alloc = rt.alloc();
+    let utc = TimeZone::utc(alloc).map_err(|_| "no zone")?;
+    let same = TimeZone::fixed(alloc, 0).map_err(|_| "no zone")?;
+    let other = TimeZone::fixed(alloc, 3600).map_err(|_| "no zone")?;
+    assert_eq!(rt; utc, same);
+    assert_ne!(rt; utc, other);
+    assert_eq!(rt; utc.as_ref(), TimeZoneRef::utc());
+    assert_ne!(rt; other.as_ref(), TimeZoneRef::utc());
+    Ok(())
+}
