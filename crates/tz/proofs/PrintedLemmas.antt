@@ -1,0 +1,81 @@
+-- Digits two at a time.
+use Rattle.std.proofs.Common.{◌≡◌, ℕ, zero, suc, ◌+◌, ◌/◌, ◌%◌, ◌^◌, ◌<◌, ◌≤◌, List, [], ◌∷◌, ◌++◌, length, length-append, refl, ℤ, pos, negsuc, ◌≤ℤ◌, ◌<ℤ◌, ap, sym, ◌∙◌, arith, append_assoc}
+use Rattle.std.specs.Prelude.{unsigned_abs}
+use Rattle.std.specs.Fmt.{decimal}
+use Rattle.std.proofs.lemmas.Int.{ints}
+use Rattle.std.proofs.lemmas.Fmt.{decimal_digit, decimal_step, length-decimal-le}
+use Rattle.tz.specs.PrintedText.{last_digits, two_digits, nine_digits, offset_text, duration_text}
+
+-- the last digits, and the two before them
+pub last_two_digits : (width n : ℕ) → last_digits (suc (suc width)) n ≡ last_digits width (n / 100) ++ two_digits (n % 100)
+unfolding two_digits
+last_two_digits width n =
+    let tens : n % 100 / 10 % 10 ≡ n / 10 % 10 = omega arith in
+    let ones : n % 100 % 10 ≡ n % 10 = omega arith in
+    let front : n / 10 / 10 ≡ n / 100 = omega arith in
+    rw (append_assoc, tens, ones, front) refl
+
+pub two_digits-below : (n : ℕ) → n < 100 → two_digits n ≡ (48 + n / 10) ∷ (48 + n % 10) ∷ []
+unfolding two_digits
+two_digits-below n below = let tens : n / 10 % 10 ≡ n / 10 = omega arith in rw tens refl
+
+pub nine_digits-pairs : (n : ℕ) → n < 1000000000 → nine_digits n ≡
+    (48 + n / 10000 / 10000) ∷ two_digits (n / 10000 % 10000 / 100) ++ (two_digits (n / 10000 % 100) ++ (two_digits (n % 10000 / 100) ++ two_digits (n % 10000 % 100)))
+unfolding nine_digits two_digits
+nine_digits-pairs n below =
+    let fourth : n / 100 % 100 ≡ n % 10000 / 100 = omega arith in
+    let fifth : n % 100 ≡ n % 10000 % 100 = omega arith in
+    let third : n / 100 / 100 % 100 ≡ n / 10000 % 100 = omega arith in
+    let second : n / 100 / 100 / 100 % 100 ≡ n / 10000 % 10000 / 100 = omega arith in
+    let first : n / 100 / 100 / 100 / 100 % 10 ≡ n / 10000 / 10000 = omega arith in
+    last_two_digits 7 n
+    ∙ ap (λ xs. xs ++ two_digits (n % 100)) (last_two_digits 5 (n / 100)
+    ∙ ap (λ xs. xs ++ two_digits (n / 100 % 100)) (last_two_digits 3 (n / 100 / 100)
+    ∙ ap (λ xs. xs ++ two_digits (n / 100 / 100 % 100)) (last_two_digits 1 (n / 100 / 100 / 100))))
+    ∙ rw (fourth, fifth, third, second, first) (simp append_assoc)
+
+-- a number of several digits is written two at a time
+pub decimal-pairs : (n : ℕ) → 100 ≤ n → n < 2 ^ 64 → decimal n ≡ decimal (n / 100) ++ two_digits (n % 100)
+decimal-pairs n from below =
+    let tens : n / 10 % 10 ≡ n % 100 / 10 = omega arith in
+    let ones : n % 10 ≡ n % 100 % 10 = omega arith in
+    let front : n / 10 / 10 ≡ n / 100 = omega arith in
+    decimal_step n (omega arith) below
+    ∙ ap (λ xs. xs ++ (48 + n % 10) ∷ []) (decimal_step (n / 10) (omega arith) (omega arith))
+    ∙ rw (append_assoc, two_digits-below (n % 100) (omega arith), tens, ones, front) refl
+
+-- two digits that begin with no zero
+pub decimal-two_digits : (n : ℕ) → 10 ≤ n → n < 100 → decimal n ≡ two_digits n
+decimal-two_digits n from below =
+    decimal_step n from (omega arith) ∙ ap (λ xs. xs ++ (48 + n % 10) ∷ []) (decimal_digit (n / 10) (omega arith)) ∙ sym (two_digits-below n below)
+
+-- so many digits the parts have
+pub length-two_digits : (n : ℕ) → length (two_digits n) ≡ 2
+unfolding two_digits
+length-two_digits n = refl
+
+pub length_one_digit : (n : ℕ) → n < 10 → length (decimal n) ≡ 1
+length_one_digit n below = ap length (decimal_digit n below)
+
+pub length_two_digits : (n : ℕ) → 10 ≤ n → n < 100 → length (decimal n) ≡ 2
+length_two_digits n from below = ap length (decimal-two_digits n from below) ∙ length-two_digits n
+
+pub length_pairs : (n : ℕ) → 100 ≤ n → n < 2 ^ 64 → length (decimal n) ≡ length (decimal (n / 100)) + 2
+length_pairs n from below = ap length (decimal-pairs n from below) ∙ length-append (decimal (n / 100)) (two_digits (n % 100)) ∙ ap (λ k. length (decimal (n / 100)) + k) (length-two_digits (n % 100))
+
+pub ruleset length_of_digits = (length_one_digit, length_two_digits, length_pairs)
+
+pub ten_digits : (n : ℕ) → n < 2 ^ 32 → length (decimal n) ≤ 10
+ten_digits n below = length-decimal-le 10 n (omega arith) (omega arith) (omega arith)
+
+-- an offset is printed by its sign
+pub offset_text-negative : (z : ℤ) → z <ℤ pos 0 → offset_text z ≡ 45 ∷ duration_text (unsigned_abs z)
+unfolding offset_text
+offset_text-negative (pos n) below = absurd (omega (arith, ints))
+offset_text-negative (negsuc n) below = refl
+
+pub offset_text-positive : (z : ℤ) → pos 0 <ℤ z → offset_text z ≡ 43 ∷ duration_text (unsigned_abs z)
+unfolding offset_text
+offset_text-positive (pos zero) above = absurd (omega (arith, ints))
+offset_text-positive (pos (suc n)) above = refl
+offset_text-positive (negsuc n) above = absurd (omega (arith, ints))

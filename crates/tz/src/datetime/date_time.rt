@@ -1,0 +1,393 @@
+//! Date times of a local time type.
+
+ghost use Rattle.std.specs.Prelude.{◌≡◌, ◌+ℤ◌, ◌-ℤ◌, IfSome, IfNone};
+ghost use Rattle.tz_base.specs.Fields.{IsReading};
+
+use super::totals::duration_between;
+use crate::inner::Line;
+use std::cmp::Ordering;
+use std::fmt;
+use std::marker::Model;
+use std::time::Duration;
+use tz_base::calendar::{self, Fields};
+use tz_base::constants::NANOSECONDS_PER_SECOND;
+use tz_base::error::TzError;
+use tz_base::error::datetime::DateTimeError;
+use tz_zone::timezone::{LocalTimeType, TimeZoneRef};
+
+/// What a clock with this offset from UTC shows at a Unix time, if it is a reading.
+fn local_reading(unix_time: i64, ut_offset: i32) -> Option<i64>
+    ensures some { IfSome result (λ x. (x ≡ unix_time +ℤ ut_offset) × IsReading x) }
+    ensures none { IfNone result (¬ IsReading (unix_time +ℤ ut_offset)) }
+{
+    let reading = unix_time.checked_add(i64::from(ut_offset))?;
+    if calendar::is_reading(reading) {
+        Some(reading)
+    } else {
+        None
+    }
+}
+
+/// The Unix time at which a clock with this offset from UTC shows a reading, if it is that of a UTC date time.
+fn utc_reading(reading: i64, ut_offset: i32) -> Option<i64>
+    ensures some { IfSome result (λ u. (u ≡ reading -ℤ ut_offset) × IsReading u) }
+    ensures none { IfNone result (¬ IsReading (reading -ℤ ut_offset)) }
+{
+    let unix_time = reading.checked_sub(i64::from(ut_offset))?;
+    if calendar::is_reading(unix_time) {
+        Some(unix_time)
+    } else {
+        None
+    }
+}
+
+/// A date time with the local time type that shows it, and its Unix time.
+///
+/// Date times are compared by Unix time and then by nanoseconds, whatever their local time types.
+#[derive(Clone, Copy, Debug)]
+pub struct DateTime {
+    fields: Fields,
+    local_time_type: LocalTimeType,
+    unix_time: i64,
+}
+
+impl Model for DateTime {
+    ghost use Rattle.tz.specs.DateTimes.{LocalMoment, IsLocalMoment};
+
+    ghost Value = { LocalMoment };
+
+    ghost view = { λ d. record { fields = d.fields; local_time_type = d.local_time_type; unix_time = d.unix_time } };
+
+    ghost invariant = { λ d. IsLocalMoment (record { fields = d.fields; local_time_type = d.local_time_type; unix_time = d.unix_time }) };
+
+    ghost inverse = { λ d. record { fields = d.fields; local_time_type = d.local_time_type; unix_time = d.unix_time } };
+}
+
+impl PartialEq for DateTime {
+    ghost use Rattle.std.specs.Cmp.Rules.{comparing};
+    ghost use Rattle.std.proofs.Common.{rules};
+    ghost use Rattle.tz.specs.DateTimes.{moment_eq};
+
+    ghost eq = { moment_eq };
+
+    ghost laws = { Prim.search (comparing, rules) };
+
+    fn eq(&self, other: &DateTime) -> bool {
+        self.unix_time == other.unix_time && self.fields.nanoseconds == other.fields.nanoseconds
+    }
+}
+
+impl Eq for DateTime {
+    ghost use Rattle.std.specs.Cmp.Rules.{comparing};
+    ghost use Rattle.std.proofs.Common.{rules};
+
+    ghost laws = { Prim.search (comparing, rules) };
+}
+
+impl PartialOrd for DateTime {
+    ghost use Rattle.std.specs.Cmp.{partial_order_from_own_ties};
+    ghost use Rattle.std.specs.Cmp.Rules.{comparing};
+    ghost use Rattle.std.specs.Ordering.{as_partial_cmp};
+    ghost use Rattle.std.proofs.Common.{rules};
+    ghost use Rattle.tz.specs.DateTimes.{moment_cmp};
+
+    ghost partial_cmp = { as_partial_cmp moment_cmp };
+
+    ghost laws = { partial_order_from_own_ties (Prim.search (comparing, rules)) (Prim.search (comparing, rules)) };
+
+    fn partial_cmp(&self, other: &DateTime) -> Option<Ordering> {
+        Some(self.cmp(other))
+    }
+}
+
+impl Ord for DateTime {
+    ghost use Rattle.std.specs.Cmp.Rules.{comparing};
+    ghost use Rattle.std.proofs.Common.{rules};
+    ghost use Rattle.tz.specs.DateTimes.{moment_cmp};
+
+    ghost cmp = { moment_cmp };
+
+    ghost total = { Prim.search (comparing, rules) };
+
+    ghost matches_partial_cmp = { Prim.search (comparing, rules) };
+
+    ghost matches_eq = { Prim.search (comparing, rules) };
+
+    fn cmp(&self, other: &DateTime) -> Ordering {
+        self.unix_time
+            .cmp(&other.unix_time)
+            .then(self.fields.nanoseconds.cmp(&other.fields.nanoseconds))
+    }
+}
+
+impl DateTime {
+    ghost use Rattle.std.specs.Prelude.{◌≡◌, ◌≤◌, ◌<◌, ◌⊎◌, pos, ◌+ℤ◌, ◌-ℤ◌, OnOk, IfOk, IfErr};
+    ghost use Rattle.tz_base.specs.Days.{week_day_of, first_day};
+    ghost use Rattle.tz_base.specs.Fields.{IsValid, IsReading, reading, day_of};
+    ghost use Rattle.tz_rule.specs.LocalType.{LocalType};
+    ghost use Rattle.tz_zone.specs.Clock.{IsClock, IsLookupFault};
+    ghost use Rattle.tz_zone.specs.ZoneRef.{zone_of};
+    ghost use Rattle.tz.specs.DateTimes.{LocalMoment, ShowsInstant, IsShowFault, IsLocalFault, total_of, IsNearTotal, IsForwards, IsBackwards, ShowsByClock, IsClockFault, IsTotalFault, IsTotalClockFault, ShowsTotal, ShowsTotalByClock};
+
+    /// The date time with these fields, which the type shows. The ranges are those of [`UtcDateTime::new`].
+    ///
+    /// `OutOfRange` tells that its Unix time is that of no UTC date time.
+    pub fn new(
+        year: i32,
+        month: u8,
+        month_day: u8,
+        hour: u8,
+        minute: u8,
+        second: u8,
+        nanoseconds: u32,
+        local_time_type: LocalTimeType,
+    ) -> Result<Self, TzError>
+        ensures value { IfOk result (λ d. d ≡ record {
+            fields = record { year = year; month = month; month_day = month_day; hour = hour; minute = minute; second = second; nanoseconds = nanoseconds };
+            local_time_type = local_time_type;
+            unix_time = reading (record { year = year; month = month; month_day = month_day; hour = hour; minute = minute; second = second; nanoseconds = nanoseconds }) -ℤ local_time_type.ut_offset }) }
+        ensures ok { OnOk result (IsValid (record { year = year; month = month; month_day = month_day; hour = hour; minute = minute; second = second; nanoseconds = nanoseconds })) }
+        ensures err { IfErr result (IsLocalFault (record { year = year; month = month; month_day = month_day; hour = hour; minute = minute; second = second; nanoseconds = nanoseconds }) local_time_type.ut_offset) }
+    {
+        let fields = Fields {
+            year,
+            month,
+            month_day,
+            hour,
+            minute,
+            second,
+            nanoseconds,
+        };
+        DateTime::from_fields(fields, local_time_type)
+    }
+
+    /// The date time with these fields, which the type shows.
+    fn from_fields(fields: Fields, local_time_type: LocalTimeType) -> Result<Self, TzError>
+        ensures value { IfOk result (λ d. d ≡ record { fields = fields; local_time_type = local_time_type; unix_time = reading fields -ℤ local_time_type.ut_offset }) }
+        ensures ok { OnOk result (IsValid fields) }
+        ensures err { IfErr result (IsLocalFault fields local_time_type.ut_offset) }
+    {
+        fields.check()?;
+        let Some(unix_time) = utc_reading(fields.reading(), local_time_type.ut_offset()) else {
+            return Err(TzError::OutOfRange);
+        };
+        Ok(DateTime {
+            fields,
+            local_time_type,
+            unix_time,
+        })
+    }
+
+    /// The date time that the type shows at a Unix time, with nanoseconds below a second.
+    ///
+    /// `OutOfRange` tells that what it shows lies outside the years of 32 bits.
+    pub fn from_timespec_and_local(
+        unix_time: i64,
+        nanoseconds: u32,
+        local_time_type: LocalTimeType,
+    ) -> Result<Self, TzError>
+        ensures ok { IfOk result (ShowsInstant unix_time nanoseconds local_time_type) }
+        ensures err { IfErr result (IsShowFault (unix_time +ℤ local_time_type.ut_offset) nanoseconds) }
+    {
+        if nanoseconds >= NANOSECONDS_PER_SECOND {
+            return Err(TzError::DateTime(DateTimeError::InvalidNanoseconds));
+        }
+        DateTime::shown_by(unix_time, nanoseconds, local_time_type)
+    }
+
+    /// The date time that the type shows at a Unix time.
+    fn shown_by(
+        unix_time: i64,
+        nanoseconds: u32,
+        local_time_type: LocalTimeType,
+    ) -> Result<Self, TzError>
+        requires { nanoseconds < 1000000000 }
+        ensures ok { IfOk result (ShowsInstant unix_time nanoseconds local_time_type) }
+        ensures err { IfErr result (λ e. (e ≡ TzError.OutOfRange) × ¬ IsReading (unix_time +ℤ local_time_type.ut_offset)) }
+    {
+        let Some(reading) = local_reading(unix_time, local_time_type.ut_offset()) else {
+            return Err(TzError::OutOfRange);
+        };
+        Ok(DateTime {
+            fields: Fields::from_reading(reading, nanoseconds),
+            local_time_type,
+            unix_time,
+        })
+    }
+
+    /// The date time that the zone's clock shows at a Unix time, with nanoseconds below a second.
+    ///
+    /// The nanoseconds are refused first, then the lookup of the clock's type, and then a year that does not fit 32 bits.
+    pub fn from_timespec(
+        unix_time: i64,
+        nanoseconds: u32,
+        time_zone_ref: TimeZoneRef<'_>,
+    ) -> Result<Self, TzError>
+        ensures ok { IfOk result (ShowsByClock (zone_of time_zone_ref.entry) unix_time nanoseconds) }
+        ensures err { IfErr result (IsClockFault (zone_of time_zone_ref.entry) unix_time nanoseconds) }
+    {
+        if nanoseconds >= NANOSECONDS_PER_SECOND {
+            return Err(TzError::DateTime(DateTimeError::InvalidNanoseconds));
+        }
+        let local_time_type = time_zone_ref.find_local_time_type(unix_time)?;
+        DateTime::shown_by(unix_time, nanoseconds, *local_time_type)
+    }
+
+    /// The date time that the type shows so many nanoseconds from 1970-01-01T00:00:00Z on.
+    pub fn from_total_nanoseconds_and_local(
+        total_nanoseconds: i128,
+        local_time_type: LocalTimeType,
+    ) -> Result<Self, TzError>
+        ensures ok { IfOk result (ShowsTotal total_nanoseconds local_time_type) }
+        ensures err { IfErr result (IsTotalFault total_nanoseconds local_time_type.ut_offset) }
+    {
+        let Some((unix_time, nanoseconds)) = calendar::timespec(total_nanoseconds) else {
+            return Err(TzError::OutOfRange);
+        };
+        DateTime::shown_by(unix_time, nanoseconds, local_time_type)
+    }
+
+    /// The date time that the zone's clock shows so many nanoseconds from 1970-01-01T00:00:00Z on.
+    pub fn from_total_nanoseconds(
+        total_nanoseconds: i128,
+        time_zone_ref: TimeZoneRef<'_>,
+    ) -> Result<Self, TzError>
+        ensures ok { IfOk result (ShowsTotalByClock (zone_of time_zone_ref.entry) total_nanoseconds) }
+        ensures err { IfErr result (IsTotalClockFault (zone_of time_zone_ref.entry) total_nanoseconds) }
+    {
+        let Some((unix_time, nanoseconds)) = calendar::timespec(total_nanoseconds) else {
+            return Err(TzError::OutOfRange);
+        };
+        DateTime::from_timespec(unix_time, nanoseconds, time_zone_ref)
+    }
+
+    /// What the zone's clock shows at this instant.
+    pub fn project(&self, time_zone_ref: TimeZoneRef<'_>) -> Result<Self, TzError>
+        ensures ok { IfOk result (ShowsByClock (zone_of time_zone_ref.entry) self.now.unix_time self.now.fields.nanoseconds) }
+        ensures err { IfErr result (IsClockFault (zone_of time_zone_ref.entry) self.now.unix_time self.now.fields.nanoseconds) }
+    {
+        DateTime::from_timespec(self.unix_time, self.fields.nanoseconds, time_zone_ref)
+    }
+
+    /// What the zone's clock shows at a moment, which the caller hands in as Unix seconds and nanoseconds below a second.
+    pub fn now(
+        unix_time: i64,
+        nanoseconds: u32,
+        time_zone_ref: TimeZoneRef<'_>,
+    ) -> Result<Self, TzError>
+        ensures ok { IfOk result (ShowsByClock (zone_of time_zone_ref.entry) unix_time nanoseconds) }
+        ensures err { IfErr result (IsClockFault (zone_of time_zone_ref.entry) unix_time nanoseconds) }
+    {
+        DateTime::from_timespec(unix_time, nanoseconds, time_zone_ref)
+    }
+
+    /// The year.
+    pub fn year(&self) -> i32
+        ensures { result ≡ self.now.fields.year }
+    {
+        self.fields.year
+    }
+
+    /// The month, from 1 to 12.
+    pub fn month(&self) -> u8
+        ensures { result ≡ self.now.fields.month }
+    {
+        self.fields.month
+    }
+
+    /// The day of the month, from 1 to 31.
+    pub fn month_day(&self) -> u8
+        ensures { result ≡ self.now.fields.month_day }
+    {
+        self.fields.month_day
+    }
+
+    /// Hours since midnight, from 0 to 23.
+    pub fn hour(&self) -> u8
+        ensures { result ≡ self.now.fields.hour }
+    {
+        self.fields.hour
+    }
+
+    /// Minutes since the hour, from 0 to 59.
+    pub fn minute(&self) -> u8
+        ensures { result ≡ self.now.fields.minute }
+    {
+        self.fields.minute
+    }
+
+    /// Seconds since the minute, from 0 to 60.
+    pub fn second(&self) -> u8
+        ensures { result ≡ self.now.fields.second }
+    {
+        self.fields.second
+    }
+
+    /// Nanoseconds since the second, below 1000000000.
+    pub fn nanoseconds(&self) -> u32
+        ensures { result ≡ self.now.fields.nanoseconds }
+    {
+        self.fields.nanoseconds
+    }
+
+    /// The week day, from Sunday = 0 to 6.
+    pub fn week_day(&self) -> u8
+        ensures { pos result ≡ week_day_of (day_of self.now.fields) }
+    {
+        self.fields.week_day()
+    }
+
+    /// Days since January 1st, from 0 to 365.
+    pub fn year_day(&self) -> u16
+        ensures { pos result ≡ day_of self.now.fields -ℤ first_day self.now.fields.year }
+    {
+        self.fields.year_day()
+    }
+
+    /// The local time type that shows these fields.
+    pub fn local_time_type(&self) -> &LocalTimeType
+        ensures { result.now ≡ self.now.local_time_type }
+    {
+        &self.local_time_type
+    }
+
+    /// Seconds from 1970-01-01T00:00:00Z on.
+    pub fn unix_time(&self) -> i64
+        ensures { result ≡ self.now.unix_time }
+    {
+        self.unix_time
+    }
+
+    /// Nanoseconds from 1970-01-01T00:00:00Z on.
+    pub fn total_nanoseconds(&self) -> i128
+        ensures value { result ≡ total_of self.now }
+        ensures bound { IsNearTotal result }
+    {
+        calendar::total_nanoseconds(self.unix_time, self.fields.nanoseconds)
+    }
+
+    /// The duration from an earlier date time to this one, or `Err` with the way back where the other one is later.
+    pub fn duration_since(&self, earlier: Self) -> Result<Duration, Duration>
+        ensures ok { IfOk result (IsForwards (total_of earlier) (total_of self.now)) }
+        ensures err { IfErr result (IsBackwards (total_of earlier) (total_of self.now)) }
+    {
+        duration_between(earlier.total_nanoseconds(), self.total_nanoseconds())
+    }
+}
+
+/// Prints `year-MM-DDThh:mm:ss.nnnnnnnnn` and `Z` or the offset, as `+hh:mm`, with `:ss` where it has seconds. The format's
+/// width plays no part. (ISO 8601-1, 5.4.2)
+impl fmt::Display for DateTime {
+    ghost use Rattle.std.specs.Prelude.{Some};
+    ghost use Rattle.tz.specs.PrintedText.{printed_text};
+
+    ghost output = { λ d. Some (printed_text d.fields d.local_time_type.ut_offset) };
+
+    ghost styled_output = { λ d _. Some (printed_text d.fields d.local_time_type.ut_offset) };
+
+    fn fmt<W: fmt::Write>(&self, f: &mut fmt::Formatter<W>) -> fmt::Result {
+        let mut line = Line::new();
+        line.push_date_time(&self.fields, self.local_time_type.ut_offset());
+        f.write_str(line.as_str())
+    }
+}

@@ -1,0 +1,419 @@
+//! Date times from outside: instants and fields with their answers, the ends of the years, order, arithmetic and printing.
+
+use super::*;
+use crate::error::TzError;
+use crate::error::datetime::DateTimeError;
+use crate::timezone::{LocalTimeType, TimeZone, TimeZoneRef, Transition};
+use std::alloc::{AllocError, Global};
+use std::cmp::Ordering;
+use std::fmt::Display;
+use std::process::Abort;
+use std::test::Fail;
+use std::time::Duration;
+
+/// The date time prints as the text.
+fn expect_text(
+    rt: &impl Abort,
+    alloc: Global,
+    date_time: &impl Display,
+    text: &str,
+) -> Result<(), AllocError> {
+    let printed = format!(in alloc; "{date_time}")?;
+    assert_eq!(rt; printed.as_str(), text);
+    let padded = format!(in alloc; "{date_time:60}")?;
+    assert_eq!(rt; padded.as_str(), text);
+    Ok(())
+}
+
+/// A year, a month, a day of the month, hour, minute and second, and nanoseconds.
+type Parts = (i32, u8, u8, (u8, u8, u8), u32);
+
+fn parts_of_utc(d: UtcDateTime) -> Parts {
+    let time = (d.hour(), d.minute(), d.second());
+    (d.year(), d.month(), d.month_day(), time, d.nanoseconds())
+}
+
+fn parts_of_local(d: DateTime) -> Parts {
+    let time = (d.hour(), d.minute(), d.second());
+    (d.year(), d.month(), d.month_day(), time, d.nanoseconds())
+}
+
+fn utc_of(parts: Parts) -> Result<UtcDateTime, TzError> {
+    let (year, month, month_day, (hour, minute, second), nanoseconds) = parts;
+    UtcDateTime::new(year, month, month_day, hour, minute, second, nanoseconds)
+}
+
+fn local_of(parts: Parts, ut_offset: i32) -> Result<DateTime, TzError> {
+    let (year, month, month_day, (hour, minute, second), nanoseconds) = parts;
+    let local_time_type = LocalTimeType::with_ut_offset(ut_offset)?;
+    DateTime::new(year, month, month_day, hour, minute, second, nanoseconds, local_time_type)
+}
+
+/// The fault of the fields that a refusal names.
+fn field_fault<T: Drop>(answer: Result<T, TzError>) -> Option<DateTimeError> {
+    match answer {
+        Err(TzError::DateTime(fault)) => Some(fault),
+        _ => None,
+    }
+}
+
+fn is_out_of_range<T: Drop>(answer: Result<T, TzError>) -> bool {
+    matches!(answer, Err(TzError::OutOfRange))
+}
+
+/// Unix times with the date of UTC at 12:01:06.
+const NOONS: [(i64, i32, u8, u8); 14] = [
+    (-93750523134, -1001, 3, 1),
+    (-11670955134, 1600, 2, 29),
+    (-11670868734, 1600, 3, 1),
+    (-8515195134, 1700, 3, 1),
+    (-8483659134, 1701, 3, 1),
+    (-8389051134, 1704, 2, 29),
+    (-8388964734, 1704, 3, 1),
+    (951825666, 2000, 2, 29),
+    (951912066, 2000, 3, 1),
+    (983448066, 2001, 3, 1),
+    (1078056066, 2004, 2, 29),
+    (1078142466, 2004, 3, 1),
+    (4107585666, 2100, 3, 1),
+    (32540356866, 3001, 3, 1),
+];
+
+/// The parts of the UTC date time of an instant, and of a total.
+fn utc_parts_at(unix_time: i64, nanoseconds: u32) -> Option<Parts> {
+    Some(parts_of_utc(UtcDateTime::from_timespec(unix_time, nanoseconds).ok()?))
+}
+
+fn utc_parts_of_total(total: i128) -> Option<Parts> {
+    Some(parts_of_utc(UtcDateTime::from_total_nanoseconds(total).ok()?))
+}
+
+/// The Unix time and the total of the UTC date time with these parts.
+fn utc_instant_of(parts: Parts) -> Option<(i64, i128)> {
+    let date_time = utc_of(parts).ok()?;
+    Some((date_time.unix_time(), date_time.total_nanoseconds()))
+}
+
+#[test]
+fn utc_date_times_have_the_parts_of_their_instant(rt: HostRuntime) {
+    for (nanoseconds, (unix_time, year, month, month_day)) in (10u32..).zip(NOONS) {
+        let parts = (year, month, month_day, (12, 1, 6), nanoseconds);
+        let total = i128::from(unix_time) * 1_000_000_000 + i128::from(nanoseconds);
+        assert_eq!(rt; utc_parts_at(unix_time, nanoseconds), Some(parts));
+        assert_eq!(rt; utc_parts_of_total(total), Some(parts));
+        assert_eq!(rt; utc_instant_of(parts), Some((unix_time, total)));
+    }
+}
+
+/// What a zone shows at an instant, by each call that asks its clock.
+fn shown_by_clock(
+    unix_time: i64,
+    nanoseconds: u32,
+    zone: TimeZoneRef<'_>,
+) -> Result<[DateTime; 5], TzError> {
+    let utc = UtcDateTime::from_timespec(unix_time, nanoseconds)?;
+    let local = DateTime::from_timespec(unix_time, nanoseconds, zone)?;
+    Ok([
+        local,
+        DateTime::now(unix_time, nanoseconds, zone)?,
+        utc.project(zone)?,
+        local.project(zone)?,
+        DateTime::from_total_nanoseconds(utc.total_nanoseconds(), zone)?,
+    ])
+}
+
+/// What a type shows at an instant, by each call that is given the type.
+fn shown_by_type(
+    unix_time: i64,
+    nanoseconds: u32,
+    local_time_type: LocalTimeType,
+) -> Result<[DateTime; 2], TzError> {
+    let total = i128::from(unix_time) * 1_000_000_000 + i128::from(nanoseconds);
+    Ok([
+        DateTime::from_timespec_and_local(unix_time, nanoseconds, local_time_type)?,
+        DateTime::from_total_nanoseconds_and_local(total, local_time_type)?,
+    ])
+}
+
+/// The parts of a date time with its Unix time and its offset.
+fn facts(date_time: DateTime) -> (Parts, i64, i32) {
+    let ut_offset = date_time.local_time_type().ut_offset();
+    (parts_of_local(date_time), date_time.unix_time(), ut_offset)
+}
+
+/// Whether the type shows the fields at the instant, by all calls.
+fn is_shown(
+    unix_time: i64,
+    nanoseconds: u32,
+    ut_offset: i32,
+    parts: Parts,
+) -> Result<bool, TzError> {
+    let types = [LocalTimeType::with_ut_offset(ut_offset)?];
+    let zone = TimeZoneRef::new(&[], &types, &[], &None)?;
+    let expected = (parts, unix_time, ut_offset);
+    let by_clock = shown_by_clock(unix_time, nanoseconds, zone)?;
+    let by_type = shown_by_type(unix_time, nanoseconds, types[0])?;
+    Ok(by_clock.iter().all(|d| facts(*d) == expected)
+        && by_type.iter().all(|d| facts(*d) == expected)
+        && facts(local_of(parts, ut_offset)?) == expected)
+}
+
+#[test]
+fn zones_of_one_type_show_its_offset(rt: HostRuntime) -> Result<(), Fail> {
+    for (ut_offset, hour) in [(0, 12), (3600, 13), (7200, 14)] {
+        for (nanoseconds, (unix_time, year, month, month_day)) in (10u32..).zip(NOONS) {
+            let parts = (year, month, month_day, (hour, 1, 6), nanoseconds);
+            assert!(rt; is_shown(unix_time, nanoseconds, ut_offset, parts)?);
+        }
+    }
+    Ok(())
+}
+
+#[test]
+fn the_first_second_of_2000(rt: HostRuntime) -> Result<(), Fail> {
+    let date_time = UtcDateTime::new(2000, 1, 1, 0, 0, 0, 123_456_789)?;
+    assert_eq!(rt; date_time.week_day(), 6);
+    assert_eq!(rt; date_time.year_day(), 0);
+    assert_eq!(rt; date_time.unix_time(), 946_684_800);
+    expect_text(&rt, rt.alloc(), &date_time, "2000-01-01T00:00:00.123456789Z")?;
+    let zone = TimeZone::fixed(rt.alloc(), -3600)?;
+    let local = date_time.project(zone.as_ref())?;
+    assert_eq!(rt; local.week_day(), 5);
+    assert_eq!(rt; local.year_day(), 364);
+    expect_text(&rt, rt.alloc(), &local, "1999-12-31T23:00:00.123456789-01:00")?;
+    let before = UtcDateTime::from_timespec(-93_750_523_134, 10)?;
+    expect_text(&rt, rt.alloc(), &before, "-1001-03-01T12:01:06.000000010Z")?;
+    Ok(())
+}
+
+/// The first and the last date time, and the one from which Unix time counts.
+#[tactic(auto, using(crate::specs::UtcConstants::unix_epoch_is_utc, crate::specs::UtcConstants::min_is_utc, crate::specs::UtcConstants::max_is_utc))]
+fn constants() -> [UtcDateTime; 3] {
+    [UtcDateTime::MIN, UtcDateTime::UNIX_EPOCH, UtcDateTime::MAX]
+}
+
+const FIRST: i64 = -67_768_100_567_971_200;
+const LAST: i64 = 67_767_976_233_532_799;
+
+#[test]
+fn the_years_end(rt: HostRuntime) -> Result<(), Fail> {
+    let [first, epoch, last] = constants();
+    assert_eq!(rt; UtcDateTime::from_timespec(FIRST, 0)?, first);
+    assert_eq!(rt; UtcDateTime::from_timespec(0, 0)?, epoch);
+    assert_eq!(rt; UtcDateTime::from_timespec(LAST, 999_999_999)?, last);
+    expect_text(&rt, rt.alloc(), &first, "-2147483648-01-01T00:00:00.000000000Z")?;
+    expect_text(&rt, rt.alloc(), &last, "2147483647-12-31T23:59:59.999999999Z")?;
+    Ok(())
+}
+
+#[test]
+fn no_date_time_is_past_the_ends(rt: HostRuntime) {
+    for unix_time in [i64::MIN, FIRST - 1, LAST + 1, i64::MAX] {
+        assert!(rt; is_out_of_range(UtcDateTime::from_timespec(unix_time, 0)));
+        assert!(rt; is_out_of_range(UtcDateTime::from_timespec(unix_time, 999_999_999)));
+    }
+    for unix_time in [i64::MIN, FIRST - 1, 0, LAST + 1, i64::MAX] {
+        assert_eq!(rt;
+            field_fault(UtcDateTime::from_timespec(unix_time, 1_000_000_000)),
+            Some(DateTimeError::InvalidNanoseconds)
+        );
+    }
+}
+
+#[test]
+fn the_first_fault_of_fields_is_named(rt: HostRuntime) {
+    let past_the_end = (i32::MAX, 12, 31, (23, 59, 60), 1_000_000_000);
+    assert!(rt; is_out_of_range(utc_of(past_the_end)));
+    assert!(rt; is_out_of_range(utc_of((i32::MAX, 12, 31, (23, 59, 60), 0))));
+    assert_eq!(rt; field_fault(local_of(past_the_end, 0)), Some(DateTimeError::InvalidNanoseconds));
+    assert!(rt; is_out_of_range(local_of((i32::MAX, 12, 31, (23, 59, 60), 0), 0)));
+    for (parts, fault) in [
+        ((2001, 0, 0, (24, 60, 61), 1_000_000_000), DateTimeError::InvalidMonth),
+        ((2001, 13, 0, (24, 60, 61), 1_000_000_000), DateTimeError::InvalidMonth),
+        ((2001, 2, 0, (24, 60, 61), 1_000_000_000), DateTimeError::InvalidMonthDay),
+        ((2001, 2, 32, (24, 60, 61), 1_000_000_000), DateTimeError::InvalidMonthDay),
+        ((2001, 2, 29, (24, 60, 61), 1_000_000_000), DateTimeError::InvalidHour),
+        ((2001, 2, 29, (24, 0, 0), 0), DateTimeError::InvalidHour),
+        ((2001, 2, 29, (23, 60, 61), 1_000_000_000), DateTimeError::InvalidMinute),
+        ((2001, 2, 29, (23, 59, 61), 1_000_000_000), DateTimeError::InvalidSecond),
+        ((2001, 2, 29, (23, 59, 60), 1_000_000_000), DateTimeError::InvalidNanoseconds),
+        ((2001, 2, 29, (0, 0, 0), 0), DateTimeError::InvalidMonthDay),
+        ((1900, 2, 29, (0, 0, 0), 0), DateTimeError::InvalidMonthDay),
+    ] {
+        assert_eq!(rt; field_fault(utc_of(parts)), Some(fault));
+        assert_eq!(rt; field_fault(local_of(parts, 3600)), Some(fault));
+    }
+    assert!(rt; utc_of((2000, 2, 29, (23, 59, 60), 999_999_999)).is_ok());
+}
+
+#[test]
+fn local_years_end_where_utc_does(rt: HostRuntime) -> Result<(), Fail> {
+    assert!(rt; is_out_of_range(local_of((i32::MAX, 12, 31, (23, 30, 0), 0), -3600)));
+    let west = LocalTimeType::with_ut_offset(-3600)?;
+    let late = DateTime::from_timespec_and_local(67_767_976_233_532_800, 0, west)?;
+    assert_eq!(rt; parts_of_local(late), (i32::MAX, 12, 31, (23, 0, 0), 0));
+    assert!(rt; is_out_of_range(UtcDateTime::try_from(late)));
+    assert!(rt; is_out_of_range(DateTime::from_timespec_and_local(-67_768_100_567_971_200, 0, west)));
+    assert_eq!(rt;
+        field_fault(DateTime::from_timespec_and_local(i64::MAX, 1_000_000_000, west)),
+        Some(DateTimeError::InvalidNanoseconds)
+    );
+    assert!(rt; is_out_of_range(DateTime::from_timespec_and_local(i64::MIN, 0, west)));
+    let noon = DateTime::from_timespec_and_local(951_825_666, 7, west)?;
+    assert_eq!(rt; UtcDateTime::try_from(noon).ok(), UtcDateTime::from_timespec(951_825_666, 7).ok());
+    Ok(())
+}
+
+#[test]
+fn totals_are_rounded_down(rt: HostRuntime) {
+    let last_of_1969 = (1969, 12, 31, (23, 59, 59), 999_999_999);
+    assert_eq!(rt; utc_parts_of_total(-1), Some(last_of_1969));
+    assert_eq!(rt; utc_parts_of_total(0), Some((1970, 1, 1, (0, 0, 0), 0)));
+    let local = DateTime::from_total_nanoseconds(-1, TimeZoneRef::utc()).ok();
+    assert_eq!(rt; local.map(parts_of_local), Some(last_of_1969));
+}
+
+#[test]
+fn totals_end_with_the_years(rt: HostRuntime) {
+    let first = i128::from(FIRST) * 1_000_000_000;
+    let last = i128::from(LAST) * 1_000_000_000 + 999_999_999;
+    assert_eq!(rt; utc_parts_of_total(first), Some((i32::MIN, 1, 1, (0, 0, 0), 0)));
+    assert_eq!(rt; utc_parts_of_total(last), Some((i32::MAX, 12, 31, (23, 59, 59), 999_999_999)));
+    for total in [i128::MIN, first - 1, last + 1, i128::MAX] {
+        let utc_type = LocalTimeType::utc();
+        assert!(rt; is_out_of_range(UtcDateTime::from_total_nanoseconds(total)));
+        assert!(rt; is_out_of_range(DateTime::from_total_nanoseconds(total, TimeZoneRef::utc())));
+        assert!(rt; is_out_of_range(DateTime::from_total_nanoseconds_and_local(total, utc_type)));
+    }
+}
+
+#[test]
+fn the_lookup_is_refused_before_the_year(rt: HostRuntime) -> Result<(), Fail> {
+    let transitions = [Transition::new(0, 0)];
+    let types = [LocalTimeType::utc()];
+    let zone = TimeZoneRef::new(&transitions, &types, &[], &None)?;
+    assert!(rt; DateTime::from_timespec(-1, 0, zone).is_ok());
+    assert!(rt; matches!(DateTime::from_timespec(0, 0, zone), Err(TzError::NoAvailableLocalTimeType)));
+    assert!(rt; matches!(DateTime::from_timespec(i64::MAX, 0, zone), Err(TzError::NoAvailableLocalTimeType)));
+    assert_eq!(rt;
+        field_fault(DateTime::from_timespec(0, 1_000_000_000, zone)),
+        Some(DateTimeError::InvalidNanoseconds)
+    );
+    assert!(rt; is_out_of_range(DateTime::from_timespec(i64::MIN, 0, zone)));
+    Ok(())
+}
+
+#[test]
+fn durations_go_both_ways(rt: HostRuntime) {
+    let nanosecond = Duration::from_nanos(1);
+    let [_, epoch, _] = constants();
+    let before = utc_of((1969, 12, 31, (23, 59, 59), 999_999_999)).ok();
+    assert_eq!(rt; epoch.checked_sub(nanosecond), before);
+    for before in before {
+        assert_eq!(rt; epoch.duration_since(before), Ok(nanosecond));
+        assert_eq!(rt; before.duration_since(epoch), Err(nanosecond));
+        assert_eq!(rt; before.checked_add(nanosecond), Some(epoch));
+    }
+    assert_eq!(rt; epoch.duration_since(epoch), Ok(Duration::ZERO));
+}
+
+#[test]
+fn durations_end_with_the_years(rt: HostRuntime) {
+    let nanosecond = Duration::from_nanos(1);
+    let all = Duration::new(135_536_076_801_503_999, 999_999_999);
+    let [first, _, last] = constants();
+    assert_eq!(rt; last.checked_add(nanosecond), None);
+    assert_eq!(rt; first.checked_sub(nanosecond), None);
+    assert_eq!(rt; last.checked_add(Duration::ZERO), Some(last));
+    assert_eq!(rt; first.checked_add(all), Some(last));
+    assert_eq!(rt; last.checked_sub(all), Some(first));
+    assert_eq!(rt; last.duration_since(first), Ok(all));
+    assert_eq!(rt; first.duration_since(last), Err(all));
+    assert_eq!(rt; first.checked_add(Duration::MAX), None);
+    assert_eq!(rt; last.checked_sub(Duration::MAX), None);
+}
+
+#[test]
+fn second_60_moves_as_the_next_second_0(rt: HostRuntime) {
+    for second_60 in utc_of((2016, 12, 31, (23, 59, 60), 0)).ok() {
+        assert_eq!(rt;
+            second_60.checked_add(Duration::ZERO),
+            utc_of((2017, 1, 1, (0, 0, 0), 0)).ok()
+        );
+    }
+}
+
+/// The date times so much later and earlier by the operators, where the tests allow them.
+fn later(date_time: UtcDateTime, duration: Duration) -> Option<[UtcDateTime; 2]> {
+    date_time.checked_add(duration)?;
+    let mut moved = date_time;
+    moved += duration;
+    Some([date_time + duration, moved])
+}
+
+fn earlier(date_time: UtcDateTime, duration: Duration) -> Option<[UtcDateTime; 2]> {
+    date_time.checked_sub(duration)?;
+    let mut moved = date_time;
+    moved -= duration;
+    Some([date_time - duration, moved])
+}
+
+/// Whether the operators go there and back between two date times.
+fn operators_move(start: UtcDateTime, duration: Duration, end: UtcDateTime) -> bool {
+    later(start, duration) == Some([end, end]) && earlier(end, duration) == Some([start, start])
+}
+
+#[test]
+fn operators_move_date_times(rt: HostRuntime) -> Result<(), Fail> {
+    let [_, epoch, _] = constants();
+    let next_day = utc_of((1970, 1, 2, (0, 0, 0), 1))?;
+    assert!(rt; operators_move(epoch, Duration::new(86_400, 1), next_day));
+    Ok(())
+}
+
+#[test]
+fn local_date_times_are_compared_by_instant(rt: HostRuntime) -> Result<(), Fail> {
+    let east = local_of((2000, 1, 1, (1, 0, 0), 0), 3600)?;
+    let utc = local_of((2000, 1, 1, (0, 0, 0), 0), 0)?;
+    assert!(rt; east == utc);
+    assert_eq!(rt; east.cmp(&utc), Ordering::Equal);
+    expect_text(&rt, rt.alloc(), &east, "2000-01-01T01:00:00.000000000+01:00")?;
+    expect_text(&rt, rt.alloc(), &utc, "2000-01-01T00:00:00.000000000Z")?;
+    let later = local_of((2000, 1, 1, (0, 0, 0), 1), 0)?;
+    assert!(rt; east < later);
+    assert!(rt; east != later);
+    assert_eq!(rt; later.duration_since(east), Ok(Duration::from_nanos(1)));
+    assert_eq!(rt; east.duration_since(later), Err(Duration::from_nanos(1)));
+    let west = local_of((1999, 12, 31, (23, 0, 1), 0), -3600)?;
+    assert!(rt; later < west);
+    Ok(())
+}
+
+#[test]
+fn second_60_is_before_the_next_minute(rt: HostRuntime) -> Result<(), Fail> {
+    let second_60 = UtcDateTime::new(2016, 12, 31, 23, 59, 60, 0)?;
+    let new_year = UtcDateTime::new(2017, 1, 1, 0, 0, 0, 0)?;
+    assert!(rt; second_60 < new_year);
+    assert_eq!(rt; second_60.unix_time(), 1_483_228_800);
+    assert_eq!(rt; new_year.unix_time(), 1_483_228_800);
+    expect_text(&rt, rt.alloc(), &second_60, "2016-12-31T23:59:60.000000000Z")?;
+    Ok(())
+}
+
+#[test]
+fn offsets_are_printed(rt: HostRuntime) -> Result<(), Fail> {
+    for (ut_offset, text) in [
+        (1, "1970-01-01T00:00:01.000000000+00:00:01"),
+        (-1, "1969-12-31T23:59:59.000000000-00:00:01"),
+        (3599, "1970-01-01T00:59:59.000000000+00:59:59"),
+        (-3599, "1969-12-31T23:00:01.000000000-00:59:59"),
+        (129_600_000, "1974-02-09T00:00:00.000000000+36000:00"),
+        (i32::MAX, "2038-01-19T03:14:07.000000000+596523:14:07"),
+        (i32::MIN + 1, "1901-12-13T20:45:53.000000000-596523:14:07"),
+    ] {
+        let local_time_type = LocalTimeType::with_ut_offset(ut_offset)?;
+        let date_time = DateTime::from_timespec_and_local(0, 0, local_time_type)?;
+        expect_text(&rt, rt.alloc(), &date_time, text)?;
+    }
+    Ok(())
+}

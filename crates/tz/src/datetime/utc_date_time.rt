@@ -1,0 +1,405 @@
+//! Date times of UTC.
+
+ghost use Rattle.std.specs.Prelude.{MatchBool};
+ghost use Rattle.tz.specs.DateTimes.{IsPastTheEnd};
+
+use super::DateTime;
+use super::totals::{duration_between, is_utc_total, nanoseconds_of, utc_timespec};
+use crate::inner::Line;
+use std::fmt;
+use std::marker::Model;
+use std::ops::{Add, AddAssign, Sub, SubAssign};
+use std::time::Duration;
+use tz_base::calendar::{self, Fields};
+use tz_base::constants::NANOSECONDS_PER_SECOND;
+use tz_base::error::TzError;
+use tz_base::error::datetime::DateTimeError;
+use tz_zone::timezone::TimeZoneRef;
+
+/// A date time of UTC, in a year of 32 bits. (ISO 8601)
+///
+/// Date times are compared field by field, so second 60 comes before the next minute's second 0, although both have the same
+/// Unix time.
+#[derive(Clone, Copy, Debug, PartialEq, Eq, PartialOrd, Ord)]
+pub struct UtcDateTime {
+    fields: Fields,
+}
+
+impl Model for UtcDateTime {
+    ghost use Rattle.tz_base.specs.declared.calendar.Fields.{Fields};
+    ghost use Rattle.tz.specs.DateTimes.{IsUtc};
+
+    ghost Value = { Fields };
+
+    ghost view = { λ d. d.fields };
+
+    ghost invariant = { λ d. IsUtc d.fields };
+
+    ghost inverse = { λ f. record { fields = f } };
+}
+
+/// Whether the fields are second 60 of the last minute, which reads as a second past the years of 32 bits.
+fn is_past_the_end(fields: &Fields) -> bool
+    ensures { MatchBool result (IsPastTheEnd fields.now) (¬ IsPastTheEnd fields.now) }
+{
+    fields.year == i32::MAX
+        && fields.month == 12
+        && fields.month_day == 31
+        && fields.hour == 23
+        && fields.minute == 59
+        && fields.second == 60
+}
+
+impl UtcDateTime {
+    ghost use Rattle.std.specs.Prelude.{◌≡◌, ◌<◌, pos, ◌+ℤ◌, ◌-ℤ◌, OnOk, IfOk, IfErr, IsSome, IfSome, ◌↔◌};
+    ghost use Rattle.std.specs.Duration.{as_nanos};
+    ghost use Rattle.tz_base.specs.Days.{week_day_of, first_day};
+    ghost use Rattle.tz_base.specs.Fields.{IsCivil, IsReading, reading, day_of};
+    ghost use Rattle.tz.specs.DateTimes.{IsUtc, IsUtcFault, IsShowFault, utc_total, IsUtcTotal, IsUtcAt, IsForwards, IsBackwards, ShowsByClock, IsClockFault};
+    ghost use Rattle.tz_zone.specs.ZoneRef.{zone_of};
+
+    /// 1970-01-01T00:00:00Z, from which Unix time counts.
+    pub const UNIX_EPOCH: Self = UtcDateTime {
+        fields: Fields {
+            year: 1970,
+            month: 1,
+            month_day: 1,
+            hour: 0,
+            minute: 0,
+            second: 0,
+            nanoseconds: 0,
+        },
+    };
+
+    /// The first date time.
+    pub const MIN: Self = UtcDateTime {
+        fields: Fields {
+            year: i32::MIN,
+            month: 1,
+            month_day: 1,
+            hour: 0,
+            minute: 0,
+            second: 0,
+            nanoseconds: 0,
+        },
+    };
+
+    /// The last date time.
+    pub const MAX: Self = UtcDateTime {
+        fields: Fields {
+            year: i32::MAX,
+            month: 12,
+            month_day: 31,
+            hour: 23,
+            minute: 59,
+            second: 59,
+            nanoseconds: 999_999_999,
+        },
+    };
+
+    /// The date time with these fields: the month from 1 to 12, the day of the month from 1, the hour from 0 to 23, the minute
+    /// from 0 to 59, the second from 0 to 60 and the nanoseconds below a second.
+    pub fn new(
+        year: i32,
+        month: u8,
+        month_day: u8,
+        hour: u8,
+        minute: u8,
+        second: u8,
+        nanoseconds: u32,
+    ) -> Result<Self, TzError>
+        ensures value { IfOk result (λ d. d ≡ record { year = year; month = month; month_day = month_day; hour = hour; minute = minute; second = second; nanoseconds = nanoseconds }) }
+        ensures ok { OnOk result (IsUtc (record { year = year; month = month; month_day = month_day; hour = hour; minute = minute; second = second; nanoseconds = nanoseconds })) }
+        ensures err { IfErr result (IsUtcFault (record { year = year; month = month; month_day = month_day; hour = hour; minute = minute; second = second; nanoseconds = nanoseconds })) }
+    {
+        let fields = Fields {
+            year,
+            month,
+            month_day,
+            hour,
+            minute,
+            second,
+            nanoseconds,
+        };
+        UtcDateTime::from_fields(fields)
+    }
+
+    /// The date time with these fields.
+    fn from_fields(fields: Fields) -> Result<Self, TzError>
+        ensures value { IfOk result (λ d. d ≡ fields) }
+        ensures ok { OnOk result (IsUtc fields) }
+        ensures err { IfErr result (IsUtcFault fields) }
+    {
+        if is_past_the_end(&fields) {
+            return Err(TzError::OutOfRange);
+        }
+        fields.check()?;
+        Ok(UtcDateTime { fields })
+    }
+
+    /// The date time of a Unix time and nanoseconds below a second.
+    pub fn from_timespec(unix_time: i64, nanoseconds: u32) -> Result<Self, TzError>
+        ensures ok { IfOk result (IsCivil unix_time nanoseconds) }
+        ensures err { IfErr result (IsShowFault unix_time nanoseconds) }
+    {
+        if nanoseconds >= NANOSECONDS_PER_SECOND {
+            return Err(TzError::DateTime(DateTimeError::InvalidNanoseconds));
+        }
+        if !calendar::is_reading(unix_time) {
+            return Err(TzError::OutOfRange);
+        }
+        Ok(UtcDateTime {
+            fields: Fields::from_reading(unix_time, nanoseconds),
+        })
+    }
+
+    /// The date time of so many nanoseconds from [`UtcDateTime::UNIX_EPOCH`] on.
+    pub fn from_total_nanoseconds(total_nanoseconds: i128) -> Result<Self, TzError>
+        ensures ok { IfOk result (IsUtcAt total_nanoseconds) }
+        ensures err { IfErr result (λ e. (e ≡ TzError.OutOfRange) × ¬ IsUtcTotal total_nanoseconds) }
+    {
+        if !is_utc_total(total_nanoseconds) {
+            return Err(TzError::OutOfRange);
+        }
+        Ok(UtcDateTime::at_total(total_nanoseconds))
+    }
+
+    /// The date time of a total of nanoseconds.
+    fn at_total(total_nanoseconds: i128) -> Self
+        requires { IsUtcTotal total_nanoseconds }
+        ensures { IsUtcAt total_nanoseconds result }
+    {
+        let (unix_time, nanoseconds) = utc_timespec(total_nanoseconds);
+        UtcDateTime {
+            fields: Fields::from_reading(unix_time, nanoseconds),
+        }
+    }
+
+    /// The date time of a moment, which the caller hands in as Unix seconds and nanoseconds below a second.
+    pub fn now(unix_time: i64, nanoseconds: u32) -> Result<Self, TzError>
+        ensures ok { IfOk result (IsCivil unix_time nanoseconds) }
+        ensures err { IfErr result (IsShowFault unix_time nanoseconds) }
+    {
+        UtcDateTime::from_timespec(unix_time, nanoseconds)
+    }
+
+    /// Seconds from [`UtcDateTime::UNIX_EPOCH`] on. Second 60 counts as the next minute's second 0.
+    pub fn unix_time(&self) -> i64
+        ensures { result ≡ reading self.now }
+    {
+        self.fields.reading()
+    }
+
+    /// The year.
+    pub fn year(&self) -> i32
+        ensures { result ≡ self.now.year }
+    {
+        self.fields.year
+    }
+
+    /// The month, from 1 to 12.
+    pub fn month(&self) -> u8
+        ensures { result ≡ self.now.month }
+    {
+        self.fields.month
+    }
+
+    /// The day of the month, from 1 to 31.
+    pub fn month_day(&self) -> u8
+        ensures { result ≡ self.now.month_day }
+    {
+        self.fields.month_day
+    }
+
+    /// Hours since midnight, from 0 to 23.
+    pub fn hour(&self) -> u8
+        ensures { result ≡ self.now.hour }
+    {
+        self.fields.hour
+    }
+
+    /// Minutes since the hour, from 0 to 59.
+    pub fn minute(&self) -> u8
+        ensures { result ≡ self.now.minute }
+    {
+        self.fields.minute
+    }
+
+    /// Seconds since the minute, from 0 to 60.
+    pub fn second(&self) -> u8
+        ensures { result ≡ self.now.second }
+    {
+        self.fields.second
+    }
+
+    /// Nanoseconds since the second, below 1000000000.
+    pub fn nanoseconds(&self) -> u32
+        ensures { result ≡ self.now.nanoseconds }
+    {
+        self.fields.nanoseconds
+    }
+
+    /// The week day, from Sunday = 0 to 6.
+    pub fn week_day(&self) -> u8
+        ensures { pos result ≡ week_day_of (day_of self.now) }
+    {
+        self.fields.week_day()
+    }
+
+    /// Days since January 1st, from 0 to 365.
+    pub fn year_day(&self) -> u16
+        ensures { pos result ≡ day_of self.now -ℤ first_day self.now.year }
+    {
+        self.fields.year_day()
+    }
+
+    /// Nanoseconds from [`UtcDateTime::UNIX_EPOCH`] on.
+    pub fn total_nanoseconds(&self) -> i128
+        ensures value { result ≡ utc_total self.now }
+        ensures bound { IsUtcTotal result }
+    {
+        calendar::total_nanoseconds(self.unix_time(), self.fields.nanoseconds)
+    }
+
+    /// What the zone's clock shows at this instant.
+    pub fn project(&self, time_zone_ref: TimeZoneRef<'_>) -> Result<DateTime, TzError>
+        ensures ok { IfOk result (ShowsByClock (zone_of time_zone_ref.entry) (reading self.now) self.now.nanoseconds) }
+        ensures err { IfErr result (IsClockFault (zone_of time_zone_ref.entry) (reading self.now) self.now.nanoseconds) }
+    {
+        DateTime::from_timespec(self.unix_time(), self.fields.nanoseconds, time_zone_ref)
+    }
+
+    /// The date time so much later, or `None` where that is past [`UtcDateTime::MAX`].
+    pub fn checked_add(&self, duration: Duration) -> Option<Self>
+        ensures in_range { IsSome result ↔ IsUtcTotal (utc_total self.now +ℤ pos (as_nanos duration)) }
+        ensures some { IfSome result (IsUtcAt (utc_total self.now +ℤ pos (as_nanos duration))) }
+    {
+        let total = self.total_nanoseconds() + nanoseconds_of(duration);
+        if is_utc_total(total) {
+            Some(UtcDateTime::at_total(total))
+        } else {
+            None
+        }
+    }
+
+    /// The date time so much earlier, or `None` where that is before [`UtcDateTime::MIN`].
+    pub fn checked_sub(&self, duration: Duration) -> Option<Self>
+        ensures in_range { IsSome result ↔ IsUtcTotal (utc_total self.now -ℤ pos (as_nanos duration)) }
+        ensures some { IfSome result (IsUtcAt (utc_total self.now -ℤ pos (as_nanos duration))) }
+    {
+        let total = self.total_nanoseconds() - nanoseconds_of(duration);
+        if is_utc_total(total) {
+            Some(UtcDateTime::at_total(total))
+        } else {
+            None
+        }
+    }
+
+    /// The duration from an earlier date time to this one, or `Err` with the way back where the other one is later.
+    pub fn duration_since(&self, earlier: Self) -> Result<Duration, Duration>
+        ensures ok { IfOk result (IsForwards (utc_total earlier) (utc_total self.now)) }
+        ensures err { IfErr result (IsBackwards (utc_total earlier) (utc_total self.now)) }
+    {
+        duration_between(earlier.total_nanoseconds(), self.total_nanoseconds())
+    }
+}
+
+/// The sum must not be past [`UtcDateTime::MAX`]; [`UtcDateTime::checked_add`] tests that.
+impl Add<Duration> for UtcDateTime {
+    ghost use Rattle.std.specs.Prelude.{pos, ◌+ℤ◌};
+    ghost use Rattle.std.specs.Duration.{as_nanos};
+    ghost use Rattle.tz.specs.DateTimes.{utc_total, IsUtcTotal, IsUtcAt};
+
+    type Output = UtcDateTime;
+
+    ghost can_add = { λ d s. IsUtcTotal (utc_total d +ℤ pos (as_nanos s)) };
+
+    ghost add_gives = { λ d s r. IsUtcAt (utc_total d +ℤ pos (as_nanos s)) r };
+
+    fn add(self, duration: Duration) -> UtcDateTime {
+        UtcDateTime::at_total(self.total_nanoseconds() + nanoseconds_of(duration))
+    }
+}
+
+/// The difference must not be before [`UtcDateTime::MIN`]; [`UtcDateTime::checked_sub`] tests that.
+impl Sub<Duration> for UtcDateTime {
+    ghost use Rattle.std.specs.Prelude.{pos, ◌-ℤ◌};
+    ghost use Rattle.std.specs.Duration.{as_nanos};
+    ghost use Rattle.tz.specs.DateTimes.{utc_total, IsUtcTotal, IsUtcAt};
+
+    type Output = UtcDateTime;
+
+    ghost can_sub = { λ d s. IsUtcTotal (utc_total d -ℤ pos (as_nanos s)) };
+
+    ghost sub_gives = { λ d s r. IsUtcAt (utc_total d -ℤ pos (as_nanos s)) r };
+
+    fn sub(self, duration: Duration) -> UtcDateTime {
+        UtcDateTime::at_total(self.total_nanoseconds() - nanoseconds_of(duration))
+    }
+}
+
+/// As `+`.
+impl AddAssign<Duration> for UtcDateTime {
+    ghost use Rattle.std.specs.Prelude.{pos, ◌+ℤ◌};
+    ghost use Rattle.std.specs.Duration.{as_nanos};
+    ghost use Rattle.tz.specs.DateTimes.{utc_total, IsUtcTotal, IsUtcAt};
+
+    ghost can_add_assign = { λ d s. IsUtcTotal (utc_total d +ℤ pos (as_nanos s)) };
+
+    ghost add_assign_gives = { λ d s r. IsUtcAt (utc_total d +ℤ pos (as_nanos s)) r };
+
+    fn add_assign(&mut self, duration: Duration) {
+        *self = *self + duration;
+    }
+}
+
+/// As `-`.
+impl SubAssign<Duration> for UtcDateTime {
+    ghost use Rattle.std.specs.Prelude.{pos, ◌-ℤ◌};
+    ghost use Rattle.std.specs.Duration.{as_nanos};
+    ghost use Rattle.tz.specs.DateTimes.{utc_total, IsUtcTotal, IsUtcAt};
+
+    ghost can_sub_assign = { λ d s. IsUtcTotal (utc_total d -ℤ pos (as_nanos s)) };
+
+    ghost sub_assign_gives = { λ d s r. IsUtcAt (utc_total d -ℤ pos (as_nanos s)) r };
+
+    fn sub_assign(&mut self, duration: Duration) {
+        *self = *self - duration;
+    }
+}
+
+/// The UTC date time of the same instant; `OutOfRange` where its year does not fit 32 bits.
+impl TryFrom<DateTime> for UtcDateTime {
+    ghost use Rattle.std.specs.Prelude.{◌≡◌, IfOk, IfErr};
+    ghost use Rattle.tz_base.specs.Fields.{IsCivil, IsReading};
+    ghost use Rattle.tz_base.specs.declared.error.TzError.TheVariants.{OutOfRange};
+
+    type Error = TzError;
+
+    ghost try_from_gives = { λ d r. IfOk r (IsCivil d.unix_time d.fields.nanoseconds) × IfErr r (λ e. (e ≡ OutOfRange) × ¬ IsReading d.unix_time) };
+
+    fn try_from(date_time: DateTime) -> Result<Self, TzError> {
+        if !calendar::is_reading(date_time.unix_time()) {
+            return Err(TzError::OutOfRange);
+        }
+        Ok(UtcDateTime {
+            fields: Fields::from_reading(date_time.unix_time(), date_time.nanoseconds()),
+        })
+    }
+}
+
+/// Prints `year-MM-DDThh:mm:ss.nnnnnnnnnZ`, whatever the format's width. (ISO 8601-1, 5.4.2)
+impl fmt::Display for UtcDateTime {
+    ghost use Rattle.std.specs.Prelude.{Some, pos};
+    ghost use Rattle.tz.specs.PrintedText.{printed_text};
+
+    ghost output = { λ d. Some (printed_text d (pos 0)) };
+
+    ghost styled_output = { λ d _. Some (printed_text d (pos 0)) };
+
+    fn fmt<W: fmt::Write>(&self, f: &mut fmt::Formatter<W>) -> fmt::Result {
+        let mut line = Line::new();
+        line.push_date_time(&self.fields, 0);
+        f.write_str(line.as_str())
+    }
+}

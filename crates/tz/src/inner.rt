@@ -1,0 +1,265 @@
+//! What the program uses of date times and their users do not.
+
+ghost use Rattle.std.specs.Prelude.{◌≡◌, ◌+◌, ◌<◌, ◌≤◌, [], ◌∷◌, ◌++◌, length, IsAscii};
+ghost use Rattle.std.specs.Fmt.{decimal, signed_decimal};
+ghost use Rattle.tz_base.specs.Fields.{IsValid};
+ghost use Rattle.tz.specs.PrintedText.{two_digits, nine_digits, two_digits_or_more, date_text, time_text, seconds_text, duration_text, offset_text, printed_text};
+
+use std::marker::Model;
+use std::str;
+use tz_base::calendar::Fields;
+
+/// ASCII text of at most 128 bytes, which is made without an allocation.
+///
+/// Two printed date times with their names and what stands between them fit into one.
+#[derive(Drop)]
+pub struct Line {
+    bytes: [u8; 128],
+    len: usize,
+}
+
+impl Model for Line {
+    ghost use Rattle.std.specs.Prelude.{◌≤◌, ℕ, List, take, IsAscii};
+
+    ghost Value = { List ℕ };
+
+    ghost view = { λ line. take line.len line.bytes };
+
+    ghost invariant = { λ line. (line.len ≤ 128) × IsAscii (take line.len line.bytes) };
+}
+
+impl Line {
+    /// A line without text.
+    pub fn new() -> Self
+        ensures { result ≡ [] }
+    {
+        Line {
+            bytes: [0; 128],
+            len: 0,
+        }
+    }
+
+    /// Takes the text off.
+    #[inline]
+    pub fn clear(&mut self)
+        ensures { self.new ≡ [] }
+    {
+        self.len = 0;
+    }
+
+    /// The text's bytes.
+    #[inline]
+    pub fn as_bytes(&self) -> &[u8]
+        ensures text { result.now ≡ self.now }
+        ensures ascii { IsAscii result.now }
+        ensures len { length result.now ≤ 128 }
+    {
+        &self.bytes[..self.len]
+    }
+
+    /// The text.
+    #[inline]
+    pub fn as_str(&self) -> &str
+        ensures { result.now ≡ self.now }
+    {
+        unsafe { str::from_utf8_unchecked(self.as_bytes()) }
+    }
+
+    /// Appends an ASCII byte.
+    #[inline(always)]
+    pub fn push(&mut self, byte: u8)
+        requires ascii { byte < 128 }
+        requires room { length self.old + 1 ≤ 128 }
+        ensures text { self.new ≡ self.old ++ byte ∷ [] }
+        ensures len { length self.new ≡ length self.old + 1 }
+    {
+        self.bytes[self.len] = byte;
+        self.len += 1;
+    }
+
+    /// Appends a text.
+    #[inline]
+    pub fn push_str(&mut self, text: &str)
+        requires ascii { IsAscii text.now }
+        requires room { length self.old + length text.now ≤ 128 }
+        ensures text { self.new ≡ self.old ++ text.now }
+        ensures len { length self.new ≡ length self.old + length text.now }
+    {
+        let end = self.len + text.len();
+        self.bytes[self.len..end].copy_from_slice(text.as_bytes());
+        self.len = end;
+    }
+
+    /// Appends a number below 100 as two digits.
+    #[inline(always)]
+    fn push_two_digits(&mut self, number: u8)
+        requires below { number < 100 }
+        requires room { length self.old + 2 ≤ 128 }
+        ensures text { self.new ≡ self.old ++ two_digits number }
+        ensures len { length self.new ≡ length self.old + 2 }
+    {
+        self.push(b'0' + number / 10);
+        self.push(b'0' + number % 10);
+    }
+
+    /// Appends nanoseconds as nine digits.
+    #[inline(always)]
+    fn push_nine_digits(&mut self, number: u32)
+        requires below { number < 1000000000 }
+        requires room { length self.old + 9 ≤ 128 }
+        ensures text { self.new ≡ self.old ++ nine_digits number }
+        ensures len { length self.new ≡ length self.old + 9 }
+    {
+        let high = number / 10_000;
+        let low = number % 10_000;
+        self.push(b'0' + (high / 10_000) as u8);
+        self.push_two_digits((high % 10_000 / 100) as u8);
+        self.push_two_digits((high % 100) as u8);
+        self.push_two_digits((low / 100) as u8);
+        self.push_two_digits((low % 100) as u8);
+    }
+
+    /// Appends the digits of a number.
+    #[tactic(auto, using(crate::proofs::PrintedLemmas::length_of_digits))]
+    fn push_digits(&mut self, number: u32)
+        requires { length self.old + length (decimal number) ≤ 128 }
+        ensures text { self.new ≡ self.old ++ decimal number }
+        ensures len { length self.new ≡ length self.old + length (decimal number) }
+    {
+        if number < 10 {
+            self.push(b'0' + number as u8);
+        } else if number < 100 {
+            self.push_two_digits(number as u8);
+        } else {
+            self.push_digits(number / 100);
+            self.push_two_digits((number % 100) as u8);
+        }
+    }
+
+    /// Appends the digits of a number, of which there are ten at most.
+    #[tactic(auto, using(crate::proofs::PrintedLemmas::ten_digits))]
+    pub fn push_decimal(&mut self, number: u32)
+        requires { length self.old + 10 ≤ 128 }
+        ensures text { self.new ≡ self.old ++ decimal number }
+        ensures len { length self.new ≤ length self.old + 10 }
+    {
+        self.push_digits(number);
+    }
+
+    /// Appends a year.
+    fn push_year(&mut self, year: i32)
+        requires { length self.old + 11 ≤ 128 }
+        ensures text { self.new ≡ self.old ++ signed_decimal year }
+        ensures len { length self.new ≤ length self.old + 11 }
+    {
+        if year < 0 {
+            self.push(b'-');
+            self.push_decimal(year.unsigned_abs());
+        } else {
+            self.push_decimal(year.unsigned_abs());
+        }
+    }
+
+    /// Appends year-MM-DD.
+    fn push_date(&mut self, fields: &Fields)
+        requires valid { IsValid fields.now }
+        requires room { length self.old + 17 ≤ 128 }
+        ensures text { self.new ≡ self.old ++ date_text fields.now }
+        ensures len { length self.new ≤ length self.old + 17 }
+    {
+        self.push_year(fields.year);
+        self.push(b'-');
+        self.push_two_digits(fields.month);
+        self.push(b'-');
+        self.push_two_digits(fields.month_day);
+    }
+
+    /// Appends hh:mm:ss.nnnnnnnnn.
+    #[inline(always)]
+    fn push_time(&mut self, fields: &Fields)
+        requires valid { IsValid fields.now }
+        requires room { length self.old + 18 ≤ 128 }
+        ensures text { self.new ≡ self.old ++ time_text fields.now }
+        ensures len { length self.new ≡ length self.old + 18 }
+    {
+        self.push_two_digits(fields.hour);
+        self.push(b':');
+        self.push_two_digits(fields.minute);
+        self.push(b':');
+        self.push_two_digits(fields.second);
+        self.push(b'.');
+        self.push_nine_digits(fields.nanoseconds);
+    }
+
+    /// Appends hours, with two digits at least.
+    #[tactic(auto, unfolding(crate::specs::PrintedText::two_digits_or_more))]
+    fn push_hours(&mut self, hours: u32)
+        requires { length self.old + 10 ≤ 128 }
+        ensures text { self.new ≡ self.old ++ two_digits_or_more hours }
+        ensures len { length self.new ≤ length self.old + 10 }
+    {
+        if hours < 100 {
+            self.push_two_digits(hours as u8);
+        } else {
+            self.push_decimal(hours);
+        }
+    }
+
+    /// Appends :ss unless the seconds are zero.
+    fn push_seconds(&mut self, seconds: u8)
+        requires below { seconds < 60 }
+        requires room { length self.old + 3 ≤ 128 }
+        ensures text { self.new ≡ self.old ++ seconds_text seconds }
+        ensures len { length self.new ≤ length self.old + 3 }
+    {
+        if seconds != 0 {
+            self.push(b':');
+            self.push_two_digits(seconds);
+        }
+    }
+
+    /// Appends hh:mm, and :ss unless the seconds are zero.
+    fn push_duration(&mut self, seconds: u32)
+        requires { length self.old + 16 ≤ 128 }
+        ensures text { self.new ≡ self.old ++ duration_text seconds }
+        ensures len { length self.new ≤ length self.old + 16 }
+    {
+        self.push_hours(seconds / 3600);
+        self.push(b':');
+        self.push_two_digits((seconds / 60 % 60) as u8);
+        self.push_seconds((seconds % 60) as u8);
+    }
+
+    /// Appends `Z`, or the sign and the size of an offset in seconds.
+    fn push_offset(&mut self, ut_offset: i32)
+        requires { length self.old + 17 ≤ 128 }
+        ensures text { self.new ≡ self.old ++ offset_text ut_offset }
+        ensures len { length self.new ≤ length self.old + 17 }
+    {
+        if ut_offset == 0 {
+            self.push(b'Z');
+        } else if ut_offset < 0 {
+            self.push(b'-');
+            self.push_duration(ut_offset.unsigned_abs());
+        } else {
+            self.push(b'+');
+            self.push_duration(ut_offset.unsigned_abs());
+        }
+    }
+
+    /// Appends the printed date time of the fields and an offset in seconds.
+    pub fn push_date_time(&mut self, fields: &Fields, ut_offset: i32)
+        requires valid { IsValid fields.now }
+        requires room { length self.old + 53 ≤ 128 }
+        ensures text { self.new ≡ self.old ++ printed_text fields.now ut_offset }
+        ensures len { length self.new ≤ length self.old + 53 }
+    {
+        self.push_date(fields);
+        self.push(b'T');
+        self.push_time(fields);
+        self.push_offset(ut_offset);
+    }
+}
+
+#[cfg(test)]
+mod tests;

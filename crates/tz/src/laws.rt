@@ -1,0 +1,48 @@
+//! Laws of date times. But for the last, each function does nothing; its contract is the law, in the words of the contracts of
+//! [`UtcDateTime`] and [`crate::DateTime`].
+
+ghost use Rattle.std.specs.Prelude.{◌≡◌, ℕ, ◌<◌, true, pos, ℤ, ◌+ℤ◌, ◌↔◌};
+ghost use Rattle.std.specs.Duration.{as_nanos};
+ghost use Rattle.std.specs.Ordering.{int_cmp};
+ghost use Rattle.std.specs.declared.cmp.Ordering.TheVariants.{Equal, Less};
+ghost use Rattle.std.specs.declared.time.Duration.{Duration};
+ghost use Rattle.tz_base.specs.Fields.{IsCivil, reading};
+ghost use Rattle.tz_base.specs.declared.calendar.Fields.{Fields};
+ghost use Rattle.tz_base.specs.declared.error.TzError.{TzError};
+ghost use Rattle.tz_zone.specs.Table.{Zone};
+ghost use Rattle.tz.specs.DateTimes.{LocalMoment, IsLocalMoment, IsUtc, IsUtcAt, IsShowFault, IsForwards, IsBackwards, ShowsByClock, utc_total, total_of, moment_eq, moment_cmp};
+
+use crate::UtcDateTime;
+use std::cmp::Ordering;
+
+/// [`UtcDateTime::from_timespec`] of a date time's Unix time and nanoseconds is that date time again, unless its second is 60.
+pub fn utc_date_times_come_back()
+    ensures ok { (f g : Fields) → IsUtc f → f.second < 60 → IsCivil (reading f) f.nanoseconds g → g ≡ f }
+    ensures err { (f : Fields) (e : TzError) → IsUtc f → ¬ IsShowFault (reading f) f.nanoseconds e }
+{}
+
+/// Where [`UtcDateTime::checked_add`] answers, [`UtcDateTime::duration_since`] gives the duration back.
+pub fn added_durations_come_back()
+    ensures ok { (f g : Fields) (d e : Duration) → IsUtcAt (utc_total f +ℤ pos (as_nanos d)) g → IsForwards (utc_total f) (utc_total g) e → as_nanos e ≡ as_nanos d }
+    ensures err { (f g : Fields) (d e : Duration) → IsUtcAt (utc_total f +ℤ pos (as_nanos d)) g → ¬ IsBackwards (utc_total f) (utc_total g) e }
+{}
+
+/// Date times of local time types are equal where they have one Unix time and the same nanoseconds, and are in order as their
+/// total nanoseconds are; nothing else of them counts.
+pub fn date_times_compare_by_instant()
+    ensures equal { (a b : LocalMoment) → (moment_eq a b ≡ true) ↔ ((a.unix_time ≡ b.unix_time) × (a.fields.nanoseconds ≡ b.fields.nanoseconds)) }
+    ensures order { (a b : LocalMoment) → IsLocalMoment a → IsLocalMoment b → moment_cmp a b ≡ int_cmp (total_of a) (total_of b) }
+    ensures agree { (a b : LocalMoment) → (moment_eq a b ≡ true) ↔ (moment_cmp a b ≡ Equal) }
+{}
+
+/// UTC date times with a second below 60 are in order as their total nanoseconds are.
+pub fn order_of_utc_date_times(a: UtcDateTime, b: UtcDateTime) -> Ordering
+    ensures { a.second < 60 → b.second < 60 → result ≡ int_cmp (utc_total a) (utc_total b) }
+{
+    a.cmp(&b)
+}
+
+/// A projection keeps the Unix time and the nanoseconds.
+pub fn projections_keep_the_instant()
+    ensures { (z : Zone) (u : ℤ) (nanoseconds : ℕ) (d : LocalMoment) → ShowsByClock z u nanoseconds d → (d.unix_time ≡ u) × (d.fields.nanoseconds ≡ nanoseconds) }
+{}

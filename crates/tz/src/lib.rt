@@ -1,0 +1,13 @@
+//! Unix times as the calendar times of time zones, and back.
+#![tactic(auto)]
+
+pub mod datetime;
+pub mod inner;
+pub mod laws;
+
+pub use tz_zone::timezone;
+pub use tz_base::{constants, error};
+
+pub use crate::datetime::{DateTime, UtcDateTime};
+pub use crate::error::{Error, TzError};
+pub use crate::timezone::{LocalTimeType, TimeZone, TimeZoneRef};
