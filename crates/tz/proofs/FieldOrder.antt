@@ -90,7 +90,7 @@ fields_cmp f g =
 pub order_of_totals : (f g : Fields) → IsBelow60 f → IsBelow60 g → fields_cmp f g ≡ int_cmp (utc_total f) (utc_total g)
 order_of_totals f g is_f is_g =
     let by_parts =
-      then_ranked (int_ranked f.year g.year) (then_ranked (nat_ranked f.month g.month) (then_ranked (nat_ranked f.month_day g.month_day)
-      (then_ranked (nat_ranked f.hour g.hour) (then_ranked (nat_ranked f.minute g.minute) (then_ranked (nat_ranked f.second g.second) (nat_ranked f.nanoseconds g.nanoseconds)))))) in
+    then_ranked (int_ranked f.year g.year) (then_ranked (nat_ranked f.month g.month) (then_ranked (nat_ranked f.month_day g.month_day)
+    (then_ranked (nat_ranked f.hour g.hour) (then_ranked (nat_ranked f.minute g.minute) (then_ranked (nat_ranked f.second g.second) (nat_ranked f.nanoseconds g.nanoseconds)))))) in
     int_cmp_is (utc_total f) (utc_total g) (fields_cmp f g)
     (weaker_ranks by_parts (earlier_total f g is_f is_g) (same_total f g) (λ h. earlier_total g f is_g is_f (later_earlier f g h)))

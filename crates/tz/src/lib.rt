@@ -5,9 +5,8 @@ pub mod datetime;
 pub mod inner;
 pub mod laws;
 
-pub use tz_zone::timezone;
-pub use tz_base::{constants, error};
-
 pub use crate::datetime::{DateTime, UtcDateTime};
 pub use crate::error::{Error, TzError};
 pub use crate::timezone::{LocalTimeType, TimeZone, TimeZoneRef};
+pub use tz_base::{constants, error};
+pub use tz_zone::timezone;

@@ -143,9 +143,10 @@ impl DateTime {
         local_time_type: LocalTimeType,
     ) -> Result<Self, TzError>
         ensures value { IfOk result (λ d. d ≡ record {
-            fields = record { year = year; month = month; month_day = month_day; hour = hour; minute = minute; second = second; nanoseconds = nanoseconds };
-            local_time_type = local_time_type;
-            unix_time = reading (record { year = year; month = month; month_day = month_day; hour = hour; minute = minute; second = second; nanoseconds = nanoseconds }) -ℤ local_time_type.ut_offset }) }
+          fields = record { year = year; month = month; month_day = month_day; hour = hour; minute = minute; second = second; nanoseconds = nanoseconds };
+          local_time_type = local_time_type;
+          unix_time = reading (record { year = year; month = month; month_day = month_day; hour = hour; minute = minute; second = second; nanoseconds = nanoseconds }) -ℤ local_time_type.ut_offset;
+        }) }
         ensures ok { OnOk result (IsValid (record { year = year; month = month; month_day = month_day; hour = hour; minute = minute; second = second; nanoseconds = nanoseconds })) }
         ensures err { IfErr result (IsLocalFault (record { year = year; month = month; month_day = month_day; hour = hour; minute = minute; second = second; nanoseconds = nanoseconds }) local_time_type.ut_offset) }
     {

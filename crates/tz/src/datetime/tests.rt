@@ -46,7 +46,16 @@ fn utc_of(parts: Parts) -> Result<UtcDateTime, TzError> {
 fn local_of(parts: Parts, ut_offset: i32) -> Result<DateTime, TzError> {
     let (year, month, month_day, (hour, minute, second), nanoseconds) = parts;
     let local_time_type = LocalTimeType::with_ut_offset(ut_offset)?;
-    DateTime::new(year, month, month_day, hour, minute, second, nanoseconds, local_time_type)
+    DateTime::new(
+        year,
+        month,
+        month_day,
+        hour,
+        minute,
+        second,
+        nanoseconds,
+        local_time_type,
+    )
 }
 
 /// The fault of the fields that a refusal names.
@@ -153,9 +162,11 @@ fn is_shown(
     let expected = (parts, unix_time, ut_offset);
     let by_clock = shown_by_clock(unix_time, nanoseconds, zone)?;
     let by_type = shown_by_type(unix_time, nanoseconds, types[0])?;
-    Ok(by_clock.iter().all(|d| facts(*d) == expected)
-        && by_type.iter().all(|d| facts(*d) == expected)
-        && facts(local_of(parts, ut_offset)?) == expected)
+    Ok(
+        by_clock.iter().all(|d| facts(*d) == expected)
+            && by_type.iter().all(|d| facts(*d) == expected)
+            && facts(local_of(parts, ut_offset)?) == expected,
+    )
 }
 
 #[test]
@@ -175,12 +186,22 @@ fn the_first_second_of_2000(rt: HostRuntime) -> Result<(), Fail> {
     assert_eq!(rt; date_time.week_day(), 6);
     assert_eq!(rt; date_time.year_day(), 0);
     assert_eq!(rt; date_time.unix_time(), 946_684_800);
-    expect_text(&rt, rt.alloc(), &date_time, "2000-01-01T00:00:00.123456789Z")?;
+    expect_text(
+        &rt,
+        rt.alloc(),
+        &date_time,
+        "2000-01-01T00:00:00.123456789Z",
+    )?;
     let zone = TimeZone::fixed(rt.alloc(), -3600)?;
     let local = date_time.project(zone.as_ref())?;
     assert_eq!(rt; local.week_day(), 5);
     assert_eq!(rt; local.year_day(), 364);
-    expect_text(&rt, rt.alloc(), &local, "1999-12-31T23:00:00.123456789-01:00")?;
+    expect_text(
+        &rt,
+        rt.alloc(),
+        &local,
+        "1999-12-31T23:00:00.123456789-01:00",
+    )?;
     let before = UtcDateTime::from_timespec(-93_750_523_134, 10)?;
     expect_text(&rt, rt.alloc(), &before, "-1001-03-01T12:01:06.000000010Z")?;
     Ok(())
@@ -193,6 +214,7 @@ fn constants() -> [UtcDateTime; 3] {
 }
 
 const FIRST: i64 = -67_768_100_567_971_200;
+
 const LAST: i64 = 67_767_976_233_532_799;
 
 #[test]
@@ -201,8 +223,18 @@ fn the_years_end(rt: HostRuntime) -> Result<(), Fail> {
     assert_eq!(rt; UtcDateTime::from_timespec(FIRST, 0)?, first);
     assert_eq!(rt; UtcDateTime::from_timespec(0, 0)?, epoch);
     assert_eq!(rt; UtcDateTime::from_timespec(LAST, 999_999_999)?, last);
-    expect_text(&rt, rt.alloc(), &first, "-2147483648-01-01T00:00:00.000000000Z")?;
-    expect_text(&rt, rt.alloc(), &last, "2147483647-12-31T23:59:59.999999999Z")?;
+    expect_text(
+        &rt,
+        rt.alloc(),
+        &first,
+        "-2147483648-01-01T00:00:00.000000000Z",
+    )?;
+    expect_text(
+        &rt,
+        rt.alloc(),
+        &last,
+        "2147483647-12-31T23:59:59.999999999Z",
+    )?;
     Ok(())
 }
 
@@ -225,18 +257,45 @@ fn the_first_fault_of_fields_is_named(rt: HostRuntime) {
     let past_the_end = (i32::MAX, 12, 31, (23, 59, 60), 1_000_000_000);
     assert!(rt; is_out_of_range(utc_of(past_the_end)));
     assert!(rt; is_out_of_range(utc_of((i32::MAX, 12, 31, (23, 59, 60), 0))));
-    assert_eq!(rt; field_fault(local_of(past_the_end, 0)), Some(DateTimeError::InvalidNanoseconds));
+    assert_eq!(rt;
+        field_fault(local_of(past_the_end, 0)),
+        Some(DateTimeError::InvalidNanoseconds)
+    );
     assert!(rt; is_out_of_range(local_of((i32::MAX, 12, 31, (23, 59, 60), 0), 0)));
     for (parts, fault) in [
-        ((2001, 0, 0, (24, 60, 61), 1_000_000_000), DateTimeError::InvalidMonth),
-        ((2001, 13, 0, (24, 60, 61), 1_000_000_000), DateTimeError::InvalidMonth),
-        ((2001, 2, 0, (24, 60, 61), 1_000_000_000), DateTimeError::InvalidMonthDay),
-        ((2001, 2, 32, (24, 60, 61), 1_000_000_000), DateTimeError::InvalidMonthDay),
-        ((2001, 2, 29, (24, 60, 61), 1_000_000_000), DateTimeError::InvalidHour),
+        (
+            (2001, 0, 0, (24, 60, 61), 1_000_000_000),
+            DateTimeError::InvalidMonth,
+        ),
+        (
+            (2001, 13, 0, (24, 60, 61), 1_000_000_000),
+            DateTimeError::InvalidMonth,
+        ),
+        (
+            (2001, 2, 0, (24, 60, 61), 1_000_000_000),
+            DateTimeError::InvalidMonthDay,
+        ),
+        (
+            (2001, 2, 32, (24, 60, 61), 1_000_000_000),
+            DateTimeError::InvalidMonthDay,
+        ),
+        (
+            (2001, 2, 29, (24, 60, 61), 1_000_000_000),
+            DateTimeError::InvalidHour,
+        ),
         ((2001, 2, 29, (24, 0, 0), 0), DateTimeError::InvalidHour),
-        ((2001, 2, 29, (23, 60, 61), 1_000_000_000), DateTimeError::InvalidMinute),
-        ((2001, 2, 29, (23, 59, 61), 1_000_000_000), DateTimeError::InvalidSecond),
-        ((2001, 2, 29, (23, 59, 60), 1_000_000_000), DateTimeError::InvalidNanoseconds),
+        (
+            (2001, 2, 29, (23, 60, 61), 1_000_000_000),
+            DateTimeError::InvalidMinute,
+        ),
+        (
+            (2001, 2, 29, (23, 59, 61), 1_000_000_000),
+            DateTimeError::InvalidSecond,
+        ),
+        (
+            (2001, 2, 29, (23, 59, 60), 1_000_000_000),
+            DateTimeError::InvalidNanoseconds,
+        ),
         ((2001, 2, 29, (0, 0, 0), 0), DateTimeError::InvalidMonthDay),
         ((1900, 2, 29, (0, 0, 0), 0), DateTimeError::InvalidMonthDay),
     ] {
@@ -253,14 +312,19 @@ fn local_years_end_where_utc_does(rt: HostRuntime) -> Result<(), Fail> {
     let late = DateTime::from_timespec_and_local(67_767_976_233_532_800, 0, west)?;
     assert_eq!(rt; parts_of_local(late), (i32::MAX, 12, 31, (23, 0, 0), 0));
     assert!(rt; is_out_of_range(UtcDateTime::try_from(late)));
-    assert!(rt; is_out_of_range(DateTime::from_timespec_and_local(-67_768_100_567_971_200, 0, west)));
+    assert!(rt;
+        is_out_of_range(DateTime::from_timespec_and_local(-67_768_100_567_971_200, 0, west))
+    );
     assert_eq!(rt;
         field_fault(DateTime::from_timespec_and_local(i64::MAX, 1_000_000_000, west)),
         Some(DateTimeError::InvalidNanoseconds)
     );
     assert!(rt; is_out_of_range(DateTime::from_timespec_and_local(i64::MIN, 0, west)));
     let noon = DateTime::from_timespec_and_local(951_825_666, 7, west)?;
-    assert_eq!(rt; UtcDateTime::try_from(noon).ok(), UtcDateTime::from_timespec(951_825_666, 7).ok());
+    assert_eq!(rt;
+        UtcDateTime::try_from(noon).ok(),
+        UtcDateTime::from_timespec(951_825_666, 7).ok()
+    );
     Ok(())
 }
 
@@ -277,8 +341,14 @@ fn totals_are_rounded_down(rt: HostRuntime) {
 fn totals_end_with_the_years(rt: HostRuntime) {
     let first = i128::from(FIRST) * 1_000_000_000;
     let last = i128::from(LAST) * 1_000_000_000 + 999_999_999;
-    assert_eq!(rt; utc_parts_of_total(first), Some((i32::MIN, 1, 1, (0, 0, 0), 0)));
-    assert_eq!(rt; utc_parts_of_total(last), Some((i32::MAX, 12, 31, (23, 59, 59), 999_999_999)));
+    assert_eq!(rt;
+        utc_parts_of_total(first),
+        Some((i32::MIN, 1, 1, (0, 0, 0), 0))
+    );
+    assert_eq!(rt;
+        utc_parts_of_total(last),
+        Some((i32::MAX, 12, 31, (23, 59, 59), 999_999_999))
+    );
     for total in [i128::MIN, first - 1, last + 1, i128::MAX] {
         let utc_type = LocalTimeType::utc();
         assert!(rt; is_out_of_range(UtcDateTime::from_total_nanoseconds(total)));
@@ -293,8 +363,18 @@ fn the_lookup_is_refused_before_the_year(rt: HostRuntime) -> Result<(), Fail> {
     let types = [LocalTimeType::utc()];
     let zone = TimeZoneRef::new(&transitions, &types, &[], &None)?;
     assert!(rt; DateTime::from_timespec(-1, 0, zone).is_ok());
-    assert!(rt; matches!(DateTime::from_timespec(0, 0, zone), Err(TzError::NoAvailableLocalTimeType)));
-    assert!(rt; matches!(DateTime::from_timespec(i64::MAX, 0, zone), Err(TzError::NoAvailableLocalTimeType)));
+    assert!(rt;
+        matches!(
+            DateTime::from_timespec(0, 0, zone),
+            Err(TzError::NoAvailableLocalTimeType)
+        )
+    );
+    assert!(rt;
+        matches!(
+            DateTime::from_timespec(i64::MAX, 0, zone),
+            Err(TzError::NoAvailableLocalTimeType)
+        )
+    );
     assert_eq!(rt;
         field_fault(DateTime::from_timespec(0, 1_000_000_000, zone)),
         Some(DateTimeError::InvalidNanoseconds)
@@ -377,7 +457,12 @@ fn local_date_times_are_compared_by_instant(rt: HostRuntime) -> Result<(), Fail>
     let utc = local_of((2000, 1, 1, (0, 0, 0), 0), 0)?;
     assert!(rt; east == utc);
     assert_eq!(rt; east.cmp(&utc), Ordering::Equal);
-    expect_text(&rt, rt.alloc(), &east, "2000-01-01T01:00:00.000000000+01:00")?;
+    expect_text(
+        &rt,
+        rt.alloc(),
+        &east,
+        "2000-01-01T01:00:00.000000000+01:00",
+    )?;
     expect_text(&rt, rt.alloc(), &utc, "2000-01-01T00:00:00.000000000Z")?;
     let later = local_of((2000, 1, 1, (0, 0, 0), 1), 0)?;
     assert!(rt; east < later);
@@ -396,7 +481,12 @@ fn second_60_is_before_the_next_minute(rt: HostRuntime) -> Result<(), Fail> {
     assert!(rt; second_60 < new_year);
     assert_eq!(rt; second_60.unix_time(), 1_483_228_800);
     assert_eq!(rt; new_year.unix_time(), 1_483_228_800);
-    expect_text(&rt, rt.alloc(), &second_60, "2016-12-31T23:59:60.000000000Z")?;
+    expect_text(
+        &rt,
+        rt.alloc(),
+        &second_60,
+        "2016-12-31T23:59:60.000000000Z",
+    )?;
     Ok(())
 }
 

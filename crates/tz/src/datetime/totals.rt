@@ -10,6 +10,7 @@ use tz_base::constants::NANOSECONDS_PER_SECOND;
 
 /// The totals of the first nanosecond of all and of the last.
 const FIRST_TOTAL: i128 = -67_768_100_567_971_200_000_000_000;
+
 const LAST_TOTAL: i128 = 67_767_976_233_532_799_999_999_999;
 
 /// Whether the seconds of the total, rounded down, are those of a UTC date time.
