@@ -46,7 +46,7 @@ months_length-after leap m m' low h =
     let length = ap (month_length leap) last in
     omega (arith, months_length-mono leap (suc (m - 1)) (m' - 1 - m), ap (months_length leap) place)
 
-gap_between : (a b : ℤ) → a <ℤ b → (n : ℕ) × (a +ℤ pos 1 +ℤ pos n ≡ b)
+pub gap_between : (a b : ℤ) → a <ℤ b → (n : ℕ) × (a +ℤ pos 1 +ℤ pos n ≡ b)
 gap_between (pos a) (pos b) h = (b - a - 1, omega (arith, ints))
 gap_between (pos a) (negsuc b) h = absurd (omega (arith, ints))
 gap_between (negsuc a) (pos b) h = (a + b, omega (arith, ints))
@@ -154,7 +154,7 @@ first_day-period year k =
     omega (arith, ints)
 
 -- weeks are whole from some day before any two days
-weeks_before : (day : ℤ) → (k m : ℕ) × (day +ℤ pos (k * 7) ≡ pos m)
+pub weeks_before : (day : ℤ) → (k m : ℕ) × (day +ℤ pos (k * 7) ≡ pos m)
 weeks_before (pos n) = (0, n, omega (arith, ints))
 weeks_before (negsuc n) = (n + 1, 6 * n + 6, omega (arith, ints))
 

@@ -1,3 +1,13 @@
+pub mod Weeks
+pub mod DayPlaces
+pub mod YearPlaces
+pub mod YearKinds
+pub mod Yearly
+pub mod Weaker
+pub mod TurnedRules
+pub mod UtcYears
+pub mod DaylightLemmas
+pub mod ChangePoints
 pub mod RuleTypes
 pub mod SameLemmas
 pub mod Casts

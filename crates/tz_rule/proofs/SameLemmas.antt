@@ -1,8 +1,6 @@
 -- Equality of what is kept is equality of what is shown.
-use Rattle.std.proofs.Common.{◌≡◌, refl, ap, sym, ◌∙◌, ◌&&◌, ◌==◌, Bool, true, false, bytes_eq, ℕ, ℤ, List, Option, Some, None, IfSome, option_map, Decides, int_eq}
+use Rattle.std.proofs.Common.{◌≡◌, refl, ap, sym, ◌∙◌, ◌&&◌, ◌==◌, Bool, bytes_eq, Option, Some, None, IfSome, option_map, Decides}
 use Rattle.std.specs.Option.{option_eq}
-use Rattle.std.specs.Bool.{beq}
-use Rattle.std.proofs.lemmas.Bool.{false≢true}
 use Rattle.std.proofs.lemmas.Bool.Decides.{same_from_decides, Decides-eqb, Decides-int_eq, Decides-like, Decides-and}
 use Rattle.std.proofs.lemmas.Slice.Eq.{bytes_eq-Decides}
 use Rattle.tz_rule.specs.Designation.{IsKept, IsKeptType, name_of, kept, kept_name, shown}

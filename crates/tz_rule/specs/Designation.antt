@@ -1,6 +1,6 @@
 -- How a local time type keeps its name: seven bytes, of which the first are the name and the others zero.
-use Rattle.std.specs.Prelude.{◌≡◌, ◌≢◌, ℕ, ◌-◌, ◌≤◌, ℤ, negsuc, Bool, Option, Some, None, option_map, IfSome, List, ◌++◌, length, take, replicate}
-use Rattle.std.proofs.Common.{refl, ap, ◌∙◌, sym, arith, min, length-append, length-take}
+use Rattle.std.specs.Prelude.{◌≡◌, ℕ, ◌-◌, ◌≤◌, Option, Some, None, option_map, IfSome, List, ◌++◌, length, take, replicate}
+use Rattle.std.proofs.Common.{refl, ap, ◌∙◌, sym, arith, length-append, length-take}
 use Rattle.std.proofs.Math.ListN.{length-replicate}
 use Rattle.tz_rule.specs.LocalType.{LocalType, IsDesignation, IsOffset}
 use Rattle.tz_rule.specs.declared.timezone.local_time_type.Designation.{Designation}

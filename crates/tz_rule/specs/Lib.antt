@@ -4,6 +4,14 @@ pub mod LocalType
 pub mod Designation
 pub mod JulianDay
 pub mod MonthWeek
+pub mod Places
+pub mod Day
+pub mod Years
+pub mod Alternate
+pub mod Distance
+pub mod Parts
+pub mod Pairing
+pub mod Daylight
 pub mod Rule
 pub mod Same
 pub mod SameDay

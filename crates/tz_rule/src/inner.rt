@@ -1,14 +1,16 @@
 //! What the crates above use of rules and their users do not.
 
-ghost use Rattle.std.specs.Prelude.{◌≡◌, IfOk, IfErr};
+ghost use Rattle.std.specs.Prelude.{◌≡◌, IfOk, IfErr, MatchBool};
+ghost use Rattle.tz_rule.specs.Alternate.{start_of, end_of, IsNearYear};
 ghost use Rattle.tz_rule.specs.LocalType.{LocalType};
 ghost use Rattle.tz_rule.specs.Rule.{IsRuleType};
+ghost use Rattle.tz_rule.specs.Years.{IsTurned};
 
 pub use crate::timezone::utc::{no_rule, utc_types};
-use crate::timezone::{LocalTimeType, TransitionRule};
+use crate::timezone::{AlternateTime, LocalTimeType, TransitionRule};
 use tz_base::error::TzError;
 
-/// The type of the rule at an instant.
+/// The type of the rule at an instant. An alternate rule answers in the UTC years that are two or more from both ends of `i32`.
 #[tactic(auto, unfolding(crate::specs::Rule::IsRuleType))]
 pub fn find_local_time_type(
     rule: &TransitionRule,
@@ -19,5 +21,29 @@ pub fn find_local_time_type(
 {
     match rule {
         TransitionRule::Fixed(local_time_type) => Ok(local_time_type),
+        TransitionRule::Alternate(rule) => rule.find_local_time_type(unix_time),
     }
+}
+
+/// The instant at which daylight saving time starts in a year.
+pub fn start(rule: &AlternateTime, year: i32) -> i64
+    ensures value { result ≡ start_of rule.now year }
+    ensures bound { IsNearYear result year }
+{
+    rule.start_in(year)
+}
+
+/// The instant at which daylight saving time ends in a year.
+pub fn end(rule: &AlternateTime, year: i32) -> i64
+    ensures value { result ≡ end_of rule.now year }
+    ensures bound { IsNearYear result year }
+{
+    rule.end_in(year)
+}
+
+/// Whether daylight saving time lasts from each start to the next year's end.
+pub fn is_turned(rule: &AlternateTime) -> bool
+    ensures { MatchBool result (IsTurned (start_of rule.now) (end_of rule.now)) (¬ IsTurned (start_of rule.now) (end_of rule.now)) }
+{
+    rule.is_turned()
 }

@@ -2,4 +2,5 @@
 #![tactic(auto)]
 
 pub mod inner;
+pub mod laws;
 pub mod timezone;

@@ -113,9 +113,9 @@ impl Designation {
 }
 
 impl LocalTimeType {
-    ghost use Rattle.tz_rule.specs.LocalType.{LocalType, IsLocalType, IsFirstTypeFault, type_of, plain_type, designation_text, IsOffset};
+    ghost use Rattle.tz_rule.specs.LocalType.{LocalType, IsLocalType, IsFirstTypeFault, type_of, plain_type, designation_text, IsOffset, IsDesignation};
     ghost use Rattle.std.specs.Option.{option_copied};
-    ghost use Rattle.std.specs.Prelude.{pos};
+    ghost use Rattle.std.specs.Prelude.{pos, IfSome};
     ghost use Rattle.tz_base.specs.declared.error.timezone.LocalTimeTypeError.TheVariants as faults;
 
     /// The type with this offset in seconds, this daylight flag and this name of 1 to 7 bytes of `0-9A-Za-z+-`. (RFC 8536, section 3.2)
@@ -180,7 +180,8 @@ impl LocalTimeType {
 
     /// The name, empty where there is none.
     pub fn time_zone_designation(&self) -> &str
-        ensures { result.now ≡ designation_text self.now }
+        ensures text { result.now ≡ designation_text self.now }
+        ensures name { IfSome self.now.designation IsDesignation }
     {
         match self.designation() {
             Some(name) => name,
@@ -190,7 +191,8 @@ impl LocalTimeType {
 
     /// The name, if there is one.
     fn designation(&self) -> Option<&str>
-        ensures { option_copied result ≡ self.now.designation }
+        ensures text { option_copied result ≡ self.now.designation }
+        ensures name { IfSome self.now.designation IsDesignation }
     {
         match &self.time_zone_designation {
             Some(designation) => Some(designation.as_str()),

@@ -1,10 +1,17 @@
-//! Local time types, rule days and rules.
+//! Local time types, rule days and alternate rules.
 
+mod alternate;
+mod check;
+mod daylight;
 mod local_time_type;
 mod rule;
 mod rule_day;
 pub(crate) mod utc;
 
+pub use alternate::AlternateTime;
 pub use local_time_type::LocalTimeType;
 pub use rule::TransitionRule;
 pub use rule_day::{Julian0WithLeap, Julian1WithoutLeap, MonthWeekDay, RuleDay};
+
+#[cfg(test)]
+mod tests;

@@ -1,12 +1,14 @@
 //! The local time of a zone after its last transition.
 
-use super::LocalTimeType;
+use super::{AlternateTime, LocalTimeType};
 
 /// The local time of a zone after its last transition.
 #[derive(Clone, Copy, Debug)]
 pub enum TransitionRule {
     /// One type for all time.
     Fixed(LocalTimeType),
+    /// Two types that take turns.
+    Alternate(AlternateTime),
 }
 
 impl PartialEq for TransitionRule {
@@ -21,6 +23,8 @@ impl PartialEq for TransitionRule {
     fn eq(&self, other: &TransitionRule) -> bool {
         match (self, other) {
             (TransitionRule::Fixed(a), TransitionRule::Fixed(b)) => a == b,
+            (TransitionRule::Alternate(a), TransitionRule::Alternate(b)) => a == b,
+            _ => false,
         }
     }
 }

@@ -1,12 +1,38 @@
 //! The days of a year that a rule can name.
 
-ghost use Rattle.std.specs.Prelude.{◌≡◌, ◌≤◌, IfOk, IfErr, OnOk};
+ghost use Rattle.std.specs.Prelude.{◌≡◌, ◌<◌, ◌≤◌, pos, negsuc, ◌≤ℤ◌, IfOk, IfErr, OnOk};
 ghost use Rattle.tz_base.specs.declared.error.timezone.TransitionRuleError.TheVariants as faults;
 ghost use Rattle.tz_rule.specs.JulianDay.{IsJulianDay, IsZeroBasedDay};
-ghost use Rattle.tz_rule.specs.MonthWeek.{MonthWeek, IsMonthWeek, IsFirstMonthWeekFault, month_week};
+ghost use Rattle.tz_rule.specs.MonthWeek.{MonthWeek, IsMonthWeek, IsFirstMonthWeekFault, IsRuleWeek, IsRuleWeekDay, month_week};
+ghost use Rattle.tz_rule.specs.Places.{julian_place as julian_place_of, week_day_place as week_day_place_of};
 
 use std::marker::Model;
+use tz_base::calendar;
 use tz_base::error::timezone::TransitionRuleError;
+
+/// How many days after January 1st the n-th day lies that is not February 29th.
+#[tactic(auto, unfolding(crate::specs::Places::julian_place))]
+fn julian_place(leap: bool, day: u16) -> u16
+    requires { IsJulianDay day }
+    ensures value { result ≡ julian_place_of leap day }
+    ensures bound { result ≤ 365 }
+{
+    if leap && day > 59 { day } else { day - 1 }
+}
+
+/// How many days after its first day a month of so many days has a week day for the w-th time, and for the fifth week for the last time.
+#[tactic(auto, unfolding(crate::specs::Places::week_day_place))]
+fn week_day_place(first_week_day: u8, days: u8, week: u8, week_day: u8) -> u8
+    requires first { first_week_day < 7 }
+    requires days { (28 ≤ days) × (days ≤ 31) }
+    requires week { IsRuleWeek week }
+    requires week_day { IsRuleWeekDay week_day }
+    ensures value { result ≡ week_day_place_of first_week_day days week week_day }
+    ensures bound { result < days }
+{
+    let place = (week_day + 7 - first_week_day) % 7 + 7 * (week - 1);
+    if place < days { place } else { place - 7 }
+}
 
 /// The n-th of a year's days that are not February 29th, from 1 to 365. (POSIX.1-2017, 8.3: `Jn`.)
 #[derive(Clone, Copy, Debug, PartialEq, Eq)]
@@ -26,6 +52,9 @@ impl Model for Julian1WithoutLeap {
 }
 
 impl Julian1WithoutLeap {
+    ghost use Rattle.tz_rule.specs.Day.{rule_day};
+    ghost use Rattle.tz_rule.specs.declared.timezone.rule_day.RuleDay.TheVariants as TheDays;
+
     /// The day with this number, from 1 to 365.
     pub fn new(julian_day_1: u16) -> Result<Self, TransitionRuleError>
         ensures value { IfOk result (λ d. d ≡ julian_day_1) }
@@ -44,6 +73,16 @@ impl Julian1WithoutLeap {
         ensures range { IsJulianDay self.now }
     {
         self.0
+    }
+
+    /// The number of the day in a year.
+    fn in_year(&self, year: i32) -> i64
+        ensures value { result ≡ rule_day (TheDays.Julian1WithoutLeap self.now) year }
+        ensures bound { (negsuc 784353015832 ≤ℤ result) × (result ≤ℤ pos 784351577001) }
+        ensures range { IsJulianDay self.now }
+    {
+        let place = julian_place(calendar::is_leap_year(year), self.0);
+        calendar::first_day_of_year(year) + i64::from(place)
     }
 }
 
@@ -65,6 +104,9 @@ impl Model for Julian0WithLeap {
 }
 
 impl Julian0WithLeap {
+    ghost use Rattle.tz_rule.specs.Day.{rule_day};
+    ghost use Rattle.tz_rule.specs.declared.timezone.rule_day.RuleDay.TheVariants as TheDays;
+
     /// The day with this number, from 0 to 365.
     pub fn new(julian_day_0: u16) -> Result<Self, TransitionRuleError>
         ensures value { IfOk result (λ d. d ≡ julian_day_0) }
@@ -83,6 +125,15 @@ impl Julian0WithLeap {
         ensures range { IsZeroBasedDay self.now }
     {
         self.0
+    }
+
+    /// The number of the day in a year.
+    fn in_year(&self, year: i32) -> i64
+        ensures value { result ≡ rule_day (TheDays.Julian0WithLeap self.now) year }
+        ensures bound { (negsuc 784353015832 ≤ℤ result) × (result ≤ℤ pos 784351577001) }
+        ensures range { IsZeroBasedDay self.now }
+    {
+        calendar::first_day_of_year(year) + i64::from(self.0)
     }
 }
 
@@ -107,6 +158,9 @@ impl Model for MonthWeekDay {
 }
 
 impl MonthWeekDay {
+    ghost use Rattle.tz_rule.specs.Day.{rule_day};
+    ghost use Rattle.tz_rule.specs.declared.timezone.rule_day.RuleDay.TheVariants as TheDays;
+
     /// The day of the month from 1 to 12, the week from 1 to 5 and the week day from Sunday = 0 to 6.
     pub fn new(month: u8, week: u8, week_day: u8) -> Result<Self, TransitionRuleError>
         ensures value { IfOk result (λ d. d ≡ month_week month week week_day) }
@@ -152,6 +206,22 @@ impl MonthWeekDay {
     {
         self.week_day
     }
+
+    /// The number of the day in a year.
+    fn in_year(&self, year: i32) -> i64
+        ensures value { result ≡ rule_day (TheDays.MonthWeekDay self.now) year }
+        ensures bound { (negsuc 784353015832 ≤ℤ result) × (result ≤ℤ pos 784351577100) }
+        ensures range { IsMonthWeek self.now }
+    {
+        let first_day = calendar::days_since_unix_epoch(year, self.month, 1);
+        let place = week_day_place(
+            calendar::week_day_of_day(first_day),
+            calendar::days_in_month(year, self.month),
+            self.week,
+            self.week_day,
+        );
+        first_day + i64::from(place)
+    }
 }
 
 /// A day of each year.
@@ -189,4 +259,21 @@ impl Eq for RuleDay {
     ghost use Rattle.tz_rule.specs.SameDay.{same_day, Decides-same_day};
 
     ghost laws = { IsEquivalence-from_equality same_day Decides-same_day };
+}
+
+impl RuleDay {
+    ghost use Rattle.tz_rule.specs.Day.{rule_day, IsRuleDay};
+
+    /// The number of the day in a year, where 1970-01-01 has the number 0.
+    pub(super) fn in_year(&self, year: i32) -> i64
+        ensures value { result ≡ rule_day self.now year }
+        ensures bound { (negsuc 784353015832 ≤ℤ result) × (result ≤ℤ pos 784351577100) }
+        ensures range { IsRuleDay self.now }
+    {
+        match self {
+            RuleDay::Julian1WithoutLeap(day) => day.in_year(year),
+            RuleDay::Julian0WithLeap(day) => day.in_year(year),
+            RuleDay::MonthWeekDay(day) => day.in_year(year),
+        }
+    }
 }

@@ -37,9 +37,43 @@ fn utc_type(fields: &TypeFields) -> &LocalTimeType
     unsafe { &*(fields as *const TypeFields as *const LocalTimeType) }
 }
 
+/// The fields of a rule day's number.
+struct NumberFields(u16);
+
+/// The fields of a week day of a month.
+struct MonthWeekDayFields {
+    month: u8,
+    week: u8,
+    week_day: u8,
+}
+
+/// The fields of a rule day.
+enum RuleDayFields {
+    Julian1WithoutLeap(NumberFields),
+    Julian0WithLeap(NumberFields),
+    MonthWeekDay(MonthWeekDayFields),
+}
+
+/// The fields of an alternate rule's parts.
+struct PartsFields {
+    std: TypeFields,
+    dst: TypeFields,
+    dst_start: RuleDayFields,
+    dst_start_time: i32,
+    dst_end: RuleDayFields,
+    dst_end_time: i32,
+}
+
+/// The fields of an alternate rule.
+struct AlternateFields {
+    parts: PartsFields,
+    is_turned: bool,
+}
+
 /// The fields of a rule.
 enum RuleFields {
     Fixed(TypeFields),
+    Alternate(AlternateFields),
 }
 
 static NO_RULE: Option<RuleFields> = None;

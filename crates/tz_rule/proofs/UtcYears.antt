@@ -1,0 +1,35 @@
+-- The year of an instant in UTC.
+use Rattle.std.proofs.Common.{◌≡◌, ℕ, arith, ℤ, pos, negsuc, ◌+ℤ◌, ◌<ℤ◌}
+use Rattle.std.proofs.lemmas.Int.{ints, by_lt_z}
+use mir.Syntax.{w32}
+use mir.Val.{SFits}
+use Rattle.tz_base.specs.Fields.{IsCivil, IsReading}
+use Rattle.tz_base.specs.declared.calendar.Fields.{Fields}
+use Rattle.tz_base.proofs.DayLemmas.{day_in_year, first_day_bounds}
+use Rattle.tz_base.proofs.OrderLemmas.{first_day-mono, gap_between}
+use Rattle.tz_rule.specs.Alternate.{IsUtcYear, IsRuleYear}
+
+pub IsUtcYear-from_civil : (u : ℤ) (n : ℕ) (f : Fields) → IsCivil u n f → IsUtcYear u f.year
+IsUtcYear-from_civil u n f c =
+    let range = c.valid.in_range in
+    let day = day_in_year f.year f.month f.month_day range.month.0 range.month.1 range.month_day.0 c.valid.in_month in
+    (omega (arith, ints, c.reads, day.0), omega (arith, ints, c.reads, day.1, c.below_60, range.hour, range.minute))
+
+pub utc_year_unique : (u x y : ℤ) → IsUtcYear u x → IsUtcYear u y → x ≡ y
+utc_year_unique u x y a b =
+    by_lt_z x y (λ h. absurd (apart x y h a b)) (λ h. by_lt_z y x (λ h'. absurd (apart y x h' b a)) (λ h'. omega (arith, ints)))
+  where
+    apart : (x y : ℤ) → x <ℤ y → IsUtcYear u x → IsUtcYear u y → ⊥
+    apart x y h a b =
+        let gap = gap_between x y h in
+        omega (arith, ints, a.1, b.0, first_day-mono (x +ℤ pos 1) y gap.0 gap.1)
+
+SFits-from_rule_year : (y : ℤ) → IsRuleYear y → SFits w32 y
+SFits-from_rule_year (pos n) h = record { sfits = omega (arith, ints) }
+SFits-from_rule_year (negsuc n) h = record { sfits = omega (arith, ints) }
+
+-- an instant of such a year is a reading
+pub IsReading-from_rule_year : (u y : ℤ) → IsUtcYear u y → IsRuleYear y → IsReading u
+IsReading-from_rule_year u y is h =
+    let bounds = first_day_bounds y (SFits-from_rule_year y h) in
+    (omega (arith, ints, is.0, bounds.0), omega (arith, ints, is.1, bounds.1))

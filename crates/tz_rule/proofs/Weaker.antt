@@ -1,0 +1,32 @@
+-- What follows from a clause on an answer follows for the answer.
+use Rattle.std.proofs.Common.{◌≡◌, Bool, true, false, Option, Some, None, MatchBool, refl, sym, arith, ℤ, ◌≤ℤ◌, ◌<ℤ◌}
+use Rattle.std.specs.Int.Signed.{le_z}
+use Rattle.std.specs.Option.{IfNone, is_some}
+use Rattle.std.proofs.lemmas.Bool.{false≢true}
+use Rattle.std.proofs.lemmas.Int.{ints}
+
+pub IfNone-weaker : {T P Q : Type 0} (o : Option T) → (P → Q) → IfNone o P → IfNone o Q
+IfNone-weaker None f h = f h
+IfNone-weaker (Some x) f h = h
+
+-- what a clause says of no value, where the test for a value failed
+pub IfNone-no_value : {T P : Type 0} (o : Option T) → is_some o ≡ false → IfNone o P → P
+IfNone-no_value None e h = h
+IfNone-no_value (Some x) e h = absurd (false≢true (sym e))
+
+pub MatchBool-weaker : {P P' Q Q' : Type 0} (b : Bool) → (P → P') → (Q → Q') → MatchBool b P Q → MatchBool b P' Q'
+MatchBool-weaker true f g h = f h
+MatchBool-weaker false f g h = g h
+
+le_z-true : (a b : ℤ) → le_z a b ≡ true → a ≤ℤ b
+le_z-true a b e = grind (arith, ints)
+
+le_z-false : (a b : ℤ) → le_z a b ≡ false → b <ℤ a
+le_z-false a b e = grind (arith, ints)
+
+pub MatchBool-le_z : {P Q : Type 0} (a b : ℤ) → (a ≤ℤ b → P) → (b <ℤ a → Q) → MatchBool (le_z a b) P Q
+MatchBool-le_z {P} {Q} a b if_true if_false = by_test (le_z a b) refl
+  where
+    by_test : (t : Bool) → le_z a b ≡ t → MatchBool t P Q
+    by_test true e = if_true (le_z-true a b e)
+    by_test false e = if_false (le_z-false a b e)

@@ -1,0 +1,79 @@
+-- Each year has the kind of one of 1972 to 1999, and so has the year after it.
+use Rattle.std.proofs.Common.{◌≡◌, ℕ, zero, suc, ◌+◌, ◌*◌, ◌/◌, ◌%◌, ◌<◌, Bool, true, false, eqb, ◌&&◌, ◌||◌, refl, sym, ap, ◌∙◌, arith, ℤ, pos, negsuc, ◌+ℤ◌}
+use Rattle.std.specs.Bool.{beq}
+use Rattle.std.proofs.lemmas.Bool.Decides.{Decides-eqb, Decides-and, Decides-below_or}
+use Rattle.std.proofs.lemmas.Int.{ints}
+use Rattle.tz_base.specs.Cycles.{days_of_years}
+use Rattle.tz_base.specs.Days.{is_leap}
+use Rattle.tz_base.proofs.Below.{all_below, passes_at}
+use Rattle.tz_base.proofs.YearLemmas.{is_leap-moved}
+use Rattle.tz_rule.specs.Same.{Decides-beq}
+use Rattle.tz_rule.proofs.Weeks.{week_day_of_year, week_day_of_year-moved}
+
+-- two years are alike, with the years after them: both are leap or not, and begin on one week day
+pub record IsAlike (x y : ℤ) : Type 0 where
+  pub leap : is_leap x ≡ is_leap y
+  pub next_leap : is_leap (x +ℤ pos 1) ≡ is_leap (y +ℤ pos 1)
+  pub week_day : week_day_of_year x ≡ week_day_of_year y
+
+-- a number below a bound at which a test passes
+any_below : (ℕ → Bool) → ℕ → Bool
+any_below test zero = false
+any_below test (suc n) = test n || any_below test n
+
+found_below : (test : ℕ → Bool) (n : ℕ) → any_below test n ≡ true → (k : ℕ) × (k < n) × (test k ≡ true)
+unfolding any_below
+found_below test n = (Decides-below_or test (λ k. test k ≡ true) (any_below test) (λ k. (λ e. e, λ e. e)) refl (λ _. refl) n).0
+
+first_week_day : ℕ → ℕ
+first_week_day n = (days_of_years n + 6) % 7
+
+-- the test of the place of a year in its 400 years against a year from 1972 on
+is_like : ℕ → ℕ → Bool
+is_like n place =
+    beq (is_leap (pos n)) (is_leap (pos (1972 + place)))
+    && (beq (is_leap (pos (n + 1))) (is_leap (pos (1973 + place))) && eqb (first_week_day n) (first_week_day (1972 + place)))
+
+all_are_like : all_below (λ n. any_below (is_like n) 28) 400 ≡ true
+unfolding all_below any_below is_like first_week_day is_leap days_of_years
+all_are_like = refl
+
+leap_in_cycle : (n : ℕ) → is_leap (pos (n % 400)) ≡ is_leap (pos n)
+leap_in_cycle n = is_leap-moved (pos (n % 400)) n (n / 400) (omega (arith, ints))
+
+next_leap_in_cycle : (n : ℕ) → is_leap (pos (n % 400 + 1)) ≡ is_leap (pos (n + 1))
+next_leap_in_cycle n = is_leap-moved (pos (n % 400 + 1)) (n + 1) (n / 400) (omega (arith, ints))
+
+week_day_in_cycle : (n : ℕ) → first_week_day (n % 400) ≡ first_week_day n
+unfolding first_week_day days_of_years
+week_day_in_cycle n = omega arith
+
+told_like : (n place : ℕ) → is_like n place ≡ true → (is_leap (pos n) ≡ is_leap (pos (1972 + place))) × (is_leap (pos (n + 1)) ≡ is_leap (pos (1973 + place))) × (first_week_day n ≡ first_week_day (1972 + place))
+unfolding is_like
+told_like n place h =
+    let parts = (Decides-and (beq (is_leap (pos n)) (is_leap (pos (1972 + place)))) _ (Decides-beq (is_leap (pos n)) (is_leap (pos (1972 + place))))
+    (Decides-and (beq (is_leap (pos (n + 1))) (is_leap (pos (1973 + place)))) (eqb (first_week_day n) (first_week_day (1972 + place))) (Decides-beq (is_leap (pos (n + 1))) (is_leap (pos (1973 + place)))) (Decides-eqb (first_week_day n) (first_week_day (1972 + place))))).0 h in
+    (parts.0, parts.1.0, parts.1.1)
+
+moved_year : (year : ℤ) → (k n : ℕ) × (year +ℤ pos (400 * k) ≡ pos n)
+moved_year (pos n) = (0, n, omega (arith, ints))
+moved_year (negsuc n) = (n + 1, 399 * n + 399, omega (arith, ints))
+
+pub like_model : (year : ℤ) → (place : ℕ) × (place < 28) × IsAlike year (pos (1972 + place))
+unfolding first_week_day
+like_model year =
+    let moved = moved_year year in
+    let k = moved.0 in
+    let n = moved.1 in
+    let found = found_below (is_like (n % 400)) 28 (passes_at (λ n. any_below (is_like n) 28) 400 (n % 400) all_are_like (omega arith)) in
+    let place = found.0 in
+    let told = told_like (n % 400) place found.2 in
+    let after : 1973 + place ≡ 1972 + place + 1 = omega arith in (
+      place,
+      found.1,
+      record {
+        leap = is_leap-moved year n k moved.2 ∙ sym (leap_in_cycle n) ∙ told.0;
+        next_leap = is_leap-moved (year +ℤ pos 1) (n + 1) k (omega (arith, ints, moved.2)) ∙ sym (next_leap_in_cycle n) ∙ told.1 ∙ ap (λ y. is_leap (pos y)) after;
+        week_day = week_day_of_year-moved year n k moved.2 ∙ sym (week_day_in_cycle n) ∙ told.2 ∙ sym (week_day_of_year-moved (pos (1972 + place)) (1972 + place) 0 (omega (arith, ints)));
+      },
+    )

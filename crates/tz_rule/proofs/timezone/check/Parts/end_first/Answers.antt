@@ -1,0 +1,13 @@
+-- The years that are compared stand for all years.
+use Rattle.std.proofs.Common.{◌<◌, arith}
+use Rattle.tz_rule.specs.Alternate.{start_of, end_of}
+use Rattle.tz_rule.specs.Parts.{rule_of}
+use Rattle.tz_rule.proofs.Yearly.{IsYearly-start_of, IsYearly-end_of, end_later_always}
+use Rattle.tz_rule.proofs.timezone.check.Parts.end_first.Goals as goal
+
+pub returns-clause-none : goal.returns-clause-none
+returns-clause-none c =
+    let r = rule_of c.args.self.now in
+    let some : 0 < c.loop-place.place = omega arith in
+    let days = c.loop-place.invariant.days some in
+    end_later_always (start_of r) (end_of r) (IsYearly-start_of r c.requires days.start_is) (IsYearly-end_of r c.requires days.end_is) c.args.distance (λ m below. c.loop-place.invariant.none m (omega arith))

@@ -1,0 +1,5 @@
+-- A span of daylight saving time from one year's start to the same or another year's end.
+use Rattle.std.specs.Prelude.{ℤ, ◌≤ℤ◌, ◌<ℤ◌}
+
+abbrev pub IsInSpan : (ℤ → ℤ) → (ℤ → ℤ) → ℤ → ℤ → ℤ → Type 0
+IsInSpan starts ends u start_year end_year = (starts start_year ≤ℤ u) × (u <ℤ ends end_year)

@@ -1,0 +1,59 @@
+//! Laws of rules. Each function does nothing; its contract is the law.
+
+ghost use Rattle.std.specs.Prelude.{◌≡◌, ℤ, pos, ◌+ℤ◌, ◌≤ℤ◌, ◌<ℤ◌};
+ghost use Rattle.tz_rule.specs.Alternate.{Alternate, start_of, end_of, IsNearYear, IsUtcYear, IsInRuleYears, IsAlternateType, IsUnchanged};
+ghost use Rattle.tz_rule.specs.LocalType.{LocalType};
+ghost use Rattle.tz_rule.specs.Rule.{IsRuleType, IsSoundRule};
+ghost use Rattle.tz_rule.specs.declared.timezone.rule.TransitionRule.{TransitionRule as Rule};
+
+use crate::timezone::{AlternateTime, TransitionRule};
+
+/// The parts of a rule obey the rules of their making.
+pub fn rule_parts_are_sound(rule: &TransitionRule)
+    ensures { IsSoundRule rule.now }
+{
+    match rule {
+        TransitionRule::Fixed(_) => {}
+        TransitionRule::Alternate(rule) => rule.parts_are_sound(),
+    }
+}
+
+/// A rule has no two types at an instant.
+pub fn rule_types_are_unique()
+    ensures { (rule : Rule) (u : ℤ) (t t' : LocalType) → IsRuleType rule u t → IsRuleType rule u t' → t ≡ t' }
+{}
+
+/// A rule has a type at each instant of the years in which it answers.
+pub fn rule_types_are_total(rule: &TransitionRule)
+    ensures { (u : ℤ) → IsInRuleYears u → (t : LocalType) × IsRuleType rule.now u t }
+{
+    rule_parts_are_sound(rule);
+}
+
+/// Where no start and no end lies after an instant, up to a later one, the rule has one type at both.
+pub fn rule_types_change_at_starts_and_ends()
+    ensures { (r : Alternate) (u v : ℤ) (t : LocalType) → u ≤ℤ v → IsUnchanged r u v → IsAlternateType r u t → IsAlternateType r v t }
+{}
+
+/// Each start and each end lies less than ten days outside its year.
+pub fn starts_and_ends_are_near(rule: &AlternateTime)
+    ensures starts { (year : ℤ) → IsNearYear (start_of rule.now year) year }
+    ensures ends { (year : ℤ) → IsNearYear (end_of rule.now year) year }
+{
+    rule.parts_are_sound();
+}
+
+/// For an instant only the starts and ends of its year in UTC and of the two neighbours matter: earlier ones are over, and later ones are yet to come.
+pub fn far_starts_and_ends_are_over_or_to_come(rule: &AlternateTime)
+    ensures over { (u year y : ℤ) → IsUtcYear u year → (y +ℤ pos 2) ≤ℤ year → (start_of rule.now y ≤ℤ u) × (end_of rule.now y ≤ℤ u) }
+    ensures to_come { (u year y : ℤ) → IsUtcYear u year → (year +ℤ pos 2) ≤ℤ y → (u <ℤ start_of rule.now y) × (u <ℤ end_of rule.now y) }
+{
+    rule.parts_are_sound();
+}
+
+/// After 400 years, which are 12622780800 seconds, a rule has the same type.
+pub fn rule_types_repeat(rule: &TransitionRule)
+    ensures { (u : ℤ) (t t' : LocalType) → IsRuleType rule.now u t → IsRuleType rule.now (u +ℤ pos 12622780800) t' → t ≡ t' }
+{
+    rule_parts_are_sound(rule);
+}

@@ -1,0 +1,213 @@
+//! Rules of standard time and daylight saving time.
+
+ghost use Rattle.std.specs.Prelude.{◌≡◌, ℤ, OnOk, IfOk, IfErr, IfSome, IfNone, MatchBool};
+ghost use Rattle.tz_rule.specs.Alternate.{start_of, end_of, alternate_of, IsInRuleRange, IsFirstRuleFault, IsConsistentRule, AreRuleDays, IsNearYear, IsInRuleYears, IsAlternateType};
+ghost use Rattle.tz_rule.specs.Years.{IsConflict, IsInconsistent, IsTurned};
+
+use super::check::Parts;
+use super::daylight::rule_year;
+use super::{LocalTimeType, RuleDay};
+use std::marker::Model;
+use tz_base::error::TzError;
+use tz_base::error::timezone::TransitionRuleError;
+
+/// Standard time and daylight saving time, and when each begins in every year.
+///
+/// A start and an end never change their order from one year to another, at any distance in years. Where some year's end comes before its start,
+/// daylight saving time lasts from each start to the next year's end, and else to the end of the same year.
+#[derive(Clone, Copy, Debug)]
+pub struct AlternateTime {
+    parts: Parts,
+    is_turned: bool,
+}
+
+impl Model for AlternateTime {
+    ghost use Rattle.tz_rule.specs.Alternate.{Alternate};
+
+    ghost Value = { Alternate };
+
+    ghost use Rattle.tz_rule.specs.Parts.{rule_of};
+    ghost use Rattle.tz_rule.specs.Pairing.{IsKeptRule, parts_of, turns, kept_rule};
+
+    ghost view = { λ r. rule_of r.parts };
+
+    ghost invariant = { IsKeptRule };
+
+    ghost inverse = { λ r. record { parts = parts_of r; is_turned = turns r } };
+
+    ghost inverse_ok = { λ r k. kept_rule r k };
+}
+
+impl AlternateTime {
+    /// The rule with these parts. Times are seconds from 00:00 of the local day; the start's is in standard time and the end's in daylight saving time.
+    pub fn new(
+        std: LocalTimeType,
+        dst: LocalTimeType,
+        dst_start: RuleDay,
+        dst_start_time: i32,
+        dst_end: RuleDay,
+        dst_end_time: i32,
+    ) -> Result<Self, TransitionRuleError>
+        ensures value { IfOk result (λ r. r ≡ alternate_of std dst dst_start dst_start_time dst_end dst_end_time) }
+        ensures ok { OnOk result (IsConsistentRule (alternate_of std dst dst_start dst_start_time dst_end dst_end_time)) }
+        ensures err { IfErr result (IsFirstRuleFault (alternate_of std dst dst_start dst_start_time dst_end dst_end_time)) }
+    {
+        let parts = Parts {
+            std,
+            dst,
+            dst_start,
+            dst_start_time,
+            dst_end,
+            dst_end_time,
+        };
+        parts.check_range()?;
+        if parts.conflict().is_some() {
+            return Err(TransitionRuleError::InconsistentRule);
+        }
+        let is_turned = parts.is_turned();
+        Ok(AlternateTime { parts, is_turned })
+    }
+
+    /// Why parts in range make no rule: two years x and y and a distance k in years, such that the start of x comes after the end of x + k,
+    /// and the start of y before the end of y + k.
+    pub fn conflict(
+        std: LocalTimeType,
+        dst: LocalTimeType,
+        dst_start: RuleDay,
+        dst_start_time: i32,
+        dst_end: RuleDay,
+        dst_end_time: i32,
+    ) -> Option<(i32, i32, i32)>
+        ensures range { IfSome result (λ _. IsInRuleRange (alternate_of std dst dst_start dst_start_time dst_end dst_end_time)) }
+        ensures some { IfSome result (λ c. IsConflict (start_of (alternate_of std dst dst_start dst_start_time dst_end dst_end_time)) (end_of (alternate_of std dst dst_start dst_start_time dst_end dst_end_time)) c.0 c.1 c.2) }
+        ensures none { IfNone result (¬ (IsInRuleRange (alternate_of std dst dst_start dst_start_time dst_end dst_end_time) × IsInconsistent (start_of (alternate_of std dst dst_start dst_start_time dst_end dst_end_time)) (end_of (alternate_of std dst dst_start dst_start_time dst_end dst_end_time)))) }
+    {
+        let parts = Parts {
+            std,
+            dst,
+            dst_start,
+            dst_start_time,
+            dst_end,
+            dst_end_time,
+        };
+        match parts.check_range() {
+            Ok(()) => parts.conflict(),
+            Err(_) => None,
+        }
+    }
+
+    /// The type of standard time.
+    pub fn std(&self) -> &LocalTimeType
+        ensures { result.now ≡ self.now.std }
+    {
+        &self.parts.std
+    }
+
+    /// The type of daylight saving time.
+    pub fn dst(&self) -> &LocalTimeType
+        ensures { result.now ≡ self.now.dst }
+    {
+        &self.parts.dst
+    }
+
+    /// The day on which daylight saving time starts.
+    pub fn dst_start(&self) -> &RuleDay
+        ensures { result.now ≡ self.now.dst_start }
+    {
+        &self.parts.dst_start
+    }
+
+    /// When it starts on that day, in seconds from 00:00 of standard time, less than a week either way.
+    pub fn dst_start_time(&self) -> i32
+        ensures { result ≡ self.now.dst_start_time }
+    {
+        self.parts.dst_start_time
+    }
+
+    /// The day on which daylight saving time ends.
+    pub fn dst_end(&self) -> &RuleDay
+        ensures { result.now ≡ self.now.dst_end }
+    {
+        &self.parts.dst_end
+    }
+
+    /// When it ends on that day, in seconds from 00:00 of daylight saving time, less than a week either way.
+    pub fn dst_end_time(&self) -> i32
+        ensures { result ≡ self.now.dst_end_time }
+    {
+        self.parts.dst_end_time
+    }
+
+    /// The instant at which daylight saving time starts in a year.
+    pub(crate) fn start_in(&self, year: i32) -> i64
+        ensures value { result ≡ start_of self.now year }
+        ensures bound { IsNearYear result year }
+    {
+        self.parts.start_in(year)
+    }
+
+    /// The instant at which it ends in a year.
+    pub(crate) fn end_in(&self, year: i32) -> i64
+        ensures value { result ≡ end_of self.now year }
+        ensures bound { IsNearYear result year }
+    {
+        self.parts.end_in(year)
+    }
+
+    /// Whether each start has the end of the next year.
+    pub(crate) fn is_turned(&self) -> bool
+        ensures { MatchBool result (IsTurned (start_of self.now) (end_of self.now)) (¬ IsTurned (start_of self.now) (end_of self.now)) }
+    {
+        self.is_turned
+    }
+
+    /// The parts obey the rules of their making. This does nothing; its contract is what a value tells.
+    pub(crate) fn parts_are_sound(&self)
+        ensures rule { IsConsistentRule self.now }
+        ensures days { AreRuleDays self.now }
+    {
+        let _ = &self.parts;
+    }
+
+    /// The type at an instant.
+    pub(crate) fn find_local_time_type(&self, unix_time: i64) -> Result<&LocalTimeType, TzError>
+        ensures ok { IfOk result (λ t. IsInRuleYears unix_time × IsAlternateType self.now unix_time t.now) }
+        ensures err { IfErr result (λ e. (e ≡ TzError.OutOfRange) × ¬ IsInRuleYears unix_time) }
+    {
+        let Some(year) = rule_year(unix_time) else {
+            return Err(TzError::OutOfRange);
+        };
+        if self.parts.is_daylight(self.is_turned, unix_time, year) {
+            Ok(&self.parts.dst)
+        } else {
+            Ok(&self.parts.std)
+        }
+    }
+}
+
+impl PartialEq for AlternateTime {
+    ghost use Rattle.std.specs.Cmp.{partial_equiv_from_equiv};
+    ghost use Rattle.tz_rule.specs.Same.{IsEquivalence-from_equality};
+    ghost use Rattle.tz_rule.specs.SameRule.{same_alternate, Decides-same_alternate};
+
+    ghost eq = { same_alternate };
+
+    ghost laws = { partial_equiv_from_equiv (IsEquivalence-from_equality same_alternate Decides-same_alternate) };
+
+    fn eq(&self, other: &AlternateTime) -> bool {
+        let (a, b) = (&self.parts, &other.parts);
+        a.std == b.std
+            && a.dst == b.dst
+            && a.dst_start == b.dst_start
+            && a.dst_start_time == b.dst_start_time
+            && a.dst_end == b.dst_end
+            && a.dst_end_time == b.dst_end_time
+    }
+}
+
+impl Eq for AlternateTime {
+    ghost use Rattle.tz_rule.specs.Same.{IsEquivalence-from_equality};
+    ghost use Rattle.tz_rule.specs.SameRule.{same_alternate, Decides-same_alternate};
+
+    ghost laws = { IsEquivalence-from_equality same_alternate Decides-same_alternate };
+}

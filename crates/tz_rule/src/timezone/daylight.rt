@@ -1,0 +1,101 @@
+//! Whether a rule has daylight saving time at an instant: the year of the instant and its two neighbours decide.
+
+ghost use Rattle.std.specs.Prelude.{IfSome, IfNone, MatchBool};
+ghost use Rattle.tz_rule.specs.Alternate.{start_of, end_of, IsInRuleRange, AreRuleDays, IsUtcYear, IsRuleYear, IsInRuleYears};
+ghost use Rattle.tz_rule.specs.Daylight.{IsInSpan};
+ghost use Rattle.tz_rule.specs.Years.{IsTurned, IsDaylight};
+
+use super::check::Parts;
+use tz_base::calendar::{self, Fields};
+
+/// The first year in which a rule answers.
+const FIRST_YEAR: i32 = i32::MIN + 2;
+
+/// The last year in which a rule answers.
+const LAST_YEAR: i32 = i32::MAX - 2;
+
+/// The year of an instant in UTC, if it is one in which a rule answers.
+pub(super) fn rule_year(unix_time: i64) -> Option<i32>
+    ensures some { IfSome result (λ year. IsUtcYear unix_time year × IsRuleYear year) }
+    ensures none { IfNone result (¬ IsInRuleYears unix_time) }
+{
+    if !calendar::is_reading(unix_time) {
+        return None;
+    }
+    let year = Fields::from_reading(unix_time, 0).year;
+    if year < FIRST_YEAR || year > LAST_YEAR {
+        return None;
+    }
+    Some(year)
+}
+
+impl Parts {
+    ghost use Rattle.tz_rule.specs.Parts.{rule_of};
+
+    /// Whether the instant lies from one year's start up to, not including, a year's end.
+    fn is_in_span(&self, unix_time: i64, start_year: i32, end_year: i32) -> bool
+        ensures { MatchBool result
+            (IsInSpan (start_of (rule_of self.now)) (end_of (rule_of self.now)) unix_time start_year end_year)
+            (¬ IsInSpan (start_of (rule_of self.now)) (end_of (rule_of self.now)) unix_time start_year end_year) }
+    {
+        self.start_in(start_year) <= unix_time && unix_time < self.end_in(end_year)
+    }
+
+    /// Whether the instant is in daylight saving time, where each start has the end of its own year.
+    fn is_daylight_in_order(&self, unix_time: i64, year: i32) -> bool
+        requires range { IsInRuleRange (rule_of self.now) }
+        requires days { AreRuleDays (rule_of self.now) }
+        requires in_order { ¬ IsTurned (start_of (rule_of self.now)) (end_of (rule_of self.now)) }
+        requires year { IsUtcYear unix_time year × IsRuleYear year }
+        ensures { MatchBool result
+            (IsDaylight (start_of (rule_of self.now)) (end_of (rule_of self.now)) unix_time)
+            (¬ IsDaylight (start_of (rule_of self.now)) (end_of (rule_of self.now)) unix_time) }
+    {
+        if self.is_in_span(unix_time, year - 1, year - 1) {
+            return true;
+        }
+        if self.is_in_span(unix_time, year, year) {
+            return true;
+        }
+        self.is_in_span(unix_time, year + 1, year + 1)
+    }
+
+    /// Whether the instant is in daylight saving time, where each start has the end of the next year.
+    fn is_daylight_turned(&self, unix_time: i64, year: i32) -> bool
+        requires range { IsInRuleRange (rule_of self.now) }
+        requires days { AreRuleDays (rule_of self.now) }
+        requires turned { IsTurned (start_of (rule_of self.now)) (end_of (rule_of self.now)) }
+        requires year { IsUtcYear unix_time year × IsRuleYear year }
+        ensures { MatchBool result
+            (IsDaylight (start_of (rule_of self.now)) (end_of (rule_of self.now)) unix_time)
+            (¬ IsDaylight (start_of (rule_of self.now)) (end_of (rule_of self.now)) unix_time) }
+    {
+        if unix_time < self.end_in(year - 1) {
+            return true;
+        }
+        if self.is_in_span(unix_time, year - 1, year) {
+            return true;
+        }
+        if self.is_in_span(unix_time, year, year + 1) {
+            return true;
+        }
+        self.start_in(year + 1) <= unix_time
+    }
+
+    /// Whether the instant is in daylight saving time.
+    pub(super) fn is_daylight(&self, is_turned: bool, unix_time: i64, year: i32) -> bool
+        requires range { IsInRuleRange (rule_of self.now) }
+        requires days { AreRuleDays (rule_of self.now) }
+        requires pairing { MatchBool is_turned (IsTurned (start_of (rule_of self.now)) (end_of (rule_of self.now))) (¬ IsTurned (start_of (rule_of self.now)) (end_of (rule_of self.now))) }
+        requires year { IsUtcYear unix_time year × IsRuleYear year }
+        ensures { MatchBool result
+            (IsDaylight (start_of (rule_of self.now)) (end_of (rule_of self.now)) unix_time)
+            (¬ IsDaylight (start_of (rule_of self.now)) (end_of (rule_of self.now)) unix_time) }
+    {
+        if is_turned {
+            self.is_daylight_turned(unix_time, year)
+        } else {
+            self.is_daylight_in_order(unix_time, year)
+        }
+    }
+}
