@@ -1,13 +1,16 @@
 -- The clock of a zone with transitions, from the leap time of the instant.
-use Rattle.std.proofs.Common.{◌≡◌, ◌≢◌, ℕ, zero, suc, ◌+◌, ◌-◌, ◌<◌, ◌≤◌, ◌⊎◌, ◌∙◌, sym, ap, arith, inl, inr, ℤ, ◌≤ℤ◌, ◌<ℤ◌, List, [], length, Option, Some, None}
+use Rattle.std.proofs.Common.{◌≡◌, ◌≢◌, ℕ, ◌-◌, ◌≤◌, ◌⊎◌, ◌∙◌, sym, ap, arith, inl, inr, ℤ, ◌≤ℤ◌, ◌<ℤ◌, List, [], Option, Some, None}
 use Rattle.std.specs.Prelude.{slice_get}
+use Rattle.std.proofs.lemmas.Bool.{cases_lt}
 use Rattle.std.proofs.lemmas.Int.{ints}
 use Rattle.std.proofs.lemmas.Option.{same_Some, none-some}
 use Rattle.tz_base.specs.declared.error.TzError.{TzError}
 use Rattle.tz_rule.specs.LocalType.{LocalType}
+use Rattle.tz_rule.specs.declared.timezone.rule.TransitionRule.{TransitionRule}
+use Rattle.tz_rule.proofs.RuleTypes.{rule_type_unique}
 use Rattle.tz_zone.specs.Table.{Change, Zone}
 use Rattle.tz_zone.specs.LeapTime.{IsLeapTime}
-use Rattle.tz_zone.specs.Clock.{IsTypeAt, IsLast, IsTransitionType, IsTypeAfter, IsFaultAfter, IsClock, IsOver, HasNoType, IsLookupFault}
+use Rattle.tz_zone.specs.Clock.{IsTypeAt, IsLast, IsTransitionType, IsTypeAfter, IsTypeWithout, IsTypeWith, IsFaultAfter, IsClock, IsLookupFault}
 use Rattle.tz_zone.specs.ValidZone.{AreLeapSeconds}
 use Rattle.tz_zone.proofs.LeapTimes.{leap_time_unique}
 
@@ -43,3 +46,50 @@ module _ (z : Zone) (are : AreLeapSeconds z.leap_seconds) (last : Change) (is_la
   fault_from_last e from (inl (fault, none)) = inl (fault, (last, l, is_last, leap, from, none))
   fault_from_last e from (inr (fault, some, no_type)) =
       inr (fault, (λ t clock. no_type t (type_after_from_clock t from clock)), (λ over. some over.5))
+
+-- a zone has one type with a number
+type_at_unique : (z : Zone) (i : ℕ) (t t' : LocalType) → IsTypeAt z i t → IsTypeAt z i t' → t ≡ t'
+type_at_unique z i t t' at at' = same_Some t t' (sym at ∙ at')
+
+transition_type_unique : (z : Zone) (l : ℤ) (t t' : LocalType) → IsTransitionType z l t → IsTransitionType z l t' → t ≡ t'
+transition_type_unique z l t t' (inl (before, type)) (inl (before', type')) = type_at_unique z 0 t t' type type'
+transition_type_unique z l t t' (inl (before, type)) (inr (i, change, (at, come, later), type')) = absurd (omega (arith, ints, before i change at, come))
+transition_type_unique z l t t' (inr (i, change, (at, come, later), type)) (inl (before, type')) = absurd (omega (arith, ints, before i change at, come))
+transition_type_unique z l t t' (inr (i, change, (at, come, later), type)) (inr (j, change', (at', come', later'), type')) =
+    elim (cases_lt i j) [
+      | inl below ↦ absurd (omega (arith, ints, later j change' below at', come'))
+      | inr above ↦ elim (cases_lt j i) [
+        | inl below ↦ absurd (omega (arith, ints, later' i change below at, come))
+        | inr above' ↦
+            let same : j ≡ i = omega arith in
+            let change_same : change' ≡ change = same_Some change' change (sym at' ∙ rw same at) in
+            type_at_unique z change.type_index t t' type (rw change_same at type')
+      ]
+    ]
+
+type_after_unique : (rule : Option TransitionRule) (u : ℤ) (t t' : LocalType) → IsTypeAfter rule u t → IsTypeAfter rule u t' → t ≡ t'
+type_after_unique (Some rule) u t t' a b = rule_type_unique rule u t t' a b
+type_after_unique None u t t' a b = absurd a
+
+type_without_unique : (z : Zone) (rule : Option TransitionRule) (u : ℤ) (t t' : LocalType) → IsTypeWithout z rule u t → IsTypeWithout z rule u t' → t ≡ t'
+type_without_unique z (Some rule) u t t' a b = rule_type_unique rule u t t' a b
+type_without_unique z None u t t' a b = type_at_unique z 0 t t' a b
+
+type_with_unique : (z : Zone) → AreLeapSeconds z.leap_seconds → (last : Change) (u : ℤ) (t t' : LocalType) → IsTypeWith z last u t → IsTypeWith z last u t' → t ≡ t'
+type_with_unique z are last u t t' (l, leap, side) (l', leap', side') =
+    let same : l' ≡ l = leap_time_unique z.leap_seconds are u l' l leap' leap in
+    sides side (rw same at side')
+  where
+    sides : ((l <ℤ last.unix_leap_time) × IsTransitionType z l t) ⊎ ((last.unix_leap_time ≤ℤ l) × IsTypeAfter z.extra_rule u t)
+        → ((l <ℤ last.unix_leap_time) × IsTransitionType z l t') ⊎ ((last.unix_leap_time ≤ℤ l) × IsTypeAfter z.extra_rule u t') → t ≡ t'
+    sides (inl (before, type)) (inl (before', type')) = transition_type_unique z l t t' type type'
+    sides (inl (before, type)) (inr (from, type')) = absurd (omega (arith, ints, before, from))
+    sides (inr (from, type)) (inl (before, type')) = absurd (omega (arith, ints, before, from))
+    sides (inr (from, type)) (inr (from', type')) = type_after_unique z.extra_rule u t t' type type'
+
+pub clock_unique : (z : Zone) (u : ℤ) (t t' : LocalType) → AreLeapSeconds z.leap_seconds → IsClock z u t → IsClock z u t' → t ≡ t'
+clock_unique z u t t' are (inl (none, type)) (inl (none', type')) = type_without_unique z z.extra_rule u t t' type type'
+clock_unique z u t t' are (inl (none, type)) (inr (last, is_last, type')) = absurd (some_from_last z.transitions last is_last none)
+clock_unique z u t t' are (inr (last, is_last, type)) (inl (none, type')) = absurd (some_from_last z.transitions last is_last none)
+clock_unique z u t t' are (inr (last, is_last, type)) (inr (last', is_last', type')) =
+    type_with_unique z are last u t t' type (rw (last_unique z.transitions last' last is_last' is_last) at type')

@@ -1,10 +1,10 @@
 -- What the clauses of the counts give for a leap time.
-use Rattle.std.proofs.Common.{◌≡◌, ◌≢◌, ℕ, zero, suc, ◌<◌, ◌≤◌, arith, ℤ, pos, negsuc, ◌+ℤ◌, ◌≤ℤ◌, List, [], ◌∷◌, length, take, Some}
+use Rattle.std.proofs.Common.{◌≡◌, ◌≢◌, ℕ, zero, suc, ◌<◌, arith, ℤ, negsuc, ◌+ℤ◌, List, [], ◌∷◌, take, Some}
 use Rattle.std.specs.Prelude.{slice_get}
 use Rattle.std.proofs.lemmas.Int.{ints}
-use Rattle.std.proofs.lemmas.Option.{slice_get_within, none-some}
+use Rattle.std.proofs.lemmas.Option.{none-some}
 use Rattle.tz_zone.specs.Table.{Leap}
-use Rattle.tz_zone.specs.LeapTime.{IsInstant, correction_before, IsReached, IsLeapTimeRefused, IsLeapTime, IsMomentOf, IsEffect, IsEffectRefused}
+use Rattle.tz_zone.specs.LeapTime.{IsInstant, IsReached, IsLeapTimeRefused, IsMomentOf, IsEffect, IsEffectRefused}
 use Rattle.tz_zone.specs.ValidZone.{AreLeapSeconds}
 use Rattle.tz_zone.proofs.LeapTimes.{IsInstant-from_bounds, instant_bounds, refused_later}
 use Rattle.tz_zone.proofs.LeapLists.{IsReachedCount, IsReached-below}

@@ -1,13 +1,13 @@
 -- A list of leap seconds, seen as two functions of its places: its leap times and the effects of leap times.
-use Rattle.std.proofs.Common.{◌≡◌, ℕ, zero, suc, ◌+◌, ◌-◌, ◌*◌, ◌<◌, ◌≤◌, ◌⊎◌, inl, inr, refl, sym, ap, ◌∙◌, arith, ℤ, pos, negsuc, neg_ℤ, ◌+ℤ◌, ◌-ℤ◌, ◌≤ℤ◌, ◌<ℤ◌, List, length, get_or, Option, Some, None}
-use Rattle.std.specs.Prelude.{unsigned_abs, slice_get}
+use Rattle.std.proofs.Common.{◌≡◌, ℕ, zero, suc, ◌+◌, ◌-◌, ◌<◌, ◌≤◌, ◌⊎◌, inl, inr, refl, sym, ap, ◌∙◌, arith, ℤ, pos, negsuc, ◌+ℤ◌, ◌-ℤ◌, ◌<ℤ◌, List, length, get_or, Some}
+use Rattle.std.specs.Prelude.{slice_get}
 use Rattle.std.proofs.lemmas.Int.{ints, by_lt_z}
 use Rattle.std.proofs.lemmas.Bool.{cases_lt}
-use Rattle.std.proofs.lemmas.Option.{slice_get_within, slice_get-get_or, get_or_from_slice_get, same_Some}
+use Rattle.std.proofs.lemmas.Option.{slice_get_within, slice_get-get_or, get_or_from_slice_get}
 use Rattle.tz_zone.specs.Table.{Leap}
-use Rattle.tz_zone.specs.LeapTime.{IsInstant, correction_at, correction_before, IsReached, IsCorrection, IsLeapTimeRefused, IsLeapTime, HasComeTo, IsEffect, IsEffectRefused}
+use Rattle.tz_zone.specs.LeapTime.{correction_at, correction_before, IsReached, IsCorrection}
 use Rattle.tz_zone.specs.ValidZone.{AreLeapSeconds, IsOneSecond}
-use Rattle.tz_zone.proofs.LeapSteps.{AreSteps, IsCount, reached_down, leap_mono, count_mono}
+use Rattle.tz_zone.proofs.LeapSteps.{AreSteps, IsCount, reached_down}
 
 abbrev pub no_leap : Leap
 no_leap = record { unix_leap_time = pos 0; correction = pos 0 }

@@ -1,8 +1,8 @@
 -- The moment of a leap time, from the count of leap seconds up to it.
-use Rattle.std.proofs.Common.{◌≡◌, ℕ, zero, suc, ◌+◌, ◌<◌, ◌≤◌, ◌⊎◌, Bool, true, false, cond, int_lt, inl, inr, refl, ap, arith, ℤ, pos, ◌+ℤ◌, ◌-ℤ◌, ◌≤ℤ◌, ◌<ℤ◌, List, length, Some}
+use Rattle.std.proofs.Common.{◌≡◌, ℕ, suc, ◌<◌, ◌≤◌, ◌⊎◌, Bool, true, false, cond, int_lt, inl, inr, refl, arith, ℤ, ◌+ℤ◌, ◌-ℤ◌, ◌≤ℤ◌, ◌<ℤ◌, List, length, Some}
 use Rattle.std.specs.Prelude.{slice_get}
 use Rattle.std.specs.Int.{int_max}
-use Rattle.std.proofs.lemmas.Int.{ints, by_lt_z, int_max_is}
+use Rattle.std.proofs.lemmas.Int.{ints, int_max_is}
 use Rattle.tz_zone.specs.Table.{Leap}
 use Rattle.tz_zone.specs.LeapTime.{IsInstant, correction_before, IsMomentOf}
 use Rattle.tz_zone.specs.ValidZone.{AreLeapSeconds}

@@ -1,16 +1,12 @@
 -- Leap times and effects of a list of leap seconds: values, refusals, order, and that each has one value.
-use Rattle.std.proofs.Common.{◌≡◌, ◌≢◌, ℕ, zero, suc, ◌+◌, ◌-◌, ◌*◌, ◌^◌, ◌<◌, ◌≤◌, ◌⊎◌, inl, inr, refl, sym, ap, ◌∙◌, arith, ℤ, pos, negsuc, neg_ℤ, ◌+ℤ◌, ◌-ℤ◌, ◌≤ℤ◌, ◌<ℤ◌, List, length}
-use Rattle.std.specs.Prelude.{slice_get}
+use Rattle.std.proofs.Common.{◌≡◌, ◌≢◌, ℕ, zero, suc, ◌+◌, ◌<◌, ◌⊎◌, inl, inr, refl, sym, ap, ◌∙◌, arith, ℤ, pos, negsuc, ◌+ℤ◌, ◌≤ℤ◌, ◌<ℤ◌, List, length}
 use Rattle.std.proofs.lemmas.Int.{ints, by_lt_z}
-use Rattle.std.proofs.lemmas.Bool.{cases_lt}
 use Rattle.std.proofs.lemmas.Option.{slice_get_within}
-use mir.Syntax.{w64}
-use mir.Val.{SFits}
 use Rattle.tz_zone.specs.Table.{Leap}
-use Rattle.tz_zone.specs.LeapTime.{IsInstant, correction_before, IsReached, IsCorrection, IsLeapTimeRefused, IsLeapTime, HasComeTo, IsEffect, IsEffectRefused}
+use Rattle.tz_zone.specs.LeapTime.{IsInstant, correction_before, IsReached, IsLeapTimeRefused, IsLeapTime, HasComeTo, IsEffect}
 use Rattle.tz_zone.specs.ValidZone.{AreLeapSeconds}
-use Rattle.tz_zone.proofs.LeapSteps.{AreSteps, IsCount, correction_bound, time_bound, reached_down, leap_mono, count_mono, IsTimeCount, IsMoment, moment_count, moment_least}
-use Rattle.tz_zone.proofs.LeapLists.{time_at, time_at-is, correction_before-suc, IsReachedCount, AreSteps-from_leaps, IsReached-below, IsReached-at, IsCorrection-from_count, correction_from_count, count_exists}
+use Rattle.tz_zone.proofs.LeapSteps.{AreSteps, correction_bound, time_bound, leap_mono, IsTimeCount, IsMoment, moment_count, moment_least}
+use Rattle.tz_zone.proofs.LeapLists.{time_at, time_at-is, correction_before-suc, IsReachedCount, AreSteps-from_leaps, IsReached-at, IsCorrection-from_count, correction_from_count, count_exists}
 
 -- instants are the numbers of 64 bits
 pub IsInstant-from_bounds : (z : ℤ) → negsuc 9223372036854775807 ≤ℤ z → z ≤ℤ pos 9223372036854775807 → IsInstant z

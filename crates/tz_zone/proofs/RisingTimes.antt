@@ -7,7 +7,7 @@ use Rattle.std.proofs.lemmas.Option.{slice_get_within, slice_get-get_or, same_So
 use Rattle.tz_zone.specs.Table.{Change, Leap}
 use Rattle.tz_zone.specs.ValidZone.{AreLeapSeconds, IsRising}
 use Rattle.tz_zone.proofs.LeapSteps.{times_rise}
-use Rattle.tz_zone.proofs.LeapLists.{time_at, time_at-is, AreSteps-from_leaps, item_at}
+use Rattle.tz_zone.proofs.LeapLists.{time_at, time_at-is, AreSteps-from_leaps}
 
 -- an item has a smaller time than each later one
 abbrev pub Rise : {X : Type 0} → (X → ℤ) → List X → Type 0

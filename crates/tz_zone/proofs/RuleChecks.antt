@@ -1,6 +1,5 @@
 -- What the extra rule answers at the last transition decides whether the zone is consistent.
-use Rattle.std.proofs.Common.{Bool, true, false, not, ◌≡◌, ◌≢◌, ℕ, ◌-◌, ◌<◌, ◌∙◌, refl, sym, ap, inl, inr, ℤ, List, length, Option, Some}
-use Rattle.std.specs.Prelude.{slice_get}
+use Rattle.std.proofs.Common.{true, false, not, ◌≡◌, ◌≢◌, ◌∙◌, sym, ap, ℤ, List, Some}
 use Rattle.std.proofs.lemmas.Bool.{false≢true, not-true, not-false}
 use Rattle.std.proofs.lemmas.Option.{same_Some}
 use Rattle.tz_rule.specs.LocalType.{LocalType}

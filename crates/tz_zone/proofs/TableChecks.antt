@@ -1,8 +1,8 @@
 -- What the loops over a table give: facts at all places, from facts at the places so far.
-use Rattle.std.proofs.Common.{◌≡◌, ℕ, zero, suc, ◌+◌, ◌-◌, ◌<◌, ◌≤◌, refl, sym, ap, arith, rules, ◌∙◌, ℤ, ◌+ℤ◌, ◌≤ℤ◌, ◌<ℤ◌, pos, List, length, get_or, Some, inl, inr}
+use Rattle.std.proofs.Common.{◌≡◌, ℕ, ◌+◌, ◌-◌, ◌<◌, ◌≤◌, refl, sym, arith, ◌∙◌, List, length, get_or, Some, inl, inr}
 use Rattle.std.specs.Prelude.{slice_get}
 use Rattle.std.proofs.lemmas.Bool.{cases_lt}
-use Rattle.std.proofs.lemmas.Option.{slice_get_read, slice_get_within, slice_get-get_or, same_Some}
+use Rattle.std.proofs.lemmas.Option.{slice_get_read, slice_get_within, same_Some}
 use Rattle.tz_zone.specs.Table.{Change, Leap}
 use Rattle.tz_zone.specs.ValidZone.{MayBeFirst, MayFollow, AreLeapSeconds, HasTypeAtPlace, RisesAtPlace}
 

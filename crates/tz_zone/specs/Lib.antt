@@ -8,3 +8,10 @@ pub mod Clock
 pub mod ValidZone
 pub mod ZoneRef
 pub mod SameZone
+pub mod TzFile
+pub mod TzFileFault
+pub mod TzParts
+pub mod TzText
+pub mod TzTextFault
+pub mod Settings
+pub mod SettingsParts

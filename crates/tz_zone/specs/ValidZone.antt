@@ -1,5 +1,5 @@
 -- Which parts make a zone, and which fault is named where they do not. (RFC 8536, section 3.2; the extra rule as in 3.3.)
-use Rattle.std.specs.Prelude.{◌≡◌, ◌≢◌, ℕ, zero, suc, ◌+◌, ◌<◌, ◌≤◌, ◌⊎◌, ℤ, pos, negsuc, ◌+ℤ◌, ◌-ℤ◌, ◌≤ℤ◌, ◌<ℤ◌, List, [], ◌∷◌, unsigned_abs, length, Option, Some, None, slice_get, IfSome}
+use Rattle.std.specs.Prelude.{◌≡◌, ◌≢◌, ℕ, ◌+◌, ◌<◌, ◌⊎◌, ℤ, pos, ◌+ℤ◌, ◌-ℤ◌, ◌≤ℤ◌, ◌<ℤ◌, List, [], unsigned_abs, length, Some, slice_get}
 use Rattle.std.proofs.Props.{props}
 use Rattle.tz_base.specs.declared.error.TzError.{TzError}
 use Rattle.tz_base.specs.declared.error.TzError.TheVariants.{TimeZone, OutOfRange}
@@ -9,7 +9,7 @@ use Rattle.tz_rule.specs.LocalType.{LocalType}
 use Rattle.tz_rule.specs.Rule.{IsRuleType}
 use Rattle.tz_rule.specs.declared.timezone.rule.TransitionRule.{TransitionRule}
 use Rattle.tz_zone.specs.Table.{Change, Leap, Zone}
-use Rattle.tz_zone.specs.LeapTime.{IsEffect, IsEffectRefused}
+use Rattle.tz_zone.specs.LeapTime.{IsEffect}
 use Rattle.tz_zone.specs.Clock.{IsTypeAt, IsLast}
 
 -- the transition at a place names one of so many types

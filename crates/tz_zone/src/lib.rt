@@ -2,5 +2,7 @@
 #![tactic(auto)]
 
 pub mod inner;
+pub mod laws;
+mod parse;
 pub mod timezone;
 mod turn;

@@ -2,14 +2,18 @@
 
 mod checks;
 mod leap_second;
+mod settings;
 mod transition;
 mod zone;
+mod zone_data;
 mod zone_ref;
 
 pub use leap_second::LeapSecond;
+pub use settings::{DEFAULT_DIRECTORIES, TimeZoneSettings};
 pub use transition::Transition;
 pub use tz_rule::timezone::{
-    Julian0WithLeap, Julian1WithoutLeap, LocalTimeType, MonthWeekDay, RuleDay, TransitionRule,
+    AlternateTime, Julian0WithLeap, Julian1WithoutLeap, LocalTimeType, MonthWeekDay, RuleDay,
+    TransitionRule,
 };
 pub use zone::TimeZone;
 pub use zone_ref::TimeZoneRef;

@@ -1,6 +1,6 @@
 -- The moment is the effect, unless it lies past 64 bits or has no leap time.
-use Rattle.std.proofs.Common.{◌≡◌, ◌≢◌, refl, sym, negsuc, arith, rules, ◌∙◌, ap}
-use Rattle.std.proofs.lemmas.Int.{ints, to_z-of_z}
+use Rattle.std.proofs.Common.{◌≢◌, refl, sym, negsuc, rules}
+use Rattle.std.proofs.lemmas.Int.{to_z-of_z}
 use mir.Syntax.{w64, w128}
 use mir.Val.{SFits}
 use Rattle.tz_zone.proofs.LeapAnswers.{effect_none, effect_refused, effect_found}

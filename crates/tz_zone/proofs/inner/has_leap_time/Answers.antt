@@ -1,5 +1,5 @@
 -- Near the end of 64 bits each correction is tried; elsewhere none leaves them.
-use Rattle.std.proofs.Common.{◌≡◌, ap, sym, Bool, true, false, arith}
+use Rattle.std.proofs.Common.{Bool, true, false, arith}
 use Rattle.std.specs.Prelude.{MatchBool}
 use Rattle.std.proofs.lemmas.Int.{ints, to_z-of_z}
 use Rattle.tz_zone.proofs.LeapLists.{IsReachedCount-from_items}

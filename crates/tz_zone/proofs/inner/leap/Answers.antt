@@ -1,10 +1,10 @@
 -- The correction of the last leap second reached gives the leap time.
-use Rattle.std.proofs.Common.{◌≡◌, ap, sym, Bool, true, false, arith, rules, ◌∙◌, ℤ, ◌+ℤ◌}
+use Rattle.std.proofs.Common.{◌≡◌, arith, ◌+ℤ◌}
 use Rattle.std.proofs.lemmas.Int.{ints, to_z-of_z}
-use mir.Syntax.{w32, w64}
+use mir.Syntax.{w64}
 use mir.Val.{to_z, of_z}
-use Rattle.tz_zone.specs.LeapTime.{IsLeapTime, correction_before, IsLeapTimeRefused}
-use Rattle.tz_zone.proofs.LeapLists.{IsReachedCount, IsReachedCount-from_items}
+use Rattle.tz_zone.specs.LeapTime.{correction_before}
+use Rattle.tz_zone.proofs.LeapLists.{IsReachedCount-from_items}
 use Rattle.tz_zone.proofs.LeapTimes.{leap_time_fits, IsLeapTime-from_count}
 use Rattle.tz_zone.proofs.inner.leap.Goals as goal
 

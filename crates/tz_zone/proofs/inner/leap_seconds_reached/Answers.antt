@@ -1,7 +1,5 @@
 -- The place where the test turns is the count.
-use Rattle.std.proofs.Common.{arith}
 use Rattle.std.proofs.lemmas.Int.{to_z-of_z}
-use Rattle.std.proofs.lemmas.Option.{same_Some}
 use Rattle.tz_zone.proofs.LeapLists.{IsReached-below, IsReached-from_count, IsReachedCount-from_turn}
 use Rattle.tz_zone.proofs.inner.leap_seconds_reached.Goals as goal
 

@@ -1,14 +1,11 @@
 -- The moment by the last leap second up to the leap time.
-use Rattle.std.proofs.Common.{◌≡◌, ℕ, suc, ◌+◌, ◌-◌, ◌∙◌, refl, arith, rules, ◌-ℤ◌}
-use Rattle.std.specs.Prelude.{slice_get}
+use Rattle.std.proofs.Common.{◌≡◌, suc, ◌-◌, ◌∙◌, refl, arith, rules, ◌-ℤ◌}
 use Rattle.std.specs.Int.{int_max}
 use Rattle.std.proofs.lemmas.Int.{ints, to_z-of_z}
 use Rattle.std.proofs.lemmas.Option.{slice_get_read}
 use mir.Syntax.{w128}
 use mir.Val.{SFits, to_z, of_z}
 use Rattle.tz_zone.specs.LeapTime.{correction_before}
-use Rattle.tz_zone.proofs.LeapSteps.{IsTimeCount}
-use Rattle.tz_zone.proofs.LeapLists.{time_at}
 use Rattle.tz_zone.proofs.LeapMoments.{times_from_items, IsMoment-none, IsMoment-greater, IsMomentOf-from_count}
 use Rattle.tz_zone.proofs.inner.moment.Goals as goal
 

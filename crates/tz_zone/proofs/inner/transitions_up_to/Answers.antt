@@ -1,5 +1,4 @@
 -- Times rise, so the place where the test turns is the count.
-use Rattle.std.proofs.Common.{arith}
 use Rattle.std.proofs.lemmas.Int.{to_z-of_z}
 use Rattle.tz_zone.proofs.RisingTimes.{come_before_turn, later_from_turn, transitions_rise}
 use Rattle.tz_zone.proofs.inner.transitions_up_to.Goals as goal

@@ -1,13 +1,13 @@
 -- The comparison is the one that the definition makes, in numbers of 128 bits.
-use Rattle.std.proofs.Common.{◌≡◌, ℕ, refl, arith, rules, sym, ◌∙◌, ap, ℤ, ◌+ℤ◌, ◌≤ℤ◌, ◌<ℤ◌, Bool, true, false, List, Some}
-use Rattle.std.specs.Prelude.{slice_get, MatchBool}
+use Rattle.std.proofs.Common.{◌≡◌, refl, arith, rules, sym, ◌∙◌, ap, ℤ, ◌≤ℤ◌, Bool, true, false}
+use Rattle.std.specs.Prelude.{MatchBool}
 use Rattle.std.proofs.lemmas.Int.{ints}
 use Rattle.std.proofs.lemmas.Option.{slice_get_read, same_Some, get_or_from_slice_get}
 use lib.Signed.{le_z}
 use mir.Syntax.{w64, w128}
 use mir.Val.{SFits, to_z, of_z}
 use Rattle.tz_zone.specs.Table.{Leap}
-use Rattle.tz_zone.specs.LeapTime.{IsReached, correction_before}
+use Rattle.tz_zone.specs.LeapTime.{IsReached}
 use Rattle.tz_zone.proofs.inner.ReachedAtPlaces.passes_at.Goals as goal
 
 by_test : (a b : ℤ) (P : Type 0) → (a ≤ℤ b → P) → (P → a ≤ℤ b) → MatchBool (le_z a b) P (¬ P)

@@ -1,5 +1,5 @@
 -- The leap time tells on which side of the last transition the instant lies.
-use Rattle.std.proofs.Common.{◌≡◌, ◌<ℤ◌, ◌≤ℤ◌, sym, arith, rules}
+use Rattle.std.proofs.Common.{◌<ℤ◌, ◌≤ℤ◌, sym, arith, rules}
 use Rattle.std.proofs.lemmas.Int.{ints, to_z-of_z}
 use Rattle.std.proofs.lemmas.Result.{IfOk-weaker, IfErr-weaker}
 use mir.Syntax.{w64}

@@ -1,9 +1,7 @@
 -- The count of transitions up to the leap time tells the last one reached.
-use Rattle.std.proofs.Common.{◌≡◌, ◌<◌, ◌≤ℤ◌, ◌-◌, length, get_or, Some, refl, sym, arith, rules}
-use Rattle.std.specs.Prelude.{slice_get}
+use Rattle.std.proofs.Common.{◌<◌, ◌-◌, length, get_or, arith, rules}
 use Rattle.std.proofs.lemmas.Int.{to_z-of_z}
 use Rattle.std.proofs.lemmas.Option.{slice_get-get_or}
-use mir.Syntax.{w64}
 use Rattle.tz_zone.specs.ZoneRef.{zone_of}
 use Rattle.tz_zone.proofs.Clocks.{type_of_last_reached}
 use Rattle.tz_zone.proofs.timezone.zone_ref.TimeZoneRef.type_of_transitions.Goals as goal

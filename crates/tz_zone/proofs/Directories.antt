@@ -1,0 +1,34 @@
+-- The directories from a place of the list on, and a text without a first byte.
+use Rattle.std.proofs.Common.{◌≡◌, ◌≢◌, ℕ, ◌+◌, ◌<◌, List, ◌∷◌, length, get_or, drop, sym, ap, ◌∙◌, add-one, Option, Some, None, Ok, Err, refl, subst, inl, inr}
+use Rattle.std.specs.Prelude.{Vec}
+use Rattle.std.specs.declared.alloc.Global.{Global}
+use Rattle.anyhow.specs.declared.error.Error.{Error as Fault}
+use Rattle.tz_base.specs.declared.error.ReadFault.TheVariants.{Failed}
+use Rattle.std.proofs.Math.Seq.{drop-cons}
+use Rattle.std.specs.Borrow.{Bor}
+use Rattle.std.specs.Option.{MatchOption}
+use Rattle.tz_zone.specs.Settings.{Read, path_in, FindsIn, texts_of}
+use Rattle.tz_zone.specs.TzText.{Begins}
+
+pub bare_text : (b : ℕ) (text : List ℕ) (r : Option (Bor (List ℕ))) → MatchOption r ((rest : List ℕ) → text ≢ b ∷ rest) (λ x. text ≡ b ∷ x.now) → MatchOption r (¬ Begins b text) (λ x. text ≡ b ∷ x.now)
+bare_text b text None h = λ begins. h begins.0 begins.1
+bare_text b text (Some x) h = h
+
+first_of_rest : (directories : List (Bor (List ℕ))) (i : ℕ) (d : Bor (List ℕ)) → i < length directories → texts_of (drop i directories) ≡ (get_or directories i d).now ∷ texts_of (drop (i + 1) directories)
+first_of_rest directories i d within =
+    ap texts_of (drop-cons directories i d within) ∙ ap (λ n. (get_or directories i d).now ∷ texts_of (drop n directories)) (sym (add-one i))
+
+-- bytes or want of memory in the directory at a place, and a failure there
+pub found_here : (reads : List ℕ → Read → Type 0) (directories : List (Bor (List ℕ))) (i : ℕ) (d : Bor (List ℕ)) (name path : List ℕ) (bytes : Vec ℕ Global) → i < length directories
+    → path ≡ path_in (get_or directories i d).now name → reads path (Ok bytes) → FindsIn reads (texts_of (drop i directories)) name (Ok bytes)
+found_here reads directories i d name path bytes within at read =
+    let P : List (List ℕ) → Type 0 = λ rest. FindsIn reads rest name (Ok bytes) in
+    let Q : List ℕ → Type 0 = λ p. reads p (Ok bytes) in
+    subst P (sym (first_of_rest directories i d within)) (inl (bytes, refl, subst Q at read))
+
+pub missed_here : (reads : List ℕ → Read → Type 0) (directories : List (Bor (List ℕ))) (i : ℕ) (d : Bor (List ℕ)) (name path : List ℕ) (fault : Fault) (found : Read) → i < length directories
+    → path ≡ path_in (get_or directories i d).now name → reads path (Err (Failed fault)) → FindsIn reads (texts_of (drop (i + 1) directories)) name found → FindsIn reads (texts_of (drop i directories)) name found
+missed_here reads directories i d name path fault found within at read later =
+    let P : List (List ℕ) → Type 0 = λ rest. FindsIn reads rest name found in
+    let Q : List ℕ → Type 0 = λ p. reads p (Err (Failed fault)) in
+    subst P (sym (first_of_rest directories i d within)) (inr (inr (fault, subst Q at read, later)))

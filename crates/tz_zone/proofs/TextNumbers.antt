@@ -1,0 +1,65 @@
+-- Digits that are cut out of a text are text, and `parse` gives their number or tells that none of its type stands there.
+use Rattle.std.proofs.Common.{◌≡◌, ◌≢◌, ℕ, ◌^◌, ◌<◌, ◌&&◌, Bool, true, false, cond, List, [], ◌∷◌, length, Result, sym, ap, ◌∙◌, subst, refl, inl, inr, arith, ℤ, pos}
+use Rattle.std.proofs.lemmas.Bool.{cases_lt}
+use Rattle.std.proofs.lemmas.List.{get_or_past}
+use Rattle.std.proofs.lemmas.List.Sums.{take_while-cons}
+use Rattle.std.proofs.lemmas.Str.{IsUtf8-from_ascii}
+use Rattle.std.proofs.lemmas.Str.Parse.{IsNumeralModel, numerals_by_value, tells_all_ascii_digits, digit_at, parse_digits, parse_signed_digits}
+use Rattle.std.specs.Char.{is_ascii_digit}
+use Rattle.std.specs.Int.{w32}
+use Rattle.std.specs.List.{take_while}
+use Rattle.std.specs.Result.{OkIff}
+use Rattle.std.specs.Str.{all_ascii_digits, IsAscii, IsUtf8}
+use Rattle.std.specs.Str.Parse.{digits_value, ParsesUnsigned, ParsesSigned}
+use Rattle.tz_zone.specs.TzText.{IsRun, IsNumber}
+use Rattle.tz_zone.specs.TzTextFault.{HasNoNumber}
+
+one_more : (digit : Bool) (b : ℕ) (ds : List ℕ) → is_ascii_digit b ≡ digit → all_ascii_digits ds ≡ true → all_ascii_digits (cond digit (b ∷ ds) []) ≡ true
+one_more true b ds e h = ap (λ d. d && all_ascii_digits ds) e ∙ h
+one_more false b ds e h = refl
+
+-- the bytes of a run of digits are digits
+all_digits : (text : List ℕ) → all_ascii_digits (take_while is_ascii_digit text) ≡ true
+all_digits [] = refl
+all_digits (b ∷ bs) = rw (take_while-cons is_ascii_digit b bs) (one_more (is_ascii_digit b) b (take_while is_ascii_digit bs) refl (all_digits bs))
+
+pub run_has_digits : {text digits rest : List ℕ} → IsRun is_ascii_digit text digits rest → all_ascii_digits digits ≡ true
+run_has_digits {text} run = rw run.longest (all_digits text)
+
+own : IsNumeralModel (λ ds. all_ascii_digits ds ≡ true) (digits_value 10)
+own = numerals_by_value _ tells_all_ascii_digits
+
+is_ascii : (ds : List ℕ) → all_ascii_digits ds ≡ true → IsAscii ds
+is_ascii ds h i = elim (cases_lt i (length ds)) [
+  | inl within ↦ let range = digit_at ds i (own.to ds h) within in omega (arith, range.1)
+  | inr past ↦ rw (get_or_past ds i 0 past) (omega arith)
+]
+
+pub digits_are_text : {text digits rest : List ℕ} → IsRun is_ascii_digit text digits rest → IsUtf8 digits
+digits_are_text {digits = digits} run = IsUtf8-from_ascii digits (is_ascii digits (run_has_digits run))
+
+some_digits : (ds : List ℕ) → 0 < length ds → ds ≢ []
+some_digits ds h e = let none : length ds ≡ 0 = ap length e in absurd (omega arith)
+
+has_length : (ds : List ℕ) → ds ≢ [] → 0 < length ds
+has_length [] h = absurd (h refl)
+has_length (d ∷ ds) h = omega arith
+
+pub number_is : {text digits rest : List ℕ} → IsRun is_ascii_digit text digits rest → 0 < length digits → IsNumber text (digits_value 10 digits) rest
+number_is {digits = digits} run some = record { digits = digits; run = run; some = some_digits digits some; value = refl }
+
+pub number_is_none : (bits : ℕ) (text digits rest : List ℕ) → IsRun is_ascii_digit text digits rest → ¬ ((0 < length digits) × (digits_value 10 digits < 2 ^ bits)) → HasNoNumber bits text
+number_is_none bits text digits rest run none n behind number = elim (cases_lt n (2 ^ bits)) [
+  | inl fits ↦ absurd (none (subst (λ ds. (0 < length ds) × (digits_value 10 ds < 2 ^ bits)) same (has_length number.digits number.some, rw (sym number.value) fits)))
+  | inr above ↦ above
+]
+  where
+    same : number.digits ≡ digits
+    same = number.run.longest ∙ sym run.longest
+
+-- what `parse` gives at an unsigned type, and at 32 bits with a sign
+pub unsigned_number : {E : Type 0} (bits : ℕ) (text digits rest : List ℕ) (r : Result ℕ E) → IsRun is_ascii_digit text digits rest → ParsesUnsigned bits 10 digits r → OkIff r ((0 < length digits) × (digits_value 10 digits < 2 ^ bits)) (digits_value 10 digits)
+unsigned_number bits text digits rest r run h = parse_digits own bits digits r h (run_has_digits run)
+
+pub signed_number : {E : Type 0} (text digits rest : List ℕ) (r : Result ℤ E) → IsRun is_ascii_digit text digits rest → ParsesSigned w32 10 digits r → OkIff r ((0 < length digits) × (digits_value 10 digits < 2 ^ 31)) (pos (digits_value 10 digits))
+signed_number text digits rest r run h = parse_signed_digits own w32 digits r h (run_has_digits run)

@@ -1,0 +1,115 @@
+-- Bytes of a TZif file denote one zone, and no fault of theirs is there.
+use Rattle.std.proofs.Common.{◌≡◌, ℕ, length, Bool, List, Option, Some, None, Ok, refl, sym, ap, subst, ◌∙◌, inl, inr, arith}
+use Rattle.std.specs.Prelude.{IfSome, All, alloc_error}
+use Rattle.std.specs.Int.{Width, w32, w64}
+use Rattle.tz_base.specs.declared.error.TzError.{TzError}
+use Rattle.tz_base.specs.declared.error.TzError.TheVariants.{TzFile, LocalTimeType, Memory}
+use Rattle.tz_base.specs.declared.error.parse.ParseDataError.TheVariants.{UnexpectedEof}
+use Rattle.tz_base.specs.declared.error.parse.TzFileError.{TzFileError}
+use Rattle.tz_base.specs.declared.error.parse.TzFileError.TheVariants.{ParseData, InvalidMagicNumber, UnsupportedTzFileVersion, InvalidHeader, InvalidDstIndicator, InvalidTimeZoneDesignationCharIndex, Utf8, InvalidFooter}
+use Rattle.tz_base.specs.declared.error.timezone.TimeZoneError.{TimeZoneError}
+use Rattle.tz_base.specs.declared.error.timezone.LocalTimeTypeError.{LocalTimeTypeError}
+use Rattle.tz_base.specs.declared.error.timezone.LocalTimeTypeError.TheVariants.{InvalidTimeZoneDesignationLength, InvalidTimeZoneDesignationChar, InvalidUtcOffset}
+use Rattle.tz_rule.specs.LocalType.{LocalType, IsDesignation, IsDesignationLength, IsDesignationByte, IsLocalType, IsFirstTypeFault}
+use Rattle.tz_rule.specs.declared.timezone.rule.TransitionRule.{TransitionRule}
+use Rattle.tz_zone.specs.Table.{Zone, zone_with}
+use Rattle.tz_zone.specs.ValidZone.{IsFirstTransitionFault, IsValidZone, IsFirstZoneFault}
+use Rattle.tz_zone.specs.TzFile.{IsHeader, IsUnit, IsTypeRecord, IsContent, IsFramed, IsTzFile, Block, Part, type_at, behind, part_of, footer_of, trimmed, IsFooter, IsExtraRule, is_extended, zone_of_part}
+use Rattle.tz_zone.specs.TzFileFault.{HeaderFails, UnitFails, FrameFails, FooterFails, ExtraRuleFails, TypeFails, ContentFails, FileFails, IsReadFault}
+use Rattle.tz_zone.specs.TzText.{IsTzText}
+use Rattle.tz_zone.specs.TzParts.{HasTables}
+use Rattle.tz_zone.proofs.TextFaults.{no_text_fault, reads_texts}
+use Rattle.tz_zone.specs.declared.parse.tz_file.Tables.{Tables}
+
+-- the parts of a zone, from the tables that were read
+pub zone_of_tables : {A : Type 0} (p : Part) (t : Tables A) (rule : Option TransitionRule) → HasTables p t → zone_with t.transitions.items t.local_time_types.items t.leap_seconds.items rule ≡ zone_of_part p rule
+zone_of_tables p t rule has = rw (has.transitions, has.types, has.leap_seconds) refl
+
+header_holds : (bytes : List ℕ) (e : TzFileError) → IsHeader bytes → HeaderFails bytes e → ⊥
+header_holds bytes (ParseData UnexpectedEof) h short = omega (arith, h.whole, short)
+header_holds bytes InvalidMagicNumber h fault = fault.1 h.magic
+header_holds bytes UnsupportedTzFileVersion h fault = fault.1 h.version
+header_holds bytes InvalidHeader h fault = fault.1 h.counts
+header_holds bytes _ h fault = fault
+
+unit_holds : (w : Width) (bytes : List ℕ) (e : TzFileError) → IsUnit w bytes → UnitFails w bytes e → ⊥
+unit_holds w bytes e u (inl fault) = header_holds bytes e u.header fault
+unit_holds w bytes e u (inr (header, is, short)) = omega (arith, u.whole, short)
+
+frame_holds : (bytes : List ℕ) (e : TzFileError) → IsFramed bytes → FrameFails bytes e → ⊥
+frame_holds bytes e f (inl fault) = unit_holds w32 bytes e f.first fault
+frame_holds bytes e f (inr (inl (first, version, is, more))) = more (f.nothing_behind version)
+frame_holds bytes e f (inr (inr (first, version, fault))) = unit_holds w64 (behind w32 bytes) e (f.second version) fault
+
+footer_holds : (footer : List ℕ) (e : TzFileError) → IsFooter footer → FooterFails footer e → ⊥
+footer_holds footer (Utf8 _) f fault = fault f.utf8
+footer_holds footer InvalidFooter f fault = fault (f.line_feeds, f.text)
+footer_holds footer _ f fault = fault
+
+-- a text denotes one rule
+one_text_rule : (extended : Bool) (text : List ℕ) (r s : TransitionRule) → IsTzText extended text r → IsTzText extended text s → r ≡ s
+one_text_rule extended text r s a b = let same = reads_texts extended text (Ok r) a s b in cc
+
+extra_rule_holds : (extended : Bool) (footer : Option (List ℕ)) (rule : Option TransitionRule) (e : TzError) → IsExtraRule extended footer rule → ExtraRuleFails extended footer e → ⊥
+extra_rule_holds extended None rule e is fault = fault
+extra_rule_holds extended (Some footer) rule e is (inl (f, named, there)) = footer_holds footer f is.0 there
+extra_rule_holds extended (Some footer) None e is (inr (stands, some, there)) = some is.1
+extra_rule_holds extended (Some footer) (Some rule) e is (inr (stands, some, there)) = no_text_fault extended (trimmed footer) rule e is.1.1 there
+
+one_extra_rule : (extended : Bool) (footer : Option (List ℕ)) (r s : Option TransitionRule) → IsExtraRule extended footer r → IsExtraRule extended footer s → r ≡ s
+one_extra_rule extended None r s a b = a ∙ sym b
+one_extra_rule extended (Some footer) None None a b = refl
+one_extra_rule extended (Some footer) None (Some s) a b = absurd (b.1.0 a.1)
+one_extra_rule extended (Some footer) (Some r) None a b = absurd (a.1.0 b.1)
+one_extra_rule extended (Some footer) (Some r) (Some s) a b = ap Some (one_text_rule extended (trimmed footer) r s a.1.1 b.1.1)
+
+each_has : (o : Option (List ℕ)) (P Q : List ℕ → Type 0) → ((name : List ℕ) → P name → Q name) → IfSome o P → IfSome o Q
+each_has (Some name) P Q gives has = gives name has
+each_has None P Q gives has = has
+
+type_made : (t : LocalType) (e : LocalTimeTypeError) → IsLocalType t → IsFirstTypeFault t e → ⊥
+type_made t InvalidUtcOffset is fault = fault is.offset_is
+type_made t InvalidTimeZoneDesignationLength is fault = fault.1 (each_has t.designation IsDesignation IsDesignationLength (λ _ name. name.length_is) is.designation_is)
+type_made t InvalidTimeZoneDesignationChar is fault = fault.2 (each_has t.designation IsDesignation (All IsDesignationByte) (λ _ name. name.bytes_are) is.designation_is)
+
+type_holds : (block : Block) (i : ℕ) (e : TzError) → IsTypeRecord block i → TypeFails block i e → ⊥
+type_holds block i (TzFile InvalidDstIndicator) is fault = fault is.daylight
+type_holds block i (TzFile InvalidTimeZoneDesignationCharIndex) is fault = fault is.name
+type_holds block i (LocalTimeType e) is fault = type_made (type_at block i) e is.type fault.1
+type_holds block i _ is fault = fault
+
+content_holds : (block : Block) (count : ℕ) (e : TzError) → IsContent block count → ContentFails block count e → ⊥
+content_holds block count e c (inl (i, below, fault)) = type_holds block i e (c.types i below) fault
+content_holds block count e c (inr (is, fault)) = fault.2 (c.indicators fault.0 fault.1)
+
+transitions_hold : (z : Zone) (e : TimeZoneError) → IsValidZone z → IsFirstTransitionFault z.transitions (length z.types) e → ⊥
+transitions_hold z e v (i, before, inl (is, fails)) = fails (v.table.transitions_are i).0
+transitions_hold z e v (i, before, inr (is, type, fails)) = fails (v.table.transitions_are i).1
+
+zone_holds : (z : Zone) (e : TzError) → IsValidZone z → IsFirstZoneFault z e → ⊥
+zone_holds z e v (inl (is, none)) = v.table.has_types none
+zone_holds z e v (inr (inl (some, fault, is, at))) = transitions_hold z fault v at
+zone_holds z e v (inr (inr (inl (is, some, transitions, fails)))) = fails v.table.leap_seconds_are
+zone_holds z e v (inr (inr (inr (sound, inl (is, fails))))) = fails v.rule_answers
+zone_holds z e v (inr (inr (inr (sound, inr (is, answers, fails))))) = fails v.rule_agrees
+
+-- no fault of a file is there
+pub file_holds : (bytes : List ℕ) (z : Zone) (e : TzError) → IsTzFile bytes z → FileFails bytes e → ⊥
+file_holds bytes z e f (inl (fault, is, there)) = frame_holds bytes fault f.framed there
+file_holds bytes z e f (inr (inl (framed, there))) = content_holds (part_of bytes).block (part_of bytes).counts.local_type e f.content there
+file_holds bytes z e f (inr (inr (inl (framed, there)))) = extra_rule_holds (is_extended (part_of bytes)) (footer_of bytes) z.extra_rule e f.rule there
+file_holds bytes z e f (inr (inr (inr (framed, content, rule, is, there)))) =
+    let same : z.extra_rule ≡ rule = one_extra_rule (is_extended (part_of bytes)) (footer_of bytes) z.extra_rule rule f.rule is in
+    let zone : z ≡ zone_of_part (part_of bytes) rule = f.denotes ∙ ap (λ r. zone_of_part (part_of bytes) r) same in
+    zone_holds (zone_of_part (part_of bytes) rule) e (subst (λ (made : Zone). IsValidZone made) zone f.valid) there
+
+-- so a reading of it is refused for memory alone
+pub refused_for_memory : (bytes : List ℕ) (z : Zone) (e : TzError) → IsTzFile bytes z → IsReadFault bytes e → e ≡ Memory alloc_error
+refused_for_memory bytes z e f (inl is) = is
+refused_for_memory bytes z e f (inr there) = absurd (file_holds bytes z e f there)
+
+-- the zone that it denotes is one
+pub denotes_one : (bytes : List ℕ) (y z : Zone) → IsTzFile bytes y → IsTzFile bytes z → y ≡ z
+denotes_one bytes y z f g =
+    let same : y.extra_rule ≡ z.extra_rule = one_extra_rule (is_extended (part_of bytes)) (footer_of bytes) y.extra_rule z.extra_rule f.rule g.rule in
+    f.denotes ∙ ap (λ r. zone_of_part (part_of bytes) r) same ∙ sym g.denotes

@@ -1,0 +1,19 @@
+-- One more record is read and its type is pushed; in the end all records are.
+use Rattle.std.proofs.Common.{sym, arith, below_more}
+use Rattle.tz_zone.specs.TzFile.{IsTypeRecord}
+use Rattle.tz_zone.specs.TzParts.{block_view}
+use Rattle.tz_zone.proofs.TzTables.{types_more}
+use Rattle.tz_zone.proofs.parse.tz_file.content.read_types.Goals as goal
+
+pub loop-i-preserved : goal.loop-i-preserved
+loop-i-preserved g c =
+    let block = block_view c.args.part.now.block in
+    record {
+      made = rw (c.in_ok-push.ensures.items, c.loop-i.invariant.made, c.in_ok-read_type.ensures.value) (sym (types_more block c.loop-i.i));
+      are = below_more (λ i. IsTypeRecord block i) c.loop-i.i c.loop-i.invariant.are c.in_ok-read_type.ensures.ok;
+    }
+
+pub returns-clause-ok : goal.returns-clause-ok
+returns-clause-ok g c = λ i below.
+    let end = c.loop-i-test.false in
+    c.loop-i.invariant.are i (omega arith)

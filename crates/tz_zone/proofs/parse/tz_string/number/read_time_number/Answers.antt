@@ -1,0 +1,13 @@
+use Rattle.tz_base.specs.declared.error.parse.TzStringError.TheVariants.{ParseInt}
+use Rattle.std.proofs.Common.{refl, Err}
+use Rattle.tz_zone.proofs.Exits.{exit}
+use Rattle.tz_zone.proofs.TextNumbers.{number_is_none, signed_number}
+use Rattle.tz_zone.proofs.parse.tz_string.number.read_time_number.Goals as goal
+
+pub returns-in_err-number : goal.returns-in_err-number
+returns-in_err-number c =
+    let digits = c.read_digits.result.0.now in
+    let rest = c.read_digits.result.1.now in
+    let inner = c.in_err-number.field-0.0 in
+    exit _ _ (ParseInt inner) _ c.from_residual.ensures.1
+    ((inner, refl), number_is_none 31 c.args.text.now digits rest c.read_digits.ensures (signed_number c.args.text.now digits rest (Err inner) c.read_digits.ensures c.in_err-number.ensures.value.0))

@@ -1,0 +1,37 @@
+use Rattle.std.proofs.Common.{refl, ap, inl, inr}
+use Rattle.tz_base.specs.declared.error.TzError.TheVariants.{TzString}
+use Rattle.tz_zone.proofs.Exits.{exit}
+use Rattle.tz_zone.proofs.TextEnds.{is_over, goes_on}
+use Rattle.tz_zone.proofs.parse.tz_string.read_daylight.Goals as goal
+
+pub returns-in_err-offset : goal.returns-in_err-offset
+returns-in_err-offset c =
+    let name = c.in_ok-name in
+    let f = c.in_err-offset.field-0.0 in
+    let fault = c.in_err-offset.ensures in
+    exit _ _ f _ c.from_residual-in_err-offset.ensures.1
+    (λ extended. inr (name.name.now, name.rest.now, name.ensures, inr (inl (goes_on name.rest.now c.if-is_empty.ensures, fault.0, (f, refl, fault.1)))))
+
+pub returns-then-is_empty-2 : goal.returns-then-is_empty-2
+returns-then-is_empty-2 c =
+    let name = c.in_ok-name in
+    let offset = c.in_ok-offset in
+    λ extended. inr (name.name.now, name.rest.now, name.ensures, inr (inr (offset.offset, offset.rest.now, offset.ensures.0, inl (is_over offset.rest.now c.if-is_empty-2.ensures, refl))))
+
+pub returns-in_err-rules : goal.returns-in_err-rules
+returns-in_err-rules c =
+    let name = c.in_ok-name in
+    let offset = c.in_ok-offset in
+    let missing = c.in_err-rules.ensures in
+    exit _ _ c.in_err-rules.field-0.0 _ c.from_residual-in_err-rules.ensures.1
+    (λ extended. inr (
+      name.name.now,
+      name.rest.now,
+      name.ensures,
+      inr (inr (
+        offset.offset,
+        offset.rest.now,
+        offset.ensures.0,
+        inr (goes_on offset.rest.now c.if-is_empty-2.ensures, inl (missing.0, ap TzString missing.1, missing.2)),
+      )),
+    ))

@@ -1,0 +1,5 @@
+use Rattle.std.proofs.Common.{inl}
+use Rattle.tz_zone.proofs.parse.tz_string.read_last_rule.Goals as goal
+
+pub returns-in-Err : goal.returns-in-Err
+returns-in-Err c = inl c.in-Err.ensures

@@ -1,0 +1,16 @@
+use Rattle.std.proofs.Common.{refl, Ok}
+use Rattle.std.specs.Fn.{FnReturnsAt}
+use Rattle.tz_zone.specs.Settings.{Finds, IsNamedOrTextAnswer}
+use Rattle.tz_zone.specs.SettingsParts.{directories_of, reader_of}
+use Rattle.tz_zone.specs.ZoneRef.{own_zone_of}
+use Rattle.tz_zone.proofs.SettingsAnswers.{opened, opened_bytes}
+use Rattle.tz_zone.proofs.timezone.settings.TimeZoneSettings.parse_name_or_text.Goals as goal
+
+pub returns-in-Ok : goal.returns-in-Ok
+returns-in-Ok g c =
+    let bytes = c.in-Ok.bytes in
+    let settings = c.args.self.now in
+    opened own_zone_of (Ok bytes) c.zone_of_bytes.result (Finds (FnReturnsAt g.F.Fn (reader_of settings)) (directories_of settings) c.args.text.now)
+    (IsNamedOrTextAnswer (FnReturnsAt g.F.Fn (reader_of settings)) (directories_of settings) c.args.text.now) c.in-Ok.ensures
+    (opened_bytes own_zone_of c.zone_of_bytes.result (Ok bytes) bytes c.deref.result.now refl c.deref.ensures.value c.zone_of_bytes.ensures)
+    (λ answer is opens. (Ok bytes, is, opens))

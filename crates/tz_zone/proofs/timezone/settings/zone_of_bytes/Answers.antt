@@ -1,0 +1,12 @@
+use Rattle.std.proofs.Common.{refl, ap, inl, inr}
+use Rattle.tz_base.specs.declared.error.Error.TheVariants.{Tz}
+use Rattle.tz_zone.proofs.TzFileLaws.{file_holds}
+use Rattle.tz_zone.proofs.timezone.settings.zone_of_bytes.Goals as goal
+
+pub returns-in-Err : goal.returns-in-Err
+returns-in-Err g c =
+    let error = c.in-Err.error in
+    elim c.in-Err.ensures.err [
+      | inl memory ↦ inl (ap Tz memory)
+      | inr fault ↦ inr (λ zone is. file_holds c.args.bytes.now zone error is fault, error, refl, fault)
+    ]

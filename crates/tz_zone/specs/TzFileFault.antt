@@ -1,0 +1,79 @@
+-- Which faults of a TZif file are there. (RFC 8536, section 3.)
+-- One of a header, a block or the file's end is there when what comes before it is as stated, one of the content or the footer
+-- when headers and blocks are, and one of the zone's checks when all else is.
+use Rattle.std.specs.Prelude.{◌≡◌, ◌≢◌, ℕ, ◌+◌, ◌*◌, ◌<◌, ◌≤◌, ◌⊎◌, Bool, List, [], length, Option, Some, None, IsUtf8, slice_index, alloc_error}
+use Rattle.std.specs.Int.{Width, w32, w64}
+use Rattle.tz_base.specs.declared.error.TzError.{TzError}
+use Rattle.tz_base.specs.declared.error.TzError.TheVariants.{TzFile, LocalTimeType, Memory}
+use Rattle.tz_base.specs.declared.error.parse.ParseDataError.TheVariants.{UnexpectedEof}
+use Rattle.tz_base.specs.declared.error.parse.TzFileError.{TzFileError}
+use Rattle.tz_base.specs.declared.error.parse.TzFileError.TheVariants.{ParseData, InvalidMagicNumber, UnsupportedTzFileVersion, InvalidHeader, InvalidDstIndicator, InvalidTimeZoneDesignationCharIndex, InvalidStdWallUtLocal, RemainingDataV1, Utf8, InvalidFooter}
+use Rattle.tz_rule.specs.LocalType.{IsFirstTypeFault}
+use Rattle.tz_rule.specs.declared.timezone.rule.TransitionRule.{TransitionRule}
+use Rattle.tz_zone.specs.TzTextFault.{IsTzTextFault}
+use Rattle.tz_zone.specs.ValidZone.{IsFirstZoneFault}
+use Rattle.tz_zone.specs.TzFile.{HasMagic, IsVersion, AreCounts, counts_of, IsHeader, end_at, IsUnit, behind, Block, IsFlag, HasName, type_at, HasIndicators, IsContent, IsFirstVersion, IsFramed, part_of, footer_of, trimmed, IsBetweenLineFeeds, MayBeText, IsFooter, IsExtraRule, is_extended, zone_of_part}
+
+-- faults of the header at the front
+abbrev pub HeaderFails : List ℕ → TzFileError → Type 0
+HeaderFails bytes (ParseData UnexpectedEof) = length bytes < 44
+HeaderFails bytes InvalidMagicNumber = (4 ≤ length bytes) × ¬ HasMagic bytes
+HeaderFails bytes UnsupportedTzFileVersion = (5 ≤ length bytes) × ¬ IsVersion (slice_index bytes 4)
+HeaderFails bytes InvalidHeader = (44 ≤ length bytes) × ¬ AreCounts (counts_of bytes)
+HeaderFails _ _ = ⊥
+
+-- of the header or its block
+abbrev pub UnitFails : Width → List ℕ → TzFileError → Type 0
+UnitFails w bytes e = HeaderFails bytes e ⊎ (IsHeader bytes × (e ≡ ParseData UnexpectedEof) × (length bytes < end_at w (counts_of bytes)))
+
+-- of headers, blocks or the file's end
+abbrev pub FrameFails : List ℕ → TzFileError → Type 0
+FrameFails bytes e =
+    UnitFails w32 bytes e
+    ⊎ (IsUnit w32 bytes × IsFirstVersion bytes × (e ≡ RemainingDataV1) × (behind w32 bytes ≢ []))
+    ⊎ (IsUnit w32 bytes × ¬ IsFirstVersion bytes × UnitFails w64 (behind w32 bytes) e)
+
+-- of type record i
+abbrev pub TypeFails : Block → ℕ → TzError → Type 0
+TypeFails block i (TzFile InvalidDstIndicator) = ¬ IsFlag (slice_index block.types (i * 6 + 4))
+TypeFails block i (TzFile InvalidTimeZoneDesignationCharIndex) = ¬ HasName block.names (slice_index block.types (i * 6 + 5))
+TypeFails block i (LocalTimeType fault) = HasName block.names (slice_index block.types (i * 6 + 5)) × IsFirstTypeFault (type_at block i) fault
+TypeFails _ _ _ = ⊥
+
+abbrev pub SomeTypeFails : Block → ℕ → TzError → Type 0
+SomeTypeFails block count e = (i : ℕ) × (i < count) × TypeFails block i e
+
+-- of the indicators
+abbrev pub IndicatorsFail : Block → ℕ → Type 0
+IndicatorsFail block count = (i : ℕ) × (i < count) × ¬ HasIndicators block i
+
+-- of the content of a block with so many types
+abbrev pub ContentFails : Block → ℕ → TzError → Type 0
+ContentFails block count e = SomeTypeFails block count e ⊎ ((e ≡ TzFile InvalidStdWallUtLocal) × IndicatorsFail block count)
+
+-- of a footer around its text
+abbrev pub FooterFails : List ℕ → TzFileError → Type 0
+FooterFails footer (Utf8 _) = ¬ IsUtf8 footer
+FooterFails footer InvalidFooter = ¬ (IsBetweenLineFeeds footer × MayBeText (trimmed footer))
+FooterFails _ _ = ⊥
+
+-- of the rule behind the tables
+abbrev pub ExtraRuleFails : Bool → Option (List ℕ) → TzError → Type 0
+ExtraRuleFails extended None e = ⊥
+ExtraRuleFails extended (Some footer) e =
+    ((fault : TzFileError) × (e ≡ TzFile fault) × FooterFails footer fault)
+    ⊎ (IsFooter footer × (trimmed footer ≢ []) × IsTzTextFault extended (trimmed footer) e)
+
+-- the bytes fail as a file in this way
+abbrev pub FileFails : List ℕ → TzError → Type 0
+FileFails bytes e =
+    ((fault : TzFileError) × (e ≡ TzFile fault) × FrameFails bytes fault)
+    ⊎ (IsFramed bytes × ContentFails (part_of bytes).block (part_of bytes).counts.local_type e)
+    ⊎ (IsFramed bytes × ExtraRuleFails (is_extended (part_of bytes)) (footer_of bytes) e)
+    ⊎ (IsFramed bytes × IsContent (part_of bytes).block (part_of bytes).counts.local_type
+    × (rule : Option TransitionRule) × IsExtraRule (is_extended (part_of bytes)) (footer_of bytes) rule
+    × IsFirstZoneFault (zone_of_part (part_of bytes) rule) e)
+
+-- a reading is refused for memory, or for a fault that is there
+abbrev pub IsReadFault : List ℕ → TzError → Type 0
+IsReadFault bytes e = (e ≡ Memory alloc_error) ⊎ FileFails bytes e

@@ -1,0 +1,159 @@
+-- Why a text is no TZ text: the reading reaches a place, and what has to hold there does not. (POSIX.1-2017, Base Definitions, 8.3; RFC 8536, section 3.3.1.)
+-- A bad name and a number out of range do not stop the reading; a missing number and a missing or wrong byte do.
+use Rattle.std.specs.Prelude.{◌≡◌, ◌≢◌, ℕ, ◌^◌, ◌<◌, ◌≤◌, Bool, false, ◌⊎◌, pos, List, [], ◌∷◌, Some}
+use Rattle.std.specs.declared.num.ParseIntError.{ParseIntError}
+use Rattle.tz_base.specs.declared.error.TzError.{TzError}
+use Rattle.tz_base.specs.declared.error.TzError.TheVariants.{TzString, LocalTimeType, TransitionRule}
+use Rattle.tz_base.specs.declared.error.parse.ParseDataError.{ParseDataError}
+use Rattle.tz_base.specs.declared.error.parse.ParseDataError.TheVariants.{UnexpectedEof, InvalidData}
+use Rattle.tz_base.specs.declared.error.parse.TzStringError.{TzStringError}
+use Rattle.tz_base.specs.declared.error.parse.TzStringError.TheVariants.{ParseInt, ParseData, InvalidOffsetHour, InvalidOffsetMinute, InvalidOffsetSecond, InvalidDayTimeHour, InvalidDayTimeMinute, InvalidDayTimeSecond, MissingDstStartEndRules, RemainingData}
+use Rattle.tz_base.specs.declared.error.timezone.LocalTimeTypeError.{LocalTimeTypeError}
+use Rattle.tz_base.specs.declared.error.timezone.TransitionRuleError.{TransitionRuleError}
+use Rattle.tz_base.specs.declared.error.timezone.TransitionRuleError.TheVariants.{InvalidRuleDayJulianDay, InvalidRuleDayMonth, InvalidRuleDayWeek, InvalidRuleDayWeekDay}
+use Rattle.tz_rule.specs.LocalType.{IsFirstTypeFault, type_of}
+use Rattle.tz_rule.specs.JulianDay.{IsJulianDay, IsZeroBasedDay}
+use Rattle.tz_rule.specs.MonthWeek.{IsRuleMonth, IsRuleWeek, IsRuleWeekDay}
+use Rattle.tz_rule.specs.Alternate.{IsFirstRuleFault}
+use Rattle.tz_zone.specs.declared.parse.tz_string.time.WrittenTime.{WrittenTime}
+use Rattle.tz_zone.specs.TzText.{Begins, IsRun, IsNumber, is_in_brackets, IsName, IsPart, IsSign, IsSignedTime, IsDayTimeSign, IsDay, IsRuleText, IsDaylightOffset, AlternateText, IsAlternateText, IsAlternateInRange, offset_hours, day_time_hours, rule_of}
+
+-- something is read at the front, and this holds of it and of the bytes behind
+abbrev pub Reached : {A : Type 0} → (List ℕ → A → List ℕ → Type 0) → List ℕ → (A → List ℕ → Type 0) → Type 0
+Reached {A} reads text holds = (x : A) × (rest : List ℕ) × reads text x rest × holds x rest
+
+-- the byte does not stand at the front, because the text is over or because of another one
+abbrev pub IsMissingByte : ℕ → List ℕ → ParseDataError → Type 0
+IsMissingByte byte text UnexpectedEof = text ≡ []
+IsMissingByte byte text InvalidData = (text ≢ []) × ¬ Begins byte text
+
+-- digits are missing, or their number does not fit so many bits
+abbrev pub HasNoNumber : ℕ → List ℕ → Type 0
+HasNoNumber bits text = (n : ℕ) (rest : List ℕ) → IsNumber text n rest → 2 ^ bits ≤ n
+
+-- the refusal of a number, whatever the conversion says of it
+abbrev pub IsParseInt : TzStringError → Type 0
+IsParseInt e = (inner : ParseIntError) × (e ≡ ParseInt inner)
+
+-- names for the faults of a time's numbers
+pub record TimeFaults : Type 0 where
+  pub hour : TzStringError
+  pub minute : TzStringError
+  pub second : TzStringError
+
+abbrev pub offset_faults : TimeFaults
+offset_faults = record { hour = InvalidOffsetHour; minute = InvalidOffsetMinute; second = InvalidOffsetSecond }
+
+abbrev pub day_time_faults : TimeFaults
+day_time_faults = record { hour = InvalidDayTimeHour; minute = InvalidDayTimeMinute; second = InvalidDayTimeSecond }
+
+-- a number of a time is missing or does not fit 31 bits, or it is above a limit
+abbrev pub IsNumberFault : ℕ → TzStringError → List ℕ → TzStringError → Type 0
+IsNumberFault limit named text e =
+    (IsParseInt e × HasNoNumber 31 text)
+    ⊎ ((e ≡ named) × Reached IsNumber text (λ n rest. limit < n))
+
+-- the same of minutes or seconds behind a colon
+abbrev pub IsPartFault : TzStringError → List ℕ → TzStringError → Type 0
+IsPartFault named text e = (number : List ℕ) × (text ≡ 58 ∷ number) × IsNumberFault 59 named number e
+
+abbrev pub IsHmsFault : ℕ → TimeFaults → List ℕ → TzStringError → Type 0
+IsHmsFault hours faults text e =
+    IsNumberFault hours faults.hour text e
+    ⊎ Reached IsNumber text (λ n after_hours. IsPartFault faults.minute after_hours e
+    ⊎ Reached IsPart after_hours (λ n after_minutes. IsPartFault faults.second after_minutes e))
+
+-- a time that is read has a number above its limit
+abbrev pub IsTimeAbove : ℕ → TimeFaults → WrittenTime → TzStringError → Type 0
+IsTimeAbove hours faults t e =
+    ((e ≡ faults.hour) × (hours < t.hours)) ⊎ ((e ≡ faults.minute) × (59 < t.minutes)) ⊎ ((e ≡ faults.second) × (59 < t.seconds))
+
+abbrev pub IsOffsetFault : List ℕ → TzStringError → Type 0
+IsOffsetFault text e = Reached IsSign text (λ minus unsigned. IsHmsFault offset_hours offset_faults unsigned e)
+
+abbrev pub IsDayTimeFault : Bool → List ℕ → TzStringError → Type 0
+IsDayTimeFault extended text e = Reached (IsDayTimeSign extended) text (λ minus unsigned. IsHmsFault (day_time_hours extended) day_time_faults unsigned e)
+
+-- a fault of the text itself
+abbrev pub InText : TzError → (TzStringError → Type 0) → Type 0
+InText e is = (f : TzStringError) × (e ≡ TzString f) × is f
+
+-- the byte is missing, or what follows it has a fault
+abbrev pub FailsFrom : ℕ → List ℕ → TzError → (List ℕ → Type 0) → Type 0
+FailsFrom byte text e fails =
+    ((f : ParseDataError) × (e ≡ TzString (ParseData f)) × IsMissingByte byte text f)
+    ⊎ ((rest : List ℕ) × (text ≡ byte ∷ rest) × fails rest)
+
+-- a number of a day is missing or does not fit its type, or it is out of range
+abbrev pub IsDayNumberFault : ℕ → (ℕ → Type 0) → TransitionRuleError → List ℕ → TzError → Type 0
+IsDayNumberFault bits in_range named text e =
+    (InText e IsParseInt × HasNoNumber bits text)
+    ⊎ ((e ≡ TransitionRule named) × Reached IsNumber text (λ n rest. ¬ in_range n))
+
+abbrev pub IsMonthWeekDayFault : List ℕ → TzError → Type 0
+IsMonthWeekDayFault text e =
+    IsDayNumberFault 8 IsRuleMonth InvalidRuleDayMonth text e
+    ⊎ Reached IsNumber text (λ month after_month. FailsFrom 46 after_month e (λ week_text.
+    IsDayNumberFault 8 IsRuleWeek InvalidRuleDayWeek week_text e
+    ⊎ Reached IsNumber week_text (λ week after_week. FailsFrom 46 after_week e (λ day_text.
+    IsDayNumberFault 8 IsRuleWeekDay InvalidRuleDayWeekDay day_text e))))
+
+abbrev pub IsDayFault : List ℕ → TzError → Type 0
+IsDayFault text e =
+    (¬ Begins 74 text × ¬ Begins 77 text × IsDayNumberFault 16 IsZeroBasedDay InvalidRuleDayJulianDay text e)
+    ⊎ ((number : List ℕ) × (text ≡ 74 ∷ number) × IsDayNumberFault 16 IsJulianDay InvalidRuleDayJulianDay number e)
+    ⊎ ((month : List ℕ) × (text ≡ 77 ∷ month) × IsMonthWeekDayFault month e)
+
+-- a day, or the time behind a slash
+abbrev pub IsRuleTextFault : Bool → List ℕ → TzError → Type 0
+IsRuleTextFault extended text e =
+    IsDayFault text e
+    ⊎ Reached IsDay text (λ day after_day. (time : List ℕ) × (after_day ≡ 47 ∷ time) × InText e (IsDayTimeFault extended time))
+
+-- the last rule, and nothing behind it
+abbrev pub IsLastRuleFault : Bool → List ℕ → TzError → Type 0
+IsLastRuleFault extended text e =
+    IsRuleTextFault extended text e
+    ⊎ Reached (IsRuleText extended) text (λ end after_end. (after_end ≢ []) × (e ≡ TzString RemainingData))
+
+-- the start, a comma and the end
+abbrev pub IsRulesFault : Bool → List ℕ → TzError → Type 0
+IsRulesFault extended text e =
+    IsRuleTextFault extended text e
+    ⊎ Reached (IsRuleText extended) text (λ start after_start. FailsFrom 44 after_start e (λ end_text. IsLastRuleFault extended end_text e))
+
+-- an angle bracket is not closed
+abbrev pub IsUnclosed : List ℕ → Type 0
+IsUnclosed text = (quoted : List ℕ) × (name : List ℕ) × (text ≡ 60 ∷ quoted) × IsRun is_in_brackets quoted name []
+
+-- a name is not closed, or is no designation
+abbrev pub IsNameFault : List ℕ → TzError → Type 0
+IsNameFault text e =
+    ((e ≡ TzString (ParseData UnexpectedEof)) × IsUnclosed text)
+    ⊎ Reached IsName text (λ name rest. (f : LocalTimeTypeError) × (e ≡ LocalTimeType f) × IsFirstTypeFault (type_of (pos 0) false (Some name)) f)
+
+-- the text is over where rules have to follow
+abbrev pub LacksRules : List ℕ → TzError → Type 0
+LacksRules text e = (text ≡ []) × (e ≡ TzString MissingDstStartEndRules)
+
+-- from the daylight name on
+abbrev pub IsDaylightFault : Bool → List ℕ → TzError → Type 0
+IsDaylightFault extended text e =
+    IsNameFault text e
+    ⊎ Reached IsName text (λ name after_name. LacksRules after_name e
+    ⊎ ((after_name ≢ []) × ¬ Begins 44 after_name × InText e (IsOffsetFault after_name))
+    ⊎ Reached IsDaylightOffset after_name (λ offset after_offset. LacksRules after_offset e
+    ⊎ ((after_offset ≢ []) × FailsFrom 44 after_offset e (λ rules. IsRulesFault extended rules e))))
+
+-- the whole text is read and in range, and its rule is refused
+abbrev pub IsRefusedRule : Bool → List ℕ → TzError → Type 0
+IsRefusedRule extended text e =
+    (a : AlternateText) × IsAlternateText extended text a × IsAlternateInRange extended a
+    × (f : TransitionRuleError) × (e ≡ TransitionRule f) × IsFirstRuleFault (rule_of a) f
+
+abbrev pub IsTzTextFault : Bool → List ℕ → TzError → Type 0
+IsTzTextFault extended text e =
+    IsNameFault text e
+    ⊎ Reached IsName text (λ name after_name. InText e (IsOffsetFault after_name)
+    ⊎ Reached IsSignedTime after_name (λ offset after_offset. (after_offset ≢ []) × IsDaylightFault extended after_offset e))
+    ⊎ IsRefusedRule extended text e

@@ -1,0 +1,117 @@
+//! The block behind a header. (RFC 8536, section 3.2)
+
+ghost use Rattle.std.specs.Prelude.{◌≡◌, ◌≤◌, length, IfOk, OnOk, IfErr};
+ghost use Rattle.tz_zone.specs.TzFile.{indexes_at, types_at, names_at, leaps_at, std_walls_at, ut_locals_at, end_at, block_with, part_with, IsUnit};
+ghost use Rattle.tz_zone.specs.TzFileFault.{UnitFails};
+ghost use Rattle.tz_zone.specs.TzParts.{width_of, counts_view, block_view, part_view, HasSizes, IsSized};
+
+use super::header::{Counts, HEADER_LEN, read_header};
+use super::number::TimeSize;
+use tz_base::error::parse::{ParseDataError, TzFileError};
+
+/// Where the parts of a block begin behind their header, and where it ends.
+#[derive(Clone, Copy)]
+struct Layout {
+    indexes: usize,
+    types: usize,
+    names: usize,
+    leaps: usize,
+    std_walls: usize,
+    ut_locals: usize,
+    end: usize,
+}
+
+impl Layout {
+    /// The layout of a block with these counts.
+    fn new(size: TimeSize, counts: Counts) -> Self
+        ensures { result ≡ record {
+          indexes = indexes_at (width_of size) (counts_view counts);
+          types = types_at (width_of size) (counts_view counts);
+          names = names_at (width_of size) (counts_view counts);
+          leaps = leaps_at (width_of size) (counts_view counts);
+          std_walls = std_walls_at (width_of size) (counts_view counts);
+          ut_locals = ut_locals_at (width_of size) (counts_view counts);
+          end = end_at (width_of size) (counts_view counts);
+        } }
+    {
+        let indexes = HEADER_LEN + size.times_len(counts.transition);
+        let types = indexes + counts.transition as usize;
+        let names = types + counts.local_type as usize * 6;
+        let leaps = names + counts.char as usize;
+        let std_walls = leaps + size.leaps_len(counts.leap);
+        let ut_locals = std_walls + counts.std_wall as usize;
+        let end = ut_locals + counts.ut_local as usize;
+        Layout {
+            indexes,
+            types,
+            names,
+            leaps,
+            std_walls,
+            ut_locals,
+            end,
+        }
+    }
+}
+
+/// The parts of a block.
+#[derive(Clone, Copy)]
+pub(super) struct Block<'a> {
+    pub(super) times: &'a [u8],
+    pub(super) indexes: &'a [u8],
+    pub(super) types: &'a [u8],
+    pub(super) names: &'a [u8],
+    pub(super) leaps: &'a [u8],
+    pub(super) std_walls: &'a [u8],
+    pub(super) ut_locals: &'a [u8],
+}
+
+/// A header's counts, its block, and the bytes behind it.
+#[derive(Clone, Copy)]
+pub(super) struct Part<'a> {
+    pub(super) size: TimeSize,
+    pub(super) version: u8,
+    pub(super) counts: Counts,
+    pub(super) block: Block<'a>,
+    pub(super) behind: &'a [u8],
+}
+
+/// Cuts a block.
+#[tactic(auto, unfolding(crate::specs::TzFile::block_with))]
+fn cut_block(size: TimeSize, counts: Counts, bytes: &[u8]) -> Block<'_>
+    requires { end_at (width_of size) (counts_view counts) ≤ length bytes.now }
+    ensures value { block_view result ≡ block_with (width_of size) (counts_view counts) bytes.now }
+    ensures sizes { HasSizes (width_of size) (counts_view counts) (block_view result) }
+{
+    let layout = Layout::new(size, counts);
+    Block {
+        times: &bytes[HEADER_LEN..layout.indexes],
+        indexes: &bytes[layout.indexes..layout.types],
+        types: &bytes[layout.types..layout.names],
+        names: &bytes[layout.names..layout.leaps],
+        leaps: &bytes[layout.leaps..layout.std_walls],
+        std_walls: &bytes[layout.std_walls..layout.ut_locals],
+        ut_locals: &bytes[layout.ut_locals..layout.end],
+    }
+}
+
+/// Reads the header at the front, and cuts its block.
+#[tactic(auto, unfolding(crate::specs::TzFile::behind))]
+pub(super) fn read_unit(size: TimeSize, bytes: &[u8]) -> Result<Part<'_>, TzFileError>
+    ensures value { IfOk result (λ part. part_view part ≡ part_with (width_of size) bytes.now) }
+    ensures sizes { IfOk result IsSized }
+    ensures ok { OnOk result (IsUnit (width_of size) bytes.now) }
+    ensures err { IfErr result (UnitFails (width_of size) bytes.now) }
+{
+    let counts = read_header(bytes)?;
+    let end = Layout::new(size, counts).end;
+    if bytes.len() < end {
+        return Err(TzFileError::ParseData(ParseDataError::UnexpectedEof));
+    }
+    Ok(Part {
+        size,
+        version: bytes[4],
+        counts,
+        block: cut_block(size, counts, bytes),
+        behind: &bytes[end..],
+    })
+}

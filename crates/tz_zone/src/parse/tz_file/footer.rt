@@ -1,0 +1,100 @@
+//! The footer behind the second block: a TZ text between two line feeds. (RFC 8536, section 3.3)
+
+ghost use Rattle.std.specs.Prelude.{◌≡◌, ◌≢◌, ◌-◌, [], Some, Contains, length, option_copied, slice_get, IfOk, IfErr, OnOk, MatchBool};
+ghost use Rattle.tz_zone.specs.TzFile.{trimmed, IsBetweenLineFeeds, MayBeText, IsFooter, IsExtraRule};
+ghost use Rattle.tz_zone.specs.TzFileFault.{FooterFails, ExtraRuleFails};
+
+use crate::parse::tz_string::parse_posix_tz;
+use crate::timezone::TransitionRule;
+use std::str;
+use tz_base::error::TzError;
+use tz_base::error::parse::TzFileError;
+
+/// Whether the first byte is this one.
+fn begins_with(bytes: &[u8], byte: u8) -> bool
+    ensures { MatchBool result (slice_get bytes.now 0 ≡ Some byte) (slice_get bytes.now 0 ≢ Some byte) }
+{
+    match bytes.first() {
+        Some(first) => *first == byte,
+        None => false,
+    }
+}
+
+/// Whether the last byte is this one.
+fn ends_with(bytes: &[u8], byte: u8) -> bool
+    ensures { MatchBool result (slice_get bytes.now (length bytes.now - 1) ≡ Some byte) (slice_get bytes.now (length bytes.now - 1) ≢ Some byte) }
+{
+    match bytes.last() {
+        Some(last) => *last == byte,
+        None => false,
+    }
+}
+
+/// Whether the first and the last byte are line feeds.
+fn is_between_line_feeds(footer: &[u8]) -> bool
+    ensures { MatchBool result (IsBetweenLineFeeds footer.now) (¬ IsBetweenLineFeeds footer.now) }
+{
+    begins_with(footer, b'\n') && ends_with(footer, b'\n')
+}
+
+/// Whether a zero byte is among the bytes.
+fn has_zero(bytes: &[u8]) -> bool
+    ensures { MatchBool result (Contains bytes.now 0) (¬ Contains bytes.now 0) }
+{
+    bytes.contains(&0)
+}
+
+/// Whether a TZ text may stand in a footer.
+fn may_be_text(text: &[u8]) -> bool
+    ensures { MatchBool result (MayBeText text.now) (¬ MayBeText text.now) }
+{
+    !begins_with(text, b':') && !has_zero(text)
+}
+
+/// The bytes without white space at their ends.
+fn trim(bytes: &[u8]) -> &[u8]
+    ensures { result.now ≡ trimmed bytes.now }
+{
+    bytes.trim_ascii()
+}
+
+/// The text of a footer.
+fn footer_text(footer: &[u8]) -> Result<&[u8], TzFileError>
+    ensures value { IfOk result (λ text. text.now ≡ trimmed footer.now) }
+    ensures ok { OnOk result (IsFooter footer.now) }
+    ensures err { IfErr result (FooterFails footer.now) }
+{
+    str::from_utf8(footer)?;
+    let text = trim(footer);
+    if !is_between_line_feeds(footer) || !may_be_text(text) {
+        return Err(TzFileError::InvalidFooter);
+    }
+    Ok(text)
+}
+
+/// The rule of a footer, if its text is not empty.
+fn read_rule(footer: &[u8], extended: bool) -> Result<Option<TransitionRule>, TzError>
+    ensures ok { IfOk result (IsExtraRule extended (Some footer.now)) }
+    ensures err { IfErr result (ExtraRuleFails extended (Some footer.now)) }
+{
+    let text = footer_text(footer)?;
+    if text.is_empty() {
+        return Ok(None);
+    }
+    let rule = parse_posix_tz(text, extended)?;
+    Ok(Some(rule))
+}
+
+/// The rule of a file that may have a footer.
+pub(super) fn read_extra_rule(
+    footer: Option<&[u8]>,
+    extended: bool,
+) -> Result<Option<TransitionRule>, TzError>
+    ensures ok { IfOk result (IsExtraRule extended (option_copied footer.entry)) }
+    ensures err { IfErr result (ExtraRuleFails extended (option_copied footer.entry)) }
+{
+    match footer {
+        Some(footer) => read_rule(footer, extended),
+        None => Ok(None),
+    }
+}

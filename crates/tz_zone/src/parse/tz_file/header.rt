@@ -1,0 +1,101 @@
+//! The header before a block. (RFC 8536, section 3.1)
+
+ghost use Rattle.std.specs.Prelude.{◌≡◌, ◌≤◌, ◌<◌, ◌^◌, length, MatchBool, MatchResult, IfOk, OnOk, IfErr};
+ghost use Rattle.tz_zone.specs.TzFile.{AreCounts, counts_of, HasMagic, IsIndicatorCount, IsVersion, IsHeader};
+ghost use Rattle.tz_zone.specs.TzFileFault.{HeaderFails};
+ghost use Rattle.tz_zone.specs.TzParts.{counts_view};
+
+use super::number::count_at;
+use tz_base::error::parse::{ParseDataError, TzFileError};
+
+/// The bytes of a header.
+pub(super) const HEADER_LEN: usize = 44;
+
+/// How many of each the block has.
+#[derive(Clone, Copy)]
+pub(super) struct Counts {
+    pub(super) ut_local: u32,
+    pub(super) std_wall: u32,
+    pub(super) leap: u32,
+    pub(super) transition: u32,
+    pub(super) local_type: u32,
+    pub(super) char: u32,
+}
+
+/// Whether there may be so many indicators of so many types.
+fn is_indicator_count(count: u32, local_types: u32) -> bool
+    ensures { MatchBool result (IsIndicatorCount count local_types) (¬ IsIndicatorCount count local_types) }
+{
+    count == 0 || count == local_types
+}
+
+impl Counts {
+    /// The counts of a header.
+    #[tactic(auto, unfolding(crate::specs::TzFile::counts_of))]
+    fn read(bytes: &[u8]) -> Self
+        requires { 44 ≤ length bytes.now }
+        ensures { counts_view result ≡ counts_of bytes.now }
+    {
+        Counts {
+            ut_local: count_at(bytes, 20),
+            std_wall: count_at(bytes, 24),
+            leap: count_at(bytes, 28),
+            transition: count_at(bytes, 32),
+            local_type: count_at(bytes, 36),
+            char: count_at(bytes, 40),
+        }
+    }
+
+    /// Whether the counts fit together.
+    fn are_counts(self) -> bool
+        ensures { MatchBool result (AreCounts (counts_view self)) (¬ AreCounts (counts_view self)) }
+    {
+        self.local_type != 0
+            && self.char != 0
+            && is_indicator_count(self.ut_local, self.local_type)
+            && is_indicator_count(self.std_wall, self.local_type)
+    }
+}
+
+/// Whether the first bytes are those of a TZif file.
+fn has_magic(bytes: &[u8]) -> bool
+    requires { 4 ≤ length bytes.now }
+    ensures { MatchBool result (HasMagic bytes.now) (¬ HasMagic bytes.now) }
+{
+    bytes.starts_with(b"TZif")
+}
+
+/// Whether the version is one that is read.
+fn is_version(byte: u8) -> bool
+    ensures { MatchBool result (IsVersion byte) (¬ IsVersion byte) }
+{
+    matches!(byte, 0 | b'2' | b'3')
+}
+
+/// Reads the header at the front.
+pub(super) fn read_header(bytes: &[u8]) -> Result<Counts, TzFileError>
+    ensures value { IfOk result (λ counts. counts_view counts ≡ counts_of bytes.now) }
+    ensures ok { OnOk result (IsHeader bytes.now) }
+    ensures err { IfErr result (HeaderFails bytes.now) }
+{
+    if bytes.len() < 4 {
+        return Err(TzFileError::ParseData(ParseDataError::UnexpectedEof));
+    }
+    if !has_magic(bytes) {
+        return Err(TzFileError::InvalidMagicNumber);
+    }
+    if bytes.len() < 5 {
+        return Err(TzFileError::ParseData(ParseDataError::UnexpectedEof));
+    }
+    if !is_version(bytes[4]) {
+        return Err(TzFileError::UnsupportedTzFileVersion);
+    }
+    if bytes.len() < HEADER_LEN {
+        return Err(TzFileError::ParseData(ParseDataError::UnexpectedEof));
+    }
+    let counts = Counts::read(bytes);
+    if !counts.are_counts() {
+        return Err(TzFileError::InvalidHeader);
+    }
+    Ok(counts)
+}

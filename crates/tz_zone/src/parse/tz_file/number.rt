@@ -1,0 +1,113 @@
+//! Numbers of a file: the most significant byte comes first. (RFC 8536, section 3)
+
+ghost use Rattle.std.specs.Prelude.{◌≡◌, ◌+◌, ◌*◌, ◌≤◌, length, take, drop};
+ghost use Rattle.std.specs.Int.{w32, w64, byte_len};
+ghost use Rattle.tz_zone.specs.TzFile.{number_at, signed_at};
+ghost use Rattle.tz_zone.specs.TzParts.{width_of};
+
+/// How many bytes a time of a block has.
+#[derive(Clone, Copy)]
+pub(super) enum TimeSize {
+    /// Those of version 1.
+    Four,
+    /// Those from version 2 on.
+    Eight,
+}
+
+impl TimeSize {
+    /// The bytes of one time.
+    pub(super) fn len(self) -> usize
+        ensures value { result ≡ byte_len (width_of self) }
+        ensures small { result ≤ 8 }
+    {
+        match self {
+            TimeSize::Four => 4,
+            TimeSize::Eight => 8,
+        }
+    }
+
+    /// The bytes of so many times.
+    pub(super) fn times_len(self, count: u32) -> usize
+        ensures value { result ≡ count * byte_len (width_of self) }
+        ensures small { result ≤ 8 * count }
+    {
+        match self {
+            TimeSize::Four => count as usize * 4,
+            TimeSize::Eight => count as usize * 8,
+        }
+    }
+
+    /// The bytes of so many leap seconds, each a time and four bytes.
+    pub(super) fn leaps_len(self, count: u32) -> usize
+        ensures value { result ≡ count * (byte_len (width_of self) + 4) }
+        ensures small { result ≤ 12 * count }
+    {
+        match self {
+            TimeSize::Four => count as usize * 8,
+            TimeSize::Eight => count as usize * 12,
+        }
+    }
+}
+
+/// The four bytes at a place.
+fn four_at(bytes: &[u8], at: usize) -> [u8; 4]
+    requires { at + 4 ≤ length bytes.now }
+    ensures { result ≡ take 4 (drop at bytes.now) }
+{
+    [bytes[at], bytes[at + 1], bytes[at + 2], bytes[at + 3]]
+}
+
+/// The eight bytes at a place.
+fn eight_at(bytes: &[u8], at: usize) -> [u8; 8]
+    requires { at + 8 ≤ length bytes.now }
+    ensures { result ≡ take 8 (drop at bytes.now) }
+{
+    [
+        bytes[at],
+        bytes[at + 1],
+        bytes[at + 2],
+        bytes[at + 3],
+        bytes[at + 4],
+        bytes[at + 5],
+        bytes[at + 6],
+        bytes[at + 7],
+    ]
+}
+
+/// The count at a place.
+#[tactic(auto, unfolding(crate::specs::TzFile::number_at))]
+pub(super) fn count_at(bytes: &[u8], at: usize) -> u32
+    requires { at + 4 ≤ length bytes.now }
+    ensures { result ≡ number_at w32 bytes.now at }
+{
+    u32::from_be_bytes(four_at(bytes, at))
+}
+
+/// The signed number of four bytes at a place.
+#[tactic(auto, unfolding(crate::specs::TzFile::number_at, crate::specs::TzFile::signed_at))]
+pub(super) fn signed_at(bytes: &[u8], at: usize) -> i32
+    requires { at + 4 ≤ length bytes.now }
+    ensures { result ≡ signed_at w32 bytes.now at }
+{
+    i32::from_be_bytes(four_at(bytes, at))
+}
+
+/// The signed number of eight bytes at a place.
+#[tactic(auto, unfolding(crate::specs::TzFile::number_at, crate::specs::TzFile::signed_at))]
+fn long_signed_at(bytes: &[u8], at: usize) -> i64
+    requires { at + 8 ≤ length bytes.now }
+    ensures { result ≡ signed_at w64 bytes.now at }
+{
+    i64::from_be_bytes(eight_at(bytes, at))
+}
+
+/// The time at a place.
+pub(super) fn time_at(size: TimeSize, bytes: &[u8], at: usize) -> i64
+    requires { at + byte_len (width_of size) ≤ length bytes.now }
+    ensures { result ≡ signed_at (width_of size) bytes.now at }
+{
+    match size {
+        TimeSize::Four => i64::from(signed_at(bytes, at)),
+        TimeSize::Eight => long_signed_at(bytes, at),
+    }
+}

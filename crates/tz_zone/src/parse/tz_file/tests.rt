@@ -1,0 +1,604 @@
+//! TZif files: vectors and the zones that they denote, and bytes that are none.
+
+use crate::timezone::{
+    AlternateTime, LeapSecond, LocalTimeType, MonthWeekDay, RuleDay, TimeZone, TimeZoneRef,
+    Transition, TransitionRule,
+};
+use std::alloc::{AllocError, Allocator, Global};
+use std::process::Abort;
+use std::test::Fail;
+use tz_base::error::TzError;
+use tz_base::error::parse::{ParseDataError, TzFileError, TzStringError};
+use tz_base::error::timezone::{LocalTimeTypeError, TimeZoneError};
+use tz_base::refusing::Refusing;
+
+/// A refusal that can be compared.
+#[derive(Debug, Drop, PartialEq, Eq)]
+enum Fault {
+    File(TzFileError),
+    Text(TzStringError),
+    Type(LocalTimeTypeError),
+    Zone(TimeZoneError),
+    Memory,
+    Other,
+}
+
+/// The refusal, to be compared.
+fn named(error: TzError) -> Fault {
+    match error {
+        TzError::TzFile(part) => Fault::File(part),
+        TzError::TzString(part) => Fault::Text(part),
+        TzError::LocalTimeType(part) => Fault::Type(part),
+        TzError::TimeZone(part) => Fault::Zone(part),
+        TzError::Memory(_) => Fault::Memory,
+        _ => Fault::Other,
+    }
+}
+
+/// How the bytes are refused.
+fn fault_of(alloc: Global, bytes: &[u8]) -> Option<Fault> {
+    TimeZone::from_tz_data(alloc, bytes).err().map(named)
+}
+
+/// Bytes are missing.
+fn is_cut() -> Option<Fault> {
+    Some(Fault::File(TzFileError::ParseData(ParseDataError::UnexpectedEof)))
+}
+
+/// Writes a header: the counts of UT/local and standard/wall indicators, leap seconds, transitions, types and name bytes.
+fn push_header(bytes: &mut Vec<u8>, version: u8, counts: &[u32]) -> Result<(), AllocError> {
+    bytes.extend_from_slice(b"TZif")?;
+    bytes.push(version)?;
+    bytes.extend_from_slice(&[0; 15])?;
+    for count in counts {
+        bytes.extend_from_slice(&count.to_be_bytes())?;
+    }
+    Ok(())
+}
+
+/// One type, UTC.
+fn utc_v1(alloc: Global) -> Result<Vec<u8>, AllocError> {
+    let mut bytes = Vec::new(alloc);
+    push_header(&mut bytes, 0, &[0, 0, 0, 0, 1, 4])?;
+    bytes.extend_from_slice(b"\0\0\0\0\0\0UTC\0")?;
+    Ok(bytes)
+}
+
+/// The times of the 27 leap seconds up to 2017, each of one second more.
+const LEAP_TIMES: [i32; 27] = [
+    78_796_800,
+    94_694_401,
+    126_230_402,
+    157_766_403,
+    189_302_404,
+    220_924_805,
+    252_460_806,
+    283_996_807,
+    315_532_808,
+    362_793_609,
+    394_329_610,
+    425_865_611,
+    489_024_012,
+    567_993_613,
+    631_152_014,
+    662_688_015,
+    709_948_816,
+    741_484_817,
+    773_020_818,
+    820_454_419,
+    867_715_220,
+    915_148_821,
+    1_136_073_622,
+    1_230_768_023,
+    1_341_100_824,
+    1_435_708_825,
+    1_483_228_826,
+];
+
+/// UTC with its leap seconds, and both indicators.
+fn utc_v1_leap(alloc: Global) -> Result<Vec<u8>, AllocError> {
+    let mut bytes = Vec::new(alloc);
+    push_header(&mut bytes, 0, &[1, 1, 27, 0, 1, 4])?;
+    bytes.extend_from_slice(b"\0\0\0\0\0\0UTC\0")?;
+    let mut correction = 0u32;
+    for time in &LEAP_TIMES {
+        correction = correction.saturating_add(1);
+        bytes.extend_from_slice(&time.to_be_bytes())?;
+        bytes.extend_from_slice(&correction.to_be_bytes())?;
+    }
+    bytes.extend_from_slice(&[0, 0])?;
+    Ok(bytes)
+}
+
+/// The bytes with one of them changed.
+fn altered(alloc: Global, bytes: &[u8], place: usize, byte: u8) -> Result<Vec<u8>, AllocError> {
+    let mut other = Vec::from_slice(alloc, bytes)?;
+    if place < other.len() {
+        other[place] = byte;
+    }
+    Ok(other)
+}
+
+#[test]
+fn utc_is_read(rt: HostRuntime) -> Result<(), Fail> {
+    let bytes = utc_v1(rt.alloc())?;
+    assert_eq!(rt; bytes.len(), 54);
+    let zone = TimeZone::from_tz_data(rt.alloc(), &bytes)?;
+    let zone = zone.as_ref();
+    assert_eq!(rt;
+        zone.local_time_types(),
+        [LocalTimeType::new(0, false, Some(b"UTC"))?].as_slice()
+    );
+    assert!(rt; zone.transitions().is_empty());
+    assert!(rt; zone.leap_seconds().is_empty());
+    assert!(rt; zone.extra_rule().is_none());
+    Ok(())
+}
+
+#[test]
+fn leap_seconds_are_read(rt: HostRuntime) -> Result<(), Fail> {
+    let bytes = utc_v1_leap(rt.alloc())?;
+    assert_eq!(rt; bytes.len(), 272);
+    let zone = TimeZone::from_tz_data(rt.alloc(), &bytes)?;
+    let leap_seconds = zone.as_ref().leap_seconds();
+    assert_eq!(rt; leap_seconds.len(), 27);
+    let mut correction = 0i32;
+    for (leap_second, time) in leap_seconds.iter().zip(&LEAP_TIMES) {
+        correction = correction.saturating_add(1);
+        assert_eq!(rt; *leap_second, LeapSecond::new(i64::from(*time), correction));
+    }
+    Ok(())
+}
+
+#[test]
+fn cut_files_are_refused(rt: HostRuntime) -> Result<(), Fail> {
+    for bytes in [utc_v1(rt.alloc())?, utc_v1_leap(rt.alloc())?] {
+        for len in 0..bytes.len() {
+            assert_eq!(rt;
+                fault_of(rt.alloc(), &bytes[..len]),
+                is_cut(),
+                "of {len} bytes"
+            );
+        }
+        let mut longer = bytes.clone()?;
+        longer.push(0)?;
+        assert_eq!(rt;
+            fault_of(rt.alloc(), &longer),
+            Some(Fault::File(TzFileError::RemainingDataV1))
+        );
+    }
+    Ok(())
+}
+
+#[test]
+fn altered_bytes_are_refused(rt: HostRuntime) -> Result<(), Fail> {
+    let bytes = utc_v1(rt.alloc())?;
+    for (place, byte, expected) in [
+        (2, b'j', Fault::File(TzFileError::InvalidMagicNumber)),
+        (4, b'4', Fault::File(TzFileError::UnsupportedTzFileVersion)),
+        (23, 2, Fault::File(TzFileError::InvalidHeader)),
+        (27, 2, Fault::File(TzFileError::InvalidHeader)),
+        (39, 0, Fault::File(TzFileError::InvalidHeader)),
+        (43, 0, Fault::File(TzFileError::InvalidHeader)),
+        (43, 3, Fault::File(TzFileError::RemainingDataV1)),
+        (48, 2, Fault::File(TzFileError::InvalidDstIndicator)),
+        (
+            49,
+            4,
+            Fault::File(TzFileError::InvalidTimeZoneDesignationCharIndex),
+        ),
+        (
+            53,
+            b'x',
+            Fault::File(TzFileError::InvalidTimeZoneDesignationCharIndex),
+        ),
+        (
+            50,
+            b'_',
+            Fault::Type(LocalTimeTypeError::InvalidTimeZoneDesignationChar),
+        ),
+        (44, 0x80, Fault::Type(LocalTimeTypeError::InvalidUtcOffset)),
+    ] {
+        let other = altered(rt.alloc(), &bytes, place, byte)?;
+        assert_eq!(rt; fault_of(rt.alloc(), &other), Some(expected), "at {place}");
+    }
+    let other = altered(rt.alloc(), &bytes, 43, 5)?;
+    assert_eq!(rt; fault_of(rt.alloc(), &other), is_cut());
+    Ok(())
+}
+
+#[test]
+fn altered_leap_seconds_are_refused(rt: HostRuntime) -> Result<(), Fail> {
+    let bytes = utc_v1_leap(rt.alloc())?;
+    // The first time is negative, the first correction is 2, a time of UT goes with no standard time.
+    for (place, byte, expected) in [
+        (54, 0x80, Fault::Zone(TimeZoneError::InvalidLeapSecond)),
+        (61, 2, Fault::Zone(TimeZoneError::InvalidLeapSecond)),
+        (271, 1, Fault::File(TzFileError::InvalidStdWallUtLocal)),
+        (270, 2, Fault::File(TzFileError::InvalidStdWallUtLocal)),
+    ] {
+        let other = altered(rt.alloc(), &bytes, place, byte)?;
+        assert_eq!(rt; fault_of(rt.alloc(), &other), Some(expected), "at {place}");
+    }
+    let other = altered(rt.alloc(), &bytes, 270, 1)?;
+    assert_eq!(rt; fault_of(rt.alloc(), &other), None);
+    Ok(())
+}
+
+#[test]
+fn a_name_may_be_empty(rt: HostRuntime) -> Result<(), Fail> {
+    let bytes = altered(rt.alloc(), &utc_v1(rt.alloc())?, 49, 3)?;
+    let zone = TimeZone::from_tz_data(rt.alloc(), &bytes)?;
+    assert_eq!(rt;
+        zone.as_ref().local_time_types(),
+        [LocalTimeType::utc()].as_slice()
+    );
+    Ok(())
+}
+
+/// Each growth is refused in turn: the answer is want of memory, until none is refused.
+fn expect_memory(rt: &impl Abort, alloc: Global, bytes: &[u8]) {
+    for left in 0..10u64 {
+        let heap = Refusing::new(alloc, left);
+        let answer = TimeZone::from_tz_data(&heap, bytes);
+        if heap.refused() == 0 {
+            assert!(rt; answer.is_ok());
+            return;
+        }
+        assert_eq!(rt;
+            answer.err().map(named),
+            Some(Fault::Memory),
+            "after {left}"
+        );
+        assert_eq!(rt; heap.held(), 0);
+    }
+    assert!(rt; false, "growths without end");
+}
+
+#[test]
+fn memory_is_refused(rt: HostRuntime) -> Result<(), Fail> {
+    expect_memory(&rt, rt.alloc(), &utc_v1(rt.alloc())?);
+    expect_memory(&rt, rt.alloc(), &utc_v1_leap(rt.alloc())?);
+    Ok(())
+}
+
+#[test]
+fn counts_beyond_the_bytes_take_no_memory(rt: HostRuntime) -> Result<(), Fail> {
+    let mut bytes = utc_v1(rt.alloc())?;
+    for place in 32..36 {
+        bytes = altered(rt.alloc(), &bytes, place, 0xff)?;
+    }
+    let heap = Refusing::new(rt.alloc(), 0);
+    assert_eq!(rt;
+        TimeZone::from_tz_data(&heap, &bytes).err().map(named),
+        is_cut()
+    );
+    assert_eq!(rt; heap.refused(), 0);
+    Ok(())
+}
+
+/// One type of two hours east in both blocks, a transition in the second one, and a footer behind it.
+fn with_footer(alloc: Global, version: u8, footer: &[u8]) -> Result<Vec<u8>, AllocError> {
+    let mut bytes = Vec::new(alloc);
+    push_header(&mut bytes, b'3', &[0, 0, 0, 0, 1, 4])?;
+    bytes.extend_from_slice(b"\0\0\x1c\x20\0\0IST\0")?;
+    push_header(&mut bytes, version, &[1, 1, 0, 1, 1, 4])?;
+    bytes.extend_from_slice(&2_145_916_800i64.to_be_bytes())?;
+    bytes.extend_from_slice(b"\0\0\0\x1c\x20\0\0IST\0\x01\x01")?;
+    bytes.extend_from_slice(footer)?;
+    Ok(bytes)
+}
+
+/// Israel from 2038 on.
+fn jerusalem_v3(alloc: Global) -> Result<Vec<u8>, AllocError> {
+    with_footer(alloc, b'3', b"\nIST-2IDT,M3.4.4/26,M10.5.0\n")
+}
+
+/// One type without transitions, and a footer.
+fn without_transitions(alloc: Global, version: u8, footer: &[u8]) -> Result<Vec<u8>, AllocError> {
+    let mut bytes = Vec::new(alloc);
+    for version in [b'2', version] {
+        push_header(&mut bytes, version, &[0, 0, 0, 0, 1, 4])?;
+        bytes.extend_from_slice(b"\0\0\0\0\0\0UTC\0")?;
+    }
+    bytes.extend_from_slice(footer)?;
+    Ok(bytes)
+}
+
+/// The transitions of Honolulu's times.
+const HONOLULU: [(i64, u8); 7] = [
+    (-2_334_101_314, 1),
+    (-1_157_283_000, 2),
+    (-1_155_436_200, 1),
+    (-880_198_200, 3),
+    (-769_395_600, 4),
+    (-765_376_200, 1),
+    (-712_150_200, 5),
+];
+
+/// The types, their names and their indicators.
+fn push_honolulu_types(bytes: &mut Vec<u8>) -> Result<(), AllocError> {
+    for (_, index) in &HONOLULU {
+        bytes.push(*index)?;
+    }
+    for (ut_offset, is_dst, name) in [
+        (-37_886i32, 0u8, 0u8),
+        (-37_800, 0, 4),
+        (-34_200, 1, 8),
+        (-34_200, 1, 12),
+        (-34_200, 1, 16),
+        (-36_000, 0, 4),
+    ] {
+        bytes.extend_from_slice(&ut_offset.to_be_bytes())?;
+        bytes.push(is_dst)?;
+        bytes.push(name)?;
+    }
+    bytes.extend_from_slice(b"LMT\0HST\0HDT\0HWT\0HPT\0")?;
+    bytes.extend_from_slice(b"\0\0\0\0\x01\0\0\0\0\0\x01\0")
+}
+
+/// Honolulu from 1896 on.
+fn honolulu_v2(alloc: Global) -> Result<Vec<u8>, AllocError> {
+    let mut bytes = Vec::new(alloc);
+    push_header(&mut bytes, b'2', &[6, 6, 0, 7, 6, 20])?;
+    for time in [
+        i32::MIN,
+        -1_157_283_000,
+        -1_155_436_200,
+        -880_198_200,
+        -769_395_600,
+        -765_376_200,
+        -712_150_200,
+    ] {
+        bytes.extend_from_slice(&time.to_be_bytes())?;
+    }
+    push_honolulu_types(&mut bytes)?;
+    push_header(&mut bytes, b'2', &[6, 6, 0, 7, 6, 20])?;
+    for (time, _) in &HONOLULU {
+        bytes.extend_from_slice(&time.to_be_bytes())?;
+    }
+    push_honolulu_types(&mut bytes)?;
+    bytes.extend_from_slice(b"\nHST10\n")?;
+    Ok(bytes)
+}
+
+/// The rule of Israel.
+fn jerusalem_rule() -> Result<TransitionRule, TzError> {
+    Ok(TransitionRule::Alternate(AlternateTime::new(
+        LocalTimeType::new(7200, false, Some(b"IST"))?,
+        LocalTimeType::new(10_800, true, Some(b"IDT"))?,
+        RuleDay::MonthWeekDay(MonthWeekDay::new(3, 4, 4)?),
+        93_600,
+        RuleDay::MonthWeekDay(MonthWeekDay::new(10, 5, 0)?),
+        7200,
+    )?))
+}
+
+/// The bytes are Israel's zone.
+fn expect_jerusalem(rt: &impl Abort, alloc: Global, bytes: &[u8]) -> Result<(), TzError> {
+    let zone = TimeZone::from_tz_data(alloc, bytes)?;
+    let zone = zone.as_ref();
+    assert_eq!(rt;
+        zone.transitions(),
+        [Transition::new(2_145_916_800, 0)].as_slice()
+    );
+    assert_eq!(rt;
+        zone.local_time_types(),
+        [LocalTimeType::new(7200, false, Some(b"IST"))?].as_slice()
+    );
+    assert!(rt; zone.leap_seconds().is_empty());
+    assert_eq!(rt; *zone.extra_rule(), Some(jerusalem_rule()?));
+    Ok(())
+}
+
+#[test]
+fn jerusalem_is_read(rt: HostRuntime) -> Result<(), Fail> {
+    let bytes = jerusalem_v3(rt.alloc())?;
+    assert_eq!(rt; bytes.len(), 147);
+    expect_jerusalem(&rt, rt.alloc(), &bytes)?;
+    // The first header's version and the first block's content make no difference, nor does a time of UT.
+    for (place, byte) in [(4, b'2'), (48, 7), (118, 0)] {
+        expect_jerusalem(&rt, rt.alloc(), &altered(rt.alloc(), &bytes, place, byte)?)?;
+    }
+    Ok(())
+}
+
+#[test]
+fn honolulu_is_read(rt: HostRuntime) -> Result<(), Fail> {
+    let bytes = honolulu_v2(rt.alloc())?;
+    let zone = TimeZone::from_tz_data(rt.alloc(), &bytes)?;
+    let transitions = zone.as_ref().transitions();
+    assert_eq!(rt; transitions.len(), 7);
+    for (transition, (time, index)) in transitions.iter().zip(&HONOLULU) {
+        assert_eq!(rt; *transition, Transition::new(*time, usize::from(*index)));
+    }
+    let summer = LocalTimeType::new(-34_200, true, Some(b"HDT"))?;
+    let now = LocalTimeType::new(-36_000, false, Some(b"HST"))?;
+    assert_eq!(rt; *zone.find_local_time_type(-1_156_939_200)?, summer);
+    assert_eq!(rt; *zone.find_local_time_type(1_546_300_800)?, now);
+    assert_eq!(rt;
+        *zone.as_ref().extra_rule(),
+        Some(TransitionRule::Fixed(now))
+    );
+    Ok(())
+}
+
+#[test]
+fn cut_later_files_are_refused(rt: HostRuntime) -> Result<(), Fail> {
+    let bytes = jerusalem_v3(rt.alloc())?;
+    for len in 0..bytes.len() {
+        let expected = match len {
+            0..=118 => is_cut(),
+            120 => None,
+            _ => Some(Fault::File(TzFileError::InvalidFooter)),
+        };
+        assert_eq!(rt;
+            fault_of(rt.alloc(), &bytes[..len]),
+            expected,
+            "of {len} bytes"
+        );
+    }
+    let cut = with_footer(rt.alloc(), b'3', b"\n")?;
+    assert_eq!(rt; cut.len(), 120);
+    let zone = TimeZone::from_tz_data(rt.alloc(), &cut)?;
+    assert!(rt; zone.as_ref().extra_rule().is_none());
+    assert_eq!(rt; zone.find_local_time_type(2_145_916_799)?.ut_offset(), 7200);
+    assert_eq!(rt;
+        zone.find_local_time_type(2_145_916_800).err().map(named),
+        Some(Fault::Other)
+    );
+    Ok(())
+}
+
+#[test]
+fn altered_later_files_are_refused(rt: HostRuntime) -> Result<(), Fail> {
+    let bytes = jerusalem_v3(rt.alloc())?;
+    for (place, byte, expected) in [
+        (4, 0, Fault::File(TzFileError::RemainingDataV1)),
+        (58, b'2', Fault::Text(TzStringError::InvalidDayTimeHour)),
+        (58, 0, Fault::Text(TzStringError::InvalidDayTimeHour)),
+        (58, b'4', Fault::File(TzFileError::UnsupportedTzFileVersion)),
+        (
+            106,
+            1,
+            Fault::Zone(TimeZoneError::InvalidLocalTimeTypeIndex),
+        ),
+        (117, 0, Fault::File(TzFileError::InvalidStdWallUtLocal)),
+        (146, b' ', Fault::File(TzFileError::InvalidFooter)),
+    ] {
+        let other = altered(rt.alloc(), &bytes, place, byte)?;
+        assert_eq!(rt; fault_of(rt.alloc(), &other), Some(expected), "at {place}");
+    }
+    Ok(())
+}
+
+#[test]
+fn footers_are_read(rt: HostRuntime) -> Result<(), Fail> {
+    let fixed = TransitionRule::Fixed(LocalTimeType::new(7200, false, Some(b"IST"))?);
+    for (footer, expected) in [
+        (b"\n\n".as_slice(), None),
+        (b"\n \t\n", None),
+        (b"\nIST-2\n", Some(fixed)),
+        (b"\nIST-2\r\n", Some(fixed)),
+        (b"\n\x0c IST-2 \n", Some(fixed)),
+    ] {
+        let bytes = with_footer(rt.alloc(), b'3', footer)?;
+        let zone = TimeZone::from_tz_data(rt.alloc(), &bytes)?;
+        assert_eq!(rt; *zone.as_ref().extra_rule(), expected);
+    }
+    Ok(())
+}
+
+#[test]
+fn footers_are_refused(rt: HostRuntime) -> Result<(), Fail> {
+    for (footer, expected) in [
+        (b"".as_slice(), Fault::File(TzFileError::InvalidFooter)),
+        (b"\nIST-2", Fault::File(TzFileError::InvalidFooter)),
+        (b"IST-2\n", Fault::File(TzFileError::InvalidFooter)),
+        (b"\n:x\n", Fault::File(TzFileError::InvalidFooter)),
+        (b"\nA\0\x30\n", Fault::File(TzFileError::InvalidFooter)),
+        (
+            b"\nIST-3\n",
+            Fault::Zone(TimeZoneError::InconsistentExtraRule),
+        ),
+        (
+            b"\nIST-2IDT,J1.J2\n",
+            Fault::Text(TzStringError::ParseData(ParseDataError::InvalidData)),
+        ),
+    ] {
+        let bytes = with_footer(rt.alloc(), b'3', footer)?;
+        assert_eq!(rt; fault_of(rt.alloc(), &bytes), Some(expected));
+    }
+    let bytes = with_footer(rt.alloc(), b'3', b"\n\xff\n")?;
+    let refused = fault_of(rt.alloc(), &bytes);
+    assert!(rt; matches!(refused, Some(Fault::File(TzFileError::Utf8(_)))));
+    Ok(())
+}
+
+#[test]
+fn the_second_header_extends_texts(rt: HostRuntime) -> Result<(), Fail> {
+    for footer in [
+        b"\n<-03>3<-02>,M3.5.0/-2,M10.5.0/-1\n".as_slice(),
+        b"\nEST5EDT,0/0,J365/25\n",
+    ] {
+        let bytes = without_transitions(rt.alloc(), b'3', footer)?;
+        assert_eq!(rt; fault_of(rt.alloc(), &bytes), None);
+        let bytes = without_transitions(rt.alloc(), b'2', footer)?;
+        let refused = fault_of(rt.alloc(), &bytes);
+        assert!(rt;
+            matches!(
+                refused,
+                Some(Fault::Text(TzStringError::ParseInt(_) | TzStringError::InvalidDayTimeHour))
+            )
+        );
+    }
+    Ok(())
+}
+
+#[test]
+fn memory_is_refused_in_later_files(rt: HostRuntime) -> Result<(), Fail> {
+    expect_memory(&rt, rt.alloc(), &jerusalem_v3(rt.alloc())?);
+    expect_memory(&rt, rt.alloc(), &honolulu_v2(rt.alloc())?);
+    Ok(())
+}
+
+/// Each byte is set to each value: the bytes are refused by a name, or their parts make a zone.
+fn expect_named(rt: &impl Abort, alloc: Global, bytes: &mut Vec<u8>) {
+    for place in 0..bytes.len() {
+        let byte = bytes[place];
+        for other in 0..=255u8 {
+            bytes[place] = other;
+            match TimeZone::from_tz_data(alloc, bytes) {
+                Ok(zone) => {
+                    let zone = zone.as_ref();
+                    let again = TimeZoneRef::new(
+                        zone.transitions(),
+                        zone.local_time_types(),
+                        zone.leap_seconds(),
+                        zone.extra_rule(),
+                    );
+                    assert!(rt; again.is_ok());
+                }
+                Err(error) => assert!(rt; named(error) != Fault::Memory),
+            }
+        }
+        bytes[place] = byte;
+    }
+}
+
+#[test]
+fn every_byte_is_read(rt: HostRuntime) -> Result<(), Fail> {
+    expect_named(&rt, rt.alloc(), &mut utc_v1(rt.alloc())?);
+    expect_named(&rt, rt.alloc(), &mut jerusalem_v3(rt.alloc())?);
+    Ok(())
+}
+
+/// UTC in the first block, and in the second one with its leap seconds.
+fn utc_v2_leap(alloc: Global) -> Result<Vec<u8>, AllocError> {
+    let mut bytes = Vec::new(alloc);
+    push_header(&mut bytes, b'2', &[0, 0, 0, 0, 1, 4])?;
+    bytes.extend_from_slice(b"\0\0\0\0\0\0UTC\0")?;
+    push_header(&mut bytes, b'2', &[0, 0, 27, 0, 1, 4])?;
+    bytes.extend_from_slice(b"\0\0\0\0\0\0UTC\0")?;
+    let mut correction = 0u32;
+    for time in &LEAP_TIMES {
+        correction = correction.saturating_add(1);
+        bytes.extend_from_slice(&i64::from(*time).to_be_bytes())?;
+        bytes.extend_from_slice(&correction.to_be_bytes())?;
+    }
+    bytes.extend_from_slice(b"\nUTC0\n")?;
+    Ok(bytes)
+}
+
+#[test]
+fn leap_seconds_of_later_files_are_read(rt: HostRuntime) -> Result<(), Fail> {
+    let bytes = utc_v2_leap(rt.alloc())?;
+    let zone = TimeZone::from_tz_data(rt.alloc(), &bytes)?;
+    let earlier = TimeZone::from_tz_data(rt.alloc(), &utc_v1_leap(rt.alloc())?)?;
+    assert_eq!(rt;
+        zone.as_ref().leap_seconds(),
+        earlier.as_ref().leap_seconds()
+    );
+    assert!(rt; zone.as_ref().extra_rule().is_some());
+    Ok(())
+}

@@ -1,0 +1,97 @@
+//! Rule days, and when in the day a rule comes.
+
+ghost use Rattle.std.specs.Prelude.{◌≡◌, ◌∷◌, ℕ, List, MatchResult};
+ghost use Rattle.tz_base.specs.declared.error.timezone.TransitionRuleError.TheVariants.{InvalidRuleDayJulianDay};
+ghost use Rattle.tz_rule.specs.JulianDay.{IsJulianDay, IsZeroBasedDay};
+ghost use Rattle.tz_rule.specs.MonthWeek.{IsMonthWeek};
+ghost use Rattle.tz_zone.specs.TzText.{IsNumber, IsMonthWeekText, IsDay, IsDayInRange, IsTimeOfRule, IsTimeUpTo, day_time_hours, IsRuleText, IsRuleInRange};
+ghost use Rattle.tz_zone.specs.TzTextFault.{IsDayNumberFault, IsMonthWeekDayFault, IsDayFault, IsDayTimeFault, IsRuleTextFault};
+
+use super::cursor::{after_byte, expect_byte};
+use super::number::{read_short_number, read_year_day};
+use super::time::{WrittenTime, read_day_time};
+use tz_base::error::TzError;
+use tz_base::error::parse::TzStringError;
+use tz_rule::timezone::{Julian0WithLeap, Julian1WithoutLeap, MonthWeekDay, RuleDay};
+
+/// A rule of a text: a day of each year, and a time of that day.
+#[derive(Clone, Copy)]
+pub(super) struct DayAndTime {
+    pub(super) day: RuleDay,
+    pub(super) time: WrittenTime,
+}
+
+/// The number behind a `J`, and the bytes behind.
+fn read_julian_day(text: &[u8]) -> Result<(Julian1WithoutLeap, &[u8]), TzError>
+    ensures { MatchResult result (λ p. IsNumber text.now p.0 p.1.now × IsJulianDay p.0) (IsDayNumberFault 16 IsJulianDay InvalidRuleDayJulianDay text.now) }
+{
+    let (number, rest) = read_year_day(text)?;
+    Ok((Julian1WithoutLeap::new(number)?, rest))
+}
+
+/// A number of days from January 1st on, and the bytes behind.
+fn read_zero_based_day(text: &[u8]) -> Result<(Julian0WithLeap, &[u8]), TzError>
+    ensures { MatchResult result (λ p. IsNumber text.now p.0 p.1.now × IsZeroBasedDay p.0) (IsDayNumberFault 16 IsZeroBasedDay InvalidRuleDayJulianDay text.now) }
+{
+    let (number, rest) = read_year_day(text)?;
+    Ok((Julian0WithLeap::new(number)?, rest))
+}
+
+/// The month, the week and the week day behind an `M`, and the bytes behind.
+fn read_month_week_day(text: &[u8]) -> Result<(MonthWeekDay, &[u8]), TzError>
+    ensures { MatchResult result (λ p. IsMonthWeekText text.now p.0 p.1.now × IsMonthWeek p.0) (IsMonthWeekDayFault text.now) }
+{
+    let (month, rest) = read_short_number(text)?;
+    let rest = expect_byte(rest, b'.')?;
+    let (week, rest) = read_short_number(rest)?;
+    let rest = expect_byte(rest, b'.')?;
+    let (week_day, rest) = read_short_number(rest)?;
+    Ok((MonthWeekDay::new(month, week, week_day)?, rest))
+}
+
+/// The day of a rule, and the bytes behind.
+fn read_rule_day(text: &[u8]) -> Result<(RuleDay, &[u8]), TzError>
+    ensures { MatchResult result (λ p. IsDay text.now p.0 p.1.now × IsDayInRange p.0) (IsDayFault text.now) }
+{
+    if let Some(number) = after_byte(text, b'J') {
+        return match read_julian_day(number) {
+            Ok((day, rest)) => Ok((RuleDay::Julian1WithoutLeap(day), rest)),
+            Err(error) => Err(error),
+        };
+    }
+    if let Some(month) = after_byte(text, b'M') {
+        return match read_month_week_day(month) {
+            Ok((day, rest)) => Ok((RuleDay::MonthWeekDay(day), rest)),
+            Err(error) => Err(error),
+        };
+    }
+    match read_zero_based_day(text) {
+        Ok((day, rest)) => Ok((RuleDay::Julian0WithLeap(day), rest)),
+        Err(error) => Err(error),
+    }
+}
+
+/// The time behind a slash, or two o'clock where no slash stands, and the bytes behind.
+fn read_time_of_rule(text: &[u8], extended: bool) -> Result<(WrittenTime, &[u8]), TzStringError>
+    ensures { MatchResult result
+        (λ p. IsTimeOfRule extended text.now p.0 p.1.now × IsTimeUpTo (day_time_hours extended) p.0)
+        (λ e. (time : List ℕ) × (text.now ≡ 47 ∷ time) × IsDayTimeFault extended time e) }
+{
+    match after_byte(text, b'/') {
+        Some(time) => read_day_time(time, extended),
+        None => Ok((WrittenTime::two_o_clock(), text)),
+    }
+}
+
+/// A rule, and the bytes behind.
+pub(super) fn read_rule(text: &[u8], extended: bool) -> Result<(DayAndTime, &[u8]), TzError>
+    ensures { MatchResult result (λ p. IsRuleText extended text.now p.0 p.1.now × IsRuleInRange extended p.0) (IsRuleTextFault extended text.now) }
+{
+    match read_rule_day(text) {
+        Ok((day, rest)) => {
+            let (time, rest) = read_time_of_rule(rest, extended)?;
+            Ok((DayAndTime { day, time }, rest))
+        }
+        Err(error) => Err(error),
+    }
+}

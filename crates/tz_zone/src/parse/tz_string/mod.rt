@@ -1,0 +1,138 @@
+//! TZ texts. (POSIX.1-2017, Base Definitions, 8.3)
+
+mod cursor;
+mod day;
+mod name;
+mod number;
+mod time;
+
+ghost use Rattle.std.specs.Prelude.{◌≡◌, ◌∷◌, [], ℕ, List, Bool, false, Some, IfSome, IfOk, IfErr, MatchResult, pos};
+ghost use Rattle.tz_base.specs.declared.error.TzError.TheVariants.{TzString};
+ghost use Rattle.tz_rule.specs.Alternate.{IsRuleOffset};
+ghost use Rattle.tz_rule.specs.declared.timezone.rule.TransitionRule.{TransitionRule};
+ghost use Rattle.tz_rule.specs.LocalType.{IsDesignation, IsFirstTypeFault, type_of};
+ghost use Rattle.tz_zone.specs.TzText.{Begins, IsName, IsDaylightOffset, IsTimeUpTo, offset_hours, IsRuleText, IsRuleInRange, IsTzText};
+ghost use Rattle.tz_zone.specs.TzTextFault.{IsOffsetFault, IsLastRuleFault, IsRulesFault, IsDaylightFault, IsTzTextFault};
+
+use cursor::{after_byte, expect_byte};
+use day::{DayAndTime, read_rule};
+use name::read_name;
+use time::{WrittenTime, read_offset};
+use tz_base::error::TzError;
+use tz_base::error::parse::TzStringError;
+use tz_base::error::timezone::LocalTimeTypeError;
+use tz_rule::timezone::{AlternateTime, LocalTimeType, TransitionRule};
+
+/// The daylight offset, which is left out where a comma stands next, and the bytes behind.
+fn read_daylight_offset(text: &[u8]) -> Result<(Option<WrittenTime>, &[u8]), TzStringError>
+    ensures { MatchResult result
+        (λ p. IsDaylightOffset text.now p.0 p.1.now × IfSome p.0 (IsTimeUpTo offset_hours))
+        (λ e. ¬ Begins 44 text.now × IsOffsetFault text.now e) }
+{
+    match after_byte(text, b',') {
+        Some(_) => Ok((None, text)),
+        None => {
+            let (offset, rest) = read_offset(text)?;
+            Ok((Some(offset), rest))
+        }
+    }
+}
+
+/// The daylight name, its offset, and the rules behind a comma.
+fn read_daylight(text: &[u8]) -> Result<(&[u8], Option<WrittenTime>, &[u8]), TzStringError>
+    ensures { MatchResult result
+        (λ p. ((after_name : List ℕ) × IsName text.now p.0.now after_name × IsDaylightOffset after_name p.1 (44 ∷ p.2.now)) × IfSome p.1 (IsTimeUpTo offset_hours))
+        (λ e. (extended : Bool) → IsDaylightFault extended text.now (TzString e)) }
+{
+    let (name, rest) = read_name(text)?;
+    if rest.is_empty() {
+        return Err(TzStringError::MissingDstStartEndRules);
+    }
+    let (offset, rest) = read_daylight_offset(rest)?;
+    if rest.is_empty() {
+        return Err(TzStringError::MissingDstStartEndRules);
+    }
+    let rules = expect_byte(rest, b',')?;
+    Ok((name, offset, rules))
+}
+
+/// The last rule, with nothing behind it.
+fn read_last_rule(text: &[u8], extended: bool) -> Result<DayAndTime, TzError>
+    ensures { MatchResult result (λ rule. IsRuleText extended text.now rule [] × IsRuleInRange extended rule) (IsLastRuleFault extended text.now) }
+{
+    match read_rule(text, extended) {
+        Ok((rule, rest)) => {
+            if !rest.is_empty() {
+                return Err(TzError::TzString(TzStringError::RemainingData));
+            }
+            Ok(rule)
+        }
+        Err(error) => Err(error),
+    }
+}
+
+/// The start and the end, with a comma between them and nothing behind.
+fn read_rules(text: &[u8], extended: bool) -> Result<(DayAndTime, DayAndTime), TzError>
+    ensures { MatchResult result
+        (λ p. ((end_text : List ℕ) × IsRuleText extended text.now p.0 (44 ∷ end_text) × IsRuleText extended end_text p.1 []) × IsRuleInRange extended p.0 × IsRuleInRange extended p.1)
+        (IsRulesFault extended text.now) }
+{
+    match read_rule(text, extended) {
+        Ok((start, rest)) => {
+            let end_text = expect_byte(rest, b',')?;
+            let end = read_last_rule(end_text, extended)?;
+            Ok((start, end))
+        }
+        Err(error) => Err(error),
+    }
+}
+
+/// The local time type with this name.
+fn named_type(
+    name: &[u8],
+    ut_offset: i32,
+    is_dst: bool,
+) -> Result<LocalTimeType, LocalTimeTypeError>
+    requires { IsRuleOffset ut_offset }
+    ensures { MatchResult result
+        (λ t. (t ≡ type_of ut_offset is_dst (Some name.now)) × IsDesignation name.now)
+        (IsFirstTypeFault (type_of (pos 0) false (Some name.now))) }
+{
+    LocalTimeType::new(ut_offset, is_dst, Some(name))
+}
+
+/// What the text denotes.
+fn read_text(text: &[u8], extended: bool) -> Result<TransitionRule, TzError>
+    ensures { MatchResult result (IsTzText extended text.now) (IsTzTextFault extended text.now) }
+{
+    let (std_name, rest) = read_name(text)?;
+    let (std_offset, rest) = read_offset(rest)?;
+    if rest.is_empty() {
+        let fixed = named_type(std_name, std_offset.ut_offset(), false)?;
+        return Ok(TransitionRule::Fixed(fixed));
+    }
+    let (dst_name, dst_offset, rules) = read_daylight(rest)?;
+    let (start, end) = read_rules(rules, extended)?;
+    let std = named_type(std_name, std_offset.ut_offset(), false)?;
+    let dst = named_type(dst_name, std_offset.daylight_ut_offset(dst_offset), true)?;
+    let start_time = start.time.total_seconds();
+    let end_time = end.time.total_seconds();
+    let rule = AlternateTime::new(std, dst, start.day, start_time, end.day, end_time)?;
+    Ok(TransitionRule::Alternate(rule))
+}
+
+/// The rule that a TZ text denotes. (POSIX.1-2017, Base Definitions, 8.3)
+///
+/// An extended text may have day times from -167 to 167 hours. (RFC 8536, section 3.3.1)
+pub(crate) fn parse_posix_tz(text: &[u8], extended: bool) -> Result<TransitionRule, TzError>
+    ensures ok { IfOk result (IsTzText extended text.now) }
+    ensures err { IfErr result (IsTzTextFault extended text.now) }
+    ensures only { (rule : TransitionRule) → IsTzText extended text.now rule → result ≡ Ok rule }
+{
+    read_text(text, extended)
+}
+
+#[cfg(test)]
+mod footers;
+#[cfg(test)]
+mod tests;

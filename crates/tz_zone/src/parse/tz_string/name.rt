@@ -1,0 +1,24 @@
+//! Names of local time types.
+
+ghost use Rattle.std.specs.Prelude.{◌≡◌, MatchResult};
+ghost use Rattle.tz_base.specs.declared.error.parse.ParseDataError.TheVariants.{UnexpectedEof};
+ghost use Rattle.tz_base.specs.declared.error.parse.TzStringError.TheVariants.{ParseData};
+ghost use Rattle.tz_zone.specs.TzText.{IsName};
+ghost use Rattle.tz_zone.specs.TzTextFault.{IsUnclosed};
+
+use super::cursor::{after_byte, split_at_bracket, split_letters};
+use tz_base::error::parse::{ParseDataError, TzStringError};
+
+/// The name at the front, and the bytes behind.
+pub(super) fn read_name(text: &[u8]) -> Result<(&[u8], &[u8]), TzStringError>
+    ensures { MatchResult result (λ p. IsName text.now p.0.now p.1.now) (λ e. (e ≡ ParseData UnexpectedEof) × IsUnclosed text.now) }
+{
+    let Some(quoted) = after_byte(text, b'<') else {
+        return Ok(split_letters(text));
+    };
+    let (name, rest) = split_at_bracket(quoted);
+    match after_byte(rest, b'>') {
+        Some(rest) => Ok((name, rest)),
+        None => Err(TzStringError::ParseData(ParseDataError::UnexpectedEof)),
+    }
+}

@@ -1,0 +1,192 @@
+//! Offsets and day times.
+
+ghost use Rattle.std.specs.Prelude.{◌≡◌, ◌∷◌, ◌<◌, ◌≤◌, ◌^◌, ℕ, List, MatchResult};
+ghost use Rattle.tz_zone.specs.TzText.{IsPart, IsHms, IsSign, IsSignedTime, IsDayTimeSign, IsDayTime, IsTimeUpTo, offset_hours, day_time_hours};
+ghost use Rattle.tz_zone.specs.TzTextFault.{IsParseInt, HasNoNumber, IsHmsFault, IsTimeAbove, IsOffsetFault, IsDayTimeFault, TimeFaults, offset_faults, day_time_faults};
+
+use super::cursor::after_byte;
+use super::number::read_time_number;
+use tz_base::error::parse::TzStringError;
+
+/// The greatest hour of an offset, and of a day time in an ordinary text.
+const DAY_HOURS: u32 = 24;
+
+/// The greatest hour of a day time in an extended text.
+const EXTENDED_HOURS: u32 = 167;
+
+/// The greatest minute, and the greatest second.
+const LAST_OF_SIXTY: u32 = 59;
+
+/// How far daylight saving time is ahead of standard time, in seconds, where a text does not say.
+const DEFAULT_SAVING: i32 = 3600;
+
+/// A time as it is written: whether after a minus, and its numbers.
+#[derive(Clone, Copy)]
+pub(super) struct WrittenTime {
+    pub(super) minus: bool,
+    pub(super) hours: u32,
+    pub(super) minutes: u32,
+    pub(super) seconds: u32,
+}
+
+impl WrittenTime {
+    ghost use Rattle.std.specs.Prelude.{IfSome, Option};
+    ghost use Rattle.tz_rule.specs.Alternate.{IsRuleOffset};
+    ghost use Rattle.tz_zone.specs.TzText.{IsTimeUpTo, offset_hours, seconds_of, ut_offset_of, daylight_offset_of, plain_time};
+
+    /// Two o'clock, the day time of a rule that has none.
+    pub(super) fn two_o_clock() -> WrittenTime
+        ensures { result ≡ plain_time 2 0 0 }
+    {
+        WrittenTime {
+            minus: false,
+            hours: 2,
+            minutes: 0,
+            seconds: 0,
+        }
+    }
+
+    /// The time in seconds, at most a week.
+    pub(super) fn total_seconds(self) -> i32
+        requires { IsTimeUpTo 167 self }
+        ensures { result ≡ seconds_of self }
+    {
+        let seconds = (3600 * self.hours + 60 * self.minutes + self.seconds) as i32;
+        if self.minus { -seconds } else { seconds }
+    }
+
+    /// The seconds that an offset adds to UTC: a text has those that it takes off.
+    pub(super) fn ut_offset(self) -> i32
+        requires { IsTimeUpTo offset_hours self }
+        ensures value { result ≡ ut_offset_of self }
+        ensures range { IsRuleOffset result }
+    {
+        -self.total_seconds()
+    }
+
+    /// The seconds that daylight saving time adds to UTC: an hour more than standard time, where the text has no offset.
+    pub(super) fn daylight_ut_offset(self, daylight: Option<WrittenTime>) -> i32
+        requires std { IsTimeUpTo offset_hours self }
+        requires dst { IfSome daylight (IsTimeUpTo offset_hours) }
+        ensures value { result ≡ daylight_offset_of self daylight }
+        ensures range { IsRuleOffset result }
+    {
+        match daylight {
+            Some(offset) => offset.ut_offset(),
+            None => self.ut_offset() + DEFAULT_SAVING,
+        }
+    }
+}
+
+/// A number behind a colon, or 0 where no colon stands, and the bytes behind.
+fn read_part(text: &[u8]) -> Result<(u32, &[u8]), TzStringError>
+    ensures { MatchResult result (λ p. IsPart text.now p.0 p.1.now) (λ e. IsParseInt e × ((number : List ℕ) × (text.now ≡ 58 ∷ number) × HasNoNumber 31 number)) }
+{
+    match after_byte(text, b':') {
+        Some(number) => read_time_number(number),
+        None => Ok((0, text)),
+    }
+}
+
+/// Hours, minutes and seconds after a sign that is read, and the bytes behind.
+fn read_hms(text: &[u8], minus: bool) -> Result<(WrittenTime, &[u8]), TzStringError>
+    ensures { MatchResult result (λ p. IsHms text.now p.0 p.1.now × (p.0.minus ≡ minus)) (λ e. (limit : ℕ) (faults : TimeFaults) → IsHmsFault limit faults text.now e) }
+{
+    let (hours, rest) = read_time_number(text)?;
+    let (minutes, rest) = read_part(rest)?;
+    let (seconds, rest) = read_part(rest)?;
+    Ok((
+        WrittenTime {
+            minus,
+            hours,
+            minutes,
+            seconds,
+        },
+        rest,
+    ))
+}
+
+/// Whether a minus stands at the front, and the bytes behind it or behind a plus.
+fn read_sign(text: &[u8]) -> (bool, &[u8])
+    ensures { IsSign text.now result.0 result.1.now }
+{
+    if let Some(rest) = after_byte(text, b'-') {
+        return (true, rest);
+    }
+    if let Some(rest) = after_byte(text, b'+') {
+        return (false, rest);
+    }
+    (false, text)
+}
+
+/// The sign of a day time, which an ordinary text does not have.
+fn read_day_time_sign(text: &[u8], extended: bool) -> (bool, &[u8])
+    ensures { IsDayTimeSign extended text.now result.0 result.1.now }
+{
+    if extended {
+        return read_sign(text);
+    }
+    (false, text)
+}
+
+/// The greatest hour of a day time.
+fn greatest_hour(extended: bool) -> u32
+    ensures { result ≡ day_time_hours extended }
+{
+    if extended { EXTENDED_HOURS } else { DAY_HOURS }
+}
+
+/// The numbers of an offset are in range.
+fn check_offset(time: &WrittenTime) -> Result<(), TzStringError>
+    ensures { MatchResult result (λ _. IsTimeUpTo offset_hours time.now) (IsTimeAbove offset_hours offset_faults time.now) }
+{
+    if time.hours > DAY_HOURS {
+        return Err(TzStringError::InvalidOffsetHour);
+    }
+    if time.minutes > LAST_OF_SIXTY {
+        return Err(TzStringError::InvalidOffsetMinute);
+    }
+    if time.seconds > LAST_OF_SIXTY {
+        return Err(TzStringError::InvalidOffsetSecond);
+    }
+    Ok(())
+}
+
+/// The numbers of a day time are in range.
+fn check_day_time(time: &WrittenTime, extended: bool) -> Result<(), TzStringError>
+    ensures { MatchResult result (λ _. IsTimeUpTo (day_time_hours extended) time.now) (IsTimeAbove (day_time_hours extended) day_time_faults time.now) }
+{
+    if time.hours > greatest_hour(extended) {
+        return Err(TzStringError::InvalidDayTimeHour);
+    }
+    if time.minutes > LAST_OF_SIXTY {
+        return Err(TzStringError::InvalidDayTimeMinute);
+    }
+    if time.seconds > LAST_OF_SIXTY {
+        return Err(TzStringError::InvalidDayTimeSecond);
+    }
+    Ok(())
+}
+
+/// The offset at the front, and the bytes behind.
+pub(super) fn read_offset(text: &[u8]) -> Result<(WrittenTime, &[u8]), TzStringError>
+    ensures { MatchResult result (λ p. IsSignedTime text.now p.0 p.1.now × IsTimeUpTo offset_hours p.0) (IsOffsetFault text.now) }
+{
+    let (minus, rest) = read_sign(text);
+    let (offset, rest) = read_hms(rest, minus)?;
+    check_offset(&offset)?;
+    Ok((offset, rest))
+}
+
+/// The day time at the front, and the bytes behind.
+pub(super) fn read_day_time(
+    text: &[u8],
+    extended: bool,
+) -> Result<(WrittenTime, &[u8]), TzStringError>
+    ensures { MatchResult result (λ p. IsDayTime extended text.now p.0 p.1.now × IsTimeUpTo (day_time_hours extended) p.0) (IsDayTimeFault extended text.now) }
+{
+    let (minus, rest) = read_day_time_sign(text, extended);
+    let (time, rest) = read_hms(rest, minus)?;
+    check_day_time(&time, extended)?;
+    Ok((time, rest))
+}

@@ -1,0 +1,269 @@
+//! Settings by which the time zone of a text is found.
+
+ghost use Rattle.std.specs.Prelude.{◌≡◌, ◌⊎◌, ◌∷◌, map, Ok, Err, IfOk, IfErr, MatchOption, MatchResult, IsTrue, ◌↔◌, alloc_error};
+ghost use Rattle.std.specs.String.{string_bytes};
+ghost use Rattle.tz_base.specs.declared.error.Error.TheVariants.{Tz};
+ghost use Rattle.tz_base.specs.declared.error.ReadFault.TheVariants.{Memory};
+ghost use Rattle.tz_base.specs.declared.error.TzError.TheVariants.{Memory as NoMemory};
+ghost use Rattle.tz_zone.specs.Settings.{path_in, IsFileAnswer, Opens, IsTextAnswer, rule_zone, local_time};
+ghost use Rattle.tz_zone.specs.TzText.{Begins};
+ghost use Rattle.tz_zone.specs.ZoneRef.{own_zone_of};
+
+use super::{LocalTimeType, TimeZone, TransitionRule};
+use crate::parse::tz_string;
+use anyhow::anyhow;
+use std::alloc::{AllocError, Allocator, Global};
+use tz_base::error::parse::TzStringError;
+use tz_base::error::{Error, ReadFault, TzError};
+
+/// The directories in which systems keep their time zone files.
+pub const DEFAULT_DIRECTORIES: &[&str] = &[
+    "/usr/share/zoneinfo",
+    "/share/zoneinfo",
+    "/etc/zoneinfo",
+];
+
+/// The file of the machine's local time.
+const LOCAL_TIME_FILE: &str = "/etc/localtime";
+
+/// Whether the text stands for the machine's local time.
+fn is_local_time(text: &str) -> bool
+    ensures { IsTrue result ↔ (text.now ≡ local_time) }
+{
+    text == "localtime"
+}
+
+/// The name behind a colon.
+fn after_colon(text: &str) -> Option<&str>
+    ensures { MatchOption result (¬ Begins 58 text.now) (λ name. text.now ≡ 58 ∷ name.now) }
+{
+    text.strip_prefix(':')
+}
+
+/// Whether the name is a path of its own.
+fn is_absolute(name: &str) -> bool
+    ensures { IsTrue result ↔ Begins 47 name.now }
+{
+    matches!(name.as_bytes(), [b'/', ..])
+}
+
+/// The path of a name in a directory.
+fn join<A: Allocator + Copy>(alloc: A, directory: &str, name: &str) -> Result<String<A>, AllocError>
+    ensures { IfOk result (λ path. string_bytes path ≡ path_in directory.now name.now) }
+{
+    let mut path = String::from_str(alloc, directory)?;
+    path.push_str("/")?;
+    path.push_str(name)?;
+    Ok(path)
+}
+
+/// The zone of the bytes of a file.
+fn zone_of_bytes<A: Allocator + Copy>(alloc: A, bytes: &[u8]) -> Result<TimeZone<A>, Error>
+    ensures { MatchResult result (λ zone. IsFileAnswer bytes.now (Ok (own_zone_of zone))) (λ e. (e ≡ Tz (NoMemory alloc_error)) ⊎ IsFileAnswer bytes.now (Err e)) }
+{
+    match TimeZone::from_tz_data(alloc, bytes) {
+        Ok(zone) => Ok(zone),
+        Err(error) => Err(Error::Tz(error)),
+    }
+}
+
+/// Opens the file that was found.
+fn open<A: Allocator + Copy>(
+    alloc: A,
+    found: Result<Vec<u8>, ReadFault>,
+) -> Result<TimeZone<A>, Error>
+    ensures { MatchResult result (λ zone. Opens found (Ok (own_zone_of zone))) (λ e. (e ≡ Tz (NoMemory alloc_error)) ⊎ Opens found (Err e)) }
+{
+    match found {
+        Ok(bytes) => zone_of_bytes(alloc, &bytes),
+        Err(ReadFault::Memory(error)) => Err(Error::Tz(TzError::Memory(error))),
+        Err(ReadFault::Failed(fault)) => Err(Error::Io(fault)),
+    }
+}
+
+/// The types of a rule.
+fn types_of<A: Allocator + Copy>(
+    alloc: A,
+    rule: &TransitionRule,
+) -> Result<Vec<LocalTimeType, A>, TzError>
+    ensures ok { IfOk result (λ types. types.items ≡ (rule_zone rule.now).types) }
+    ensures err { IfErr result (λ e. e ≡ NoMemory alloc_error) }
+{
+    match rule {
+        TransitionRule::Fixed(local_time_type) => Ok(Vec::from_array(alloc, [*local_time_type])?),
+        TransitionRule::Alternate(rule) => Ok(Vec::from_array(alloc, [*rule.std(), *rule.dst()])?),
+    }
+}
+
+/// The zone of a rule.
+fn zone_of_rule<A: Allocator + Copy>(alloc: A, rule: TransitionRule) -> Result<TimeZone<A>, TzError>
+    ensures ok { IfOk result (λ zone. own_zone_of zone ≡ rule_zone rule) }
+    ensures err { IfErr result (λ e. e ≡ NoMemory alloc_error) }
+{
+    let types = types_of(alloc, &rule)?;
+    TimeZone::new(Vec::new(alloc), types, Vec::new(alloc), Some(rule))
+}
+
+/// The zone of a TZ text, with white space at its ends or without.
+fn zone_of_text<A: Allocator + Copy>(alloc: A, text: &str) -> Result<TimeZone<A>, Error>
+    ensures { MatchResult result (λ zone. IsTextAnswer text.now (Ok (own_zone_of zone))) (λ e. (e ≡ Tz (NoMemory alloc_error)) ⊎ IsTextAnswer text.now (Err e)) }
+{
+    let rule = tz_string::parse_posix_tz(text.as_bytes().trim_ascii(), false)?;
+    Ok(zone_of_rule(alloc, rule)?)
+}
+
+/// How a time zone is found: the directories of files, and the function that reads one.
+///
+/// The function answers the bytes of the file at a path. It is called with each path in turn, and no more once a path has given bytes
+/// or memory was refused.
+#[derive(Drop)]
+pub struct TimeZoneSettings<'a, F> {
+    directories: &'a [&'a str],
+    reader: F,
+}
+
+impl<'a, F: Fn(&str) -> Result<Vec<u8>, ReadFault>> TimeZoneSettings<'a, F> {
+    ghost use Rattle.std.specs.Fn.{FnReturnsAt};
+    ghost use Rattle.tz_zone.specs.Settings.{FindsIn, Finds, IsLocalAnswer, IsNamedOrTextAnswer, IsSettingsAnswer, texts_of};
+    ghost use Rattle.tz_zone.specs.SettingsParts.{directories_of, reader_of};
+
+    /// The settings with these directories, and with this function that reads a file.
+    pub fn new(directories: &'a [&'a str], reader: F) -> Self
+        ensures directories { directories_of result ≡ texts_of directories.now }
+        ensures reader { reader_of result ≡ reader }
+    {
+        TimeZoneSettings {
+            directories,
+            reader,
+        }
+    }
+
+    /// What the reader answers for the path.
+    fn read(&self, path: &str) -> Result<Vec<u8>, ReadFault>
+        requires { F.IsAlwaysCallable (reader_of self.now) }
+        ensures { FnReturnsAt F.Fn (reader_of self.now) path.now result }
+    {
+        (self.reader)(path)
+    }
+
+    /// The file with the name in the first of the directories that has it.
+    fn find_in_directories<A: Allocator + Copy>(
+        &self,
+        alloc: A,
+        name: &str,
+    ) -> Result<Vec<u8>, ReadFault>
+        requires { F.IsAlwaysCallable (reader_of self.now) }
+        ensures { (result ≡ Err (Memory alloc_error)) ⊎ FindsIn (FnReturnsAt F.Fn (reader_of self.now)) (directories_of self.now) name.now result }
+    {
+        for directory in self.directories {
+            let path = join(alloc, directory, name)?;
+            match self.read(path.as_str()) {
+                Ok(bytes) => return Ok(bytes),
+                Err(ReadFault::Memory(error)) => return Err(ReadFault::Memory(error)),
+                Err(ReadFault::Failed(_)) => {}
+            }
+        }
+        Err(ReadFault::Failed(anyhow!("file was not found")))
+    }
+
+    /// The file with the name.
+    fn find<A: Allocator + Copy>(&self, alloc: A, name: &str) -> Result<Vec<u8>, ReadFault>
+        requires { F.IsAlwaysCallable (reader_of self.now) }
+        ensures { (result ≡ Err (Memory alloc_error)) ⊎ Finds (FnReturnsAt F.Fn (reader_of self.now)) (directories_of self.now) name.now result }
+    {
+        if is_absolute(name) {
+            return self.read(name);
+        }
+        self.find_in_directories(alloc, name)
+    }
+
+    /// The machine's local time zone, from `/etc/localtime`.
+    pub fn parse_local<A: Allocator + Copy>(&self, alloc: A) -> Result<TimeZone<A>, Error>
+        requires { F.IsAlwaysCallable (reader_of self.now) }
+        ensures { MatchResult result
+            (λ zone. IsLocalAnswer (FnReturnsAt F.Fn (reader_of self.now)) (Ok (own_zone_of zone)))
+            (λ e. (e ≡ Tz (NoMemory alloc_error)) ⊎ IsLocalAnswer (FnReturnsAt F.Fn (reader_of self.now)) (Err e)) }
+    {
+        open(alloc, self.read(LOCAL_TIME_FILE))
+    }
+
+    /// The time zone of a text. (POSIX.1-2017, Base Definitions, 8.3)
+    ///
+    /// `localtime` is the machine's local time. A text that begins with `:` names a file, and any other text a file or else a rule.
+    pub fn parse_posix_tz<A: Allocator + Copy>(
+        &self,
+        alloc: A,
+        tz_string: &str,
+    ) -> Result<TimeZone<A>, Error>
+        requires { F.IsAlwaysCallable (reader_of self.now) }
+        ensures { MatchResult result
+            (λ zone. IsSettingsAnswer (FnReturnsAt F.Fn (reader_of self.now)) (directories_of self.now) tz_string.now (Ok (own_zone_of zone)))
+            (λ e. (e ≡ Tz (NoMemory alloc_error)) ⊎ IsSettingsAnswer (FnReturnsAt F.Fn (reader_of self.now)) (directories_of self.now) tz_string.now (Err e)) }
+    {
+        if tz_string.is_empty() {
+            return Err(Error::Tz(TzError::TzString(TzStringError::Empty)));
+        }
+        if is_local_time(tz_string) {
+            return self.parse_local(alloc);
+        }
+        match after_colon(tz_string) {
+            Some(name) => open(alloc, self.find(alloc, name)),
+            None => self.parse_name_or_text(alloc, tz_string),
+        }
+    }
+
+    /// The zone of the file with the name, or that of the text where there is none.
+    fn parse_name_or_text<A: Allocator + Copy>(
+        &self,
+        alloc: A,
+        text: &str,
+    ) -> Result<TimeZone<A>, Error>
+        requires { F.IsAlwaysCallable (reader_of self.now) }
+        ensures { MatchResult result
+            (λ zone. IsNamedOrTextAnswer (FnReturnsAt F.Fn (reader_of self.now)) (directories_of self.now) text.now (Ok (own_zone_of zone)))
+            (λ e. (e ≡ Tz (NoMemory alloc_error)) ⊎ IsNamedOrTextAnswer (FnReturnsAt F.Fn (reader_of self.now)) (directories_of self.now) text.now (Err e)) }
+    {
+        match self.find(alloc, text) {
+            Ok(bytes) => zone_of_bytes(alloc, &bytes),
+            Err(ReadFault::Memory(error)) => Err(Error::Tz(TzError::Memory(error))),
+            Err(ReadFault::Failed(_)) => zone_of_text(alloc, text),
+        }
+    }
+}
+
+impl<A: Allocator + Copy> TimeZone<A> {
+    ghost use Rattle.std.specs.Fn.{FnReturnsAt};
+    ghost use Rattle.tz_zone.specs.Settings.{IsLocalAnswer, IsSettingsAnswer};
+
+    /// The machine's local time zone, as [`TimeZoneSettings::parse_local`] answers with this function that reads a file.
+    pub fn local<F: Fn(&str) -> Result<Vec<u8>, ReadFault> + Drop>(
+        alloc: A,
+        reader: F,
+    ) -> Result<Self, Error>
+        requires { F.IsAlwaysCallable reader }
+        ensures { MatchResult result
+            (λ zone. IsLocalAnswer (FnReturnsAt F.Fn reader) (Ok (own_zone_of zone)))
+            (λ e. (e ≡ Tz (NoMemory alloc_error)) ⊎ IsLocalAnswer (FnReturnsAt F.Fn reader) (Err e)) }
+    {
+        let settings = TimeZoneSettings::new(DEFAULT_DIRECTORIES, reader);
+        settings.parse_local(alloc)
+    }
+
+    /// The time zone of a text, as [`TimeZoneSettings::parse_posix_tz`] answers with the usual directories and this function that reads a file.
+    pub fn from_posix_tz<F: Fn(&str) -> Result<Vec<u8>, ReadFault> + Drop>(
+        alloc: A,
+        reader: F,
+        tz_string: &str,
+    ) -> Result<Self, Error>
+        requires { F.IsAlwaysCallable reader }
+        ensures { MatchResult result
+            (λ zone. IsSettingsAnswer (FnReturnsAt F.Fn reader) (map (λ directory. directory.now) DEFAULT_DIRECTORIES.now) tz_string.now (Ok (own_zone_of zone)))
+            (λ e. (e ≡ Tz (NoMemory alloc_error)) ⊎ IsSettingsAnswer (FnReturnsAt F.Fn reader) (map (λ directory. directory.now) DEFAULT_DIRECTORIES.now) tz_string.now (Err e)) }
+    {
+        let settings = TimeZoneSettings::new(DEFAULT_DIRECTORIES, reader);
+        settings.parse_posix_tz(alloc, tz_string)
+    }
+}
+
+#[cfg(test)]
+mod tests;

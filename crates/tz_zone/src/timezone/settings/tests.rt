@@ -1,0 +1,308 @@
+//! What the settings ask of the reader, and what they answer.
+
+use super::{DEFAULT_DIRECTORIES, TimeZoneSettings};
+use crate::timezone::{LocalTimeType, TimeZone, TransitionRule};
+use anyhow::anyhow;
+use std::alloc::{AllocError, Global};
+use std::cell::Cell;
+use std::process::Abort;
+use std::test::Fail;
+use tz_base::error::parse::{ParseDataError, TzFileError, TzStringError};
+use tz_base::error::{Error, ReadFault, TzError};
+
+/// A file of version 1 with one type, UTC.
+const UTC_V1: &[u8] =
+    b"TZif\0\0\0\0\0\0\0\0\0\0\0\0\0\0\0\0\0\0\0\0\0\0\0\0\0\0\0\0\0\0\0\0\0\0\0\x01\0\0\0\x04\0\0\0\0\0\0UTC\0";
+
+/// What stands at a path.
+#[derive(Clone, Copy)]
+enum Reply {
+    Utc,
+    NoZone,
+    NoMemory,
+    NoFile,
+}
+
+/// Files in memory, and which of them were asked for: a digit for each, from 1 in their order, or 9.
+#[derive(Drop)]
+struct Files<'a> {
+    alloc: Global,
+    replies: &'a [(&'a str, Reply)],
+    asked: Cell<u64>,
+}
+
+impl Files<'_> {
+    /// Notes what was asked for.
+    fn note(&self, digit: u64) {
+        self.asked
+            .set(self.asked.get().wrapping_mul(10).wrapping_add(digit));
+    }
+
+    /// The file at the path.
+    fn read(&self, path: &str) -> Result<Vec<u8>, ReadFault> {
+        let mut digit = 0u64;
+        for (name, reply) in self.replies {
+            digit = digit.saturating_add(1);
+            if *name == path {
+                self.note(digit);
+                return match reply {
+                    Reply::Utc => Ok(Vec::from_slice(self.alloc, UTC_V1)?),
+                    Reply::NoZone => Ok(Vec::from_slice(self.alloc, b"TZ")?),
+                    Reply::NoMemory => Err(ReadFault::Memory(AllocError)),
+                    Reply::NoFile => Err(ReadFault::Failed(anyhow!("no file"))),
+                };
+            }
+        }
+        self.note(9);
+        Err(ReadFault::Failed(anyhow!("no file")))
+    }
+}
+
+/// A refusal that can be compared.
+#[derive(Debug, Drop, PartialEq, Eq)]
+enum Fault {
+    File(TzFileError),
+    Number,
+    Text(TzStringError),
+    Memory,
+    Io,
+    Other,
+}
+
+/// The refusal, to be compared.
+fn named(error: Error) -> Fault {
+    match error {
+        Error::Io(_) => Fault::Io,
+        Error::Tz(TzError::TzFile(part)) => Fault::File(part),
+        Error::Tz(TzError::TzString(TzStringError::ParseInt(_))) => Fault::Number,
+        Error::Tz(TzError::TzString(part)) => Fault::Text(part),
+        Error::Tz(TzError::Memory(_)) => Fault::Memory,
+        Error::Tz(_) => Fault::Other,
+    }
+}
+
+/// The text is refused so, after these were asked for.
+fn expect_fault(
+    rt: &impl Abort,
+    alloc: Global,
+    replies: &[(&str, Reply)],
+    text: &str,
+    fault: Fault,
+    asked: u64,
+) {
+    let files = Files {
+        alloc,
+        replies,
+        asked: Cell::new(0),
+    };
+    let settings = TimeZoneSettings::new(&["/a", "/b", "/c"], |path: &str| files.read(path));
+    let answer = settings.parse_posix_tz(alloc, text).err().map(named);
+    assert_eq!(rt; answer, Some(fault), "{text}");
+    assert_eq!(rt; files.asked.get(), asked, "{text}");
+}
+
+/// The text has the zone of this one type, after these were asked for.
+fn expect_type(
+    rt: &impl Abort,
+    alloc: Global,
+    replies: &[(&str, Reply)],
+    text: &str,
+    local_time_type: LocalTimeType,
+    asked: u64,
+) -> Result<(), Fail> {
+    let files = Files {
+        alloc,
+        replies,
+        asked: Cell::new(0),
+    };
+    let settings = TimeZoneSettings::new(&["/a", "/b", "/c"], |path: &str| files.read(path));
+    let zone = settings.parse_posix_tz(alloc, text)?;
+    assert_eq!(rt;
+        zone.as_ref().local_time_types(),
+        [local_time_type].as_slice(),
+        "{text}"
+    );
+    assert_eq!(rt; files.asked.get(), asked, "{text}");
+    Ok(())
+}
+
+/// UTC with its name.
+fn utc() -> Result<LocalTimeType, Fail> {
+    Ok(LocalTimeType::new(0, false, Some(b"UTC"))?)
+}
+
+#[test]
+fn directories_are_asked_in_turn(rt: HostRuntime) -> Result<(), Fail> {
+    let alloc = rt.alloc();
+    let second = [
+        ("/a/Z/x", Reply::NoFile),
+        ("/b/Z/x", Reply::Utc),
+        ("/c/Z/x", Reply::NoZone),
+    ];
+    expect_type(&rt, alloc, &second, "Z/x", utc()?, 12)?;
+    expect_type(&rt, alloc, &second, ":Z/x", utc()?, 12)?;
+    let memory = [("/a/Z/x", Reply::NoMemory), ("/b/Z/x", Reply::Utc)];
+    expect_fault(&rt, alloc, &memory, "Z/x", Fault::Memory, 1);
+    expect_fault(&rt, alloc, &memory, ":Z/x", Fault::Memory, 1);
+    let none = [
+        ("/a/Z/x", Reply::NoFile),
+        ("/b/Z/x", Reply::NoFile),
+        ("/c/Z/x", Reply::NoFile),
+    ];
+    expect_fault(&rt, alloc, &none, ":Z/x", Fault::Io, 123);
+    let cut = [
+        ("/a/Z/x", Reply::NoFile),
+        ("/b/Z/x", Reply::NoZone),
+        ("/c/Z/x", Reply::Utc),
+    ];
+    let is_cut = Fault::File(TzFileError::ParseData(ParseDataError::UnexpectedEof));
+    expect_fault(&rt, alloc, &cut, "Z/x", is_cut, 12);
+    Ok(())
+}
+
+#[test]
+fn a_text_is_read_where_no_file_is_found(rt: HostRuntime) -> Result<(), Fail> {
+    let alloc = rt.alloc();
+    let files = [
+        ("/a/A0", Reply::NoFile),
+        ("/b/A0", Reply::NoFile),
+        ("/c/A0", Reply::NoFile),
+    ];
+    expect_type(
+        &rt,
+        alloc,
+        &files,
+        "A0",
+        LocalTimeType::new(0, false, Some(b"A"))?,
+        123,
+    )?;
+    let memory = [
+        ("/a/A0", Reply::NoFile),
+        ("/b/A0", Reply::NoMemory),
+        ("/c/A0", Reply::Utc),
+    ];
+    expect_fault(&rt, alloc, &memory, "A0", Fault::Memory, 12);
+    let hst = LocalTimeType::new(-36_000, false, Some(b"HST"))?;
+    expect_type(&rt, alloc, &[], "HST10", hst, 999)?;
+    expect_type(&rt, alloc, &[], " HST10\n", hst, 999)?;
+    expect_type(&rt, alloc, &[], "\t\r\x0cHST10 ", hst, 999)?;
+    expect_fault(
+        &rt,
+        alloc,
+        &[],
+        "EET-2EEST",
+        Fault::Text(TzStringError::MissingDstStartEndRules),
+        999,
+    );
+    expect_fault(
+        &rt,
+        alloc,
+        &[],
+        "EST5EDT,0/0,J365/25",
+        Fault::Text(TzStringError::InvalidDayTimeHour),
+        999,
+    );
+    expect_fault(&rt, alloc, &[], "", Fault::Text(TzStringError::Empty), 0);
+    Ok(())
+}
+
+#[test]
+fn an_absolute_path_is_asked_alone(rt: HostRuntime) -> Result<(), Fail> {
+    let alloc = rt.alloc();
+    let utc_file = [("/x", Reply::Utc)];
+    expect_type(&rt, alloc, &utc_file, "/x", utc()?, 1)?;
+    expect_type(&rt, alloc, &utc_file, ":/x", utc()?, 1)?;
+    expect_fault(&rt, alloc, &[], "/x", Fault::Number, 9);
+    expect_fault(&rt, alloc, &[], ":/x", Fault::Io, 9);
+    Ok(())
+}
+
+#[test]
+fn local_time_has_its_file(rt: HostRuntime) -> Result<(), Fail> {
+    let alloc = rt.alloc();
+    let local = [("/etc/localtime", Reply::Utc)];
+    expect_type(&rt, alloc, &local, "localtime", utc()?, 1)?;
+    expect_type(&rt, alloc, &local, "/etc/localtime", utc()?, 1)?;
+    expect_type(&rt, alloc, &local, ":/etc/localtime", utc()?, 1)?;
+    expect_fault(&rt, alloc, &[], "localtime", Fault::Io, 9);
+    expect_fault(
+        &rt,
+        alloc,
+        &[("/etc/localtime", Reply::NoMemory)],
+        "localtime",
+        Fault::Memory,
+        1,
+    );
+    let files = Files {
+        alloc,
+        replies: &local,
+        asked: Cell::new(0),
+    };
+    let zone = TimeZone::local(alloc, |path: &str| files.read(path))?;
+    assert_eq!(rt; zone.as_ref().local_time_types(), [utc()?].as_slice());
+    let settings = TimeZoneSettings::new(DEFAULT_DIRECTORIES, |path: &str| files.read(path));
+    let zone = settings.parse_local(alloc)?;
+    assert_eq!(rt; zone.as_ref().local_time_types(), [utc()?].as_slice());
+    assert_eq!(rt; files.asked.get(), 11);
+    Ok(())
+}
+
+#[test]
+fn the_usual_directories_are_asked(rt: HostRuntime) -> Result<(), Fail> {
+    let alloc = rt.alloc();
+    let files = Files {
+        alloc,
+        replies: &[
+            (
+                "/usr/share/zoneinfo/CET-1CEST,M3.5.0,M10.5.0/3",
+                Reply::NoFile,
+            ),
+            ("/share/zoneinfo/CET-1CEST,M3.5.0,M10.5.0/3", Reply::NoFile),
+            ("/etc/zoneinfo/CET-1CEST,M3.5.0,M10.5.0/3", Reply::NoFile),
+        ],
+        asked: Cell::new(0),
+    };
+    let zone = TimeZone::from_posix_tz(
+        alloc,
+        |path: &str| files.read(path),
+        "CET-1CEST,M3.5.0,M10.5.0/3",
+    )?;
+    assert_eq!(rt; files.asked.get(), 123);
+    let types = [
+        LocalTimeType::new(3600, false, Some(b"CET"))?,
+        LocalTimeType::new(7200, true, Some(b"CEST"))?,
+    ];
+    assert_eq!(rt; zone.as_ref().local_time_types(), types.as_slice());
+    assert!(rt; zone.as_ref().transitions().is_empty());
+    assert!(rt;
+        matches!(
+            zone.as_ref().extra_rule(),
+            Some(TransitionRule::Alternate(_))
+        )
+    );
+    Ok(())
+}
+
+#[test]
+fn the_reader_s_fault_is_handed_on(rt: HostRuntime) -> Result<(), Fail> {
+    let alloc = rt.alloc();
+    let files = Files {
+        alloc,
+        replies: &[],
+        asked: Cell::new(0),
+    };
+    let settings = TimeZoneSettings::new(&["/a"], |path: &str| files.read(path));
+    for (text, fault) in [
+        (":/x", "no file"),
+        ("localtime", "no file"),
+        (":x", "file was not found"),
+    ] {
+        let Err(error) = settings.parse_posix_tz(alloc, text) else {
+            assert!(rt; false, "{text}");
+            return Ok(());
+        };
+        let printed = format!(in alloc; "{error}")?;
+        assert_eq!(rt; printed.as_str(), fault, "{text}");
+    }
+    Ok(())
+}
