@@ -1,3 +1,12 @@
+pub mod SlotLemmas
+pub mod WalkLemmas
+pub mod EffectLemmas
+pub mod KindLemmas
+pub mod SearchLemmas
+pub mod RuleYearLemmas
+pub mod RuleSearchLemmas
+pub mod FarLemmas
+pub mod PairLemmas
 pub mod PrintedLemmas
 pub mod Ranks
 pub mod FieldOrder

@@ -1,10 +1,11 @@
 -- Digits two at a time.
-use Rattle.std.proofs.Common.{◌≡◌, ℕ, zero, suc, ◌+◌, ◌/◌, ◌%◌, ◌^◌, ◌<◌, ◌≤◌, List, [], ◌∷◌, ◌++◌, length, length-append, refl, ℤ, pos, negsuc, ◌≤ℤ◌, ◌<ℤ◌, ap, sym, ◌∙◌, arith, append_assoc}
+use Rattle.std.proofs.Common.{◌≡◌, ℕ, zero, suc, ◌+◌, ◌/◌, ◌%◌, ◌^◌, ◌<◌, ◌≤◌, List, [], ◌∷◌, ◌++◌, length, length-append, refl, ℤ, pos, negsuc, ◌≤ℤ◌, ◌<ℤ◌, ap, sym, ◌∙◌, arith, append_assoc, append-nil}
 use Rattle.std.specs.Prelude.{unsigned_abs}
 use Rattle.std.specs.Fmt.{decimal}
+use Rattle.std.proofs.lemmas.Bool.Decides.{nat_tests}
 use Rattle.std.proofs.lemmas.Int.{ints}
 use Rattle.std.proofs.lemmas.Fmt.{decimal_digit, decimal_step, length-decimal-le}
-use Rattle.tz.specs.PrintedText.{last_digits, two_digits, nine_digits, offset_text, duration_text}
+use Rattle.tz.specs.PrintedText.{last_digits, two_digits, nine_digits, two_digits_or_more, offset_text, duration_text}
 
 -- the last digits, and the two before them
 pub last_two_digits : (width n : ℕ) → last_digits (suc (suc width)) n ≡ last_digits width (n / 100) ++ two_digits (n % 100)
@@ -79,3 +80,19 @@ unfolding offset_text
 offset_text-positive (pos zero) above = absurd (omega (arith, ints))
 offset_text-positive (pos (suc n)) above = refl
 offset_text-positive (negsuc n) above = absurd (omega (arith, ints))
+
+-- a number of four digits
+pub decimal-four : (n : ℕ) → 1000 ≤ n → n < 10000 → decimal n ≡ (48 + n / 100 / 10) ∷ (48 + n / 100 % 10) ∷ (48 + n % 100 / 10) ∷ (48 + n % 100 % 10) ∷ []
+decimal-four n from below =
+    decimal-pairs n (omega arith) (omega arith)
+    ∙ rw (decimal-two_digits (n / 100) (omega arith) (omega arith), two_digits-below (n / 100) (omega arith), two_digits-below (n % 100) (omega arith)) refl
+
+-- a duration of fewer than 100 hours that has no seconds over
+two_digits_or_more-below : (n : ℕ) → n < 100 → two_digits_or_more n ≡ two_digits n
+unfolding two_digits_or_more
+two_digits_or_more-below n below = grind (arith, nat_tests)
+
+pub duration_text-short : (s : ℕ) → s / 3600 < 100 → s % 60 ≡ 0 → duration_text s ≡ two_digits (s / 3600) ++ (58 ∷ two_digits ((s / 60) % 60))
+unfolding duration_text
+duration_text-short s few none =
+    rw (two_digits_or_more-below (s / 3600) few, none, append-nil (58 ∷ two_digits ((s / 60) % 60))) refl

@@ -2,5 +2,12 @@ pub use Rattle.tz_base.specs.Days
 pub use Rattle.tz_base.specs.Fields
 pub use Rattle.tz_rule.specs.LocalType
 pub mod DateTimes
+pub mod Found
+pub mod Slots
+pub mod Buffers
+pub mod Walks
+pub mod Reached
+pub mod RuleSpans
+pub mod FindFaults
 pub mod PrintedText
 pub mod UtcConstants

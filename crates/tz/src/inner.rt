@@ -1,6 +1,6 @@
 //! What the program uses of date times and their users do not.
 
-ghost use Rattle.std.specs.Prelude.{◌≡◌, ◌+◌, ◌<◌, ◌≤◌, [], ◌∷◌, ◌++◌, length, IsAscii};
+ghost use Rattle.std.specs.Prelude.{◌≡◌, ◌+◌, ◌/◌, ◌%◌, ◌<◌, ◌≤◌, [], ◌∷◌, ◌++◌, length, IsUtf8, IsAscii};
 ghost use Rattle.std.specs.Fmt.{decimal, signed_decimal};
 ghost use Rattle.tz_base.specs.Fields.{IsValid};
 ghost use Rattle.tz.specs.PrintedText.{two_digits, nine_digits, two_digits_or_more, date_text, time_text, seconds_text, duration_text, offset_text, printed_text};
@@ -9,7 +9,7 @@ use std::marker::Model;
 use std::str;
 use tz_base::calendar::Fields;
 
-/// ASCII text of at most 128 bytes, which is made without an allocation.
+/// Text of at most 128 bytes, which is made without an allocation.
 ///
 /// Two printed date times with their names and what stands between them fit into one.
 #[derive(Drop)]
@@ -19,13 +19,35 @@ pub struct Line {
 }
 
 impl Model for Line {
-    ghost use Rattle.std.specs.Prelude.{◌≤◌, ℕ, List, take, IsAscii};
+    ghost use Rattle.std.specs.Prelude.{◌≤◌, ℕ, List, take, IsUtf8};
 
     ghost Value = { List ℕ };
 
     ghost view = { λ line. take line.len line.bytes };
 
-    ghost invariant = { λ line. (line.len ≤ 128) × IsAscii (take line.len line.bytes) };
+    ghost invariant = { λ line. (line.len ≤ 128) × ∥ IsUtf8 (take line.len line.bytes) ∥₁ };
+}
+
+/// The two digits of each number below 100, in order.
+static PAIRS: [u8; 200] =
+    *b"00010203040506070809101112131415161718192021222324252627282930313233343536373839404142434445464748495051525354555657585960616263646566676869707172737475767778798081828384858687888990919293949596979899";
+
+/// The tens of a number below 100, as a digit.
+#[inline(always)]
+fn tens(number: u8) -> u8
+    requires { number < 100 }
+    ensures { result ≡ 48 + number / 10 }
+{
+    PAIRS[usize::from(number) * 2]
+}
+
+/// The ones of a number below 100, as a digit.
+#[inline(always)]
+fn ones(number: u8) -> u8
+    requires { number < 100 }
+    ensures { result ≡ 48 + number % 10 }
+{
+    PAIRS[usize::from(number) * 2 + 1]
 }
 
 impl Line {
@@ -51,7 +73,7 @@ impl Line {
     #[inline]
     pub fn as_bytes(&self) -> &[u8]
         ensures text { result.now ≡ self.now }
-        ensures ascii { IsAscii result.now }
+        ensures utf8 { IsUtf8 result.now }
         ensures len { length result.now ≤ 128 }
     {
         &self.bytes[..self.len]
@@ -80,13 +102,25 @@ impl Line {
     /// Appends a text.
     #[inline]
     pub fn push_str(&mut self, text: &str)
-        requires ascii { IsAscii text.now }
-        requires room { length self.old + length text.now ≤ 128 }
+        requires { length self.old + length text.now ≤ 128 }
         ensures text { self.new ≡ self.old ++ text.now }
         ensures len { length self.new ≡ length self.old + length text.now }
     {
         let end = self.len + text.len();
         self.bytes[self.len..end].copy_from_slice(text.as_bytes());
+        self.len = end;
+    }
+
+    /// Appends ASCII bytes.
+    #[inline(always)]
+    fn push_ascii(&mut self, bytes: &[u8])
+        requires ascii { IsAscii bytes.now }
+        requires room { length self.old + length bytes.now ≤ 128 }
+        ensures text { self.new ≡ self.old ++ bytes.now }
+        ensures len { length self.new ≡ length self.old + length bytes.now }
+    {
+        let end = self.len + bytes.len();
+        self.bytes[self.len..end].copy_from_slice(bytes);
         self.len = end;
     }
 
@@ -98,8 +132,7 @@ impl Line {
         ensures text { self.new ≡ self.old ++ two_digits number }
         ensures len { length self.new ≡ length self.old + 2 }
     {
-        self.push(b'0' + number / 10);
-        self.push(b'0' + number % 10);
+        self.push_ascii(&[tens(number), ones(number)]);
     }
 
     /// Appends nanoseconds as nine digits.
@@ -112,11 +145,22 @@ impl Line {
     {
         let high = number / 10_000;
         let low = number % 10_000;
-        self.push(b'0' + (high / 10_000) as u8);
-        self.push_two_digits((high % 10_000 / 100) as u8);
-        self.push_two_digits((high % 100) as u8);
-        self.push_two_digits((low / 100) as u8);
-        self.push_two_digits((low % 100) as u8);
+        let first = b'0' + (high / 10_000) as u8;
+        let second = (high % 10_000 / 100) as u8;
+        let third = (high % 100) as u8;
+        let fourth = (low / 100) as u8;
+        let fifth = (low % 100) as u8;
+        self.push_ascii(&[
+            first,
+            tens(second),
+            ones(second),
+            tens(third),
+            ones(third),
+            tens(fourth),
+            ones(fourth),
+            tens(fifth),
+            ones(fifth),
+        ]);
     }
 
     /// Appends the digits of a number.
@@ -143,7 +187,12 @@ impl Line {
         ensures text { self.new ≡ self.old ++ decimal number }
         ensures len { length self.new ≤ length self.old + 10 }
     {
-        self.push_digits(number);
+        if number >= 1000 && number < 10_000 {
+            let (front, back) = ((number / 100) as u8, (number % 100) as u8);
+            self.push_ascii(&[tens(front), ones(front), tens(back), ones(back)]);
+        } else {
+            self.push_digits(number);
+        }
     }
 
     /// Appends a year.
@@ -168,10 +217,8 @@ impl Line {
         ensures len { length self.new ≤ length self.old + 17 }
     {
         self.push_year(fields.year);
-        self.push(b'-');
-        self.push_two_digits(fields.month);
-        self.push(b'-');
-        self.push_two_digits(fields.month_day);
+        let (month, day) = (fields.month, fields.month_day);
+        self.push_ascii(&[b'-', tens(month), ones(month), b'-', tens(day), ones(day)]);
     }
 
     /// Appends hh:mm:ss.nnnnnnnnn.
@@ -182,12 +229,18 @@ impl Line {
         ensures text { self.new ≡ self.old ++ time_text fields.now }
         ensures len { length self.new ≡ length self.old + 18 }
     {
-        self.push_two_digits(fields.hour);
-        self.push(b':');
-        self.push_two_digits(fields.minute);
-        self.push(b':');
-        self.push_two_digits(fields.second);
-        self.push(b'.');
+        let (hour, minute, second) = (fields.hour, fields.minute, fields.second);
+        self.push_ascii(&[
+            tens(hour),
+            ones(hour),
+            b':',
+            tens(minute),
+            ones(minute),
+            b':',
+            tens(second),
+            ones(second),
+            b'.',
+        ]);
         self.push_nine_digits(fields.nanoseconds);
     }
 
@@ -224,10 +277,18 @@ impl Line {
         ensures text { self.new ≡ self.old ++ duration_text seconds }
         ensures len { length self.new ≤ length self.old + 16 }
     {
-        self.push_hours(seconds / 3600);
-        self.push(b':');
-        self.push_two_digits((seconds / 60 % 60) as u8);
-        self.push_seconds((seconds % 60) as u8);
+        let hours = seconds / 3600;
+        let minutes = (seconds / 60 % 60) as u8;
+        let rest = (seconds % 60) as u8;
+        if hours < 100 && rest == 0 {
+            let hours = hours as u8;
+            self.push_ascii(&[tens(hours), ones(hours), b':', tens(minutes), ones(minutes)]);
+        } else {
+            self.push_hours(hours);
+            self.push(b':');
+            self.push_two_digits(minutes);
+            self.push_seconds(rest);
+        }
     }
 
     /// Appends `Z`, or the sign and the size of an offset in seconds.

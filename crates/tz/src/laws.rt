@@ -1,7 +1,8 @@
-//! Laws of date times. But for the last, each function does nothing; its contract is the law, in the words of the contracts of
-//! [`UtcDateTime`] and [`crate::DateTime`].
+//! Laws of date times. A function here does nothing, or one call that it speaks of; its contract is the law, in the words of the
+//! contracts of [`UtcDateTime`] and [`crate::DateTime`].
 
-ghost use Rattle.std.specs.Prelude.{◌≡◌, ℕ, ◌<◌, true, pos, ℤ, ◌+ℤ◌, ◌↔◌};
+ghost use Rattle.std.specs.Prelude.{◌≡◌, ℕ, ◌<◌, true, pos, ℤ, ◌+ℤ◌, ◌↔◌, List, ⊤, alloc_error};
+ghost use Rattle.std.specs.List.{Contains};
 ghost use Rattle.std.specs.Duration.{as_nanos};
 ghost use Rattle.std.specs.Ordering.{int_cmp};
 ghost use Rattle.std.specs.declared.cmp.Ordering.TheVariants.{Equal, Less};
@@ -9,7 +10,13 @@ ghost use Rattle.std.specs.declared.time.Duration.{Duration};
 ghost use Rattle.tz_base.specs.Fields.{IsCivil, reading};
 ghost use Rattle.tz_base.specs.declared.calendar.Fields.{Fields};
 ghost use Rattle.tz_base.specs.declared.error.TzError.{TzError};
+ghost use Rattle.tz_base.specs.declared.error.TzError.TheVariants.{Memory};
+ghost use Rattle.tz_zone.specs.Clock.{IsClock};
 ghost use Rattle.tz_zone.specs.Table.{Zone};
+ghost use Rattle.tz.specs.FindFaults.{IsFarFromEnds, IsFindFault};
+ghost use Rattle.tz.specs.Found.{IsFound};
+ghost use Rattle.tz.specs.declared.datetime.found.FoundDateTimeKind.{FoundDateTimeKind};
+ghost use Rattle.tz.specs.declared.datetime.found.FoundDateTimeKind.TheVariants.{Normal as normal};
 ghost use Rattle.tz.specs.DateTimes.{LocalMoment, IsLocalMoment, IsUtc, IsUtcAt, IsShowFault, IsForwards, IsBackwards, ShowsByClock, utc_total, total_of, moment_eq, moment_cmp};
 
 use crate::UtcDateTime;
@@ -45,4 +52,11 @@ pub fn order_of_utc_date_times(a: UtcDateTime, b: UtcDateTime) -> Ordering
 /// A projection keeps the Unix time and the nanoseconds.
 pub fn projections_keep_the_instant()
     ensures { (z : Zone) (u : ℤ) (nanoseconds : ℕ) (d : LocalMoment) → ShowsByClock z u nanoseconds d → (d.unix_time ≡ u) × (d.fields.nanoseconds ≡ nanoseconds) }
+{}
+
+/// What [`crate::DateTime::from_timespec`] shows, [`crate::DateTime::find`] of its fields lists, wherever its year is 200 years or
+/// more from both ends of 32 bits and memory is not refused.
+pub fn shown_date_times_are_found()
+    ensures found { (z : Zone) (u : ℤ) (n : ℕ) (d : LocalMoment) (found : List FoundDateTimeKind) → ShowsByClock z u n d → IsFound (IsClock z) d.fields found → Contains found (normal d) }
+    ensures refused { (z : Zone) (u : ℤ) (n : ℕ) (d : LocalMoment) (e : TzError) → ShowsByClock z u n d → IsFarFromEnds d.fields.year → IsFindFault ⊤ d.fields e → e ≡ Memory alloc_error }
 {}

@@ -7,6 +7,6 @@ pub mod laws;
 
 pub use crate::datetime::{DateTime, UtcDateTime};
 pub use crate::error::{Error, TzError};
-pub use crate::timezone::{LocalTimeType, TimeZone, TimeZoneRef};
+pub use crate::timezone::{LocalTimeType, TimeZone, TimeZoneRef, TimeZoneSettings};
 pub use tz_base::{constants, error};
 pub use tz_zone::timezone;

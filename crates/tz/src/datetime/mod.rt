@@ -1,10 +1,20 @@
 //! Date times.
 
 mod date_time;
+mod find;
+mod found;
+mod found_list;
+mod found_list_ref;
+mod growing;
+mod search;
 mod totals;
 mod utc_date_time;
+mod walk;
 
 pub use date_time::DateTime;
+pub use found::FoundDateTimeKind;
+pub use found_list::FoundDateTimeList;
+pub use found_list_ref::FoundDateTimeListRefMut;
 pub use utc_date_time::UtcDateTime;
 
 #[cfg(test)]

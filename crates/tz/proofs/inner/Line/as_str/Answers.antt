@@ -1,6 +1,5 @@
--- ASCII is a text.
-use Rattle.std.proofs.lemmas.Str.{IsUtf8-from_ascii}
+-- The bytes are those of a text.
 use Rattle.tz.proofs.inner.Line.as_str.Goals as goal
 
 pub from_utf8_unchecked-requires : goal.from_utf8_unchecked-requires
-from_utf8_unchecked-requires c = IsUtf8-from_ascii _ c.as_bytes.ensures.ascii
+from_utf8_unchecked-requires c = c.as_bytes.ensures.utf8

@@ -1,0 +1,172 @@
+-- The search past the seam at which a rule with two types begins.
+use Rattle.std.proofs.Common.{◌≡◌, ℕ, ◌+◌, ◌<◌, ◌≤◌, ◌⊎◌, inl, inr, refl, sym, ap, subst, ◌∙◌, arith, ℤ, pos, negsuc, ◌+ℤ◌, ◌-ℤ◌, ◌≤ℤ◌, ◌<ℤ◌, List, ◌++◌, length, Option, Some, None}
+use Rattle.std.specs.List.{Contains}
+use Rattle.std.proofs.lemmas.Int.{ints, by_lt_z}
+use Rattle.std.proofs.lemmas.Option.{none-some}
+use Rattle.tz_base.specs.declared.calendar.Fields.{Fields}
+use Rattle.tz_base.specs.Fields.{IsValid, reading}
+use Rattle.tz_rule.specs.LocalType.{LocalType}
+use Rattle.tz_rule.specs.Alternate.{Alternate as AlternateParts, start_of, end_of, IsInRuleRange, AreRuleDays}
+use Rattle.tz_rule.specs.Rule.{IsRuleType}
+use Rattle.tz_rule.specs.declared.timezone.rule.TransitionRule.TheVariants.{Alternate}
+use Rattle.tz_zone.specs.Table.{Zone}
+use Rattle.tz_zone.specs.Clock.{IsClock}
+use Rattle.tz_zone.specs.ValidZone.{AreLeapSeconds}
+use Rattle.tz.specs.Found.{Shows, PassesOver, IsFound}
+use Rattle.tz.specs.Walks.{HoldsAt, HoldsFrom, IsFrom, IsStep, IsWalk, IsWalked}
+use Rattle.tz.specs.Reached.{IsWindowOf, IsInWindow, WindowClock}
+use Rattle.tz.specs.RuleSpans.{IsNearReading, IsAnswered, IsSpan, IsTurningAt, IsInView, RuleClock, IsOverFrom, IsAtSeam, IsPastSeam}
+use Rattle.tz.specs.declared.datetime.found.FoundDateTimeKind.{FoundDateTimeKind}
+use Rattle.tz.specs.declared.datetime.walk.Piece.{Piece}
+use Rattle.tz.specs.declared.datetime.walk.Walk.{Walk}
+use Rattle.tz.proofs.KindLemmas.{clock_of_rule, alternate_type}
+use Rattle.tz.proofs.RuleYearLemmas.{IsOfYear, answered_from_years, years_from_answered, inner_year_from_answered, unchanged_between, rule_type_stays, years_from_rule_type}
+use Rattle.tz.proofs.SearchLemmas.{step_since}
+use Rattle.tz.proofs.WalkLemmas.{walked_on, walked_same, found_from_end, found_from_seen}
+
+module _ (z : Zone) (low seam start end : ℤ) (f : Fields) (from : ℤ) (w : Walk) (found : List FoundDateTimeKind) (past : IsPastSeam z low seam start end f from w found) where
+  -- from one turn to the next
+  pub past_turn : (turns : List ℤ) → IsTurningAt z turns start end → start ≤ℤ from → (kind : Option LocalType) → HoldsAt (IsClock z) from kind →
+      (next : Walk) (new : List FoundDateTimeKind) → IsStep w (record { from = from; kind = kind }) next new →
+      (after : ℤ) → after ≤ℤ (end +ℤ pos 1) → ((turn : ℤ) → Contains turns turn → from <ℤ turn → turn <ℤ after → ⊥) →
+      IsPastSeam z low seam start end f after next (found ++ new)
+  past_turn turns turning start_is kind holds next new step after until none =
+      let piece : Piece = record { from = from; kind = kind } in
+      let since = step_since w piece next new step in
+      record {
+        walked = walked_on (RuleClock z low seam start end) f w found piece next new past.walked step past.holds;
+        after_seam = omega (arith, ints, past.after_seam, since.0);
+        holds = λ u within t.
+            let from_u : from ≤ℤ u = omega (arith, ints, since.1, within.0) in
+            let start_u : start ≤ℤ u = omega (arith, ints, start_is, from_u) in
+            let u_end : u ≤ℤ end = omega (arith, ints, within.1, until) in
+            let same = turning from u start_is from_u u_end (λ turn of_turns later to. none turn of_turns later (omega (arith, ints, to, within.1))) t in
+            let here = holds t in
+            ((λ seen. since.3 ∙ here.0 (same.1 seen.0)), (λ e. (same.0 (here.1 (sym since.3 ∙ e)), inr (start_u, u_end))));
+      }
+
+  -- and past the last one
+  pub found_past_turns : end <ℤ from → (piece : Piece) (next : Walk) (new : List FoundDateTimeKind) → IsStep w piece next new → piece.from ≡ end +ℤ pos 1 → IsFound (RuleClock z low seam start end) f (found ++ new)
+  found_past_turns over piece next new step is =
+      let since = step_since w piece next new step in
+      let walked = walked_on (RuleClock z low seam start end) f w found piece next new past.walked step (λ u within. past.holds u (within.0, omega (arith, ints, within.1, is, over))) in
+      found_from_end (RuleClock z low seam start end) f next (found ++ new) walked (λ u t seen. elim seen.1 [
+        | inl early ↦ omega (arith, ints, early.1, past.after_seam, since.0)
+        | inr late ↦ omega (arith, ints, late.1, since.1, is)
+      ])
+
+-- past the seam the clock is not seen until the first of the instants that count
+pub past_seam : (z : Zone) (low high start end : ℤ) (w : Walk) (found : List FoundDateTimeKind) → IsAtSeam z low high w found → w.since ≤ℤ start → end ≤ℤ high →
+    (next : Walk) (new : List FoundDateTimeKind) → IsStep w (record { from = w.since +ℤ pos 1; kind = None }) next new →
+    IsPastSeam z low w.since start end w.fields start next (found ++ new)
+past_seam z low high start end w found at start_is end_is next new step =
+    let clock = RuleClock z low w.since start end in
+    let gap : Piece = record { from = w.since +ℤ pos 1; kind = None } in
+    let since = step_since w gap next new step in
+    let walked = walked_same (WindowClock z low high) clock w.fields w found at.walked (λ u t early. (
+      (λ seen. (seen.0, inl (seen.1.0, omega (arith, ints, early)))),
+      (λ seen. elim seen.1 [
+        | inl before ↦ (seen.0, (before.0, omega (arith, ints, early, at.high_is)))
+        | inr after ↦ absurd (omega (arith, ints, after.0, start_is, early))
+      ]),
+    )) in
+    let here : HoldsFrom clock w.since (w.since +ℤ pos 1) w.kind = λ u within t.
+    let same : u ≡ w.since = omega (arith, ints, within.0, within.1) in
+    let holds = at.holds t in (
+      (λ seen. holds.0 (subst (λ (v : ℤ). IsClock z v t) same seen.0)),
+      (λ e. (subst (λ (v : ℤ). IsClock z v t) (sym same) (holds.1 e), inl (omega (arith, ints, same, at.low_is), omega (arith, ints, same)))),
+    ) in
+    record {
+      walked = walked_on clock w.fields w found gap next new walked step here;
+      after_seam = omega (arith, ints, since.1);
+      holds = λ u within t. (
+        (λ seen. elim seen.1 [
+          | inl before ↦ absurd (omega (arith, ints, before.1, within.0, since.1))
+          | inr after ↦ absurd (omega (arith, ints, after.0, within.1))
+        ]),
+        (λ e. absurd (none-some t (sym since.3 ∙ e))),
+      );
+    }
+
+module _ (z : Zone) (are : AreLeapSeconds z.leap_seconds) (r : AlternateParts) (e : z.extra_rule ≡ Some (Alternate r)) (seam high : ℤ) (over : IsOverFrom z seam) (reach : high ≤ℤ pos 80000000000000000) where
+  clock_is_rule : (u : ℤ) → seam ≤ℤ u → u ≤ℤ high → (t : LocalType) → (IsClock z u t → IsRuleType (Alternate r) u t) × (IsRuleType (Alternate r) u t → IsClock z u t)
+  clock_is_rule u from until = clock_of_rule z are (length z.transitions) refl (Alternate r) e u (over u from (omega (arith, ints, until, reach)))
+
+  module _ (range : IsInRuleRange r) (x start end : ℤ) (span : IsSpan x seam high start end) where
+    -- the clock turns at starts and ends of the years around the reading's
+    pub turning_at : AreRuleDays r → (year inner : ℤ) → IsOfYear year x → (negsuc 2147483646 ≤ℤ year → year ≤ℤ pos 2147483646 → inner ≡ year) → (turns : List ℤ) →
+        ((y : ℤ) → (inner -ℤ pos 1) ≤ℤ y → y ≤ℤ (inner +ℤ pos 1) → Contains turns (start_of r y)) →
+        ((y : ℤ) → (inner -ℤ pos 1) ≤ℤ y → y ≤ℤ (inner +ℤ pos 1) → Contains turns (end_of r y)) →
+        IsTurningAt z turns start end
+    turning_at days year inner of_year same turns starts ends u v from up until none t =
+        let u_in : IsInWindow start end u = (from, omega (arith, ints, up, until)) in
+        let v_in : IsInWindow start end v = (omega (arith, ints, from, up), until) in
+        let near_u = span.near u u_in in
+        let near_v = span.near v v_in in
+        let answered_u = span.answered u u_in in
+        let answered_v = span.answered v v_in in
+        let bounds = inner_year_from_answered year x u of_year near_u answered_u in
+        let is : inner ≡ year = same bounds.0 bounds.1 in
+        let unchanged = unchanged_between r range days year x u v of_year near_u near_v
+        (λ y low high_y after to. none (start_of r y) (starts y (omega (arith, ints, is, low)) (omega (arith, ints, is, high_y))) after to)
+        (λ y low high_y after to. none (end_of r y) (ends y (omega (arith, ints, is, low)) (omega (arith, ints, is, high_y))) after to) in
+        let rule = rule_type_stays r u v t up (years_from_answered year x u of_year near_u answered_u) (years_from_answered year x v of_year near_v answered_v) unchanged in
+        let seam_u : seam ≤ℤ u = omega (arith, ints, span.after_seam, from) in
+        let high_u : u ≤ℤ high = omega (arith, ints, u_in.1, span.end_is) in
+        let seam_v : seam ≤ℤ v = omega (arith, ints, span.after_seam, v_in.0) in
+        let high_v : v ≤ℤ high = omega (arith, ints, until, span.end_is) in
+        let here = clock_is_rule u seam_u high_u t in
+        let there = clock_is_rule v seam_v high_v t in
+        ((λ clock. there.1 (rule.0 (here.0 clock))), (λ clock. here.1 (rule.1 (there.0 clock))))
+
+    -- a rule shows a reading within 26 hours
+    rule_offset : (u : ℤ) (t : LocalType) → IsRuleType (Alternate r) u t → (negsuc 89999 <ℤ t.ut_offset) × (t.ut_offset <ℤ pos 93600)
+    rule_offset u t at = elim (alternate_type r u t at) [
+      | inl is ↦
+          let offset = ap (λ (y : LocalType). y.ut_offset) is in
+          (omega (arith, ints, offset, range.dst_is.0), omega (arith, ints, offset, range.dst_is.1))
+      | inr is ↦
+          let offset = ap (λ (y : LocalType). y.ut_offset) is in
+          (omega (arith, ints, offset, range.std_is.0), omega (arith, ints, offset, range.std_is.1))
+    ]
+
+    -- nothing is found outside the instants that count
+    pub found_from_rule : (low : ℤ) (f : Fields) → reading f ≡ x → IsWindowOf z (reading f) low high → (found : List FoundDateTimeKind) → IsFound (RuleClock z low seam start end) f found → IsFound (IsClock z) f found
+    found_from_rule low f x_is window found is = found_from_seen (IsClock z) (IsInView low seam start end) f found shown passed is
+      where
+        shown : (u : ℤ) (t : LocalType) → Shows (IsClock z) (reading f) u t → IsInView low seam start end u
+        shown u t shows =
+            let offset = window u t shows.0 in
+            let low_u : low ≤ℤ u = omega (arith, ints, shows.1, offset.1) in
+            let high_u : u ≤ℤ high = omega (arith, ints, shows.1, offset.0) in
+            by_lt_z seam u
+            (λ after.
+            let seam_u : seam ≤ℤ u = omega (arith, ints, after) in
+            let type = (clock_is_rule u seam_u high_u t).0 shows.0 in
+            let bounds = rule_offset u t type in
+            let near : IsNearReading x u = (omega (arith, ints, shows.1, bounds.1, x_is), omega (arith, ints, shows.1, bounds.0, x_is)) in
+            inr (span.covers u seam_u high_u near (answered_from_years u (years_from_rule_type r u t type))))
+            (λ up_to. inl (low_u, up_to))
+
+        passed : (u : ℤ) (a b : LocalType) → PassesOver (IsClock z) (reading f) u a b → IsInView low seam start end (u -ℤ pos 1) × IsInView low seam start end u
+        passed u a b passes =
+            let before = window (u -ℤ pos 1) a passes.0 in
+            let after = window u b passes.1 in
+            let low_before : low ≤ℤ (u -ℤ pos 1) = omega (arith, ints, passes.3, after.1) in
+            let low_u : low ≤ℤ u = omega (arith, ints, low_before) in
+            let high_u : u ≤ℤ high = omega (arith, ints, passes.2, before.0) in
+            let high_before : (u -ℤ pos 1) ≤ℤ high = omega (arith, ints, high_u) in
+            by_lt_z seam u
+            (λ later.
+            let seam_u : seam ≤ℤ u = omega (arith, ints, later) in
+            let seam_before : seam ≤ℤ (u -ℤ pos 1) = omega (arith, ints, later) in
+            let type_a = (clock_is_rule (u -ℤ pos 1) seam_before high_before a).0 passes.0 in
+            let type_b = (clock_is_rule u seam_u high_u b).0 passes.1 in
+            let bounds_a = rule_offset (u -ℤ pos 1) a type_a in
+            let bounds_b = rule_offset u b type_b in
+            let near_before : IsNearReading x (u -ℤ pos 1) = (omega (arith, ints, passes.3, bounds_b.1, x_is), omega (arith, ints, passes.2, bounds_a.0, x_is)) in
+            let near_u : IsNearReading x u = (omega (arith, ints, passes.3, bounds_b.1, x_is), omega (arith, ints, passes.2, bounds_a.0, x_is)) in (
+              inr (span.covers (u -ℤ pos 1) seam_before high_before near_before (answered_from_years (u -ℤ pos 1) (years_from_rule_type r (u -ℤ pos 1) a type_a))),
+              inr (span.covers u seam_u high_u near_u (answered_from_years u (years_from_rule_type r u b type_b))),
+            ))
+            (λ up_to. (inl (low_before, omega (arith, ints, up_to)), inl (low_u, up_to)))

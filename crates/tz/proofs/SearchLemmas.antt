@@ -1,0 +1,224 @@
+-- A search in a window goes from one transition to the next, and finds all.
+use Rattle.std.proofs.Common.{◌≡◌, ◌≢◌, ℕ, zero, suc, ◌+◌, ◌-◌, ◌<◌, ◌≤◌, ◌⊎◌, ◌∙◌, inl, inr, refl, sym, ap, subst, arith, ℤ, pos, negsuc, ◌+ℤ◌, ◌-ℤ◌, ◌≤ℤ◌, ◌<ℤ◌, List, [], ◌∷◌, ◌++◌, length, get_or, Option, Some, None}
+use Rattle.std.specs.Prelude.{slice_get}
+use Rattle.std.proofs.lemmas.Int.{ints, by_lt_z}
+use Rattle.std.proofs.lemmas.Bool.{cases_lt}
+use Rattle.std.proofs.lemmas.Option.{same_Some, slice_get_within, slice_get-get_or}
+use Rattle.std.proofs.lemmas.List.Elements.{All-weaker}
+use Rattle.tz_base.specs.declared.calendar.Fields.{Fields}
+use Rattle.tz_base.specs.Fields.{reading}
+use Rattle.tz_rule.specs.LocalType.{LocalType}
+use Rattle.tz_zone.specs.Table.{Change, Zone}
+use Rattle.tz_zone.specs.LeapTime.{IsInstant, IsLeapTime, HasComeTo, IsEffect}
+use Rattle.tz_zone.specs.Clock.{IsClock}
+use Rattle.tz_zone.specs.ValidZone.{IsSoundTable}
+use Rattle.tz_zone.proofs.LeapTimes.{IsInstant-from_bounds, instant_bounds, leap_time_mono}
+use Rattle.tz_zone.proofs.RisingTimes.{Rise, transitions_rise}
+use Rattle.tz.specs.Found.{IsFoundBy, IsFound, instant_of}
+use Rattle.tz.specs.Walks.{HoldsAt, HoldsFrom, IsFrom, IsStep, IsWalk, IsWalked}
+use Rattle.tz.specs.Reached.{IsWithinReach, IsReachedAt, IsSteadyAfter, IsKindOf, IsDue, IsPieceOf, IsWindowOf, IsInWindow, WindowClock, IsOnTheWay}
+use Rattle.tz.specs.RuleSpans.{IsOverFrom, IsAtSeam}
+use Rattle.tz.specs.declared.datetime.found.FoundDateTimeKind.{FoundDateTimeKind}
+use Rattle.tz.specs.declared.datetime.found.FoundDateTimeKind.TheVariants.{Normal, Skipped}
+use Rattle.tz.specs.declared.datetime.walk.Piece.{Piece}
+use Rattle.tz.specs.declared.datetime.walk.Walk.{Walk}
+use Rattle.tz.proofs.EffectLemmas.{leap_exists, leap_time_is_instant}
+use Rattle.tz.proofs.KindLemmas.{no_change}
+use Rattle.tz.proofs.WalkLemmas.{walked_on, walked_from_start, found_from_end, found_from_seen}
+
+pub instant_within_reach : (u : ℤ) → IsWithinReach u → IsInstant u
+instant_within_reach u reach = IsInstant-from_bounds u (omega (arith, ints, reach.0)) (omega (arith, ints, reach.1))
+
+-- a step does not go back, and comes to the piece
+pub step_since : (w : Walk) (piece : Piece) (next : Walk) (new : List FoundDateTimeKind) → IsStep w piece next new →
+    (w.since ≤ℤ next.since) × (piece.from ≤ℤ next.since) × ((next.since ≡ w.since) ⊎ (next.since ≡ piece.from)) × (next.kind ≡ piece.kind)
+step_since w piece next new (inl (early, is, none)) =
+    let since : next.since ≡ w.since = ap (λ (x : Walk). x.since) is in
+    let kind : next.kind ≡ piece.kind = ap (λ (x : Walk). x.kind) is in
+    (omega (arith, ints, since), omega (arith, ints, since, early), inl since, kind)
+step_since w piece next new (inr (late, is, given)) =
+    let since : next.since ≡ piece.from = ap (λ (x : Walk). x.since) is in
+    let kind : next.kind ≡ piece.kind = ap (λ (x : Walk). x.kind) is in
+    (omega (arith, ints, since, late), omega (arith, ints, since), inr since, kind)
+
+module _ (z : Zone) (sound : IsSoundTable z) where
+  rise : Rise (λ (c : Change). c.unix_leap_time) z.transitions
+  rise = transitions_rise z.transitions (λ i. (sound.transitions_are i).1)
+
+  -- what has come stays so
+  come_stays : (v u w : ℤ) → u ≤ℤ w → w ≤ℤ pos 80000000000000000 → HasComeTo z.leap_seconds v u → HasComeTo z.leap_seconds v w
+  come_stays v u w h reach (l, leap, come) =
+      let next = leap_exists z.leap_seconds sound.leap_seconds_are w reach in
+      (next.0, next.1, omega (arith, ints, come, leap_time_mono z.leap_seconds sound.leap_seconds_are u w l next.0 h leap next.1))
+
+  -- the transitions between two instants take effect within reach
+  pub due_between : (low high : ℤ) (reached come place : ℕ) → IsWithinReach low → IsWithinReach high → IsReachedAt z low reached → IsReachedAt z high come → reached ≤ place → place < come → IsDue z place
+  due_between low high reached come place reach_low reach_high at_low at_high from until change at =
+      let start = at_low.later place change from at in
+      let time = instant_bounds at_low.time (leap_time_is_instant z.leap_seconds sound.leap_seconds_are low at_low.time (instant_within_reach low reach_low) at_low.time_is) in
+      ((λ e. absurd (omega (arith, ints, start, time.0, e))), (high, instant_within_reach high reach_high, (at_high.time, at_high.time_is, at_high.come place change until at)))
+
+  -- so many have come from where they have all come until the next one does
+  reached_between : (place : ℕ) (since u : ℤ) → since ≤ℤ u → u ≤ℤ pos 80000000000000000 →
+      ((i : ℕ) (change : Change) → i < place → slice_get z.transitions i ≡ Some change → HasComeTo z.leap_seconds change.unix_leap_time since) →
+      ((i : ℕ) (change : Change) → place ≤ i → slice_get z.transitions i ≡ Some change → (l : ℤ) → IsLeapTime z.leap_seconds u l → l <ℤ change.unix_leap_time) →
+      IsReachedAt z u place
+  reached_between place since u h reach come later =
+      let leap = leap_exists z.leap_seconds sound.leap_seconds_are u reach in
+      record {
+        time = leap.0;
+        time_is = leap.1;
+        come = λ i change less at.
+            let was = come i change less at in
+            omega (arith, ints, was.2, leap_time_mono z.leap_seconds sound.leap_seconds_are since u was.0 leap.0 h was.1 leap.1);
+        later = λ i change more at. later i change more at leap.0 leap.1;
+      }
+
+  module _ (low high : ℤ) (f : Fields) where
+    pub on_the_way_from_start : (reached : ℕ) (w : Walk) → low ≤ℤ pos 80000000000000000 → IsReachedAt z low reached → IsWalk f w → w.before ≡ None → w.since ≡ low → IsKindOf z reached w.since w.kind → low ≤ℤ high → IsOnTheWay z low high f reached w []
+    on_the_way_from_start reached w reach at_low walk before since kind order = record {
+      walked = walked_from_start (WindowClock z low high) f w walk before (λ u t at. omega (arith, ints, since, at.1.0));
+      kind = kind;
+      come = λ i change less at. subst (λ (u : ℤ). HasComeTo z.leap_seconds change.unix_leap_time u) (sym since) (at_low.time, at_low.time_is, at_low.come i change less at);
+      low_is = omega (arith, ints, since);
+      high_is = omega (arith, ints, since, order);
+      not_before = λ i change from at u (l, leap, come). by_lt_z u low
+          (λ early. absurd (omega (arith, ints, leap_time_mono z.leap_seconds sound.leap_seconds_are u low l at_low.time (omega (arith, ints, early)) leap at_low.time_is, at_low.later i change from at, come)))
+          (λ from_low. omega (arith, ints, since, from_low));
+    }
+
+    module _ (reach : high ≤ℤ pos 80000000000000000) (come : ℕ) (at_high : IsReachedAt z high come) (place : ℕ) (w : Walk) (found : List FoundDateTimeKind) (way : IsOnTheWay z low high f place w found) where
+      -- the clock has the last piece's type where so many have come
+      holds_from : (until : ℤ) → until ≤ℤ (high +ℤ pos 1) →
+          ((u : ℤ) → IsFrom w.since until u → (i : ℕ) (change : Change) → place ≤ i → slice_get z.transitions i ≡ Some change → (l : ℤ) → IsLeapTime z.leap_seconds u l → l <ℤ change.unix_leap_time) →
+          ((u : ℤ) → IsFrom w.since until u → IsSteadyAfter z place) →
+          HoldsFrom (WindowClock z low high) w.since until w.kind
+      holds_from until within_high later steady u within t =
+          let reached = reached_between place w.since u within.0 (omega (arith, ints, within.1, within_high, reach)) way.come (later u within) in
+          let kind = way.kind u reached (inl (steady u within)) t in
+          let low_is : low ≤ℤ u = omega (arith, ints, way.low_is, within.0) in
+          let high_is : u ≤ℤ high = omega (arith, ints, within.1, within_high) in
+          ((λ seen. kind.0 seen.0), (λ e. (kind.1 e, (low_is, high_is))))
+
+      pub on_the_way_past : place < come → (piece : Piece) (next : Walk) (new : List FoundDateTimeKind) → IsPieceOf z place piece → IsStep w piece next new → IsOnTheWay z low high f (place + 1) next (found ++ new)
+      on_the_way_past inside piece next new ((change, at, effect), kind) step =
+          let from_high : piece.from ≤ℤ high = effect.least high (at_high.time, at_high.time_is, at_high.come place change inside at) in
+          let since = step_since w piece next new step in
+          let high_is : next.since ≤ℤ high = elim since.2 [ inl e ↦ omega (arith, ints, e, way.high_is) | inr e ↦ omega (arith, ints, e, from_high) ] in
+          let reach_is : next.since ≤ℤ pos 80000000000000000 = omega (arith, ints, high_is, reach) in
+          let not_early : w.since ≤ℤ piece.from = way.not_before place change (omega arith) at piece.from effect.has_come in
+          let since_is : piece.from ≡ next.since = elim since.2 [ inl e ↦ omega (arith, ints, e, not_early, since.1) | inr e ↦ sym e ] in
+          record {
+            walked = walked_on (WindowClock z low high) f w found piece next new way.walked step (holds_from piece.from (omega (arith, ints, from_high)) later (λ u within. inl (omega (arith, slice_get_within z.transitions place change at))));
+            kind = subst (λ (v : ℤ). IsKindOf z (place + 1) v next.kind) since_is (subst (λ (k : Option LocalType). IsKindOf z (place + 1) piece.from k) (sym since.3) kind);
+            come = λ i other less at_i. elim (cases_lt i place) [
+              | inl before ↦ come_stays other.unix_leap_time w.since next.since since.0 reach_is (way.come i other before at_i)
+              | inr not_before ↦
+                  let here : i ≡ place = omega arith in
+                  let same : change ≡ other = same_Some change other (sym at ∙ ap (slice_get z.transitions) (sym here) ∙ at_i) in
+                  subst (λ (c : Change). HasComeTo z.leap_seconds c.unix_leap_time next.since) same (come_stays change.unix_leap_time piece.from next.since since.1 reach_is effect.has_come)
+            ];
+            low_is = omega (arith, ints, way.low_is, since.0);
+            high_is = high_is;
+            not_before = λ i other more at_i u (l, leap, come_i).
+                let time = rise place i change other (omega (arith, more)) at at_i in
+                let come_here : change.unix_leap_time ≤ℤ l = omega (arith, ints, time, come_i) in
+                omega (arith, ints, since_is, effect.least u (l, leap, come_here));
+          }
+        where
+          later : (u : ℤ) → IsFrom w.since piece.from u → (i : ℕ) (other : Change) → place ≤ i → slice_get z.transitions i ≡ Some other → (l : ℤ) → IsLeapTime z.leap_seconds u l → l <ℤ other.unix_leap_time
+          later u within i other more at_i l leap =
+              by_lt_z l other.unix_leap_time (λ less. less) (λ not_less.
+              let time : change.unix_leap_time ≤ℤ other.unix_leap_time = elim (cases_lt place i) [
+                | inl after ↦ omega (arith, ints, rise place i change other after at at_i)
+                | inr not_after ↦
+                    let here : i ≡ place = omega arith in
+                    omega (arith, ints, ap (λ (c : Change). c.unix_leap_time) (same_Some change other (sym at ∙ ap (slice_get z.transitions) (sym here) ∙ at_i)))
+              ] in
+              let come_here : change.unix_leap_time ≤ℤ l = omega (arith, ints, time, not_less) in
+              absurd (omega (arith, ints, within.1, effect.least u (l, leap, come_here))))
+
+      pub found_in_window : IsSteadyAfter z come → come ≤ place → (piece : Piece) (next : Walk) (new : List FoundDateTimeKind) → IsStep w piece next new → piece.from ≡ high +ℤ pos 1 → IsFound (WindowClock z low high) f (found ++ new)
+      found_in_window steady all piece next new step end =
+          let since = step_since w piece next new step in
+          let walked = walked_on (WindowClock z low high) f w found piece next new way.walked step
+          (holds_from piece.from (omega (arith, ints, end)) (λ u within i change more at l leap.
+          omega (
+            arith,
+            ints,
+            leap_time_mono z.leap_seconds sound.leap_seconds_are u high l at_high.time (omega (arith, ints, within.1, end)) leap at_high.time_is,
+            at_high.later i change (omega (arith, all, more)) at,
+          )) (steady_at steady)) in
+          found_from_end (WindowClock z low high) f next (found ++ new) walked (λ u t seen. omega (arith, ints, seen.1.1, since.1, end))
+        where
+          steady_at : IsSteadyAfter z come → (u : ℤ) → IsFrom w.since piece.from u → IsSteadyAfter z place
+          steady_at (inr one) u within = inr one
+          steady_at (inl less) u within =
+              elim (cases_lt come place) [
+                | inl more ↦
+                    let change = get_or z.transitions come no_change in
+                    let at = slice_get-get_or z.transitions come no_change less in
+                    let was = way.come come change more at in
+                    absurd (omega (
+                      arith,
+                      ints,
+                      was.2,
+                      at_high.later come change (omega arith) at,
+                      leap_time_mono z.leap_seconds sound.leap_seconds_are w.since high was.0 at_high.time (omega (arith, ints, within.0, within.1, end)) was.1 at_high.time_is,
+                    ))
+                | inr same ↦ inl (omega (arith, all, same, less))
+              ]
+
+      -- where all transitions have come, the walk is at the seam
+      pub over_from_seam : length z.transitions ≤ place → IsOverFrom z w.since
+      over_from_seam all u from until =
+          let reached = reached_between place w.since u from until way.come (λ i other more at_i. absurd (omega (arith, all, more, slice_get_within z.transitions i other at_i))) in
+          record {
+            time = reached.time;
+            time_is = reached.time_is;
+            come = λ i change less at. reached.come i change (omega (arith, all, less)) at;
+            later = λ i other more at_i. absurd (omega (arith, more, slice_get_within z.transitions i other at_i));
+          }
+
+      pub at_seam : length z.transitions ≤ place → IsWindowOf z (reading f) low high → IsAtSeam z low high w found
+      at_seam all window = record {
+        walked = subst (λ (g : Fields). IsWalked (WindowClock z low high) g w found) (sym way.walked.walk.fields_are) way.walked;
+        holds = way.kind w.since (reached_between place w.since w.since (omega (arith, ints)) (omega (arith, ints, way.high_is, reach)) way.come (λ i other more at_i. absurd (omega (arith, all, more, slice_get_within z.transitions i other at_i)))) (inr refl);
+        low_is = way.low_is;
+        high_is = way.high_is;
+        window = subst (λ (g : Fields). IsWindowOf z (reading g) low high) (sym way.walked.walk.fields_are) window;
+      }
+
+    -- no entry lies outside the window
+    pub found_from_window : IsWindowOf z (reading f) low high → (found : List FoundDateTimeKind) → IsFound (WindowClock z low high) f found → IsFound (IsClock z) f found
+    found_from_window window found is = found_from_seen (IsClock z) (IsInWindow low high) f found
+        (λ u t shows.
+        let offset = window u t shows.0 in
+        (omega (arith, ints, shows.1, offset.1), omega (arith, ints, shows.1, offset.0)))
+        (λ u a b passes.
+        let before = window (u -ℤ pos 1) a passes.0 in
+        let after = window u b passes.1 in
+        ((omega (arith, ints, passes.3, after.1), omega (arith, ints, passes.2, before.0)), (omega (arith, ints, passes.3, after.1), omega (arith, ints, passes.2, before.0))))
+        is
+
+-- a list of rising instants in a window is no longer than the window
+pub few_found : (z : Zone) (low high : ℤ) (f : Fields) (found : List FoundDateTimeKind) → IsWindowOf z (reading f) low high → (high -ℤ low) ≤ℤ pos 4294967296 → IsFound (IsClock z) f found → length found ≤ 8589934592
+few_found z low high f [] window width is = omega arith
+few_found z low high f (first ∷ rest) window width is =
+    let last = rising (length rest) (omega arith) in
+    let until = (All-weaker (IsFoundBy (IsClock z) f) (λ e. IsInWindow low high (instant_of e)) in_window (first ∷ rest) is.sound) (length rest) first (omega arith) in
+    omega (arith, ints, last, until.1, width)
+  where
+    in_window : (e : FoundDateTimeKind) → IsFoundBy (IsClock z) f e → IsInWindow low high (instant_of e)
+    in_window (Normal d) (fields, shows) =
+        let offset = window d.unix_time d.local_time_type shows.0 in
+        (omega (arith, ints, shows.1, offset.1), omega (arith, ints, shows.1, offset.0))
+    in_window (Skipped x y) (u, a, b, passes, sx, sy) =
+        let before = window (u -ℤ pos 1) a passes.0 in
+        let after = window u b passes.1 in
+        let instant = sx.instant_is in
+        (omega (arith, ints, instant, passes.3, after.1), omega (arith, ints, instant, passes.2, before.0))
+
+    rising : (i : ℕ) → i < length (first ∷ rest) → (low +ℤ pos i) ≤ℤ instant_of (get_or (first ∷ rest) i first)
+    rising zero h = omega (arith, ints, (in_window first (is.sound 0 first h)).0)
+    rising (suc i) h = omega (arith, ints, rising i (omega arith), is.in_order i (suc i) first (omega arith) h)

@@ -1,0 +1,270 @@
+-- A walk past the pieces of a clock finds all, piece by piece.
+use Rattle.std.proofs.Common.{◌≡◌, ℕ, ◌+◌, ◌<◌, ◌≤◌, ◌⊎◌, ◌∙◌, inl, inr, refl, sym, ap, subst, arith, ℤ, pos, negsuc, ◌+ℤ◌, ◌-ℤ◌, ◌≤ℤ◌, ◌<ℤ◌, List, [], ◌∷◌, ◌++◌, length, get_or, length-append, append-nil, Option, Some, None}
+use Rattle.std.specs.List.{All, AllPairs, Contains}
+use Rattle.std.proofs.Math.Seq.{get_or-append_seam}
+use Rattle.std.proofs.lemmas.Int.{ints, by_lt_z}
+use Rattle.std.proofs.lemmas.Bool.{cases_lt}
+use Rattle.std.proofs.lemmas.List.{get_or_append_left}
+use Rattle.std.proofs.lemmas.List.Elements.{All-nil, All-push, All-contains, All-weaker, Contains-append_left, Contains-push}
+use Rattle.std.proofs.lemmas.Option.{same_Some, none-some}
+use Rattle.tz_base.specs.declared.calendar.Fields.{Fields}
+use Rattle.tz_base.specs.Fields.{reading}
+use Rattle.tz_base.proofs.OrderLemmas.{civil_unique}
+use Rattle.tz_rule.specs.LocalType.{LocalType}
+use Rattle.tz.specs.DateTimes.{LocalMoment, ShowsInstant}
+use Rattle.tz.specs.Found.{Clock, Shows, PassesOver, IsFoundBy, IsEarlier, IsFound, instant_of}
+use Rattle.tz.specs.Walks.{moment_of, IsDateTimeOf, IsFrom, HoldsAt, HoldsFrom, IsEntryOf, IsGiven, IsStep, IsWalk, IsFoundBefore, IsWalked}
+use Rattle.tz.specs.declared.datetime.found.FoundDateTimeKind.{FoundDateTimeKind}
+use Rattle.tz.specs.declared.datetime.found.FoundDateTimeKind.TheVariants.{Normal, Skipped}
+use Rattle.tz.specs.declared.datetime.walk.Entry.{Entry}
+use Rattle.tz.specs.declared.datetime.walk.Entry.TheVariants.{Shown, Jump}
+use Rattle.tz.specs.declared.datetime.walk.Piece.{Piece}
+use Rattle.tz.specs.declared.datetime.walk.Walk.{Walk}
+
+-- one more at the end comes after all
+AllPairs-push : {X : Type 0} (R : X → X → Type 0) (xs : List X) (y : X) → AllPairs R xs → All (λ x. R x y) xs → AllPairs R (xs ++ y ∷ [])
+AllPairs-push R xs y pairs all i j d less within =
+    let size = length-append xs (y ∷ []) in
+    let first : i < length xs = omega arith in
+    let left : get_or (xs ++ y ∷ []) i d ≡ get_or xs i d = get_or_append_left xs (y ∷ []) d i first in
+    elim (cases_lt j (length xs)) [
+      | inl before ↦
+          let right : get_or (xs ++ y ∷ []) j d ≡ get_or xs j d = get_or_append_left xs (y ∷ []) d j before in
+          rw (left, right) (pairs i j d less before)
+      | inr after ↦
+          let place : j ≡ length xs = omega arith in
+          let right : get_or (xs ++ y ∷ []) j d ≡ y = ap (λ k. get_or (xs ++ y ∷ []) k d) place ∙ get_or-append_seam xs y [] d in
+          rw (left, right) (all i d first)
+    ]
+
+AllPairs-nil : {X : Type 0} (R : X → X → Type 0) → AllPairs R []
+AllPairs-nil R i j d less within = absurd (omega arith)
+
+-- the sides of a jump are determined
+side_unique : (u : ℤ) (n : ℕ) (t : LocalType) (d e : LocalMoment) → ShowsInstant u n t d → ShowsInstant u n t e → d ≡ e
+side_unique u n t d e a b =
+    ap (λ f. moment_of f d.local_time_type d.unix_time) (civil_unique (u +ℤ t.ut_offset) n d.fields e.fields a.civil b.civil)
+    ∙ ap (λ s. moment_of e.fields s d.unix_time) (a.type_is ∙ sym b.type_is)
+    ∙ ap (λ v. moment_of e.fields e.local_time_type v) (a.instant_is ∙ sym b.instant_is)
+
+-- and so is the date time of an entry
+date_time_unique : (f : Fields) (entry : Entry) (e g : FoundDateTimeKind) → IsDateTimeOf f entry e → IsDateTimeOf f entry g → e ≡ g
+date_time_unique f (Shown u t) e g a b = a ∙ sym b
+date_time_unique f (Jump u s t) e g (x, y, is, sx, sy) (x', y', is', sx', sy') =
+    is ∙ ap (λ d. Skipped d y) (side_unique u f.nanoseconds s x x' sx sx') ∙ ap (λ d. Skipped x' d) (side_unique u f.nanoseconds t y y' sy sy') ∙ sym is'
+
+-- a piece has one entry at most
+entry_unique : (w : Walk) (until : ℤ) (entry other : Entry) → IsEntryOf w until entry → IsEntryOf w until other → entry ≡ other
+entry_unique w until (Shown u t) (Shown u' t') (kind, within, shown) (kind', within', shown') =
+    let type : t ≡ t' = same_Some t t' (sym kind ∙ kind') in
+    let offset = ap (λ (s : LocalType). s.ut_offset) type in
+    let instant : u ≡ u' = omega (arith, ints, offset, shown, shown') in
+    ap (λ v. Shown v t) instant ∙ ap (λ s. Shown u' s) type
+entry_unique w until (Shown u t) (Jump u' a b) (kind, within, shown) (since, before, kind', low, high) =
+    let offset = ap (λ (s : LocalType). s.ut_offset) (same_Some t b (sym kind ∙ kind')) in
+    absurd (omega (arith, ints, offset, shown, within.0, since, high))
+entry_unique w until (Jump u' a b) (Shown u t) (since, before, kind', low, high) (kind, within, shown) =
+    let offset = ap (λ (s : LocalType). s.ut_offset) (same_Some t b (sym kind ∙ kind')) in
+    absurd (omega (arith, ints, offset, shown, within.0, since, high))
+entry_unique w until (Jump u a b) (Jump u' a' b') (since, before, kind, low, high) (since', before', kind', low', high') =
+    ap (λ v. Jump v a b) (since ∙ sym since') ∙ ap (λ s. Jump u' s b) (same_Some a a' (sym before ∙ before')) ∙ ap (λ s. Jump u' a' s) (same_Some b b' (sym kind ∙ kind'))
+
+module _ (clock : Clock) (f : Fields) (w : Walk) (found : List FoundDateTimeKind) (walked : IsWalked clock f w found) (until : ℤ) (holds : HoldsFrom clock w.since until w.kind) where
+  -- what is found within the last piece is its entry
+  entry_exists : (e : FoundDateTimeKind) → IsFoundBy clock f e → IsFrom w.since until (instant_of e) → (entry : Entry) × IsEntryOf w until entry × IsDateTimeOf f entry e
+  entry_exists (Normal d) (fields, shows) within = (
+    Shown d.unix_time d.local_time_type,
+    ((holds d.unix_time within d.local_time_type).0 shows.0, within, shows.1 ∙ sym walked.walk.reading_is),
+    ap (λ g. Normal (moment_of g d.local_time_type d.unix_time)) fields,
+  )
+  entry_exists (Skipped x y) (u, a, b, passes, sx, sy) within =
+      let instant = sx.instant_is in
+      let r = walked.walk.reading_is in
+      let here : IsFrom w.since until u = (omega (arith, ints, within.0), omega (arith, ints, within.1)) in
+      let after : w.kind ≡ Some b = (holds u here b).0 passes.1 in
+      by_lt_z w.since u
+      (λ later.
+      let just_before : IsFrom w.since until (u -ℤ pos 1) = (omega (arith, ints, later), omega (arith, ints, here.1)) in
+      let before : w.kind ≡ Some a = (holds (u -ℤ pos 1) just_before a).0 passes.0 in
+      let offset = ap (λ (s : LocalType). s.ut_offset) (same_Some a b (sym before ∙ after)) in
+      absurd (omega (arith, ints, offset, passes.2, passes.3)))
+      (λ not_later.
+      let since : u ≡ w.since = omega (arith, ints, not_later, here.0) in
+      let just_before : IsFrom (w.since -ℤ pos 1) w.since (u -ℤ pos 1) = (omega (arith, ints, since), omega (arith, ints, since)) in
+      let before : w.before ≡ Some a = (walked.just_before (u -ℤ pos 1) just_before a).0 passes.0 in
+      (Jump u a b, (since, before, after, omega (arith, ints, r, passes.2), omega (arith, ints, r, passes.3)), (x, y, refl, sx, sy)))
+
+  -- and the entry is found
+  entry_found : (entry : Entry) (e : FoundDateTimeKind) → w.since <ℤ until → IsEntryOf w until entry → IsDateTimeOf f entry e → IsFoundBy clock f e × IsFrom w.since until (instant_of e)
+  entry_found (Shown u t) e some (kind, within, shown) is =
+      let normal : IsFoundBy clock f (Normal (moment_of f t u)) × IsFrom w.since until u = ((refl, ((holds u within t).1 kind, shown ∙ walked.walk.reading_is)), within) in
+      subst (λ (g : FoundDateTimeKind). IsFoundBy clock f g × IsFrom w.since until (instant_of g)) (sym is) normal
+  entry_found (Jump u a b) e some (since, before, kind, low, high) (x, y, is, sx, sy) =
+      let r = walked.walk.reading_is in
+      let instant = sx.instant_is in
+      let just_before : IsFrom (w.since -ℤ pos 1) w.since (u -ℤ pos 1) = (omega (arith, ints, since), omega (arith, ints, since)) in
+      let here : IsFrom w.since until u = (omega (arith, ints, since), omega (arith, ints, since, some)) in
+      let passes : PassesOver clock (reading f) u a b = ((walked.just_before (u -ℤ pos 1) just_before a).1 before, (holds u here b).1 kind, omega (arith, ints, r, low), omega (arith, ints, r, high)) in
+      let skipped : IsFoundBy clock f (Skipped x y) × IsFrom w.since until x.unix_time = ((u, a, b, passes, sx, sy), (omega (arith, ints, instant, here.0), omega (arith, ints, instant, here.1))) in
+      subst (λ (g : FoundDateTimeKind). IsFoundBy clock f g × IsFrom w.since until (instant_of g)) (sym is) skipped
+
+  -- nothing in the piece
+  found_before_none : w.since <ℤ until → ((entry : Entry) → ¬ IsEntryOf w until entry) → IsFoundBefore clock f until found
+  found_before_none some none = record {
+    sound = All-weaker (λ e. IsFoundBy clock f e × (instant_of e <ℤ w.since)) (λ e. IsFoundBy clock f e × (instant_of e <ℤ until)) (λ e h. (h.0, omega (arith, ints, h.1, some))) found walked.so_far.sound;
+    in_order = walked.so_far.in_order;
+    complete = λ e by early. by_lt_z (instant_of e) w.since
+        (λ earlier. walked.so_far.complete e by earlier)
+        (λ later. let at = entry_exists e by (later, early) in absurd (none at.0 at.1));
+  }
+
+  -- its entry
+  found_before_more : (entry : Entry) (g : FoundDateTimeKind) → w.since <ℤ until → IsEntryOf w until entry → IsDateTimeOf f entry g → IsFoundBefore clock f until (found ++ g ∷ [])
+  found_before_more entry g some is date_time =
+      let new = entry_found entry g some is date_time in
+      record {
+        sound = All-push (λ e. IsFoundBy clock f e × (instant_of e <ℤ until)) found g
+            (All-weaker (λ e. IsFoundBy clock f e × (instant_of e <ℤ w.since)) (λ e. IsFoundBy clock f e × (instant_of e <ℤ until)) (λ e h. (h.0, omega (arith, ints, h.1, some))) found walked.so_far.sound)
+            (new.0, new.1.1);
+        in_order = AllPairs-push IsEarlier found g walked.so_far.in_order
+            (All-weaker (λ e. IsFoundBy clock f e × (instant_of e <ℤ w.since)) (λ e. IsEarlier e g) (λ e h. omega (arith, ints, h.1, new.1.0)) found walked.so_far.sound);
+        complete = λ e by early. by_lt_z (instant_of e) w.since
+            (λ earlier. Contains-append_left found (g ∷ []) e (walked.so_far.complete e by earlier))
+            (λ later.
+            let at = entry_exists e by (later, early) in
+            let other = entry_unique w until at.0 entry at.1 is in
+            let same : g ≡ e = date_time_unique f entry g e date_time (subst (λ (x : Entry). IsDateTimeOf f x e) other at.2) in
+            subst (λ (x : FoundDateTimeKind). Contains (found ++ g ∷ []) x) same (Contains-push found g));
+      }
+
+  found_before_given : (new : List FoundDateTimeKind) → w.since <ℤ until → IsGiven w until new → IsFoundBefore clock f until (found ++ new)
+  found_before_given new some (inl (is, none)) =
+      subst (λ (es : List FoundDateTimeKind). IsFoundBefore clock f until es) (sym (ap (λ es. found ++ es) is ∙ append-nil found)) (found_before_none some none)
+  found_before_given new some (inr (entry, g, is_entry, date_time, is)) =
+      let of_f : IsDateTimeOf f entry g = subst (λ (h : Fields). IsDateTimeOf h entry g) walked.walk.fields_are date_time in
+      subst (λ (es : List FoundDateTimeKind). IsFoundBefore clock f until es) (sym (ap (λ es. found ++ es) is)) (found_before_more entry g some is_entry of_f)
+
+-- a step to a piece keeps that all is found
+pub walked_on : (clock : Clock) (f : Fields) (w : Walk) (found : List FoundDateTimeKind) (piece : Piece) (next : Walk) (new : List FoundDateTimeKind) →
+    IsWalked clock f w found → IsStep w piece next new → HoldsFrom clock w.since piece.from w.kind → IsWalked clock f next (found ++ new)
+walked_on clock f w found piece next new walked (inl (early, is, none)) holds =
+    let same : IsWalked clock f (record w { kind = piece.kind }) found = record { walk = record { valid = walked.walk.valid; fields_are = walked.walk.fields_are; reading_is = walked.walk.reading_is; small = walked.walk.small }; so_far = walked.so_far; just_before = walked.just_before } in
+    let list : found ≡ found ++ new = sym (ap (λ es. found ++ es) none ∙ append-nil found) in
+    subst (λ (es : List FoundDateTimeKind). IsWalked clock f next es) list (subst (λ (x : Walk). IsWalked clock f x found) (sym is) same)
+walked_on clock f w found piece next new walked (inr (late, is, given)) holds =
+    let moved : IsWalked clock f (record w { before = w.kind; since = piece.from; kind = piece.kind }) (found ++ new) = record {
+      walk = record { valid = walked.walk.valid; fields_are = walked.walk.fields_are; reading_is = walked.walk.reading_is; small = walked.walk.small };
+      so_far = found_before_given clock f w found walked piece.from holds new late given;
+      just_before = λ u within. holds u (omega (arith, ints, late, within.0), within.1);
+    } in
+    subst (λ (x : Walk). IsWalked clock f x (found ++ new)) (sym is) moved
+
+-- a walk begins where there is no clock before
+pub walked_from_start : (clock : Clock) (f : Fields) (w : Walk) → IsWalk f w → w.before ≡ None → ((u : ℤ) (t : LocalType) → clock u t → w.since ≤ℤ u) → IsWalked clock f w []
+walked_from_start clock f w walk before none = record {
+  walk = walk;
+  so_far = record { sound = All-nil (λ e. IsFoundBy clock f e × (instant_of e <ℤ w.since)); in_order = AllPairs-nil IsEarlier; complete = λ e by early. absurd (no_entry e by early) };
+  just_before = λ u within t. ((λ at. absurd (omega (arith, ints, none u t at, within.1))), λ e. absurd (none-some t (sym before ∙ e)));
+}
+  where
+    no_entry : (e : FoundDateTimeKind) → IsFoundBy clock f e → instant_of e <ℤ w.since → ⊥
+    no_entry (Normal d) (fields, shows) early = omega (arith, ints, none d.unix_time d.local_time_type shows.0, early)
+    no_entry (Skipped x y) (u, a, b, passes, sx, sy) early = omega (arith, ints, none u b passes.1, sx.instant_is, early)
+
+-- a walk ends where there is no clock any more
+pub found_from_end : (clock : Clock) (f : Fields) (w : Walk) (found : List FoundDateTimeKind) → IsWalked clock f w found → ((u : ℤ) (t : LocalType) → clock u t → u <ℤ w.since) → IsFound clock f found
+found_from_end clock f w found walked none = record {
+  sound = All-weaker (λ e. IsFoundBy clock f e × (instant_of e <ℤ w.since)) (IsFoundBy clock f) (λ e h. h.0) found walked.so_far.sound;
+  in_order = walked.so_far.in_order;
+  complete = λ e by. walked.so_far.complete e by (before_end e by);
+}
+  where
+    before_end : (e : FoundDateTimeKind) → IsFoundBy clock f e → instant_of e <ℤ w.since
+    before_end (Normal d) (fields, shows) = none d.unix_time d.local_time_type shows.0
+    before_end (Skipped x y) (u, a, b, passes, sx, sy) = omega (arith, ints, none u b passes.1, sx.instant_is)
+
+-- the clock where it is seen
+abbrev pub SeenClock : Clock → (ℤ → Type 0) → Clock
+SeenClock clock view u t = clock u t × view u
+
+-- what is found of the clock as it is seen is all, if it is seen where it shows the reading, and on both sides of the jumps over it
+pub found_from_seen : (clock : Clock) (view : ℤ → Type 0) (f : Fields) (found : List FoundDateTimeKind) →
+    ((u : ℤ) (t : LocalType) → Shows clock (reading f) u t → view u) →
+    ((u : ℤ) (a b : LocalType) → PassesOver clock (reading f) u a b → view (u -ℤ pos 1) × view u) →
+    IsFound (SeenClock clock view) f found → IsFound clock f found
+found_from_seen clock view f found shown passed is = record {
+  sound = All-weaker (IsFoundBy (SeenClock clock view) f) (IsFoundBy clock f) forget found is.sound;
+  in_order = is.in_order;
+  complete = λ e by. is.complete e (see e by);
+}
+  where
+    forget : (e : FoundDateTimeKind) → IsFoundBy (SeenClock clock view) f e → IsFoundBy clock f e
+    forget (Normal d) (fields, shows) = (fields, (shows.0.0, shows.1))
+    forget (Skipped x y) (u, a, b, passes, sx, sy) = (u, a, b, (passes.0.0, passes.1.0, passes.2, passes.3), sx, sy)
+
+    see : (e : FoundDateTimeKind) → IsFoundBy clock f e → IsFoundBy (SeenClock clock view) f e
+    see (Normal d) (fields, shows) = (fields, ((shows.0, shown d.unix_time d.local_time_type shows), shows.1))
+    see (Skipped x y) (u, a, b, passes, sx, sy) =
+        let seen = passed u a b passes in
+        (u, a, b, ((passes.0, seen.0), (passes.1, seen.1), passes.2, passes.3), sx, sy)
+
+-- a piece that ends before its type shows the reading has no entry
+pub no_entry_before : (w : Walk) (until : ℤ) (t : LocalType) → w.kind ≡ Some t → w.since ≤ℤ (w.reading -ℤ t.ut_offset) → until ≤ℤ (w.reading -ℤ t.ut_offset) → (entry : Entry) → ¬ IsEntryOf w until entry
+no_entry_before w until t is since late (Shown u s) (kind, within, shown) =
+    let offset = ap (λ (x : LocalType). x.ut_offset) (same_Some t s (sym is ∙ kind)) in
+    absurd (omega (arith, ints, offset, shown, within.1, late))
+no_entry_before w until t is since late (Jump u a b) (at, before, kind, low, high) =
+    let offset = ap (λ (x : LocalType). x.ut_offset) (same_Some t b (sym is ∙ kind)) in
+    absurd (omega (arith, ints, offset, at, high, since))
+
+-- nor has one that begins after its type has shown the reading, and after the type before has
+pub no_entry_after : (w : Walk) (until : ℤ) (t s : LocalType) → w.kind ≡ Some t → w.before ≡ Some s → (w.reading -ℤ t.ut_offset) <ℤ w.since → (w.reading -ℤ s.ut_offset) <ℤ w.since → (entry : Entry) → ¬ IsEntryOf w until entry
+no_entry_after w until t s is was shown passed (Shown u x) (kind, within, shows) =
+    let offset = ap (λ (y : LocalType). y.ut_offset) (same_Some t x (sym is ∙ kind)) in
+    absurd (omega (arith, ints, offset, shows, within.0, shown))
+no_entry_after w until t s is was shown passed (Jump u a b) (at, before, kind, low, high) =
+    let offset = ap (λ (y : LocalType). y.ut_offset) (same_Some s a (sym was ∙ before)) in
+    absurd (omega (arith, ints, offset, at, low, passed))
+
+-- what was found of one clock was found of another that agrees with it so far
+pub walked_same : (clock other : Clock) (f : Fields) (w : Walk) (found : List FoundDateTimeKind) → IsWalked clock f w found → ((u : ℤ) (t : LocalType) → u <ℤ w.since → (clock u t → other u t) × (other u t → clock u t)) → IsWalked other f w found
+walked_same clock other f w found walked same = record {
+  walk = walked.walk;
+  so_far = record {
+    sound = All-weaker (λ e. IsFoundBy clock f e × (instant_of e <ℤ w.since)) (λ e. IsFoundBy other f e × (instant_of e <ℤ w.since)) (λ e h. (to e h.0 h.1, h.1)) found walked.so_far.sound;
+    in_order = walked.so_far.in_order;
+    complete = λ e by early. walked.so_far.complete e (back e by early) early;
+  };
+  just_before = λ u within t.
+      let agree = same u t within.1 in
+      let was = walked.just_before u within t in
+      ((λ at. was.0 (agree.1 at)), (λ is. agree.0 (was.1 is)));
+}
+  where
+    to : (e : FoundDateTimeKind) → IsFoundBy clock f e → instant_of e <ℤ w.since → IsFoundBy other f e
+    to (Normal d) (fields, shows) early = (fields, ((same d.unix_time d.local_time_type early).0 shows.0, shows.1))
+    to (Skipped x y) (u, a, b, passes, sx, sy) early =
+        let instant = sx.instant_is in
+        let here : u <ℤ w.since = omega (arith, ints, instant, early) in
+        let before : (u -ℤ pos 1) <ℤ w.since = omega (arith, ints, here) in
+        (u, a, b, ((same (u -ℤ pos 1) a before).0 passes.0, (same u b here).0 passes.1, passes.2, passes.3), sx, sy)
+
+    back : (e : FoundDateTimeKind) → IsFoundBy other f e → instant_of e <ℤ w.since → IsFoundBy clock f e
+    back (Normal d) (fields, shows) early = (fields, ((same d.unix_time d.local_time_type early).1 shows.0, shows.1))
+    back (Skipped x y) (u, a, b, passes, sx, sy) early =
+        let instant = sx.instant_is in
+        let here : u <ℤ w.since = omega (arith, ints, instant, early) in
+        let before : (u -ℤ pos 1) <ℤ w.since = omega (arith, ints, here) in
+        (u, a, b, ((same (u -ℤ pos 1) a before).1 passes.0, (same u b here).1 passes.1, passes.2, passes.3), sx, sy)
+
+-- a step keeps what is looked for
+pub walk_steps : (f : Fields) (w : Walk) (piece : Piece) (next : Walk) (new : List FoundDateTimeKind) → IsWalk f w → IsStep w piece next new → IsWalk f next
+walk_steps f w piece next new walk (inl (early, is, none)) =
+    let same : IsWalk f (record w { kind = piece.kind }) = record { valid = walk.valid; fields_are = walk.fields_are; reading_is = walk.reading_is; small = walk.small } in
+    subst (λ (x : Walk). IsWalk f x) (sym is) same
+walk_steps f w piece next new walk (inr (late, is, given)) =
+    let same : IsWalk f (record w { before = w.kind; since = piece.from; kind = piece.kind }) = record { valid = walk.valid; fields_are = walk.fields_are; reading_is = walk.reading_is; small = walk.small } in
+    subst (λ (x : Walk). IsWalk f x) (sym is) same
+
+pub own_walk : (f : Fields) (w : Walk) → IsWalk f w → IsWalk w.fields w
+own_walk f w walk = subst (λ (g : Fields). IsWalk g w) (sym walk.fields_are) walk

@@ -1,0 +1,121 @@
+-- From one transition to the next, and to the end of the window.
+use Rattle.std.proofs.Common.{◌≡◌, ◌<◌, ◌≤◌, ◌++◌, [], inl, inr, sym, ap, subst, arith, rules, length, ℤ, Option}
+use Rattle.std.proofs.lemmas.Int.{ints, to_z-of_z}
+use Rattle.std.proofs.lemmas.Result.{on_ok_weaker}
+use mir.Syntax.{w64}
+use mir.Val.{SFits}
+use Rattle.tz_rule.specs.LocalType.{LocalType}
+use Rattle.tz_zone.specs.ZoneRef.{zone_of}
+use Rattle.tz_base.specs.declared.calendar.Fields.{Fields}
+use Rattle.tz_zone.specs.Clock.{IsClock}
+use Rattle.tz.specs.Found.{IsFound}
+use Rattle.tz.specs.Reached.{IsSteadyAfter, IsKindOf}
+use Rattle.tz.proofs.SearchLemmas.{due_between, on_the_way_from_start, on_the_way_past, found_in_window, over_from_seam, at_seam, found_from_window, few_found}
+use Rattle.tz.proofs.datetime.search.search.Goals as goal
+use Rattle.tz.proofs.datetime.search.search.Goals.{then-come-transitions+in-None, else-come-transitions}
+
+pub loop-place-init : goal.loop-place-init
+loop-place-init g c =
+    let z = zone_of c.args.zone in
+    let low = c.window-low.result.0 in
+    let high = c.window-low.result.1 in
+    let fits_low : SFits w64 low = search rules in
+    let fits_high : SFits w64 high = search rules in
+    let fits_reading : SFits w64 c.reading.result = search rules in
+    let at_low = simp to_z-of_z at c.reached_at-reached.ensures.reached in
+    let new = c.new-walk.ensures in
+    let since : c.new-walk.result.since ≡ low = simp to_z-of_z at new.since in
+    let first = rw (to_z-of_z w64 low fits_low) at c.kind_after.ensures in
+    let kind = subst (λ (v : ℤ). IsKindOf z c.reached_at-reached.result v c.new-walk.result.kind) (sym since) (subst (λ (k : Option LocalType). IsKindOf z c.reached_at-reached.result low k) (sym new.kind) first) in
+    let window = rw (to_z-of_z w64 c.reading.result fits_reading, c.reading.ensures.value) at c.window-low.ensures.offsets in
+    rw (to_z-of_z w64 high fits_high) (
+      [],
+      low,
+      g.met.L.DateTimeList.none c.args.list.now,
+      on_the_way_from_start z c.args.zone.sound low high c.args.fields.now c.reached_at-reached.result c.new-walk.result c.window-low.ensures.low.1 at_low new.walk new.before since kind c.window-low.ensures.order,
+      window,
+      c.window-low.ensures.width,
+      c.window-low.ensures.low,
+    )
+
+pub piece_at-requires-clause-due : goal.piece_at-requires-clause-due
+piece_at-requires-clause-due g c =
+    let z = zone_of c.args.zone in
+    let low = c.window-low.result.0 in
+    let high = c.window-low.result.1 in
+    let fits_low : SFits w64 low = search rules in
+    let fits_high : SFits w64 high = search rules in
+    let at_low = simp to_z-of_z at c.reached_at-reached.ensures.reached in
+    let at_high = simp to_z-of_z at c.reached_at-come.ensures.reached in
+    due_between z c.args.zone.sound low high c.reached_at-reached.result c.reached_at-come.result c.loop-place.place
+    c.window-low.ensures.low c.window-low.ensures.high at_low at_high (omega arith) (omega arith)
+
+pub loop-place-preserved : goal.loop-place-preserved
+loop-place-preserved g c =
+    let z = zone_of c.args.zone in
+    let high = c.window-low.result.1 in
+    let fits_high : SFits w64 high = search rules in
+    let at_high = simp to_z-of_z at c.reached_at-come.ensures.reached in
+    let way = simp to_z-of_z at c.loop-place.invariant in
+    let step = c.in_ok-step.ensures.ok in
+    rw (to_z-of_z w64 high fits_high) (
+      way.0 ++ step.0,
+      way.1,
+      g.met.L.DateTimeList.more c.args.list.now c.loop-place.list c.step.new.list way.0 step.0 way.2 step.1,
+      on_the_way_past z c.args.zone.sound way.1 high c.args.fields.now c.window-low.ensures.high.1 c.reached_at-come.result at_high c.loop-place.place c.loop-place.walk way.0 way.3 c.loop-place-test.true c.piece_at.result c.step.new.self step.0 c.piece_at.ensures step.2,
+      way.4,
+      way.5,
+      way.6,
+    )
+
+pub search_rule-requires-clause-over : goal.search_rule-requires-clause-over
+search_rule-requires-clause-over g c =
+    let z = zone_of c.args.zone in
+    let high = c.window-low.result.1 in
+    let fits_high : SFits w64 high = search rules in
+    let at_high = simp to_z-of_z at c.reached_at-come.ensures.reached in
+    let way = simp to_z-of_z at c.loop-place.invariant in
+    let size = ap length c.transitions.ensures in
+    over_from_seam z c.args.zone.sound way.1 high c.args.fields.now c.window-low.ensures.high.1 c.reached_at-come.result at_high c.loop-place.place c.loop-place.walk way.0 way.3 (omega (arith, size))
+
+pub returns-in-Some-clause-ok : goal.returns-in-Some-clause-ok
+returns-in-Some-clause-ok g c =
+    let z = zone_of c.args.zone in
+    let f = c.args.fields.now in
+    let high = c.window-low.result.1 in
+    let fits_high : SFits w64 high = search rules in
+    let at_high = simp to_z-of_z at c.reached_at-come.ensures.reached in
+    let way = simp to_z-of_z at c.loop-place.invariant in
+    let size = ap length c.transitions.ensures in
+    let at = at_seam z c.args.zone.sound way.1 high f c.window-low.ensures.high.1 c.reached_at-come.result at_high c.loop-place.place c.loop-place.walk way.0 way.3 (omega (arith, size)) way.4 in
+    let ok = simp to_z-of_z at c.search_rule.ensures.ok in
+    on_ok_weaker c.search_rule.result (λ rest.
+    let is = subst (λ (x : Fields). IsFound (IsClock z) x (way.0 ++ rest.0)) way.3.walked.walk.fields_are (rest.2 way.1 way.0 at) in (
+      way.0 ++ rest.0,
+      g.met.L.DateTimeList.more c.args.list.now c.loop-place.list c.search_rule.new.list way.0 rest.0 way.2 rest.1,
+      is,
+      few_found z way.1 high f (way.0 ++ rest.0) way.4 way.5 is,
+    )) ok
+
+pub returns-clause-ok : goal.returns-clause-ok
+returns-clause-ok g c =
+    let z = zone_of c.args.zone in
+    let f = c.args.fields.now in
+    let high = c.window-low.result.1 in
+    let fits_high : SFits w64 high = search rules in
+    let at_high = simp to_z-of_z at c.reached_at-come.ensures.reached in
+    let way = simp to_z-of_z at c.loop-place.invariant in
+    let size = ap length c.transitions.ensures in
+    let all : c.reached_at-come.result ≤ c.loop-place.place = omega arith in
+    let steady : IsSteadyAfter z c.reached_at-come.result = elim c.if-come-transitions.branch [
+      | then-come-transitions+in-None w ↦ inr w.in-None.ensures.none
+      | else-come-transitions w ↦ inl (omega (arith, size, c.reached_at-come.ensures.within, w.if-come-transitions.false))
+    ] in
+    on_ok_weaker c.step-2.result (λ step.
+    let is = found_in_window z c.args.zone.sound way.1 high f c.window-low.ensures.high.1 c.reached_at-come.result at_high c.loop-place.place c.loop-place.walk way.0 way.3 steady all _ c.step-2.new.self step.0 step.2 (omega (arith, ints)) in
+    let found = found_from_window z c.args.zone.sound way.1 high f way.4 (way.0 ++ step.0) is in (
+      way.0 ++ step.0,
+      g.met.L.DateTimeList.more c.args.list.now c.loop-place.list c.step-2.new.list way.0 step.0 way.2 step.1,
+      found,
+      few_found z way.1 high f (way.0 ++ step.0) way.4 way.5 found,
+    )) c.step-2.ensures.ok

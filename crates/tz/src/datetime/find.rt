@@ -1,0 +1,127 @@
+//! The date times at which the clock of a zone shows given fields.
+
+use super::found_list::FoundDateTimeList;
+use super::found_list_ref::FoundDateTimeListRefMut;
+use super::search::search;
+use super::{DateTime, FoundDateTimeKind};
+use std::alloc::Allocator;
+use tz_base::calendar::Fields;
+use tz_base::error::TzError;
+use tz_zone::timezone::TimeZoneRef;
+
+impl DateTime {
+    ghost use Rattle.std.specs.Prelude.{◌≡◌, ◌≢◌, List, length, ⊤, IfOk, IfErr, OnOk};
+    ghost use Rattle.tz_base.specs.Fields.{IsValid};
+    ghost use Rattle.tz_zone.specs.Clock.{IsClock};
+    ghost use Rattle.tz_zone.specs.ZoneRef.{zone_of};
+    ghost use Rattle.tz.specs.Found.{IsFound};
+    ghost use Rattle.tz.specs.FindFaults.{IsFindFault, IsFarFromEnds};
+    ghost use Rattle.tz.specs.Slots.{filled};
+    ghost use Rattle.tz.specs.declared.datetime.found.FoundDateTimeKind.{FoundDateTimeKind};
+
+    /// All date times at which the zone's clock shows the fields, and the jumps forward over them, by rising Unix time. The
+    /// ranges are those of [`DateTime::new`].
+    ///
+    /// A date time keeps the fields as they are given, second 60 included. `OutOfRange` tells that the years of 32 bits end
+    /// within 136.1 years of the fields.
+    pub fn find<A: Allocator + Copy>(
+        alloc: A,
+        year: i32,
+        month: u8,
+        month_day: u8,
+        hour: u8,
+        minute: u8,
+        second: u8,
+        nanoseconds: u32,
+        time_zone_ref: TimeZoneRef<'_>,
+    ) -> Result<FoundDateTimeList<A>, TzError>
+        ensures ok { IfOk result (λ list. IsFound (IsClock (zone_of time_zone_ref.entry)) (record { year = year; month = month; month_day = month_day; hour = hour; minute = minute; second = second; nanoseconds = nanoseconds }) list.found.items) }
+        ensures valid { OnOk result (IsValid (record { year = year; month = month; month_day = month_day; hour = hour; minute = minute; second = second; nanoseconds = nanoseconds })) }
+        ensures far { IsFarFromEnds year → IfErr result (λ e. e ≢ TzError.OutOfRange) }
+        ensures err { IfErr result (IsFindFault ⊤ (record { year = year; month = month; month_day = month_day; hour = hour; minute = minute; second = second; nanoseconds = nanoseconds })) }
+    {
+        let fields = Fields {
+            year,
+            month,
+            month_day,
+            hour,
+            minute,
+            second,
+            nanoseconds,
+        };
+        DateTime::find_fields(alloc, &fields, time_zone_ref)
+    }
+
+    /// All date times at which the zone's clock shows the fields.
+    fn find_fields<A: Allocator + Copy>(
+        alloc: A,
+        fields: &Fields,
+        time_zone_ref: TimeZoneRef<'_>,
+    ) -> Result<FoundDateTimeList<A>, TzError>
+        ensures ok { IfOk result (λ list. IsFound (IsClock (zone_of time_zone_ref.entry)) fields.now list.found.items) }
+        ensures valid { OnOk result (IsValid fields.now) }
+        ensures far { IsFarFromEnds fields.now.year → IfErr result (λ e. e ≢ TzError.OutOfRange) }
+        ensures err { IfErr result (IsFindFault ⊤ fields.now) }
+    {
+        fields.check()?;
+        let mut list = FoundDateTimeList::new_in(alloc);
+        search(&mut list, fields, time_zone_ref)?;
+        Ok(list)
+    }
+
+    /// What [`DateTime::find`] finds, as far as the slots go; the other slots stay as they are, and all are counted. Nothing is
+    /// written where the fields are refused.
+    pub fn find_n<'a>(
+        buf: &'a mut [Option<FoundDateTimeKind>],
+        year: i32,
+        month: u8,
+        month_day: u8,
+        hour: u8,
+        minute: u8,
+        second: u8,
+        nanoseconds: u32,
+        time_zone_ref: TimeZoneRef<'_>,
+    ) -> Result<FoundDateTimeListRefMut<'a>, TzError>
+        ensures same_reference { IfOk result (λ list. list.buf.slots.ghost_name ≡ buf.entry.ghost_name) }
+        ensures ok { IfOk result (λ list. (found : List FoundDateTimeKind)
+            × IsFound (IsClock (zone_of time_zone_ref.entry)) (record { year = year; month = month; month_day = month_day; hour = hour; minute = minute; second = second; nanoseconds = nanoseconds }) found
+            × (list.count ≡ length found) × (list.buf.slots.now ≡ filled buf.old found)) }
+        ensures valid { OnOk result (IsValid (record { year = year; month = month; month_day = month_day; hour = hour; minute = minute; second = second; nanoseconds = nanoseconds })) }
+        ensures far { IsFarFromEnds year → IfErr result (λ e. e ≢ TzError.OutOfRange) }
+        ensures err { IfErr result (IsFindFault ⊥ (record { year = year; month = month; month_day = month_day; hour = hour; minute = minute; second = second; nanoseconds = nanoseconds })) }
+    {
+        let fields = Fields {
+            year,
+            month,
+            month_day,
+            hour,
+            minute,
+            second,
+            nanoseconds,
+        };
+        DateTime::find_n_fields(buf, &fields, time_zone_ref)
+    }
+
+    /// What is found of the fields, as far as the slots go.
+    fn find_n_fields<'a>(
+        buf: &'a mut [Option<FoundDateTimeKind>],
+        fields: &Fields,
+        time_zone_ref: TimeZoneRef<'_>,
+    ) -> Result<FoundDateTimeListRefMut<'a>, TzError>
+        ensures same_reference { IfOk result (λ list. list.buf.slots.ghost_name ≡ buf.entry.ghost_name) }
+        ensures ok { IfOk result (λ list. (found : List FoundDateTimeKind)
+            × IsFound (IsClock (zone_of time_zone_ref.entry)) fields.now found
+            × (list.count ≡ length found) × (list.buf.slots.now ≡ filled buf.old found)) }
+        ensures valid { OnOk result (IsValid fields.now) }
+        ensures far { IsFarFromEnds fields.now.year → IfErr result (λ e. e ≢ TzError.OutOfRange) }
+        ensures err { IfErr result (IsFindFault ⊥ fields.now) }
+    {
+        fields.check()?;
+        let mut list = FoundDateTimeListRefMut::new(buf);
+        search(&mut list, fields, time_zone_ref)?;
+        Ok(list)
+    }
+}
+
+#[cfg(test)]
+mod tests;

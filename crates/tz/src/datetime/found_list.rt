@@ -1,0 +1,65 @@
+//! Lists of found date times that own their memory.
+
+use super::{DateTime, FoundDateTimeKind};
+use std::alloc::{AllocError, Allocator, Global};
+
+/// The date times that a search found, by rising Unix time.
+#[derive(Debug, PartialEq, Drop)]
+pub struct FoundDateTimeList<A: Allocator + Copy = Global> {
+    pub(super) found: Vec<FoundDateTimeKind, A>,
+}
+
+impl<A: Allocator + Copy> FoundDateTimeList<A> {
+    ghost use Rattle.std.specs.Prelude.{◌≡◌, [], ◌∷◌, ◌++◌, IfOk, IfErr, IfSome, alloc_error};
+    ghost use Rattle.tz.specs.Found.{unique_of, earliest_of, latest_of};
+
+    /// An empty list.
+    pub fn new_in(alloc: A) -> Self
+        ensures { result.found.items ≡ [] }
+    {
+        FoundDateTimeList {
+            found: Vec::new(alloc),
+        }
+    }
+
+    /// The same list again, on the same allocator.
+    pub fn try_clone(&self) -> Result<Self, AllocError>
+        ensures { IfOk result (λ list. list.found.items ≡ self.now.found.items) }
+    {
+        let found = self.found.clone()?;
+        Ok(FoundDateTimeList { found })
+    }
+
+    /// The date time, where exactly one was found and no jump.
+    pub fn unique(&self) -> Option<DateTime>
+        ensures { result ≡ unique_of self.now.found.items }
+    {
+        match *self.found.as_slice() {
+            [FoundDateTimeKind::Normal(date_time)] => Some(date_time),
+            _ => None,
+        }
+    }
+
+    /// The earliest date time; of a jump the side before it.
+    pub fn earliest(&self) -> Option<DateTime>
+        ensures { result ≡ earliest_of self.now.found.items }
+    {
+        let first = self.found.first()?;
+        Some(first.first_side())
+    }
+
+    /// The latest date time; of a jump the side after it.
+    pub fn latest(&self) -> Option<DateTime>
+        ensures { result ≡ latest_of self.now.found.items }
+    {
+        let last = self.found.last()?;
+        Some(last.last_side())
+    }
+
+    /// What was found.
+    pub fn into_inner(self) -> Vec<FoundDateTimeKind, A>
+        ensures { result.items ≡ self.found.items }
+    {
+        self.found
+    }
+}

@@ -1,0 +1,124 @@
+//! Lists of found date times in a buffer of the caller.
+
+use super::{DateTime, FoundDateTimeKind};
+
+/// Slots of the caller, compared by what they hold.
+#[derive(Debug, Drop)]
+struct Buffer<'a, T> {
+    slots: &'a mut [T],
+}
+
+impl<T: PartialEq> PartialEq for Buffer<'_, T> {
+    ghost use Rattle.std.specs.Cmp.{on_per};
+    ghost use Rattle.std.specs.Cmp.Lexicographic.{pointwise, lists_per};
+
+    ghost eq = { λ x y. pointwise T.eq x.slots.now y.slots.now };
+
+    ghost laws = { on_per (λ b. b.slots.now) (lists_per T.laws) };
+
+    fn eq(&self, other: &Self) -> bool {
+        *self.slots == *other.slots
+    }
+}
+
+/// The date times that a search found, by rising Unix time, as far as a buffer goes.
+///
+/// All are counted, and the first of them are in the buffer's first slots.
+#[derive(Debug, PartialEq, Drop)]
+pub struct FoundDateTimeListRefMut<'a> {
+    buf: Buffer<'a, Option<FoundDateTimeKind>>,
+    count: usize,
+}
+
+impl<'a> FoundDateTimeListRefMut<'a> {
+    ghost use Rattle.std.specs.Prelude.{◌≡◌, ◌+◌, ◌<◌, ◌≤◌, ◌↔◌, IsTrue, Some, None, length, min, slice_set};
+    ghost use Rattle.tz.specs.Slots.{written_of, unique_slot, earliest_slot, latest_slot};
+
+    /// A list with nothing found yet. It writes to the slots in order, and leaves the others as they are.
+    pub fn new(buf: &'a mut [Option<FoundDateTimeKind>]) -> Self
+        ensures same_reference { result.buf.slots.ghost_name ≡ buf.entry.ghost_name }
+        ensures slots { result.buf.slots.now ≡ buf.old }
+        ensures count { result.count ≡ 0 }
+    {
+        FoundDateTimeListRefMut {
+            buf: Buffer { slots: buf },
+            count: 0,
+        }
+    }
+
+    /// How many slots were written.
+    fn written(&self) -> usize
+        ensures { result ≡ min self.now.count (length self.now.buf.slots.now) }
+    {
+        self.count.min(self.buf.slots.len())
+    }
+
+    /// The slots that were written.
+    pub fn data(&self) -> &[Option<FoundDateTimeKind>]
+        ensures { result.now ≡ written_of self.now.buf.slots.now self.now.count }
+    {
+        &self.buf.slots[..self.written()]
+    }
+
+    /// How many date times were found, whether there was a slot for each or not.
+    pub fn count(&self) -> usize
+        ensures { result ≡ self.now.count }
+    {
+        self.count
+    }
+
+    /// Whether there was a slot for each date time.
+    pub fn is_exhaustive(&self) -> bool
+        ensures { IsTrue result ↔ (self.now.count ≤ length self.now.buf.slots.now) }
+    {
+        self.count <= self.buf.slots.len()
+    }
+
+    /// The earliest date time that was written; of a jump the side before it.
+    pub fn earliest(&self) -> Option<DateTime>
+        ensures { result ≡ earliest_slot (written_of self.now.buf.slots.now self.now.count) }
+    {
+        match self.data().first() {
+            Some(Some(found)) => Some(found.first_side()),
+            _ => None,
+        }
+    }
+
+    /// The latest date time that was written; of a jump the side after it.
+    pub fn latest(&self) -> Option<DateTime>
+        ensures { result ≡ latest_slot (written_of self.now.buf.slots.now self.now.count) }
+    {
+        match self.data().last() {
+            Some(Some(found)) => Some(found.last_side()),
+            _ => None,
+        }
+    }
+
+    /// The date time, where exactly one was found and no jump, and there was a slot for it.
+    pub fn unique(&self) -> Option<DateTime>
+        ensures exhaustive { self.now.count ≤ length self.now.buf.slots.now → result ≡ unique_slot (written_of self.now.buf.slots.now self.now.count) }
+        ensures short { length self.now.buf.slots.now < self.now.count → result ≡ None }
+    {
+        if !self.is_exhaustive() {
+            return None;
+        }
+        match *self.data() {
+            [Some(FoundDateTimeKind::Normal(date_time))] => Some(date_time),
+            _ => None,
+        }
+    }
+
+    /// Counts one more, and writes it to the next slot, if there is one.
+    pub(super) fn write(&mut self, found: FoundDateTimeKind)
+        ensures same_reference { self.new.buf.slots.ghost_name ≡ self.old.buf.slots.ghost_name }
+        ensures slots { self.old.count < length self.old.buf.slots.now → self.new.buf.slots.now ≡ slice_set self.old.buf.slots.now self.old.count (Some found) }
+        ensures full { length self.old.buf.slots.now ≤ self.old.count → self.new.buf.slots.now ≡ self.old.buf.slots.now }
+        ensures count { self.new.count ≡ min (self.old.count + 1) usize.MAX }
+    {
+        if self.count < self.buf.slots.len() {
+            self.buf.slots[self.count] = Some(found);
+        }
+        // A list has less than 2^33 entries, so the count never comes to its end.
+        self.count = self.count.saturating_add(1);
+    }
+}

@@ -1,0 +1,65 @@
+//! Lists that grow by what a search finds.
+
+use super::FoundDateTimeKind;
+use super::found_list::FoundDateTimeList;
+use super::found_list_ref::FoundDateTimeListRefMut;
+use std::alloc::{AllocError, Allocator};
+
+/// A list that a search writes to.
+pub(crate) trait DateTimeList {
+    ghost use Rattle.std.specs.Prelude.{List, [], ◌∷◌, ◌++◌, OnOk, OnErr};
+    ghost use Rattle.tz.specs.declared.datetime.found.FoundDateTimeKind.{FoundDateTimeKind};
+
+    /// The second list is the first with these at its end.
+    ghost gains: { Self → Self → List FoundDateTimeKind → Type 0 };
+
+    /// Memory may be refused to it.
+    ghost takes_memory: { Type 0 };
+
+    /// Adds one at the end, or is refused memory and adds none.
+    fn push(&mut self, found: FoundDateTimeKind) -> Result<(), AllocError>
+        ensures ok { OnOk result (gains self.old self.new (found ∷ [])) }
+        ensures err { OnErr result (takes_memory × gains self.old self.new []) };
+
+    /// It gains nothing where it stays as it is.
+    ghost none: { (list : Self) → gains list list [] };
+
+    /// One gain after another is a gain.
+    ghost more: { (list middle grown : Self) (es fs : List FoundDateTimeKind) → gains list middle es → gains middle grown fs → gains list grown (es ++ fs) };
+}
+
+impl<A: Allocator + Copy> DateTimeList for FoundDateTimeList<A> {
+    ghost use Rattle.std.specs.Prelude.{◌≡◌, ◌++◌, ⊤};
+    ghost use Rattle.std.proofs.Common.{rules};
+    ghost use Rattle.std.proofs.lemmas.Grind.{common_steps};
+
+    ghost gains = { λ list grown found. grown.found.items ≡ list.found.items ++ found };
+
+    ghost takes_memory = { ⊤ };
+
+    ghost none = { Prim.search (rules, common_steps) };
+
+    ghost more = { Prim.search (rules, common_steps) };
+
+    fn push(&mut self, found: FoundDateTimeKind) -> Result<(), AllocError> {
+        self.found.push(found)?;
+        Ok(())
+    }
+}
+
+impl DateTimeList for FoundDateTimeListRefMut<'_> {
+    ghost use Rattle.tz.specs.Buffers.{GrowsBy, grows_by_none, grows_by_more};
+
+    ghost gains = { GrowsBy };
+
+    ghost takes_memory = { ⊥ };
+
+    ghost none = { grows_by_none };
+
+    ghost more = { grows_by_more };
+
+    fn push(&mut self, found: FoundDateTimeKind) -> Result<(), AllocError> {
+        self.write(found);
+        Ok(())
+    }
+}

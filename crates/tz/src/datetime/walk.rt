@@ -1,0 +1,207 @@
+//! A walk past the pieces of a clock, in search of a reading.
+
+use super::growing::DateTimeList;
+use super::{DateTime, FoundDateTimeKind};
+use tz_base::calendar::Fields;
+use tz_base::error::TzError;
+use tz_zone::timezone::LocalTimeType;
+
+/// An instant at which a clock shows a reading, or at which it is set forward over it.
+#[derive(Clone, Copy)]
+pub(super) enum Entry {
+    /// The clock shows the reading in a type.
+    Shown(i64, LocalTimeType),
+    /// It is set forward from the first type to the second.
+    Jump(i64, LocalTimeType, LocalTimeType),
+}
+
+/// The type that a clock has from an instant on, if any, until the next piece begins.
+#[derive(Clone, Copy)]
+pub(super) struct Piece {
+    pub(super) from: i64,
+    pub(super) kind: Option<LocalTimeType>,
+}
+
+/// A walk past the pieces of a clock.
+#[derive(Clone, Copy)]
+pub(super) struct Walk {
+    fields: Fields,
+    reading: i64,
+    /// The type just before the last piece.
+    before: Option<LocalTimeType>,
+    /// Where the last piece begins.
+    since: i64,
+    /// Its type.
+    kind: Option<LocalTimeType>,
+}
+
+impl Entry {
+    ghost use Rattle.std.specs.Prelude.{◌≡◌, ◌+ℤ◌, ◌-ℤ◌, IfOk, IfErr};
+    ghost use Rattle.tz_base.specs.Fields.{IsValid, IsReading, reading as reading_of};
+    ghost use Rattle.tz.specs.DateTimes.{ShowsInstant};
+    ghost use Rattle.tz.specs.Walks.{moment_of, IsDateTimeOf, IsEntryNear, IsNear, IsNearAnEnd};
+
+    /// The valid fields in a type that shows them.
+    fn shown(fields: &Fields, local_time_type: LocalTimeType) -> Result<DateTime, TzError>
+        requires valid { IsValid fields.now }
+        requires near { IsNear (reading_of fields.now) (reading_of fields.now -ℤ local_time_type.ut_offset) }
+        ensures ok { IfOk result (λ d. d ≡ moment_of fields.now local_time_type (reading_of fields.now -ℤ local_time_type.ut_offset)) }
+        ensures err { IfErr result (λ e. (e ≡ TzError.OutOfRange) × IsNearAnEnd (reading_of fields.now)) }
+    {
+        DateTime::new(
+            fields.year,
+            fields.month,
+            fields.month_day,
+            fields.hour,
+            fields.minute,
+            fields.second,
+            fields.nanoseconds,
+            local_time_type,
+        )
+    }
+
+    /// A side of a jump: its instant in a type.
+    fn side(
+        fields: &Fields,
+        unix_time: i64,
+        local_time_type: LocalTimeType,
+    ) -> Result<DateTime, TzError>
+        requires valid { IsValid fields.now }
+        requires near { IsNear (reading_of fields.now) (unix_time +ℤ local_time_type.ut_offset) }
+        ensures ok { IfOk result (ShowsInstant unix_time fields.now.nanoseconds local_time_type) }
+        ensures err { IfErr result (λ e. (e ≡ TzError.OutOfRange) × IsNearAnEnd (reading_of fields.now)) }
+    {
+        DateTime::from_timespec_and_local(unix_time, fields.nanoseconds, local_time_type)
+    }
+
+    /// The entry as a found date time of the fields.
+    fn date_time(&self, fields: &Fields) -> Result<FoundDateTimeKind, TzError>
+        requires valid { IsValid fields.now }
+        requires near { IsEntryNear (reading_of fields.now) self.now }
+        ensures ok { IfOk result (IsDateTimeOf fields.now self.now) }
+        ensures err { IfErr result (λ e. (e ≡ TzError.OutOfRange) × IsNearAnEnd (reading_of fields.now)) }
+    {
+        match *self {
+            Entry::Shown(_, local_time_type) => {
+                let date_time = Entry::shown(fields, local_time_type)?;
+                Ok(FoundDateTimeKind::Normal(date_time))
+            }
+            Entry::Jump(unix_time, before, after) => {
+                let before_transition = Entry::side(fields, unix_time, before)?;
+                let after_transition = Entry::side(fields, unix_time, after)?;
+                Ok(FoundDateTimeKind::Skipped {
+                    before_transition,
+                    after_transition,
+                })
+            }
+        }
+    }
+}
+
+impl Walk {
+    ghost use Rattle.std.specs.Prelude.{◌≡◌, List, None, OnOk, IfErr, IfSome, IfNone};
+    ghost use Rattle.tz_base.specs.Fields.{IsValid, reading as reading_of};
+    ghost use Rattle.tz.specs.Walks.{IsSmall, IsWalk, IsEntryOf, IsEntryNear, IsGiven, IsStep, IsSearchFault};
+    ghost use Rattle.tz.specs.declared.datetime.walk.Entry.{Entry};
+    ghost use Rattle.tz.specs.declared.datetime.found.FoundDateTimeKind.{FoundDateTimeKind};
+
+    /// A walk for valid fields, with a first piece.
+    pub(super) fn new(fields: &Fields, first: Piece) -> Self
+        requires { IsValid fields.now }
+        ensures walk { IsWalk fields.now result }
+        ensures before { result.before ≡ None }
+        ensures since { result.since ≡ first.from }
+        ensures kind { result.kind ≡ first.kind }
+    {
+        Walk {
+            fields: *fields,
+            reading: fields.reading(),
+            before: None,
+            since: first.from,
+            kind: first.kind,
+        }
+    }
+
+    /// Where the last piece begins.
+    pub(super) fn since(&self) -> i64
+        ensures { result ≡ self.now.since }
+    {
+        self.since
+    }
+
+    /// The reading that is looked for.
+    pub(super) fn reading(&self) -> i64
+        ensures { result ≡ self.now.reading }
+    {
+        self.reading
+    }
+
+    /// Its year.
+    pub(super) fn year(&self) -> i32
+        ensures { result ≡ self.now.fields.year }
+    {
+        self.fields.year
+    }
+
+    /// What the reading has in the last piece, if that ends at an instant.
+    fn entry(&self, until: i64) -> Option<Entry>
+        requires { IsSmall self.now.reading }
+        ensures some { IfSome result (IsEntryOf self.now until) }
+        ensures near { IfSome result (IsEntryNear self.now.reading) }
+        ensures none { IfNone result ((entry : Entry) → ¬ IsEntryOf self.now until entry) }
+    {
+        let kind = self.kind?;
+        let shown_at = self.reading - i64::from(kind.ut_offset());
+        if shown_at >= self.since {
+            return if shown_at < until {
+                Some(Entry::Shown(shown_at, kind))
+            } else {
+                None
+            };
+        }
+        let before = self.before?;
+        let passed_at = self.reading - i64::from(before.ut_offset());
+        if self.since <= passed_at {
+            Some(Entry::Jump(self.since, before, kind))
+        } else {
+            None
+        }
+    }
+
+    /// Adds to the list what the reading has in the last piece, if that ends at an instant.
+    fn give<L: DateTimeList>(&self, list: &mut L, until: i64) -> Result<(), TzError>
+        requires { IsWalk self.now.fields self.now }
+        ensures ok { OnOk result ((found : List FoundDateTimeKind) × L.gains list.old list.new found × IsGiven self.now until found) }
+        ensures err { IfErr result (IsSearchFault L.takes_memory (reading_of self.now.fields)) }
+    {
+        match self.entry(until) {
+            Some(entry) => {
+                let found = entry.date_time(&self.fields)?;
+                list.push(found)?;
+                Ok(())
+            }
+            None => Ok(()),
+        }
+    }
+
+    /// Goes on to a next piece, and adds what the last one had to the list.
+    pub(super) fn step<L: DateTimeList>(
+        &mut self,
+        list: &mut L,
+        piece: Piece,
+    ) -> Result<(), TzError>
+        requires { IsWalk self.old.fields self.old }
+        ensures ok { OnOk result ((found : List FoundDateTimeKind) × L.gains list.old list.new found × IsStep self.old piece self.new found) }
+        ensures err { IfErr result (IsSearchFault L.takes_memory (reading_of self.old.fields)) }
+    {
+        if piece.from <= self.since {
+            self.kind = piece.kind;
+            return Ok(());
+        }
+        self.give(list, piece.from)?;
+        self.before = self.kind;
+        self.since = piece.from;
+        self.kind = piece.kind;
+        Ok(())
+    }
+}
