@@ -1,0 +1,100 @@
+-- Names and refusals as an answer has them, and one more line and its answer.
+use Rattle.std.proofs.Common.{◌≡◌, ◌≢◌, ℕ, ◌+◌, ◌<◌, ◌≤◌, ◌⊎◌, inl, inr, cond, ℤ, List, [], ◌∷◌, ◌++◌, length, refl, sym, ap, ◌∙◌, subst, arith, append_assoc, append-nil, length-append}
+use Rattle.std.specs.Prelude.{Option, Some, None, IfSome, Result, Ok, Err, IfOk, is_ok, unwrap_or, codes}
+use Rattle.std.specs.List.{AllZip, flat_map}
+use Rattle.std.proofs.lemmas.List.Elements.{All-nil, All-cons}
+use mir.Syntax.{w32}
+use mir.Val.{SFits}
+use Rattle.tz_base.specs.declared.calendar.Fields.{Fields}
+use Rattle.tz_base.specs.declared.error.TzError.{TzError}
+use Rattle.tz_base.specs.Fields.{IsCivil, IsReading, reading}
+use Rattle.tz_base.proofs.EndLemmas.{valid_reading}
+use Rattle.tz_rule.specs.LocalType.{IsDesignation}
+use Rattle.tz_zone.specs.Table.{Zone}
+use Rattle.tz.specs.DateTimes.{IsClockFault}
+use Rattle.tz_query.specs.Lines.{IsLine, IsLineEnd, IsFirstLine, IsCut, AreLines, ended}
+use Rattle.tz_query.specs.Answers.{IsFaultText, IsAnswer, AreAnswers}
+
+-- a name, by what the type lends
+pub name_of_nothing : (o : Option (List ℕ)) → IfSome o IsDesignation → length (unwrap_or o []) ≡ 0 → unwrap_or o (45 ∷ []) ≡ 45 ∷ []
+name_of_nothing None is empty = refl
+name_of_nothing (Some name) is empty = absurd (omega (arith, is.length_is.0, empty))
+
+pub name_of_some : (o : Option (List ℕ)) → 0 < length (unwrap_or o []) → unwrap_or o (45 ∷ []) ≡ unwrap_or o []
+name_of_some None some = absurd (omega (arith, some))
+name_of_some (Some name) some = refl
+
+pub name_is_short : (o : Option (List ℕ)) → IfSome o IsDesignation → length (unwrap_or o []) ≤ 7
+name_is_short None is = omega arith
+name_is_short (Some name) is = is.length_is.1
+
+-- fields of a year of 32 bits, as a clock shows them, read in such a year
+pub civil_reading : (x : ℤ) (n : ℕ) (f : Fields) → IsCivil x n f → SFits w32 f.year → IsReading (reading f)
+civil_reading x n f civil fits = valid_reading f civil.valid fits (λ last. omega (arith, civil.below_60, last.5))
+
+-- every refusal of an instant has a name
+pub clock_fault_text : (z : Zone) (u : ℤ) (n : ℕ) (e : TzError) → IsClockFault z u n e → (text : List ℕ) × IsFaultText e text
+clock_fault_text z u n e (inl (is, many)) = subst (λ fault. (text : List ℕ) × IsFaultText fault text) (sym is) (codes "InvalidNanoseconds", refl)
+clock_fault_text z u n e (inr (inl (few, inl (is, over)))) = subst (λ fault. (text : List ℕ) × IsFaultText fault text) (sym is) (codes "NoAvailableLocalTimeType", refl)
+clock_fault_text z u n e (inr (inl (few, inr (is, none, not_over)))) = subst (λ fault. (text : List ℕ) × IsFaultText fault text) (sym is) (codes "OutOfRange", refl)
+clock_fault_text z u n e (inr (inr (is, few, out))) = subst (λ fault. (text : List ℕ) × IsFaultText fault text) (sym is) (codes "OutOfRange", refl)
+
+-- no line is left of no bytes
+pub no_lines : (lines : List (List ℕ)) → AreLines [] lines → lines ≡ []
+no_lines [] are = refl
+no_lines (line ∷ lines) are = absurd (cases are.cut)
+  where
+    cases : IsCut [] (line ∷ lines) → ⊥
+    cases (inl is) = let l : 0 ≡ length line + length (10 ∷ ended lines) = ap length is ∙ length-append line (10 ∷ ended lines) in omega (arith, l)
+    cases (inr (front, last, split, some, is)) = some (nothing_behind (ended front) last (sym is))
+      where
+        nothing_behind : (xs ys : List ℕ) → xs ++ ys ≡ [] → ys ≡ []
+        nothing_behind [] ys e = e
+        nothing_behind (x ∷ xs) ys e = cc
+
+-- a line in front of the lines of the rest
+pub AreLines-cons : (bytes line rest : List ℕ) (lines : List (List ℕ)) → 0 < length bytes → IsFirstLine bytes line rest → AreLines rest lines → AreLines bytes (line ∷ lines)
+AreLines-cons bytes line rest lines some first are = record { cut = cases first.end are.cut; without_ends = All-cons IsLine line lines first.without_end are.without_ends }
+  where
+    cases : IsLineEnd first.tail rest → IsCut rest lines → IsCut bytes (line ∷ lines)
+    cases (inl end) (inl is) = inl (first.cut ∙ ap (λ t. line ++ t) (end ∙ ap (λ r. 10 ∷ r) is))
+    cases (inl end) (inr (front, last, split, full, is)) =
+        inr (
+          line ∷ front,
+          last,
+          ap (λ ls. line ∷ ls) split,
+          full,
+          first.cut ∙ ap (λ t. line ++ t) (end ∙ ap (λ r. 10 ∷ r) is) ∙ sym (append_assoc line (10 ∷ ended front) last),
+        )
+    cases (inr end) cut =
+        let none : lines ≡ [] = no_lines lines (subst (λ r. AreLines r lines) end.1 are) in
+        let whole : bytes ≡ line = first.cut ∙ ap (λ t. line ++ t) end.0 ∙ append-nil line in
+        inr ([], line, ap (λ ls. line ∷ ls) none, (λ e. absurd (omega (arith, some, ap length (whole ∙ e)))), whole)
+
+pub AreAnswers-nil : (z : Zone) → AreAnswers z [] []
+AreAnswers-nil z = record { lines = []; answers = []; cut = record { cut = inl refl; without_ends = All-nil IsLine }; each = tt; written = refl }
+
+-- an answer in front of those of the rest
+pub AreAnswers-cons : (z : Zone) (bytes line rest more : List ℕ) (answer : List (List ℕ)) → 0 < length bytes → IsFirstLine bytes line rest → IsAnswer z line answer → AreAnswers z rest more → AreAnswers z bytes (ended answer ++ more)
+AreAnswers-cons z bytes line rest more answer some first is are =
+    record { lines = line ∷ are.lines; answers = answer ∷ are.answers; cut = AreLines-cons bytes line rest are.lines some first are.cut; each = (is, are.each); written = ap (λ bs. ended answer ++ bs) are.written }
+
+-- after a first line less is left
+pub first_line_shortens : (bytes line rest : List ℕ) → 0 < length bytes → IsFirstLine bytes line rest → length rest < length bytes
+first_line_shortens bytes line rest some first = cases first.end
+  where
+    whole : length bytes ≡ length line + length first.tail
+    whole = ap length first.cut ∙ length-append line first.tail
+
+    cases : IsLineEnd first.tail rest → length rest < length bytes
+    cases (inl end) = omega (arith, whole, ap length end)
+    cases (inr end) = omega (arith, some, ap length end.1)
+
+-- what was appended, where nothing was refused
+pub appended : {T E : Type 0} (r : Result T E) (now was more : List ℕ) → now ≡ cond (is_ok r) (was ++ more) was → IfOk r (λ _. now ≡ was ++ more)
+appended (Ok x) now was more e = e
+appended (Err x) now was more e = tt
+
+pub none_from_length : (bytes : List ℕ) → length bytes ≡ 0 → bytes ≡ []
+none_from_length [] none = refl
+none_from_length (b ∷ bytes) none = absurd (omega arith)

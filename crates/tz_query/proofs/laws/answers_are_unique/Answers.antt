@@ -1,0 +1,9 @@
+-- A line has one answer, and so have all lines.
+use Rattle.tz_query.proofs.LawLemmas.{line_answer_unique, answers_unique}
+use Rattle.tz_query.proofs.laws.answers_are_unique.Goals as goal
+
+pub returns-clause-line : goal.returns-clause-line
+returns-clause-line c = line_answer_unique
+
+pub returns-clause-all : goal.returns-clause-all
+returns-clause-all c = answers_unique

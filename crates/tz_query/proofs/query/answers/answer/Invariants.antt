@@ -1,0 +1,11 @@
+use Rattle.std.proofs.Common.{ℕ, List, ◌++◌, length}
+use Rattle.tz_zone.specs.ZoneRef.{zone_of}
+use Rattle.tz_query.specs.Answers.{AreAnswers}
+use Rattle.tz_query.proofs.query.answers.answer.Given as goal
+
+-- what answers the rest, behind what is there, answers all
+abbrev pub invariant-loop-rest : goal.invariant-loop-rest
+invariant-loop-rest g l = (more : List ℕ) → AreAnswers (zone_of l.zone) l.rest more → AreAnswers (zone_of l.zone) l.queries (l.answers.items ++ more)
+
+abbrev pub decreases-loop-rest : goal.decreases-loop-rest
+decreases-loop-rest g l = length l.rest

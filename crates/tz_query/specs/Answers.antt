@@ -1,0 +1,66 @@
+-- The answers of query lines.
+use Rattle.std.specs.Prelude.{◌≡◌, ℕ, ◌⊎◌, ℤ, List, [], ◌∷◌, ◌++◌, codes, unwrap_or}
+use Rattle.std.specs.List.{AllZip, flat_map}
+use Rattle.tz_base.specs.Fields.{IsReading, reading}
+use Rattle.tz_base.specs.declared.error.TzError.{TzError}
+use Rattle.tz_base.specs.declared.error.TzError.TheVariants.{DateTime, OutOfRange, NoAvailableLocalTimeType}
+use Rattle.tz_base.specs.declared.error.datetime.DateTimeError.{DateTimeError}
+use Rattle.tz_base.specs.declared.error.datetime.DateTimeError.TheVariants.{InvalidMonth, InvalidMonthDay, InvalidHour, InvalidMinute, InvalidSecond, InvalidNanoseconds}
+use Rattle.tz_rule.specs.LocalType.{LocalType}
+use Rattle.tz_zone.specs.Table.{Zone}
+use Rattle.tz.specs.DateTimes.{LocalMoment, ShowsByClock, IsClockFault}
+use Rattle.tz.specs.PrintedText.{printed_text}
+use Rattle.tz_query.specs.Lines.{AreLines, ended}
+use Rattle.tz_query.specs.Queries.{Query, Time, IsQueryLine}
+
+-- the name of a type, or `-`
+abbrev pub name_text : LocalType → List ℕ
+name_text t = unwrap_or t.designation (45 ∷ [])
+
+-- a date time and the name of its type
+unfoldable pub moment_text : LocalMoment → List ℕ
+moment_text d = printed_text d.fields d.local_time_type.ut_offset ++ 32 ∷ name_text d.local_time_type
+
+-- a refused field has its variant's name
+abbrev pub field_fault_text : DateTimeError → List ℕ
+field_fault_text InvalidMonth = codes "InvalidMonth"
+field_fault_text InvalidMonthDay = codes "InvalidMonthDay"
+field_fault_text InvalidHour = codes "InvalidHour"
+field_fault_text InvalidMinute = codes "InvalidMinute"
+field_fault_text InvalidSecond = codes "InvalidSecond"
+field_fault_text InvalidNanoseconds = codes "InvalidNanoseconds"
+
+-- a refusal that an answer tells has its innermost variant's name
+abbrev pub IsFaultText : TzError → List ℕ → Type 0
+IsFaultText (DateTime fault) text = text ≡ field_fault_text fault
+IsFaultText OutOfRange text = text ≡ codes "OutOfRange"
+IsFaultText NoAvailableLocalTimeType text = text ≡ codes "NoAvailableLocalTimeType"
+IsFaultText _ text = ⊥
+
+-- the answer line of an instant: the date time that the clock shows, or why it shows none
+abbrev pub IsTimeAnswer : Zone → ℤ → ℕ → List ℕ → Type 0
+IsTimeAnswer z u n answer =
+    ((d : LocalMoment) × ShowsByClock z u n d × IsReading (reading d.fields) × (answer ≡ moment_text d))
+    ⊎ ((e : TzError) × (text : List ℕ) × IsClockFault z u n e × IsFaultText e text × (answer ≡ codes "E " ++ text))
+
+-- the answer lines of a query
+abbrev pub IsQueryAnswer : Zone → Query → List (List ℕ) → Type 0
+IsQueryAnswer z (Time u n) answer = (text : List ℕ) × IsTimeAnswer z u n text × (answer ≡ text ∷ [])
+
+-- the answer lines of a line: those of its query, or that it is outside the grammar
+abbrev pub IsAnswer : Zone → List ℕ → List (List ℕ) → Type 0
+IsAnswer z line answer =
+    ((query : Query) × IsQueryLine line query × IsQueryAnswer z query answer)
+    ⊎ (((query : Query) → ¬ IsQueryLine line query) × (answer ≡ codes "E Line" ∷ []))
+
+-- the bytes answer the query bytes: each line in turn, each answer line ended by LF
+pub record AreAnswers (z : Zone) (queries bytes : List ℕ) : Type 0 where
+  pub lines : List (List ℕ)
+  pub answers : List (List (List ℕ))
+  pub cut : AreLines queries lines
+  pub each : AllZip (IsAnswer z) lines answers
+  pub written : bytes ≡ flat_map ended answers
+
+-- the one answer line of a line
+abbrev pub IsLineAnswer : Zone → List ℕ → List ℕ → Type 0
+IsLineAnswer z line answer = IsAnswer z line (answer ∷ [])

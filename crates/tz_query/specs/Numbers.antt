@@ -1,0 +1,32 @@
+-- Numbers as lines have them.
+use Rattle.std.specs.Prelude.{◌≡◌, ℕ, ◌<◌, ◌≤◌, ◌⊎◌, ℤ, pos, neg_ℤ, List, [], ◌∷◌, ◌++◌}
+use Rattle.std.specs.Char.{digit_value}
+use Rattle.std.specs.Str.Parse.{AllDigits, IsNumeral, digits_value}
+
+-- a number is an optional `-` and one or more digits
+abbrev pub IsNumber : List ℕ → ℤ → Type 0
+IsNumber text n =
+    (digits : List ℕ) × IsNumeral 10 digits
+    × (((text ≡ digits) × (n ≡ pos (digits_value 10 digits))) ⊎ ((text ≡ 45 ∷ digits) × (n ≡ neg_ℤ (pos (digits_value 10 digits)))))
+
+-- no digit stands first
+abbrev pub EndsDigits : List ℕ → Type 0
+EndsDigits [] = Unit {0}
+EndsDigits (b ∷ bytes) = ¬ (digit_value b < 10)
+
+-- the digits in front of the bytes are all there are, and what follows them
+pub record IsDigitsFront (bytes digits rest : List ℕ) : Type 0 where
+  pub whole : bytes ≡ digits ++ rest
+  pub all_digits : AllDigits 10 digits
+  pub ends : EndsDigits rest
+
+-- the value of the digits, or for every value of 10^19 and more any such number
+abbrev pub IsCapped : List ℕ → ℕ → Type 0
+IsCapped digits n = (digits_value 10 digits ≡ n) ⊎ ((10000000000000000000 ≤ n) × (10000000000000000000 ≤ digits_value 10 digits))
+
+-- the number in front of the bytes, and what follows it
+pub record IsNumberFront (bytes : List ℕ) (n : ℤ) (rest : List ℕ) : Type 0 where
+  pub text : List ℕ
+  pub whole : bytes ≡ text ++ rest
+  pub is_number : IsNumber text n
+  pub ends : EndsDigits rest
