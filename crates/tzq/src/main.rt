@@ -1,0 +1,29 @@
+//! Answers query lines about date times: `tzq -o OFFSET`, over a zone with this offset from UTC in seconds.
+#![tactic(auto)]
+
+use std::env;
+use std::process::ExitCode;
+use tz_query::query;
+
+/// The words after the program's name, or none where they cannot be had.
+fn words_of(rt: &HostRuntime) -> Vec<String> {
+    match env::args(rt) {
+        Ok(args) => args
+            .skip(1)
+            .collect(rt.alloc())
+            .unwrap_or(Vec::new(rt.alloc())),
+        Err(_) => Vec::new(rt.alloc()),
+    }
+}
+
+fn main(rt: HostRuntime) -> ExitCode {
+    let words = words_of(&rt);
+    let texts: Vec<&str> = words
+        .iter()
+        .map(|word| word.as_str())
+        .collect(rt.alloc())
+        .unwrap_or(Vec::new(rt.alloc()));
+    let (mut input, mut out, mut err) = (rt.stdin(), rt.stdout(), rt.stderr());
+    let status = query::tool(rt.alloc(), &texts, &mut input, &mut out, &mut err);
+    ExitCode::from(status)
+}
