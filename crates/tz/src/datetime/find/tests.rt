@@ -76,6 +76,19 @@ fn expect_found(
     Ok(())
 }
 
+/// Both searches find these of each reading.
+fn expect_all(
+    rt: &impl Abort,
+    alloc: Global,
+    zone: TimeZoneRef<'_>,
+    rows: &[(Reading, &[Summary])],
+) -> Result<(), TzError> {
+    for (reading, expected) in rows {
+        expect_found(rt, alloc, zone, *reading, expected)?;
+    }
+    Ok(())
+}
+
 #[test]
 fn transitions_of_a_day(rt: HostRuntime) -> Result<(), Fail> {
     let alloc = rt.alloc();
@@ -133,75 +146,58 @@ fn jumps_that_cross(rt: HostRuntime) -> Result<(), Fail> {
     ];
     let rule = None;
     let zone = TimeZoneRef::new(&transitions, &types, &[], &rule)?;
-    let shown = |seconds: i64, offset: i32| (seconds - i64::from(offset), offset, offset);
     let first = (7200, 0, 3600);
     let second = (28_800, -19_800, -16_200);
-    for (hour, minute, expected) in [
-        (
-            2,
-            30,
-            [Some(first), Some(shown(9000, -10_800)), Some(second)],
-        ),
-        (5, 0, [None, None, None]),
-        (0, 0, [Some(shown(0, 0)), None, None]),
-        (
-            1,
-            15,
-            [Some(shown(4500, 0)), Some(shown(4500, -10_800)), None],
-        ),
-        (
-            1,
-            45,
-            [
-                Some(shown(6300, 0)),
-                Some(shown(6300, -10_800)),
-                Some(shown(6300, -19_800)),
-            ],
-        ),
-        (
-            2,
-            15,
-            [
-                Some(first),
-                Some(shown(8100, -10_800)),
-                Some(shown(8100, -19_800)),
-            ],
-        ),
-        (
-            3,
-            15,
-            [
-                Some(shown(11_700, 3600)),
-                Some(shown(11_700, -10_800)),
-                Some(second),
-            ],
-        ),
-        (
-            3,
-            45,
-            [
-                Some(shown(13_500, 3600)),
-                Some(shown(13_500, -10_800)),
-                Some(shown(13_500, -16_200)),
-            ],
-        ),
-        (
-            4,
-            15,
-            [
-                Some(shown(15_300, 3600)),
-                Some(shown(15_300, -16_200)),
-                None,
-            ],
-        ),
-        (4, 45, [Some(shown(17_100, 3600)), None, None]),
-    ] {
-        let mut wanted = Vec::new(alloc);
-        for entry in expected.iter().flatten() {
-            wanted.push(*entry)?;
-        }
-        expect_found(&rt, alloc, zone, (1970, 1, 1, hour, minute, 0), &wanted)?;
-    }
+    expect_all(
+        &rt,
+        alloc,
+        zone,
+        &[
+            (
+                (1970, 1, 1, 2, 30, 0),
+                &[first, (19_800, -10_800, -10_800), second],
+            ),
+            ((1970, 1, 1, 5, 0, 0), &[]),
+            ((1970, 1, 1, 0, 0, 0), &[(0, 0, 0)]),
+            (
+                (1970, 1, 1, 1, 15, 0),
+                &[(4500, 0, 0), (15_300, -10_800, -10_800)],
+            ),
+            (
+                (1970, 1, 1, 1, 45, 0),
+                &[
+                    (6300, 0, 0),
+                    (17_100, -10_800, -10_800),
+                    (26_100, -19_800, -19_800),
+                ],
+            ),
+            (
+                (1970, 1, 1, 2, 15, 0),
+                &[
+                    first,
+                    (18_900, -10_800, -10_800),
+                    (27_900, -19_800, -19_800),
+                ],
+            ),
+            (
+                (1970, 1, 1, 3, 15, 0),
+                &[(8100, 3600, 3600), (22_500, -10_800, -10_800), second],
+            ),
+            (
+                (1970, 1, 1, 3, 45, 0),
+                &[
+                    (9900, 3600, 3600),
+                    (24_300, -10_800, -10_800),
+                    (29_700, -16_200, -16_200),
+                ],
+            ),
+            (
+                (1970, 1, 1, 4, 15, 0),
+                &[(11_700, 3600, 3600), (31_500, -16_200, -16_200)],
+            ),
+            ((1970, 1, 1, 4, 45, 0), &[(13_500, 3600, 3600)]),
+        ],
+    )?;
     Ok(())
 }
 
@@ -323,10 +319,7 @@ fn expect_found_by_rule(
     let types = [*rule.std(), *rule.dst()];
     let rule = Some(TransitionRule::Alternate(rule));
     let zone = TimeZoneRef::new(&[], &types, &[], &rule)?;
-    for (reading, expected) in rows {
-        expect_found(rt, alloc, zone, *reading, expected)?;
-    }
-    Ok(())
+    expect_all(rt, alloc, zone, rows)
 }
 
 #[test]
