@@ -11,3 +11,4 @@ pub mod RuleSpans
 pub mod FindFaults
 pub mod PrintedText
 pub mod UtcConstants
+pub mod Lists

@@ -20,7 +20,8 @@ use Rattle.tz_rule.specs.declared.timezone.rule_day.RuleDay.{RuleDay}
 use Rattle.tz_rule.specs.declared.timezone.rule_day.RuleDay.TheVariants.{Julian1WithoutLeap, Julian0WithLeap, MonthWeekDay}
 use Rattle.tz_zone.specs.declared.parse.tz_string.day.DayAndTime.{DayAndTime}
 use Rattle.tz_zone.specs.declared.parse.tz_string.time.WrittenTime.{WrittenTime}
-use Rattle.tz_zone.specs.TzText.{Begins, IsRun, IsNumber, is_in_brackets, IsName, IsPart, IsHms, IsSign, IsSignedTime, IsDayTimeSign, IsDayTime, IsMonthWeekText, IsDay, IsRuleText, IsDaylightOffset, IsTimeUpTo, offset_hours, day_time_hours, IsDayInRange, IsRuleInRange, IsNameAndOffset, AlternateText, IsAlternateText, IsAlternateInRange, std_type_of, rule_of, IsTzText}
+use Rattle.tz_zone.specs.TzText.{Begins, IsRun, IsNumber, is_in_brackets, IsName, IsPart, IsHms, IsSign, IsSignedTime, IsDayTimeSign, IsDayTime, IsMonthWeekText, IsDay, IsRuleText, IsDaylightOffset, IsTimeUpTo, offset_hours, day_time_hours, IsRuleInRange, IsNameAndOffset, AlternateText, IsAlternateText, IsAlternateInRange, std_type_of, rule_of, IsTzText}
+use Rattle.tz_rule.specs.Day.{IsRuleDay}
 use Rattle.tz_zone.specs.TzTextFault.{Reached, IsMissingByte, TimeFaults, day_time_faults, offset_faults, IsNumberFault, IsPartFault, IsHmsFault, IsOffsetFault, IsDayTimeFault, FailsFrom, IsDayNumberFault, IsMonthWeekDayFault, IsDayFault, IsRuleTextFault, IsLastRuleFault, IsRulesFault, IsUnclosed, IsNameFault, LacksRules, IsDaylightFault, InText, IsTzTextFault}
 use Rattle.tz_zone.proofs.TextReadings.{IsOne, same_byte, same_rest, run_is_one, number_is_one, part_is_one, sign_is_one, day_time_sign_is_one, signed_time_is_one, day_is_one, rule_text_is_one, name_is_one, daylight_offset_is_one, name_and_offset_is_one, alternate_text_is_one, no_digit}
 
@@ -103,7 +104,7 @@ no_month_week_fault text d rest e t range fault = elim fault [
           (fails_behind 46 t.1 e _ (reached_once IsNumber number_is_one t.0 d.week (46 ∷ t.1) t.3 _ f))
     ]
 
-no_day_fault : (text : List ℕ) (d : RuleDay) (rest : List ℕ) (e : TzError) → IsDay text d rest → IsDayInRange d → IsDayFault text e → ⊥
+no_day_fault : (text : List ℕ) (d : RuleDay) (rest : List ℕ) (e : TzError) → IsDay text d rest → IsRuleDay d → IsDayFault text e → ⊥
 no_day_fault text (Julian1WithoutLeap n) rest e day range fault = elim fault [
   | inl f ↦ f.0 (day.0, day.1)
   | inr (inl f) ↦ (let P : List ℕ → Type 0 = λ number. IsDayNumberFault 16 IsJulianDay InvalidRuleDayJulianDay number e in

@@ -66,12 +66,3 @@ HasNoType z u = (t : LocalType) → ¬ IsClock z u t
 -- why a lookup is refused: the zone is over, and otherwise a time is out of range
 abbrev pub IsLookupFault : Zone → ℤ → TzError → Type 0
 IsLookupFault z u e = ((e ≡ NoAvailableLocalTimeType) × IsOver z u) ⊎ ((e ≡ OutOfRange) × HasNoType z u × ¬ IsOver z u)
-
--- the clock shows the reading at u
-abbrev pub IsShown : Zone → ℤ → ℤ → LocalType → Type 0
-IsShown z r u t = IsClock z u t × ((u +ℤ t.ut_offset) ≡ r)
-
--- the clock passes over the reading at u: the types before u and at u make a forward jump over it
-abbrev pub IsPassedOver : Zone → ℤ → ℤ → LocalType → LocalType → Type 0
-IsPassedOver z r u before after =
-    IsClock z (u -ℤ pos 1) before × IsClock z u after × ((u +ℤ before.ut_offset) ≤ℤ r) × (r <ℤ (u +ℤ after.ut_offset))

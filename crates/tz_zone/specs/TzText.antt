@@ -5,8 +5,8 @@ use Rattle.std.specs.Prelude.{◌≡◌, ◌≢◌, ℕ, ◌+◌, ◌*◌, ◌�
 use Rattle.std.specs.Char.{is_ascii_digit, is_ascii_alphabetic}
 use Rattle.std.specs.Str.Parse.{digits_value}
 use Rattle.tz_rule.specs.LocalType.{LocalType, IsDesignation, type_of}
-use Rattle.tz_rule.specs.JulianDay.{IsJulianDay, IsZeroBasedDay}
-use Rattle.tz_rule.specs.MonthWeek.{MonthWeek, IsMonthWeek}
+use Rattle.tz_rule.specs.Day.{IsRuleDay}
+use Rattle.tz_rule.specs.MonthWeek.{MonthWeek}
 use Rattle.tz_rule.specs.Alternate.{Alternate, alternate_of, IsConsistentRule}
 use Rattle.tz_rule.specs.declared.timezone.rule_day.RuleDay.{RuleDay}
 use Rattle.tz_rule.specs.declared.timezone.rule_day.RuleDay.TheVariants.{Julian1WithoutLeap, Julian0WithLeap, MonthWeekDay}
@@ -142,14 +142,9 @@ abbrev pub day_time_hours : Bool → ℕ
 day_time_hours true = 167
 day_time_hours false = 24
 
--- a rule day whose numbers are in range
-abbrev pub IsDayInRange : RuleDay → Type 0
-IsDayInRange (Julian1WithoutLeap n) = IsJulianDay n
-IsDayInRange (Julian0WithLeap n) = IsZeroBasedDay n
-IsDayInRange (MonthWeekDay d) = IsMonthWeek d
-
+-- the numbers of a rule's day and time are in range
 pub record IsRuleInRange (extended : Bool) (rule : DayAndTime) : Type 0 where
-  pub day_is : IsDayInRange rule.day
+  pub day_is : IsRuleDay rule.day
   pub time_is : IsTimeUpTo (day_time_hours extended) rule.time
 
 pub record IsAlternateInRange (extended : Bool) (a : AlternateText) : Type 0 where

@@ -148,6 +148,7 @@ impl DateTime {
           unix_time = reading (record { year = year; month = month; month_day = month_day; hour = hour; minute = minute; second = second; nanoseconds = nanoseconds }) -ℤ local_time_type.ut_offset;
         }) }
         ensures ok { OnOk result (IsValid (record { year = year; month = month; month_day = month_day; hour = hour; minute = minute; second = second; nanoseconds = nanoseconds })) }
+        ensures instant { OnOk result (IsReading (reading (record { year = year; month = month; month_day = month_day; hour = hour; minute = minute; second = second; nanoseconds = nanoseconds }) -ℤ local_time_type.ut_offset)) }
         ensures err { IfErr result (IsLocalFault (record { year = year; month = month; month_day = month_day; hour = hour; minute = minute; second = second; nanoseconds = nanoseconds }) local_time_type.ut_offset) }
     {
         let fields = Fields {
@@ -166,6 +167,7 @@ impl DateTime {
     fn from_fields(fields: Fields, local_time_type: LocalTimeType) -> Result<Self, TzError>
         ensures value { IfOk result (λ d. d ≡ record { fields = fields; local_time_type = local_time_type; unix_time = reading fields -ℤ local_time_type.ut_offset }) }
         ensures ok { OnOk result (IsValid fields) }
+        ensures instant { OnOk result (IsReading (reading fields -ℤ local_time_type.ut_offset)) }
         ensures err { IfErr result (IsLocalFault fields local_time_type.ut_offset) }
     {
         fields.check()?;

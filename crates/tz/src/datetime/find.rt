@@ -15,6 +15,7 @@ impl DateTime {
     ghost use Rattle.tz_zone.specs.Clock.{IsClock};
     ghost use Rattle.tz_zone.specs.ZoneRef.{zone_of};
     ghost use Rattle.tz.specs.Found.{IsFound};
+    ghost use Rattle.tz.specs.Lists.{found_of, slots_of, count_of};
     ghost use Rattle.tz.specs.FindFaults.{IsFindFault, IsFarFromEnds};
     ghost use Rattle.tz.specs.Slots.{filled};
     ghost use Rattle.tz.specs.declared.datetime.found.FoundDateTimeKind.{FoundDateTimeKind};
@@ -35,7 +36,7 @@ impl DateTime {
         nanoseconds: u32,
         time_zone_ref: TimeZoneRef<'_>,
     ) -> Result<FoundDateTimeList<A>, TzError>
-        ensures ok { IfOk result (λ list. IsFound (IsClock (zone_of time_zone_ref.entry)) (record { year = year; month = month; month_day = month_day; hour = hour; minute = minute; second = second; nanoseconds = nanoseconds }) list.found.items) }
+        ensures ok { IfOk result (λ list. IsFound (IsClock (zone_of time_zone_ref.entry)) (record { year = year; month = month; month_day = month_day; hour = hour; minute = minute; second = second; nanoseconds = nanoseconds }) (found_of list)) }
         ensures valid { OnOk result (IsValid (record { year = year; month = month; month_day = month_day; hour = hour; minute = minute; second = second; nanoseconds = nanoseconds })) }
         ensures far { IsFarFromEnds year → IfErr result (λ e. e ≢ TzError.OutOfRange) }
         ensures err { IfErr result (IsFindFault ⊤ (record { year = year; month = month; month_day = month_day; hour = hour; minute = minute; second = second; nanoseconds = nanoseconds })) }
@@ -58,7 +59,7 @@ impl DateTime {
         fields: &Fields,
         time_zone_ref: TimeZoneRef<'_>,
     ) -> Result<FoundDateTimeList<A>, TzError>
-        ensures ok { IfOk result (λ list. IsFound (IsClock (zone_of time_zone_ref.entry)) fields.now list.found.items) }
+        ensures ok { IfOk result (λ list. IsFound (IsClock (zone_of time_zone_ref.entry)) fields.now (found_of list)) }
         ensures valid { OnOk result (IsValid fields.now) }
         ensures far { IsFarFromEnds fields.now.year → IfErr result (λ e. e ≢ TzError.OutOfRange) }
         ensures err { IfErr result (IsFindFault ⊤ fields.now) }
@@ -85,7 +86,7 @@ impl DateTime {
         ensures same_reference { IfOk result (λ list. list.buf.slots.ghost_name ≡ buf.entry.ghost_name) }
         ensures ok { IfOk result (λ list. (found : List FoundDateTimeKind)
             × IsFound (IsClock (zone_of time_zone_ref.entry)) (record { year = year; month = month; month_day = month_day; hour = hour; minute = minute; second = second; nanoseconds = nanoseconds }) found
-            × (list.count ≡ length found) × (list.buf.slots.now ≡ filled buf.old found)) }
+            × (count_of list ≡ length found) × (slots_of list ≡ filled buf.old found)) }
         ensures valid { OnOk result (IsValid (record { year = year; month = month; month_day = month_day; hour = hour; minute = minute; second = second; nanoseconds = nanoseconds })) }
         ensures far { IsFarFromEnds year → IfErr result (λ e. e ≢ TzError.OutOfRange) }
         ensures err { IfErr result (IsFindFault ⊥ (record { year = year; month = month; month_day = month_day; hour = hour; minute = minute; second = second; nanoseconds = nanoseconds })) }
@@ -111,7 +112,7 @@ impl DateTime {
         ensures same_reference { IfOk result (λ list. list.buf.slots.ghost_name ≡ buf.entry.ghost_name) }
         ensures ok { IfOk result (λ list. (found : List FoundDateTimeKind)
             × IsFound (IsClock (zone_of time_zone_ref.entry)) fields.now found
-            × (list.count ≡ length found) × (list.buf.slots.now ≡ filled buf.old found)) }
+            × (count_of list ≡ length found) × (slots_of list ≡ filled buf.old found)) }
         ensures valid { OnOk result (IsValid fields.now) }
         ensures far { IsFarFromEnds fields.now.year → IfErr result (λ e. e ≢ TzError.OutOfRange) }
         ensures err { IfErr result (IsFindFault ⊥ fields.now) }

@@ -1,7 +1,8 @@
 //! Lists of found date times that own their memory.
 
 use super::{DateTime, FoundDateTimeKind};
-use std::alloc::{AllocError, Allocator, Global};
+use std::alloc::{Allocator, Global};
+use tz_base::error::TzError;
 
 /// The date times that a search found, by rising Unix time.
 #[derive(Debug, PartialEq, Drop)]
@@ -12,10 +13,11 @@ pub struct FoundDateTimeList<A: Allocator + Copy = Global> {
 impl<A: Allocator + Copy> FoundDateTimeList<A> {
     ghost use Rattle.std.specs.Prelude.{◌≡◌, [], ◌∷◌, ◌++◌, IfOk, IfErr, IfSome, alloc_error};
     ghost use Rattle.tz.specs.Found.{unique_of, earliest_of, latest_of};
+    ghost use Rattle.tz.specs.Lists.{found_of};
 
     /// An empty list.
     pub fn new_in(alloc: A) -> Self
-        ensures { result.found.items ≡ [] }
+        ensures { found_of result ≡ [] }
     {
         FoundDateTimeList {
             found: Vec::new(alloc),
@@ -23,8 +25,9 @@ impl<A: Allocator + Copy> FoundDateTimeList<A> {
     }
 
     /// The same list again, on the same allocator.
-    pub fn try_clone(&self) -> Result<Self, AllocError>
-        ensures { IfOk result (λ list. list.found.items ≡ self.now.found.items) }
+    pub fn try_clone(&self) -> Result<Self, TzError>
+        ensures ok { IfOk result (λ list. found_of list ≡ found_of self.now) }
+        ensures err { IfErr result (λ e. e ≡ TzError.Memory alloc_error) }
     {
         let found = self.found.clone()?;
         Ok(FoundDateTimeList { found })
@@ -32,7 +35,7 @@ impl<A: Allocator + Copy> FoundDateTimeList<A> {
 
     /// The date time, where exactly one was found and no jump.
     pub fn unique(&self) -> Option<DateTime>
-        ensures { result ≡ unique_of self.now.found.items }
+        ensures { result ≡ unique_of (found_of self.now) }
     {
         match *self.found.as_slice() {
             [FoundDateTimeKind::Normal(date_time)] => Some(date_time),
@@ -42,7 +45,7 @@ impl<A: Allocator + Copy> FoundDateTimeList<A> {
 
     /// The earliest date time; of a jump the side before it.
     pub fn earliest(&self) -> Option<DateTime>
-        ensures { result ≡ earliest_of self.now.found.items }
+        ensures { result ≡ earliest_of (found_of self.now) }
     {
         let first = self.found.first()?;
         Some(first.first_side())
@@ -50,7 +53,7 @@ impl<A: Allocator + Copy> FoundDateTimeList<A> {
 
     /// The latest date time; of a jump the side after it.
     pub fn latest(&self) -> Option<DateTime>
-        ensures { result ≡ latest_of self.now.found.items }
+        ensures { result ≡ latest_of (found_of self.now) }
     {
         let last = self.found.last()?;
         Some(last.last_side())
@@ -58,7 +61,7 @@ impl<A: Allocator + Copy> FoundDateTimeList<A> {
 
     /// What was found.
     pub fn into_inner(self) -> Vec<FoundDateTimeKind, A>
-        ensures { result.items ≡ self.found.items }
+        ensures { result.items ≡ found_of self }
     {
         self.found
     }

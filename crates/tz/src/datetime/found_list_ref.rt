@@ -32,13 +32,14 @@ pub struct FoundDateTimeListRefMut<'a> {
 
 impl<'a> FoundDateTimeListRefMut<'a> {
     ghost use Rattle.std.specs.Prelude.{◌≡◌, ◌+◌, ◌<◌, ◌≤◌, ◌↔◌, IsTrue, Some, None, length, min, slice_set};
+    ghost use Rattle.tz.specs.Lists.{slots_of, count_of};
     ghost use Rattle.tz.specs.Slots.{written_of, unique_slot, earliest_slot, latest_slot};
 
     /// A list with nothing found yet. It writes to the slots in order, and leaves the others as they are.
     pub fn new(buf: &'a mut [Option<FoundDateTimeKind>]) -> Self
         ensures same_reference { result.buf.slots.ghost_name ≡ buf.entry.ghost_name }
-        ensures slots { result.buf.slots.now ≡ buf.old }
-        ensures count { result.count ≡ 0 }
+        ensures slots { slots_of result ≡ buf.old }
+        ensures count { count_of result ≡ 0 }
     {
         FoundDateTimeListRefMut {
             buf: Buffer { slots: buf },
@@ -48,35 +49,35 @@ impl<'a> FoundDateTimeListRefMut<'a> {
 
     /// How many slots were written.
     fn written(&self) -> usize
-        ensures { result ≡ min self.now.count (length self.now.buf.slots.now) }
+        ensures { result ≡ min (count_of self.now) (length (slots_of self.now)) }
     {
         self.count.min(self.buf.slots.len())
     }
 
     /// The slots that were written.
     pub fn data(&self) -> &[Option<FoundDateTimeKind>]
-        ensures { result.now ≡ written_of self.now.buf.slots.now self.now.count }
+        ensures { result.now ≡ written_of (slots_of self.now) (count_of self.now) }
     {
         &self.buf.slots[..self.written()]
     }
 
     /// How many date times were found, whether there was a slot for each or not.
     pub fn count(&self) -> usize
-        ensures { result ≡ self.now.count }
+        ensures { result ≡ count_of self.now }
     {
         self.count
     }
 
     /// Whether there was a slot for each date time.
     pub fn is_exhaustive(&self) -> bool
-        ensures { IsTrue result ↔ (self.now.count ≤ length self.now.buf.slots.now) }
+        ensures { IsTrue result ↔ (count_of self.now ≤ length (slots_of self.now)) }
     {
         self.count <= self.buf.slots.len()
     }
 
     /// The earliest date time that was written; of a jump the side before it.
     pub fn earliest(&self) -> Option<DateTime>
-        ensures { result ≡ earliest_slot (written_of self.now.buf.slots.now self.now.count) }
+        ensures { result ≡ earliest_slot (written_of (slots_of self.now) (count_of self.now)) }
     {
         match self.data().first() {
             Some(Some(found)) => Some(found.first_side()),
@@ -86,7 +87,7 @@ impl<'a> FoundDateTimeListRefMut<'a> {
 
     /// The latest date time that was written; of a jump the side after it.
     pub fn latest(&self) -> Option<DateTime>
-        ensures { result ≡ latest_slot (written_of self.now.buf.slots.now self.now.count) }
+        ensures { result ≡ latest_slot (written_of (slots_of self.now) (count_of self.now)) }
     {
         match self.data().last() {
             Some(Some(found)) => Some(found.last_side()),
@@ -96,8 +97,8 @@ impl<'a> FoundDateTimeListRefMut<'a> {
 
     /// The date time, where exactly one was found and no jump, and there was a slot for it.
     pub fn unique(&self) -> Option<DateTime>
-        ensures exhaustive { self.now.count ≤ length self.now.buf.slots.now → result ≡ unique_slot (written_of self.now.buf.slots.now self.now.count) }
-        ensures short { length self.now.buf.slots.now < self.now.count → result ≡ None }
+        ensures exhaustive { count_of self.now ≤ length (slots_of self.now) → result ≡ unique_slot (written_of (slots_of self.now) (count_of self.now)) }
+        ensures short { length (slots_of self.now) < count_of self.now → result ≡ None }
     {
         if !self.is_exhaustive() {
             return None;
@@ -111,9 +112,9 @@ impl<'a> FoundDateTimeListRefMut<'a> {
     /// Counts one more, and writes it to the next slot, if there is one.
     pub(super) fn write(&mut self, found: FoundDateTimeKind)
         ensures same_reference { self.new.buf.slots.ghost_name ≡ self.old.buf.slots.ghost_name }
-        ensures slots { self.old.count < length self.old.buf.slots.now → self.new.buf.slots.now ≡ slice_set self.old.buf.slots.now self.old.count (Some found) }
-        ensures full { length self.old.buf.slots.now ≤ self.old.count → self.new.buf.slots.now ≡ self.old.buf.slots.now }
-        ensures count { self.new.count ≡ min (self.old.count + 1) usize.MAX }
+        ensures slots { count_of self.old < length (slots_of self.old) → slots_of self.new ≡ slice_set (slots_of self.old) (count_of self.old) (Some found) }
+        ensures full { length (slots_of self.old) ≤ count_of self.old → slots_of self.new ≡ slots_of self.old }
+        ensures count { count_of self.new ≡ min (count_of self.old + 1) usize.MAX }
     {
         if self.count < self.buf.slots.len() {
             self.buf.slots[self.count] = Some(found);

@@ -4,7 +4,8 @@ ghost use Rattle.std.specs.Prelude.{◌≡◌, ◌∷◌, ℕ, List, MatchResult
 ghost use Rattle.tz_base.specs.declared.error.timezone.TransitionRuleError.TheVariants.{InvalidRuleDayJulianDay};
 ghost use Rattle.tz_rule.specs.JulianDay.{IsJulianDay, IsZeroBasedDay};
 ghost use Rattle.tz_rule.specs.MonthWeek.{IsMonthWeek};
-ghost use Rattle.tz_zone.specs.TzText.{IsNumber, IsMonthWeekText, IsDay, IsDayInRange, IsTimeOfRule, IsTimeUpTo, day_time_hours, IsRuleText, IsRuleInRange};
+ghost use Rattle.tz_rule.specs.Day.{IsRuleDay};
+ghost use Rattle.tz_zone.specs.TzText.{IsNumber, IsMonthWeekText, IsDay, IsTimeOfRule, IsTimeUpTo, day_time_hours, IsRuleText, IsRuleInRange};
 ghost use Rattle.tz_zone.specs.TzTextFault.{IsDayNumberFault, IsMonthWeekDayFault, IsDayFault, IsDayTimeFault, IsRuleTextFault};
 
 use super::cursor::{after_byte, expect_byte};
@@ -51,7 +52,7 @@ fn read_month_week_day(text: &[u8]) -> Result<(MonthWeekDay, &[u8]), TzError>
 
 /// The day of a rule, and the bytes behind.
 fn read_rule_day(text: &[u8]) -> Result<(RuleDay, &[u8]), TzError>
-    ensures { MatchResult result (λ p. IsDay text.now p.0 p.1.now × IsDayInRange p.0) (IsDayFault text.now) }
+    ensures { MatchResult result (λ p. IsDay text.now p.0 p.1.now × IsRuleDay p.0) (IsDayFault text.now) }
 {
     if let Some(number) = after_byte(text, b'J') {
         return match read_julian_day(number) {

@@ -1,0 +1,17 @@
+-- What contracts see of the two lists of found date times.
+use Rattle.std.specs.Prelude.{ℕ, List}
+use Rattle.tz.specs.Slots.{Slots}
+use Rattle.tz.specs.declared.datetime.found.FoundDateTimeKind.{FoundDateTimeKind}
+use Rattle.tz.specs.declared.datetime.found_list.FoundDateTimeList.{FoundDateTimeList}
+use Rattle.tz.specs.declared.datetime.found_list_ref.FoundDateTimeListRefMut.{FoundDateTimeListRefMut}
+
+-- what a list holds
+abbrev pub found_of : {A : Type 0} → FoundDateTimeList A → List FoundDateTimeKind
+found_of list = list.found.items
+
+-- the slots that a list was lent, and how many date times it counts
+abbrev pub slots_of : FoundDateTimeListRefMut → Slots
+slots_of list = list.buf.slots.now
+
+abbrev pub count_of : FoundDateTimeListRefMut → ℕ
+count_of list = list.count
