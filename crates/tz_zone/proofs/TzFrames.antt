@@ -1,5 +1,5 @@
 -- What is read of a file, by the version of its first header; and its footer.
-use Rattle.std.proofs.Common.{◌≡◌, ℕ, ◌-◌, eqb, List, drop, Some, None, refl}
+use Rattle.std.proofs.Common.{◌≡◌, ℕ, eqb, List, drop, Some, None, refl}
 use Rattle.std.specs.Int.{w32, w64}
 use Rattle.std.specs.Char.{is_ascii_whitespace}
 use Rattle.std.specs.List.{prefix_len, slice_index}

@@ -15,3 +15,4 @@ pub mod TzText
 pub mod TzTextFault
 pub mod Settings
 pub mod SettingsParts
+pub mod File

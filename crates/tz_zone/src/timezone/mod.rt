@@ -1,6 +1,7 @@
 //! Transitions, leap seconds and time zones.
 
 mod checks;
+mod file;
 mod leap_second;
 mod settings;
 mod transition;
@@ -8,6 +9,7 @@ mod zone;
 mod zone_data;
 mod zone_ref;
 
+pub use file::read_file;
 pub use leap_second::LeapSecond;
 pub use settings::{DEFAULT_DIRECTORIES, TimeZoneSettings};
 pub use transition::Transition;

@@ -267,3 +267,5 @@ impl<A: Allocator + Copy> TimeZone<A> {
 
 #[cfg(test)]
 mod tests;
+#[cfg(test)]
+mod texts;

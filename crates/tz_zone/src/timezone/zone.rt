@@ -9,7 +9,8 @@ use std::alloc::{Allocator, Global};
 use tz_base::error::TzError;
 
 /// A time zone that owns its parts, on one allocator.
-#[derive(Debug, Drop)]
+#[derive(Drop)]
+#[derive_where(Debug)]
 pub struct TimeZone<A: Allocator + Copy = Global> {
     transitions: Vec<Transition, A>,
     local_time_types: Vec<LocalTimeType, A>,

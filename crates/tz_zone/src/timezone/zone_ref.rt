@@ -144,6 +144,7 @@ impl<'a> TimeZoneRef<'a> {
     ///
     /// From the last transition on it is the extra rule's. Without a rule there is none: `NoAvailableLocalTimeType`.
     /// `OutOfRange` tells that the instant has no leap time, or lies in a year in which the rule has no answer.
+    #[inline(always)]
     pub fn find_local_time_type(&self, unix_time: i64) -> Result<&'a LocalTimeType, TzError>
         ensures ok { IfOk result (λ t. IsClock (zone_of self.now) unix_time t.now) }
         ensures err { IfErr result (IsLookupFault (zone_of self.now) unix_time) }

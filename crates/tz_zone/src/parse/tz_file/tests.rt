@@ -1,8 +1,8 @@
 //! TZif files: vectors and the zones that they denote, and bytes that are none.
 
 use crate::timezone::{
-    AlternateTime, LeapSecond, LocalTimeType, MonthWeekDay, RuleDay, TimeZone, TimeZoneRef,
-    Transition, TransitionRule,
+    AlternateTime, Julian0WithLeap, Julian1WithoutLeap, LeapSecond, LocalTimeType, MonthWeekDay,
+    RuleDay, TimeZone, TimeZoneRef, Transition, TransitionRule,
 };
 use std::alloc::{AllocError, Allocator, Global};
 use std::process::Abort;
@@ -16,10 +16,12 @@ use tz_base::refusing::Refusing;
 #[derive(Debug, Drop, PartialEq, Eq)]
 enum Fault {
     File(TzFileError),
+    Number,
     Text(TzStringError),
     Type(LocalTimeTypeError),
     Zone(TimeZoneError),
     Memory,
+    NoType,
     Other,
 }
 
@@ -27,10 +29,12 @@ enum Fault {
 fn named(error: TzError) -> Fault {
     match error {
         TzError::TzFile(part) => Fault::File(part),
+        TzError::TzString(TzStringError::ParseInt(_)) => Fault::Number,
         TzError::TzString(part) => Fault::Text(part),
         TzError::LocalTimeType(part) => Fault::Type(part),
         TzError::TimeZone(part) => Fault::Zone(part),
         TzError::Memory(_) => Fault::Memory,
+        TzError::NoAvailableLocalTimeType => Fault::NoType,
         _ => Fault::Other,
     }
 }
@@ -140,6 +144,11 @@ fn leap_seconds_are_read(rt: HostRuntime) -> Result<(), Fail> {
     let bytes = utc_v1_leap(rt.alloc())?;
     assert_eq!(rt; bytes.len(), 272);
     let zone = TimeZone::from_tz_data(rt.alloc(), &bytes)?;
+    assert_eq!(rt;
+        zone.as_ref().local_time_types(),
+        [LocalTimeType::new(0, false, Some(b"UTC"))?].as_slice()
+    );
+    assert!(rt; zone.as_ref().extra_rule().is_none());
     let leap_seconds = zone.as_ref().leap_seconds();
     assert_eq!(rt; leap_seconds.len(), 27);
     let mut correction = 0i32;
@@ -445,7 +454,7 @@ fn cut_later_files_are_refused(rt: HostRuntime) -> Result<(), Fail> {
     assert_eq!(rt; zone.find_local_time_type(2_145_916_799)?.ut_offset(), 7200);
     assert_eq!(rt;
         zone.find_local_time_type(2_145_916_800).err().map(named),
-        Some(Fault::Other)
+        Some(Fault::NoType)
     );
     Ok(())
 }
@@ -454,7 +463,9 @@ fn cut_later_files_are_refused(rt: HostRuntime) -> Result<(), Fail> {
 fn altered_later_files_are_refused(rt: HostRuntime) -> Result<(), Fail> {
     let bytes = jerusalem_v3(rt.alloc())?;
     for (place, byte, expected) in [
+        (2, b'j', Fault::File(TzFileError::InvalidMagicNumber)),
         (4, 0, Fault::File(TzFileError::RemainingDataV1)),
+        (56, b'j', Fault::File(TzFileError::InvalidMagicNumber)),
         (58, b'2', Fault::Text(TzStringError::InvalidDayTimeHour)),
         (58, 0, Fault::Text(TzStringError::InvalidDayTimeHour)),
         (58, b'4', Fault::File(TzFileError::UnsupportedTzFileVersion)),
@@ -515,24 +526,48 @@ fn footers_are_refused(rt: HostRuntime) -> Result<(), Fail> {
     Ok(())
 }
 
+/// The footer's text is refused so where the second header has version 2, and is the rule where it has version 3.
+fn expect_extended(
+    rt: &impl Abort,
+    alloc: Global,
+    footer: &[u8],
+    fault: Fault,
+    rule: AlternateTime,
+) -> Result<(), Fail> {
+    let bytes = without_transitions(alloc, b'2', footer)?;
+    assert_eq!(rt; fault_of(alloc, &bytes), Some(fault));
+    let bytes = without_transitions(alloc, b'3', footer)?;
+    let zone = TimeZone::from_tz_data(alloc, &bytes)?;
+    assert_eq!(rt;
+        *zone.as_ref().extra_rule(),
+        Some(TransitionRule::Alternate(rule))
+    );
+    Ok(())
+}
+
 #[test]
 fn the_second_header_extends_texts(rt: HostRuntime) -> Result<(), Fail> {
-    for footer in [
-        b"\n<-03>3<-02>,M3.5.0/-2,M10.5.0/-1\n".as_slice(),
-        b"\nEST5EDT,0/0,J365/25\n",
-    ] {
-        let bytes = without_transitions(rt.alloc(), b'3', footer)?;
-        assert_eq!(rt; fault_of(rt.alloc(), &bytes), None);
-        let bytes = without_transitions(rt.alloc(), b'2', footer)?;
-        let refused = fault_of(rt.alloc(), &bytes);
-        assert!(rt;
-            matches!(
-                refused,
-                Some(Fault::Text(TzStringError::ParseInt(_) | TzStringError::InvalidDayTimeHour))
-            )
-        );
-    }
-    Ok(())
+    let signed = AlternateTime::new(
+        LocalTimeType::new(-10_800, false, Some(b"-03"))?,
+        LocalTimeType::new(-7200, true, Some(b"-02"))?,
+        RuleDay::MonthWeekDay(MonthWeekDay::new(3, 5, 0)?),
+        -7200,
+        RuleDay::MonthWeekDay(MonthWeekDay::new(10, 5, 0)?),
+        -3600,
+    )?;
+    let footer = b"\n<-03>3<-02>,M3.5.0/-2,M10.5.0/-1\n";
+    expect_extended(&rt, rt.alloc(), footer, Fault::Number, signed)?;
+    let all_year = AlternateTime::new(
+        LocalTimeType::new(-18_000, false, Some(b"EST"))?,
+        LocalTimeType::new(-14_400, true, Some(b"EDT"))?,
+        RuleDay::Julian0WithLeap(Julian0WithLeap::new(0)?),
+        0,
+        RuleDay::Julian1WithoutLeap(Julian1WithoutLeap::new(365)?),
+        90_000,
+    )?;
+    let footer = b"\nEST5EDT,0/0,J365/25\n";
+    let is_late = Fault::Text(TzStringError::InvalidDayTimeHour);
+    expect_extended(&rt, rt.alloc(), footer, is_late, all_year)
 }
 
 #[test]
@@ -602,3 +637,5 @@ fn leap_seconds_of_later_files_are_read(rt: HostRuntime) -> Result<(), Fail> {
     assert!(rt; zone.as_ref().extra_rule().is_some());
     Ok(())
 }
+
+mod layouts;

@@ -1,8 +1,12 @@
 //! The texts in the footers of the time zone database's files, as of 2025, and the rules that they denote.
 
 use super::parse_posix_tz;
+use crate::timezone::TimeZone;
+use anyhow::anyhow;
+use std::alloc::Global;
 use std::process::Abort;
 use std::test::Fail;
+use tz_base::error::{Error, ReadFault};
 use tz_rule::timezone::{AlternateTime, LocalTimeType, MonthWeekDay, RuleDay, TransitionRule};
 
 /// A name and an offset from UTC in seconds.
@@ -363,4 +367,44 @@ fn alternate_footers_are_read(rt: HostRuntime) -> Result<(), Fail> {
         assert!(rt; parse_posix_tz(text.as_bytes(), false).is_err(), "{text}");
     }
     Ok(())
+}
+
+/// What the settings answer for the text where no file can be read.
+fn zone_of(alloc: Global, text: &str) -> Result<TimeZone, Error> {
+    let no_file = |_: &str| Err(ReadFault::Failed(anyhow!("no file")));
+    TimeZone::from_posix_tz(alloc, no_file, text)
+}
+
+/// The settings read the text as the footer of a file of version 2.
+fn expect_same_rule(rt: &impl Abort, alloc: Global, text: &str) -> Result<(), Fail> {
+    let rule = Some(parse_posix_tz(text.as_bytes(), false)?);
+    assert_eq!(rt;
+        *zone_of(alloc, text)?.as_ref().extra_rule(),
+        rule,
+        "{text}"
+    );
+    Ok(())
+}
+
+#[test]
+fn settings_read_fixed_footers(rt: HostRuntime) -> Result<(), Fail> {
+    for (text, _) in FIXED {
+        expect_same_rule(&rt, rt.alloc(), text)?;
+    }
+    Ok(())
+}
+
+#[test]
+fn settings_read_alternate_footers(rt: HostRuntime) -> Result<(), Fail> {
+    for (text, _, _, _, _) in ALTERNATE {
+        expect_same_rule(&rt, rt.alloc(), text)?;
+    }
+    Ok(())
+}
+
+#[test]
+fn settings_refuse_extended_footers(rt: HostRuntime) {
+    for (text, _, _, _, _) in EXTENDED {
+        assert!(rt; zone_of(rt.alloc(), text).is_err(), "{text}");
+    }
 }

@@ -3,12 +3,13 @@
 use super::{DEFAULT_DIRECTORIES, TimeZoneSettings};
 use crate::timezone::{LocalTimeType, TimeZone, TransitionRule};
 use anyhow::anyhow;
-use std::alloc::{AllocError, Global};
+use std::alloc::{AllocError, Allocator, Global};
 use std::cell::Cell;
 use std::process::Abort;
 use std::test::Fail;
 use tz_base::error::parse::{ParseDataError, TzFileError, TzStringError};
 use tz_base::error::{Error, ReadFault, TzError};
+use tz_base::refusing::Refusing;
 
 /// A file of version 1 with one type, UTC.
 const UTC_V1: &[u8] =
@@ -305,4 +306,215 @@ fn the_reader_s_fault_is_handed_on(rt: HostRuntime) -> Result<(), Fail> {
         assert_eq!(rt; printed.as_str(), fault, "{text}");
     }
     Ok(())
+}
+
+#[test]
+fn no_path_is_asked_once_one_has_answered(rt: HostRuntime) {
+    let alloc = rt.alloc();
+    let absolute = [("/x", Reply::NoMemory)];
+    expect_fault(&rt, alloc, &absolute, "/x", Fault::Memory, 1);
+    expect_fault(&rt, alloc, &absolute, ":/x", Fault::Memory, 1);
+    let third = [
+        ("/a/x", Reply::NoFile),
+        ("/b/x", Reply::NoFile),
+        ("/c/x", Reply::NoMemory),
+    ];
+    expect_fault(&rt, alloc, &third, "x", Fault::Memory, 123);
+    expect_fault(&rt, alloc, &third, ":x", Fault::Memory, 123);
+    let is_cut = Fault::File(TzFileError::ParseData(ParseDataError::UnexpectedEof));
+    let first = [("/a/HST10", Reply::NoZone), ("/b/HST10", Reply::Utc)];
+    expect_fault(&rt, alloc, &first, "HST10", is_cut, 1);
+}
+
+/// Only the bare name is that of the machine's local time, and a colon alone is a name without bytes.
+#[test]
+fn other_names_are_looked_for(rt: HostRuntime) {
+    let alloc = rt.alloc();
+    let local = [
+        ("/a/localtime", Reply::NoFile),
+        ("/b/localtime", Reply::NoFile),
+        ("/c/localtime", Reply::NoFile),
+        ("/etc/localtime", Reply::Utc),
+    ];
+    expect_fault(&rt, alloc, &local, ":localtime", Fault::Io, 123);
+    let spaced = [
+        ("/a/localtime ", Reply::NoFile),
+        ("/b/localtime ", Reply::NoFile),
+        ("/c/localtime ", Reply::NoFile),
+        ("/etc/localtime", Reply::Utc),
+    ];
+    expect_fault(&rt, alloc, &spaced, "localtime ", Fault::Number, 123);
+    let nameless = [
+        ("/a/", Reply::NoFile),
+        ("/b/", Reply::NoFile),
+        ("/c/", Reply::NoFile),
+    ];
+    expect_fault(&rt, alloc, &nameless, ":", Fault::Io, 123);
+}
+
+#[test]
+fn without_directories_only_paths_are_asked(rt: HostRuntime) -> Result<(), Fail> {
+    let alloc = rt.alloc();
+    let files = Files {
+        alloc,
+        replies: &[("/x", Reply::Utc)],
+        asked: Cell::new(0),
+    };
+    let settings = TimeZoneSettings::new(&[], |path: &str| files.read(path));
+    let zone = settings.parse_posix_tz(alloc, "HST10")?;
+    assert_eq!(rt; zone.find_local_time_type(0)?.ut_offset(), -36_000);
+    assert_eq!(rt;
+        settings.parse_posix_tz(alloc, ":x").err().map(named),
+        Some(Fault::Io)
+    );
+    assert_eq!(rt; files.asked.get(), 0);
+    let zone = settings.parse_posix_tz(alloc, "/x")?;
+    assert_eq!(rt; zone.as_ref().local_time_types(), [utc()?].as_slice());
+    assert_eq!(rt; files.asked.get(), 1);
+    Ok(())
+}
+
+/// The usual directories answer so, and these were asked for.
+fn expect_usual_fault(
+    rt: &impl Abort,
+    alloc: Global,
+    replies: &[(&str, Reply)],
+    text: &str,
+    fault: Option<Fault>,
+    asked: u64,
+) {
+    let files = Files {
+        alloc,
+        replies,
+        asked: Cell::new(0),
+    };
+    let answer = TimeZone::from_posix_tz(alloc, |path: &str| files.read(path), text);
+    assert_eq!(rt; answer.err().map(named), fault, "{text}");
+    assert_eq!(rt; files.asked.get(), asked, "{text}");
+}
+
+#[test]
+fn the_usual_directories_are_asked_no_further(rt: HostRuntime) {
+    let alloc = rt.alloc();
+    let second = [
+        ("/usr/share/zoneinfo/Z/x", Reply::NoFile),
+        ("/share/zoneinfo/Z/x", Reply::Utc),
+        ("/etc/zoneinfo/Z/x", Reply::NoMemory),
+    ];
+    expect_usual_fault(&rt, alloc, &second, "Z/x", None, 12);
+    expect_usual_fault(&rt, alloc, &second, ":Z/x", None, 12);
+    let memory = [
+        ("/usr/share/zoneinfo/Z/x", Reply::NoFile),
+        ("/share/zoneinfo/Z/x", Reply::NoMemory),
+        ("/etc/zoneinfo/Z/x", Reply::Utc),
+    ];
+    expect_usual_fault(&rt, alloc, &memory, "Z/x", Some(Fault::Memory), 12);
+    expect_usual_fault(&rt, alloc, &memory, ":Z/x", Some(Fault::Memory), 12);
+    let local = [("/etc/localtime", Reply::NoMemory)];
+    expect_usual_fault(&rt, alloc, &local, "localtime", Some(Fault::Memory), 1);
+}
+
+/// The local time zone is refused so, after its file alone was asked for.
+fn expect_local_fault(rt: &impl Abort, alloc: Global, reply: Reply, fault: Fault) {
+    let files = Files {
+        alloc,
+        replies: &[("/etc/localtime", reply)],
+        asked: Cell::new(0),
+    };
+    let answer = TimeZone::local(alloc, |path: &str| files.read(path));
+    assert_eq!(rt; answer.err().map(named), Some(fault));
+    assert_eq!(rt; files.asked.get(), 1);
+}
+
+#[test]
+fn local_time_is_refused(rt: HostRuntime) {
+    let alloc = rt.alloc();
+    let is_cut = Fault::File(TzFileError::ParseData(ParseDataError::UnexpectedEof));
+    expect_local_fault(&rt, alloc, Reply::NoZone, is_cut);
+    expect_local_fault(&rt, alloc, Reply::NoMemory, Fault::Memory);
+    expect_local_fault(&rt, alloc, Reply::NoFile, Fault::Io);
+}
+
+/// Calls whose growths are refused in turn.
+#[derive(Clone, Copy, Debug)]
+enum Call {
+    Local,
+    Text,
+    SecondDirectory,
+    BadText,
+    MissingFile,
+}
+
+impl Call {
+    /// The answer, with the memory of this heap.
+    fn answer<A: Allocator + Copy>(self, alloc: Global, heap: A) -> Result<TimeZone<A>, Error> {
+        let files = Files {
+            alloc,
+            replies: &[("/etc/localtime", Reply::Utc), ("/b/Z/x", Reply::Utc)],
+            asked: Cell::new(0),
+        };
+        let settings = TimeZoneSettings::new(&["/a", "/b"], |path: &str| files.read(path));
+        match self {
+            Call::Local => settings.parse_local(heap),
+            Call::Text => TimeZone::from_posix_tz(
+                heap,
+                |path: &str| files.read(path),
+                "CET-1CEST,M3.5.0,M10.5.0/3",
+            ),
+            Call::SecondDirectory => settings.parse_posix_tz(heap, "Z/x"),
+            Call::BadText => settings.parse_posix_tz(heap, "EET-2EEST"),
+            Call::MissingFile => settings.parse_posix_tz(heap, ":Z/y"),
+        }
+    }
+}
+
+/// Each growth is refused in turn: the answer is want of memory or the zone, and the zone once none is refused.
+fn expect_zone(rt: &impl Abort, alloc: Global, call: Call) -> Result<(), Fail> {
+    let ample = call.answer(alloc, alloc)?;
+    let mut refusals = 0u64;
+    for left in 0..20u64 {
+        let heap = Refusing::new(alloc, left);
+        match call.answer(alloc, &heap) {
+            Ok(zone) => assert!(rt; zone.as_ref() == ample.as_ref(), "{call:?} after {left}"),
+            Err(error) => {
+                assert_eq!(rt; named(error), Fault::Memory, "{call:?} after {left}");
+                assert!(rt; heap.refused() > 0, "{call:?} after {left}");
+                refusals = refusals.saturating_add(1);
+            }
+        }
+        assert_eq!(rt; heap.held(), 0, "{call:?} after {left}");
+    }
+    assert!(rt; refusals > 0 && refusals < 20, "{call:?}");
+    Ok(())
+}
+
+/// Each growth is refused in turn: the answer is want of memory or the fault, and the fault once none is refused.
+fn expect_refusal(rt: &impl Abort, alloc: Global, call: Call, fault: &Fault) {
+    let mut refusals = 0u64;
+    for left in 0..20u64 {
+        let heap = Refusing::new(alloc, left);
+        let found = call.answer(alloc, &heap).err().map(named);
+        if found == Some(Fault::Memory) {
+            assert!(rt; heap.refused() > 0, "{call:?} after {left}");
+            refusals = refusals.saturating_add(1);
+        } else {
+            assert_eq!(rt; found.as_ref(), Some(fault), "{call:?} after {left}");
+        }
+        assert_eq!(rt; heap.held(), 0, "{call:?} after {left}");
+    }
+    assert!(rt; refusals > 0 && refusals < 20, "{call:?}");
+}
+
+#[test]
+fn zones_with_each_growth_refused(rt: HostRuntime) -> Result<(), Fail> {
+    expect_zone(&rt, rt.alloc(), Call::Local)?;
+    expect_zone(&rt, rt.alloc(), Call::Text)?;
+    expect_zone(&rt, rt.alloc(), Call::SecondDirectory)
+}
+
+#[test]
+fn refusals_with_each_growth_refused(rt: HostRuntime) {
+    let no_rules = Fault::Text(TzStringError::MissingDstStartEndRules);
+    expect_refusal(&rt, rt.alloc(), Call::BadText, &no_rules);
+    expect_refusal(&rt, rt.alloc(), Call::MissingFile, &Fault::Io);
 }

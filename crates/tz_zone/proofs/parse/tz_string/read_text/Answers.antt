@@ -1,4 +1,4 @@
-use Rattle.std.proofs.Common.{refl, ap, ◌∙◌, subst, true, false, inl, inr, rules}
+use Rattle.std.proofs.Common.{refl, ap, ◌∙◌, subst, true, false, inl, inr}
 use Rattle.std.specs.Prelude.{FitsSigned}
 use Rattle.std.specs.Int.{w32}
 use Rattle.tz_base.specs.declared.error.TzError.TheVariants.{TzString, LocalTimeType, TransitionRule}

@@ -1,0 +1,327 @@
+//! Files as compilers of time zones lay them out: fat ones, slim ones, and ones with leap seconds.
+
+use super::*;
+
+/// What a unit holds: transitions with their types, types with the places of their names, names, leap seconds, and both lists of
+/// indicators, which are alike.
+#[derive(Clone, Copy)]
+struct Unit<'a> {
+    transitions: &'a [(i64, u8)],
+    types: &'a [(i32, u8, u8)],
+    names: &'a [u8],
+    leap_seconds: &'a [(i64, u32)],
+    indicators: &'a [u8],
+}
+
+/// Central Europe up to 1998, after a first type of local mean time.
+const FAT: Unit<'static> = Unit {
+    transitions: &[
+        (-1_883_091_208, 1),
+        (828_234_000, 2),
+        (846_378_000, 1),
+        (859_683_600, 2),
+        (877_827_600, 1),
+        (891_133_200, 2),
+        (909_277_200, 1),
+    ],
+    types: &[(3208, 0, 0), (3600, 0, 4), (7200, 1, 8)],
+    names: b"LMT\0CET\0CEST\0",
+    leap_seconds: &[],
+    indicators: &[0, 1, 1],
+};
+
+/// The first block of a slim file: one type and one name byte, since there have to be some.
+const NOTHING: Unit<'static> = Unit {
+    transitions: &[],
+    types: &[(0, 0, 0)],
+    names: b"\0",
+    leap_seconds: &[],
+    indicators: &[],
+};
+
+/// The east of the United States, with the transitions alone that the rule does not have.
+const SLIM: Unit<'static> = Unit {
+    transitions: &[
+        (-2_717_650_800, 2),
+        (1_143_961_200, 1),
+        (1_162_101_600, 2),
+        (1_173_596_400, 1),
+    ],
+    types: &[(-17_762, 0, 0), (-14_400, 1, 4), (-18_000, 0, 8)],
+    names: b"LMT\0EDT\0EST\0",
+    leap_seconds: &[],
+    indicators: &[],
+};
+
+/// Great Britain from 1972 to 1974, with the leap seconds of these years and times that count them.
+const LEAPING: Unit<'static> = Unit {
+    transitions: &[
+        (69_818_400, 1),
+        (89_172_001, 0),
+        (101_268_002, 1),
+        (120_621_602, 0),
+        (132_717_603, 1),
+    ],
+    types: &[(0, 0, 0), (3600, 1, 4)],
+    names: b"GMT\0BST\0",
+    leap_seconds: &[(78_796_800, 1), (94_694_401, 2), (126_230_402, 3)],
+    indicators: &[],
+};
+
+/// Writes a time in eight bytes, or else in four.
+fn push_time(bytes: &mut Vec<u8>, is_long: bool, time: i64) -> Result<(), Fail> {
+    if is_long {
+        bytes.extend_from_slice(&time.to_be_bytes())?;
+    } else {
+        bytes.extend_from_slice(&i32::try_from(time)?.to_be_bytes())?;
+    }
+    Ok(())
+}
+
+/// Writes a block with times of eight bytes, or else of four.
+fn push_block(bytes: &mut Vec<u8>, is_long: bool, unit: &Unit<'_>) -> Result<(), Fail> {
+    for (time, _) in unit.transitions {
+        push_time(bytes, is_long, *time)?;
+    }
+    for (_, index) in unit.transitions {
+        bytes.push(*index)?;
+    }
+    for (ut_offset, is_dst, name) in unit.types {
+        bytes.extend_from_slice(&ut_offset.to_be_bytes())?;
+        bytes.extend_from_slice(&[*is_dst, *name])?;
+    }
+    bytes.extend_from_slice(unit.names)?;
+    for (time, correction) in unit.leap_seconds {
+        push_time(bytes, is_long, *time)?;
+        bytes.extend_from_slice(&correction.to_be_bytes())?;
+    }
+    bytes.extend_from_slice(unit.indicators)?;
+    bytes.extend_from_slice(unit.indicators)?;
+    Ok(())
+}
+
+/// Writes a header of version 2 and a block.
+fn push_unit(bytes: &mut Vec<u8>, is_long: bool, unit: &Unit<'_>) -> Result<(), Fail> {
+    let counts = [
+        u32::try_from(unit.indicators.len())?,
+        u32::try_from(unit.indicators.len())?,
+        u32::try_from(unit.leap_seconds.len())?,
+        u32::try_from(unit.transitions.len())?,
+        u32::try_from(unit.types.len())?,
+        u32::try_from(unit.names.len())?,
+    ];
+    push_header(bytes, b'2', &counts)?;
+    push_block(bytes, is_long, unit)
+}
+
+/// A file of version 2.
+fn file(
+    alloc: Global,
+    first: &Unit<'_>,
+    second: &Unit<'_>,
+    footer: &[u8],
+) -> Result<Vec<u8>, Fail> {
+    let mut bytes = Vec::new(alloc);
+    push_unit(&mut bytes, false, first)?;
+    push_unit(&mut bytes, true, second)?;
+    bytes.extend_from_slice(footer)?;
+    Ok(bytes)
+}
+
+/// The Sunday of a week of a month, or the last one for week 5.
+fn sunday(month: u8, week: u8) -> Result<RuleDay, Fail> {
+    Ok(RuleDay::MonthWeekDay(MonthWeekDay::new(month, week, 0)?))
+}
+
+/// The zone's clock shows these offsets from UTC at these instants.
+fn expect_offsets(rt: &impl Abort, zone: &TimeZone, offsets: &[(i64, i32)]) -> Result<(), Fail> {
+    for (unix_time, ut_offset) in offsets {
+        assert_eq!(rt;
+            zone.find_local_time_type(*unix_time)?.ut_offset(),
+            *ut_offset,
+            "at {unix_time}"
+        );
+    }
+    Ok(())
+}
+
+/// The zone of the fat file, with a rule or none.
+fn fat_zone(alloc: Global, extra_rule: Option<TransitionRule>) -> Result<TimeZone, Fail> {
+    let transitions = [
+        Transition::new(-1_883_091_208, 1),
+        Transition::new(828_234_000, 2),
+        Transition::new(846_378_000, 1),
+        Transition::new(859_683_600, 2),
+        Transition::new(877_827_600, 1),
+        Transition::new(891_133_200, 2),
+        Transition::new(909_277_200, 1),
+    ];
+    let types = [
+        LocalTimeType::new(3208, false, Some(b"LMT"))?,
+        LocalTimeType::new(3600, false, Some(b"CET"))?,
+        LocalTimeType::new(7200, true, Some(b"CEST"))?,
+    ];
+    Ok(TimeZone::new(
+        Vec::from_array(alloc, transitions)?,
+        Vec::from_array(alloc, types)?,
+        Vec::new(alloc),
+        extra_rule,
+    )?)
+}
+
+/// The rule of the fat file.
+fn fat_rule() -> Result<TransitionRule, Fail> {
+    Ok(TransitionRule::Alternate(AlternateTime::new(
+        LocalTimeType::new(3600, false, Some(b"CET"))?,
+        LocalTimeType::new(7200, true, Some(b"CEST"))?,
+        sunday(3, 5)?,
+        7200,
+        sunday(10, 5)?,
+        10_800,
+    )?))
+}
+
+#[test]
+fn a_fat_file_is_read(rt: HostRuntime) -> Result<(), Fail> {
+    let bytes = file(rt.alloc(), &FAT, &FAT, b"\nCET-1CEST,M3.5.0,M10.5.0/3\n")?;
+    assert_eq!(rt; bytes.len(), 288);
+    let zone = TimeZone::from_tz_data(rt.alloc(), &bytes)?;
+    assert!(rt; zone == fat_zone(rt.alloc(), Some(fat_rule()?))?);
+    expect_offsets(
+        &rt,
+        &zone,
+        &[
+            (-1_883_091_209, 3208),
+            (-1_883_091_208, 3600),
+            (846_377_999, 7200),
+            (846_378_000, 3600),
+            (909_277_199, 7200),
+            (909_277_200, 3600),
+            (1_711_846_799, 3600),
+            (1_711_846_800, 7200),
+        ],
+    )
+}
+
+/// The first block of a fat file is a file of version 1.
+#[test]
+fn times_of_four_bytes_are_read(rt: HostRuntime) -> Result<(), Fail> {
+    let mut bytes = Vec::new(rt.alloc());
+    push_unit(&mut bytes, false, &FAT)?;
+    assert_eq!(rt; bytes.len(), 116);
+    let bytes = altered(rt.alloc(), &bytes, 4, 0)?;
+    let zone = TimeZone::from_tz_data(rt.alloc(), &bytes)?;
+    assert!(rt; zone == fat_zone(rt.alloc(), None)?);
+    expect_offsets(&rt, &zone, &[(-1_883_091_209, 3208), (909_277_199, 7200)])?;
+    let after = zone.find_local_time_type(909_277_200).err().map(named);
+    assert_eq!(rt; after, Some(Fault::NoType));
+    Ok(())
+}
+
+/// The zone of the slim file.
+fn slim_zone(alloc: Global) -> Result<TimeZone, Fail> {
+    let transitions = [
+        Transition::new(-2_717_650_800, 2),
+        Transition::new(1_143_961_200, 1),
+        Transition::new(1_162_101_600, 2),
+        Transition::new(1_173_596_400, 1),
+    ];
+    let daylight = LocalTimeType::new(-14_400, true, Some(b"EDT"))?;
+    let standard = LocalTimeType::new(-18_000, false, Some(b"EST"))?;
+    let types = [
+        LocalTimeType::new(-17_762, false, Some(b"LMT"))?,
+        daylight,
+        standard,
+    ];
+    let rule = AlternateTime::new(
+        standard,
+        daylight,
+        sunday(3, 2)?,
+        7200,
+        sunday(11, 1)?,
+        7200,
+    )?;
+    Ok(TimeZone::new(
+        Vec::from_array(alloc, transitions)?,
+        Vec::from_array(alloc, types)?,
+        Vec::new(alloc),
+        Some(TransitionRule::Alternate(rule)),
+    )?)
+}
+
+#[test]
+fn a_slim_file_is_read(rt: HostRuntime) -> Result<(), Fail> {
+    let bytes = file(rt.alloc(), &NOTHING, &SLIM, b"\nEST5EDT,M3.2.0,M11.1.0\n")?;
+    assert_eq!(rt; bytes.len(), 185);
+    let zone = TimeZone::from_tz_data(rt.alloc(), &bytes)?;
+    assert!(rt; zone == slim_zone(rt.alloc())?);
+    expect_offsets(
+        &rt,
+        &zone,
+        &[
+            (-2_717_650_801, -17_762),
+            (-2_717_650_800, -18_000),
+            (1_173_596_399, -18_000),
+            (1_173_596_400, -14_400),
+            (1_194_155_999, -14_400),
+            (1_194_156_000, -18_000),
+        ],
+    )
+}
+
+/// The zone of the file with leap seconds.
+fn leaping_zone(alloc: Global) -> Result<TimeZone, Fail> {
+    let transitions = [
+        Transition::new(69_818_400, 1),
+        Transition::new(89_172_001, 0),
+        Transition::new(101_268_002, 1),
+        Transition::new(120_621_602, 0),
+        Transition::new(132_717_603, 1),
+    ];
+    let standard = LocalTimeType::new(0, false, Some(b"GMT"))?;
+    let daylight = LocalTimeType::new(3600, true, Some(b"BST"))?;
+    let leap_seconds = [
+        LeapSecond::new(78_796_800, 1),
+        LeapSecond::new(94_694_401, 2),
+        LeapSecond::new(126_230_402, 3),
+    ];
+    let rule = AlternateTime::new(
+        standard,
+        daylight,
+        sunday(3, 3)?,
+        7200,
+        sunday(10, 5)?,
+        10_800,
+    )?;
+    Ok(TimeZone::new(
+        Vec::from_array(alloc, transitions)?,
+        Vec::from_array(alloc, [standard, daylight])?,
+        Vec::from_array(alloc, leap_seconds)?,
+        Some(TransitionRule::Alternate(rule)),
+    )?)
+}
+
+#[test]
+fn a_file_with_leap_seconds_is_read(rt: HostRuntime) -> Result<(), Fail> {
+    let footer = b"\nGMT0BST,M3.3.0/2,M10.5.0/3\n";
+    let bytes = file(rt.alloc(), &LEAPING, &LEAPING, footer)?;
+    let zone = TimeZone::from_tz_data(rt.alloc(), &bytes)?;
+    assert!(rt; zone == leaping_zone(rt.alloc())?);
+    // The transitions are at the full hour of UTC, without the leap seconds that their times count.
+    expect_offsets(
+        &rt,
+        &zone,
+        &[
+            (69_818_399, 0),
+            (69_818_400, 3600),
+            (89_171_999, 3600),
+            (89_172_000, 0),
+            (101_267_999, 0),
+            (101_268_000, 3600),
+            (132_717_599, 0),
+            (132_717_600, 3600),
+            (152_071_199, 3600),
+            (152_071_200, 0),
+        ],
+    )
+}

@@ -1,0 +1,78 @@
+//! The reader of the machine's files.
+
+ghost use Rattle.std.specs.Prelude.{◌≡◌, ◌++◌, IfOk, IfErr, alloc_error};
+ghost use Rattle.std.specs.Io.{ReadsAtMost};
+ghost use Rattle.std.specs.Io.KnownBytes.{ReadConsumes, Consumes, IsAtEnd};
+ghost use Rattle.tz_base.specs.declared.error.ReadFault.TheVariants.{Memory};
+ghost use Rattle.tz_zone.specs.File.{IsFailed, IsReadOut};
+
+use anyhow::anyhow;
+use std::alloc::{Allocator, Global};
+use std::fs::File;
+use std::io::Read;
+use std::rt::Files;
+use tz_base::error::ReadFault;
+
+/// How many bytes are asked for at once. Files of time zones are seldom longer.
+const PIECE: usize = 4096;
+
+/// Reads a piece into the front of the buffer.
+fn read_piece<I: Read>(input: &mut I, buffer: &mut [u8]) -> Result<usize, ReadFault>
+    ensures bound { ReadsAtMost result buffer.new }
+    ensures bytes { ReadConsumes (I.remaining input.old) (I.remaining input.new) result buffer.new }
+    ensures err { IfErr result IsFailed }
+{
+    match input.read(buffer) {
+        Ok(count) => Ok(count),
+        Err(error) => Err(ReadFault::Failed(anyhow::Error::from(error))),
+    }
+}
+
+/// Appends a piece.
+fn append<A: Allocator>(bytes: &mut Vec<u8, A>, piece: &[u8]) -> Result<(), ReadFault>
+    ensures ok { IfOk result (λ _. bytes.new.items ≡ bytes.old.items ++ piece.now) }
+    ensures err { IfErr result (λ e. e ≡ Memory alloc_error) }
+{
+    bytes.extend_from_slice(piece)?;
+    Ok(())
+}
+
+/// Reads the input to its end.
+fn read_to_end<A: Allocator, I: Read>(alloc: A, input: &mut I) -> Result<Vec<u8, A>, ReadFault>
+    ensures { IfOk result (λ bytes. Consumes (I.remaining input.old) (I.remaining input.new) bytes.items × IsAtEnd (I.remaining input.new)) }
+{
+    let mut bytes = Vec::new(alloc);
+    let mut buffer = [0; PIECE];
+    for _ in 0..u64::MAX {
+        let count = read_piece(input, &mut buffer)?;
+        if count == 0 {
+            return Ok(bytes);
+        }
+        append(&mut bytes, &buffer[..count])?;
+    }
+    Err(ReadFault::Failed(anyhow!("file has no end")))
+}
+
+/// Opens the file at the path.
+fn open<R: Files>(rt: &R, path: &str) -> Result<R::File, ReadFault>
+    ensures err { IfErr result IsFailed }
+{
+    match File::open(rt, path) {
+        Ok(file) => Ok(file),
+        Err(error) => Err(ReadFault::Failed(anyhow::Error::from(error))),
+    }
+}
+
+/// The bytes of the file at the path, read to its end.
+///
+/// A file that cannot be opened or read, such as a directory, is `Failed`; want of memory for its bytes is `Memory`. With the runtime
+/// handed in by a closure, this is a reader for [`TimeZoneSettings`](super::TimeZoneSettings).
+pub fn read_file<R: Files>(rt: &R, alloc: Global, path: &str) -> Result<Vec<u8>, ReadFault>
+    ensures { IfOk result (λ bytes. IsReadOut R.File.remaining bytes.items) }
+{
+    let mut file = open(rt, path)?;
+    read_to_end(alloc, &mut file)
+}
+
+#[cfg(test)]
+mod tests;

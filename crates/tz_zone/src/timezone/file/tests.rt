@@ -1,0 +1,123 @@
+//! The reader of files, over readers in memory that fail and over the machine's files.
+
+use super::*;
+use crate::timezone::{LocalTimeType, TimeZoneSettings};
+use std::test::Fail;
+use std::{env, fs, io, process};
+use tz_base::error::Error;
+use tz_base::refusing::Refusing;
+
+/// A reader over bytes, which gives ten of them at most at once and fails when it was called a number of times.
+#[derive(Drop)]
+struct Input<'a> {
+    rest: &'a [u8],
+    calls_left: u64,
+}
+
+impl Read for Input<'_> {
+    fn read(&mut self, buf: &mut [u8]) -> io::Result<usize> {
+        let Some(left) = self.calls_left.checked_sub(1) else {
+            return Err(io::Error::other("the disk is gone"));
+        };
+        self.calls_left = left;
+        let count = self.rest.len().min(buf.len()).min(10);
+        buf[..count].copy_from_slice(&self.rest[..count]);
+        self.rest = &self.rest[count..];
+        Ok(count)
+    }
+}
+
+/// What was read, or the name of the fault.
+fn named<A: Allocator>(alloc: Global, read: Result<Vec<u8, A>, ReadFault>) -> Result<String, Fail> {
+    Ok(match read {
+        Ok(bytes) => String::from_str(alloc, std::str::from_utf8(&bytes)?)?,
+        Err(ReadFault::Memory(_)) => String::from_str(alloc, "no memory")?,
+        Err(ReadFault::Failed(fault)) => format!(in alloc; "failed: {fault}")?,
+    })
+}
+
+#[test]
+fn a_reader_is_read_to_its_end_or_fails(rt: HostRuntime) -> Result<(), Fail> {
+    let alloc = rt.alloc();
+    let text = "three and twenty bytes.";
+    for (calls_left, wanted) in [
+        (0, "failed: the disk is gone"),
+        (1, "failed: the disk is gone"),
+        (3, "failed: the disk is gone"),
+        (4, text),
+    ] {
+        let mut input = Input {
+            rest: text.as_bytes(),
+            calls_left,
+        };
+        let read = named(alloc, read_to_end(alloc, &mut input))?;
+        assert_eq!(rt; read.as_str(), wanted, "{calls_left}");
+    }
+    Ok(())
+}
+
+#[test]
+fn each_growth_can_be_refused(rt: HostRuntime) -> Result<(), Fail> {
+    let alloc = rt.alloc();
+    let text = [b'a'; 500];
+    let mut refusals = 0u64;
+    for left in 0..30u64 {
+        let heap = Refusing::new(alloc, left);
+        let mut input = Input {
+            rest: &text,
+            calls_left: 100,
+        };
+        match read_to_end(&heap, &mut input) {
+            Ok(bytes) => assert_eq!(rt; bytes.as_slice(), text.as_slice()),
+            Err(fault) => {
+                assert!(rt; matches!(fault, ReadFault::Memory(_)), "{left}");
+                refusals = left + 1;
+            }
+        }
+        assert_eq!(rt;
+            (heap.refused(), heap.held()),
+            (u64::from(left < refusals), 0)
+        );
+    }
+    assert!(rt; (2..30).contains(&refusals));
+    Ok(())
+}
+
+#[test]
+fn a_file_of_the_machine_is_read_whole(rt: HostRuntime) -> Result<(), Fail> {
+    let alloc = rt.alloc();
+    let name = format!(in alloc; "tz-read-file-{}", process::id(rt.process()))?;
+    let path = env::temp_dir(&rt)?.join(alloc, name.as_str())?;
+    let mut bytes = Vec::new(alloc);
+    for i in 0..3 * PIECE + 1 {
+        bytes.push(u8::try_from(i % 251)?)?;
+    }
+    fs::write(&rt, path.as_str(), bytes.as_slice())?;
+    let read = read_file(&rt, alloc, path.as_str());
+    fs::remove_file(&rt, path.as_str())?;
+    assert_eq!(rt; read?, bytes);
+    Ok(())
+}
+
+#[test]
+fn a_directory_or_no_file_is_a_fault(rt: HostRuntime) -> Result<(), Fail> {
+    let alloc = rt.alloc();
+    for path in ["/", "/no/such/file", "", "/etc\0/localtime"] {
+        let read = read_file(&rt, alloc, path);
+        assert!(rt; matches!(read, Err(ReadFault::Failed(_))), "{path}");
+    }
+    assert!(rt; read_file(&rt, alloc, "/dev/null")?.is_empty());
+    Ok(())
+}
+
+#[test]
+fn the_settings_take_it(rt: HostRuntime) -> Result<(), Fail> {
+    let alloc = rt.alloc();
+    let settings = TimeZoneSettings::new(&["/no/such"], |path: &str| read_file(&rt, alloc, path));
+    let zone = settings.parse_posix_tz(alloc, "HST10")?;
+    let types = [LocalTimeType::new(-36_000, false, Some(b"HST"))?];
+    assert_eq!(rt; zone.as_ref().local_time_types(), types.as_slice());
+    let directory = settings.parse_posix_tz(alloc, ":/");
+    assert!(rt; matches!(directory, Err(Error::Io(_))));
+    Ok(())
+}
