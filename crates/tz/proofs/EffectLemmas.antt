@@ -1,11 +1,11 @@
 -- A leap time that has come at some instant has an effect.
-use Rattle.std.proofs.Common.{◌≡◌, ◌≢◌, ℕ, zero, suc, ◌+◌, ◌<◌, ◌≤◌, refl, sym, ap, arith, ℤ, pos, negsuc, ◌+ℤ◌, ◌≤ℤ◌, ◌<ℤ◌, List, length, Ok, Err}
-use Rattle.std.specs.Prelude.{slice_get, IfErr, IsOk}
+use Rattle.std.proofs.Common.{◌≢◌, ℕ, zero, suc, ◌<◌, refl, arith, ℤ, pos, negsuc, ◌+ℤ◌, ◌≤ℤ◌, ◌<ℤ◌, List, length, Ok, Err}
+use Rattle.std.specs.Prelude.{IfErr, IsOk}
 use Rattle.std.specs.declared.result.Result.{Result}
 use Rattle.std.proofs.lemmas.Int.{ints, by_lt_z}
 use Rattle.std.proofs.lemmas.Option.{slice_get_within}
 use Rattle.tz_zone.specs.Table.{Leap}
-use Rattle.tz_zone.specs.LeapTime.{IsInstant, correction_before, IsLeapTime, IsLeapTimeRefused, HasComeTo, IsEffect, IsEffectRefused}
+use Rattle.tz_zone.specs.LeapTime.{IsInstant, correction_before, IsLeapTime, HasComeTo, IsEffectRefused}
 use Rattle.tz_zone.specs.ValidZone.{AreLeapSeconds}
 use Rattle.tz_zone.proofs.LeapSteps.{time_bound, correction_bound}
 use Rattle.tz_zone.proofs.LeapLists.{time_at, time_at-is, AreSteps-from_leaps, IsReachedCount, IsReached-at, count_exists}

@@ -1,13 +1,12 @@
 -- Far from the ends of the years of 32 bits a search is never refused as out of range.
-use Rattle.std.proofs.Common.{◌≡◌, ◌≢◌, ℕ, ◌+◌, ◌*◌, ◌<◌, ◌≤◌, ◌⊎◌, inl, inr, sym, ◌∙◌, arith, ℤ, pos, negsuc, ◌+ℤ◌, ◌-ℤ◌, ◌*ℤ◌, ◌≤ℤ◌, ◌<ℤ◌}
+use Rattle.std.proofs.Common.{◌≡◌, ◌≢◌, ◌+◌, ◌*◌, inl, inr, sym, ◌∙◌, arith, ℤ, pos, negsuc, ◌+ℤ◌, ◌-ℤ◌, ◌≤ℤ◌}
 use Rattle.std.proofs.lemmas.Int.{ints}
 use mir.Syntax.{w32}
 use mir.Val.{SFits}
-use Rattle.tz_base.specs.Days.{first_day}
 use Rattle.std.specs.Prelude.{⊤, alloc_error}
 use Rattle.tz_base.specs.declared.error.datetime.DateTimeError.{DateTimeError}
 use Rattle.tz_base.specs.declared.error.datetime.DateTimeError.TheVariants.{InvalidMonth, InvalidMonthDay, InvalidHour, InvalidMinute, InvalidSecond, InvalidNanoseconds}
-use Rattle.tz_base.specs.Fields.{IsValid, IsFirstFault, IsReading, reading, day_of}
+use Rattle.tz_base.specs.Fields.{IsValid, IsFirstFault, reading}
 use Rattle.tz_base.specs.declared.calendar.Fields.{Fields}
 use Rattle.tz_base.specs.declared.error.TzError.{TzError}
 use Rattle.tz_base.specs.declared.error.TzError.TheVariants.{OutOfRange, Memory}
@@ -43,7 +42,7 @@ not_out_of_range takes_memory f far e (inr (valid, inl (is, takes))) out =
 not_out_of_range takes_memory f far e (inr (valid, inr (is, near))) out = far_from_ends f valid far near
 
 -- valid fields have no fault
-valid_without_fault : (f : Fields) → IsValid f → (fault : DateTimeError) → IsFirstFault f fault → ⊥
+pub valid_without_fault : (f : Fields) → IsValid f → (fault : DateTimeError) → IsFirstFault f fault → ⊥
 valid_without_fault f valid InvalidMonth first = first valid.in_range.month
 valid_without_fault f valid InvalidMonthDay (month, inl day) = day valid.in_range.month_day
 valid_without_fault f valid InvalidMonthDay (month, inr (range, past)) = absurd (omega (arith, valid.in_month, past))

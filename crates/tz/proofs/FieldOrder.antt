@@ -1,10 +1,10 @@
 -- The order of fields, one after the other, is the order of their totals where the seconds are below 60.
-use Rattle.std.proofs.Common.{◌≡◌, ℕ, ◌+◌, ◌*◌, ◌<◌, ◌⊎◌, inl, inr, sym, ap, arith, ◌<ℤ◌, ◌≤ℤ◌}
+use Rattle.std.proofs.Common.{◌≡◌, ℕ, ◌+◌, ◌*◌, ◌<◌, ◌⊎◌, inl, inr, sym, arith, ◌<ℤ◌}
 use Rattle.std.proofs.lemmas.Int.{ints}
 use Rattle.std.specs.Cmp.{int_cmp_is}
 use Rattle.std.specs.Ordering.{ordering_then, int_cmp, nat_cmp}
 use Rattle.std.specs.declared.cmp.Ordering.{Ordering}
-use Rattle.tz_base.specs.Days.{is_leap, day_number, IsEarlierDate}
+use Rattle.tz_base.specs.Days.{IsEarlierDate}
 use Rattle.tz_base.specs.Fields.{IsValid, day_of}
 use Rattle.tz_base.specs.declared.calendar.Fields.{Fields}
 use Rattle.tz_base.proofs.OrderLemmas.{day_number-mono, valid_day}

@@ -1,5 +1,5 @@
 -- The clock of a zone wherever so many transitions have come.
-use Rattle.std.proofs.Common.{◌≡◌, ◌≢◌, ℕ, zero, suc, ◌+◌, ◌-◌, ◌<◌, ◌≤◌, ◌⊎◌, ◌∙◌, inl, inr, refl, sym, ap, subst, arith, ℤ, pos, ◌+ℤ◌, ◌≤ℤ◌, ◌<ℤ◌, List, [], ◌∷◌, length, get_or, Option, Some, None}
+use Rattle.std.proofs.Common.{◌≡◌, ◌≢◌, ℕ, ◌-◌, ◌<◌, ◌⊎◌, ◌∙◌, inl, inr, refl, sym, ap, subst, arith, ℤ, pos, ◌≤ℤ◌, ◌<ℤ◌, List, [], ◌∷◌, length, get_or, Option, Some, None}
 use Rattle.std.specs.Prelude.{slice_get}
 use Rattle.std.proofs.lemmas.Int.{ints}
 use Rattle.std.proofs.lemmas.Bool.{cases_lt}
@@ -11,8 +11,7 @@ use Rattle.tz_rule.specs.declared.timezone.rule.TransitionRule.{TransitionRule}
 use Rattle.tz_rule.specs.declared.timezone.rule.TransitionRule.TheVariants.{Fixed, Alternate}
 use Rattle.tz_rule.specs.Alternate.{Alternate as AlternateParts}
 use Rattle.tz_zone.specs.Table.{Change, Zone}
-use Rattle.tz_zone.specs.LeapTime.{IsLeapTime}
-use Rattle.tz_zone.specs.Clock.{IsTypeAt, IsLast, IsTransitionType, IsTypeAfter, IsTypeWithout, IsTypeWith, IsClock, IsLookupFault}
+use Rattle.tz_zone.specs.Clock.{IsTypeAt, IsLast, IsTransitionType, IsTypeAfter, IsTypeWithout, IsClock, IsLookupFault}
 use Rattle.tz_zone.specs.ValidZone.{AreLeapSeconds}
 use Rattle.tz_zone.proofs.Clocks.{last_unique, some_from_last, type_before_first, type_of_last_reached, clock_before_last, clock_from_last, type_after_from_clock}
 use Rattle.tz_zone.proofs.LeapTimes.{leap_time_unique}

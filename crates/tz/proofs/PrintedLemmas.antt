@@ -1,5 +1,5 @@
 -- Digits two at a time.
-use Rattle.std.proofs.Common.{◌≡◌, ℕ, zero, suc, ◌+◌, ◌/◌, ◌%◌, ◌^◌, ◌<◌, ◌≤◌, List, [], ◌∷◌, ◌++◌, length, length-append, refl, ℤ, pos, negsuc, ◌≤ℤ◌, ◌<ℤ◌, ap, sym, ◌∙◌, arith, append_assoc, append-nil}
+use Rattle.std.proofs.Common.{◌≡◌, ℕ, zero, suc, ◌+◌, ◌/◌, ◌%◌, ◌^◌, ◌<◌, ◌≤◌, [], ◌∷◌, ◌++◌, length, length-append, refl, ℤ, pos, negsuc, ◌<ℤ◌, ap, sym, ◌∙◌, arith, append_assoc, append-nil}
 use Rattle.std.specs.Prelude.{unsigned_abs}
 use Rattle.std.specs.Fmt.{decimal}
 use Rattle.std.proofs.lemmas.Bool.Decides.{nat_tests}
@@ -68,6 +68,9 @@ pub ruleset length_of_digits = (length_one_digit, length_two_digits, length_pair
 
 pub ten_digits : (n : ℕ) → n < 2 ^ 32 → length (decimal n) ≤ 10
 ten_digits n below = length-decimal-le 10 n (omega arith) (omega arith) (omega arith)
+
+pub twenty_digits : (n : ℕ) → n < 2 ^ 64 → length (decimal n) ≤ 20
+twenty_digits n below = length-decimal-le 20 n (omega arith) (omega arith) (omega arith)
 
 -- an offset is printed by its sign
 pub offset_text-negative : (z : ℤ) → z <ℤ pos 0 → offset_text z ≡ 45 ∷ duration_text (unsigned_abs z)

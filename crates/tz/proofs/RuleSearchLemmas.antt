@@ -1,10 +1,10 @@
 -- The search past the seam at which a rule with two types begins.
-use Rattle.std.proofs.Common.{◌≡◌, ℕ, ◌+◌, ◌<◌, ◌≤◌, ◌⊎◌, inl, inr, refl, sym, ap, subst, ◌∙◌, arith, ℤ, pos, negsuc, ◌+ℤ◌, ◌-ℤ◌, ◌≤ℤ◌, ◌<ℤ◌, List, ◌++◌, length, Option, Some, None}
+use Rattle.std.proofs.Common.{◌≡◌, inl, inr, refl, sym, ap, subst, ◌∙◌, arith, ℤ, pos, negsuc, ◌+ℤ◌, ◌-ℤ◌, ◌≤ℤ◌, ◌<ℤ◌, List, ◌++◌, length, Option, Some, None}
 use Rattle.std.specs.List.{Contains}
 use Rattle.std.proofs.lemmas.Int.{ints, by_lt_z}
 use Rattle.std.proofs.lemmas.Option.{none-some}
 use Rattle.tz_base.specs.declared.calendar.Fields.{Fields}
-use Rattle.tz_base.specs.Fields.{IsValid, reading}
+use Rattle.tz_base.specs.Fields.{reading}
 use Rattle.tz_rule.specs.LocalType.{LocalType}
 use Rattle.tz_rule.specs.Alternate.{Alternate as AlternateParts, start_of, end_of, IsInRuleRange, AreRuleDays}
 use Rattle.tz_rule.specs.Rule.{IsRuleType}
@@ -13,9 +13,9 @@ use Rattle.tz_zone.specs.Table.{Zone}
 use Rattle.tz_zone.specs.Clock.{IsClock}
 use Rattle.tz_zone.specs.ValidZone.{AreLeapSeconds}
 use Rattle.tz.specs.Found.{Shows, PassesOver, IsFound}
-use Rattle.tz.specs.Walks.{HoldsAt, HoldsFrom, IsFrom, IsStep, IsWalk, IsWalked}
+use Rattle.tz.specs.Walks.{HoldsAt, HoldsFrom, IsStep}
 use Rattle.tz.specs.Reached.{IsWindowOf, IsInWindow, WindowClock}
-use Rattle.tz.specs.RuleSpans.{IsNearReading, IsAnswered, IsSpan, IsTurningAt, IsInView, RuleClock, IsOverFrom, IsAtSeam, IsPastSeam}
+use Rattle.tz.specs.RuleSpans.{IsNearReading, IsSpan, IsTurningAt, IsInView, RuleClock, IsOverFrom, IsAtSeam, IsPastSeam}
 use Rattle.tz.specs.declared.datetime.found.FoundDateTimeKind.{FoundDateTimeKind}
 use Rattle.tz.specs.declared.datetime.walk.Piece.{Piece}
 use Rattle.tz.specs.declared.datetime.walk.Walk.{Walk}

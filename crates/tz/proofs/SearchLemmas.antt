@@ -1,5 +1,5 @@
 -- A search in a window goes from one transition to the next, and finds all.
-use Rattle.std.proofs.Common.{◌≡◌, ◌≢◌, ℕ, zero, suc, ◌+◌, ◌-◌, ◌<◌, ◌≤◌, ◌⊎◌, ◌∙◌, inl, inr, refl, sym, ap, subst, arith, ℤ, pos, negsuc, ◌+ℤ◌, ◌-ℤ◌, ◌≤ℤ◌, ◌<ℤ◌, List, [], ◌∷◌, ◌++◌, length, get_or, Option, Some, None}
+use Rattle.std.proofs.Common.{◌≡◌, ℕ, zero, suc, ◌+◌, ◌<◌, ◌≤◌, ◌⊎◌, ◌∙◌, inl, inr, refl, sym, ap, subst, arith, ℤ, pos, ◌+ℤ◌, ◌-ℤ◌, ◌≤ℤ◌, ◌<ℤ◌, List, [], ◌∷◌, ◌++◌, length, get_or, Option, Some, None}
 use Rattle.std.specs.Prelude.{slice_get}
 use Rattle.std.proofs.lemmas.Int.{ints, by_lt_z}
 use Rattle.std.proofs.lemmas.Bool.{cases_lt}
@@ -9,13 +9,13 @@ use Rattle.tz_base.specs.declared.calendar.Fields.{Fields}
 use Rattle.tz_base.specs.Fields.{reading}
 use Rattle.tz_rule.specs.LocalType.{LocalType}
 use Rattle.tz_zone.specs.Table.{Change, Zone}
-use Rattle.tz_zone.specs.LeapTime.{IsInstant, IsLeapTime, HasComeTo, IsEffect}
+use Rattle.tz_zone.specs.LeapTime.{IsInstant, IsLeapTime, HasComeTo}
 use Rattle.tz_zone.specs.Clock.{IsClock}
 use Rattle.tz_zone.specs.ValidZone.{IsSoundTable}
 use Rattle.tz_zone.proofs.LeapTimes.{IsInstant-from_bounds, instant_bounds, leap_time_mono}
 use Rattle.tz_zone.proofs.RisingTimes.{Rise, transitions_rise}
 use Rattle.tz.specs.Found.{IsFoundBy, IsFound, instant_of}
-use Rattle.tz.specs.Walks.{HoldsAt, HoldsFrom, IsFrom, IsStep, IsWalk, IsWalked}
+use Rattle.tz.specs.Walks.{HoldsFrom, IsFrom, IsStep, IsWalk, IsWalked}
 use Rattle.tz.specs.Reached.{IsWithinReach, IsReachedAt, IsSteadyAfter, IsKindOf, IsDue, IsPieceOf, IsWindowOf, IsInWindow, WindowClock, IsOnTheWay}
 use Rattle.tz.specs.RuleSpans.{IsOverFrom, IsAtSeam}
 use Rattle.tz.specs.declared.datetime.found.FoundDateTimeKind.{FoundDateTimeKind}

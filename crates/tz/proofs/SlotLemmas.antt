@@ -1,11 +1,11 @@
 -- Slots filled by a list, and by one more at its end.
-use Rattle.std.proofs.Common.{◌≡◌, ℕ, suc, ◌+◌, ◌^◌, ◌<◌, ◌≤◌, ◌∙◌, refl, sym, ap, arith, List, [], ◌∷◌, ◌++◌, Some, length, length-append, set, inl, inr}
+use Rattle.std.proofs.Common.{◌≡◌, suc, ◌+◌, ◌<◌, ◌≤◌, ◌∙◌, refl, sym, ap, arith, List, [], ◌∷◌, ◌++◌, Some, length, length-append, set, inl, inr}
 use Rattle.std.specs.Prelude.{min}
 use Rattle.std.proofs.lemmas.Bool.{cases_lt}
 use Rattle.tz.specs.Slots.{Slots, filled}
-use Rattle.tz.specs.Buffers.{IsHolding, GrowsBy}
+use Rattle.tz.specs.Buffers.{GrowsBy}
 use Rattle.tz.specs.declared.datetime.found.FoundDateTimeKind.{FoundDateTimeKind}
-use Rattle.tz.specs.declared.datetime.found_list_ref.FoundDateTimeListRefMut.{FoundDateTimeListRefMut}
+use Rattle.tz.specs.declared.datetime.slot_writer.SlotWriter.{SlotWriter}
 
 pub filled_none : (slots : Slots) → filled slots [] ≡ slots
 filled_none [] = refl
@@ -29,10 +29,10 @@ filled_full (slot ∷ slots) [] e h = absurd (omega arith)
 filled_full (slot ∷ slots) (first ∷ found) e h = ap (λ rest. Some first ∷ rest) (filled_full slots found e (omega arith))
 
 -- the step of a buffer that counts one more
-pub grows_by_one : (list grown : FoundDateTimeListRefMut) (e : FoundDateTimeKind) →
-    grown.buf.slots.ghost_name ≡ list.buf.slots.ghost_name →
-    (list.count < length list.buf.slots.now → grown.buf.slots.now ≡ set list.buf.slots.now list.count (Some e)) →
-    (length list.buf.slots.now ≤ list.count → grown.buf.slots.now ≡ list.buf.slots.now) →
+pub grows_by_one : (list grown : SlotWriter) (e : FoundDateTimeKind) →
+    grown.slots.ghost_name ≡ list.slots.ghost_name →
+    (list.count < length list.slots.now → grown.slots.now ≡ set list.slots.now list.count (Some e)) →
+    (length list.slots.now ≤ list.count → grown.slots.now ≡ list.slots.now) →
     grown.count ≡ min (list.count + 1) 18446744073709551615 → GrowsBy list grown (e ∷ [])
 grows_by_one list grown e same next full count = (
   same,

@@ -1,4 +1,5 @@
 -- What contracts see of the two lists of found date times.
+use Rattle.std.specs.Borrow.{GName}
 use Rattle.std.specs.Prelude.{ℕ, List}
 use Rattle.tz.specs.Slots.{Slots}
 use Rattle.tz.specs.declared.datetime.found.FoundDateTimeKind.{FoundDateTimeKind}
@@ -15,3 +16,7 @@ slots_of list = list.buf.slots.now
 
 abbrev pub count_of : FoundDateTimeListRefMut → ℕ
 count_of list = list.count
+
+-- the reference by which the list writes to those slots: two lists with one reference have the same slots
+abbrev pub reference_of : FoundDateTimeListRefMut → GName
+reference_of list = list.buf.slots.ghost_name

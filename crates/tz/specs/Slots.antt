@@ -3,7 +3,7 @@ use Rattle.std.specs.Prelude.{ℕ, ◌-◌, List, [], ◌∷◌, Option, Some, N
 use Rattle.tz.specs.DateTimes.{LocalMoment}
 use Rattle.tz.specs.Found.{first_side_of, last_side_of}
 use Rattle.tz.specs.declared.datetime.found.FoundDateTimeKind.{FoundDateTimeKind}
-use Rattle.tz.specs.declared.datetime.found.FoundDateTimeKind.TheVariants.{Normal, Skipped}
+use Rattle.tz.specs.declared.datetime.found.FoundDateTimeKind.TheVariants.{Normal}
 
 abbrev pub Slots : Type 0
 Slots = List (Option FoundDateTimeKind)

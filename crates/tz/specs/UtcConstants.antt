@@ -1,9 +1,9 @@
 -- The constants of `UtcDateTime` are UTC date times. A function that uses one of them cites its lemma here.
-use Rattle.std.specs.Prelude.{ℕ, ℤ, pos, negsuc}
-use Rattle.std.proofs.Common.{◌≡◌, arith, rules}
+use Rattle.std.specs.Prelude.{ℤ, pos, negsuc}
+use Rattle.std.proofs.Common.{arith, rules}
 use mir.Syntax.{w32}
 use mir.Val.{SFits}
-use Rattle.tz_base.specs.Days.{is_leap, month_length}
+use Rattle.tz_base.specs.Days.{month_length}
 use Rattle.tz_base.specs.Fields.{IsValid}
 use Rattle.tz_base.specs.declared.calendar.Fields.{Fields}
 use Rattle.tz_base.proofs.EndLemmas.{valid_reading}

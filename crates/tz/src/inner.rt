@@ -165,7 +165,7 @@ impl Line {
 
     /// Appends the digits of a number.
     #[tactic(auto, using(crate::proofs::PrintedLemmas::length_of_digits))]
-    fn push_digits(&mut self, number: u32)
+    fn push_digits(&mut self, number: u64)
         requires { length self.old + length (decimal number) ≤ 128 }
         ensures text { self.new ≡ self.old ++ decimal number }
         ensures len { length self.new ≡ length self.old + length (decimal number) }
@@ -191,11 +191,22 @@ impl Line {
             let (front, back) = ((number / 100) as u8, (number % 100) as u8);
             self.push_ascii(&[tens(front), ones(front), tens(back), ones(back)]);
         } else {
-            self.push_digits(number);
+            self.push_digits(u64::from(number));
         }
     }
 
+    /// Appends the digits of a count, of which there are twenty at most.
+    #[tactic(auto, using(crate::proofs::PrintedLemmas::twenty_digits))]
+    pub fn push_count(&mut self, count: u64)
+        requires { length self.old + 20 ≤ 128 }
+        ensures text { self.new ≡ self.old ++ decimal count }
+        ensures len { length self.new ≤ length self.old + 20 }
+    {
+        self.push_digits(count);
+    }
+
     /// Appends a year.
+    #[inline(always)]
     fn push_year(&mut self, year: i32)
         requires { length self.old + 11 ≤ 128 }
         ensures text { self.new ≡ self.old ++ signed_decimal year }
@@ -210,6 +221,7 @@ impl Line {
     }
 
     /// Appends year-MM-DD.
+    #[inline(always)]
     fn push_date(&mut self, fields: &Fields)
         requires valid { IsValid fields.now }
         requires room { length self.old + 17 ≤ 128 }
@@ -309,6 +321,7 @@ impl Line {
     }
 
     /// Appends the printed date time of the fields and an offset in seconds.
+    #[inline(always)]
     pub fn push_date_time(&mut self, fields: &Fields, ut_offset: i32)
         requires valid { IsValid fields.now }
         requires room { length self.old + 53 ≤ 128 }

@@ -19,7 +19,7 @@ ghost use Rattle.tz.specs.declared.datetime.found.FoundDateTimeKind.{FoundDateTi
 ghost use Rattle.tz.specs.declared.datetime.found.FoundDateTimeKind.TheVariants.{Normal as normal};
 ghost use Rattle.tz.specs.DateTimes.{LocalMoment, IsLocalMoment, IsUtc, IsUtcAt, IsShowFault, IsForwards, IsBackwards, ShowsByClock, utc_total, total_of, moment_eq, moment_cmp};
 
-use crate::UtcDateTime;
+use crate::{DateTime, UtcDateTime};
 use std::cmp::Ordering;
 
 /// [`UtcDateTime::from_timespec`] of a date time's Unix time and nanoseconds is that date time again, unless its second is 60.
@@ -41,6 +41,13 @@ pub fn date_times_compare_by_instant()
     ensures order { (a b : LocalMoment) → IsLocalMoment a → IsLocalMoment b → moment_cmp a b ≡ int_cmp (total_of a) (total_of b) }
     ensures agree { (a b : LocalMoment) → (moment_eq a b ≡ true) ↔ (moment_cmp a b ≡ Equal) }
 {}
+
+/// A date time has valid fields, and its local time type shows them at its Unix time.
+pub fn date_time_parts_are_sound(date_time: &DateTime)
+    ensures { IsLocalMoment date_time.now }
+{
+    date_time.parts_are_sound();
+}
 
 /// UTC date times with a second below 60 are in order as their total nanoseconds are.
 pub fn order_of_utc_date_times(a: UtcDateTime, b: UtcDateTime) -> Ordering

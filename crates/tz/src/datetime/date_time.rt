@@ -127,7 +127,7 @@ impl DateTime {
     ghost use Rattle.tz_rule.specs.LocalType.{LocalType};
     ghost use Rattle.tz_zone.specs.Clock.{IsClock, IsLookupFault};
     ghost use Rattle.tz_zone.specs.ZoneRef.{zone_of};
-    ghost use Rattle.tz.specs.DateTimes.{LocalMoment, ShowsInstant, IsShowFault, IsLocalFault, total_of, IsNearTotal, IsForwards, IsBackwards, ShowsByClock, IsClockFault, IsTotalFault, IsTotalClockFault, ShowsTotal, ShowsTotalByClock};
+    ghost use Rattle.tz.specs.DateTimes.{LocalMoment, IsLocalMoment, ShowsInstant, IsShowFault, IsLocalFault, total_of, IsNearTotal, IsForwards, IsBackwards, ShowsByClock, IsClockFault, IsTotalFault, IsTotalClockFault, ShowsTotal, ShowsTotalByClock};
 
     /// The date time with these fields, which the type shows. The ranges are those of [`UtcDateTime::new`].
     ///
@@ -375,6 +375,13 @@ impl DateTime {
         ensures err { IfErr result (IsBackwards (total_of earlier) (total_of self.now)) }
     {
         duration_between(earlier.total_nanoseconds(), self.total_nanoseconds())
+    }
+
+    /// The fields are valid and shown. This does nothing; its contract is what a value tells.
+    pub(crate) fn parts_are_sound(&self)
+        ensures { IsLocalMoment self.now }
+    {
+        let _ = &self.fields;
     }
 }
 

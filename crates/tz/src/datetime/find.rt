@@ -3,6 +3,7 @@
 use super::found_list::FoundDateTimeList;
 use super::found_list_ref::FoundDateTimeListRefMut;
 use super::search::search;
+use super::slot_writer::SlotWriter;
 use super::{DateTime, FoundDateTimeKind};
 use std::alloc::Allocator;
 use tz_base::calendar::Fields;
@@ -10,12 +11,12 @@ use tz_base::error::TzError;
 use tz_zone::timezone::TimeZoneRef;
 
 impl DateTime {
-    ghost use Rattle.std.specs.Prelude.{◌≡◌, ◌≢◌, List, length, ⊤, IfOk, IfErr, OnOk};
+    ghost use Rattle.std.specs.Prelude.{◌≡◌, ◌≢◌, ◌⊎◌, List, length, ⊤, IfOk, IfErr, OnOk};
     ghost use Rattle.tz_base.specs.Fields.{IsValid};
     ghost use Rattle.tz_zone.specs.Clock.{IsClock};
     ghost use Rattle.tz_zone.specs.ZoneRef.{zone_of};
     ghost use Rattle.tz.specs.Found.{IsFound};
-    ghost use Rattle.tz.specs.Lists.{found_of, slots_of, count_of};
+    ghost use Rattle.tz.specs.Lists.{found_of, slots_of, count_of, reference_of};
     ghost use Rattle.tz.specs.FindFaults.{IsFindFault, IsFarFromEnds};
     ghost use Rattle.tz.specs.Slots.{filled};
     ghost use Rattle.tz.specs.declared.datetime.found.FoundDateTimeKind.{FoundDateTimeKind};
@@ -83,7 +84,7 @@ impl DateTime {
         nanoseconds: u32,
         time_zone_ref: TimeZoneRef<'_>,
     ) -> Result<FoundDateTimeListRefMut<'a>, TzError>
-        ensures same_reference { IfOk result (λ list. list.buf.slots.ghost_name ≡ buf.entry.ghost_name) }
+        ensures same_reference { IfOk result (λ list. reference_of list ≡ buf.entry.ghost_name) }
         ensures ok { IfOk result (λ list. (found : List FoundDateTimeKind)
             × IsFound (IsClock (zone_of time_zone_ref.entry)) (record { year = year; month = month; month_day = month_day; hour = hour; minute = minute; second = second; nanoseconds = nanoseconds }) found
             × (count_of list ≡ length found) × (slots_of list ≡ filled buf.old found)) }
@@ -100,27 +101,28 @@ impl DateTime {
             second,
             nanoseconds,
         };
-        DateTime::find_n_fields(buf, &fields, time_zone_ref)
+        let count = DateTime::fill(buf, &fields, time_zone_ref)?;
+        Ok(FoundDateTimeListRefMut::counted(buf, count))
     }
 
-    /// What is found of the fields, as far as the slots go.
-    fn find_n_fields<'a>(
-        buf: &'a mut [Option<FoundDateTimeKind>],
+    /// Writes what is found of the fields to the slots, as far as they go, and counts it.
+    fn fill(
+        buf: &mut [Option<FoundDateTimeKind>],
         fields: &Fields,
         time_zone_ref: TimeZoneRef<'_>,
-    ) -> Result<FoundDateTimeListRefMut<'a>, TzError>
-        ensures same_reference { IfOk result (λ list. list.buf.slots.ghost_name ≡ buf.entry.ghost_name) }
-        ensures ok { IfOk result (λ list. (found : List FoundDateTimeKind)
+    ) -> Result<usize, TzError>
+        ensures ok { IfOk result (λ count. (found : List FoundDateTimeKind)
             × IsFound (IsClock (zone_of time_zone_ref.entry)) fields.now found
-            × (count_of list ≡ length found) × (slots_of list ≡ filled buf.old found)) }
+            × (count ≡ length found) × (buf.new ≡ filled buf.old found)) }
         ensures valid { OnOk result (IsValid fields.now) }
+        ensures untouched { IsValid fields.now ⊎ (buf.new ≡ buf.old) }
         ensures far { IsFarFromEnds fields.now.year → IfErr result (λ e. e ≢ TzError.OutOfRange) }
         ensures err { IfErr result (IsFindFault ⊥ fields.now) }
     {
-        fields.check()?;
-        let mut list = FoundDateTimeListRefMut::new(buf);
-        search(&mut list, fields, time_zone_ref)?;
-        Ok(list)
+        Fields::check(fields)?;
+        let mut writer = SlotWriter::new(buf);
+        search(&mut writer, fields, time_zone_ref)?;
+        Ok(writer.count())
     }
 }
 

@@ -5,7 +5,10 @@ use std::alloc::{Allocator, Global};
 use tz_base::error::TzError;
 
 /// The date times that a search found, by rising Unix time.
-#[derive(Debug, PartialEq, Drop)]
+///
+/// Lists are equal when their entries are, on whichever allocators.
+#[derive(Drop)]
+#[derive_where(Debug, PartialEq)]
 pub struct FoundDateTimeList<A: Allocator + Copy = Global> {
     pub(super) found: Vec<FoundDateTimeKind, A>,
 }

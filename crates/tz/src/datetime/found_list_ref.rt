@@ -32,18 +32,30 @@ pub struct FoundDateTimeListRefMut<'a> {
 
 impl<'a> FoundDateTimeListRefMut<'a> {
     ghost use Rattle.std.specs.Prelude.{◌≡◌, ◌+◌, ◌<◌, ◌≤◌, ◌↔◌, IsTrue, Some, None, length, min, slice_set};
-    ghost use Rattle.tz.specs.Lists.{slots_of, count_of};
+    ghost use Rattle.tz.specs.Lists.{slots_of, count_of, reference_of};
     ghost use Rattle.tz.specs.Slots.{written_of, unique_slot, earliest_slot, latest_slot};
 
     /// A list with nothing found yet. It writes to the slots in order, and leaves the others as they are.
     pub fn new(buf: &'a mut [Option<FoundDateTimeKind>]) -> Self
-        ensures same_reference { result.buf.slots.ghost_name ≡ buf.entry.ghost_name }
+        ensures same_reference { reference_of result ≡ buf.entry.ghost_name }
         ensures slots { slots_of result ≡ buf.old }
         ensures count { count_of result ≡ 0 }
     {
         FoundDateTimeListRefMut {
             buf: Buffer { slots: buf },
             count: 0,
+        }
+    }
+
+    /// The list of so many date times whose first are in the slots already.
+    pub(super) fn counted(buf: &'a mut [Option<FoundDateTimeKind>], count: usize) -> Self
+        ensures same_reference { reference_of result ≡ buf.entry.ghost_name }
+        ensures slots { slots_of result ≡ buf.old }
+        ensures count { count_of result ≡ count }
+    {
+        FoundDateTimeListRefMut {
+            buf: Buffer { slots: buf },
+            count,
         }
     }
 
@@ -107,19 +119,5 @@ impl<'a> FoundDateTimeListRefMut<'a> {
             [Some(FoundDateTimeKind::Normal(date_time))] => Some(date_time),
             _ => None,
         }
-    }
-
-    /// Counts one more, and writes it to the next slot, if there is one.
-    pub(super) fn write(&mut self, found: FoundDateTimeKind)
-        ensures same_reference { self.new.buf.slots.ghost_name ≡ self.old.buf.slots.ghost_name }
-        ensures slots { count_of self.old < length (slots_of self.old) → slots_of self.new ≡ slice_set (slots_of self.old) (count_of self.old) (Some found) }
-        ensures full { length (slots_of self.old) ≤ count_of self.old → slots_of self.new ≡ slots_of self.old }
-        ensures count { count_of self.new ≡ min (count_of self.old + 1) usize.MAX }
-    {
-        if self.count < self.buf.slots.len() {
-            self.buf.slots[self.count] = Some(found);
-        }
-        // A list has less than 2^33 entries, so the count never comes to its end.
-        self.count = self.count.saturating_add(1);
     }
 }

@@ -2,7 +2,7 @@
 
 use super::FoundDateTimeKind;
 use super::found_list::FoundDateTimeList;
-use super::found_list_ref::FoundDateTimeListRefMut;
+use super::slot_writer::SlotWriter;
 use std::alloc::{AllocError, Allocator};
 
 /// A list that a search writes to.
@@ -47,7 +47,7 @@ impl<A: Allocator + Copy> DateTimeList for FoundDateTimeList<A> {
     }
 }
 
-impl DateTimeList for FoundDateTimeListRefMut<'_> {
+impl DateTimeList for SlotWriter<'_> {
     ghost use Rattle.tz.specs.Buffers.{GrowsBy, grows_by_none, grows_by_more};
 
     ghost gains = { GrowsBy };

@@ -7,6 +7,7 @@ mod found_list;
 mod found_list_ref;
 mod growing;
 mod search;
+mod slot_writer;
 mod totals;
 mod utc_date_time;
 mod walk;

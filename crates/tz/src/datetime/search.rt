@@ -382,9 +382,8 @@ pub(super) fn search<L: DateTimeList>(
         walk.step(list, piece_at(zone, place))?;
     }
     if come == zone.transitions().len() {
-        match turning_rule(zone) {
-            Some(rule) => return search_rule(&mut walk, list, zone, rule, high),
-            None => {}
+        if let Some(rule) = turning_rule(zone) {
+            return search_rule(&mut walk, list, zone, rule, high);
         }
     }
     let end = Piece {

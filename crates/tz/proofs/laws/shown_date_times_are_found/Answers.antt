@@ -1,5 +1,5 @@
 -- A date time that the clock shows is one that a search finds.
-use Rattle.std.proofs.Common.{◌≡◌, ◌∙◌, inl, inr, refl, sym, ap, subst, ℤ, ◌+ℤ◌}
+use Rattle.std.proofs.Common.{◌∙◌, refl, sym, ap, subst, ℤ, ◌+ℤ◌}
 use Rattle.std.specs.Prelude.{⊤}
 use Rattle.tz_rule.specs.LocalType.{LocalType}
 use Rattle.tz_zone.specs.Clock.{IsClock}

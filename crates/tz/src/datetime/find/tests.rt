@@ -1,22 +1,35 @@
 //! Searches in zones whose date times are known.
 
-use crate::datetime::{DateTime, FoundDateTimeKind, FoundDateTimeListRefMut};
+use crate::datetime::{DateTime, FoundDateTimeKind, FoundDateTimeList, FoundDateTimeListRefMut};
 use crate::error::TzError;
 use crate::error::datetime::DateTimeError;
+use crate::error::timezone::LocalTimeTypeError;
 use crate::timezone::{
     AlternateTime, Julian0WithLeap, Julian1WithoutLeap, LeapSecond, LocalTimeType, MonthWeekDay,
     RuleDay, TimeZoneRef, Transition, TransitionRule,
 };
-use std::alloc::Global;
+use std::alloc::{AllocError, Allocator, Global};
 use std::process::Abort;
 use std::test::Fail;
-use tz_base::refusing::Refusing;
+
+mod filter;
+mod memory;
+mod texts;
 
 /// A Unix time, and the offsets before it and at it; those of a date time that is shown are the same.
 type Summary = (i64, i32, i32);
 
 /// Year, month, day of the month, hour, minute, second.
 type Reading = (i32, u8, u8, u8, u8, u8);
+
+/// A Unix time and an offset.
+type Moment = (i64, i32);
+
+/// The unique, the earliest and the latest date time of a list.
+type Choice = (Option<Moment>, Option<Moment>, Option<Moment>);
+
+/// The count of a list, whether there was a slot for each, and how many slots were written; and its choice.
+type Facts = ((usize, bool, usize), Choice);
 
 fn summary(found: &FoundDateTimeKind) -> Summary {
     match found {
@@ -35,6 +48,15 @@ fn summary(found: &FoundDateTimeKind) -> Summary {
     }
 }
 
+fn find<A: Allocator + Copy>(
+    alloc: A,
+    zone: TimeZoneRef<'_>,
+    reading: Reading,
+) -> Result<FoundDateTimeList<A>, TzError> {
+    let (year, month, month_day, hour, minute, second) = reading;
+    DateTime::find(alloc, year, month, month_day, hour, minute, second, 0, zone)
+}
+
 fn find_n<'a>(
     buf: &'a mut [Option<FoundDateTimeKind>],
     zone: TimeZoneRef<'_>,
@@ -44,7 +66,116 @@ fn find_n<'a>(
     DateTime::find_n(buf, year, month, month_day, hour, minute, second, 0, zone)
 }
 
-/// Both searches find these, whether the buffer has a slot for each or not.
+fn moment(date_time: DateTime) -> Moment {
+    (
+        date_time.unix_time(),
+        date_time.local_time_type().ut_offset(),
+    )
+}
+
+/// The unique, the earliest and the latest date time, where these are listed.
+fn choice_of(listed: &[Summary]) -> Choice {
+    let unique = match *listed {
+        [(unix_time, before, after)] if before == after => Some((unix_time, after)),
+        _ => None,
+    };
+    let earliest = listed
+        .first()
+        .map(|(unix_time, before, _)| (*unix_time, *before));
+    let latest = listed
+        .last()
+        .map(|(unix_time, _, after)| (*unix_time, *after));
+    (unique, earliest, latest)
+}
+
+/// What a list in so many slots says of itself, where these are found.
+fn facts_of(found: &[Summary], slots: usize) -> Facts {
+    let written = found.get(..slots).unwrap_or(found);
+    let (unique, earliest, latest) = choice_of(written);
+    let is_exhaustive = found.len() <= slots;
+    let unique = if is_exhaustive { unique } else { None };
+    (
+        (found.len(), is_exhaustive, written.len()),
+        (unique, earliest, latest),
+    )
+}
+
+fn facts(list: &FoundDateTimeListRefMut<'_>) -> Facts {
+    (
+        (list.count(), list.is_exhaustive(), list.data().len()),
+        (
+            list.unique().map(moment),
+            list.earliest().map(moment),
+            list.latest().map(moment),
+        ),
+    )
+}
+
+/// What `find` finds.
+fn summaries<A: Allocator + Copy>(
+    alloc: Global,
+    list: FoundDateTimeList<A>,
+) -> Result<Vec<Summary>, AllocError> {
+    let mut found = Vec::new(alloc);
+    for kind in &list.into_inner() {
+        found.push(summary(kind))?;
+    }
+    Ok(found)
+}
+
+/// The list of `find` holds these.
+fn expect_list(
+    rt: &impl Abort,
+    alloc: Global,
+    zone: TimeZoneRef<'_>,
+    reading: Reading,
+    expected: &[Summary],
+) -> Result<(), TzError> {
+    let list = find(alloc, zone, reading)?;
+    let choice = (
+        list.unique().map(moment),
+        list.earliest().map(moment),
+        list.latest().map(moment),
+    );
+    assert_eq!(rt; choice, choice_of(expected));
+    assert_eq!(rt; summaries(alloc, list)?.as_slice(), expected);
+    Ok(())
+}
+
+/// A date time of a slot that no search of these tests finds, and its summary.
+fn held() -> Result<FoundDateTimeKind, TzError> {
+    let utc = LocalTimeType::utc();
+    Ok(FoundDateTimeKind::Normal(DateTime::new(1234, 5, 6, 7, 8, 9, 0, utc)?))
+}
+
+const HELD: Summary = (-23_215_049_511, 0, 0);
+
+/// Whether the slots begin with these, as far as they go, and the others hold what they held.
+fn are_written(slots: &[Option<FoundDateTimeKind>], found: &[Summary]) -> bool {
+    let mut places = slots.iter().enumerate();
+    places.all(|(place, slot)| {
+        slot.as_ref().map(summary) == Some(*found.get(place).unwrap_or(&HELD))
+    })
+}
+
+/// `find_n` finds these, and leaves the slots past them as they were.
+fn expect_written(
+    rt: &impl Abort,
+    buf: &mut [Option<FoundDateTimeKind>],
+    zone: TimeZoneRef<'_>,
+    reading: Reading,
+    expected: &[Summary],
+) -> Result<(), TzError> {
+    let slots = buf.len();
+    let list = find_n(buf, zone, reading)?;
+    assert_eq!(rt; facts(&list), facts_of(expected, slots));
+    assert!(rt; are_written(list.data(), expected));
+    drop(list);
+    assert!(rt; are_written(buf, expected));
+    Ok(())
+}
+
+/// Both searches find these, `find_n` with no slot and with up to three.
 fn expect_found(
     rt: &impl Abort,
     alloc: Global,
@@ -52,28 +183,12 @@ fn expect_found(
     reading: Reading,
     expected: &[Summary],
 ) -> Result<(), TzError> {
-    let (year, month, month_day, hour, minute, second) = reading;
-    let list = DateTime::find(alloc, year, month, month_day, hour, minute, second, 0, zone)?;
-    let mut found = Vec::new(alloc);
-    for kind in &list.into_inner() {
-        found.push(summary(kind))?;
-    }
-    assert_eq!(rt; found.as_slice(), expected);
-
-    for slots in 0..4usize {
-        let mut buf = [None, None, None];
-        let Some(buf) = buf.get_mut(..slots) else {
-            break;
-        };
-        let list = find_n(buf, zone, reading)?;
-        assert_eq!(rt; list.count(), expected.len());
-        assert_eq!(rt; list.is_exhaustive(), expected.len() <= slots);
-        assert_eq!(rt; list.data().len(), expected.len().min(slots));
-        for (slot, wanted) in list.data().iter().zip(expected) {
-            assert_eq!(rt; slot.as_ref().map(summary), Some(*wanted));
-        }
-    }
-    Ok(())
+    expect_list(rt, alloc, zone, reading, expected)?;
+    let held = Some(held()?);
+    expect_written(rt, &mut [], zone, reading, expected)?;
+    expect_written(rt, &mut [held], zone, reading, expected)?;
+    expect_written(rt, &mut [held, held], zone, reading, expected)?;
+    expect_written(rt, &mut [held, held, held], zone, reading, expected)
 }
 
 /// Both searches find these of each reading.
@@ -111,24 +226,11 @@ fn transitions_of_a_day(rt: HostRuntime) -> Result<(), Fail> {
         &[(84_600, 3600, 3600), (88_200, 0, 0)],
     )?;
     expect_found(&rt, alloc, zone, (1970, 1, 1, 1, 30, 0), &[(3600, 0, 3600)])?;
-
-    for slots in 0..3usize {
-        let mut buf = [None, None, None];
-        let Some(buf) = buf.get_mut(..slots) else {
-            break;
-        };
-        let list = find_n(buf, zone, (1970, 1, 2, 0, 30, 0))?;
-        assert!(rt; list.unique().is_none());
-        assert_eq!(rt; list.earliest().is_some(), slots > 0);
-        let latest = list.latest().map(|date_time| date_time.unix_time());
-        assert_eq!(rt; latest, [None, Some(84_600), Some(88_200)][slots]);
-    }
     Ok(())
 }
 
-#[test]
-fn jumps_that_cross(rt: HostRuntime) -> Result<(), Fail> {
-    let alloc = rt.alloc();
+/// A zone with jumps over the same hour: its transitions and its types.
+fn crossing() -> Result<([Transition; 6], [LocalTimeType; 5]), LocalTimeTypeError> {
     let types = [
         LocalTimeType::with_ut_offset(0)?,
         LocalTimeType::with_ut_offset(3600)?,
@@ -144,60 +246,115 @@ fn jumps_that_cross(rt: HostRuntime) -> Result<(), Fail> {
         Transition::new(28_800, 4),
         Transition::new(32_400, 0),
     ];
+    Ok((transitions, types))
+}
+
+/// The jumps of that zone.
+const FIRST_JUMP: Summary = (7200, 0, 3600);
+
+const SECOND_JUMP: Summary = (28_800, -19_800, -16_200);
+
+/// An hour and a minute of its day, and what is found.
+const CROSSED: [(u8, u8, &[Summary]); 19] = [
+    (0, 0, &[(0, 0, 0)]),
+    (1, 0, &[(3600, 0, 0), (14_400, -10_800, -10_800)]),
+    (1, 15, &[(4500, 0, 0), (15_300, -10_800, -10_800)]),
+    (
+        1,
+        30,
+        &[
+            (5400, 0, 0),
+            (16_200, -10_800, -10_800),
+            (25_200, -19_800, -19_800),
+        ],
+    ),
+    (
+        1,
+        45,
+        &[
+            (6300, 0, 0),
+            (17_100, -10_800, -10_800),
+            (26_100, -19_800, -19_800),
+        ],
+    ),
+    (
+        2,
+        0,
+        &[
+            FIRST_JUMP,
+            (18_000, -10_800, -10_800),
+            (27_000, -19_800, -19_800),
+        ],
+    ),
+    (
+        2,
+        15,
+        &[
+            FIRST_JUMP,
+            (18_900, -10_800, -10_800),
+            (27_900, -19_800, -19_800),
+        ],
+    ),
+    (
+        2,
+        30,
+        &[FIRST_JUMP, (19_800, -10_800, -10_800), SECOND_JUMP],
+    ),
+    (
+        2,
+        45,
+        &[FIRST_JUMP, (20_700, -10_800, -10_800), SECOND_JUMP],
+    ),
+    (
+        3,
+        0,
+        &[(7200, 3600, 3600), (21_600, -10_800, -10_800), SECOND_JUMP],
+    ),
+    (
+        3,
+        15,
+        &[(8100, 3600, 3600), (22_500, -10_800, -10_800), SECOND_JUMP],
+    ),
+    (
+        3,
+        30,
+        &[
+            (9000, 3600, 3600),
+            (23_400, -10_800, -10_800),
+            (28_800, -16_200, -16_200),
+        ],
+    ),
+    (
+        3,
+        45,
+        &[
+            (9900, 3600, 3600),
+            (24_300, -10_800, -10_800),
+            (29_700, -16_200, -16_200),
+        ],
+    ),
+    (4, 0, &[(10_800, 3600, 3600), (30_600, -16_200, -16_200)]),
+    (4, 15, &[(11_700, 3600, 3600), (31_500, -16_200, -16_200)]),
+    (4, 30, &[(12_600, 3600, 3600)]),
+    (4, 45, &[(13_500, 3600, 3600)]),
+    (5, 0, &[]),
+    (23, 59, &[]),
+];
+
+#[test]
+fn jumps_that_cross(rt: HostRuntime) -> Result<(), Fail> {
+    let (transitions, types) = crossing()?;
     let rule = None;
     let zone = TimeZoneRef::new(&transitions, &types, &[], &rule)?;
-    let first = (7200, 0, 3600);
-    let second = (28_800, -19_800, -16_200);
-    expect_all(
-        &rt,
-        alloc,
-        zone,
-        &[
-            (
-                (1970, 1, 1, 2, 30, 0),
-                &[first, (19_800, -10_800, -10_800), second],
-            ),
-            ((1970, 1, 1, 5, 0, 0), &[]),
-            ((1970, 1, 1, 0, 0, 0), &[(0, 0, 0)]),
-            (
-                (1970, 1, 1, 1, 15, 0),
-                &[(4500, 0, 0), (15_300, -10_800, -10_800)],
-            ),
-            (
-                (1970, 1, 1, 1, 45, 0),
-                &[
-                    (6300, 0, 0),
-                    (17_100, -10_800, -10_800),
-                    (26_100, -19_800, -19_800),
-                ],
-            ),
-            (
-                (1970, 1, 1, 2, 15, 0),
-                &[
-                    first,
-                    (18_900, -10_800, -10_800),
-                    (27_900, -19_800, -19_800),
-                ],
-            ),
-            (
-                (1970, 1, 1, 3, 15, 0),
-                &[(8100, 3600, 3600), (22_500, -10_800, -10_800), second],
-            ),
-            (
-                (1970, 1, 1, 3, 45, 0),
-                &[
-                    (9900, 3600, 3600),
-                    (24_300, -10_800, -10_800),
-                    (29_700, -16_200, -16_200),
-                ],
-            ),
-            (
-                (1970, 1, 1, 4, 15, 0),
-                &[(11_700, 3600, 3600), (31_500, -16_200, -16_200)],
-            ),
-            ((1970, 1, 1, 4, 45, 0), &[(13_500, 3600, 3600)]),
-        ],
-    )?;
+    for (hour, minute, expected) in CROSSED {
+        expect_found(
+            &rt,
+            rt.alloc(),
+            zone,
+            (1970, 1, 1, hour, minute, 0),
+            expected,
+        )?;
+    }
     Ok(())
 }
 
@@ -267,6 +424,36 @@ fn second_60_is_kept(rt: HostRuntime) -> Result<(), Fail> {
     Ok(())
 }
 
+#[test]
+fn lists_are_compared_by_their_entries(rt: HostRuntime) -> Result<(), Fail> {
+    let utc = TimeZoneRef::utc();
+    let midnight = find(rt.alloc(), utc, (2000, 1, 1, 0, 0, 0))?;
+    let again = find(rt.alloc(), utc, (2000, 1, 1, 0, 0, 0))?;
+    let noon = find(rt.alloc(), utc, (2000, 1, 1, 12, 0, 0))?;
+    let empty = FoundDateTimeList::new_in(rt.alloc());
+    assert_eq!(rt; midnight, again);
+    assert!(rt; midnight != noon);
+    assert!(rt; midnight != empty);
+    Ok(())
+}
+
+/// A written slot, a slot past them and the count all tell.
+#[test]
+fn lists_in_buffers_are_compared_by_all_slots(rt: HostRuntime) -> Result<(), Fail> {
+    let utc = TimeZoneRef::utc();
+    let midnight = (2000, 1, 1, 0, 0, 0);
+    let mut buf = [None, None];
+    let list = find_n(&mut buf, utc, midnight)?;
+    let mut same_buf = [None, None];
+    assert_eq!(rt; list, find_n(&mut same_buf, utc, midnight)?);
+    let mut other_buf = [None, None];
+    assert!(rt; list != find_n(&mut other_buf, utc, (2000, 1, 1, 12, 0, 0))?);
+    let mut held_buf = [None, Some(held()?)];
+    assert!(rt; list != find_n(&mut held_buf, utc, midnight)?);
+    assert!(rt; list != FoundDateTimeListRefMut::new(&mut same_buf));
+    Ok(())
+}
+
 /// Whether the first and the third of three slots hold this, and the second is empty.
 fn holds(slots: &[Option<FoundDateTimeKind>], held: &Option<FoundDateTimeKind>) -> bool {
     matches!(slots, [first, None, third] if first == held && third == held)
@@ -288,27 +475,6 @@ fn refused_fields_write_nothing(rt: HostRuntime) -> Result<(), Fail> {
     Ok(())
 }
 
-#[test]
-fn each_refused_growth_is_told(rt: HostRuntime) -> Result<(), Fail> {
-    for left in 0..3u64 {
-        let heap = Refusing::new(rt.alloc(), left);
-        match DateTime::find(&heap, 2000, 1, 1, 0, 0, 0, 0, TimeZoneRef::utc()) {
-            Ok(list) => {
-                assert_eq!(rt;
-                    list.unique().map(|found| found.unix_time()),
-                    Some(946_684_800)
-                );
-                assert_eq!(rt; heap.refused(), 0);
-            }
-            Err(error) => {
-                assert!(rt; matches!(error, TzError::Memory(_)));
-                assert_eq!(rt; heap.refused(), 1);
-            }
-        }
-    }
-    Ok(())
-}
-
 /// The zone of one rule alone.
 fn expect_found_by_rule(
     rt: &impl Abort,
@@ -322,8 +488,8 @@ fn expect_found_by_rule(
     expect_all(rt, alloc, zone, rows)
 }
 
-#[test]
-fn a_rule_skips_and_repeats_an_hour(rt: HostRuntime) -> Result<(), Fail> {
+/// Central Europe.
+fn central_europe() -> Result<AlternateTime, TzError> {
     let rule = AlternateTime::new(
         LocalTimeType::new(3600, false, Some(b"CET"))?,
         LocalTimeType::new(7200, true, Some(b"CEST"))?,
@@ -332,6 +498,12 @@ fn a_rule_skips_and_repeats_an_hour(rt: HostRuntime) -> Result<(), Fail> {
         RuleDay::MonthWeekDay(MonthWeekDay::new(10, 5, 0)?),
         10_800,
     )?;
+    Ok(rule)
+}
+
+#[test]
+fn a_rule_skips_and_repeats_an_hour(rt: HostRuntime) -> Result<(), Fail> {
+    let rule = central_europe()?;
     expect_found_by_rule(
         &rt,
         rt.alloc(),
@@ -414,9 +586,8 @@ fn a_rule_of_one_morning(rt: HostRuntime) -> Result<(), Fail> {
     Ok(())
 }
 
-#[test]
-fn an_offset_of_many_years(rt: HostRuntime) -> Result<(), Fail> {
-    let alloc = rt.alloc();
+/// A zone with an hour at an offset of 68 years, and its rule.
+fn far_offset() -> Result<([Transition; 4], [LocalTimeType; 3], AlternateTime), TzError> {
     let types = [
         LocalTimeType::with_ut_offset(0)?,
         LocalTimeType::with_ut_offset(2_147_483_647)?,
@@ -428,58 +599,40 @@ fn an_offset_of_many_years(rt: HostRuntime) -> Result<(), Fail> {
         Transition::new(7200, 0),
         Transition::new(10_800, 2),
     ];
-    let rule = Some(TransitionRule::Alternate(AlternateTime::new(
+    let rule = AlternateTime::new(
         types[0],
         types[2],
         RuleDay::Julian1WithoutLeap(Julian1WithoutLeap::new(300)?),
         0,
         RuleDay::Julian1WithoutLeap(Julian1WithoutLeap::new(90)?),
         3600,
-    )?));
+    )?;
+    Ok((transitions, types, rule))
+}
+
+/// The jump of that zone over 68 years.
+const FAR_JUMP: Summary = (3600, 0, 2_147_483_647);
+
+/// The first hours.
+const FAR_MORNING: [(u8, &[Summary]); 5] = [
+    (0, &[(1800, 0, 0)]),
+    (1, &[FAR_JUMP]),
+    (2, &[FAR_JUMP, (9000, 0, 0)]),
+    (3, &[FAR_JUMP, (10_800, 0, 3600)]),
+    (4, &[FAR_JUMP, (12_600, 3600, 3600)]),
+];
+
+#[test]
+fn the_morning_of_a_far_jump(rt: HostRuntime) -> Result<(), Fail> {
+    let (transitions, types, rule) = far_offset()?;
+    let rule = Some(TransitionRule::Alternate(rule));
     let zone = TimeZoneRef::new(&transitions, &types, &[], &rule)?;
-    let far = (3600, 0, 2_147_483_647);
-    let last = (10_800, 0, 3600);
-    expect_found(&rt, alloc, zone, (1970, 1, 1, 0, 30, 0), &[(1800, 0, 0)])?;
-    expect_found(&rt, alloc, zone, (1970, 1, 1, 1, 30, 0), &[far])?;
+    for (hour, expected) in FAR_MORNING {
+        expect_found(&rt, rt.alloc(), zone, (1970, 1, 1, hour, 30, 0), expected)?;
+    }
     expect_found(
         &rt,
-        alloc,
-        zone,
-        (1970, 1, 1, 2, 30, 0),
-        &[far, (9000, 0, 0)],
-    )?;
-    expect_found(&rt, alloc, zone, (1970, 1, 1, 3, 30, 0), &[far, last])?;
-    expect_found(
-        &rt,
-        alloc,
-        zone,
-        (1970, 1, 1, 4, 30, 0),
-        &[far, (12_600, 3600, 3600)],
-    )?;
-    expect_found(
-        &rt,
-        alloc,
-        zone,
-        (1970, 10, 27, 0, 30, 0),
-        &[far, (25_833_600, 0, 3600)],
-    )?;
-    expect_found(
-        &rt,
-        alloc,
-        zone,
-        (1970, 3, 31, 0, 30, 0),
-        &[far, (7_687_800, 3600, 3600), (7_691_400, 0, 0)],
-    )?;
-    expect_found(
-        &rt,
-        alloc,
-        zone,
-        (2000, 6, 1, 0, 0, 0),
-        &[far, (959_817_600, 0, 0)],
-    )?;
-    expect_found(
-        &rt,
-        alloc,
+        rt.alloc(),
         zone,
         (2038, 1, 19, 5, 0, 0),
         &[
@@ -487,12 +640,98 @@ fn an_offset_of_many_years(rt: HostRuntime) -> Result<(), Fail> {
             (2_147_486_400, 3600, 3600),
         ],
     )?;
-    expect_found(
+    Ok(())
+}
+
+/// Years that the jump passes over, and the Unix time at which each begins.
+const FAR_YEARS: [(i32, i64, i64); 3] = [
+    (1970, 0, 0),
+    (2000, 946_684_800, 86_400),
+    (2030, 1_893_456_000, 0),
+];
+
+#[test]
+fn a_rule_under_a_far_jump(rt: HostRuntime) -> Result<(), Fail> {
+    let alloc = rt.alloc();
+    let (transitions, types, rule) = far_offset()?;
+    let rule = Some(TransitionRule::Alternate(rule));
+    let zone = TimeZoneRef::new(&transitions, &types, &[], &rule)?;
+    for (year, start, leap_day) in FAR_YEARS {
+        let march = start + leap_day;
+        expect_all(
+            &rt,
+            alloc,
+            zone,
+            &[
+                (
+                    (year, 2, 1, 0, 0, 0),
+                    &[FAR_JUMP, (start + 2_674_800, 3600, 3600)],
+                ),
+                (
+                    (year, 3, 31, 0, 30, 0),
+                    &[
+                        FAR_JUMP,
+                        (march + 7_687_800, 3600, 3600),
+                        (march + 7_691_400, 0, 0),
+                    ],
+                ),
+                (
+                    (year, 6, 1, 0, 0, 0),
+                    &[FAR_JUMP, (march + 13_046_400, 0, 0)],
+                ),
+                (
+                    (year, 10, 27, 0, 30, 0),
+                    &[FAR_JUMP, (march + 25_833_600, 0, 3600)],
+                ),
+                (
+                    (year, 11, 1, 0, 0, 0),
+                    &[FAR_JUMP, (march + 26_262_000, 3600, 3600)],
+                ),
+            ],
+        )?;
+    }
+    Ok(())
+}
+
+#[test]
+fn a_rule_after_a_far_jump(rt: HostRuntime) -> Result<(), Fail> {
+    let (transitions, types, rule) = far_offset()?;
+    let rule = Some(TransitionRule::Alternate(rule));
+    let zone = TimeZoneRef::new(&transitions, &types, &[], &rule)?;
+    let start = 2_145_916_800;
+    expect_all(
         &rt,
-        alloc,
+        rt.alloc(),
         zone,
-        (2038, 6, 1, 0, 0, 0),
-        &[(2_158_963_200, 0, 0)],
+        &[
+            ((2038, 2, 1, 0, 0, 0), &[(start + 2_674_800, 3600, 3600)]),
+            (
+                (2038, 3, 31, 0, 30, 0),
+                &[(start + 7_687_800, 3600, 3600), (start + 7_691_400, 0, 0)],
+            ),
+            ((2038, 6, 1, 0, 0, 0), &[(start + 13_046_400, 0, 0)]),
+            ((2038, 10, 27, 0, 30, 0), &[(start + 25_833_600, 0, 3600)]),
+            ((2038, 11, 1, 0, 0, 0), &[(start + 26_262_000, 3600, 3600)]),
+        ],
+    )?;
+    Ok(())
+}
+
+#[test]
+fn nothing_is_found_after_the_last_transition_without_a_rule(rt: HostRuntime) -> Result<(), Fail> {
+    let types = [LocalTimeType::utc()];
+    let transitions = [Transition::new(0, 0)];
+    let rule = None;
+    let zone = TimeZoneRef::new(&transitions, &types, &[], &rule)?;
+    expect_all(
+        &rt,
+        rt.alloc(),
+        zone,
+        &[
+            ((1969, 12, 31, 23, 59, 59), &[(-1, 0, 0)]),
+            ((1969, 12, 31, 23, 59, 60), &[]),
+            ((1970, 1, 1, 0, 0, 0), &[]),
+        ],
     )?;
     Ok(())
 }

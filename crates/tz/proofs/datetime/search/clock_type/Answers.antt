@@ -1,5 +1,5 @@
 -- The lookup tells the clock's one type.
-use Rattle.std.proofs.Common.{◌≡◌, ap, sym, subst, Some}
+use Rattle.std.proofs.Common.{ap, subst, Some}
 use Rattle.std.proofs.lemmas.Int.{to_z-of_z}
 use Rattle.std.proofs.lemmas.Option.{same_Some, none-some}
 use mir.Syntax.{w64}

@@ -1,5 +1,5 @@
 -- One more turn.
-use Rattle.std.proofs.Common.{◌≡◌, ◌<◌, inl, inr, arith, rules, length, get_or, sym, ap, ◌∙◌, pos, Some}
+use Rattle.std.proofs.Common.{◌≡◌, ◌<◌, inl, inr, arith, rules, get_or, sym, ap, ◌∙◌, pos, Some}
 use Rattle.std.specs.Prelude.{slice_get}
 use Rattle.std.proofs.lemmas.Int.{ints, to_z-of_z}
 use Rattle.std.proofs.lemmas.Bool.{cases_lt}

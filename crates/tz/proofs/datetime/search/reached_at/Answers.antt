@@ -1,5 +1,5 @@
 -- The leap time within reach is not refused, and tells how many transitions have come.
-use Rattle.std.proofs.Common.{◌≡◌, rules}
+use Rattle.std.proofs.Common.{rules}
 use Rattle.std.proofs.lemmas.Int.{to_z-of_z}
 use Rattle.std.proofs.lemmas.Result.{IfErr-weaker, IfOk-at_ok}
 use mir.Syntax.{w64}

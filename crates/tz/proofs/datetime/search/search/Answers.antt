@@ -1,5 +1,5 @@
 -- From one transition to the next, and to the end of the window.
-use Rattle.std.proofs.Common.{◌≡◌, ◌<◌, ◌≤◌, ◌++◌, [], inl, inr, sym, ap, subst, arith, rules, length, ℤ, Option}
+use Rattle.std.proofs.Common.{◌≡◌, ◌≤◌, ◌++◌, [], inl, inr, sym, ap, subst, arith, rules, length, ℤ, Option}
 use Rattle.std.proofs.lemmas.Int.{ints, to_z-of_z}
 use Rattle.std.proofs.lemmas.Result.{on_ok_weaker}
 use mir.Syntax.{w64}
@@ -12,7 +12,7 @@ use Rattle.tz.specs.Found.{IsFound}
 use Rattle.tz.specs.Reached.{IsSteadyAfter, IsKindOf}
 use Rattle.tz.proofs.SearchLemmas.{due_between, on_the_way_from_start, on_the_way_past, found_in_window, over_from_seam, at_seam, found_from_window, few_found}
 use Rattle.tz.proofs.datetime.search.search.Goals as goal
-use Rattle.tz.proofs.datetime.search.search.Goals.{then-come-transitions+in-None, else-come-transitions}
+use Rattle.tz.proofs.datetime.search.search.Goals.{then-come-transitions+in_default, else-come-transitions}
 
 pub loop-place-init : goal.loop-place-init
 loop-place-init g c =
@@ -108,7 +108,7 @@ returns-clause-ok g c =
     let size = ap length c.transitions.ensures in
     let all : c.reached_at-come.result ≤ c.loop-place.place = omega arith in
     let steady : IsSteadyAfter z c.reached_at-come.result = elim c.if-come-transitions.branch [
-      | then-come-transitions+in-None w ↦ inr w.in-None.ensures.none
+      | then-come-transitions+in_default w ↦ inr w.in_default.ensures.none
       | else-come-transitions w ↦ inl (omega (arith, size, c.reached_at-come.ensures.within, w.if-come-transitions.false))
     ] in
     on_ok_weaker c.step-2.result (λ step.

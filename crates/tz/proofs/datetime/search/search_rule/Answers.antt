@@ -1,5 +1,5 @@
 -- The span and the turns around the reading.
-use Rattle.std.proofs.Common.{◌≡◌, ◌++◌, append_assoc, sym, subst, rules, ℤ}
+use Rattle.std.proofs.Common.{◌++◌, append_assoc, sym, subst, rules, ℤ}
 use Rattle.std.specs.Prelude.{IfErr}
 use Rattle.std.proofs.lemmas.Int.{to_z-of_z}
 use Rattle.std.proofs.lemmas.Result.{on_ok_weaker}

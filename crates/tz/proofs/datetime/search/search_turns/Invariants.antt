@@ -1,5 +1,5 @@
 -- The walk has come past the turns so far.
-use Rattle.std.proofs.Common.{◌≡◌, ℕ, ℤ, pos, ◌+ℤ◌, ◌-ℤ◌, ◌≤ℤ◌, List, ◌++◌, nat_abs}
+use Rattle.std.proofs.Common.{ℤ, pos, ◌+ℤ◌, ◌-ℤ◌, ◌≤ℤ◌, List, ◌++◌, nat_abs}
 use Rattle.tz_base.specs.declared.calendar.Fields.{Fields}
 use Rattle.tz_zone.specs.ZoneRef.{zone_of}
 use Rattle.tz.specs.RuleSpans.{IsPastSeam}

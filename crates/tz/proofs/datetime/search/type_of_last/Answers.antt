@@ -1,5 +1,5 @@
 -- A transition names a type of the zone.
-use Rattle.std.proofs.Common.{◌≡◌, ◌≢◌, ◌-◌, ◌<◌, ◌∙◌, inr, sym, ap, arith, rules, length, get_or, Some}
+use Rattle.std.proofs.Common.{◌≡◌, ◌-◌, ◌<◌, ◌∙◌, inr, sym, ap, arith, rules, length, Some}
 use Rattle.std.specs.Prelude.{slice_get}
 use Rattle.std.proofs.lemmas.Option.{slice_get-get_or}
 use Rattle.tz_zone.specs.Table.{Change}

@@ -1,5 +1,5 @@
 -- The types of the rule have its offsets.
-use Rattle.std.proofs.Common.{◌≡◌, inl, inr, ap, arith}
+use Rattle.std.proofs.Common.{inl, inr, ap, arith}
 use Rattle.std.proofs.lemmas.Int.{ints}
 use Rattle.tz_rule.specs.LocalType.{LocalType}
 use Rattle.tz.proofs.KindLemmas.{fixed_type, alternate_type}

@@ -1,5 +1,5 @@
 -- The reading less an offset tells where a type shows it.
-use Rattle.std.proofs.Common.{◌≡◌, ◌-ℤ◌, ◌≤ℤ◌, ◌<ℤ◌, Some, arith, rules}
+use Rattle.std.proofs.Common.{◌-ℤ◌, ◌≤ℤ◌, ◌<ℤ◌, arith}
 use Rattle.std.proofs.lemmas.Int.{ints}
 use Rattle.tz.proofs.WalkLemmas.{no_entry_before, no_entry_after}
 use Rattle.tz.proofs.datetime.walk.Walk.entry.Goals as goal

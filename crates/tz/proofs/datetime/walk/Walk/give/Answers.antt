@@ -1,7 +1,6 @@
 -- Without an entry nothing is given.
-use Rattle.std.proofs.Common.{[], inl, refl, rules}
+use Rattle.std.proofs.Common.{[], inl, refl}
 use Rattle.std.proofs.lemmas.Int.{to_z-of_z}
-use mir.Syntax.{w64}
 use Rattle.tz.proofs.datetime.walk.Walk.give.Goals as goal
 
 pub returns-in-None-clause-ok : goal.returns-in-None-clause-ok

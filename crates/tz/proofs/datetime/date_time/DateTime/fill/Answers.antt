@@ -1,9 +1,10 @@
--- The buffer holds what is found.
+-- The slots hold what is found.
 use Rattle.std.proofs.Common.{◌∙◌, inr, sym, [], arith}
 use Rattle.std.proofs.lemmas.Result.{err_from_is_err_and}
+use Rattle.std.proofs.lemmas.Grind.{common_steps}
 use Rattle.tz.proofs.FarLemmas.{not_out_of_range}
 use Rattle.tz.proofs.SlotLemmas.{filled_none}
-use Rattle.tz.proofs.datetime.date_time.DateTime.find_n_fields.Goals as goal
+use Rattle.tz.proofs.datetime.date_time.DateTime.fill.Goals as goal
 
 pub returns-in_err-search-clause-far : goal.returns-in_err-search-clause-far
 returns-in_err-search-clause-far c =
@@ -13,6 +14,8 @@ returns-in_err-search-clause-far c =
 pub returns-clause-ok : goal.returns-clause-ok
 returns-clause-ok c =
     let ok = c.in_ok-search.ensures.ok in
-    let new = c.new-list.ensures in
+    let new = c.new-writer.ensures in
     let holding = ok.1.1 c.args.buf.now [] (omega (arith, ok.3)) (new.count, new.slots ∙ sym (filled_none c.args.buf.now)) in
-    (ok.0, ok.2, holding.0, holding.1)
+    let same_reference = ok.1.0 ∙ new.same_reference in
+    let slots = holding.1 in
+    (ok.0, ok.2, c.count.ensures ∙ holding.0, grind (arith, common_steps))

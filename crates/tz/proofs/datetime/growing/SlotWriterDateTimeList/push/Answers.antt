@@ -1,6 +1,6 @@
 -- The list grows by the one that is written.
 use Rattle.tz.proofs.SlotLemmas.{grows_by_one}
-use Rattle.tz.proofs.datetime.growing.FoundDateTimeListRefMutDateTimeList.push.Goals as goal
+use Rattle.tz.proofs.datetime.growing.SlotWriterDateTimeList.push.Goals as goal
 
 pub returns-clause-ok : goal.returns-clause-ok
 returns-clause-ok c =
