@@ -1,19 +1,23 @@
 -- Names and refusals as an answer has them, and one more line and its answer.
-use Rattle.std.proofs.Common.{◌≡◌, ◌≢◌, ℕ, ◌+◌, ◌<◌, ◌≤◌, ◌⊎◌, inl, inr, cond, ℤ, List, [], ◌∷◌, ◌++◌, length, refl, sym, ap, ◌∙◌, subst, arith, append_assoc, append-nil, length-append}
-use Rattle.std.specs.Prelude.{Option, Some, None, IfSome, Result, Ok, Err, IfOk, is_ok, unwrap_or, codes}
-use Rattle.std.specs.List.{AllZip, flat_map}
+use Rattle.std.proofs.Common.{◌≡◌, ℕ, ◌+◌, ◌<◌, ◌≤◌, inl, inr, cond, ℤ, List, [], ◌∷◌, ◌++◌, length, take, get_or, refl, sym, ap, ◌∙◌, subst, arith, append_assoc, append-nil, length-append}
+use Rattle.std.specs.Prelude.{Option, Some, None, IfSome, Result, Ok, Err, IfOk, is_ok, unwrap_or, codes, map, ⊤}
+use Rattle.std.proofs.lemmas.List.{take_more, map-append}
 use Rattle.std.proofs.lemmas.List.Elements.{All-nil, All-cons}
 use mir.Syntax.{w32}
 use mir.Val.{SFits}
 use Rattle.tz_base.specs.declared.calendar.Fields.{Fields}
 use Rattle.tz_base.specs.declared.error.TzError.{TzError}
+use Rattle.tz_base.specs.declared.error.TzError.TheVariants.{DateTime, OutOfRange}
+use Rattle.tz_base.specs.declared.error.datetime.DateTimeError.{DateTimeError}
 use Rattle.tz_base.specs.Fields.{IsCivil, IsReading, reading}
 use Rattle.tz_base.proofs.EndLemmas.{valid_reading}
 use Rattle.tz_rule.specs.LocalType.{IsDesignation}
 use Rattle.tz_zone.specs.Table.{Zone}
 use Rattle.tz.specs.DateTimes.{IsClockFault}
+use Rattle.tz.specs.FindFaults.{IsFindFault}
+use Rattle.tz.specs.declared.datetime.found.FoundDateTimeKind.{FoundDateTimeKind}
 use Rattle.tz_query.specs.Lines.{IsLine, IsLineEnd, IsFirstLine, IsCut, AreLines, ended}
-use Rattle.tz_query.specs.Answers.{IsFaultText, IsAnswer, AreAnswers}
+use Rattle.tz_query.specs.Answers.{entry_text, IsFaultText, IsAnswer, AreAnswers}
 
 -- a name, by what the type lends
 pub name_of_nothing : (o : Option (List ℕ)) → IfSome o IsDesignation → length (unwrap_or o []) ≡ 0 → unwrap_or o (45 ∷ []) ≡ 45 ∷ []
@@ -98,3 +102,27 @@ appended (Err x) now was more e = tt
 pub none_from_length : (bytes : List ℕ) → length bytes ≡ 0 → bytes ≡ []
 none_from_length [] none = refl
 none_from_length (b ∷ bytes) none = absurd (omega arith)
+
+-- one more line at the end
+ended_push : (lines : List (List ℕ)) (line : List ℕ) → ended (lines ++ line ∷ []) ≡ ended lines ++ (line ++ 10 ∷ [])
+ended_push [] line = refl
+ended_push (first ∷ lines) line = ap (λ bs. first ++ 10 ∷ bs) (ended_push lines line) ∙ sym (append_assoc first (10 ∷ ended lines) (line ++ 10 ∷ []))
+
+-- the lines of one more entry
+pub entries_more : (found : List FoundDateTimeKind) (i : ℕ) (d : FoundDateTimeKind) → i < length found →
+    ended (map entry_text (take (i + 1) found)) ≡ ended (map entry_text (take i found)) ++ (entry_text (get_or found i d) ++ 10 ∷ [])
+entries_more found i d within =
+    ap (λ es. ended (map entry_text es)) (take_more found i d within)
+    ∙ ap ended (map-append entry_text (take i found) (get_or found i d ∷ []))
+    ∙ ended_push (map entry_text (take i found)) (entry_text (get_or found i d))
+
+-- a search is refused for the fields' fault, out of range, or for want of memory
+pub told_field_fault : (f : Fields) (fault : DateTimeError) → IsFindFault ⊤ f (DateTime fault) → IsFindFault ⊥ f (DateTime fault)
+told_field_fault f fault (inl first) = inl first
+told_field_fault f fault (inr (valid, inl (is, takes))) = absurd cc
+told_field_fault f fault (inr (valid, inr (is, near))) = absurd cc
+
+pub told_out_of_range : (f : Fields) → IsFindFault ⊤ f OutOfRange → IsFindFault ⊥ f OutOfRange
+told_out_of_range f (inl (fault, is, first)) = absurd cc
+told_out_of_range f (inr (valid, inl (is, takes))) = absurd cc
+told_out_of_range f (inr (valid, inr near)) = inr (valid, inr near)

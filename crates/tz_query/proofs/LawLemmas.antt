@@ -1,13 +1,17 @@
--- Bytes have one cut into lines, and a line has one answer.
-use Rattle.std.proofs.Common.{◌≡◌, ◌≢◌, ℕ, ◌<◌, ◌≤◌, ◌⊎◌, inl, inr, ℤ, pos, ◌+ℤ◌, List, [], ◌∷◌, ◌++◌, length, refl, sym, ap, ◌∙◌, subst, arith, append_assoc, append-nil}
-use Rattle.std.specs.Prelude.{codes}
-use Rattle.std.specs.List.{AllZip, flat_map}
+-- Bytes have one cut into lines, a line has a group of answer lines, and most lines have one answer.
+use Rattle.std.proofs.Common.{◌≡◌, ◌≢◌, ℕ, ◌⊎◌, inl, inr, ℤ, pos, negsuc, ◌+ℤ◌, List, [], ◌∷◌, ◌++◌, length, get_or, refl, sym, ap, ◌∙◌, subst, arith, append_assoc}
+use Rattle.std.specs.Prelude.{codes, map}
+use Rattle.std.specs.Fmt.{decimal}
+use Rattle.std.specs.List.{All, AllZip, flat_map}
 use Rattle.std.proofs.lemmas.Int.{ints}
+use Rattle.std.proofs.lemmas.List.{length-map}
 use Rattle.std.proofs.lemmas.List.Elements.{All-head, All-tail}
 use Rattle.tz_base.specs.declared.calendar.Fields.{Fields}
 use Rattle.tz_base.specs.declared.error.TzError.{TzError}
 use Rattle.tz_base.specs.declared.error.TzError.TheVariants.{DateTime, OutOfRange, NoAvailableLocalTimeType}
-use Rattle.tz_base.specs.Fields.{IsCivil, IsReading, reading}
+use Rattle.tz_base.specs.declared.error.datetime.DateTimeError.{DateTimeError}
+use Rattle.tz_base.specs.declared.error.datetime.DateTimeError.TheVariants.{InvalidMonth, InvalidMonthDay, InvalidHour, InvalidMinute, InvalidSecond, InvalidNanoseconds}
+use Rattle.tz_base.specs.Fields.{IsCivil, IsFirstFault, IsReading, IsValid, reading}
 use Rattle.tz_base.proofs.OrderLemmas.{civil_unique}
 use Rattle.tz_rule.specs.LocalType.{LocalType}
 use Rattle.tz_zone.specs.Table.{Zone}
@@ -15,12 +19,17 @@ use Rattle.tz_zone.specs.Clock.{IsClock, IsOver, IsTypeAfter}
 use Rattle.tz_zone.specs.ValidZone.{AreLeapSeconds}
 use Rattle.tz_zone.proofs.Clocks.{clock_unique, type_after_from_clock}
 use Rattle.tz.specs.DateTimes.{LocalMoment, ShowsByClock, IsClockFault}
-use Rattle.tz.specs.PrintedText.{printed_text}
+use Rattle.tz.specs.FindFaults.{IsFindFault, IsFarFromEnds}
+use Rattle.tz.specs.Found.{IsFound}
+use Rattle.tz.specs.declared.datetime.found.FoundDateTimeKind.{FoundDateTimeKind}
+use Rattle.tz.proofs.FarLemmas.{not_out_of_range, valid_without_fault}
 use Rattle.tz_query.specs.Lines.{IsLine, IsCut, AreLines, ended}
-use Rattle.tz_query.specs.Queries.{Query, Time, IsTimeLine, IsQueryLine}
-use Rattle.tz_query.specs.Answers.{name_text, moment_text, IsFaultText, IsTimeAnswer, IsQueryAnswer, IsAnswer, AreAnswers, IsLineAnswer}
-use Rattle.tz_query.proofs.NumberLemmas.{number_front_unique}
+use Rattle.tz_query.specs.Numbers.{AreNumbers}
+use Rattle.tz_query.specs.Queries.{Query, Time, Search, IsLineOf, IsQueryLine, numbers_of}
+use Rattle.tz_query.specs.Answers.{moment_text, entry_text, found_lines, IsFaultText, IsTimeAnswer, IsSearchAnswer, IsQueryAnswer, IsAnswer, AreAnswers, IsGroup, HasOneAnswer}
 use Rattle.tz_query.proofs.AnswerLemmas.{no_lines}
+use Rattle.tz_query.proofs.FoundLemmas.{found_unique}
+use Rattle.tz_query.proofs.NumberLemmas.{parts_in_front, parts_unique}
 
 -- a line has no LF
 no_end_within : (line front rest : List ℕ) → IsLine line → line ≡ front ++ 10 ∷ rest → ⊥
@@ -86,44 +95,62 @@ lines_unique bytes (line ∷ lines) (other ∷ others) are are' = both (λ rest 
     both again (inr (none, whole)) (inl (rest, cut, more)) = absurd (no_end_within line other rest is (sym whole ∙ cut))
     both again (inr (none, whole)) (inr (none', whole')) = cc
 
--- the answer lines of a line are one
-one_answer : (z : Zone) (line : List ℕ) (answer : List (List ℕ)) → IsAnswer z line answer → (text : List ℕ) × (answer ≡ text ∷ [])
-one_answer z line answer (inl (Time u n, is, (text, told, same))) = (text, same)
-one_answer z line answer (inr (none, same)) = (codes "E Line", same)
+-- the answer lines of a line are a group
+pub group_of_answer : (z : Zone) (line : List ℕ) (answer : List (List ℕ)) → IsAnswer z line answer → IsGroup answer
+group_of_answer z line answer (inl (Time u n, is, (text, told, same))) = inl (text, same)
+group_of_answer z line answer (inl (Search f, is, inl (found, valid, list, same))) =
+    inr (map entry_text found, same ∙ ap (λ count. (codes "F " ++ decimal count) ∷ map entry_text found) (sym (length-map found entry_text)))
+group_of_answer z line answer (inl (Search f, is, inr (e, text, fault, told, same))) = inl (codes "E " ++ text, same)
+group_of_answer z line answer (inr (none, same)) = inl (codes "E Line", same)
 
-answers_zip : (z : Zone) (lines : List (List ℕ)) (answers : List (List (List ℕ))) → AllZip (IsAnswer z) lines answers → (texts : List (List ℕ)) × AllZip (IsLineAnswer z) lines texts × (flat_map ended answers ≡ ended texts)
-answers_zip z [] [] each = ([], tt, refl)
-answers_zip z [] (answer ∷ answers) each = absurd each
-answers_zip z (line ∷ lines) [] each = absurd each
-answers_zip z (line ∷ lines) (answer ∷ answers) each =
-    let one = one_answer z line answer each.0 in
-    let more = answers_zip z lines answers each.1 in (
-      one.0 ∷ more.0,
-      (subst (IsAnswer z line) one.1 each.0, more.1),
-      ap (λ a. ended a ++ flat_map ended answers) one.1 ∙ append_assoc one.0 (10 ∷ []) (flat_map ended answers) ∙ ap (λ bs. one.0 ++ 10 ∷ bs) more.2,
-    )
+-- and they come in the order of the lines
+pub answer_groups : (z : Zone) (queries bytes : List ℕ) (lines : List (List ℕ)) → AreAnswers z queries bytes → AreLines queries lines → (answers : List (List (List ℕ))) × AllZip (IsAnswer z) lines answers × (bytes ≡ flat_map ended answers)
+answer_groups z queries bytes lines are cut =
+    (are.answers, subst (λ ls. AllZip (IsAnswer z) ls are.answers) (lines_unique queries are.lines lines are.cut cut) are.each, are.written)
 
-pub answer_lines : (z : Zone) (queries bytes : List ℕ) (lines : List (List ℕ)) → AreAnswers z queries bytes → AreLines queries lines → (answers : List (List ℕ)) × AllZip (IsLineAnswer z) lines answers × (bytes ≡ ended answers)
-answer_lines z queries bytes lines are cut =
-    let found = answers_zip z are.lines are.answers are.each in
-    (found.0, subst (λ ls. AllZip (IsLineAnswer z) ls found.0) (lines_unique queries are.lines lines are.cut cut) found.1, are.written ∙ found.2)
+-- a line has one letter, and as many numbers are the same
+numbers_unique : (text : List ℕ) (numbers others : List ℤ) → length numbers ≡ length others → AreNumbers text numbers → AreNumbers text others → numbers ≡ others
+numbers_unique text numbers others same are are' =
+    (parts_unique (text ++ []) numbers others [] [] same (parts_in_front text numbers [] are tt) (parts_in_front text others [] are' tt)).0
+
+line_of_unique : (letter letter' : ℕ) (numbers others : List ℤ) (line : List ℕ) → IsLineOf letter numbers line → IsLineOf letter' others line → (letter ≡ letter') × (length numbers ≡ length others → numbers ≡ others)
+line_of_unique letter letter' numbers others line is is' =
+    let whole : letter ∷ is.parts ≡ letter' ∷ is'.parts = sym is.whole ∙ is'.whole in
+    let first : letter ≡ letter' = cc in
+    let behind : is'.parts ≡ is.parts = cc in
+    (first, λ same. numbers_unique is.parts numbers others same is.are_numbers (subst (λ t. AreNumbers t others) behind is'.are_numbers))
+
+-- the numbers of fields tell the fields
+abbrev size_of : ℤ → ℕ
+size_of (pos n) = n
+size_of (negsuc n) = 0
+
+abbrev fields_from : List ℤ → Fields
+fields_from numbers = record {
+  year = get_or numbers 0 (pos 0);
+  month = size_of (get_or numbers 1 (pos 0));
+  month_day = size_of (get_or numbers 2 (pos 0));
+  hour = size_of (get_or numbers 3 (pos 0));
+  minute = size_of (get_or numbers 4 (pos 0));
+  second = size_of (get_or numbers 5 (pos 0));
+  nanoseconds = size_of (get_or numbers 6 (pos 0));
+}
+
+fields_unique : (f g : Fields) → numbers_of f ≡ numbers_of g → f ≡ g
+fields_unique f g same = ap fields_from same
 
 -- a line asks for one thing
-time_line_unique : (line : List ℕ) (u u' : ℤ) (n n' : ℕ) → IsTimeLine line u n → IsTimeLine line u' n' → (u ≡ u') × (n ≡ n')
-time_line_unique line u u' n n' is is' =
-    let bytes = is.seconds ++ 32 ∷ is.nanoseconds in
-    let bytes' = is'.seconds ++ 32 ∷ is'.nanoseconds in
-    let both : 84 ∷ 32 ∷ bytes ≡ 84 ∷ 32 ∷ bytes' = sym is.parts ∙ is'.parts in
-    let same : bytes ≡ bytes' = cc in
-    let seconds = number_front_unique bytes u u' (32 ∷ is.nanoseconds) (32 ∷ is'.nanoseconds)
-    (record { text = is.seconds; whole = refl; is_number = is.seconds_are; ends = λ digit. absurd (omega (arith, digit)) })
-    (record { text = is'.seconds; whole = same; is_number = is'.seconds_are; ends = λ digit. absurd (omega (arith, digit)) }) in
-    let behind = seconds.1 in
-    let rest : is.nanoseconds ≡ is'.nanoseconds = cc in
-    let nanoseconds = number_front_unique is.nanoseconds (pos n) (pos n') [] []
-    (record { text = is.nanoseconds; whole = sym (append-nil is.nanoseconds); is_number = is.nanoseconds_are; ends = tt })
-    (record { text = is'.nanoseconds; whole = rest ∙ sym (append-nil is'.nanoseconds); is_number = is'.nanoseconds_are; ends = tt }) in
-    (seconds.0, omega (arith, ints, nanoseconds.0))
+query_unique : (line : List ℕ) (query query' : Query) → IsQueryLine line query → IsQueryLine line query' → query ≡ query'
+query_unique line (Time u n) (Time u' n') is is' =
+    let same : u ∷ pos n ∷ [] ≡ u' ∷ pos n' ∷ [] = (line_of_unique 84 84 (u ∷ pos n ∷ []) (u' ∷ pos n' ∷ []) line is.line_is is'.line_is).1 refl in
+    let seconds : u ≡ u' = cc in
+    let number : pos n ≡ pos n' = cc in
+    let nanoseconds : n ≡ n' = omega (arith, ints, number) in
+    ap (λ x. Time x n) seconds ∙ ap (λ x. Time u' x) nanoseconds
+query_unique line (Time u n) (Search f) is is' = absurd (omega (arith, (line_of_unique 84 70 (u ∷ pos n ∷ []) (numbers_of f) line is.line_is is'.line_is).0))
+query_unique line (Search f) (Time u n) is is' = absurd (omega (arith, (line_of_unique 70 84 (numbers_of f) (u ∷ pos n ∷ []) line is.line_is is'.line_is).0))
+query_unique line (Search f) (Search g) is is' =
+    ap (λ x. Search x) (fields_unique f g ((line_of_unique 70 70 (numbers_of f) (numbers_of g) line is.line_is is'.line_is).1 refl))
 
 -- a refusal has one text
 fault_text_unique : (e : TzError) (text text' : List ℕ) → IsFaultText e text → IsFaultText e text' → text ≡ text'
@@ -179,34 +206,143 @@ module _ (z : Zone) (leaps : AreLeapSeconds z.leap_seconds) (u : ℤ) (n : ℕ) 
       let one = fault_text_unique e text text' is (subst (λ x. IsFaultText x text') (sym (fault_unique e e' fault fault')) is') in
       same ∙ ap (λ t. 69 ∷ 32 ∷ t) one ∙ sym same'
 
--- what a line asks for has one answer
-query_answer_unique : (z : Zone) (line : List ℕ) (query query' : Query) (answer other : List ℕ) → AreLeapSeconds z.leap_seconds → IsQueryLine line query → IsQueryLine line query' → IsQueryAnswer z query (answer ∷ []) → IsQueryAnswer z query' (other ∷ []) → answer ≡ other
-query_answer_unique z line (Time u n) (Time u' n') answer other leaps is is' (text, told, same) (text', told', same') =
-    let query = time_line_unique line u u' n n' is is' in
-    let told_here : IsTimeAnswer z u n text' = subst (λ x. IsTimeAnswer z x n text') (sym query.0) (subst (λ m. IsTimeAnswer z u' m text') (sym query.1) told') in
-    let one = time_answer_unique z leaps u n text text' told told_here in
+-- fields have one first fault
+first_fault_unique : (f : Fields) (a b : DateTimeError) → IsFirstFault f a → IsFirstFault f b → a ≡ b
+first_fault_unique f InvalidMonth InvalidMonth is is' = refl
+first_fault_unique f InvalidMonth InvalidMonthDay is is' = absurd (is is'.0)
+first_fault_unique f InvalidMonth InvalidHour is is' = absurd (is is'.0)
+first_fault_unique f InvalidMonth InvalidMinute is is' = absurd (is is'.0)
+first_fault_unique f InvalidMonth InvalidSecond is is' = absurd (is is'.0)
+first_fault_unique f InvalidMonth InvalidNanoseconds is is' = absurd (is is'.0)
+first_fault_unique f InvalidMonthDay InvalidMonth is is' = absurd (is' is.0)
+first_fault_unique f InvalidMonthDay InvalidMonthDay is is' = refl
+first_fault_unique f InvalidMonthDay InvalidHour (month, inl day) is' = absurd (day is'.1)
+first_fault_unique f InvalidMonthDay InvalidHour (month, inr (range, past)) is' = absurd (omega (arith, range.hour, is'.2))
+first_fault_unique f InvalidMonthDay InvalidMinute (month, inl day) is' = absurd (day is'.1)
+first_fault_unique f InvalidMonthDay InvalidMinute (month, inr (range, past)) is' = absurd (omega (arith, range.minute, is'.3))
+first_fault_unique f InvalidMonthDay InvalidSecond (month, inl day) is' = absurd (day is'.1)
+first_fault_unique f InvalidMonthDay InvalidSecond (month, inr (range, past)) is' = absurd (omega (arith, range.second, is'.4))
+first_fault_unique f InvalidMonthDay InvalidNanoseconds (month, inl day) is' = absurd (day is'.1)
+first_fault_unique f InvalidMonthDay InvalidNanoseconds (month, inr (range, past)) is' = absurd (omega (arith, range.nanoseconds, is'.5))
+first_fault_unique f InvalidHour InvalidMonth is is' = absurd (is' is.0)
+first_fault_unique f InvalidHour InvalidMonthDay is (month, inl day) = absurd (day is.1)
+first_fault_unique f InvalidHour InvalidMonthDay is (month, inr (range, past)) = absurd (omega (arith, range.hour, is.2))
+first_fault_unique f InvalidHour InvalidHour is is' = refl
+first_fault_unique f InvalidHour InvalidMinute is is' = absurd (omega (arith, is.2, is'.2))
+first_fault_unique f InvalidHour InvalidSecond is is' = absurd (omega (arith, is.2, is'.2))
+first_fault_unique f InvalidHour InvalidNanoseconds is is' = absurd (omega (arith, is.2, is'.2))
+first_fault_unique f InvalidMinute InvalidMonth is is' = absurd (is' is.0)
+first_fault_unique f InvalidMinute InvalidMonthDay is (month, inl day) = absurd (day is.1)
+first_fault_unique f InvalidMinute InvalidMonthDay is (month, inr (range, past)) = absurd (omega (arith, range.minute, is.3))
+first_fault_unique f InvalidMinute InvalidHour is is' = absurd (omega (arith, is'.2, is.2))
+first_fault_unique f InvalidMinute InvalidMinute is is' = refl
+first_fault_unique f InvalidMinute InvalidSecond is is' = absurd (omega (arith, is.3, is'.3))
+first_fault_unique f InvalidMinute InvalidNanoseconds is is' = absurd (omega (arith, is.3, is'.3))
+first_fault_unique f InvalidSecond InvalidMonth is is' = absurd (is' is.0)
+first_fault_unique f InvalidSecond InvalidMonthDay is (month, inl day) = absurd (day is.1)
+first_fault_unique f InvalidSecond InvalidMonthDay is (month, inr (range, past)) = absurd (omega (arith, range.second, is.4))
+first_fault_unique f InvalidSecond InvalidHour is is' = absurd (omega (arith, is'.2, is.2))
+first_fault_unique f InvalidSecond InvalidMinute is is' = absurd (omega (arith, is'.3, is.3))
+first_fault_unique f InvalidSecond InvalidSecond is is' = refl
+first_fault_unique f InvalidSecond InvalidNanoseconds is is' = absurd (omega (arith, is.4, is'.4))
+first_fault_unique f InvalidNanoseconds InvalidMonth is is' = absurd (is' is.0)
+first_fault_unique f InvalidNanoseconds InvalidMonthDay is (month, inl day) = absurd (day is.1)
+first_fault_unique f InvalidNanoseconds InvalidMonthDay is (month, inr (range, past)) = absurd (omega (arith, range.nanoseconds, is.5))
+first_fault_unique f InvalidNanoseconds InvalidHour is is' = absurd (omega (arith, is'.2, is.2))
+first_fault_unique f InvalidNanoseconds InvalidMinute is is' = absurd (omega (arith, is'.3, is.3))
+first_fault_unique f InvalidNanoseconds InvalidSecond is is' = absurd (omega (arith, is'.4, is.4))
+first_fault_unique f InvalidNanoseconds InvalidNanoseconds is is' = refl
+
+-- why a search is refused, want of memory aside, is one reason where it is not both
+search_fault_unique : (f : Fields) (e e' : TzError) → IsFindFault ⊥ f e → IsFindFault ⊥ f e' → e ≡ e'
+search_fault_unique f e e' (inl (a, is, first)) (inl (b, is', first')) = is ∙ ap (λ x. DateTime x) (first_fault_unique f a b first first') ∙ sym is'
+search_fault_unique f e e' (inl (a, is, first)) (inr (valid, fault)) = absurd (valid_without_fault f valid a first)
+search_fault_unique f e e' (inr (valid, fault)) (inl (b, is, first)) = absurd (valid_without_fault f valid b first)
+search_fault_unique f e e' (inr (valid, inl (is, none))) (inr fault) = absurd none
+search_fault_unique f e e' (inr (valid, inr (is, near))) (inr (valid', inl (is', none))) = absurd none
+search_fault_unique f e e' (inr (valid, inr (is, near))) (inr (valid', inr (is', near'))) = is ∙ sym is'
+
+-- valid fields far from the ends have an answer that is no refusal
+no_far_fault : (f : Fields) → IsValid f → IsFarFromEnds f.year → (e : TzError) → ¬ IsFindFault ⊥ f e
+no_far_fault f valid far e (inl (fault, is, first)) = valid_without_fault f valid fault first
+no_far_fault f valid far e (inr (valid', inl (is, none))) = none
+no_far_fault f valid far e (inr (valid', inr (is, near))) = not_out_of_range ⊥ f far e (inr (valid', inr (is, near))) is
+
+-- the list is one, and so is the refusal
+found_answers_same : (z : Zone) (f : Fields) (answer other : List (List ℕ)) (found others : List FoundDateTimeKind) → IsFound (IsClock z) f found → IsFound (IsClock z) f others →
+    answer ≡ found_lines found → other ≡ found_lines others → answer ≡ other
+found_answers_same z f answer other found others list list' same same' = same ∙ ap found_lines (found_unique (IsClock z) f found others list list') ∙ sym same'
+
+refused_answers_same : (f : Fields) (answer other : List (List ℕ)) (e e' : TzError) (text text' : List ℕ) → IsFindFault ⊥ f e → IsFindFault ⊥ f e' → IsFaultText e text → IsFaultText e' text' →
+    answer ≡ (codes "E " ++ text) ∷ [] → other ≡ (codes "E " ++ text') ∷ [] → answer ≡ other
+refused_answers_same f answer other e e' text text' fault fault' told told' same same' =
+    let one = fault_text_unique e text text' told (subst (λ x. IsFaultText x text') (sym (search_fault_unique f e e' fault fault')) told') in
+    same ∙ ap (λ t. (codes "E " ++ t) ∷ []) one ∙ sym same'
+
+-- fields have one answer, unless they are valid and near an end of the years of 32 bits
+search_answer_unique : (z : Zone) (f : Fields) → (IsValid f → IsFarFromEnds f.year) → (answer other : List (List ℕ)) → IsSearchAnswer z f answer → IsSearchAnswer z f other → answer ≡ other
+search_answer_unique z f far answer other (inl (found, valid, list, same)) (inl (others, valid', list', same')) = found_answers_same z f answer other found others list list' same same'
+search_answer_unique z f far answer other (inl (found, valid, list, same)) (inr (e, text, fault, told, same')) = absurd (no_far_fault f valid (far valid) e fault)
+search_answer_unique z f far answer other (inr (e, text, fault, told, same)) (inl (found, valid, list, same')) = absurd (no_far_fault f valid (far valid) e fault)
+search_answer_unique z f far answer other (inr (e, text, fault, told, same)) (inr (e', text', fault', told', same')) =
+    refused_answers_same f answer other e e' text text' fault fault' told told' same same'
+
+-- near an end they may have two, one of which is that the search is out of range
+abbrev pub AreAlike : List (List ℕ) → List (List ℕ) → Type 0
+AreAlike answer other = (answer ≡ other) ⊎ (answer ≡ codes "E OutOfRange" ∷ []) ⊎ (other ≡ codes "E OutOfRange" ∷ [])
+
+valid_out_of_range : (f : Fields) → IsValid f → (e : TzError) (text : List ℕ) → IsFindFault ⊥ f e → IsFaultText e text → text ≡ codes "OutOfRange"
+valid_out_of_range f valid e text (inl (fault, is, first)) told = absurd (valid_without_fault f valid fault first)
+valid_out_of_range f valid e text (inr (valid', inl (is, none))) told = absurd none
+valid_out_of_range f valid e text (inr (valid', inr (is, near))) told = subst (λ x. IsFaultText x text) is told
+
+search_answers_alike : (z : Zone) (f : Fields) (answer other : List (List ℕ)) → IsSearchAnswer z f answer → IsSearchAnswer z f other → AreAlike answer other
+search_answers_alike z f answer other (inl (found, valid, list, same)) (inl (others, valid', list', same')) = inl (found_answers_same z f answer other found others list list' same same')
+search_answers_alike z f answer other (inl (found, valid, list, same)) (inr (e, text, fault, told, same')) = inr (inr (same' ∙ ap (λ t. (codes "E " ++ t) ∷ []) (valid_out_of_range f valid e text fault told)))
+search_answers_alike z f answer other (inr (e, text, fault, told, same)) (inl (found, valid, list, same')) = inr (inl (same ∙ ap (λ t. (codes "E " ++ t) ∷ []) (valid_out_of_range f valid e text fault told)))
+search_answers_alike z f answer other (inr (e, text, fault, told, same)) (inr (e', text', fault', told', same')) =
+    inl (refused_answers_same f answer other e e' text text' fault fault' told told' same same')
+
+-- what a line asks for has one answer, or such two
+time_query_unique : (z : Zone) (u : ℤ) (n : ℕ) (answer other : List (List ℕ)) → AreLeapSeconds z.leap_seconds → IsQueryAnswer z (Time u n) answer → IsQueryAnswer z (Time u n) other → answer ≡ other
+time_query_unique z u n answer other leaps (text, told, same) (text', told', same') = same ∙ ap (λ t. t ∷ []) (time_answer_unique z leaps u n text text' told told') ∙ sym same'
+
+query_answer_unique : (z : Zone) (line : List ℕ) (query : Query) (answer other : List (List ℕ)) → AreLeapSeconds z.leap_seconds → HasOneAnswer line → IsQueryLine line query → IsQueryAnswer z query answer → IsQueryAnswer z query other → answer ≡ other
+query_answer_unique z line (Time u n) answer other leaps one is told told' = time_query_unique z u n answer other leaps told told'
+query_answer_unique z line (Search f) answer other leaps one is told told' = search_answer_unique z f (one f is) answer other told told'
+
+query_answers_alike : (z : Zone) (query : Query) (answer other : List (List ℕ)) → AreLeapSeconds z.leap_seconds → IsQueryAnswer z query answer → IsQueryAnswer z query other → AreAlike answer other
+query_answers_alike z (Time u n) answer other leaps told told' = inl (time_query_unique z u n answer other leaps told told')
+query_answers_alike z (Search f) answer other leaps told told' = search_answers_alike z f answer other told told'
+
+pub line_answers_alike : (z : Zone) (line : List ℕ) (answer other : List (List ℕ)) → AreLeapSeconds z.leap_seconds → IsAnswer z line answer → IsAnswer z line other → AreAlike answer other
+line_answers_alike z line answer other leaps (inl (query, is, told)) (inl (query', is', told')) =
+    query_answers_alike z query answer other leaps told (subst (λ q. IsQueryAnswer z q other) (sym (query_unique line query query' is is')) told')
+line_answers_alike z line answer other leaps (inl (query, is, told)) (inr (none, same)) = absurd (none query is)
+line_answers_alike z line answer other leaps (inr (none, same)) (inl (query, is, told)) = absurd (none query is)
+line_answers_alike z line answer other leaps (inr (none, same)) (inr (none', same')) = inl (same ∙ sym same')
+
+-- a line that has one answer
+pub line_answer_unique : (z : Zone) (line : List ℕ) (answer other : List (List ℕ)) → AreLeapSeconds z.leap_seconds → HasOneAnswer line → IsAnswer z line answer → IsAnswer z line other → answer ≡ other
+line_answer_unique z line answer other leaps one (inl (query, is, told)) (inl (query', is', told')) =
+    query_answer_unique z line query answer other leaps one is told (subst (λ q. IsQueryAnswer z q other) (sym (query_unique line query query' is is')) told')
+line_answer_unique z line answer other leaps one (inl (query, is, told)) (inr (none, same)) = absurd (none query is)
+line_answer_unique z line answer other leaps one (inr (none, same)) (inl (query, is, told)) = absurd (none query is)
+line_answer_unique z line answer other leaps one (inr (none, same)) (inr (none', same')) = same ∙ sym same'
+
+zip_unique : (z : Zone) (lines : List (List ℕ)) (answers others : List (List (List ℕ))) → AreLeapSeconds z.leap_seconds → All HasOneAnswer lines → AllZip (IsAnswer z) lines answers → AllZip (IsAnswer z) lines others → answers ≡ others
+zip_unique z [] [] [] leaps one each each' = refl
+zip_unique z [] [] (x ∷ others) leaps one each each' = absurd each'
+zip_unique z [] (x ∷ answers) others leaps one each each' = absurd each
+zip_unique z (line ∷ lines) [] others leaps one each each' = absurd each
+zip_unique z (line ∷ lines) (answer ∷ answers) [] leaps one each each' = absurd each'
+zip_unique z (line ∷ lines) (answer ∷ answers) (other ∷ others) leaps one each each' =
+    let first = line_answer_unique z line answer other leaps (All-head HasOneAnswer line lines one) each.0 each'.0 in
+    let more = zip_unique z lines answers others leaps (All-tail HasOneAnswer line lines one) each.1 each'.1 in
     cc
 
--- a line has one answer
-pub line_answer_unique : (z : Zone) (line answer other : List ℕ) → AreLeapSeconds z.leap_seconds → IsLineAnswer z line answer → IsLineAnswer z line other → answer ≡ other
-line_answer_unique z line answer other leaps (inl (query, is, told)) (inl (query', is', told')) = query_answer_unique z line query query' answer other leaps is is' told told'
-line_answer_unique z line answer other leaps (inl (query, is, told)) (inr (none, same)) = absurd (none query is)
-line_answer_unique z line answer other leaps (inr (none, same)) (inl (query, is, told)) = absurd (none query is)
-line_answer_unique z line answer other leaps (inr (none, same)) (inr (none', same')) = cc
-
-zip_unique : (z : Zone) (lines answers others : List (List ℕ)) → AreLeapSeconds z.leap_seconds → AllZip (IsLineAnswer z) lines answers → AllZip (IsLineAnswer z) lines others → answers ≡ others
-zip_unique z [] [] [] leaps each each' = refl
-zip_unique z [] [] (x ∷ others) leaps each each' = absurd each'
-zip_unique z [] (x ∷ answers) others leaps each each' = absurd each
-zip_unique z (line ∷ lines) [] others leaps each each' = absurd each
-zip_unique z (line ∷ lines) (answer ∷ answers) [] leaps each each' = absurd each'
-zip_unique z (line ∷ lines) (answer ∷ answers) (other ∷ others) leaps each each' =
-    let first = line_answer_unique z line answer other leaps each.0 each'.0 in
-    let more = zip_unique z lines answers others leaps each.1 each'.1 in
-    cc
-
-pub answers_unique : (z : Zone) (queries bytes others : List ℕ) → AreLeapSeconds z.leap_seconds → AreAnswers z queries bytes → AreAnswers z queries others → bytes ≡ others
-answers_unique z queries bytes others leaps are are' =
-    let found = answer_lines z queries bytes are.lines are are.cut in
-    let found' = answer_lines z queries others are.lines are' are.cut in
-    found.2 ∙ ap ended (zip_unique z are.lines found.0 found'.0 leaps found.1 found'.1) ∙ sym found'.2
+pub answers_unique : (z : Zone) (queries bytes others : List ℕ) (lines : List (List ℕ)) → AreLeapSeconds z.leap_seconds → AreLines queries lines → All HasOneAnswer lines → AreAnswers z queries bytes → AreAnswers z queries others → bytes ≡ others
+answers_unique z queries bytes others lines leaps cut one are are' =
+    let found = answer_groups z queries bytes lines are cut in
+    let found' = answer_groups z queries others lines are' cut in
+    found.2 ∙ ap (λ groups. flat_map ended groups) (zip_unique z lines found.0 found'.0 leaps one found.1 found'.1) ∙ sym found'.2

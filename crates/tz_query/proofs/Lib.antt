@@ -1,5 +1,5 @@
 pub mod NumberLemmas
 pub mod LineLemmas
 pub mod AnswerLemmas
-pub mod ProgramLemmas
 pub mod LawLemmas
+pub mod FoundLemmas

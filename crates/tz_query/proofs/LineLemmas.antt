@@ -1,16 +1,16 @@
--- Where the first line ends, and that what a `T` line asks for is what stands in front.
-use Rattle.std.proofs.Common.{◌≡◌, ◌≢◌, ℕ, suc, ◌+◌, ◌^◌, ◌<◌, ◌⊎◌, inl, inr, ℤ, pos, List, [], ◌∷◌, ◌++◌, length, take, drop, get_or, refl, sym, ap, ◌∙◌, subst, arith, append_assoc, append-nil}
-use Rattle.std.specs.Prelude.{FitsSigned, All, codes}
-use Rattle.std.specs.Int.{w64, FitsUnsignedBits}
+-- Where the first line ends, and that what a line asks for is what stands in front.
+use Rattle.std.proofs.Common.{◌≡◌, ◌≢◌, ℕ, ◌+◌, ◌^◌, ◌<◌, inl, inr, ℤ, pos, List, [], ◌∷◌, ◌++◌, length, take, drop, get_or, refl, sym, ap, ◌∙◌, subst, arith, append-nil}
+use Rattle.std.specs.Prelude.{FitsSigned}
+use Rattle.std.specs.Int.{w64}
 use Rattle.std.specs.Char.{digit_value}
 use Rattle.std.specs.Str.Parse.{AllDigits}
-use Rattle.std.proofs.lemmas.Int.{ints}
-use Rattle.std.proofs.lemmas.List.{drop_more, take-append-drop}
+use Rattle.std.proofs.lemmas.List.{drop_more, length-take-le, take-append-drop}
 use Rattle.std.proofs.lemmas.List.Elements.{All-nil, All-cons, All-append}
 use Rattle.tz_query.specs.Lines.{IsLine, IsLineEnd, IsFirstLine}
-use Rattle.tz_query.specs.Numbers.{IsNumber, IsNumberFront, EndsDigits}
-use Rattle.tz_query.specs.Queries.{Query, Time, IsTimeLine, IsQueryLine, IsTimeFront, IsTimeLineFront}
-use Rattle.tz_query.proofs.NumberLemmas.{number_front_unique}
+use Rattle.tz_base.specs.declared.calendar.Fields.{Fields}
+use Rattle.tz_query.specs.Numbers.{IsNumber, EndsDigits, AreNumbers, IsPartFront, ArePartsFront}
+use Rattle.tz_query.specs.Queries.{Query, Time, Search, IsLineOf, IsTimeLine, IsSearchLine, IsQueryLine, AreFieldsOfBits, numbers_of, IsTimeLineFront, IsSearchLineFront}
+use Rattle.tz_query.proofs.NumberLemmas.{no_part_after, parts_unique, parts_in_front, numbers_from_parts}
 
 -- the first line ends at an LF, or where the bytes end
 pub first_line_to_end : (bytes : List ℕ) (i : ℕ) → i < length bytes → IsLine (take i bytes) → get_or bytes i 0 ≡ 10 → IsFirstLine bytes (take i bytes) (drop (i + 1) bytes)
@@ -35,80 +35,87 @@ line_end_ends_digits : (tail rest : List ℕ) → IsLineEnd tail rest → EndsDi
 line_end_ends_digits tail rest (inl is) = subst EndsDigits (sym is) (λ digit. absurd (omega (arith, digit)))
 line_end_ends_digits tail rest (inr is) = subst EndsDigits (sym is.0) tt
 
-module _ (bytes : List ℕ) (u : ℤ) (n : ℕ) (rest : List ℕ) where
-  -- a `T` line in front is its parts in front of what follows `T `
-  pub time_front_from_line : (whole line : List ℕ) → whole ≡ 84 ∷ 32 ∷ bytes → IsFirstLine whole line rest → IsTimeLine line u n → IsTimeFront bytes u n rest
-  time_front_from_line whole line is first time =
-      let both : 84 ∷ 32 ∷ bytes ≡ (codes "T " ++ (time.seconds ++ 32 ∷ time.nanoseconds)) ++ first.tail = sym is ∙ first.cut ∙ ap (λ l. l ++ first.tail) time.parts in
-      let same : bytes ≡ (time.seconds ++ 32 ∷ time.nanoseconds) ++ first.tail = cc in
-      record {
-        after_seconds = time.nanoseconds ++ first.tail;
-        tail = first.tail;
-        seconds = record { text = time.seconds; whole = same ∙ append_assoc time.seconds (32 ∷ time.nanoseconds) first.tail; is_number = time.seconds_are; ends = λ digit. absurd (omega (arith, digit)) };
-        nanoseconds = record { text = time.nanoseconds; whole = refl; is_number = time.nanoseconds_are; ends = line_end_ends_digits first.tail rest first.end };
-        end = first.end;
-        seconds_fit = time.seconds_fit;
-        nanoseconds_fit = time.nanoseconds_fit;
-      }
+-- numbers have no LF
+numbers_are_line : (text : List ℕ) (numbers : List ℤ) → AreNumbers text numbers → IsLine text
+numbers_are_line text [] are = subst IsLine (sym are) (All-nil (λ b. b ≢ 10))
+numbers_are_line text (n ∷ numbers) (number, rest, whole, is, are) =
+    subst IsLine (sym whole) (All-cons (λ b. b ≢ 10) 32 (number ++ rest) (λ e. absurd (omega (arith, e))) (All-append (λ b. b ≢ 10) number rest (number_is_line number n is) (numbers_are_line rest numbers are)))
 
-  pub line_from_time_front : (whole : List ℕ) → whole ≡ 84 ∷ 32 ∷ bytes → IsTimeFront bytes u n rest → (line : List ℕ) × IsFirstLine whole line rest × IsTimeLine line u n
-  line_from_time_front whole is front =
-      let seconds = front.seconds.text in
-      let nanoseconds = front.nanoseconds.text in
-      let not_end : ℕ → Type 0 = λ b. b ≢ 10 in (
-        codes "T " ++ (seconds ++ 32 ∷ nanoseconds),
+module _ (letter : ℕ) (numbers : List ℤ) (bytes rest : List ℕ) where
+  -- what stands in front of the bytes where their first line is such a line
+  abbrev pub IsFrontOf : Type 0
+  IsFrontOf = (after : List ℕ) × (tail : List ℕ) × (bytes ≡ letter ∷ after) × ArePartsFront after numbers tail × IsLineEnd tail rest
+
+  pub front_from_line : (line : List ℕ) → IsFirstLine bytes line rest → IsLineOf letter numbers line → IsFrontOf
+  front_from_line line first is = (
+    is.parts ++ first.tail,
+    first.tail,
+    first.cut ∙ ap (λ l. l ++ first.tail) is.whole,
+    parts_in_front is.parts numbers first.tail is.are_numbers (line_end_ends_digits first.tail rest first.end),
+    first.end,
+  )
+
+  pub line_from_front : letter ≢ 10 → IsFrontOf → (line : List ℕ) × IsFirstLine bytes line rest × IsLineOf letter numbers line
+  line_from_front plain (after, tail, is, are, end) =
+      let parts = numbers_from_parts after numbers tail are in (
+        letter ∷ parts.0,
         record {
-          tail = front.tail;
-          cut = is ∙ ap (λ bs. 84 ∷ 32 ∷ bs) (front.seconds.whole ∙ ap (λ bs. seconds ++ 32 ∷ bs) front.nanoseconds.whole ∙ sym (append_assoc seconds (32 ∷ nanoseconds) front.tail));
-          end = front.end;
-          without_end = All-cons not_end 84 (32 ∷ (seconds ++ 32 ∷ nanoseconds)) (λ e. absurd (omega (arith, e))) (All-cons not_end 32 (seconds ++ 32 ∷ nanoseconds) (λ e. absurd (omega (arith, e)))
-              (All-append not_end seconds (32 ∷ nanoseconds) (number_is_line seconds u front.seconds.is_number) (All-cons not_end 32 nanoseconds (λ e. absurd (omega (arith, e))) (number_is_line nanoseconds (pos n) front.nanoseconds.is_number))));
+          tail = tail;
+          cut = is ∙ ap (λ bs. letter ∷ bs) parts.1;
+          end = end;
+          without_end = All-cons (λ b. b ≢ 10) letter parts.0 plain (numbers_are_line parts.0 numbers parts.2);
         },
-        record {
-          seconds = seconds;
-          nanoseconds = nanoseconds;
-          parts = refl;
-          seconds_are = front.seconds.is_number;
-          nanoseconds_are = front.nanoseconds.is_number;
-          seconds_fit = front.seconds_fit;
-          nanoseconds_fit = front.nanoseconds_fit;
-        },
+        record { parts = parts.0; whole = refl; are_numbers = parts.2 },
       )
 
-module _ (bytes after : List ℕ) (u' : ℤ) (seconds : IsNumberFront bytes u' after) where
-  -- where a part is missing, no `T` line asks for anything
-  pub no_time_without_space : ((rest : List ℕ) → after ≢ 32 ∷ rest) → (u : ℤ) (n : ℕ) (rest : List ℕ) → ¬ IsTimeFront bytes u n rest
-  no_time_without_space none u n rest front = none front.after_seconds (number_front_unique bytes u' u after (32 ∷ front.after_seconds) seconds front.seconds).1
+-- where another letter stands in front, or no such numbers, or no end after them, the first line is no such line
+pub no_line_without_letter : (letter : ℕ) (bytes : List ℕ) → ((after : List ℕ) → bytes ≢ letter ∷ after) → (numbers : List ℤ) (rest line : List ℕ) → IsFirstLine bytes line rest → ¬ IsLineOf letter numbers line
+no_line_without_letter letter bytes none numbers rest line first is =
+    let front = front_from_line letter numbers bytes rest line first is in
+    none front.0 front.2
 
-  module _ (behind : List ℕ) (space : after ≡ 32 ∷ behind) where
-    same_behind : (u : ℤ) (n : ℕ) (rest : List ℕ) (front : IsTimeFront bytes u n rest) → front.after_seconds ≡ behind
-    same_behind u n rest front =
-        let same = (number_front_unique bytes u' u after (32 ∷ front.after_seconds) seconds front.seconds).1 in
-        cc (same, space)
+pub no_line_without_numbers : (letter : ℕ) (bytes after : List ℕ) → bytes ≡ letter ∷ after → (numbers : List ℤ) → ((tail : List ℕ) → ¬ ArePartsFront after numbers tail) → (rest line : List ℕ) → IsFirstLine bytes line rest → ¬ IsLineOf letter numbers line
+no_line_without_numbers letter bytes after letter_is numbers none rest line first is =
+    let front = front_from_line letter numbers bytes rest line first is in
+    let at = front.2 in
+    let same : front.0 ≡ after = cc (at, letter_is) in
+    none front.1 (subst (λ bs. ArePartsFront bs numbers front.1) same front.3)
 
-    pub no_time_without_nanoseconds : ((n : ℤ) (rest : List ℕ) → FitsSigned w64 n → ¬ IsNumberFront behind n rest) → (u : ℤ) (n : ℕ) (rest : List ℕ) → ¬ IsTimeFront bytes u n rest
-    no_time_without_nanoseconds none u n rest front =
-        none (pos n) front.tail (omega (arith, ints, front.nanoseconds_fit)) (subst (λ bs. IsNumberFront bs (pos n) front.tail) (same_behind u n rest front) front.nanoseconds)
+pub no_line_without_end : (letter : ℕ) (bytes after : List ℕ) → bytes ≡ letter ∷ after → (numbers : List ℤ) (tail : List ℕ) → ArePartsFront after numbers tail → ((rest : List ℕ) → ¬ IsLineEnd tail rest) →
+    (others : List ℤ) → length numbers ≡ length others → (rest line : List ℕ) → IsFirstLine bytes line rest → ¬ IsLineOf letter others line
+no_line_without_end letter bytes after letter_is numbers tail are none others many rest line first is =
+    let front = front_from_line letter others bytes rest line first is in
+    let at = front.2 in
+    let same : front.0 ≡ after = cc (at, letter_is) in
+    let one = parts_unique after numbers others tail front.1 many are (subst (λ bs. ArePartsFront bs others front.1) same front.3) in
+    none rest (subst (λ t. IsLineEnd t rest) (sym one.1) front.4)
 
-    module _ (n' : ℤ) (tail : List ℕ) (nanoseconds : IsNumberFront behind n' tail) where
-      same_nanoseconds : (u : ℤ) (n : ℕ) (rest : List ℕ) (front : IsTimeFront bytes u n rest) → (n' ≡ pos n) × (tail ≡ front.tail)
-      same_nanoseconds u n rest front =
-          number_front_unique behind n' (pos n) tail front.tail nanoseconds (subst (λ bs. IsNumberFront bs (pos n) front.tail) (same_behind u n rest front) front.nanoseconds)
+-- a line that is no `T` line and no `F` line asks for nothing
+pub no_query : (line : List ℕ) → ((u : ℤ) (n : ℕ) → ¬ IsTimeLine line u n) → ((f : Fields) → ¬ IsSearchLine line f) → (query : Query) → ¬ IsQueryLine line query
+no_query line no_time no_search (Time u n) is = no_time u n is
+no_query line no_time no_search (Search f) is = no_search f is
 
-      pub no_time_without_end : ((rest : List ℕ) → ¬ IsLineEnd tail rest) → (u : ℤ) (n : ℕ) (rest : List ℕ) → ¬ IsTimeFront bytes u n rest
-      no_time_without_end none u n rest front = none rest (subst (λ t. IsLineEnd t rest) (sym (same_nanoseconds u n rest front).1) front.end)
+-- no such numbers stand in front, and the first line is no such line
+abbrev pub NoTime : List ℕ → Type 0
+NoTime bytes = (u : ℤ) (n : ℕ) (rest : List ℕ) → FitsSigned w64 u → n < 2 ^ 32 → ¬ ArePartsFront bytes (u ∷ pos n ∷ []) rest
 
-      pub no_time_of_32_bits : ¬ FitsUnsignedBits 32 n' → (u : ℤ) (n : ℕ) (rest : List ℕ) → ¬ IsTimeFront bytes u n rest
-      no_time_of_32_bits out u n rest front =
-          out (subst (FitsUnsignedBits 32) (sym (same_nanoseconds u n rest front).0) front.nanoseconds_fit)
+abbrev pub NoFields : List ℕ → Type 0
+NoFields bytes = (f : Fields) (rest : List ℕ) → AreFieldsOfBits f → ¬ ArePartsFront bytes (numbers_of f) rest
 
-pub no_time_without_seconds : (bytes : List ℕ) → ((n : ℤ) (rest : List ℕ) → FitsSigned w64 n → ¬ IsNumberFront bytes n rest) → (u : ℤ) (n : ℕ) (rest : List ℕ) → ¬ IsTimeFront bytes u n rest
-no_time_without_seconds bytes none u n rest front = none u (32 ∷ front.after_seconds) front.seconds_fit front.seconds
+abbrev pub NoTimeLine : List ℕ → Type 0
+NoTimeLine bytes = (u : ℤ) (n : ℕ) (rest : List ℕ) → ¬ IsTimeLineFront bytes u n rest
 
--- where no `T ` stands in front, or nothing that goes with it, the first line is no `T` line
-pub no_time_line_without_time : (whole bytes : List ℕ) → whole ≡ 84 ∷ 32 ∷ bytes → ((u : ℤ) (n : ℕ) (rest : List ℕ) → ¬ IsTimeFront bytes u n rest) → (u : ℤ) (n : ℕ) (rest : List ℕ) → ¬ IsTimeLineFront whole u n rest
-no_time_line_without_time whole bytes is none u n rest (line, first, time) = none u n rest (time_front_from_line bytes u n rest whole line is first time)
+abbrev pub NoSearchLine : List ℕ → Type 0
+NoSearchLine bytes = (f : Fields) (rest : List ℕ) → ¬ IsSearchLineFront bytes f rest
 
--- a line that is no `T` line asks for nothing
-pub no_query : (line : List ℕ) → ((u : ℤ) (n : ℕ) → ¬ IsTimeLine line u n) → (query : Query) → ¬ IsQueryLine line query
-no_query line none (Time u n) is = none u n is
+-- where some fields stand in front, and the next one does not follow, no fields do
+pub no_fields_after : (bytes : List ℕ) (read : List ℤ) (after : List ℕ) → ArePartsFront bytes read after → length read < 7 →
+    ((f : Fields) (rest : List ℕ) → AreFieldsOfBits f → ¬ IsPartFront after (get_or (numbers_of f) (length read) (pos 0)) rest) → NoFields bytes
+no_fields_after bytes read after are few none f rest fit parts =
+    let k = length read in
+    let numbers = numbers_of f in
+    let next = get_or numbers k (pos 0) in
+    let later = drop (k + 1) numbers in
+    let split : numbers ≡ take k numbers ++ next ∷ later = sym (take-append-drop k numbers) ∙ ap (λ ns. take k numbers ++ ns) (drop_more numbers k (pos 0) few) in
+    let long : k ≡ length (take k numbers) = sym (length-take-le k numbers (omega (arith, few))) in
+    no_part_after bytes read after are next (λ r. none f r fit) (take k numbers) long later rest (subst (λ ns. ArePartsFront bytes ns rest) split parts)

@@ -1,13 +1,13 @@
 -- Digits one at a time, and that the number in front of bytes is one alone.
-use Rattle.std.proofs.Common.{◌≡◌, ◌≢◌, ℕ, ◌+◌, ◌*◌, ◌<◌, ◌≤◌, ◌⊎◌, inl, inr, ℤ, pos, neg_ℤ, ◌-ℤ◌, ◌+ℤ◌, List, [], ◌∷◌, ◌++◌, length, take, drop, get_or, refl, sym, ap, ◌∙◌, subst, arith, append-nil}
+use Rattle.std.proofs.Common.{◌≡◌, ◌≢◌, ℕ, ◌+◌, ◌*◌, ◌<◌, ◌≤◌, ◌⊎◌, inl, inr, ℤ, pos, neg_ℤ, ◌-ℤ◌, ◌+ℤ◌, List, [], ◌∷◌, ◌++◌, length, take, get_or, refl, sym, ap, ◌∙◌, subst, arith, append_assoc, append-nil}
 use Rattle.std.specs.Prelude.{FitsSigned, Option, Some, None, IfNone}
 use Rattle.std.specs.Int.{w64}
 use Rattle.std.specs.Char.{digit_value}
 use Rattle.std.specs.Str.Parse.{AllDigits, digits_value, digits_value_after}
 use Rattle.std.proofs.lemmas.Bool.{cases_lt}
 use Rattle.std.proofs.lemmas.Int.{ints}
-use Rattle.std.proofs.lemmas.List.{take_more, drop_more, take-append-drop}
-use Rattle.tz_query.specs.Numbers.{IsNumber, IsNumberFront, IsDigitsFront, IsCapped, EndsDigits}
+use Rattle.std.proofs.lemmas.List.{take_more}
+use Rattle.tz_query.specs.Numbers.{IsNumber, IsNumberFront, IsDigitsFront, IsCapped, EndsDigits, AreNumbers, IsPartFront, ArePartsFront}
 
 AllDigits-push : (digits : List ℕ) (b : ℕ) → AllDigits 10 digits → digit_value b < 10 → AllDigits 10 (digits ++ b ∷ [])
 AllDigits-push [] b all is = (is, tt)
@@ -153,3 +153,72 @@ pub no_number_before_more : (text rest : List ℕ) (n : ℤ) → IsNumberFront t
 no_number_before_more text rest n front more n' is =
     let same : rest ≡ [] = (number_front_unique text n n' rest [] front (number_front_whole text n' is)).1 in
     omega (arith, more, ap length same)
+
+-- the number after a space, and what follows it, are these alone
+pub part_unique : (bytes : List ℕ) (n n' : ℤ) (rest rest' : List ℕ) → IsPartFront bytes n rest → IsPartFront bytes n' rest' → (n ≡ n') × (rest ≡ rest')
+part_unique bytes n n' rest rest' (after, space, front) (after', space', front') =
+    let same : after' ≡ after = cc (space, space') in
+    number_front_unique after n n' rest rest' front (subst (λ bs. IsNumberFront bs n' rest') same front')
+
+-- so are as many numbers
+pub parts_unique : (bytes : List ℕ) (numbers others : List ℤ) (rest rest' : List ℕ) → length numbers ≡ length others → ArePartsFront bytes numbers rest → ArePartsFront bytes others rest' → (numbers ≡ others) × (rest ≡ rest')
+parts_unique bytes [] [] rest rest' same are are' = (refl, sym are ∙ are')
+parts_unique bytes [] (m ∷ others) rest rest' same are are' = absurd (omega (arith, same))
+parts_unique bytes (n ∷ numbers) [] rest rest' same are are' = absurd (omega (arith, same))
+parts_unique bytes (n ∷ numbers) (m ∷ others) rest rest' same (after, first, are) (after', first', are') =
+    let one = part_unique bytes n m after after' first first' in
+    let more = parts_unique after numbers others rest rest' (omega (arith, same)) are (subst (λ bs. ArePartsFront bs others rest') (sym one.1) are') in
+    let head = one.0 in
+    let tail = more.0 in
+    (cc (head, tail), more.1)
+
+-- where numbers are followed by no further one, as many are followed by none
+pub no_part_after : (bytes : List ℕ) (numbers : List ℤ) (after : List ℕ) → ArePartsFront bytes numbers after → (m : ℤ) → ((rest : List ℕ) → ¬ IsPartFront after m rest) →
+    (others : List ℤ) → length numbers ≡ length others → (more : List ℤ) (rest : List ℕ) → ¬ ArePartsFront bytes (others ++ m ∷ more) rest
+no_part_after bytes [] after are m none [] same more rest (behind, first, are') = none behind (subst (λ bs. IsPartFront bs m behind) are first)
+no_part_after bytes [] after are m none (x ∷ others) same more rest are' = absurd (omega (arith, same))
+no_part_after bytes (n ∷ numbers) after are m none [] same more rest are' = absurd (omega (arith, same))
+no_part_after bytes (n ∷ numbers) after (behind, first, are) m none (x ∷ others) same more rest (behind', first', are') =
+    let one = part_unique bytes n x behind behind' first first' in
+    no_part_after behind numbers after are m none others (omega (arith, same)) more rest (subst (λ bs. ArePartsFront bs (others ++ m ∷ more) rest) (sym one.1) are')
+
+-- numbers stand in front of what follows them, if no digit does
+EndsDigits-parts : (text : List ℕ) (numbers : List ℤ) (tail : List ℕ) → AreNumbers text numbers → EndsDigits tail → EndsDigits (text ++ tail)
+EndsDigits-parts text [] tail are ends = subst (λ t. EndsDigits (t ++ tail)) (sym are) ends
+EndsDigits-parts text (n ∷ numbers) tail (number, rest, whole, is, are) ends = subst (λ t. EndsDigits (t ++ tail)) (sym whole) (λ digit. absurd (omega (arith, digit)))
+
+pub parts_in_front : (text : List ℕ) (numbers : List ℤ) (tail : List ℕ) → AreNumbers text numbers → EndsDigits tail → ArePartsFront (text ++ tail) numbers tail
+parts_in_front text [] tail are ends = ap (λ t. t ++ tail) are
+parts_in_front text (n ∷ numbers) tail (number, rest, whole, is, are) ends =
+    let cut : text ++ tail ≡ 32 ∷ (number ++ (rest ++ tail)) = ap (λ t. t ++ tail) whole ∙ ap (λ t. 32 ∷ t) (append_assoc number rest tail) in (
+      rest ++ tail,
+      (number ++ (rest ++ tail), cut, record { text = number; whole = refl; is_number = is; ends = EndsDigits-parts rest numbers tail are ends }),
+      parts_in_front rest numbers tail are ends,
+    )
+
+pub numbers_from_parts : (bytes : List ℕ) (numbers : List ℤ) (tail : List ℕ) → ArePartsFront bytes numbers tail → (text : List ℕ) × (bytes ≡ text ++ tail) × AreNumbers text numbers
+numbers_from_parts bytes [] tail are = ([], are, refl)
+numbers_from_parts bytes (n ∷ numbers) tail (after, (behind, space, front), are) =
+    let more = numbers_from_parts after numbers tail are in
+    let text = front.text in (
+      32 ∷ (text ++ more.0),
+      space ∙ ap (λ bs. 32 ∷ bs) (front.whole ∙ ap (λ bs. text ++ bs) more.1 ∙ sym (append_assoc text more.0 tail)),
+      (text, more.0, refl, front.is_number, more.2),
+    )
+
+-- where no space stands in front, or no number after it, there is no such number
+pub no_part_without_space : (bytes : List ℕ) → ((after : List ℕ) → bytes ≢ 32 ∷ after) → (n : ℤ) (rest : List ℕ) → ¬ IsPartFront bytes n rest
+no_part_without_space bytes none n rest (after, space, front) = none after space
+
+pub no_part_without_number : (bytes after : List ℕ) → bytes ≡ 32 ∷ after → ((n : ℤ) (rest : List ℕ) → FitsSigned w64 n → ¬ IsNumberFront after n rest) → (n : ℤ) (rest : List ℕ) → FitsSigned w64 n → ¬ IsPartFront bytes n rest
+no_part_without_number bytes after space none n rest fits (after', space', front) =
+    let same : after' ≡ after = cc (space', space) in
+    none n rest fits (subst (λ bs. IsNumberFront bs n rest) same front)
+
+-- another number is too great for its type
+pub no_other_part : (bytes : List ℕ) (n : ℤ) (rest : List ℕ) → IsPartFront bytes n rest → (P : ℤ → Type 0) → ¬ P n → (n' : ℤ) (rest' : List ℕ) → P n' → ¬ IsPartFront bytes n' rest'
+no_other_part bytes n rest front P out n' rest' fits front' = out (subst P (sym (part_unique bytes n n' rest rest' front front').0) fits)
+
+pub IfNone-weaker : {T P Q : Type 0} (o : Option T) → (P → Q) → IfNone o P → IfNone o Q
+IfNone-weaker None weaker holds = weaker holds
+IfNone-weaker (Some x) weaker holds = tt

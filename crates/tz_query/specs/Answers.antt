@@ -1,17 +1,24 @@
 -- The answers of query lines.
-use Rattle.std.specs.Prelude.{◌≡◌, ℕ, ◌⊎◌, ℤ, List, [], ◌∷◌, ◌++◌, codes, unwrap_or}
+use Rattle.std.specs.Prelude.{◌≡◌, ℕ, ◌⊎◌, ℤ, List, [], ◌∷◌, ◌++◌, length, map, codes, unwrap_or}
+use Rattle.std.specs.Fmt.{decimal}
 use Rattle.std.specs.List.{AllZip, flat_map}
-use Rattle.tz_base.specs.Fields.{IsReading, reading}
+use Rattle.tz_base.specs.Fields.{IsValid, IsReading, reading}
+use Rattle.tz_base.specs.declared.calendar.Fields.{Fields}
 use Rattle.tz_base.specs.declared.error.TzError.{TzError}
 use Rattle.tz_base.specs.declared.error.TzError.TheVariants.{DateTime, OutOfRange, NoAvailableLocalTimeType}
 use Rattle.tz_base.specs.declared.error.datetime.DateTimeError.{DateTimeError}
 use Rattle.tz_base.specs.declared.error.datetime.DateTimeError.TheVariants.{InvalidMonth, InvalidMonthDay, InvalidHour, InvalidMinute, InvalidSecond, InvalidNanoseconds}
 use Rattle.tz_rule.specs.LocalType.{LocalType}
+use Rattle.tz_zone.specs.Clock.{IsClock}
 use Rattle.tz_zone.specs.Table.{Zone}
 use Rattle.tz.specs.DateTimes.{LocalMoment, ShowsByClock, IsClockFault}
+use Rattle.tz.specs.FindFaults.{IsFindFault, IsFarFromEnds}
+use Rattle.tz.specs.Found.{IsFound}
 use Rattle.tz.specs.PrintedText.{printed_text}
+use Rattle.tz.specs.declared.datetime.found.FoundDateTimeKind.{FoundDateTimeKind}
+use Rattle.tz.specs.declared.datetime.found.FoundDateTimeKind.TheVariants.{Normal, Skipped}
 use Rattle.tz_query.specs.Lines.{AreLines, ended}
-use Rattle.tz_query.specs.Queries.{Query, Time, IsQueryLine}
+use Rattle.tz_query.specs.Queries.{Query, Time, Search, IsSearchLine, IsQueryLine}
 
 -- the name of a type, or `-`
 abbrev pub name_text : LocalType → List ℕ
@@ -43,9 +50,25 @@ IsTimeAnswer z u n answer =
     ((d : LocalMoment) × ShowsByClock z u n d × IsReading (reading d.fields) × (answer ≡ moment_text d))
     ⊎ ((e : TzError) × (text : List ℕ) × IsClockFault z u n e × IsFaultText e text × (answer ≡ codes "E " ++ text))
 
+-- what is found: a date time that the clock shows, or a jump of the clock, before it and after it
+abbrev pub entry_text : FoundDateTimeKind → List ℕ
+entry_text (Normal d) = codes "N " ++ moment_text d
+entry_text (Skipped before after) = codes "S " ++ (moment_text before ++ 32 ∷ moment_text after)
+
+-- how much is found, and a line for each
+abbrev pub found_lines : List FoundDateTimeKind → List (List ℕ)
+found_lines found = (codes "F " ++ decimal (length found)) ∷ map entry_text found
+
+-- the answer lines of fields: all that a search finds of the zone's clock, or why it is refused, which want of memory does not answer
+abbrev pub IsSearchAnswer : Zone → Fields → List (List ℕ) → Type 0
+IsSearchAnswer z f answer =
+    ((found : List FoundDateTimeKind) × IsValid f × IsFound (IsClock z) f found × (answer ≡ found_lines found))
+    ⊎ ((e : TzError) × (text : List ℕ) × IsFindFault ⊥ f e × IsFaultText e text × (answer ≡ (codes "E " ++ text) ∷ []))
+
 -- the answer lines of a query
 abbrev pub IsQueryAnswer : Zone → Query → List (List ℕ) → Type 0
 IsQueryAnswer z (Time u n) answer = (text : List ℕ) × IsTimeAnswer z u n text × (answer ≡ text ∷ [])
+IsQueryAnswer z (Search f) answer = IsSearchAnswer z f answer
 
 -- the answer lines of a line: those of its query, or that it is outside the grammar
 abbrev pub IsAnswer : Zone → List ℕ → List (List ℕ) → Type 0
@@ -61,6 +84,12 @@ pub record AreAnswers (z : Zone) (queries bytes : List ℕ) : Type 0 where
   pub each : AllZip (IsAnswer z) lines answers
   pub written : bytes ≡ flat_map ended answers
 
--- the one answer line of a line
-abbrev pub IsLineAnswer : Zone → List ℕ → List ℕ → Type 0
-IsLineAnswer z line answer = IsAnswer z line (answer ∷ [])
+-- a group of answer lines: one line, or `F` with the number of the lines after it
+abbrev pub IsGroup : List (List ℕ) → Type 0
+IsGroup answer =
+    ((text : List ℕ) × (answer ≡ text ∷ []))
+    ⊎ ((entries : List (List ℕ)) × (answer ≡ (codes "F " ++ decimal (length entries)) ∷ entries))
+
+-- a line that has one answer: any but an `F` line of valid fields in a year that is less than 200 years from an end of 32 bits
+abbrev pub HasOneAnswer : List ℕ → Type 0
+HasOneAnswer line = (f : Fields) → IsSearchLine line f → IsValid f → IsFarFromEnds f.year

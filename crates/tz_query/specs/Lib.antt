@@ -5,3 +5,4 @@ pub mod Numbers
 pub mod Queries
 pub mod Answers
 pub mod Program
+pub mod FileAnswers

@@ -30,3 +30,18 @@ pub record IsNumberFront (bytes : List ℕ) (n : ℤ) (rest : List ℕ) : Type 0
   pub whole : bytes ≡ text ++ rest
   pub is_number : IsNumber text n
   pub ends : EndsDigits rest
+
+-- numbers, each after one space
+abbrev pub AreNumbers : List ℕ → List ℤ → Type 0
+AreNumbers text [] = text ≡ []
+AreNumbers text (n ∷ numbers) =
+    (number : List ℕ) × (rest : List ℕ) × (text ≡ 32 ∷ (number ++ rest)) × IsNumber number n × AreNumbers rest numbers
+
+-- the number after one space in front of the bytes, and what follows it
+abbrev pub IsPartFront : List ℕ → ℤ → List ℕ → Type 0
+IsPartFront bytes n rest = (after : List ℕ) × (bytes ≡ 32 ∷ after) × IsNumberFront after n rest
+
+-- such numbers in turn, and what follows the last of them
+abbrev pub ArePartsFront : List ℕ → List ℤ → List ℕ → Type 0
+ArePartsFront bytes [] rest = bytes ≡ rest
+ArePartsFront bytes (n ∷ numbers) rest = (after : List ℕ) × IsPartFront bytes n after × ArePartsFront after numbers rest

@@ -1,10 +1,14 @@
 -- What a run of the program that ends without a fault has read and written.
-use Rattle.std.specs.Prelude.{◌≡◌, ℕ, ℤ, List, [], ◌∷◌, Option, None, map, codes, FitsSigned}
+-- What the reader of files can answer for a path is a relation, as it is for the settings.
+use Rattle.std.specs.Prelude.{◌≡◌, ℕ, ◌⊎◌, ℤ, List, [], ◌∷◌, Option, None, Ok, Vec, vec_items, map, codes, FitsSigned}
 use Rattle.std.specs.Borrow.{Bor}
 use Rattle.std.specs.Int.{w32}
 use Rattle.std.specs.Io.KnownBytes.{Appends, Consumes, IsAtEnd}
+use Rattle.std.specs.declared.alloc.Global.{Global}
 use Rattle.tz_rule.specs.LocalType.{plain_type}
+use Rattle.tz_zone.specs.Settings.{Read, IsSettingsAnswer}
 use Rattle.tz_zone.specs.Table.{Zone, zone_with}
+use Rattle.tz_zone.specs.TzFile.{IsTzFile}
 use Rattle.tz_query.specs.Numbers.{IsNumber}
 use Rattle.tz_query.specs.Answers.{AreAnswers}
 
@@ -12,21 +16,44 @@ use Rattle.tz_query.specs.Answers.{AreAnswers}
 abbrev pub texts_of : List (Bor (List ℕ)) → List (List ℕ)
 texts_of words = map (λ (word : Bor (List ℕ)). word.now) words
 
--- `-o` and a number ask for a zone by its offset
-abbrev pub AsksForOffset : List (List ℕ) → ℤ → Type 0
-AsksForOffset words offset = (number : List ℕ) × (words ≡ codes "-o" ∷ number ∷ []) × IsNumber number offset × FitsSigned w32 offset
-
 -- the zone of one type without a name
 abbrev pub fixed_zone : ℤ → Zone
 fixed_zone offset = zone_with [] (plain_type offset ∷ []) [] None
 
--- the input is read to its end, and its answers are written, where the bytes of input and output are known
-pub record AnswersInput (words : List (List ℕ)) (unread left written now : Option (List ℕ)) : Type 0 where
-  pub offset : ℤ
+-- the directories in which the files of a TZ text are
+abbrev pub usual_directories : List (List ℕ)
+usual_directories = codes "/usr/share/zoneinfo" ∷ codes "/share/zoneinfo" ∷ codes "/etc/zoneinfo" ∷ []
+
+-- a number gives the fixed zone with this offset
+abbrev pub IsZoneOfOffset : List ℕ → Zone → Type 0
+IsZoneOfOffset number zone = (offset : ℤ) × IsNumber number offset × FitsSigned w32 offset × (zone ≡ fixed_zone offset)
+
+-- a path gives the zone that bytes denote which the reader can answer for it
+abbrev pub IsZoneOfFile : (List ℕ → Read → Type 0) → List ℕ → Zone → Type 0
+IsZoneOfFile reads path zone = (bytes : Vec ℕ Global) × reads path (Ok bytes) × IsTzFile (vec_items bytes) zone
+
+-- a TZ text gives the zone that the settings can answer for it
+abbrev pub IsZoneOfText : (List ℕ → Read → Type 0) → List ℕ → Zone → Type 0
+IsZoneOfText reads text zone = IsSettingsAnswer reads usual_directories text (Ok zone)
+
+-- the zone that an option asks for by its word
+abbrev pub IsZoneOfOption : (List ℕ → Read → Type 0) → List ℕ → List ℕ → Zone → Type 0
+IsZoneOfOption reads option word zone =
+    ((option ≡ codes "-o") × IsZoneOfOffset word zone)
+    ⊎ ((option ≡ codes "-f") × IsZoneOfFile reads word zone)
+    ⊎ ((option ≡ codes "-z") × IsZoneOfText reads word zone)
+
+-- two words ask for a zone, an option and its word
+abbrev pub AsksForZone : (List ℕ → Read → Type 0) → List (List ℕ) → Zone → Type 0
+AsksForZone reads words zone = (option : List ℕ) × (word : List ℕ) × (words ≡ option ∷ word ∷ []) × IsZoneOfOption reads option word zone
+
+-- the input is read to its end, and its answers over the zone of the words are written, where the bytes of input and output are known
+pub record AnswersInput (reads : List ℕ → Read → Type 0) (words : List (List ℕ)) (unread left written now : Option (List ℕ)) : Type 0 where
+  pub zone : Zone
   pub queries : List ℕ
   pub answers : List ℕ
-  pub asked : AsksForOffset words offset
+  pub asked : AsksForZone reads words zone
   pub read : Consumes unread left queries
   pub at_end : IsAtEnd left
-  pub answered : AreAnswers (fixed_zone offset) queries answers
+  pub answered : AreAnswers zone queries answers
   pub wrote : Appends written now answers

@@ -1,37 +1,55 @@
--- The grammar of a query line. Its parts stand one space apart.
-use Rattle.std.specs.Prelude.{◌≡◌, ℕ, ◌^◌, ◌<◌, ℤ, pos, List, ◌∷◌, ◌++◌, codes, FitsSigned}
-use Rattle.std.specs.Int.{w64}
-use Rattle.tz_query.specs.Lines.{IsFirstLine, IsLineEnd}
-use Rattle.tz_query.specs.Numbers.{IsNumber, IsNumberFront}
+-- The grammar of a query line: a letter and numbers, each after one space.
+use Rattle.std.specs.Prelude.{◌≡◌, ℕ, ◌^◌, ◌<◌, ℤ, pos, List, [], ◌∷◌, FitsSigned}
+use Rattle.std.specs.Int.{w32, w64}
+use Rattle.tz_base.specs.declared.calendar.Fields.{Fields}
+use Rattle.tz_query.specs.Lines.{IsFirstLine}
+use Rattle.tz_query.specs.Numbers.{AreNumbers}
 
--- what a line asks for: the date time of an instant, with nanoseconds
+-- what a line asks for: the date time of an instant, with nanoseconds, or the date times of fields
 pub data Query : Type 0 where
   Time : ℤ → ℕ → Query
+  Search : Fields → Query
+
+-- a letter, and numbers in their order
+pub record IsLineOf (letter : ℕ) (numbers : List ℤ) (line : List ℕ) : Type 0 where
+  pub parts : List ℕ
+  pub whole : line ≡ letter ∷ parts
+  pub are_numbers : AreNumbers parts numbers
 
 -- `T u n` asks for the date time of an instant of 64 bits, with nanoseconds of 32 bits
 pub record IsTimeLine (line : List ℕ) (u : ℤ) (n : ℕ) : Type 0 where
-  pub seconds : List ℕ
-  pub nanoseconds : List ℕ
-  pub parts : line ≡ codes "T " ++ (seconds ++ 32 ∷ nanoseconds)
-  pub seconds_are : IsNumber seconds u
-  pub nanoseconds_are : IsNumber nanoseconds (pos n)
+  pub line_is : IsLineOf 84 (u ∷ pos n ∷ []) line
   pub seconds_fit : FitsSigned w64 u
   pub nanoseconds_fit : n < 2 ^ 32
+
+-- the fields in their order
+abbrev pub numbers_of : Fields → List ℤ
+numbers_of f = f.year ∷ pos f.month ∷ pos f.month_day ∷ pos f.hour ∷ pos f.minute ∷ pos f.second ∷ pos f.nanoseconds ∷ []
+
+-- a year of 32 bits, nanoseconds of 32 bits, and five numbers of 8 bits between them
+pub record AreFieldsOfBits (f : Fields) : Type 0 where
+  pub year_fits : FitsSigned w32 f.year
+  pub month_fits : f.month < 2 ^ 8
+  pub month_day_fits : f.month_day < 2 ^ 8
+  pub hour_fits : f.hour < 2 ^ 8
+  pub minute_fits : f.minute < 2 ^ 8
+  pub second_fits : f.second < 2 ^ 8
+  pub nanoseconds_fit : f.nanoseconds < 2 ^ 32
+
+-- `F y mo d h mi s n` asks for the date times of fields
+pub record IsSearchLine (line : List ℕ) (f : Fields) : Type 0 where
+  pub line_is : IsLineOf 70 (numbers_of f) line
+  pub fields_fit : AreFieldsOfBits f
 
 -- what a line asks for
 abbrev pub IsQueryLine : List ℕ → Query → Type 0
 IsQueryLine line (Time u n) = IsTimeLine line u n
+IsQueryLine line (Search f) = IsSearchLine line f
 
 -- the first line of the bytes is a `T` line, and what follows it
 abbrev pub IsTimeLineFront : List ℕ → ℤ → ℕ → List ℕ → Type 0
 IsTimeLineFront bytes u n rest = (line : List ℕ) × IsFirstLine bytes line rest × IsTimeLine line u n
 
--- the same by what stands in front of the bytes after `T `
-pub record IsTimeFront (bytes : List ℕ) (u : ℤ) (n : ℕ) (rest : List ℕ) : Type 0 where
-  pub after_seconds : List ℕ
-  pub tail : List ℕ
-  pub seconds : IsNumberFront bytes u (32 ∷ after_seconds)
-  pub nanoseconds : IsNumberFront after_seconds (pos n) tail
-  pub end : IsLineEnd tail rest
-  pub seconds_fit : FitsSigned w64 u
-  pub nanoseconds_fit : n < 2 ^ 32
+-- it is an `F` line
+abbrev pub IsSearchLineFront : List ℕ → Fields → List ℕ → Type 0
+IsSearchLineFront bytes f rest = (line : List ℕ) × IsFirstLine bytes line rest × IsSearchLine line f

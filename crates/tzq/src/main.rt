@@ -1,8 +1,10 @@
-//! Answers query lines about date times: `tzq -o OFFSET`, over a zone with this offset from UTC in seconds.
+//! Answers query lines about date times: `tzq -o OFFSET` over the zone with this offset from UTC in seconds, `tzq -f FILE` over that of
+//! a TZif file, `tzq -z TEXT` over that of a TZ text.
 #![tactic(auto)]
 
 use std::env;
 use std::process::ExitCode;
+use tz::timezone;
 use tz_query::query;
 
 /// The words after the program's name, or none where they cannot be had.
@@ -23,7 +25,8 @@ fn main(rt: HostRuntime) -> ExitCode {
         .map(|word| word.as_str())
         .collect(rt.alloc())
         .unwrap_or(Vec::new(rt.alloc()));
+    let reader = |path: &str| timezone::read_file(&rt, rt.alloc(), path);
     let (mut input, mut out, mut err) = (rt.stdin(), rt.stdout(), rt.stderr());
-    let status = query::tool(rt.alloc(), &texts, &mut input, &mut out, &mut err);
+    let status = query::tool(rt.alloc(), &texts, reader, &mut input, &mut out, &mut err);
     ExitCode::from(status)
 }

@@ -1,17 +1,19 @@
 //! The answers of query lines.
 
-ghost use Rattle.std.specs.Prelude.{◌≡◌, ◌+◌, ◌<◌, ◌≤◌, ℕ, List, [], ◌∷◌, ◌++◌, length, IfOk, IfErr, FitsSigned, alloc_error};
+ghost use Rattle.std.specs.Prelude.{◌≡◌, ◌+◌, ◌<◌, ◌≤◌, ℕ, List, [], ◌∷◌, ◌++◌, length, map, codes, IfOk, IfErr, FitsSigned, alloc_error};
+ghost use Rattle.std.specs.Fmt.{decimal};
 ghost use Rattle.std.specs.Int.{w32};
 ghost use Rattle.tz_base.specs.Fields.{IsValid};
 ghost use Rattle.tz_zone.specs.ZoneRef.{zone_of};
-ghost use Rattle.tz.specs.PrintedText.{printed_text};
 ghost use Rattle.tz_query.specs.Lines.{IsFirstLine, ended};
-ghost use Rattle.tz_query.specs.Answers.{name_text, field_fault_text, IsFaultText, IsTimeAnswer, IsAnswer, AreAnswers};
+ghost use Rattle.tz_query.specs.Answers.{name_text, moment_text, entry_text, found_lines, field_fault_text, IsFaultText, IsTimeAnswer, IsSearchAnswer, IsAnswer, AreAnswers};
 
-use crate::query::queries::{after_line, read_time_line};
+use crate::query::queries::{after_line, read_search_line, read_time_line};
 use std::alloc::{AllocError, Allocator};
+use tz::datetime::{DateTime, FoundDateTimeKind};
 use tz::inner::Line;
-use tz::{DateTime, LocalTimeType, TimeZoneRef, TzError};
+use tz::laws::date_time_parts_are_sound;
+use tz::{LocalTimeType, TimeZoneRef, TzError};
 use tz_base::calendar::Fields;
 use tz_base::error::datetime::DateTimeError;
 
@@ -34,8 +36,10 @@ fn push_name(line: &mut Line, local_time_type: &LocalTimeType)
 #[inline]
 fn fields_of(date_time: &DateTime) -> Fields
     ensures fields { result ≡ date_time.now.fields }
+    ensures valid { IsValid date_time.now.fields }
     ensures year { FitsSigned w32 date_time.now.fields.year }
 {
+    date_time_parts_are_sound(date_time);
     Fields {
         year: date_time.year(),
         month: date_time.month(),
@@ -47,17 +51,30 @@ fn fields_of(date_time: &DateTime) -> Fields
     }
 }
 
-/// Appends the date time of the fields and a type, and the type's name.
-#[inline]
-fn push_moment(line: &mut Line, fields: &Fields, local_time_type: &LocalTimeType)
-    requires valid { IsValid fields.now }
-    requires room { length line.old + 61 ≤ 128 }
-    ensures text { line.new ≡ line.old ++ (printed_text fields.now local_time_type.now.ut_offset ++ 32 ∷ name_text local_time_type.now) }
+/// Appends a date time and the name of its type.
+#[inline(always)]
+#[tactic(auto, unfolding(crate::specs::Answers::moment_text))]
+fn push_moment(line: &mut Line, date_time: &DateTime)
+    requires { length line.old + 61 ≤ 128 }
+    ensures text { line.new ≡ line.old ++ moment_text date_time.now }
     ensures len { length line.new ≤ length line.old + 61 }
+    ensures year { FitsSigned w32 date_time.now.fields.year }
 {
-    line.push_date_time(fields, local_time_type.ut_offset());
+    let fields = fields_of(date_time);
+    let local_time_type = date_time.local_time_type();
+    line.push_date_time(&fields, local_time_type.ut_offset());
     line.push(b' ');
     push_name(line, local_time_type);
+}
+
+/// The same. A function of its own keeps what is made for `F` lines out of the way of `T` lines.
+#[inline(never)]
+fn push_found(line: &mut Line, date_time: &DateTime)
+    requires { length line.old + 61 ≤ 128 }
+    ensures text { line.new ≡ line.old ++ moment_text date_time.now }
+    ensures len { length line.new ≤ length line.old + 61 }
+{
+    push_moment(line, date_time);
 }
 
 /// The name of a refusal of fields.
@@ -89,6 +106,17 @@ fn fault_name(error: &TzError) -> &'static str
     }
 }
 
+/// Appends the name of a refusal.
+fn push_fault(line: &mut Line, name: &str)
+    requires named { length name.now ≤ 24 }
+    requires empty { line.old ≡ [] }
+    ensures text { line.new ≡ codes "E " ++ name.now }
+    ensures len { length line.new ≤ 26 }
+{
+    line.push_str("E ");
+    line.push_str(name);
+}
+
 /// Appends the answer of an instant.
 fn push_time_answer(line: &mut Line, zone: TimeZoneRef<'_>, unix_time: i64, nanoseconds: u32)
     requires { line.old ≡ [] }
@@ -96,15 +124,42 @@ fn push_time_answer(line: &mut Line, zone: TimeZoneRef<'_>, unix_time: i64, nano
     ensures len { length line.new ≤ 61 }
 {
     match DateTime::from_timespec(unix_time, nanoseconds, zone) {
-        Ok(date_time) => {
-            let fields = fields_of(&date_time);
-            push_moment(line, &fields, date_time.local_time_type());
+        Ok(date_time) => push_moment(line, &date_time),
+        Err(error) => push_fault(line, fault_name(&error)),
+    }
+}
+
+/// Appends what was found once.
+fn push_entry(line: &mut Line, entry: &FoundDateTimeKind)
+    requires { line.old ≡ [] }
+    ensures text { line.new ≡ entry_text entry.now }
+    ensures len { length line.new ≤ 125 }
+{
+    match entry {
+        FoundDateTimeKind::Normal(date_time) => {
+            line.push_str("N ");
+            push_found(line, date_time);
         }
-        Err(error) => {
-            line.push_str("E ");
-            line.push_str(fault_name(&error));
+        FoundDateTimeKind::Skipped {
+            before_transition,
+            after_transition,
+        } => {
+            line.push_str("S ");
+            push_found(line, before_transition);
+            line.push(b' ');
+            push_found(line, after_transition);
         }
     }
+}
+
+/// Appends the line to the answers.
+#[inline(always)]
+fn append_line<A: Allocator>(answers: &mut Vec<u8, A>, line: &mut Line) -> Result<(), AllocError>
+    requires { length line.old < 128 }
+    ensures { IfOk result (λ _. answers.new.items ≡ answers.old.items ++ (line.old ++ 10 ∷ [])) }
+{
+    line.push(b'\n');
+    answers.extend_from_slice(line.as_bytes())
 }
 
 /// Appends the answer line of an instant, which is made in the line.
@@ -120,12 +175,98 @@ fn answer_time<A: Allocator>(
 {
     line.clear();
     push_time_answer(line, zone, unix_time, nanoseconds);
-    line.push(b'\n');
-    answers.extend_from_slice(line.as_bytes())
+    append_line(answers, line)
+}
+
+/// Appends the line of a refusal.
+fn append_fault<A: Allocator>(
+    answers: &mut Vec<u8, A>,
+    line: &mut Line,
+    name: &str,
+) -> Result<(), AllocError>
+    requires { length name.now ≤ 24 }
+    ensures { IfOk result (λ _. answers.new.items ≡ answers.old.items ++ ended ((codes "E " ++ name.now) ∷ [])) }
+{
+    line.clear();
+    push_fault(line, name);
+    append_line(answers, line)
+}
+
+/// Appends the line of how much was found.
+fn append_count<A: Allocator>(
+    answers: &mut Vec<u8, A>,
+    line: &mut Line,
+    count: usize,
+) -> Result<(), AllocError>
+    ensures { IfOk result (λ _. answers.new.items ≡ answers.old.items ++ ended ((codes "F " ++ decimal count) ∷ [])) }
+{
+    line.clear();
+    line.push_str("F ");
+    line.push_count(count as u64);
+    append_line(answers, line)
+}
+
+/// Appends the lines of what was found.
+fn append_entries<A: Allocator>(
+    answers: &mut Vec<u8, A>,
+    line: &mut Line,
+    entries: &[FoundDateTimeKind],
+) -> Result<(), AllocError>
+    ensures { IfOk result (λ _. answers.new.items ≡ answers.old.items ++ ended (map entry_text entries.now)) }
+{
+    for entry in entries {
+        line.clear();
+        push_entry(line, entry);
+        append_line(answers, line)?;
+    }
+    Ok(())
+}
+
+/// Appends the answer lines of a list.
+fn append_found<A: Allocator>(
+    answers: &mut Vec<u8, A>,
+    line: &mut Line,
+    found: &[FoundDateTimeKind],
+) -> Result<(), AllocError>
+    ensures { IfOk result (λ _. answers.new.items ≡ answers.old.items ++ ended (found_lines found.now)) }
+{
+    append_count(answers, line, found.len())?;
+    append_entries(answers, line, found)
+}
+
+/// Appends the answer lines of fields.
+#[inline(never)]
+fn answer_search<A: Allocator + Copy>(
+    alloc: A,
+    answers: &mut Vec<u8, A>,
+    line: &mut Line,
+    zone: TimeZoneRef<'_>,
+    fields: &Fields,
+) -> Result<(), AllocError>
+    ensures { IfOk result (λ _. (answer : List (List ℕ)) × IsSearchAnswer (zone_of zone.entry) fields.now answer × (answers.new.items ≡ answers.old.items ++ ended answer)) }
+{
+    let found = DateTime::find(
+        alloc,
+        fields.year,
+        fields.month,
+        fields.month_day,
+        fields.hour,
+        fields.minute,
+        fields.second,
+        fields.nanoseconds,
+        zone,
+    );
+    match found {
+        Ok(list) => append_found(answers, line, &list.into_inner()),
+        Err(TzError::DateTime(fault)) => append_fault(answers, line, field_fault_name(&fault)),
+        Err(TzError::OutOfRange) => append_fault(answers, line, "OutOfRange"),
+        Err(_) => Err(AllocError),
+    }
 }
 
 /// Appends the answer lines of the first line, and gives the bytes after that line.
-fn answer_line<'a, A: Allocator>(
+fn answer_line<'a, A: Allocator + Copy>(
+    alloc: A,
     answers: &mut Vec<u8, A>,
     line: &mut Line,
     zone: TimeZoneRef<'_>,
@@ -133,23 +274,25 @@ fn answer_line<'a, A: Allocator>(
 ) -> Result<&'a [u8], AllocError>
     ensures { IfOk result (λ rest. (text : List ℕ) × (answer : List (List ℕ)) × IsFirstLine queries.now text rest.now × IsAnswer (zone_of zone.entry) text answer × (answers.new.items ≡ answers.old.items ++ ended answer)) }
 {
-    match read_time_line(queries) {
-        Some((unix_time, nanoseconds, rest)) => {
-            answer_time(answers, line, zone, unix_time, nanoseconds)?;
-            Ok(rest)
-        }
-        None => {
-            answers.extend_from_slice(b"E Line\n")?;
-            Ok(after_line(queries))
-        }
+    if let Some((unix_time, nanoseconds, rest)) = read_time_line(queries) {
+        answer_time(answers, line, zone, unix_time, nanoseconds)?;
+        return Ok(rest);
     }
+    if let Some((fields, rest)) = read_search_line(queries) {
+        answer_search(alloc, answers, line, zone, &fields)?;
+        return Ok(rest);
+    }
+    answers.extend_from_slice(b"E Line\n")?;
+    Ok(after_line(queries))
 }
 
 /// Answers query bytes over a zone.
 ///
-/// Each line asks for something by its letter and numbers, one space apart: `T u n` for the date time at the Unix time u with n
-/// nanoseconds. Its answer is the date time and the name of its type, `-` where it has none; or `E ` and why it is refused; and
-/// `E Line` where the line asks for nothing. Lines and answers are ended by LF; the last line may lack it.
+/// Each line asks for something by its letter and numbers, one space apart. `T u n` asks for the date time at the Unix time u with n
+/// nanoseconds: its answer is the date time and the name of its type, `-` where it has none. `F y mo d h mi s n` asks for what
+/// [`DateTime::find`] finds of these fields: its answer is `F` and how much that is, and a line for each, `N` with a date time and
+/// its name, or `S` with those before and after a jump. Where a query is refused the answer is `E ` and why, and `E Line` where a
+/// line asks for nothing. Lines and answers are ended by LF; the last line may lack it.
 pub fn answer<A: Allocator + Copy>(
     alloc: A,
     zone: TimeZoneRef<'_>,
@@ -162,7 +305,7 @@ pub fn answer<A: Allocator + Copy>(
     let mut line = Line::new();
     let mut rest = queries;
     while !rest.is_empty() {
-        rest = answer_line(&mut answers, &mut line, zone, rest)?;
+        rest = answer_line(alloc, &mut answers, &mut line, zone, rest)?;
     }
     Ok(answers)
 }

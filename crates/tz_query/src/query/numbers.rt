@@ -1,9 +1,9 @@
 //! Numbers in front of bytes.
 
-ghost use Rattle.std.specs.Prelude.{◌≡◌, ◌≢◌, ℕ, ◌+◌, ◌*◌, ◌<◌, ◌≤◌, List, length, ◌∷◌, ◌⊎◌, ◌↔◌, ℤ, IsTrue, IfSome, IfNone, FitsSigned};
+ghost use Rattle.std.specs.Prelude.{◌≡◌, ◌≢◌, ℕ, ◌+◌, ◌*◌, ◌^◌, ◌<◌, ◌≤◌, List, length, ◌∷◌, ◌⊎◌, ◌↔◌, ℤ, pos, IsTrue, IfSome, IfNone, FitsSigned};
 ghost use Rattle.std.specs.Char.{digit_value};
-ghost use Rattle.std.specs.Int.{w64};
-ghost use Rattle.tz_query.specs.Numbers.{IsNumberFront, IsDigitsFront, IsCapped, EndsDigits};
+ghost use Rattle.std.specs.Int.{w32, w64};
+ghost use Rattle.tz_query.specs.Numbers.{IsNumberFront, IsDigitsFront, IsCapped, IsPartFront, EndsDigits};
 
 /// From here on one more digit makes a number that no type of 64 bits has.
 const LIMIT: u64 = 1_000_000_000_000_000_000;
@@ -90,5 +90,52 @@ pub fn read_number(bytes: &[u8]) -> Option<(i64, &[u8])>
             let number = 0i64.checked_add_unsigned(size)?;
             Some((number, rest))
         }
+    }
+}
+
+/// The number after a space in front of the bytes, if there is one of 64 bits, and the bytes after it.
+#[inline(always)]
+pub fn read_part(bytes: &[u8]) -> Option<(i64, &[u8])>
+    ensures some { IfSome result (λ r. IsPartFront bytes.now r.0 r.1.now) }
+    ensures none { IfNone result ((n : ℤ) (rest : List ℕ) → FitsSigned w64 n → ¬ IsPartFront bytes.now n rest) }
+{
+    let number = after_byte(bytes, b' ')?;
+    read_number(number)
+}
+
+/// The same of 32 bits.
+pub fn read_part_of_32_bits(bytes: &[u8]) -> Option<(i32, &[u8])>
+    ensures some { IfSome result (λ r. IsPartFront bytes.now r.0 r.1.now) }
+    ensures none { IfNone result ((n : ℤ) (rest : List ℕ) → FitsSigned w32 n → ¬ IsPartFront bytes.now n rest) }
+{
+    let (number, rest) = read_part(bytes)?;
+    match i32::try_from(number) {
+        Ok(number) => Some((number, rest)),
+        Err(_) => None,
+    }
+}
+
+/// The same of 32 bits without a sign.
+#[inline(always)]
+pub fn read_size_of_32_bits(bytes: &[u8]) -> Option<(u32, &[u8])>
+    ensures some { IfSome result (λ r. IsPartFront bytes.now (pos r.0) r.1.now) }
+    ensures none { IfNone result ((n : ℕ) (rest : List ℕ) → n < 2 ^ 32 → ¬ IsPartFront bytes.now (pos n) rest) }
+{
+    let (number, rest) = read_part(bytes)?;
+    match u32::try_from(number) {
+        Ok(number) => Some((number, rest)),
+        Err(_) => None,
+    }
+}
+
+/// The same of 8 bits without a sign.
+pub fn read_size_of_8_bits(bytes: &[u8]) -> Option<(u8, &[u8])>
+    ensures some { IfSome result (λ r. IsPartFront bytes.now (pos r.0) r.1.now) }
+    ensures none { IfNone result ((n : ℕ) (rest : List ℕ) → n < 2 ^ 8 → ¬ IsPartFront bytes.now (pos n) rest) }
+{
+    let (number, rest) = read_part(bytes)?;
+    match u8::try_from(number) {
+        Ok(number) => Some((number, rest)),
+        Err(_) => None,
     }
 }

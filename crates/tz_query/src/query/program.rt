@@ -1,16 +1,19 @@
-//! The program over words, an input and outputs that are handed in.
+//! The program over words, a reader of files, an input and outputs that are handed in.
 
 ghost use Rattle.std.specs.Prelude.{◌≡◌, ◌≤◌, ℕ, ℤ, List, IfSome, IfNone, IfOk, OnOk, FitsSigned};
+ghost use Rattle.std.specs.Fn.{FnReturnsAt};
 ghost use Rattle.std.specs.Int.{w32};
 ghost use Rattle.std.specs.Io.KnownBytes.{Appends, Consumes, IsAtEnd};
 ghost use Rattle.tz_query.specs.Numbers.{IsNumber};
-ghost use Rattle.tz_query.specs.Program.{texts_of, AsksForOffset, AnswersInput};
+ghost use Rattle.tz_query.specs.Program.{texts_of, IsZoneOfOffset, IsZoneOfFile, IsZoneOfText, IsZoneOfOption, AsksForZone, AnswersInput};
+ghost use Rattle.tz_zone.specs.ZoneRef.{own_zone_of};
 
 use crate::query::answers::answer;
 use crate::query::numbers::read_number;
 use std::alloc::{AllocError, Allocator};
 use std::io::{Read, Write};
 use thiserror::Error;
+use tz::error::ReadFault;
 use tz::{TimeZone, TzError};
 
 /// Why the program ends without all answers.
@@ -18,6 +21,8 @@ use tz::{TimeZone, TzError};
 enum Fault {
     #[error("bad arguments")]
     Arguments,
+    #[error("cannot read file")]
+    File,
     #[error("cannot read queries")]
     Read,
     #[error("cannot write answers")]
@@ -34,11 +39,29 @@ impl From<AllocError> for Fault {
     }
 }
 
+impl From<ReadFault> for Fault {
+    fn from(fault: ReadFault) -> Self {
+        match fault {
+            ReadFault::Memory(_) => Fault::Memory,
+            ReadFault::Failed(_) => Fault::File,
+        }
+    }
+}
+
 impl From<TzError> for Fault {
     fn from(error: TzError) -> Self {
         match error {
             TzError::Memory(_) => Fault::Memory,
             other => Fault::Zone(other),
+        }
+    }
+}
+
+impl From<tz::Error> for Fault {
+    fn from(error: tz::Error) -> Self {
+        match error {
+            tz::Error::Io(_) => Fault::File,
+            tz::Error::Tz(error) => Fault::from(error),
         }
     }
 }
@@ -71,13 +94,71 @@ fn read_offset(word: &str) -> Option<i32>
     }
 }
 
-/// The offset of the zone that the words ask for.
-fn offset_of(words: &[&str]) -> Option<i32>
-    ensures { IfSome result (AsksForOffset (texts_of words.now)) }
+/// The fixed zone of a number of seconds.
+fn zone_of_offset<A: Allocator + Copy>(alloc: A, number: &str) -> Result<TimeZone<A>, Fault>
+    ensures { IfOk result (λ zone. IsZoneOfOffset number.now (own_zone_of zone)) }
+{
+    let Some(ut_offset) = read_offset(number) else {
+        return Err(Fault::Arguments);
+    };
+    Ok(TimeZone::fixed(alloc, ut_offset)?)
+}
+
+/// The zone of the TZif file at a path.
+fn zone_of_file<A: Allocator + Copy, F: Fn(&str) -> Result<Vec<u8>, ReadFault>>(
+    alloc: A,
+    path: &str,
+    reader: &F,
+) -> Result<TimeZone<A>, Fault>
+    requires { F.IsAlwaysCallable reader.now }
+    ensures { IfOk result (λ zone. IsZoneOfFile (FnReturnsAt F.Fn reader.now) path.now (own_zone_of zone)) }
+{
+    let bytes = reader(path)?;
+    Ok(TimeZone::from_tz_data(alloc, &bytes)?)
+}
+
+/// The zone of a TZ text, or of the file that it names.
+fn zone_of_text<A: Allocator + Copy, F: Fn(&str) -> Result<Vec<u8>, ReadFault> + Drop>(
+    alloc: A,
+    text: &str,
+    reader: F,
+) -> Result<TimeZone<A>, Fault>
+    requires { F.IsAlwaysCallable reader }
+    ensures { IfOk result (λ zone. IsZoneOfText (FnReturnsAt F.Fn reader) text.now (own_zone_of zone)) }
+{
+    Ok(TimeZone::from_posix_tz(alloc, reader, text)?)
+}
+
+/// The zone that an option asks for by its word.
+fn zone_of_option<A: Allocator + Copy, F: Fn(&str) -> Result<Vec<u8>, ReadFault> + Drop>(
+    alloc: A,
+    option: &str,
+    word: &str,
+    reader: F,
+) -> Result<TimeZone<A>, Fault>
+    requires { F.IsAlwaysCallable reader }
+    ensures { IfOk result (λ zone. IsZoneOfOption (FnReturnsAt F.Fn reader) option.now word.now (own_zone_of zone)) }
+{
+    match option {
+        "-o" => zone_of_offset(alloc, word),
+        "-f" => zone_of_file(alloc, word, &reader),
+        "-z" => zone_of_text(alloc, word, reader),
+        _ => Err(Fault::Arguments),
+    }
+}
+
+/// The zone that the words ask for.
+fn zone_of_words<A: Allocator + Copy, F: Fn(&str) -> Result<Vec<u8>, ReadFault> + Drop>(
+    alloc: A,
+    words: &[&str],
+    reader: F,
+) -> Result<TimeZone<A>, Fault>
+    requires { F.IsAlwaysCallable reader }
+    ensures { IfOk result (λ zone. AsksForZone (FnReturnsAt F.Fn reader) (texts_of words.now) (own_zone_of zone)) }
 {
     match words {
-        [option, offset] if *option == "-o" => read_offset(offset),
-        _ => None,
+        [option, word] => zone_of_option(alloc, option, word, reader),
+        _ => Err(Fault::Arguments),
     }
 }
 
@@ -117,18 +198,22 @@ fn write_all<W: Write>(out: &mut W, bytes: &[u8]) -> Result<(), Fault>
 }
 
 /// Makes the zone, reads the queries and writes their answers.
-fn run<A: Allocator + Copy, R: Read, W: Write>(
+fn run<A, F, R, W>(
     alloc: A,
     words: &[&str],
+    reader: F,
     input: &mut R,
     out: &mut W,
 ) -> Result<(), Fault>
-    ensures { OnOk result (AnswersInput (texts_of words.now) (R.remaining input.old) (R.remaining input.new) (W.contents out.old) (W.contents out.new)) }
+where
+    A: Allocator + Copy,
+    F: Fn(&str) -> Result<Vec<u8>, ReadFault> + Drop,
+    R: Read,
+    W: Write,
+    requires { F.IsAlwaysCallable reader }
+    ensures { OnOk result (AnswersInput (FnReturnsAt F.Fn reader) (texts_of words.now) (R.remaining input.old) (R.remaining input.new) (W.contents out.old) (W.contents out.new)) }
 {
-    let Some(ut_offset) = offset_of(words) else {
-        return Err(Fault::Arguments);
-    };
-    let zone = TimeZone::fixed(alloc, ut_offset)?;
+    let zone = zone_of_words(alloc, words, reader)?;
     let queries = read_to_end(alloc, input)?;
     let answers = answer(alloc, zone.as_ref(), &queries)?;
     write_all(out, &answers)
@@ -136,20 +221,29 @@ fn run<A: Allocator + Copy, R: Read, W: Write>(
 
 /// Runs the program and answers its status.
 ///
-/// The words `-o` and a number of seconds ask for the zone with that offset from UTC. The zone is made first, then the input is read
-/// to its end, and then the answers of its lines are written. A fault is one line on the error output, whether or not that line can be
-/// written: status 1, or 2 where the zone is refused.
-pub fn tool<A: Allocator + Copy, R: Read, W: Write, E: Write>(
+/// The words are an option and its word, which ask for a zone: `-o` and a number of seconds for that offset from UTC, `-f` and a path for
+/// the TZif file that the reader finds there, `-z` and a text for what [`TimeZone::from_posix_tz`] answers. The zone is made first, then
+/// the input is read to its end, and then the answers of its lines are written. A fault is one line on the error output, whether or not
+/// that line can be written: status 1, or 2 where the zone is refused.
+pub fn tool<A, F, R, W, E>(
     alloc: A,
     words: &[&str],
+    reader: F,
     input: &mut R,
     out: &mut W,
     err: &mut E,
 ) -> u8
+where
+    A: Allocator + Copy,
+    F: Fn(&str) -> Result<Vec<u8>, ReadFault> + Drop,
+    R: Read,
+    W: Write,
+    E: Write,
+    requires { F.IsAlwaysCallable reader }
     ensures status { result ≤ 2 }
-    ensures answered { result ≡ 0 → AnswersInput (texts_of words.now) (R.remaining input.old) (R.remaining input.new) (W.contents out.old) (W.contents out.new) }
+    ensures answered { result ≡ 0 → AnswersInput (FnReturnsAt F.Fn reader) (texts_of words.now) (R.remaining input.old) (R.remaining input.new) (W.contents out.old) (W.contents out.new) }
 {
-    match run(alloc, words, input, out) {
+    match run(alloc, words, reader, input, out) {
         Ok(()) => 0,
         Err(fault) => {
             let _ = writeln!(err, "tzq: {fault}");
@@ -157,3 +251,6 @@ pub fn tool<A: Allocator + Copy, R: Read, W: Write, E: Write>(
         }
     }
 }
+
+#[cfg(test)]
+mod tests;

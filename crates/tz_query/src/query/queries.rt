@@ -1,10 +1,16 @@
 //! The first line of bytes, and what it asks for.
 
-ghost use Rattle.std.specs.Prelude.{◌≡◌, ℕ, ◌<◌, ◌∷◌, List, ℤ, length, IfSome, IfNone};
+ghost use Rattle.std.specs.Prelude.{◌≡◌, ℕ, ◌^◌, ◌<◌, [], ◌∷◌, List, ℤ, pos, length, IfSome, IfNone, FitsSigned};
+ghost use Rattle.std.specs.Int.{w64};
+ghost use Rattle.tz_base.specs.declared.calendar.Fields.{Fields};
 ghost use Rattle.tz_query.specs.Lines.{IsLineEnd, IsFirstLine};
-ghost use Rattle.tz_query.specs.Queries.{IsTimeFront, IsTimeLineFront};
+ghost use Rattle.tz_query.specs.Numbers.{ArePartsFront};
+ghost use Rattle.tz_query.specs.Queries.{AreFieldsOfBits, numbers_of, IsTimeLineFront, IsSearchLineFront};
 
-use crate::query::numbers::{after_byte, read_number};
+use crate::query::numbers::{
+    after_byte, read_part, read_part_of_32_bits, read_size_of_8_bits, read_size_of_32_bits,
+};
+use tz_base::calendar::Fields;
 
 /// The bytes after the end of a line, if it ends here: after an LF, or none where there are none.
 #[inline(always)]
@@ -30,19 +36,40 @@ pub fn after_line(bytes: &[u8]) -> &[u8]
     &[]
 }
 
-/// The instant and the nanoseconds that stand after `T `, if the line asks for them, and the bytes after it.
+/// The instant and the nanoseconds in front of the bytes, if they are numbers of their types, each after a space, and the bytes after
+/// them.
 #[inline(always)]
 fn read_time(bytes: &[u8]) -> Option<(i64, u32, &[u8])>
-    ensures some { IfSome result (λ r. IsTimeFront bytes.now r.0 r.1 r.2.now) }
-    ensures none { IfNone result ((u : ℤ) (n : ℕ) (rest : List ℕ) → ¬ IsTimeFront bytes.now u n rest) }
+    ensures some { IfSome result (λ r. ArePartsFront bytes.now (r.0 ∷ pos r.1 ∷ []) r.2.now) }
+    ensures none { IfNone result ((u : ℤ) (n : ℕ) (rest : List ℕ) → FitsSigned w64 u → n < 2 ^ 32 → ¬ ArePartsFront bytes.now (u ∷ pos n ∷ []) rest) }
 {
-    let (unix_time, after_seconds) = read_number(bytes)?;
-    let (nanoseconds, tail) = read_number(after_byte(after_seconds, b' ')?)?;
-    let rest = after_line_end(tail)?;
-    match u32::try_from(nanoseconds) {
-        Ok(nanoseconds) => Some((unix_time, nanoseconds, rest)),
-        Err(_) => None,
-    }
+    let (unix_time, after_seconds) = read_part(bytes)?;
+    let (nanoseconds, rest) = read_size_of_32_bits(after_seconds)?;
+    Some((unix_time, nanoseconds, rest))
+}
+
+/// The fields in front of the bytes, if they are numbers of their types, each after a space, and the bytes after them.
+fn read_fields(bytes: &[u8]) -> Option<(Fields, &[u8])>
+    ensures some { IfSome result (λ r. ArePartsFront bytes.now (numbers_of r.0) r.1.now × AreFieldsOfBits r.0) }
+    ensures none { IfNone result ((f : Fields) (rest : List ℕ) → AreFieldsOfBits f → ¬ ArePartsFront bytes.now (numbers_of f) rest) }
+{
+    let (year, after_year) = read_part_of_32_bits(bytes)?;
+    let (month, after_month) = read_size_of_8_bits(after_year)?;
+    let (month_day, after_day) = read_size_of_8_bits(after_month)?;
+    let (hour, after_hour) = read_size_of_8_bits(after_day)?;
+    let (minute, after_minute) = read_size_of_8_bits(after_hour)?;
+    let (second, after_second) = read_size_of_8_bits(after_minute)?;
+    let (nanoseconds, rest) = read_size_of_32_bits(after_second)?;
+    let fields = Fields {
+        year,
+        month,
+        month_day,
+        hour,
+        minute,
+        second,
+        nanoseconds,
+    };
+    Some((fields, rest))
 }
 
 /// The instant and the nanoseconds that the first line asks for, if it is a `T` line, and the bytes after it.
@@ -51,7 +78,20 @@ pub fn read_time_line(bytes: &[u8]) -> Option<(i64, u32, &[u8])>
     ensures some { IfSome result (λ r. IsTimeLineFront bytes.now r.0 r.1 r.2.now) }
     ensures none { IfNone result ((u : ℤ) (n : ℕ) (rest : List ℕ) → ¬ IsTimeLineFront bytes.now u n rest) }
 {
-    let parts = after_byte(after_byte(bytes, b'T')?, b' ')?;
-    let (unix_time, nanoseconds, rest) = read_time(parts)?;
+    let parts = after_byte(bytes, b'T')?;
+    let (unix_time, nanoseconds, tail) = read_time(parts)?;
+    let rest = after_line_end(tail)?;
     Some((unix_time, nanoseconds, rest))
+}
+
+/// The fields that the first line asks for, if it is an `F` line, and the bytes after it.
+#[inline(never)]
+pub fn read_search_line(bytes: &[u8]) -> Option<(Fields, &[u8])>
+    ensures some { IfSome result (λ r. IsSearchLineFront bytes.now r.0 r.1.now) }
+    ensures none { IfNone result ((f : Fields) (rest : List ℕ) → ¬ IsSearchLineFront bytes.now f rest) }
+{
+    let parts = after_byte(bytes, b'F')?;
+    let (fields, tail) = read_fields(parts)?;
+    let rest = after_line_end(tail)?;
+    Some((fields, rest))
 }

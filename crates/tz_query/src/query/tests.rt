@@ -1,7 +1,7 @@
-//! Query lines and the program, by rows and by another program's answers.
+//! Query lines, by rows and by another program's answers.
 
 use super::*;
-use std::alloc::{Allocator, Global};
+use std::alloc::Allocator;
 use std::test::Fail;
 use tz::{LocalTimeType, TimeZone, TimeZoneRef, TzError};
 use tz_base::refusing::Refusing;
@@ -14,17 +14,6 @@ fn answered<A: Allocator + Copy>(
 ) -> Result<Vec<u8, A>, TzError> {
     let zone = TimeZone::fixed(alloc, ut_offset)?;
     answer(alloc, zone.as_ref(), queries)
-}
-
-/// What the program does: its status, and its outputs, each after `|`.
-fn run(alloc: Global, words: &[&str], queries: &[u8]) -> Result<String, Fail> {
-    let mut input = queries;
-    let mut out = Vec::new(alloc);
-    let mut err = Vec::new(alloc);
-    let status = tool(alloc, words, &mut input, &mut out, &mut err);
-    let out = String::from_utf8(out)?;
-    let err = String::from_utf8(err)?;
-    Ok(format!(in alloc; "{status}|{out}|{err}")?)
 }
 
 /// Offsets with lines at the limits of their numbers, of years and of offsets, and what tz-rs answers to them.
@@ -214,26 +203,8 @@ fn refuses_by_name(rt: HostRuntime) -> Result<(), Fail> {
 #[test]
 fn reads_only_the_grammar(rt: HostRuntime) -> Result<(), Fail> {
     let lines = [
-        "T +1 5",
-        "T 1  5",
-        "T 1 5 ",
-        "",
-        " T 1 5",
-        "T  1 5",
-        "T 1 5 6",
-        "T 1",
-        "T",
-        "t 1 5",
-        "T 1 5\r",
-        "T -1 --5",
-        "T - 5",
-        "T 1 -",
-        "T 1\t5",
-        "T1 5",
-        "T 1e3 5",
-        "T 1 5x",
-        "W 1 5",
-        "F 1970 1 1 0 0 0 0",
+        "T +1 5", "T 1  5", "T 1 5 ", "", " T 1 5", "T  1 5", "T 1 5 6", "T 1", "T", "t 1 5",
+        "T 1 5\r", "T -1 --5", "T - 5", "T 1 -", "T 1\t5", "T1 5", "T 1e3 5", "T 1 5x", "W 1 5",
     ];
     for line in &lines {
         let mut queries = Vec::new(rt.alloc());
@@ -323,69 +294,6 @@ fn refused_memory_changes_no_answer(rt: HostRuntime) -> Result<(), Fail> {
         assert_eq!(rt; heap.refused(), u64::from(left < refusals));
     }
     assert!(rt; refusals > 1);
-    assert!(rt; refusals < 20);
-    Ok(())
-}
-
-#[test]
-fn the_program_prints_answers(rt: HostRuntime) -> Result<(), Fail> {
-    let found = run(rt.alloc(), &["-o", "-3600"], b"T 946684800 123456789\n")?;
-    assert_eq!(rt;
-        found.as_str(),
-        "0|1999-12-31T23:00:00.123456789-01:00 -\n|"
-    );
-    assert_eq!(rt; run(rt.alloc(), &["-o", "-0000"], b"")?.as_str(), "0||");
-    Ok(())
-}
-
-#[test]
-fn the_program_tells_its_faults(rt: HostRuntime) -> Result<(), Fail> {
-    let refused = "2||tzq: zone refused: invalid local time type: invalid UTC offset\n";
-    assert_eq!(rt;
-        run(rt.alloc(), &["-o", "-2147483648"], b"T 0 0\n")?.as_str(),
-        refused
-    );
-    let bad = "1||tzq: bad arguments\n";
-    assert_eq!(rt;
-        run(rt.alloc(), &["-o", "2147483648"], b"T 0 0\n")?.as_str(),
-        bad
-    );
-    assert_eq!(rt; run(rt.alloc(), &[], b"T 0 0\n")?.as_str(), bad);
-    assert_eq!(rt; run(rt.alloc(), &["-o"], b"T 0 0\n")?.as_str(), bad);
-    assert_eq!(rt;
-        run(rt.alloc(), &["-o", "1", "2"], b"T 0 0\n")?.as_str(),
-        bad
-    );
-    assert_eq!(rt; run(rt.alloc(), &["-x", "1"], b"T 0 0\n")?.as_str(), bad);
-    assert_eq!(rt; run(rt.alloc(), &["-o", ""], b"T 0 0\n")?.as_str(), bad);
-    assert_eq!(rt; run(rt.alloc(), &["-o", "1 "], b"T 0 0\n")?.as_str(), bad);
-    assert_eq!(rt; run(rt.alloc(), &["-o", "+1"], b"T 0 0\n")?.as_str(), bad);
-    Ok(())
-}
-
-#[test]
-fn the_program_without_memory_writes_nothing(rt: HostRuntime) -> Result<(), Fail> {
-    let mut refusals = 0u64;
-    for left in 0..20u64 {
-        let heap = Refusing::new(rt.alloc(), left);
-        let mut input = b"T 0 0\n".as_slice();
-        let mut out = Vec::new(rt.alloc());
-        let mut err = Vec::new(rt.alloc());
-        let status = tool(&heap, &["-o", "0"], &mut input, &mut out, &mut err);
-        if status == 0 {
-            assert_eq!(rt;
-                out.as_slice(),
-                b"1970-01-01T00:00:00.000000000Z -\n".as_slice()
-            );
-            assert_eq!(rt; err.len(), 0);
-        } else {
-            assert_eq!(rt; status, 1);
-            assert_eq!(rt; out.len(), 0);
-            assert_eq!(rt; err.as_slice(), b"tzq: no memory\n".as_slice());
-            refusals = left + 1;
-        }
-    }
-    assert!(rt; refusals > 2);
     assert!(rt; refusals < 20);
     Ok(())
 }

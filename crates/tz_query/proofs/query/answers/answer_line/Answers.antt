@@ -1,22 +1,36 @@
--- A `T` line, or a line that is no query.
+-- A `T` line, an `F` line, or a line that is no query.
 use Rattle.std.proofs.Common.{[], ◌∷◌, refl, inl, inr, rules}
 use Rattle.std.specs.Prelude.{codes}
 use Rattle.std.proofs.lemmas.Int.{to_z-of_z}
 use mir.Syntax.{w64}
 use mir.Val.{SFits}
-use Rattle.tz_query.specs.Queries.{Time}
+use Rattle.tz_query.specs.Queries.{Time, Search}
 use Rattle.tz_query.proofs.LineLemmas.{no_query}
 use Rattle.tz_query.proofs.query.answers.answer_line.Goals as goal
 
-pub returns-in_ok-extend_from_slice-in-None : goal.returns-in_ok-extend_from_slice-in-None
-returns-in_ok-extend_from_slice-in-None g c =
-    let line = c.after_line.ensures in
-    (line.0, codes "E Line" ∷ [], line.1, inr (no_query line.0 (λ u n is. c.in-None.ensures.none u n _ (line.0, line.1, is)), refl), c.in_ok-extend_from_slice-in-None.ensures.items)
-
-pub returns-in_ok-answer_time-in-Some : goal.returns-in_ok-answer_time-in-Some
-returns-in_ok-answer_time-in-Some g c =
+pub returns-in-Some : goal.returns-in-Some
+returns-in-Some g c =
     let asked = c.in-Some in
     let front = asked.ensures.some in
     let fits : SFits w64 asked.unix_time = search rules in
-    let answered = rw (to_z-of_z w64 asked.unix_time fits) at c.in_ok-answer_time-in-Some.ensures in
+    let answered = rw (to_z-of_z w64 asked.unix_time fits) at c.in_ok-answer_time.ensures in
     (front.0, answered.0 ∷ [], front.1, inl (Time asked.unix_time asked.nanoseconds, front.2, (answered.0, answered.1, refl)), answered.2)
+
+pub returns-in-Some-read_search_line : goal.returns-in-Some-read_search_line
+returns-in-Some-read_search_line g c =
+    let asked = c.in-Some-read_search_line in
+    let front = asked.ensures.some in
+    let answered = c.in_ok-answer_search.ensures in
+    (front.0, answered.0, front.1, inl (Search asked.fields, front.2, answered.1), answered.2)
+
+pub returns : goal.returns
+returns g c =
+    let line = c.after_line.ensures in
+    let no_time = c.in_default.ensures.none in
+    let no_search = c.in_default-read_search_line.ensures.none in (
+      line.0,
+      codes "E Line" ∷ [],
+      line.1,
+      inr (no_query line.0 (λ u n is. no_time u n _ (line.0, line.1, is)) (λ f is. no_search f _ (line.0, line.1, is)), refl),
+      c.in_ok-extend_from_slice.ensures.items,
+    )

@@ -1,10 +1,8 @@
 -- The date time that the clock shows, or the name of its refusal.
-use Rattle.std.proofs.Common.{◌≡◌, List, ℕ, ◌++◌, ◌∷◌, refl, sym, ap, ◌∙◌, inl, inr, rules}
+use Rattle.std.proofs.Common.{inl, inr, refl}
 use Rattle.std.proofs.lemmas.Int.{to_z-of_z}
-use mir.Syntax.{w32, w64}
-use mir.Val.{SFits}
+use mir.Syntax.{w64}
 use Rattle.tz_zone.specs.ZoneRef.{zone_of}
-use Rattle.tz_query.specs.Answers.{moment_text}
 use Rattle.tz_query.proofs.AnswerLemmas.{civil_reading, clock_fault_text}
 use Rattle.tz_query.proofs.query.answers.push_time_answer.Goals as goal
 
@@ -13,24 +11,11 @@ fault_name-requires c =
     clock_fault_text (zone_of c.args.zone) c.args.unix_time c.args.nanoseconds c.in-Err.error (rw (to_z-of_z w64 c.args.unix_time c.ranges.unix_time) at c.in-Err.ensures.err)
 
 pub returns-in-Ok-clause-answer : goal.returns-in-Ok-clause-answer
-unfolding moment_text
 returns-in-Ok-clause-answer c =
     let d = c.in-Ok.date_time in
     let shows = rw (to_z-of_z w64 c.args.unix_time c.ranges.unix_time) at c.in-Ok.ensures.ok in
-    let year : SFits w32 d.fields.year = c.fields_of-fields.ensures.year in
-    inl (
-      d,
-      shows,
-      civil_reading _ c.args.nanoseconds d.fields shows.2.civil year,
-      rw (c.push_moment.ensures.text, c.requires, c.fields_of-fields.ensures.fields, c.local_time_type.ensures) refl,
-    )
+    inl (d, shows, civil_reading _ c.args.nanoseconds d.fields shows.2.civil c.push_moment.ensures.year, rw (c.push_moment.ensures.text, c.requires) refl)
 
 pub returns-in-Err-clause-answer : goal.returns-in-Err-clause-answer
 returns-in-Err-clause-answer c =
-    inr (
-      c.in-Err.error,
-      c.fault_name.result.now,
-      (rw (to_z-of_z w64 c.args.unix_time c.ranges.unix_time) at c.in-Err.ensures.err),
-      c.fault_name.ensures.text,
-      rw (c.push_str-in-Err.ensures.text, c.push_str.ensures.text, c.requires) refl,
-    )
+    inr (c.in-Err.error, c.fault_name.result.now, (rw (to_z-of_z w64 c.args.unix_time c.ranges.unix_time) at c.in-Err.ensures.err), c.fault_name.ensures.text, c.push_fault.ensures.text)

@@ -1,20 +1,26 @@
--- After `T ` stands what is asked for.
-use Rattle.std.proofs.Common.{◌∷◌, ◌∙◌, ap, rules}
+-- After `T` stands what is asked for.
+use Rattle.std.proofs.Common.{◌∷◌, [], ◌<◌, ◌^◌, pos, refl, arith, rules}
 use Rattle.std.proofs.lemmas.Int.{to_z-of_z}
 use mir.Syntax.{w64}
 use mir.Val.{SFits}
 use Rattle.tz_query.proofs.NumberLemmas.{IfNone-anyway}
-use Rattle.tz_query.proofs.LineLemmas.{line_from_time_front, no_time_line_without_time}
+use Rattle.tz_query.proofs.LineLemmas.{NoTimeLine, line_from_front, no_line_without_numbers, no_line_without_end}
 use Rattle.tz_query.proofs.query.queries.read_time_line.Goals as goal
 
 pub returns-in_err-unix_time-clause-none : goal.returns-in_err-unix_time-clause-none
 returns-in_err-unix_time-clause-none c =
-    let mark = c.in_ok-after_byte.ensures.some ∙ ap (λ bs. 84 ∷ bs) c.in_ok-parts.ensures.some in
-    IfNone-anyway _ (no_time_line_without_time c.args.bytes.now c.in_ok-parts.parts.now mark c.in_err-unix_time.ensures.none)
+    IfNone-anyway {P = NoTimeLine c.args.bytes.now} _ (λ u n rest (line, first, is). no_line_without_numbers 84 c.args.bytes.now _ c.in_ok-parts.ensures.some (u ∷ pos n ∷ [])
+    (λ tail. c.in_err-unix_time.ensures.none u n tail is.seconds_fit is.nanoseconds_fit) rest line first is.line_is)
+
+pub returns-in_err-rest-clause-none : goal.returns-in_err-rest-clause-none
+returns-in_err-rest-clause-none c =
+    IfNone-anyway {P = NoTimeLine c.args.bytes.now} _ (λ u n rest (line, first, is). no_line_without_end 84 c.args.bytes.now _ c.in_ok-parts.ensures.some (c.in_ok-unix_time.unix_time ∷ pos c.in_ok-unix_time.nanoseconds ∷ []) _ c.in_ok-unix_time.ensures.some c.in_err-rest.ensures.none
+    (u ∷ pos n ∷ []) refl rest line first is.line_is)
 
 pub returns-clause-some : goal.returns-clause-some
 returns-clause-some c =
-    let mark = c.in_ok-after_byte.ensures.some ∙ ap (λ bs. 84 ∷ bs) c.in_ok-parts.ensures.some in
-    let fits : SFits w64 c.in_ok-unix_time.unix_time = search rules in
-    rw (to_z-of_z w64 c.in_ok-unix_time.unix_time fits)
-    (line_from_time_front c.in_ok-parts.parts.now _ _ _ c.args.bytes.now mark c.in_ok-unix_time.ensures.some)
+    let read = c.in_ok-unix_time in
+    let fits : SFits w64 read.unix_time = search rules in
+    let few : read.nanoseconds < 2 ^ 32 = search rules in
+    let found = line_from_front 84 (read.unix_time ∷ pos read.nanoseconds ∷ []) c.args.bytes.now _ (λ e. absurd (omega (arith, e))) (_, _, c.in_ok-parts.ensures.some, read.ensures.some, c.in_ok-rest.ensures.some) in
+    rw (to_z-of_z w64 read.unix_time fits) (found.0, found.1, record { line_is = found.2; seconds_fit = fits; nanoseconds_fit = few })

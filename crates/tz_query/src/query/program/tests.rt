@@ -1,0 +1,289 @@
+//! The program's answers, and its faults with their lines and statuses, by rows.
+
+use super::tool;
+use anyhow::anyhow;
+use std::alloc::{AllocError, Global};
+use std::io::{self, Read, Write};
+use std::test::Fail;
+use tz::error::ReadFault;
+use tz_base::refusing::Refusing;
+
+/// A file of version 1 with one type, UTC.
+const UTC_V1: &[u8] =
+    b"TZif\0\0\0\0\0\0\0\0\0\0\0\0\0\0\0\0\0\0\0\0\0\0\0\0\0\0\0\0\0\0\0\0\0\0\0\x01\0\0\0\x04\0\0\0\0\0\0UTC\0";
+
+/// The files: one of UTC, one cut short, and one for which there is no memory.
+fn file_at(alloc: Global, path: &str) -> Result<Vec<u8>, ReadFault> {
+    match path {
+        "/utc" => Ok(Vec::from_slice(alloc, UTC_V1)?),
+        "/usr/share/zoneinfo/Zone/UTC" => Ok(Vec::from_slice(alloc, UTC_V1)?),
+        "/cut" => Ok(Vec::from_slice(alloc, b"TZif")?),
+        "/large" => Err(ReadFault::Memory(AllocError)),
+        _ => Err(ReadFault::Failed(anyhow!("no such file"))),
+    }
+}
+
+/// A stream that passes calls on to another one, until it has passed on as many as it was given, and then fails.
+#[derive(Drop)]
+struct Failing<T> {
+    inner: T,
+    left: u8,
+}
+
+impl<T> Failing<T> {
+    /// Counts a call, and says whether it is passed on.
+    fn pass(&mut self) -> io::Result<()> {
+        match self.left.checked_sub(1) {
+            Some(left) => {
+                self.left = left;
+                Ok(())
+            }
+            None => Err(io::Error::from(io::ErrorKind::BrokenPipe)),
+        }
+    }
+}
+
+impl<T: Read> Read for Failing<T> {
+    fn read(&mut self, buf: &mut [u8]) -> io::Result<usize> {
+        self.pass()?;
+        self.inner.read(buf)
+    }
+}
+
+impl<T: Write> Write for Failing<T> {
+    fn write(&mut self, buf: &[u8]) -> io::Result<usize> {
+        self.pass()?;
+        self.inner.write(buf)
+    }
+
+    fn flush(&mut self) -> io::Result<()> {
+        Ok(())
+    }
+}
+
+/// What the program does: its status, and its outputs, each after `|`.
+fn outcome(alloc: Global, words: &[&str], queries: &[u8]) -> Result<String, Fail> {
+    let mut input = queries;
+    let mut out = Vec::new(alloc);
+    let mut err = Vec::new(alloc);
+    let reader = |path: &str| file_at(alloc, path);
+    let status = tool(alloc, words, reader, &mut input, &mut out, &mut err);
+    let out = String::from_utf8(out)?;
+    let err = String::from_utf8(err)?;
+    Ok(format!(in alloc; "{status}|{out}|{err}")?)
+}
+
+#[test]
+fn answers_over_the_zone_of_the_words(rt: HostRuntime) -> Result<(), Fail> {
+    let rows = [
+        ("-o", "-3600", "1969-12-31T23:00:00.000000000-01:00 -"),
+        ("-o", "-0000", "1970-01-01T00:00:00.000000000Z -"),
+        ("-f", "/utc", "1970-01-01T00:00:00.000000000Z UTC"),
+        ("-z", "HST10", "1969-12-31T14:00:00.000000000-10:00 HST"),
+        ("-z", " HST10\n", "1969-12-31T14:00:00.000000000-10:00 HST"),
+        (
+            "-z",
+            "CET-1CEST,M3.5.0,M10.5.0/3",
+            "1970-01-01T01:00:00.000000000+01:00 CET",
+        ),
+        ("-z", "/utc", "1970-01-01T00:00:00.000000000Z UTC"),
+        ("-z", ":/utc", "1970-01-01T00:00:00.000000000Z UTC"),
+        ("-z", "Zone/UTC", "1970-01-01T00:00:00.000000000Z UTC"),
+    ];
+    for (option, word, answer) in &rows {
+        let found = outcome(rt.alloc(), &[option, word], b"T 0 0\n")?;
+        let want = format!(in rt.alloc(); "0|{answer}\n|")?;
+        assert_eq!(rt; found.as_str(), want.as_str(), "{option} {word}");
+    }
+    let first = outcome(rt.alloc(), &["-o", "-3600"], b"T 946684800 123456789\n")?;
+    assert_eq!(rt;
+        first.as_str(),
+        "0|1999-12-31T23:00:00.123456789-01:00 -\n|"
+    );
+    assert_eq!(rt; outcome(rt.alloc(), &["-z", "A0"], b"")?.as_str(), "0||");
+    Ok(())
+}
+
+#[test]
+fn refuses_zones_by_their_error(rt: HostRuntime) -> Result<(), Fail> {
+    let rows = [
+        (
+            "-o",
+            "-2147483648",
+            "invalid local time type: invalid UTC offset",
+        ),
+        ("-f", "/cut", "invalid TZ file: unexpected end of data"),
+        ("-z", "/cut", "invalid TZ file: unexpected end of data"),
+        (
+            "-z",
+            "EET-2EEST",
+            "invalid TZ string: missing DST start and end rules",
+        ),
+        ("-z", "", "invalid TZ string: empty TZ string"),
+    ];
+    for (option, word, error) in &rows {
+        let found = outcome(rt.alloc(), &[option, word], b"T 0 0\n")?;
+        let want = format!(in rt.alloc(); "2||tzq: zone refused: {error}\n")?;
+        assert_eq!(rt; found.as_str(), want.as_str(), "{option} {word}");
+    }
+    Ok(())
+}
+
+#[test]
+fn names_files_that_give_no_bytes(rt: HostRuntime) -> Result<(), Fail> {
+    let rows = [
+        ("-f", "/", "cannot read file"),
+        ("-f", "", "cannot read file"),
+        ("-f", "Zone/UTC", "cannot read file"),
+        ("-f", "HST10", "cannot read file"),
+        ("-f", "/large", "no memory"),
+        ("-z", ":/none", "cannot read file"),
+        ("-z", ":HST10", "cannot read file"),
+        ("-z", "localtime", "cannot read file"),
+        ("-z", "/large", "no memory"),
+        ("-z", ":/large", "no memory"),
+    ];
+    for (option, word, fault) in &rows {
+        let found = outcome(rt.alloc(), &[option, word], b"T 0 0\n")?;
+        let want = format!(in rt.alloc(); "1||tzq: {fault}\n")?;
+        assert_eq!(rt; found.as_str(), want.as_str(), "{option} {word}");
+    }
+    Ok(())
+}
+
+#[test]
+fn takes_an_option_and_its_word_alone(rt: HostRuntime) -> Result<(), Fail> {
+    let bad: [&[&str]; 15] = [
+        &[],
+        &["-o"],
+        &["-f"],
+        &["-z"],
+        &["-o", "1", "2"],
+        &["-z", "HST10", ""],
+        &["-x", "1"],
+        &["", "1"],
+        &["-", "1"],
+        &["1", "-o"],
+        &["-o", "2147483648"],
+        &["-o", ""],
+        &["-o", "1 "],
+        &["-o", "+1"],
+        &["-O", "1"],
+    ];
+    for words in &bad {
+        let found = outcome(rt.alloc(), words, b"T 0 0\n")?;
+        assert_eq!(rt; found.as_str(), "1||tzq: bad arguments\n", "{words:?}");
+    }
+    Ok(())
+}
+
+/// What the program does with an input that fails after so many reads, an output that fails after so many writes, and an error
+/// output that fails at once or not.
+fn outcome_of_failing(
+    alloc: Global,
+    reads: u8,
+    writes: u8,
+    complaints: u8,
+) -> Result<String, Fail> {
+    let mut input = Failing {
+        inner: b"T 0 0\n".as_slice(),
+        left: reads,
+    };
+    let mut out = Failing {
+        inner: Vec::new(alloc),
+        left: writes,
+    };
+    let mut err = Failing {
+        inner: Vec::new(alloc),
+        left: complaints,
+    };
+    let reader = |path: &str| file_at(alloc, path);
+    let status = tool(
+        alloc,
+        &["-f", "/utc"],
+        reader,
+        &mut input,
+        &mut out,
+        &mut err,
+    );
+    let out = String::from_utf8(out.inner)?;
+    let err = String::from_utf8(err.inner)?;
+    Ok(format!(in alloc; "{status}|{out}|{err}")?)
+}
+
+#[test]
+fn names_streams_that_fail(rt: HostRuntime) -> Result<(), Fail> {
+    let rows = [
+        (0, 9, 9, "1||tzq: cannot read queries\n"),
+        (1, 9, 9, "1||tzq: cannot read queries\n"),
+        (0, 9, 0, "1||"),
+        (9, 0, 9, "1||tzq: cannot write answers\n"),
+        (9, 0, 0, "1||"),
+        (9, 9, 0, "0|1970-01-01T00:00:00.000000000Z UTC\n|"),
+    ];
+    for (reads, writes, complaints, want) in &rows {
+        let found = outcome_of_failing(rt.alloc(), *reads, *writes, *complaints)?;
+        assert_eq!(rt; found.as_str(), *want, "{reads} {writes} {complaints}");
+    }
+    Ok(())
+}
+
+/// What the program does where so many growths are granted and each later one is refused, and how many were refused.
+fn outcome_of_refusing(alloc: Global, words: &[&str], left: u64) -> Result<(String, u64), Fail> {
+    let heap = Refusing::new(alloc, left);
+    let mut input = b"T 0 0\n".as_slice();
+    let mut out = Vec::new(alloc);
+    let mut err = Vec::new(alloc);
+    let reader = |path: &str| file_at(alloc, path);
+    let status = tool(&heap, words, reader, &mut input, &mut out, &mut err);
+    let out = String::from_utf8(out)?;
+    let err = String::from_utf8(err)?;
+    Ok((format!(in alloc; "{status}|{out}|{err}")?, heap.refused()))
+}
+
+/// How many growths the program needs to give the answer, where with each lesser number it has no memory; none if it says otherwise.
+fn needed(alloc: Global, words: &[&str], answer: &str) -> Result<Option<u64>, Fail> {
+    for left in 0..40u64 {
+        let (found, refused) = outcome_of_refusing(alloc, words, left)?;
+        if refused == 0 {
+            return Ok(if found.as_str() == answer {
+                Some(left)
+            } else {
+                None
+            });
+        }
+        if found.as_str() != "1||tzq: no memory\n" {
+            return Ok(None);
+        }
+    }
+    Ok(None)
+}
+
+#[test]
+fn without_memory_it_writes_nothing(rt: HostRuntime) -> Result<(), Fail> {
+    let rows = [
+        ("-o", "0", "0|1970-01-01T00:00:00.000000000Z -\n|", 3),
+        ("-f", "/utc", "0|1970-01-01T00:00:00.000000000Z UTC\n|", 3),
+        ("-z", "/utc", "0|1970-01-01T00:00:00.000000000Z UTC\n|", 3),
+        (
+            "-z",
+            "Zone/UTC",
+            "0|1970-01-01T00:00:00.000000000Z UTC\n|",
+            4,
+        ),
+        (
+            "-z",
+            "HST10",
+            "0|1969-12-31T14:00:00.000000000-10:00 HST\n|",
+            6,
+        ),
+    ];
+    for (option, word, answer, least) in &rows {
+        let growths = needed(rt.alloc(), &[option, word], answer)?;
+        assert!(rt;
+            growths.is_some_and(|growths| growths >= *least),
+            "{option} {word}"
+        );
+    }
+    Ok(())
+}

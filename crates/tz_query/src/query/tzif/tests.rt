@@ -1,0 +1,146 @@
+//! Answers over TZif files, by rows.
+
+use super::*;
+use std::alloc::{AllocError, Global};
+use std::test::Fail;
+use tz_base::refusing::Refusing;
+
+/// A file of version 1 with one type, UTC.
+const UTC_V1: &[u8] = b"TZif\0\
+    \0\0\0\0\0\0\0\0\0\0\0\0\0\0\0\
+    \0\0\0\0\0\0\0\0\0\0\0\0\0\0\0\0\0\0\0\x01\0\0\0\x04\
+    \0\0\0\0\0\0UTC\0";
+
+/// Israel from 2038 on, as a file of version 3: one type of two hours east, in the second block a transition to it, and a rule.
+const JERUSALEM_V3: &[u8] = b"TZif3\
+    \0\0\0\0\0\0\0\0\0\0\0\0\0\0\0\
+    \0\0\0\0\0\0\0\0\0\0\0\0\0\0\0\0\0\0\0\x01\0\0\0\x04\
+    \0\0\x1c\x20\0\0IST\0\
+    TZif3\
+    \0\0\0\0\0\0\0\0\0\0\0\0\0\0\0\
+    \0\0\0\x01\0\0\0\x01\0\0\0\0\0\0\0\x01\0\0\0\x01\0\0\0\x04\
+    \0\0\0\0\x7f\xe8\x17\x80\0\0\0\x1c\x20\0\0IST\0\x01\x01\
+    \nIST-2IDT,M3.4.4/26,M10.5.0\n";
+
+/// The answers, or the text of the refusal.
+fn answered(alloc: Global, tz_bytes: &[u8], queries: &str) -> Result<String, Fail> {
+    Ok(match answer_tzif(alloc, tz_bytes, queries.as_bytes()) {
+        Ok(answers) => String::from_utf8(answers)?,
+        Err(error) => format!(in alloc; "refused: {error}")?,
+    })
+}
+
+/// The bytes with one of them changed.
+fn altered(alloc: Global, bytes: &[u8], place: usize, byte: u8) -> Result<Vec<u8>, AllocError> {
+    let mut other = Vec::from_slice(alloc, bytes)?;
+    if place < other.len() {
+        other[place] = byte;
+    }
+    Ok(other)
+}
+
+#[test]
+fn a_file_s_zone_answers(rt: HostRuntime) -> Result<(), Fail> {
+    let alloc = rt.alloc();
+    assert_eq!(rt; (UTC_V1.len(), JERUSALEM_V3.len()), (54, 147));
+    for (file, queries, answers) in [
+        (UTC_V1, "T 0 0\n", "1970-01-01T00:00:00.000000000Z UTC\n"),
+        (
+            JERUSALEM_V3,
+            "T 2216073600 0\nT 2216073599 0",
+            "2040-03-23T03:00:00.000000000+03:00 IDT\n2040-03-23T01:59:59.000000000+02:00 IST\n",
+        ),
+        (JERUSALEM_V3, "T 0\n", "E Line\n"),
+        (JERUSALEM_V3, "", ""),
+        // A file without a rule has no clock from its last transition on.
+        (
+            &JERUSALEM_V3[..120],
+            "T 2145916799 0\nT 2145916800 0\n",
+            "2038-01-01T01:59:59.000000000+02:00 IST\nE NoAvailableLocalTimeType\n",
+        ),
+    ] {
+        let given = answered(alloc, file, queries)?;
+        assert_eq!(rt; given.as_str(), answers, "{queries}");
+    }
+    Ok(())
+}
+
+#[test]
+fn a_cut_file_is_refused(rt: HostRuntime) -> Result<(), Fail> {
+    let alloc = rt.alloc();
+    for (file, refusal) in [
+        (
+            &JERUSALEM_V3[..146],
+            "refused: invalid TZ file: invalid footer",
+        ),
+        (
+            &JERUSALEM_V3[..119],
+            "refused: invalid TZ file: invalid footer",
+        ),
+        (
+            &JERUSALEM_V3[..118],
+            "refused: invalid TZ file: unexpected end of data",
+        ),
+        (
+            &JERUSALEM_V3[..0],
+            "refused: invalid TZ file: unexpected end of data",
+        ),
+        (
+            &UTC_V1[..53],
+            "refused: invalid TZ file: unexpected end of data",
+        ),
+    ] {
+        let given = answered(alloc, file, "T 0 0\n")?;
+        assert_eq!(rt; given.as_str(), refusal, "of {} bytes", file.len());
+    }
+    let mut longer = Vec::from_slice(alloc, UTC_V1)?;
+    longer.push(0)?;
+    let given = answered(alloc, &longer, "T 0 0\n")?;
+    assert_eq!(rt;
+        given.as_str(),
+        "refused: invalid TZ file: remaining data after the end of a TZif v1 data block"
+    );
+    Ok(())
+}
+
+#[test]
+fn an_altered_file_answers_or_is_refused(rt: HostRuntime) -> Result<(), Fail> {
+    let alloc = rt.alloc();
+    for (place, byte, answer) in [
+        (4, b'2', "2040-03-23T03:00:00.000000000+03:00 IDT\n"),
+        (
+            58,
+            b'2',
+            "refused: invalid TZ string: invalid day time hour",
+        ),
+        (2, b'j', "refused: invalid TZ file: invalid magic number"),
+    ] {
+        let file = altered(alloc, JERUSALEM_V3, place, byte)?;
+        let given = answered(alloc, &file, "T 2216073600 0\n")?;
+        assert_eq!(rt; given.as_str(), answer, "at {place}");
+    }
+    Ok(())
+}
+
+#[test]
+fn each_growth_can_be_refused(rt: HostRuntime) -> Result<(), Fail> {
+    let queries = b"T 2216073600 0\nT 0 0\nT 2145916800 0\n";
+    let answers = answer_tzif(rt.alloc(), JERUSALEM_V3, queries)?;
+    let mut refusals = 0u64;
+    for left in 0..20u64 {
+        let heap = Refusing::new(rt.alloc(), left);
+        match answer_tzif(&heap, JERUSALEM_V3, queries) {
+            Ok(given) => assert_eq!(rt; given.as_slice(), answers.as_slice()),
+            Err(error) => {
+                assert!(rt; matches!(error, TzError::Memory(_)), "after {left}");
+                refusals = left + 1;
+            }
+        }
+        assert_eq!(rt;
+            (heap.refused(), heap.held()),
+            (u64::from(left < refusals), 0)
+        );
+    }
+    assert!(rt; (3..20).contains(&refusals));
+    Ok(())
+}
