@@ -4,7 +4,7 @@ use Rattle.std.specs.Prelude.{IfErr, IsOk}
 use Rattle.std.specs.declared.result.Result.{Result}
 use Rattle.std.proofs.lemmas.Int.{ints, by_lt_z}
 use Rattle.std.proofs.lemmas.Option.{slice_get_within}
-use Rattle.tz_zone.specs.Table.{Leap}
+use Rattle.tz_zone.specs.Table.{LeapSecond}
 use Rattle.tz_zone.specs.LeapTime.{IsInstant, correction_before, IsLeapTime, HasComeTo, IsEffectRefused}
 use Rattle.tz_zone.specs.ValidZone.{AreLeapSeconds}
 use Rattle.tz_zone.proofs.LeapSteps.{time_bound, correction_bound}
@@ -16,7 +16,7 @@ pub ok_from_err : {T E : Type 0} → (r : Result T E) → IfErr r (λ e. ⊥) �
 ok_from_err (Ok x) h = refl
 ok_from_err (Err e) h = absurd h
 
-module _ (leaps : List Leap) (are : AreLeapSeconds leaps) where
+module _ (leaps : List LeapSecond) (are : AreLeapSeconds leaps) where
   pub leap_exists : (u : ℤ) → u ≤ℤ pos 80000000000000000 → (l : ℤ) × IsLeapTime leaps u l
   leap_exists u h =
       let count = count_exists leaps are u in

@@ -9,7 +9,7 @@ use Rattle.tz_base.specs.Fields.{IsValid, day_of}
 use Rattle.tz_base.specs.declared.calendar.Fields.{Fields}
 use Rattle.tz_base.proofs.OrderLemmas.{day_number-mono, valid_day}
 use Rattle.tz.specs.DateTimes.{utc_total}
-use Rattle.tz.proofs.Ranks.{nat_ranked, int_ranked, then_ranked, weaker_ranks}
+use Rattle.tz.proofs.ComparisonsByParts.{nat_ranked, int_ranked, then_ranked, weaker_ranks}
 
 -- the time of the day in nanoseconds
 abbrev time_of : Fields → ℕ

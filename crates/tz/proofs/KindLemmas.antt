@@ -5,12 +5,12 @@ use Rattle.std.proofs.lemmas.Int.{ints}
 use Rattle.std.proofs.lemmas.Bool.{cases_lt}
 use Rattle.std.proofs.lemmas.Option.{same_Some, none-some, slice_get-get_or}
 use Rattle.tz_base.specs.declared.error.TzError.{TzError}
-use Rattle.tz_rule.specs.LocalType.{LocalType}
+use Rattle.tz_rule.specs.LocalTimeType.{LocalTimeType}
 use Rattle.tz_rule.specs.Rule.{IsRuleType}
 use Rattle.tz_rule.specs.declared.timezone.rule.TransitionRule.{TransitionRule}
 use Rattle.tz_rule.specs.declared.timezone.rule.TransitionRule.TheVariants.{Fixed, Alternate}
-use Rattle.tz_rule.specs.Alternate.{Alternate as AlternateParts}
-use Rattle.tz_zone.specs.Table.{Change, Zone}
+use Rattle.tz_rule.specs.Alternate.{AlternateTime}
+use Rattle.tz_zone.specs.Table.{Transition, Zone}
 use Rattle.tz_zone.specs.Clock.{IsTypeAt, IsLast, IsTransitionType, IsTypeAfter, IsTypeWithout, IsClock, IsLookupFault}
 use Rattle.tz_zone.specs.ValidZone.{AreLeapSeconds}
 use Rattle.tz_zone.proofs.Clocks.{last_unique, some_from_last, type_before_first, type_of_last_reached, clock_before_last, clock_from_last, type_after_from_clock}
@@ -18,7 +18,7 @@ use Rattle.tz_zone.proofs.LeapTimes.{leap_time_unique}
 use Rattle.tz.specs.Walks.{HoldsAt}
 use Rattle.tz.specs.Reached.{IsReachedAt, IsSteadyAfter, IsKindOf, IsTypeOfLast, AreOffsetsOf}
 
-abbrev pub no_change : Change
+abbrev pub no_change : Transition
 no_change = record { unix_leap_time = pos 0; type_index = 0 }
 
 nil_from_length : {X : Type 0} (xs : List X) → length xs ≡ 0 → xs ≡ []
@@ -26,7 +26,7 @@ nil_from_length [] e = refl
 nil_from_length (x ∷ xs) e = absurd (omega (arith, e))
 
 -- at a leap time the transitions give one type
-transition_type_unique : (z : Zone) (l : ℤ) (t s : LocalType) → IsTransitionType z l t → IsTransitionType z l s → t ≡ s
+transition_type_unique : (z : Zone) (l : ℤ) (t s : LocalTimeType) → IsTransitionType z l t → IsTransitionType z l s → t ≡ s
 transition_type_unique z l t s (inl (before, at)) (inl (before', at')) = same_Some t s (sym at ∙ at')
 transition_type_unique z l t s (inl (before, at)) (inr (j, d, (at', come', later'), type')) = absurd (omega (arith, ints, before j d at', come'))
 transition_type_unique z l t s (inr (i, c, (at, come, later), type)) (inl (before', at')) = absurd (omega (arith, ints, before' i c at, come))
@@ -38,32 +38,32 @@ transition_type_unique z l t s (inr (i, c, (at, come, later), type)) (inr (j, d,
         | inr not_more ↦
             let place : i ≡ j = omega arith in
             let change : c ≡ d = same_Some c d (sym at ∙ ap (slice_get z.transitions) place ∙ at') in
-            same_Some t s (sym type ∙ ap (λ (x : Change). slice_get z.types x.type_index) change ∙ type')
+            same_Some t s (sym type ∙ ap (λ (x : Transition). slice_get z.types x.type_index) change ∙ type')
       ]
     ]
 
 -- a rule that is no alternate one has one type at all instants
-one_type_everywhere : (rule : TransitionRule) → ((r : AlternateParts) → rule ≢ Alternate r) → (v : ℤ) (kind : Option LocalType) → HoldsAt (IsRuleType rule) v kind → (u : ℤ) → HoldsAt (IsRuleType rule) u kind
+one_type_everywhere : (rule : TransitionRule) → ((r : AlternateTime) → rule ≢ Alternate r) → (v : ℤ) (kind : Option LocalTimeType) → HoldsAt (IsRuleType rule) v kind → (u : ℤ) → HoldsAt (IsRuleType rule) u kind
 unfolding IsRuleType
 one_type_everywhere (Fixed fixed) one v kind holds u = holds
 one_type_everywhere (Alternate r) one v kind holds u = absurd (one r refl)
 
 -- its type is the fixed one, or one of the two
-pub fixed_type : (fixed : LocalType) (u : ℤ) (t : LocalType) → IsRuleType (Fixed fixed) u t → t ≡ fixed
+pub fixed_type : (fixed : LocalTimeType) (u : ℤ) (t : LocalTimeType) → IsRuleType (Fixed fixed) u t → t ≡ fixed
 unfolding IsRuleType
 fixed_type fixed u t is = is
 
-pub alternate_type : (r : AlternateParts) (u : ℤ) (t : LocalType) → IsRuleType (Alternate r) u t → (t ≡ r.dst) ⊎ (t ≡ r.std)
+pub alternate_type : (r : AlternateTime) (u : ℤ) (t : LocalTimeType) → IsRuleType (Alternate r) u t → (t ≡ r.dst) ⊎ (t ≡ r.std)
 unfolding IsRuleType
 alternate_type r u t (years, inl (day, is)) = inl is
 alternate_type r u t (years, inr (day, is)) = inr is
 
 module _ (z : Zone) (are : AreLeapSeconds z.leap_seconds) (k : ℕ) where
   -- before the last transition it is the type of the last one that has come
-  pub kind_before_last : k < length z.transitions → (t : LocalType) → IsTypeOfLast z k t → (from : ℤ) → IsKindOf z k from (Some t)
+  pub kind_before_last : k < length z.transitions → (t : LocalTimeType) → IsTypeOfLast z k t → (from : ℤ) → IsKindOf z k from (Some t)
   kind_before_last inside t type from u reached any s = (to, back)
     where
-      last : Change
+      last : Transition
       last = get_or z.transitions (length z.transitions - 1) no_change
 
       is_last : IsLast z.transitions last
@@ -77,7 +77,7 @@ module _ (z : Zone) (are : AreLeapSeconds z.leap_seconds) (k : ℕ) where
       of_type (inr (some, change, at, is)) = type_of_last_reached z reached.time k reached.later t some change at (reached.come (k - 1) change (omega (arith, some)) at) is
 
       back : Some t ≡ Some s → IsClock z u s
-      back e = subst (λ (x : LocalType). IsClock z u x) (same_Some t s e) (clock_before_last z are last is_last u reached.time reached.time_is t before (of_type type))
+      back e = subst (λ (x : LocalTimeType). IsClock z u x) (same_Some t s e) (clock_before_last z are last is_last u reached.time reached.time_is t before (of_type type))
 
       to : IsClock z u s → Some t ≡ Some s
       to (inl (none, without)) = absurd (some_from_last z.transitions last is_last none)
@@ -85,10 +85,10 @@ module _ (z : Zone) (are : AreLeapSeconds z.leap_seconds) (k : ℕ) where
           let same : l' ≡ reached.time = leap_time_unique z.leap_seconds are u l' reached.time leap' reached.time_is in
           ap Some (transition_type_unique z reached.time t s (of_type type) (subst (λ (x : ℤ). IsTransitionType z x s) same type'))
       to (inr (last', is_last', (l', leap', inr (from', type')))) =
-          absurd (omega (arith, ints, before, from', leap_time_unique z.leap_seconds are u l' reached.time leap' reached.time_is, ap (λ (x : Change). x.unix_leap_time) (last_unique z.transitions last' last is_last' is_last)))
+          absurd (omega (arith, ints, before, from', leap_time_unique z.leap_seconds are u l' reached.time leap' reached.time_is, ap (λ (x : Transition). x.unix_leap_time) (last_unique z.transitions last' last is_last' is_last)))
 
   -- from the last transition on it is what comes after it
-  clock_from_all : k ≡ length z.transitions → k ≢ 0 → (u : ℤ) → IsReachedAt z u k → (t : LocalType) → (IsClock z u t → IsTypeAfter z.extra_rule u t) × (IsTypeAfter z.extra_rule u t → IsClock z u t)
+  clock_from_all : k ≡ length z.transitions → k ≢ 0 → (u : ℤ) → IsReachedAt z u k → (t : LocalTimeType) → (IsClock z u t → IsTypeAfter z.extra_rule u t) × (IsTypeAfter z.extra_rule u t → IsClock z u t)
   clock_from_all all some u reached t =
       let last = get_or z.transitions (length z.transitions - 1) no_change in
       let is_last : IsLast z.transitions last = slice_get-get_or z.transitions (length z.transitions - 1) no_change (omega (arith, all, some)) in
@@ -98,7 +98,7 @@ module _ (z : Zone) (are : AreLeapSeconds z.leap_seconds) (k : ℕ) where
       )
 
   -- without transitions it is that of such a zone
-  clock_without : k ≡ length z.transitions → k ≡ 0 → (u : ℤ) (t : LocalType) → (IsClock z u t → IsTypeWithout z z.extra_rule u t) × (IsTypeWithout z z.extra_rule u t → IsClock z u t)
+  clock_without : k ≡ length z.transitions → k ≡ 0 → (u : ℤ) (t : LocalTimeType) → (IsClock z u t → IsTypeWithout z z.extra_rule u t) × (IsTypeWithout z z.extra_rule u t → IsClock z u t)
   clock_without all none u t = (to, λ type. inl (empty, type))
     where
       empty : z.transitions ≡ []
@@ -109,14 +109,14 @@ module _ (z : Zone) (are : AreLeapSeconds z.leap_seconds) (k : ℕ) where
       to (inr (last, is_last, with)) = absurd (some_from_last z.transitions last is_last empty)
 
   -- where all have come it is that of the rule
-  pub clock_of_rule : k ≡ length z.transitions → (rule : TransitionRule) → z.extra_rule ≡ Some rule → (u : ℤ) → IsReachedAt z u k → (t : LocalType) → (IsClock z u t → IsRuleType rule u t) × (IsRuleType rule u t → IsClock z u t)
+  pub clock_of_rule : k ≡ length z.transitions → (rule : TransitionRule) → z.extra_rule ≡ Some rule → (u : ℤ) → IsReachedAt z u k → (t : LocalTimeType) → (IsClock z u t → IsRuleType rule u t) × (IsRuleType rule u t → IsClock z u t)
   clock_of_rule all rule e u reached t =
       elim (cases_lt 0 k) [
         | inl some ↦ subst (λ (r : Option TransitionRule). (IsClock z u t → IsTypeAfter r u t) × (IsTypeAfter r u t → IsClock z u t)) e (clock_from_all all (omega arith) u reached t)
         | inr none ↦ subst (λ (r : Option TransitionRule). (IsClock z u t → IsTypeWithout z r u t) × (IsTypeWithout z r u t → IsClock z u t)) e (clock_without all (omega arith) u t)
       ]
 
-  pub kind_with_rule : k ≡ length z.transitions → (rule : TransitionRule) → z.extra_rule ≡ Some rule → (from : ℤ) (kind : Option LocalType) → HoldsAt (IsRuleType rule) from kind → IsKindOf z k from kind
+  pub kind_with_rule : k ≡ length z.transitions → (rule : TransitionRule) → z.extra_rule ≡ Some rule → (from : ℤ) (kind : Option LocalTimeType) → HoldsAt (IsRuleType rule) from kind → IsKindOf z k from kind
   kind_with_rule all rule e from kind holds u reached any t =
       let here = spread any t in
       let clock = clock_of_rule all rule e u reached t in
@@ -132,7 +132,7 @@ module _ (z : Zone) (are : AreLeapSeconds z.leap_seconds) (k : ℕ) where
       let clock = subst (λ (r : Option TransitionRule). (IsClock z u t → IsTypeAfter r u t) × (IsTypeAfter r u t → IsClock z u t)) e (clock_from_all all some u reached t) in
       ((λ at. absurd (clock.0 at)), λ is. absurd (none-some t is))
 
-  pub kind_of_type : k ≡ length z.transitions → k ≡ 0 → z.extra_rule ≡ None → (t : LocalType) → IsTypeOfLast z 0 t → (from : ℤ) → IsKindOf z k from (Some t)
+  pub kind_of_type : k ≡ length z.transitions → k ≡ 0 → z.extra_rule ≡ None → (t : LocalTimeType) → IsTypeOfLast z 0 t → (from : ℤ) → IsKindOf z k from (Some t)
   kind_of_type all none e t (inr (some, change, at, type)) from = absurd (some refl)
   kind_of_type all none e t (inl (zero_is, at)) from = λ u reached any s.
       let clock = subst (λ (r : Option TransitionRule). (IsClock z u s → IsTypeWithout z r u s) × (IsTypeWithout z r u s → IsClock z u s)) e (clock_without all none u s) in
@@ -140,8 +140,8 @@ module _ (z : Zone) (are : AreLeapSeconds z.leap_seconds) (k : ℕ) where
 
 -- the types of the clock are those of the list and of the rule
 pub offsets_from_types : (z : Zone) (least greatest : ℤ) →
-    ((i : ℕ) (t : LocalType) → IsTypeAt z i t → (least ≤ℤ t.ut_offset) × (t.ut_offset ≤ℤ greatest)) →
-    ((rule : TransitionRule) → z.extra_rule ≡ Some rule → (u : ℤ) (t : LocalType) → IsRuleType rule u t → (least ≤ℤ t.ut_offset) × (t.ut_offset ≤ℤ greatest)) →
+    ((i : ℕ) (t : LocalTimeType) → IsTypeAt z i t → (least ≤ℤ t.ut_offset) × (t.ut_offset ≤ℤ greatest)) →
+    ((rule : TransitionRule) → z.extra_rule ≡ Some rule → (u : ℤ) (t : LocalTimeType) → IsRuleType rule u t → (least ≤ℤ t.ut_offset) × (t.ut_offset ≤ℤ greatest)) →
     AreOffsetsOf z least greatest
 offsets_from_types z least greatest types rules u t = by_clock
   where
@@ -160,14 +160,14 @@ offsets_from_types z least greatest types rules u t = by_clock
     by_clock (inr (last, is_last, (l, leap, inr (from, type)))) = after z.extra_rule refl type
 
 -- of some types the least offset is not above the greatest
-pub offsets_in_order : (types : List LocalType) → types ≢ [] → (least greatest : ℤ) →
-    ((i : ℕ) (t : LocalType) → slice_get types i ≡ Some t → least ≤ℤ t.ut_offset) →
-    ((i : ℕ) (t : LocalType) → slice_get types i ≡ Some t → t.ut_offset ≤ℤ greatest) → least ≤ℤ greatest
+pub offsets_in_order : (types : List LocalTimeType) → types ≢ [] → (least greatest : ℤ) →
+    ((i : ℕ) (t : LocalTimeType) → slice_get types i ≡ Some t → least ≤ℤ t.ut_offset) →
+    ((i : ℕ) (t : LocalTimeType) → slice_get types i ≡ Some t → t.ut_offset ≤ℤ greatest) → least ≤ℤ greatest
 offsets_in_order [] some least greatest low high = absurd (some refl)
 offsets_in_order (t ∷ types) some least greatest low high = omega (arith, ints, low 0 t refl, high 0 t refl)
 
 -- where the lookup is refused, the clock has no type
-pub no_clock_from_fault : (z : Zone) → AreLeapSeconds z.leap_seconds → (u : ℤ) (e : TzError) → IsLookupFault z u e → (t : LocalType) → ¬ IsClock z u t
+pub no_clock_from_fault : (z : Zone) → AreLeapSeconds z.leap_seconds → (u : ℤ) (e : TzError) → IsLookupFault z u e → (t : LocalTimeType) → ¬ IsClock z u t
 no_clock_from_fault z are u e (inl (is, (last, l, is_last, leap, from, none))) t clock =
     subst (λ (r : Option TransitionRule). IsTypeAfter r u t → ⊥) (sym none) (λ at. at) (type_after_from_clock z are last is_last u l leap t from clock)
 no_clock_from_fault z are u e (inr (is, no_type, not_over)) t clock = no_type t clock

@@ -8,5 +8,5 @@ pub mod RuleSearchLemmas
 pub mod FarLemmas
 pub mod PairLemmas
 pub mod PrintedLemmas
-pub mod Ranks
+pub mod ComparisonsByParts
 pub mod FieldOrder

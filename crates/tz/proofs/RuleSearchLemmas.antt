@@ -5,8 +5,8 @@ use Rattle.std.proofs.lemmas.Int.{ints, by_lt_z}
 use Rattle.std.proofs.lemmas.Option.{none-some}
 use Rattle.tz_base.specs.declared.calendar.Fields.{Fields}
 use Rattle.tz_base.specs.Fields.{reading}
-use Rattle.tz_rule.specs.LocalType.{LocalType}
-use Rattle.tz_rule.specs.Alternate.{Alternate as AlternateParts, start_of, end_of, IsInRuleRange, AreRuleDays}
+use Rattle.tz_rule.specs.LocalTimeType.{LocalTimeType}
+use Rattle.tz_rule.specs.Alternate.{AlternateTime, start_of, end_of, IsInRuleRange, AreRuleDays}
 use Rattle.tz_rule.specs.Rule.{IsRuleType}
 use Rattle.tz_rule.specs.declared.timezone.rule.TransitionRule.TheVariants.{Alternate}
 use Rattle.tz_zone.specs.Table.{Zone}
@@ -15,7 +15,7 @@ use Rattle.tz_zone.specs.ValidZone.{AreLeapSeconds}
 use Rattle.tz.specs.Found.{Shows, PassesOver, IsFound}
 use Rattle.tz.specs.Walks.{HoldsAt, HoldsFrom, IsStep}
 use Rattle.tz.specs.Reached.{IsWindowOf, IsInWindow, WindowClock}
-use Rattle.tz.specs.RuleSpans.{IsNearReading, IsSpan, IsTurningAt, IsInView, RuleClock, IsOverFrom, IsAtSeam, IsPastSeam}
+use Rattle.tz.specs.RuleSpans.{IsNearReading, IsSpan, ChangesOnlyAt, IsInView, RuleClock, IsOverFrom, IsAtSeam, IsPastSeam}
 use Rattle.tz.specs.declared.datetime.found.FoundDateTimeKind.{FoundDateTimeKind}
 use Rattle.tz.specs.declared.datetime.walk.Piece.{Piece}
 use Rattle.tz.specs.declared.datetime.walk.Walk.{Walk}
@@ -25,12 +25,12 @@ use Rattle.tz.proofs.SearchLemmas.{step_since}
 use Rattle.tz.proofs.WalkLemmas.{walked_on, walked_same, found_from_end, found_from_seen}
 
 module _ (z : Zone) (low seam start end : ℤ) (f : Fields) (from : ℤ) (w : Walk) (found : List FoundDateTimeKind) (past : IsPastSeam z low seam start end f from w found) where
-  -- from one turn to the next
-  pub past_turn : (turns : List ℤ) → IsTurningAt z turns start end → start ≤ℤ from → (kind : Option LocalType) → HoldsAt (IsClock z) from kind →
+  -- from one change to the next
+  pub past_change : (changes : List ℤ) → ChangesOnlyAt z changes start end → start ≤ℤ from → (kind : Option LocalTimeType) → HoldsAt (IsClock z) from kind →
       (next : Walk) (new : List FoundDateTimeKind) → IsStep w (record { from = from; kind = kind }) next new →
-      (after : ℤ) → after ≤ℤ (end +ℤ pos 1) → ((turn : ℤ) → Contains turns turn → from <ℤ turn → turn <ℤ after → ⊥) →
+      (after : ℤ) → after ≤ℤ (end +ℤ pos 1) → ((change : ℤ) → Contains changes change → from <ℤ change → change <ℤ after → ⊥) →
       IsPastSeam z low seam start end f after next (found ++ new)
-  past_turn turns turning start_is kind holds next new step after until none =
+  past_change changes changing start_is kind holds next new step after until none =
       let piece : Piece = record { from = from; kind = kind } in
       let since = step_since w piece next new step in
       record {
@@ -40,14 +40,14 @@ module _ (z : Zone) (low seam start end : ℤ) (f : Fields) (from : ℤ) (w : Wa
             let from_u : from ≤ℤ u = omega (arith, ints, since.1, within.0) in
             let start_u : start ≤ℤ u = omega (arith, ints, start_is, from_u) in
             let u_end : u ≤ℤ end = omega (arith, ints, within.1, until) in
-            let same = turning from u start_is from_u u_end (λ turn of_turns later to. none turn of_turns later (omega (arith, ints, to, within.1))) t in
+            let same = changing from u start_is from_u u_end (λ change of_changes later to. none change of_changes later (omega (arith, ints, to, within.1))) t in
             let here = holds t in
             ((λ seen. since.3 ∙ here.0 (same.1 seen.0)), (λ e. (same.0 (here.1 (sym since.3 ∙ e)), inr (start_u, u_end))));
       }
 
   -- and past the last one
-  pub found_past_turns : end <ℤ from → (piece : Piece) (next : Walk) (new : List FoundDateTimeKind) → IsStep w piece next new → piece.from ≡ end +ℤ pos 1 → IsFound (RuleClock z low seam start end) f (found ++ new)
-  found_past_turns over piece next new step is =
+  pub found_past_changes : end <ℤ from → (piece : Piece) (next : Walk) (new : List FoundDateTimeKind) → IsStep w piece next new → piece.from ≡ end +ℤ pos 1 → IsFound (RuleClock z low seam start end) f (found ++ new)
+  found_past_changes over piece next new step is =
       let since = step_since w piece next new step in
       let walked = walked_on (RuleClock z low seam start end) f w found piece next new past.walked step (λ u within. past.holds u (within.0, omega (arith, ints, within.1, is, over))) in
       found_from_end (RuleClock z low seam start end) f next (found ++ new) walked (λ u t seen. elim seen.1 [
@@ -88,17 +88,17 @@ past_seam z low high start end w found at start_is end_is next new step =
       );
     }
 
-module _ (z : Zone) (are : AreLeapSeconds z.leap_seconds) (r : AlternateParts) (e : z.extra_rule ≡ Some (Alternate r)) (seam high : ℤ) (over : IsOverFrom z seam) (reach : high ≤ℤ pos 80000000000000000) where
-  clock_is_rule : (u : ℤ) → seam ≤ℤ u → u ≤ℤ high → (t : LocalType) → (IsClock z u t → IsRuleType (Alternate r) u t) × (IsRuleType (Alternate r) u t → IsClock z u t)
+module _ (z : Zone) (are : AreLeapSeconds z.leap_seconds) (r : AlternateTime) (e : z.extra_rule ≡ Some (Alternate r)) (seam high : ℤ) (over : IsOverFrom z seam) (reach : high ≤ℤ pos 80000000000000000) where
+  clock_is_rule : (u : ℤ) → seam ≤ℤ u → u ≤ℤ high → (t : LocalTimeType) → (IsClock z u t → IsRuleType (Alternate r) u t) × (IsRuleType (Alternate r) u t → IsClock z u t)
   clock_is_rule u from until = clock_of_rule z are (length z.transitions) refl (Alternate r) e u (over u from (omega (arith, ints, until, reach)))
 
   module _ (range : IsInRuleRange r) (x start end : ℤ) (span : IsSpan x seam high start end) where
-    -- the clock turns at starts and ends of the years around the reading's
-    pub turning_at : AreRuleDays r → (year inner : ℤ) → IsOfYear year x → (negsuc 2147483646 ≤ℤ year → year ≤ℤ pos 2147483646 → inner ≡ year) → (turns : List ℤ) →
-        ((y : ℤ) → (inner -ℤ pos 1) ≤ℤ y → y ≤ℤ (inner +ℤ pos 1) → Contains turns (start_of r y)) →
-        ((y : ℤ) → (inner -ℤ pos 1) ≤ℤ y → y ≤ℤ (inner +ℤ pos 1) → Contains turns (end_of r y)) →
-        IsTurningAt z turns start end
-    turning_at days year inner of_year same turns starts ends u v from up until none t =
+    -- the clock changes at starts and ends of the years around the reading's
+    pub changes_only_at : AreRuleDays r → (year inner : ℤ) → IsOfYear year x → (negsuc 2147483646 ≤ℤ year → year ≤ℤ pos 2147483646 → inner ≡ year) → (changes : List ℤ) →
+        ((y : ℤ) → (inner -ℤ pos 1) ≤ℤ y → y ≤ℤ (inner +ℤ pos 1) → Contains changes (start_of r y)) →
+        ((y : ℤ) → (inner -ℤ pos 1) ≤ℤ y → y ≤ℤ (inner +ℤ pos 1) → Contains changes (end_of r y)) →
+        ChangesOnlyAt z changes start end
+    changes_only_at days year inner of_year same changes starts ends u v from up until none t =
         let u_in : IsInWindow start end u = (from, omega (arith, ints, up, until)) in
         let v_in : IsInWindow start end v = (omega (arith, ints, from, up), until) in
         let near_u = span.near u u_in in
@@ -120,13 +120,13 @@ module _ (z : Zone) (are : AreLeapSeconds z.leap_seconds) (r : AlternateParts) (
         ((λ clock. there.1 (rule.0 (here.0 clock))), (λ clock. here.1 (rule.1 (there.0 clock))))
 
     -- a rule shows a reading within 26 hours
-    rule_offset : (u : ℤ) (t : LocalType) → IsRuleType (Alternate r) u t → (negsuc 89999 <ℤ t.ut_offset) × (t.ut_offset <ℤ pos 93600)
+    rule_offset : (u : ℤ) (t : LocalTimeType) → IsRuleType (Alternate r) u t → (negsuc 89999 <ℤ t.ut_offset) × (t.ut_offset <ℤ pos 93600)
     rule_offset u t at = elim (alternate_type r u t at) [
       | inl is ↦
-          let offset = ap (λ (y : LocalType). y.ut_offset) is in
+          let offset = ap (λ (y : LocalTimeType). y.ut_offset) is in
           (omega (arith, ints, offset, range.dst_is.0), omega (arith, ints, offset, range.dst_is.1))
       | inr is ↦
-          let offset = ap (λ (y : LocalType). y.ut_offset) is in
+          let offset = ap (λ (y : LocalTimeType). y.ut_offset) is in
           (omega (arith, ints, offset, range.std_is.0), omega (arith, ints, offset, range.std_is.1))
     ]
 
@@ -134,7 +134,7 @@ module _ (z : Zone) (are : AreLeapSeconds z.leap_seconds) (r : AlternateParts) (
     pub found_from_rule : (low : ℤ) (f : Fields) → reading f ≡ x → IsWindowOf z (reading f) low high → (found : List FoundDateTimeKind) → IsFound (RuleClock z low seam start end) f found → IsFound (IsClock z) f found
     found_from_rule low f x_is window found is = found_from_seen (IsClock z) (IsInView low seam start end) f found shown passed is
       where
-        shown : (u : ℤ) (t : LocalType) → Shows (IsClock z) (reading f) u t → IsInView low seam start end u
+        shown : (u : ℤ) (t : LocalTimeType) → Shows (IsClock z) (reading f) u t → IsInView low seam start end u
         shown u t shows =
             let offset = window u t shows.0 in
             let low_u : low ≤ℤ u = omega (arith, ints, shows.1, offset.1) in
@@ -148,7 +148,7 @@ module _ (z : Zone) (are : AreLeapSeconds z.leap_seconds) (r : AlternateParts) (
             inr (span.covers u seam_u high_u near (answered_from_years u (years_from_rule_type r u t type))))
             (λ up_to. inl (low_u, up_to))
 
-        passed : (u : ℤ) (a b : LocalType) → PassesOver (IsClock z) (reading f) u a b → IsInView low seam start end (u -ℤ pos 1) × IsInView low seam start end u
+        passed : (u : ℤ) (a b : LocalTimeType) → PassesOver (IsClock z) (reading f) u a b → IsInView low seam start end (u -ℤ pos 1) × IsInView low seam start end u
         passed u a b passes =
             let before = window (u -ℤ pos 1) a passes.0 in
             let after = window u b passes.1 in

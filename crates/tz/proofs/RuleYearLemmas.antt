@@ -6,12 +6,12 @@ use Rattle.tz_base.specs.Fields.{IsValid, reading}
 use Rattle.tz_base.specs.declared.calendar.Fields.{Fields}
 use Rattle.tz_base.proofs.DayLemmas.{day_in_year}
 use Rattle.tz_base.proofs.OrderLemmas.{first_day-mono, gap_between}
-use Rattle.tz_rule.specs.LocalType.{LocalType}
-use Rattle.tz_rule.specs.Alternate.{Alternate as AlternateParts, start_of, end_of, IsInRuleRange, AreRuleDays, IsUtcYear, IsRuleYear, IsInRuleYears, IsAlternateType, IsUnchanged}
+use Rattle.tz_rule.specs.LocalTimeType.{LocalTimeType}
+use Rattle.tz_rule.specs.Alternate.{AlternateTime, start_of, end_of, IsInRuleRange, AreRuleDays, IsUtcYear, IsRuleYear, IsInRuleYears, IsAlternateType, IsUnchanged}
 use Rattle.tz_rule.specs.Rule.{IsRuleType}
 use Rattle.tz_rule.specs.declared.timezone.rule.TransitionRule.TheVariants.{Alternate}
 use Rattle.tz_rule.proofs.ChangePoints.{daylight_stays, daylight_was, alternate_type_unchanged}
-use Rattle.tz_rule.proofs.Yearly.{IsYearly, IsYearly-start_of, IsYearly-end_of}
+use Rattle.tz_rule.proofs.YearlyInstants.{IsYearly, IsYearly-start_of, IsYearly-end_of}
 use Rattle.tz.specs.RuleSpans.{IsNearReading, IsAnswered}
 
 -- the value of a function at a year
@@ -107,7 +107,7 @@ module _ (g : ℤ → ℤ) (yearly : IsYearly g) (year r u v : ℤ) (of_year : I
       omega (arith, ints, yearly.low y, of_year.1, near_v.1, until, first_day-mono (year +ℤ pos 1) y (gap.0 + 1) (omega (arith, ints, gap.1))))
       (λ to. none y from to after until))
 
-pub unchanged_between : (r : AlternateParts) → IsInRuleRange r → AreRuleDays r → (year x u v : ℤ) → IsOfYear year x → IsNearReading x u → IsNearReading x v →
+pub unchanged_between : (r : AlternateTime) → IsInRuleRange r → AreRuleDays r → (year x u v : ℤ) → IsOfYear year x → IsNearReading x u → IsNearReading x v →
     ((y : ℤ) → (year -ℤ pos 1) ≤ℤ y → y ≤ℤ (year +ℤ pos 1) → u <ℤ start_of r y → start_of r y ≤ℤ v → ⊥) →
     ((y : ℤ) → (year -ℤ pos 1) ≤ℤ y → y ≤ℤ (year +ℤ pos 1) → u <ℤ end_of r y → end_of r y ≤ℤ v → ⊥) → IsUnchanged r u v
 unchanged_between r range days year x u v of_year near_u near_v no_start no_end = record {
@@ -115,17 +115,17 @@ unchanged_between r range days year x u v of_year near_u near_v no_start no_end 
   no_end = none_between (end_of r) (IsYearly-end_of r range days.end_is) year x u v of_year near_u near_v no_end;
 }
 
-alternate_type_was : (r : AlternateParts) (u v : ℤ) (t : LocalType) → u ≤ℤ v → IsUnchanged r u v → IsAlternateType r v t → IsAlternateType r u t
+alternate_type_was : (r : AlternateTime) (u v : ℤ) (t : LocalTimeType) → u ≤ℤ v → IsUnchanged r u v → IsAlternateType r v t → IsAlternateType r u t
 alternate_type_was r u v t up none (inl (day, e)) = inl (daylight_was (start_of r) (end_of r) u v up none.no_start day, e)
 alternate_type_was r u v t up none (inr (day, e)) = inr ((λ earlier. day (daylight_stays (start_of r) (end_of r) u v up none.no_end earlier)), e)
 
 -- where nothing changes, the rule has one type
-pub rule_type_stays : (r : AlternateParts) (u v : ℤ) (t : LocalType) → u ≤ℤ v → IsInRuleYears u → IsInRuleYears v → IsUnchanged r u v →
+pub rule_type_stays : (r : AlternateTime) (u v : ℤ) (t : LocalTimeType) → u ≤ℤ v → IsInRuleYears u → IsInRuleYears v → IsUnchanged r u v →
     (IsRuleType (Alternate r) u t → IsRuleType (Alternate r) v t) × (IsRuleType (Alternate r) v t → IsRuleType (Alternate r) u t)
 unfolding IsRuleType
 rule_type_stays r u v t up years_u years_v none =
     ((λ at. (years_v, alternate_type_unchanged r u v t up none at.1)), (λ at. (years_u, alternate_type_was r u v t up none at.1)))
 
-pub years_from_rule_type : (r : AlternateParts) (u : ℤ) (t : LocalType) → IsRuleType (Alternate r) u t → IsInRuleYears u
+pub years_from_rule_type : (r : AlternateTime) (u : ℤ) (t : LocalTimeType) → IsRuleType (Alternate r) u t → IsInRuleYears u
 unfolding IsRuleType
 years_from_rule_type r u t at = at.0

@@ -7,8 +7,8 @@ use Rattle.std.proofs.lemmas.Option.{same_Some, slice_get_within, slice_get-get_
 use Rattle.std.proofs.lemmas.List.Elements.{All-weaker}
 use Rattle.tz_base.specs.declared.calendar.Fields.{Fields}
 use Rattle.tz_base.specs.Fields.{reading}
-use Rattle.tz_rule.specs.LocalType.{LocalType}
-use Rattle.tz_zone.specs.Table.{Change, Zone}
+use Rattle.tz_rule.specs.LocalTimeType.{LocalTimeType}
+use Rattle.tz_zone.specs.Table.{Transition, Zone}
 use Rattle.tz_zone.specs.LeapTime.{IsInstant, IsLeapTime, HasComeTo}
 use Rattle.tz_zone.specs.Clock.{IsClock}
 use Rattle.tz_zone.specs.ValidZone.{IsSoundTable}
@@ -42,7 +42,7 @@ step_since w piece next new (inr (late, is, given)) =
     (omega (arith, ints, since, late), omega (arith, ints, since), inr since, kind)
 
 module _ (z : Zone) (sound : IsSoundTable z) where
-  rise : Rise (λ (c : Change). c.unix_leap_time) z.transitions
+  rise : Rise (λ (c : Transition). c.unix_leap_time) z.transitions
   rise = transitions_rise z.transitions (λ i. (sound.transitions_are i).1)
 
   -- what has come stays so
@@ -60,8 +60,8 @@ module _ (z : Zone) (sound : IsSoundTable z) where
 
   -- so many have come from where they have all come until the next one does
   reached_between : (place : ℕ) (since u : ℤ) → since ≤ℤ u → u ≤ℤ pos 80000000000000000 →
-      ((i : ℕ) (change : Change) → i < place → slice_get z.transitions i ≡ Some change → HasComeTo z.leap_seconds change.unix_leap_time since) →
-      ((i : ℕ) (change : Change) → place ≤ i → slice_get z.transitions i ≡ Some change → (l : ℤ) → IsLeapTime z.leap_seconds u l → l <ℤ change.unix_leap_time) →
+      ((i : ℕ) (change : Transition) → i < place → slice_get z.transitions i ≡ Some change → HasComeTo z.leap_seconds change.unix_leap_time since) →
+      ((i : ℕ) (change : Transition) → place ≤ i → slice_get z.transitions i ≡ Some change → (l : ℤ) → IsLeapTime z.leap_seconds u l → l <ℤ change.unix_leap_time) →
       IsReachedAt z u place
   reached_between place since u h reach come later =
       let leap = leap_exists z.leap_seconds sound.leap_seconds_are u reach in
@@ -90,7 +90,7 @@ module _ (z : Zone) (sound : IsSoundTable z) where
     module _ (reach : high ≤ℤ pos 80000000000000000) (come : ℕ) (at_high : IsReachedAt z high come) (place : ℕ) (w : Walk) (found : List FoundDateTimeKind) (way : IsOnTheWay z low high f place w found) where
       -- the clock has the last piece's type where so many have come
       holds_from : (until : ℤ) → until ≤ℤ (high +ℤ pos 1) →
-          ((u : ℤ) → IsFrom w.since until u → (i : ℕ) (change : Change) → place ≤ i → slice_get z.transitions i ≡ Some change → (l : ℤ) → IsLeapTime z.leap_seconds u l → l <ℤ change.unix_leap_time) →
+          ((u : ℤ) → IsFrom w.since until u → (i : ℕ) (change : Transition) → place ≤ i → slice_get z.transitions i ≡ Some change → (l : ℤ) → IsLeapTime z.leap_seconds u l → l <ℤ change.unix_leap_time) →
           ((u : ℤ) → IsFrom w.since until u → IsSteadyAfter z place) →
           HoldsFrom (WindowClock z low high) w.since until w.kind
       holds_from until within_high later steady u within t =
@@ -110,13 +110,13 @@ module _ (z : Zone) (sound : IsSoundTable z) where
           let since_is : piece.from ≡ next.since = elim since.2 [ inl e ↦ omega (arith, ints, e, not_early, since.1) | inr e ↦ sym e ] in
           record {
             walked = walked_on (WindowClock z low high) f w found piece next new way.walked step (holds_from piece.from (omega (arith, ints, from_high)) later (λ u within. inl (omega (arith, slice_get_within z.transitions place change at))));
-            kind = subst (λ (v : ℤ). IsKindOf z (place + 1) v next.kind) since_is (subst (λ (k : Option LocalType). IsKindOf z (place + 1) piece.from k) (sym since.3) kind);
+            kind = subst (λ (v : ℤ). IsKindOf z (place + 1) v next.kind) since_is (subst (λ (k : Option LocalTimeType). IsKindOf z (place + 1) piece.from k) (sym since.3) kind);
             come = λ i other less at_i. elim (cases_lt i place) [
               | inl before ↦ come_stays other.unix_leap_time w.since next.since since.0 reach_is (way.come i other before at_i)
               | inr not_before ↦
                   let here : i ≡ place = omega arith in
                   let same : change ≡ other = same_Some change other (sym at ∙ ap (slice_get z.transitions) (sym here) ∙ at_i) in
-                  subst (λ (c : Change). HasComeTo z.leap_seconds c.unix_leap_time next.since) same (come_stays change.unix_leap_time piece.from next.since since.1 reach_is effect.has_come)
+                  subst (λ (c : Transition). HasComeTo z.leap_seconds c.unix_leap_time next.since) same (come_stays change.unix_leap_time piece.from next.since since.1 reach_is effect.has_come)
             ];
             low_is = omega (arith, ints, way.low_is, since.0);
             high_is = high_is;
@@ -126,14 +126,14 @@ module _ (z : Zone) (sound : IsSoundTable z) where
                 omega (arith, ints, since_is, effect.least u (l, leap, come_here));
           }
         where
-          later : (u : ℤ) → IsFrom w.since piece.from u → (i : ℕ) (other : Change) → place ≤ i → slice_get z.transitions i ≡ Some other → (l : ℤ) → IsLeapTime z.leap_seconds u l → l <ℤ other.unix_leap_time
+          later : (u : ℤ) → IsFrom w.since piece.from u → (i : ℕ) (other : Transition) → place ≤ i → slice_get z.transitions i ≡ Some other → (l : ℤ) → IsLeapTime z.leap_seconds u l → l <ℤ other.unix_leap_time
           later u within i other more at_i l leap =
               by_lt_z l other.unix_leap_time (λ less. less) (λ not_less.
               let time : change.unix_leap_time ≤ℤ other.unix_leap_time = elim (cases_lt place i) [
                 | inl after ↦ omega (arith, ints, rise place i change other after at at_i)
                 | inr not_after ↦
                     let here : i ≡ place = omega arith in
-                    omega (arith, ints, ap (λ (c : Change). c.unix_leap_time) (same_Some change other (sym at ∙ ap (slice_get z.transitions) (sym here) ∙ at_i)))
+                    omega (arith, ints, ap (λ (c : Transition). c.unix_leap_time) (same_Some change other (sym at ∙ ap (slice_get z.transitions) (sym here) ∙ at_i)))
               ] in
               let come_here : change.unix_leap_time ≤ℤ l = omega (arith, ints, time, not_less) in
               absurd (omega (arith, ints, within.1, effect.least u (l, leap, come_here))))

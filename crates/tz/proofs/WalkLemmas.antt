@@ -10,8 +10,8 @@ use Rattle.std.proofs.lemmas.Option.{same_Some, none-some}
 use Rattle.tz_base.specs.declared.calendar.Fields.{Fields}
 use Rattle.tz_base.specs.Fields.{reading}
 use Rattle.tz_base.proofs.OrderLemmas.{civil_unique}
-use Rattle.tz_rule.specs.LocalType.{LocalType}
-use Rattle.tz.specs.DateTimes.{LocalMoment, ShowsInstant}
+use Rattle.tz_rule.specs.LocalTimeType.{LocalTimeType}
+use Rattle.tz.specs.DateTimes.{DateTime, ShowsInstant}
 use Rattle.tz.specs.Found.{Clock, Shows, PassesOver, IsFoundBy, IsEarlier, IsFound, instant_of}
 use Rattle.tz.specs.Walks.{moment_of, IsDateTimeOf, IsFrom, HoldsFrom, IsEntryOf, IsGiven, IsStep, IsWalk, IsFoundBefore, IsWalked}
 use Rattle.tz.specs.declared.datetime.found.FoundDateTimeKind.{FoundDateTimeKind}
@@ -41,7 +41,7 @@ AllPairs-nil : {X : Type 0} (R : X → X → Type 0) → AllPairs R []
 AllPairs-nil R i j d less within = absurd (omega arith)
 
 -- the sides of a jump are determined
-side_unique : (u : ℤ) (n : ℕ) (t : LocalType) (d e : LocalMoment) → ShowsInstant u n t d → ShowsInstant u n t e → d ≡ e
+side_unique : (u : ℤ) (n : ℕ) (t : LocalTimeType) (d e : DateTime) → ShowsInstant u n t d → ShowsInstant u n t e → d ≡ e
 side_unique u n t d e a b =
     ap (λ f. moment_of f d.local_time_type d.unix_time) (civil_unique (u +ℤ t.ut_offset) n d.fields e.fields a.civil b.civil)
     ∙ ap (λ s. moment_of e.fields s d.unix_time) (a.type_is ∙ sym b.type_is)
@@ -57,14 +57,14 @@ date_time_unique f (Jump u s t) e g (x, y, is, sx, sy) (x', y', is', sx', sy') =
 entry_unique : (w : Walk) (until : ℤ) (entry other : Entry) → IsEntryOf w until entry → IsEntryOf w until other → entry ≡ other
 entry_unique w until (Shown u t) (Shown u' t') (kind, within, shown) (kind', within', shown') =
     let type : t ≡ t' = same_Some t t' (sym kind ∙ kind') in
-    let offset = ap (λ (s : LocalType). s.ut_offset) type in
+    let offset = ap (λ (s : LocalTimeType). s.ut_offset) type in
     let instant : u ≡ u' = omega (arith, ints, offset, shown, shown') in
     ap (λ v. Shown v t) instant ∙ ap (λ s. Shown u' s) type
 entry_unique w until (Shown u t) (Jump u' a b) (kind, within, shown) (since, before, kind', low, high) =
-    let offset = ap (λ (s : LocalType). s.ut_offset) (same_Some t b (sym kind ∙ kind')) in
+    let offset = ap (λ (s : LocalTimeType). s.ut_offset) (same_Some t b (sym kind ∙ kind')) in
     absurd (omega (arith, ints, offset, shown, within.0, since, high))
 entry_unique w until (Jump u' a b) (Shown u t) (since, before, kind', low, high) (kind, within, shown) =
-    let offset = ap (λ (s : LocalType). s.ut_offset) (same_Some t b (sym kind ∙ kind')) in
+    let offset = ap (λ (s : LocalTimeType). s.ut_offset) (same_Some t b (sym kind ∙ kind')) in
     absurd (omega (arith, ints, offset, shown, within.0, since, high))
 entry_unique w until (Jump u a b) (Jump u' a' b') (since, before, kind, low, high) (since', before', kind', low', high') =
     ap (λ v. Jump v a b) (since ∙ sym since') ∙ ap (λ s. Jump u' s b) (same_Some a a' (sym before ∙ before')) ∙ ap (λ s. Jump u' a' s) (same_Some b b' (sym kind ∙ kind'))
@@ -86,7 +86,7 @@ module _ (clock : Clock) (f : Fields) (w : Walk) (found : List FoundDateTimeKind
       (λ later.
       let just_before : IsFrom w.since until (u -ℤ pos 1) = (omega (arith, ints, later), omega (arith, ints, here.1)) in
       let before : w.kind ≡ Some a = (holds (u -ℤ pos 1) just_before a).0 passes.0 in
-      let offset = ap (λ (s : LocalType). s.ut_offset) (same_Some a b (sym before ∙ after)) in
+      let offset = ap (λ (s : LocalTimeType). s.ut_offset) (same_Some a b (sym before ∙ after)) in
       absurd (omega (arith, ints, offset, passes.2, passes.3)))
       (λ not_later.
       let since : u ≡ w.since = omega (arith, ints, not_later, here.0) in
@@ -160,7 +160,7 @@ walked_on clock f w found piece next new walked (inr (late, is, given)) holds =
     subst (λ (x : Walk). IsWalked clock f x (found ++ new)) (sym is) moved
 
 -- a walk begins where there is no clock before
-pub walked_from_start : (clock : Clock) (f : Fields) (w : Walk) → IsWalk f w → w.before ≡ None → ((u : ℤ) (t : LocalType) → clock u t → w.since ≤ℤ u) → IsWalked clock f w []
+pub walked_from_start : (clock : Clock) (f : Fields) (w : Walk) → IsWalk f w → w.before ≡ None → ((u : ℤ) (t : LocalTimeType) → clock u t → w.since ≤ℤ u) → IsWalked clock f w []
 walked_from_start clock f w walk before none = record {
   walk = walk;
   so_far = record { sound = All-nil (λ e. IsFoundBy clock f e × (instant_of e <ℤ w.since)); in_order = AllPairs-nil IsEarlier; complete = λ e by early. absurd (no_entry e by early) };
@@ -172,7 +172,7 @@ walked_from_start clock f w walk before none = record {
     no_entry (Skipped x y) (u, a, b, passes, sx, sy) early = omega (arith, ints, none u b passes.1, sx.instant_is, early)
 
 -- a walk ends where there is no clock any more
-pub found_from_end : (clock : Clock) (f : Fields) (w : Walk) (found : List FoundDateTimeKind) → IsWalked clock f w found → ((u : ℤ) (t : LocalType) → clock u t → u <ℤ w.since) → IsFound clock f found
+pub found_from_end : (clock : Clock) (f : Fields) (w : Walk) (found : List FoundDateTimeKind) → IsWalked clock f w found → ((u : ℤ) (t : LocalTimeType) → clock u t → u <ℤ w.since) → IsFound clock f found
 found_from_end clock f w found walked none = record {
   sound = All-weaker (λ e. IsFoundBy clock f e × (instant_of e <ℤ w.since)) (IsFoundBy clock f) (λ e h. h.0) found walked.so_far.sound;
   in_order = walked.so_far.in_order;
@@ -189,8 +189,8 @@ SeenClock clock view u t = clock u t × view u
 
 -- what is found of the clock as it is seen is all, if it is seen where it shows the reading, and on both sides of the jumps over it
 pub found_from_seen : (clock : Clock) (view : ℤ → Type 0) (f : Fields) (found : List FoundDateTimeKind) →
-    ((u : ℤ) (t : LocalType) → Shows clock (reading f) u t → view u) →
-    ((u : ℤ) (a b : LocalType) → PassesOver clock (reading f) u a b → view (u -ℤ pos 1) × view u) →
+    ((u : ℤ) (t : LocalTimeType) → Shows clock (reading f) u t → view u) →
+    ((u : ℤ) (a b : LocalTimeType) → PassesOver clock (reading f) u a b → view (u -ℤ pos 1) × view u) →
     IsFound (SeenClock clock view) f found → IsFound clock f found
 found_from_seen clock view f found shown passed is = record {
   sound = All-weaker (IsFoundBy (SeenClock clock view) f) (IsFoundBy clock f) forget found is.sound;
@@ -209,25 +209,25 @@ found_from_seen clock view f found shown passed is = record {
         (u, a, b, ((passes.0, seen.0), (passes.1, seen.1), passes.2, passes.3), sx, sy)
 
 -- a piece that ends before its type shows the reading has no entry
-pub no_entry_before : (w : Walk) (until : ℤ) (t : LocalType) → w.kind ≡ Some t → w.since ≤ℤ (w.reading -ℤ t.ut_offset) → until ≤ℤ (w.reading -ℤ t.ut_offset) → (entry : Entry) → ¬ IsEntryOf w until entry
+pub no_entry_before : (w : Walk) (until : ℤ) (t : LocalTimeType) → w.kind ≡ Some t → w.since ≤ℤ (w.reading -ℤ t.ut_offset) → until ≤ℤ (w.reading -ℤ t.ut_offset) → (entry : Entry) → ¬ IsEntryOf w until entry
 no_entry_before w until t is since late (Shown u s) (kind, within, shown) =
-    let offset = ap (λ (x : LocalType). x.ut_offset) (same_Some t s (sym is ∙ kind)) in
+    let offset = ap (λ (x : LocalTimeType). x.ut_offset) (same_Some t s (sym is ∙ kind)) in
     absurd (omega (arith, ints, offset, shown, within.1, late))
 no_entry_before w until t is since late (Jump u a b) (at, before, kind, low, high) =
-    let offset = ap (λ (x : LocalType). x.ut_offset) (same_Some t b (sym is ∙ kind)) in
+    let offset = ap (λ (x : LocalTimeType). x.ut_offset) (same_Some t b (sym is ∙ kind)) in
     absurd (omega (arith, ints, offset, at, high, since))
 
 -- nor has one that begins after its type has shown the reading, and after the type before has
-pub no_entry_after : (w : Walk) (until : ℤ) (t s : LocalType) → w.kind ≡ Some t → w.before ≡ Some s → (w.reading -ℤ t.ut_offset) <ℤ w.since → (w.reading -ℤ s.ut_offset) <ℤ w.since → (entry : Entry) → ¬ IsEntryOf w until entry
+pub no_entry_after : (w : Walk) (until : ℤ) (t s : LocalTimeType) → w.kind ≡ Some t → w.before ≡ Some s → (w.reading -ℤ t.ut_offset) <ℤ w.since → (w.reading -ℤ s.ut_offset) <ℤ w.since → (entry : Entry) → ¬ IsEntryOf w until entry
 no_entry_after w until t s is was shown passed (Shown u x) (kind, within, shows) =
-    let offset = ap (λ (y : LocalType). y.ut_offset) (same_Some t x (sym is ∙ kind)) in
+    let offset = ap (λ (y : LocalTimeType). y.ut_offset) (same_Some t x (sym is ∙ kind)) in
     absurd (omega (arith, ints, offset, shows, within.0, shown))
 no_entry_after w until t s is was shown passed (Jump u a b) (at, before, kind, low, high) =
-    let offset = ap (λ (y : LocalType). y.ut_offset) (same_Some s a (sym was ∙ before)) in
+    let offset = ap (λ (y : LocalTimeType). y.ut_offset) (same_Some s a (sym was ∙ before)) in
     absurd (omega (arith, ints, offset, at, low, passed))
 
 -- what was found of one clock was found of another that agrees with it so far
-pub walked_same : (clock other : Clock) (f : Fields) (w : Walk) (found : List FoundDateTimeKind) → IsWalked clock f w found → ((u : ℤ) (t : LocalType) → u <ℤ w.since → (clock u t → other u t) × (other u t → clock u t)) → IsWalked other f w found
+pub walked_same : (clock other : Clock) (f : Fields) (w : Walk) (found : List FoundDateTimeKind) → IsWalked clock f w found → ((u : ℤ) (t : LocalTimeType) → u <ℤ w.since → (clock u t → other u t) × (other u t → clock u t)) → IsWalked other f w found
 walked_same clock other f w found walked same = record {
   walk = walked.walk;
   so_far = record {

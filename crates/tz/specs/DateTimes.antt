@@ -10,23 +10,23 @@ use Rattle.tz_base.specs.declared.error.TzError.TheVariants as faults
 use Rattle.tz_base.specs.declared.error.datetime.DateTimeError.{DateTimeError}
 use Rattle.tz_base.specs.declared.error.datetime.DateTimeError.TheVariants as field_faults
 use Rattle.tz_base.specs.Fields.{IsValid, IsFirstFault, IsCivil, IsReading, IsTimespec, reading, total_nanoseconds_of}
-use Rattle.tz_rule.specs.LocalType.{LocalType}
+use Rattle.tz_rule.specs.LocalTimeType.{LocalTimeType}
 use Rattle.tz_zone.specs.Table.{Zone}
 use Rattle.tz_zone.specs.Clock.{IsClock, IsLookupFault}
 use mir.Syntax.{w64}
 
-pub record LocalMoment : Type 0 where
+pub record DateTime : Type 0 where
   pub fields : Fields
-  pub local_time_type : LocalType
+  pub local_time_type : LocalTimeType
   pub unix_time : ℤ
 
 -- valid fields, which the type shows at the Unix time
-pub record IsLocalMoment (d : LocalMoment) : Type 0 where
+pub record IsDateTime (d : DateTime) : Type 0 where
   pub valid : IsValid d.fields
   pub reads : reading d.fields ≡ d.unix_time +ℤ d.local_time_type.ut_offset
 
 -- the date time that a type shows at an instant, with these nanoseconds
-pub record ShowsInstant (u : ℤ) (nanoseconds : ℕ) (t : LocalType) (d : LocalMoment) : Type 0 where
+pub record ShowsInstant (u : ℤ) (nanoseconds : ℕ) (t : LocalTimeType) (d : DateTime) : Type 0 where
   pub civil : IsCivil (u +ℤ t.ut_offset) nanoseconds d.fields
   pub type_is : d.local_time_type ≡ t
   pub instant_is : d.unix_time ≡ u
@@ -41,10 +41,10 @@ abbrev pub IsPastTheEnd : Fields → Type 0
 IsPastTheEnd f = (f.year ≡ pos 2147483647) × (f.month ≡ 12) × (f.month_day ≡ 31) × (f.hour ≡ 23) × (f.minute ≡ 59) × (f.second ≡ 60)
 
 -- date times are compared by Unix time and then by nanoseconds
-abbrev pub moment_eq : LocalMoment → LocalMoment → Bool
+abbrev pub moment_eq : DateTime → DateTime → Bool
 moment_eq = eq_of_both (on (λ d. d.unix_time) int_eq) (on (λ d. d.fields.nanoseconds) nat_eq)
 
-abbrev pub moment_cmp : LocalMoment → LocalMoment → Ordering
+abbrev pub moment_cmp : DateTime → DateTime → Ordering
 moment_cmp = then_cmp (on (λ d. d.unix_time) int_cmp) (on (λ d. d.fields.nanoseconds) nat_cmp)
 
 -- why fields are no UTC date time: they read past the end, or else their first fault
@@ -61,7 +61,7 @@ IsShowFault x nanoseconds e =
 abbrev pub utc_total : Fields → ℤ
 utc_total f = total_nanoseconds_of (reading f) f.nanoseconds
 
-abbrev pub total_of : LocalMoment → ℤ
+abbrev pub total_of : DateTime → ℤ
 total_of d = total_nanoseconds_of d.unix_time d.fields.nanoseconds
 
 -- the seconds of the total, rounded down, are a reading
@@ -90,25 +90,25 @@ IsLocalFault f offset e =
     ⊎ ((e ≡ faults.OutOfRange) × IsValid f × ¬ IsReading (reading f -ℤ offset))
 
 -- the date time that a zone's clock shows at an instant, with these nanoseconds
-abbrev pub ShowsByClock : Zone → ℤ → ℕ → LocalMoment → Type 0
-ShowsByClock z u nanoseconds d = (t : LocalType) × IsClock z u t × ShowsInstant u nanoseconds t d
+abbrev pub ShowsByClock : Zone → ℤ → ℕ → DateTime → Type 0
+ShowsByClock z u nanoseconds d = (t : LocalTimeType) × IsClock z u t × ShowsInstant u nanoseconds t d
 
 -- why a zone's clock shows no date time: the nanoseconds' fault, or the lookup's, or what it shows is no reading
 abbrev pub IsClockFault : Zone → ℤ → ℕ → TzError → Type 0
 IsClockFault z u nanoseconds e =
     ((e ≡ faults.DateTime field_faults.InvalidNanoseconds) × (1000000000 ≤ nanoseconds))
     ⊎ ((nanoseconds < 1000000000) × IsLookupFault z u e)
-    ⊎ ((e ≡ faults.OutOfRange) × (nanoseconds < 1000000000) × ((t : LocalType) × IsClock z u t × ¬ IsReading (u +ℤ t.ut_offset)))
+    ⊎ ((e ≡ faults.OutOfRange) × (nanoseconds < 1000000000) × ((t : LocalTimeType) × IsClock z u t × ¬ IsReading (u +ℤ t.ut_offset)))
 
 -- the seconds of the total, rounded down, do not fit 64 bits
 abbrev pub IsFarTotal : ℤ → Type 0
 IsFarTotal total = (seconds : ℤ) (nanoseconds : ℕ) → IsTimespec total seconds nanoseconds → ¬ FitsSigned w64 seconds
 
 -- the date time that a type shows at a total, and that a zone's clock does
-abbrev pub ShowsTotal : ℤ → LocalType → LocalMoment → Type 0
+abbrev pub ShowsTotal : ℤ → LocalTimeType → DateTime → Type 0
 ShowsTotal total t d = (u : ℤ) × (nanoseconds : ℕ) × IsTimespec total u nanoseconds × ShowsInstant u nanoseconds t d
 
-abbrev pub ShowsTotalByClock : Zone → ℤ → LocalMoment → Type 0
+abbrev pub ShowsTotalByClock : Zone → ℤ → DateTime → Type 0
 ShowsTotalByClock z total d = (u : ℤ) × (nanoseconds : ℕ) × IsTimespec total u nanoseconds × ShowsByClock z u nanoseconds d
 
 -- why there is none: the total is far, or else as for its seconds and nanoseconds

@@ -3,17 +3,17 @@ use Rattle.std.specs.Prelude.{◌≡◌, ◌-◌, ℤ, pos, ◌+ℤ◌, ◌-ℤ�
 use Rattle.std.specs.List.{All, AllPairs, Contains}
 use Rattle.tz_base.specs.declared.calendar.Fields.{Fields}
 use Rattle.tz_base.specs.Fields.{reading}
-use Rattle.tz_rule.specs.LocalType.{LocalType}
-use Rattle.tz.specs.DateTimes.{LocalMoment, ShowsInstant}
+use Rattle.tz_rule.specs.LocalTimeType.{LocalTimeType}
+use Rattle.tz.specs.DateTimes.{DateTime, ShowsInstant}
 use Rattle.tz.specs.declared.datetime.found.FoundDateTimeKind.{FoundDateTimeKind}
 use Rattle.tz.specs.declared.datetime.found.FoundDateTimeKind.TheVariants.{Normal, Skipped}
 
 -- the date times of what is found: of a jump that before it, and that after it
-abbrev pub first_side : FoundDateTimeKind → LocalMoment
+abbrev pub first_side : FoundDateTimeKind → DateTime
 first_side (Normal d) = d
 first_side (Skipped before after) = before
 
-abbrev pub last_side : FoundDateTimeKind → LocalMoment
+abbrev pub last_side : FoundDateTimeKind → DateTime
 last_side (Normal d) = d
 last_side (Skipped before after) = after
 
@@ -23,14 +23,14 @@ instant_of found = (first_side found).unix_time
 
 -- a clock tells at which instants a type holds
 abbrev pub Clock : Type 1
-Clock = ℤ → LocalType → Type 0
+Clock = ℤ → LocalTimeType → Type 0
 
 -- the clock shows the reading at u
-abbrev pub Shows : Clock → ℤ → ℤ → LocalType → Type 0
+abbrev pub Shows : Clock → ℤ → ℤ → LocalTimeType → Type 0
 Shows clock r u t = clock u t × ((u +ℤ t.ut_offset) ≡ r)
 
 -- the clock passes over the reading at u: the types before u and at u make a forward jump over it
-abbrev pub PassesOver : Clock → ℤ → ℤ → LocalType → LocalType → Type 0
+abbrev pub PassesOver : Clock → ℤ → ℤ → LocalTimeType → LocalTimeType → Type 0
 PassesOver clock r u before after =
     clock (u -ℤ pos 1) before × clock u after × ((u +ℤ before.ut_offset) ≤ℤ r) × (r <ℤ (u +ℤ after.ut_offset))
 
@@ -38,7 +38,7 @@ PassesOver clock r u before after =
 abbrev pub IsFoundBy : Clock → Fields → FoundDateTimeKind → Type 0
 IsFoundBy clock f (Normal d) = (d.fields ≡ f) × Shows clock (reading f) d.unix_time d.local_time_type
 IsFoundBy clock f (Skipped before after) =
-    (u : ℤ) × (a : LocalType) × (b : LocalType) × PassesOver clock (reading f) u a b
+    (u : ℤ) × (a : LocalTimeType) × (b : LocalTimeType) × PassesOver clock (reading f) u a b
     × ShowsInstant u f.nanoseconds a before × ShowsInstant u f.nanoseconds b after
 
 -- the first comes at the earlier instant
@@ -52,21 +52,21 @@ pub record IsFound (clock : Clock) (f : Fields) (found : List FoundDateTimeKind)
   pub complete : (e : FoundDateTimeKind) → IsFoundBy clock f e → Contains found e
 
 -- the one date time of a list of one
-abbrev pub unique_of : List FoundDateTimeKind → Option LocalMoment
+abbrev pub unique_of : List FoundDateTimeKind → Option DateTime
 unique_of (Normal d ∷ []) = Some d
 unique_of _ = None
 
 -- the date time of the first of the list, and of the last
-abbrev pub first_side_of : Option FoundDateTimeKind → Option LocalMoment
+abbrev pub first_side_of : Option FoundDateTimeKind → Option DateTime
 first_side_of (Some found) = Some (first_side found)
 first_side_of None = None
 
-abbrev pub last_side_of : Option FoundDateTimeKind → Option LocalMoment
+abbrev pub last_side_of : Option FoundDateTimeKind → Option DateTime
 last_side_of (Some found) = Some (last_side found)
 last_side_of None = None
 
-abbrev pub earliest_of : List FoundDateTimeKind → Option LocalMoment
+abbrev pub earliest_of : List FoundDateTimeKind → Option DateTime
 earliest_of found = first_side_of (slice_get found 0)
 
-abbrev pub latest_of : List FoundDateTimeKind → Option LocalMoment
+abbrev pub latest_of : List FoundDateTimeKind → Option DateTime
 latest_of found = last_side_of (slice_get found (length found - 1))

@@ -1,6 +1,6 @@
 pub use Rattle.tz_base.specs.Days
 pub use Rattle.tz_base.specs.Fields
-pub use Rattle.tz_rule.specs.LocalType
+pub use Rattle.tz_rule.specs.LocalTimeType
 pub mod DateTimes
 pub mod Found
 pub mod Slots

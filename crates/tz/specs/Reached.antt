@@ -1,9 +1,9 @@
 -- Which transitions of a zone have come at an instant, and the clock from one transition to the next.
 use Rattle.std.specs.Prelude.{◌≡◌, ◌≢◌, ℕ, ◌+◌, ◌-◌, ◌<◌, ◌≤◌, ◌⊎◌, ℤ, pos, negsuc, ◌-ℤ◌, ◌≤ℤ◌, ◌<ℤ◌, List, Option, Some, length, slice_get}
-use Rattle.tz_rule.specs.LocalType.{LocalType}
-use Rattle.tz_rule.specs.Alternate.{Alternate as AlternateParts}
+use Rattle.tz_rule.specs.LocalTimeType.{LocalTimeType}
+use Rattle.tz_rule.specs.Alternate.{AlternateTime}
 use Rattle.tz_rule.specs.declared.timezone.rule.TransitionRule.TheVariants.{Alternate}
-use Rattle.tz_zone.specs.Table.{Change, Zone}
+use Rattle.tz_zone.specs.Table.{Transition, Zone}
 use Rattle.tz_zone.specs.LeapTime.{IsInstant, IsLeapTime, HasComeTo, IsEffect}
 use Rattle.tz_zone.specs.Clock.{IsTypeAt, IsClock}
 use Rattle.tz_base.specs.declared.calendar.Fields.{Fields}
@@ -21,36 +21,36 @@ IsWithinReach u = (negsuc 79999999999999999 ≤ℤ u) × (u ≤ℤ pos 800000000
 pub record IsReachedAt (z : Zone) (u : ℤ) (k : ℕ) : Type 0 where
   pub time : ℤ
   pub time_is : IsLeapTime z.leap_seconds u time
-  pub come : (i : ℕ) (change : Change) → i < k → slice_get z.transitions i ≡ Some change → change.unix_leap_time ≤ℤ time
-  pub later : (i : ℕ) (change : Change) → k ≤ i → slice_get z.transitions i ≡ Some change → time <ℤ change.unix_leap_time
+  pub come : (i : ℕ) (change : Transition) → i < k → slice_get z.transitions i ≡ Some change → change.unix_leap_time ≤ℤ time
+  pub later : (i : ℕ) (change : Transition) → k ≤ i → slice_get z.transitions i ≡ Some change → time <ℤ change.unix_leap_time
 
 -- where so many transitions have come, the clock has one type: others are to come, or the rule, if any, has only one
 abbrev pub IsSteadyAfter : Zone → ℕ → Type 0
-IsSteadyAfter z k = (k < length z.transitions) ⊎ ((r : AlternateParts) → z.extra_rule ≢ Some (Alternate r))
+IsSteadyAfter z k = (k < length z.transitions) ⊎ ((r : AlternateTime) → z.extra_rule ≢ Some (Alternate r))
 
 -- what the clock has where so many transitions have come: at an instant, and wherever it is steady
-abbrev pub IsKindOf : Zone → ℕ → ℤ → Option LocalType → Type 0
+abbrev pub IsKindOf : Zone → ℕ → ℤ → Option LocalTimeType → Type 0
 IsKindOf z k from kind = (u : ℤ) → IsReachedAt z u k → IsSteadyAfter z k ⊎ (u ≡ from) → HoldsAt (IsClock z) u kind
 
 -- the type of the last of so many transitions, or type number 0
-abbrev pub IsTypeOfLast : Zone → ℕ → LocalType → Type 0
+abbrev pub IsTypeOfLast : Zone → ℕ → LocalTimeType → Type 0
 IsTypeOfLast z k t =
     ((k ≡ 0) × IsTypeAt z 0 t)
-    ⊎ ((k ≢ 0) × (change : Change) × (slice_get z.transitions (k - 1) ≡ Some change) × IsTypeAt z change.type_index t)
+    ⊎ ((k ≢ 0) × (change : Transition) × (slice_get z.transitions (k - 1) ≡ Some change) × IsTypeAt z change.type_index t)
 
 -- a transition that takes effect within reach
 abbrev pub IsDue : Zone → ℕ → Type 0
-IsDue z i = (change : Change) → slice_get z.transitions i ≡ Some change →
+IsDue z i = (change : Transition) → slice_get z.transitions i ≡ Some change →
     (change.unix_leap_time ≢ negsuc 9223372036854775807) × ((u : ℤ) × IsInstant u × HasComeTo z.leap_seconds change.unix_leap_time u)
 
 -- the piece of the clock that begins where a transition takes effect
 abbrev pub IsPieceOf : Zone → ℕ → Piece → Type 0
 IsPieceOf z i piece =
-    ((change : Change) × (slice_get z.transitions i ≡ Some change) × IsEffect z.leap_seconds change.unix_leap_time piece.from) × IsKindOf z (i + 1) piece.from piece.kind
+    ((change : Transition) × (slice_get z.transitions i ≡ Some change) × IsEffect z.leap_seconds change.unix_leap_time piece.from) × IsKindOf z (i + 1) piece.from piece.kind
 
 -- the offsets of all types that the clock has lie between these two
 abbrev pub AreOffsetsOf : Zone → ℤ → ℤ → Type 0
-AreOffsetsOf z least greatest = (u : ℤ) (t : LocalType) → IsClock z u t → (least ≤ℤ t.ut_offset) × (t.ut_offset ≤ℤ greatest)
+AreOffsetsOf z least greatest = (u : ℤ) (t : LocalTimeType) → IsClock z u t → (least ≤ℤ t.ut_offset) × (t.ut_offset ≤ℤ greatest)
 
 -- the instants of a window, both ends counted
 abbrev pub IsInWindow : ℤ → ℤ → ℤ → Type 0
@@ -68,7 +68,7 @@ WindowClock z low high u t = IsClock z u t × IsInWindow low high u
 pub record IsOnTheWay (z : Zone) (low high : ℤ) (f : Fields) (place : ℕ) (w : Walk) (found : List FoundDateTimeKind) : Type 0 where
   pub walked : IsWalked (WindowClock z low high) f w found
   pub kind : IsKindOf z place w.since w.kind
-  pub come : (i : ℕ) (change : Change) → i < place → slice_get z.transitions i ≡ Some change → HasComeTo z.leap_seconds change.unix_leap_time w.since
+  pub come : (i : ℕ) (change : Transition) → i < place → slice_get z.transitions i ≡ Some change → HasComeTo z.leap_seconds change.unix_leap_time w.since
   pub low_is : low ≤ℤ w.since
   pub high_is : w.since ≤ℤ high
-  pub not_before : (i : ℕ) (change : Change) → place ≤ i → slice_get z.transitions i ≡ Some change → (u : ℤ) → HasComeTo z.leap_seconds change.unix_leap_time u → w.since ≤ℤ u
+  pub not_before : (i : ℕ) (change : Transition) → place ≤ i → slice_get z.transitions i ≡ Some change → (u : ℤ) → HasComeTo z.leap_seconds change.unix_leap_time u → w.since ≤ℤ u

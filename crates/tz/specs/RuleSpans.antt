@@ -3,7 +3,7 @@ use Rattle.std.specs.Prelude.{◌⊎◌, ℤ, pos, negsuc, ◌+ℤ◌, ◌-ℤ�
 use Rattle.std.specs.List.{Contains}
 use Rattle.tz_base.specs.declared.calendar.Fields.{Fields}
 use Rattle.tz_base.specs.Days.{first_day}
-use Rattle.tz_rule.specs.LocalType.{LocalType}
+use Rattle.tz_rule.specs.LocalTimeType.{LocalTimeType}
 use Rattle.tz_zone.specs.Table.{Zone}
 use Rattle.tz_zone.specs.Clock.{IsClock}
 use Rattle.tz.specs.Found.{Clock}
@@ -29,11 +29,11 @@ pub record IsSpan (r seam high start end : ℤ) : Type 0 where
   pub answered : (u : ℤ) → IsInWindow start end u → IsAnswered u
   pub covers : (u : ℤ) → seam ≤ℤ u → u ≤ℤ high → IsNearReading r u → IsAnswered u → IsInWindow start end u
 
--- between two instants the clock changes only at these turns
-abbrev pub IsTurningAt : Zone → List ℤ → ℤ → ℤ → Type 0
-IsTurningAt z turns start end =
-    (u v : ℤ) → start ≤ℤ u → u ≤ℤ v → v ≤ℤ end → ((turn : ℤ) → Contains turns turn → u <ℤ turn → turn ≤ℤ v → ⊥)
-    → (t : LocalType) → (IsClock z u t → IsClock z v t) × (IsClock z v t → IsClock z u t)
+-- between two instants the clock changes only at these changes
+abbrev pub ChangesOnlyAt : Zone → List ℤ → ℤ → ℤ → Type 0
+ChangesOnlyAt z changes start end =
+    (u v : ℤ) → start ≤ℤ u → u ≤ℤ v → v ≤ℤ end → ((change : ℤ) → Contains changes change → u <ℤ change → change ≤ℤ v → ⊥)
+    → (t : LocalTimeType) → (IsClock z u t → IsClock z v t) × (IsClock z v t → IsClock z u t)
 
 -- the clock of a zone, as it is seen up to a seam, and between two later instants
 abbrev pub IsInView : ℤ → ℤ → ℤ → ℤ → ℤ → Type 0

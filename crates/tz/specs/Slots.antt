@@ -1,6 +1,6 @@
 -- A buffer of slots for what a search finds, of which the first are written.
 use Rattle.std.specs.Prelude.{ℕ, ◌-◌, List, [], ◌∷◌, Option, Some, None, length, take, min, slice_get}
-use Rattle.tz.specs.DateTimes.{LocalMoment}
+use Rattle.tz.specs.DateTimes.{DateTime}
 use Rattle.tz.specs.Found.{first_side_of, last_side_of}
 use Rattle.tz.specs.declared.datetime.found.FoundDateTimeKind.{FoundDateTimeKind}
 use Rattle.tz.specs.declared.datetime.found.FoundDateTimeKind.TheVariants.{Normal}
@@ -23,13 +23,13 @@ abbrev pub content_of : Option (Option FoundDateTimeKind) → Option FoundDateTi
 content_of (Some slot) = slot
 content_of None = None
 
-abbrev pub earliest_slot : Slots → Option LocalMoment
+abbrev pub earliest_slot : Slots → Option DateTime
 earliest_slot slots = first_side_of (content_of (slice_get slots 0))
 
-abbrev pub latest_slot : Slots → Option LocalMoment
+abbrev pub latest_slot : Slots → Option DateTime
 latest_slot slots = last_side_of (content_of (slice_get slots (length slots - 1)))
 
 -- the one date time where one slot is written
-abbrev pub unique_slot : Slots → Option LocalMoment
+abbrev pub unique_slot : Slots → Option DateTime
 unique_slot (Some (Normal d) ∷ []) = Some d
 unique_slot _ = None

@@ -5,8 +5,8 @@ use Rattle.tz_base.specs.declared.calendar.Fields.{Fields}
 use Rattle.tz_base.specs.declared.error.TzError.{TzError}
 use Rattle.tz_base.specs.declared.error.TzError.TheVariants as faults
 use Rattle.tz_base.specs.Fields.{reading, IsValid, IsReading}
-use Rattle.tz_rule.specs.LocalType.{LocalType}
-use Rattle.tz.specs.DateTimes.{LocalMoment, ShowsInstant}
+use Rattle.tz_rule.specs.LocalTimeType.{LocalTimeType}
+use Rattle.tz.specs.DateTimes.{DateTime, ShowsInstant}
 use Rattle.tz.specs.Found.{Clock, IsFoundBy, IsEarlier, instant_of}
 use Rattle.tz.specs.declared.datetime.found.FoundDateTimeKind.{FoundDateTimeKind}
 use Rattle.tz.specs.declared.datetime.found.FoundDateTimeKind.TheVariants.{Normal, Skipped}
@@ -32,14 +32,14 @@ abbrev pub IsSearchFault : Type 0 → ℤ → TzError → Type 0
 IsSearchFault takes_memory r e = ((e ≡ faults.Memory alloc_error) × takes_memory) ⊎ ((e ≡ faults.OutOfRange) × IsNearAnEnd r)
 
 -- the date time with these parts
-abbrev pub moment_of : Fields → LocalType → ℤ → LocalMoment
+abbrev pub moment_of : Fields → LocalTimeType → ℤ → DateTime
 moment_of f t u = record { fields = f; local_time_type = t; unix_time = u }
 
 -- the entry as a found date time of the fields
 abbrev pub IsDateTimeOf : Fields → Entry → FoundDateTimeKind → Type 0
 IsDateTimeOf f (Shown u t) found = found ≡ Normal (moment_of f t u)
 IsDateTimeOf f (Jump u a b) found =
-    (before : LocalMoment) × (after : LocalMoment) × (found ≡ Skipped before after) × ShowsInstant u f.nanoseconds a before × ShowsInstant u f.nanoseconds b after
+    (before : DateTime) × (after : DateTime) × (found ≡ Skipped before after) × ShowsInstant u f.nanoseconds a before × ShowsInstant u f.nanoseconds b after
 
 -- the date times of the entry lie near the reading
 abbrev pub IsEntryNear : ℤ → Entry → Type 0
@@ -51,11 +51,11 @@ abbrev pub IsFrom : ℤ → ℤ → ℤ → Type 0
 IsFrom from until u = (from ≤ℤ u) × (u <ℤ until)
 
 -- at the instant the clock has this type, or none
-abbrev pub HoldsAt : Clock → ℤ → Option LocalType → Type 0
-HoldsAt clock u kind = (t : LocalType) → (clock u t → kind ≡ Some t) × (kind ≡ Some t → clock u t)
+abbrev pub HoldsAt : Clock → ℤ → Option LocalTimeType → Type 0
+HoldsAt clock u kind = (t : LocalTimeType) → (clock u t → kind ≡ Some t) × (kind ≡ Some t → clock u t)
 
 -- from the one instant up to the other it has
-abbrev pub HoldsFrom : Clock → ℤ → ℤ → Option LocalType → Type 0
+abbrev pub HoldsFrom : Clock → ℤ → ℤ → Option LocalTimeType → Type 0
 HoldsFrom clock from until kind = (u : ℤ) → IsFrom from until u → HoldsAt clock u kind
 
 -- what the reading has in the last piece of a walk, which ends at an instant

@@ -13,12 +13,12 @@ use tz_base::calendar::Fields;
 ///
 /// Two printed date times with their names and what stands between them fit into one.
 #[derive(Drop)]
-pub struct Line {
+pub struct TextBuffer {
     bytes: [u8; 128],
     len: usize,
 }
 
-impl Model for Line {
+impl Model for TextBuffer {
     ghost use Rattle.std.specs.Prelude.{◌≤◌, ℕ, List, take, IsUtf8};
 
     ghost Value = { List ℕ };
@@ -50,12 +50,12 @@ fn ones(number: u8) -> u8
     PAIRS[usize::from(number) * 2 + 1]
 }
 
-impl Line {
+impl TextBuffer {
     /// A line without text.
     pub fn new() -> Self
         ensures { result ≡ [] }
     {
-        Line {
+        TextBuffer {
             bytes: [0; 128],
             len: 0,
         }

@@ -17,7 +17,7 @@ ghost use Rattle.tz.specs.FindFaults.{IsFarFromEnds, IsFindFault};
 ghost use Rattle.tz.specs.Found.{IsFound};
 ghost use Rattle.tz.specs.declared.datetime.found.FoundDateTimeKind.{FoundDateTimeKind};
 ghost use Rattle.tz.specs.declared.datetime.found.FoundDateTimeKind.TheVariants.{Normal as normal};
-ghost use Rattle.tz.specs.DateTimes.{LocalMoment, IsLocalMoment, IsUtc, IsUtcAt, IsShowFault, IsForwards, IsBackwards, ShowsByClock, utc_total, total_of, moment_eq, moment_cmp};
+ghost use Rattle.tz.specs.DateTimes.{DateTime, IsDateTime, IsUtc, IsUtcAt, IsShowFault, IsForwards, IsBackwards, ShowsByClock, utc_total, total_of, moment_eq, moment_cmp};
 
 use crate::{DateTime, UtcDateTime};
 use std::cmp::Ordering;
@@ -37,14 +37,14 @@ pub fn added_durations_come_back()
 /// Date times of local time types are equal where they have one Unix time and the same nanoseconds, and are in order as their
 /// total nanoseconds are; nothing else of them counts.
 pub fn date_times_compare_by_instant()
-    ensures equal { (a b : LocalMoment) → (moment_eq a b ≡ true) ↔ ((a.unix_time ≡ b.unix_time) × (a.fields.nanoseconds ≡ b.fields.nanoseconds)) }
-    ensures order { (a b : LocalMoment) → IsLocalMoment a → IsLocalMoment b → moment_cmp a b ≡ int_cmp (total_of a) (total_of b) }
-    ensures agree { (a b : LocalMoment) → (moment_eq a b ≡ true) ↔ (moment_cmp a b ≡ Equal) }
+    ensures equal { (a b : DateTime) → (moment_eq a b ≡ true) ↔ ((a.unix_time ≡ b.unix_time) × (a.fields.nanoseconds ≡ b.fields.nanoseconds)) }
+    ensures order { (a b : DateTime) → IsDateTime a → IsDateTime b → moment_cmp a b ≡ int_cmp (total_of a) (total_of b) }
+    ensures agree { (a b : DateTime) → (moment_eq a b ≡ true) ↔ (moment_cmp a b ≡ Equal) }
 {}
 
 /// A date time has valid fields, and its local time type shows them at its Unix time.
 pub fn date_time_parts_are_sound(date_time: &DateTime)
-    ensures { IsLocalMoment date_time.now }
+    ensures { IsDateTime date_time.now }
 {
     date_time.parts_are_sound();
 }
@@ -58,12 +58,12 @@ pub fn order_of_utc_date_times(a: UtcDateTime, b: UtcDateTime) -> Ordering
 
 /// A projection keeps the Unix time and the nanoseconds.
 pub fn projections_keep_the_instant()
-    ensures { (z : Zone) (u : ℤ) (nanoseconds : ℕ) (d : LocalMoment) → ShowsByClock z u nanoseconds d → (d.unix_time ≡ u) × (d.fields.nanoseconds ≡ nanoseconds) }
+    ensures { (z : Zone) (u : ℤ) (nanoseconds : ℕ) (d : DateTime) → ShowsByClock z u nanoseconds d → (d.unix_time ≡ u) × (d.fields.nanoseconds ≡ nanoseconds) }
 {}
 
 /// What [`crate::DateTime::from_timespec`] shows, [`crate::DateTime::find`] of its fields lists, wherever its year is 200 years or
 /// more from both ends of 32 bits and memory is not refused.
 pub fn shown_date_times_are_found()
-    ensures found { (z : Zone) (u : ℤ) (n : ℕ) (d : LocalMoment) (found : List FoundDateTimeKind) → ShowsByClock z u n d → IsFound (IsClock z) d.fields found → Contains found (normal d) }
-    ensures refused { (z : Zone) (u : ℤ) (n : ℕ) (d : LocalMoment) (e : TzError) → ShowsByClock z u n d → IsFarFromEnds d.fields.year → IsFindFault ⊤ d.fields e → e ≡ Memory alloc_error }
+    ensures found { (z : Zone) (u : ℤ) (n : ℕ) (d : DateTime) (found : List FoundDateTimeKind) → ShowsByClock z u n d → IsFound (IsClock z) d.fields found → Contains found (normal d) }
+    ensures refused { (z : Zone) (u : ℤ) (n : ℕ) (d : DateTime) (e : TzError) → ShowsByClock z u n d → IsFarFromEnds d.fields.year → IsFindFault ⊤ d.fields e → e ≡ Memory alloc_error }
 {}

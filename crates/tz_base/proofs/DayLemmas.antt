@@ -5,7 +5,7 @@ use Rattle.std.proofs.lemmas.Int.{ints}
 use mir.Syntax.{w32}
 use mir.Val.{SFits}
 use Rattle.tz_base.specs.Days.{is_leap, year_length, month_length, months_length, first_day, day_number}
-use Rattle.tz_base.proofs.Below.{all_below, passes_at}
+use Rattle.tz_base.proofs.TestsBelow.{all_below, passes_at}
 use Rattle.tz_base.proofs.YearLemmas.{first_day-moved, year_length-moved, days_of_years-suc, days_of_years_bounds, days_of_years_last}
 
 -- a day in its parts

@@ -1,4 +1,4 @@
-pub mod Below
+pub mod TestsBelow
 pub mod YearLemmas
 pub mod MarchLemmas
 pub mod MonthLemmas

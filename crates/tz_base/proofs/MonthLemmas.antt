@@ -1,7 +1,7 @@
 -- The month and the day of each day of a year that begins on March 1st, by computing them all.
 use Rattle.std.proofs.Common.{◌≡◌, ℕ, ◌+◌, ◌-◌, ◌<◌, ◌≤◌, Bool, true, false, cond, eqb, ltb, leb, ◌&&◌, List, [], ◌∷◌, get_or, refl, arith}
 use Rattle.std.proofs.lemmas.Bool.Decides.{nat_tests}
-use Rattle.tz_base.proofs.Below.{all_below, passes_at}
+use Rattle.tz_base.proofs.TestsBelow.{all_below, passes_at}
 use Rattle.tz_base.specs.Cycles.{march_month, march_month_day}
 use Rattle.tz_base.specs.Days.{month_length, months_length}
 

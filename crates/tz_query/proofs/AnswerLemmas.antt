@@ -11,7 +11,7 @@ use Rattle.tz_base.specs.declared.error.TzError.TheVariants.{DateTime, OutOfRang
 use Rattle.tz_base.specs.declared.error.datetime.DateTimeError.{DateTimeError}
 use Rattle.tz_base.specs.Fields.{IsCivil, IsReading, reading}
 use Rattle.tz_base.proofs.EndLemmas.{valid_reading}
-use Rattle.tz_rule.specs.LocalType.{IsDesignation}
+use Rattle.tz_rule.specs.LocalTimeType.{IsDesignation}
 use Rattle.tz_zone.specs.Table.{Zone}
 use Rattle.tz.specs.DateTimes.{IsClockFault}
 use Rattle.tz.specs.FindFaults.{IsFindFault}

@@ -8,17 +8,17 @@ use Rattle.std.proofs.lemmas.List.{length-map}
 use Rattle.std.proofs.lemmas.List.Elements.{All-head, All-tail}
 use Rattle.tz_base.specs.declared.calendar.Fields.{Fields}
 use Rattle.tz_base.specs.declared.error.TzError.{TzError}
-use Rattle.tz_base.specs.declared.error.TzError.TheVariants.{DateTime, OutOfRange, NoAvailableLocalTimeType}
+use Rattle.tz_base.specs.declared.error.TzError.TheVariants.{DateTime as FieldFault, OutOfRange, NoAvailableLocalTimeType}
 use Rattle.tz_base.specs.declared.error.datetime.DateTimeError.{DateTimeError}
 use Rattle.tz_base.specs.declared.error.datetime.DateTimeError.TheVariants.{InvalidMonth, InvalidMonthDay, InvalidHour, InvalidMinute, InvalidSecond, InvalidNanoseconds}
 use Rattle.tz_base.specs.Fields.{IsCivil, IsFirstFault, IsReading, IsValid, reading}
 use Rattle.tz_base.proofs.OrderLemmas.{civil_unique}
-use Rattle.tz_rule.specs.LocalType.{LocalType}
+use Rattle.tz_rule.specs.LocalTimeType.{LocalTimeType}
 use Rattle.tz_zone.specs.Table.{Zone}
 use Rattle.tz_zone.specs.Clock.{IsClock, IsOver, IsTypeAfter}
 use Rattle.tz_zone.specs.ValidZone.{AreLeapSeconds}
 use Rattle.tz_zone.proofs.Clocks.{clock_unique, type_after_from_clock}
-use Rattle.tz.specs.DateTimes.{LocalMoment, ShowsByClock, IsClockFault}
+use Rattle.tz.specs.DateTimes.{DateTime, ShowsByClock, IsClockFault}
 use Rattle.tz.specs.FindFaults.{IsFindFault, IsFarFromEnds}
 use Rattle.tz.specs.Found.{IsFound}
 use Rattle.tz.specs.declared.datetime.found.FoundDateTimeKind.{FoundDateTimeKind}
@@ -154,14 +154,14 @@ query_unique line (Search f) (Search g) is is' =
 
 -- a refusal has one text
 fault_text_unique : (e : TzError) (text text' : List ℕ) → IsFaultText e text → IsFaultText e text' → text ≡ text'
-fault_text_unique (DateTime fault) text text' is is' = is ∙ sym is'
+fault_text_unique (FieldFault fault) text text' is is' = is ∙ sym is'
 fault_text_unique OutOfRange text text' is is' = is ∙ sym is'
 fault_text_unique NoAvailableLocalTimeType text text' is is' = is ∙ sym is'
 fault_text_unique _ text text' is is' = absurd is
 
 module _ (z : Zone) (leaps : AreLeapSeconds z.leap_seconds) (u : ℤ) (n : ℕ) where
   -- a zone that is over has no type
-  no_type_when_over : IsOver z u → (t : LocalType) → ¬ IsClock z u t
+  no_type_when_over : IsOver z u → (t : LocalTimeType) → ¬ IsClock z u t
   no_type_when_over (last, l, is_last, leap, from, none) t clock =
       subst (λ rule. IsTypeAfter rule u t) none (type_after_from_clock z leaps last is_last u l leap t from clock)
 
@@ -182,7 +182,7 @@ module _ (z : Zone) (leaps : AreLeapSeconds z.leap_seconds) (u : ℤ) (n : ℕ) 
   fault_unique e e' (inr (inr (is, few, out))) (inr (inr (is', few', out'))) = is ∙ sym is'
 
   -- where the clock shows a date time there is no refusal
-  no_fault : (d : LocalMoment) (e : TzError) → ShowsByClock z u n d → IsReading (reading d.fields) → ¬ IsClockFault z u n e
+  no_fault : (d : DateTime) (e : TzError) → ShowsByClock z u n d → IsReading (reading d.fields) → ¬ IsClockFault z u n e
   no_fault d e (t, clock, shows) in_range (inl (is, many)) = omega (arith, many, shows.civil.valid.in_range.nanoseconds, shows.civil.nanoseconds_are)
   no_fault d e (t, clock, shows) in_range (inr (inl (few, inl (is, over)))) = no_type_when_over over t clock
   no_fault d e (t, clock, shows) in_range (inr (inl (few, inr (is, none, not_over)))) = none t clock
@@ -190,7 +190,7 @@ module _ (z : Zone) (leaps : AreLeapSeconds z.leap_seconds) (u : ℤ) (n : ℕ) 
       out (subst IsReading (shows.civil.reads ∙ ap (λ x. u +ℤ x.ut_offset) (clock_unique z u t t' leaps clock clock')) in_range)
 
   -- the clock shows one date time
-  moment_unique : (d d' : LocalMoment) → ShowsByClock z u n d → ShowsByClock z u n d' → moment_text d ≡ moment_text d'
+  moment_unique : (d d' : DateTime) → ShowsByClock z u n d → ShowsByClock z u n d' → moment_text d ≡ moment_text d'
   unfolding moment_text
   moment_unique d d' (t, clock, shows) (t', clock', shows') =
       let same = clock_unique z u t t' leaps clock clock' in
@@ -255,7 +255,7 @@ first_fault_unique f InvalidNanoseconds InvalidNanoseconds is is' = refl
 
 -- why a search is refused, want of memory aside, is one reason where it is not both
 search_fault_unique : (f : Fields) (e e' : TzError) → IsFindFault ⊥ f e → IsFindFault ⊥ f e' → e ≡ e'
-search_fault_unique f e e' (inl (a, is, first)) (inl (b, is', first')) = is ∙ ap (λ x. DateTime x) (first_fault_unique f a b first first') ∙ sym is'
+search_fault_unique f e e' (inl (a, is, first)) (inl (b, is', first')) = is ∙ ap (λ x. FieldFault x) (first_fault_unique f a b first first') ∙ sym is'
 search_fault_unique f e e' (inl (a, is, first)) (inr (valid, fault)) = absurd (valid_without_fault f valid a first)
 search_fault_unique f e e' (inr (valid, fault)) (inl (b, is, first)) = absurd (valid_without_fault f valid b first)
 search_fault_unique f e e' (inr (valid, inl (is, none))) (inr fault) = absurd none

@@ -5,13 +5,13 @@ use Rattle.std.specs.List.{AllZip, flat_map}
 use Rattle.tz_base.specs.Fields.{IsValid, IsReading, reading}
 use Rattle.tz_base.specs.declared.calendar.Fields.{Fields}
 use Rattle.tz_base.specs.declared.error.TzError.{TzError}
-use Rattle.tz_base.specs.declared.error.TzError.TheVariants.{DateTime, OutOfRange, NoAvailableLocalTimeType}
+use Rattle.tz_base.specs.declared.error.TzError.TheVariants.{DateTime as FieldFault, OutOfRange, NoAvailableLocalTimeType}
 use Rattle.tz_base.specs.declared.error.datetime.DateTimeError.{DateTimeError}
 use Rattle.tz_base.specs.declared.error.datetime.DateTimeError.TheVariants.{InvalidMonth, InvalidMonthDay, InvalidHour, InvalidMinute, InvalidSecond, InvalidNanoseconds}
-use Rattle.tz_rule.specs.LocalType.{LocalType}
+use Rattle.tz_rule.specs.LocalTimeType.{LocalTimeType}
 use Rattle.tz_zone.specs.Clock.{IsClock}
 use Rattle.tz_zone.specs.Table.{Zone}
-use Rattle.tz.specs.DateTimes.{LocalMoment, ShowsByClock, IsClockFault}
+use Rattle.tz.specs.DateTimes.{DateTime, ShowsByClock, IsClockFault}
 use Rattle.tz.specs.FindFaults.{IsFindFault, IsFarFromEnds}
 use Rattle.tz.specs.Found.{IsFound}
 use Rattle.tz.specs.PrintedText.{printed_text}
@@ -21,11 +21,11 @@ use Rattle.tz_query.specs.Lines.{AreLines, ended}
 use Rattle.tz_query.specs.Queries.{Query, Time, Search, IsSearchLine, IsQueryLine}
 
 -- the name of a type, or `-`
-abbrev pub name_text : LocalType → List ℕ
+abbrev pub name_text : LocalTimeType → List ℕ
 name_text t = unwrap_or t.designation (45 ∷ [])
 
 -- a date time and the name of its type
-unfoldable pub moment_text : LocalMoment → List ℕ
+unfoldable pub moment_text : DateTime → List ℕ
 moment_text d = printed_text d.fields d.local_time_type.ut_offset ++ 32 ∷ name_text d.local_time_type
 
 -- a refused field has its variant's name
@@ -39,7 +39,7 @@ field_fault_text InvalidNanoseconds = codes "InvalidNanoseconds"
 
 -- a refusal that an answer tells has its innermost variant's name
 abbrev pub IsFaultText : TzError → List ℕ → Type 0
-IsFaultText (DateTime fault) text = text ≡ field_fault_text fault
+IsFaultText (FieldFault fault) text = text ≡ field_fault_text fault
 IsFaultText OutOfRange text = text ≡ codes "OutOfRange"
 IsFaultText NoAvailableLocalTimeType text = text ≡ codes "NoAvailableLocalTimeType"
 IsFaultText _ text = ⊥
@@ -47,7 +47,7 @@ IsFaultText _ text = ⊥
 -- the answer line of an instant: the date time that the clock shows, or why it shows none
 abbrev pub IsTimeAnswer : Zone → ℤ → ℕ → List ℕ → Type 0
 IsTimeAnswer z u n answer =
-    ((d : LocalMoment) × ShowsByClock z u n d × IsReading (reading d.fields) × (answer ≡ moment_text d))
+    ((d : DateTime) × ShowsByClock z u n d × IsReading (reading d.fields) × (answer ≡ moment_text d))
     ⊎ ((e : TzError) × (text : List ℕ) × IsClockFault z u n e × IsFaultText e text × (answer ≡ codes "E " ++ text))
 
 -- what is found: a date time that the clock shows, or a jump of the clock, before it and after it

@@ -5,7 +5,7 @@ use Rattle.std.specs.Borrow.{Bor}
 use Rattle.std.specs.Int.{w32}
 use Rattle.std.specs.Io.KnownBytes.{Appends, Consumes, IsAtEnd}
 use Rattle.std.specs.declared.alloc.Global.{Global}
-use Rattle.tz_rule.specs.LocalType.{plain_type}
+use Rattle.tz_rule.specs.LocalTimeType.{plain_type}
 use Rattle.tz_zone.specs.Settings.{Read, IsSettingsAnswer}
 use Rattle.tz_zone.specs.Table.{Zone, zone_with}
 use Rattle.tz_zone.specs.TzFile.{IsTzFile}

@@ -1,10 +1,10 @@
 -- The type of a rule changes at starts and ends alone, and repeats after 400 years.
 use Rattle.std.proofs.Common.{◌≡◌, inl, inr, sym, ap, ◌∙◌, arith, ℤ, pos, ◌+ℤ◌, ◌-ℤ◌, ◌≤ℤ◌, ◌<ℤ◌}
 use Rattle.std.proofs.lemmas.Int.{ints, by_lt_z}
-use Rattle.tz_rule.specs.LocalType.{LocalType}
-use Rattle.tz_rule.specs.Alternate.{Alternate, start_of, end_of, IsAlternateType, IsUnchanged}
+use Rattle.tz_rule.specs.LocalTimeType.{LocalTimeType}
+use Rattle.tz_rule.specs.Alternate.{AlternateTime, start_of, end_of, IsAlternateType, IsUnchanged}
 use Rattle.tz_rule.specs.Years.{IsPairedEnd, IsDaylight}
-use Rattle.tz_rule.proofs.Yearly.{IsYearly}
+use Rattle.tz_rule.proofs.YearlyInstants.{IsYearly}
 
 module _ (f g : ℤ → ℤ) (u v : ℤ) (up : u ≤ℤ v) where
   pub daylight_stays : ((y : ℤ) → u <ℤ g y → g y ≤ℤ v → ⊥) → IsDaylight f g u → IsDaylight f g v
@@ -17,7 +17,7 @@ module _ (f g : ℤ → ℤ) (u v : ℤ) (up : u ≤ℤ v) where
   pub daylight_was : ((y : ℤ) → u <ℤ f y → f y ≤ℤ v → ⊥) → IsDaylight f g v → IsDaylight f g u
   daylight_was no_start (y, end, pair, from, to) = by_lt_z u (f y) (λ h. absurd (no_start y h from)) (λ h. (y, end, pair, h, omega (arith, ints)))
 
-pub alternate_type_unchanged : (r : Alternate) (u v : ℤ) (t : LocalType) → u ≤ℤ v → IsUnchanged r u v → IsAlternateType r u t → IsAlternateType r v t
+pub alternate_type_unchanged : (r : AlternateTime) (u v : ℤ) (t : LocalTimeType) → u ≤ℤ v → IsUnchanged r u v → IsAlternateType r u t → IsAlternateType r v t
 alternate_type_unchanged r u v t up none (inl (day, e)) = inl (daylight_stays (start_of r) (end_of r) u v up none.no_end day, e)
 alternate_type_unchanged r u v t up none (inr (day, e)) = inr (λ later. day (daylight_was (start_of r) (end_of r) u v up none.no_start later), e)
 
@@ -26,9 +26,9 @@ module _ (f g : ℤ → ℤ) (yf : IsYearly f) (yg : IsYearly g) (u : ℤ) where
   daylight_repeats (y, end, pair, from, to) = (y +ℤ pos 400, end +ℤ pos 12622780800, paired pair, omega (arith, ints, yf.period y), omega (arith, ints))
     where
       paired : IsPairedEnd f g y end → IsPairedEnd f g (y +ℤ pos 400) (end +ℤ pos 12622780800)
-      paired (inl (turned, e)) =
+      paired (inl (across, e)) =
           let next : y +ℤ pos 400 +ℤ pos 1 ≡ y +ℤ pos 1 +ℤ pos 400 = omega (arith, ints) in
-          inl (turned, ap (λ x. x +ℤ pos 12622780800) e ∙ sym (yg.period (y +ℤ pos 1)) ∙ ap g (sym next))
+          inl (across, ap (λ x. x +ℤ pos 12622780800) e ∙ sym (yg.period (y +ℤ pos 1)) ∙ ap g (sym next))
       paired (inr (in_order, e)) = inr (in_order, ap (λ x. x +ℤ pos 12622780800) e ∙ sym (yg.period y))
 
   pub daylight_repeated : IsDaylight f g (u +ℤ pos 12622780800) → IsDaylight f g u
@@ -43,7 +43,7 @@ module _ (f g : ℤ → ℤ) (yf : IsYearly f) (yg : IsYearly g) (u : ℤ) where
           omega (arith, ints, yg.period (z -ℤ pos 400), ap g here)
 
       paired : IsPairedEnd f g y end → IsPairedEnd f g (y -ℤ pos 400) (end -ℤ pos 12622780800)
-      paired (inl (turned, e)) =
+      paired (inl (across, e)) =
           let next : y -ℤ pos 400 +ℤ pos 1 ≡ y +ℤ pos 1 -ℤ pos 400 = omega (arith, ints) in
-          inl (turned, sym (earlier (y +ℤ pos 1) (sym e)) ∙ ap g (sym next))
+          inl (across, sym (earlier (y +ℤ pos 1) (sym e)) ∙ ap g (sym next))
       paired (inr (in_order, e)) = inr (in_order, sym (earlier y (sym e)))

@@ -4,8 +4,8 @@ use Rattle.std.proofs.lemmas.Int.{ints, by_lt_z}
 use Rattle.tz_base.proofs.OrderLemmas.{first_day-mono, gap_between}
 use Rattle.tz_rule.specs.Alternate.{IsUtcYear}
 use Rattle.tz_rule.specs.Daylight.{IsInSpan}
-use Rattle.tz_rule.specs.Years.{IsTurned, IsDaylight}
-use Rattle.tz_rule.proofs.Yearly.{IsYearly}
+use Rattle.tz_rule.specs.Years.{EndsNextYear, IsDaylight}
+use Rattle.tz_rule.proofs.YearlyInstants.{IsYearly}
 
 -- two years before the year of an instant everything is over
 pub over : (f : ℤ → ℤ) → IsYearly f → (u year y : ℤ) (n : ℕ) → IsUtcYear u year → y +ℤ pos n ≡ year → 2 ≤ n → f y ≤ℤ u
@@ -35,11 +35,11 @@ module _ (f g : ℤ → ℤ) (yf : IsYearly f) (yg : IsYearly g) (u year : ℤ) 
       (λ h. by_lt_z u (g z) (λ k. inl (h, k)) (λ k. inr (λ span. omega (arith, ints, span.1))))
 
   -- where each start has the end of its year
-  pub daylight_in_order : ¬ IsTurned f g → (y : ℤ) → IsInSpan f g u y y → IsDaylight f g u
+  pub daylight_in_order : ¬ EndsNextYear f g → (y : ℤ) → IsInSpan f g u y y → IsDaylight f g u
   daylight_in_order in_order y span = (y, g y, inr (in_order, refl), span.0, span.1)
 
-  pub no_daylight_in_order : ¬ IsTurned f g → ¬ IsInSpan f g u (year -ℤ pos 1) (year -ℤ pos 1) → ¬ IsInSpan f g u year year → ¬ IsInSpan f g u (year +ℤ pos 1) (year +ℤ pos 1) → ¬ IsDaylight f g u
-  no_daylight_in_order in_order before here after (y, end, inl (turned, e), from, to) = in_order turned
+  pub no_daylight_in_order : ¬ EndsNextYear f g → ¬ IsInSpan f g u (year -ℤ pos 1) (year -ℤ pos 1) → ¬ IsInSpan f g u year year → ¬ IsInSpan f g u (year +ℤ pos 1) (year +ℤ pos 1) → ¬ IsDaylight f g u
+  no_daylight_in_order in_order before here after (y, end, inl (across, e), from, to) = in_order across
   no_daylight_in_order in_order before here after (y, end, inr (_, e), from, to) = by_distance (y -ℤ year) (omega (arith, ints)) (from, rw e at to)
     where
       by_distance : (d : ℤ) → y ≡ year +ℤ d → IsInSpan f g u y y → ⊥
@@ -49,7 +49,7 @@ module _ (f g : ℤ → ℤ) (yf : IsYearly f) (yg : IsYearly g) (u year : ℤ) 
       by_distance (negsuc zero) e span = let same : y ≡ year -ℤ pos 1 = omega (arith, ints) in before (rw same at span)
       by_distance (negsuc (suc n)) e span = omega (arith, ints, span.1, over g yg u year y (n + 2) is (omega (arith, ints)) (omega arith))
 
-  pub decide_in_order : ¬ IsTurned f g → IsDaylight f g u ⊎ ¬ IsDaylight f g u
+  pub decide_in_order : ¬ EndsNextYear f g → IsDaylight f g u ⊎ ¬ IsDaylight f g u
   decide_in_order in_order =
       elim (decide_span (year -ℤ pos 1) (year -ℤ pos 1)) [
         | inl span ↦ inl (daylight_in_order in_order (year -ℤ pos 1) span)
@@ -63,24 +63,24 @@ module _ (f g : ℤ → ℤ) (yf : IsYearly f) (yg : IsYearly g) (u year : ℤ) 
       ]
 
   -- where each start has the end of the next year
-  pub daylight_turned : IsTurned f g → (y z : ℤ) → y +ℤ pos 1 ≡ z → IsInSpan f g u y z → IsDaylight f g u
-  daylight_turned turned y z e span = (y, g z, inl (turned, ap g (sym e)), span.0, span.1)
+  pub daylight_across_years : EndsNextYear f g → (y z : ℤ) → y +ℤ pos 1 ≡ z → IsInSpan f g u y z → IsDaylight f g u
+  daylight_across_years across y z e span = (y, g z, inl (across, ap g (sym e)), span.0, span.1)
 
   -- the span of the year before last has begun
-  pub daylight_to_end : IsTurned f g → u <ℤ g (year -ℤ pos 1) → IsDaylight f g u
-  daylight_to_end turned h =
+  pub daylight_to_end : EndsNextYear f g → u <ℤ g (year -ℤ pos 1) → IsDaylight f g u
+  daylight_to_end across h =
       let e : year -ℤ pos 2 +ℤ pos 1 ≡ year -ℤ pos 1 = omega (arith, ints) in
-      daylight_turned turned (year -ℤ pos 2) (year -ℤ pos 1) e (over f yf u year (year -ℤ pos 2) 2 is (omega (arith, ints)) (omega arith), h)
+      daylight_across_years across (year -ℤ pos 2) (year -ℤ pos 1) e (over f yf u year (year -ℤ pos 2) 2 is (omega (arith, ints)) (omega arith), h)
 
   -- the span of the next year has not ended
-  pub daylight_from_start : IsTurned f g → f (year +ℤ pos 1) ≤ℤ u → IsDaylight f g u
-  daylight_from_start turned h =
+  pub daylight_from_start : EndsNextYear f g → f (year +ℤ pos 1) ≤ℤ u → IsDaylight f g u
+  daylight_from_start across h =
       let e : year +ℤ pos 1 +ℤ pos 1 ≡ year +ℤ pos 2 = omega (arith, ints) in
-      daylight_turned turned (year +ℤ pos 1) (year +ℤ pos 2) e (h, to_come g yg u year (year +ℤ pos 2) 2 is refl (omega arith))
+      daylight_across_years across (year +ℤ pos 1) (year +ℤ pos 2) e (h, to_come g yg u year (year +ℤ pos 2) 2 is refl (omega arith))
 
-  pub no_daylight_turned : IsTurned f g → ¬ (u <ℤ g (year -ℤ pos 1)) → ¬ IsInSpan f g u (year -ℤ pos 1) year → ¬ IsInSpan f g u year (year +ℤ pos 1) → ¬ (f (year +ℤ pos 1) ≤ℤ u) → ¬ IsDaylight f g u
-  no_daylight_turned turned last before here after (y, end, inr (in_order, e), from, to) = in_order turned
-  no_daylight_turned turned last before here after (y, end, inl (_, e), from, to) = by_distance (y -ℤ year) (omega (arith, ints)) from (rw e at to)
+  pub no_daylight_across_years : EndsNextYear f g → ¬ (u <ℤ g (year -ℤ pos 1)) → ¬ IsInSpan f g u (year -ℤ pos 1) year → ¬ IsInSpan f g u year (year +ℤ pos 1) → ¬ (f (year +ℤ pos 1) ≤ℤ u) → ¬ IsDaylight f g u
+  no_daylight_across_years across last before here after (y, end, inr (in_order, e), from, to) = in_order across
+  no_daylight_across_years across last before here after (y, end, inl (_, e), from, to) = by_distance (y -ℤ year) (omega (arith, ints)) from (rw e at to)
     where
       by_distance : (d : ℤ) → y ≡ year +ℤ d → f y ≤ℤ u → u <ℤ g (y +ℤ pos 1) → ⊥
       by_distance (pos zero) e from to = let same : y ≡ year = omega (arith, ints) in here (rw same at from, rw same at to)
@@ -99,18 +99,18 @@ module _ (f g : ℤ → ℤ) (yf : IsYearly f) (yg : IsYearly g) (u year : ℤ) 
   decide_begun : (f (year +ℤ pos 1) ≤ℤ u) ⊎ ¬ (f (year +ℤ pos 1) ≤ℤ u)
   decide_begun = by_lt_z u (f (year +ℤ pos 1)) (λ h. inr (λ more. omega (arith, ints))) (λ h. inl h)
 
-  pub decide_turned : IsTurned f g → IsDaylight f g u ⊎ ¬ IsDaylight f g u
-  decide_turned turned =
+  pub decide_across_years : EndsNextYear f g → IsDaylight f g u ⊎ ¬ IsDaylight f g u
+  decide_across_years across =
       let next : year -ℤ pos 1 +ℤ pos 1 ≡ year = omega (arith, ints) in
       elim decide_ended [
-        | inl last ↦ inl (daylight_to_end turned last)
+        | inl last ↦ inl (daylight_to_end across last)
         | inr last ↦ elim (decide_span (year -ℤ pos 1) year) [
-          | inl span ↦ inl (daylight_turned turned (year -ℤ pos 1) year next span)
+          | inl span ↦ inl (daylight_across_years across (year -ℤ pos 1) year next span)
           | inr before ↦ elim (decide_span year (year +ℤ pos 1)) [
-            | inl span ↦ inl (daylight_turned turned year (year +ℤ pos 1) refl span)
+            | inl span ↦ inl (daylight_across_years across year (year +ℤ pos 1) refl span)
             | inr here ↦ elim decide_begun [
-              | inl begun ↦ inl (daylight_from_start turned begun)
-              | inr after ↦ inr (no_daylight_turned turned last before here after)
+              | inl begun ↦ inl (daylight_from_start across begun)
+              | inr after ↦ inr (no_daylight_across_years across last before here after)
             ]
           ]
         ]

@@ -2,9 +2,9 @@ pub mod Weeks
 pub mod DayPlaces
 pub mod YearPlaces
 pub mod YearKinds
-pub mod Yearly
-pub mod Weaker
-pub mod TurnedRules
+pub mod YearlyInstants
+pub mod WeakerClauses
+pub mod RulesAcrossYears
 pub mod UtcYears
 pub mod DaylightLemmas
 pub mod ChangePoints

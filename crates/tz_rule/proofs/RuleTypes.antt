@@ -1,57 +1,57 @@
 -- A rule has one type at an instant, and an alternate rule has one in all its years. It repeats after 400 years.
 use Rattle.std.proofs.Common.{◌≡◌, ◌⊎◌, inl, inr, ◌∙◌, refl, sym, ℤ, pos, ◌+ℤ◌, Bool, true, false, MatchBool}
-use Rattle.tz_rule.specs.LocalType.{LocalType}
-use Rattle.tz_rule.specs.Alternate.{Alternate, start_of, end_of, IsInRuleRange, AreRuleDays, IsUtcYear, IsInRuleYears, IsAlternateType}
-use Rattle.tz_rule.specs.Pairing.{turns}
+use Rattle.tz_rule.specs.LocalTimeType.{LocalTimeType}
+use Rattle.tz_rule.specs.Alternate.{AlternateTime, start_of, end_of, IsInRuleRange, AreRuleDays, IsUtcYear, IsInRuleYears, IsAlternateType}
+use Rattle.tz_rule.specs.Pairing.{ends_come_first}
 use Rattle.tz_rule.specs.Rule.{IsRuleType, IsSoundRule}
-use Rattle.tz_rule.specs.Years.{IsTurned, IsDaylight}
+use Rattle.tz_rule.specs.Years.{EndsNextYear, IsDaylight}
 use Rattle.tz_rule.specs.declared.timezone.rule.TransitionRule.{TransitionRule}
 use Rattle.tz_rule.specs.declared.timezone.rule.TransitionRule.TheVariants.{Fixed, Alternate as Two}
 use Rattle.tz_rule.proofs.ChangePoints.{daylight_repeats, daylight_repeated}
-use Rattle.tz_rule.proofs.DaylightLemmas.{decide_in_order, decide_turned}
-use Rattle.tz_rule.proofs.TurnedRules.{MatchBool-turns}
-use Rattle.tz_rule.proofs.Yearly.{IsYearly-start_of, IsYearly-end_of}
+use Rattle.tz_rule.proofs.DaylightLemmas.{decide_in_order, decide_across_years}
+use Rattle.tz_rule.proofs.RulesAcrossYears.{MatchBool-ends_come_first}
+use Rattle.tz_rule.proofs.YearlyInstants.{IsYearly-start_of, IsYearly-end_of}
 
-pub alternate_type_unique : (r : Alternate) (u : ℤ) (t t' : LocalType) → IsAlternateType r u t → IsAlternateType r u t' → t ≡ t'
+pub alternate_type_unique : (r : AlternateTime) (u : ℤ) (t t' : LocalTimeType) → IsAlternateType r u t → IsAlternateType r u t' → t ≡ t'
 alternate_type_unique r u t t' (inl (day, e)) (inl (day', e')) = e ∙ sym e'
 alternate_type_unique r u t t' (inl (day, e)) (inr (none, e')) = absurd (none day)
 alternate_type_unique r u t t' (inr (none, e)) (inl (day, e')) = absurd (none day)
 alternate_type_unique r u t t' (inr (none, e)) (inr (none', e')) = e ∙ sym e'
 
-pub rule_type_unique : (rule : TransitionRule) (u : ℤ) (t t' : LocalType) → IsRuleType rule u t → IsRuleType rule u t' → t ≡ t'
+pub rule_type_unique : (rule : TransitionRule) (u : ℤ) (t t' : LocalTimeType) → IsRuleType rule u t → IsRuleType rule u t' → t ≡ t'
 unfolding IsRuleType
 rule_type_unique (Fixed fixed) u t t' a b = a ∙ sym b
 rule_type_unique (Two r) u t t' a b = alternate_type_unique r u t t' a.1 b.1
 
-module _ (r : Alternate) (range : IsInRuleRange r) (days : AreRuleDays r) where
+module _ (r : AlternateTime) (range : IsInRuleRange r) (days : AreRuleDays r) where
   decide_daylight : (u year : ℤ) → IsUtcYear u year → IsDaylight (start_of r) (end_of r) u ⊎ ¬ IsDaylight (start_of r) (end_of r) u
-  decide_daylight u year is = by_pairing (turns r) (MatchBool-turns r range days)
+  decide_daylight u year is = by_pairing (ends_come_first r) (MatchBool-ends_come_first r range days)
     where
-      by_pairing : (b : Bool) → MatchBool b (IsTurned (start_of r) (end_of r)) (¬ IsTurned (start_of r) (end_of r)) → IsDaylight (start_of r) (end_of r) u ⊎ ¬ IsDaylight (start_of r) (end_of r) u
-      by_pairing true h = decide_turned (start_of r) (end_of r) (IsYearly-start_of r range days.start_is) (IsYearly-end_of r range days.end_is) u year is h
+      by_pairing : (b : Bool) → MatchBool b (EndsNextYear (start_of r) (end_of r)) (¬ EndsNextYear (start_of r) (end_of r)) → IsDaylight (start_of r) (end_of r) u ⊎ ¬ IsDaylight (start_of r) (end_of r) u
+      by_pairing true h = decide_across_years (start_of r) (end_of r) (IsYearly-start_of r range days.start_is) (IsYearly-end_of r range days.end_is) u year is h
       by_pairing false h = decide_in_order (start_of r) (end_of r) (IsYearly-start_of r range days.start_is) (IsYearly-end_of r range days.end_is) u year is h
 
-  pub alternate_type_total : (u year : ℤ) → IsUtcYear u year → (t : LocalType) × IsAlternateType r u t
+  pub alternate_type_total : (u year : ℤ) → IsUtcYear u year → (t : LocalTimeType) × IsAlternateType r u t
   alternate_type_total u year is =
       elim (decide_daylight u year is) [
         | inl day ↦ (r.dst, inl (day, refl))
         | inr none ↦ (r.std, inr (none, refl))
       ]
 
-  pub alternate_type_repeats : (u : ℤ) (t : LocalType) → IsAlternateType r u t → IsAlternateType r (u +ℤ pos 12622780800) t
+  pub alternate_type_repeats : (u : ℤ) (t : LocalTimeType) → IsAlternateType r u t → IsAlternateType r (u +ℤ pos 12622780800) t
   alternate_type_repeats u t (inl (day, e)) =
       inl (daylight_repeats (start_of r) (end_of r) (IsYearly-start_of r range days.start_is) (IsYearly-end_of r range days.end_is) u day, e)
   alternate_type_repeats u t (inr (none, e)) =
       inr (λ day. none (daylight_repeated (start_of r) (end_of r) (IsYearly-start_of r range days.start_is) (IsYearly-end_of r range days.end_is) u day), e)
 
-pub rule_type_total : (rule : TransitionRule) (u : ℤ) → IsSoundRule rule → IsInRuleYears u → (t : LocalType) × IsRuleType rule u t
+pub rule_type_total : (rule : TransitionRule) (u : ℤ) → IsSoundRule rule → IsInRuleYears u → (t : LocalTimeType) × IsRuleType rule u t
 unfolding IsRuleType
 rule_type_total (Fixed fixed) u sound years = (fixed, refl)
 rule_type_total (Two r) u sound years =
     let found = alternate_type_total r sound.0.in_range sound.1 u years.0 years.1 in
     (found.0, (years, found.1))
 
-pub rule_type_repeats : (rule : TransitionRule) (u : ℤ) (t t' : LocalType) → IsSoundRule rule → IsRuleType rule u t → IsRuleType rule (u +ℤ pos 12622780800) t' → t ≡ t'
+pub rule_type_repeats : (rule : TransitionRule) (u : ℤ) (t t' : LocalTimeType) → IsSoundRule rule → IsRuleType rule u t → IsRuleType rule (u +ℤ pos 12622780800) t' → t ≡ t'
 unfolding IsRuleType
 rule_type_repeats (Fixed fixed) u t t' sound a b = a ∙ sym b
 rule_type_repeats (Two r) u t t' sound a b =

@@ -3,35 +3,35 @@ use Rattle.std.specs.Prelude.{◌≡◌, ◌⊎◌, ℤ, pos, negsuc, ◌+ℤ◌
 use Rattle.tz_base.specs.Days.{first_day}
 use Rattle.tz_base.specs.declared.error.timezone.TransitionRuleError.{TransitionRuleError}
 use Rattle.tz_base.specs.declared.error.timezone.TransitionRuleError.TheVariants.{InvalidStdUtcOffset, InvalidDstUtcOffset, InvalidDstStartEndTime, InconsistentRule}
-use Rattle.tz_rule.specs.LocalType.{LocalType}
+use Rattle.tz_rule.specs.LocalTimeType.{LocalTimeType}
 use Rattle.tz_rule.specs.Day.{rule_day, IsRuleDay}
 use Rattle.tz_rule.specs.Years.{IsInconsistent, IsDaylight}
 use Rattle.tz_rule.specs.declared.timezone.rule_day.RuleDay.{RuleDay}
 
-pub record Alternate : Type 0 where
-  pub std : LocalType
-  pub dst : LocalType
+pub record AlternateTime : Type 0 where
+  pub std : LocalTimeType
+  pub dst : LocalTimeType
   pub dst_start : RuleDay
   pub dst_start_time : ℤ
   pub dst_end : RuleDay
   pub dst_end_time : ℤ
 
 -- the rule with these parts
-abbrev pub alternate_of : LocalType → LocalType → RuleDay → ℤ → RuleDay → ℤ → Alternate
+abbrev pub alternate_of : LocalTimeType → LocalTimeType → RuleDay → ℤ → RuleDay → ℤ → AlternateTime
 alternate_of std dst dst_start dst_start_time dst_end dst_end_time =
     record { std = std; dst = dst; dst_start = dst_start; dst_start_time = dst_start_time; dst_end = dst_end; dst_end_time = dst_end_time }
 
 -- both days are such as their types allow
-pub record AreRuleDays (r : Alternate) : Type 0 where
+pub record AreRuleDays (r : AlternateTime) : Type 0 where
   pub start_is : IsRuleDay r.dst_start
   pub end_is : IsRuleDay r.dst_end
 
 -- the instant at which daylight saving time starts in a year: a local time by the standard type
-unfoldable pub start_of : Alternate → ℤ → ℤ
+unfoldable pub start_of : AlternateTime → ℤ → ℤ
 start_of r year = pos 86400 *ℤ rule_day r.dst_start year +ℤ r.dst_start_time -ℤ r.std.ut_offset
 
 -- the instant at which it ends: a local time by the daylight type
-unfoldable pub end_of : Alternate → ℤ → ℤ
+unfoldable pub end_of : AlternateTime → ℤ → ℤ
 end_of r year = pos 86400 *ℤ rule_day r.dst_end year +ℤ r.dst_end_time -ℤ r.dst.ut_offset
 
 -- above -25 and below 26 hours
@@ -43,26 +43,26 @@ abbrev pub IsRuleTime : ℤ → Type 0
 IsRuleTime time = (negsuc 604799 <ℤ time) × (time <ℤ pos 604800)
 
 -- a rule in range
-pub record IsInRuleRange (r : Alternate) : Type 0 where
+pub record IsInRuleRange (r : AlternateTime) : Type 0 where
   pub std_is : IsRuleOffset r.std.ut_offset
   pub dst_is : IsRuleOffset r.dst.ut_offset
   pub start_is : IsRuleTime r.dst_start_time
   pub end_is : IsRuleTime r.dst_end_time
 
 -- a rule in range whose start and end never change their strict order, whatever the years and their distance
-pub record IsConsistentRule (r : Alternate) : Type 0 where
+pub record IsConsistentRule (r : AlternateTime) : Type 0 where
   pub in_range : IsInRuleRange r
   pub consistent : ¬ IsInconsistent (start_of r) (end_of r)
 
 -- the fault that is named where several are out of range: the standard offset's, the daylight offset's, and then that of a time
-abbrev pub IsRangeFault : Alternate → TransitionRuleError → Type 0
+abbrev pub IsRangeFault : AlternateTime → TransitionRuleError → Type 0
 IsRangeFault r InvalidStdUtcOffset = ¬ IsRuleOffset r.std.ut_offset
 IsRangeFault r InvalidDstUtcOffset = IsRuleOffset r.std.ut_offset × ¬ IsRuleOffset r.dst.ut_offset
 IsRangeFault r InvalidDstStartEndTime = IsRuleOffset r.std.ut_offset × IsRuleOffset r.dst.ut_offset × ¬ (IsRuleTime r.dst_start_time × IsRuleTime r.dst_end_time)
 IsRangeFault r _ = ⊥
 
 -- the fault that is named: one of range, or else that the rule is inconsistent
-abbrev pub IsFirstRuleFault : Alternate → TransitionRuleError → Type 0
+abbrev pub IsFirstRuleFault : AlternateTime → TransitionRuleError → Type 0
 IsFirstRuleFault r e = IsRangeFault r e ⊎ ((e ≡ InconsistentRule) × IsInRuleRange r × IsInconsistent (start_of r) (end_of r))
 
 -- the year of an instant in UTC
@@ -82,10 +82,10 @@ abbrev pub IsNearYear : ℤ → ℤ → Type 0
 IsNearYear u year = ((pos 86400 *ℤ first_day year) <ℤ (u +ℤ pos 864000)) × (u <ℤ (pos 86400 *ℤ first_day (year +ℤ pos 1) +ℤ pos 864000))
 
 -- the type of an alternate rule at an instant
-abbrev pub IsAlternateType : Alternate → ℤ → LocalType → Type 0
+abbrev pub IsAlternateType : AlternateTime → ℤ → LocalTimeType → Type 0
 IsAlternateType r u t = (IsDaylight (start_of r) (end_of r) u × (t ≡ r.dst)) ⊎ (¬ IsDaylight (start_of r) (end_of r) u × (t ≡ r.std))
 
 -- no start and no end lies after the first instant, up to the second
-pub record IsUnchanged (r : Alternate) (u v : ℤ) : Type 0 where
+pub record IsUnchanged (r : AlternateTime) (u v : ℤ) : Type 0 where
   pub no_start : (y : ℤ) → u <ℤ start_of r y → start_of r y ≤ℤ v → ⊥
   pub no_end : (y : ℤ) → u <ℤ end_of r y → end_of r y ≤ℤ v → ⊥

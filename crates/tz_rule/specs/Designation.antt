@@ -2,7 +2,7 @@
 use Rattle.std.specs.Prelude.{◌≡◌, ℕ, ◌-◌, ◌≤◌, Option, Some, None, option_map, IfSome, List, ◌++◌, length, take, replicate}
 use Rattle.std.proofs.Common.{refl, ap, ◌∙◌, sym, arith, length-append, length-take}
 use Rattle.std.proofs.Math.ListN.{length-replicate}
-use Rattle.tz_rule.specs.LocalType.{LocalType, IsDesignation, IsOffset}
+use Rattle.tz_rule.specs.LocalTimeType.{LocalTimeType, IsDesignation, IsOffset}
 use Rattle.tz_rule.specs.declared.timezone.local_time_type.Designation.{Designation}
 use Rattle.tz_rule.specs.declared.timezone.local_time_type.LocalTimeType.TheInside.{Inside}
 
@@ -25,7 +25,7 @@ pub record IsKept (d : Designation) : Type 0 where
   pub is_name : IsDesignation (take d.len d.bytes)
 
 -- what a local time type shows
-abbrev pub shown : Inside → LocalType
+abbrev pub shown : Inside → LocalTimeType
 shown t = record { ut_offset = t.ut_offset; is_dst = t.is_dst; designation = option_map name_of t.time_zone_designation }
 
 pub record IsKeptType (t : Inside) : Type 0 where

@@ -1,6 +1,6 @@
 pub use Rattle.tz_base.specs.Days
 pub use Rattle.tz_base.specs.Fields
-pub mod LocalType
+pub mod LocalTimeType
 pub mod Designation
 pub mod JulianDay
 pub mod MonthWeek

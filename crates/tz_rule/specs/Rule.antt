@@ -1,12 +1,12 @@
 -- Which type a rule has at an instant. (POSIX.1-2017, Base Definitions, 8.3: the TZ variable.)
 use Rattle.std.specs.Prelude.{◌≡◌, ℤ}
-use Rattle.tz_rule.specs.LocalType.{LocalType}
+use Rattle.tz_rule.specs.LocalTimeType.{LocalTimeType}
 use Rattle.tz_rule.specs.Alternate.{IsInRuleYears, IsAlternateType, IsConsistentRule, AreRuleDays}
 use Rattle.tz_rule.specs.declared.timezone.rule.TransitionRule.{TransitionRule}
 use Rattle.tz_rule.specs.declared.timezone.rule.TransitionRule.TheVariants.{Fixed, Alternate}
 
 -- a fixed rule has its type always, an alternate rule one of its types in the years in which it answers
-unfoldable pub IsRuleType : TransitionRule → ℤ → LocalType → Type 0
+unfoldable pub IsRuleType : TransitionRule → ℤ → LocalTimeType → Type 0
 IsRuleType (Fixed fixed) u t = t ≡ fixed
 IsRuleType (Alternate r) u t = IsInRuleYears u × IsAlternateType r u t
 

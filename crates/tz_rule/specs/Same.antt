@@ -8,9 +8,9 @@ use Rattle.std.proofs.Common.{refl, sym, ◌∙◌, ap, Decides}
 use Rattle.std.proofs.lemmas.Bool.{false≢true}
 use Rattle.std.proofs.lemmas.Bool.Decides.{same_from_decides, Decides-int_eq, Decides-like, Decides-and}
 use Rattle.std.proofs.lemmas.Slice.Eq.{bytes_eq-Decides}
-use Rattle.tz_rule.specs.LocalType.{LocalType, type_of}
+use Rattle.tz_rule.specs.LocalTimeType.{LocalTimeType, type_of}
 
-abbrev pub same_type : LocalType → LocalType → Bool
+abbrev pub same_type : LocalTimeType → LocalTimeType → Bool
 same_type a b = int_eq a.ut_offset b.ut_offset && (beq a.is_dst b.is_dst && option_eq bytes_eq a.designation b.designation)
 
 -- a test of equality is an equivalence
@@ -34,7 +34,7 @@ Decides-name (Some x) None = (λ h. absurd (false≢true h), λ e. cc)
 Decides-name (Some x) (Some y) = Decides-like (bytes_eq x y) (ap Some) (λ e. cc) (bytes_eq-Decides x y)
 
 -- equal types
-pub Decides-same_type : (a b : LocalType) → Decides (same_type a b) (a ≡ b)
+pub Decides-same_type : (a b : LocalTimeType) → Decides (same_type a b) (a ≡ b)
 Decides-same_type a b =
     Decides-like (same_type a b)
     (λ h. same_parts h.0 h.1.0 h.1.1)

@@ -4,14 +4,14 @@ use Rattle.std.specs.Ordering.{int_eq}
 use Rattle.std.proofs.Common.{◌∙◌, ap, Decides}
 use Rattle.std.proofs.lemmas.Bool.{false≢true}
 use Rattle.std.proofs.lemmas.Bool.Decides.{Decides-int_eq, Decides-like, Decides-and}
-use Rattle.tz_rule.specs.Alternate.{Alternate, alternate_of}
+use Rattle.tz_rule.specs.Alternate.{AlternateTime, alternate_of}
 use Rattle.tz_rule.specs.Same.{same_type, Decides-same_type}
 use Rattle.tz_rule.specs.SameDay.{same_day, Decides-same_day}
 use Rattle.tz_rule.specs.declared.timezone.rule.TransitionRule.{TransitionRule}
 use Rattle.tz_rule.specs.declared.timezone.rule.TransitionRule.TheVariants.{Fixed, Alternate as Two}
 
 -- the six parts
-abbrev pub same_alternate : Alternate → Alternate → Bool
+abbrev pub same_alternate : AlternateTime → AlternateTime → Bool
 same_alternate a b =
     same_type a.std b.std && (same_type a.dst b.dst
     && (same_day a.dst_start b.dst_start && (int_eq a.dst_start_time b.dst_start_time
@@ -23,7 +23,7 @@ same_rule (Fixed a) (Two b) = false
 same_rule (Two a) (Fixed b) = false
 same_rule (Two a) (Two b) = same_alternate a b
 
-pub Decides-same_alternate : (a b : Alternate) → Decides (same_alternate a b) (a ≡ b)
+pub Decides-same_alternate : (a b : AlternateTime) → Decides (same_alternate a b) (a ≡ b)
 Decides-same_alternate a b =
     Decides-like (same_alternate a b)
     (λ h. same_parts h.0 h.1.0 h.1.1.0 h.1.1.1.0 h.1.1.1.1.0 h.1.1.1.1.1)

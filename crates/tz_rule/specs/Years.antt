@@ -10,12 +10,12 @@ abbrev pub IsInconsistent : (ℤ → ℤ) → (ℤ → ℤ) → Type 0
 IsInconsistent starts ends = (x : ℤ) × (y : ℤ) × (k : ℤ) × IsConflict starts ends x y k
 
 -- some year's end comes before its start
-abbrev pub IsTurned : (ℤ → ℤ) → (ℤ → ℤ) → Type 0
-IsTurned starts ends = (y : ℤ) × (ends y <ℤ starts y)
+abbrev pub EndsNextYear : (ℤ → ℤ) → (ℤ → ℤ) → Type 0
+EndsNextYear starts ends = (y : ℤ) × (ends y <ℤ starts y)
 
--- the end that belongs to the start of a year: the next year's if the rule is turned, else the same year's
+-- the end that belongs to the start of a year: the next year's if the rule ends in the next year, else the same year's
 abbrev pub IsPairedEnd : (ℤ → ℤ) → (ℤ → ℤ) → ℤ → ℤ → Type 0
-IsPairedEnd starts ends y end = (IsTurned starts ends × (end ≡ ends (y +ℤ pos 1))) ⊎ (¬ IsTurned starts ends × (end ≡ ends y))
+IsPairedEnd starts ends y end = (EndsNextYear starts ends × (end ≡ ends (y +ℤ pos 1))) ⊎ (¬ EndsNextYear starts ends × (end ≡ ends y))
 
 -- an instant from some year's start up to, not including, its paired end
 abbrev pub IsDaylight : (ℤ → ℤ) → (ℤ → ℤ) → ℤ → Type 0

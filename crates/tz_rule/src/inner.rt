@@ -2,9 +2,9 @@
 
 ghost use Rattle.std.specs.Prelude.{◌≡◌, IfOk, IfErr, MatchBool};
 ghost use Rattle.tz_rule.specs.Alternate.{start_of, end_of, IsNearYear};
-ghost use Rattle.tz_rule.specs.LocalType.{LocalType};
+ghost use Rattle.tz_rule.specs.LocalTimeType.{LocalTimeType};
 ghost use Rattle.tz_rule.specs.Rule.{IsRuleType};
-ghost use Rattle.tz_rule.specs.Years.{IsTurned};
+ghost use Rattle.tz_rule.specs.Years.{EndsNextYear};
 
 pub use crate::timezone::utc::{no_rule, utc_types};
 use crate::timezone::{AlternateTime, LocalTimeType, TransitionRule};
@@ -17,7 +17,7 @@ pub fn find_local_time_type(
     unix_time: i64,
 ) -> Result<&LocalTimeType, TzError>
     ensures ok { IfOk result (λ t. IsRuleType rule.now unix_time t.now) }
-    ensures err { IfErr result (λ e. (e ≡ TzError.OutOfRange) × ((t : LocalType) → ¬ IsRuleType rule.now unix_time t)) }
+    ensures err { IfErr result (λ e. (e ≡ TzError.OutOfRange) × ((t : LocalTimeType) → ¬ IsRuleType rule.now unix_time t)) }
 {
     match rule {
         TransitionRule::Fixed(local_time_type) => Ok(local_time_type),
@@ -42,8 +42,8 @@ pub fn end(rule: &AlternateTime, year: i32) -> i64
 }
 
 /// Whether daylight saving time lasts from each start to the next year's end.
-pub fn is_turned(rule: &AlternateTime) -> bool
-    ensures { MatchBool result (IsTurned (start_of rule.now) (end_of rule.now)) (¬ IsTurned (start_of rule.now) (end_of rule.now)) }
+pub fn ends_next_year(rule: &AlternateTime) -> bool
+    ensures { MatchBool result (EndsNextYear (start_of rule.now) (end_of rule.now)) (¬ EndsNextYear (start_of rule.now) (end_of rule.now)) }
 {
-    rule.is_turned()
+    rule.ends_next_year()
 }

@@ -1,8 +1,8 @@
 //! Laws of rules. Each function does nothing; its contract is the law.
 
 ghost use Rattle.std.specs.Prelude.{◌≡◌, ℤ, pos, ◌+ℤ◌, ◌≤ℤ◌, ◌<ℤ◌};
-ghost use Rattle.tz_rule.specs.Alternate.{Alternate, start_of, end_of, IsNearYear, IsUtcYear, IsInRuleYears, IsAlternateType, IsUnchanged};
-ghost use Rattle.tz_rule.specs.LocalType.{LocalType};
+ghost use Rattle.tz_rule.specs.Alternate.{AlternateTime, start_of, end_of, IsNearYear, IsUtcYear, IsInRuleYears, IsAlternateType, IsUnchanged};
+ghost use Rattle.tz_rule.specs.LocalTimeType.{LocalTimeType};
 ghost use Rattle.tz_rule.specs.Rule.{IsRuleType, IsSoundRule};
 ghost use Rattle.tz_rule.specs.declared.timezone.rule.TransitionRule.{TransitionRule as Rule};
 
@@ -20,19 +20,19 @@ pub fn rule_parts_are_sound(rule: &TransitionRule)
 
 /// A rule has no two types at an instant.
 pub fn rule_types_are_unique()
-    ensures { (rule : Rule) (u : ℤ) (t t' : LocalType) → IsRuleType rule u t → IsRuleType rule u t' → t ≡ t' }
+    ensures { (rule : Rule) (u : ℤ) (t t' : LocalTimeType) → IsRuleType rule u t → IsRuleType rule u t' → t ≡ t' }
 {}
 
 /// A rule has a type at each instant of the years in which it answers.
 pub fn rule_types_are_total(rule: &TransitionRule)
-    ensures { (u : ℤ) → IsInRuleYears u → (t : LocalType) × IsRuleType rule.now u t }
+    ensures { (u : ℤ) → IsInRuleYears u → (t : LocalTimeType) × IsRuleType rule.now u t }
 {
     rule_parts_are_sound(rule);
 }
 
 /// Where no start and no end lies after an instant, up to a later one, the rule has one type at both.
 pub fn rule_types_change_at_starts_and_ends()
-    ensures { (r : Alternate) (u v : ℤ) (t : LocalType) → u ≤ℤ v → IsUnchanged r u v → IsAlternateType r u t → IsAlternateType r v t }
+    ensures { (r : AlternateTime) (u v : ℤ) (t : LocalTimeType) → u ≤ℤ v → IsUnchanged r u v → IsAlternateType r u t → IsAlternateType r v t }
 {}
 
 /// Each start and each end lies less than ten days outside its year.
@@ -53,7 +53,7 @@ pub fn far_starts_and_ends_are_over_or_to_come(rule: &AlternateTime)
 
 /// After 400 years, which are 12622780800 seconds, a rule has the same type.
 pub fn rule_types_repeat(rule: &TransitionRule)
-    ensures { (u : ℤ) (t t' : LocalType) → IsRuleType rule.now u t → IsRuleType rule.now (u +ℤ pos 12622780800) t' → t ≡ t' }
+    ensures { (u : ℤ) (t t' : LocalTimeType) → IsRuleType rule.now u t → IsRuleType rule.now (u +ℤ pos 12622780800) t' → t ≡ t' }
 {
     rule_parts_are_sound(rule);
 }

@@ -5,38 +5,38 @@ use Rattle.std.proofs.lemmas.Bool.{cases_lt}
 use Rattle.std.proofs.lemmas.Int.{ints}
 use Rattle.std.proofs.lemmas.Option.{same_Some, none-some}
 use Rattle.tz_base.specs.declared.error.TzError.{TzError}
-use Rattle.tz_rule.specs.LocalType.{LocalType}
+use Rattle.tz_rule.specs.LocalTimeType.{LocalTimeType}
 use Rattle.tz_rule.specs.declared.timezone.rule.TransitionRule.{TransitionRule}
 use Rattle.tz_rule.proofs.RuleTypes.{rule_type_unique}
-use Rattle.tz_zone.specs.Table.{Change, Zone}
+use Rattle.tz_zone.specs.Table.{Transition, Zone}
 use Rattle.tz_zone.specs.LeapTime.{IsLeapTime}
 use Rattle.tz_zone.specs.Clock.{IsTypeAt, IsLast, IsTransitionType, IsTypeAfter, IsTypeWithout, IsTypeWith, IsFaultAfter, IsClock, IsLookupFault}
 use Rattle.tz_zone.specs.ValidZone.{AreLeapSeconds}
 use Rattle.tz_zone.proofs.LeapTimes.{leap_time_unique}
 
-pub last_unique : (transitions : List Change) (last last' : Change) → IsLast transitions last → IsLast transitions last' → last ≡ last'
+pub last_unique : (transitions : List Transition) (last last' : Transition) → IsLast transitions last → IsLast transitions last' → last ≡ last'
 last_unique transitions last last' at at' = same_Some last last' (sym at ∙ at')
 
 -- where some transition is the last, there are some
-pub some_from_last : (transitions : List Change) (last : Change) → IsLast transitions last → transitions ≢ []
+pub some_from_last : (transitions : List Transition) (last : Transition) → IsLast transitions last → transitions ≢ []
 some_from_last transitions last at e = none-some last (rw e at at)
 
-module _ (z : Zone) (l : ℤ) (k : ℕ) (later : (i : ℕ) (change : Change) → k ≤ i → slice_get z.transitions i ≡ Some change → l <ℤ change.unix_leap_time) (t : LocalType) where
+module _ (z : Zone) (l : ℤ) (k : ℕ) (later : (i : ℕ) (change : Transition) → k ≤ i → slice_get z.transitions i ≡ Some change → l <ℤ change.unix_leap_time) (t : LocalTimeType) where
   pub type_before_first : k ≡ 0 → IsTypeAt z 0 t → IsTransitionType z l t
   type_before_first none type = inl ((λ i change at. later i change (omega (arith, none)) at), type)
 
-  pub type_of_last_reached : k ≢ 0 → (change : Change) → slice_get z.transitions (k - 1) ≡ Some change → change.unix_leap_time ≤ℤ l → IsTypeAt z change.type_index t → IsTransitionType z l t
+  pub type_of_last_reached : k ≢ 0 → (change : Transition) → slice_get z.transitions (k - 1) ≡ Some change → change.unix_leap_time ≤ℤ l → IsTypeAt z change.type_index t → IsTransitionType z l t
   type_of_last_reached some change at come type = inr (k - 1, change, (at, come, (λ j next above at_next. later j next (omega (arith, some, above)) at_next)), type)
 
-module _ (z : Zone) (are : AreLeapSeconds z.leap_seconds) (last : Change) (is_last : IsLast z.transitions last) (u l : ℤ) (leap : IsLeapTime z.leap_seconds u l) where
-  pub clock_before_last : (t : LocalType) → l <ℤ last.unix_leap_time → IsTransitionType z l t → IsClock z u t
+module _ (z : Zone) (are : AreLeapSeconds z.leap_seconds) (last : Transition) (is_last : IsLast z.transitions last) (u l : ℤ) (leap : IsLeapTime z.leap_seconds u l) where
+  pub clock_before_last : (t : LocalTimeType) → l <ℤ last.unix_leap_time → IsTransitionType z l t → IsClock z u t
   clock_before_last t before type = inr (last, is_last, (l, leap, inl (before, type)))
 
-  pub clock_from_last : (t : LocalType) → last.unix_leap_time ≤ℤ l → IsTypeAfter z.extra_rule u t → IsClock z u t
+  pub clock_from_last : (t : LocalTimeType) → last.unix_leap_time ≤ℤ l → IsTypeAfter z.extra_rule u t → IsClock z u t
   clock_from_last t from type = inr (last, is_last, (l, leap, inr (from, type)))
 
   -- from the last transition on the clock is that of the rule
-  pub type_after_from_clock : (t : LocalType) → last.unix_leap_time ≤ℤ l → IsClock z u t → IsTypeAfter z.extra_rule u t
+  pub type_after_from_clock : (t : LocalTimeType) → last.unix_leap_time ≤ℤ l → IsClock z u t → IsTypeAfter z.extra_rule u t
   type_after_from_clock t from (inl (none, type)) = absurd (some_from_last z.transitions last is_last none)
   type_after_from_clock t from (inr (last', is_last', (l', leap', inl (before, type)))) =
       absurd (omega (arith, ints, from, before, leap_time_unique z.leap_seconds are u l l' leap leap', ap (λ c. c.unix_leap_time) (last_unique z.transitions last last' is_last is_last')))
@@ -48,10 +48,10 @@ module _ (z : Zone) (are : AreLeapSeconds z.leap_seconds) (last : Change) (is_la
       inr (fault, (λ t clock. no_type t (type_after_from_clock t from clock)), (λ over. some over.5))
 
 -- a zone has one type with a number
-type_at_unique : (z : Zone) (i : ℕ) (t t' : LocalType) → IsTypeAt z i t → IsTypeAt z i t' → t ≡ t'
+type_at_unique : (z : Zone) (i : ℕ) (t t' : LocalTimeType) → IsTypeAt z i t → IsTypeAt z i t' → t ≡ t'
 type_at_unique z i t t' at at' = same_Some t t' (sym at ∙ at')
 
-transition_type_unique : (z : Zone) (l : ℤ) (t t' : LocalType) → IsTransitionType z l t → IsTransitionType z l t' → t ≡ t'
+transition_type_unique : (z : Zone) (l : ℤ) (t t' : LocalTimeType) → IsTransitionType z l t → IsTransitionType z l t' → t ≡ t'
 transition_type_unique z l t t' (inl (before, type)) (inl (before', type')) = type_at_unique z 0 t t' type type'
 transition_type_unique z l t t' (inl (before, type)) (inr (i, change, (at, come, later), type')) = absurd (omega (arith, ints, before i change at, come))
 transition_type_unique z l t t' (inr (i, change, (at, come, later), type)) (inl (before, type')) = absurd (omega (arith, ints, before i change at, come))
@@ -67,15 +67,15 @@ transition_type_unique z l t t' (inr (i, change, (at, come, later), type)) (inr 
       ]
     ]
 
-type_after_unique : (rule : Option TransitionRule) (u : ℤ) (t t' : LocalType) → IsTypeAfter rule u t → IsTypeAfter rule u t' → t ≡ t'
+type_after_unique : (rule : Option TransitionRule) (u : ℤ) (t t' : LocalTimeType) → IsTypeAfter rule u t → IsTypeAfter rule u t' → t ≡ t'
 type_after_unique (Some rule) u t t' a b = rule_type_unique rule u t t' a b
 type_after_unique None u t t' a b = absurd a
 
-type_without_unique : (z : Zone) (rule : Option TransitionRule) (u : ℤ) (t t' : LocalType) → IsTypeWithout z rule u t → IsTypeWithout z rule u t' → t ≡ t'
+type_without_unique : (z : Zone) (rule : Option TransitionRule) (u : ℤ) (t t' : LocalTimeType) → IsTypeWithout z rule u t → IsTypeWithout z rule u t' → t ≡ t'
 type_without_unique z (Some rule) u t t' a b = rule_type_unique rule u t t' a b
 type_without_unique z None u t t' a b = type_at_unique z 0 t t' a b
 
-type_with_unique : (z : Zone) → AreLeapSeconds z.leap_seconds → (last : Change) (u : ℤ) (t t' : LocalType) → IsTypeWith z last u t → IsTypeWith z last u t' → t ≡ t'
+type_with_unique : (z : Zone) → AreLeapSeconds z.leap_seconds → (last : Transition) (u : ℤ) (t t' : LocalTimeType) → IsTypeWith z last u t → IsTypeWith z last u t' → t ≡ t'
 type_with_unique z are last u t t' (l, leap, side) (l', leap', side') =
     let same : l' ≡ l = leap_time_unique z.leap_seconds are u l' l leap' leap in
     sides side (rw same at side')
@@ -87,7 +87,7 @@ type_with_unique z are last u t t' (l, leap, side) (l', leap', side') =
     sides (inr (from, type)) (inl (before, type')) = absurd (omega (arith, ints, before, from))
     sides (inr (from, type)) (inr (from', type')) = type_after_unique z.extra_rule u t t' type type'
 
-pub clock_unique : (z : Zone) (u : ℤ) (t t' : LocalType) → AreLeapSeconds z.leap_seconds → IsClock z u t → IsClock z u t' → t ≡ t'
+pub clock_unique : (z : Zone) (u : ℤ) (t t' : LocalTimeType) → AreLeapSeconds z.leap_seconds → IsClock z u t → IsClock z u t' → t ≡ t'
 clock_unique z u t t' are (inl (none, type)) (inl (none', type')) = type_without_unique z z.extra_rule u t t' type type'
 clock_unique z u t t' are (inl (none, type)) (inr (last, is_last, type')) = absurd (some_from_last z.transitions last is_last none)
 clock_unique z u t t' are (inr (last, is_last, type)) (inl (none, type')) = absurd (some_from_last z.transitions last is_last none)

@@ -4,34 +4,34 @@ use Rattle.std.specs.Prelude.{slice_get}
 use Rattle.std.proofs.lemmas.Int.{ints, by_lt_z}
 use Rattle.std.proofs.lemmas.Bool.{cases_lt}
 use Rattle.std.proofs.lemmas.Option.{slice_get_within, slice_get-get_or, get_or_from_slice_get}
-use Rattle.tz_zone.specs.Table.{Leap}
+use Rattle.tz_zone.specs.Table.{LeapSecond}
 use Rattle.tz_zone.specs.LeapTime.{correction_at, correction_before, IsReached, IsCorrection}
 use Rattle.tz_zone.specs.ValidZone.{AreLeapSeconds, IsOneSecond}
 use Rattle.tz_zone.proofs.LeapSteps.{AreSteps, IsCount, reached_down}
 
-abbrev pub no_leap : Leap
+abbrev pub no_leap : LeapSecond
 no_leap = record { unix_leap_time = pos 0; correction = pos 0 }
 
 -- the time at a place of the list
-unfoldable pub time_at : List Leap → ℕ → ℤ
+unfoldable pub time_at : List LeapSecond → ℕ → ℤ
 time_at leaps i = (get_or leaps i no_leap).unix_leap_time
 
-pub time_at-is : (leaps : List Leap) (i : ℕ) (l : Leap) → slice_get leaps i ≡ Some l → time_at leaps i ≡ l.unix_leap_time
+pub time_at-is : (leaps : List LeapSecond) (i : ℕ) (l : LeapSecond) → slice_get leaps i ≡ Some l → time_at leaps i ≡ l.unix_leap_time
 unfolding time_at
-time_at-is leaps i l e = ap (λ (x : Leap). x.unix_leap_time) (get_or_from_slice_get leaps i l no_leap e)
+time_at-is leaps i l e = ap (λ (x : LeapSecond). x.unix_leap_time) (get_or_from_slice_get leaps i l no_leap e)
 
-pub correction_before-suc : (leaps : List Leap) (i : ℕ) (l : Leap) → slice_get leaps i ≡ Some l → correction_before leaps (suc i) ≡ l.correction
+pub correction_before-suc : (leaps : List LeapSecond) (i : ℕ) (l : LeapSecond) → slice_get leaps i ≡ Some l → correction_before leaps (suc i) ≡ l.correction
 correction_before-suc leaps i l e = ap correction_at e
 
 -- the item at a place of the list
-pub item_at : (leaps : List Leap) (i : ℕ) → i < length leaps → (l : Leap) × (slice_get leaps i ≡ Some l)
+pub item_at : (leaps : List LeapSecond) (i : ℕ) → i < length leaps → (l : LeapSecond) × (slice_get leaps i ≡ Some l)
 item_at leaps i h = (get_or leaps i no_leap, slice_get-get_or leaps i no_leap h)
 
 one_second : (c : ℤ) → IsOneSecond c → (c ≡ pos 1) ⊎ (c ≡ negsuc 0)
 one_second (pos n) e = inl (ap pos e)
 one_second (negsuc n) e = inr (ap negsuc (let h : n ≡ 0 = omega arith in h))
 
-pub AreSteps-from_leaps : (leaps : List Leap) → AreLeapSeconds leaps → AreSteps (length leaps) (time_at leaps) (correction_before leaps)
+pub AreSteps-from_leaps : (leaps : List LeapSecond) → AreLeapSeconds leaps → AreSteps (length leaps) (time_at leaps) (correction_before leaps)
 AreSteps-from_leaps leaps are = record {
   none = refl;
   first = λ h.
@@ -70,10 +70,10 @@ AreSteps-from_leaps leaps are = record {
         ]
 
 -- the count of leap seconds reached
-abbrev pub IsReachedCount : List Leap → ℤ → ℕ → Type 0
+abbrev pub IsReachedCount : List LeapSecond → ℤ → ℕ → Type 0
 IsReachedCount leaps u k = IsCount (length leaps) (time_at leaps) (correction_before leaps) u k
 
-pub IsReached-below : (leaps : List Leap) (u : ℤ) (k i : ℕ) (l : Leap) → IsReachedCount leaps u k → IsReached leaps i l u → i < k
+pub IsReached-below : (leaps : List LeapSecond) (u : ℤ) (k i : ℕ) (l : LeapSecond) → IsReachedCount leaps u k → IsReached leaps i l u → i < k
 IsReached-below leaps u k i l count r =
     elim (cases_lt i k) [
       | inl h ↦ h
@@ -83,7 +83,7 @@ IsReached-below leaps u k i l count r =
           absurd (omega (arith, ints, r.1))
     ]
 
-pub IsReached-at : (leaps : List Leap) (u : ℤ) (k i : ℕ) → IsReachedCount leaps u k → i < k → (l : Leap) × IsReached leaps i l u × (correction_before leaps (suc i) ≡ l.correction)
+pub IsReached-at : (leaps : List LeapSecond) (u : ℤ) (k i : ℕ) → IsReachedCount leaps u k → i < k → (l : LeapSecond) × IsReached leaps i l u × (correction_before leaps (suc i) ≡ l.correction)
 IsReached-at leaps u k i count h =
     let item = item_at leaps i (omega (arith, count.within)) in
     let reached = count.reached i h in
@@ -91,13 +91,13 @@ IsReached-at leaps u k i count h =
     (item.0, (item.1, omega (arith, ints)), correction_before-suc leaps i item.0 item.1)
 
 -- the correction is that before the first leap second that is not reached
-pub IsCorrection-from_count : (leaps : List Leap) (u : ℤ) (k : ℕ) → IsReachedCount leaps u k → IsCorrection leaps u (correction_before leaps k)
+pub IsCorrection-from_count : (leaps : List LeapSecond) (u : ℤ) (k : ℕ) → IsReachedCount leaps u k → IsCorrection leaps u (correction_before leaps k)
 IsCorrection-from_count leaps u zero count = inl (refl, λ i l r. omega (arith, IsReached-below leaps u zero i l count r))
 IsCorrection-from_count leaps u (suc k) count =
     let last = IsReached-at leaps u (suc k) k count (omega arith) in
     inr (k, last.0, last.1, last.2, λ j later h r. omega (arith, IsReached-below leaps u (suc k) j later count r))
 
-pub correction_from_count : (leaps : List Leap) (u x : ℤ) (k : ℕ) → IsReachedCount leaps u k → IsCorrection leaps u x → x ≡ correction_before leaps k
+pub correction_from_count : (leaps : List LeapSecond) (u x : ℤ) (k : ℕ) → IsReachedCount leaps u k → IsCorrection leaps u x → x ≡ correction_before leaps k
 correction_from_count leaps u x zero count (inl (e, none)) = e
 correction_from_count leaps u x (suc k) count (inl (e, none)) =
     let last = IsReached-at leaps u (suc k) k count (omega arith) in
@@ -114,7 +114,7 @@ correction_from_count leaps u x k count (inr (i, l, r, e, later)) =
     ]
 
 -- every instant has a count
-pub count_exists : (leaps : List Leap) → AreLeapSeconds leaps → (u : ℤ) → (k : ℕ) × IsReachedCount leaps u k
+pub count_exists : (leaps : List LeapSecond) → AreLeapSeconds leaps → (u : ℤ) → (k : ℕ) × IsReachedCount leaps u k
 count_exists leaps are u = from_top (length leaps) (omega arith) (λ i low high. absurd (omega arith))
   where
     steps : AreSteps (length leaps) (time_at leaps) (correction_before leaps)
@@ -140,9 +140,9 @@ count_exists leaps are u = from_top (length leaps) (omega arith) (λ i low high.
           },
         ))
 
--- the place where the test turns is the count
-pub IsReachedCount-from_turn : (leaps : List Leap) → AreLeapSeconds leaps → (u : ℤ) (k : ℕ) → k ≤ length leaps → ((place : ℕ) → place + 1 ≡ k → (l : Leap) × IsReached leaps place l u) → (k < length leaps → ¬ ((l : Leap) × IsReached leaps k l u)) → IsReachedCount leaps u k
-IsReachedCount-from_turn leaps are u k within before after = record {
+-- The partition point is the count
+pub IsReachedCount-from_point : (leaps : List LeapSecond) → AreLeapSeconds leaps → (u : ℤ) (k : ℕ) → k ≤ length leaps → ((place : ℕ) → place + 1 ≡ k → (l : LeapSecond) × IsReached leaps place l u) → (k < length leaps → ¬ ((l : LeapSecond) × IsReached leaps k l u)) → IsReachedCount leaps u k
+IsReachedCount-from_point leaps are u k within before after = record {
   within = within;
   reached = λ i h.
       let last = before (k - 1) (omega arith) in
@@ -162,7 +162,7 @@ IsReachedCount-from_turn leaps are u k within before after = record {
     steps = AreSteps-from_leaps leaps are
 
 -- the count from what its clauses say
-pub IsReachedCount-from_items : (leaps : List Leap) (u : ℤ) (k : ℕ) → k ≤ length leaps → ((i : ℕ) (l : Leap) → i < k → slice_get leaps i ≡ Some l → IsReached leaps i l u) → ((i : ℕ) (l : Leap) → IsReached leaps i l u → i < k) → IsReachedCount leaps u k
+pub IsReachedCount-from_items : (leaps : List LeapSecond) (u : ℤ) (k : ℕ) → k ≤ length leaps → ((i : ℕ) (l : LeapSecond) → i < k → slice_get leaps i ≡ Some l → IsReached leaps i l u) → ((i : ℕ) (l : LeapSecond) → IsReached leaps i l u → i < k) → IsReachedCount leaps u k
 IsReachedCount-from_items leaps u k within reached beyond = record {
   within = within;
   reached = λ i h.
@@ -177,7 +177,7 @@ IsReachedCount-from_items leaps u k within reached beyond = record {
       absurd (omega (arith, beyond i item.0 (item.1, omega (arith, ints)))));
 }
 
-pub IsReached-from_count : (leaps : List Leap) (u : ℤ) (k i : ℕ) (l : Leap) → IsReachedCount leaps u k → i < k → slice_get leaps i ≡ Some l → IsReached leaps i l u
+pub IsReached-from_count : (leaps : List LeapSecond) (u : ℤ) (k i : ℕ) (l : LeapSecond) → IsReachedCount leaps u k → i < k → slice_get leaps i ≡ Some l → IsReached leaps i l u
 IsReached-from_count leaps u k i l count h at =
     let reached = count.reached i h in
     let time = time_at-is leaps i l at in

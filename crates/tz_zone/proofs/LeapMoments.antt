@@ -3,14 +3,14 @@ use Rattle.std.proofs.Common.{◌≡◌, ℕ, suc, ◌<◌, ◌≤◌, ◌⊎◌
 use Rattle.std.specs.Prelude.{slice_get}
 use Rattle.std.specs.Int.{int_max}
 use Rattle.std.proofs.lemmas.Int.{ints, int_max_is}
-use Rattle.tz_zone.specs.Table.{Leap}
+use Rattle.tz_zone.specs.Table.{LeapSecond}
 use Rattle.tz_zone.specs.LeapTime.{IsInstant, correction_before, IsMomentOf}
 use Rattle.tz_zone.specs.ValidZone.{AreLeapSeconds}
 use Rattle.tz_zone.proofs.LeapSteps.{IsTimeCount, IsMoment, moment_count}
 use Rattle.tz_zone.proofs.LeapLists.{time_at, time_at-is, correction_before-suc, AreSteps-from_leaps, item_at}
 use Rattle.tz_zone.proofs.LeapTimes.{IsLeapTime-from_count, least_from_moment, moment_low, instant_bounds}
 
-pub times_from_items : (leaps : List Leap) (v : ℤ) (k : ℕ) → k ≤ length leaps → ((i : ℕ) (l : Leap) → i < k → slice_get leaps i ≡ Some l → l.unix_leap_time ≤ℤ v) → ((i : ℕ) (l : Leap) → k ≤ i → slice_get leaps i ≡ Some l → v <ℤ l.unix_leap_time) → IsTimeCount (length leaps) (time_at leaps) v k
+pub times_from_items : (leaps : List LeapSecond) (v : ℤ) (k : ℕ) → k ≤ length leaps → ((i : ℕ) (l : LeapSecond) → i < k → slice_get leaps i ≡ Some l → l.unix_leap_time ≤ℤ v) → ((i : ℕ) (l : LeapSecond) → k ≤ i → slice_get leaps i ≡ Some l → v <ℤ l.unix_leap_time) → IsTimeCount (length leaps) (time_at leaps) v k
 times_from_items leaps v k within come later = record {
   within = within;
   come = λ i h. let item = item_at leaps i (omega arith) in rw (time_at-is leaps i item.0 item.1) (come i item.0 h item.1);
@@ -18,11 +18,11 @@ times_from_items leaps v k within come later = record {
 }
 
 -- before all leap seconds it is the leap time itself
-pub IsMoment-none : (leaps : List Leap) (v : ℤ) → IsMoment (time_at leaps) (correction_before leaps) v 0 v
+pub IsMoment-none : (leaps : List LeapSecond) (v : ℤ) → IsMoment (time_at leaps) (correction_before leaps) v 0 v
 IsMoment-none leaps v = record { after = omega (arith, ints); reached = λ i e. absurd (omega arith); tight = inl (omega (arith, ints)) }
 
 -- after some it is the leap time less the correction, or the last leap second if that comes later
-pub IsMoment-some : (leaps : List Leap) (v u : ℤ) (i : ℕ) (l : Leap) → slice_get leaps i ≡ Some l → (v -ℤ l.correction) ≤ℤ u → (l.unix_leap_time -ℤ correction_before leaps i) ≤ℤ u → ((u ≡ v -ℤ l.correction) ⊎ (u ≡ l.unix_leap_time -ℤ correction_before leaps i)) → IsMoment (time_at leaps) (correction_before leaps) v (suc i) u
+pub IsMoment-some : (leaps : List LeapSecond) (v u : ℤ) (i : ℕ) (l : LeapSecond) → slice_get leaps i ≡ Some l → (v -ℤ l.correction) ≤ℤ u → (l.unix_leap_time -ℤ correction_before leaps i) ≤ℤ u → ((u ≡ v -ℤ l.correction) ⊎ (u ≡ l.unix_leap_time -ℤ correction_before leaps i)) → IsMoment (time_at leaps) (correction_before leaps) v (suc i) u
 IsMoment-some leaps v u i l at shifted reached tight =
     let here = correction_before-suc leaps i l at in
     let time = time_at-is leaps i l at in
@@ -46,14 +46,14 @@ int_max-one x y = one (int_lt y x)
     one false = inr refl
 
 -- the moment is the leap time less the correction, but not before the leap second is reached
-pub IsMoment-greater : (leaps : List Leap) (v : ℤ) (i : ℕ) (l : Leap) → slice_get leaps i ≡ Some l → IsMoment (time_at leaps) (correction_before leaps) v (suc i) (int_max (v -ℤ l.correction) (l.unix_leap_time -ℤ correction_before leaps i))
+pub IsMoment-greater : (leaps : List LeapSecond) (v : ℤ) (i : ℕ) (l : LeapSecond) → slice_get leaps i ≡ Some l → IsMoment (time_at leaps) (correction_before leaps) v (suc i) (int_max (v -ℤ l.correction) (l.unix_leap_time -ℤ correction_before leaps i))
 IsMoment-greater leaps v i l at =
     let shifted = v -ℤ l.correction in
     let reached = l.unix_leap_time -ℤ correction_before leaps i in
     let greatest = int_max_is shifted reached in
     IsMoment-some leaps v (int_max shifted reached) i l at (omega (arith, ints)) (omega (arith, ints)) (int_max-one shifted reached)
 
-pub IsMomentOf-from_count : (leaps : List Leap) → AreLeapSeconds leaps → (v u : ℤ) (k : ℕ) → IsInstant v → IsTimeCount (length leaps) (time_at leaps) v k → IsMoment (time_at leaps) (correction_before leaps) v k u → IsMomentOf leaps v u
+pub IsMomentOf-from_count : (leaps : List LeapSecond) → AreLeapSeconds leaps → (v u : ℤ) (k : ℕ) → IsInstant v → IsTimeCount (length leaps) (time_at leaps) v k → IsMoment (time_at leaps) (correction_before leaps) v k u → IsMomentOf leaps v u
 IsMomentOf-from_count leaps are v u k instant times moment = record {
   least = least_from_moment leaps are v u k times moment;
   comes = λ answered. (u +ℤ correction_before leaps k, IsLeapTime-from_count leaps are u k (moment_count (length leaps) (time_at leaps) (correction_before leaps) (AreSteps-from_leaps leaps are) v u k times moment) answered, moment.after);

@@ -1,8 +1,8 @@
--- Leap times and effects of a list of leap seconds: values, refusals, order, and that each has one value.
+-- LeapSecond times and effects of a list of leap seconds: values, refusals, order, and that each has one value.
 use Rattle.std.proofs.Common.{◌≡◌, ◌≢◌, ℕ, zero, suc, ◌+◌, ◌<◌, ◌⊎◌, inl, inr, refl, sym, ap, ◌∙◌, arith, ℤ, pos, negsuc, ◌+ℤ◌, ◌≤ℤ◌, ◌<ℤ◌, List, length}
 use Rattle.std.proofs.lemmas.Int.{ints, by_lt_z}
 use Rattle.std.proofs.lemmas.Option.{slice_get_within}
-use Rattle.tz_zone.specs.Table.{Leap}
+use Rattle.tz_zone.specs.Table.{LeapSecond}
 use Rattle.tz_zone.specs.LeapTime.{IsInstant, correction_before, IsReached, IsLeapTimeRefused, IsLeapTime, HasComeTo, IsEffect}
 use Rattle.tz_zone.specs.ValidZone.{AreLeapSeconds}
 use Rattle.tz_zone.proofs.LeapSteps.{AreSteps, correction_bound, time_bound, leap_mono, IsTimeCount, IsMoment, moment_count, moment_least}
@@ -21,7 +21,7 @@ instant_bounds (negsuc n) fits = (omega (arith, ints, fits.sfits), omega (arith,
 above_instants : (z : ℤ) → ¬ IsInstant z → negsuc 9223372036854775807 ≤ℤ z → pos 9223372036854775807 <ℤ z
 above_instants z outside low = by_lt_z (pos 9223372036854775807) z (λ h. h) (λ h. absurd (outside (IsInstant-from_bounds z low h)))
 
-module _ (leaps : List Leap) (are : AreLeapSeconds leaps) where
+module _ (leaps : List LeapSecond) (are : AreLeapSeconds leaps) where
   steps : AreSteps (length leaps) (time_at leaps) (correction_before leaps)
   steps = AreSteps-from_leaps leaps are
 
@@ -47,7 +47,7 @@ module _ (leaps : List Leap) (are : AreLeapSeconds leaps) where
       rw (leap_time_from_count u v here.0 here.1 a, leap_time_from_count w v' there.0 there.1 b) order
 
   -- a correction that leaves the instants leaves them above
-  refused_above : (u : ℤ) (i : ℕ) (l : Leap) → IsReached leaps i l u → ¬ IsInstant (u +ℤ l.correction) → pos 9223372036854775807 <ℤ (u +ℤ l.correction)
+  refused_above : (u : ℤ) (i : ℕ) (l : LeapSecond) → IsReached leaps i l u → ¬ IsInstant (u +ℤ l.correction) → pos 9223372036854775807 <ℤ (u +ℤ l.correction)
   refused_above u i l r outside =
       let inside : i < length leaps = omega (arith, slice_get_within leaps i l r.0) in
       let time = time_at-is leaps i l r.0 in

@@ -12,7 +12,7 @@ pub mod TzNames
 pub mod TzTables
 pub mod TextRuns
 pub mod TextNumbers
-pub mod Exits
+pub mod QuestionMarkExits
 pub mod TextParts
 pub mod TextTimes
 pub mod TextDays

@@ -4,7 +4,7 @@ use Rattle.std.specs.Prelude.{slice_get}
 use Rattle.std.proofs.lemmas.Int.{ints, by_lt_z}
 use Rattle.std.proofs.lemmas.Bool.{cases_lt}
 use Rattle.std.proofs.lemmas.Option.{slice_get_within, slice_get-get_or, same_Some}
-use Rattle.tz_zone.specs.Table.{Change, Leap}
+use Rattle.tz_zone.specs.Table.{Transition, LeapSecond}
 use Rattle.tz_zone.specs.ValidZone.{AreLeapSeconds, IsRising}
 use Rattle.tz_zone.proofs.LeapSteps.{times_rise}
 use Rattle.tz_zone.proofs.LeapLists.{time_at, time_at-is, AreSteps-from_leaps}
@@ -14,8 +14,8 @@ abbrev pub Rise : {X : Type 0} → (X → ℤ) → List X → Type 0
 Rise {X} time xs = (i j : ℕ) (x y : X) → i < j → slice_get xs i ≡ Some x → slice_get xs j ≡ Some y → time x <ℤ time y
 
 module _ {X : Type 0} (time : X → ℤ) (xs : List X) (rise : Rise time xs) (v : ℤ) (k : ℕ) (within : k ≤ length xs) where
-  pub come_before_turn : ((place : ℕ) → place + 1 ≡ k → (x : X) × (slice_get xs place ≡ Some x) × (time x ≤ℤ v)) → (i : ℕ) (x : X) → i < k → slice_get xs i ≡ Some x → time x ≤ℤ v
-  come_before_turn before i x h at =
+  pub come_before_point : ((place : ℕ) → place + 1 ≡ k → (x : X) × (slice_get xs place ≡ Some x) × (time x ≤ℤ v)) → (i : ℕ) (x : X) → i < k → slice_get xs i ≡ Some x → time x ≤ℤ v
+  come_before_point before i x h at =
       let last = before (k - 1) (omega arith) in
       elim (cases_lt i (k - 1)) [
         | inl less ↦ omega (arith, ints, rise i (k - 1) x last.0 less at last.1, last.2)
@@ -25,8 +25,8 @@ module _ {X : Type 0} (time : X → ℤ) (xs : List X) (rise : Rise time xs) (v 
             rw same last.2
       ]
 
-  pub later_from_turn : (k < length xs → ¬ ((x : X) × (slice_get xs k ≡ Some x) × (time x ≤ℤ v))) → (i : ℕ) (x : X) → k ≤ i → slice_get xs i ≡ Some x → v <ℤ time x
-  later_from_turn after i x h at =
+  pub later_from_point : (k < length xs → ¬ ((x : X) × (slice_get xs k ≡ Some x) × (time x ≤ℤ v))) → (i : ℕ) (x : X) → k ≤ i → slice_get xs i ≡ Some x → v <ℤ time x
+  later_from_point after i x h at =
       by_lt_z v (time x) (λ e. e) (λ not_later.
       let inside = slice_get_within xs i x at in
       let here : (y : X) × (slice_get xs k ≡ Some y) = (get_or xs k x, slice_get-get_or xs k x (omega arith)) in
@@ -39,12 +39,12 @@ module _ {X : Type 0} (time : X → ℤ) (xs : List X) (rise : Rise time xs) (v 
       ])
 
 -- the times of transitions rise
-pub transitions_rise : (transitions : List Change) → IsRising transitions → Rise (λ (change : Change). change.unix_leap_time) transitions
+pub transitions_rise : (transitions : List Transition) → IsRising transitions → Rise (λ (change : Transition). change.unix_leap_time) transitions
 transitions_rise transitions rising i j x y h at at' =
     let place : i + suc (j - i - 1) ≡ j = omega arith in
     by_steps (j - i - 1) i x y at (ap (slice_get transitions) place ∙ at')
   where
-    by_steps : (m i : ℕ) (x y : Change) → slice_get transitions i ≡ Some x → slice_get transitions (i + suc m) ≡ Some y → x.unix_leap_time <ℤ y.unix_leap_time
+    by_steps : (m i : ℕ) (x y : Transition) → slice_get transitions i ≡ Some x → slice_get transitions (i + suc m) ≡ Some y → x.unix_leap_time <ℤ y.unix_leap_time
     by_steps zero i x y at at' =
         let next : i + 1 ≡ i + suc zero = omega arith in
         rising i x y at (ap (slice_get transitions) next ∙ at')
@@ -55,7 +55,7 @@ transitions_rise transitions rising i j x y h at at' =
         omega (arith, ints, rising i x (get_or transitions (i + 1) x) at next, by_steps m (i + 1) (get_or transitions (i + 1) x) y next (ap (slice_get transitions) place ∙ at'))
 
 -- and those of leap seconds
-pub leap_seconds_rise : (leaps : List Leap) → AreLeapSeconds leaps → Rise (λ (l : Leap). l.unix_leap_time) leaps
+pub leap_seconds_rise : (leaps : List LeapSecond) → AreLeapSeconds leaps → Rise (λ (l : LeapSecond). l.unix_leap_time) leaps
 leap_seconds_rise leaps are i j x y h at at' =
     let place : i + (j - i) ≡ j = omega arith in
     let inside = slice_get_within leaps j y at' in

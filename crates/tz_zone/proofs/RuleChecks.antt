@@ -2,50 +2,50 @@
 use Rattle.std.proofs.Common.{true, false, not, ◌≡◌, ◌≢◌, ◌∙◌, sym, ap, ℤ, List, Some}
 use Rattle.std.proofs.lemmas.Bool.{false≢true, not-true, not-false}
 use Rattle.std.proofs.lemmas.Option.{same_Some}
-use Rattle.tz_rule.specs.LocalType.{LocalType}
+use Rattle.tz_rule.specs.LocalTimeType.{LocalTimeType}
 use Rattle.tz_rule.specs.Rule.{IsRuleType}
 use Rattle.tz_rule.specs.Same.{same_type, Decides-same_type}
 use Rattle.tz_rule.specs.declared.timezone.rule.TransitionRule.{TransitionRule}
 use Rattle.tz_rule.proofs.RuleTypes.{rule_type_unique}
-use Rattle.tz_zone.specs.Table.{Change, Leap, Zone}
+use Rattle.tz_zone.specs.Table.{Transition, LeapSecond, Zone}
 use Rattle.tz_zone.specs.LeapTime.{IsEffect}
 use Rattle.tz_zone.specs.Clock.{IsLast, IsTypeAt}
 use Rattle.tz_zone.specs.ValidZone.{AreLeapSeconds, IsRuleTypeAt, RuleAnswers, RuleAgrees}
 use Rattle.tz_zone.proofs.LeapTimes.{effect_unique}
 
-pub no_rule_type_at : (leaps : List Leap) (rule : TransitionRule) (v u : ℤ) → AreLeapSeconds leaps → IsEffect leaps v u → ((t : LocalType) → ¬ IsRuleType rule u t) → (t : LocalType) → ¬ IsRuleTypeAt leaps rule v t
+pub no_rule_type_at : (leaps : List LeapSecond) (rule : TransitionRule) (v u : ℤ) → AreLeapSeconds leaps → IsEffect leaps v u → ((t : LocalTimeType) → ¬ IsRuleType rule u t) → (t : LocalTimeType) → ¬ IsRuleTypeAt leaps rule v t
 no_rule_type_at leaps rule v u are effect none t (w, effect', type) = none t (rw (effect_unique leaps are v w u effect' effect) at type)
 
-pub rule_type_at_unique : (leaps : List Leap) (rule : TransitionRule) (v : ℤ) (t t' : LocalType) → AreLeapSeconds leaps → IsRuleTypeAt leaps rule v t → IsRuleTypeAt leaps rule v t' → t ≡ t'
+pub rule_type_at_unique : (leaps : List LeapSecond) (rule : TransitionRule) (v : ℤ) (t t' : LocalTimeType) → AreLeapSeconds leaps → IsRuleTypeAt leaps rule v t → IsRuleTypeAt leaps rule v t' → t ≡ t'
 rule_type_at_unique leaps rule v t t' are (u, effect, type) (u', effect', type') = rule_type_unique rule u t t' type (rw (effect_unique leaps are v u' u effect' effect) at type')
 
-module _ (z : Zone) (rule : TransitionRule) (last : Change) (is_rule : z.extra_rule ≡ Some rule) (is_last : IsLast z.transitions last) where
+module _ (z : Zone) (rule : TransitionRule) (last : Transition) (is_rule : z.extra_rule ≡ Some rule) (is_last : IsLast z.transitions last) where
   same_rule : (rule' : TransitionRule) → z.extra_rule ≡ Some rule' → rule ≡ rule'
   same_rule rule' e = same_Some rule rule' (sym is_rule ∙ e)
 
-  same_last : (last' : Change) → IsLast z.transitions last' → last ≡ last'
+  same_last : (last' : Transition) → IsLast z.transitions last' → last ≡ last'
   same_last last' e = same_Some last last' (sym is_last ∙ e)
 
-  pub not_answers : ((t : LocalType) → ¬ IsRuleTypeAt z.leap_seconds rule last.unix_leap_time t) → ¬ RuleAnswers z
+  pub not_answers : ((t : LocalTimeType) → ¬ IsRuleTypeAt z.leap_seconds rule last.unix_leap_time t) → ¬ RuleAnswers z
   not_answers none answers =
       let answer = answers rule last is_rule is_last in
       none answer.0 answer.1
 
-  pub answers_at : (t : LocalType) → IsRuleTypeAt z.leap_seconds rule last.unix_leap_time t → RuleAnswers z
+  pub answers_at : (t : LocalTimeType) → IsRuleTypeAt z.leap_seconds rule last.unix_leap_time t → RuleAnswers z
   answers_at t type rule' last' e e' = rw (sym (same_rule rule' e)) (rw (sym (same_last last' e')) (t, type))
 
-  pub agrees_at : AreLeapSeconds z.leap_seconds → (t : LocalType) → IsRuleTypeAt z.leap_seconds rule last.unix_leap_time t → IsTypeAt z last.type_index t → RuleAgrees z
+  pub agrees_at : AreLeapSeconds z.leap_seconds → (t : LocalTimeType) → IsRuleTypeAt z.leap_seconds rule last.unix_leap_time t → IsTypeAt z last.type_index t → RuleAgrees z
   agrees_at are t type at rule' last' e e' t' type' =
       let with_rule = rw (sym (same_rule rule' e)) at type' in
       let with_last = rw (sym (ap (λ l. l.unix_leap_time) (same_last last' e'))) at with_rule in
       rw (ap (λ l. l.type_index) (sym (same_last last' e'))) (rw (sym (rule_type_at_unique z.leap_seconds rule last.unix_leap_time t t' are type with_last)) at)
 
-  pub not_agrees : (t t' : LocalType) → IsRuleTypeAt z.leap_seconds rule last.unix_leap_time t → IsTypeAt z last.type_index t' → t ≢ t' → ¬ RuleAgrees z
+  pub not_agrees : (t t' : LocalTimeType) → IsRuleTypeAt z.leap_seconds rule last.unix_leap_time t → IsTypeAt z last.type_index t' → t ≢ t' → ¬ RuleAgrees z
   not_agrees t t' type at other agrees = other (same_Some t t' (sym (agrees rule last is_rule is_last t type) ∙ at))
 
 -- what a test of two types has told
-pub same_from_test : (t t' : LocalType) → false ≡ not (same_type t t') → t ≡ t'
+pub same_from_test : (t t' : LocalTimeType) → false ≡ not (same_type t t') → t ≡ t'
 same_from_test t t' e = (Decides-same_type t t').0 (not-false (same_type t t') (sym e))
 
-pub other_from_test : (t t' : LocalType) → true ≡ not (same_type t t') → t ≢ t'
+pub other_from_test : (t t' : LocalTimeType) → true ≡ not (same_type t t') → t ≢ t'
 other_from_test t t' e p = false≢true (sym (not-true (same_type t t') (sym e)) ∙ (Decides-same_type t t').1 p)

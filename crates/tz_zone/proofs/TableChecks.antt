@@ -3,7 +3,7 @@ use Rattle.std.proofs.Common.{◌≡◌, ℕ, ◌+◌, ◌-◌, ◌<◌, ◌≤�
 use Rattle.std.specs.Prelude.{slice_get}
 use Rattle.std.proofs.lemmas.Bool.{cases_lt}
 use Rattle.std.proofs.lemmas.Option.{slice_get_read, slice_get_within, same_Some}
-use Rattle.tz_zone.specs.Table.{Change, Leap}
+use Rattle.tz_zone.specs.Table.{Transition, LeapSecond}
 use Rattle.tz_zone.specs.ValidZone.{MayBeFirst, MayFollow, AreLeapSeconds, HasTypeAtPlace, RisesAtPlace}
 
 -- one place more
@@ -18,10 +18,10 @@ pub item_read : {X : Type 0} (xs : List X) (i : ℕ) (x y : X) → i < length xs
 item_read xs i x y within is at = same_Some x y (sym (slice_get_read xs (length xs) i x refl within is) ∙ at)
 
 -- the leap seconds up to a place follow each other
-abbrev pub FollowBelow : List Leap → ℕ → Type 0
-FollowBelow leaps n = (place : ℕ) (leap next : Leap) → place + 1 < n → slice_get leaps place ≡ Some leap → slice_get leaps (place + 1) ≡ Some next → MayFollow leap next
+abbrev pub FollowBelow : List LeapSecond → ℕ → Type 0
+FollowBelow leaps n = (place : ℕ) (leap next : LeapSecond) → place + 1 < n → slice_get leaps place ≡ Some leap → slice_get leaps (place + 1) ≡ Some next → MayFollow leap next
 
-pub follow_next : (leaps : List Leap) (i : ℕ) (leap next : Leap) → 1 ≤ i → i < length leaps → leap ≡ get_or leaps (i - 1) leap → next ≡ get_or leaps i next → MayFollow leap next → FollowBelow leaps i → FollowBelow leaps (i + 1)
+pub follow_next : (leaps : List LeapSecond) (i : ℕ) (leap next : LeapSecond) → 1 ≤ i → i < length leaps → leap ≡ get_or leaps (i - 1) leap → next ≡ get_or leaps i next → MayFollow leap next → FollowBelow leaps i → FollowBelow leaps (i + 1)
 follow_next leaps i leap next some within leap_is next_is follows so_far place l n h at_l at_n =
     elim (cases_lt (place + 1) i) [
       | inl below ↦ so_far place l n below at_l at_n
@@ -33,14 +33,14 @@ follow_next leaps i leap next some within leap_is next_is follows so_far place l
           rw (sym first) (rw (sym second) follows)
     ]
 
-pub are_from_loop : (leaps : List Leap) (n : ℕ) (leap : Leap) → 1 ≤ length leaps → leap ≡ get_or leaps 0 leap → MayBeFirst leap → length leaps ≤ n → FollowBelow leaps n → AreLeapSeconds leaps
+pub are_from_loop : (leaps : List LeapSecond) (n : ℕ) (leap : LeapSecond) → 1 ≤ length leaps → leap ≡ get_or leaps 0 leap → MayBeFirst leap → length leaps ≤ n → FollowBelow leaps n → AreLeapSeconds leaps
 are_from_loop leaps n leap some leap_is first all follow = record {
   first = λ l at. rw (sym (item_read leaps 0 leap l some leap_is at)) first;
   apart = λ i l next at_l at_next. follow i l next (omega (arith, all, slice_get_within leaps (i + 1) next at_next)) at_l at_next;
 }
 
 -- no transition stands past the last place
-pub transitions_from_loop : (transitions : List Change) (types n : ℕ) → length transitions ≤ n → ((place : ℕ) → place < n → HasTypeAtPlace transitions types place × RisesAtPlace transitions place) → (place : ℕ) → HasTypeAtPlace transitions types place × RisesAtPlace transitions place
+pub transitions_from_loop : (transitions : List Transition) (types n : ℕ) → length transitions ≤ n → ((place : ℕ) → place < n → HasTypeAtPlace transitions types place × RisesAtPlace transitions place) → (place : ℕ) → HasTypeAtPlace transitions types place × RisesAtPlace transitions place
 transitions_from_loop transitions types n all so_far place = (
   λ change at. (so_far place (omega (arith, all, slice_get_within transitions place change at))).0 change at,
   λ change next at at_next. (so_far place (omega (arith, all, slice_get_within transitions place change at))).1 change next at at_next,

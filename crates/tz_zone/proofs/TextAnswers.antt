@@ -5,17 +5,17 @@ use Rattle.std.specs.Int.{w32}
 use Rattle.std.proofs.lemmas.Int.{to_z-of_z}
 use mir.Val.{to_z, of_z}
 use Rattle.tz_base.specs.declared.error.TzError.{TzError}
-use Rattle.tz_base.specs.declared.error.TzError.TheVariants.{TzString, LocalTimeType}
+use Rattle.tz_base.specs.declared.error.TzError.TheVariants.{TzString, LocalTimeType as TypeFault}
 use Rattle.tz_base.specs.declared.error.parse.TzStringError.{TzStringError}
 use Rattle.tz_base.specs.declared.error.timezone.LocalTimeTypeError.{LocalTimeTypeError}
 use Rattle.tz_rule.specs.Alternate.{alternate_of}
-use Rattle.tz_rule.specs.LocalType.{LocalType, IsFirstTypeFault, type_of}
+use Rattle.tz_rule.specs.LocalTimeType.{LocalTimeType, IsFirstTypeFault, type_of}
 use Rattle.tz_zone.specs.declared.parse.tz_string.time.WrittenTime.{WrittenTime}
 use Rattle.tz_zone.specs.TzText.{IsName, IsSignedTime, IsDaylightOffset, IsRuleText, AlternateText, IsAlternateText, std_type_of, dst_type_of, seconds_of, rule_of}
 use Rattle.tz_zone.specs.TzTextFault.{IsOffsetFault, IsNameFault, IsDaylightFault, IsRulesFault, IsTzTextFault}
 
 -- a name that is no designation
-pub bad_name : (text name rest : List ℕ) (f : LocalTimeTypeError) → IsName text name rest → IsFirstTypeFault (type_of (pos 0) false (Some name)) f → IsNameFault text (LocalTimeType f)
+pub bad_name : (text name rest : List ℕ) (f : LocalTimeTypeError) → IsName text name rest → IsFirstTypeFault (type_of (pos 0) false (Some name)) f → IsNameFault text (TypeFault f)
 bad_name text name rest f is fault = inr (name, rest, is, (f, refl, fault))
 
 -- behind the standard name, and behind its offset
@@ -50,7 +50,7 @@ whole_text extended text a after_name after_std rules name_is offset_is daylight
 }
 
 -- the rule of a text, from its parts
-pub same_rule_of : (a : AlternateText) (std dst : LocalType) (start end : ℤ) → std ≡ std_type_of a.std_name a.std_offset → dst ≡ dst_type_of a → start ≡ seconds_of a.start.time → end ≡ seconds_of a.end.time
+pub same_rule_of : (a : AlternateText) (std dst : LocalTimeType) (start end : ℤ) → std ≡ std_type_of a.std_name a.std_offset → dst ≡ dst_type_of a → start ≡ seconds_of a.start.time → end ≡ seconds_of a.end.time
     → alternate_of std dst a.start.day start a.end.day end ≡ rule_of a
 same_rule_of a std dst start end e f g h =
     ap (λ x. alternate_of x dst a.start.day start a.end.day end) e
@@ -63,5 +63,5 @@ pub passed : (x other : ℤ) → FitsSigned w32 x → x ≡ other → to_z w32 (
 passed x other fits e = to_z-of_z w32 x fits ∙ e
 
 -- a type with the name, at an offset that is computed
-pub same_type_of : (t : LocalType) (offset other : ℤ) (is_dst : Bool) (name : List ℕ) → t ≡ type_of offset is_dst (Some name) → offset ≡ other → t ≡ type_of other is_dst (Some name)
+pub same_type_of : (t : LocalTimeType) (offset other : ℤ) (is_dst : Bool) (name : List ℕ) → t ≡ type_of offset is_dst (Some name) → offset ≡ other → t ≡ type_of other is_dst (Some name)
 same_type_of t offset other is_dst name e f = e ∙ ap (λ o. type_of o is_dst (Some name)) f

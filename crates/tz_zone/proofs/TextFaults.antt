@@ -10,8 +10,8 @@ use Rattle.tz_base.specs.declared.error.timezone.LocalTimeTypeError.{LocalTimeTy
 use Rattle.tz_base.specs.declared.error.timezone.LocalTimeTypeError.TheVariants.{InvalidTimeZoneDesignationLength, InvalidTimeZoneDesignationChar, InvalidUtcOffset}
 use Rattle.tz_base.specs.declared.error.timezone.TransitionRuleError.{TransitionRuleError}
 use Rattle.tz_base.specs.declared.error.timezone.TransitionRuleError.TheVariants.{InvalidRuleDayJulianDay, InvalidRuleDayMonth, InvalidRuleDayWeek, InvalidRuleDayWeekDay, InvalidStdUtcOffset, InvalidDstUtcOffset, InvalidDstStartEndTime}
-use Rattle.tz_rule.specs.LocalType.{IsDesignation, IsFirstTypeFault, type_of}
-use Rattle.tz_rule.specs.Alternate.{Alternate, IsInRuleRange, IsConsistentRule, IsRangeFault, IsFirstRuleFault}
+use Rattle.tz_rule.specs.LocalTimeType.{IsDesignation, IsFirstTypeFault, type_of}
+use Rattle.tz_rule.specs.Alternate.{AlternateTime, IsInRuleRange, IsConsistentRule, IsRangeFault, IsFirstRuleFault}
 use Rattle.tz_rule.specs.JulianDay.{IsJulianDay, IsZeroBasedDay}
 use Rattle.tz_rule.specs.MonthWeek.{MonthWeek, IsMonthWeek, IsRuleMonth, IsRuleWeek, IsRuleWeekDay}
 use Rattle.tz_rule.specs.declared.timezone.rule.TransitionRule.{TransitionRule}
@@ -216,13 +216,13 @@ no_daylight_fault extended text a x e range fault = elim fault [
       | inr (inr f) ↦ behind_offset (reached_once IsDaylightOffset daylight_offset_is_one x.after_dst_name a.dst_offset (44 ∷ x.start_text) x.dst_offset_is _ f)
     ]
 
-no_range_fault : (r : Alternate) (f : TransitionRuleError) → IsInRuleRange r → IsRangeFault r f → ⊥
+no_range_fault : (r : AlternateTime) (f : TransitionRuleError) → IsInRuleRange r → IsRangeFault r f → ⊥
 no_range_fault r InvalidStdUtcOffset is fault = fault is.std_is
 no_range_fault r InvalidDstUtcOffset is fault = fault.1 is.dst_is
 no_range_fault r InvalidDstStartEndTime is fault = fault.2 (is.start_is, is.end_is)
 no_range_fault r _ is fault = fault
 
-no_rule_fault : (r : Alternate) (f : TransitionRuleError) → IsConsistentRule r → IsFirstRuleFault r f → ⊥
+no_rule_fault : (r : AlternateTime) (f : TransitionRuleError) → IsConsistentRule r → IsFirstRuleFault r f → ⊥
 no_rule_fault r f is fault = elim fault [ inl h ↦ no_range_fault r f is.in_range h | inr h ↦ is.consistent h.2 ]
 
 -- the standard name and its offset, and then what follows them

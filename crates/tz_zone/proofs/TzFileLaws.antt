@@ -3,14 +3,14 @@ use Rattle.std.proofs.Common.{◌≡◌, ℕ, length, Bool, List, Option, Some, 
 use Rattle.std.specs.Prelude.{IfSome, All, alloc_error}
 use Rattle.std.specs.Int.{Width, w32, w64}
 use Rattle.tz_base.specs.declared.error.TzError.{TzError}
-use Rattle.tz_base.specs.declared.error.TzError.TheVariants.{TzFile, LocalTimeType, Memory}
+use Rattle.tz_base.specs.declared.error.TzError.TheVariants.{TzFile, LocalTimeType as TypeFault, Memory}
 use Rattle.tz_base.specs.declared.error.parse.ParseDataError.TheVariants.{UnexpectedEof}
 use Rattle.tz_base.specs.declared.error.parse.TzFileError.{TzFileError}
 use Rattle.tz_base.specs.declared.error.parse.TzFileError.TheVariants.{ParseData, InvalidMagicNumber, UnsupportedTzFileVersion, InvalidHeader, InvalidDstIndicator, InvalidTimeZoneDesignationCharIndex, Utf8, InvalidFooter}
 use Rattle.tz_base.specs.declared.error.timezone.TimeZoneError.{TimeZoneError}
 use Rattle.tz_base.specs.declared.error.timezone.LocalTimeTypeError.{LocalTimeTypeError}
 use Rattle.tz_base.specs.declared.error.timezone.LocalTimeTypeError.TheVariants.{InvalidTimeZoneDesignationLength, InvalidTimeZoneDesignationChar, InvalidUtcOffset}
-use Rattle.tz_rule.specs.LocalType.{LocalType, IsDesignation, IsDesignationLength, IsDesignationByte, IsLocalType, IsFirstTypeFault}
+use Rattle.tz_rule.specs.LocalTimeType.{LocalTimeType, IsDesignation, IsDesignationLength, IsDesignationByte, IsLocalTimeType, IsFirstTypeFault}
 use Rattle.tz_rule.specs.declared.timezone.rule.TransitionRule.{TransitionRule}
 use Rattle.tz_zone.specs.Table.{Zone, zone_with}
 use Rattle.tz_zone.specs.ValidZone.{IsFirstTransitionFault, IsValidZone, IsFirstZoneFault}
@@ -67,7 +67,7 @@ each_has : (o : Option (List ℕ)) (P Q : List ℕ → Type 0) → ((name : List
 each_has (Some name) P Q gives has = gives name has
 each_has None P Q gives has = has
 
-type_made : (t : LocalType) (e : LocalTimeTypeError) → IsLocalType t → IsFirstTypeFault t e → ⊥
+type_made : (t : LocalTimeType) (e : LocalTimeTypeError) → IsLocalTimeType t → IsFirstTypeFault t e → ⊥
 type_made t InvalidUtcOffset is fault = fault is.offset_is
 type_made t InvalidTimeZoneDesignationLength is fault = fault.1 (each_has t.designation IsDesignation IsDesignationLength (λ _ name. name.length_is) is.designation_is)
 type_made t InvalidTimeZoneDesignationChar is fault = fault.2 (each_has t.designation IsDesignation (All IsDesignationByte) (λ _ name. name.bytes_are) is.designation_is)
@@ -75,7 +75,7 @@ type_made t InvalidTimeZoneDesignationChar is fault = fault.2 (each_has t.design
 type_holds : (block : Block) (i : ℕ) (e : TzError) → IsTypeRecord block i → TypeFails block i e → ⊥
 type_holds block i (TzFile InvalidDstIndicator) is fault = fault is.daylight
 type_holds block i (TzFile InvalidTimeZoneDesignationCharIndex) is fault = fault is.name
-type_holds block i (LocalTimeType e) is fault = type_made (type_at block i) e is.type fault.1
+type_holds block i (TypeFault e) is fault = type_made (type_at block i) e is.type fault.1
 type_holds block i _ is fault = fault
 
 content_holds : (block : Block) (count : ℕ) (e : TzError) → IsContent block count → ContentFails block count e → ⊥

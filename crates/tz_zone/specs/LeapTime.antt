@@ -1,57 +1,57 @@
--- Leap time: Unix time with the leap seconds counted in. (RFC 8536, sections 2 and 3.2: leap-second records; refusal as in tz-rs.)
+-- LeapSecond time: Unix time with the leap seconds counted in. (RFC 8536, sections 2 and 3.2: leap-second records; refusal as in tz-rs.)
 use Rattle.std.specs.Prelude.{◌≡◌, ◌≢◌, ℕ, zero, suc, ◌<◌, ◌⊎◌, ℤ, pos, negsuc, ◌+ℤ◌, ◌≤ℤ◌, List, Option, Some, None, slice_get, FitsSigned}
 use Rattle.std.specs.Int.{w64}
-use Rattle.tz_zone.specs.Table.{Leap}
+use Rattle.tz_zone.specs.Table.{LeapSecond}
 
 -- an instant: Unix seconds of 64 bits
 abbrev pub IsInstant : ℤ → Type 0
 IsInstant u = FitsSigned w64 u
 
 -- the correction of a place of the list, and of the place before it: 0 before the first
-abbrev pub correction_at : Option Leap → ℤ
+abbrev pub correction_at : Option LeapSecond → ℤ
 correction_at (Some l) = l.correction
 correction_at None = pos 0
 
-abbrev pub correction_before : List Leap → ℕ → ℤ
+abbrev pub correction_before : List LeapSecond → ℕ → ℤ
 correction_before leaps zero = pos 0
 correction_before leaps (suc i) = correction_at (slice_get leaps i)
 
 -- leap second i is reached at u: u with the correction before it is not below its time
-abbrev pub IsReached : List Leap → ℕ → Leap → ℤ → Type 0
+abbrev pub IsReached : List LeapSecond → ℕ → LeapSecond → ℤ → Type 0
 IsReached leaps i l u = (slice_get leaps i ≡ Some l) × (l.unix_leap_time ≤ℤ (u +ℤ correction_before leaps i))
 
 -- the correction at u is that of the last leap second reached, or 0
-abbrev pub IsCorrection : List Leap → ℤ → ℤ → Type 0
+abbrev pub IsCorrection : List LeapSecond → ℤ → ℤ → Type 0
 IsCorrection leaps u c =
-    ((c ≡ pos 0) × ((i : ℕ) (l : Leap) → ¬ IsReached leaps i l u))
-    ⊎ ((i : ℕ) × (l : Leap) × IsReached leaps i l u × (c ≡ l.correction) × ((j : ℕ) (later : Leap) → i < j → ¬ IsReached leaps j later u))
+    ((c ≡ pos 0) × ((i : ℕ) (l : LeapSecond) → ¬ IsReached leaps i l u))
+    ⊎ ((i : ℕ) × (l : LeapSecond) × IsReached leaps i l u × (c ≡ l.correction) × ((j : ℕ) (later : LeapSecond) → i < j → ¬ IsReached leaps j later u))
 
 -- u has no leap time in 64 bits: with the correction of some leap second reached it lies outside
-abbrev pub IsLeapTimeRefused : List Leap → ℤ → Type 0
-IsLeapTimeRefused leaps u = (i : ℕ) × (l : Leap) × IsReached leaps i l u × ¬ IsInstant (u +ℤ l.correction)
+abbrev pub IsLeapTimeRefused : List LeapSecond → ℤ → Type 0
+IsLeapTimeRefused leaps u = (i : ℕ) × (l : LeapSecond) × IsReached leaps i l u × ¬ IsInstant (u +ℤ l.correction)
 
 -- the leap time of u
-pub record IsLeapTime (leaps : List Leap) (u v : ℤ) : Type 0 where
+pub record IsLeapTime (leaps : List LeapSecond) (u v : ℤ) : Type 0 where
   pub not_refused : ¬ IsLeapTimeRefused leaps u
   pub value : (c : ℤ) × IsCorrection leaps u c × (v ≡ u +ℤ c)
 
 -- the leap time of u is v or later
-abbrev pub HasComeTo : List Leap → ℤ → ℤ → Type 0
+abbrev pub HasComeTo : List LeapSecond → ℤ → ℤ → Type 0
 HasComeTo leaps v u = (l : ℤ) × IsLeapTime leaps u l × (v ≤ℤ l)
 
 -- the instant at which a leap time takes effect: the least one whose leap time has come to it
-pub record IsEffect (leaps : List Leap) (v u : ℤ) : Type 0 where
+pub record IsEffect (leaps : List LeapSecond) (v u : ℤ) : Type 0 where
   pub not_least : v ≢ negsuc 9223372036854775807
   pub instant : IsInstant u
   pub has_come : HasComeTo leaps v u
   pub least : (w : ℤ) → HasComeTo leaps v w → u ≤ℤ w
 
 -- no instant is the effect
-abbrev pub IsEffectRefused : List Leap → ℤ → Type 0
+abbrev pub IsEffectRefused : List LeapSecond → ℤ → Type 0
 IsEffectRefused leaps v = (u : ℤ) → ¬ IsEffect leaps v u
 
 -- the whole number m is the effect of v, if it is an instant with a leap time; otherwise there is none
-pub record IsMomentOf (leaps : List Leap) (v m : ℤ) : Type 0 where
+pub record IsMomentOf (leaps : List LeapSecond) (v m : ℤ) : Type 0 where
   pub least : (w : ℤ) → HasComeTo leaps v w → m ≤ℤ w
   pub comes : ¬ IsLeapTimeRefused leaps m → HasComeTo leaps v m
   pub low : negsuc 9223372036854775807 ≤ℤ m

@@ -1,6 +1,6 @@
 pub use Rattle.tz_rule.specs.Days
 pub use Rattle.tz_rule.specs.Fields
-pub use Rattle.tz_rule.specs.LocalType
+pub use Rattle.tz_rule.specs.LocalTimeType
 pub use Rattle.tz_rule.specs.Rule
 pub mod Table
 pub mod LeapTime

@@ -10,12 +10,12 @@ use Rattle.std.proofs.lemmas.Slice.Eq.{slice_eq-Decides}
 use Rattle.tz_rule.specs.Same.{same_type, Decides-same_type}
 use Rattle.tz_rule.specs.SameRule.{same_rule, Decides-same_rule}
 use Rattle.tz_rule.specs.declared.timezone.rule.TransitionRule.{TransitionRule}
-use Rattle.tz_zone.specs.Table.{Change, Leap, Zone, zone_with}
+use Rattle.tz_zone.specs.Table.{Transition, LeapSecond, Zone, zone_with}
 
-abbrev pub same_change : Change → Change → Bool
+abbrev pub same_change : Transition → Transition → Bool
 same_change a b = int_eq a.unix_leap_time b.unix_leap_time && (a.type_index == b.type_index)
 
-abbrev pub same_leap : Leap → Leap → Bool
+abbrev pub same_leap : LeapSecond → LeapSecond → Bool
 same_leap a b = int_eq a.unix_leap_time b.unix_leap_time && int_eq a.correction b.correction
 
 -- the four parts
@@ -25,7 +25,7 @@ same_zone a b =
     && (pointwise same_type a.types b.types
     && (pointwise same_leap a.leap_seconds b.leap_seconds && option_eq same_rule a.extra_rule b.extra_rule))
 
-pub Decides-same_change : (a b : Change) → Decides (same_change a b) (a ≡ b)
+pub Decides-same_change : (a b : Transition) → Decides (same_change a b) (a ≡ b)
 Decides-same_change a b =
     Decides-like (same_change a b) (λ h. same_parts h.0 h.1) (λ e. (ap (λ c. c.unix_leap_time) e, ap (λ c. c.type_index) e))
     (Decides-and _ _ (Decides-int_eq a.unix_leap_time b.unix_leap_time) (Decides-eqb a.type_index b.type_index))
@@ -33,7 +33,7 @@ Decides-same_change a b =
     same_parts : a.unix_leap_time ≡ b.unix_leap_time → a.type_index ≡ b.type_index → a ≡ b
     same_parts t i = λ k. record { unix_leap_time = t k; type_index = i k }
 
-pub Decides-same_leap : (a b : Leap) → Decides (same_leap a b) (a ≡ b)
+pub Decides-same_leap : (a b : LeapSecond) → Decides (same_leap a b) (a ≡ b)
 Decides-same_leap a b =
     Decides-like (same_leap a b) (λ h. same_parts h.0 h.1) (λ e. (ap (λ l. l.unix_leap_time) e, ap (λ l. l.correction) e))
     (Decides-and _ _ (Decides-int_eq a.unix_leap_time b.unix_leap_time) (Decides-int_eq a.correction b.correction))

@@ -1,25 +1,25 @@
 -- What contracts see of a time zone: its four parts. (RFC 8536, section 3.2.)
 use Rattle.std.specs.Prelude.{ℕ, ℤ, List, Option}
-use Rattle.tz_rule.specs.LocalType.{LocalType}
+use Rattle.tz_rule.specs.LocalTimeType.{LocalTimeType}
 use Rattle.tz_rule.specs.declared.timezone.rule.TransitionRule.{TransitionRule}
 
 -- a transition: from a leap time on the type with a number holds
-pub record Change : Type 0 where
+pub record Transition : Type 0 where
   pub unix_leap_time : ℤ
   pub type_index : ℕ
 
 -- a leap second: from a leap time on leap time is ahead of Unix time by the correction
-pub record Leap : Type 0 where
+pub record LeapSecond : Type 0 where
   pub unix_leap_time : ℤ
   pub correction : ℤ
 
 -- the parts of a zone
 pub record Zone : Type 0 where
-  pub transitions : List Change
-  pub types : List LocalType
-  pub leap_seconds : List Leap
+  pub transitions : List Transition
+  pub types : List LocalTimeType
+  pub leap_seconds : List LeapSecond
   pub extra_rule : Option TransitionRule
 
 -- the zone with these parts
-abbrev pub zone_with : List Change → List LocalType → List Leap → Option TransitionRule → Zone
+abbrev pub zone_with : List Transition → List LocalTimeType → List LeapSecond → Option TransitionRule → Zone
 zone_with transitions types leaps rule = record { transitions = transitions; types = types; leap_seconds = leaps; extra_rule = rule }

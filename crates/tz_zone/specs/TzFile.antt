@@ -3,9 +3,9 @@ use Rattle.std.specs.Prelude.{◌≡◌, ◌≢◌, ℕ, ◌+◌, ◌-◌, ◌*�
 use Rattle.std.specs.Char.{is_ascii_whitespace}
 use Rattle.std.specs.List.{range_with_len, before_first, prefix_len, suffix_len}
 use Rattle.std.specs.Int.{Width, w32, w64, byte_len, from_be_bytes, cast_signed}
-use Rattle.tz_rule.specs.LocalType.{LocalType, type_of, IsLocalType}
+use Rattle.tz_rule.specs.LocalTimeType.{LocalTimeType, type_of, IsLocalTimeType}
 use Rattle.tz_rule.specs.declared.timezone.rule.TransitionRule.{TransitionRule}
-use Rattle.tz_zone.specs.Table.{Change, Leap, Zone, zone_with}
+use Rattle.tz_zone.specs.Table.{Transition, LeapSecond, Zone, zone_with}
 use Rattle.tz_zone.specs.TzText.{IsTzText}
 use Rattle.tz_zone.specs.ValidZone.{IsValidZone}
 
@@ -115,10 +115,10 @@ unfoldable pub behind : Width → List ℕ → List ℕ
 behind w bytes = drop (end_at w (counts_of bytes)) bytes
 
 -- record i of each table
-unfoldable pub change_at : Width → Block → ℕ → Change
+unfoldable pub change_at : Width → Block → ℕ → Transition
 change_at w block i = record { unix_leap_time = signed_at w block.times (i * byte_len w); type_index = slice_index block.indexes i }
 
-unfoldable pub leap_at : Width → Block → ℕ → Leap
+unfoldable pub leap_at : Width → Block → ℕ → LeapSecond
 leap_at w block i = record {
   unix_leap_time = signed_at w block.leaps (i * (byte_len w + 4));
   correction = signed_at w32 block.leaps (i * (byte_len w + 4) + byte_len w);
@@ -135,20 +135,20 @@ name_at names index = before_first (λ byte. byte == 0) (drop index names)
 unfoldable pub designation_of : List ℕ → Option (List ℕ)
 designation_of name = if length name == 0 then None else Some name
 
-unfoldable pub type_at : Block → ℕ → LocalType
+unfoldable pub type_at : Block → ℕ → LocalTimeType
 type_at block i = type_of
     (signed_at w32 block.types (i * 6))
     (slice_index block.types (i * 6 + 4) == 1)
     (designation_of (name_at block.names (slice_index block.types (i * 6 + 5))))
 
 -- the tables, in their order
-unfoldable pub transitions_of : Width → Block → ℕ → List Change
+unfoldable pub transitions_of : Width → Block → ℕ → List Transition
 transitions_of w block count = map (change_at w block) (range_with_len 0 count)
 
-unfoldable pub types_of : Block → ℕ → List LocalType
+unfoldable pub types_of : Block → ℕ → List LocalTimeType
 types_of block count = map (type_at block) (range_with_len 0 count)
 
-unfoldable pub leaps_of : Width → Block → ℕ → List Leap
+unfoldable pub leaps_of : Width → Block → ℕ → List LeapSecond
 leaps_of w block count = map (leap_at w block) (range_with_len 0 count)
 
 -- off or on
@@ -159,7 +159,7 @@ IsFlag byte = (byte ≡ 0) ⊎ (byte ≡ 1)
 pub record IsTypeRecord (block : Block) (i : ℕ) : Type 0 where
   pub daylight : IsFlag (slice_index block.types (i * 6 + 4))
   pub name : HasName block.names (slice_index block.types (i * 6 + 5))
-  pub type : IsLocalType (type_at block i)
+  pub type : IsLocalTimeType (type_at block i)
 
 -- wall clock or standard time, and UT only with standard time
 abbrev pub IsIndicatorPair : ℕ → ℕ → Type 0

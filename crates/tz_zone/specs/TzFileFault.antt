@@ -4,11 +4,11 @@
 use Rattle.std.specs.Prelude.{◌≡◌, ◌≢◌, ℕ, ◌+◌, ◌*◌, ◌<◌, ◌≤◌, ◌⊎◌, Bool, List, [], length, Option, Some, None, IsUtf8, slice_index, alloc_error}
 use Rattle.std.specs.Int.{Width, w32, w64}
 use Rattle.tz_base.specs.declared.error.TzError.{TzError}
-use Rattle.tz_base.specs.declared.error.TzError.TheVariants.{TzFile, LocalTimeType, Memory}
+use Rattle.tz_base.specs.declared.error.TzError.TheVariants.{TzFile, LocalTimeType as TypeFault, Memory}
 use Rattle.tz_base.specs.declared.error.parse.ParseDataError.TheVariants.{UnexpectedEof}
 use Rattle.tz_base.specs.declared.error.parse.TzFileError.{TzFileError}
 use Rattle.tz_base.specs.declared.error.parse.TzFileError.TheVariants.{ParseData, InvalidMagicNumber, UnsupportedTzFileVersion, InvalidHeader, InvalidDstIndicator, InvalidTimeZoneDesignationCharIndex, InvalidStdWallUtLocal, RemainingDataV1, Utf8, InvalidFooter}
-use Rattle.tz_rule.specs.LocalType.{IsFirstTypeFault}
+use Rattle.tz_rule.specs.LocalTimeType.{IsFirstTypeFault}
 use Rattle.tz_rule.specs.declared.timezone.rule.TransitionRule.{TransitionRule}
 use Rattle.tz_zone.specs.TzTextFault.{IsTzTextFault}
 use Rattle.tz_zone.specs.ValidZone.{IsFirstZoneFault}
@@ -37,7 +37,7 @@ FrameFails bytes e =
 abbrev pub TypeFails : Block → ℕ → TzError → Type 0
 TypeFails block i (TzFile InvalidDstIndicator) = ¬ IsFlag (slice_index block.types (i * 6 + 4))
 TypeFails block i (TzFile InvalidTimeZoneDesignationCharIndex) = ¬ HasName block.names (slice_index block.types (i * 6 + 5))
-TypeFails block i (LocalTimeType fault) = HasName block.names (slice_index block.types (i * 6 + 5)) × IsFirstTypeFault (type_at block i) fault
+TypeFails block i (TypeFault fault) = HasName block.names (slice_index block.types (i * 6 + 5)) × IsFirstTypeFault (type_at block i) fault
 TypeFails _ _ _ = ⊥
 
 abbrev pub SomeTypeFails : Block → ℕ → TzError → Type 0

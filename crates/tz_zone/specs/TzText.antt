@@ -4,10 +4,10 @@
 use Rattle.std.specs.Prelude.{◌≡◌, ◌≢◌, ℕ, ◌+◌, ◌*◌, ◌≤◌, ◌==◌, Bool, true, false, not, ◌⊎◌, ℤ, pos, neg_ℤ, ◌+ℤ◌, List, [], ◌∷◌, ◌++◌, take_while, Option, Some, None, IfSome, if◌then◌else◌}
 use Rattle.std.specs.Char.{is_ascii_digit, is_ascii_alphabetic}
 use Rattle.std.specs.Str.Parse.{digits_value}
-use Rattle.tz_rule.specs.LocalType.{LocalType, IsDesignation, type_of}
+use Rattle.tz_rule.specs.LocalTimeType.{LocalTimeType, IsDesignation, type_of}
 use Rattle.tz_rule.specs.Day.{IsRuleDay}
 use Rattle.tz_rule.specs.MonthWeek.{MonthWeek}
-use Rattle.tz_rule.specs.Alternate.{Alternate, alternate_of, IsConsistentRule}
+use Rattle.tz_rule.specs.Alternate.{AlternateTime, alternate_of, IsConsistentRule}
 use Rattle.tz_rule.specs.declared.timezone.rule_day.RuleDay.{RuleDay}
 use Rattle.tz_rule.specs.declared.timezone.rule_day.RuleDay.TheVariants.{Julian1WithoutLeap, Julian0WithLeap, MonthWeekDay}
 use Rattle.tz_rule.specs.declared.timezone.rule.TransitionRule.{TransitionRule}
@@ -169,13 +169,13 @@ daylight_offset_of std (Some t) = ut_offset_of t
 daylight_offset_of std None = ut_offset_of std +ℤ pos 3600
 
 -- the types, and the rule that the text denotes
-abbrev pub std_type_of : List ℕ → WrittenTime → LocalType
+abbrev pub std_type_of : List ℕ → WrittenTime → LocalTimeType
 std_type_of name offset = type_of (ut_offset_of offset) false (Some name)
 
-abbrev pub dst_type_of : AlternateText → LocalType
+abbrev pub dst_type_of : AlternateText → LocalTimeType
 dst_type_of a = type_of (daylight_offset_of a.std_offset a.dst_offset) true (Some a.dst_name)
 
-abbrev pub rule_of : AlternateText → Alternate
+abbrev pub rule_of : AlternateText → AlternateTime
 rule_of a = alternate_of (std_type_of a.std_name a.std_offset) (dst_type_of a) a.start.day (seconds_of a.start.time) a.end.day (seconds_of a.end.time)
 
 -- the text is a name and an offset and denotes one type, or it denotes an alternate rule

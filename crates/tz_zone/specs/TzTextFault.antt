@@ -3,7 +3,7 @@
 use Rattle.std.specs.Prelude.{◌≡◌, ◌≢◌, ℕ, ◌^◌, ◌<◌, ◌≤◌, Bool, false, ◌⊎◌, pos, List, [], ◌∷◌, Some}
 use Rattle.std.specs.declared.num.ParseIntError.{ParseIntError}
 use Rattle.tz_base.specs.declared.error.TzError.{TzError}
-use Rattle.tz_base.specs.declared.error.TzError.TheVariants.{TzString, LocalTimeType, TransitionRule}
+use Rattle.tz_base.specs.declared.error.TzError.TheVariants.{TzString, LocalTimeType as TypeFault, TransitionRule}
 use Rattle.tz_base.specs.declared.error.parse.ParseDataError.{ParseDataError}
 use Rattle.tz_base.specs.declared.error.parse.ParseDataError.TheVariants.{UnexpectedEof, InvalidData}
 use Rattle.tz_base.specs.declared.error.parse.TzStringError.{TzStringError}
@@ -11,7 +11,7 @@ use Rattle.tz_base.specs.declared.error.parse.TzStringError.TheVariants.{ParseIn
 use Rattle.tz_base.specs.declared.error.timezone.LocalTimeTypeError.{LocalTimeTypeError}
 use Rattle.tz_base.specs.declared.error.timezone.TransitionRuleError.{TransitionRuleError}
 use Rattle.tz_base.specs.declared.error.timezone.TransitionRuleError.TheVariants.{InvalidRuleDayJulianDay, InvalidRuleDayMonth, InvalidRuleDayWeek, InvalidRuleDayWeekDay}
-use Rattle.tz_rule.specs.LocalType.{IsFirstTypeFault, type_of}
+use Rattle.tz_rule.specs.LocalTimeType.{IsFirstTypeFault, type_of}
 use Rattle.tz_rule.specs.JulianDay.{IsJulianDay, IsZeroBasedDay}
 use Rattle.tz_rule.specs.MonthWeek.{IsRuleMonth, IsRuleWeek, IsRuleWeekDay}
 use Rattle.tz_rule.specs.Alternate.{IsFirstRuleFault}
@@ -130,7 +130,7 @@ IsUnclosed text = (quoted : List ℕ) × (name : List ℕ) × (text ≡ 60 ∷ q
 abbrev pub IsNameFault : List ℕ → TzError → Type 0
 IsNameFault text e =
     ((e ≡ TzString (ParseData UnexpectedEof)) × IsUnclosed text)
-    ⊎ Reached IsName text (λ name rest. (f : LocalTimeTypeError) × (e ≡ LocalTimeType f) × IsFirstTypeFault (type_of (pos 0) false (Some name)) f)
+    ⊎ Reached IsName text (λ name rest. (f : LocalTimeTypeError) × (e ≡ TypeFault f) × IsFirstTypeFault (type_of (pos 0) false (Some name)) f)
 
 -- the text is over where rules have to follow
 abbrev pub LacksRules : List ℕ → TzError → Type 0

@@ -5,30 +5,30 @@ use Rattle.tz_base.specs.declared.error.TzError.{TzError}
 use Rattle.tz_base.specs.declared.error.TzError.TheVariants.{TimeZone, OutOfRange}
 use Rattle.tz_base.specs.declared.error.timezone.TimeZoneError.{TimeZoneError}
 use Rattle.tz_base.specs.declared.error.timezone.TimeZoneError.TheVariants.{NoLocalTimeType, InvalidLocalTimeTypeIndex, InvalidTransition, InvalidLeapSecond, InconsistentExtraRule}
-use Rattle.tz_rule.specs.LocalType.{LocalType}
+use Rattle.tz_rule.specs.LocalTimeType.{LocalTimeType}
 use Rattle.tz_rule.specs.Rule.{IsRuleType}
 use Rattle.tz_rule.specs.declared.timezone.rule.TransitionRule.{TransitionRule}
-use Rattle.tz_zone.specs.Table.{Change, Leap, Zone}
+use Rattle.tz_zone.specs.Table.{Transition, LeapSecond, Zone}
 use Rattle.tz_zone.specs.LeapTime.{IsEffect}
 use Rattle.tz_zone.specs.Clock.{IsTypeAt, IsLast}
 
 -- the transition at a place names one of so many types
-abbrev pub HasTypeAtPlace : List Change → ℕ → ℕ → Type 0
-HasTypeAtPlace transitions types i = (change : Change) → slice_get transitions i ≡ Some change → change.type_index < types
+abbrev pub HasTypeAtPlace : List Transition → ℕ → ℕ → Type 0
+HasTypeAtPlace transitions types i = (change : Transition) → slice_get transitions i ≡ Some change → change.type_index < types
 
 -- transition i names a type of the zone
 abbrev pub HasType : Zone → ℕ → Type 0
 HasType z i = HasTypeAtPlace z.transitions (length z.types) i
 
 -- the transition at a place comes before the next one
-abbrev pub RisesAtPlace : List Change → ℕ → Type 0
-RisesAtPlace transitions i = (change next : Change) → slice_get transitions i ≡ Some change → slice_get transitions (i + 1) ≡ Some next → change.unix_leap_time <ℤ next.unix_leap_time
+abbrev pub RisesAtPlace : List Transition → ℕ → Type 0
+RisesAtPlace transitions i = (change next : Transition) → slice_get transitions i ≡ Some change → slice_get transitions (i + 1) ≡ Some next → change.unix_leap_time <ℤ next.unix_leap_time
 
 abbrev pub RisesAt : Zone → ℕ → Type 0
 RisesAt z i = RisesAtPlace z.transitions i
 
 -- transitions come in order
-abbrev pub IsRising : List Change → Type 0
+abbrev pub IsRising : List Transition → Type 0
 IsRising transitions = (i : ℕ) → RisesAtPlace transitions i
 
 -- one second forth or back
@@ -36,36 +36,36 @@ abbrev pub IsOneSecond : ℤ → Type 0
 IsOneSecond c = unsigned_abs c ≡ 1
 
 -- the first leap second comes at 0 or later, and is of one second
-abbrev pub MayBeFirst : Leap → Type 0
+abbrev pub MayBeFirst : LeapSecond → Type 0
 MayBeFirst l = (pos 0 ≤ℤ l.unix_leap_time) × IsOneSecond l.correction
 
 -- the next one comes at least 2419199 seconds later, and is of one second more or less
-abbrev pub MayFollow : Leap → Leap → Type 0
+abbrev pub MayFollow : LeapSecond → LeapSecond → Type 0
 MayFollow l next = ((l.unix_leap_time +ℤ pos 2419199) ≤ℤ next.unix_leap_time) × IsOneSecond (next.correction -ℤ l.correction)
 
 -- a list of leap seconds
-pub record AreLeapSeconds (leaps : List Leap) : Type 0 where
-  pub first : (l : Leap) → slice_get leaps 0 ≡ Some l → MayBeFirst l
-  pub apart : (i : ℕ) (l next : Leap) → slice_get leaps i ≡ Some l → slice_get leaps (i + 1) ≡ Some next → MayFollow l next
+pub record AreLeapSeconds (leaps : List LeapSecond) : Type 0 where
+  pub first : (l : LeapSecond) → slice_get leaps 0 ≡ Some l → MayBeFirst l
+  pub apart : (i : ℕ) (l next : LeapSecond) → slice_get leaps i ≡ Some l → slice_get leaps (i + 1) ≡ Some next → MayFollow l next
 
 -- what the extra rule answers where a leap time takes effect
-abbrev pub IsRuleTypeAt : List Leap → TransitionRule → ℤ → LocalType → Type 0
+abbrev pub IsRuleTypeAt : List LeapSecond → TransitionRule → ℤ → LocalTimeType → Type 0
 IsRuleTypeAt leaps rule v t = (u : ℤ) × IsEffect leaps v u × IsRuleType rule u t
 
 -- where a zone has an extra rule and a transition
-abbrev pub AtLast : Zone → (TransitionRule → Change → Type 0) → Type 0
-AtLast z P = (rule : TransitionRule) (last : Change) → z.extra_rule ≡ Some rule → IsLast z.transitions last → P rule last
+abbrev pub AtLast : Zone → (TransitionRule → Transition → Type 0) → Type 0
+AtLast z P = (rule : TransitionRule) (last : Transition) → z.extra_rule ≡ Some rule → IsLast z.transitions last → P rule last
 
 -- the rule answers at the last transition
 abbrev pub RuleAnswers : Zone → Type 0
-RuleAnswers z = AtLast z (λ rule last. (t : LocalType) × IsRuleTypeAt z.leap_seconds rule last.unix_leap_time t)
+RuleAnswers z = AtLast z (λ rule last. (t : LocalTimeType) × IsRuleTypeAt z.leap_seconds rule last.unix_leap_time t)
 
 -- what it answers is the transition's type
 abbrev pub RuleAgrees : Zone → Type 0
-RuleAgrees z = AtLast z (λ rule last. (t : LocalType) → IsRuleTypeAt z.leap_seconds rule last.unix_leap_time t → IsTypeAt z last.type_index t)
+RuleAgrees z = AtLast z (λ rule last. (t : LocalTimeType) → IsRuleTypeAt z.leap_seconds rule last.unix_leap_time t → IsTypeAt z last.type_index t)
 
 -- the first fault of the transitions in turn: at each its type, and then its order
-abbrev pub IsFirstTransitionFault : List Change → ℕ → TimeZoneError → Type 0
+abbrev pub IsFirstTransitionFault : List Transition → ℕ → TimeZoneError → Type 0
 IsFirstTransitionFault transitions types e =
     (i : ℕ) × ((j : ℕ) → j < i → HasTypeAtPlace transitions types j × RisesAtPlace transitions j)
     × (((e ≡ InvalidLocalTimeTypeIndex) × ¬ HasTypeAtPlace transitions types i) ⊎ ((e ≡ InvalidTransition) × HasTypeAtPlace transitions types i × ¬ RisesAtPlace transitions i))

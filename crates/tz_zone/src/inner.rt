@@ -1,12 +1,12 @@
 //! What the crates above use of zones and their users do not: leap times, and where they take effect.
 
 ghost use Rattle.std.specs.Prelude.{◌≡◌, ℕ, ◌+◌, true, false, ◌<◌, ◌≤◌, ◌↔◌, ◌+ℤ◌, ◌≤ℤ◌, ◌<ℤ◌, length, slice_get, ℤ, IsTrue, IfOk, IfErr, MatchBool, Some, ◌-ℤ◌};
-ghost use Rattle.tz_zone.specs.Table.{Change, Leap};
+ghost use Rattle.tz_zone.specs.Table.{Transition, LeapSecond};
 ghost use Rattle.tz_zone.specs.LeapTime.{IsInstant, correction_before as correction_at_place, IsReached, IsLeapTimeRefused, IsLeapTime, IsMomentOf, IsEffect, IsEffectRefused};
 ghost use Rattle.tz_zone.specs.ValidZone.{AreLeapSeconds, IsRising};
 
+use crate::partition::{Places, partition_point};
 use crate::timezone::{LeapSecond, Transition};
-use crate::turn::{Places, turn};
 use tz_base::error::TzError;
 
 /// Instants up to this one have a leap time, whatever the leap seconds.
@@ -27,16 +27,16 @@ fn correction_before(leap_seconds: &[LeapSecond], place: usize) -> i32
 fn leap_seconds_reached(leap_seconds: &[LeapSecond], unix_time: i64) -> usize
     requires { AreLeapSeconds leap_seconds.now }
     ensures within { result ≤ length leap_seconds.now }
-    ensures reached { (i : ℕ) (l : Leap) → i < result → slice_get leap_seconds.now i ≡ Some l → IsReached leap_seconds.now i l unix_time }
-    ensures beyond { (i : ℕ) (l : Leap) → IsReached leap_seconds.now i l unix_time → i < result }
+    ensures reached { (i : ℕ) (l : LeapSecond) → i < result → slice_get leap_seconds.now i ≡ Some l → IsReached leap_seconds.now i l unix_time }
+    ensures beyond { (i : ℕ) (l : LeapSecond) → IsReached leap_seconds.now i l unix_time → i < result }
 {
-    turn(&ReachedAt {
+    partition_point(&ReachedAt {
         leap_seconds,
         unix_time,
     })
 }
 
-/// Leap seconds, tested whether they are reached at an instant.
+/// LeapSecond seconds, tested whether they are reached at an instant.
 #[derive(Clone, Copy)]
 struct ReachedAt<'a> {
     leap_seconds: &'a [LeapSecond],
@@ -45,12 +45,12 @@ struct ReachedAt<'a> {
 
 impl Places for ReachedAt<'_> {
     ghost use Rattle.std.specs.Prelude.{ℕ, length};
-    ghost use Rattle.tz_zone.specs.Table.{Leap};
+    ghost use Rattle.tz_zone.specs.Table.{LeapSecond};
     ghost use Rattle.tz_zone.specs.LeapTime.{IsReached};
 
     ghost count = { λ s. length s.leap_seconds.now };
 
-    ghost passes = { λ s place. (l : Leap) × IsReached s.leap_seconds.now place l s.unix_time };
+    ghost passes = { λ s place. (l : LeapSecond) × IsReached s.leap_seconds.now place l s.unix_time };
 
     fn len(&self) -> usize {
         self.leap_seconds.len()
@@ -63,7 +63,7 @@ impl Places for ReachedAt<'_> {
     }
 }
 
-/// Leap seconds, tested whether their time is not above a leap time.
+/// LeapSecond seconds, tested whether their time is not above a leap time.
 #[derive(Clone, Copy)]
 struct LeapSecondsUpTo<'a> {
     leap_seconds: &'a [LeapSecond],
@@ -72,11 +72,11 @@ struct LeapSecondsUpTo<'a> {
 
 impl Places for LeapSecondsUpTo<'_> {
     ghost use Rattle.std.specs.Prelude.{ℕ, ◌≡◌, ◌≤ℤ◌, Some, length, slice_get};
-    ghost use Rattle.tz_zone.specs.Table.{Leap};
+    ghost use Rattle.tz_zone.specs.Table.{LeapSecond};
 
     ghost count = { λ s. length s.leap_seconds.now };
 
-    ghost passes = { λ s place. (l : Leap) × (slice_get s.leap_seconds.now place ≡ Some l) × (l.unix_leap_time ≤ℤ s.unix_leap_time) };
+    ghost passes = { λ s place. (l : LeapSecond) × (slice_get s.leap_seconds.now place ≡ Some l) × (l.unix_leap_time ≤ℤ s.unix_leap_time) };
 
     fn len(&self) -> usize {
         self.leap_seconds.len()
@@ -96,11 +96,11 @@ struct TransitionsUpTo<'a> {
 
 impl Places for TransitionsUpTo<'_> {
     ghost use Rattle.std.specs.Prelude.{ℕ, ◌≡◌, ◌≤ℤ◌, Some, length, slice_get};
-    ghost use Rattle.tz_zone.specs.Table.{Change};
+    ghost use Rattle.tz_zone.specs.Table.{Transition};
 
     ghost count = { λ s. length s.transitions.now };
 
-    ghost passes = { λ s place. (change : Change) × (slice_get s.transitions.now place ≡ Some change) × (change.unix_leap_time ≤ℤ s.unix_leap_time) };
+    ghost passes = { λ s place. (change : Transition) × (slice_get s.transitions.now place ≡ Some change) × (change.unix_leap_time ≤ℤ s.unix_leap_time) };
 
     fn len(&self) -> usize {
         self.transitions.len()
@@ -114,8 +114,8 @@ impl Places for TransitionsUpTo<'_> {
 /// Whether the instant stays in 64 bits with each of the corrections.
 fn stays_with_all(leap_seconds: &[LeapSecond], unix_time: i64) -> bool
     ensures { MatchBool result
-        ((i : ℕ) (l : Leap) → slice_get leap_seconds.now i ≡ Some l → IsInstant (unix_time +ℤ l.correction))
-        ((i : ℕ) × (l : Leap) × (slice_get leap_seconds.now i ≡ Some l) × ¬ IsInstant (unix_time +ℤ l.correction)) }
+        ((i : ℕ) (l : LeapSecond) → slice_get leap_seconds.now i ≡ Some l → IsInstant (unix_time +ℤ l.correction))
+        ((i : ℕ) × (l : LeapSecond) × (slice_get leap_seconds.now i ≡ Some l) × ¬ IsInstant (unix_time +ℤ l.correction)) }
 {
     for leap_second in leap_seconds {
         if unix_time
@@ -132,8 +132,8 @@ fn stays_with_all(leap_seconds: &[LeapSecond], unix_time: i64) -> bool
 fn has_leap_time(leap_seconds: &[LeapSecond], unix_time: i64, reached: usize) -> bool
     requires leaps { AreLeapSeconds leap_seconds.now }
     requires within { reached ≤ length leap_seconds.now }
-    requires reached { (i : ℕ) (l : Leap) → i < reached → slice_get leap_seconds.now i ≡ Some l → IsReached leap_seconds.now i l unix_time }
-    requires beyond { (i : ℕ) (l : Leap) → IsReached leap_seconds.now i l unix_time → i < reached }
+    requires reached { (i : ℕ) (l : LeapSecond) → i < reached → slice_get leap_seconds.now i ≡ Some l → IsReached leap_seconds.now i l unix_time }
+    requires beyond { (i : ℕ) (l : LeapSecond) → IsReached leap_seconds.now i l unix_time → i < reached }
     ensures { MatchBool result (¬ IsLeapTimeRefused leap_seconds.now unix_time) (IsLeapTimeRefused leap_seconds.now unix_time) }
 {
     if unix_time <= SURELY_ANSWERED {
@@ -160,10 +160,10 @@ pub fn leap(leap_seconds: &[LeapSecond], unix_time: i64) -> Result<i64, TzError>
 fn leap_seconds_up_to(leap_seconds: &[LeapSecond], unix_leap_time: i64) -> usize
     requires { AreLeapSeconds leap_seconds.now }
     ensures within { result ≤ length leap_seconds.now }
-    ensures come { (i : ℕ) (l : Leap) → i < result → slice_get leap_seconds.now i ≡ Some l → l.unix_leap_time ≤ℤ unix_leap_time }
-    ensures later { (i : ℕ) (l : Leap) → result ≤ i → slice_get leap_seconds.now i ≡ Some l → unix_leap_time <ℤ l.unix_leap_time }
+    ensures come { (i : ℕ) (l : LeapSecond) → i < result → slice_get leap_seconds.now i ≡ Some l → l.unix_leap_time ≤ℤ unix_leap_time }
+    ensures later { (i : ℕ) (l : LeapSecond) → result ≤ i → slice_get leap_seconds.now i ≡ Some l → unix_leap_time <ℤ l.unix_leap_time }
 {
-    turn(&LeapSecondsUpTo {
+    partition_point(&LeapSecondsUpTo {
         leap_seconds,
         unix_leap_time,
     })
@@ -217,10 +217,10 @@ pub fn effect(leap_seconds: &[LeapSecond], unix_leap_time: i64) -> Result<i64, T
 pub fn transitions_up_to(transitions: &[Transition], unix_leap_time: i64) -> usize
     requires { IsRising transitions.now }
     ensures within { result ≤ length transitions.now }
-    ensures come { (i : ℕ) (change : Change) → i < result → slice_get transitions.now i ≡ Some change → change.unix_leap_time ≤ℤ unix_leap_time }
-    ensures later { (i : ℕ) (change : Change) → result ≤ i → slice_get transitions.now i ≡ Some change → unix_leap_time <ℤ change.unix_leap_time }
+    ensures come { (i : ℕ) (change : Transition) → i < result → slice_get transitions.now i ≡ Some change → change.unix_leap_time ≤ℤ unix_leap_time }
+    ensures later { (i : ℕ) (change : Transition) → result ≤ i → slice_get transitions.now i ≡ Some change → unix_leap_time <ℤ change.unix_leap_time }
 {
-    turn(&TransitionsUpTo {
+    partition_point(&TransitionsUpTo {
         transitions,
         unix_leap_time,
     })

@@ -4,5 +4,5 @@
 pub mod inner;
 pub mod laws;
 mod parse;
+mod partition;
 pub mod timezone;
-mod turn;

@@ -4,7 +4,7 @@ ghost use Rattle.std.specs.Prelude.{◌≡◌, ◌+ℤ◌, ◌-ℤ◌, IfSome, I
 ghost use Rattle.tz_base.specs.Fields.{IsReading};
 
 use super::totals::duration_between;
-use crate::inner::Line;
+use crate::inner::TextBuffer;
 use std::cmp::Ordering;
 use std::fmt;
 use std::marker::Model;
@@ -52,13 +52,13 @@ pub struct DateTime {
 }
 
 impl Model for DateTime {
-    ghost use Rattle.tz.specs.DateTimes.{LocalMoment, IsLocalMoment};
+    ghost use Rattle.tz.specs.DateTimes.{DateTime, IsDateTime};
 
-    ghost Value = { LocalMoment };
+    ghost Value = { DateTime };
 
     ghost view = { λ d. record { fields = d.fields; local_time_type = d.local_time_type; unix_time = d.unix_time } };
 
-    ghost invariant = { λ d. IsLocalMoment (record { fields = d.fields; local_time_type = d.local_time_type; unix_time = d.unix_time }) };
+    ghost invariant = { λ d. IsDateTime (record { fields = d.fields; local_time_type = d.local_time_type; unix_time = d.unix_time }) };
 
     ghost inverse = { λ d. record { fields = d.fields; local_time_type = d.local_time_type; unix_time = d.unix_time } };
 }
@@ -124,10 +124,10 @@ impl DateTime {
     ghost use Rattle.std.specs.Prelude.{◌≡◌, ◌≤◌, ◌<◌, ◌⊎◌, pos, ◌+ℤ◌, ◌-ℤ◌, OnOk, IfOk, IfErr};
     ghost use Rattle.tz_base.specs.Days.{week_day_of, first_day};
     ghost use Rattle.tz_base.specs.Fields.{IsValid, IsReading, reading, day_of};
-    ghost use Rattle.tz_rule.specs.LocalType.{LocalType};
+    ghost use Rattle.tz_rule.specs.LocalTimeType.{LocalTimeType};
     ghost use Rattle.tz_zone.specs.Clock.{IsClock, IsLookupFault};
     ghost use Rattle.tz_zone.specs.ZoneRef.{zone_of};
-    ghost use Rattle.tz.specs.DateTimes.{LocalMoment, IsLocalMoment, ShowsInstant, IsShowFault, IsLocalFault, total_of, IsNearTotal, IsForwards, IsBackwards, ShowsByClock, IsClockFault, IsTotalFault, IsTotalClockFault, ShowsTotal, ShowsTotalByClock};
+    ghost use Rattle.tz.specs.DateTimes.{DateTime, IsDateTime, ShowsInstant, IsShowFault, IsLocalFault, total_of, IsNearTotal, IsForwards, IsBackwards, ShowsByClock, IsClockFault, IsTotalFault, IsTotalClockFault, ShowsTotal, ShowsTotalByClock};
 
     /// The date time with these fields, which the type shows. The ranges are those of [`UtcDateTime::new`].
     ///
@@ -379,7 +379,7 @@ impl DateTime {
 
     /// The fields are valid and shown. This does nothing; its contract is what a value tells.
     pub(crate) fn parts_are_sound(&self)
-        ensures { IsLocalMoment self.now }
+        ensures { IsDateTime self.now }
     {
         let _ = &self.fields;
     }
@@ -396,7 +396,7 @@ impl fmt::Display for DateTime {
     ghost styled_output = { λ d _. Some (printed_text d.fields d.local_time_type.ut_offset) };
 
     fn fmt<W: fmt::Write>(&self, f: &mut fmt::Formatter<W>) -> fmt::Result {
-        let mut line = Line::new();
+        let mut line = TextBuffer::new();
         line.push_date_time(&self.fields, self.local_time_type.ut_offset());
         f.write_str(line.as_str())
     }

@@ -3,17 +3,17 @@
 ghost use Rattle.std.specs.Prelude.{◌≡◌, ◌≢◌, ◌^◌, ◌<◌, ◌≤◌, ℕ, ℤ, pos, negsuc, List, ◌++◌, ◌+ℤ◌, ◌-ℤ◌, ◌*ℤ◌, ◌≤ℤ◌, ◌<ℤ◌, Some, None, OnOk, IfErr, IfSome, IfNone, length, slice_get};
 ghost use Rattle.std.specs.List.{Contains};
 ghost use Rattle.tz_base.specs.declared.calendar.Fields.{Fields};
-ghost use Rattle.tz_rule.specs.Alternate.{Alternate, start_of, end_of};
+ghost use Rattle.tz_rule.specs.Alternate.{AlternateTime, start_of, end_of};
 ghost use Rattle.tz_base.specs.Days.{first_day};
 ghost use Rattle.tz_base.specs.Fields.{IsValid, reading as reading_of};
-ghost use Rattle.tz_rule.specs.LocalType.{LocalType};
+ghost use Rattle.tz_rule.specs.LocalTimeType.{LocalTimeType};
 ghost use Rattle.tz_rule.specs.Rule.{IsRuleType};
 ghost use Rattle.tz_zone.specs.Clock.{IsClock};
 ghost use Rattle.tz_zone.specs.ZoneRef.{zone_of};
 ghost use Rattle.tz.specs.Found.{IsFound};
 ghost use Rattle.tz.specs.Walks.{HoldsAt, IsSearchFault, IsSmall, IsStep, IsWalk};
 ghost use Rattle.tz.specs.Reached.{IsWithinReach, IsReachedAt, IsKindOf, IsTypeOfLast, IsDue, IsPieceOf, AreOffsetsOf, IsWindowOf};
-ghost use Rattle.tz.specs.RuleSpans.{IsSpan, IsTurningAt, RuleClock, IsOverFrom, IsAtSeam, IsPastSeam};
+ghost use Rattle.tz.specs.RuleSpans.{IsSpan, ChangesOnlyAt, RuleClock, IsOverFrom, IsAtSeam, IsPastSeam};
 ghost use Rattle.tz.specs.declared.datetime.found.FoundDateTimeKind.{FoundDateTimeKind};
 
 use super::growing::DateTimeList;
@@ -94,7 +94,7 @@ fn piece_at(zone: TimeZoneRef<'_>, place: usize) -> Piece
 
 /// The least offset of the types.
 fn least_offset(types: &[LocalTimeType]) -> i32
-    ensures { (i : ℕ) (t : LocalType) → slice_get types.now i ≡ Some t → result ≤ℤ t.ut_offset }
+    ensures { (i : ℕ) (t : LocalTimeType) → slice_get types.now i ≡ Some t → result ≤ℤ t.ut_offset }
 {
     let mut least = i32::MAX;
     for local_time_type in types {
@@ -105,7 +105,7 @@ fn least_offset(types: &[LocalTimeType]) -> i32
 
 /// The greatest offset of the types.
 fn greatest_offset(types: &[LocalTimeType]) -> i32
-    ensures { (i : ℕ) (t : LocalType) → slice_get types.now i ≡ Some t → t.ut_offset ≤ℤ result }
+    ensures { (i : ℕ) (t : LocalTimeType) → slice_get types.now i ≡ Some t → t.ut_offset ≤ℤ result }
 {
     let mut greatest = i32::MIN;
     for local_time_type in types {
@@ -118,7 +118,7 @@ fn greatest_offset(types: &[LocalTimeType]) -> i32
 fn with_rule(rule: &TransitionRule, least: i32, greatest: i32) -> (i32, i32)
     ensures least { result.0 ≤ℤ least }
     ensures greatest { greatest ≤ℤ result.1 }
-    ensures between { (u : ℤ) (t : LocalType) → IsRuleType rule.now u t → (result.0 ≤ℤ t.ut_offset) × (t.ut_offset ≤ℤ result.1) }
+    ensures between { (u : ℤ) (t : LocalTimeType) → IsRuleType rule.now u t → (result.0 ≤ℤ t.ut_offset) × (t.ut_offset ≤ℤ result.1) }
 {
     match rule {
         TransitionRule::Fixed(local_time_type) => {
@@ -160,9 +160,9 @@ fn window(zone: TimeZoneRef<'_>, reading: i64) -> (i64, i64)
 }
 
 /// The rule of the zone that has two types, if it has such a rule.
-fn turning_rule(zone: TimeZoneRef<'_>) -> Option<AlternateTime>
+fn alternate_rule(zone: TimeZoneRef<'_>) -> Option<AlternateTime>
     ensures some { IfSome result (λ r. (zone_of zone.entry).extra_rule ≡ Some (TransitionRule.Alternate r)) }
-    ensures none { IfNone result ((r : Alternate) → (zone_of zone.entry).extra_rule ≢ Some (TransitionRule.Alternate r)) }
+    ensures none { IfNone result ((r : AlternateTime) → (zone_of zone.entry).extra_rule ≢ Some (TransitionRule.Alternate r)) }
 {
     match zone.extra_rule() {
         Some(TransitionRule::Alternate(rule)) => Some(*rule),
@@ -187,7 +187,7 @@ fn inner_year(year: i32) -> i32
 }
 
 /// The starts and ends of a year and of its neighbours.
-fn turns_around(rule: &AlternateTime, year: i32) -> [i64; 6]
+fn changes_around(rule: &AlternateTime, year: i32) -> [i64; 6]
     requires low { negsuc 2147483646 ≤ℤ year }
     requires high { year ≤ℤ pos 2147483646 }
     ensures starts { (y : ℤ) → (year -ℤ pos 1) ≤ℤ y → y ≤ℤ (year +ℤ pos 1) → Contains result (start_of rule.now y) }
@@ -203,30 +203,30 @@ fn turns_around(rule: &AlternateTime, year: i32) -> [i64; 6]
     ]
 }
 
-/// The turn, where it lies after an instant and before the next turn so far, or else that one.
-fn nearer_turn(turn: i64, after: i64, next: i64) -> i64
+/// The change, where it lies after an instant and before the next change so far, or else that one.
+fn nearer_change(change: i64, after: i64, next: i64) -> i64
     ensures later { after <ℤ next → after <ℤ result }
     ensures within { result ≤ℤ next }
-    ensures none { after <ℤ turn → result ≤ℤ turn }
+    ensures none { after <ℤ change → result ≤ℤ change }
 {
-    if after < turn && turn < next {
-        turn
+    if after < change && change < next {
+        change
     } else {
         next
     }
 }
 
-/// The next turn after an instant, or the one past the last instant that counts.
-fn next_turn(turns: &[i64], after: i64, last: i64) -> i64
+/// The next change after an instant, or the one past the last instant that counts.
+fn next_change(changes: &[i64], after: i64, last: i64) -> i64
     requires order { after ≤ℤ last }
     requires last { last ≤ℤ pos 80000000000000000 }
     ensures later { after <ℤ result }
     ensures within { result ≤ℤ (last +ℤ pos 1) }
-    ensures none { (turn : ℤ) → Contains turns.now turn → after <ℤ turn → turn <ℤ result → ⊥ }
+    ensures none { (change : ℤ) → Contains changes.now change → after <ℤ change → change <ℤ result → ⊥ }
 {
     let mut next = last + 1;
-    for turn in turns {
-        next = nearer_turn(*turn, after, next);
+    for change in changes {
+        next = nearer_change(*change, after, next);
     }
     next
 }
@@ -290,18 +290,18 @@ fn clock_type(zone: TimeZoneRef<'_>, unix_time: i64) -> Option<LocalTimeType>
     }
 }
 
-/// Adds to the list what is found from one instant on up to another, between which the clock changes only at the turns.
-fn search_turns<L: DateTimeList>(
+/// Adds to the list what is found from one instant on up to another, between which the clock changes only at the changes.
+fn search_changes<L: DateTimeList>(
     walk: &mut Walk,
     list: &mut L,
     zone: TimeZoneRef<'_>,
-    turns: &[i64],
+    changes: &[i64],
     start: i64,
     last: i64,
 ) -> Result<(), TzError>
     requires walk { IsWalk walk.old.fields walk.old }
     requires last { last ≤ℤ pos 80000000000000000 }
-    requires turning { IsTurningAt (zone_of zone) turns.now start last }
+    requires changing { ChangesOnlyAt (zone_of zone) changes.now start last }
     ensures ok { OnOk result ((new : List FoundDateTimeKind) × L.gains list.old list.new new
         × ((low seam : ℤ) (f : Fields) (found : List FoundDateTimeKind) → IsPastSeam (zone_of zone.entry) low seam start last f start walk.old found → IsFound (RuleClock (zone_of zone.entry) low seam start last) f (found ++ new))) }
     ensures err { IfErr result (IsSearchFault L.takes_memory (reading_of walk.old.fields)) }
@@ -313,7 +313,7 @@ fn search_turns<L: DateTimeList>(
             kind: clock_type(zone, from),
         };
         walk.step(list, piece)?;
-        from = next_turn(turns, from, last);
+        from = next_change(changes, from, last);
     }
     let end = Piece {
         from: last + 1,
@@ -354,10 +354,10 @@ fn search_rule<L: DateTimeList>(
     ensures err { IfErr result (IsSearchFault L.takes_memory (reading_of walk.old.fields)) }
 {
     rule_parts_are_sound(&TransitionRule::Alternate(rule));
-    let turns = turns_around(&rule, inner_year(walk.year()));
+    let changes = changes_around(&rule, inner_year(walk.year()));
     let (start, last) = rule_span(walk.reading(), walk.since(), high);
     pass_seam(walk, list)?;
-    search_turns(walk, list, zone, &turns, start, last)
+    search_changes(walk, list, zone, &changes, start, last)
 }
 
 /// Adds all that is found of valid fields to the list, in order.
@@ -382,7 +382,7 @@ pub(super) fn search<L: DateTimeList>(
         walk.step(list, piece_at(zone, place))?;
     }
     if come == zone.transitions().len() {
-        if let Some(rule) = turning_rule(zone) {
+        if let Some(rule) = alternate_rule(zone) {
             return search_rule(&mut walk, list, zone, rule, high);
         }
     }

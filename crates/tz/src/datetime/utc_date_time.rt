@@ -5,7 +5,7 @@ ghost use Rattle.tz.specs.DateTimes.{IsPastTheEnd};
 
 use super::DateTime;
 use super::totals::{duration_between, is_utc_total, nanoseconds_of, utc_timespec};
-use crate::inner::Line;
+use crate::inner::TextBuffer;
 use std::fmt;
 use std::marker::Model;
 use std::ops::{Add, AddAssign, Sub, SubAssign};
@@ -398,7 +398,7 @@ impl fmt::Display for UtcDateTime {
     ghost styled_output = { λ d _. Some (printed_text d (pos 0)) };
 
     fn fmt<W: fmt::Write>(&self, f: &mut fmt::Formatter<W>) -> fmt::Result {
-        let mut line = Line::new();
+        let mut line = TextBuffer::new();
         line.push_date_time(&self.fields, 0);
         f.write_str(line.as_str())
     }

@@ -4,8 +4,8 @@ use super::*;
 use std::test::Fail;
 
 /// Prints fields and an offset.
-fn printed(fields: Fields, ut_offset: i32) -> Line {
-    let mut line = Line::new();
+fn printed(fields: Fields, ut_offset: i32) -> TextBuffer {
+    let mut line = TextBuffer::new();
     if fields.check().is_ok() {
         line.push_date_time(&fields, ut_offset);
     }
@@ -109,7 +109,7 @@ fn prints_offsets_of_every_length(rt: HostRuntime) -> Result<(), Fail> {
 
 #[test]
 fn holds_what_is_pushed(rt: HostRuntime) -> Result<(), Fail> {
-    let mut line = Line::new();
+    let mut line = TextBuffer::new();
     line.push_str("F ");
     line.push_decimal(u32::MAX);
     line.push(b' ');

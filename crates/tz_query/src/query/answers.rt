@@ -11,7 +11,7 @@ ghost use Rattle.tz_query.specs.Answers.{name_text, moment_text, entry_text, fou
 use crate::query::queries::{after_line, read_search_line, read_time_line};
 use std::alloc::{AllocError, Allocator};
 use tz::datetime::{DateTime, FoundDateTimeKind};
-use tz::inner::Line;
+use tz::inner::TextBuffer;
 use tz::laws::date_time_parts_are_sound;
 use tz::{LocalTimeType, TimeZoneRef, TzError};
 use tz_base::calendar::Fields;
@@ -19,7 +19,7 @@ use tz_base::error::datetime::DateTimeError;
 
 /// Appends the name of a type, or `-` where it has none.
 #[inline]
-fn push_name(line: &mut Line, local_time_type: &LocalTimeType)
+fn push_name(line: &mut TextBuffer, local_time_type: &LocalTimeType)
     requires { length line.old + 7 ≤ 128 }
     ensures text { line.new ≡ line.old ++ name_text local_time_type.now }
     ensures len { length line.new ≤ length line.old + 7 }
@@ -54,7 +54,7 @@ fn fields_of(date_time: &DateTime) -> Fields
 /// Appends a date time and the name of its type.
 #[inline(always)]
 #[tactic(auto, unfolding(crate::specs::Answers::moment_text))]
-fn push_moment(line: &mut Line, date_time: &DateTime)
+fn push_moment(line: &mut TextBuffer, date_time: &DateTime)
     requires { length line.old + 61 ≤ 128 }
     ensures text { line.new ≡ line.old ++ moment_text date_time.now }
     ensures len { length line.new ≤ length line.old + 61 }
@@ -69,7 +69,7 @@ fn push_moment(line: &mut Line, date_time: &DateTime)
 
 /// The same. A function of its own keeps what is made for `F` lines out of the way of `T` lines.
 #[inline(never)]
-fn push_found(line: &mut Line, date_time: &DateTime)
+fn push_found(line: &mut TextBuffer, date_time: &DateTime)
     requires { length line.old + 61 ≤ 128 }
     ensures text { line.new ≡ line.old ++ moment_text date_time.now }
     ensures len { length line.new ≤ length line.old + 61 }
@@ -107,7 +107,7 @@ fn fault_name(error: &TzError) -> &'static str
 }
 
 /// Appends the name of a refusal.
-fn push_fault(line: &mut Line, name: &str)
+fn push_fault(line: &mut TextBuffer, name: &str)
     requires named { length name.now ≤ 24 }
     requires empty { line.old ≡ [] }
     ensures text { line.new ≡ codes "E " ++ name.now }
@@ -118,7 +118,7 @@ fn push_fault(line: &mut Line, name: &str)
 }
 
 /// Appends the answer of an instant.
-fn push_time_answer(line: &mut Line, zone: TimeZoneRef<'_>, unix_time: i64, nanoseconds: u32)
+fn push_time_answer(line: &mut TextBuffer, zone: TimeZoneRef<'_>, unix_time: i64, nanoseconds: u32)
     requires { line.old ≡ [] }
     ensures answer { IsTimeAnswer (zone_of zone.entry) unix_time nanoseconds line.new }
     ensures len { length line.new ≤ 61 }
@@ -130,7 +130,7 @@ fn push_time_answer(line: &mut Line, zone: TimeZoneRef<'_>, unix_time: i64, nano
 }
 
 /// Appends what was found once.
-fn push_entry(line: &mut Line, entry: &FoundDateTimeKind)
+fn push_entry(line: &mut TextBuffer, entry: &FoundDateTimeKind)
     requires { line.old ≡ [] }
     ensures text { line.new ≡ entry_text entry.now }
     ensures len { length line.new ≤ 125 }
@@ -154,7 +154,10 @@ fn push_entry(line: &mut Line, entry: &FoundDateTimeKind)
 
 /// Appends the line to the answers.
 #[inline(always)]
-fn append_line<A: Allocator>(answers: &mut Vec<u8, A>, line: &mut Line) -> Result<(), AllocError>
+fn append_line<A: Allocator>(
+    answers: &mut Vec<u8, A>,
+    line: &mut TextBuffer,
+) -> Result<(), AllocError>
     requires { length line.old < 128 }
     ensures { IfOk result (λ _. answers.new.items ≡ answers.old.items ++ (line.old ++ 10 ∷ [])) }
 {
@@ -166,7 +169,7 @@ fn append_line<A: Allocator>(answers: &mut Vec<u8, A>, line: &mut Line) -> Resul
 #[inline]
 fn answer_time<A: Allocator>(
     answers: &mut Vec<u8, A>,
-    line: &mut Line,
+    line: &mut TextBuffer,
     zone: TimeZoneRef<'_>,
     unix_time: i64,
     nanoseconds: u32,
@@ -181,7 +184,7 @@ fn answer_time<A: Allocator>(
 /// Appends the line of a refusal.
 fn append_fault<A: Allocator>(
     answers: &mut Vec<u8, A>,
-    line: &mut Line,
+    line: &mut TextBuffer,
     name: &str,
 ) -> Result<(), AllocError>
     requires { length name.now ≤ 24 }
@@ -195,7 +198,7 @@ fn append_fault<A: Allocator>(
 /// Appends the line of how much was found.
 fn append_count<A: Allocator>(
     answers: &mut Vec<u8, A>,
-    line: &mut Line,
+    line: &mut TextBuffer,
     count: usize,
 ) -> Result<(), AllocError>
     ensures { IfOk result (λ _. answers.new.items ≡ answers.old.items ++ ended ((codes "F " ++ decimal count) ∷ [])) }
@@ -209,7 +212,7 @@ fn append_count<A: Allocator>(
 /// Appends the lines of what was found.
 fn append_entries<A: Allocator>(
     answers: &mut Vec<u8, A>,
-    line: &mut Line,
+    line: &mut TextBuffer,
     entries: &[FoundDateTimeKind],
 ) -> Result<(), AllocError>
     ensures { IfOk result (λ _. answers.new.items ≡ answers.old.items ++ ended (map entry_text entries.now)) }
@@ -225,7 +228,7 @@ fn append_entries<A: Allocator>(
 /// Appends the answer lines of a list.
 fn append_found<A: Allocator>(
     answers: &mut Vec<u8, A>,
-    line: &mut Line,
+    line: &mut TextBuffer,
     found: &[FoundDateTimeKind],
 ) -> Result<(), AllocError>
     ensures { IfOk result (λ _. answers.new.items ≡ answers.old.items ++ ended (found_lines found.now)) }
@@ -239,7 +242,7 @@ fn append_found<A: Allocator>(
 fn answer_search<A: Allocator + Copy>(
     alloc: A,
     answers: &mut Vec<u8, A>,
-    line: &mut Line,
+    line: &mut TextBuffer,
     zone: TimeZoneRef<'_>,
     fields: &Fields,
 ) -> Result<(), AllocError>
@@ -268,7 +271,7 @@ fn answer_search<A: Allocator + Copy>(
 fn answer_line<'a, A: Allocator + Copy>(
     alloc: A,
     answers: &mut Vec<u8, A>,
-    line: &mut Line,
+    line: &mut TextBuffer,
     zone: TimeZoneRef<'_>,
     queries: &'a [u8],
 ) -> Result<&'a [u8], AllocError>
@@ -302,7 +305,7 @@ pub fn answer<A: Allocator + Copy>(
     ensures err { IfErr result (λ e. e ≡ TzError.Memory alloc_error) }
 {
     let mut answers = Vec::with_capacity(alloc, queries.len().saturating_mul(2))?;
-    let mut line = Line::new();
+    let mut line = TextBuffer::new();
     let mut rest = queries;
     while !rest.is_empty() {
         rest = answer_line(alloc, &mut answers, &mut line, zone, rest)?;

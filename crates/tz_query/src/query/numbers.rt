@@ -95,7 +95,7 @@ pub fn read_number(bytes: &[u8]) -> Option<(i64, &[u8])>
 
 /// The number after a space in front of the bytes, if there is one of 64 bits, and the bytes after it.
 #[inline(always)]
-pub fn read_part(bytes: &[u8]) -> Option<(i64, &[u8])>
+pub fn read_i64(bytes: &[u8]) -> Option<(i64, &[u8])>
     ensures some { IfSome result (λ r. IsPartFront bytes.now r.0 r.1.now) }
     ensures none { IfNone result ((n : ℤ) (rest : List ℕ) → FitsSigned w64 n → ¬ IsPartFront bytes.now n rest) }
 {
@@ -104,11 +104,11 @@ pub fn read_part(bytes: &[u8]) -> Option<(i64, &[u8])>
 }
 
 /// The same of 32 bits.
-pub fn read_part_of_32_bits(bytes: &[u8]) -> Option<(i32, &[u8])>
+pub fn read_i32(bytes: &[u8]) -> Option<(i32, &[u8])>
     ensures some { IfSome result (λ r. IsPartFront bytes.now r.0 r.1.now) }
     ensures none { IfNone result ((n : ℤ) (rest : List ℕ) → FitsSigned w32 n → ¬ IsPartFront bytes.now n rest) }
 {
-    let (number, rest) = read_part(bytes)?;
+    let (number, rest) = read_i64(bytes)?;
     match i32::try_from(number) {
         Ok(number) => Some((number, rest)),
         Err(_) => None,
@@ -117,11 +117,11 @@ pub fn read_part_of_32_bits(bytes: &[u8]) -> Option<(i32, &[u8])>
 
 /// The same of 32 bits without a sign.
 #[inline(always)]
-pub fn read_size_of_32_bits(bytes: &[u8]) -> Option<(u32, &[u8])>
+pub fn read_u32(bytes: &[u8]) -> Option<(u32, &[u8])>
     ensures some { IfSome result (λ r. IsPartFront bytes.now (pos r.0) r.1.now) }
     ensures none { IfNone result ((n : ℕ) (rest : List ℕ) → n < 2 ^ 32 → ¬ IsPartFront bytes.now (pos n) rest) }
 {
-    let (number, rest) = read_part(bytes)?;
+    let (number, rest) = read_i64(bytes)?;
     match u32::try_from(number) {
         Ok(number) => Some((number, rest)),
         Err(_) => None,
@@ -129,11 +129,11 @@ pub fn read_size_of_32_bits(bytes: &[u8]) -> Option<(u32, &[u8])>
 }
 
 /// The same of 8 bits without a sign.
-pub fn read_size_of_8_bits(bytes: &[u8]) -> Option<(u8, &[u8])>
+pub fn read_u8(bytes: &[u8]) -> Option<(u8, &[u8])>
     ensures some { IfSome result (λ r. IsPartFront bytes.now (pos r.0) r.1.now) }
     ensures none { IfNone result ((n : ℕ) (rest : List ℕ) → n < 2 ^ 8 → ¬ IsPartFront bytes.now (pos n) rest) }
 {
-    let (number, rest) = read_part(bytes)?;
+    let (number, rest) = read_i64(bytes)?;
     match u8::try_from(number) {
         Ok(number) => Some((number, rest)),
         Err(_) => None,

@@ -7,9 +7,7 @@ ghost use Rattle.tz_query.specs.Lines.{IsLineEnd, IsFirstLine};
 ghost use Rattle.tz_query.specs.Numbers.{ArePartsFront};
 ghost use Rattle.tz_query.specs.Queries.{AreFieldsOfBits, numbers_of, IsTimeLineFront, IsSearchLineFront};
 
-use crate::query::numbers::{
-    after_byte, read_part, read_part_of_32_bits, read_size_of_8_bits, read_size_of_32_bits,
-};
+use crate::query::numbers::{after_byte, read_i32, read_i64, read_u8, read_u32};
 use tz_base::calendar::Fields;
 
 /// The bytes after the end of a line, if it ends here: after an LF, or none where there are none.
@@ -43,8 +41,8 @@ fn read_time(bytes: &[u8]) -> Option<(i64, u32, &[u8])>
     ensures some { IfSome result (λ r. ArePartsFront bytes.now (r.0 ∷ pos r.1 ∷ []) r.2.now) }
     ensures none { IfNone result ((u : ℤ) (n : ℕ) (rest : List ℕ) → FitsSigned w64 u → n < 2 ^ 32 → ¬ ArePartsFront bytes.now (u ∷ pos n ∷ []) rest) }
 {
-    let (unix_time, after_seconds) = read_part(bytes)?;
-    let (nanoseconds, rest) = read_size_of_32_bits(after_seconds)?;
+    let (unix_time, after_seconds) = read_i64(bytes)?;
+    let (nanoseconds, rest) = read_u32(after_seconds)?;
     Some((unix_time, nanoseconds, rest))
 }
 
@@ -53,13 +51,13 @@ fn read_fields(bytes: &[u8]) -> Option<(Fields, &[u8])>
     ensures some { IfSome result (λ r. ArePartsFront bytes.now (numbers_of r.0) r.1.now × AreFieldsOfBits r.0) }
     ensures none { IfNone result ((f : Fields) (rest : List ℕ) → AreFieldsOfBits f → ¬ ArePartsFront bytes.now (numbers_of f) rest) }
 {
-    let (year, after_year) = read_part_of_32_bits(bytes)?;
-    let (month, after_month) = read_size_of_8_bits(after_year)?;
-    let (month_day, after_day) = read_size_of_8_bits(after_month)?;
-    let (hour, after_hour) = read_size_of_8_bits(after_day)?;
-    let (minute, after_minute) = read_size_of_8_bits(after_hour)?;
-    let (second, after_second) = read_size_of_8_bits(after_minute)?;
-    let (nanoseconds, rest) = read_size_of_32_bits(after_second)?;
+    let (year, after_year) = read_i32(bytes)?;
+    let (month, after_month) = read_u8(after_year)?;
+    let (month_day, after_day) = read_u8(after_month)?;
+    let (hour, after_hour) = read_u8(after_day)?;
+    let (minute, after_minute) = read_u8(after_hour)?;
+    let (second, after_second) = read_u8(after_minute)?;
+    let (nanoseconds, rest) = read_u32(after_second)?;
     let fields = Fields {
         year,
         month,

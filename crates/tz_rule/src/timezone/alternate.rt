@@ -2,7 +2,7 @@
 
 ghost use Rattle.std.specs.Prelude.{◌≡◌, ℤ, OnOk, IfOk, IfErr, IfSome, IfNone, MatchBool};
 ghost use Rattle.tz_rule.specs.Alternate.{start_of, end_of, alternate_of, IsInRuleRange, IsFirstRuleFault, IsConsistentRule, AreRuleDays, IsNearYear, IsInRuleYears, IsAlternateType};
-ghost use Rattle.tz_rule.specs.Years.{IsConflict, IsInconsistent, IsTurned};
+ghost use Rattle.tz_rule.specs.Years.{IsConflict, IsInconsistent, EndsNextYear};
 
 use super::check::Parts;
 use super::daylight::rule_year;
@@ -18,22 +18,22 @@ use tz_base::error::timezone::TransitionRuleError;
 #[derive(Clone, Copy, Debug)]
 pub struct AlternateTime {
     parts: Parts,
-    is_turned: bool,
+    ends_next_year: bool,
 }
 
 impl Model for AlternateTime {
-    ghost use Rattle.tz_rule.specs.Alternate.{Alternate};
+    ghost use Rattle.tz_rule.specs.Alternate.{AlternateTime};
 
-    ghost Value = { Alternate };
+    ghost Value = { AlternateTime };
 
     ghost use Rattle.tz_rule.specs.Parts.{rule_of};
-    ghost use Rattle.tz_rule.specs.Pairing.{IsKeptRule, parts_of, turns, kept_rule};
+    ghost use Rattle.tz_rule.specs.Pairing.{IsKeptRule, parts_of, ends_come_first, kept_rule};
 
     ghost view = { λ r. rule_of r.parts };
 
     ghost invariant = { IsKeptRule };
 
-    ghost inverse = { λ r. record { parts = parts_of r; is_turned = turns r } };
+    ghost inverse = { λ r. record { parts = parts_of r; ends_next_year = ends_come_first r } };
 
     ghost inverse_ok = { λ r k. kept_rule r k };
 }
@@ -64,8 +64,11 @@ impl AlternateTime {
         if parts.conflict().is_some() {
             return Err(TransitionRuleError::InconsistentRule);
         }
-        let is_turned = parts.is_turned();
-        Ok(AlternateTime { parts, is_turned })
+        let ends_next_year = parts.ends_next_year();
+        Ok(AlternateTime {
+            parts,
+            ends_next_year,
+        })
     }
 
     /// Why parts in range make no rule: two years x and y and a distance k in years, such that the start of x comes after the end of x + k,
@@ -155,10 +158,10 @@ impl AlternateTime {
     }
 
     /// Whether each start has the end of the next year.
-    pub(crate) fn is_turned(&self) -> bool
-        ensures { MatchBool result (IsTurned (start_of self.now) (end_of self.now)) (¬ IsTurned (start_of self.now) (end_of self.now)) }
+    pub(crate) fn ends_next_year(&self) -> bool
+        ensures { MatchBool result (EndsNextYear (start_of self.now) (end_of self.now)) (¬ EndsNextYear (start_of self.now) (end_of self.now)) }
     {
-        self.is_turned
+        self.ends_next_year
     }
 
     /// The parts obey the rules of their making. This does nothing; its contract is what a value tells.
@@ -177,7 +180,7 @@ impl AlternateTime {
         let Some(year) = rule_year(unix_time) else {
             return Err(TzError::OutOfRange);
         };
-        if self.parts.is_daylight(self.is_turned, unix_time, year) {
+        if self.parts.is_daylight(self.ends_next_year, unix_time, year) {
             Ok(&self.parts.dst)
         } else {
             Ok(&self.parts.std)

@@ -4,7 +4,7 @@
 
 ghost use Rattle.std.specs.Prelude.{◌≡◌, ◌+◌, ◌<◌, ℤ, pos, negsuc, ◌+ℤ◌, ◌-ℤ◌, ◌*ℤ◌, ◌≤ℤ◌, ◌<ℤ◌, OnOk, IfErr, IfSome, IfNone, MatchBool};
 ghost use Rattle.tz_rule.specs.Alternate.{start_of, end_of, IsRuleOffset, IsRuleTime, IsInRuleRange, IsRangeFault, AreRuleDays};
-ghost use Rattle.tz_rule.specs.Years.{IsConflict, IsInconsistent, IsTurned};
+ghost use Rattle.tz_rule.specs.Years.{IsConflict, IsInconsistent, EndsNextYear};
 
 use super::{LocalTimeType, RuleDay};
 use tz_base::constants::SECONDS_PER_DAY;
@@ -203,10 +203,10 @@ impl Parts {
     }
 
     /// Whether some year's end comes before its start.
-    pub(super) fn is_turned(&self) -> bool
+    pub(super) fn ends_next_year(&self) -> bool
         requires { IsInRuleRange (rule_of self.now) }
         ensures days { AreRuleDays (rule_of self.now) }
-        ensures value { MatchBool result (IsTurned (start_of (rule_of self.now)) (end_of (rule_of self.now))) (¬ IsTurned (start_of (rule_of self.now)) (end_of (rule_of self.now))) }
+        ensures value { MatchBool result (EndsNextYear (start_of (rule_of self.now)) (end_of (rule_of self.now))) (¬ EndsNextYear (start_of (rule_of self.now)) (end_of (rule_of self.now))) }
     {
         self.end_first(Distance::SameYear).is_some()
     }

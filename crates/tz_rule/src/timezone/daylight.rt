@@ -3,7 +3,7 @@
 ghost use Rattle.std.specs.Prelude.{IfSome, IfNone, MatchBool};
 ghost use Rattle.tz_rule.specs.Alternate.{start_of, end_of, IsInRuleRange, AreRuleDays, IsUtcYear, IsRuleYear, IsInRuleYears};
 ghost use Rattle.tz_rule.specs.Daylight.{IsInSpan};
-ghost use Rattle.tz_rule.specs.Years.{IsTurned, IsDaylight};
+ghost use Rattle.tz_rule.specs.Years.{EndsNextYear, IsDaylight};
 
 use super::check::Parts;
 use tz_base::calendar::{self, Fields};
@@ -45,7 +45,7 @@ impl Parts {
     fn is_daylight_in_order(&self, unix_time: i64, year: i32) -> bool
         requires range { IsInRuleRange (rule_of self.now) }
         requires days { AreRuleDays (rule_of self.now) }
-        requires in_order { ¬ IsTurned (start_of (rule_of self.now)) (end_of (rule_of self.now)) }
+        requires in_order { ¬ EndsNextYear (start_of (rule_of self.now)) (end_of (rule_of self.now)) }
         requires year { IsUtcYear unix_time year × IsRuleYear year }
         ensures { MatchBool result
             (IsDaylight (start_of (rule_of self.now)) (end_of (rule_of self.now)) unix_time)
@@ -61,10 +61,10 @@ impl Parts {
     }
 
     /// Whether the instant is in daylight saving time, where each start has the end of the next year.
-    fn is_daylight_turned(&self, unix_time: i64, year: i32) -> bool
+    fn is_daylight_across_years(&self, unix_time: i64, year: i32) -> bool
         requires range { IsInRuleRange (rule_of self.now) }
         requires days { AreRuleDays (rule_of self.now) }
-        requires turned { IsTurned (start_of (rule_of self.now)) (end_of (rule_of self.now)) }
+        requires across { EndsNextYear (start_of (rule_of self.now)) (end_of (rule_of self.now)) }
         requires year { IsUtcYear unix_time year × IsRuleYear year }
         ensures { MatchBool result
             (IsDaylight (start_of (rule_of self.now)) (end_of (rule_of self.now)) unix_time)
@@ -83,17 +83,17 @@ impl Parts {
     }
 
     /// Whether the instant is in daylight saving time.
-    pub(super) fn is_daylight(&self, is_turned: bool, unix_time: i64, year: i32) -> bool
+    pub(super) fn is_daylight(&self, ends_next_year: bool, unix_time: i64, year: i32) -> bool
         requires range { IsInRuleRange (rule_of self.now) }
         requires days { AreRuleDays (rule_of self.now) }
-        requires pairing { MatchBool is_turned (IsTurned (start_of (rule_of self.now)) (end_of (rule_of self.now))) (¬ IsTurned (start_of (rule_of self.now)) (end_of (rule_of self.now))) }
+        requires pairing { MatchBool ends_next_year (EndsNextYear (start_of (rule_of self.now)) (end_of (rule_of self.now))) (¬ EndsNextYear (start_of (rule_of self.now)) (end_of (rule_of self.now))) }
         requires year { IsUtcYear unix_time year × IsRuleYear year }
         ensures { MatchBool result
             (IsDaylight (start_of (rule_of self.now)) (end_of (rule_of self.now)) unix_time)
             (¬ IsDaylight (start_of (rule_of self.now)) (end_of (rule_of self.now)) unix_time) }
     {
-        if is_turned {
-            self.is_daylight_turned(unix_time, year)
+        if ends_next_year {
+            self.is_daylight_across_years(unix_time, year)
         } else {
             self.is_daylight_in_order(unix_time, year)
         }

@@ -1,7 +1,7 @@
 //! Local time types.
 
 ghost use Rattle.std.specs.Prelude.{◌≡◌, ℕ, ◌≤◌, ◌↔◌, OnOk, IfOk, IfErr, IsTrue};
-ghost use Rattle.tz_rule.specs.LocalType.{IsFirstTypeFault, IsLocalType, IsDesignationByte, plain_type, designation_text};
+ghost use Rattle.tz_rule.specs.LocalTimeType.{IsFirstTypeFault, IsLocalTimeType, IsDesignationByte, plain_type, designation_text};
 
 use std::marker::Model;
 use std::{fmt, str};
@@ -23,9 +23,9 @@ pub struct LocalTimeType {
 }
 
 impl Model for LocalTimeType {
-    ghost use Rattle.tz_rule.specs.LocalType.{LocalType};
+    ghost use Rattle.tz_rule.specs.LocalTimeType.{LocalTimeType};
 
-    ghost Value = { LocalType };
+    ghost Value = { LocalTimeType };
 
     ghost use Rattle.std.specs.Prelude.{option_map};
     ghost use Rattle.tz_rule.specs.Designation.{shown, kept, kept_shown, IsKeptType};
@@ -79,7 +79,7 @@ fn is_designation_byte(byte: u8) -> bool
 
 impl Designation {
     ghost use Rattle.tz_rule.specs.Designation.{IsKept, name_of};
-    ghost use Rattle.tz_rule.specs.LocalType.{IsDesignation, IsDesignationLength};
+    ghost use Rattle.tz_rule.specs.LocalTimeType.{IsDesignation, IsDesignationLength};
     ghost use Rattle.tz_base.specs.declared.error.timezone.LocalTimeTypeError.TheVariants as faults;
     ghost use Rattle.std.specs.Prelude.{All, IfOk, IfErr, OnOk, ◌⊎◌, ◌≡◌};
 
@@ -113,7 +113,7 @@ impl Designation {
 }
 
 impl LocalTimeType {
-    ghost use Rattle.tz_rule.specs.LocalType.{LocalType, IsLocalType, IsFirstTypeFault, type_of, plain_type, designation_text, IsOffset, IsDesignation};
+    ghost use Rattle.tz_rule.specs.LocalTimeType.{LocalTimeType, IsLocalTimeType, IsFirstTypeFault, type_of, plain_type, designation_text, IsOffset, IsDesignation};
     ghost use Rattle.std.specs.Option.{option_copied};
     ghost use Rattle.std.specs.Prelude.{pos, IfSome};
     ghost use Rattle.tz_base.specs.declared.error.timezone.LocalTimeTypeError.TheVariants as faults;
@@ -127,7 +127,7 @@ impl LocalTimeType {
         time_zone_designation: Option<&[u8]>,
     ) -> Result<Self, LocalTimeTypeError>
         ensures value { IfOk result (λ t. t ≡ type_of ut_offset is_dst (option_copied time_zone_designation.entry)) }
-        ensures ok { OnOk result (IsLocalType (type_of ut_offset is_dst (option_copied time_zone_designation.entry))) }
+        ensures ok { OnOk result (IsLocalTimeType (type_of ut_offset is_dst (option_copied time_zone_designation.entry))) }
         ensures err { IfErr result (IsFirstTypeFault (type_of ut_offset is_dst (option_copied time_zone_designation.entry))) }
     {
         if ut_offset == i32::MIN {

@@ -100,14 +100,14 @@ fn the_pairing_is_the_rules(rt: HostRuntime) {
     let tie = rule(0, 0, j(60, 0), z(59, 0));
     assert_eq!(rt; type_at(&tie, 978_307_200), Some((0, true)));
 
-    let turned_tie = rule(0, 0, z(59, 0), j(60, 0));
+    let tie_across_years = rule(0, 0, z(59, 0), j(60, 0));
     for (unix_time, is_dst) in [
         (951_782_400, true),
         (951_868_800, false),
         (983_404_800, false),
     ] {
         assert_eq!(rt;
-            type_at(&turned_tie, unix_time),
+            type_at(&tie_across_years, unix_time),
             Some((0, is_dst)),
             "{unix_time}"
         );
@@ -307,7 +307,7 @@ fn days_ends_and_rules(rt: HostRuntime) {
     };
     assert_eq!(rt; inner::start(&auckland, 2000), 970_322_400);
     assert_eq!(rt; inner::end(&auckland, 2000), 953_384_400);
-    assert!(rt; inner::is_turned(&auckland));
+    assert!(rt; inner::ends_next_year(&auckland));
 
     let fixed = TransitionRule::Fixed(*auckland.std());
     assert_eq!(rt; fixed, fixed);

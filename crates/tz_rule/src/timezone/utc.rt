@@ -3,7 +3,7 @@
 //! A static holds no type with a model. So the statics are of plain types whose fields lie as those of the types with a model do, and are lent as these.
 
 ghost use Rattle.std.specs.Prelude.{◌≡◌, [], ◌∷◌, false, pos};
-ghost use Rattle.tz_rule.specs.LocalType.{plain_type};
+ghost use Rattle.tz_rule.specs.LocalTimeType.{plain_type};
 
 use super::local_time_type::Designation;
 use super::{LocalTimeType, TransitionRule};
@@ -67,7 +67,7 @@ struct PartsFields {
 /// The fields of an alternate rule.
 struct AlternateFields {
     parts: PartsFields,
-    is_turned: bool,
+    ends_next_year: bool,
 }
 
 /// The fields of a rule.

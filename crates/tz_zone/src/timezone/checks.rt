@@ -1,7 +1,7 @@
 //! The checks of a zone's parts.
 
 ghost use Rattle.std.specs.Prelude.{◌≡◌, ◌≢◌, ℕ, pos, ◌+ℤ◌, ◌-ℤ◌, ◌≤ℤ◌, ◌<◌, length, [], OnOk, IfOk, IfErr, MatchBool};
-ghost use Rattle.tz_rule.specs.LocalType.{LocalType};
+ghost use Rattle.tz_rule.specs.LocalTimeType.{LocalTimeType};
 ghost use Rattle.tz_zone.specs.Table.{zone_with};
 ghost use Rattle.tz_zone.specs.ValidZone.{IsRuleTypeAt, IsOneSecond, MayBeFirst, MayFollow, AreLeapSeconds, HasTypeAtPlace, RisesAtPlace, IsFirstTransitionFault, IsSoundTable, IsRuleFault, RuleAnswers, RuleAgrees, IsValidZone, IsFirstZoneFault};
 
@@ -100,7 +100,7 @@ fn rule_type_at<'a>(
 ) -> Result<&'a LocalTimeType, TzError>
     requires { AreLeapSeconds leap_seconds.now }
     ensures ok { IfOk result (λ t. IsRuleTypeAt leap_seconds.now rule.now unix_leap_time t.now) }
-    ensures err { IfErr result (λ e. (e ≡ TzError.OutOfRange) × ((t : LocalType) → ¬ IsRuleTypeAt leap_seconds.now rule.now unix_leap_time t)) }
+    ensures err { IfErr result (λ e. (e ≡ TzError.OutOfRange) × ((t : LocalTimeType) → ¬ IsRuleTypeAt leap_seconds.now rule.now unix_leap_time t)) }
 {
     match inner::effect(leap_seconds, unix_leap_time) {
         Ok(unix_time) => tz_rule::inner::find_local_time_type(rule, unix_time),

@@ -1,4 +1,4 @@
-//! Leap seconds.
+//! LeapSecond seconds.
 
 ghost use Rattle.std.specs.Prelude.{◌≡◌};
 
@@ -12,9 +12,9 @@ pub struct LeapSecond {
 }
 
 impl Model for LeapSecond {
-    ghost use Rattle.tz_zone.specs.Table.{Leap};
+    ghost use Rattle.tz_zone.specs.Table.{LeapSecond};
 
-    ghost Value = { Leap };
+    ghost Value = { LeapSecond };
 
     ghost view = { λ l. record { unix_leap_time = l.unix_leap_time; correction = l.correction } };
 

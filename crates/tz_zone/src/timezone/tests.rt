@@ -33,11 +33,11 @@ fn named(error: TzError) -> Fault {
 /// What makes a zone, as numbers.
 #[derive(Clone, Copy)]
 struct Parts<'a> {
-    /// Leap times, and the numbers of the types that hold from there on.
+    /// LeapSecond times, and the numbers of the types that hold from there on.
     transitions: &'a [(i64, usize)],
     /// The types' offsets.
     ut_offsets: &'a [i32],
-    /// Leap times and corrections.
+    /// LeapSecond times and corrections.
     leap_seconds: &'a [(i64, i32)],
     /// The offset of a fixed rule.
     rule_offset: Option<i32>,

@@ -12,9 +12,9 @@ pub struct Transition {
 }
 
 impl Model for Transition {
-    ghost use Rattle.tz_zone.specs.Table.{Change};
+    ghost use Rattle.tz_zone.specs.Table.{Transition};
 
-    ghost Value = { Change };
+    ghost Value = { Transition };
 
     ghost view = { λ t. record { unix_leap_time = t.unix_leap_time; type_index = t.local_time_type_index } };
 

@@ -47,7 +47,7 @@ impl<A: Allocator + Copy> Eq for TimeZone<A> {
 impl<A: Allocator + Copy> TimeZone<A> {
     ghost use Rattle.std.specs.Prelude.{◌≡◌, ◌⊎◌, [], ◌∷◌, None, pos, alloc_error, IfOk, IfErr, OnOk};
     ghost use Rattle.tz_base.specs.declared.error.timezone.LocalTimeTypeError.TheVariants as faults;
-    ghost use Rattle.tz_rule.specs.LocalType.{plain_type, IsOffset};
+    ghost use Rattle.tz_rule.specs.LocalTimeType.{plain_type, IsOffset};
     ghost use Rattle.tz_zone.specs.Table.{zone_with};
     ghost use Rattle.tz_zone.specs.Clock.{IsClock, IsLookupFault};
     ghost use Rattle.tz_zone.specs.ValidZone.{IsValidZone, IsFirstZoneFault};

@@ -50,8 +50,8 @@ impl<'a> Eq for TimeZoneRef<'a> {
 
 impl<'a> TimeZoneRef<'a> {
     ghost use Rattle.std.specs.Prelude.{◌≡◌, [], ◌∷◌, None, pos, IfOk, IfErr, OnOk};
-    ghost use Rattle.tz_rule.specs.LocalType.{plain_type};
-    ghost use Rattle.tz_rule.specs.LocalType.{LocalType};
+    ghost use Rattle.tz_rule.specs.LocalTimeType.{plain_type};
+    ghost use Rattle.tz_rule.specs.LocalTimeType.{LocalTimeType};
     ghost use Rattle.tz_zone.specs.Table.{zone_with};
     ghost use Rattle.tz_zone.specs.Clock.{IsClock, IsTransitionType, IsTypeWithout, IsTypeAfter, IsFaultAfter, IsLookupFault};
     ghost use Rattle.tz_zone.specs.ValidZone.{IsSoundTable, IsValidZone, IsFirstZoneFault};
@@ -163,7 +163,7 @@ impl<'a> TimeZoneRef<'a> {
     /// The type where there are no transitions.
     fn type_without_transitions(&self, unix_time: i64) -> Result<&'a LocalTimeType, TzError>
         ensures ok { IfOk result (λ t. IsTypeWithout (zone_of self.now) (zone_of self.now).extra_rule unix_time t.now) }
-        ensures err { IfErr result (λ e. (e ≡ TzError.OutOfRange) × ((t : LocalType) → ¬ IsTypeWithout (zone_of self.now) (zone_of self.now).extra_rule unix_time t)) }
+        ensures err { IfErr result (λ e. (e ≡ TzError.OutOfRange) × ((t : LocalTimeType) → ¬ IsTypeWithout (zone_of self.now) (zone_of self.now).extra_rule unix_time t)) }
     {
         match self.extra_rule {
             Some(rule) => tz_rule::inner::find_local_time_type(rule, unix_time),

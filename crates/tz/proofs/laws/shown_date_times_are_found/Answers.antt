@@ -1,7 +1,7 @@
 -- A date time that the clock shows is one that a search finds.
 use Rattle.std.proofs.Common.{◌∙◌, refl, sym, ap, subst, ℤ, ◌+ℤ◌}
 use Rattle.std.specs.Prelude.{⊤}
-use Rattle.tz_rule.specs.LocalType.{LocalType}
+use Rattle.tz_rule.specs.LocalTimeType.{LocalTimeType}
 use Rattle.tz_zone.specs.Clock.{IsClock}
 use Rattle.tz.specs.declared.datetime.found.FoundDateTimeKind.TheVariants.{Normal}
 use Rattle.tz.proofs.FarLemmas.{not_out_of_range, only_memory_is_refused}
@@ -9,8 +9,8 @@ use Rattle.tz.proofs.laws.shown_date_times_are_found.Goals as goal
 
 pub returns-clause-found : goal.returns-clause-found
 returns-clause-found c z u n d found (t, clock, shows) is =
-    let here = subst (λ (v : ℤ). IsClock z v d.local_time_type) (sym shows.instant_is) (subst (λ (s : LocalType). IsClock z u s) (sym shows.type_is) clock) in
-    let reads = ap (λ (s : LocalType). u +ℤ s.ut_offset) (sym shows.type_is) in
+    let here = subst (λ (v : ℤ). IsClock z v d.local_time_type) (sym shows.instant_is) (subst (λ (s : LocalTimeType). IsClock z u s) (sym shows.type_is) clock) in
+    let reads = ap (λ (s : LocalTimeType). u +ℤ s.ut_offset) (sym shows.type_is) in
     let at = ap (λ (v : ℤ). v +ℤ d.local_time_type.ut_offset) shows.instant_is in
     is.complete (Normal d) (refl, (here, at ∙ sym reads ∙ sym shows.civil.reads))
 

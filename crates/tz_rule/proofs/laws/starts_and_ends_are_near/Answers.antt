@@ -1,6 +1,6 @@
 -- A rule in range has its starts and ends near their years.
 use Rattle.tz_rule.specs.Alternate.{start_of, end_of}
-use Rattle.tz_rule.proofs.Yearly.{IsYearly-start_of, IsYearly-end_of, near_year}
+use Rattle.tz_rule.proofs.YearlyInstants.{IsYearly-start_of, IsYearly-end_of, near_year}
 use Rattle.tz_rule.proofs.laws.starts_and_ends_are_near.Goals as goal
 
 pub returns : goal.returns

@@ -1,20 +1,20 @@
--- The place where the test turns is the count.
+-- The partition point is the count.
 use Rattle.std.proofs.lemmas.Int.{to_z-of_z}
-use Rattle.tz_zone.proofs.LeapLists.{IsReached-below, IsReached-from_count, IsReachedCount-from_turn}
+use Rattle.tz_zone.proofs.LeapLists.{IsReached-below, IsReached-from_count, IsReachedCount-from_point}
 use Rattle.tz_zone.proofs.inner.leap_seconds_reached.Goals as goal
 
 pub returns-clause-reached : goal.returns-clause-reached
 returns-clause-reached c =
     let leaps = c.args.leap_seconds.now in
     let fits = c.ranges.unix_time in
-    let turn = c.turn.ensures in
-    let count = IsReachedCount-from_turn leaps c.requires c.args.unix_time c.turn.result turn.within (simp to_z-of_z at turn.before) (simp to_z-of_z at turn.after) in
-    λ i l h at. IsReached-from_count leaps c.args.unix_time c.turn.result i l count h at
+    let point = c.partition_point.ensures in
+    let count = IsReachedCount-from_point leaps c.requires c.args.unix_time c.partition_point.result point.within (simp to_z-of_z at point.before) (simp to_z-of_z at point.after) in
+    λ i l h at. IsReached-from_count leaps c.args.unix_time c.partition_point.result i l count h at
 
 pub returns-clause-beyond : goal.returns-clause-beyond
 returns-clause-beyond c =
     let leaps = c.args.leap_seconds.now in
     let fits = c.ranges.unix_time in
-    let turn = c.turn.ensures in
-    let count = IsReachedCount-from_turn leaps c.requires c.args.unix_time c.turn.result turn.within (simp to_z-of_z at turn.before) (simp to_z-of_z at turn.after) in
-    λ i l r. IsReached-below leaps c.args.unix_time c.turn.result i l count r
+    let point = c.partition_point.ensures in
+    let count = IsReachedCount-from_point leaps c.requires c.args.unix_time c.partition_point.result point.within (simp to_z-of_z at point.before) (simp to_z-of_z at point.after) in
+    λ i l r. IsReached-below leaps c.args.unix_time c.partition_point.result i l count r

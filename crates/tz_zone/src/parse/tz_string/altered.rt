@@ -204,7 +204,7 @@ fn with_type(remainder: u8, local_time_type: &LocalTimeType) -> u8 {
 }
 
 /// Adds a day, and the time of that day.
-fn with_turn(remainder: u8, day: &RuleDay, time: i32) -> u8 {
+fn with_change(remainder: u8, day: &RuleDay, time: i32) -> u8 {
     let remainder = match day {
         RuleDay::Julian1WithoutLeap(day) => {
             with_number(with_number(remainder, 1), i32::from(day.get()))
@@ -229,8 +229,8 @@ fn letter_of_rule(rule: &TransitionRule) -> char {
         TransitionRule::Fixed(local_time_type) => with_type(0, local_time_type),
         TransitionRule::Alternate(rule) => {
             let types = with_type(with_type(0, rule.std()), rule.dst());
-            let start = with_turn(types, rule.dst_start(), rule.dst_start_time());
-            with_turn(start, rule.dst_end(), rule.dst_end_time())
+            let start = with_change(types, rule.dst_start(), rule.dst_start_time());
+            with_change(start, rule.dst_end(), rule.dst_end_time())
         }
     };
     char::from(b'A'.wrapping_add(remainder))

@@ -13,7 +13,7 @@ use tz_rule::timezone::{AlternateTime, LocalTimeType, MonthWeekDay, RuleDay, Tra
 type Named<'a> = (&'a str, i32);
 
 /// A month, a week and a week day, and a time of that day in seconds.
-type Turn = (u8, u8, u8, i32);
+type ChangeRow = (u8, u8, u8, i32);
 
 /// Texts with one type.
 const FIXED: &[(&str, Named)] = &[
@@ -83,7 +83,7 @@ const FIXED: &[(&str, Named)] = &[
 ];
 
 /// Ordinary texts with two types: standard time, daylight saving time, and when each year starts and ends it.
-const ALTERNATE: &[(&str, Named, Named, Turn, Turn)] = &[
+const ALTERNATE: &[(&str, Named, Named, ChangeRow, ChangeRow)] = &[
     (
         "<+00>0<+02>-2,M3.5.0/1,M10.5.0/3",
         ("+00", 0),
@@ -290,7 +290,7 @@ const ALTERNATE: &[(&str, Named, Named, Turn, Turn)] = &[
 ];
 
 /// Extended texts likewise.
-const EXTENDED: &[(&str, Named, Named, Turn, Turn)] = &[
+const EXTENDED: &[(&str, Named, Named, ChangeRow, ChangeRow)] = &[
     (
         "<-02>2<-01>,M3.5.0/-1,M10.5.0/0",
         ("-02", -7200),
@@ -319,15 +319,15 @@ fn type_of(named: Named, is_dst: bool) -> Result<LocalTimeType, Fail> {
     Ok(LocalTimeType::new(named.1, is_dst, Some(named.0.as_bytes()))?)
 }
 
-/// The day of a turn.
-fn day_of(turn: Turn) -> Result<RuleDay, Fail> {
-    Ok(RuleDay::MonthWeekDay(MonthWeekDay::new(turn.0, turn.1, turn.2)?))
+/// The day of a change.
+fn day_of(change: ChangeRow) -> Result<RuleDay, Fail> {
+    Ok(RuleDay::MonthWeekDay(MonthWeekDay::new(change.0, change.1, change.2)?))
 }
 
 /// The texts denote these rules.
 fn expect_rules(
     rt: &impl Abort,
-    rows: &[(&str, Named, Named, Turn, Turn)],
+    rows: &[(&str, Named, Named, ChangeRow, ChangeRow)],
     extended: bool,
 ) -> Result<(), Fail> {
     for (text, std, dst, start, end) in rows {

@@ -10,7 +10,7 @@ ghost use Rattle.std.specs.Prelude.{◌≡◌, ◌∷◌, [], ℕ, List, Bool, f
 ghost use Rattle.tz_base.specs.declared.error.TzError.TheVariants.{TzString};
 ghost use Rattle.tz_rule.specs.Alternate.{IsRuleOffset};
 ghost use Rattle.tz_rule.specs.declared.timezone.rule.TransitionRule.{TransitionRule};
-ghost use Rattle.tz_rule.specs.LocalType.{IsDesignation, IsFirstTypeFault, type_of};
+ghost use Rattle.tz_rule.specs.LocalTimeType.{IsDesignation, IsFirstTypeFault, type_of};
 ghost use Rattle.tz_zone.specs.TzText.{Begins, IsName, IsDaylightOffset, IsTimeUpTo, offset_hours, IsRuleText, IsRuleInRange, IsTzText};
 ghost use Rattle.tz_zone.specs.TzTextFault.{IsOffsetFault, IsLastRuleFault, IsRulesFault, IsDaylightFault, IsTzTextFault};
 

@@ -23,7 +23,7 @@ enum Day {
 }
 
 /// A day, and a time of it in seconds.
-type Turn = (Day, i32);
+type ChangeRow = (Day, i32);
 
 /// Texts with one type.
 const FIXED: &[(&str, Named)] = &[
@@ -34,7 +34,7 @@ const FIXED: &[(&str, Named)] = &[
 ];
 
 /// Texts with two types: standard time, daylight saving time, and when each year starts and ends it.
-const ALTERNATE: &[(&str, Named, Named, Turn, Turn)] = &[
+const ALTERNATE: &[(&str, Named, Named, ChangeRow, ChangeRow)] = &[
     (
         "<-03>+3<+03>-3,J1,J365",
         ("-03", -10_800),

@@ -3,7 +3,7 @@ use Rattle.std.proofs.Common.{ap, subst, Some}
 use Rattle.std.proofs.lemmas.Int.{to_z-of_z}
 use Rattle.std.proofs.lemmas.Option.{same_Some, none-some}
 use mir.Syntax.{w64}
-use Rattle.tz_rule.specs.LocalType.{LocalType}
+use Rattle.tz_rule.specs.LocalTimeType.{LocalTimeType}
 use Rattle.tz_zone.specs.Clock.{IsClock}
 use Rattle.tz_zone.specs.ZoneRef.{zone_of}
 use Rattle.tz_zone.proofs.Clocks.{clock_unique}
@@ -16,7 +16,7 @@ returns-in-Ok c t =
     let z = zone_of c.args.zone in
     let ok = rw (to_z-of_z w64 u c.ranges.unix_time) at c.in-Ok.ensures.ok in
     let x = c.in-Ok.local_time_type.now in
-    ((λ at. ap Some (clock_unique z u x t c.args.zone.sound.leap_seconds_are ok at)), λ e. subst (λ (y : LocalType). IsClock z u y) (same_Some x t e) ok)
+    ((λ at. ap Some (clock_unique z u x t c.args.zone.sound.leap_seconds_are ok at)), λ e. subst (λ (y : LocalTimeType). IsClock z u y) (same_Some x t e) ok)
 
 pub returns-in-Err : goal.returns-in-Err
 returns-in-Err c t =

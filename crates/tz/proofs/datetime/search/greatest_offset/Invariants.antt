@@ -1,8 +1,8 @@
 -- The greatest offset of the types so far.
 use Rattle.std.proofs.Common.{◌≡◌, ℕ, ◌<◌, ◌≤ℤ◌, Some}
 use Rattle.std.specs.Prelude.{slice_get}
-use Rattle.tz_rule.specs.LocalType.{LocalType}
+use Rattle.tz_rule.specs.LocalTimeType.{LocalTimeType}
 use Rattle.tz.proofs.datetime.search.greatest_offset.Given as goal
 
 abbrev pub invariant-loop-local_time_type : goal.invariant-loop-local_time_type
-invariant-loop-local_time_type l = (i : ℕ) (t : LocalType) → i < l.local_time_type-index → slice_get l.types i ≡ Some t → t.ut_offset ≤ℤ l.greatest
+invariant-loop-local_time_type l = (i : ℕ) (t : LocalTimeType) → i < l.local_time_type-index → slice_get l.types i ≡ Some t → t.ut_offset ≤ℤ l.greatest

@@ -4,7 +4,7 @@ use Rattle.std.specs.Prelude.{slice_get}
 use Rattle.std.proofs.lemmas.Int.{ints}
 use Rattle.std.proofs.lemmas.Bool.{cases_lt}
 use Rattle.std.proofs.lemmas.Option.{same_Some, slice_get_within, slice_get-get_or}
-use Rattle.tz_rule.specs.LocalType.{LocalType}
+use Rattle.tz_rule.specs.LocalTimeType.{LocalTimeType}
 use Rattle.tz.proofs.datetime.search.least_offset.Goals as goal
 
 pub loop-local_time_type-preserved : goal.loop-local_time_type-preserved
@@ -20,7 +20,7 @@ loop-local_time_type-preserved c i t h at =
           let inside = slice_get_within types i t at in
           let within : k < length types = omega (arith, inside, place) in
           let same : item ≡ t = same_Some item t (ap Some c.local_time_type-item.is ∙ sym (slice_get-get_or types k item within) ∙ ap (slice_get types) (sym place) ∙ at) in
-          omega (arith, ints, ap (λ (x : LocalType). x.ut_offset) same, c.ut_offset.ensures, min.other_bound)
+          omega (arith, ints, ap (λ (x : LocalTimeType). x.ut_offset) same, c.ut_offset.ensures, min.other_bound)
     ]
 
 pub returns : goal.returns

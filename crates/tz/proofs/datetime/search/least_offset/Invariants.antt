@@ -1,8 +1,8 @@
 -- The least offset of the types so far.
 use Rattle.std.proofs.Common.{◌≡◌, ℕ, ◌<◌, ◌≤ℤ◌, Some}
 use Rattle.std.specs.Prelude.{slice_get}
-use Rattle.tz_rule.specs.LocalType.{LocalType}
+use Rattle.tz_rule.specs.LocalTimeType.{LocalTimeType}
 use Rattle.tz.proofs.datetime.search.least_offset.Given as goal
 
 abbrev pub invariant-loop-local_time_type : goal.invariant-loop-local_time_type
-invariant-loop-local_time_type l = (i : ℕ) (t : LocalType) → i < l.local_time_type-index → slice_get l.types i ≡ Some t → l.least ≤ℤ t.ut_offset
+invariant-loop-local_time_type l = (i : ℕ) (t : LocalTimeType) → i < l.local_time_type-index → slice_get l.types i ≡ Some t → l.least ≤ℤ t.ut_offset

@@ -4,7 +4,7 @@ use Rattle.std.proofs.lemmas.Int.{ints, to_z-of_z}
 use Rattle.std.proofs.lemmas.Result.{on_ok_weaker}
 use mir.Syntax.{w64}
 use mir.Val.{SFits}
-use Rattle.tz_rule.specs.LocalType.{LocalType}
+use Rattle.tz_rule.specs.LocalTimeType.{LocalTimeType}
 use Rattle.tz_zone.specs.ZoneRef.{zone_of}
 use Rattle.tz_base.specs.declared.calendar.Fields.{Fields}
 use Rattle.tz_zone.specs.Clock.{IsClock}
@@ -26,7 +26,7 @@ loop-place-init g c =
     let new = c.new-walk.ensures in
     let since : c.new-walk.result.since ≡ low = simp to_z-of_z at new.since in
     let first = rw (to_z-of_z w64 low fits_low) at c.kind_after.ensures in
-    let kind = subst (λ (v : ℤ). IsKindOf z c.reached_at-reached.result v c.new-walk.result.kind) (sym since) (subst (λ (k : Option LocalType). IsKindOf z c.reached_at-reached.result low k) (sym new.kind) first) in
+    let kind = subst (λ (v : ℤ). IsKindOf z c.reached_at-reached.result v c.new-walk.result.kind) (sym since) (subst (λ (k : Option LocalTimeType). IsKindOf z c.reached_at-reached.result low k) (sym new.kind) first) in
     let window = rw (to_z-of_z w64 c.reading.result fits_reading, c.reading.ensures.value) at c.window-low.ensures.offsets in
     rw (to_z-of_z w64 high fits_high) (
       [],

@@ -1,4 +1,4 @@
--- The span and the turns around the reading.
+-- The span and the changes around the reading.
 use Rattle.std.proofs.Common.{◌++◌, append_assoc, sym, subst, rules, ℤ}
 use Rattle.std.specs.Prelude.{IfErr}
 use Rattle.std.proofs.lemmas.Int.{to_z-of_z}
@@ -10,13 +10,13 @@ use Rattle.tz_base.specs.Fields.{reading}
 use Rattle.tz_zone.specs.ZoneRef.{zone_of}
 use Rattle.tz.specs.RuleSpans.{IsSpan}
 use Rattle.tz.specs.Walks.{IsSearchFault}
-use Rattle.tz.proofs.RuleSearchLemmas.{turning_at, past_seam, found_from_rule}
+use Rattle.tz.proofs.RuleSearchLemmas.{changes_only_at, past_seam, found_from_rule}
 use Rattle.tz.proofs.RuleYearLemmas.{IsOfYear, reading_of_year}
 use Rattle.tz.proofs.WalkLemmas.{walk_steps}
 use Rattle.tz.proofs.datetime.search.search_rule.Goals as goal
 
-pub search_turns-requires-clause-turning : goal.search_turns-requires-clause-turning
-search_turns-requires-clause-turning g c =
+pub search_changes-requires-clause-changing : goal.search_changes-requires-clause-changing
+search_changes-requires-clause-changing g c =
     let z = zone_of c.args.zone in
     let w = c.args.walk.now in
     let start = c.rule_span-start.result.0 in
@@ -30,12 +30,12 @@ search_turns-requires-clause-turning g c =
     let span : IsSpan w.reading w.since c.args.high start end =
     rw (to_z-of_z w64 c.reading.result fits_reading, c.reading.ensures, to_z-of_z w64 c.since.result fits_since, c.since.ensures, to_z-of_z w64 c.args.high c.ranges.high) at c.rule_span-start.ensures.span in
     let same = rw (to_z-of_z w32 c.year.result fits_year, c.year.ensures) at c.inner_year.ensures.same in
-    let starts = rw (to_z-of_z w32 c.inner_year.result fits_inner) at c.turns_around-turns.ensures.starts in
-    let ends = rw (to_z-of_z w32 c.inner_year.result fits_inner) at c.turns_around-turns.ensures.ends in
+    let starts = rw (to_z-of_z w32 c.inner_year.result fits_inner) at c.changes_around-changes.ensures.starts in
+    let ends = rw (to_z-of_z w32 c.inner_year.result fits_inner) at c.changes_around-changes.ensures.ends in
     let of_year = subst (λ (v : ℤ). IsOfYear w.fields.year v) (sym c.requires.walk.reading_is) (reading_of_year w.fields c.requires.walk.valid) in
     rw (to_z-of_z w64 start fits_start, to_z-of_z w64 end fits_end)
-    (turning_at z c.args.zone.sound.leap_seconds_are c.args.rule c.requires.rule w.since c.args.high c.requires.over c.requires.high.1 c.rule_parts_are_sound.ensures.0.in_range w.reading start end span
-    c.rule_parts_are_sound.ensures.1 w.fields.year c.inner_year.result of_year same c.turns_around-turns.result starts ends)
+    (changes_only_at z c.args.zone.sound.leap_seconds_are c.args.rule c.requires.rule w.since c.args.high c.requires.over c.requires.high.1 c.rule_parts_are_sound.ensures.0.in_range w.reading start end span
+    c.rule_parts_are_sound.ensures.1 w.fields.year c.inner_year.result of_year same c.changes_around-changes.result starts ends)
 
 pub returns-clause-ok : goal.returns-clause-ok
 returns-clause-ok g c =
@@ -50,10 +50,10 @@ returns-clause-ok g c =
     let span : IsSpan w.reading w.since c.args.high start end =
     rw (to_z-of_z w64 c.reading.result fits_reading, c.reading.ensures, to_z-of_z w64 c.since.result fits_since, c.since.ensures, to_z-of_z w64 c.args.high c.ranges.high) at c.rule_span-start.ensures.span in
     let seam = c.in_ok-pass_seam.ensures.ok in
-    let ok = rw (to_z-of_z w64 start fits_start, to_z-of_z w64 end fits_end) at c.search_turns.ensures.ok in
-    on_ok_weaker c.search_turns.result (λ rest. (
+    let ok = rw (to_z-of_z w64 start fits_start, to_z-of_z w64 end fits_end) at c.search_changes.ensures.ok in
+    on_ok_weaker c.search_changes.result (λ rest. (
       seam.0 ++ rest.0,
-      g.met.L.DateTimeList.more c.args.list.now c.pass_seam.new.list c.search_turns.new.list seam.0 rest.0 seam.1 rest.1,
+      g.met.L.DateTimeList.more c.args.list.now c.pass_seam.new.list c.search_changes.new.list seam.0 rest.0 seam.1 rest.1,
       λ low found at.
           let past = past_seam z low c.args.high start end w found at span.after_seam span.end_is c.pass_seam.new.walk seam.0 seam.2 in
           let is = rest.2 low w.since w.fields (found ++ seam.0) past in
@@ -68,4 +68,4 @@ returns-clause-err g c =
     let w = c.args.walk.now in
     let seam = c.in_ok-pass_seam.ensures.ok in
     let next = walk_steps w.fields w _ c.pass_seam.new.walk seam.0 c.requires.walk seam.2 in
-    subst (λ (f : Fields). IfErr c.search_turns.result (IsSearchFault g.L.DateTimeList.takes_memory (reading f))) next.fields_are c.search_turns.ensures.err
+    subst (λ (f : Fields). IfErr c.search_changes.result (IsSearchFault g.L.DateTimeList.takes_memory (reading f))) next.fields_are c.search_changes.ensures.err

@@ -2,7 +2,7 @@
 use Rattle.std.proofs.Common.{◌≡◌, ◌-◌, ◌<◌, ◌∙◌, inr, sym, ap, arith, rules, length, Some}
 use Rattle.std.specs.Prelude.{slice_get}
 use Rattle.std.proofs.lemmas.Option.{slice_get-get_or}
-use Rattle.tz_zone.specs.Table.{Change}
+use Rattle.tz_zone.specs.Table.{Transition}
 use Rattle.tz_zone.specs.ZoneRef.{zone_of}
 use Rattle.tz.proofs.datetime.search.type_of_last.Goals as goal
 
@@ -32,7 +32,7 @@ bounds-local_time_types-local_time_type_index c =
     let within : item.type_index < length z.types = (c.args.zone.sound.transitions_are (k - 1)).0 item at in
     let index = c.local_time_type_index.ensures in
     let types = ap length c.local_time_types-2.ensures in
-    let same = ap (λ (x : Change). x.type_index) c.index-transitions-reached.is in
+    let same = ap (λ (x : Transition). x.type_index) c.index-transitions-reached.is in
     omega (arith, within, index, types, same)
 
 pub returns : goal.returns
@@ -46,7 +46,7 @@ returns c =
     ap (λ xs. slice_get xs (k - 1)) (sym c.transitions.ensures) ∙ slice_get-get_or ts (k - 1) item (omega (arith, size)) ∙ ap Some (sym c.index-transitions-reached.is) in
     let within : item.type_index < length z.types = (c.args.zone.sound.transitions_are (k - 1)).0 item at in
     let types = c.local_time_types-2.result.now in
-    let same = ap (λ (x : Change). x.type_index) c.index-transitions-reached.is in
+    let same = ap (λ (x : Transition). x.type_index) c.index-transitions-reached.is in
     let index : c.local_time_type_index.result ≡ item.type_index = omega (arith, c.local_time_type_index.ensures, same) in
     let t = c.index-local_time_types-local_time_type_index.result in
     let inside : c.local_time_type_index.result < length types = omega (arith, within, index, ap length c.local_time_types-2.ensures) in

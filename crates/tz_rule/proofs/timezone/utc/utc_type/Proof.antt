@@ -6,7 +6,7 @@ use base.Fml.{ftrue}
 use denote.Memory.{hidden_shr}
 use denote.Steps.{nothing}
 use types.Kit.{‵, ◌$◌, ◌∵◌, !, qed, done, move, use2, fpack}
-use Rattle.tz_rule.specs.LocalType.{plain_type}
+use Rattle.tz_rule.specs.LocalTimeType.{plain_type}
 use Rattle.tz_rule.specs.contracts.timezone.local_time_type.LocalTimeType as LocalTimeType
 use Rattle.tz_rule.specs.contracts.timezone.utc.TypeFields as TypeFields
 use Rattle.tz_rule.proofs.Casts.{cast_Meets}

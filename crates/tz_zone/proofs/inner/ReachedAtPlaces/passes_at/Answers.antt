@@ -6,7 +6,7 @@ use Rattle.std.proofs.lemmas.Option.{slice_get_read, same_Some, get_or_from_slic
 use lib.Signed.{le_z}
 use mir.Syntax.{w64, w128}
 use mir.Val.{SFits, to_z, of_z}
-use Rattle.tz_zone.specs.Table.{Leap}
+use Rattle.tz_zone.specs.Table.{LeapSecond}
 use Rattle.tz_zone.specs.LeapTime.{IsReached}
 use Rattle.tz_zone.proofs.inner.ReachedAtPlaces.passes_at.Goals as goal
 
@@ -26,10 +26,10 @@ returns c =
     let time = c.unix_leap_time-time.ensures in
     let correction = c.correction_before-correction.ensures in
     let read = get_or_from_slice_get s.leap_seconds.now c.args.place item item at in
-    let read_time = ap (λ (l : Leap). l.unix_leap_time) read in
-    by_test (to_z w128 (of_z w128 c.from.result)) _ ((l : Leap) × IsReached s.leap_seconds.now c.args.place l s.unix_time)
+    let read_time = ap (λ (l : LeapSecond). l.unix_leap_time) read in
+    by_test (to_z w128 (of_z w128 c.from.result)) _ ((l : LeapSecond) × IsReached s.leap_seconds.now c.args.place l s.unix_time)
     (λ order. (item, (at, omega (arith, ints))))
     (λ r.
     let same : r.0 ≡ item = same_Some r.0 item (sym r.1.0 ∙ at) in
-    let moved = ap (λ (l : Leap). l.unix_leap_time) same in
+    let moved = ap (λ (l : LeapSecond). l.unix_leap_time) same in
     omega (arith, ints, r.1.1))

@@ -1,6 +1,6 @@
 use Rattle.std.proofs.Common.{refl, ap, inl, inr}
 use Rattle.tz_base.specs.declared.error.TzError.TheVariants.{TzString}
-use Rattle.tz_zone.proofs.Exits.{exit}
+use Rattle.tz_zone.proofs.QuestionMarkExits.{exit}
 use Rattle.tz_zone.proofs.TextEnds.{is_over, goes_on}
 use Rattle.tz_zone.proofs.parse.tz_string.read_daylight.Goals as goal
 

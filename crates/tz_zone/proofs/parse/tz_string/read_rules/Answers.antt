@@ -1,6 +1,6 @@
 use Rattle.std.proofs.Common.{ℕ, List, subst, inl, inr}
 use Rattle.tz_zone.specs.TzText.{IsRuleText}
-use Rattle.tz_zone.proofs.Exits.{exit}
+use Rattle.tz_zone.proofs.QuestionMarkExits.{exit}
 use Rattle.tz_zone.proofs.parse.tz_string.read_rules.Goals as goal
 
 pub returns-in-Err : goal.returns-in-Err

@@ -1,10 +1,10 @@
 use Rattle.std.proofs.Common.{refl, ap, ◌∙◌, subst, true, false, inl, inr}
 use Rattle.std.specs.Prelude.{FitsSigned}
 use Rattle.std.specs.Int.{w32}
-use Rattle.tz_base.specs.declared.error.TzError.TheVariants.{TzString, LocalTimeType, TransitionRule}
-use Rattle.tz_rule.specs.Alternate.{Alternate, IsConsistentRule, IsFirstRuleFault}
+use Rattle.tz_base.specs.declared.error.TzError.TheVariants.{TzString, LocalTimeType as TypeFault, TransitionRule}
+use Rattle.tz_rule.specs.Alternate.{AlternateTime, IsConsistentRule, IsFirstRuleFault}
 use Rattle.tz_zone.specs.TzText.{AlternateText, daylight_offset_of, ut_offset_of}
-use Rattle.tz_zone.proofs.Exits.{exit}
+use Rattle.tz_zone.proofs.QuestionMarkExits.{exit}
 use Rattle.tz_zone.proofs.TextEnds.{goes_on}
 use Rattle.tz_zone.proofs.TextAnswers.{bad_name, offset_fails, daylight_fails, rules_fail, whole_text, same_rule_of, same_type_of, passed}
 use Rattle.tz_zone.proofs.parse.tz_string.read_text.Goals as goal
@@ -46,7 +46,7 @@ pub returns-in_err-std : goal.returns-in_err-std
 returns-in_err-std c =
     let name = c.in_ok-std_name in
     let f = c.in_err-std.field-0.0 in
-    exit _ _ (LocalTimeType f) _ c.from_residual-in_err-std.ensures.1
+    exit _ _ (TypeFault f) _ c.from_residual-in_err-std.ensures.1
     (inl (bad_name c.args.text.now name.std_name.now name.rest.now f name.ensures c.in_err-std.ensures))
 
 pub returns-in_err-dst : goal.returns-in_err-dst
@@ -55,8 +55,8 @@ returns-in_err-dst c =
     let offset = c.in_ok-std_offset in
     let dst = c.in_ok-dst_name in
     let f = c.in_err-dst.field-0.0 in
-    exit _ _ (LocalTimeType f) _ c.from_residual-in_err-dst.ensures.1
-    (daylight_fails c.args.extended c.args.text.now name.std_name.now name.rest.now offset.std_offset offset.rest.now (LocalTimeType f) name.ensures offset.ensures.0
+    exit _ _ (TypeFault f) _ c.from_residual-in_err-dst.ensures.1
+    (daylight_fails c.args.extended c.args.text.now name.std_name.now name.rest.now offset.std_offset offset.rest.now (TypeFault f) name.ensures offset.ensures.0
     (goes_on offset.rest.now c.if-is_empty.ensures)
     (inl (bad_name offset.rest.now dst.dst_name.now dst.ensures.0.0 f dst.ensures.0.1 c.in_err-dst.ensures)))
 
@@ -77,7 +77,7 @@ returns-in_err-rule c =
     (same_type_of c.in_ok-dst.dst _ (daylight_offset_of offset.std_offset dst.dst_offset) true dst.dst_name.now c.in_ok-dst.ensures.0 (passed c.daylight_ut_offset.result _ dst_fits c.daylight_ut_offset.ensures.value))
     (passed c.total_seconds-start_time.result _ start_fits c.total_seconds-start_time.ensures)
     (passed c.total_seconds-end_time.result _ end_fits c.total_seconds-end_time.ensures) in
-    let P : Alternate → Type 0 = λ r. IsFirstRuleFault r f in
+    let P : AlternateTime → Type 0 = λ r. IsFirstRuleFault r f in
     exit _ _ (TransitionRule f) _ c.from_residual-in_err-rule.ensures.1
     (inr (inr (
       a,

@@ -1,7 +1,7 @@
 use Rattle.std.proofs.Common.{refl, ℕ, List, subst, inr}
 use Rattle.std.specs.Str.{IsTrimAscii}
 use Rattle.tz_base.specs.declared.error.Error.TheVariants.{Tz}
-use Rattle.tz_zone.proofs.Exits.{exit}
+use Rattle.tz_zone.proofs.QuestionMarkExits.{exit}
 use Rattle.tz_zone.proofs.TextFaults.{no_text_fault}
 use Rattle.tz_zone.specs.TzTextFault.{IsTzTextFault}
 use Rattle.std.specs.Prelude.{false}

@@ -3,13 +3,13 @@ use Rattle.std.proofs.Common.{refl, inl, inr}
 use Rattle.std.proofs.lemmas.Int.{to_z-of_z}
 use mir.Syntax.{w64}
 use Rattle.tz_rule.specs.Parts.{rule_of}
-use Rattle.tz_rule.proofs.TurnedRules.{MatchBool-turns}
+use Rattle.tz_rule.proofs.RulesAcrossYears.{MatchBool-ends_come_first}
 use Rattle.tz_rule.proofs.timezone.alternate.AlternateTime.find_local_time_type.Goals as goal
 
 pub is_daylight-requires-clause-pairing : goal.is_daylight-requires-clause-pairing
 is_daylight-requires-clause-pairing c =
     let kept = c.self.invariant in
-    rw kept.pairing (MatchBool-turns (rule_of c.self.inside.parts) kept.is_consistent.in_range kept.are_days)
+    rw kept.pairing (MatchBool-ends_come_first (rule_of c.self.inside.parts) kept.is_consistent.in_range kept.are_days)
 
 pub returns-then-is_daylight-clause-ok : goal.returns-then-is_daylight-clause-ok
 returns-then-is_daylight-clause-ok c =

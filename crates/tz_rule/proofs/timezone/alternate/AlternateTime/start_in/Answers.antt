@@ -4,7 +4,7 @@ use Rattle.std.proofs.lemmas.Int.{ints, to_z-of_z}
 use mir.Syntax.{w32}
 use Rattle.tz_rule.specs.Alternate.{start_of}
 use Rattle.tz_rule.specs.Parts.{rule_of}
-use Rattle.tz_rule.proofs.Yearly.{IsYearly-start_of, near_year}
+use Rattle.tz_rule.proofs.YearlyInstants.{IsYearly-start_of, near_year}
 use Rattle.tz_rule.proofs.timezone.alternate.AlternateTime.start_in.Goals as goal
 
 pub returns-clause-bound : goal.returns-clause-bound

@@ -1,8 +1,8 @@
 -- At distances of two years or more the order never changes.
 use Rattle.tz_rule.specs.Alternate.{start_of, end_of}
 use Rattle.tz_rule.specs.Parts.{rule_of}
-use Rattle.tz_rule.proofs.Yearly.{IsYearly-start_of, IsYearly-end_of, consistent_from_near}
-use Rattle.tz_rule.proofs.Weaker.{IfNone-weaker}
+use Rattle.tz_rule.proofs.YearlyInstants.{IsYearly-start_of, IsYearly-end_of, consistent_from_near}
+use Rattle.tz_rule.proofs.WeakerClauses.{IfNone-weaker}
 use Rattle.tz_rule.proofs.timezone.check.Parts.conflict.Goals as goal
 
 pub returns-clause-none : goal.returns-clause-none

@@ -2,7 +2,7 @@
 use Rattle.std.proofs.Common.{◌<◌, arith}
 use Rattle.tz_rule.specs.Alternate.{start_of, end_of}
 use Rattle.tz_rule.specs.Parts.{rule_of}
-use Rattle.tz_rule.proofs.Yearly.{IsYearly-start_of, IsYearly-end_of, end_later_always}
+use Rattle.tz_rule.proofs.YearlyInstants.{IsYearly-start_of, IsYearly-end_of, end_later_always}
 use Rattle.tz_rule.proofs.timezone.check.Parts.end_first.Goals as goal
 
 pub returns-clause-none : goal.returns-clause-none

@@ -2,7 +2,7 @@
 use Rattle.std.proofs.Common.{ℕ, ◌<◌, take, arith}
 use Rattle.std.proofs.lemmas.Str.{IsUtf8-from_ascii}
 use Rattle.std.proofs.lemmas.Str.Ascii.{IsAscii-from_all}
-use Rattle.tz_rule.specs.LocalType.{IsDesignationByte}
+use Rattle.tz_rule.specs.LocalTimeType.{IsDesignationByte}
 use Rattle.tz_rule.proofs.timezone.local_time_type.Designation.as_str.Goals as goal
 
 designation_byte_below : (b : ℕ) → IsDesignationByte b → b < 128

@@ -2,7 +2,7 @@ use Rattle.std.proofs.Common.{refl, ap, subst, inl, inr, ℕ, List}
 use Rattle.tz_base.specs.declared.error.TzError.TheVariants.{TzString, TransitionRule}
 use Rattle.tz_rule.specs.MonthWeek.{month_week}
 use Rattle.tz_zone.specs.TzText.{IsNumber}
-use Rattle.tz_zone.proofs.Exits.{exit}
+use Rattle.tz_zone.proofs.QuestionMarkExits.{exit}
 use Rattle.tz_zone.proofs.TextDays.{month_week_fails}
 use Rattle.tz_zone.proofs.parse.tz_string.day.read_month_week_day.Goals as goal
 

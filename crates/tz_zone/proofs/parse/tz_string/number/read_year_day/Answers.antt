@@ -1,6 +1,6 @@
 use Rattle.tz_base.specs.declared.error.parse.TzStringError.TheVariants.{ParseInt}
 use Rattle.std.proofs.Common.{refl, Err}
-use Rattle.tz_zone.proofs.Exits.{exit}
+use Rattle.tz_zone.proofs.QuestionMarkExits.{exit}
 use Rattle.tz_zone.proofs.TextNumbers.{number_is_none, unsigned_number}
 use Rattle.tz_zone.proofs.parse.tz_string.number.read_year_day.Goals as goal
 

@@ -1,5 +1,5 @@
 use Rattle.std.proofs.Common.{inl, inr}
-use Rattle.tz_zone.proofs.Exits.{exit}
+use Rattle.tz_zone.proofs.QuestionMarkExits.{exit}
 use Rattle.tz_zone.proofs.TextTimes.{part_missing}
 use Rattle.tz_zone.proofs.parse.tz_string.time.read_hms.Goals as goal
 

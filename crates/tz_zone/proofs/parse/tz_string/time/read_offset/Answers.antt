@@ -1,6 +1,6 @@
 use Rattle.tz_zone.specs.TzText.{offset_hours}
 use Rattle.tz_zone.specs.TzTextFault.{offset_faults}
-use Rattle.tz_zone.proofs.Exits.{exit}
+use Rattle.tz_zone.proofs.QuestionMarkExits.{exit}
 use Rattle.tz_zone.proofs.TextTimes.{time_above}
 use Rattle.tz_zone.proofs.parse.tz_string.time.read_offset.Goals as goal
 

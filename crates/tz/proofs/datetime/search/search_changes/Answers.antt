@@ -1,0 +1,48 @@
+-- From one change to the next.
+use Rattle.std.proofs.Common.{[], ◌++◌, append-nil, append_assoc, arith, rules}
+use Rattle.std.proofs.lemmas.Int.{ints, to_z-of_z}
+use Rattle.std.proofs.lemmas.Result.{on_ok_weaker}
+use mir.Syntax.{w64}
+use mir.Val.{SFits}
+use Rattle.tz_zone.specs.ZoneRef.{zone_of}
+use Rattle.tz.proofs.RuleSearchLemmas.{past_change, found_past_changes}
+use Rattle.tz.proofs.WalkLemmas.{walk_steps}
+use Rattle.tz.proofs.datetime.search.search_changes.Goals as goal
+
+pub loop-from-init : goal.loop-from-init
+loop-from-init g c = (
+  [],
+  g.met.L.DateTimeList.none c.args.list.now,
+  c.requires.walk,
+  omega (arith, ints),
+  λ low seam f found past. rw (append-nil found) past,
+)
+
+pub loop-from-preserved : goal.loop-from-preserved
+loop-from-preserved g c =
+    let fits : SFits w64 c.next_change-from.result = search rules in
+    let way = rw (to_z-of_z w64 c.args.start c.ranges.start, to_z-of_z w64 c.args.last c.ranges.last) at c.loop-from.invariant in
+    let step = c.in_ok-step.ensures.ok in
+    let next = c.next_change-from.ensures in
+    rw (to_z-of_z w64 c.args.start c.ranges.start, to_z-of_z w64 c.args.last c.ranges.last, to_z-of_z w64 c.next_change-from.result fits) (
+      way.0 ++ step.0,
+      g.met.L.DateTimeList.more c.args.list.now c.loop-from.list c.step.new.list way.0 step.0 way.1 step.1,
+      walk_steps c.args.walk.now.fields c.loop-from.walk _ c.step.new.self step.0 way.2 step.2,
+      omega (arith, ints, way.3, next.later),
+      λ low seam f found past.
+          rw (← append_assoc found way.0 step.0)
+          (past_change (zone_of c.args.zone) low seam c.args.start c.args.last f _ c.loop-from.walk (found ++ way.0) (way.4 low seam f found past) c.args.changes.now c.requires.changing way.3 c.clock_type.result c.clock_type.ensures c.step.new.self step.0 step.2
+          c.next_change-from.result (omega (arith, ints, next.within)) (λ change of_changes after until. next.none change of_changes (omega (arith, ints, after)) until)),
+    )
+
+pub returns-clause-ok : goal.returns-clause-ok
+returns-clause-ok g c =
+    let way = rw (to_z-of_z w64 c.args.start c.ranges.start, to_z-of_z w64 c.args.last c.ranges.last) at c.loop-from.invariant in
+    on_ok_weaker c.step-2.result (λ step. (
+      way.0 ++ step.0,
+      g.met.L.DateTimeList.more c.args.list.now c.loop-from.list c.step-2.new.list way.0 step.0 way.1 step.1,
+      λ low seam f found past.
+          rw (← append_assoc found way.0 step.0)
+          (found_past_changes (zone_of c.args.zone) low seam c.args.start c.args.last f _ c.loop-from.walk (found ++ way.0) (way.4 low seam f found past) (omega (arith, ints, c.loop-from-test.false)) _ c.step-2.new.self step.0 step.2 (omega (arith, ints))),
+    ))
+    c.step-2.ensures.ok

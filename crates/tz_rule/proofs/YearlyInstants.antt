@@ -1,0 +1,141 @@
+-- What the starts and the ends of a rule have in common, and what follows for their order.
+use Rattle.std.proofs.Common.{◌≡◌, ℕ, zero, suc, ◌+◌, ◌*◌, ◌%◌, ◌<◌, ◌≤◌, Bool, true, false, cond, lit≤, refl, sym, ap, ◌∙◌, arith, ℤ, pos, negsuc, ◌+ℤ◌, ◌-ℤ◌, ◌*ℤ◌, ◌≤ℤ◌, ◌<ℤ◌}
+use Rattle.std.proofs.lemmas.Int.{ints}
+use Rattle.tz_base.specs.Days.{is_leap, year_length, first_day}
+use Rattle.tz_base.proofs.DayLemmas.{first_day-next, year_length-is}
+use Rattle.tz_base.proofs.OrderLemmas.{first_day-mono, first_day-period, is_leap-period}
+use Rattle.tz_rule.specs.Alternate.{AlternateTime, start_of, end_of, IsRuleOffset, IsRuleTime, IsInRuleRange, IsNearYear}
+use Rattle.tz_rule.specs.Day.{rule_day, IsRuleDay}
+use Rattle.tz_rule.specs.Distance.{years_of, start_year, end_year}
+use Rattle.tz_rule.specs.Years.{IsConflict, IsInconsistent}
+use Rattle.tz_rule.specs.declared.timezone.check.Distance.{Distance}
+use Rattle.tz_rule.specs.declared.timezone.check.Distance.TheVariants.{YearBefore, SameYear, YearAfter}
+use Rattle.tz_rule.specs.declared.timezone.rule_day.RuleDay.{RuleDay}
+use Rattle.tz_rule.proofs.Weeks.{week_day_of_year, week_day_of_year-next, week_day_of_year-period}
+use Rattle.tz_rule.proofs.YearKinds.{IsAlike, like_model}
+use Rattle.tz_rule.proofs.YearPlaces.{place_in_year, place_in_year-bound, rule_day-place}
+
+-- 00:00 UTC of January 1st
+abbrev pub year_start : ℤ → ℤ
+year_start year = pos 86400 *ℤ first_day year
+
+-- an instant of each year that lies less than ten days outside it, and at one place in all years of one kind
+pub record IsYearly (f : ℤ → ℤ) : Type 0 where
+  pub low : (y : ℤ) → year_start y <ℤ (f y +ℤ pos 864000)
+  pub high : (y : ℤ) → f y <ℤ (year_start y +ℤ pos 32400000)
+  pub place : (x y : ℤ) → is_leap x ≡ is_leap y → week_day_of_year x ≡ week_day_of_year y → f x -ℤ year_start x ≡ f y -ℤ year_start y
+  pub period : (y : ℤ) → f (y +ℤ pos 400) ≡ f y +ℤ pos 12622780800
+
+-- a rule day's local time
+abbrev local_instant : RuleDay → ℤ → ℤ → ℤ → ℤ
+local_instant d time offset y = pos 86400 *ℤ rule_day d y +ℤ time -ℤ offset
+
+-- the place of a rule day in a year
+place_of : RuleDay → ℤ → ℕ
+place_of d y = place_in_year d (is_leap y) (week_day_of_year y)
+
+local_instant-is : (d : RuleDay) (time offset y : ℤ) → IsRuleDay d → (local_instant d time offset y ≡ year_start y +ℤ pos (86400 * place_of d y) +ℤ time -ℤ offset) × (place_of d y ≤ 365)
+unfolding place_of
+local_instant-is d time offset y valid =
+    let day = rule_day-place d y valid in
+    (omega (arith, ints, day), place_in_year-bound d (is_leap y) (week_day_of_year y) valid)
+
+place_of-alike : (d : RuleDay) (x y : ℤ) → is_leap x ≡ is_leap y → week_day_of_year x ≡ week_day_of_year y → place_of d x ≡ place_of d y
+unfolding place_of
+place_of-alike d x y leap week_day = ap (λ b. place_in_year d b (week_day_of_year x)) leap ∙ ap (place_in_year d (is_leap y)) week_day
+
+IsYearly-local : (d : RuleDay) (time offset : ℤ) → IsRuleDay d → IsRuleTime time → IsRuleOffset offset → IsYearly (local_instant d time offset)
+IsYearly-local d time offset valid t o = record {
+  low = λ y. let is = local_instant-is d time offset y valid in omega (arith, ints, is.0, is.1);
+  high = λ y. let is = local_instant-is d time offset y valid in omega (arith, ints, is.0, is.1);
+  place = λ x y leap week_day. let at_x = local_instant-is d time offset x valid in let at_y = local_instant-is d time offset y valid in omega (arith, ints, at_x.0, at_y.0, place_of-alike d x y leap week_day);
+  period = λ y. let here = local_instant-is d time offset y valid in let there = local_instant-is d time offset (y +ℤ pos 400) valid in omega (arith, ints, here.0, there.0, first_day-period y 1, place_of-alike d (y +ℤ pos 400) y (is_leap-period y 1) (week_day_of_year-period y));
+}
+
+pub IsYearly-start_of : (r : AlternateTime) → IsInRuleRange r → IsRuleDay r.dst_start → IsYearly (start_of r)
+unfolding start_of
+IsYearly-start_of r range valid = IsYearly-local r.dst_start r.dst_start_time r.std.ut_offset valid range.start_is range.std_is
+
+pub IsYearly-end_of : (r : AlternateTime) → IsInRuleRange r → IsRuleDay r.dst_end → IsYearly (end_of r)
+unfolding end_of
+IsYearly-end_of r range valid = IsYearly-local r.dst_end r.dst_end_time r.dst.ut_offset valid range.end_is range.dst_is
+
+-- the years after two that are alike begin on one week day, after as many days
+record IsAlikeNext (x y : ℤ) : Type 0 where
+  week_day : week_day_of_year (x +ℤ pos 1) ≡ week_day_of_year (y +ℤ pos 1)
+  days : first_day (x +ℤ pos 1) -ℤ first_day x ≡ first_day (y +ℤ pos 1) -ℤ first_day y
+
+year_length-alike : (x y : ℤ) → is_leap x ≡ is_leap y → year_length x ≡ year_length y
+year_length-alike x y leap = year_length-is x ∙ ap (λ b. cond b 366 365) leap ∙ sym (year_length-is y)
+
+alike_next : (x y : ℤ) → IsAlike x y → IsAlikeNext x y
+alike_next x y a =
+    let length = year_length-alike x y a.leap in
+    record {
+      week_day = week_day_of_year-next x ∙ ap (λ w. (w + year_length x) % 7) a.week_day ∙ ap (λ n. (week_day_of_year y + n) % 7) length ∙ sym (week_day_of_year-next y);
+      days = omega (arith, ints, first_day-next x, first_day-next y);
+    }
+
+place_next : (f : ℤ → ℤ) → IsYearly f → (x y : ℤ) → IsAlike x y → f (x +ℤ pos 1) -ℤ year_start x ≡ f (y +ℤ pos 1) -ℤ year_start y
+place_next f yearly x y a =
+    let next = alike_next x y a in
+    omega (arith, ints, yearly.place (x +ℤ pos 1) (y +ℤ pos 1) a.next_leap next.week_day, next.days)
+
+-- the way from a start to an end is that of one of the years from 1972 on
+pub gap_like : (f g : ℤ → ℤ) → IsYearly f → IsYearly g → (d : Distance) (y : ℤ) → (m : ℕ) × (m < 28) × (g (y +ℤ years_of d) -ℤ f y ≡ g (pos (end_year d m)) -ℤ f (pos (start_year d m)))
+gap_like f g yf yg SameYear y =
+    let like = like_model y in
+    let here : y +ℤ pos 0 ≡ y = omega (arith, ints) in
+    (like.0, like.1, omega (arith, ints, ap g here, yf.place y (pos (1972 + like.0)) like.2.leap like.2.week_day, yg.place y (pos (1972 + like.0)) like.2.leap like.2.week_day))
+gap_like f g yf yg YearAfter y =
+    let like = like_model y in
+    let after : pos (1972 + like.0) +ℤ pos 1 ≡ pos (1973 + like.0) = omega (arith, ints) in
+    (like.0, like.1, omega (arith, ints, ap g after, yf.place y (pos (1972 + like.0)) like.2.leap like.2.week_day, place_next g yg y (pos (1972 + like.0)) like.2))
+gap_like f g yf yg YearBefore y =
+    let before = y +ℤ negsuc 0 in
+    let like = like_model before in
+    let after : pos (1972 + like.0) +ℤ pos 1 ≡ pos (1973 + like.0) = omega (arith, ints) in
+    let here : before +ℤ pos 1 ≡ y = omega (arith, ints) in
+    (like.0, like.1, omega (arith, ints, ap f after, ap f here, yg.place before (pos (1972 + like.0)) like.2.leap like.2.week_day, place_next f yf before (pos (1972 + like.0)) like.2))
+
+-- an order in each of those years holds in all years
+pub start_later_always : (f g : ℤ → ℤ) → IsYearly f → IsYearly g → (d : Distance) → ((m : ℕ) → m < 28 → g (pos (end_year d m)) ≤ℤ f (pos (start_year d m))) → (y : ℤ) → g (y +ℤ years_of d) ≤ℤ f y
+start_later_always f g yf yg d each y =
+    let like = gap_like f g yf yg d y in
+    later (g (y +ℤ years_of d)) (f y) (g (pos (end_year d like.0))) (f (pos (start_year d like.0))) like.2 (each like.0 like.1)
+  where
+    later : (a b c e : ℤ) → a -ℤ b ≡ c -ℤ e → c ≤ℤ e → a ≤ℤ b
+    later a b c e same h = omega (arith, ints)
+
+pub end_later_always : (f g : ℤ → ℤ) → IsYearly f → IsYearly g → (d : Distance) → ((m : ℕ) → m < 28 → f (pos (start_year d m)) ≤ℤ g (pos (end_year d m))) → (y : ℤ) → f y ≤ℤ g (y +ℤ years_of d)
+end_later_always f g yf yg d each y =
+    let like = gap_like f g yf yg d y in
+    later (g (y +ℤ years_of d)) (f y) (g (pos (end_year d like.0))) (f (pos (start_year d like.0))) like.2 (each like.0 like.1)
+  where
+    later : (a b c e : ℤ) → a -ℤ b ≡ c -ℤ e → e ≤ℤ c → b ≤ℤ a
+    later a b c e same h = omega (arith, ints)
+
+-- two years later everything is later
+pub two_years_later : (f g : ℤ → ℤ) → IsYearly f → IsYearly g → (x y : ℤ) (n : ℕ) → x +ℤ pos n ≡ y → 2 ≤ n → f x <ℤ g y
+two_years_later f g yf yg x y n e h = omega (arith, ints, yf.high x, yg.low y, first_day-mono x y n e)
+
+-- so a conflict has a distance of at most one year
+pub consistent_from_near : (f g : ℤ → ℤ) → IsYearly f → IsYearly g → ((x y : ℤ) → ¬ IsConflict f g x y (pos 0)) → ((x y : ℤ) → ¬ IsConflict f g x y (pos 1)) → ((x y : ℤ) → ¬ IsConflict f g x y (negsuc 0)) → ¬ IsInconsistent f g
+consistent_from_near f g yf yg same after before = λ i. by_distance i.0 i.1 i.2 i.3
+  where
+    by_distance : (x y k : ℤ) → IsConflict f g x y k → ⊥
+    by_distance x y (pos zero) c = same x y c
+    by_distance x y (pos (suc zero)) c = after x y c
+    by_distance x y (pos (suc (suc n))) c = omega (arith, ints, c.1, two_years_later f g yf yg x (x +ℤ pos (suc (suc n))) (suc (suc n)) refl (omega arith))
+    by_distance x y (negsuc zero) c = before x y c
+    by_distance x y (negsuc (suc n)) c = omega (arith, ints, c.0, two_years_later g f yg yf (y +ℤ negsuc (suc n)) y (n + 2) (omega (arith, ints)) (omega arith))
+
+-- less than ten days outside the year
+pub near_year : (f : ℤ → ℤ) → IsYearly f → (y : ℤ) → IsNearYear (f y) y
+near_year f yf y =
+    let length = by_leap (is_leap y) in
+    (yf.low y, omega (arith, ints, yf.high y, first_day-next y, year_length-is y))
+  where
+    by_leap : (leap : Bool) → 365 ≤ cond leap 366 365
+    by_leap true = lit≤ tt
+    by_leap false = lit≤ tt
