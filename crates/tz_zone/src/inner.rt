@@ -9,8 +9,10 @@ use crate::partition::{Places, partition_point};
 use crate::timezone::{LeapSecond, Transition};
 use tz_base::error::TzError;
 
+mod reached;
 mod transitions;
 
+pub use reached::{transitions_reached, transitions_reached_between};
 pub use transitions::{Counted, Transitions, Uncounted};
 
 /// Instants up to this one have a leap time, whatever the leap seconds.
