@@ -36,6 +36,12 @@ IsTransitionType z l t =
     (IsBeforeAll z.transitions l × IsTypeAt z 0 t)
     ⊎ ((i : ℕ) × (change : Transition) × IsLastReached z.transitions l i change × IsTypeAt z change.type_index t)
 
+-- the type of the last of the first k transitions, or type number 0 where k is 0
+abbrev pub IsTypeOfLast : Zone → ℕ → LocalTimeType → Type 0
+IsTypeOfLast z k t =
+    ((k ≡ 0) × IsTypeAt z 0 t)
+    ⊎ ((k ≢ 0) × (change : Transition) × (slice_get z.transitions (k - 1) ≡ Some change) × IsTypeAt z change.type_index t)
+
 -- the last transition
 abbrev pub IsLast : List Transition → Transition → Type 0
 IsLast transitions last = slice_get transitions (length transitions - 1) ≡ Some last

@@ -8,6 +8,7 @@ pub mod Looks
 pub mod Clock
 pub mod ValidZone
 pub mod ZoneRef
+pub mod ZoneSeen
 pub mod SameZone
 pub mod TzFile
 pub mod TzFileFault

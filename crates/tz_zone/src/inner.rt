@@ -9,9 +9,13 @@ use crate::partition::{Places, partition_point};
 use crate::timezone::{LeapSecond, Transition};
 use tz_base::error::TzError;
 
+mod lookup;
+mod parts;
 mod reached;
 mod transitions;
 
+pub use lookup::{find_local_time_type, other_parts, type_of_last};
+pub use parts::OtherParts;
 pub use reached::{transitions_reached, transitions_reached_between};
 pub use transitions::{Counted, Transitions, Uncounted};
 
