@@ -1,5 +1,5 @@
 -- Counts of looks at a list: by at most one for each look. A count of 64 bits stays at its greatest.
-use Rattle.std.specs.Prelude.{ℕ, ◌+◌, ◌≤◌, Bool, true, false, nat_lt, if◌then◌else◌}
+use Rattle.std.specs.Prelude.{ℕ, ◌+◌, ◌≤◌, true, false, nat_lt, if◌then◌else◌}
 use Rattle.std.proofs.Common.{arith}
 
 -- the count after one more look, in 64 bits

@@ -40,6 +40,7 @@ pub trait Transitions {
 }
 
 /// Transitions whose looks are counted. The count stays at `u64::MAX` once it is there.
+#[derive(Drop)]
 pub struct Counted<'a> {
     transitions: &'a [Transition],
     looks: u64,
@@ -89,6 +90,7 @@ impl Transitions for Counted<'_> {
 }
 
 /// Transitions whose looks are not counted.
+#[derive(Drop)]
 pub struct Uncounted<'a> {
     transitions: &'a [Transition],
 }

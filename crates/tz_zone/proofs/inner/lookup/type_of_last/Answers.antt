@@ -1,5 +1,5 @@
 -- The number in a transition is that of a type.
-use Rattle.std.proofs.Common.{◌<◌, ◌-◌, length, get_or, arith, rules, inr}
+use Rattle.std.proofs.Common.{◌<◌, ◌-◌, length, arith, rules, inr}
 use Rattle.std.proofs.lemmas.Option.{slice_get-get_or}
 use Rattle.tz_zone.proofs.inner.lookup.type_of_last.Goals as goal
 

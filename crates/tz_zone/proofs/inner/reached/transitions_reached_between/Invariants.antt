@@ -1,5 +1,5 @@
 -- The count lies between the two places, and what is left of them bounds the looks that are left.
-use Rattle.std.proofs.Common.{◌≡◌, ℕ, ◌+◌, ◌-◌, ◌<◌, ◌≤◌, length, ◌⊎◌}
+use Rattle.std.proofs.Common.{◌≡◌, ◌-◌, ◌≤◌, ◌⊎◌}
 use Rattle.tz_zone.specs.Clock.{AreReached, AreAhead}
 use Rattle.tz_zone.proofs.Halving.{AreFewLooks}
 use Rattle.tz_zone.proofs.inner.reached.transitions_reached_between.Given as goal
