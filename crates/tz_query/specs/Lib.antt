@@ -4,5 +4,6 @@ pub mod Lines
 pub mod Numbers
 pub mod Queries
 pub mod Answers
+pub mod Streams
 pub mod Program
 pub mod FileAnswers

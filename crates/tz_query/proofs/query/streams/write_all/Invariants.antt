@@ -1,6 +1,6 @@
 use Rattle.std.proofs.Common.{◌≡◌, ℕ, List, ◌++◌, length}
 use Rattle.std.specs.Io.KnownBytes.{Appends}
-use Rattle.tz_query.proofs.query.program.write_all.Given as goal
+use Rattle.tz_query.proofs.query.streams.write_all.Given as goal
 
 -- what is not left is written
 abbrev pub invariant-loop-rest : goal.invariant-loop-rest

@@ -1,16 +1,16 @@
 //! Queries, a line each, and their answers.
 
 mod answers;
+mod lines;
 mod numbers;
 mod program;
-mod queries;
+mod streams;
 mod tzif;
 
 pub use answers::answer;
 pub use program::tool;
+pub use streams::{RunFault, run};
 pub use tzif::answer_tzif;
 
-#[cfg(test)]
-mod search_tests;
 #[cfg(test)]
 mod tests;

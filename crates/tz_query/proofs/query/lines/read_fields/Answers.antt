@@ -5,7 +5,7 @@ use mir.Syntax.{w32}
 use mir.Val.{SFits}
 use Rattle.tz_query.proofs.LineLemmas.{no_fields_after}
 use Rattle.tz_query.proofs.NumberLemmas.{IfNone-anyway}
-use Rattle.tz_query.proofs.query.queries.read_fields.Goals as goal
+use Rattle.tz_query.proofs.query.lines.read_fields.Goals as goal
 
 pub returns-in_err-year-clause-none : goal.returns-in_err-year-clause-none
 returns-in_err-year-clause-none c =

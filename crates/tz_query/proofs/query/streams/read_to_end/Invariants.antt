@@ -1,5 +1,5 @@
 use Rattle.std.specs.Io.KnownBytes.{Consumes}
-use Rattle.tz_query.proofs.query.program.read_to_end.Given as goal
+use Rattle.tz_query.proofs.query.streams.read_to_end.Given as goal
 
 -- the bytes are those that were read
 abbrev pub invariant-loop : goal.invariant-loop

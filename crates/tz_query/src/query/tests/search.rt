@@ -1,6 +1,6 @@
 //! `F` lines over zones whose answers are known.
 
-use super::answer;
+use crate::query::answer;
 use std::alloc::{AllocError, Allocator, Global};
 use std::process::Abort;
 use std::test::Fail;
@@ -24,7 +24,7 @@ fn expect_answers(
     Ok(())
 }
 
-/// The same over the zone of one rule alone.
+/// The queries have these answers over the zone of one rule alone.
 fn expect_answers_by_rule(
     rt: &impl Abort,
     alloc: Global,

@@ -2,7 +2,7 @@
 use Rattle.std.proofs.Common.{◌∷◌, [], refl, pos}
 use Rattle.tz_query.proofs.LineLemmas.{NoTime}
 use Rattle.tz_query.proofs.NumberLemmas.{IfNone-anyway, no_part_after}
-use Rattle.tz_query.proofs.query.queries.read_time.Goals as goal
+use Rattle.tz_query.proofs.query.lines.read_time.Goals as goal
 
 pub returns-in_err-unix_time-clause-none : goal.returns-in_err-unix_time-clause-none
 returns-in_err-unix_time-clause-none c =

@@ -5,7 +5,7 @@ use mir.Syntax.{w64}
 use mir.Val.{SFits}
 use Rattle.tz_query.proofs.NumberLemmas.{IfNone-anyway}
 use Rattle.tz_query.proofs.LineLemmas.{NoTimeLine, line_from_front, no_line_without_numbers, no_line_without_end}
-use Rattle.tz_query.proofs.query.queries.read_time_line.Goals as goal
+use Rattle.tz_query.proofs.query.lines.read_time_line.Goals as goal
 
 pub returns-in_err-unix_time-clause-none : goal.returns-in_err-unix_time-clause-none
 returns-in_err-unix_time-clause-none c =

@@ -2,7 +2,7 @@
 use Rattle.std.proofs.Common.{◌++◌, take, append_assoc, take-append-drop}
 use Rattle.std.proofs.KnownBytes.{Appends-trans}
 use Rattle.std.proofs.lemmas.List.{take_rest}
-use Rattle.tz_query.proofs.query.program.write_all.Goals as goal
+use Rattle.tz_query.proofs.query.streams.write_all.Goals as goal
 
 pub loop-rest-preserved : goal.loop-rest-preserved
 loop-rest-preserved g c =
