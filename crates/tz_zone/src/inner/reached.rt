@@ -5,6 +5,7 @@ ghost use Rattle.tz_zone.specs.Clock.{AreReached, AreAhead};
 ghost use Rattle.tz_zone.specs.ValidZone.{IsRising};
 
 use super::Transitions;
+use crate::partition::middle;
 
 /// How many transitions are reached at a leap time, where the first `low` are and those from `high` on are not.
 pub fn transitions_reached_between<V: Transitions>(
@@ -28,11 +29,11 @@ pub fn transitions_reached_between<V: Transitions>(
     ensures some { low < high → V.next (V.looks view.old) ≤ V.looks view.new }
 {
     while low < high {
-        let middle = low + (high - low) / 2;
-        if view.look(middle).unix_leap_time() <= unix_leap_time {
-            low = middle + 1;
+        let place = middle(low, high);
+        if view.look(place).unix_leap_time() <= unix_leap_time {
+            low = place + 1;
         } else {
-            high = middle;
+            high = place;
         }
     }
     low

@@ -47,7 +47,7 @@ pub struct Counted<'a> {
 }
 
 impl<'a> Counted<'a> {
-    /// The view of these transitions, at which no look was taken.
+    /// The view of these transitions, at which no look has been taken.
     pub fn new(transitions: &'a [Transition]) -> Self
         ensures list { ⟦<Counted<'a> as Transitions>⟧.list result ≡ transitions.now }
         ensures looks { ⟦<Counted<'a> as Transitions>⟧.looks result ≡ 0 }
