@@ -8,6 +8,7 @@ pub mod Clock
 pub mod ValidZone
 pub mod ZoneRef
 pub mod SameZone
+pub mod Bytes
 pub mod TzFile
 pub mod TzFileFault
 pub mod TzParts
