@@ -10,6 +10,7 @@ pub mod ValidZone
 pub mod ZoneRef
 pub mod ZoneSeen
 pub mod SameZone
+pub mod Bytes
 pub mod TzFile
 pub mod TzFileFault
 pub mod TzParts

@@ -3,7 +3,7 @@ use Rattle.std.proofs.Common.{List, ℕ, ◌∙◌, subst, inr}
 use Rattle.std.proofs.lemmas.Result.{err_from_is_err_and}
 use Rattle.tz_zone.specs.TzTextFault.{IsTzTextFault}
 use Rattle.tz_zone.proofs.TextEnds.{goes_on}
-use Rattle.tz_zone.proofs.parse.tz_file.footer.read_rule.Goals as goal
+use Rattle.tz_zone.proofs.parse.tz_file.footer.read_footer.Goals as goal
 
 pub returns-in_err-rule-clause-err : goal.returns-in_err-rule-clause-err
 returns-in_err-rule-clause-err c =
