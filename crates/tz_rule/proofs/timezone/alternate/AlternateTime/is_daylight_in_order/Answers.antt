@@ -3,19 +3,18 @@ use Rattle.std.proofs.Common.{◌≡◌, arith, pos, ◌+ℤ◌, ◌-ℤ◌, to_
 use Rattle.std.proofs.lemmas.Int.{ints, to_z-of_z}
 use mir.Syntax.{w32, w64}
 use Rattle.tz_rule.specs.Alternate.{start_of, end_of}
-use Rattle.tz_rule.specs.Parts.{rule_of}
 use Rattle.tz_rule.proofs.YearlyInstants.{IsYearly-start_of, IsYearly-end_of}
 use Rattle.tz_rule.proofs.DaylightLemmas.{daylight_in_order, no_daylight_in_order}
 use Rattle.tz_rule.proofs.WeakerClauses.{MatchBool-weaker}
-use Rattle.tz_rule.proofs.timezone.check.Parts.is_daylight_in_order.Goals as goal
+use Rattle.tz_rule.proofs.timezone.alternate.AlternateTime.is_daylight_in_order.Goals as goal
 
 pub returns : goal.returns
 returns c =
-    let r = rule_of c.args.self.now in
+    let r = c.args.self.now in
     let u = c.args.unix_time in
     let y = c.args.year in
-    let yf = IsYearly-start_of r c.requires.range c.requires.days.start_is in
-    let yg = IsYearly-end_of r c.requires.range c.requires.days.end_is in
+    let yf = IsYearly-start_of r c.parts_are_sound.ensures.rule.in_range c.parts_are_sound.ensures.days.start_is in
+    let yg = IsYearly-end_of r c.parts_are_sound.ensures.rule.in_range c.parts_are_sound.ensures.days.end_is in
     let year = to_z-of_z w32 y c.ranges.year in
     let unix = to_z-of_z w64 u c.ranges.unix_time in
     let year_before : to_z w32 (of_z w32 (y -ℤ pos 1)) ≡ y -ℤ pos 1 = omega (arith, ints, c.requires.year.1) in

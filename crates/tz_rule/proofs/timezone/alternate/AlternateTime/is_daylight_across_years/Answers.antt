@@ -3,19 +3,18 @@ use Rattle.std.proofs.Common.{◌≡◌, refl, arith, pos, ◌+ℤ◌, ◌-ℤ�
 use Rattle.std.proofs.lemmas.Int.{ints, to_z-of_z}
 use mir.Syntax.{w32, w64}
 use Rattle.tz_rule.specs.Alternate.{start_of, end_of}
-use Rattle.tz_rule.specs.Parts.{rule_of}
 use Rattle.tz_rule.proofs.YearlyInstants.{IsYearly-start_of, IsYearly-end_of}
 use Rattle.tz_rule.proofs.DaylightLemmas.{daylight_across_years, daylight_to_end, daylight_from_start, no_daylight_across_years}
 use Rattle.tz_rule.proofs.WeakerClauses.{MatchBool-le_z}
-use Rattle.tz_rule.proofs.timezone.check.Parts.is_daylight_across_years.Goals as goal
+use Rattle.tz_rule.proofs.timezone.alternate.AlternateTime.is_daylight_across_years.Goals as goal
 
 pub returns-then-unix_time-end_in : goal.returns-then-unix_time-end_in
 returns-then-unix_time-end_in c =
-    let r = rule_of c.args.self.now in
+    let r = c.args.self.now in
     let u = c.args.unix_time in
     let y = c.args.year in
-    let yf = IsYearly-start_of r c.requires.range c.requires.days.start_is in
-    let yg = IsYearly-end_of r c.requires.range c.requires.days.end_is in
+    let yf = IsYearly-start_of r c.parts_are_sound.ensures.rule.in_range c.parts_are_sound.ensures.days.start_is in
+    let yg = IsYearly-end_of r c.parts_are_sound.ensures.rule.in_range c.parts_are_sound.ensures.days.end_is in
     let year = to_z-of_z w32 y c.ranges.year in
     let unix = to_z-of_z w64 u c.ranges.unix_time in
     let year_before : to_z w32 (of_z w32 (y -ℤ pos 1)) ≡ y -ℤ pos 1 = omega (arith, ints, c.requires.year.1) in
@@ -24,11 +23,11 @@ returns-then-unix_time-end_in c =
 
 pub returns-then-is_in_span : goal.returns-then-is_in_span
 returns-then-is_in_span c =
-    let r = rule_of c.args.self.now in
+    let r = c.args.self.now in
     let u = c.args.unix_time in
     let y = c.args.year in
-    let yf = IsYearly-start_of r c.requires.range c.requires.days.start_is in
-    let yg = IsYearly-end_of r c.requires.range c.requires.days.end_is in
+    let yf = IsYearly-start_of r c.parts_are_sound.ensures.rule.in_range c.parts_are_sound.ensures.days.start_is in
+    let yg = IsYearly-end_of r c.parts_are_sound.ensures.rule.in_range c.parts_are_sound.ensures.days.end_is in
     let year = to_z-of_z w32 y c.ranges.year in
     let unix = to_z-of_z w64 u c.ranges.unix_time in
     let year_before : to_z w32 (of_z w32 (y -ℤ pos 1)) ≡ y -ℤ pos 1 = omega (arith, ints, c.requires.year.1) in
@@ -37,11 +36,11 @@ returns-then-is_in_span c =
 
 pub returns-then-is_in_span-2 : goal.returns-then-is_in_span-2
 returns-then-is_in_span-2 c =
-    let r = rule_of c.args.self.now in
+    let r = c.args.self.now in
     let u = c.args.unix_time in
     let y = c.args.year in
-    let yf = IsYearly-start_of r c.requires.range c.requires.days.start_is in
-    let yg = IsYearly-end_of r c.requires.range c.requires.days.end_is in
+    let yf = IsYearly-start_of r c.parts_are_sound.ensures.rule.in_range c.parts_are_sound.ensures.days.start_is in
+    let yg = IsYearly-end_of r c.parts_are_sound.ensures.rule.in_range c.parts_are_sound.ensures.days.end_is in
     let year = to_z-of_z w32 y c.ranges.year in
     let unix = to_z-of_z w64 u c.ranges.unix_time in
     let year_after : to_z w32 (of_z w32 (y +ℤ pos 1)) ≡ y +ℤ pos 1 = omega (arith, ints, c.requires.year.1) in
@@ -49,11 +48,11 @@ returns-then-is_in_span-2 c =
 
 pub returns : goal.returns
 returns c =
-    let r = rule_of c.args.self.now in
+    let r = c.args.self.now in
     let u = c.args.unix_time in
     let y = c.args.year in
-    let yf = IsYearly-start_of r c.requires.range c.requires.days.start_is in
-    let yg = IsYearly-end_of r c.requires.range c.requires.days.end_is in
+    let yf = IsYearly-start_of r c.parts_are_sound.ensures.rule.in_range c.parts_are_sound.ensures.days.start_is in
+    let yg = IsYearly-end_of r c.parts_are_sound.ensures.rule.in_range c.parts_are_sound.ensures.days.end_is in
     let year = to_z-of_z w32 y c.ranges.year in
     let unix = to_z-of_z w64 u c.ranges.unix_time in
     let year_before : to_z w32 (of_z w32 (y -ℤ pos 1)) ≡ y -ℤ pos 1 = omega (arith, ints, c.requires.year.1) in
