@@ -7,6 +7,7 @@ pub mod LeapTime
 pub mod Clock
 pub mod ValidZone
 pub mod ZoneRef
+pub mod Segments
 pub mod SameZone
 pub mod TzFile
 pub mod TzFileFault

@@ -5,8 +5,13 @@ ghost use Rattle.tz_zone.specs.Table.{Transition, LeapSecond};
 ghost use Rattle.tz_zone.specs.LeapTime.{IsInstant, correction_before as correction_at_place, IsReached, IsLeapTimeRefused, IsLeapTime, IsMomentOf, IsEffect, IsEffectRefused};
 ghost use Rattle.tz_zone.specs.ValidZone.{AreLeapSeconds, IsRising};
 
+mod segment;
+mod segments;
+
 use crate::partition::{Places, partition_point};
 use crate::timezone::{LeapSecond, Transition};
+pub use segment::Segment;
+pub use segments::segment_at;
 use tz_base::error::TzError;
 
 /// Instants up to this one have a leap time, whatever the leap seconds.
