@@ -1,6 +1,6 @@
 -- Between two transitions the clock keeps its type, and from the last one on it is that of the rule.
-use Rattle.std.proofs.Common.{◌≡◌, ◌≢◌, ℕ, zero, suc, ◌+◌, ◌-◌, ◌<◌, ◌≤◌, ◌⊎◌, inl, inr, refl, sym, ap, ◌∙◌, subst, arith, ℤ, pos, negsuc, ◌+ℤ◌, ◌≤ℤ◌, ◌<ℤ◌, List, [], ◌∷◌, ◌++◌, length, get_or, Some, None}
-use Rattle.std.specs.Prelude.{Option, slice_get}
+use Rattle.std.proofs.Common.{◌≡◌, ◌≢◌, ℕ, zero, suc, ◌+◌, ◌-◌, ◌<◌, ◌≤◌, inl, inr, refl, sym, ap, ◌∙◌, subst, arith, ℤ, pos, negsuc, ◌+ℤ◌, ◌≤ℤ◌, ◌<ℤ◌, List, [], ◌∷◌, ◌++◌, length, get_or, Some, None}
+use Rattle.std.specs.Prelude.{slice_get}
 use Rattle.std.proofs.lemmas.Int.{ints, by_lt_z}
 use Rattle.std.proofs.lemmas.Bool.{cases_lt}
 use Rattle.std.proofs.lemmas.Option.{slice_get_within, slice_get-get_or, same_Some}
@@ -10,14 +10,14 @@ use Rattle.tz_rule.specs.Rule.{IsRuleType}
 use Rattle.tz_rule.specs.declared.timezone.rule.TransitionRule.{TransitionRule}
 use Rattle.tz_rule.specs.declared.timezone.rule.TransitionRule.TheVariants.{Fixed, Alternate}
 use Rattle.tz_zone.specs.Table.{Transition, LeapSecond, Zone}
-use Rattle.tz_zone.specs.LeapTime.{IsInstant, IsReached, IsLeapTimeRefused, IsLeapTime, IsCorrection, HasComeTo, IsEffect}
+use Rattle.tz_zone.specs.LeapTime.{IsInstant, IsLeapTimeRefused, IsLeapTime, IsCorrection, IsEffect}
 use Rattle.tz_zone.specs.Clock.{IsTypeAt, IsTransitionType, IsLast, IsTypeAfter, IsTypeWithout, IsClock}
-use Rattle.tz_zone.specs.ValidZone.{AreLeapSeconds, IsRising, IsSoundTable}
+use Rattle.tz_zone.specs.ValidZone.{AreLeapSeconds, IsSoundTable}
 use Rattle.tz_zone.specs.Segments.{rule_types, numbered_types, IsStretch, IsRuledFrom}
 use Rattle.tz_zone.proofs.LeapLists.{count_exists}
 use Rattle.tz_zone.proofs.LeapTimes.{IsLeapTime-from_count, leap_time_mono, refused_later, not_refused_within}
 use Rattle.tz_zone.proofs.RisingTimes.{Rise, transitions_rise}
-use Rattle.tz_zone.proofs.Clocks.{some_from_last, last_unique, type_before_first, type_of_last_reached, clock_before_last, clock_from_last}
+use Rattle.tz_zone.proofs.Clocks.{type_before_first, type_of_last_reached, clock_before_last, clock_from_last}
 
 -- no leap second is one of none
 nothing_at : (leaps : List LeapSecond) → leaps ≡ [] → (i : ℕ) (l : LeapSecond) → slice_get leaps i ≡ Some l → ⊥

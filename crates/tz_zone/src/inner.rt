@@ -12,15 +12,14 @@ mod segment;
 mod segments;
 mod transitions;
 
+use crate::partition::{Places, partition_point};
+use crate::timezone::{LeapSecond, Transition};
 pub use lookup::{find_local_time_type, other_parts, type_of_last};
 pub use parts::OtherParts;
 pub use reached::{transitions_reached, transitions_reached_between};
 pub use segment::Segment;
 pub use segments::segment_at;
 pub use transitions::{Counted, Transitions, Uncounted};
-
-use crate::partition::{Places, partition_point};
-use crate::timezone::{LeapSecond, Transition};
 use tz_base::error::TzError;
 
 /// Instants up to this one have a leap time, whatever the leap seconds.
@@ -50,7 +49,7 @@ fn leap_seconds_reached(leap_seconds: &[LeapSecond], unix_time: i64) -> usize
     })
 }
 
-/// LeapSecond seconds, tested whether they are reached at an instant.
+/// Leap seconds, tested whether they are reached at an instant.
 #[derive(Clone, Copy)]
 struct ReachedAt<'a> {
     leap_seconds: &'a [LeapSecond],
@@ -77,7 +76,7 @@ impl Places for ReachedAt<'_> {
     }
 }
 
-/// LeapSecond seconds, tested whether their time is not above a leap time.
+/// Leap seconds, tested whether their time is not above a leap time.
 #[derive(Clone, Copy)]
 struct LeapSecondsUpTo<'a> {
     leap_seconds: &'a [LeapSecond],

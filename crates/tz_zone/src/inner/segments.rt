@@ -8,7 +8,7 @@ ghost use Rattle.tz_zone.specs.ValidZone.{AreLeapSeconds};
 ghost use Rattle.tz_zone.specs.ZoneRef.{zone_of};
 
 use super::segment::Segment;
-use super::{SURELY_ANSWERED, effect, leap, transitions_up_to};
+use super::{SURELY_ANSWERED, Uncounted, effect, leap, transitions_reached};
 use crate::timezone::{LeapSecond, TimeZoneRef, Transition, TransitionRule};
 
 /// The instant at which a leap time takes effect, if there is one.
@@ -102,7 +102,8 @@ fn likely_segment(zone: TimeZoneRef<'_>, unix_time: i64) -> Option<Segment>
         return None;
     };
     if unix_leap_time < last.unix_leap_time() {
-        segment_before(zone, transitions_up_to(transitions, unix_leap_time))
+        let mut view = Uncounted::new(transitions);
+        segment_before(zone, transitions_reached(&mut view, unix_leap_time))
     } else {
         segment_after(zone, last, unix_time)
     }

@@ -1,5 +1,5 @@
 -- Without leap seconds a time takes effect at itself.
-use Rattle.std.proofs.Common.{◌≡◌, negsuc, ◌<ℤ◌, [], length, arith, rules}
+use Rattle.std.proofs.Common.{◌≡◌, length, arith, rules}
 use Rattle.std.proofs.lemmas.Int.{ints, to_z-of_z}
 use mir.Syntax.{w64}
 use Rattle.tz_zone.proofs.SegmentLemmas.{effect_without, none_of_length}

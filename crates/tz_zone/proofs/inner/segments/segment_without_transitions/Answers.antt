@@ -1,5 +1,5 @@
 -- Where there is neither a transition nor a rule there is one type.
-use Rattle.std.proofs.Common.{◌≡◌, None, sym, ◌∙◌}
+use Rattle.std.proofs.Common.{sym, ◌∙◌}
 use Rattle.tz_zone.specs.ZoneRef.{zone_of}
 use Rattle.tz_zone.proofs.SegmentLemmas.{number_of_type, type_exists, one_type}
 use Rattle.tz_zone.proofs.inner.segments.segment_without_transitions.Goals as goal
