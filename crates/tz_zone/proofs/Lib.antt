@@ -8,6 +8,7 @@ pub mod LeapAnswers
 pub mod TableChecks
 pub mod RuleChecks
 pub mod Clocks
+pub mod SegmentLemmas
 pub mod TzFileLaws
 pub mod TzNames
 pub mod TzTables

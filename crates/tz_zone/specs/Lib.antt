@@ -9,6 +9,7 @@ pub mod Clock
 pub mod ValidZone
 pub mod ZoneRef
 pub mod ZoneSeen
+pub mod Segments
 pub mod SameZone
 pub mod Bytes
 pub mod TzFile

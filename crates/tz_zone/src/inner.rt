@@ -5,19 +5,22 @@ ghost use Rattle.tz_zone.specs.Table.{Transition, LeapSecond};
 ghost use Rattle.tz_zone.specs.LeapTime.{IsInstant, correction_before as correction_at_place, IsReached, IsLeapTimeRefused, IsLeapTime, IsMomentOf, IsEffect, IsEffectRefused};
 ghost use Rattle.tz_zone.specs.ValidZone.{AreLeapSeconds, IsRising};
 
-use crate::partition::{Places, partition_point};
-use crate::timezone::{LeapSecond, Transition};
-use tz_base::error::TzError;
-
 mod lookup;
 mod parts;
 mod reached;
+mod segment;
+mod segments;
 mod transitions;
 
+use crate::partition::{Places, partition_point};
+use crate::timezone::{LeapSecond, Transition};
 pub use lookup::{find_local_time_type, other_parts, type_of_last};
 pub use parts::OtherParts;
 pub use reached::{transitions_reached, transitions_reached_between};
+pub use segment::Segment;
+pub use segments::segment_at;
 pub use transitions::{Counted, Transitions, Uncounted};
+use tz_base::error::TzError;
 
 /// Instants up to this one have a leap time, whatever the leap seconds.
 const SURELY_ANSWERED: i64 = 80_000_000_000_000_000;
@@ -46,7 +49,7 @@ fn leap_seconds_reached(leap_seconds: &[LeapSecond], unix_time: i64) -> usize
     })
 }
 
-/// LeapSecond seconds, tested whether they are reached at an instant.
+/// Leap seconds, tested whether they are reached at an instant.
 #[derive(Clone, Copy)]
 struct ReachedAt<'a> {
     leap_seconds: &'a [LeapSecond],
@@ -73,7 +76,7 @@ impl Places for ReachedAt<'_> {
     }
 }
 
-/// LeapSecond seconds, tested whether their time is not above a leap time.
+/// Leap seconds, tested whether their time is not above a leap time.
 #[derive(Clone, Copy)]
 struct LeapSecondsUpTo<'a> {
     leap_seconds: &'a [LeapSecond],

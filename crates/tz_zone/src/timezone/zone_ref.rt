@@ -49,9 +49,9 @@ impl<'a> Eq for TimeZoneRef<'a> {
 }
 
 impl<'a> TimeZoneRef<'a> {
-    ghost use Rattle.std.specs.Prelude.{◌≡◌, ℕ, ◌+◌, ◌^◌, ◌<◌, ◌≤◌, [], ◌∷◌, None, pos, length, IfOk, IfErr, OnOk};
+    ghost use Rattle.std.specs.Prelude.{◌≡◌, ℕ, ◌+◌, ◌^◌, ◌<◌, ◌≤◌, [], pos, length, IfOk, IfErr, OnOk};
     ghost use Rattle.tz_rule.specs.LocalTimeType.{plain_type};
-    ghost use Rattle.tz_zone.specs.Table.{zone_with};
+    ghost use Rattle.tz_zone.specs.Table.{zone_with, zone_of_type};
     ghost use Rattle.tz_zone.specs.Clock.{IsClock, IsLookupFault};
     ghost use Rattle.tz_zone.specs.ValidZone.{IsSoundTable, IsValidZone, IsFirstZoneFault};
     ghost use Rattle.tz_zone.specs.ZoneRef.{zone_of};
@@ -101,7 +101,7 @@ impl<'a> TimeZoneRef<'a> {
 
     /// The zone that has UTC's type alone. Takes no memory.
     pub fn utc() -> TimeZoneRef<'static>
-        ensures { zone_of result ≡ zone_with [] (plain_type (pos 0) ∷ []) [] None }
+        ensures { zone_of result ≡ zone_of_type (plain_type (pos 0)) }
     {
         TimeZoneRef {
             transitions: &[],
