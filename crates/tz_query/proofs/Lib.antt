@@ -2,4 +2,3 @@ pub mod NumberLemmas
 pub mod LineLemmas
 pub mod AnswerLemmas
 pub mod LawLemmas
-pub mod FoundLemmas
