@@ -3,3 +3,5 @@ pub mod LineLemmas
 pub mod AnswerLemmas
 pub mod LawLemmas
 pub mod FoundLemmas
+pub mod FastNumbers
+pub mod PageLemmas

@@ -4,5 +4,7 @@ pub mod Lines
 pub mod Numbers
 pub mod Queries
 pub mod Answers
+pub mod Pages
+pub mod Tails
 pub mod Program
 pub mod FileAnswers
