@@ -5,5 +5,7 @@ pub mod Numbers
 pub mod Queries
 pub mod Answers
 pub mod Streams
+pub mod Pages
+pub mod Tails
 pub mod Program
 pub mod FileAnswers

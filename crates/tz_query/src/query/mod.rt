@@ -1,6 +1,7 @@
 //! Queries, a line each, and their answers.
 
 mod answers;
+mod fast;
 mod lines;
 mod numbers;
 mod program;
