@@ -9,6 +9,7 @@ pub mod WeakerClauses
 pub mod RulesAcrossYears
 pub mod UtcYears
 pub mod DaylightLemmas
+pub mod MidYear
 pub mod ChangePoints
 pub mod RuleTypes
 pub mod SameLemmas

@@ -18,10 +18,10 @@ pub MatchBool-weaker : {P P' Q Q' : Type 0} (b : Bool) → (P → P') → (Q →
 MatchBool-weaker true f g h = f h
 MatchBool-weaker false f g h = g h
 
-le_z-true : (a b : ℤ) → le_z a b ≡ true → a ≤ℤ b
+pub le_z-true : (a b : ℤ) → le_z a b ≡ true → a ≤ℤ b
 le_z-true a b e = grind (arith, ints)
 
-le_z-false : (a b : ℤ) → le_z a b ≡ false → b <ℤ a
+pub le_z-false : (a b : ℤ) → le_z a b ≡ false → b <ℤ a
 le_z-false a b e = grind (arith, ints)
 
 pub MatchBool-le_z : {P Q : Type 0} (a b : ℤ) → (a ≤ℤ b → P) → (b <ℤ a → Q) → MatchBool (le_z a b) P Q

@@ -1,10 +1,9 @@
-//! What the crates above use of rules and their users do not.
+//! For the crates above, not part of the public surface: the type of a rule at an instant, its starts and ends, and the parts of UTC's zone.
 
-ghost use Rattle.std.specs.Prelude.{◌≡◌, IfOk, IfErr, MatchBool};
+ghost use Rattle.std.specs.Prelude.{◌≡◌, IfOk, IfErr};
 ghost use Rattle.tz_rule.specs.Alternate.{start_of, end_of, IsNearYear};
 ghost use Rattle.tz_rule.specs.LocalTimeType.{LocalTimeType};
 ghost use Rattle.tz_rule.specs.Rule.{IsRuleType};
-ghost use Rattle.tz_rule.specs.Years.{EndsNextYear};
 
 pub use crate::timezone::utc::{no_rule, utc_types};
 use crate::timezone::{AlternateTime, LocalTimeType, TransitionRule};
@@ -39,11 +38,4 @@ pub fn end(rule: &AlternateTime, year: i32) -> i64
     ensures bound { IsNearYear result year }
 {
     rule.end_in(year)
-}
-
-/// Whether daylight saving time lasts from each start to the next year's end.
-pub fn ends_next_year(rule: &AlternateTime) -> bool
-    ensures { MatchBool result (EndsNextYear (start_of rule.now) (end_of rule.now)) (¬ EndsNextYear (start_of rule.now) (end_of rule.now)) }
-{
-    rule.ends_next_year()
 }

@@ -1,6 +1,8 @@
 //! Rules of standard time and daylight saving time.
 
-ghost use Rattle.std.specs.Prelude.{◌≡◌, ℤ, OnOk, IfOk, IfErr, IfSome, IfNone, MatchBool};
+ghost use Rattle.std.specs.Prelude.{◌≡◌, ◌<◌, ℤ, pos, negsuc, ◌-ℤ◌, ◌*ℤ◌, ◌≤ℤ◌, OnOk, IfOk, IfErr, IfSome, IfNone, MatchBool};
+ghost use Rattle.tz_base.specs.Days.{first_day};
+ghost use Rattle.tz_rule.specs.Kinds.{year_kind};
 ghost use Rattle.tz_rule.specs.Alternate.{start_of, end_of, alternate_of, IsInRuleRange, IsFirstRuleFault, IsConsistentRule, AreRuleDays, IsNearYear, IsInRuleYears, IsAlternateType};
 ghost use Rattle.tz_rule.specs.Years.{IsConflict, IsInconsistent, EndsNextYear};
 
@@ -91,8 +93,13 @@ impl AlternateTime {
         dst_end_time: i32,
     ) -> Option<(i32, i32, i32)>
         ensures range { IfSome result (λ _. IsInRuleRange (alternate_of std dst dst_start dst_start_time dst_end dst_end_time)) }
-        ensures some { IfSome result (λ c. IsConflict (start_of (alternate_of std dst dst_start dst_start_time dst_end dst_end_time)) (end_of (alternate_of std dst dst_start dst_start_time dst_end dst_end_time)) c.0 c.1 c.2) }
-        ensures none { IfNone result (¬ (IsInRuleRange (alternate_of std dst dst_start dst_start_time dst_end dst_end_time) × IsInconsistent (start_of (alternate_of std dst dst_start dst_start_time dst_end dst_end_time)) (end_of (alternate_of std dst dst_start dst_start_time dst_end dst_end_time)))) }
+        ensures some { IfSome result (λ c. IsConflict
+            (start_of (alternate_of std dst dst_start dst_start_time dst_end dst_end_time))
+            (end_of (alternate_of std dst dst_start dst_start_time dst_end dst_end_time)) c.0 c.1 c.2) }
+        ensures none { IfNone result (¬ (IsInRuleRange (alternate_of std dst dst_start dst_start_time dst_end dst_end_time)
+            × IsInconsistent
+            (start_of (alternate_of std dst dst_start dst_start_time dst_end dst_end_time))
+            (end_of (alternate_of std dst dst_start dst_start_time dst_end dst_end_time)))) }
     {
         let parts = Parts {
             std,
@@ -150,13 +157,32 @@ impl AlternateTime {
         self.parts.dst_end_time
     }
 
+    /// How long after 00:00 UTC of January 1st daylight saving time starts in the years of a kind.
+    pub(super) fn start_in_kind(&self, kind: usize) -> i64
+        requires { kind < 14 }
+        ensures value { (year : ℤ) → year_kind year ≡ kind → result ≡ start_of self.now year -ℤ pos 86400 *ℤ first_day year }
+        ensures bound { (negsuc 2147483647 ≤ℤ result) × (result ≤ℤ pos 2147483647) }
+    {
+        self.starts.entry(kind)
+    }
+
+    /// How long after 00:00 UTC of January 1st daylight saving time ends in the years of a kind.
+    pub(super) fn end_in_kind(&self, kind: usize) -> i64
+        requires { kind < 14 }
+        ensures value { (year : ℤ) → year_kind year ≡ kind → result ≡ end_of self.now year -ℤ pos 86400 *ℤ first_day year }
+        ensures bound { (negsuc 2147483647 ≤ℤ result) × (result ≤ℤ pos 2147483647) }
+    {
+        self.ends.entry(kind)
+    }
+
     /// The instant at which daylight saving time starts in a year.
     pub(crate) fn start_in(&self, year: i32) -> i64
         ensures value { result ≡ start_of self.now year }
         ensures bound { IsNearYear result year }
     {
+        self.parts_are_sound();
         let (start_of_year, kind) = year_start(year);
-        start_of_year + self.starts.entry(kind)
+        start_of_year + self.start_in_kind(kind)
     }
 
     /// The instant at which daylight saving time ends in a year.
@@ -164,8 +190,9 @@ impl AlternateTime {
         ensures value { result ≡ end_of self.now year }
         ensures bound { IsNearYear result year }
     {
+        self.parts_are_sound();
         let (start_of_year, kind) = year_start(year);
-        start_of_year + self.ends.entry(kind)
+        start_of_year + self.end_in_kind(kind)
     }
 
     /// Whether each start has the end of the next year.

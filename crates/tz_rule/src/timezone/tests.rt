@@ -355,7 +355,7 @@ fn days_ends_and_rules(rt: HostRuntime) {
     };
     assert_eq!(rt; inner::start(&auckland, 2000), 970_322_400);
     assert_eq!(rt; inner::end(&auckland, 2000), 953_384_400);
-    assert!(rt; inner::ends_next_year(&auckland));
+    assert!(rt; auckland.ends_next_year());
 
     let fixed = TransitionRule::Fixed(*auckland.std());
     assert_eq!(rt; fixed, fixed);
