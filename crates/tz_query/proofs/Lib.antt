@@ -3,3 +3,4 @@ pub mod LineLemmas
 pub mod AnswerLemmas
 pub mod LawLemmas
 pub mod FoundLemmas
+pub mod WeekLemmas

@@ -2,10 +2,12 @@
 
 mod answers;
 mod lines;
+mod meetings;
 mod numbers;
 mod program;
 mod streams;
 mod tzif;
+mod weeks;
 
 pub use answers::answer;
 pub use program::tool;
