@@ -5,9 +5,10 @@ ghost use Rattle.std.specs.Fmt.{decimal, signed_decimal};
 ghost use Rattle.tz_base.specs.Fields.{IsValid};
 ghost use Rattle.tz.specs.PrintedText.{two_digits, nine_digits, two_digits_or_more, date_text, time_text, seconds_text, duration_text, offset_text, printed_text};
 
+use crate::datetime::DateTime;
 use std::marker::Model;
 use std::str;
-use tz_base::calendar::Fields;
+pub use tz_base::calendar::Fields;
 
 /// Text of at most 128 bytes, which is made without an allocation.
 ///
@@ -332,6 +333,16 @@ impl TextBuffer {
         self.push(b'T');
         self.push_time(fields);
         self.push_offset(ut_offset);
+    }
+
+    /// Appends a date time as its `Display` prints it.
+    #[inline(always)]
+    pub fn push_local_date_time(&mut self, date_time: &DateTime)
+        requires { length self.old + 53 ≤ 128 }
+        ensures text { self.new ≡ self.old ++ printed_text date_time.now.fields date_time.now.local_time_type.ut_offset }
+        ensures len { length self.new ≤ length self.old + 53 }
+    {
+        self.push_date_time(date_time.fields(), date_time.local_time_type().ut_offset());
     }
 }
 

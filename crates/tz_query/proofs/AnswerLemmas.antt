@@ -3,14 +3,10 @@ use Rattle.std.proofs.Common.{◌≡◌, ℕ, ◌+◌, ◌<◌, ◌≤◌, inl, 
 use Rattle.std.specs.Prelude.{Option, Some, None, IfSome, Result, Ok, Err, IfOk, is_ok, unwrap_or, codes, map, ⊤}
 use Rattle.std.proofs.lemmas.List.{take_more, map-append}
 use Rattle.std.proofs.lemmas.List.Elements.{All-nil, All-cons}
-use mir.Syntax.{w32}
-use mir.Val.{SFits}
 use Rattle.tz_base.specs.declared.calendar.Fields.{Fields}
 use Rattle.tz_base.specs.declared.error.TzError.{TzError}
 use Rattle.tz_base.specs.declared.error.TzError.TheVariants.{DateTime, OutOfRange}
 use Rattle.tz_base.specs.declared.error.datetime.DateTimeError.{DateTimeError}
-use Rattle.tz_base.specs.Fields.{IsCivil, IsReading, reading}
-use Rattle.tz_base.proofs.EndLemmas.{valid_reading}
 use Rattle.tz_rule.specs.LocalTimeType.{IsDesignation}
 use Rattle.tz_zone.specs.Table.{Zone}
 use Rattle.tz.specs.DateTimes.{IsClockFault}
@@ -32,10 +28,6 @@ name_of_some (Some name) some = refl
 pub name_is_short : (o : Option (List ℕ)) → IfSome o IsDesignation → length (unwrap_or o []) ≤ 7
 name_is_short None is = omega arith
 name_is_short (Some name) is = is.length_is.1
-
--- fields of a year of 32 bits, as a clock shows them, read in such a year
-pub civil_reading : (x : ℤ) (n : ℕ) (f : Fields) → IsCivil x n f → SFits w32 f.year → IsReading (reading f)
-civil_reading x n f civil fits = valid_reading f civil.valid fits (λ last. omega (arith, civil.below_60, last.5))
 
 -- every refusal of an instant has a name
 pub clock_fault_text : (z : Zone) (u : ℤ) (n : ℕ) (e : TzError) → IsClockFault z u n e → (text : List ℕ) × IsFaultText e text

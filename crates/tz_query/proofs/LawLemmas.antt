@@ -1,18 +1,19 @@
 -- Bytes have one cut into lines, a line has a group of answer lines, and most lines have one answer.
-use Rattle.std.proofs.Common.{◌≡◌, ◌≢◌, ℕ, ◌⊎◌, inl, inr, ℤ, pos, negsuc, ◌+ℤ◌, List, [], ◌∷◌, ◌++◌, length, get_or, refl, sym, ap, ◌∙◌, subst, arith, append_assoc}
+use Rattle.std.proofs.Common.{◌≡◌, ◌≢◌, ℕ, ◌+◌, ◌<◌, ◌⊎◌, inl, inr, ℤ, pos, negsuc, ◌+ℤ◌, List, [], ◌∷◌, ◌++◌, length, get_or, refl, sym, ap, ◌∙◌, subst, arith, append_assoc}
 use Rattle.std.specs.Prelude.{codes, map}
 use Rattle.std.specs.Fmt.{decimal}
 use Rattle.std.specs.List.{All, AllZip, flat_map}
 use Rattle.std.proofs.lemmas.Int.{ints}
 use Rattle.std.proofs.lemmas.List.{length-map}
-use Rattle.std.proofs.lemmas.List.Elements.{All-head, All-tail}
+use Rattle.std.proofs.lemmas.List.Elements.{All-nil, All-cons, All-head, All-tail}
+use Rattle.tz_base.specs.Days.{IsDay}
 use Rattle.tz_base.specs.declared.calendar.Fields.{Fields}
 use Rattle.tz_base.specs.declared.error.TzError.{TzError}
 use Rattle.tz_base.specs.declared.error.TzError.TheVariants.{DateTime as FieldFault, OutOfRange, NoAvailableLocalTimeType}
 use Rattle.tz_base.specs.declared.error.datetime.DateTimeError.{DateTimeError}
 use Rattle.tz_base.specs.declared.error.datetime.DateTimeError.TheVariants.{InvalidMonth, InvalidMonthDay, InvalidHour, InvalidMinute, InvalidSecond, InvalidNanoseconds}
 use Rattle.tz_base.specs.Fields.{IsCivil, IsFirstFault, IsReading, IsValid, reading}
-use Rattle.tz_base.proofs.OrderLemmas.{civil_unique}
+use Rattle.tz_base.proofs.OrderLemmas.{civil_unique, date_unique}
 use Rattle.tz_rule.specs.LocalTimeType.{LocalTimeType}
 use Rattle.tz_zone.specs.Table.{Zone}
 use Rattle.tz_zone.specs.Clock.{IsClock, IsOver, IsTypeAfter}
@@ -25,8 +26,9 @@ use Rattle.tz.specs.declared.datetime.found.FoundDateTimeKind.{FoundDateTimeKind
 use Rattle.tz.proofs.FarLemmas.{not_out_of_range, valid_without_fault}
 use Rattle.tz_query.specs.Lines.{IsLine, IsCut, AreLines, ended}
 use Rattle.tz_query.specs.Numbers.{AreNumbers}
-use Rattle.tz_query.specs.Queries.{Query, Time, Search, IsLineOf, IsQueryLine, numbers_of}
-use Rattle.tz_query.specs.Answers.{moment_text, entry_text, found_lines, IsFaultText, IsTimeAnswer, IsSearchAnswer, IsQueryAnswer, IsAnswer, AreAnswers, IsGroup, HasOneAnswer}
+use Rattle.tz_query.specs.Queries.{Query, Time, Search, Meeting, IsLineOf, IsQueryLine, numbers_of}
+use Rattle.tz_query.specs.Weeks.{IsWeekOf}
+use Rattle.tz_query.specs.Answers.{moment_text, entry_text, field_fault_text, found_lines, meeting_lines, IsFaultText, IsTimeAnswer, IsSearchAnswer, IsWeekAnswer, AreWeekAnswers, IsMeetingAnswer, IsQueryAnswer, IsAnswer, AreAnswers, IsSearchGroup, IsGroup, HasOneAnswer, AreSearchesAlike, AreAlike}
 use Rattle.tz_query.proofs.AnswerLemmas.{no_lines}
 use Rattle.tz.proofs.FoundLemmas.{found_unique}
 use Rattle.tz_query.proofs.NumberLemmas.{parts_in_front, parts_unique}
@@ -95,13 +97,27 @@ lines_unique bytes (line ∷ lines) (other ∷ others) are are' = both (λ rest 
     both again (inr (none, whole)) (inl (rest, cut, more)) = absurd (no_end_within line other rest is (sym whole ∙ cut))
     both again (inr (none, whole)) (inr (none', whole')) = cc
 
+-- the answer lines of a search are a group, and so are those of each week
+search_group : (z : Zone) (f : Fields) (answer : List (List ℕ)) → IsSearchAnswer z f answer → IsSearchGroup answer
+search_group z f answer (inl (found, valid, list, same)) =
+    inr (map entry_text found, same ∙ ap (λ count. (codes "F " ++ decimal count) ∷ map entry_text found) (sym (length-map found entry_text)))
+search_group z f answer (inr (e, text, fault, told, same)) = inl (codes "E " ++ text, same)
+
+week_group : (z : Zone) (f : Fields) (k : ℕ) (answer : List (List ℕ)) → IsWeekAnswer z f k answer → IsSearchGroup answer
+week_group z f k answer (inl (g, inside, is, told)) = search_group z g answer told
+week_group z f k answer (inr (outside, same)) = inl (codes "E OutOfRange", same)
+
+week_groups : (z : Zone) (f : Fields) (k : ℕ) (weeks : List (List (List ℕ))) → AreWeekAnswers z f k weeks → All IsSearchGroup weeks
+week_groups z f k [] are = All-nil IsSearchGroup
+week_groups z f k (week ∷ weeks) are = All-cons IsSearchGroup week weeks (week_group z f k week are.0) (week_groups z f (k + 1) weeks are.1)
+
 -- the answer lines of a line are a group
 pub group_of_answer : (z : Zone) (line : List ℕ) (answer : List (List ℕ)) → IsAnswer z line answer → IsGroup answer
-group_of_answer z line answer (inl (Time u n, is, (text, told, same))) = inl (text, same)
-group_of_answer z line answer (inl (Search f, is, inl (found, valid, list, same))) =
-    inr (map entry_text found, same ∙ ap (λ count. (codes "F " ++ decimal count) ∷ map entry_text found) (sym (length-map found entry_text)))
-group_of_answer z line answer (inl (Search f, is, inr (e, text, fault, told, same))) = inl (codes "E " ++ text, same)
-group_of_answer z line answer (inr (none, same)) = inl (codes "E Line", same)
+group_of_answer z line answer (inl (Time u n, is, (text, told, same))) = inl (inl (text, same))
+group_of_answer z line answer (inl (Search f, is, told)) = inl (search_group z f answer told)
+group_of_answer z line answer (inl (Meeting count f, is, inl (valid, weeks, many, are, same))) = inr (weeks, week_groups z f 0 weeks are, same)
+group_of_answer z line answer (inl (Meeting count f, is, inr (fault, first, same))) = inl (inl (codes "E " ++ field_fault_text fault, same))
+group_of_answer z line answer (inr (none, same)) = inl (inl (codes "E Line", same))
 
 -- and they come in the order of the lines
 pub answer_groups : (z : Zone) (queries bytes : List ℕ) (lines : List (List ℕ)) → AreAnswers z queries bytes → AreLines queries lines → (answers : List (List (List ℕ))) × AllZip (IsAnswer z) lines answers × (bytes ≡ flat_map ended answers)
@@ -139,6 +155,19 @@ fields_from numbers = record {
 fields_unique : (f g : Fields) → numbers_of f ≡ numbers_of g → f ≡ g
 fields_unique f g same = ap fields_from same
 
+-- the numbers behind the first
+behind : List ℤ → List ℤ
+behind [] = []
+behind (n ∷ numbers) = numbers
+
+-- the numbers of a meeting tell its weeks and its fields
+meeting_unique : (count count' : ℕ) (f g : Fields) → pos count ∷ numbers_of f ≡ pos count' ∷ numbers_of g → Meeting count f ≡ Meeting count' g
+unfolding behind
+meeting_unique count count' f g same =
+    let first : pos count ≡ pos count' = cc in
+    let counts : count ≡ count' = omega (arith, ints, first) in
+    ap (λ n. Meeting n f) counts ∙ ap (λ x. Meeting count' x) (fields_unique f g (ap behind same))
+
 -- a line asks for one thing
 query_unique : (line : List ℕ) (query query' : Query) → IsQueryLine line query → IsQueryLine line query' → query ≡ query'
 query_unique line (Time u n) (Time u' n') is is' =
@@ -149,6 +178,12 @@ query_unique line (Time u n) (Time u' n') is is' =
     ap (λ x. Time x n) seconds ∙ ap (λ x. Time u' x) nanoseconds
 query_unique line (Time u n) (Search f) is is' = absurd (omega (arith, (line_of_unique 84 70 (u ∷ pos n ∷ []) (numbers_of f) line is.line_is is'.line_is).0))
 query_unique line (Search f) (Time u n) is is' = absurd (omega (arith, (line_of_unique 70 84 (numbers_of f) (u ∷ pos n ∷ []) line is.line_is is'.line_is).0))
+query_unique line (Time u n) (Meeting count f) is is' = absurd (omega (arith, (line_of_unique 84 87 (u ∷ pos n ∷ []) (pos count ∷ numbers_of f) line is.line_is is'.line_is).0))
+query_unique line (Meeting count f) (Time u n) is is' = absurd (omega (arith, (line_of_unique 87 84 (pos count ∷ numbers_of f) (u ∷ pos n ∷ []) line is.line_is is'.line_is).0))
+query_unique line (Search f) (Meeting count g) is is' = absurd (omega (arith, (line_of_unique 70 87 (numbers_of f) (pos count ∷ numbers_of g) line is.line_is is'.line_is).0))
+query_unique line (Meeting count f) (Search g) is is' = absurd (omega (arith, (line_of_unique 87 70 (pos count ∷ numbers_of f) (numbers_of g) line is.line_is is'.line_is).0))
+query_unique line (Meeting count f) (Meeting count' g) is is' =
+    meeting_unique count count' f g ((line_of_unique 87 87 (pos count ∷ numbers_of f) (pos count' ∷ numbers_of g) line is.line_is is'.line_is).1 refl)
 query_unique line (Search f) (Search g) is is' =
     ap (λ x. Search x) (fields_unique f g ((line_of_unique 70 70 (numbers_of f) (numbers_of g) line is.line_is is'.line_is).1 refl))
 
@@ -287,21 +322,81 @@ search_answer_unique z f promised answer other (inr (e, text, fault, told, same)
 search_answer_unique z f promised answer other (inr (e, text, fault, told, same)) (inr (e', text', fault', told', same')) =
     refused_answers_same z f answer other e e' text text' fault fault' told told' same same'
 
--- then they may have two, one of which is that the search is out of range
-abbrev pub AreAlike : List (List ℕ) → List (List ℕ) → Type 0
-AreAlike answer other = (answer ≡ other) ⊎ (answer ≡ codes "E OutOfRange" ∷ []) ⊎ (other ≡ codes "E OutOfRange" ∷ [])
-
 valid_out_of_range : (z : Zone) (f : Fields) → IsValid f → (e : TzError) (text : List ℕ) → IsFindFault ⊥ (IsClock z) f e → IsFaultText e text → text ≡ codes "OutOfRange"
 valid_out_of_range z f valid e text (inl (fault, is, first)) told = absurd (valid_without_fault f valid fault first)
 valid_out_of_range z f valid e text (inr (valid', inl (is, none))) told = absurd none
 valid_out_of_range z f valid e text (inr (valid', inr (is, near))) told = subst (λ x. IsFaultText x text) is told
 
-search_answers_alike : (z : Zone) (f : Fields) (answer other : List (List ℕ)) → IsSearchAnswer z f answer → IsSearchAnswer z f other → AreAlike answer other
+search_answers_alike : (z : Zone) (f : Fields) (answer other : List (List ℕ)) → IsSearchAnswer z f answer → IsSearchAnswer z f other → AreSearchesAlike answer other
 search_answers_alike z f answer other (inl (found, valid, list, same)) (inl (others, valid', list', same')) = inl (found_answers_same z f answer other found others list list' same same')
 search_answers_alike z f answer other (inl (found, valid, list, same)) (inr (e, text, fault, told, same')) = inr (inr (same' ∙ ap (λ t. (codes "E " ++ t) ∷ []) (valid_out_of_range z f valid e text fault told)))
 search_answers_alike z f answer other (inr (e, text, fault, told, same)) (inl (found, valid, list, same')) = inr (inl (same ∙ ap (λ t. (codes "E " ++ t) ∷ []) (valid_out_of_range z f valid e text fault told)))
 search_answers_alike z f answer other (inr (e, text, fault, told, same)) (inr (e', text', fault', told', same')) =
     inl (refused_answers_same z f answer other e e' text text' fault fault' told told' same same')
+
+-- a day has one date, and a week one list of fields
+week_unique : (f : Fields) (k : ℕ) (g h : Fields) → IsWeekOf f k g → IsWeekOf f k h → g ≡ h
+week_unique f k g h is is' =
+    let day : IsDay g.year g.month g.month_day = record { month_is = is.date.month_is; month_day_is = is.date.month_day_is } in
+    let day' : IsDay h.year h.month h.month_day = record { month_is = is'.date.month_is; month_day_is = is'.date.month_day_is } in
+    let (year, month, month_day) = date_unique g.year g.month g.month_day h.year h.month h.month_day day day' (is.date.day_is ∙ sym is'.date.day_is) in
+    is.time
+    ∙ ap (λ y. record f { year = y; month = g.month; month_day = g.month_day }) year
+    ∙ ap (λ m. record f { year = h.year; month = m; month_day = g.month_day }) month
+    ∙ ap (λ d. record f { year = h.year; month = h.month; month_day = d }) month_day
+    ∙ sym is'.time
+
+-- a week has one answer where the list of its fields is promised
+week_answer_unique : (z : Zone) (f : Fields) (k : ℕ) → ((g : Fields) → IsWeekOf f k g → IsPromised z g.year) → (answer other : List (List ℕ)) → IsWeekAnswer z f k answer → IsWeekAnswer z f k other → answer ≡ other
+week_answer_unique z f k promised answer other (inl (g, inside, is, told)) (inl (h, inside', is', told')) =
+    search_answer_unique z g (λ valid. promised g is) answer other told (subst (λ x. IsSearchAnswer z x other) (week_unique f k h g is' is) told')
+week_answer_unique z f k promised answer other (inl (g, inside, is, told)) (inr (outside, same)) = absurd (outside inside)
+week_answer_unique z f k promised answer other (inr (outside, same)) (inl (g, inside, is, told)) = absurd (outside inside)
+week_answer_unique z f k promised answer other (inr (outside, same)) (inr (outside', same')) = same ∙ sym same'
+
+weeks_unique : (z : Zone) (f : Fields) (k : ℕ) (weeks others : List (List (List ℕ))) → ((i : ℕ) (g : Fields) → i < k + length weeks → IsWeekOf f i g → IsPromised z g.year) → length weeks ≡ length others →
+    AreWeekAnswers z f k weeks → AreWeekAnswers z f k others → weeks ≡ others
+weeks_unique z f k [] [] promised many are are' = refl
+weeks_unique z f k [] (other ∷ others) promised many are are' = absurd (omega (arith, many))
+weeks_unique z f k (week ∷ weeks) [] promised many are are' = absurd (omega (arith, many))
+weeks_unique z f k (week ∷ weeks) (other ∷ others) promised many are are' =
+    let here : k < k + length (week ∷ weeks) = omega arith in
+    let first = week_answer_unique z f k (λ g. promised k g here) week other are.0 are'.0 in
+    let more = weeks_unique z f (k + 1) weeks others (λ i g less. promised i g (omega (arith, less))) (omega (arith, many)) are.1 are'.1 in
+    cc
+
+-- a meeting has one answer where the lists of all its weeks are promised
+meeting_answer_unique : (z : Zone) (count : ℕ) (f : Fields) → (IsValid f → (i : ℕ) (g : Fields) → i < count → IsWeekOf f i g → IsPromised z g.year) →
+    (answer other : List (List ℕ)) → IsMeetingAnswer z count f answer → IsMeetingAnswer z count f other → answer ≡ other
+meeting_answer_unique z count f promised answer other (inl (valid, weeks, many, are, same)) (inl (valid', others, many', are', same')) =
+    same ∙ ap meeting_lines (weeks_unique z f 0 weeks others (λ i g less. promised valid i g (omega (arith, less, many))) (many ∙ sym many') are are') ∙ sym same'
+meeting_answer_unique z count f promised answer other (inl (valid, weeks, many, are, same)) (inr (fault, first, same')) = absurd (valid_without_fault f valid fault first)
+meeting_answer_unique z count f promised answer other (inr (fault, first, same)) (inl (valid, weeks, many, are, same')) = absurd (valid_without_fault f valid fault first)
+meeting_answer_unique z count f promised answer other (inr (fault, first, same)) (inr (fault', first', same')) =
+    same ∙ ap (λ x. (codes "E " ++ field_fault_text x) ∷ []) (first_fault_unique f fault fault' first first') ∙ sym same'
+
+-- each week has one answer, or such two
+week_answers_alike : (z : Zone) (f : Fields) (k : ℕ) (answer other : List (List ℕ)) → IsWeekAnswer z f k answer → IsWeekAnswer z f k other → AreSearchesAlike answer other
+week_answers_alike z f k answer other (inl (g, inside, is, told)) (inl (h, inside', is', told')) =
+    search_answers_alike z g answer other told (subst (λ x. IsSearchAnswer z x other) (week_unique f k h g is' is) told')
+week_answers_alike z f k answer other (inl (g, inside, is, told)) (inr (outside, same)) = absurd (outside inside)
+week_answers_alike z f k answer other (inr (outside, same)) (inl (g, inside, is, told)) = absurd (outside inside)
+week_answers_alike z f k answer other (inr (outside, same)) (inr (outside', same')) = inl (same ∙ sym same')
+
+weeks_alike : (z : Zone) (f : Fields) (k : ℕ) (weeks others : List (List (List ℕ))) → length weeks ≡ length others → AreWeekAnswers z f k weeks → AreWeekAnswers z f k others → AllZip AreSearchesAlike weeks others
+weeks_alike z f k [] [] many are are' = tt
+weeks_alike z f k [] (other ∷ others) many are are' = absurd (omega (arith, many))
+weeks_alike z f k (week ∷ weeks) [] many are are' = absurd (omega (arith, many))
+weeks_alike z f k (week ∷ weeks) (other ∷ others) many are are' =
+    (week_answers_alike z f k week other are.0 are'.0, weeks_alike z f (k + 1) weeks others (omega (arith, many)) are.1 are'.1)
+
+meeting_answers_alike : (z : Zone) (count : ℕ) (f : Fields) (answer other : List (List ℕ)) → IsMeetingAnswer z count f answer → IsMeetingAnswer z count f other → AreAlike answer other
+meeting_answers_alike z count f answer other (inl (valid, weeks, many, are, same)) (inl (valid', others, many', are', same')) =
+    inr (weeks, others, weeks_alike z f 0 weeks others (many ∙ sym many') are are', same, same')
+meeting_answers_alike z count f answer other (inl (valid, weeks, many, are, same)) (inr (fault, first, same')) = absurd (valid_without_fault f valid fault first)
+meeting_answers_alike z count f answer other (inr (fault, first, same)) (inl (valid, weeks, many, are, same')) = absurd (valid_without_fault f valid fault first)
+meeting_answers_alike z count f answer other (inr (fault, first, same)) (inr (fault', first', same')) =
+    inl (inl (same ∙ ap (λ x. (codes "E " ++ field_fault_text x) ∷ []) (first_fault_unique f fault fault' first first') ∙ sym same'))
 
 -- what a line asks for has one answer, or such two
 time_query_unique : (z : Zone) (u : ℤ) (n : ℕ) (answer other : List (List ℕ)) → AreLeapSeconds z.leap_seconds → IsQueryAnswer z (Time u n) answer → IsQueryAnswer z (Time u n) other → answer ≡ other
@@ -309,18 +404,20 @@ time_query_unique z u n answer other leaps (text, told, same) (text', told', sam
 
 query_answer_unique : (z : Zone) (line : List ℕ) (query : Query) (answer other : List (List ℕ)) → AreLeapSeconds z.leap_seconds → HasOneAnswer z line → IsQueryLine line query → IsQueryAnswer z query answer → IsQueryAnswer z query other → answer ≡ other
 query_answer_unique z line (Time u n) answer other leaps one is told told' = time_query_unique z u n answer other leaps told told'
-query_answer_unique z line (Search f) answer other leaps one is told told' = search_answer_unique z f (one f is) answer other told told'
+query_answer_unique z line (Search f) answer other leaps one is told told' = search_answer_unique z f (one.search f is) answer other told told'
+query_answer_unique z line (Meeting count f) answer other leaps one is told told' = meeting_answer_unique z count f (one.weeks count f is) answer other told told'
 
 query_answers_alike : (z : Zone) (query : Query) (answer other : List (List ℕ)) → AreLeapSeconds z.leap_seconds → IsQueryAnswer z query answer → IsQueryAnswer z query other → AreAlike answer other
-query_answers_alike z (Time u n) answer other leaps told told' = inl (time_query_unique z u n answer other leaps told told')
-query_answers_alike z (Search f) answer other leaps told told' = search_answers_alike z f answer other told told'
+query_answers_alike z (Time u n) answer other leaps told told' = inl (inl (time_query_unique z u n answer other leaps told told'))
+query_answers_alike z (Search f) answer other leaps told told' = inl (search_answers_alike z f answer other told told')
+query_answers_alike z (Meeting count f) answer other leaps told told' = meeting_answers_alike z count f answer other told told'
 
 pub line_answers_alike : (z : Zone) (line : List ℕ) (answer other : List (List ℕ)) → AreLeapSeconds z.leap_seconds → IsAnswer z line answer → IsAnswer z line other → AreAlike answer other
 line_answers_alike z line answer other leaps (inl (query, is, told)) (inl (query', is', told')) =
     query_answers_alike z query answer other leaps told (subst (λ q. IsQueryAnswer z q other) (sym (query_unique line query query' is is')) told')
 line_answers_alike z line answer other leaps (inl (query, is, told)) (inr (none, same)) = absurd (none query is)
 line_answers_alike z line answer other leaps (inr (none, same)) (inl (query, is, told)) = absurd (none query is)
-line_answers_alike z line answer other leaps (inr (none, same)) (inr (none', same')) = inl (same ∙ sym same')
+line_answers_alike z line answer other leaps (inr (none, same)) (inr (none', same')) = inl (inl (same ∙ sym same'))
 
 -- a line that has one answer
 pub line_answer_unique : (z : Zone) (line : List ℕ) (answer other : List (List ℕ)) → AreLeapSeconds z.leap_seconds → HasOneAnswer z line → IsAnswer z line answer → IsAnswer z line other → answer ≡ other

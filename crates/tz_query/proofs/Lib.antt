@@ -4,3 +4,4 @@ pub mod AnswerLemmas
 pub mod LawLemmas
 pub mod FastNumbers
 pub mod PageLemmas
+pub mod WeekLemmas

@@ -9,7 +9,7 @@ use Rattle.std.proofs.lemmas.List.Elements.{All-nil, All-cons, All-append}
 use Rattle.tz_query.specs.Lines.{IsLine, IsLineEnd, IsFirstLine}
 use Rattle.tz_base.specs.declared.calendar.Fields.{Fields}
 use Rattle.tz_query.specs.Numbers.{IsNumber, EndsDigits, AreNumbers, IsPartFront, ArePartsFront}
-use Rattle.tz_query.specs.Queries.{Query, Time, Search, IsLineOf, IsTimeLine, IsSearchLine, IsQueryLine, AreFieldsOfBits, numbers_of, IsTimeLineFront, IsSearchLineFront}
+use Rattle.tz_query.specs.Queries.{Query, Time, Search, Meeting, IsLineOf, IsTimeLine, IsSearchLine, IsMeetingLine, IsQueryLine, AreFieldsOfBits, numbers_of, IsTimeLineFront, IsSearchLineFront, IsMeetingLineFront}
 use Rattle.tz_query.proofs.NumberLemmas.{no_part_after, parts_unique, parts_in_front, numbers_from_parts}
 
 -- the first line ends at an LF, or where the bytes end
@@ -90,10 +90,11 @@ no_line_without_end letter bytes after letter_is numbers tail are none others ma
     let one = parts_unique after numbers others tail front.1 many are (subst (λ bs. ArePartsFront bs others front.1) same front.3) in
     none rest (subst (λ t. IsLineEnd t rest) (sym one.1) front.4)
 
--- a line that is no `T` line and no `F` line asks for nothing
-pub no_query : (line : List ℕ) → ((u : ℤ) (n : ℕ) → ¬ IsTimeLine line u n) → ((f : Fields) → ¬ IsSearchLine line f) → (query : Query) → ¬ IsQueryLine line query
-no_query line no_time no_search (Time u n) is = no_time u n is
-no_query line no_time no_search (Search f) is = no_search f is
+-- a line that is no `T` line, no `F` line and no `W` line asks for nothing
+pub no_query : (line : List ℕ) → ((u : ℤ) (n : ℕ) → ¬ IsTimeLine line u n) → ((f : Fields) → ¬ IsSearchLine line f) → ((count : ℕ) (f : Fields) → ¬ IsMeetingLine line count f) → (query : Query) → ¬ IsQueryLine line query
+no_query line no_time no_search no_meeting (Time u n) is = no_time u n is
+no_query line no_time no_search no_meeting (Search f) is = no_search f is
+no_query line no_time no_search no_meeting (Meeting count f) is = no_meeting count f is
 
 -- no such numbers stand in front, and the first line is no such line
 abbrev pub NoTime : List ℕ → Type 0
@@ -107,6 +108,16 @@ NoTimeLine bytes = (u : ℤ) (n : ℕ) (rest : List ℕ) → ¬ IsTimeLineFront 
 
 abbrev pub NoSearchLine : List ℕ → Type 0
 NoSearchLine bytes = (f : Fields) (rest : List ℕ) → ¬ IsSearchLineFront bytes f rest
+
+abbrev pub NoMeetingLine : List ℕ → Type 0
+NoMeetingLine bytes = (count : ℕ) (f : Fields) (rest : List ℕ) → ¬ IsMeetingLineFront bytes count f rest
+
+-- no fields follow the number of weeks
+pub no_fields_after_count : (bytes after : List ℕ) (count : ℕ) → IsPartFront bytes (pos count) after → NoFields after →
+    (count' : ℕ) (f : Fields) (rest : List ℕ) → AreFieldsOfBits f → ¬ ArePartsFront bytes (pos count' ∷ numbers_of f) rest
+no_fields_after_count bytes after count first none count' f rest fit (after', first', are) =
+    let same = (parts_unique bytes (pos count ∷ []) (pos count' ∷ []) after after' refl (after, first, refl) (after', first', refl)).1 in
+    none f rest fit (subst (λ bs. ArePartsFront bs (numbers_of f) rest) (sym same) are)
 
 -- where some fields stand in front, and the next one does not follow, no fields do
 pub no_fields_after : (bytes : List ℕ) (read : List ℤ) (after : List ℕ) → ArePartsFront bytes read after → length read < 7 →

@@ -1,8 +1,8 @@
 -- The answers of query lines.
-use Rattle.std.specs.Prelude.{◌≡◌, ℕ, ◌⊎◌, ℤ, List, [], ◌∷◌, ◌++◌, length, map, codes, unwrap_or}
+use Rattle.std.specs.Prelude.{◌≡◌, ℕ, ◌+◌, ◌<◌, ⊤, ◌⊎◌, ℤ, List, [], ◌∷◌, ◌++◌, length, map, codes, unwrap_or}
 use Rattle.std.specs.Fmt.{decimal}
-use Rattle.std.specs.List.{AllZip, flat_map}
-use Rattle.tz_base.specs.Fields.{IsValid, IsReading, reading}
+use Rattle.std.specs.List.{All, AllZip, flat_map}
+use Rattle.tz_base.specs.Fields.{IsFirstFault, IsValid, IsReading, reading}
 use Rattle.tz_base.specs.declared.calendar.Fields.{Fields}
 use Rattle.tz_base.specs.declared.error.TzError.{TzError}
 use Rattle.tz_base.specs.declared.error.TzError.TheVariants.{DateTime as FieldFault, OutOfRange, NoAvailableLocalTimeType}
@@ -18,15 +18,17 @@ use Rattle.tz.specs.PrintedText.{printed_text}
 use Rattle.tz.specs.declared.datetime.found.FoundDateTimeKind.{FoundDateTimeKind}
 use Rattle.tz.specs.declared.datetime.found.FoundDateTimeKind.TheVariants.{Normal, Skipped}
 use Rattle.tz_query.specs.Lines.{AreLines, ended}
-use Rattle.tz_query.specs.Queries.{Query, Time, Search, IsSearchLine, IsQueryLine}
+use Rattle.tz_query.specs.Numbers.{hyphen, space}
+use Rattle.tz_query.specs.Queries.{Query, Time, Search, Meeting, IsSearchLine, IsMeetingLine, IsQueryLine}
+use Rattle.tz_query.specs.Weeks.{IsInYears, IsWeekOf, day_after}
 
 -- the name of a type, or `-`
 abbrev pub name_text : LocalTimeType → List ℕ
-name_text t = unwrap_or t.designation (45 ∷ [])
+name_text t = unwrap_or t.designation (hyphen ∷ [])
 
 -- a date time and the name of its type
 unfoldable pub moment_text : DateTime → List ℕ
-moment_text d = printed_text d.fields d.local_time_type.ut_offset ++ 32 ∷ name_text d.local_time_type
+moment_text d = printed_text d.fields d.local_time_type.ut_offset ++ space ∷ name_text d.local_time_type
 
 -- a refused field has its variant's name
 abbrev pub field_fault_text : DateTimeError → List ℕ
@@ -53,7 +55,7 @@ IsTimeAnswer z u n answer =
 -- what is found: a date time that the clock shows, or a jump of the clock, before it and after it
 abbrev pub entry_text : FoundDateTimeKind → List ℕ
 entry_text (Normal d) = codes "N " ++ moment_text d
-entry_text (Skipped before after) = codes "S " ++ (moment_text before ++ 32 ∷ moment_text after)
+entry_text (Skipped before after) = codes "S " ++ (moment_text before ++ space ∷ moment_text after)
 
 -- how much is found, and a line for each
 abbrev pub found_lines : List FoundDateTimeKind → List (List ℕ)
@@ -65,10 +67,32 @@ IsSearchAnswer z f answer =
     ((found : List FoundDateTimeKind) × IsValid f × IsFound (IsClock z) f found × (answer ≡ found_lines found))
     ⊎ ((e : TzError) × (text : List ℕ) × IsFindFault ⊥ (IsClock z) f e × IsFaultText e text × (answer ≡ (codes "E " ++ text) ∷ []))
 
+-- the answer lines of a week of a meeting: those of its fields, or that no year of 32 bits has its day
+abbrev pub IsWeekAnswer : Zone → Fields → ℕ → List (List ℕ) → Type 0
+IsWeekAnswer z f weeks answer =
+    ((g : Fields) × IsInYears (day_after f weeks) × IsWeekOf f weeks g × IsSearchAnswer z g answer)
+    ⊎ (¬ IsInYears (day_after f weeks) × (answer ≡ codes "E OutOfRange" ∷ []))
+
+-- the answer lines of weeks in turn, the first of them so many weeks after the fields
+abbrev pub AreWeekAnswers : Zone → Fields → ℕ → List (List (List ℕ)) → Type 0
+AreWeekAnswers z f weeks [] = ⊤
+AreWeekAnswers z f weeks (answer ∷ answers) = IsWeekAnswer z f weeks answer × AreWeekAnswers z f (weeks + 1) answers
+
+-- how many weeks, and the lines of each
+abbrev pub meeting_lines : List (List (List ℕ)) → List (List ℕ)
+meeting_lines weeks = (codes "W " ++ decimal (length weeks)) ∷ flat_map (λ (week : List (List ℕ)). week) weeks
+
+-- the answer lines of a meeting: those of so many weeks, or the first fault of its fields
+abbrev pub IsMeetingAnswer : Zone → ℕ → Fields → List (List ℕ) → Type 0
+IsMeetingAnswer z count f answer =
+    (IsValid f × (weeks : List (List (List ℕ))) × (length weeks ≡ count) × AreWeekAnswers z f 0 weeks × (answer ≡ meeting_lines weeks))
+    ⊎ ((fault : DateTimeError) × IsFirstFault f fault × (answer ≡ (codes "E " ++ field_fault_text fault) ∷ []))
+
 -- the answer lines of a query
 abbrev pub IsQueryAnswer : Zone → Query → List (List ℕ) → Type 0
 IsQueryAnswer z (Time u n) answer = (text : List ℕ) × IsTimeAnswer z u n text × (answer ≡ text ∷ [])
 IsQueryAnswer z (Search f) answer = IsSearchAnswer z f answer
+IsQueryAnswer z (Meeting count f) answer = IsMeetingAnswer z count f answer
 
 -- the answer lines of a line: those of its query, or that it is outside the grammar
 abbrev pub IsAnswer : Zone → List ℕ → List (List ℕ) → Type 0
@@ -84,12 +108,27 @@ pub record AreAnswers (z : Zone) (queries bytes : List ℕ) : Type 0 where
   pub each : AllZip (IsAnswer z) lines answers
   pub written : bytes ≡ flat_map ended answers
 
--- a group of answer lines: one line, or `F` with the number of the lines after it
-abbrev pub IsGroup : List (List ℕ) → Type 0
-IsGroup answer =
+-- a group of the answer lines of an instant or of a search: one line, or `F` with the number of the lines after it
+abbrev pub IsSearchGroup : List (List ℕ) → Type 0
+IsSearchGroup answer =
     ((text : List ℕ) × (answer ≡ text ∷ []))
     ⊎ ((entries : List (List ℕ)) × (answer ≡ (codes "F " ++ decimal (length entries)) ∷ entries))
 
--- a line that has one answer over a zone: any but an `F` line of valid fields in a year for which the list is not promised
-abbrev pub HasOneAnswer : Zone → List ℕ → Type 0
-HasOneAnswer z line = (f : Fields) → IsSearchLine line f → IsValid f → IsPromised z f.year
+-- a group of answer lines: that, or `W` with the number of such groups after it
+abbrev pub IsGroup : List (List ℕ) → Type 0
+IsGroup answer = IsSearchGroup answer ⊎ ((weeks : List (List (List ℕ))) × All IsSearchGroup weeks × (answer ≡ meeting_lines weeks))
+
+-- a line that has one answer: any but one that searches for valid fields where the list is not promised
+pub record HasOneAnswer (z : Zone) (line : List ℕ) : Type 0 where
+  pub search : (f : Fields) → IsSearchLine line f → IsValid f → IsPromised z f.year
+  pub weeks : (count : ℕ) (f : Fields) → IsMeetingLine line count f → IsValid f → (i : ℕ) (g : Fields) → i < count → IsWeekOf f i g → IsPromised z g.year
+
+-- answers of one search that are the same, or one of which is that it is out of range
+abbrev pub AreSearchesAlike : List (List ℕ) → List (List ℕ) → Type 0
+AreSearchesAlike answer other = (answer ≡ other) ⊎ (answer ≡ codes "E OutOfRange" ∷ []) ⊎ (other ≡ codes "E OutOfRange" ∷ [])
+
+-- such answers, or answers of one meeting that are such week by week
+abbrev pub AreAlike : List (List ℕ) → List (List ℕ) → Type 0
+AreAlike answer other =
+    AreSearchesAlike answer other
+    ⊎ ((weeks : List (List (List ℕ))) × (others : List (List (List ℕ))) × AllZip AreSearchesAlike weeks others × (answer ≡ meeting_lines weeks) × (other ≡ meeting_lines others))

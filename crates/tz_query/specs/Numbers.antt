@@ -3,11 +3,18 @@ use Rattle.std.specs.Prelude.{◌≡◌, ℕ, ◌<◌, ◌≤◌, ◌⊎◌, ℤ
 use Rattle.std.specs.Char.{digit_value}
 use Rattle.std.specs.Str.Parse.{AllDigits, IsNumeral, digits_value}
 
+-- the sign of a negative number, and what stands before each number
+abbrev pub hyphen : ℕ
+hyphen = 45
+
+abbrev pub space : ℕ
+space = 32
+
 -- a number is an optional `-` and one or more digits
 abbrev pub IsNumber : List ℕ → ℤ → Type 0
 IsNumber text n =
     (digits : List ℕ) × IsNumeral 10 digits
-    × (((text ≡ digits) × (n ≡ pos (digits_value 10 digits))) ⊎ ((text ≡ 45 ∷ digits) × (n ≡ neg_ℤ (pos (digits_value 10 digits)))))
+    × (((text ≡ digits) × (n ≡ pos (digits_value 10 digits))) ⊎ ((text ≡ hyphen ∷ digits) × (n ≡ neg_ℤ (pos (digits_value 10 digits)))))
 
 -- no digit stands first
 abbrev pub EndsDigits : List ℕ → Type 0
@@ -35,11 +42,11 @@ pub record IsNumberFront (bytes : List ℕ) (n : ℤ) (rest : List ℕ) : Type 0
 abbrev pub AreNumbers : List ℕ → List ℤ → Type 0
 AreNumbers text [] = text ≡ []
 AreNumbers text (n ∷ numbers) =
-    (number : List ℕ) × (rest : List ℕ) × (text ≡ 32 ∷ (number ++ rest)) × IsNumber number n × AreNumbers rest numbers
+    (number : List ℕ) × (rest : List ℕ) × (text ≡ space ∷ (number ++ rest)) × IsNumber number n × AreNumbers rest numbers
 
 -- the number after one space in front of the bytes, and what follows it
 abbrev pub IsPartFront : List ℕ → ℤ → List ℕ → Type 0
-IsPartFront bytes n rest = (after : List ℕ) × (bytes ≡ 32 ∷ after) × IsNumberFront after n rest
+IsPartFront bytes n rest = (after : List ℕ) × (bytes ≡ space ∷ after) × IsNumberFront after n rest
 
 -- such numbers in turn, and what follows the last of them
 abbrev pub ArePartsFront : List ℕ → List ℤ → List ℕ → Type 0

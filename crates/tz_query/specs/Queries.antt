@@ -5,10 +5,21 @@ use Rattle.tz_base.specs.declared.calendar.Fields.{Fields}
 use Rattle.tz_query.specs.Lines.{IsFirstLine}
 use Rattle.tz_query.specs.Numbers.{AreNumbers}
 
--- what a line asks for: the date time of an instant, with nanoseconds, or the date times of fields
+-- what a line asks for: the date time of an instant, with nanoseconds, the date times of fields, or those of fields in so many weeks
 pub data Query : Type 0 where
   Time : ℤ → ℕ → Query
   Search : Fields → Query
+  Meeting : ℕ → Fields → Query
+
+-- the letters with which lines begin
+abbrev pub time_letter : ℕ
+time_letter = 84
+
+abbrev pub search_letter : ℕ
+search_letter = 70
+
+abbrev pub meeting_letter : ℕ
+meeting_letter = 87
 
 -- a letter, and numbers in their order
 pub record IsLineOf (letter : ℕ) (numbers : List ℤ) (line : List ℕ) : Type 0 where
@@ -18,7 +29,7 @@ pub record IsLineOf (letter : ℕ) (numbers : List ℤ) (line : List ℕ) : Type
 
 -- `T u n` asks for the date time of an instant of 64 bits, with nanoseconds of 32 bits
 pub record IsTimeLine (line : List ℕ) (u : ℤ) (n : ℕ) : Type 0 where
-  pub line_is : IsLineOf 84 (u ∷ pos n ∷ []) line
+  pub line_is : IsLineOf time_letter (u ∷ pos n ∷ []) line
   pub seconds_fit : FitsSigned w64 u
   pub nanoseconds_fit : n < 2 ^ 32
 
@@ -38,13 +49,20 @@ pub record AreFieldsOfBits (f : Fields) : Type 0 where
 
 -- `F y mo d h mi s n` asks for the date times of fields
 pub record IsSearchLine (line : List ℕ) (f : Fields) : Type 0 where
-  pub line_is : IsLineOf 70 (numbers_of f) line
+  pub line_is : IsLineOf search_letter (numbers_of f) line
+  pub fields_fit : AreFieldsOfBits f
+
+-- `W c y mo d h mi s n` asks for the date times of fields in a number of weeks of 8 bits, in the first week of these fields
+pub record IsMeetingLine (line : List ℕ) (count : ℕ) (f : Fields) : Type 0 where
+  pub line_is : IsLineOf meeting_letter (pos count ∷ numbers_of f) line
+  pub count_fits : count < 2 ^ 8
   pub fields_fit : AreFieldsOfBits f
 
 -- what a line asks for
 abbrev pub IsQueryLine : List ℕ → Query → Type 0
 IsQueryLine line (Time u n) = IsTimeLine line u n
 IsQueryLine line (Search f) = IsSearchLine line f
+IsQueryLine line (Meeting count f) = IsMeetingLine line count f
 
 -- the first line of the bytes is a `T` line, and what follows it
 abbrev pub IsTimeLineFront : List ℕ → ℤ → ℕ → List ℕ → Type 0
@@ -53,3 +71,7 @@ IsTimeLineFront bytes u n rest = (line : List ℕ) × IsFirstLine bytes line res
 -- it is an `F` line
 abbrev pub IsSearchLineFront : List ℕ → Fields → List ℕ → Type 0
 IsSearchLineFront bytes f rest = (line : List ℕ) × IsFirstLine bytes line rest × IsSearchLine line f
+
+-- it is a `W` line
+abbrev pub IsMeetingLineFront : List ℕ → ℕ → Fields → List ℕ → Type 0
+IsMeetingLineFront bytes count f rest = (line : List ℕ) × IsFirstLine bytes line rest × IsMeetingLine line count f

@@ -208,6 +208,7 @@ impl DateTime {
     ) -> Result<Self, TzError>
         requires { nanoseconds < 1000000000 }
         ensures ok { IfOk result (ShowsInstant unix_time nanoseconds local_time_type) }
+        ensures reads { OnOk result (IsReading (unix_time +ℤ local_time_type.ut_offset)) }
         ensures err { IfErr result (λ e. (e ≡ TzError.OutOfRange) × ¬ IsReading (unix_time +ℤ local_time_type.ut_offset)) }
     {
         let Some(reading) = local_reading(unix_time, local_time_type.ut_offset()) else {
@@ -229,6 +230,7 @@ impl DateTime {
         time_zone_ref: TimeZoneRef<'_>,
     ) -> Result<Self, TzError>
         ensures ok { IfOk result (ShowsByClock (zone_of time_zone_ref.entry) unix_time nanoseconds) }
+        ensures reads { IfOk result (λ d. IsReading (reading d.fields)) }
         ensures err { IfErr result (IsClockFault (zone_of time_zone_ref.entry) unix_time nanoseconds) }
     {
         if nanoseconds >= NANOSECONDS_PER_SECOND {
@@ -377,6 +379,15 @@ impl DateTime {
         ensures err { IfErr result (IsBackwards (total_of earlier) (total_of self.now)) }
     {
         duration_between(earlier.total_nanoseconds(), self.total_nanoseconds())
+    }
+
+    /// The fields, which are valid.
+    #[inline(always)]
+    pub(crate) fn fields(&self) -> &Fields
+        ensures fields { result.now ≡ self.now.fields }
+        ensures valid { IsValid result.now }
+    {
+        &self.fields
     }
 
     /// The fields are valid and shown. This does nothing; its contract is what a value tells.

@@ -173,6 +173,7 @@ impl UtcDateTime {
     /// The date time of a Unix time and nanoseconds below a second.
     pub fn from_timespec(unix_time: i64, nanoseconds: u32) -> Result<Self, TzError>
         ensures ok { IfOk result (IsCivil unix_time nanoseconds) }
+        ensures instant { OnOk result (IsReading unix_time) }
         ensures err { IfErr result (IsShowFault unix_time nanoseconds) }
     {
         if nanoseconds >= NANOSECONDS_PER_SECOND {

@@ -7,20 +7,20 @@ ghost use Rattle.tz_base.specs.Fields.{IsValid};
 ghost use Rattle.tz_zone.specs.Segments.{IsSegmentOf, numbered_types};
 ghost use Rattle.tz_zone.specs.ZoneRef.{zone_of};
 ghost use Rattle.tz_query.specs.Tails.{types_of};
-ghost use Rattle.tz_query.specs.Lines.{IsFirstLine, ended};
+ghost use Rattle.tz_query.specs.Lines.{IsFirstLine, ended, line_feed};
 ghost use Rattle.tz_query.specs.Answers.{name_text, moment_text, entry_text, found_lines, field_fault_text, IsFaultText, IsTimeAnswer, IsSearchAnswer, IsAnswer, AreAnswers};
+ghost use Rattle.tz_query.specs.Numbers.{space};
 
 use crate::query::fast::tail::Tail;
 use crate::query::fast::tails::tails_of;
 use crate::query::fast::time_lines::answer_time_line;
-use crate::query::lines::{after_line, read_search_line, read_time_line};
+use crate::query::lines::{after_line, read_search_line, read_time_line, read_meeting_line};
+use crate::query::meetings::answer_meeting;
 use std::alloc::{AllocError, Allocator};
 use tz::datetime::{DateTime, FoundDateTimeKind};
-use tz::inner::TextBuffer;
-use tz::laws::date_time_parts_are_sound;
+use tz::error::datetime::DateTimeError;
+use tz::inner::{Fields, TextBuffer};
 use tz::{LocalTimeType, TimeZoneRef, TzError};
-use tz_base::calendar::Fields;
-use tz_base::error::datetime::DateTimeError;
 use tz_zone::inner::Segment;
 
 /// Appends the name of a type, or `-` where it has none.
@@ -38,25 +38,6 @@ pub(super) fn push_name(line: &mut TextBuffer, local_time_type: &LocalTimeType)
     }
 }
 
-/// The fields of a date time.
-#[inline]
-fn fields_of(date_time: &DateTime) -> Fields
-    ensures fields { result ≡ date_time.now.fields }
-    ensures valid { IsValid date_time.now.fields }
-    ensures year { FitsSigned w32 date_time.now.fields.year }
-{
-    date_time_parts_are_sound(date_time);
-    Fields {
-        year: date_time.year(),
-        month: date_time.month(),
-        month_day: date_time.month_day(),
-        hour: date_time.hour(),
-        minute: date_time.minute(),
-        second: date_time.second(),
-        nanoseconds: date_time.nanoseconds(),
-    }
-}
-
 /// Appends a date time and the name of its type.
 #[inline(always)]
 #[tactic(auto, unfolding(crate::specs::Answers::moment_text))]
@@ -64,16 +45,15 @@ fn push_moment(line: &mut TextBuffer, date_time: &DateTime)
     requires { length line.old + 61 ≤ 128 }
     ensures text { line.new ≡ line.old ++ moment_text date_time.now }
     ensures len { length line.new ≤ length line.old + 61 }
-    ensures year { FitsSigned w32 date_time.now.fields.year }
 {
-    let fields = fields_of(date_time);
-    let local_time_type = date_time.local_time_type();
-    line.push_date_time(&fields, local_time_type.ut_offset());
+    line.push_local_date_time(date_time);
     line.push(b' ');
-    push_name(line, local_time_type);
+    push_name(line, date_time.local_time_type());
 }
 
-/// The same. A function of its own keeps what is made for `F` lines out of the way of `T` lines.
+/// Appends a found date time and the name of its type.
+///
+/// `T` lines have `push_moment` inlined. This copy of it is shared by all that is found, which keeps the code for `T` lines short.
 #[inline(never)]
 fn push_found(line: &mut TextBuffer, date_time: &DateTime)
     requires { length line.old + 61 ≤ 128 }
@@ -84,7 +64,7 @@ fn push_found(line: &mut TextBuffer, date_time: &DateTime)
 }
 
 /// The name of a refusal of fields.
-fn field_fault_name(fault: &DateTimeError) -> &'static str
+pub fn field_fault_name(fault: &DateTimeError) -> &'static str
     ensures text { result.now ≡ field_fault_text fault.now }
     ensures len { length result.now ≤ 24 }
 {
@@ -165,7 +145,7 @@ fn append_line<A: Allocator>(
     line: &mut TextBuffer,
 ) -> Result<(), AllocError>
     requires { length line.old < 128 }
-    ensures { IfOk result (λ _. answers.new.items ≡ answers.old.items ++ (line.old ++ 10 ∷ [])) }
+    ensures { IfOk result (λ _. answers.new.items ≡ answers.old.items ++ (line.old ++ line_feed ∷ [])) }
 {
     line.push(b'\n');
     answers.extend_from_slice(line.as_bytes())
@@ -180,7 +160,7 @@ fn answer_time<A: Allocator>(
     unix_time: i64,
     nanoseconds: u32,
 ) -> Result<(), AllocError>
-    ensures { IfOk result (λ _. (text : List ℕ) × IsTimeAnswer (zone_of zone.entry) unix_time nanoseconds text × (answers.new.items ≡ answers.old.items ++ (text ++ 10 ∷ []))) }
+    ensures { IfOk result (λ _. (text : List ℕ) × IsTimeAnswer (zone_of zone.entry) unix_time nanoseconds text × (answers.new.items ≡ answers.old.items ++ (text ++ line_feed ∷ []))) }
 {
     line.clear();
     push_time_answer(line, zone, unix_time, nanoseconds);
@@ -188,7 +168,7 @@ fn answer_time<A: Allocator>(
 }
 
 /// Appends the line of a refusal.
-fn append_fault<A: Allocator>(
+pub fn append_fault<A: Allocator>(
     answers: &mut Vec<u8, A>,
     line: &mut TextBuffer,
     name: &str,
@@ -201,16 +181,19 @@ fn append_fault<A: Allocator>(
     append_line(answers, line)
 }
 
-/// Appends the line of how much was found.
-fn append_count<A: Allocator>(
+/// Appends a line with a letter and a count.
+pub fn append_count<A: Allocator>(
     answers: &mut Vec<u8, A>,
     line: &mut TextBuffer,
+    letter: u8,
     count: usize,
 ) -> Result<(), AllocError>
-    ensures { IfOk result (λ _. answers.new.items ≡ answers.old.items ++ ended ((codes "F " ++ decimal count) ∷ [])) }
+    requires { letter < 128 }
+    ensures { IfOk result (λ _. answers.new.items ≡ answers.old.items ++ ended ((letter ∷ space ∷ decimal count) ∷ [])) }
 {
     line.clear();
-    line.push_str("F ");
+    line.push(letter);
+    line.push(b' ');
     line.push_count(count as u64);
     append_line(answers, line)
 }
@@ -239,13 +222,13 @@ fn append_found<A: Allocator>(
 ) -> Result<(), AllocError>
     ensures { IfOk result (λ _. answers.new.items ≡ answers.old.items ++ ended (found_lines found.now)) }
 {
-    append_count(answers, line, found.len())?;
+    append_count(answers, line, b'F', found.len())?;
     append_entries(answers, line, found)
 }
 
 /// Appends the answer lines of fields.
 #[inline(never)]
-fn answer_search<A: Allocator + Copy>(
+pub fn answer_search<A: Allocator + Copy>(
     alloc: A,
     answers: &mut Vec<u8, A>,
     line: &mut TextBuffer,
@@ -269,7 +252,8 @@ fn answer_search<A: Allocator + Copy>(
         Ok(list) => append_found(answers, line, &list.into_inner()),
         Err(TzError::DateTime(fault)) => append_fault(answers, line, field_fault_name(&fault)),
         Err(TzError::OutOfRange) => append_fault(answers, line, "OutOfRange"),
-        Err(_) => Err(AllocError),
+        Err(TzError::Memory(fault)) => Err(fault),
+        Err(_) => unreachable!(),
     }
 }
 
@@ -289,6 +273,10 @@ fn answer_line<'a, A: Allocator + Copy>(
     }
     if let Some((fields, rest)) = read_search_line(queries) {
         answer_search(alloc, answers, line, zone, &fields)?;
+        return Ok(rest);
+    }
+    if let Some((count, fields, rest)) = read_meeting_line(queries) {
+        answer_meeting(alloc, answers, line, zone, &fields, count)?;
         return Ok(rest);
     }
     answers.extend_from_slice(b"E Line\n")?;
@@ -358,7 +346,8 @@ fn answer_next<'a, A: Allocator + Copy>(
 /// Each line asks for something by its letter and numbers, one space apart. `T u n` asks for the date time at the Unix time u with n
 /// nanoseconds: its answer is the date time and the name of its type, `-` where it has none. `F y mo d h mi s n` asks for what
 /// [`DateTime::find`] finds of these fields: its answer is `F` and how much that is, and a line for each, `N` with a date time and
-/// its name, or `S` with those before and after a jump. Where a query is refused the answer is `E ` and why, and `E Line` where a
+/// its name, or `S` with those before and after a jump. `W c y mo d h mi s n` asks for these fields in c weeks, each with the date that
+/// lies so many weeks later: its answer is `W` and c, and that of an `F` line for each week. Where a query is refused the answer is `E ` and why, and `E Line` where a
 /// line asks for nothing. Lines and answers are ended by LF; the last line may lack it.
 pub fn answer<A: Allocator + Copy>(
     alloc: A,

@@ -5,10 +5,10 @@ ghost use Rattle.std.specs.Int.{w64};
 ghost use Rattle.tz_base.specs.declared.calendar.Fields.{Fields};
 ghost use Rattle.tz_query.specs.Lines.{IsLineEnd, IsFirstLine};
 ghost use Rattle.tz_query.specs.Numbers.{ArePartsFront};
-ghost use Rattle.tz_query.specs.Queries.{AreFieldsOfBits, numbers_of, IsTimeLineFront, IsSearchLineFront};
+ghost use Rattle.tz_query.specs.Queries.{AreFieldsOfBits, numbers_of, IsTimeLineFront, IsSearchLineFront, IsMeetingLineFront};
 
 use crate::query::numbers::{after_byte, read_i32, read_i64, read_u8, read_u32};
-use tz_base::calendar::Fields;
+use tz::inner::Fields;
 
 /// The bytes after the end of a line, if it ends here: after an LF, or none where there are none.
 #[inline(always)]
@@ -92,4 +92,17 @@ pub fn read_search_line(bytes: &[u8]) -> Option<(Fields, &[u8])>
     let (fields, tail) = read_fields(parts)?;
     let rest = after_line_end(tail)?;
     Some((fields, rest))
+}
+
+/// The number of weeks and the fields that the first line asks for, if it is a `W` line, and the bytes after it.
+#[inline(never)]
+pub fn read_meeting_line(bytes: &[u8]) -> Option<(u8, Fields, &[u8])>
+    ensures some { IfSome result (λ r. IsMeetingLineFront bytes.now r.0 r.1 r.2.now) }
+    ensures none { IfNone result ((count : ℕ) (f : Fields) (rest : List ℕ) → ¬ IsMeetingLineFront bytes.now count f rest) }
+{
+    let parts = after_byte(bytes, b'W')?;
+    let (count, after_count) = read_u8(parts)?;
+    let (fields, tail) = read_fields(after_count)?;
+    let rest = after_line_end(tail)?;
+    Some((count, fields, rest))
 }

@@ -3,10 +3,12 @@
 mod answers;
 mod fast;
 mod lines;
+mod meetings;
 mod numbers;
 mod program;
 mod streams;
 mod tzif;
+mod weeks;
 
 pub use answers::answer;
 pub use program::tool;

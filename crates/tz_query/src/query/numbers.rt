@@ -103,7 +103,7 @@ pub fn read_i64(bytes: &[u8]) -> Option<(i64, &[u8])>
     read_number(number)
 }
 
-/// The same of 32 bits.
+/// The number of 32 bits after a space in front of the bytes, if there is one, and the bytes after it.
 pub fn read_i32(bytes: &[u8]) -> Option<(i32, &[u8])>
     ensures some { IfSome result (λ r. IsPartFront bytes.now r.0 r.1.now) }
     ensures none { IfNone result ((n : ℤ) (rest : List ℕ) → FitsSigned w32 n → ¬ IsPartFront bytes.now n rest) }
@@ -115,7 +115,7 @@ pub fn read_i32(bytes: &[u8]) -> Option<(i32, &[u8])>
     }
 }
 
-/// The same of 32 bits without a sign.
+/// The number without a sign of 32 bits after a space in front of the bytes, if there is one, and the bytes after it.
 #[inline(always)]
 pub fn read_u32(bytes: &[u8]) -> Option<(u32, &[u8])>
     ensures some { IfSome result (λ r. IsPartFront bytes.now (pos r.0) r.1.now) }
@@ -128,7 +128,7 @@ pub fn read_u32(bytes: &[u8]) -> Option<(u32, &[u8])>
     }
 }
 
-/// The same of 8 bits without a sign.
+/// The number without a sign of 8 bits after a space in front of the bytes, if there is one, and the bytes after it.
 pub fn read_u8(bytes: &[u8]) -> Option<(u8, &[u8])>
     ensures some { IfSome result (λ r. IsPartFront bytes.now (pos r.0) r.1.now) }
     ensures none { IfNone result ((n : ℕ) (rest : List ℕ) → n < 2 ^ 8 → ¬ IsPartFront bytes.now (pos n) rest) }

@@ -7,6 +7,7 @@ use tz::{LocalTimeType, TimeZone, TimeZoneRef, TzError};
 use tz_base::refusing::Refusing;
 
 pub mod failing;
+mod meetings;
 mod search;
 
 /// The answers over a fixed zone.

@@ -1,10 +1,10 @@
--- A `T` line, an `F` line, or a line that is no query.
+-- A `T` line, an `F` line, a `W` line, or a line that is no query.
 use Rattle.std.proofs.Common.{[], ◌∷◌, refl, inl, inr, rules}
 use Rattle.std.specs.Prelude.{codes}
 use Rattle.std.proofs.lemmas.Int.{to_z-of_z}
 use mir.Syntax.{w64}
 use mir.Val.{SFits}
-use Rattle.tz_query.specs.Queries.{Time, Search}
+use Rattle.tz_query.specs.Queries.{Time, Search, Meeting}
 use Rattle.tz_query.proofs.LineLemmas.{no_query}
 use Rattle.tz_query.proofs.query.answers.answer_line.Goals as goal
 
@@ -23,14 +23,22 @@ returns-in-Some-read_search_line g c =
     let answered = c.in_ok-answer_search.ensures in
     (front.0, answered.0, front.1, inl (Search asked.fields, front.2, answered.1), answered.2)
 
+pub returns-in-Some-read_meeting_line : goal.returns-in-Some-read_meeting_line
+returns-in-Some-read_meeting_line g c =
+    let asked = c.in-Some-read_meeting_line in
+    let front = asked.ensures.some in
+    let answered = c.in_ok-answer_meeting.ensures in
+    (front.0, answered.0, front.1, inl (Meeting asked.count asked.fields, front.2, answered.1), answered.2)
+
 pub returns : goal.returns
 returns g c =
     let line = c.after_line.ensures in
     let no_time = c.in_default.ensures.none in
-    let no_search = c.in_default-read_search_line.ensures.none in (
+    let no_search = c.in_default-read_search_line.ensures.none in
+    let no_meeting = c.in_default-read_meeting_line.ensures.none in (
       line.0,
       codes "E Line" ∷ [],
       line.1,
-      inr (no_query line.0 (λ u n is. no_time u n _ (line.0, line.1, is)) (λ f is. no_search f _ (line.0, line.1, is)), refl),
+      inr (no_query line.0 (λ u n is. no_time u n _ (line.0, line.1, is)) (λ f is. no_search f _ (line.0, line.1, is)) (λ count f is. no_meeting count f _ (line.0, line.1, is)), refl),
       c.in_ok-extend_from_slice.ensures.items,
     )

@@ -3,7 +3,7 @@ use Rattle.std.proofs.Common.{inl, inr, refl}
 use Rattle.std.proofs.lemmas.Int.{to_z-of_z}
 use mir.Syntax.{w64}
 use Rattle.tz_zone.specs.ZoneRef.{zone_of}
-use Rattle.tz_query.proofs.AnswerLemmas.{civil_reading, clock_fault_text}
+use Rattle.tz_query.proofs.AnswerLemmas.{clock_fault_text}
 use Rattle.tz_query.proofs.query.answers.push_time_answer.Goals as goal
 
 pub fault_name-requires : goal.fault_name-requires
@@ -14,7 +14,7 @@ pub returns-in-Ok-clause-answer : goal.returns-in-Ok-clause-answer
 returns-in-Ok-clause-answer c =
     let d = c.in-Ok.date_time in
     let shows = rw (to_z-of_z w64 c.args.unix_time c.ranges.unix_time) at c.in-Ok.ensures.ok in
-    inl (d, shows, civil_reading _ c.args.nanoseconds d.fields shows.2.civil c.push_moment.ensures.year, rw (c.push_moment.ensures.text, c.requires) refl)
+    inl (d, shows, c.in-Ok.ensures.reads, rw (c.push_moment.ensures.text, c.requires) refl)
 
 pub returns-in-Err-clause-answer : goal.returns-in-Err-clause-answer
 returns-in-Err-clause-answer c =

@@ -1,0 +1,47 @@
+-- The date of a week, and the answer lines of weeks in turn.
+use Rattle.std.proofs.Common.{◌≡◌, ℕ, ◌+◌, ◌*◌, ◌<◌, ◌≤◌, ◌⊎◌, inl, inr, ℤ, pos, ◌+ℤ◌, ◌*ℤ◌, List, [], ◌∷◌, ◌++◌, length, refl, sym, ap, ◌∙◌, subst, arith, append_assoc}
+use Rattle.std.specs.Fmt.{decimal}
+use Rattle.std.specs.List.{flat_map}
+use Rattle.std.proofs.lemmas.Int.{ints}
+use Rattle.tz_base.specs.Days.{IsDateOf}
+use Rattle.tz_base.specs.Fields.{IsCivil}
+use Rattle.tz_base.specs.declared.calendar.Fields.{Fields}
+use Rattle.tz_zone.specs.Table.{Zone}
+use Rattle.tz_query.specs.Lines.{ended, line_feed}
+use Rattle.tz_query.specs.Numbers.{space}
+use Rattle.tz_query.specs.Queries.{meeting_letter}
+use Rattle.tz_query.specs.Weeks.{midnight}
+use Rattle.tz_query.specs.Answers.{AreWeekAnswers, IsWeekAnswer, meeting_lines}
+
+-- what shows the beginning of a day has its date
+pub date_of_day : (day : ℤ) (d : Fields) → IsCivil (midnight day) 0 d → IsDateOf day d.year d.month d.month_day
+date_of_day day d civil =
+    let range = civil.valid.in_range in
+    record { month_is = range.month; month_day_is = (range.month_day.0, civil.valid.in_month); day_is = omega (arith, ints, civil.reads, civil.below_60, range.hour, range.minute) }
+
+-- the lines of two lists of lines
+ended-append : (xs ys : List (List ℕ)) → ended (xs ++ ys) ≡ ended xs ++ ended ys
+ended-append [] ys = refl
+ended-append (x ∷ xs) ys = ap (λ bs. x ++ line_feed ∷ bs) (ended-append xs ys) ∙ sym (append_assoc x (line_feed ∷ ended xs) (ended ys))
+
+-- the lines of all weeks
+pub ended-weeks : (weeks : List (List (List ℕ))) → ended (flat_map (λ (week : List (List ℕ)). week) weeks) ≡ flat_map ended weeks
+ended-weeks [] = refl
+ended-weeks (week ∷ weeks) = ended-append week (flat_map (λ (w : List (List ℕ)). w) weeks) ∙ ap (λ bs. ended week ++ bs) (ended-weeks weeks)
+
+-- one more week
+pub weeks_more : (z : Zone) (f : Fields) (k : ℕ) (weeks : List (List (List ℕ))) (answer : List (List ℕ)) → AreWeekAnswers z f k weeks → IsWeekAnswer z f (k + length weeks) answer → AreWeekAnswers z f k (weeks ++ answer ∷ [])
+weeks_more z f k [] answer are is = (subst (λ n. IsWeekAnswer z f n answer) (let e : k + 0 ≡ k = omega arith in e) is, tt)
+weeks_more z f k (week ∷ weeks) answer are is =
+    (are.0, weeks_more z f (k + 1) weeks answer are.1 (subst (λ n. IsWeekAnswer z f n answer) (let e : k + length (week ∷ weeks) ≡ k + 1 + length weeks = omega arith in e) is))
+
+-- behind the line with their number the lines of all weeks are those of the meeting
+pub meeting_written : (was : List ℕ) (weeks : List (List (List ℕ))) (count : ℕ) → length weeks ≡ count →
+    (was ++ ended ((meeting_letter ∷ space ∷ decimal count) ∷ [])) ++ flat_map ended weeks ≡ was ++ ended (meeting_lines weeks)
+meeting_written was weeks count many =
+    let first = meeting_letter ∷ space ∷ decimal count in
+    let more = flat_map ended weeks in
+    append_assoc was (first ++ line_feed ∷ []) more
+    ∙ ap (λ bs. was ++ bs) (append_assoc first (line_feed ∷ []) more
+    ∙ ap (λ bs. first ++ line_feed ∷ bs) (sym (ended-weeks weeks))
+    ∙ ap (λ n. (meeting_letter ∷ space ∷ decimal n) ++ line_feed ∷ ended (flat_map (λ (week : List (List ℕ)). week) weeks)) (sym many))
