@@ -5,4 +5,6 @@ pub mod inner;
 pub mod laws;
 mod parse;
 mod partition;
+#[cfg(test)]
+mod samples;
 pub mod timezone;

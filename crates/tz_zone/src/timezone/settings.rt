@@ -268,5 +268,3 @@ impl<A: Allocator + Copy> TimeZone<A> {
 
 #[cfg(test)]
 mod tests;
-#[cfg(test)]
-mod texts;

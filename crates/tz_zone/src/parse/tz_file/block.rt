@@ -75,7 +75,7 @@ pub(super) struct Part<'a> {
     pub(super) behind: &'a [u8],
 }
 
-/// Cuts a block.
+/// Cuts the block behind the header into its parts.
 #[tactic(auto, unfolding(crate::specs::TzFile::block_with))]
 fn cut_block(size: TimeSize, counts: Counts, bytes: &[u8]) -> Block<'_>
     requires { end_at (width_of size) (counts_view counts) ≤ length bytes.now }

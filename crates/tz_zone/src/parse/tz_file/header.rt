@@ -8,7 +8,7 @@ ghost use Rattle.tz_zone.specs.TzParts.{counts_view};
 use super::number::count_at;
 use tz_base::error::parse::{ParseDataError, TzFileError};
 
-/// The bytes of a header.
+/// How many bytes a header has.
 pub(super) const HEADER_LEN: usize = 44;
 
 /// How many of each the block has.
@@ -22,7 +22,7 @@ pub(super) struct Counts {
     pub(super) char: u32,
 }
 
-/// Whether there may be so many indicators of so many types.
+/// Whether a header may count these indicators, of this number of types.
 fn is_indicator_count(count: u32, local_types: u32) -> bool
     ensures { MatchBool result (IsIndicatorCount count local_types) (¬ IsIndicatorCount count local_types) }
 {

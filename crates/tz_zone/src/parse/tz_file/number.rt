@@ -8,14 +8,14 @@ ghost use Rattle.tz_zone.specs.TzParts.{width_of};
 /// How many bytes a time of a block has.
 #[derive(Clone, Copy)]
 pub(super) enum TimeSize {
-    /// Those of version 1.
+    /// Four bytes, in version 1.
     Four,
-    /// Those from version 2 on.
+    /// Eight bytes, in the block that later versions add.
     Eight,
 }
 
 impl TimeSize {
-    /// The bytes of one time.
+    /// How many bytes one time has.
     pub(super) fn len(self) -> usize
         ensures value { result ≡ byte_len (width_of self) }
         ensures small { result ≤ 8 }
@@ -26,7 +26,7 @@ impl TimeSize {
         }
     }
 
-    /// The bytes of so many times.
+    /// How many bytes a number of times has.
     pub(super) fn times_len(self, count: u32) -> usize
         ensures value { result ≡ count * byte_len (width_of self) }
         ensures small { result ≤ 8 * count }
@@ -37,7 +37,7 @@ impl TimeSize {
         }
     }
 
-    /// The bytes of so many leap seconds, each a time and four bytes.
+    /// How many bytes a number of leap seconds has, each a time and a correction of four bytes.
     pub(super) fn leaps_len(self, count: u32) -> usize
         ensures value { result ≡ count * (byte_len (width_of self) + 4) }
         ensures small { result ≤ 12 * count }

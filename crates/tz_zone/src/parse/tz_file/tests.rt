@@ -1,5 +1,6 @@
-//! TZif files: vectors and the zones that they denote, and bytes that are none.
+//! TZif files: vectors and the zones that they denote, footers, and refused memory.
 
+use crate::samples::{Fault, named, push_header, utc_v1};
 use crate::timezone::{
     AlternateTime, Julian0WithLeap, Julian1WithoutLeap, LeapSecond, LocalTimeType, MonthWeekDay,
     RuleDay, TimeZone, TimeZoneRef, Transition, TransitionRule,
@@ -12,33 +13,6 @@ use tz_base::error::parse::{ParseDataError, TzFileError, TzStringError};
 use tz_base::error::timezone::{LocalTimeTypeError, TimeZoneError};
 use tz_base::refusing::Refusing;
 
-/// A refusal that can be compared.
-#[derive(Debug, Drop, PartialEq, Eq)]
-enum Fault {
-    File(TzFileError),
-    Number,
-    Text(TzStringError),
-    Type(LocalTimeTypeError),
-    Zone(TimeZoneError),
-    Memory,
-    NoType,
-    Other,
-}
-
-/// The refusal, to be compared.
-fn named(error: TzError) -> Fault {
-    match error {
-        TzError::TzFile(part) => Fault::File(part),
-        TzError::TzString(TzStringError::ParseInt(_)) => Fault::Number,
-        TzError::TzString(part) => Fault::Text(part),
-        TzError::LocalTimeType(part) => Fault::Type(part),
-        TzError::TimeZone(part) => Fault::Zone(part),
-        TzError::Memory(_) => Fault::Memory,
-        TzError::NoAvailableLocalTimeType => Fault::NoType,
-        _ => Fault::Other,
-    }
-}
-
 /// How the bytes are refused.
 fn fault_of(alloc: Global, bytes: &[u8]) -> Option<Fault> {
     TimeZone::from_tz_data(alloc, bytes).err().map(named)
@@ -47,25 +21,6 @@ fn fault_of(alloc: Global, bytes: &[u8]) -> Option<Fault> {
 /// Bytes are missing.
 fn is_cut() -> Option<Fault> {
     Some(Fault::File(TzFileError::ParseData(ParseDataError::UnexpectedEof)))
-}
-
-/// Writes a header: the counts of UT/local and standard/wall indicators, leap seconds, transitions, types and name bytes.
-fn push_header(bytes: &mut Vec<u8>, version: u8, counts: &[u32]) -> Result<(), AllocError> {
-    bytes.extend_from_slice(b"TZif")?;
-    bytes.push(version)?;
-    bytes.extend_from_slice(&[0; 15])?;
-    for count in counts {
-        bytes.extend_from_slice(&count.to_be_bytes())?;
-    }
-    Ok(())
-}
-
-/// One type, UTC.
-fn utc_v1(alloc: Global) -> Result<Vec<u8>, AllocError> {
-    let mut bytes = Vec::new(alloc);
-    push_header(&mut bytes, 0, &[0, 0, 0, 0, 1, 4])?;
-    bytes.extend_from_slice(b"\0\0\0\0\0\0UTC\0")?;
-    Ok(bytes)
 }
 
 /// The times of the 27 leap seconds up to 2017, each of one second more.
@@ -115,7 +70,7 @@ fn utc_v1_leap(alloc: Global) -> Result<Vec<u8>, AllocError> {
 }
 
 /// The bytes with one of them changed.
-fn altered(alloc: Global, bytes: &[u8], place: usize, byte: u8) -> Result<Vec<u8>, AllocError> {
+fn with_byte(alloc: Global, bytes: &[u8], place: usize, byte: u8) -> Result<Vec<u8>, AllocError> {
     let mut other = Vec::from_slice(alloc, bytes)?;
     if place < other.len() {
         other[place] = byte;
@@ -159,100 +114,17 @@ fn leap_seconds_are_read(rt: HostRuntime) -> Result<(), Fail> {
     Ok(())
 }
 
-#[test]
-fn cut_files_are_refused(rt: HostRuntime) -> Result<(), Fail> {
-    for bytes in [utc_v1(rt.alloc())?, utc_v1_leap(rt.alloc())?] {
-        for len in 0..bytes.len() {
-            assert_eq!(rt;
-                fault_of(rt.alloc(), &bytes[..len]),
-                is_cut(),
-                "of {len} bytes"
-            );
-        }
-        let mut longer = bytes.clone()?;
-        longer.push(0)?;
-        assert_eq!(rt;
-            fault_of(rt.alloc(), &longer),
-            Some(Fault::File(TzFileError::RemainingDataV1))
-        );
-    }
-    Ok(())
-}
-
-#[test]
-fn altered_bytes_are_refused(rt: HostRuntime) -> Result<(), Fail> {
-    let bytes = utc_v1(rt.alloc())?;
-    for (place, byte, expected) in [
-        (2, b'j', Fault::File(TzFileError::InvalidMagicNumber)),
-        (4, b'4', Fault::File(TzFileError::UnsupportedTzFileVersion)),
-        (23, 2, Fault::File(TzFileError::InvalidHeader)),
-        (27, 2, Fault::File(TzFileError::InvalidHeader)),
-        (39, 0, Fault::File(TzFileError::InvalidHeader)),
-        (43, 0, Fault::File(TzFileError::InvalidHeader)),
-        (43, 3, Fault::File(TzFileError::RemainingDataV1)),
-        (48, 2, Fault::File(TzFileError::InvalidDstIndicator)),
-        (
-            49,
-            4,
-            Fault::File(TzFileError::InvalidTimeZoneDesignationCharIndex),
-        ),
-        (
-            53,
-            b'x',
-            Fault::File(TzFileError::InvalidTimeZoneDesignationCharIndex),
-        ),
-        (
-            50,
-            b'_',
-            Fault::Type(LocalTimeTypeError::InvalidTimeZoneDesignationChar),
-        ),
-        (44, 0x80, Fault::Type(LocalTimeTypeError::InvalidUtcOffset)),
-    ] {
-        let other = altered(rt.alloc(), &bytes, place, byte)?;
-        assert_eq!(rt; fault_of(rt.alloc(), &other), Some(expected), "at {place}");
-    }
-    let other = altered(rt.alloc(), &bytes, 43, 5)?;
-    assert_eq!(rt; fault_of(rt.alloc(), &other), is_cut());
-    Ok(())
-}
-
-#[test]
-fn altered_leap_seconds_are_refused(rt: HostRuntime) -> Result<(), Fail> {
-    let bytes = utc_v1_leap(rt.alloc())?;
-    // The first time is negative, the first correction is 2, a time of UT goes with no standard time.
-    for (place, byte, expected) in [
-        (54, 0x80, Fault::Zone(TimeZoneError::InvalidLeapSecond)),
-        (61, 2, Fault::Zone(TimeZoneError::InvalidLeapSecond)),
-        (271, 1, Fault::File(TzFileError::InvalidStdWallUtLocal)),
-        (270, 2, Fault::File(TzFileError::InvalidStdWallUtLocal)),
-    ] {
-        let other = altered(rt.alloc(), &bytes, place, byte)?;
-        assert_eq!(rt; fault_of(rt.alloc(), &other), Some(expected), "at {place}");
-    }
-    let other = altered(rt.alloc(), &bytes, 270, 1)?;
-    assert_eq!(rt; fault_of(rt.alloc(), &other), None);
-    Ok(())
-}
-
-#[test]
-fn a_name_may_be_empty(rt: HostRuntime) -> Result<(), Fail> {
-    let bytes = altered(rt.alloc(), &utc_v1(rt.alloc())?, 49, 3)?;
-    let zone = TimeZone::from_tz_data(rt.alloc(), &bytes)?;
-    assert_eq!(rt;
-        zone.as_ref().local_time_types(),
-        [LocalTimeType::utc()].as_slice()
-    );
-    Ok(())
-}
-
-/// Each growth is refused in turn: the answer is want of memory, until none is refused.
-fn expect_memory(rt: &impl Abort, alloc: Global, bytes: &[u8]) {
+/// Each growth is refused in turn: the answer is want of memory, until none is refused and it is the zone. The bytes stay as they are.
+fn expect_memory(rt: &impl Abort, alloc: Global, bytes: &[u8]) -> Result<(), Fail> {
+    let lent = Vec::from_slice(alloc, bytes)?;
+    let ample = TimeZone::from_tz_data(alloc, bytes)?;
     for left in 0..10u64 {
         let heap = Refusing::new(alloc, left);
         let answer = TimeZone::from_tz_data(&heap, bytes);
+        assert_eq!(rt; bytes, lent.as_slice(), "after {left}");
         if heap.refused() == 0 {
-            assert!(rt; answer.is_ok());
-            return;
+            assert!(rt; answer.is_ok_and(|zone| zone.as_ref() == ample.as_ref()));
+            return Ok(());
         }
         assert_eq!(rt;
             answer.err().map(named),
@@ -262,28 +134,13 @@ fn expect_memory(rt: &impl Abort, alloc: Global, bytes: &[u8]) {
         assert_eq!(rt; heap.held(), 0);
     }
     assert!(rt; false, "growths without end");
+    Ok(())
 }
 
 #[test]
 fn memory_is_refused(rt: HostRuntime) -> Result<(), Fail> {
-    expect_memory(&rt, rt.alloc(), &utc_v1(rt.alloc())?);
-    expect_memory(&rt, rt.alloc(), &utc_v1_leap(rt.alloc())?);
-    Ok(())
-}
-
-#[test]
-fn counts_beyond_the_bytes_take_no_memory(rt: HostRuntime) -> Result<(), Fail> {
-    let mut bytes = utc_v1(rt.alloc())?;
-    for place in 32..36 {
-        bytes = altered(rt.alloc(), &bytes, place, 0xff)?;
-    }
-    let heap = Refusing::new(rt.alloc(), 0);
-    assert_eq!(rt;
-        TimeZone::from_tz_data(&heap, &bytes).err().map(named),
-        is_cut()
-    );
-    assert_eq!(rt; heap.refused(), 0);
-    Ok(())
+    expect_memory(&rt, rt.alloc(), &utc_v1(rt.alloc())?)?;
+    expect_memory(&rt, rt.alloc(), &utc_v1_leap(rt.alloc())?)
 }
 
 /// One type of two hours east in both blocks, a transition in the second one, and a footer behind it.
@@ -407,7 +264,11 @@ fn jerusalem_is_read(rt: HostRuntime) -> Result<(), Fail> {
     expect_jerusalem(&rt, rt.alloc(), &bytes)?;
     // The first header's version and the first block's content make no difference, nor does a time of UT.
     for (place, byte) in [(4, b'2'), (48, 7), (118, 0)] {
-        expect_jerusalem(&rt, rt.alloc(), &altered(rt.alloc(), &bytes, place, byte)?)?;
+        expect_jerusalem(
+            &rt,
+            rt.alloc(),
+            &with_byte(rt.alloc(), &bytes, place, byte)?,
+        )?;
     }
     Ok(())
 }
@@ -429,57 +290,6 @@ fn honolulu_is_read(rt: HostRuntime) -> Result<(), Fail> {
         *zone.as_ref().extra_rule(),
         Some(TransitionRule::Fixed(now))
     );
-    Ok(())
-}
-
-#[test]
-fn cut_later_files_are_refused(rt: HostRuntime) -> Result<(), Fail> {
-    let bytes = jerusalem_v3(rt.alloc())?;
-    for len in 0..bytes.len() {
-        let expected = match len {
-            0..=118 => is_cut(),
-            120 => None,
-            _ => Some(Fault::File(TzFileError::InvalidFooter)),
-        };
-        assert_eq!(rt;
-            fault_of(rt.alloc(), &bytes[..len]),
-            expected,
-            "of {len} bytes"
-        );
-    }
-    let cut = with_footer(rt.alloc(), b'3', b"\n")?;
-    assert_eq!(rt; cut.len(), 120);
-    let zone = TimeZone::from_tz_data(rt.alloc(), &cut)?;
-    assert!(rt; zone.as_ref().extra_rule().is_none());
-    assert_eq!(rt; zone.find_local_time_type(2_145_916_799)?.ut_offset(), 7200);
-    assert_eq!(rt;
-        zone.find_local_time_type(2_145_916_800).err().map(named),
-        Some(Fault::NoType)
-    );
-    Ok(())
-}
-
-#[test]
-fn altered_later_files_are_refused(rt: HostRuntime) -> Result<(), Fail> {
-    let bytes = jerusalem_v3(rt.alloc())?;
-    for (place, byte, expected) in [
-        (2, b'j', Fault::File(TzFileError::InvalidMagicNumber)),
-        (4, 0, Fault::File(TzFileError::RemainingDataV1)),
-        (56, b'j', Fault::File(TzFileError::InvalidMagicNumber)),
-        (58, b'2', Fault::Text(TzStringError::InvalidDayTimeHour)),
-        (58, 0, Fault::Text(TzStringError::InvalidDayTimeHour)),
-        (58, b'4', Fault::File(TzFileError::UnsupportedTzFileVersion)),
-        (
-            106,
-            1,
-            Fault::Zone(TimeZoneError::InvalidLocalTimeTypeIndex),
-        ),
-        (117, 0, Fault::File(TzFileError::InvalidStdWallUtLocal)),
-        (146, b' ', Fault::File(TzFileError::InvalidFooter)),
-    ] {
-        let other = altered(rt.alloc(), &bytes, place, byte)?;
-        assert_eq!(rt; fault_of(rt.alloc(), &other), Some(expected), "at {place}");
-    }
     Ok(())
 }
 
@@ -572,40 +382,8 @@ fn the_second_header_extends_texts(rt: HostRuntime) -> Result<(), Fail> {
 
 #[test]
 fn memory_is_refused_in_later_files(rt: HostRuntime) -> Result<(), Fail> {
-    expect_memory(&rt, rt.alloc(), &jerusalem_v3(rt.alloc())?);
-    expect_memory(&rt, rt.alloc(), &honolulu_v2(rt.alloc())?);
-    Ok(())
-}
-
-/// Each byte is set to each value: the bytes are refused by a name, or their parts make a zone.
-fn expect_named(rt: &impl Abort, alloc: Global, bytes: &mut Vec<u8>) {
-    for place in 0..bytes.len() {
-        let byte = bytes[place];
-        for other in 0..=255u8 {
-            bytes[place] = other;
-            match TimeZone::from_tz_data(alloc, bytes) {
-                Ok(zone) => {
-                    let zone = zone.as_ref();
-                    let again = TimeZoneRef::new(
-                        zone.transitions(),
-                        zone.local_time_types(),
-                        zone.leap_seconds(),
-                        zone.extra_rule(),
-                    );
-                    assert!(rt; again.is_ok());
-                }
-                Err(error) => assert!(rt; named(error) != Fault::Memory),
-            }
-        }
-        bytes[place] = byte;
-    }
-}
-
-#[test]
-fn every_byte_is_read(rt: HostRuntime) -> Result<(), Fail> {
-    expect_named(&rt, rt.alloc(), &mut utc_v1(rt.alloc())?);
-    expect_named(&rt, rt.alloc(), &mut jerusalem_v3(rt.alloc())?);
-    Ok(())
+    expect_memory(&rt, rt.alloc(), &jerusalem_v3(rt.alloc())?)?;
+    expect_memory(&rt, rt.alloc(), &honolulu_v2(rt.alloc())?)
 }
 
 /// UTC in the first block, and in the second one with its leap seconds.
@@ -638,4 +416,5 @@ fn leap_seconds_of_later_files_are_read(rt: HostRuntime) -> Result<(), Fail> {
     Ok(())
 }
 
+mod altered;
 mod layouts;

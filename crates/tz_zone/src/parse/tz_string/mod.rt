@@ -134,8 +134,4 @@ pub(crate) fn parse_posix_tz(text: &[u8], extended: bool) -> Result<TransitionRu
 }
 
 #[cfg(test)]
-mod altered;
-#[cfg(test)]
-mod footers;
-#[cfg(test)]
 mod tests;

@@ -1,36 +1,16 @@
 //! TZ texts and the rules that they denote, and texts that are none.
 
 use super::parse_posix_tz;
+use crate::samples::{Fault, named};
+use std::alloc::Global;
 use std::process::Abort;
 use std::test::Fail;
-use tz_base::error::TzError;
 use tz_base::error::parse::{ParseDataError, TzStringError};
 use tz_base::error::timezone::{LocalTimeTypeError, TransitionRuleError};
 use tz_rule::timezone::{
     AlternateTime, Julian0WithLeap, Julian1WithoutLeap, LocalTimeType, MonthWeekDay, RuleDay,
     TransitionRule,
 };
-
-/// A refusal that can be compared.
-#[derive(Debug, Drop, PartialEq, Eq)]
-enum Fault {
-    Number,
-    Text(TzStringError),
-    Type(LocalTimeTypeError),
-    Rule(TransitionRuleError),
-    Other,
-}
-
-/// The refusal, to be compared.
-fn named(error: TzError) -> Fault {
-    match error {
-        TzError::TzString(TzStringError::ParseInt(_)) => Fault::Number,
-        TzError::TzString(part) => Fault::Text(part),
-        TzError::LocalTimeType(part) => Fault::Type(part),
-        TzError::TransitionRule(part) => Fault::Rule(part),
-        _ => Fault::Other,
-    }
-}
 
 /// The ordinary text is refused so.
 fn expect_fault(rt: &impl Abort, text: &str, fault: Fault) {
@@ -351,3 +331,52 @@ fn bytes_stand_where_they_have_to(rt: HostRuntime) {
         expect_fault(&rt, text, Fault::Text(TzStringError::RemainingData));
     }
 }
+
+/// The name of a type, and its offset from UTC in seconds.
+fn type_text(alloc: Global, local_time_type: &LocalTimeType) -> Result<String, Fail> {
+    let name = local_time_type.time_zone_designation();
+    Ok(format!(in alloc; "{name} {}", local_time_type.ut_offset())?)
+}
+
+/// A day as a TZ text has it, and a time of that day in seconds.
+fn change_text(alloc: Global, day: &RuleDay, time: i32) -> Result<String, Fail> {
+    Ok(match day {
+        RuleDay::Julian1WithoutLeap(day) => format!(in alloc; "J{} {time}", day.get())?,
+        RuleDay::Julian0WithLeap(day) => format!(in alloc; "{} {time}", day.get())?,
+        RuleDay::MonthWeekDay(day) => {
+            format!(in alloc; "M{}.{}.{} {time}", day.month(), day.week(), day.week_day())?
+        }
+    })
+}
+
+/// The types and the changes of a rule.
+fn rule_text(alloc: Global, rule: &TransitionRule) -> Result<String, Fail> {
+    match rule {
+        TransitionRule::Fixed(local_time_type) => type_text(alloc, local_time_type),
+        TransitionRule::Alternate(rule) => {
+            let std = type_text(alloc, rule.std())?;
+            let dst = type_text(alloc, rule.dst())?;
+            let start = change_text(alloc, rule.dst_start(), rule.dst_start_time())?;
+            let end = change_text(alloc, rule.dst_end(), rule.dst_end_time())?;
+            Ok(format!(in alloc; "{std}, {dst}, {start}, {end}")?)
+        }
+    }
+}
+
+/// Each text denotes this rule.
+fn expect_rules(
+    rt: &impl Abort,
+    alloc: Global,
+    rows: &[(&str, &str)],
+    extended: bool,
+) -> Result<(), Fail> {
+    for (text, expected) in rows {
+        let rule = parse_posix_tz(text.as_bytes(), extended)?;
+        let found = rule_text(alloc, &rule)?;
+        assert_eq!(rt; found.as_str(), *expected, "{text}");
+    }
+    Ok(())
+}
+
+mod altered;
+mod footers;

@@ -83,15 +83,21 @@ fn each_growth_can_be_refused(rt: HostRuntime) -> Result<(), Fail> {
     Ok(())
 }
 
+/// Some MiB, of which the last piece is not whole.
 #[test]
 fn a_file_of_the_machine_is_read_whole(rt: HostRuntime) -> Result<(), Fail> {
     let alloc = rt.alloc();
     let name = format!(in alloc; "tz-read-file-{}", process::id(rt.process()))?;
     let path = env::temp_dir(&rt)?.join(alloc, name.as_str())?;
-    let mut bytes = Vec::new(alloc);
-    for i in 0..3 * PIECE + 1 {
-        bytes.push(u8::try_from(i % 251)?)?;
+    let mut row = Vec::new(alloc);
+    for byte in 0..251u8 {
+        row.push(byte)?;
     }
+    let mut bytes = Vec::new(alloc);
+    for _ in 0..12_000 {
+        bytes.extend_from_slice(&row)?;
+    }
+    assert!(rt; bytes.len() % PIECE != 0);
     fs::write(&rt, path.as_str(), bytes.as_slice())?;
     let read = read_file(&rt, alloc, path.as_str());
     fs::remove_file(&rt, path.as_str())?;

@@ -1,6 +1,7 @@
 //! What the settings ask of the reader, and what they answer.
 
 use super::{DEFAULT_DIRECTORIES, TimeZoneSettings};
+use crate::samples::{Fault, named_by_settings as named, utc_v1};
 use crate::timezone::{LocalTimeType, TimeZone, TransitionRule};
 use anyhow::anyhow;
 use std::alloc::{AllocError, Allocator, Global};
@@ -8,12 +9,8 @@ use std::cell::Cell;
 use std::process::Abort;
 use std::test::Fail;
 use tz_base::error::parse::{ParseDataError, TzFileError, TzStringError};
-use tz_base::error::{Error, ReadFault, TzError};
+use tz_base::error::{Error, ReadFault};
 use tz_base::refusing::Refusing;
-
-/// A file of version 1 with one type, UTC.
-const UTC_V1: &[u8] =
-    b"TZif\0\0\0\0\0\0\0\0\0\0\0\0\0\0\0\0\0\0\0\0\0\0\0\0\0\0\0\0\0\0\0\0\0\0\0\x01\0\0\0\x04\0\0\0\0\0\0UTC\0";
 
 /// What stands at a path.
 #[derive(Clone, Copy)]
@@ -47,7 +44,7 @@ impl Files<'_> {
             if *name == path {
                 self.note(digit);
                 return match reply {
-                    Reply::Utc => Ok(Vec::from_slice(self.alloc, UTC_V1)?),
+                    Reply::Utc => Ok(utc_v1(self.alloc)?),
                     Reply::NoZone => Ok(Vec::from_slice(self.alloc, b"TZ")?),
                     Reply::NoMemory => Err(ReadFault::Memory(AllocError)),
                     Reply::NoFile => Err(ReadFault::Failed(anyhow!("no file"))),
@@ -56,29 +53,6 @@ impl Files<'_> {
         }
         self.note(9);
         Err(ReadFault::Failed(anyhow!("no file")))
-    }
-}
-
-/// A refusal that can be compared.
-#[derive(Debug, Drop, PartialEq, Eq)]
-enum Fault {
-    File(TzFileError),
-    Number,
-    Text(TzStringError),
-    Memory,
-    Io,
-    Other,
-}
-
-/// The refusal, to be compared.
-fn named(error: Error) -> Fault {
-    match error {
-        Error::Io(_) => Fault::Io,
-        Error::Tz(TzError::TzFile(part)) => Fault::File(part),
-        Error::Tz(TzError::TzString(TzStringError::ParseInt(_))) => Fault::Number,
-        Error::Tz(TzError::TzString(part)) => Fault::Text(part),
-        Error::Tz(TzError::Memory(_)) => Fault::Memory,
-        Error::Tz(_) => Fault::Other,
     }
 }
 
@@ -213,8 +187,9 @@ fn an_absolute_path_is_asked_alone(rt: HostRuntime) -> Result<(), Fail> {
     let utc_file = [("/x", Reply::Utc)];
     expect_type(&rt, alloc, &utc_file, "/x", utc()?, 1)?;
     expect_type(&rt, alloc, &utc_file, ":/x", utc()?, 1)?;
-    expect_fault(&rt, alloc, &[], "/x", Fault::Number, 9);
-    expect_fault(&rt, alloc, &[], ":/x", Fault::Io, 9);
+    let no_file = [("/x", Reply::NoFile)];
+    expect_fault(&rt, alloc, &no_file, "/x", Fault::Number, 1);
+    expect_fault(&rt, alloc, &no_file, ":/x", Fault::Io, 1);
     Ok(())
 }
 
@@ -225,15 +200,10 @@ fn local_time_has_its_file(rt: HostRuntime) -> Result<(), Fail> {
     expect_type(&rt, alloc, &local, "localtime", utc()?, 1)?;
     expect_type(&rt, alloc, &local, "/etc/localtime", utc()?, 1)?;
     expect_type(&rt, alloc, &local, ":/etc/localtime", utc()?, 1)?;
-    expect_fault(&rt, alloc, &[], "localtime", Fault::Io, 9);
-    expect_fault(
-        &rt,
-        alloc,
-        &[("/etc/localtime", Reply::NoMemory)],
-        "localtime",
-        Fault::Memory,
-        1,
-    );
+    let no_file = [("/etc/localtime", Reply::NoFile)];
+    expect_fault(&rt, alloc, &no_file, "localtime", Fault::Io, 1);
+    let memory = [("/etc/localtime", Reply::NoMemory)];
+    expect_fault(&rt, alloc, &memory, "localtime", Fault::Memory, 1);
     let files = Files {
         alloc,
         replies: &local,
@@ -518,3 +488,5 @@ fn refusals_with_each_growth_refused(rt: HostRuntime) {
     expect_refusal(&rt, rt.alloc(), Call::BadText, &no_rules);
     expect_refusal(&rt, rt.alloc(), Call::MissingFile, &Fault::Io);
 }
+
+mod texts;

@@ -35,19 +35,6 @@ fn two_transitions<A: Allocator + Copy>(alloc: A) -> Result<TimeZone<A>, TzError
     TimeZone::new(transitions, local_time_types, leap_seconds, extra_rule)
 }
 
-/// Whether two zones have the same parts.
-fn have_same_parts(one: TimeZoneRef<'_>, other: TimeZoneRef<'_>) -> bool {
-    let have_same_rule = match (one.extra_rule(), other.extra_rule()) {
-        (None, None) => true,
-        (Some(TransitionRule::Fixed(one)), Some(TransitionRule::Fixed(other))) => one == other,
-        _ => false,
-    };
-    one.transitions() == other.transitions()
-        && one.local_time_types() == other.local_time_types()
-        && one.leap_seconds() == other.leap_seconds()
-        && have_same_rule
-}
-
 /// Whether a call was refused for want of memory.
 fn is_memory<T>(answer: &Result<T, TzError>) -> bool {
     matches!(answer, Err(TzError::Memory(AllocError)))
@@ -61,10 +48,10 @@ fn zones_of_one_type(rt: HostRuntime) -> Result<(), Fail> {
         let types = [plain];
         let expected = TimeZoneRef::new(&[], &types, &[], &none)?;
         let zone = TimeZone::fixed(rt.alloc(), ut_offset)?;
-        assert!(rt; have_same_parts(zone.as_ref(), expected), "{ut_offset}");
+        assert_eq!(rt; zone.as_ref(), expected, "{ut_offset}");
         if ut_offset == 0 {
             let utc = TimeZone::utc(rt.alloc())?;
-            assert!(rt; have_same_parts(utc.as_ref(), expected));
+            assert_eq!(rt; utc.as_ref(), expected);
         }
         for unix_time in [i64::MIN, 0, i64::MAX] {
             assert_eq!(rt; *zone.find_local_time_type(unix_time)?, plain);
@@ -117,19 +104,21 @@ fn one_type_with_each_growth_refused(rt: HostRuntime) {
     }
 }
 
-/// A clone takes its source's allocator: one block for each list that is not empty.
+/// A clone equals its source and takes its source's allocator: one block for each list that is not empty. The source stays as it is.
 #[test]
 fn a_clone_with_each_growth_refused(rt: HostRuntime) -> Result<(), Fail> {
+    let source = two_transitions(rt.alloc())?;
     let mut blocks = 0u64;
     for left in 0..20u64 {
         let heap = Refusing::new(rt.alloc(), left);
         if let Ok(zone) = two_transitions(&heap) {
             let held = heap.held();
             let clone = zone.try_clone();
+            assert!(rt; zone.as_ref() == source.as_ref());
             match &clone {
                 Ok(clone) => {
                     assert_eq!(rt; heap.held(), held.wrapping_mul(2));
-                    assert!(rt; have_same_parts(clone.as_ref(), zone.as_ref()));
+                    assert!(rt; *clone == zone);
                     blocks = held;
                 }
                 Err(_) => {

@@ -209,7 +209,7 @@ fn times_of_four_bytes_are_read(rt: HostRuntime) -> Result<(), Fail> {
     let mut bytes = Vec::new(rt.alloc());
     push_unit(&mut bytes, false, &FAT)?;
     assert_eq!(rt; bytes.len(), 116);
-    let bytes = altered(rt.alloc(), &bytes, 4, 0)?;
+    let bytes = with_byte(rt.alloc(), &bytes, 4, 0)?;
     let zone = TimeZone::from_tz_data(rt.alloc(), &bytes)?;
     assert!(rt; zone == fat_zone(rt.alloc(), None)?);
     expect_offsets(&rt, &zone, &[(-1_883_091_209, 3208), (909_277_199, 7200)])?;

@@ -1,0 +1,229 @@
+//! Files that are cut short, and files with bytes altered.
+
+use super::*;
+
+#[test]
+fn cut_files_are_refused(rt: HostRuntime) -> Result<(), Fail> {
+    for bytes in [utc_v1(rt.alloc())?, utc_v1_leap(rt.alloc())?] {
+        for len in 0..bytes.len() {
+            assert_eq!(rt;
+                fault_of(rt.alloc(), &bytes[..len]),
+                is_cut(),
+                "of {len} bytes"
+            );
+        }
+        let mut longer = bytes.clone()?;
+        longer.push(0)?;
+        assert_eq!(rt;
+            fault_of(rt.alloc(), &longer),
+            Some(Fault::File(TzFileError::RemainingDataV1))
+        );
+    }
+    Ok(())
+}
+
+#[test]
+fn cut_later_files_are_refused(rt: HostRuntime) -> Result<(), Fail> {
+    let bytes = jerusalem_v3(rt.alloc())?;
+    for len in 0..bytes.len() {
+        let expected = match len {
+            0..=118 => is_cut(),
+            120 => None,
+            _ => Some(Fault::File(TzFileError::InvalidFooter)),
+        };
+        assert_eq!(rt;
+            fault_of(rt.alloc(), &bytes[..len]),
+            expected,
+            "of {len} bytes"
+        );
+    }
+    let cut = with_footer(rt.alloc(), b'3', b"\n")?;
+    assert_eq!(rt; cut.len(), 120);
+    let zone = TimeZone::from_tz_data(rt.alloc(), &cut)?;
+    assert!(rt; zone.as_ref().extra_rule().is_none());
+    assert_eq!(rt; zone.find_local_time_type(2_145_916_799)?.ut_offset(), 7200);
+    assert_eq!(rt;
+        zone.find_local_time_type(2_145_916_800).err().map(named),
+        Some(Fault::NoType)
+    );
+    Ok(())
+}
+
+#[test]
+fn altered_bytes_are_refused(rt: HostRuntime) -> Result<(), Fail> {
+    let bytes = utc_v1(rt.alloc())?;
+    for (place, byte, expected) in [
+        (2, b'j', Fault::File(TzFileError::InvalidMagicNumber)),
+        (4, b'4', Fault::File(TzFileError::UnsupportedTzFileVersion)),
+        (23, 2, Fault::File(TzFileError::InvalidHeader)),
+        (27, 2, Fault::File(TzFileError::InvalidHeader)),
+        (39, 0, Fault::File(TzFileError::InvalidHeader)),
+        (43, 0, Fault::File(TzFileError::InvalidHeader)),
+        (43, 3, Fault::File(TzFileError::RemainingDataV1)),
+        (48, 2, Fault::File(TzFileError::InvalidDstIndicator)),
+        (
+            49,
+            4,
+            Fault::File(TzFileError::InvalidTimeZoneDesignationCharIndex),
+        ),
+        (
+            53,
+            b'x',
+            Fault::File(TzFileError::InvalidTimeZoneDesignationCharIndex),
+        ),
+        (
+            50,
+            b'_',
+            Fault::Type(LocalTimeTypeError::InvalidTimeZoneDesignationChar),
+        ),
+        (44, 0x80, Fault::Type(LocalTimeTypeError::InvalidUtcOffset)),
+    ] {
+        let other = with_byte(rt.alloc(), &bytes, place, byte)?;
+        assert_eq!(rt; fault_of(rt.alloc(), &other), Some(expected), "at {place}");
+    }
+    let other = with_byte(rt.alloc(), &bytes, 43, 5)?;
+    assert_eq!(rt; fault_of(rt.alloc(), &other), is_cut());
+    Ok(())
+}
+
+#[test]
+fn altered_leap_seconds_are_refused(rt: HostRuntime) -> Result<(), Fail> {
+    let bytes = utc_v1_leap(rt.alloc())?;
+    // The first time is negative, the first correction is 2, a time of UT goes with no standard time.
+    for (place, byte, expected) in [
+        (54, 0x80, Fault::Zone(TimeZoneError::InvalidLeapSecond)),
+        (61, 2, Fault::Zone(TimeZoneError::InvalidLeapSecond)),
+        (271, 1, Fault::File(TzFileError::InvalidStdWallUtLocal)),
+        (270, 2, Fault::File(TzFileError::InvalidStdWallUtLocal)),
+    ] {
+        let other = with_byte(rt.alloc(), &bytes, place, byte)?;
+        assert_eq!(rt; fault_of(rt.alloc(), &other), Some(expected), "at {place}");
+    }
+    let other = with_byte(rt.alloc(), &bytes, 270, 1)?;
+    assert_eq!(rt; fault_of(rt.alloc(), &other), None);
+    Ok(())
+}
+
+#[test]
+fn altered_later_files_are_refused(rt: HostRuntime) -> Result<(), Fail> {
+    let bytes = jerusalem_v3(rt.alloc())?;
+    for (place, byte, expected) in [
+        (2, b'j', Fault::File(TzFileError::InvalidMagicNumber)),
+        (4, 0, Fault::File(TzFileError::RemainingDataV1)),
+        (56, b'j', Fault::File(TzFileError::InvalidMagicNumber)),
+        (58, b'2', Fault::Text(TzStringError::InvalidDayTimeHour)),
+        (58, 0, Fault::Text(TzStringError::InvalidDayTimeHour)),
+        (58, b'4', Fault::File(TzFileError::UnsupportedTzFileVersion)),
+        (
+            106,
+            1,
+            Fault::Zone(TimeZoneError::InvalidLocalTimeTypeIndex),
+        ),
+        (117, 0, Fault::File(TzFileError::InvalidStdWallUtLocal)),
+        (146, b' ', Fault::File(TzFileError::InvalidFooter)),
+    ] {
+        let other = with_byte(rt.alloc(), &bytes, place, byte)?;
+        assert_eq!(rt; fault_of(rt.alloc(), &other), Some(expected), "at {place}");
+    }
+    Ok(())
+}
+
+#[test]
+fn a_name_may_be_empty(rt: HostRuntime) -> Result<(), Fail> {
+    let bytes = with_byte(rt.alloc(), &utc_v1(rt.alloc())?, 49, 3)?;
+    let zone = TimeZone::from_tz_data(rt.alloc(), &bytes)?;
+    assert_eq!(rt;
+        zone.as_ref().local_time_types(),
+        [LocalTimeType::utc()].as_slice()
+    );
+    Ok(())
+}
+
+/// One list of indicators may stand without the other one, whose indicators then count as 0.
+#[test]
+fn one_list_of_indicators(rt: HostRuntime) -> Result<(), Fail> {
+    let refused = Some(Fault::File(TzFileError::InvalidStdWallUtLocal));
+    for (ut_locals, std_walls, indicator, expected) in [
+        (0, 1, 0, None),
+        (0, 1, 1, None),
+        (0, 1, 2, refused.as_ref()),
+        (1, 0, 0, None),
+        (1, 0, 1, refused.as_ref()),
+    ] {
+        let mut bytes = Vec::new(rt.alloc());
+        push_header(&mut bytes, 0, &[ut_locals, std_walls, 0, 0, 1, 4])?;
+        bytes.extend_from_slice(b"\0\0\0\0\0\0UTC\0")?;
+        bytes.push(indicator)?;
+        assert_eq!(rt;
+            fault_of(rt.alloc(), &bytes).as_ref(),
+            expected,
+            "{ut_locals} {std_walls} {indicator}"
+        );
+    }
+    Ok(())
+}
+
+#[test]
+fn counts_beyond_the_bytes_take_no_memory(rt: HostRuntime) -> Result<(), Fail> {
+    let mut bytes = utc_v1(rt.alloc())?;
+    for place in 32..36 {
+        bytes = with_byte(rt.alloc(), &bytes, place, 0xff)?;
+    }
+    let heap = Refusing::new(rt.alloc(), 0);
+    assert_eq!(rt;
+        TimeZone::from_tz_data(&heap, &bytes).err().map(named),
+        is_cut()
+    );
+    assert_eq!(rt; heap.refused(), 0);
+    Ok(())
+}
+
+/// The parts that the zone lends make an equal zone.
+fn expect_same_zone(rt: &impl Abort, zone: TimeZoneRef<'_>) {
+    let again = TimeZoneRef::new(
+        zone.transitions(),
+        zone.local_time_types(),
+        zone.leap_seconds(),
+        zone.extra_rule(),
+    );
+    assert!(rt; again.is_ok_and(|again| again == zone));
+}
+
+/// Sets each byte to each other value, and answers how many of these files are accepted. The others are refused by a name that is not want
+/// of memory; of an accepted one the parts that its zone lends make an equal zone.
+fn accepted_alterations(rt: &impl Abort, alloc: Global, bytes: &mut Vec<u8>) -> u32 {
+    let mut accepted = 0u32;
+    for place in 0..bytes.len() {
+        let byte = bytes[place];
+        for other in 0..=255u8 {
+            if other != byte {
+                bytes[place] = other;
+                match TimeZone::from_tz_data(alloc, bytes) {
+                    Ok(zone) => {
+                        expect_same_zone(rt, zone.as_ref());
+                        accepted = accepted.saturating_add(1);
+                    }
+                    Err(error) => assert!(rt; named(error) != Fault::Memory),
+                }
+            }
+        }
+        bytes[place] = byte;
+    }
+    accepted
+}
+
+/// tz-rs accepts as many.
+#[test]
+fn each_byte_of_a_first_version_is_altered(rt: HostRuntime) -> Result<(), Fail> {
+    let accepted = accepted_alterations(&rt, rt.alloc(), &mut utc_v1(rt.alloc())?);
+    assert_eq!(rt; accepted, 5040);
+    Ok(())
+}
+
+/// tz-rs accepts as many.
+#[test]
+fn each_byte_of_a_later_version_is_altered(rt: HostRuntime) -> Result<(), Fail> {
+    let accepted = accepted_alterations(&rt, rt.alloc(), &mut jerusalem_v3(rt.alloc())?);
+    assert_eq!(rt; accepted, 11_447);
+    Ok(())
+}

@@ -1,0 +1,112 @@
+//! Texts that the settings read where there is no file: the zones that they denote, and refusals.
+
+use crate::parse::tz_string::parse_posix_tz;
+use crate::timezone::{TimeZone, TimeZoneRef, TimeZoneSettings, TransitionRule};
+use anyhow::anyhow;
+use std::alloc::Global;
+use std::process::Abort;
+use std::test::Fail;
+use tz_base::error::{Error, ReadFault};
+
+/// Texts that are refused, and the refusal's text.
+const REFUSED: &[(&str, &str)] = &[
+    ("", "invalid TZ string: empty TZ string"),
+    (
+        "IST-1GMT0",
+        "invalid TZ string: missing DST start and end rules",
+    ),
+    (
+        "EET-2EEST",
+        "invalid TZ string: missing DST start and end rules",
+    ),
+    (
+        "EST5EDT,0/0,J365/25",
+        "invalid TZ string: invalid day time hour",
+    ),
+    (
+        "EST5EDT,M3.2.0,M11.1.0x",
+        "invalid TZ string: remaining data after parsing TZ string",
+    ),
+    ("<-03", "invalid TZ string: unexpected end of data"),
+    (
+        "abcdefgh5",
+        "invalid local time type: time zone designation must have between 3 and 7 characters",
+    ),
+    (
+        "A0B,0,M13.1.0",
+        "invalid transition rule: invalid rule day month",
+    ),
+];
+
+/// What the settings answer for the text where no file can be read.
+fn zone_of(alloc: Global, text: &str) -> Result<TimeZone, Error> {
+    let settings = TimeZoneSettings::new(&["/a", "/b"], |_: &str| {
+        Err(ReadFault::Failed(anyhow!("no file")))
+    });
+    settings.parse_posix_tz(alloc, text)
+}
+
+/// The zone of a rule: its types, no tables and the rule.
+fn expect_zone(rt: &impl Abort, zone: &TimeZone, rule: TransitionRule) -> Result<(), Fail> {
+    let extra_rule = Some(rule);
+    let is_same = match &rule {
+        TransitionRule::Fixed(local_time_type) => {
+            let types = [*local_time_type];
+            zone.as_ref() == TimeZoneRef::new(&[], &types, &[], &extra_rule)?
+        }
+        TransitionRule::Alternate(rule) => {
+            let types = [*rule.std(), *rule.dst()];
+            zone.as_ref() == TimeZoneRef::new(&[], &types, &[], &extra_rule)?
+        }
+    };
+    assert!(rt; is_same);
+    Ok(())
+}
+
+#[test]
+fn texts_are_zones_of_their_rules(rt: HostRuntime) -> Result<(), Fail> {
+    for text in [
+        "HST10",
+        "<-03>3",
+        "A0",
+        "<-03>+3<+03>-3,J1,J365",
+        "NZST-12:00:00NZDT-13:00:00,M10.1.0/02:00:00,M3.3.0/02:00:00",
+        "IST-1GMT0,M10.5.0,M3.5.0/1",
+        "STD24:59:59DST,J1,J365",
+        "STD-24:59:59DST,J1,J365",
+        "CET-1CEST,M3.5.0,M10.5.0/3",
+    ] {
+        let rule = parse_posix_tz(text.as_bytes(), false)?;
+        expect_zone(&rt, &zone_of(rt.alloc(), text)?, rule)?;
+        let spaced = format!(in rt.alloc(); " {text}\n")?;
+        expect_zone(&rt, &zone_of(rt.alloc(), spaced.as_str())?, rule)?;
+    }
+    Ok(())
+}
+
+#[test]
+fn clocks_turn_when_the_text_says(rt: HostRuntime) -> Result<(), Fail> {
+    let text = "NZST-12:00:00NZDT-13:00:00,M10.1.0/02:00:00,M3.3.0/02:00:00";
+    let zone = zone_of(rt.alloc(), text)?;
+    for (unix_time, ut_offset) in [
+        (953_384_399, 46_800),
+        (953_384_400, 43_200),
+        (970_322_399, 43_200),
+        (970_322_400, 46_800),
+    ] {
+        let local_time_type = zone.find_local_time_type(unix_time)?;
+        assert_eq!(rt; local_time_type.ut_offset(), ut_offset, "at {unix_time}");
+    }
+    Ok(())
+}
+
+#[test]
+fn refusals_say_why(rt: HostRuntime) -> Result<(), Fail> {
+    let alloc = rt.alloc();
+    for (text, refusal) in REFUSED {
+        let error = zone_of(alloc, text).err().ok_or("accepted")?;
+        let printed = format!(in alloc; "{error}")?;
+        assert_eq!(rt; printed.as_str(), *refusal, "{text}");
+    }
+    Ok(())
+}
