@@ -97,6 +97,11 @@ fn utc_parts_of_total(total: i128) -> Option<Parts> {
     Some(parts_of_utc(UtcDateTime::from_total_nanoseconds(total).ok()?))
 }
 
+/// The parts of the UTC date time of a moment that is handed in as now.
+fn utc_parts_now(unix_time: i64, nanoseconds: u32) -> Option<Parts> {
+    Some(parts_of_utc(UtcDateTime::now(unix_time, nanoseconds).ok()?))
+}
+
 /// The Unix time and the total of the UTC date time with these parts.
 fn utc_instant_of(parts: Parts) -> Option<(i64, i128)> {
     let date_time = utc_of(parts).ok()?;
@@ -109,6 +114,7 @@ fn utc_date_times_have_the_parts_of_their_instant(rt: HostRuntime) {
         let parts = (year, month, month_day, (12, 1, 6), nanoseconds);
         let total = i128::from(unix_time) * 1_000_000_000 + i128::from(nanoseconds);
         assert_eq!(rt; utc_parts_at(unix_time, nanoseconds), Some(parts));
+        assert_eq!(rt; utc_parts_now(unix_time, nanoseconds), Some(parts));
         assert_eq!(rt; utc_parts_of_total(total), Some(parts));
         assert_eq!(rt; utc_instant_of(parts), Some((unix_time, total)));
     }
@@ -329,12 +335,40 @@ fn local_years_end_where_utc_does(rt: HostRuntime) -> Result<(), Fail> {
 }
 
 #[test]
-fn totals_are_rounded_down(rt: HostRuntime) {
+fn totals_are_rounded_down(rt: HostRuntime) -> Result<(), Fail> {
+    expect_text(
+        &rt,
+        rt.alloc(),
+        &UtcDateTime::from_total_nanoseconds(-1)?,
+        "1969-12-31T23:59:59.999999999Z",
+    )?;
     let last_of_1969 = (1969, 12, 31, (23, 59, 59), 999_999_999);
     assert_eq!(rt; utc_parts_of_total(-1), Some(last_of_1969));
     assert_eq!(rt; utc_parts_of_total(0), Some((1970, 1, 1, (0, 0, 0), 0)));
-    let local = DateTime::from_total_nanoseconds(-1, TimeZoneRef::utc()).ok();
-    assert_eq!(rt; local.map(parts_of_local), Some(last_of_1969));
+    let local = DateTime::from_total_nanoseconds(-1, TimeZoneRef::utc())?;
+    assert_eq!(rt; parts_of_local(local), last_of_1969);
+    assert_eq!(rt; local.total_nanoseconds(), -1);
+    Ok(())
+}
+
+/// Date times are printed as their fields, one after the other.
+#[test]
+fn parts_are_printed(rt: HostRuntime) -> Result<(), Fail> {
+    let alloc = rt.alloc();
+    let utc = UtcDateTime::new(2000, 1, 2, 3, 4, 5, 6)?;
+    let printed = format!(in alloc; "{utc:?}")?;
+    assert_eq!(rt;
+        printed.as_str(),
+        "UtcDateTime { year: 2000, month: 1, month_day: 2, hour: 3, minute: 4, second: 5, nanoseconds: 6 }"
+    );
+    let cet = LocalTimeType::new(3600, false, Some(b"CET"))?;
+    let local = DateTime::new(2000, 1, 2, 3, 4, 5, 6, cet)?;
+    let printed = format!(in alloc; "{local:?}")?;
+    let expected = format!(in alloc;
+        "DateTime {{ year: 2000, month: 1, month_day: 2, hour: 3, minute: 4, second: 5, local_time_type: {cet:?}, unix_time: 946778645, nanoseconds: 6 }}"
+    )?;
+    assert_eq!(rt; printed.as_str(), expected.as_str());
+    Ok(())
 }
 
 #[test]

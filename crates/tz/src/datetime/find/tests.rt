@@ -1,9 +1,10 @@
 //! Searches in zones whose date times are known.
 
+ghost use Rattle.std.specs.Prelude.{◌≡◌};
+
 use crate::datetime::{DateTime, FoundDateTimeKind, FoundDateTimeList, FoundDateTimeListRefMut};
 use crate::error::TzError;
 use crate::error::datetime::DateTimeError;
-use crate::error::timezone::LocalTimeTypeError;
 use crate::timezone::{
     AlternateTime, Julian0WithLeap, Julian1WithoutLeap, LeapSecond, LocalTimeType, MonthWeekDay,
     RuleDay, TimeZoneRef, Transition, TransitionRule,
@@ -12,9 +13,13 @@ use std::alloc::{AllocError, Allocator, Global};
 use std::process::Abort;
 use std::test::Fail;
 
+mod ends;
 mod filter;
 mod memory;
 mod texts;
+mod zones;
+
+use zones::{central_europe, crossing, far_offset};
 
 /// A Unix time, and the offsets before it and at it; those of a date time that is shown are the same.
 type Summary = (i64, i32, i32);
@@ -204,58 +209,13 @@ fn expect_all(
     Ok(())
 }
 
-#[test]
-fn transitions_of_a_day(rt: HostRuntime) -> Result<(), Fail> {
-    let alloc = rt.alloc();
-    let types = [
-        LocalTimeType::new(0, false, Some(b"STD"))?,
-        LocalTimeType::new(3600, true, Some(b"DST"))?,
-    ];
-    let transitions = [
-        Transition::new(3600, 1),
-        Transition::new(86_400, 0),
-        Transition::new(i64::MAX, 0),
-    ];
-    let rule = None;
-    let zone = TimeZoneRef::new(&transitions, &types, &[], &rule)?;
-    expect_found(
-        &rt,
-        alloc,
-        zone,
-        (1970, 1, 2, 0, 30, 0),
-        &[(84_600, 3600, 3600), (88_200, 0, 0)],
-    )?;
-    expect_found(&rt, alloc, zone, (1970, 1, 1, 1, 30, 0), &[(3600, 0, 3600)])?;
-    Ok(())
-}
-
-/// A zone with jumps over the same hour: its transitions and its types.
-fn crossing() -> Result<([Transition; 6], [LocalTimeType; 5]), LocalTimeTypeError> {
-    let types = [
-        LocalTimeType::with_ut_offset(0)?,
-        LocalTimeType::with_ut_offset(3600)?,
-        LocalTimeType::with_ut_offset(-10_800)?,
-        LocalTimeType::with_ut_offset(-19_800)?,
-        LocalTimeType::with_ut_offset(-16_200)?,
-    ];
-    let transitions = [
-        Transition::new(0, 0),
-        Transition::new(7200, 1),
-        Transition::new(14_400, 2),
-        Transition::new(25_200, 3),
-        Transition::new(28_800, 4),
-        Transition::new(32_400, 0),
-    ];
-    Ok((transitions, types))
-}
-
-/// The jumps of that zone.
+/// The jumps of the zone with jumps that cross.
 const FIRST_JUMP: Summary = (7200, 0, 3600);
 
 const SECOND_JUMP: Summary = (28_800, -19_800, -16_200);
 
 /// An hour and a minute of its day, and what is found.
-const CROSSED: [(u8, u8, &[Summary]); 19] = [
+const CROSSED: [(u8, u8, &[Summary]); 17] = [
     (0, 0, &[(0, 0, 0)]),
     (1, 0, &[(3600, 0, 0), (14_400, -10_800, -10_800)]),
     (1, 15, &[(4500, 0, 0), (15_300, -10_800, -10_800)]),
@@ -297,11 +257,6 @@ const CROSSED: [(u8, u8, &[Summary]); 19] = [
     ),
     (
         2,
-        30,
-        &[FIRST_JUMP, (19_800, -10_800, -10_800), SECOND_JUMP],
-    ),
-    (
-        2,
         45,
         &[FIRST_JUMP, (20_700, -10_800, -10_800), SECOND_JUMP],
     ),
@@ -337,7 +292,6 @@ const CROSSED: [(u8, u8, &[Summary]); 19] = [
     (4, 15, &[(11_700, 3600, 3600), (31_500, -16_200, -16_200)]),
     (4, 30, &[(12_600, 3600, 3600)]),
     (4, 45, &[(13_500, 3600, 3600)]),
-    (5, 0, &[]),
     (23, 59, &[]),
 ];
 
@@ -355,27 +309,6 @@ fn jumps_that_cross(rt: HostRuntime) -> Result<(), Fail> {
             expected,
         )?;
     }
-    Ok(())
-}
-
-#[test]
-fn transitions_that_take_effect_at_one_instant_make_one_jump(rt: HostRuntime) -> Result<(), Fail> {
-    let types = [
-        LocalTimeType::with_ut_offset(0)?,
-        LocalTimeType::with_ut_offset(3600)?,
-        LocalTimeType::with_ut_offset(7200)?,
-    ];
-    let transitions = [Transition::new(100, 1), Transition::new(101, 2)];
-    let leap_seconds = [LeapSecond::new(100, 1)];
-    let rule = Some(TransitionRule::Fixed(types[2]));
-    let zone = TimeZoneRef::new(&transitions, &types, &leap_seconds, &rule)?;
-    expect_found(
-        &rt,
-        rt.alloc(),
-        zone,
-        (1970, 1, 1, 1, 8, 20),
-        &[(100, 0, 7200)],
-    )?;
     Ok(())
 }
 
@@ -414,17 +347,6 @@ fn a_rule_goes_on_after_the_last_transition(rt: HostRuntime) -> Result<(), Fail>
 }
 
 #[test]
-fn second_60_is_kept(rt: HostRuntime) -> Result<(), Fail> {
-    let list = DateTime::find(rt.alloc(), 2016, 12, 31, 23, 59, 60, 0, TimeZoneRef::utc())?;
-    let Some(found) = list.unique() else {
-        panic!(rt; "no date time");
-    };
-    assert_eq!(rt; found.unix_time(), 1_483_228_800);
-    assert_eq!(rt; (found.minute(), found.second()), (59, 60));
-    Ok(())
-}
-
-#[test]
 fn lists_are_compared_by_their_entries(rt: HostRuntime) -> Result<(), Fail> {
     let utc = TimeZoneRef::utc();
     let midnight = find(rt.alloc(), utc, (2000, 1, 1, 0, 0, 0))?;
@@ -454,24 +376,101 @@ fn lists_in_buffers_are_compared_by_all_slots(rt: HostRuntime) -> Result<(), Fai
     Ok(())
 }
 
+/// A list with nothing found leaves the slots as they are once it is gone.
+fn lend(buf: &mut [Option<FoundDateTimeKind>])
+    ensures { buf.new ≡ buf.old }
+{
+    let _list = FoundDateTimeListRefMut::new(buf);
+}
+
+#[test]
+fn an_empty_list_leaves_the_slots(rt: HostRuntime) -> Result<(), Fail> {
+    let held = Some(held()?);
+    let mut buf = [held, None, held];
+    lend(&mut buf);
+    assert!(rt; holds(&buf, &held));
+    Ok(())
+}
+
+/// Lists are printed with what they hold alone.
+#[test]
+fn lists_are_printed(rt: HostRuntime) -> Result<(), Fail> {
+    let alloc = rt.alloc();
+    let utc = TimeZoneRef::utc();
+    let list = find(alloc, utc, (2000, 1, 1, 0, 0, 0))?;
+    let Some(date_time) = list.unique() else {
+        panic!(rt; "no date time");
+    };
+    let printed = format!(in alloc; "{list:?}")?;
+    let expected = format!(in alloc; "FoundDateTimeList([Normal({date_time:?})])")?;
+    assert_eq!(rt; printed.as_str(), expected.as_str());
+    let mut buf = [None, None];
+    let slots = find_n(&mut buf, utc, (2000, 1, 1, 0, 0, 0))?;
+    let printed = format!(in alloc; "{slots:?}")?;
+    let expected = format!(in alloc;
+        "FoundDateTimeListRefMut {{ buf: [Some(Normal({date_time:?})), None], current_index: 1, count: 1 }}"
+    )?;
+    assert_eq!(rt; printed.as_str(), expected.as_str());
+    Ok(())
+}
+
 /// Whether the first and the third of three slots hold this, and the second is empty.
 fn holds(slots: &[Option<FoundDateTimeKind>], held: &Option<FoundDateTimeKind>) -> bool {
     matches!(slots, [first, None, third] if first == held && third == held)
 }
 
+/// Fields with one fault each, which `find_n` names; the slots hold what they held.
 #[test]
 fn refused_fields_write_nothing(rt: HostRuntime) -> Result<(), Fail> {
-    let list = DateTime::find(rt.alloc(), 2000, 1, 1, 0, 0, 0, 0, TimeZoneRef::utc())?;
-    let held = list.into_inner().first().copied();
-    let mut buf = [held, None, held];
-    let refused = find_n(&mut buf, TimeZoneRef::utc(), (2001, 2, 29, 0, 0, 0)).err();
-    assert!(rt;
-        matches!(
-            refused,
-            Some(TzError::DateTime(DateTimeError::InvalidMonthDay))
+    let held = Some(held()?);
+    for (fields, fault) in [
+        ((13, 1, 0, 0, 0, 0), DateTimeError::InvalidMonth),
+        ((2, 29, 0, 0, 0, 0), DateTimeError::InvalidMonthDay),
+        ((1, 1, 24, 0, 0, 0), DateTimeError::InvalidHour),
+        ((1, 1, 0, 60, 0, 0), DateTimeError::InvalidMinute),
+        ((1, 1, 0, 0, 61, 0), DateTimeError::InvalidSecond),
+        (
+            (1, 1, 0, 0, 0, 1_000_000_000),
+            DateTimeError::InvalidNanoseconds,
+        ),
+    ] {
+        let (month, month_day, hour, minute, second, nanoseconds) = fields;
+        let mut buf = [held, None, held];
+        let refused = DateTime::find_n(
+            &mut buf,
+            2001,
+            month,
+            month_day,
+            hour,
+            minute,
+            second,
+            nanoseconds,
+            TimeZoneRef::utc(),
         )
-    );
-    assert!(rt; holds(&buf, &held));
+        .err();
+        assert!(rt; matches!(refused, Some(TzError::DateTime(named)) if named == fault));
+        assert!(rt; holds(&buf, &held));
+    }
+    Ok(())
+}
+
+/// A zone that is set back an hour after each hour, so that it shows half past midnight seven times.
+#[test]
+fn more_are_found_than_a_list_begins_with(rt: HostRuntime) -> Result<(), Fail> {
+    let alloc = rt.alloc();
+    let mut types = Vec::new(alloc);
+    let mut transitions = Vec::new(alloc);
+    let mut expected = Vec::new(alloc);
+    for hours in 0..7i32 {
+        let back = hours.saturating_mul(-3600);
+        let hour = i64::from(hours).saturating_mul(3600);
+        types.push(LocalTimeType::with_ut_offset(back)?)?;
+        transitions.push(Transition::new(hour, usize::try_from(hours)?))?;
+        expected.push((hour.saturating_add(1800), back, back))?;
+    }
+    let rule = Some(TransitionRule::Fixed(LocalTimeType::with_ut_offset(-21_600)?));
+    let zone = TimeZoneRef::new(&transitions, &types, &[], &rule)?;
+    expect_found(&rt, alloc, zone, (1970, 1, 1, 0, 30, 0), &expected)?;
     Ok(())
 }
 
@@ -486,72 +485,6 @@ fn expect_found_by_rule(
     let rule = Some(TransitionRule::Alternate(rule));
     let zone = TimeZoneRef::new(&[], &types, &[], &rule)?;
     expect_all(rt, alloc, zone, rows)
-}
-
-/// Central Europe.
-fn central_europe() -> Result<AlternateTime, TzError> {
-    let rule = AlternateTime::new(
-        LocalTimeType::new(3600, false, Some(b"CET"))?,
-        LocalTimeType::new(7200, true, Some(b"CEST"))?,
-        RuleDay::MonthWeekDay(MonthWeekDay::new(3, 5, 0)?),
-        7200,
-        RuleDay::MonthWeekDay(MonthWeekDay::new(10, 5, 0)?),
-        10_800,
-    )?;
-    Ok(rule)
-}
-
-#[test]
-fn a_rule_skips_and_repeats_an_hour(rt: HostRuntime) -> Result<(), Fail> {
-    let rule = central_europe()?;
-    expect_found_by_rule(
-        &rt,
-        rt.alloc(),
-        rule,
-        &[
-            ((2000, 3, 26, 2, 30, 0), &[(954_032_400, 3600, 7200)]),
-            (
-                (2000, 10, 29, 2, 30, 0),
-                &[(972_779_400, 7200, 7200), (972_783_000, 3600, 3600)],
-            ),
-            ((2400, 3, 26, 2, 30, 0), &[(13_576_813_200, 3600, 7200)]),
-        ],
-    )?;
-    Ok(())
-}
-
-#[test]
-fn a_rule_for_all_the_year_never_jumps(rt: HostRuntime) -> Result<(), Fail> {
-    let alloc = rt.alloc();
-    let eastern = AlternateTime::new(
-        LocalTimeType::new(-18_000, false, Some(b"EST"))?,
-        LocalTimeType::new(-14_400, true, Some(b"EDT"))?,
-        RuleDay::Julian0WithLeap(Julian0WithLeap::new(0)?),
-        0,
-        RuleDay::Julian1WithoutLeap(Julian1WithoutLeap::new(365)?),
-        90_000,
-    )?;
-    expect_found_by_rule(
-        &rt,
-        alloc,
-        eastern,
-        &[((2000, 1, 1, 0, 30, 0), &[(946_701_000, -14_400, -14_400)])],
-    )?;
-    let overlapping = AlternateTime::new(
-        LocalTimeType::new(0, false, Some(b"A"))?,
-        LocalTimeType::new(3600, true, Some(b"B"))?,
-        RuleDay::Julian1WithoutLeap(Julian1WithoutLeap::new(1)?),
-        0,
-        RuleDay::Julian1WithoutLeap(Julian1WithoutLeap::new(365)?),
-        172_800,
-    )?;
-    expect_found_by_rule(
-        &rt,
-        alloc,
-        overlapping,
-        &[((2001, 1, 1, 0, 30, 0), &[(978_305_400, 3600, 3600)])],
-    )?;
-    Ok(())
 }
 
 #[test]
@@ -586,39 +519,14 @@ fn a_rule_of_one_morning(rt: HostRuntime) -> Result<(), Fail> {
     Ok(())
 }
 
-/// A zone with an hour at an offset of 68 years, and its rule.
-fn far_offset() -> Result<([Transition; 4], [LocalTimeType; 3], AlternateTime), TzError> {
-    let types = [
-        LocalTimeType::with_ut_offset(0)?,
-        LocalTimeType::with_ut_offset(2_147_483_647)?,
-        LocalTimeType::with_ut_offset(3600)?,
-    ];
-    let transitions = [
-        Transition::new(0, 0),
-        Transition::new(3600, 1),
-        Transition::new(7200, 0),
-        Transition::new(10_800, 2),
-    ];
-    let rule = AlternateTime::new(
-        types[0],
-        types[2],
-        RuleDay::Julian1WithoutLeap(Julian1WithoutLeap::new(300)?),
-        0,
-        RuleDay::Julian1WithoutLeap(Julian1WithoutLeap::new(90)?),
-        3600,
-    )?;
-    Ok((transitions, types, rule))
-}
-
-/// The jump of that zone over 68 years.
+/// The jump over 68 years of the zone with a far offset.
 const FAR_JUMP: Summary = (3600, 0, 2_147_483_647);
 
 /// The first hours.
-const FAR_MORNING: [(u8, &[Summary]); 5] = [
+const FAR_MORNING: [(u8, &[Summary]); 4] = [
     (0, &[(1800, 0, 0)]),
     (1, &[FAR_JUMP]),
     (2, &[FAR_JUMP, (9000, 0, 0)]),
-    (3, &[FAR_JUMP, (10_800, 0, 3600)]),
     (4, &[FAR_JUMP, (12_600, 3600, 3600)]),
 ];
 
@@ -732,44 +640,6 @@ fn nothing_is_found_after_the_last_transition_without_a_rule(rt: HostRuntime) ->
             ((1969, 12, 31, 23, 59, 60), &[]),
             ((1970, 1, 1, 0, 0, 0), &[]),
         ],
-    )?;
-    Ok(())
-}
-
-#[test]
-fn date_times_at_the_ends_are_found_or_out_of_range(rt: HostRuntime) -> Result<(), Fail> {
-    let alloc = rt.alloc();
-    let utc = TimeZoneRef::utc();
-    expect_found(
-        &rt,
-        alloc,
-        utc,
-        (i32::MAX, 12, 31, 23, 59, 59),
-        &[(67_767_976_233_532_799, 0, 0)],
-    )?;
-    expect_found(
-        &rt,
-        alloc,
-        utc,
-        (i32::MIN, 1, 1, 0, 0, 0),
-        &[(-67_768_100_567_971_200, 0, 0)],
-    )?;
-    let past = DateTime::find(alloc, i32::MAX, 12, 31, 23, 59, 60, 0, utc).err();
-    assert!(rt; matches!(past, Some(TzError::OutOfRange)));
-    // The rule has no type in the year in which the instant lies.
-    let rule = AlternateTime::new(
-        LocalTimeType::new(-18_000, false, Some(b"A"))?,
-        LocalTimeType::new(-14_400, true, Some(b"B"))?,
-        RuleDay::Julian0WithLeap(Julian0WithLeap::new(0)?),
-        0,
-        RuleDay::Julian1WithoutLeap(Julian1WithoutLeap::new(365)?),
-        82_800,
-    )?;
-    expect_found_by_rule(
-        &rt,
-        alloc,
-        rule,
-        &[((i32::MAX - 2, 12, 31, 23, 59, 60), &[])],
     )?;
     Ok(())
 }

@@ -42,7 +42,7 @@ fn texts(alloc: Global, zone: TimeZoneRef<'_>, reading: Reading) -> Result<Strin
     Ok(text)
 }
 
-/// The same of `find_n`, with three slots.
+/// What `find_n` finds of a reading and seven nanoseconds, in three slots.
 fn texts_of_slots(
     alloc: Global,
     zone: TimeZoneRef<'_>,
@@ -63,8 +63,8 @@ fn texts_of_slots(
     Ok(text)
 }
 
-/// Both searches find these.
-fn expect_texts(
+/// Both searches find these, `find_n` with no slot and with up to three.
+pub(super) fn expect_texts(
     rt: &impl Abort,
     alloc: Global,
     zone: TimeZoneRef<'_>,
@@ -73,12 +73,14 @@ fn expect_texts(
     for (reading, expected) in rows {
         assert_eq!(rt; texts(alloc, zone, *reading)?.as_str(), *expected);
         assert_eq!(rt; texts_of_slots(alloc, zone, *reading)?.as_str(), *expected);
+        let found = summaries(alloc, find(alloc, zone, *reading)?)?;
+        expect_found(rt, alloc, zone, *reading, &found)?;
     }
     Ok(())
 }
 
-/// The zone of one rule alone.
-fn expect_texts_by_rule(
+/// Both searches find these in the zone of one rule alone.
+pub(super) fn expect_texts_by_rule(
     rt: &impl Abort,
     alloc: Global,
     rule: AlternateTime,
@@ -104,6 +106,10 @@ fn an_hour_left_out_and_an_hour_twice(rt: HostRuntime) -> Result<(), Fail> {
             (
                 (2000, 10, 29, 2, 30, 0),
                 "N 972779400 2000-10-29T02:30:00.000000007+02:00 CEST;N 972783000 2000-10-29T02:30:00.000000007+01:00 CET;",
+            ),
+            (
+                (2400, 3, 26, 2, 30, 0),
+                "S 13576813200 2400-03-26T02:00:00.000000007+01:00 CET 2400-03-26T03:00:00.000000007+02:00 CEST;",
             ),
         ],
     )?;
@@ -310,6 +316,24 @@ fn a_rule_for_all_the_year(rt: HostRuntime) -> Result<(), Fail> {
         &[(
             (2000, 1, 1, 0, 30, 0),
             "N 946701000 2000-01-01T00:30:00.000000007-04:00 EDT;",
+        )],
+    )?;
+    // Each end comes a day after the next start.
+    let overlapping = AlternateTime::new(
+        LocalTimeType::new(0, false, Some(b"A"))?,
+        LocalTimeType::new(3600, true, Some(b"B"))?,
+        RuleDay::Julian1WithoutLeap(Julian1WithoutLeap::new(1)?),
+        0,
+        RuleDay::Julian1WithoutLeap(Julian1WithoutLeap::new(365)?),
+        172_800,
+    )?;
+    expect_texts_by_rule(
+        &rt,
+        rt.alloc(),
+        overlapping,
+        &[(
+            (2001, 1, 1, 0, 30, 0),
+            "N 978305400 2001-01-01T00:30:00.000000007+01:00 B;",
         )],
     )?;
     Ok(())
