@@ -58,7 +58,8 @@ pub record IsConsistentRule (r : AlternateTime) : Type 0 where
 abbrev pub IsRangeFault : AlternateTime → TransitionRuleError → Type 0
 IsRangeFault r InvalidStdUtcOffset = ¬ IsRuleOffset r.std.ut_offset
 IsRangeFault r InvalidDstUtcOffset = IsRuleOffset r.std.ut_offset × ¬ IsRuleOffset r.dst.ut_offset
-IsRangeFault r InvalidDstStartEndTime = IsRuleOffset r.std.ut_offset × IsRuleOffset r.dst.ut_offset × ¬ (IsRuleTime r.dst_start_time × IsRuleTime r.dst_end_time)
+IsRangeFault r InvalidDstStartEndTime =
+    IsRuleOffset r.std.ut_offset × IsRuleOffset r.dst.ut_offset × ¬ (IsRuleTime r.dst_start_time × IsRuleTime r.dst_end_time)
 IsRangeFault r _ = ⊥
 
 -- the fault that is named: one of range, or else that the rule is inconsistent
@@ -80,6 +81,15 @@ IsInRuleYears u = (year : ℤ) × IsUtcYear u year × IsRuleYear year
 -- less than ten days outside a year in UTC
 abbrev pub IsNearYear : ℤ → ℤ → Type 0
 IsNearYear u year = ((pos 86400 *ℤ first_day year) <ℤ (u +ℤ pos 864000)) × (u <ℤ (pos 86400 *ℤ first_day (year +ℤ pos 1) +ℤ pos 864000))
+
+-- in its own year in UTC
+abbrev pub IsInOwnYear : (ℤ → ℤ) → ℤ → Type 0
+IsInOwnYear instants year = IsUtcYear (instants year) year
+
+-- each start and each end lies in its own year in UTC
+pub record HasInnerChanges (r : AlternateTime) : Type 0 where
+  pub starts : (year : ℤ) → IsInOwnYear (start_of r) year
+  pub ends : (year : ℤ) → IsInOwnYear (end_of r) year
 
 -- the type of an alternate rule at an instant
 abbrev pub IsAlternateType : AlternateTime → ℤ → LocalTimeType → Type 0

@@ -39,7 +39,8 @@ pub record IsLocalTimeType (t : LocalTimeType) : Type 0 where
 abbrev pub IsFirstTypeFault : LocalTimeType → LocalTimeTypeError → Type 0
 IsFirstTypeFault t InvalidUtcOffset = ¬ IsOffset t.ut_offset
 IsFirstTypeFault t InvalidTimeZoneDesignationLength = IsOffset t.ut_offset × ¬ IfSome t.designation IsDesignationLength
-IsFirstTypeFault t InvalidTimeZoneDesignationChar = IsOffset t.ut_offset × IfSome t.designation IsDesignationLength × ¬ IfSome t.designation (All IsDesignationByte)
+IsFirstTypeFault t InvalidTimeZoneDesignationChar =
+    IsOffset t.ut_offset × IfSome t.designation IsDesignationLength × ¬ IfSome t.designation (All IsDesignationByte)
 
 -- a type without a name that is not daylight saving time
 abbrev pub plain_type : ℤ → LocalTimeType

@@ -36,6 +36,7 @@ kept_of r = record { parts = parts_of r; ends_next_year = ends_come_first r; sta
 
 pub kept_rule : (r : Inside) → IsKeptRule r → kept_of (rule_of r.parts) ≡ r
 kept_rule r k =
+    let made_ends = end_table (rule_of r.parts) in
     ap (λ b. let kept : Inside = record (kept_of (rule_of r.parts)) { ends_next_year = b } in kept) (sym k.pairing)
-    ∙ ap (λ table. let kept : Inside = record r { starts = record { 0 = table }; ends = record { 0 = end_table (rule_of r.parts) } } in kept) (sym k.starts_made)
+    ∙ ap (λ table. let kept : Inside = record r { starts = record { 0 = table }; ends = record { 0 = made_ends } } in kept) (sym k.starts_made)
     ∙ ap (λ table. let kept : Inside = record r { ends = record { 0 = table } } in kept) (sym k.ends_made)

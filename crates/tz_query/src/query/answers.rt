@@ -347,8 +347,8 @@ fn answer_next<'a, A: Allocator + Copy>(
 /// nanoseconds: its answer is the date time and the name of its type, `-` where it has none. `F y mo d h mi s n` asks for what
 /// [`DateTime::find`] finds of these fields: its answer is `F` and how much that is, and a line for each, `N` with a date time and
 /// its name, or `S` with those before and after a jump. `W c y mo d h mi s n` asks for these fields in c weeks, each with the date that
-/// lies so many weeks later: its answer is `W` and c, and that of an `F` line for each week. Where a query is refused the answer is `E ` and why, and `E Line` where a
-/// line asks for nothing. Lines and answers are ended by LF; the last line may lack it.
+/// lies that many weeks later: its answer is `W` and c, and that of an `F` line for each week. Where a query is refused the answer is
+/// `E ` and why, and `E Line` where a line asks for nothing. Lines and answers are ended by LF; the last line may lack it.
 pub fn answer<A: Allocator + Copy>(
     alloc: A,
     zone: TimeZoneRef<'_>,

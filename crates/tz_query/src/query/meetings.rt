@@ -55,7 +55,7 @@ fn answer_weeks<A: Allocator + Copy>(
     Ok(())
 }
 
-/// Appends the answer lines of a weekly meeting, which takes place in so many weeks, in the first of them at these fields.
+/// Appends the answer lines of a weekly meeting, which takes place in `count` weeks, in the first of them at these fields.
 pub fn answer_meeting<A: Allocator + Copy>(
     alloc: A,
     answers: &mut Vec<u8, A>,

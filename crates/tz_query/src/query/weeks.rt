@@ -68,7 +68,7 @@ pub fn first_day_begins(first: &Fields) -> Result<i64, DateTimeError>
     Ok(day_begins(date_time))
 }
 
-/// The day so many weeks after one that begins at this Unix time, as its first UTC date time, if its year is one of 32 bits.
+/// The day a number of weeks after one that begins at this Unix time, as its first UTC date time, if its year is one of 32 bits.
 fn day_of_week(begins: i64, weeks: u8) -> Option<UtcDateTime>
     requires { IsSmall begins }
     ensures some { IfSome result (IsCivil (begins +ℤ pos (604800 * weeks)) 0) }
@@ -81,7 +81,7 @@ fn day_of_week(begins: i64, weeks: u8) -> Option<UtcDateTime>
     }
 }
 
-/// The fields so many weeks later, if their year is one of 32 bits.
+/// The fields a number of weeks later, if their year is one of 32 bits.
 pub fn week_of(first: &Fields, begins: i64, weeks: u8) -> Option<Fields>
     requires day { begins ≡ midnight (day_of first.now) }
     requires small { IsSmall begins }

@@ -72,8 +72,8 @@ fn meetings_have_these_answers(rt: HostRuntime) -> Result<(), Fail> {
 fn the_longest_meeting_is_asked_for_week_by_week(rt: HostRuntime) -> Result<(), Fail> {
     let zone = central_europe(rt.alloc())?;
     let mut want = Vec::from_slice(rt.alloc(), b"W 255\n")?;
-    for weeks in 0..255i64 {
-        let date = UtcDateTime::from_timespec(941_328_000 + 604_800 * weeks, 0)?;
+    for weeks in 0..255u8 {
+        let date = UtcDateTime::from_timespec(941_328_000 + 604_800 * i64::from(weeks), 0)?;
         let (year, month, day) = (date.year(), date.month(), date.month_day());
         let line = format!(in rt.alloc(); "F {year} {month} {day} 2 30 0 0")?;
         let answers = answer(rt.alloc(), zone.as_ref(), line.as_bytes())?;
