@@ -159,13 +159,6 @@ offsets_from_types z least greatest types rules u t = by_clock
     by_clock (inr (last, is_last, (l, leap, inl (before, inr (i, change, reached, at))))) = types change.type_index t at
     by_clock (inr (last, is_last, (l, leap, inr (from, type)))) = after z.extra_rule refl type
 
--- of some types the least offset is not above the greatest
-pub offsets_in_order : (types : List LocalTimeType) → types ≢ [] → (least greatest : ℤ) →
-    ((i : ℕ) (t : LocalTimeType) → slice_get types i ≡ Some t → least ≤ℤ t.ut_offset) →
-    ((i : ℕ) (t : LocalTimeType) → slice_get types i ≡ Some t → t.ut_offset ≤ℤ greatest) → least ≤ℤ greatest
-offsets_in_order [] some least greatest low high = absurd (some refl)
-offsets_in_order (t ∷ types) some least greatest low high = omega (arith, ints, low 0 t refl, high 0 t refl)
-
 -- where the lookup is refused, the clock has no type
 pub no_clock_from_fault : (z : Zone) → AreLeapSeconds z.leap_seconds → (u : ℤ) (e : TzError) → IsLookupFault z u e → (t : LocalTimeType) → ¬ IsClock z u t
 no_clock_from_fault z are u e (inl (is, (last, l, is_last, leap, from, none))) t clock =

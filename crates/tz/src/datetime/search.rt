@@ -1,6 +1,6 @@
 //! The search for a reading in the clock of a zone.
 
-ghost use Rattle.std.specs.Prelude.{◌≡◌, ◌≢◌, ◌^◌, ◌<◌, ◌≤◌, ℕ, ℤ, pos, negsuc, List, ◌++◌, ◌+ℤ◌, ◌-ℤ◌, ◌*ℤ◌, ◌≤ℤ◌, ◌<ℤ◌, Some, None, OnOk, IfErr, IfSome, IfNone, length, slice_get};
+ghost use Rattle.std.specs.Prelude.{◌≡◌, ◌≢◌, ◌^◌, ◌<◌, ◌≤◌, ◌⊎◌, ℕ, ℤ, pos, negsuc, List, ◌++◌, ◌+ℤ◌, ◌-ℤ◌, ◌*ℤ◌, ◌≤ℤ◌, ◌<ℤ◌, Some, None, OnOk, IfErr, IfSome, IfNone, length, slice_get};
 ghost use Rattle.std.specs.List.{Contains};
 ghost use Rattle.tz_base.specs.declared.calendar.Fields.{Fields};
 ghost use Rattle.tz_rule.specs.Alternate.{AlternateTime, start_of, end_of};
@@ -13,6 +13,7 @@ ghost use Rattle.tz_zone.specs.ZoneRef.{zone_of};
 ghost use Rattle.tz.specs.Found.{IsFound};
 ghost use Rattle.tz.specs.Walks.{HoldsAt, IsSearchFault, IsSmall, IsStep, IsWalk};
 ghost use Rattle.tz.specs.Reached.{IsWithinReach, IsReachedAt, IsKindOf, IsTypeOfLast, IsDue, IsPieceOf, AreOffsetsOf, IsWindowOf};
+ghost use Rattle.tz.specs.Windows.{IsOffsetOfTypes, IsOffsetOfRule, IsLeastOffset, IsGreatestOffset, IsWindow};
 ghost use Rattle.tz.specs.RuleSpans.{IsSpan, ChangesOnlyAt, RuleClock, IsOverFrom, IsAtSeam, IsPastSeam};
 ghost use Rattle.tz.specs.declared.datetime.found.FoundDateTimeKind.{FoundDateTimeKind};
 
@@ -93,32 +94,37 @@ fn piece_at(zone: TimeZoneRef<'_>, place: usize) -> Piece
 }
 
 /// The least offset of the types.
-fn least_offset(types: &[LocalTimeType]) -> i32
-    ensures { (i : ℕ) (t : LocalTimeType) → slice_get types.now i ≡ Some t → result ≤ℤ t.ut_offset }
+fn least_offset(local_time_types: &[LocalTimeType]) -> i32
+    requires { 0 < length local_time_types.now }
+    ensures of_type { IsOffsetOfTypes local_time_types.now result }
+    ensures least { (o : ℤ) → IsOffsetOfTypes local_time_types.now o → result ≤ℤ o }
 {
-    let mut least = i32::MAX;
-    for local_time_type in types {
+    let mut least = local_time_types[0].ut_offset();
+    for local_time_type in local_time_types {
         least = least.min(local_time_type.ut_offset());
     }
     least
 }
 
 /// The greatest offset of the types.
-fn greatest_offset(types: &[LocalTimeType]) -> i32
-    ensures { (i : ℕ) (t : LocalTimeType) → slice_get types.now i ≡ Some t → t.ut_offset ≤ℤ result }
+fn greatest_offset(local_time_types: &[LocalTimeType]) -> i32
+    requires { 0 < length local_time_types.now }
+    ensures of_type { IsOffsetOfTypes local_time_types.now result }
+    ensures greatest { (o : ℤ) → IsOffsetOfTypes local_time_types.now o → o ≤ℤ result }
 {
-    let mut greatest = i32::MIN;
-    for local_time_type in types {
+    let mut greatest = local_time_types[0].ut_offset();
+    for local_time_type in local_time_types {
         greatest = greatest.max(local_time_type.ut_offset());
     }
     greatest
 }
 
-/// Two offsets, moved apart until those of all types of the rule lie between them.
+/// Two offsets, moved apart until those of the rule lie between them, and no further.
 fn with_rule(rule: &TransitionRule, least: i32, greatest: i32) -> (i32, i32)
     ensures least { result.0 ≤ℤ least }
     ensures greatest { greatest ≤ℤ result.1 }
-    ensures between { (u : ℤ) (t : LocalTimeType) → IsRuleType rule.now u t → (result.0 ≤ℤ t.ut_offset) × (t.ut_offset ≤ℤ result.1) }
+    ensures between { (o : ℤ) → IsOffsetOfRule rule.now o → (result.0 ≤ℤ o) × (o ≤ℤ result.1) }
+    ensures exact { ((result.0 ≡ least) ⊎ IsOffsetOfRule rule.now result.0) × ((result.1 ≡ greatest) ⊎ IsOffsetOfRule rule.now result.1) }
 {
     match rule {
         TransitionRule::Fixed(local_time_type) => {
@@ -133,29 +139,36 @@ fn with_rule(rule: &TransitionRule, least: i32, greatest: i32) -> (i32, i32)
     }
 }
 
-/// Two offsets between which those of all types lie that the clock has.
-fn offsets(zone: TimeZoneRef<'_>) -> (i32, i32)
-    ensures order { result.0 ≤ℤ result.1 }
-    ensures between { AreOffsetsOf (zone_of zone.entry) result.0 result.1 }
+/// The least and the greatest offset of the types and of the rule.
+fn offsets(local_time_types: &[LocalTimeType], extra_rule: &Option<TransitionRule>) -> (i32, i32)
+    requires { 0 < length local_time_types.now }
+    ensures least { IsLeastOffset local_time_types.now extra_rule.now result.0 }
+    ensures greatest { IsGreatestOffset local_time_types.now extra_rule.now result.1 }
 {
-    let least = least_offset(zone.local_time_types());
-    let greatest = greatest_offset(zone.local_time_types());
-    match zone.extra_rule() {
+    let least = least_offset(local_time_types);
+    let greatest = greatest_offset(local_time_types);
+    match extra_rule {
         Some(rule) => with_rule(rule, least, greatest),
         None => (least, greatest),
     }
 }
 
-/// The instants between which the clock can show a reading, or be set forward over it, both counted.
-fn window(zone: TimeZoneRef<'_>, reading: i64) -> (i64, i64)
-    requires { IsSmall reading }
+/// The instants between which the clock of a zone with these types and this rule can show a reading, or be set forward over it, both
+/// counted.
+fn window(
+    local_time_types: &[LocalTimeType],
+    extra_rule: &Option<TransitionRule>,
+    reading: i64,
+) -> (i64, i64)
+    requires types { 0 < length local_time_types.now }
+    requires small { IsSmall reading }
     ensures low { IsWithinReach result.0 }
     ensures high { IsWithinReach result.1 }
     ensures order { result.0 ≤ℤ result.1 }
     ensures width { (result.1 -ℤ result.0) ≤ℤ pos (2 ^ 32) }
-    ensures offsets { IsWindowOf (zone_of zone.entry) reading result.0 result.1 }
+    ensures window { IsWindow local_time_types.now extra_rule.now reading result.0 result.1 }
 {
-    let (least, greatest) = offsets(zone);
+    let (least, greatest) = offsets(local_time_types, extra_rule);
     (reading - i64::from(greatest), reading - i64::from(least))
 }
 
@@ -370,7 +383,7 @@ pub(super) fn search<L: DateTimeList>(
     ensures ok { OnOk result ((found : List FoundDateTimeKind) × L.gains list.old list.new found × IsFound (IsClock (zone_of zone.entry)) fields.now found × (length found ≤ 2 ^ 33)) }
     ensures err { IfErr result (IsSearchFault L.takes_memory (reading_of fields.now)) }
 {
-    let (low, high) = window(zone, fields.reading());
+    let (low, high) = window(zone.local_time_types(), zone.extra_rule(), fields.reading());
     let reached = reached_at(zone, low);
     let come = reached_at(zone, high);
     let first = Piece {

@@ -7,10 +7,12 @@ use mir.Val.{SFits}
 use Rattle.tz_rule.specs.LocalTimeType.{LocalTimeType}
 use Rattle.tz_zone.specs.ZoneRef.{zone_of}
 use Rattle.tz_base.specs.declared.calendar.Fields.{Fields}
+use Rattle.tz_base.specs.Fields.{reading}
 use Rattle.tz_zone.specs.Clock.{IsClock}
 use Rattle.tz.specs.Found.{IsFound}
 use Rattle.tz.specs.Reached.{IsSteadyAfter, IsKindOf}
 use Rattle.tz.proofs.SearchLemmas.{due_between, on_the_way_from_start, on_the_way_past, found_in_window, over_from_seam, at_seam, found_from_window, few_found}
+use Rattle.tz.proofs.WindowLemmas.{clock_in_window}
 use Rattle.tz.proofs.datetime.search.search.Goals as goal
 use Rattle.tz.proofs.datetime.search.search.Goals.{then-come-transitions+in_default, else-come-transitions}
 
@@ -27,13 +29,13 @@ loop-place-init g c =
     let since : c.new-walk.result.since ≡ low = simp to_z-of_z at new.since in
     let first = rw (to_z-of_z w64 low fits_low) at c.kind_after.ensures in
     let kind = subst (λ (v : ℤ). IsKindOf z c.reached_at-reached.result v c.new-walk.result.kind) (sym since) (subst (λ (k : Option LocalTimeType). IsKindOf z c.reached_at-reached.result low k) (sym new.kind) first) in
-    let window = rw (to_z-of_z w64 c.reading.result fits_reading, c.reading.ensures.value) at c.window-low.ensures.offsets in
+    let window = rw (c.local_time_types.ensures, c.extra_rule.ensures, to_z-of_z w64 c.reading.result fits_reading, c.reading.ensures.value) at c.window-low.ensures.window in
     rw (to_z-of_z w64 high fits_high) (
       [],
       low,
       g.met.L.DateTimeList.none c.args.list.now,
       on_the_way_from_start z c.args.zone.sound low high c.args.fields.now c.reached_at-reached.result c.new-walk.result c.window-low.ensures.low.1 at_low new.walk new.before since kind c.window-low.ensures.order,
-      window,
+      clock_in_window z (reading c.args.fields.now) low high window,
       c.window-low.ensures.width,
       c.window-low.ensures.low,
     )
