@@ -3,6 +3,7 @@ pub mod LeapLists
 pub mod LeapTimes
 pub mod LeapMoments
 pub mod RisingTimes
+pub mod Halving
 pub mod LeapAnswers
 pub mod TableChecks
 pub mod RuleChecks

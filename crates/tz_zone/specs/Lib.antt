@@ -4,9 +4,11 @@ pub use Rattle.tz_rule.specs.LocalTimeType
 pub use Rattle.tz_rule.specs.Rule
 pub mod Table
 pub mod LeapTime
+pub mod Looks
 pub mod Clock
 pub mod ValidZone
 pub mod ZoneRef
+pub mod ZoneSeen
 pub mod SameZone
 pub mod TzFile
 pub mod TzFileFault

@@ -1,4 +1,4 @@
-//! What the crates above use of zones and their users do not: leap times, and where they take effect.
+//! For the crates above, and no part of the public surface: leap times, where they take effect, and a zone's transitions seen one at a time.
 
 ghost use Rattle.std.specs.Prelude.{◌≡◌, ℕ, ◌+◌, true, false, ◌<◌, ◌≤◌, ◌↔◌, ◌+ℤ◌, ◌≤ℤ◌, ◌<ℤ◌, length, slice_get, ℤ, IsTrue, IfOk, IfErr, MatchBool, Some, ◌-ℤ◌};
 ghost use Rattle.tz_zone.specs.Table.{Transition, LeapSecond};
@@ -8,6 +8,16 @@ ghost use Rattle.tz_zone.specs.ValidZone.{AreLeapSeconds, IsRising};
 use crate::partition::{Places, partition_point};
 use crate::timezone::{LeapSecond, Transition};
 use tz_base::error::TzError;
+
+mod lookup;
+mod parts;
+mod reached;
+mod transitions;
+
+pub use lookup::{find_local_time_type, other_parts, type_of_last};
+pub use parts::OtherParts;
+pub use reached::{transitions_reached, transitions_reached_between};
+pub use transitions::{Counted, Transitions, Uncounted};
 
 /// Instants up to this one have a leap time, whatever the leap seconds.
 const SURELY_ANSWERED: i64 = 80_000_000_000_000_000;
