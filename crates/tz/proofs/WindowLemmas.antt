@@ -13,7 +13,7 @@ use Rattle.tz_rule.specs.declared.timezone.rule.TransitionRule.{TransitionRule}
 use Rattle.tz_rule.specs.declared.timezone.rule.TransitionRule.TheVariants.{Fixed, Alternate}
 use Rattle.tz_zone.specs.Table.{Zone}
 use Rattle.tz.specs.Reached.{IsWindowOf}
-use Rattle.tz.specs.Windows.{IsOffsetOfRule, IsOffset, IsLeastOffset, IsGreatestOffset, IsWindow, TakesEffectIn, AreRising, AtMostTakeEffectIn}
+use Rattle.tz.specs.Windows.{IsOffsetOfRule, IsOffset, IsLeastOffset, IsGreatestOffset, IsWindow, TakesEffectIn, AreRising, AtMostTakeEffectIn, AtMostTakeEffectAround}
 use Rattle.tz.proofs.KindLemmas.{fixed_type, alternate_type, offsets_from_types}
 
 -- the offset of what a rule answers is one of its offsets
@@ -56,6 +56,19 @@ int_min_either x y = elim (int_lt y x) as (λ t. (cond t y x ≡ x) ⊎ (cond t 
 
 pub int_max_either : (x y : ℤ) → (int_max x y ≡ x) ⊎ (int_max x y ≡ y)
 int_max_either x y = elim (int_lt y x) as (λ t. (cond t x y ≡ x) ⊎ (cond t x y ≡ y)) [ true ↦ inl refl | false ↦ inr refl ]
+
+-- what is above both is above the greater one, and what is below both is below the less
+pub least_above : (x y r u : ℤ) → r ≡ int_max x y → x ≤ℤ u → y ≤ℤ u → r ≤ℤ u
+least_above x y r u is first second = elim (int_max_either x y) [ inl e ↦ omega (arith, ints, is ∙ e, first) | inr e ↦ omega (arith, ints, is ∙ e, second) ]
+
+pub greatest_below : (x y r u : ℤ) → r ≡ int_min x y → u ≤ℤ x → u ≤ℤ y → u ≤ℤ r
+greatest_below x y r u is first second = elim (int_min_either x y) [ inl e ↦ omega (arith, ints, is ∙ e, first) | inr e ↦ omega (arith, ints, is ∙ e, second) ]
+
+-- the transitions that take effect around a reading are those in its window
+pub most_in_window : (z : Zone) (r low high : ℤ) → IsWindow z.types z.extra_rule r low high → (w : ℕ) → AtMostTakeEffectAround z r w → AtMostTakeEffectIn z low high w
+most_in_window z r low high window w around =
+    let same = window_unique z.types z.extra_rule r around.0 around.1 low high around.2 window in
+    subst (λ (v : ℤ). AtMostTakeEffectIn z low v w) same.1 (subst (λ (v : ℤ). AtMostTakeEffectIn z v around.1 w) same.0 around.3)
 
 -- a rising list whose elements another rising list contains is no longer
 no_longer : (places others : List ℕ) → AreRising places → AreRising others → All (Contains places) others → length others ≤ length places
