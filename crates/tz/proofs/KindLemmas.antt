@@ -11,12 +11,12 @@ use Rattle.tz_rule.specs.declared.timezone.rule.TransitionRule.{TransitionRule}
 use Rattle.tz_rule.specs.declared.timezone.rule.TransitionRule.TheVariants.{Fixed, Alternate}
 use Rattle.tz_rule.specs.Alternate.{AlternateTime}
 use Rattle.tz_zone.specs.Table.{Transition, Zone}
-use Rattle.tz_zone.specs.Clock.{IsTypeAt, IsLast, IsTransitionType, IsTypeAfter, IsTypeWithout, IsClock, IsLookupFault}
+use Rattle.tz_zone.specs.Clock.{IsTypeAt, IsTypeOfLast, IsLast, IsTransitionType, IsTypeAfter, IsTypeWithout, IsClock, IsLookupFault}
 use Rattle.tz_zone.specs.ValidZone.{AreLeapSeconds}
 use Rattle.tz_zone.proofs.Clocks.{last_unique, some_from_last, type_before_first, type_of_last_reached, clock_before_last, clock_from_last, type_after_from_clock}
 use Rattle.tz_zone.proofs.LeapTimes.{leap_time_unique}
 use Rattle.tz.specs.Walks.{HoldsAt}
-use Rattle.tz.specs.Reached.{IsReachedAt, IsSteadyAfter, IsKindOf, IsTypeOfLast, AreOffsetsOf}
+use Rattle.tz.specs.Reached.{IsReachedAt, IsSteadyAfter, IsKindOf, AreOffsetsOf}
 
 abbrev pub no_change : Transition
 no_change = record { unix_leap_time = pos 0; type_index = 0 }
@@ -132,6 +132,25 @@ module _ (z : Zone) (are : AreLeapSeconds z.leap_seconds) (k : ℕ) where
       let clock = subst (λ (r : Option TransitionRule). (IsClock z u t → IsTypeAfter r u t) × (IsTypeAfter r u t → IsClock z u t)) e (clock_from_all all some u reached t) in
       ((λ at. absurd (clock.0 at)), λ is. absurd (none-some t is))
 
+  pub kind_from_last : k ≡ length z.transitions → k ≢ 0 → (from : ℤ) (kind : Option LocalTimeType) → HoldsAt (IsTypeAfter z.extra_rule) from kind → IsKindOf z k from kind
+  kind_from_last all some from kind = by_rule z.extra_rule refl
+    where
+      none : z.extra_rule ≡ None → (kind : Option LocalTimeType) → HoldsAt (IsTypeAfter None) from kind → IsKindOf z k from kind
+      none e None holds = kind_after_all all some e from
+      none e (Some t) holds = absurd ((holds t).1 refl)
+
+      by_rule : (rule : Option TransitionRule) → z.extra_rule ≡ rule → HoldsAt (IsTypeAfter rule) from kind → IsKindOf z k from kind
+      by_rule (Some rule) e holds = kind_with_rule all rule e from kind holds
+      by_rule None e holds = none e kind holds
+
+  -- without transitions, too, where there is a rule
+  pub kind_from_rule : k ≡ length z.transitions → z.extra_rule ≢ None → (from : ℤ) (kind : Option LocalTimeType) → HoldsAt (IsTypeAfter z.extra_rule) from kind → IsKindOf z k from kind
+  kind_from_rule all ruled from kind = by_rule z.extra_rule refl
+    where
+      by_rule : (rule : Option TransitionRule) → z.extra_rule ≡ rule → HoldsAt (IsTypeAfter rule) from kind → IsKindOf z k from kind
+      by_rule (Some rule) e holds = kind_with_rule all rule e from kind holds
+      by_rule None e holds = absurd (ruled e)
+
   pub kind_of_type : k ≡ length z.transitions → k ≡ 0 → z.extra_rule ≡ None → (t : LocalTimeType) → IsTypeOfLast z 0 t → (from : ℤ) → IsKindOf z k from (Some t)
   kind_of_type all none e t (inr (some, change, at, type)) from = absurd (some refl)
   kind_of_type all none e t (inl (zero_is, at)) from = λ u reached any s.
@@ -158,13 +177,6 @@ offsets_from_types z least greatest types rules u t = by_clock
     by_clock (inr (last, is_last, (l, leap, inl (before, inl (early, at))))) = types 0 t at
     by_clock (inr (last, is_last, (l, leap, inl (before, inr (i, change, reached, at))))) = types change.type_index t at
     by_clock (inr (last, is_last, (l, leap, inr (from, type)))) = after z.extra_rule refl type
-
--- of some types the least offset is not above the greatest
-pub offsets_in_order : (types : List LocalTimeType) → types ≢ [] → (least greatest : ℤ) →
-    ((i : ℕ) (t : LocalTimeType) → slice_get types i ≡ Some t → least ≤ℤ t.ut_offset) →
-    ((i : ℕ) (t : LocalTimeType) → slice_get types i ≡ Some t → t.ut_offset ≤ℤ greatest) → least ≤ℤ greatest
-offsets_in_order [] some least greatest low high = absurd (some refl)
-offsets_in_order (t ∷ types) some least greatest low high = omega (arith, ints, low 0 t refl, high 0 t refl)
 
 -- where the lookup is refused, the clock has no type
 pub no_clock_from_fault : (z : Zone) → AreLeapSeconds z.leap_seconds → (u : ℤ) (e : TzError) → IsLookupFault z u e → (t : LocalTimeType) → ¬ IsClock z u t

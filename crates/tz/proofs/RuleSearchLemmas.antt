@@ -1,5 +1,5 @@
 -- The search past the seam at which a rule with two types begins.
-use Rattle.std.proofs.Common.{◌≡◌, inl, inr, refl, sym, ap, subst, ◌∙◌, arith, ℤ, pos, negsuc, ◌+ℤ◌, ◌-ℤ◌, ◌≤ℤ◌, ◌<ℤ◌, List, ◌++◌, length, Option, Some, None}
+use Rattle.std.proofs.Common.{◌≡◌, inl, inr, sym, ap, subst, ◌∙◌, arith, ℤ, pos, negsuc, ◌+ℤ◌, ◌-ℤ◌, ◌≤ℤ◌, ◌<ℤ◌, List, ◌++◌, Option, None}
 use Rattle.std.specs.List.{Contains}
 use Rattle.std.proofs.lemmas.Int.{ints, by_lt_z}
 use Rattle.std.proofs.lemmas.Option.{none-some}
@@ -9,29 +9,29 @@ use Rattle.tz_base.specs.Fields.{reading}
 use Rattle.tz_rule.specs.LocalTimeType.{LocalTimeType}
 use Rattle.tz_rule.specs.Alternate.{AlternateTime, start_of, end_of, IsInRuleRange, AreRuleDays}
 use Rattle.tz_rule.specs.Rule.{IsRuleType}
+use Rattle.tz_rule.specs.declared.timezone.rule.TransitionRule.{TransitionRule}
 use Rattle.tz_rule.specs.declared.timezone.rule.TransitionRule.TheVariants.{Alternate}
 use Rattle.tz_zone.specs.Table.{Zone}
 use Rattle.tz_zone.specs.Clock.{IsClock}
-use Rattle.tz_zone.specs.ValidZone.{AreLeapSeconds}
 use Rattle.tz.specs.Found.{Shows, PassesOver, IsFound}
 use Rattle.tz.specs.Walks.{IsSearchFault, HoldsAt, HoldsFrom, IsStep, IsStepFault}
 use Rattle.tz.specs.Reached.{IsWindowOf, IsInWindow, WindowClock}
-use Rattle.tz.specs.RuleSpans.{IsNearReading, IsSpan, ChangesOnlyAt, IsInView, RuleClock, IsOverFrom, IsAtSeam, IsPastSeam}
+use Rattle.tz.specs.RuleSpans.{IsNearReading, IsSpan, ChangesOnlyAt, IsInView, RuleClock, IsRuledIn, IsAtSeam, IsPastSeam}
 use Rattle.tz.specs.declared.datetime.found.FoundDateTimeKind.{FoundDateTimeKind}
 use Rattle.tz.specs.declared.datetime.walk.Piece.{Piece}
 use Rattle.tz.specs.declared.datetime.walk.Walk.{Walk}
-use Rattle.tz.proofs.KindLemmas.{clock_of_rule, alternate_type}
+use Rattle.tz.proofs.KindLemmas.{alternate_type}
 use Rattle.tz.proofs.RuleYearLemmas.{IsOfYear, answered_from_years, years_from_answered, inner_year_from_answered, unchanged_between, rule_type_stays, years_from_rule_type}
 use Rattle.tz.proofs.SearchLemmas.{step_since}
 use Rattle.tz.proofs.WalkLemmas.{walked_on, walked_same, found_from_end, found_from_seen, search_fault_from_step, search_fault_from_seen}
 
 module _ (z : Zone) (low seam start end : ℤ) (f : Fields) (from : ℤ) (w : Walk) (found : List FoundDateTimeKind) (past : IsPastSeam z low seam start end f from w found) where
   -- from one change to the next
-  pub past_change : (changes : List ℤ) → ChangesOnlyAt z changes start end → start ≤ℤ from → (kind : Option LocalTimeType) → HoldsAt (IsClock z) from kind →
+  pub past_change : (rule : TransitionRule) → IsRuledIn z rule start end → (changes : List ℤ) → ChangesOnlyAt rule changes start end → start ≤ℤ from → (kind : Option LocalTimeType) → HoldsAt (IsRuleType rule) from kind →
       (next : Walk) (new : List FoundDateTimeKind) → IsStep w (record { from = from; kind = kind }) next new →
       (after : ℤ) → after ≤ℤ (end +ℤ pos 1) → ((change : ℤ) → Contains changes change → from <ℤ change → change <ℤ after → ⊥) →
       IsPastSeam z low seam start end f after next (found ++ new)
-  past_change changes changing start_is kind holds next new step after until none =
+  past_change rule ruled changes changing start_is kind holds next new step after until none =
       let piece : Piece = record { from = from; kind = kind } in
       let since = step_since w piece next new step in
       record {
@@ -43,7 +43,8 @@ module _ (z : Zone) (low seam start end : ℤ) (f : Fields) (from : ℤ) (w : Wa
             let u_end : u ≤ℤ end = omega (arith, ints, within.1, until) in
             let same = changing from u start_is from_u u_end (λ change of_changes later to. none change of_changes later (omega (arith, ints, to, within.1))) t in
             let here = holds t in
-            ((λ seen. since.3 ∙ here.0 (same.1 seen.0)), (λ e. (same.0 (here.1 (sym since.3 ∙ e)), inr (start_u, u_end))));
+            let clock = ruled u start_u u_end t in
+            ((λ seen. since.3 ∙ here.0 (same.1 (clock.0 seen.0))), (λ e. (clock.1 (same.0 (here.1 (sym since.3 ∙ e))), inr (start_u, u_end))));
       }
 
   -- a step from one change to the next is refused for what the clock has
@@ -63,9 +64,9 @@ module _ (z : Zone) (low seam start end : ℤ) (f : Fields) (from : ℤ) (w : Wa
       ])
 
 -- a step past the seam is refused for what the clock has
-pub fault_at_seam : (z : Zone) (low high : ℤ) (w : Walk) (found : List FoundDateTimeKind) → IsAtSeam z low high w found →
+pub fault_at_seam : (z : Zone) (rule : TransitionRule) (low high : ℤ) (w : Walk) (found : List FoundDateTimeKind) → IsAtSeam z rule low high w found →
     (takes_memory : Type 0) (e : TzError) → IsStepFault takes_memory w (w.since +ℤ pos 1) e → IsSearchFault takes_memory (IsClock z) (reading w.fields) e
-fault_at_seam z low high w found at takes_memory e fault =
+fault_at_seam z rule low high w found at takes_memory e fault =
     let holds : HoldsFrom (WindowClock z low high) w.since (w.since +ℤ pos 1) w.kind = λ u within t.
     let same : u ≡ w.since = omega (arith, ints, within.0, within.1) in
     let here = at.holds t in (
@@ -75,11 +76,15 @@ fault_at_seam z low high w found at takes_memory e fault =
     search_fault_from_seen (IsClock z) (IsInWindow low high) takes_memory (reading w.fields) e
     (search_fault_from_step (WindowClock z low high) w.fields w found at.walked (w.since +ℤ pos 1) holds takes_memory e fault)
 
+-- what the clock is from one instant up to another it is between
+pub ruled_inside : (z : Zone) (rule : TransitionRule) (seam high start end : ℤ) → IsRuledIn z rule seam high → seam ≤ℤ start → end ≤ℤ high → IsRuledIn z rule start end
+ruled_inside z rule seam high start end ruled from until u from_u until_u = ruled u (omega (arith, ints, from, from_u)) (omega (arith, ints, until, until_u))
+
 -- past the seam the clock is not seen until the first of the instants that count
-pub past_seam : (z : Zone) (low high start end : ℤ) (w : Walk) (found : List FoundDateTimeKind) → IsAtSeam z low high w found → w.since ≤ℤ start → end ≤ℤ high →
+pub past_seam : (z : Zone) (rule : TransitionRule) (low high start end : ℤ) (w : Walk) (found : List FoundDateTimeKind) → IsAtSeam z rule low high w found → w.since ≤ℤ start → end ≤ℤ high →
     (next : Walk) (new : List FoundDateTimeKind) → IsStep w (record { from = w.since +ℤ pos 1; kind = None }) next new →
     IsPastSeam z low w.since start end w.fields start next (found ++ new)
-past_seam z low high start end w found at start_is end_is next new step =
+past_seam z rule low high start end w found at start_is end_is next new step =
     let clock = RuleClock z low w.since start end in
     let gap : Piece = record { from = w.since +ℤ pos 1; kind = None } in
     let since = step_since w gap next new step in
@@ -108,16 +113,13 @@ past_seam z low high start end w found at start_is end_is next new step =
       );
     }
 
-module _ (z : Zone) (are : AreLeapSeconds z.leap_seconds) (r : AlternateTime) (e : z.extra_rule ≡ Some (Alternate r)) (seam high : ℤ) (over : IsOverFrom z seam) (reach : high ≤ℤ pos 80000000000000000) where
-  clock_is_rule : (u : ℤ) → seam ≤ℤ u → u ≤ℤ high → (t : LocalTimeType) → (IsClock z u t → IsRuleType (Alternate r) u t) × (IsRuleType (Alternate r) u t → IsClock z u t)
-  clock_is_rule u from until = clock_of_rule z are (length z.transitions) refl (Alternate r) e u (over u from (omega (arith, ints, until, reach)))
-
+module _ (r : AlternateTime) (seam high : ℤ) where
   module _ (range : IsInRuleRange r) (x start end : ℤ) (span : IsSpan x seam high start end) where
-    -- the clock changes at starts and ends of the years around the reading's
+    -- the rule's type changes at starts and ends of the years around the reading's
     pub changes_only_at : AreRuleDays r → (year inner : ℤ) → IsOfYear year x → (negsuc 2147483646 ≤ℤ year → year ≤ℤ pos 2147483646 → inner ≡ year) → (changes : List ℤ) →
         ((y : ℤ) → (inner -ℤ pos 1) ≤ℤ y → y ≤ℤ (inner +ℤ pos 1) → Contains changes (start_of r y)) →
         ((y : ℤ) → (inner -ℤ pos 1) ≤ℤ y → y ≤ℤ (inner +ℤ pos 1) → Contains changes (end_of r y)) →
-        ChangesOnlyAt z changes start end
+        ChangesOnlyAt (Alternate r) changes start end
     changes_only_at days year inner of_year same changes starts ends u v from up until none t =
         let u_in : IsInWindow start end u = (from, omega (arith, ints, up, until)) in
         let v_in : IsInWindow start end v = (omega (arith, ints, from, up), until) in
@@ -130,14 +132,7 @@ module _ (z : Zone) (are : AreLeapSeconds z.leap_seconds) (r : AlternateTime) (e
         let unchanged = unchanged_between r range days year x u v of_year near_u near_v
         (λ y low high_y after to. none (start_of r y) (starts y (omega (arith, ints, is, low)) (omega (arith, ints, is, high_y))) after to)
         (λ y low high_y after to. none (end_of r y) (ends y (omega (arith, ints, is, low)) (omega (arith, ints, is, high_y))) after to) in
-        let rule = rule_type_stays r u v t up (years_from_answered year x u of_year near_u answered_u) (years_from_answered year x v of_year near_v answered_v) unchanged in
-        let seam_u : seam ≤ℤ u = omega (arith, ints, span.after_seam, from) in
-        let high_u : u ≤ℤ high = omega (arith, ints, u_in.1, span.end_is) in
-        let seam_v : seam ≤ℤ v = omega (arith, ints, span.after_seam, v_in.0) in
-        let high_v : v ≤ℤ high = omega (arith, ints, until, span.end_is) in
-        let here = clock_is_rule u seam_u high_u t in
-        let there = clock_is_rule v seam_v high_v t in
-        ((λ clock. there.1 (rule.0 (here.0 clock))), (λ clock. here.1 (rule.1 (there.0 clock))))
+        rule_type_stays r u v t up (years_from_answered year x u of_year near_u answered_u) (years_from_answered year x v of_year near_v answered_v) unchanged
 
     -- a rule shows a reading within 26 hours
     rule_offset : (u : ℤ) (t : LocalTimeType) → IsRuleType (Alternate r) u t → (negsuc 89999 <ℤ t.ut_offset) × (t.ut_offset <ℤ pos 93600)
@@ -151,8 +146,8 @@ module _ (z : Zone) (are : AreLeapSeconds z.leap_seconds) (r : AlternateTime) (e
     ]
 
     -- nothing is found outside the instants that count
-    pub found_from_rule : (low : ℤ) (f : Fields) → reading f ≡ x → IsWindowOf z (reading f) low high → (found : List FoundDateTimeKind) → IsFound (RuleClock z low seam start end) f found → IsFound (IsClock z) f found
-    found_from_rule low f x_is window found is = found_from_seen (IsClock z) (IsInView low seam start end) f found shown passed is
+    pub found_from_rule : (z : Zone) → IsRuledIn z (Alternate r) seam high → (low : ℤ) (f : Fields) → reading f ≡ x → IsWindowOf z (reading f) low high → (found : List FoundDateTimeKind) → IsFound (RuleClock z low seam start end) f found → IsFound (IsClock z) f found
+    found_from_rule z ruled low f x_is window found is = found_from_seen (IsClock z) (IsInView low seam start end) f found shown passed is
       where
         shown : (u : ℤ) (t : LocalTimeType) → Shows (IsClock z) (reading f) u t → IsInView low seam start end u
         shown u t shows =
@@ -162,7 +157,7 @@ module _ (z : Zone) (are : AreLeapSeconds z.leap_seconds) (r : AlternateTime) (e
             by_lt_z seam u
             (λ after.
             let seam_u : seam ≤ℤ u = omega (arith, ints, after) in
-            let type = (clock_is_rule u seam_u high_u t).0 shows.0 in
+            let type = (ruled u seam_u high_u t).0 shows.0 in
             let bounds = rule_offset u t type in
             let near : IsNearReading x u = (omega (arith, ints, shows.1, bounds.1, x_is), omega (arith, ints, shows.1, bounds.0, x_is)) in
             inr (span.covers u seam_u high_u near (answered_from_years u (years_from_rule_type r u t type))))
@@ -180,8 +175,8 @@ module _ (z : Zone) (are : AreLeapSeconds z.leap_seconds) (r : AlternateTime) (e
             (λ later.
             let seam_u : seam ≤ℤ u = omega (arith, ints, later) in
             let seam_before : seam ≤ℤ (u -ℤ pos 1) = omega (arith, ints, later) in
-            let type_a = (clock_is_rule (u -ℤ pos 1) seam_before high_before a).0 passes.0 in
-            let type_b = (clock_is_rule u seam_u high_u b).0 passes.1 in
+            let type_a = (ruled (u -ℤ pos 1) seam_before high_before a).0 passes.0 in
+            let type_b = (ruled u seam_u high_u b).0 passes.1 in
             let bounds_a = rule_offset (u -ℤ pos 1) a type_a in
             let bounds_b = rule_offset u b type_b in
             let near_before : IsNearReading x (u -ℤ pos 1) = (omega (arith, ints, passes.3, bounds_b.1, x_is), omega (arith, ints, passes.2, bounds_a.0, x_is)) in

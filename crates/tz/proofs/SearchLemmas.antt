@@ -9,26 +9,33 @@ use Rattle.tz_base.specs.declared.calendar.Fields.{Fields}
 use Rattle.tz_base.specs.declared.error.TzError.{TzError}
 use Rattle.tz_base.specs.Fields.{reading}
 use Rattle.tz_rule.specs.LocalTimeType.{LocalTimeType}
+use Rattle.tz_rule.specs.declared.timezone.rule.TransitionRule.{TransitionRule}
 use Rattle.tz_zone.specs.Table.{Transition, Zone}
 use Rattle.tz_zone.specs.LeapTime.{IsInstant, IsLeapTime, HasComeTo}
-use Rattle.tz_zone.specs.Clock.{IsClock}
+use Rattle.tz_zone.specs.Clock.{AreReached, IsClock}
 use Rattle.tz_zone.specs.ValidZone.{IsSoundTable}
 use Rattle.tz_zone.proofs.LeapTimes.{IsInstant-from_bounds, instant_bounds, leap_time_mono}
 use Rattle.tz_zone.proofs.RisingTimes.{Rise, transitions_rise}
 use Rattle.tz.specs.Found.{IsFoundBy, IsFound, instant_of}
 use Rattle.tz.specs.Walks.{IsSearchFault, HoldsFrom, IsFrom, IsStep, IsStepFault, IsWalk, IsWalked}
 use Rattle.tz.specs.Reached.{IsWithinReach, IsReachedAt, IsSteadyAfter, IsKindOf, IsDue, IsPieceOf, IsWindowOf, IsInWindow, WindowClock, IsOnTheWay}
-use Rattle.tz.specs.RuleSpans.{IsOverFrom, IsAtSeam}
+use Rattle.tz.specs.RuleSpans.{IsRuledIn, IsAtSeam}
+use Rattle.tz.specs.Windows.{TakesEffectIn}
 use Rattle.tz.specs.declared.datetime.found.FoundDateTimeKind.{FoundDateTimeKind}
 use Rattle.tz.specs.declared.datetime.found.FoundDateTimeKind.TheVariants.{Normal, Skipped}
 use Rattle.tz.specs.declared.datetime.walk.Piece.{Piece}
 use Rattle.tz.specs.declared.datetime.walk.Walk.{Walk}
 use Rattle.tz.proofs.EffectLemmas.{leap_exists, leap_time_is_instant}
-use Rattle.tz.proofs.KindLemmas.{no_change}
+use Rattle.tz.proofs.KindLemmas.{no_change, clock_of_rule}
 use Rattle.tz.proofs.WalkLemmas.{walked_on, walked_from_start, found_from_end, found_from_seen, search_fault_from_step, search_fault_from_seen}
 
 pub instant_within_reach : (u : ℤ) → IsWithinReach u → IsInstant u
 instant_within_reach u reach = IsInstant-from_bounds u (omega (arith, ints, reach.0)) (omega (arith, ints, reach.1))
+
+-- a walk from the same instant for the same fields
+pub on_the_way_of : (z : Zone) (low low' high : ℤ) (f f' : Fields) (place : ℕ) (w : Walk) (found : List FoundDateTimeKind) → low ≡ low' → f ≡ f' → IsOnTheWay z low high f place w found → IsOnTheWay z low' high f' place w found
+on_the_way_of z low low' high f f' place w found low_is f_is way =
+    subst (λ (v : ℤ). IsOnTheWay z v high f' place w found) low_is (subst (λ (g : Fields). IsOnTheWay z low high g place w found) f_is way)
 
 -- a step does not go back, and comes to the piece
 pub step_since : (w : Walk) (piece : Piece) (next : Walk) (new : List FoundDateTimeKind) → IsStep w piece next new →
@@ -52,12 +59,20 @@ module _ (z : Zone) (sound : IsSoundTable z) where
       let next = leap_exists z.leap_seconds sound.leap_seconds_are w reach in
       (next.0, next.1, omega (arith, ints, come, leap_time_mono z.leap_seconds sound.leap_seconds_are u w l next.0 h leap next.1))
 
-  -- the transitions between two instants take effect within reach
-  pub due_between : (low high : ℤ) (reached come place : ℕ) → IsWithinReach low → IsWithinReach high → IsReachedAt z low reached → IsReachedAt z high come → reached ≤ place → place < come → IsDue z place
-  due_between low high reached come place reach_low reach_high at_low at_high from until change at =
-      let start = at_low.later place change from at in
-      let time = instant_bounds at_low.time (leap_time_is_instant z.leap_seconds sound.leap_seconds_are low at_low.time (instant_within_reach low reach_low) at_low.time_is) in
-      ((λ e. absurd (omega (arith, ints, start, time.0, e))), (high, instant_within_reach high reach_high, (at_high.time, at_high.time_is, at_high.come place change until at)))
+  -- the transitions past an instant take effect within reach
+  pub due_past : (low high l : ℤ) (reached place : ℕ) → IsWithinReach low → IsWithinReach high → IsReachedAt z low reached → IsLeapTime z.leap_seconds high l → reached ≤ place → IsDue z place l
+  due_past low high l reached place reach_low reach_high at_low leap from = (
+    (high, instant_within_reach high reach_high, leap),
+    λ change at e.
+        let start = at_low.later place change from at in
+        let time = instant_bounds at_low.time (leap_time_is_instant z.leap_seconds sound.leap_seconds_are low at_low.time (instant_within_reach low reach_low) at_low.time_is) in
+        omega (arith, ints, start, time.0, e),
+  )
+
+  -- the front of the window does not come after its end
+  pub reached_later : (low high l : ℤ) (reached : ℕ) → low ≤ℤ high → high ≤ℤ pos 80000000000000000 → IsReachedAt z low reached → IsLeapTime z.leap_seconds high l → AreReached z.transitions l reached
+  reached_later low high l reached order reach at_low leap i change before at =
+      omega (arith, ints, at_low.come i change before at, leap_time_mono z.leap_seconds sound.leap_seconds_are low high at_low.time l order at_low.time_is leap)
 
   -- so many have come from where they have all come until the next one does
   reached_between : (place : ℕ) (since u : ℤ) → since ≤ℤ u → u ≤ℤ pos 80000000000000000 →
@@ -88,7 +103,7 @@ module _ (z : Zone) (sound : IsSoundTable z) where
           (λ from_low. omega (arith, ints, since, from_low));
     }
 
-    module _ (reach : high ≤ℤ pos 80000000000000000) (come : ℕ) (at_high : IsReachedAt z high come) (place : ℕ) (w : Walk) (found : List FoundDateTimeKind) (way : IsOnTheWay z low high f place w found) where
+    module _ (reach : high ≤ℤ pos 80000000000000000) (place : ℕ) (w : Walk) (found : List FoundDateTimeKind) (way : IsOnTheWay z low high f place w found) where
       -- the clock has the last piece's type where so many have come
       holds_from : (until : ℤ) → until ≤ℤ (high +ℤ pos 1) →
           ((u : ℤ) → IsFrom w.since until u → (i : ℕ) (change : Transition) → place ≤ i → slice_get z.transitions i ≡ Some change → (l : ℤ) → IsLeapTime z.leap_seconds u l → l <ℤ change.unix_leap_time) →
@@ -118,42 +133,17 @@ module _ (z : Zone) (sound : IsSoundTable z) where
               let come_here : change.unix_leap_time ≤ℤ l = omega (arith, ints, time, not_less) in
               absurd (omega (arith, ints, within.1, effect.least u (l, leap, come_here))))
 
-      -- and up to the end of the window, where no transition takes effect any more
-      pub holds_to_end : IsSteadyAfter z come → come ≤ place → HoldsFrom (WindowClock z low high) w.since (high +ℤ pos 1) w.kind
-      holds_to_end steady all =
-          holds_from (high +ℤ pos 1) (omega (arith, ints)) (λ u within i change more at l leap.
-          omega (
-            arith,
-            ints,
-            leap_time_mono z.leap_seconds sound.leap_seconds_are u high l at_high.time (omega (arith, ints, within.1)) leap at_high.time_is,
-            at_high.later i change (omega (arith, all, more)) at,
-          )) (steady_at steady)
-        where
-          steady_at : IsSteadyAfter z come → (u : ℤ) → IsFrom w.since (high +ℤ pos 1) u → IsSteadyAfter z place
-          steady_at (inr one) u within = inr one
-          steady_at (inl less) u within =
-              elim (cases_lt come place) [
-                | inl more ↦
-                    let change = get_or z.transitions come no_change in
-                    let at = slice_get-get_or z.transitions come no_change less in
-                    let was = way.come come change more at in
-                    absurd (omega (
-                      arith,
-                      ints,
-                      was.2,
-                      at_high.later come change (omega arith) at,
-                      leap_time_mono z.leap_seconds sound.leap_seconds_are w.since high was.0 at_high.time (omega (arith, ints, within.0, within.1)) was.1 at_high.time_is,
-                    ))
-                | inr same ↦ inl (omega (arith, all, same, less))
-              ]
+      -- a transition that is reached at the end of the window takes effect up to there
+      pub from_in_window : (l : ℤ) → IsLeapTime z.leap_seconds high l → AreReached z.transitions l (place + 1) → (piece : Piece) → IsPieceOf z place piece → piece.from ≤ℤ high
+      from_in_window l leap come piece ((change, at, effect), kind) = effect.least high (l, leap, come place change (omega arith) at)
 
       -- the next transition takes effect in the window
-      from_in_window : place < come → (piece : Piece) → IsPieceOf z place piece → piece.from ≤ℤ high
-      from_in_window inside piece ((change, at, effect), kind) = effect.least high (at_high.time, at_high.time_is, at_high.come place change inside at)
+      pub effect_in_window : (piece : Piece) → IsPieceOf z place piece → piece.from ≤ℤ high → TakesEffectIn z low high place
+      effect_in_window piece ((change, at, effect), kind) from_high =
+          (change, piece.from, at, effect, omega (arith, ints, way.low_is, way.not_before place change (omega arith) at piece.from effect.has_come), from_high)
 
-      pub on_the_way_past : place < come → (piece : Piece) (next : Walk) (new : List FoundDateTimeKind) → IsPieceOf z place piece → IsStep w piece next new → IsOnTheWay z low high f (place + 1) next (found ++ new)
-      on_the_way_past inside piece next new ((change, at, effect), kind) step =
-          let from_high : piece.from ≤ℤ high = from_in_window inside piece ((change, at, effect), kind) in
+      pub on_the_way_past : (piece : Piece) (next : Walk) (new : List FoundDateTimeKind) → IsPieceOf z place piece → piece.from ≤ℤ high → IsStep w piece next new → IsOnTheWay z low high f (place + 1) next (found ++ new)
+      on_the_way_past piece next new ((change, at, effect), kind) from_high step =
           let since = step_since w piece next new step in
           let high_is : next.since ≤ℤ high = elim since.2 [ inl e ↦ omega (arith, ints, e, way.high_is) | inr e ↦ omega (arith, ints, e, from_high) ] in
           let reach_is : next.since ≤ℤ pos 80000000000000000 = omega (arith, ints, high_is, reach) in
@@ -178,44 +168,75 @@ module _ (z : Zone) (sound : IsSoundTable z) where
           }
 
       -- a step to the next transition is refused for what the clock has
-      pub fault_on_the_way : place < come → (piece : Piece) → IsPieceOf z place piece → (takes_memory : Type 0) (e : TzError) → IsStepFault takes_memory w piece.from e → IsSearchFault takes_memory (IsClock z) (reading f) e
-      fault_on_the_way inside piece is takes_memory e fault =
+      pub fault_on_the_way : (piece : Piece) → IsPieceOf z place piece → piece.from ≤ℤ high → (takes_memory : Type 0) (e : TzError) → IsStepFault takes_memory w piece.from e → IsSearchFault takes_memory (IsClock z) (reading f) e
+      fault_on_the_way piece is from_high takes_memory e fault =
           search_fault_from_seen (IsClock z) (IsInWindow low high) takes_memory (reading f) e
-          (search_fault_from_step (WindowClock z low high) f w found way.walked piece.from (holds_to_next piece is (from_in_window inside piece is)) takes_memory e fault)
+          (search_fault_from_step (WindowClock z low high) f w found way.walked piece.from (holds_to_next piece is from_high) takes_memory e fault)
 
-      pub found_in_window : IsSteadyAfter z come → come ≤ place → (piece : Piece) (next : Walk) (new : List FoundDateTimeKind) → IsStep w piece next new → piece.from ≡ high +ℤ pos 1 → IsFound (WindowClock z low high) f (found ++ new)
-      found_in_window steady all piece next new step end =
-          let since = step_since w piece next new step in
-          let holds = subst (λ (until : ℤ). HoldsFrom (WindowClock z low high) w.since until w.kind) (sym end) (holds_to_end steady all) in
-          let walked = walked_on (WindowClock z low high) f w found piece next new way.walked step holds in
-          found_from_end (WindowClock z low high) f next (found ++ new) walked (λ u t seen. omega (arith, ints, seen.1.1, since.1, end))
-
-      -- and so is the step to the end of the window
-      pub fault_in_window : IsSteadyAfter z come → come ≤ place → (until : ℤ) (takes_memory : Type 0) (e : TzError) → IsStepFault takes_memory w until e → until ≡ high +ℤ pos 1 → IsSearchFault takes_memory (IsClock z) (reading f) e
-      fault_in_window steady all until takes_memory e fault end =
-          let holds = subst (λ (v : ℤ). HoldsFrom (WindowClock z low high) w.since v w.kind) (sym end) (holds_to_end steady all) in
-          search_fault_from_seen (IsClock z) (IsInWindow low high) takes_memory (reading f) e
-          (search_fault_from_step (WindowClock z low high) f w found way.walked until holds takes_memory e fault)
-
-      -- where all transitions have come, the walk is at the seam
-      pub over_from_seam : length z.transitions ≤ place → IsOverFrom z w.since
-      over_from_seam all u from until =
-          let reached = reached_between place w.since u from until way.come (λ i other more at_i. absurd (omega (arith, all, more, slice_get_within z.transitions i other at_i))) in
-          record {
+      -- where all transitions have come, the clock is that of the rule from the last piece on
+      ruled_from_seam : length z.transitions ≤ place → (rule : TransitionRule) → z.extra_rule ≡ Some rule → IsRuledIn z rule w.since high
+      ruled_from_seam all rule is u from until =
+          let reached = reached_between place w.since u from (omega (arith, ints, until, reach)) way.come (λ i other more at_i. absurd (omega (arith, all, more, slice_get_within z.transitions i other at_i))) in
+          clock_of_rule z sound.leap_seconds_are (length z.transitions) refl rule is u (record {
             time = reached.time;
             time_is = reached.time_is;
             come = λ i change less at. reached.come i change (omega (arith, all, less)) at;
             later = λ i other more at_i. absurd (omega (arith, more, slice_get_within z.transitions i other at_i));
-          }
+          })
 
-      pub at_seam : length z.transitions ≤ place → IsWindowOf z (reading f) low high → IsAtSeam z low high w found
-      at_seam all window = record {
+      pub at_seam : length z.transitions ≤ place → (rule : TransitionRule) → z.extra_rule ≡ Some rule → IsWindowOf z (reading f) low high → IsAtSeam z rule low high w found
+      at_seam all rule is window = record {
         walked = subst (λ (g : Fields). IsWalked (WindowClock z low high) g w found) (sym way.walked.walk.fields_are) way.walked;
         holds = way.kind w.since (reached_between place w.since w.since (omega (arith, ints)) (omega (arith, ints, way.high_is, reach)) way.come (λ i other more at_i. absurd (omega (arith, all, more, slice_get_within z.transitions i other at_i)))) (inr refl);
         low_is = way.low_is;
         high_is = way.high_is;
+        ruled = ruled_from_seam all rule is;
         window = subst (λ (g : Fields). IsWindowOf z (reading g) low high) (sym way.walked.walk.fields_are) window;
       }
+
+      module _ (come : ℕ) (at_high : IsReachedAt z high come) where
+        -- up to the end of the window, where no transition takes effect any more
+        pub holds_to_end : IsSteadyAfter z come → come ≤ place → HoldsFrom (WindowClock z low high) w.since (high +ℤ pos 1) w.kind
+        holds_to_end steady all =
+            holds_from (high +ℤ pos 1) (omega (arith, ints)) (λ u within i change more at l leap.
+            omega (
+              arith,
+              ints,
+              leap_time_mono z.leap_seconds sound.leap_seconds_are u high l at_high.time (omega (arith, ints, within.1)) leap at_high.time_is,
+              at_high.later i change (omega (arith, all, more)) at,
+            )) (steady_at steady)
+          where
+            steady_at : IsSteadyAfter z come → (u : ℤ) → IsFrom w.since (high +ℤ pos 1) u → IsSteadyAfter z place
+            steady_at (inr one) u within = inr one
+            steady_at (inl less) u within =
+                elim (cases_lt come place) [
+                  | inl more ↦
+                      let change = get_or z.transitions come no_change in
+                      let at = slice_get-get_or z.transitions come no_change less in
+                      let was = way.come come change more at in
+                      absurd (omega (
+                        arith,
+                        ints,
+                        was.2,
+                        at_high.later come change (omega arith) at,
+                        leap_time_mono z.leap_seconds sound.leap_seconds_are w.since high was.0 at_high.time (omega (arith, ints, within.0, within.1)) was.1 at_high.time_is,
+                      ))
+                  | inr same ↦ inl (omega (arith, all, same, less))
+                ]
+
+        pub found_in_window : IsSteadyAfter z come → come ≤ place → (piece : Piece) (next : Walk) (new : List FoundDateTimeKind) → IsStep w piece next new → piece.from ≡ high +ℤ pos 1 → IsFound (WindowClock z low high) f (found ++ new)
+        found_in_window steady all piece next new step end =
+            let since = step_since w piece next new step in
+            let holds = subst (λ (until : ℤ). HoldsFrom (WindowClock z low high) w.since until w.kind) (sym end) (holds_to_end steady all) in
+            let walked = walked_on (WindowClock z low high) f w found piece next new way.walked step holds in
+            found_from_end (WindowClock z low high) f next (found ++ new) walked (λ u t seen. omega (arith, ints, seen.1.1, since.1, end))
+
+        -- and so is the step to the end of the window
+        pub fault_in_window : IsSteadyAfter z come → come ≤ place → (until : ℤ) (takes_memory : Type 0) (e : TzError) → IsStepFault takes_memory w until e → until ≡ high +ℤ pos 1 → IsSearchFault takes_memory (IsClock z) (reading f) e
+        fault_in_window steady all until takes_memory e fault end =
+            let holds = subst (λ (v : ℤ). HoldsFrom (WindowClock z low high) w.since v w.kind) (sym end) (holds_to_end steady all) in
+            search_fault_from_seen (IsClock z) (IsInWindow low high) takes_memory (reading f) e
+            (search_fault_from_step (WindowClock z low high) f w found way.walked until holds takes_memory e fault)
 
     -- no entry lies outside the window
     pub found_from_window : IsWindowOf z (reading f) low high → (found : List FoundDateTimeKind) → IsFound (WindowClock z low high) f found → IsFound (IsClock z) f found

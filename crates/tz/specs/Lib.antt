@@ -8,6 +8,7 @@ pub mod Buffers
 pub mod Walks
 pub mod Reached
 pub mod RuleSpans
+pub mod Windows
 pub mod FindFaults
 pub mod PrintedText
 pub mod UtcConstants

@@ -1,11 +1,11 @@
 -- Which transitions of a zone have come at an instant, and the clock from one transition to the next.
-use Rattle.std.specs.Prelude.{◌≡◌, ◌≢◌, ℕ, ◌+◌, ◌-◌, ◌<◌, ◌≤◌, ◌⊎◌, ℤ, pos, negsuc, ◌-ℤ◌, ◌≤ℤ◌, ◌<ℤ◌, List, Option, Some, length, slice_get}
+use Rattle.std.specs.Prelude.{◌≡◌, ◌≢◌, ℕ, ◌+◌, ◌<◌, ◌≤◌, ◌⊎◌, ℤ, pos, negsuc, ◌-ℤ◌, ◌≤ℤ◌, ◌<ℤ◌, List, Option, Some, length, slice_get}
 use Rattle.tz_rule.specs.LocalTimeType.{LocalTimeType}
 use Rattle.tz_rule.specs.Alternate.{AlternateTime}
 use Rattle.tz_rule.specs.declared.timezone.rule.TransitionRule.TheVariants.{Alternate}
 use Rattle.tz_zone.specs.Table.{Transition, Zone}
 use Rattle.tz_zone.specs.LeapTime.{IsInstant, IsLeapTime, HasComeTo, IsEffect}
-use Rattle.tz_zone.specs.Clock.{IsTypeAt, IsClock}
+use Rattle.tz_zone.specs.Clock.{IsClock}
 use Rattle.tz_base.specs.declared.calendar.Fields.{Fields}
 use Rattle.tz.specs.Found.{Clock}
 use Rattle.tz.specs.Walks.{HoldsAt, IsWalked}
@@ -32,16 +32,11 @@ IsSteadyAfter z k = (k < length z.transitions) ⊎ ((r : AlternateTime) → z.ex
 abbrev pub IsKindOf : Zone → ℕ → ℤ → Option LocalTimeType → Type 0
 IsKindOf z k from kind = (u : ℤ) → IsReachedAt z u k → IsSteadyAfter z k ⊎ (u ≡ from) → HoldsAt (IsClock z) u kind
 
--- the type of the last of so many transitions, or type number 0
-abbrev pub IsTypeOfLast : Zone → ℕ → LocalTimeType → Type 0
-IsTypeOfLast z k t =
-    ((k ≡ 0) × IsTypeAt z 0 t)
-    ⊎ ((k ≢ 0) × (change : Transition) × (slice_get z.transitions (k - 1) ≡ Some change) × IsTypeAt z change.type_index t)
-
--- a transition that takes effect within reach
-abbrev pub IsDue : Zone → ℕ → Type 0
-IsDue z i = (change : Transition) → slice_get z.transitions i ≡ Some change →
-    (change.unix_leap_time ≢ negsuc 9223372036854775807) × ((u : ℤ) × IsInstant u × HasComeTo z.leap_seconds change.unix_leap_time u)
+-- a transition that takes effect, if its time is not above a leap time: that one is an instant's, and its time is not the least of all
+abbrev pub IsDue : Zone → ℕ → ℤ → Type 0
+IsDue z i l =
+    ((u : ℤ) × IsInstant u × IsLeapTime z.leap_seconds u l)
+    × ((change : Transition) → slice_get z.transitions i ≡ Some change → change.unix_leap_time ≢ negsuc 9223372036854775807)
 
 -- the piece of the clock that begins where a transition takes effect
 abbrev pub IsPieceOf : Zone → ℕ → Piece → Type 0

@@ -1,15 +1,17 @@
 -- The part of a clock that an alternate rule tells, as far as a search looks at it.
-use Rattle.std.specs.Prelude.{◌⊎◌, ℤ, pos, negsuc, ◌+ℤ◌, ◌-ℤ◌, ◌*ℤ◌, ◌≤ℤ◌, ◌<ℤ◌, List, length}
+use Rattle.std.specs.Prelude.{◌⊎◌, ℤ, pos, negsuc, ◌+ℤ◌, ◌-ℤ◌, ◌*ℤ◌, ◌≤ℤ◌, ◌<ℤ◌, List}
 use Rattle.std.specs.List.{Contains}
 use Rattle.tz_base.specs.declared.calendar.Fields.{Fields}
 use Rattle.tz_base.specs.Days.{first_day}
 use Rattle.tz_rule.specs.LocalTimeType.{LocalTimeType}
+use Rattle.tz_rule.specs.Rule.{IsRuleType}
+use Rattle.tz_rule.specs.declared.timezone.rule.TransitionRule.{TransitionRule}
 use Rattle.tz_zone.specs.Table.{Zone}
 use Rattle.tz_zone.specs.Clock.{IsClock}
 use Rattle.tz.specs.Found.{Clock}
 use Rattle.tz_base.specs.Fields.{reading}
 use Rattle.tz.specs.Walks.{HoldsAt, HoldsFrom, IsWalked}
-use Rattle.tz.specs.Reached.{IsInWindow, IsReachedAt, IsWindowOf, WindowClock}
+use Rattle.tz.specs.Reached.{IsInWindow, IsWindowOf, WindowClock}
 use Rattle.tz.specs.declared.datetime.found.FoundDateTimeKind.{FoundDateTimeKind}
 use Rattle.tz.specs.declared.datetime.walk.Walk.{Walk}
 
@@ -29,11 +31,15 @@ pub record IsSpan (r seam high start end : ℤ) : Type 0 where
   pub answered : (u : ℤ) → IsInWindow start end u → IsAnswered u
   pub covers : (u : ℤ) → seam ≤ℤ u → u ≤ℤ high → IsNearReading r u → IsAnswered u → IsInWindow start end u
 
--- between two instants the clock changes only at these changes
-abbrev pub ChangesOnlyAt : Zone → List ℤ → ℤ → ℤ → Type 0
-ChangesOnlyAt z changes start end =
+-- between two instants the type of a rule changes only at these changes
+abbrev pub ChangesOnlyAt : TransitionRule → List ℤ → ℤ → ℤ → Type 0
+ChangesOnlyAt rule changes start end =
     (u v : ℤ) → start ≤ℤ u → u ≤ℤ v → v ≤ℤ end → ((change : ℤ) → Contains changes change → u <ℤ change → change ≤ℤ v → ⊥)
-    → (t : LocalTimeType) → (IsClock z u t → IsClock z v t) × (IsClock z v t → IsClock z u t)
+    → (t : LocalTimeType) → (IsRuleType rule u t → IsRuleType rule v t) × (IsRuleType rule v t → IsRuleType rule u t)
+
+-- between two instants the clock of a zone is that of a rule
+abbrev pub IsRuledIn : Zone → TransitionRule → ℤ → ℤ → Type 0
+IsRuledIn z rule start end = (u : ℤ) → start ≤ℤ u → u ≤ℤ end → (t : LocalTimeType) → (IsClock z u t → IsRuleType rule u t) × (IsRuleType rule u t → IsClock z u t)
 
 -- the clock of a zone, as it is seen up to a seam, and between two later instants
 abbrev pub IsInView : ℤ → ℤ → ℤ → ℤ → ℤ → Type 0
@@ -42,16 +48,13 @@ IsInView low seam start end u = IsInWindow low seam u ⊎ IsInWindow start end u
 abbrev pub RuleClock : Zone → ℤ → ℤ → ℤ → ℤ → Clock
 RuleClock z low seam start end u t = IsClock z u t × IsInView low seam start end u
 
--- from an instant on all transitions have come
-abbrev pub IsOverFrom : Zone → ℤ → Type 0
-IsOverFrom z seam = (u : ℤ) → seam ≤ℤ u → u ≤ℤ pos 80000000000000000 → IsReachedAt z u (length z.transitions)
-
--- a walk past the pieces of a zone in a window, which has come to its seam
-pub record IsAtSeam (z : Zone) (low high : ℤ) (w : Walk) (found : List FoundDateTimeKind) : Type 0 where
+-- a walk past the pieces of a zone in a window, which has come to the seam from which on the clock is that of a rule
+pub record IsAtSeam (z : Zone) (rule : TransitionRule) (low high : ℤ) (w : Walk) (found : List FoundDateTimeKind) : Type 0 where
   pub walked : IsWalked (WindowClock z low high) w.fields w found
   pub holds : HoldsAt (IsClock z) w.since w.kind
   pub low_is : low ≤ℤ w.since
   pub high_is : w.since ≤ℤ high
+  pub ruled : IsRuledIn z rule w.since high
   pub window : IsWindowOf z (reading w.fields) low high
 
 -- a walk past that clock, which has come beyond the seam, and knows the clock up to an instant

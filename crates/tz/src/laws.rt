@@ -1,7 +1,7 @@
 //! Laws of date times. A function here does nothing, or one call that it speaks of; its contract is the law, in the words of the
 //! contracts of [`crate::UtcDateTime`] and [`crate::DateTime`].
 
-ghost use Rattle.std.specs.Prelude.{◌≡◌, ℕ, ◌<◌, true, pos, ℤ, ◌+ℤ◌, ◌↔◌, List, ⊤, alloc_error};
+ghost use Rattle.std.specs.Prelude.{◌≡◌, ℕ, ◌<◌, true, pos, ℤ, ◌+ℤ◌, ◌↔◌, ◌≤◌, length, List, ⊤, alloc_error};
 ghost use Rattle.std.specs.List.{Contains};
 ghost use Rattle.std.specs.Duration.{as_nanos};
 ghost use Rattle.std.specs.Ordering.{int_cmp};
@@ -15,6 +15,7 @@ ghost use Rattle.tz_zone.specs.Clock.{IsClock};
 ghost use Rattle.tz_zone.specs.Table.{Zone};
 ghost use Rattle.tz.specs.FindFaults.{IsPromised, IsFindFault};
 ghost use Rattle.tz.specs.Found.{IsFound};
+ghost use Rattle.tz.specs.Windows.{TakesEffectIn, AreRising, AtMostTakeEffectIn};
 ghost use Rattle.tz.specs.declared.datetime.found.FoundDateTimeKind.{FoundDateTimeKind};
 ghost use Rattle.tz.specs.declared.datetime.found.FoundDateTimeKind.TheVariants.{Normal as normal};
 ghost use Rattle.tz.specs.contracts.datetime.utc_date_time.UtcDateTimeOrd.TheImpl as utc_order;
@@ -69,4 +70,11 @@ pub fn projections_keep_the_instant()
 pub fn shown_date_times_are_found()
     ensures found { (z : Zone) (u : ℤ) (n : ℕ) (d : DateTime) (found : List FoundDateTimeKind) → ShowsByClock z u n d → IsFound (IsClock z) d.fields found → Contains found (normal d) }
     ensures refused { (z : Zone) (u : ℤ) (n : ℕ) (d : DateTime) (e : TzError) → ShowsByClock z u n d → IsPromised z d.fields.year → IsFindFault ⊤ (IsClock z) d.fields e → e ≡ Memory alloc_error }
+{}
+
+/// The number of transitions that take effect in a window is the length of a rising list that holds just these: at most w take effect
+/// there exactly where that length is at most w.
+pub fn transitions_in_a_window_are_counted()
+    ensures { (z : Zone) (low high : ℤ) (places : List ℕ) → AreRising places → ((i : ℕ) → TakesEffectIn z low high i ↔ Contains places i)
+        → (w : ℕ) → AtMostTakeEffectIn z low high w ↔ (length places ≤ w) }
 {}

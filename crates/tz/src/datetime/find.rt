@@ -8,14 +8,18 @@ use super::{DateTime, FoundDateTimeKind};
 use std::alloc::Allocator;
 use tz_base::calendar::Fields;
 use tz_base::error::TzError;
+use tz_zone::inner::{Counted, OtherParts, Transitions, Uncounted, other_parts};
 use tz_zone::timezone::TimeZoneRef;
 
 impl DateTime {
-    ghost use Rattle.std.specs.Prelude.{◌≡◌, ◌≢◌, ◌⊎◌, List, length, ⊤, IfOk, IfErr, OnOk};
-    ghost use Rattle.tz_base.specs.Fields.{IsValid};
+    ghost use Rattle.std.specs.Prelude.{◌≡◌, ◌≢◌, ◌⊎◌, ◌+◌, ◌*◌, ◌^◌, ◌<◌, ◌≤◌, ℕ, List, length, ⊤, IfOk, IfErr, OnOk};
+    ghost use Rattle.tz_base.specs.Fields.{IsValid, reading};
     ghost use Rattle.tz_zone.specs.Clock.{IsClock};
+    ghost use Rattle.tz_zone.specs.ValidZone.{IsSoundTable};
     ghost use Rattle.tz_zone.specs.ZoneRef.{zone_of};
     ghost use Rattle.tz.specs.DateTimes.{fields_of};
+    ghost use Rattle.tz_zone.specs.ZoneSeen.{zone_seen};
+    ghost use Rattle.tz.specs.Windows.{AtMostTakeEffectAround};
     ghost use Rattle.tz.specs.Found.{IsFound};
     ghost use Rattle.tz.specs.Lists.{found_of, slots_of, count_of, reference_of};
     ghost use Rattle.tz.specs.FindFaults.{IsFindFault, IsPromised};
@@ -72,7 +76,8 @@ impl DateTime {
     {
         fields.check()?;
         let mut list = FoundDateTimeList::new_in(alloc);
-        search(&mut list, fields, time_zone_ref)?;
+        let mut view = Uncounted::new(time_zone_ref.transitions());
+        search(&mut list, fields, &mut view, other_parts(&time_zone_ref))?;
         Ok(list)
     }
 
@@ -111,27 +116,75 @@ impl DateTime {
             second,
             nanoseconds,
         };
-        let count = DateTime::fill(buf, &fields, time_zone_ref)?;
+        let mut view = Uncounted::new(time_zone_ref.transitions());
+        let count = DateTime::fill(buf, &fields, &mut view, other_parts(&time_zone_ref))?;
         Ok(FoundDateTimeListRefMut::counted(buf, count))
     }
 
+    /// What [`DateTime::find_n`] finds, and the number of looks that this took: of readings of single transitions.
+    ///
+    /// Of n transitions, of which w take effect in the window of the reading, a search looks at 2 b + w + 4 at most, where b is the number of
+    /// binary digits of n. The count stays at `u64::MAX` if it gets there.
+    pub fn find_n_counted<'a>(
+        buf: &'a mut [Option<FoundDateTimeKind>],
+        year: i32,
+        month: u8,
+        month_day: u8,
+        hour: u8,
+        minute: u8,
+        second: u8,
+        nanoseconds: u32,
+        time_zone_ref: TimeZoneRef<'_>,
+    ) -> Result<(FoundDateTimeListRefMut<'a>, u64), TzError>
+        ensures same_reference { IfOk result (λ found. reference_of found.0 ≡ buf.entry.ghost_name) }
+        ensures ok { IfOk result (λ counted. (found : List FoundDateTimeKind)
+            × IsFound (IsClock (zone_of time_zone_ref.entry)) (fields_of year month month_day hour minute second nanoseconds) found
+            × (count_of counted.0 ≡ length found) × (slots_of counted.0 ≡ filled buf.old found)) }
+        ensures valid { OnOk result (IsValid (fields_of year month month_day hour minute second nanoseconds)) }
+        ensures promised { IsPromised (zone_of time_zone_ref.entry) year → IfErr result (λ e. e ≢ TzError.OutOfRange) }
+        ensures err { IfErr result (IsFindFault ⊥ (IsClock (zone_of time_zone_ref.entry)) (fields_of year month month_day hour minute second nanoseconds)) }
+        ensures few { IfOk result (λ counted. (b w : ℕ) → length (zone_of time_zone_ref.entry).transitions < 2 ^ b
+            → AtMostTakeEffectAround (zone_of time_zone_ref.entry) (reading (fields_of year month month_day hour minute second nanoseconds)) w
+            → counted.1 ≤ 2 * b + w + 4) }
+        ensures some { IfOk result (λ counted. 0 < length (zone_of time_zone_ref.entry).transitions → 1 ≤ counted.1) }
+        ensures none { IfOk result (λ counted. length (zone_of time_zone_ref.entry).transitions ≡ 0 → counted.1 ≡ 0) }
+    {
+        let fields = Fields {
+            year,
+            month,
+            month_day,
+            hour,
+            minute,
+            second,
+            nanoseconds,
+        };
+        let mut view = Counted::new(time_zone_ref.transitions());
+        let count = DateTime::fill(buf, &fields, &mut view, other_parts(&time_zone_ref))?;
+        Ok((FoundDateTimeListRefMut::counted(buf, count), view.looks()))
+    }
+
     /// Writes what is found of the fields to the slots, as far as they go, and counts it.
-    fn fill(
+    fn fill<V: Transitions>(
         buf: &mut [Option<FoundDateTimeKind>],
         fields: &Fields,
-        time_zone_ref: TimeZoneRef<'_>,
+        view: &mut V,
+        parts: OtherParts<'_>,
     ) -> Result<usize, TzError>
+        requires { IsSoundTable (zone_seen (V.list view.old) parts) }
         ensures ok { IfOk result (λ count. (found : List FoundDateTimeKind)
-            × IsFound (IsClock (zone_of time_zone_ref.entry)) fields.now found
+            × IsFound (IsClock (zone_seen (V.list view.old) parts.entry)) fields.now found
             × (count ≡ length found) × (buf.new ≡ filled buf.old found)) }
         ensures valid { OnOk result (IsValid fields.now) }
         ensures untouched { IsValid fields.now ⊎ (buf.new ≡ buf.old) }
-        ensures promised { IsPromised (zone_of time_zone_ref.entry) fields.now.year → IfErr result (λ e. e ≢ TzError.OutOfRange) }
-        ensures err { IfErr result (IsFindFault ⊥ (IsClock (zone_of time_zone_ref.entry)) fields.now) }
+        ensures promised { IsPromised (zone_seen (V.list view.old) parts.entry) fields.now.year → IfErr result (λ e. e ≢ TzError.OutOfRange) }
+        ensures err { IfErr result (IsFindFault ⊥ (IsClock (zone_seen (V.list view.old) parts.entry)) fields.now) }
+        ensures few { OnOk result ((b w : ℕ) → length (V.list view.old) < 2 ^ b → AtMostTakeEffectAround (zone_seen (V.list view.old) parts.entry) (reading fields.now) w → V.looks view.new ≤ V.looks view.old + (2 * b + w + 4)) }
+        ensures some { OnOk result (0 < length (V.list view.old) → V.next (V.looks view.old) ≤ V.looks view.new) }
+        ensures none { OnOk result (length (V.list view.old) ≡ 0 → V.looks view.new ≡ V.looks view.old) }
     {
         Fields::check(fields)?;
         let mut writer = SlotWriter::new(buf);
-        search(&mut writer, fields, time_zone_ref)?;
+        search(&mut writer, fields, view, parts)?;
         Ok(writer.count())
     }
 }

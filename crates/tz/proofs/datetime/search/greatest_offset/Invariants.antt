@@ -2,7 +2,11 @@
 use Rattle.std.proofs.Common.{◌≡◌, ℕ, ◌<◌, ◌≤ℤ◌, Some}
 use Rattle.std.specs.Prelude.{slice_get}
 use Rattle.tz_rule.specs.LocalTimeType.{LocalTimeType}
+use Rattle.tz.specs.Windows.{IsOffsetOfTypes}
 use Rattle.tz.proofs.datetime.search.greatest_offset.Given as goal
 
 abbrev pub invariant-loop-local_time_type : goal.invariant-loop-local_time_type
-invariant-loop-local_time_type l = (i : ℕ) (t : LocalTimeType) → i < l.local_time_type-index → slice_get l.types i ≡ Some t → t.ut_offset ≤ℤ l.greatest
+invariant-loop-local_time_type l = record {
+  of_type : IsOffsetOfTypes l.local_time_types l.greatest;
+  greatest : (i : ℕ) (t : LocalTimeType) → i < l.local_time_type-index → slice_get l.local_time_types i ≡ Some t → t.ut_offset ≤ℤ l.greatest;
+}

@@ -1,30 +1,54 @@
 -- One more type.
-use Rattle.std.proofs.Common.{◌≡◌, ◌<◌, ◌∙◌, inl, inr, sym, ap, arith, length, Some}
+use Rattle.std.proofs.Common.{◌≡◌, ◌<◌, ◌∙◌, inl, inr, sym, ap, arith, rules, Some}
 use Rattle.std.specs.Prelude.{slice_get}
-use Rattle.std.proofs.lemmas.Int.{ints}
+use Rattle.std.proofs.lemmas.Int.{ints, to_z-of_z}
 use Rattle.std.proofs.lemmas.Bool.{cases_lt}
 use Rattle.std.proofs.lemmas.Option.{same_Some, slice_get_within, slice_get-get_or}
+use mir.Syntax.{w32}
+use mir.Val.{SFits, to_z}
 use Rattle.tz_rule.specs.LocalTimeType.{LocalTimeType}
+use Rattle.tz.proofs.WindowLemmas.{int_min_either}
 use Rattle.tz.proofs.datetime.search.least_offset.Goals as goal
 
-pub loop-local_time_type-preserved : goal.loop-local_time_type-preserved
-loop-local_time_type-preserved c i t h at =
-    let k = c.loop-local_time_type.local_time_type-index in
-    let min = c.min-least.ensures in
-    elim (cases_lt i k) [
-      | inl before ↦ omega (arith, ints, c.loop-local_time_type.invariant i t before at, min.self_bound)
-      | inr here ↦
-          let place : i ≡ k = omega arith in
-          let item = c.local_time_type-item.result in
-          let types = c.args.types.now in
-          let inside = slice_get_within types i t at in
-          let within : k < length types = omega (arith, inside, place) in
-          let same : item ≡ t = same_Some item t (ap Some c.local_time_type-item.is ∙ sym (slice_get-get_or types k item within) ∙ ap (slice_get types) (sym place) ∙ at) in
-          omega (arith, ints, ap (λ (x : LocalTimeType). x.ut_offset) same, c.ut_offset.ensures, min.other_bound)
-    ]
+pub loop-local_time_type-init : goal.loop-local_time_type-init
+loop-local_time_type-init c =
+    let types = c.args.local_time_types.now in
+    let item = c.index-local_time_types-0.result in
+    let at : slice_get types 0 ≡ Some item = slice_get-get_or types 0 item c.requires ∙ ap Some (sym c.index-local_time_types-0.is) in
+    let fits : SFits w32 c.ut_offset-least.result = search rules in
+    rw (to_z-of_z w32 c.ut_offset-least.result fits) (record {
+      of_type = (0, item, at, c.ut_offset-least.ensures);
+      least = λ i t before at_i. absurd (omega (arith, before));
+    })
 
-pub returns : goal.returns
-returns c i t at =
-    let inside = slice_get_within c.args.types.now i t at in
-    let before : i < c.loop-local_time_type.local_time_type-index = omega (arith, inside, c.loop-local_time_type-test.false) in
-    omega (arith, ints, c.loop-local_time_type.invariant i t before at, c.loop-local_time_type.least-is)
+pub loop-local_time_type-preserved : goal.loop-local_time_type-preserved
+loop-local_time_type-preserved c =
+    let so_far = c.loop-local_time_type.invariant in
+    let types = c.args.local_time_types.now in
+    let k = c.loop-local_time_type.local_time_type-index in
+    let item = c.local_time_type-item.result in
+    let at : slice_get types k ≡ Some item = slice_get-get_or types k item c.loop-local_time_type-test.true ∙ ap Some (sym c.local_time_type-item.is) in
+    let offset : SFits w32 c.ut_offset.result = search rules in
+    let fits : SFits w32 c.min-least.result = search rules in
+    let min = rw (to_z-of_z w32 c.ut_offset.result offset) at c.min-least.ensures in
+    let bits = to_z w32 c.loop-local_time_type.least-bits in
+    rw (to_z-of_z w32 c.min-least.result fits) (record {
+      of_type = elim (int_min_either bits c.ut_offset.result) [
+        | inl is ↦ (so_far.of_type.0, so_far.of_type.1, so_far.of_type.2, min.value ∙ is ∙ so_far.of_type.3)
+        | inr is ↦ (k, item, at, min.value ∙ is ∙ c.ut_offset.ensures)
+      ];
+      least = λ i t until at_i. elim (cases_lt i k) [
+        | inl before ↦ omega (arith, ints, so_far.least i t before at_i, min.self_bound)
+        | inr not_before ↦
+            let place : i ≡ k = omega (arith, until, not_before) in
+            let same : item ≡ t = same_Some item t (sym at ∙ ap (slice_get types) (sym place) ∙ at_i) in
+            omega (arith, ints, ap (λ (x : LocalTimeType). x.ut_offset) same, c.ut_offset.ensures, min.other_bound)
+      ];
+    })
+
+pub returns-clause-least : goal.returns-clause-least
+returns-clause-least c o of_type =
+    let so_far = c.loop-local_time_type.invariant in
+    let inside = slice_get_within c.args.local_time_types.now of_type.0 of_type.1 of_type.2 in
+    let before : of_type.0 < c.loop-local_time_type.local_time_type-index = omega (arith, inside, c.loop-local_time_type-test.false) in
+    omega (arith, ints, so_far.least of_type.0 of_type.1 before of_type.2, of_type.3)

@@ -1,36 +1,57 @@
 -- The types of the list and of the rule.
-use Rattle.std.proofs.Common.{◌≡◌, ◌∙◌, sym, subst, arith, Some}
-use Rattle.std.proofs.lemmas.Int.{ints}
-use Rattle.std.proofs.lemmas.Option.{same_Some}
-use Rattle.tz_rule.specs.Rule.{IsRuleType}
+use Rattle.std.proofs.Common.{◌∙◌, inl, inr, sym, subst, arith, rules}
+use Rattle.std.proofs.lemmas.Int.{ints, to_z-of_z}
+use Rattle.std.proofs.lemmas.Option.{same_Some, none-some}
+use mir.Syntax.{w32}
+use mir.Val.{SFits}
 use Rattle.tz_rule.specs.declared.timezone.rule.TransitionRule.{TransitionRule}
-use Rattle.tz_zone.specs.ZoneRef.{zone_of}
-use Rattle.tz.proofs.KindLemmas.{offsets_from_types, offsets_in_order}
+use Rattle.tz.specs.Windows.{IsOffsetOfRule}
 use Rattle.tz.proofs.datetime.search.offsets.Goals as goal
 
-pub returns-in-Some-clause-between : goal.returns-in-Some-clause-between
-returns-in-Some-clause-between c =
-    let z = zone_of c.args.zone in
-    let least = rw c.local_time_types.ensures at c.least_offset-least.ensures in
-    let greatest = rw c.local_time_types-2.ensures at c.greatest_offset-greatest.ensures in
-    let is : z.extra_rule ≡ Some c.in-Some.rule = sym c.extra_rule.ensures ∙ c.in-Some.is in
-    let rule = c.with_rule.ensures in
-    offsets_from_types z c.with_rule.result.0 c.with_rule.result.1
-    (λ i t at. (omega (arith, ints, least i t at, rule.least), omega (arith, ints, greatest i t at, rule.greatest)))
-    (λ r e u t at.
-    let same : r ≡ c.in-Some.rule = same_Some r c.in-Some.rule (sym e ∙ is) in
-    rule.between u t (subst (λ (x : TransitionRule). IsRuleType x u t) same at))
+pub returns-in-Some : goal.returns-in-Some
+returns-in-Some c =
+    let rule = c.in-Some.rule in
+    let least = c.least_offset-least in
+    let greatest = c.greatest_offset-greatest in
+    let fits_least : SFits w32 least.result = search rules in
+    let fits_greatest : SFits w32 greatest.result = search rules in
+    let both = rw (to_z-of_z w32 least.result fits_least, to_z-of_z w32 greatest.result fits_greatest) at c.with_rule.ensures in
+    record {
+      least = (
+        elim both.exact.0 [
+          | inl e ↦ inl (least.ensures.of_type.0, least.ensures.of_type.1, least.ensures.of_type.2, e ∙ least.ensures.of_type.3)
+          | inr of_rule ↦ inr (rule, c.in-Some.is, of_rule)
+        ],
+        λ o is. elim is [
+          | inl of_type ↦ omega (arith, ints, least.ensures.least o of_type, both.least)
+          | inr w ↦ (both.between o (subst (λ (r : TransitionRule). IsOffsetOfRule r o) (same_Some w.0 rule (sym w.1 ∙ c.in-Some.is)) w.2)).0
+        ],
+      );
+      greatest = (
+        elim both.exact.1 [
+          | inl e ↦ inl (greatest.ensures.of_type.0, greatest.ensures.of_type.1, greatest.ensures.of_type.2, e ∙ greatest.ensures.of_type.3)
+          | inr of_rule ↦ inr (rule, c.in-Some.is, of_rule)
+        ],
+        λ o is. elim is [
+          | inl of_type ↦ omega (arith, ints, greatest.ensures.greatest o of_type, both.greatest)
+          | inr w ↦ (both.between o (subst (λ (r : TransitionRule). IsOffsetOfRule r o) (same_Some w.0 rule (sym w.1 ∙ c.in-Some.is)) w.2)).1
+        ],
+      );
+    }
 
-pub returns-in-Some-clause-order : goal.returns-in-Some-clause-order
-returns-in-Some-clause-order c =
-    let z = zone_of c.args.zone in
-    let least = rw c.local_time_types.ensures at c.least_offset-least.ensures in
-    let greatest = rw c.local_time_types-2.ensures at c.greatest_offset-greatest.ensures in
-    omega (arith, ints, offsets_in_order z.types c.args.zone.sound.has_types c.least_offset-least.result c.greatest_offset-greatest.result least greatest, c.with_rule.ensures.least, c.with_rule.ensures.greatest)
-
-pub returns-in-None-clause-order : goal.returns-in-None-clause-order
-returns-in-None-clause-order c =
-    let z = zone_of c.args.zone in
-    let least = rw c.local_time_types.ensures at c.least_offset-least.ensures in
-    let greatest = rw c.local_time_types-2.ensures at c.greatest_offset-greatest.ensures in
-    omega (arith, ints, offsets_in_order z.types c.args.zone.sound.has_types c.least_offset-least.result c.greatest_offset-greatest.result least greatest)
+pub returns-in-None : goal.returns-in-None
+returns-in-None c =
+    let least = c.least_offset-least in
+    let greatest = c.greatest_offset-greatest in
+    let fits_least : SFits w32 least.result = search rules in
+    let fits_greatest : SFits w32 greatest.result = search rules in
+    rw (to_z-of_z w32 least.result fits_least, to_z-of_z w32 greatest.result fits_greatest) (record {
+      least = (
+        inl least.ensures.of_type,
+        λ o is. elim is [ inl of_type ↦ least.ensures.least o of_type | inr w ↦ absurd (none-some w.0 (sym c.in-None.is ∙ w.1)) ],
+      );
+      greatest = (
+        inl greatest.ensures.of_type,
+        λ o is. elim is [ inl of_type ↦ greatest.ensures.greatest o of_type | inr w ↦ absurd (none-some w.0 (sym c.in-None.is ∙ w.1)) ],
+      );
+    })

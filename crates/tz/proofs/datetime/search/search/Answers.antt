@@ -1,163 +1,181 @@
 -- From one transition to the next, and to the end of the window.
-use Rattle.std.proofs.Common.{◌≡◌, ◌≤◌, ◌++◌, [], inl, inr, sym, ap, subst, arith, rules, length, ℤ, Option}
+use Rattle.std.proofs.Common.{◌≡◌, ◌++◌, ◌∙◌, [], inl, inr, sym, ap, subst, arith, rules, length, ℤ, Some}
 use Rattle.std.proofs.lemmas.Int.{ints, to_z-of_z}
 use Rattle.std.proofs.lemmas.Result.{IfErr-weaker, err_from_is_err_and, on_ok_weaker}
 use mir.Syntax.{w64}
 use mir.Val.{SFits}
-use Rattle.tz_rule.specs.LocalTimeType.{LocalTimeType}
-use Rattle.tz_zone.specs.ZoneRef.{zone_of}
 use Rattle.tz_base.specs.declared.calendar.Fields.{Fields}
+use Rattle.tz_base.specs.declared.error.TzError.{TzError}
 use Rattle.tz_base.specs.Fields.{reading}
+use Rattle.tz_zone.specs.Table.{Zone}
 use Rattle.tz_zone.specs.Clock.{IsClock}
+use Rattle.tz_zone.specs.ZoneSeen.{zone_seen}
 use Rattle.tz.specs.Found.{IsFound}
 use Rattle.tz.specs.Walks.{IsSearchFault}
-use Rattle.tz.specs.Reached.{IsSteadyAfter, IsKindOf}
-use Rattle.tz.proofs.SearchLemmas.{due_between, on_the_way_from_start, on_the_way_past, fault_on_the_way, found_in_window, fault_in_window, over_from_seam, at_seam, found_from_window, few_found}
+use Rattle.tz.specs.Reached.{IsSteadyAfter, IsReachedAt}
+use Rattle.tz.specs.Windows.{AtMostTakeEffectIn}
+use Rattle.tz.proofs.SearchLemmas.{on_the_way_of, found_in_window, fault_in_window, at_seam, found_from_window, few_found}
+use Rattle.tz.proofs.WalkLemmas.{own_walk}
+use Rattle.tz.proofs.WindowLemmas.{clock_in_window, most_in_window}
 use Rattle.tz.proofs.datetime.search.search.Goals as goal
-use Rattle.tz.proofs.datetime.search.search.Goals.{then-come-transitions+in_default, else-come-transitions}
+use Rattle.tz.proofs.datetime.search.search.Goals.{then-reached-len+in_default, else-reached-len}
 
-pub loop-place-init : goal.loop-place-init
-loop-place-init g c =
-    let z = zone_of c.args.zone in
+-- the fault of the same fields
+fault_of : (takes_memory : Type 0) (z : Zone) (f f' : Fields) (e : TzError) → f ≡ f' → IsSearchFault takes_memory (IsClock z) (reading f) e → IsSearchFault takes_memory (IsClock z) (reading f') e
+fault_of takes_memory z f f' e same fault = subst (λ (x : Fields). IsSearchFault takes_memory (IsClock z) (reading x) e) same fault
+
+pub walk_transitions-requires : goal.walk_transitions-requires
+walk_transitions-requires g c =
+    let z = zone_seen (g.V.Transitions.list c.args.view.now) c.args.parts in
+    let sound = c.requires.sound in
+    let f = c.args.fields.now in
     let low = c.window-low.result.0 in
     let high = c.window-low.result.1 in
     let fits_low : SFits w64 low = search rules in
     let fits_high : SFits w64 high = search rules in
-    let fits_reading : SFits w64 c.reading.result = search rules in
-    let at_low = simp to_z-of_z at c.reached_at-reached.ensures.reached in
-    let new = c.new-walk.ensures in
-    let since : c.new-walk.result.since ≡ low = simp to_z-of_z at new.since in
-    let first = rw (to_z-of_z w64 low fits_low) at c.kind_after.ensures in
-    let kind = subst (λ (v : ℤ). IsKindOf z c.reached_at-reached.result v c.new-walk.result.kind) (sym since) (subst (λ (k : Option LocalTimeType). IsKindOf z c.reached_at-reached.result low k) (sym new.kind) first) in
-    let window = rw (to_z-of_z w64 c.reading.result fits_reading, c.reading.ensures.value) at c.window-low.ensures.offsets in
-    rw (to_z-of_z w64 high fits_high) (
-      [],
-      low,
-      g.met.L.DateTimeList.none c.args.list.now,
-      on_the_way_from_start z c.args.zone.sound low high c.args.fields.now c.reached_at-reached.result c.new-walk.result c.window-low.ensures.low.1 at_low new.walk new.before since kind c.window-low.ensures.order,
-      window,
-      c.window-low.ensures.width,
-      c.window-low.ensures.low,
-    )
+    let front = rw (to_z-of_z w64 low fits_low) at c.walk_from-walk.ensures in
+    let start = c.walk_from-walk.result.0 in
+    let fields_are : start.fields ≡ f = front.walk.fields_are in
+    rw (front.same, to_z-of_z w64 high fits_high) (record {
+      sound = sound;
+      since = rw front.since c.window-low.ensures.low;
+      high = c.window-low.ensures.high;
+      within = front.within;
+      reached = subst (λ (v : ℤ). IsReachedAt z v c.walk_from-walk.result.1) (sym front.since) front.reached;
+      way = on_the_way_of z low start.since high f start.fields c.walk_from-walk.result.1 start [] (sym front.since) (sym fields_are) (front.way high c.window-low.ensures.order);
+    })
 
-pub piece_at-requires-clause-due : goal.piece_at-requires-clause-due
-piece_at-requires-clause-due g c =
-    let z = zone_of c.args.zone in
+pub returns-in_err-reached-clause-err : goal.returns-in_err-reached-clause-err
+returns-in_err-reached-clause-err g c =
+    let z = zone_seen (g.V.Transitions.list c.args.view.now) c.args.parts in
+    let sound = c.requires.sound in
+    let f = c.args.fields.now in
     let low = c.window-low.result.0 in
     let high = c.window-low.result.1 in
     let fits_low : SFits w64 low = search rules in
     let fits_high : SFits w64 high = search rules in
-    let at_low = simp to_z-of_z at c.reached_at-reached.ensures.reached in
-    let at_high = simp to_z-of_z at c.reached_at-come.ensures.reached in
-    due_between z c.args.zone.sound low high c.reached_at-reached.result c.reached_at-come.result c.loop-place.place
-    c.window-low.ensures.low c.window-low.ensures.high at_low at_high (omega arith) (omega arith)
-
-pub loop-place-preserved : goal.loop-place-preserved
-loop-place-preserved g c =
-    let z = zone_of c.args.zone in
-    let high = c.window-low.result.1 in
-    let fits_high : SFits w64 high = search rules in
-    let at_high = simp to_z-of_z at c.reached_at-come.ensures.reached in
-    let way = simp to_z-of_z at c.loop-place.invariant in
-    let step = c.in_ok-step.ensures.ok in
-    rw (to_z-of_z w64 high fits_high) (
-      way.0 ++ step.0,
-      way.1,
-      g.met.L.DateTimeList.more c.args.list.now c.loop-place.list c.step.new.list way.0 step.0 way.2 step.1,
-      on_the_way_past z c.args.zone.sound way.1 high c.args.fields.now c.window-low.ensures.high.1 c.reached_at-come.result at_high c.loop-place.place c.loop-place.walk way.0 way.3 c.loop-place-test.true c.piece_at.result c.step.new.self step.0 c.piece_at.ensures step.2,
-      way.4,
-      way.5,
-      way.6,
-    )
-
-pub returns-in_err-step-clause-err : goal.returns-in_err-step-clause-err
-returns-in_err-step-clause-err g c =
-    let z = zone_of c.args.zone in
-    let high = c.window-low.result.1 in
-    let fits_high : SFits w64 high = search rules in
-    let at_high = simp to_z-of_z at c.reached_at-come.ensures.reached in
-    let way = simp to_z-of_z at c.loop-place.invariant in
+    let front = rw (to_z-of_z w64 low fits_low) at c.walk_from-walk.ensures in
+    let start = c.walk_from-walk.result.0 in
+    let fields_are : start.fields ≡ f = front.walk.fields_are in
     let p = err_from_is_err_and c.from_residual.result c.from_residual.ensures.1 in
-    rw (p.1, p.2) (fault_on_the_way z c.args.zone.sound way.1 high c.args.fields.now c.window-low.ensures.high.1 c.reached_at-come.result at_high c.loop-place.place c.loop-place.walk way.0 way.3 c.loop-place-test.true c.piece_at.result c.piece_at.ensures _ _ c.in_err-step.ensures.err)
+    let err = rw front.same at c.in_err-reached.ensures.err in
+    rw (p.1, p.2) (fault_of g.L.DateTimeList.takes_memory z start.fields f _ fields_are err)
 
-pub search_rule-requires-clause-over : goal.search_rule-requires-clause-over
-search_rule-requires-clause-over g c =
-    let z = zone_of c.args.zone in
-    let high = c.window-low.result.1 in
-    let fits_high : SFits w64 high = search rules in
-    let at_high = simp to_z-of_z at c.reached_at-come.ensures.reached in
-    let way = simp to_z-of_z at c.loop-place.invariant in
-    let size = ap length c.transitions.ensures in
-    over_from_seam z c.args.zone.sound way.1 high c.args.fields.now c.window-low.ensures.high.1 c.reached_at-come.result at_high c.loop-place.place c.loop-place.walk way.0 way.3 (omega (arith, size))
+pub search_rule-requires-clause-walk : goal.search_rule-requires-clause-walk
+search_rule-requires-clause-walk g c =
+    let past = c.in_ok-reached.ensures.ok in
+    own_walk c.walk_from-walk.result.0.fields c.walk_transitions.new.walk past.4.walked.walk
 
-pub returns-in-Some-clause-ok : goal.returns-in-Some-clause-ok
-returns-in-Some-clause-ok g c =
-    let z = zone_of c.args.zone in
+pub search_rule-requires-clause-since : goal.search_rule-requires-clause-since
+search_rule-requires-clause-since g c =
+    let z = zone_seen (g.V.Transitions.list c.args.view.now) c.args.parts in
+    let sound = c.requires.sound in
     let f = c.args.fields.now in
+    let low = c.window-low.result.0 in
     let high = c.window-low.result.1 in
+    let fits_low : SFits w64 low = search rules in
     let fits_high : SFits w64 high = search rules in
-    let at_high = simp to_z-of_z at c.reached_at-come.ensures.reached in
-    let way = simp to_z-of_z at c.loop-place.invariant in
-    let size = ap length c.transitions.ensures in
-    let at = at_seam z c.args.zone.sound way.1 high f c.window-low.ensures.high.1 c.reached_at-come.result at_high c.loop-place.place c.loop-place.walk way.0 way.3 (omega (arith, size)) way.4 in
-    let ok = simp to_z-of_z at c.search_rule.ensures.ok in
-    on_ok_weaker c.search_rule.result (λ rest.
-    let is = subst (λ (x : Fields). IsFound (IsClock z) x (way.0 ++ rest.0)) way.3.walked.walk.fields_are (rest.2 way.1 way.0 at) in (
-      way.0 ++ rest.0,
-      g.met.L.DateTimeList.more c.args.list.now c.loop-place.list c.search_rule.new.list way.0 rest.0 way.2 rest.1,
-      is,
-      few_found z way.1 high f (way.0 ++ rest.0) way.4 way.5 is,
-    )) ok
+    let front = rw (to_z-of_z w64 low fits_low) at c.walk_from-walk.ensures in
+    let start = c.walk_from-walk.result.0 in
+    let fields_are : start.fields ≡ f = front.walk.fields_are in
+    let fits_reading : SFits w64 c.reading.result = search rules in
+    let window = rw (to_z-of_z w64 c.reading.result fits_reading, c.reading.ensures.value) at c.window-low.ensures.window in
+    let seen = clock_in_window z (reading f) low high window in
+    let reach = c.window-low.ensures.high.1 in
+    let past = rw (front.same, to_z-of_z w64 high fits_high) at c.in_ok-reached.ensures in
+    let place = c.in_ok-reached.reached in
+    let walk = c.walk_transitions.new.walk in
+    let found = past.ok.0 in
+    let way = on_the_way_of z start.since low high start.fields f place walk found front.since fields_are past.ok.4 in
+    let size : c.len.result ≡ length z.transitions = c.len.ensures ∙ ap length past.same in
+    (omega (arith, ints, way.low_is, c.window-low.ensures.low), omega (arith, ints, way.high_is, reach))
 
-pub returns-in-Some-clause-err : goal.returns-in-Some-clause-err
-returns-in-Some-clause-err g c =
-    let z = zone_of c.args.zone in
-    let f = c.args.fields.now in
-    let high = c.window-low.result.1 in
-    let fits_high : SFits w64 high = search rules in
-    let at_high = simp to_z-of_z at c.reached_at-come.ensures.reached in
-    let way = simp to_z-of_z at c.loop-place.invariant in
-    let size = ap length c.transitions.ensures in
-    let at = at_seam z c.args.zone.sound way.1 high f c.window-low.ensures.high.1 c.reached_at-come.result at_high c.loop-place.place c.loop-place.walk way.0 way.3 (omega (arith, size)) way.4 in
-    let err = simp to_z-of_z at c.search_rule.ensures.err in
-    IfErr-weaker c.search_rule.result _ _
-    (λ e fault. subst (λ (x : Fields). IsSearchFault g.L.DateTimeList.takes_memory (IsClock z) (reading x) e) way.3.walked.walk.fields_are (fault way.1 way.0 at)) err
+pub step-requires : goal.step-requires
+step-requires g c =
+    let past = c.in_ok-reached.ensures.ok in
+    own_walk c.walk_from-walk.result.0.fields c.walk_transitions.new.walk past.4.walked.walk
 
-pub returns-clause-ok : goal.returns-clause-ok
-returns-clause-ok g c =
-    let z = zone_of c.args.zone in
+pub returns-in-Some : goal.returns-in-Some
+returns-in-Some g c =
+    let z = zone_seen (g.V.Transitions.list c.args.view.now) c.args.parts in
+    let sound = c.requires.sound in
     let f = c.args.fields.now in
+    let low = c.window-low.result.0 in
     let high = c.window-low.result.1 in
+    let fits_low : SFits w64 low = search rules in
     let fits_high : SFits w64 high = search rules in
-    let at_high = simp to_z-of_z at c.reached_at-come.ensures.reached in
-    let way = simp to_z-of_z at c.loop-place.invariant in
-    let size = ap length c.transitions.ensures in
-    let all : c.reached_at-come.result ≤ c.loop-place.place = omega arith in
-    let steady : IsSteadyAfter z c.reached_at-come.result = elim c.if-come-transitions.branch [
-      | then-come-transitions+in_default w ↦ inr w.in_default.ensures.none
-      | else-come-transitions w ↦ inl (omega (arith, size, c.reached_at-come.ensures.within, w.if-come-transitions.false))
+    let front = rw (to_z-of_z w64 low fits_low) at c.walk_from-walk.ensures in
+    let start = c.walk_from-walk.result.0 in
+    let fields_are : start.fields ≡ f = front.walk.fields_are in
+    let fits_reading : SFits w64 c.reading.result = search rules in
+    let window = rw (to_z-of_z w64 c.reading.result fits_reading, c.reading.ensures.value) at c.window-low.ensures.window in
+    let seen = clock_in_window z (reading f) low high window in
+    let reach = c.window-low.ensures.high.1 in
+    let past = rw (front.same, to_z-of_z w64 high fits_high) at c.in_ok-reached.ensures in
+    let place = c.in_ok-reached.reached in
+    let walk = c.walk_transitions.new.walk in
+    let found = past.ok.0 in
+    let way = on_the_way_of z start.since low high start.fields f place walk found front.since fields_are past.ok.4 in
+    let size : c.len.result ≡ length z.transitions = c.len.ensures ∙ ap length past.same in
+    let rule = c.in-Some.rule.now in
+    let is : z.extra_rule ≡ Some rule = cc c.in-Some.ensures.some.0 in
+    let at = at_seam z sound low high f reach place walk found way (omega (arith, size, c.if-reached-len.true)) rule is seen in
+    let rest = rw (to_z-of_z w64 high fits_high) at c.search_rule.ensures in
+    record {
+      ok = on_ok_weaker c.search_rule.result (λ more.
+          let all = subst (λ (x : Fields). IsFound (IsClock z) x (found ++ more.0)) way.walked.walk.fields_are (more.2 z low found at) in (
+            found ++ more.0,
+            g.met.L.DateTimeList.more c.args.list.now c.walk_transitions.new.list c.search_rule.new.list found more.0 past.ok.1 more.1,
+            all,
+            few_found z low high f (found ++ more.0) seen c.window-low.ensures.width all,
+          )) rest.ok;
+      err = IfErr-weaker c.search_rule.result _ _ (λ e fault. subst (λ (x : Fields). IsSearchFault g.L.DateTimeList.takes_memory (IsClock z) (reading x) e) way.walked.walk.fields_are (fault z low found at)) rest.err;
+      few = on_ok_weaker c.search_rule.result (λ rest b w bits around.
+          let most = subst (λ (v : ℤ). AtMostTakeEffectIn z v high w) (sym front.since) (most_in_window z (reading f) low high window w around) in
+          omega (arith, front.few b bits, past.few w most)) rest.ok;
+      some = on_ok_weaker c.search_rule.result (λ rest some. omega (arith, front.some some, past.kept)) rest.ok;
+      none = on_ok_weaker c.search_rule.result (λ rest empty. past.none empty ∙ front.none empty) rest.ok;
+    }
+
+pub returns : goal.returns
+returns g c =
+    let z = zone_seen (g.V.Transitions.list c.args.view.now) c.args.parts in
+    let sound = c.requires.sound in
+    let f = c.args.fields.now in
+    let low = c.window-low.result.0 in
+    let high = c.window-low.result.1 in
+    let fits_low : SFits w64 low = search rules in
+    let fits_high : SFits w64 high = search rules in
+    let front = rw (to_z-of_z w64 low fits_low) at c.walk_from-walk.ensures in
+    let start = c.walk_from-walk.result.0 in
+    let fields_are : start.fields ≡ f = front.walk.fields_are in
+    let fits_reading : SFits w64 c.reading.result = search rules in
+    let window = rw (to_z-of_z w64 c.reading.result fits_reading, c.reading.ensures.value) at c.window-low.ensures.window in
+    let seen = clock_in_window z (reading f) low high window in
+    let reach = c.window-low.ensures.high.1 in
+    let past = rw (front.same, to_z-of_z w64 high fits_high) at c.in_ok-reached.ensures in
+    let place = c.in_ok-reached.reached in
+    let walk = c.walk_transitions.new.walk in
+    let found = past.ok.0 in
+    let way = on_the_way_of z start.since low high start.fields f place walk found front.since fields_are past.ok.4 in
+    let size : c.len.result ≡ length z.transitions = c.len.ensures ∙ ap length past.same in
+    let steady : IsSteadyAfter z place = elim c.if-reached-len.branch [
+      | then-reached-len+in_default w ↦ inr w.in_default.ensures.none
+      | else-reached-len w ↦ inl (omega (arith, size, past.ok.2, w.if-reached-len.false))
     ] in
-    on_ok_weaker c.step-2.result (λ step.
-    let is = found_in_window z c.args.zone.sound way.1 high f c.window-low.ensures.high.1 c.reached_at-come.result at_high c.loop-place.place c.loop-place.walk way.0 way.3 steady all _ c.step-2.new.self step.0 step.2 (omega (arith, ints)) in
-    let found = found_from_window z c.args.zone.sound way.1 high f way.4 (way.0 ++ step.0) is in (
-      way.0 ++ step.0,
-      g.met.L.DateTimeList.more c.args.list.now c.loop-place.list c.step-2.new.list way.0 step.0 way.2 step.1,
-      found,
-      few_found z way.1 high f (way.0 ++ step.0) way.4 way.5 found,
-    )) c.step-2.ensures.ok
-
-pub returns-clause-err : goal.returns-clause-err
-returns-clause-err g c =
-    let z = zone_of c.args.zone in
-    let high = c.window-low.result.1 in
-    let fits_high : SFits w64 high = search rules in
-    let at_high = simp to_z-of_z at c.reached_at-come.ensures.reached in
-    let way = simp to_z-of_z at c.loop-place.invariant in
-    let size = ap length c.transitions.ensures in
-    let all : c.reached_at-come.result ≤ c.loop-place.place = omega arith in
-    let steady : IsSteadyAfter z c.reached_at-come.result = elim c.if-come-transitions.branch [
-      | then-come-transitions+in_default w ↦ inr w.in_default.ensures.none
-      | else-come-transitions w ↦ inl (omega (arith, size, c.reached_at-come.ensures.within, w.if-come-transitions.false))
-    ] in
-    IfErr-weaker c.step-2.result _ _ (λ e fault.
-    fault_in_window z c.args.zone.sound way.1 high c.args.fields.now c.window-low.ensures.high.1 c.reached_at-come.result at_high c.loop-place.place c.loop-place.walk way.0 way.3 steady all _ _ e fault (omega (arith, ints))) c.step-2.ensures.err
+    record {
+      ok = on_ok_weaker c.step.result (λ more.
+          let inside = found_in_window z sound low high f reach place walk found way place past.ok.3 steady (omega arith) _ c.step.new.self more.0 more.2 (omega (arith, ints)) in
+          let all = found_from_window z sound low high f seen (found ++ more.0) inside in (
+            found ++ more.0,
+            g.met.L.DateTimeList.more c.args.list.now c.walk_transitions.new.list c.step.new.list found more.0 past.ok.1 more.1,
+            all,
+            few_found z low high f (found ++ more.0) seen c.window-low.ensures.width all,
+          )) c.step.ensures.ok;
+      err = IfErr-weaker c.step.result _ _ (λ e fault. fault_in_window z sound low high f reach place walk found way place past.ok.3 steady (omega arith) _ _ e fault (omega (arith, ints))) c.step.ensures.err;
+      few = on_ok_weaker c.step.result (λ rest b w bits around.
+          let most = subst (λ (v : ℤ). AtMostTakeEffectIn z v high w) (sym front.since) (most_in_window z (reading f) low high window w around) in
+          omega (arith, front.few b bits, past.few w most)) c.step.ensures.ok;
+      some = on_ok_weaker c.step.result (λ rest some. omega (arith, front.some some, past.kept)) c.step.ensures.ok;
+      none = on_ok_weaker c.step.result (λ rest empty. past.none empty ∙ front.none empty) c.step.ensures.ok;
+    }

@@ -4,7 +4,6 @@ use Rattle.std.proofs.lemmas.Int.{ints, to_z-of_z}
 use Rattle.std.proofs.lemmas.Result.{IfErr-weaker, err_from_is_err_and, on_ok_weaker}
 use mir.Syntax.{w64}
 use mir.Val.{SFits}
-use Rattle.tz_zone.specs.ZoneRef.{zone_of}
 use Rattle.tz.proofs.RuleSearchLemmas.{past_change, fault_past_change, found_past_changes}
 use Rattle.tz.proofs.WalkLemmas.{walk_steps}
 use Rattle.tz.proofs.datetime.search.search_changes.Goals as goal
@@ -15,7 +14,7 @@ loop-from-init g c = (
   g.met.L.DateTimeList.none c.args.list.now,
   c.requires.walk,
   omega (arith, ints),
-  λ low seam f found past. rw (append-nil found) past,
+  λ z low seam f found ruled past. rw (append-nil found) past,
 )
 
 pub loop-from-preserved : goal.loop-from-preserved
@@ -29,9 +28,9 @@ loop-from-preserved g c =
       g.met.L.DateTimeList.more c.args.list.now c.loop-from.list c.step.new.list way.0 step.0 way.1 step.1,
       walk_steps c.args.walk.now.fields c.loop-from.walk _ c.step.new.self step.0 way.2 step.2,
       omega (arith, ints, way.3, next.later),
-      λ low seam f found past.
+      λ z low seam f found ruled past.
           rw (← append_assoc found way.0 step.0)
-          (past_change (zone_of c.args.zone) low seam c.args.start c.args.last f _ c.loop-from.walk (found ++ way.0) (way.4 low seam f found past) c.args.changes.now c.requires.changing way.3 c.clock_type.result c.clock_type.ensures c.step.new.self step.0 step.2
+          (past_change z low seam c.args.start c.args.last f _ c.loop-from.walk (found ++ way.0) (way.4 z low seam f found ruled past) c.args.rule.now ruled c.args.changes.now c.requires.changing way.3 c.rule_type.result c.rule_type.ensures c.step.new.self step.0 step.2
           c.next_change-from.result (omega (arith, ints, next.within)) (λ change of_changes after until. next.none change of_changes (omega (arith, ints, after)) until)),
     )
 
@@ -39,8 +38,8 @@ pub returns-in_err-step-clause-err : goal.returns-in_err-step-clause-err
 returns-in_err-step-clause-err g c =
     let p = err_from_is_err_and c.from_residual.result c.from_residual.ensures.1 in
     let way = rw (to_z-of_z w64 c.args.start c.ranges.start, to_z-of_z w64 c.args.last c.ranges.last) at c.loop-from.invariant in
-    rw (p.1, p.2) (λ low seam f found past.
-    fault_past_change (zone_of c.args.zone) low seam c.args.start c.args.last f _ c.loop-from.walk (found ++ way.0) (way.4 low seam f found past) _ _ _ c.in_err-step.ensures.err (omega (arith, ints)))
+    rw (p.1, p.2) (λ z low seam f found ruled past.
+    fault_past_change z low seam c.args.start c.args.last f _ c.loop-from.walk (found ++ way.0) (way.4 z low seam f found ruled past) _ _ _ c.in_err-step.ensures.err (omega (arith, ints)))
 
 pub returns-clause-ok : goal.returns-clause-ok
 returns-clause-ok g c =
@@ -48,14 +47,14 @@ returns-clause-ok g c =
     on_ok_weaker c.step-2.result (λ step. (
       way.0 ++ step.0,
       g.met.L.DateTimeList.more c.args.list.now c.loop-from.list c.step-2.new.list way.0 step.0 way.1 step.1,
-      λ low seam f found past.
+      λ z low seam f found ruled past.
           rw (← append_assoc found way.0 step.0)
-          (found_past_changes (zone_of c.args.zone) low seam c.args.start c.args.last f _ c.loop-from.walk (found ++ way.0) (way.4 low seam f found past) (omega (arith, ints, c.loop-from-test.false)) _ c.step-2.new.self step.0 step.2 (omega (arith, ints))),
+          (found_past_changes z low seam c.args.start c.args.last f _ c.loop-from.walk (found ++ way.0) (way.4 z low seam f found ruled past) (omega (arith, ints, c.loop-from-test.false)) _ c.step-2.new.self step.0 step.2 (omega (arith, ints))),
     ))
     c.step-2.ensures.ok
 
 pub returns-clause-err : goal.returns-clause-err
 returns-clause-err g c =
     let way = rw (to_z-of_z w64 c.args.start c.ranges.start, to_z-of_z w64 c.args.last c.ranges.last) at c.loop-from.invariant in
-    IfErr-weaker c.step-2.result _ _ (λ e fault low seam f found past.
-    fault_past_change (zone_of c.args.zone) low seam c.args.start c.args.last f _ c.loop-from.walk (found ++ way.0) (way.4 low seam f found past) _ _ e fault (omega (arith, ints, c.loop-from-test.false))) c.step-2.ensures.err
+    IfErr-weaker c.step-2.result _ _ (λ e fault z low seam f found ruled past.
+    fault_past_change z low seam c.args.start c.args.last f _ c.loop-from.walk (found ++ way.0) (way.4 z low seam f found ruled past) _ _ e fault (omega (arith, ints, c.loop-from-test.false))) c.step-2.ensures.err

@@ -1,0 +1,6 @@
+-- Rising lists are compared.
+use Rattle.tz.proofs.WindowLemmas.{as_many_as_listed}
+use Rattle.tz.proofs.laws.transitions_in_a_window_are_counted.Goals as goal
+
+pub returns : goal.returns
+returns c z low high places rise just w = as_many_as_listed z low high places rise just w
