@@ -1,0 +1,95 @@
+"""Query lines for the benchmarks, the same ones at each run."""
+import calendar
+import datetime
+import random
+import re
+import struct
+
+EPOCH = datetime.datetime(1970, 1, 1)
+
+
+def year_start(year):
+    return (datetime.date(year, 1, 1) - datetime.date(1970, 1, 1)).days * 86400
+
+
+def nanoseconds(rng):
+    """Nine digits, and one time in eight fewer."""
+    return rng.choice((0, 0, 7, 500000000)) if rng.randrange(8) == 0 else rng.randrange(10**9)
+
+
+def search_line(rng, reading):
+    shown = EPOCH + datetime.timedelta(seconds=reading)
+    return f'F {shown.year} {shown.month} {shown.day} {shown.hour} {shown.minute} {shown.second} {nanoseconds(rng)}'
+
+
+def random_instants(rng, count, first=1900, last=2100):
+    return [f'T {rng.randrange(year_start(first), year_start(last + 1))} {nanoseconds(rng)}' for _ in range(count)]
+
+
+def log_instants(rng, count, first=2015, last=2035):
+    """Instants of a log: nearly sorted."""
+    begin, end = year_start(first), year_start(last + 1)
+    step = (end - begin) / (count + 1)
+    return [f'T {min(max(int(begin + step * n + rng.gauss(0, 30)), begin), end - 1)} {nanoseconds(rng)}' for n in range(count)]
+
+
+def random_readings(rng, count, first=1950, last=2037):
+    return [search_line(rng, rng.randrange(year_start(first), year_start(last + 1))) for _ in range(count)]
+
+
+def readings_at_jumps(rng, count, jumps, first=1950, last=2037):
+    """Readings within three hours of a zone's jumps."""
+    near = [jump for jump in jumps if year_start(first) <= jump[0] < year_start(last + 1)]
+    lines = []
+    for _ in range(count):
+        instant, before, after = rng.choice(near)
+        lines.append(search_line(rng, instant + min(before, after) + rng.randrange(-10800, 10800 + abs(after - before))))
+    return lines
+
+
+def jumps_of_file(path):
+    """The instants of the second block's transitions, each with the offsets before and after it."""
+    with open(path, 'rb') as file:
+        data = file.read()
+    indicators_ut, indicators, leaps, times, types, names = struct.unpack('>6I', data[20:44])
+    start = 44 + times * 5 + types * 6 + names + leaps * 8 + indicators + indicators_ut
+    _, _, _, times, types, _ = struct.unpack('>6I', data[start + 20:start + 44])
+    at = start + 44
+    instants = struct.unpack(f'>{times}q', data[at:at + 8 * times])
+    indexes = data[at + 8 * times:at + 9 * times]
+    at += 9 * times
+    offsets = [struct.unpack('>i', data[at + 6 * n:at + 6 * n + 4])[0] for n in range(types)]
+    after = [offsets[index] for index in indexes]
+    return list(zip(instants, [offsets[0]] + after[:-1], after))
+
+
+def jumps_of_string(string, first, last):
+    """The jumps of a TZ string such as CET-1CEST,M3.5.0,M10.5.0/3, whose daylight saving time is an hour ahead."""
+    parts = re.fullmatch(r'[A-Z]+(-?\d+)[A-Z]+,M(\d+)\.(\d)\.(\d)(?:/(\d+))?,M(\d+)\.(\d)\.(\d)(?:/(\d+))?', string)
+    standard = -3600 * int(parts[1])
+
+    def day(year, month, week, week_day):
+        days = [n for n in range(1, calendar.monthrange(year, month)[1] + 1) if (calendar.weekday(year, month, n) + 1) % 7 == week_day]
+        return (datetime.date(year, month, days[min(week, len(days)) - 1]) - datetime.date(1970, 1, 1)).days * 86400
+
+    jumps = []
+    for year in range(first, last + 1):
+        jumps.append((day(year, *map(int, parts.group(2, 3, 4))) + 3600 * int(parts[5] or 2) - standard, standard, standard + 3600))
+        jumps.append((day(year, *map(int, parts.group(6, 7, 8))) + 3600 * int(parts[9] or 2) - standard - 3600, standard + 3600, standard))
+    return sorted(jumps)
+
+
+def file_of_many_transitions(path, count=100000):
+    """A TZif file with a jump of half an hour every 3000 seconds from 2016 on."""
+    def header(transitions, types, names):
+        return b'TZif2' + bytes(15) + struct.pack('>6I', 0, 0, 0, transitions, types, names)
+
+    times = [year_start(2016) + 3000 * n for n in range(count)]
+    with open(path, 'wb') as file:
+        file.write(header(0, 1, 4) + struct.pack('>iBB', 0, 0, 0) + b'UTC\0')
+        file.write(header(count, 2, 8) + struct.pack(f'>{count}q', *times) + bytes((n + 1) % 2 for n in range(count)))
+        file.write(struct.pack('>iBB', 3600, 0, 0) + struct.pack('>iBB', 5400, 1, 4) + b'ONE\0TWO\0' + b'\nONE-1\n')
+
+
+def generator(seed):
+    return random.Random(seed)

@@ -1,0 +1,95 @@
+//! From what clocks show to instants.
+
+use std::alloc::Global;
+use std::time::Duration;
+use tz::datetime::FoundDateTimeKind;
+use tz::{DateTime, TimeZoneRef, TzError, UtcDateTime};
+
+/// When an alarm rings that is set to a local time: at the first instant at which clocks show it, or, where they are set forward over
+/// it, right after that. In a year, there is one such instant for nearly all local times; none, where the zone has no clock then.
+pub fn alarm(
+    alloc: Global,
+    zone: TimeZoneRef<'_>,
+    local: UtcDateTime,
+) -> Result<Option<DateTime>, TzError> {
+    let found = DateTime::find(
+        alloc,
+        local.year(),
+        local.month(),
+        local.month_day(),
+        local.hour(),
+        local.minute(),
+        local.second(),
+        local.nanoseconds(),
+        zone,
+    )?;
+    Ok(match found.into_inner().as_slice() {
+        [] => None,
+        [FoundDateTimeKind::Normal(date_time), ..] => Some(*date_time),
+        [
+            FoundDateTimeKind::Skipped {
+                after_transition,
+                ..
+            },
+            ..
+        ] => Some(*after_transition),
+    })
+}
+
+/// How many instants and jumps a local time has, found without memory: 1 nearly always, 2 where clocks show it twice.
+pub fn count_meanings(zone: TimeZoneRef<'_>, local: UtcDateTime) -> Result<usize, TzError> {
+    let mut slots = [None; 2];
+    let found = DateTime::find_n(
+        &mut slots,
+        local.year(),
+        local.month(),
+        local.month_day(),
+        local.hour(),
+        local.minute(),
+        local.second(),
+        local.nanoseconds(),
+        zone,
+    )?;
+    Ok(found.count())
+}
+
+/// A meeting at one local time each week. Weeks are added to the local time, not to the first instant: an hour may be lost or
+/// gained between.
+pub fn weekly_meetings(
+    alloc: Global,
+    zone: TimeZoneRef<'_>,
+    first: UtcDateTime,
+    weeks: u32,
+) -> Result<Vec<DateTime>, TzError> {
+    let mut meetings = Vec::new(alloc);
+    for week in 0..weeks {
+        let after_first = Duration::from_secs(604_800 * u64::from(week));
+        let local = first.checked_add(after_first).ok_or(TzError::OutOfRange)?;
+        if let Some(meeting) = alarm(alloc, zone, local)? {
+            meetings.push(meeting)?;
+        }
+    }
+    Ok(meetings)
+}
+
+/// The next Monday at 9:00 in a zone.
+pub fn next_monday_at_nine(
+    alloc: Global,
+    zone: TimeZoneRef<'_>,
+    now: i64,
+) -> Result<Option<DateTime>, TzError> {
+    let today = DateTime::from_timespec(now, 0, zone)?;
+    let nine = UtcDateTime::new(today.year(), today.month(), today.month_day(), 9, 0, 0, 0)?;
+    for days in 0..8u64 {
+        let local = nine
+            .checked_add(Duration::from_secs(86_400 * days))
+            .ok_or(TzError::OutOfRange)?;
+        if local.week_day() == 1 {
+            match alarm(alloc, zone, local)? {
+                Some(monday) if now < monday.unix_time() => return Ok(Some(monday)),
+                _ => {}
+            }
+        }
+    }
+    Ok(None)
+}

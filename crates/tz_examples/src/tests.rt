@@ -1,0 +1,95 @@
+//! One test for each example.
+
+use crate::clocks::{print_instant, show_now};
+use crate::meetings::{alarm, count_meanings, next_monday_at_nine, weekly_meetings};
+use crate::zones::{local_time, local_zone, moved_ahead_in_2000, zone_of_setting};
+use std::test::Fail;
+use tz::{Error, UtcDateTime};
+
+/// The clocks of central Europe.
+const CENTRAL_EUROPE: &str = "CET-1CEST,M3.5.0,M10.5.0/3";
+
+/// Israel from 2038 on, as a file of version 3.
+const JERUSALEM: &[u8] = b"TZif3\
+    \0\0\0\0\0\0\0\0\0\0\0\0\0\0\0\
+    \0\0\0\0\0\0\0\0\0\0\0\0\0\0\0\0\0\0\0\x01\0\0\0\x04\
+    \0\0\x1c\x20\0\0IST\0\
+    TZif3\
+    \0\0\0\0\0\0\0\0\0\0\0\0\0\0\0\
+    \0\0\0\x01\0\0\0\x01\0\0\0\0\0\0\0\x01\0\0\0\x01\0\0\0\x04\
+    \0\0\0\0\x7f\xe8\x17\x80\0\0\0\x1c\x20\0\0IST\0\x01\x01\
+    \nIST-2IDT,M3.4.4/26,M10.5.0\n";
+
+#[test]
+fn instants_are_shown(rt: HostRuntime) -> Result<(), Fail> {
+    let alloc = rt.alloc();
+    let zone = zone_of_setting(&rt, alloc, CENTRAL_EUROPE)?;
+    let text = print_instant(alloc, zone.as_ref(), 954_032_400)?;
+    assert_eq!(rt; text.as_str(), "2000-03-26T03:00:00.000000000+02:00 CEST");
+    let local = format!(in alloc; "{}", local_time(alloc, JERUSALEM, 2_216_073_600)?)?;
+    assert_eq!(rt; local.as_str(), "2040-03-23T03:00:00.000000000+03:00");
+    for (unix_time, shown) in [
+        (946_684_799, "2000-01-01T00:59:59.000000000+01:00"),
+        (946_684_800, "2000-01-01T02:00:00.000000000+02:00"),
+    ] {
+        let text = format!(in alloc; "{}", moved_ahead_in_2000(unix_time)?)?;
+        assert_eq!(rt; text.as_str(), shown);
+    }
+    assert!(rt; show_now(&rt, zone.as_ref())?.unix_time() > 1_700_000_000);
+    Ok(())
+}
+
+#[test]
+fn the_machine_s_zone_is_found_or_its_file_is_missing(rt: HostRuntime) {
+    let found = local_zone(&rt, rt.alloc());
+    assert!(rt; matches!(&found, Ok(_) | Err(Error::Io(_))));
+}
+
+#[test]
+fn alarms_ring_in_gaps_and_folds(rt: HostRuntime) -> Result<(), Fail> {
+    let alloc = rt.alloc();
+    let zone = zone_of_setting(&rt, alloc, CENTRAL_EUROPE)?;
+    for (local, instant, meanings) in [
+        // Clocks go forward from 2:00 to 3:00.
+        (
+            UtcDateTime::new(2000, 3, 26, 2, 30, 0, 0)?,
+            954_032_400,
+            1usize,
+        ),
+        // Clocks go back from 3:00 to 2:00.
+        (UtcDateTime::new(2000, 10, 29, 2, 30, 0, 0)?, 972_779_400, 2),
+        (UtcDateTime::new(2000, 7, 1, 0, 0, 0, 0)?, 962_402_400, 1),
+    ] {
+        let rings = alarm(alloc, zone.as_ref(), local)?;
+        assert_eq!(rt; rings.map(|alarm| alarm.unix_time()), Some(instant));
+        assert_eq!(rt; count_meanings(zone.as_ref(), local)?, meanings);
+    }
+    Ok(())
+}
+
+#[test]
+fn meetings_keep_their_local_time(rt: HostRuntime) -> Result<(), Fail> {
+    let alloc = rt.alloc();
+    let zone = zone_of_setting(&rt, alloc, CENTRAL_EUROPE)?;
+    let first = UtcDateTime::new(2000, 3, 19, 9, 0, 0, 0)?;
+    let meetings = weekly_meetings(alloc, zone.as_ref(), first, 3)?;
+    let shown = [
+        "2000-03-19T09:00:00.000000000+01:00",
+        "2000-03-26T09:00:00.000000000+02:00",
+        "2000-04-02T09:00:00.000000000+02:00",
+    ];
+    assert_eq!(rt; meetings.len(), shown.len());
+    for (meeting, shown) in meetings.iter().zip(shown) {
+        assert_eq!(rt; format!(in alloc; "{meeting}")?.as_str(), shown);
+    }
+    for (now, monday) in [
+        // A Sunday; Monday at 9:00 itself; one second before it.
+        (954_032_400, 954_140_400),
+        (954_140_400, 954_745_200),
+        (954_140_399, 954_140_400),
+    ] {
+        let next = next_monday_at_nine(alloc, zone.as_ref(), now)?;
+        assert_eq!(rt; next.map(|next| next.unix_time()), Some(monday));
+    }
+    Ok(())
+}

@@ -1,0 +1,34 @@
+//! Zones from files, from TZ strings, from the machine's settings and from parts.
+
+use std::alloc::Global;
+use std::fs::Files;
+use tz::timezone::{self, LocalTimeType, Transition, TransitionRule};
+use tz::{DateTime, Error, TimeZone, TimeZoneRef, TzError};
+
+/// The zone that the machine is set to, as `/etc/localtime` tells.
+pub fn local_zone<R: Files>(rt: &R, alloc: Global) -> Result<TimeZone, Error> {
+    TimeZone::local(alloc, |path: &str| timezone::read_file(rt, alloc, path))
+}
+
+/// The zone of a name such as `Europe/Paris`, or of a TZ string such as `CET-1CEST,M3.5.0,M10.5.0/3`.
+pub fn zone_of_setting<R: Files>(rt: &R, alloc: Global, setting: &str) -> Result<TimeZone, Error> {
+    let reader = |path: &str| timezone::read_file(rt, alloc, path);
+    TimeZone::from_posix_tz(alloc, reader, setting)
+}
+
+/// What clocks show at a Unix time in the zone of a TZif file whose bytes are at hand.
+pub fn local_time(alloc: Global, file: &[u8], unix_time: i64) -> Result<DateTime, TzError> {
+    let zone = TimeZone::from_tz_data(alloc, file)?;
+    DateTime::from_timespec(unix_time, 0, zone.as_ref())
+}
+
+/// What clocks showed in a zone that is made of its parts, without memory: an hour ahead of UTC until the year 2000, and two from then on.
+pub fn moved_ahead_in_2000(unix_time: i64) -> Result<DateTime, TzError> {
+    let before = LocalTimeType::new(3600, false, Some(b"EARLY"))?;
+    let after = LocalTimeType::new(7200, false, Some(b"LATE"))?;
+    let types = [before, after];
+    let transitions = [Transition::new(946_684_800, 1)];
+    let rule = Some(TransitionRule::Fixed(after));
+    let zone = TimeZoneRef::new(&transitions, &types, &[], &rule)?;
+    DateTime::from_timespec(unix_time, 0, zone)
+}
