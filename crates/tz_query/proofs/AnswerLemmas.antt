@@ -109,7 +109,7 @@ entries_more found i d within =
     ∙ ap ended (map-append entry_text (take i found) (get_or found i d ∷ []))
     ∙ ended_push (map entry_text (take i found)) (entry_text (get_or found i d))
 
--- a search is refused for the fields' fault, out of range, or for want of memory
+-- a search is refused for the fields' fault, out of range, or for an allocation failure
 pub told_field_fault : (clock : Clock) (f : Fields) (fault : DateTimeError) → IsFindFault ⊤ clock f (DateTime fault) → IsFindFault ⊥ clock f (DateTime fault)
 told_field_fault clock f fault (inl first) = inl first
 told_field_fault clock f fault (inr (valid, inl (is, takes))) = absurd cc

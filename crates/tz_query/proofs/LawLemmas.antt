@@ -288,7 +288,7 @@ first_fault_unique f InvalidNanoseconds InvalidMinute is is' = absurd (omega (ar
 first_fault_unique f InvalidNanoseconds InvalidSecond is is' = absurd (omega (arith, is'.4, is.4))
 first_fault_unique f InvalidNanoseconds InvalidNanoseconds is is' = refl
 
--- why a search is refused, want of memory aside, is one reason where it is not both
+-- why a search is refused, an allocation failure aside, is one reason where it is not both
 search_fault_unique : (z : Zone) (f : Fields) (e e' : TzError) → IsFindFault ⊥ (IsClock z) f e → IsFindFault ⊥ (IsClock z) f e' → e ≡ e'
 search_fault_unique z f e e' (inl (a, is, first)) (inl (b, is', first')) = is ∙ ap (λ x. FieldFault x) (first_fault_unique f a b first first') ∙ sym is'
 search_fault_unique z f e e' (inl (a, is, first)) (inr (valid, fault)) = absurd (valid_without_fault f valid a first)

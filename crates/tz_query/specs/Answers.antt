@@ -61,7 +61,7 @@ entry_text (Skipped before after) = codes "S " ++ (moment_text before ++ space �
 abbrev pub found_lines : List FoundDateTimeKind → List (List ℕ)
 found_lines found = (codes "F " ++ decimal (length found)) ∷ map entry_text found
 
--- the answer lines of fields: all that a search finds of the zone's clock, or why it is refused, which want of memory does not answer
+-- the answer lines of fields: all that a search finds of the zone's clock, or why it is refused, which an allocation failure does not answer
 abbrev pub IsSearchAnswer : Zone → Fields → List (List ℕ) → Type 0
 IsSearchAnswer z f answer =
     ((found : List FoundDateTimeKind) × IsValid f × IsFound (IsClock z) f found × (answer ≡ found_lines found))

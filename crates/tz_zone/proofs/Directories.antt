@@ -18,7 +18,7 @@ first_of_rest : (directories : List (Bor (List ℕ))) (i : ℕ) (d : Bor (List �
 first_of_rest directories i d within =
     ap texts_of (drop-cons directories i d within) ∙ ap (λ n. (get_or directories i d).now ∷ texts_of (drop n directories)) (sym (add-one i))
 
--- bytes or want of memory in the directory at a place, and a failure there
+-- bytes or an allocation failure in the directory at a place, and a failure there
 pub found_here : (reads : List ℕ → Read → Type 0) (directories : List (Bor (List ℕ))) (i : ℕ) (d : Bor (List ℕ)) (name path : List ℕ) (bytes : Vec ℕ Global) → i < length directories
     → path ≡ path_in (get_or directories i d).now name → reads path (Ok bytes) → FindsIn reads (texts_of (drop i directories)) name (Ok bytes)
 found_here reads directories i d name path bytes within at read =

@@ -1,4 +1,4 @@
--- LeapSecond seconds as two functions of their places: when each is reached, which correction holds, and where a leap time takes effect.
+-- Leap seconds as two functions of their places: when each is reached, which correction holds, and where a leap time takes effect.
 use Rattle.std.proofs.Common.{◌≡◌, ℕ, zero, suc, ◌+◌, ◌-◌, ◌*◌, ◌<◌, ◌≤◌, ◌⊎◌, inl, inr, ap, arith, ℤ, pos, negsuc, neg_ℤ, ◌+ℤ◌, ◌-ℤ◌, ◌≤ℤ◌, ◌<ℤ◌}
 use Rattle.std.proofs.lemmas.Int.{ints, by_lt_z}
 use Rattle.std.proofs.lemmas.Bool.{cases_lt}

@@ -10,7 +10,7 @@ use Rattle.tz_base.specs.declared.error.TzError.TheVariants.{Memory as NoMemory}
 use Rattle.tz_zone.specs.Table.{Zone}
 use Rattle.tz_zone.specs.Settings.{Read, Answer, Opens, IsFileAnswer}
 
--- an answer of this kind, or want of memory
+-- an answer of this kind, or an allocation failure
 abbrev pub Answers : {T : Type 0} → (T → Zone) → Result T Error → (Answer → Type 0) → Type 0
 Answers view r P = MatchResult r (λ zone. P (Ok (view zone))) (λ e. (e ≡ Tz (NoMemory alloc_error)) ⊎ P (Err e))
 
@@ -22,7 +22,7 @@ without_memory : {T : Type 0} (view : T → Zone) (r : Result T Error) (Q : Answ
 without_memory view (Ok zone) Q h = let clash : Ok (view zone) ≡ Err (Tz (NoMemory alloc_error)) = h in cc
 without_memory view (Err e) Q h = elim h [ inl memory ↦ inl memory | inr p ↦ (let refused : Answer = Err e in let same : refused ≡ Err (Tz (NoMemory alloc_error)) = p in inl cc) ]
 
--- what was found is opened, where want of memory may stand for it
+-- what was found is opened, where an allocation failure may stand for it
 pub opened : {T : Type 0} (view : T → Zone) (found : Read) (r : Result T Error) (Found : Read → Type 0) (Q : Answer → Type 0) → (found ≡ Err (Memory alloc_error)) ⊎ Found found
     → Answers view r (Opens found) → ((answer : Answer) → Found found → Opens found answer → Q answer) → Answers view r Q
 opened view found r Found Q was h wider = elim was [

@@ -1,4 +1,4 @@
--- LeapSecond time: Unix time with the leap seconds counted in. (RFC 8536, sections 2 and 3.2: leap-second records; refusal as in tz-rs.)
+-- Leap time: Unix time with the leap seconds counted in. (RFC 8536, sections 2 and 3.2: leap-second records; refusal as in tz-rs.)
 use Rattle.std.specs.Prelude.{◌≡◌, ◌≢◌, ℕ, zero, suc, ◌<◌, ◌⊎◌, ℤ, pos, negsuc, ◌+ℤ◌, ◌≤ℤ◌, List, Option, Some, None, slice_get, FitsSigned}
 use Rattle.std.specs.Int.{w64}
 use Rattle.tz_zone.specs.Table.{LeapSecond}

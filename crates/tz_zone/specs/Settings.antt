@@ -41,7 +41,7 @@ local_time_file = codes "/etc/localtime"
 abbrev pub path_in : List ℕ → List ℕ → List ℕ
 path_in directory name = directory ++ slash ∷ name
 
--- what can be found in the directories in turn: bytes and want of memory end the search, a failure goes on
+-- what can be found in the directories in turn: bytes and an allocation failure end the search, a failure goes on
 abbrev pub FindsIn : (List ℕ → Read → Type 0) → List (List ℕ) → List ℕ → Read → Type 0
 FindsIn reads [] name found = (fault : Fault) × (found ≡ Err (Failed fault))
 FindsIn reads (directory ∷ directories) name found =
@@ -53,12 +53,12 @@ FindsIn reads (directory ∷ directories) name found =
 abbrev pub Finds : (List ℕ → Read → Type 0) → List (List ℕ) → List ℕ → Read → Type 0
 Finds reads directories name found = (Begins slash name × reads name found) ⊎ (¬ Begins slash name × FindsIn reads directories name found)
 
--- the answer of the TZif reader for bytes: the zone of a file, or a fault of bytes that are none; want of memory is left to the calls
+-- the answer of the TZif reader for bytes: the zone of a file, or a fault of bytes that are none; an allocation failure is left to the calls
 abbrev pub IsFileAnswer : List ℕ → Answer → Type 0
 IsFileAnswer bytes (Ok zone) = IsTzFile bytes zone
 IsFileAnswer bytes (Err e) = ((zone : Zone) → ¬ IsTzFile bytes zone) × (f : TzError) × (e ≡ Tz f) × FileFails bytes f
 
--- what was found is opened, and a fault is handed on
+-- what was found is opened, and a fault is passed on
 abbrev pub Opens : Read → Answer → Type 0
 Opens (Ok bytes) answer = IsFileAnswer (vec_items bytes) answer
 Opens (Err (Memory _)) answer = answer ≡ Err (Tz (NoMemory alloc_error))

@@ -276,7 +276,7 @@ impl DateTime {
         DateTime::from_timespec(self.unix_time, self.fields.nanoseconds, time_zone_ref)
     }
 
-    /// What the zone's clock shows at a moment, which the caller hands in as Unix seconds and nanoseconds below a second.
+    /// What the zone's clock shows at a moment, which the caller passes as Unix seconds and nanoseconds below a second.
     pub fn now(
         unix_time: i64,
         nanoseconds: u32,

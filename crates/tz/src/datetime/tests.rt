@@ -97,7 +97,7 @@ fn utc_parts_of_total(total: i128) -> Option<Parts> {
     Some(parts_of_utc(UtcDateTime::from_total_nanoseconds(total).ok()?))
 }
 
-/// The parts of the UTC date time of a moment that is handed in as now.
+/// The parts of the UTC date time of a moment that is passed in as now.
 fn utc_parts_now(unix_time: i64, nanoseconds: u32) -> Option<Parts> {
     Some(parts_of_utc(UtcDateTime::now(unix_time, nanoseconds).ok()?))
 }

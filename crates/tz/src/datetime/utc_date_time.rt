@@ -206,7 +206,7 @@ impl UtcDateTime {
         })
     }
 
-    /// The date time of a moment, which the caller hands in as Unix seconds and nanoseconds below a second.
+    /// The date time of a moment, which the caller passes as Unix seconds and nanoseconds below a second.
     pub fn now(unix_time: i64, nanoseconds: u32) -> Result<Self, TzError>
         ensures ok { IfOk result (IsCivil unix_time nanoseconds) }
         ensures err { IfErr result (IsShowFault unix_time nanoseconds) }

@@ -1,9 +1,7 @@
 //! The answers of query lines.
 
-ghost use Rattle.std.specs.Prelude.{◌≡◌, ◌+◌, ◌<◌, ◌≤◌, ℕ, List, [], ◌∷◌, ◌++◌, length, take, map, codes, IfOk, IfErr, FitsSigned, alloc_error};
+ghost use Rattle.std.specs.Prelude.{◌≡◌, ◌+◌, ◌<◌, ◌≤◌, ℕ, List, [], ◌∷◌, ◌++◌, length, take, map, codes, IfOk, IfErr, alloc_error};
 ghost use Rattle.std.specs.Fmt.{decimal};
-ghost use Rattle.std.specs.Int.{w32};
-ghost use Rattle.tz_base.specs.Fields.{IsValid};
 ghost use Rattle.tz_zone.specs.Segments.{IsSegmentOf, numbered_types};
 ghost use Rattle.tz_zone.specs.ZoneRef.{zone_of};
 ghost use Rattle.tz_query.specs.Tails.{types_of};
@@ -14,7 +12,7 @@ ghost use Rattle.tz_query.specs.Numbers.{space};
 use crate::query::fast::tail::Tail;
 use crate::query::fast::tails::tails_of;
 use crate::query::fast::time_lines::answer_time_line;
-use crate::query::lines::{after_line, read_search_line, read_time_line, read_meeting_line};
+use crate::query::lines::{after_line, read_meeting_line, read_search_line, read_time_line};
 use crate::query::meetings::answer_meeting;
 use std::alloc::{AllocError, Allocator};
 use tz::datetime::{DateTime, FoundDateTimeKind};

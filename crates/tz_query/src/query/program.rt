@@ -1,4 +1,4 @@
-//! The program over words, a reader of files, an input and outputs that are handed in.
+//! The program over words, a reader of files, an input and outputs that are passed in.
 
 ghost use Rattle.std.specs.Prelude.{◌≡◌, ◌≤◌, ℕ, ℤ, List, IfSome, IfNone, IfOk, OnOk, FitsSigned};
 ghost use Rattle.std.specs.Fn.{FnReturnsAt};

@@ -65,8 +65,8 @@ fn open<R: Files>(rt: &R, path: &str) -> Result<R::File, ReadFault>
 
 /// The bytes of the file at the path, read to its end.
 ///
-/// A file that cannot be opened or read, such as a directory, is `Failed`; want of memory for its bytes is `Memory`. With the runtime
-/// handed in by a closure, this is a reader for [`TimeZoneSettings`](super::TimeZoneSettings).
+/// A file that cannot be opened or read, such as a directory, is `Failed`; an allocation failure for its bytes is `Memory`. With the runtime
+/// passed in by a closure, this is a reader for [`TimeZoneSettings`](super::TimeZoneSettings).
 pub fn read_file<R: Files>(rt: &R, alloc: Global, path: &str) -> Result<Vec<u8>, ReadFault>
     ensures { IfOk result (λ bytes. IsReadOut R.File.remaining bytes.items) }
 {

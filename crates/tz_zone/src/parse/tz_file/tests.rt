@@ -114,7 +114,7 @@ fn leap_seconds_are_read(rt: HostRuntime) -> Result<(), Fail> {
     Ok(())
 }
 
-/// Each growth is refused in turn: the answer is want of memory, until none is refused and it is the zone. The bytes stay as they are.
+/// Each growth is refused in turn: the answer is an allocation failure, until none is refused and it is the zone. The bytes stay as they are.
 fn expect_memory(rt: &impl Abort, alloc: Global, bytes: &[u8]) -> Result<(), Fail> {
     let lent = Vec::from_slice(alloc, bytes)?;
     let ample = TimeZone::from_tz_data(alloc, bytes)?;

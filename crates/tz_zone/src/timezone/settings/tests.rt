@@ -438,7 +438,7 @@ impl Call {
     }
 }
 
-/// Each growth is refused in turn: the answer is want of memory or the zone, and the zone once none is refused.
+/// Each growth is refused in turn: the answer is an allocation failure or the zone, and the zone once none is refused.
 fn expect_zone(rt: &impl Abort, alloc: Global, call: Call) -> Result<(), Fail> {
     let ample = call.answer(alloc, alloc)?;
     let mut refusals = 0u64;
@@ -458,7 +458,7 @@ fn expect_zone(rt: &impl Abort, alloc: Global, call: Call) -> Result<(), Fail> {
     Ok(())
 }
 
-/// Each growth is refused in turn: the answer is want of memory or the fault, and the fault once none is refused.
+/// Each growth is refused in turn: the answer is an allocation failure or the fault, and the fault once none is refused.
 fn expect_refusal(rt: &impl Abort, alloc: Global, call: Call, fault: &Fault) {
     let mut refusals = 0u64;
     for left in 0..20u64 {

@@ -35,7 +35,7 @@ fn two_transitions<A: Allocator + Copy>(alloc: A) -> Result<TimeZone<A>, TzError
     TimeZone::new(transitions, local_time_types, leap_seconds, extra_rule)
 }
 
-/// Whether a call was refused for want of memory.
+/// Whether a call was refused for an allocation failure.
 fn is_memory<T>(answer: &Result<T, TzError>) -> bool {
     matches!(answer, Err(TzError::Memory(AllocError)))
 }
