@@ -10,3 +10,4 @@ pub mod PairLemmas
 pub mod PrintedLemmas
 pub mod ComparisonsByParts
 pub mod FieldOrder
+pub mod FoundOnce

@@ -5,3 +5,4 @@ pub mod LawLemmas
 pub mod FoundLemmas
 pub mod FastNumbers
 pub mod PageLemmas
+pub mod SearchLineLemmas

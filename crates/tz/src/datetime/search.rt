@@ -134,7 +134,7 @@ fn with_rule(rule: &TransitionRule, least: i32, greatest: i32) -> (i32, i32)
 }
 
 /// Two offsets between which those of all types lie that the clock has.
-fn offsets(zone: TimeZoneRef<'_>) -> (i32, i32)
+pub(crate) fn offsets(zone: TimeZoneRef<'_>) -> (i32, i32)
     ensures order { result.0 ≤ℤ result.1 }
     ensures between { AreOffsetsOf (zone_of zone.entry) result.0 result.1 }
 {

@@ -167,7 +167,7 @@ fn read_to_end<A: Allocator, R: Read>(alloc: A, input: &mut R) -> Result<Vec<u8,
     ensures { IfOk result (λ bytes. Consumes (R.remaining input.old) (R.remaining input.new) bytes.items × IsAtEnd (R.remaining input.new)) }
 {
     let mut bytes = Vec::new(alloc);
-    let mut buffer = [0; 16_384];
+    let mut buffer = [0; 2_000];
     for _ in 0..u64::MAX {
         let Ok(count) = input.read(&mut buffer) else {
             return Err(Fault::Read);
