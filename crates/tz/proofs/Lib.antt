@@ -13,3 +13,4 @@ pub mod PrintedLemmas
 pub mod ComparisonsByParts
 pub mod FieldOrder
 pub mod TotalLemmas
+pub mod FoundOnce

@@ -12,7 +12,7 @@ use Rattle.tz_rule.specs.Rule.{IsRuleType}
 use Rattle.tz_rule.specs.declared.timezone.rule.TransitionRule.{TransitionRule}
 use Rattle.tz_rule.specs.declared.timezone.rule.TransitionRule.TheVariants.{Fixed, Alternate}
 use Rattle.tz_zone.specs.Table.{Zone}
-use Rattle.tz.specs.Reached.{IsWindowOf}
+use Rattle.tz.specs.Reached.{AreOffsetsOf, IsWindowOf}
 use Rattle.tz.specs.Windows.{IsOffsetOfRule, IsOffset, IsLeastOffset, IsGreatestOffset, IsWindow, TakesEffectIn, AreRising, AtMostTakeEffectIn, AtMostTakeEffectAround}
 use Rattle.tz.proofs.KindLemmas.{fixed_type, alternate_type, offsets_from_types}
 
@@ -33,14 +33,17 @@ window_from_offsets types extra_rule r low high least greatest is_least is_great
     record { first = subst (IsGreatestOffset types extra_rule) first is_greatest; last = subst (IsLeastOffset types extra_rule) last is_least }
 
 -- all offsets of the clock lie between the least and the greatest
-pub clock_in_window : (z : Zone) (r low high : ℤ) → IsWindow z.types z.extra_rule r low high → IsWindowOf z r low high
-clock_in_window z r low high window =
-    offsets_from_types z (r -ℤ high) (r -ℤ low)
+pub clock_between : (z : Zone) (least greatest : ℤ) → IsLeastOffset z.types z.extra_rule least → IsGreatestOffset z.types z.extra_rule greatest → AreOffsetsOf z least greatest
+clock_between z least greatest is_least is_greatest =
+    offsets_from_types z least greatest
     (λ i t at. between t.ut_offset (inl (i, t, at, refl)))
     (λ rule e u t at. between t.ut_offset (inr (rule, e, offset_from_rule rule u t at)))
   where
-    between : (o : ℤ) → IsOffset z.types z.extra_rule o → ((r -ℤ high) ≤ℤ o) × (o ≤ℤ (r -ℤ low))
-    between o is = (window.last.1 o is, window.first.1 o is)
+    between : (o : ℤ) → IsOffset z.types z.extra_rule o → (least ≤ℤ o) × (o ≤ℤ greatest)
+    between o is = (is_least.1 o is, is_greatest.1 o is)
+
+pub clock_in_window : (z : Zone) (r low high : ℤ) → IsWindow z.types z.extra_rule r low high → IsWindowOf z r low high
+clock_in_window z r low high window = clock_between z (r -ℤ high) (r -ℤ low) window.last window.first
 
 -- the least and the greatest offset are one each
 pub window_unique : (types : List LocalTimeType) (extra_rule : Option TransitionRule) (r low high low' high' : ℤ) →

@@ -1,14 +1,25 @@
 //! What the program uses of date times and their users do not.
 
-ghost use Rattle.std.specs.Prelude.{◌≡◌, ◌+◌, ◌/◌, ◌%◌, ◌<◌, ◌≤◌, [], ◌∷◌, ◌++◌, length, IsUtf8, IsAscii};
+ghost use Rattle.std.specs.Prelude.{◌≡◌, ◌+◌, ◌/◌, ◌%◌, ◌<◌, ◌≤◌, ◌≤ℤ◌, [], ◌∷◌, ◌++◌, length, IsUtf8, IsAscii};
 ghost use Rattle.std.specs.Fmt.{decimal, signed_decimal};
 ghost use Rattle.tz_base.specs.Fields.{IsValid};
+ghost use Rattle.tz_zone.specs.ZoneRef.{zone_of};
+ghost use Rattle.tz.specs.Reached.{AreOffsetsOf};
 ghost use Rattle.tz.specs.PrintedText.{two_digits, nine_digits, two_digits_or_more, date_text, time_text, seconds_text, duration_text, offset_text, printed_text};
 
-use crate::datetime::DateTime;
+use crate::datetime::{DateTime, search};
 use std::marker::Model;
 use std::str;
 pub use tz_base::calendar::Fields;
+use tz_zone::timezone::TimeZoneRef;
+
+/// Two offsets between which those of all types lie that the clock has.
+pub fn offsets(zone: TimeZoneRef<'_>) -> (i32, i32)
+    ensures order { result.0 ≤ℤ result.1 }
+    ensures between { AreOffsetsOf (zone_of zone.entry) result.0 result.1 }
+{
+    search::offsets(zone.local_time_types(), zone.extra_rule())
+}
 
 /// Text of at most 128 bytes, which is made without an allocation.
 ///

@@ -161,3 +161,8 @@ digits_of_nine bs start end k after nine few is =
     ap (λ n. drop k (take n (drop (end - 9) bs))) long
     ∙ drop-take k (end - start) (drop (end - 9) bs)
     ∙ ap (λ xs. take (end - start) xs) (drop-drop k (end - 9) bs ∙ ap (λ n. drop n bs) place)
+
+-- digits before a space are the number there
+pub front_before_space : (ds bs rest more : List ℕ) → AllDigits 10 ds → 0 < length ds → bs ≡ ds ++ rest → rest ≡ 32 ∷ more → (n : ℕ) → n ≡ digits_value 10 ds → IsNumberFront bs (pos n) rest
+front_before_space ds bs rest more all some whole space n is =
+    record { text = ds; whole = whole; is_number = (ds, (some, all), inl (refl, ap pos is)); ends = subst EndsDigits (sym space) (λ digit. absurd (omega (arith, digit))) }

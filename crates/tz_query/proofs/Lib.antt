@@ -5,3 +5,4 @@ pub mod LawLemmas
 pub mod FastNumbers
 pub mod PageLemmas
 pub mod WeekLemmas
+pub mod SearchLineLemmas

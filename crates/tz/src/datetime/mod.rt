@@ -6,7 +6,7 @@ mod found;
 mod found_list;
 mod found_list_ref;
 mod growing;
-mod search;
+pub(crate) mod search;
 mod slot_writer;
 mod totals;
 mod utc_date_time;

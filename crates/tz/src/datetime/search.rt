@@ -187,7 +187,10 @@ fn with_rule(rule: &TransitionRule, least: i32, greatest: i32) -> (i32, i32)
 }
 
 /// The least and the greatest offset of the types and of the rule.
-fn offsets(local_time_types: &[LocalTimeType], extra_rule: &Option<TransitionRule>) -> (i32, i32)
+pub(crate) fn offsets(
+    local_time_types: &[LocalTimeType],
+    extra_rule: &Option<TransitionRule>,
+) -> (i32, i32)
     requires { 0 < length local_time_types.now }
     ensures least { IsLeastOffset local_time_types.now extra_rule.now result.0 }
     ensures greatest { IsGreatestOffset local_time_types.now extra_rule.now result.1 }

@@ -1,14 +1,16 @@
 //! The answers of query lines.
 
-ghost use Rattle.std.specs.Prelude.{◌≡◌, ◌+◌, ◌<◌, ◌≤◌, ℕ, List, [], ◌∷◌, ◌++◌, length, take, map, codes, IfOk, IfErr, alloc_error};
+ghost use Rattle.std.specs.Prelude.{◌≡◌, ◌+◌, ◌<◌, ◌≤◌, ℕ, List, [], ◌∷◌, ◌++◌, length, take, map, codes, IfOk, IfErr, alloc_error, ◌≤ℤ◌};
 ghost use Rattle.std.specs.Fmt.{decimal};
 ghost use Rattle.tz_zone.specs.Segments.{IsSegmentOf, numbered_types};
 ghost use Rattle.tz_zone.specs.ZoneRef.{zone_of};
 ghost use Rattle.tz_query.specs.Tails.{types_of};
+ghost use Rattle.tz.specs.Reached.{AreOffsetsOf};
 ghost use Rattle.tz_query.specs.Lines.{IsFirstLine, ended, line_feed};
 ghost use Rattle.tz_query.specs.Answers.{name_text, moment_text, entry_text, found_lines, field_fault_text, IsFaultText, IsTimeAnswer, IsSearchAnswer, IsAnswer, AreAnswers};
 ghost use Rattle.tz_query.specs.Numbers.{space};
 
+use crate::query::fast::search_lines::answer_search_line;
 use crate::query::fast::tail::Tail;
 use crate::query::fast::tails::tails_of;
 use crate::query::fast::time_lines::answer_time_line;
@@ -17,7 +19,7 @@ use crate::query::meetings::answer_meeting;
 use std::alloc::{AllocError, Allocator};
 use tz::datetime::{DateTime, FoundDateTimeKind};
 use tz::error::datetime::DateTimeError;
-use tz::inner::{Fields, TextBuffer};
+use tz::inner::{self, Fields, TextBuffer};
 use tz::{LocalTimeType, TimeZoneRef, TzError};
 use tz_zone::inner::Segment;
 
@@ -256,7 +258,7 @@ pub fn answer_search<A: Allocator + Copy>(
 }
 
 /// Appends the answer lines of the first line, and gives the bytes after that line.
-fn answer_line<'a, A: Allocator + Copy>(
+pub(super) fn answer_line<'a, A: Allocator + Copy>(
     alloc: A,
     answers: &mut Vec<u8, A>,
     line: &mut TextBuffer,
@@ -301,10 +303,10 @@ fn make_room<A: Allocator>(
     at: usize,
 ) -> Result<usize, AllocError>
     requires { at ≤ 2040 }
-    ensures end { IfOk result (λ end. end ≤ 1979) }
+    ensures end { IfOk result (λ end. end ≤ 1900) }
     ensures text { IfOk result (λ end. (answers.new.items ++ take end page.now) ≡ (answers.old.items ++ take at page.now)) }
 {
-    if at <= 1979 {
+    if at <= 1900 {
         return Ok(at);
     }
     flush(answers, page, at)?;
@@ -321,17 +323,23 @@ fn answer_next<'a, A: Allocator + Copy>(
     at: usize,
     kept: &mut Segment,
     tails: &[Tail],
+    offsets: (i32, i32),
     zone: TimeZoneRef<'_>,
     queries: &'a [u8],
 ) -> Result<(usize, &'a [u8]), AllocError>
-    requires room { at ≤ 1979 }
+    requires room { at ≤ 1900 }
     requires kept { IsSegmentOf (zone_of zone) kept.old }
     requires tails { types_of tails.now ≡ numbered_types (zone_of zone) }
-    ensures end { IfOk result (λ r. r.0 ≤ at + 61) }
+    requires offsets { AreOffsetsOf (zone_of zone) offsets.0 offsets.1 }
+    requires order { offsets.0 ≤ℤ offsets.1 }
+    ensures end { IfOk result (λ r. r.0 ≤ at + 67) }
     ensures answer { IfOk result (λ r. (text : List ℕ) × (answer : List (List ℕ)) × IsFirstLine queries.now text r.1.now × IsAnswer (zone_of zone.entry) text answer × ((answers.new.items ++ take r.0 page.new) ≡ (answers.old.items ++ take at page.old) ++ ended answer)) }
     ensures kept { IsSegmentOf (zone_of zone.entry) kept.new }
 {
     if let Some(answered) = answer_time_line(page, at, kept, zone, tails, queries) {
+        return Ok(answered);
+    }
+    if let Some(answered) = answer_search_line(page, at, kept, zone, tails, offsets, queries) {
         return Ok(answered);
     }
     flush(answers, page, at)?;
@@ -357,6 +365,7 @@ pub fn answer<A: Allocator + Copy>(
 {
     let mut answers = Vec::with_capacity(alloc, queries.len().saturating_mul(2))?;
     let tails = tails_of(alloc, zone)?;
+    let offsets = inner::offsets(zone);
     let mut line = TextBuffer::new();
     let mut page = [0; 2040];
     let mut at = 0;
@@ -376,6 +385,7 @@ pub fn answer<A: Allocator + Copy>(
             room,
             &mut kept,
             &tails,
+            offsets,
             zone,
             rest,
         )?;

@@ -24,7 +24,7 @@ fn with_digit(number: u64, digit: u8) -> u64
 
 /// The value of a digit, which is below 10; every other byte gives 10 or more.
 #[inline(always)]
-fn value_of(byte: u8) -> u8
+pub fn value_of(byte: u8) -> u8
     ensures digit { result < 10 → (digit_value byte < 10) × (result ≡ digit_value byte) }
     ensures other { 10 ≤ result → ¬ (digit_value byte < 10) }
 {

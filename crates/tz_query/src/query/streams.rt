@@ -31,7 +31,7 @@ fn read_to_end<A: Allocator, R: Read>(alloc: A, input: &mut R) -> Result<Vec<u8,
     ensures err { IfErr result (λ e. e ≢ RunFault.Write) }
 {
     let mut bytes = Vec::new(alloc);
-    let mut buffer = [0; 16_384];
+    let mut buffer = [0; 2_000];
     for _ in 0..u64::MAX {
         let Ok(count) = input.read(&mut buffer) else {
             return Err(RunFault::Read);

@@ -4,6 +4,7 @@
 
 pub mod numbers;
 pub mod page;
+pub mod search_lines;
 pub mod tail;
 pub mod tails;
 pub mod time_lines;

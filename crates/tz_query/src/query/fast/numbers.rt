@@ -1,10 +1,11 @@
 //! Numbers of up to 18 digits, read eight digits at once.
 
-ghost use Rattle.std.specs.Prelude.{◌≡◌, ℕ, ◌+◌, ◌<◌, ◌≤◌, List, length, drop, pos, negsuc, ◌≤ℤ◌, IfSome};
+ghost use Rattle.std.specs.Prelude.{◌≡◌, ℕ, ◌+◌, ◌<◌, ◌≤◌, List, ◌∷◌, length, drop, pos, negsuc, ◌≤ℤ◌, IfSome};
 ghost use Rattle.std.specs.Str.Parse.{digits_value};
 ghost use Rattle.tz.specs.PrintedText.{nine_digits};
-ghost use Rattle.tz_query.specs.Numbers.{IsDigitsFront, IsPartFront};
+ghost use Rattle.tz_query.specs.Numbers.{IsDigitsFront, IsNumberFront, IsPartFront};
 
+use crate::query::numbers::value_of;
 use core::dec2flt;
 
 /// The number of the digits at a place, if there are 1 to 18, and the place after them.
@@ -61,4 +62,45 @@ pub fn read_nanoseconds(bytes: &[u8], place: usize, nine: &mut [u8; 9]) -> Optio
         nine[index] = b'0';
     }
     Some(end)
+}
+
+/// The number of one or two digits at a place, if a space follows it, and the place of that space.
+#[inline(always)]
+pub fn read_small(bytes: &[u8], place: usize) -> Option<(u8, usize)>
+    requires { place + 3 ≤ length bytes.now }
+    ensures number { IfSome result (λ r. IsNumberFront (drop place bytes.now) (pos r.0) (drop r.1 bytes.now)) }
+    ensures space { IfSome result (λ r. drop r.1 bytes.now ≡ 32 ∷ drop (r.1 + 1) bytes.now) }
+    ensures bound { IfSome result (λ r. (r.0 < 100) × (r.1 ≤ place + 2)) }
+{
+    let first = value_of(bytes[place]);
+    if first >= 10 {
+        return None;
+    }
+    if bytes[place + 1] == b' ' {
+        return Some((first, place + 1));
+    }
+    let second = value_of(bytes[place + 1]);
+    if second >= 10 || bytes[place + 2] != b' ' {
+        return None;
+    }
+    Some((first * 10 + second, place + 2))
+}
+
+/// The number of four digits at a place, if a space follows it.
+#[inline(always)]
+pub fn read_year(bytes: &[u8], place: usize) -> Option<u16>
+    requires { place + 5 ≤ length bytes.now }
+    ensures number { IfSome result (λ year. IsNumberFront (drop place bytes.now) (pos year) (drop (place + 4) bytes.now)) }
+    ensures space { IfSome result (λ year. drop (place + 4) bytes.now ≡ 32 ∷ drop (place + 5) bytes.now) }
+    ensures bound { IfSome result (λ year. year < 10000) }
+{
+    let first = value_of(bytes[place]);
+    let second = value_of(bytes[place + 1]);
+    let third = value_of(bytes[place + 2]);
+    let fourth = value_of(bytes[place + 3]);
+    if first >= 10 || second >= 10 || third >= 10 || fourth >= 10 || bytes[place + 4] != b' ' {
+        return None;
+    }
+    let century = u16::from(first * 10 + second);
+    Some(century * 100 + u16::from(third * 10 + fourth))
 }

@@ -39,7 +39,7 @@ fn read_line<'a>(queries: &'a [u8], nine: &mut [u8; 9]) -> Option<(i64, &'a [u8]
 
 /// Keeps a segment in which the instant lies, if one is known.
 #[inline(always)]
-fn keep(kept: &mut Segment, zone: TimeZoneRef<'_>, unix_time: i64) -> bool
+pub fn keep(kept: &mut Segment, zone: TimeZoneRef<'_>, unix_time: i64) -> bool
     requires { IsSegmentOf (zone_of zone) kept.old }
     ensures kept { IsSegmentOf (zone_of zone.entry) kept.new }
     ensures within { IsTrue result → (kept.new.from ≤ℤ unix_time) × (unix_time <ℤ kept.new.until) }

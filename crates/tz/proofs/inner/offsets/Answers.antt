@@ -1,0 +1,10 @@
+-- All offsets of the clock lie between the least and the greatest of the zone.
+use Rattle.tz_zone.specs.ZoneRef.{zone_of}
+use Rattle.tz.proofs.WindowLemmas.{clock_between}
+use Rattle.tz.proofs.inner.offsets.Goals as goal
+
+pub returns-clause-between : goal.returns-clause-between
+returns-clause-between c =
+    clock_between (zone_of c.args.zone) c.offsets.result.0 c.offsets.result.1
+    (rw (c.local_time_types.ensures, c.extra_rule.ensures) at c.offsets.ensures.least)
+    (rw (c.local_time_types.ensures, c.extra_rule.ensures) at c.offsets.ensures.greatest)

@@ -1,0 +1,130 @@
+//! `F` lines that are found once, answered from a segment of the zone that holds all their window.
+
+ghost use Rattle.std.specs.Prelude.{◌≡◌, ◌+◌, ◌<◌, ◌≤◌, ℕ, ◌≤ℤ◌, ◌<ℤ◌, List, ◌++◌, take, IfSome, IfNone};
+ghost use Rattle.tz_base.specs.declared.calendar.Fields.{Fields};
+ghost use Rattle.tz_zone.specs.ZoneRef.{zone_of};
+ghost use Rattle.tz_zone.specs.Segments.{IsSegmentOf, IsStretch, numbered_types};
+ghost use Rattle.tz.specs.PrintedText.{nine_digits};
+ghost use Rattle.tz.specs.Reached.{AreOffsetsOf};
+ghost use Rattle.tz_query.specs.Answers.{IsAnswer};
+ghost use Rattle.tz_query.specs.Lines.{IsFirstLine, ended};
+ghost use Rattle.tz_query.specs.Queries.{IsSearchLineFront};
+ghost use Rattle.tz_query.specs.Tails.{types_of};
+
+use super::numbers::{read_nanoseconds, read_small, read_year};
+use super::page::{front_of, push_line};
+use super::tail::Tail;
+use super::time_lines::keep;
+use tz::TimeZoneRef;
+use tz::timezone::TransitionRule;
+use tz_base::calendar::Fields;
+use tz_zone::inner::Segment;
+
+/// The fields that the first line asks for, if it is an `F` line of usual numbers, and the bytes after it. Its nanoseconds are copied,
+/// and are 0 in the fields.
+#[inline(always)]
+fn read_line<'a>(queries: &'a [u8], nine: &mut [u8; 9]) -> Option<(Fields, &'a [u8])>
+    ensures { IfSome result (λ r. (n : ℕ) × (n < 1000000000) × (nine.new ≡ nine_digits n) × IsSearchLineFront queries.now (record r.0 { nanoseconds = n }) r.1.now) }
+{
+    if queries.len() < 64 || queries[0] != b'F' || queries[1] != b' ' {
+        return None;
+    }
+    let year = read_year(queries, 2)?;
+    let (month, after_month) = read_small(queries, 7)?;
+    let (month_day, after_day) = read_small(queries, after_month + 1)?;
+    let (hour, after_hour) = read_small(queries, after_day + 1)?;
+    let (minute, after_minute) = read_small(queries, after_hour + 1)?;
+    let (second, after_second) = read_small(queries, after_minute + 1)?;
+    let line_end = read_nanoseconds(queries, after_second, nine)?;
+    if queries[line_end] != b'\n' {
+        return None;
+    }
+    let fields = Fields {
+        year: i32::from(year),
+        month,
+        month_day,
+        hour,
+        minute,
+        second,
+        nanoseconds: 0,
+    };
+    Some((fields, &queries[line_end + 1..]))
+}
+
+/// Whether an alternate rule tells the clock at an instant: no segment of more than a second is known there.
+#[inline(always)]
+fn is_in_alternate_rule(zone: TimeZoneRef<'_>, unix_time: i64) -> bool {
+    match zone.extra_rule() {
+        Some(TransitionRule::Alternate(_)) => match zone.transitions().last() {
+            Some(last) => last.unix_leap_time() <= unix_time,
+            None => true,
+        },
+        _ => false,
+    }
+}
+
+/// The end of lines for all instants from the first one to the second, if one segment is known to hold them, which is kept then.
+#[inline(always)]
+fn tail_through<'a>(
+    kept: &mut Segment,
+    zone: TimeZoneRef<'_>,
+    tails: &'a [Tail],
+    low: i64,
+    high: i64,
+) -> Option<&'a Tail>
+    requires kept { IsSegmentOf (zone_of zone) kept.old }
+    requires tails { types_of tails.now ≡ numbered_types (zone_of zone) }
+    ensures tail { IfSome result (λ tail. IsStretch (zone_of zone.entry) kept.new.from kept.new.until tail.now.local_time_type) }
+    ensures within { IfSome result (λ tail. (kept.new.from ≤ℤ low) × (high <ℤ kept.new.until)) }
+    ensures kept { IsSegmentOf (zone_of zone.entry) kept.new }
+{
+    if is_in_alternate_rule(zone, low) {
+        return None;
+    }
+    if !keep(kept, zone, low) {
+        return None;
+    }
+    if high >= kept.until {
+        return None;
+    }
+    Some(&tails[kept.number])
+}
+
+/// Answers the first line on the page, if it is an `F` line of usual numbers that is found once in a known segment, and gives the end of its
+/// answer and the bytes after it.
+#[inline(always)]
+pub fn answer_search_line<'a>(
+    page: &mut [u8; 2040],
+    at: usize,
+    kept: &mut Segment,
+    zone: TimeZoneRef<'_>,
+    tails: &[Tail],
+    offsets: (i32, i32),
+    queries: &'a [u8],
+) -> Option<(usize, &'a [u8])>
+    requires room { at ≤ 1973 }
+    requires kept { IsSegmentOf (zone_of zone) kept.old }
+    requires tails { types_of tails.now ≡ numbered_types (zone_of zone) }
+    requires offsets { AreOffsetsOf (zone_of zone) offsets.0 offsets.1 }
+    requires order { offsets.0 ≤ℤ offsets.1 }
+    ensures some { IfSome result (λ r. (r.0 ≤ at + 67) × ((text : List ℕ) × (answer : List (List ℕ)) × IsFirstLine queries.now text r.1.now × IsAnswer (zone_of zone.entry) text answer × (take r.0 page.new ≡ take at page.old ++ ended answer))) }
+    ensures none { IfNone result (take at page.new ≡ take at page.old) }
+    ensures kept { IsSegmentOf (zone_of zone.entry) kept.new }
+{
+    let mut nine = [0; 9];
+    let (fields, rest) = read_line(queries, &mut nine)?;
+    if fields.year < 1000 || fields.year > 9999 {
+        return None;
+    }
+    let Ok(()) = fields.check() else {
+        return None;
+    };
+    let (least, greatest) = offsets;
+    let reading = fields.reading();
+    let low = reading - i64::from(greatest);
+    let high = reading - i64::from(least);
+    let tail = tail_through(kept, zone, tails, low, high)?;
+    page[at..at + 6].copy_from_slice(b"F 1\nN ");
+    let end = push_line(page, at + 6, &front_of(&fields), &nine, tail);
+    Some((end, rest))
+}
