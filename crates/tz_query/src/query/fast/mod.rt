@@ -6,4 +6,7 @@ pub mod numbers;
 pub mod page;
 pub mod search_lines;
 pub mod tail;
-pub mod tails;pub mod time_lines;
+pub mod tails;
+#[cfg(test)]
+mod tests;
+pub mod time_lines;
