@@ -7,4 +7,6 @@ pub mod page;
 pub mod search_lines;
 pub mod tail;
 pub mod tails;
+#[cfg(test)]
+mod tests;
 pub mod time_lines;

@@ -1,0 +1,182 @@
+//! The fast answers beside the plain ones.
+
+use crate::query::answers::{answer, answer_line};
+use std::alloc::Global;
+use std::process::Abort;
+use std::test::Fail;
+use tz::inner::TextBuffer;
+use tz::timezone::{
+    AlternateTime, Julian0WithLeap, Julian1WithoutLeap, LeapSecond, MonthWeekDay, RuleDay,
+    Transition, TransitionRule,
+};
+use tz::{LocalTimeType, TimeZoneRef, TzError};
+
+/// The answers of the plain half alone.
+fn answered_plainly(
+    alloc: Global,
+    zone: TimeZoneRef<'_>,
+    queries: &[u8],
+) -> Result<Vec<u8, Global>, TzError> {
+    let mut answers = Vec::new(alloc);
+    let mut line = TextBuffer::new();
+    let mut rest = queries;
+    for _ in 0..queries.len() {
+        if rest.is_empty() {
+            break;
+        }
+        rest = answer_line(alloc, &mut answers, &mut line, zone, rest)?;
+    }
+    Ok(answers)
+}
+
+/// Both halves answer alike.
+fn expect_alike(
+    rt: &impl Abort,
+    alloc: Global,
+    zone: TimeZoneRef<'_>,
+    queries: &[u8],
+) -> Result<(), TzError> {
+    let fast = answer(alloc, zone, queries)?;
+    let plain = answered_plainly(alloc, zone, queries)?;
+    assert_eq!(rt; fast.as_slice(), plain.as_slice());
+    Ok(())
+}
+
+/// Both halves answer alike over zones of each kind.
+fn expect_alike_over_zones(rt: &impl Abort, alloc: Global, queries: &[u8]) -> Result<(), TzError> {
+    let central = AlternateTime::new(
+        LocalTimeType::new(3600, false, Some(b"CET"))?,
+        LocalTimeType::new(7200, true, Some(b"CEST"))?,
+        RuleDay::MonthWeekDay(MonthWeekDay::new(3, 5, 0)?),
+        7200,
+        RuleDay::MonthWeekDay(MonthWeekDay::new(10, 5, 0)?),
+        10_800,
+    )?;
+    let southern = AlternateTime::new(
+        LocalTimeType::new(-14_400, false, Some(b"-04"))?,
+        LocalTimeType::new(-10_800, true, Some(b"-03"))?,
+        RuleDay::MonthWeekDay(MonthWeekDay::new(9, 1, 0)?),
+        86_400,
+        RuleDay::MonthWeekDay(MonthWeekDay::new(4, 1, 0)?),
+        82_800,
+    )?;
+    let across_years = AlternateTime::new(
+        LocalTimeType::new(0, false, Some(b"Winter"))?,
+        LocalTimeType::new(3601, true, Some(b"Summer7"))?,
+        RuleDay::Julian0WithLeap(Julian0WithLeap::new(0)?),
+        -100_000,
+        RuleDay::Julian1WithoutLeap(Julian1WithoutLeap::new(200)?),
+        500_000,
+    )?;
+    let types = [
+        LocalTimeType::new(1234, false, Some(b"LMT"))?,
+        LocalTimeType::new(3600, false, Some(b"CET"))?,
+        LocalTimeType::new(7200, true, Some(b"CEST"))?,
+        LocalTimeType::with_ut_offset(-86_399)?,
+    ];
+    let transitions = [
+        Transition::new(-2_000_000_000, 1),
+        Transition::new(-1_000_000_000, 2),
+        Transition::new(-3, 3),
+        Transition::new(0, 1),
+        Transition::new(900_000_000, 2),
+        Transition::new(1_005_000_000, 1),
+    ];
+    let leap_seconds = [
+        LeapSecond::new(78_796_800, 1),
+        LeapSecond::new(94_694_401, 2),
+        LeapSecond::new(126_230_402, 1),
+    ];
+    let none = None;
+    let fixed = Some(TransitionRule::Fixed(*central.std()));
+    let alternate = Some(TransitionRule::Alternate(central));
+    expect_alike(rt, alloc, TimeZoneRef::utc(), queries)?;
+    for leap_seconds in [&leap_seconds[..0], &leap_seconds[..]] {
+        for rule in [&none, &fixed, &alternate] {
+            let zone = TimeZoneRef::new(&transitions, &types, leap_seconds, rule)?;
+            expect_alike(rt, alloc, zone, queries)?;
+        }
+    }
+    for rule in [central, southern, across_years] {
+        let rule = Some(TransitionRule::Alternate(rule));
+        let zone = TimeZoneRef::new(&[], &types, &[], &rule)?;
+        expect_alike(rt, alloc, zone, queries)?;
+    }
+    Ok(())
+}
+
+#[test]
+fn lines_of_many_instants_are_answered_alike(rt: HostRuntime) -> Result<(), Fail> {
+    let mut queries = Vec::new(rt.alloc());
+    let mut state = 88_172_645_463_325_252u64;
+    for shift in 2..44u32 {
+        for _ in 0..12u32 {
+            state ^= state << 13;
+            state ^= state >> 7;
+            state ^= state << 17;
+            let size = i64::try_from(state >> shift).unwrap_or(0);
+            let unix_time = if state % 2 == 0 {
+                size
+            } else {
+                size.wrapping_neg()
+            };
+            let nanoseconds = state % 1_000_000_007;
+            let year = unix_time % 12_000;
+            let line = format!(in rt.alloc();
+                "T {unix_time} {nanoseconds}\nF {year} 7 14 1 2 3 {nanoseconds}\n"
+            )?;
+            queries.extend_from_slice(line.as_bytes())?;
+        }
+    }
+    for near in [
+        -2_000_000_000i64,
+        -1_000_000_000,
+        -3,
+        900_000_000,
+        1_005_000_000,
+    ] {
+        for unix_time in near - 4..near + 4 {
+            let line = format!(in rt.alloc(); "T {unix_time} 5\n")?;
+            queries.extend_from_slice(line.as_bytes())?;
+        }
+    }
+    expect_alike_over_zones(&rt, rt.alloc(), &queries)?;
+    Ok(())
+}
+
+#[test]
+fn numbers_of_each_length_are_answered_alike(rt: HostRuntime) -> Result<(), Fail> {
+    let digits = b"98765432109876543210";
+    let zeros = b"00000000000000000001";
+    let mut queries = Vec::new(rt.alloc());
+    for text in [digits, zeros] {
+        for length in 0..=20usize {
+            for sign in ["", "-"] {
+                queries.extend_from_slice(b"T ")?;
+                queries.extend_from_slice(sign.as_bytes())?;
+                queries.extend_from_slice(&text[20 - length..])?;
+                queries.extend_from_slice(b" 1\nT 86399 ")?;
+                queries.extend_from_slice(sign.as_bytes())?;
+                queries.extend_from_slice(&text[20 - length..])?;
+                queries.extend_from_slice(b"\nF ")?;
+                queries.extend_from_slice(sign.as_bytes())?;
+                queries.extend_from_slice(&text[20 - length..])?;
+                queries.extend_from_slice(b" 2 29 0 0 0 0\n")?;
+            }
+        }
+    }
+    expect_alike_over_zones(&rt, rt.alloc(), &queries)?;
+    Ok(())
+}
+
+#[test]
+fn lines_cut_at_each_length_are_answered_alike(rt: HostRuntime) -> Result<(), Fail> {
+    let queries =
+        b"T 1700000000 123456789\nT -1 5\nT 1 1000000000\nF 2024 2 29 1 2 3 4\nT  7 7\nT 7  7\nT 7 7\r\nT 7\nT7 7\nT 1 2 3\nt 1 2\n\nT 1600000000 100\nT 253402300800 0\nT -62167219201 0\nT 123456789012345678 99\nT 1500000000 000000001\n";
+    for length in 0..=queries.len() {
+        expect_alike(&rt, rt.alloc(), TimeZoneRef::utc(), &queries[..length])?;
+        expect_alike(&rt, rt.alloc(), TimeZoneRef::utc(), &queries[length..])?;
+    }
+    expect_alike_over_zones(&rt, rt.alloc(), queries.as_slice())?;
+    Ok(())
+}
