@@ -15,6 +15,7 @@ use std::test::Fail;
 
 mod ends;
 mod filter;
+mod looks;
 mod memory;
 mod texts;
 mod zones;
