@@ -1,26 +1,93 @@
 //! What the crates above use of zones and their users do not: leap times, and where they take effect.
 
-ghost use Rattle.std.specs.Prelude.{◌≡◌, ℕ, ◌+◌, true, false, ◌<◌, ◌≤◌, ◌↔◌, ◌+ℤ◌, ◌≤ℤ◌, ◌<ℤ◌, length, slice_get, ℤ, IsTrue, IfOk, IfErr, MatchBool, Some, ◌-ℤ◌};
+ghost use Rattle.std.specs.Prelude.{◌≡◌, ℕ, ◌+◌, true, false, ◌<◌, ◌≤◌, ◌↔◌, ◌+ℤ◌, ◌≤ℤ◌, ◌<ℤ◌, length, slice_get, ℤ, IsTrue, IfOk, IfErr, IfSome, IfNone, MatchBool, MatchOption, Some, ◌-ℤ◌};
 ghost use Rattle.tz_zone.specs.Table.{Transition, LeapSecond};
-ghost use Rattle.tz_zone.specs.LeapTime.{IsInstant, correction_before as correction_at_place, IsReached, IsLeapTimeRefused, IsLeapTime, IsMomentOf, IsEffect, IsEffectRefused};
-ghost use Rattle.tz_zone.specs.ValidZone.{AreLeapSeconds, IsRising};
+ghost use Rattle.tz_zone.specs.LeapTime.{IsInstant, IsStart, correction_at_start as correction_of_start, correction_before as correction_at_place, IsReached, IsBeforeStart, IsPastInstants, IsLeapTimeRefused, IsLeapTime, IsMomentOf, IsEffect, IsEffectRefused};
+ghost use Rattle.tz_zone.specs.ValidZone.{AreLeapSeconds, HasBegunAt, ExpiresAt, IsPlainTable, IsRising};
 
 use crate::partition::{Places, partition_point};
 use crate::timezone::{LeapSecond, Transition};
 use tz_base::error::TzError;
 
-/// Instants up to this one have a leap time, whatever the leap seconds.
+/// From the start of the table up to this instant each one has a leap time, whatever the leap seconds.
 const SURELY_ANSWERED: i64 = 80_000_000_000_000_000;
 
-/// The correction before a place of the list: 0 before the first.
+/// The truncated start: a first record whose correction is not one second, with which the table begins.
+fn truncated_start(leap_seconds: &[LeapSecond]) -> Option<&LeapSecond>
+    ensures { MatchOption result ((l : LeapSecond) → ¬ IsStart leap_seconds.now l) (λ l. IsStart leap_seconds.now l.now) }
+{
+    let first = leap_seconds.first()?;
+    if first.correction().unsigned_abs() == 1 {
+        return None;
+    }
+    Some(first)
+}
+
+/// The correction before the first place of the list: 0, but the first one's own at a truncated start.
+fn correction_at_start(leap_seconds: &[LeapSecond]) -> i32
+    ensures { result ≡ correction_of_start (slice_get leap_seconds.now 0) }
+{
+    match truncated_start(leap_seconds) {
+        Some(start) => start.correction(),
+        None => 0,
+    }
+}
+
+/// The correction before a place of the list.
 fn correction_before(leap_seconds: &[LeapSecond], place: usize) -> i32
     requires { place ≤ length leap_seconds.now }
     ensures { result ≡ correction_at_place leap_seconds.now place }
 {
     if place == 0 {
-        return 0;
+        return correction_at_start(leap_seconds);
     }
     leap_seconds[place - 1].correction()
+}
+
+/// The leap time at which the table expires: that of a last record with the correction before it.
+pub(crate) fn expiry(leap_seconds: &[LeapSecond]) -> Option<i64>
+    ensures some { IfSome result (ExpiresAt leap_seconds.now) }
+    ensures none { IfNone result ((time : ℤ) → ¬ ExpiresAt leap_seconds.now time) }
+{
+    if leap_seconds.len() < 2 {
+        return None;
+    }
+    let before = &leap_seconds[leap_seconds.len() - 2];
+    let last = &leap_seconds[leap_seconds.len() - 1];
+    if last.correction() != before.correction() {
+        return None;
+    }
+    Some(last.unix_leap_time())
+}
+
+/// Whether the table begins with its first leap second and does not expire, as in files before version 4.
+pub(crate) fn is_plain_table(leap_seconds: &[LeapSecond]) -> bool
+    ensures { MatchBool result (IsPlainTable leap_seconds.now) (¬ IsPlainTable leap_seconds.now) }
+{
+    truncated_start(leap_seconds).is_none() && expiry(leap_seconds).is_none()
+}
+
+/// Whether the instant is not before a truncated start.
+fn has_begun(leap_seconds: &[LeapSecond], unix_time: i64) -> bool
+    ensures { MatchBool result (¬ IsBeforeStart leap_seconds.now unix_time) (IsBeforeStart leap_seconds.now unix_time) }
+{
+    match truncated_start(leap_seconds) {
+        Some(start) => {
+            i128::from(start.unix_leap_time())
+                <= i128::from(unix_time) + i128::from(start.correction())
+        }
+        None => true,
+    }
+}
+
+/// Whether a truncated start has come at the leap time.
+pub(crate) fn has_begun_at(leap_seconds: &[LeapSecond], unix_leap_time: i64) -> bool
+    ensures { MatchBool result (HasBegunAt leap_seconds.now unix_leap_time) (¬ HasBegunAt leap_seconds.now unix_leap_time) }
+{
+    match truncated_start(leap_seconds) {
+        Some(start) => start.unix_leap_time() <= unix_leap_time,
+        None => true,
+    }
 }
 
 /// How many leap seconds are reached at an instant.
@@ -36,7 +103,7 @@ fn leap_seconds_reached(leap_seconds: &[LeapSecond], unix_time: i64) -> usize
     })
 }
 
-/// LeapSecond seconds, tested whether they are reached at an instant.
+/// Leap seconds, tested whether they are reached at an instant.
 #[derive(Clone, Copy)]
 struct ReachedAt<'a> {
     leap_seconds: &'a [LeapSecond],
@@ -63,7 +130,7 @@ impl Places for ReachedAt<'_> {
     }
 }
 
-/// LeapSecond seconds, tested whether their time is not above a leap time.
+/// Leap seconds, tested whether their time is not above a leap time.
 #[derive(Clone, Copy)]
 struct LeapSecondsUpTo<'a> {
     leap_seconds: &'a [LeapSecond],
@@ -136,6 +203,9 @@ fn has_leap_time(leap_seconds: &[LeapSecond], unix_time: i64, reached: usize) ->
     requires beyond { (i : ℕ) (l : LeapSecond) → IsReached leap_seconds.now i l unix_time → i < reached }
     ensures { MatchBool result (¬ IsLeapTimeRefused leap_seconds.now unix_time) (IsLeapTimeRefused leap_seconds.now unix_time) }
 {
+    if !has_begun(leap_seconds, unix_time) {
+        return false;
+    }
     if unix_time <= SURELY_ANSWERED {
         return true;
     }
@@ -176,10 +246,11 @@ fn less(time: i64, correction: i32) -> i128
     i128::from(time) - i128::from(correction)
 }
 
-/// The moment of a leap time by the leap seconds up to it, which may lie past 64 bits: the leap time less the correction, but not
-/// before the last of them is reached.
-fn moment(leap_seconds: &[LeapSecond], unix_leap_time: i64) -> i128
-    requires { AreLeapSeconds leap_seconds.now }
+/// The moment of a leap time that is not before a truncated start, by the leap seconds up to it, which may lie past 64 bits: the leap
+/// time less the correction, but not before the last of them is reached.
+fn moment_from_start(leap_seconds: &[LeapSecond], unix_leap_time: i64) -> i128
+    requires leaps { AreLeapSeconds leap_seconds.now }
+    requires begun { HasBegunAt leap_seconds.now unix_leap_time }
     ensures { IsMomentOf leap_seconds.now unix_leap_time result }
 {
     let count = leap_seconds_up_to(leap_seconds, unix_leap_time);
@@ -193,6 +264,19 @@ fn moment(leap_seconds: &[LeapSecond], unix_leap_time: i64) -> i128
         correction_before(leap_seconds, count - 1),
     );
     shifted.max(reached)
+}
+
+/// The moment of a leap time, which may lie past 64 bits. Before a truncated start it is that of the start.
+fn moment(leap_seconds: &[LeapSecond], unix_leap_time: i64) -> i128
+    requires { AreLeapSeconds leap_seconds.now }
+    ensures { IsMomentOf leap_seconds.now unix_leap_time result }
+{
+    match truncated_start(leap_seconds) {
+        Some(start) if unix_leap_time < start.unix_leap_time() => {
+            moment_from_start(leap_seconds, start.unix_leap_time())
+        }
+        _ => moment_from_start(leap_seconds, unix_leap_time),
+    }
 }
 
 /// The instant at which a leap time takes effect: the least one whose leap time is not below it.
