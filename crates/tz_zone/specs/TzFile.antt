@@ -1,5 +1,5 @@
--- TZif files: which bytes are one, and the tables that they denote. (RFC 8536, section 3.)
-use Rattle.std.specs.Prelude.{◌≡◌, ◌≢◌, ℕ, ◌+◌, ◌-◌, ◌*◌, ◌<◌, ◌≤◌, ◌⊎◌, ℤ, Bool, ◌==◌, if◌then◌else◌, List, [], ◌∷◌, length, take, drop, map, Option, Some, None, Contains, IsUtf8, slice_get, slice_index, slice_range}
+-- TZif files: which bytes are one, and the tables that they denote. (RFC 8536, section 3; version 4 after RFC 9636, section 3.)
+use Rattle.std.specs.Prelude.{◌≡◌, ◌≢◌, ℕ, ◌+◌, ◌-◌, ◌*◌, ◌<◌, ◌≤◌, ◌⊎◌, ℤ, Bool, ◌==◌, ◌||◌, if◌then◌else◌, List, [], ◌∷◌, length, take, drop, map, Option, Some, None, Contains, IsUtf8, slice_get, slice_index, slice_range}
 use Rattle.std.specs.Char.{is_ascii_whitespace}
 use Rattle.std.specs.List.{range_with_len, before_first, prefix_len, suffix_len}
 use Rattle.std.specs.Int.{Width, w32, w64, byte_len, from_be_bytes, cast_signed}
@@ -7,7 +7,7 @@ use Rattle.tz_rule.specs.LocalTimeType.{LocalTimeType, type_of, IsLocalTimeType}
 use Rattle.tz_rule.specs.declared.timezone.rule.TransitionRule.{TransitionRule}
 use Rattle.tz_zone.specs.Table.{Transition, LeapSecond, Zone, zone_with}
 use Rattle.tz_zone.specs.TzText.{IsTzText}
-use Rattle.tz_zone.specs.ValidZone.{IsValidZone}
+use Rattle.tz_zone.specs.ValidZone.{IsPlainTable, IsValidZone}
 
 -- the number that the bytes at a place write, the most significant first; signed in two's complement
 unfoldable pub number_at : Width → List ℕ → ℕ → ℕ
@@ -50,9 +50,9 @@ pub record AreCounts (n : Counts) : Type 0 where
 abbrev pub HasMagic : List ℕ → Type 0
 HasMagic bytes = take 4 bytes ≡ 84 ∷ 90 ∷ 105 ∷ 102 ∷ []
 
--- the byte of version 1, 2 or 3
+-- the byte of version 1, 2, 3 or 4
 abbrev pub IsVersion : ℕ → Type 0
-IsVersion byte = (byte ≡ 0) ⊎ (byte ≡ 50) ⊎ (byte ≡ 51)
+IsVersion byte = (byte ≡ 0) ⊎ (byte ≡ 50) ⊎ (byte ≡ 51) ⊎ (byte ≡ 52)
 
 -- a header stands at the front
 pub record IsHeader (bytes : List ℕ) : Type 0 where
@@ -239,9 +239,16 @@ abbrev pub IsExtraRule : Bool → Option (List ℕ) → Option TransitionRule �
 IsExtraRule extended None rule = rule ≡ None
 IsExtraRule extended (Some footer) rule = IsFooter footer × IsTextRule extended (trimmed footer) rule
 
--- texts are extended where the header of the unit that is read is of version 3 (section 3.3.1)
+-- texts are extended where the header of the unit that is read is of version 3 or 4 (section 3.3.1)
 abbrev pub is_extended : Part → Bool
-is_extended p = p.version == 51
+is_extended p = (p.version == 51) || (p.version == 52)
+
+-- leap seconds may begin later or expire where that header is of version 4
+abbrev pub MayHold : ℕ → List LeapSecond → Type 0
+MayHold version leaps = (version ≡ 52) ⊎ IsPlainTable leaps
+
+abbrev pub HoldsLeapSeconds : Part → Type 0
+HoldsLeapSeconds p = MayHold p.version (leaps_of p.width p.block p.counts.leap)
 
 -- the zone of a part and a rule
 abbrev pub zone_of_part : Part → Option TransitionRule → Zone
@@ -255,6 +262,7 @@ zone_of_part p rule = zone_with
 pub record IsTzFile (bytes : List ℕ) (zone : Zone) : Type 0 where
   pub framed : IsFramed bytes
   pub content : IsContent (part_of bytes).block (part_of bytes).counts.local_type
+  pub leap_seconds : HoldsLeapSeconds (part_of bytes)
   pub rule : IsExtraRule (is_extended (part_of bytes)) (footer_of bytes) zone.extra_rule
   pub denotes : zone ≡ zone_of_part (part_of bytes) zone.extra_rule
   pub valid : IsValidZone zone

@@ -184,7 +184,7 @@ fn altered_bytes_are_refused(rt: HostRuntime) -> Result<(), Fail> {
     let bytes = utc_v1(rt.alloc())?;
     for (place, byte, expected) in [
         (2, b'j', Fault::File(TzFileError::InvalidMagicNumber)),
-        (4, b'4', Fault::File(TzFileError::UnsupportedTzFileVersion)),
+        (4, b'5', Fault::File(TzFileError::UnsupportedTzFileVersion)),
         (23, 2, Fault::File(TzFileError::InvalidHeader)),
         (27, 2, Fault::File(TzFileError::InvalidHeader)),
         (39, 0, Fault::File(TzFileError::InvalidHeader)),
@@ -406,7 +406,7 @@ fn jerusalem_is_read(rt: HostRuntime) -> Result<(), Fail> {
     assert_eq!(rt; bytes.len(), 147);
     expect_jerusalem(&rt, rt.alloc(), &bytes)?;
     // The first header's version and the first block's content make no difference, nor does a time of UT.
-    for (place, byte) in [(4, b'2'), (48, 7), (118, 0)] {
+    for (place, byte) in [(4, b'2'), (48, 7), (58, b'4'), (118, 0)] {
         expect_jerusalem(&rt, rt.alloc(), &altered(rt.alloc(), &bytes, place, byte)?)?;
     }
     Ok(())
@@ -468,7 +468,7 @@ fn altered_later_files_are_refused(rt: HostRuntime) -> Result<(), Fail> {
         (56, b'j', Fault::File(TzFileError::InvalidMagicNumber)),
         (58, b'2', Fault::Text(TzStringError::InvalidDayTimeHour)),
         (58, 0, Fault::Text(TzStringError::InvalidDayTimeHour)),
-        (58, b'4', Fault::File(TzFileError::UnsupportedTzFileVersion)),
+        (58, b'5', Fault::File(TzFileError::UnsupportedTzFileVersion)),
         (
             106,
             1,
@@ -639,3 +639,4 @@ fn leap_seconds_of_later_files_are_read(rt: HostRuntime) -> Result<(), Fail> {
 }
 
 mod layouts;
+mod version_4;
