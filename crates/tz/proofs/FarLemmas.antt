@@ -1,26 +1,36 @@
--- Far from the ends of the years of 32 bits a search is never refused as out of range.
-use Rattle.std.proofs.Common.{◌≡◌, ◌≢◌, ◌+◌, ◌*◌, inl, inr, sym, ◌∙◌, arith, ℤ, pos, negsuc, ◌+ℤ◌, ◌-ℤ◌, ◌≤ℤ◌}
+-- Where the list is promised a search is never refused as out of range.
+use Rattle.std.proofs.Common.{◌≡◌, ◌≢◌, ◌+◌, ◌*◌, inl, inr, sym, ap, subst, ◌∙◌, arith, ℤ, pos, negsuc, ◌+ℤ◌, ◌-ℤ◌, ◌≤ℤ◌, Some}
 use Rattle.std.proofs.lemmas.Int.{ints}
 use mir.Syntax.{w32}
 use mir.Val.{SFits}
 use Rattle.std.specs.Prelude.{⊤, alloc_error}
 use Rattle.tz_base.specs.declared.error.datetime.DateTimeError.{DateTimeError}
 use Rattle.tz_base.specs.declared.error.datetime.DateTimeError.TheVariants.{InvalidMonth, InvalidMonthDay, InvalidHour, InvalidMinute, InvalidSecond, InvalidNanoseconds}
-use Rattle.tz_base.specs.Fields.{IsValid, IsFirstFault, reading}
+use Rattle.tz_base.specs.Fields.{IsValid, IsFirstFault, IsReading, reading}
 use Rattle.tz_base.specs.declared.calendar.Fields.{Fields}
 use Rattle.tz_base.specs.declared.error.TzError.{TzError}
 use Rattle.tz_base.specs.declared.error.TzError.TheVariants.{OutOfRange, Memory}
 use Rattle.tz_base.proofs.DayLemmas.{day_in_year, first_day_bounds}
 use Rattle.tz_base.proofs.OrderLemmas.{first_day-mono}
-use Rattle.tz.specs.Walks.{IsNearAnEnd}
-use Rattle.tz.specs.FindFaults.{IsFindFault, IsFarFromEnds}
+use Rattle.tz_rule.specs.LocalTimeType.{LocalTimeType}
+use Rattle.tz_rule.specs.Rule.{IsRuleType}
+use Rattle.tz_rule.specs.declared.timezone.rule.TransitionRule.{TransitionRule}
+use Rattle.tz_rule.specs.declared.timezone.rule.TransitionRule.TheVariants.{Fixed, Alternate}
+use Rattle.tz_zone.specs.Table.{Zone}
+use Rattle.tz_zone.specs.Clock.{IsClock}
+use Rattle.tz.specs.Found.{Clock}
+use Rattle.tz.specs.Reached.{AreOffsetsOf}
+use Rattle.tz.specs.Walks.{IsOutside, HasOutside}
+use Rattle.tz.specs.FindFaults.{IsFindFault, IsFarFromEnds, IsInsideEnds, HasRuleOffsets, HasPlainOffsets, IsPromised}
+use Rattle.tz.proofs.KindLemmas.{fixed_type, alternate_type, offsets_from_types}
 
 year_fits : (y : ℤ) → negsuc 2147483647 ≤ℤ y → y ≤ℤ pos 2147483647 → SFits w32 y
 year_fits (pos n) low high = record { sfits = omega (arith, ints) }
 year_fits (negsuc n) low high = record { sfits = omega (arith, ints) }
 
-far_from_ends : (f : Fields) → IsValid f → IsFarFromEnds f.year → ¬ IsNearAnEnd (reading f)
-far_from_ends f valid far (x, near, outside) =
+-- far from the ends nothing near a reading lies outside
+far_from_ends : (f : Fields) → IsValid f → IsFarFromEnds f.year → (x : ℤ) → ¬ IsOutside (reading f) x
+far_from_ends f valid far x (near, outside) =
     let before = first_day-mono (f.year -ℤ pos 200) f.year 200 (omega (arith, ints)) in
     let after = first_day-mono (f.year +ℤ pos 1) (f.year +ℤ pos 199 +ℤ pos 1) 199 (omega (arith, ints)) in
     let first = first_day_bounds (f.year -ℤ pos 200) (year_fits (f.year -ℤ pos 200) (omega (arith, ints, far.0)) (omega (arith, ints, far.1))) in
@@ -32,14 +42,62 @@ far_from_ends f valid far (x, near, outside) =
     let high : x ≤ℤ pos 67767976233532799 = omega (arith, ints, near.1, after, last.1, in_year, r.hour, r.minute, r.second) in
     outside (low, high)
 
-pub not_out_of_range : (takes_memory : Type 0) (f : Fields) → IsFarFromEnds f.year → (e : TzError) → IsFindFault takes_memory f e → e ≢ OutOfRange
-not_out_of_range takes_memory f far e (inl (fault, is, first)) out =
+-- up to near the ends nothing within three days of a reading does
+inside_ends : (f : Fields) → IsValid f → IsInsideEnds f.year → (x : ℤ) → (reading f -ℤ pos 259200) ≤ℤ x → x ≤ℤ (reading f +ℤ pos 259200) → IsReading x
+inside_ends f valid inside x from until =
+    let before = first_day-mono (f.year -ℤ pos 2) f.year 2 (omega (arith, ints)) in
+    let after = first_day-mono (f.year +ℤ pos 1) (f.year +ℤ pos 2 +ℤ pos 1) 2 (omega (arith, ints)) in
+    let first = first_day_bounds (f.year -ℤ pos 2) (year_fits (f.year -ℤ pos 2) (omega (arith, ints, inside.0)) (omega (arith, ints, inside.1))) in
+    let last = first_day_bounds (f.year +ℤ pos 2) (year_fits (f.year +ℤ pos 2) (omega (arith, ints, inside.0)) (omega (arith, ints, inside.1))) in
+    let r = valid.in_range in
+    let in_year = day_in_year f.year f.month f.month_day r.month.0 r.month.1 r.month_day.0 valid.in_month in
+    let time = 3600 * f.hour + 60 * f.minute + f.second in
+    (omega (arith, ints, from, before, first.0, in_year), omega (arith, ints, until, after, last.1, in_year, r.hour, r.minute, r.second))
+
+-- the offsets that the clock of such a zone has are above -25 and below 26 hours
+plain_offsets : (z : Zone) → HasPlainOffsets z → AreOffsetsOf z (negsuc 89998) (pos 93599)
+plain_offsets z (types, rule) = offsets_from_types z (negsuc 89998) (pos 93599)
+    (λ i t at. let offset = types i t at in (omega (arith, ints, offset.0), omega (arith, ints, offset.1)))
+    (λ r is u t at. of_rule r (subst HasRuleOffsets is rule) u t at)
+  where
+    of_rule : (r : TransitionRule) → HasRuleOffsets (Some r) → (u : ℤ) (t : LocalTimeType) → IsRuleType r u t → (negsuc 89998 ≤ℤ t.ut_offset) × (t.ut_offset ≤ℤ pos 93599)
+    of_rule (Fixed fixed) offset u t at =
+        let same = ap (λ (s : LocalTimeType). s.ut_offset) (fixed_type fixed u t at) in
+        (omega (arith, ints, same, offset.0), omega (arith, ints, same, offset.1))
+    of_rule (Alternate r) (std, dst) u t at = elim (alternate_type r u t at) [
+      | inl is ↦
+          let same = ap (λ (s : LocalTimeType). s.ut_offset) is in
+          (omega (arith, ints, same, dst.0), omega (arith, ints, same, dst.1))
+      | inr is ↦
+          let same = ap (λ (s : LocalTimeType). s.ut_offset) is in
+          (omega (arith, ints, same, std.0), omega (arith, ints, same, std.1))
+    ]
+
+-- where the list is promised no date time of it lies outside
+nothing_outside : (z : Zone) (f : Fields) → IsValid f → IsPromised z f.year → ¬ HasOutside (IsClock z) (reading f)
+nothing_outside z f valid (inl far) (inl (u, t, shows, outside)) = far_from_ends f valid far u outside
+nothing_outside z f valid (inl far) (inr (u, a, b, passes, inl outside)) = far_from_ends f valid far (u +ℤ a.ut_offset) outside
+nothing_outside z f valid (inl far) (inr (u, a, b, passes, inr outside)) = far_from_ends f valid far (u +ℤ b.ut_offset) outside
+nothing_outside z f valid (inr (inside, plain)) (inl (u, t, shows, (near, outside))) =
+    let offset = plain_offsets z plain u t shows.0 in
+    outside (inside_ends f valid inside u (omega (arith, ints, shows.1, offset.1)) (omega (arith, ints, shows.1, offset.0)))
+nothing_outside z f valid (inr (inside, plain)) (inr (u, a, b, passes, inl (near, outside))) =
+    let before = plain_offsets z plain (u -ℤ pos 1) a passes.0 in
+    let after = plain_offsets z plain u b passes.1 in
+    outside (inside_ends f valid inside (u +ℤ a.ut_offset) (omega (arith, ints, passes.3, before.0, after.1)) (omega (arith, ints, passes.2)))
+nothing_outside z f valid (inr (inside, plain)) (inr (u, a, b, passes, inr (near, outside))) =
+    let before = plain_offsets z plain (u -ℤ pos 1) a passes.0 in
+    let after = plain_offsets z plain u b passes.1 in
+    outside (inside_ends f valid inside (u +ℤ b.ut_offset) (omega (arith, ints, passes.3)) (omega (arith, ints, passes.2, before.0, after.1)))
+
+pub not_out_of_range : (takes_memory : Type 0) (z : Zone) (f : Fields) → IsPromised z f.year → (e : TzError) → IsFindFault takes_memory (IsClock z) f e → e ≢ OutOfRange
+not_out_of_range takes_memory z f promised e (inl (fault, is, first)) out =
     let wrong = sym is ∙ out in
     cc
-not_out_of_range takes_memory f far e (inr (valid, inl (is, takes))) out =
+not_out_of_range takes_memory z f promised e (inr (valid, inl (is, takes))) out =
     let wrong = sym is ∙ out in
     cc
-not_out_of_range takes_memory f far e (inr (valid, inr (is, near))) out = far_from_ends f valid far near
+not_out_of_range takes_memory z f promised e (inr (valid, inr (is, outside))) out = nothing_outside z f valid promised outside
 
 -- valid fields have no fault
 pub valid_without_fault : (f : Fields) → IsValid f → (fault : DateTimeError) → IsFirstFault f fault → ⊥
@@ -51,8 +109,8 @@ valid_without_fault f valid InvalidMinute first = absurd (omega (arith, first.3,
 valid_without_fault f valid InvalidSecond first = absurd (omega (arith, first.4, valid.in_range.second))
 valid_without_fault f valid InvalidNanoseconds first = absurd (omega (arith, first.5, valid.in_range.nanoseconds))
 
--- what a search for valid fields is refused for, unless they are near an end
-pub only_memory_is_refused : (f : Fields) → IsValid f → (e : TzError) → IsFindFault ⊤ f e → e ≢ OutOfRange → e ≡ Memory alloc_error
-only_memory_is_refused f valid e (inl (fault, is, first)) range = absurd (valid_without_fault f valid fault first)
-only_memory_is_refused f valid e (inr (valid', inl (is, takes))) range = is
-only_memory_is_refused f valid e (inr (valid', inr (is, near))) range = absurd (range is)
+-- what a search for valid fields is refused for, if it is not out of range
+pub only_memory_is_refused : (clock : Clock) (f : Fields) → IsValid f → (e : TzError) → IsFindFault ⊤ clock f e → e ≢ OutOfRange → e ≡ Memory alloc_error
+only_memory_is_refused clock f valid e (inl (fault, is, first)) range = absurd (valid_without_fault f valid fault first)
+only_memory_is_refused clock f valid e (inr (valid', inl (is, takes))) range = is
+only_memory_is_refused clock f valid e (inr (valid', inr (is, near))) range = absurd (range is)

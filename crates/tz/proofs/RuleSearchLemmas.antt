@@ -4,6 +4,7 @@ use Rattle.std.specs.List.{Contains}
 use Rattle.std.proofs.lemmas.Int.{ints, by_lt_z}
 use Rattle.std.proofs.lemmas.Option.{none-some}
 use Rattle.tz_base.specs.declared.calendar.Fields.{Fields}
+use Rattle.tz_base.specs.declared.error.TzError.{TzError}
 use Rattle.tz_base.specs.Fields.{reading}
 use Rattle.tz_rule.specs.LocalTimeType.{LocalTimeType}
 use Rattle.tz_rule.specs.Alternate.{AlternateTime, start_of, end_of, IsInRuleRange, AreRuleDays}
@@ -13,7 +14,7 @@ use Rattle.tz_zone.specs.Table.{Zone}
 use Rattle.tz_zone.specs.Clock.{IsClock}
 use Rattle.tz_zone.specs.ValidZone.{AreLeapSeconds}
 use Rattle.tz.specs.Found.{Shows, PassesOver, IsFound}
-use Rattle.tz.specs.Walks.{HoldsAt, HoldsFrom, IsStep}
+use Rattle.tz.specs.Walks.{IsSearchFault, HoldsAt, HoldsFrom, IsStep, IsStepFault}
 use Rattle.tz.specs.Reached.{IsWindowOf, IsInWindow, WindowClock}
 use Rattle.tz.specs.RuleSpans.{IsNearReading, IsSpan, ChangesOnlyAt, IsInView, RuleClock, IsOverFrom, IsAtSeam, IsPastSeam}
 use Rattle.tz.specs.declared.datetime.found.FoundDateTimeKind.{FoundDateTimeKind}
@@ -22,7 +23,7 @@ use Rattle.tz.specs.declared.datetime.walk.Walk.{Walk}
 use Rattle.tz.proofs.KindLemmas.{clock_of_rule, alternate_type}
 use Rattle.tz.proofs.RuleYearLemmas.{IsOfYear, answered_from_years, years_from_answered, inner_year_from_answered, unchanged_between, rule_type_stays, years_from_rule_type}
 use Rattle.tz.proofs.SearchLemmas.{step_since}
-use Rattle.tz.proofs.WalkLemmas.{walked_on, walked_same, found_from_end, found_from_seen}
+use Rattle.tz.proofs.WalkLemmas.{walked_on, walked_same, found_from_end, found_from_seen, search_fault_from_step, search_fault_from_seen}
 
 module _ (z : Zone) (low seam start end : ℤ) (f : Fields) (from : ℤ) (w : Walk) (found : List FoundDateTimeKind) (past : IsPastSeam z low seam start end f from w found) where
   -- from one change to the next
@@ -45,6 +46,12 @@ module _ (z : Zone) (low seam start end : ℤ) (f : Fields) (from : ℤ) (w : Wa
             ((λ seen. since.3 ∙ here.0 (same.1 seen.0)), (λ e. (same.0 (here.1 (sym since.3 ∙ e)), inr (start_u, u_end))));
       }
 
+  -- a step from one change to the next is refused for what the clock has
+  pub fault_past_change : (until : ℤ) (takes_memory : Type 0) (e : TzError) → IsStepFault takes_memory w until e → until ≤ℤ from → IsSearchFault takes_memory (IsClock z) (reading f) e
+  fault_past_change until takes_memory e fault up_to =
+      search_fault_from_seen (IsClock z) (IsInView low seam start end) takes_memory (reading f) e
+      (search_fault_from_step (RuleClock z low seam start end) f w found past.walked until (λ u within. past.holds u (within.0, omega (arith, ints, within.1, up_to))) takes_memory e fault)
+
   -- and past the last one
   pub found_past_changes : end <ℤ from → (piece : Piece) (next : Walk) (new : List FoundDateTimeKind) → IsStep w piece next new → piece.from ≡ end +ℤ pos 1 → IsFound (RuleClock z low seam start end) f (found ++ new)
   found_past_changes over piece next new step is =
@@ -54,6 +61,19 @@ module _ (z : Zone) (low seam start end : ℤ) (f : Fields) (from : ℤ) (w : Wa
         | inl early ↦ omega (arith, ints, early.1, past.after_seam, since.0)
         | inr late ↦ omega (arith, ints, late.1, since.1, is)
       ])
+
+-- a step past the seam is refused for what the clock has
+pub fault_at_seam : (z : Zone) (low high : ℤ) (w : Walk) (found : List FoundDateTimeKind) → IsAtSeam z low high w found →
+    (takes_memory : Type 0) (e : TzError) → IsStepFault takes_memory w (w.since +ℤ pos 1) e → IsSearchFault takes_memory (IsClock z) (reading w.fields) e
+fault_at_seam z low high w found at takes_memory e fault =
+    let holds : HoldsFrom (WindowClock z low high) w.since (w.since +ℤ pos 1) w.kind = λ u within t.
+    let same : u ≡ w.since = omega (arith, ints, within.0, within.1) in
+    let here = at.holds t in (
+      (λ seen. here.0 (subst (λ (v : ℤ). IsClock z v t) same seen.0)),
+      (λ is. (subst (λ (v : ℤ). IsClock z v t) (sym same) (here.1 is), (omega (arith, ints, same, at.low_is), omega (arith, ints, same, at.high_is)))),
+    ) in
+    search_fault_from_seen (IsClock z) (IsInWindow low high) takes_memory (reading w.fields) e
+    (search_fault_from_step (WindowClock z low high) w.fields w found at.walked (w.since +ℤ pos 1) holds takes_memory e fault)
 
 -- past the seam the clock is not seen until the first of the instants that count
 pub past_seam : (z : Zone) (low high start end : ℤ) (w : Walk) (found : List FoundDateTimeKind) → IsAtSeam z low high w found → w.since ≤ℤ start → end ≤ℤ high →

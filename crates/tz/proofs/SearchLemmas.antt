@@ -6,6 +6,7 @@ use Rattle.std.proofs.lemmas.Bool.{cases_lt}
 use Rattle.std.proofs.lemmas.Option.{same_Some, slice_get_within, slice_get-get_or}
 use Rattle.std.proofs.lemmas.List.Elements.{All-weaker}
 use Rattle.tz_base.specs.declared.calendar.Fields.{Fields}
+use Rattle.tz_base.specs.declared.error.TzError.{TzError}
 use Rattle.tz_base.specs.Fields.{reading}
 use Rattle.tz_rule.specs.LocalTimeType.{LocalTimeType}
 use Rattle.tz_zone.specs.Table.{Transition, Zone}
@@ -15,7 +16,7 @@ use Rattle.tz_zone.specs.ValidZone.{IsSoundTable}
 use Rattle.tz_zone.proofs.LeapTimes.{IsInstant-from_bounds, instant_bounds, leap_time_mono}
 use Rattle.tz_zone.proofs.RisingTimes.{Rise, transitions_rise}
 use Rattle.tz.specs.Found.{IsFoundBy, IsFound, instant_of}
-use Rattle.tz.specs.Walks.{HoldsFrom, IsFrom, IsStep, IsWalk, IsWalked}
+use Rattle.tz.specs.Walks.{IsSearchFault, HoldsFrom, IsFrom, IsStep, IsStepFault, IsWalk, IsWalked}
 use Rattle.tz.specs.Reached.{IsWithinReach, IsReachedAt, IsSteadyAfter, IsKindOf, IsDue, IsPieceOf, IsWindowOf, IsInWindow, WindowClock, IsOnTheWay}
 use Rattle.tz.specs.RuleSpans.{IsOverFrom, IsAtSeam}
 use Rattle.tz.specs.declared.datetime.found.FoundDateTimeKind.{FoundDateTimeKind}
@@ -24,7 +25,7 @@ use Rattle.tz.specs.declared.datetime.walk.Piece.{Piece}
 use Rattle.tz.specs.declared.datetime.walk.Walk.{Walk}
 use Rattle.tz.proofs.EffectLemmas.{leap_exists, leap_time_is_instant}
 use Rattle.tz.proofs.KindLemmas.{no_change}
-use Rattle.tz.proofs.WalkLemmas.{walked_on, walked_from_start, found_from_end, found_from_seen}
+use Rattle.tz.proofs.WalkLemmas.{walked_on, walked_from_start, found_from_end, found_from_seen, search_fault_from_step, search_fault_from_seen}
 
 pub instant_within_reach : (u : ℤ) → IsWithinReach u → IsInstant u
 instant_within_reach u reach = IsInstant-from_bounds u (omega (arith, ints, reach.0)) (omega (arith, ints, reach.1))
@@ -100,16 +101,66 @@ module _ (z : Zone) (sound : IsSoundTable z) where
           let high_is : u ≤ℤ high = omega (arith, ints, within.1, within_high) in
           ((λ seen. kind.0 seen.0), (λ e. (kind.1 e, (low_is, high_is))))
 
+      -- up to where the next transition takes effect
+      pub holds_to_next : (piece : Piece) → IsPieceOf z place piece → piece.from ≤ℤ high → HoldsFrom (WindowClock z low high) w.since piece.from w.kind
+      holds_to_next piece ((change, at, effect), kind) from_high =
+          holds_from piece.from (omega (arith, ints, from_high)) later (λ u within. inl (omega (arith, slice_get_within z.transitions place change at)))
+        where
+          later : (u : ℤ) → IsFrom w.since piece.from u → (i : ℕ) (other : Transition) → place ≤ i → slice_get z.transitions i ≡ Some other → (l : ℤ) → IsLeapTime z.leap_seconds u l → l <ℤ other.unix_leap_time
+          later u within i other more at_i l leap =
+              by_lt_z l other.unix_leap_time (λ less. less) (λ not_less.
+              let time : change.unix_leap_time ≤ℤ other.unix_leap_time = elim (cases_lt place i) [
+                | inl after ↦ omega (arith, ints, rise place i change other after at at_i)
+                | inr not_after ↦
+                    let here : i ≡ place = omega arith in
+                    omega (arith, ints, ap (λ (c : Transition). c.unix_leap_time) (same_Some change other (sym at ∙ ap (slice_get z.transitions) (sym here) ∙ at_i)))
+              ] in
+              let come_here : change.unix_leap_time ≤ℤ l = omega (arith, ints, time, not_less) in
+              absurd (omega (arith, ints, within.1, effect.least u (l, leap, come_here))))
+
+      -- and up to the end of the window, where no transition takes effect any more
+      pub holds_to_end : IsSteadyAfter z come → come ≤ place → HoldsFrom (WindowClock z low high) w.since (high +ℤ pos 1) w.kind
+      holds_to_end steady all =
+          holds_from (high +ℤ pos 1) (omega (arith, ints)) (λ u within i change more at l leap.
+          omega (
+            arith,
+            ints,
+            leap_time_mono z.leap_seconds sound.leap_seconds_are u high l at_high.time (omega (arith, ints, within.1)) leap at_high.time_is,
+            at_high.later i change (omega (arith, all, more)) at,
+          )) (steady_at steady)
+        where
+          steady_at : IsSteadyAfter z come → (u : ℤ) → IsFrom w.since (high +ℤ pos 1) u → IsSteadyAfter z place
+          steady_at (inr one) u within = inr one
+          steady_at (inl less) u within =
+              elim (cases_lt come place) [
+                | inl more ↦
+                    let change = get_or z.transitions come no_change in
+                    let at = slice_get-get_or z.transitions come no_change less in
+                    let was = way.come come change more at in
+                    absurd (omega (
+                      arith,
+                      ints,
+                      was.2,
+                      at_high.later come change (omega arith) at,
+                      leap_time_mono z.leap_seconds sound.leap_seconds_are w.since high was.0 at_high.time (omega (arith, ints, within.0, within.1)) was.1 at_high.time_is,
+                    ))
+                | inr same ↦ inl (omega (arith, all, same, less))
+              ]
+
+      -- the next transition takes effect in the window
+      from_in_window : place < come → (piece : Piece) → IsPieceOf z place piece → piece.from ≤ℤ high
+      from_in_window inside piece ((change, at, effect), kind) = effect.least high (at_high.time, at_high.time_is, at_high.come place change inside at)
+
       pub on_the_way_past : place < come → (piece : Piece) (next : Walk) (new : List FoundDateTimeKind) → IsPieceOf z place piece → IsStep w piece next new → IsOnTheWay z low high f (place + 1) next (found ++ new)
       on_the_way_past inside piece next new ((change, at, effect), kind) step =
-          let from_high : piece.from ≤ℤ high = effect.least high (at_high.time, at_high.time_is, at_high.come place change inside at) in
+          let from_high : piece.from ≤ℤ high = from_in_window inside piece ((change, at, effect), kind) in
           let since = step_since w piece next new step in
           let high_is : next.since ≤ℤ high = elim since.2 [ inl e ↦ omega (arith, ints, e, way.high_is) | inr e ↦ omega (arith, ints, e, from_high) ] in
           let reach_is : next.since ≤ℤ pos 80000000000000000 = omega (arith, ints, high_is, reach) in
           let not_early : w.since ≤ℤ piece.from = way.not_before place change (omega arith) at piece.from effect.has_come in
           let since_is : piece.from ≡ next.since = elim since.2 [ inl e ↦ omega (arith, ints, e, not_early, since.1) | inr e ↦ sym e ] in
           record {
-            walked = walked_on (WindowClock z low high) f w found piece next new way.walked step (holds_from piece.from (omega (arith, ints, from_high)) later (λ u within. inl (omega (arith, slice_get_within z.transitions place change at))));
+            walked = walked_on (WindowClock z low high) f w found piece next new way.walked step (holds_to_next piece ((change, at, effect), kind) from_high);
             kind = subst (λ (v : ℤ). IsKindOf z (place + 1) v next.kind) since_is (subst (λ (k : Option LocalTimeType). IsKindOf z (place + 1) piece.from k) (sym since.3) kind);
             come = λ i other less at_i. elim (cases_lt i place) [
               | inl before ↦ come_stays other.unix_leap_time w.since next.since since.0 reach_is (way.come i other before at_i)
@@ -125,49 +176,26 @@ module _ (z : Zone) (sound : IsSoundTable z) where
                 let come_here : change.unix_leap_time ≤ℤ l = omega (arith, ints, time, come_i) in
                 omega (arith, ints, since_is, effect.least u (l, leap, come_here));
           }
-        where
-          later : (u : ℤ) → IsFrom w.since piece.from u → (i : ℕ) (other : Transition) → place ≤ i → slice_get z.transitions i ≡ Some other → (l : ℤ) → IsLeapTime z.leap_seconds u l → l <ℤ other.unix_leap_time
-          later u within i other more at_i l leap =
-              by_lt_z l other.unix_leap_time (λ less. less) (λ not_less.
-              let time : change.unix_leap_time ≤ℤ other.unix_leap_time = elim (cases_lt place i) [
-                | inl after ↦ omega (arith, ints, rise place i change other after at at_i)
-                | inr not_after ↦
-                    let here : i ≡ place = omega arith in
-                    omega (arith, ints, ap (λ (c : Transition). c.unix_leap_time) (same_Some change other (sym at ∙ ap (slice_get z.transitions) (sym here) ∙ at_i)))
-              ] in
-              let come_here : change.unix_leap_time ≤ℤ l = omega (arith, ints, time, not_less) in
-              absurd (omega (arith, ints, within.1, effect.least u (l, leap, come_here))))
+
+      -- a step to the next transition is refused for what the clock has
+      pub fault_on_the_way : place < come → (piece : Piece) → IsPieceOf z place piece → (takes_memory : Type 0) (e : TzError) → IsStepFault takes_memory w piece.from e → IsSearchFault takes_memory (IsClock z) (reading f) e
+      fault_on_the_way inside piece is takes_memory e fault =
+          search_fault_from_seen (IsClock z) (IsInWindow low high) takes_memory (reading f) e
+          (search_fault_from_step (WindowClock z low high) f w found way.walked piece.from (holds_to_next piece is (from_in_window inside piece is)) takes_memory e fault)
 
       pub found_in_window : IsSteadyAfter z come → come ≤ place → (piece : Piece) (next : Walk) (new : List FoundDateTimeKind) → IsStep w piece next new → piece.from ≡ high +ℤ pos 1 → IsFound (WindowClock z low high) f (found ++ new)
       found_in_window steady all piece next new step end =
           let since = step_since w piece next new step in
-          let walked = walked_on (WindowClock z low high) f w found piece next new way.walked step
-          (holds_from piece.from (omega (arith, ints, end)) (λ u within i change more at l leap.
-          omega (
-            arith,
-            ints,
-            leap_time_mono z.leap_seconds sound.leap_seconds_are u high l at_high.time (omega (arith, ints, within.1, end)) leap at_high.time_is,
-            at_high.later i change (omega (arith, all, more)) at,
-          )) (steady_at steady)) in
+          let holds = subst (λ (until : ℤ). HoldsFrom (WindowClock z low high) w.since until w.kind) (sym end) (holds_to_end steady all) in
+          let walked = walked_on (WindowClock z low high) f w found piece next new way.walked step holds in
           found_from_end (WindowClock z low high) f next (found ++ new) walked (λ u t seen. omega (arith, ints, seen.1.1, since.1, end))
-        where
-          steady_at : IsSteadyAfter z come → (u : ℤ) → IsFrom w.since piece.from u → IsSteadyAfter z place
-          steady_at (inr one) u within = inr one
-          steady_at (inl less) u within =
-              elim (cases_lt come place) [
-                | inl more ↦
-                    let change = get_or z.transitions come no_change in
-                    let at = slice_get-get_or z.transitions come no_change less in
-                    let was = way.come come change more at in
-                    absurd (omega (
-                      arith,
-                      ints,
-                      was.2,
-                      at_high.later come change (omega arith) at,
-                      leap_time_mono z.leap_seconds sound.leap_seconds_are w.since high was.0 at_high.time (omega (arith, ints, within.0, within.1, end)) was.1 at_high.time_is,
-                    ))
-                | inr same ↦ inl (omega (arith, all, same, less))
-              ]
+
+      -- and so is the step to the end of the window
+      pub fault_in_window : IsSteadyAfter z come → come ≤ place → (until : ℤ) (takes_memory : Type 0) (e : TzError) → IsStepFault takes_memory w until e → until ≡ high +ℤ pos 1 → IsSearchFault takes_memory (IsClock z) (reading f) e
+      fault_in_window steady all until takes_memory e fault end =
+          let holds = subst (λ (v : ℤ). HoldsFrom (WindowClock z low high) w.since v w.kind) (sym end) (holds_to_end steady all) in
+          search_fault_from_seen (IsClock z) (IsInWindow low high) takes_memory (reading f) e
+          (search_fault_from_step (WindowClock z low high) f w found way.walked until holds takes_memory e fault)
 
       -- where all transitions have come, the walk is at the seam
       pub over_from_seam : length z.transitions ≤ place → IsOverFrom z w.since

@@ -1,5 +1,5 @@
 -- A walk past the pieces of a clock finds all, piece by piece.
-use Rattle.std.proofs.Common.{◌≡◌, ℕ, ◌<◌, ◌∙◌, inl, inr, refl, sym, ap, subst, arith, ℤ, pos, ◌+ℤ◌, ◌-ℤ◌, ◌≤ℤ◌, ◌<ℤ◌, List, [], ◌∷◌, ◌++◌, length, get_or, length-append, append-nil, Some, None}
+use Rattle.std.proofs.Common.{◌≡◌, ℕ, ◌<◌, ◌⊎◌, ◌∙◌, inl, inr, refl, sym, ap, subst, arith, ℤ, pos, ◌+ℤ◌, ◌-ℤ◌, ◌≤ℤ◌, ◌<ℤ◌, List, [], ◌∷◌, ◌++◌, length, get_or, length-append, append-nil, Some, None}
 use Rattle.std.specs.List.{All, AllPairs, Contains}
 use Rattle.std.proofs.Math.Seq.{get_or-append_seam}
 use Rattle.std.proofs.lemmas.Int.{ints, by_lt_z}
@@ -8,12 +8,13 @@ use Rattle.std.proofs.lemmas.List.{get_or_append_left}
 use Rattle.std.proofs.lemmas.List.Elements.{All-nil, All-push, All-weaker, Contains-append_left, Contains-push}
 use Rattle.std.proofs.lemmas.Option.{same_Some, none-some}
 use Rattle.tz_base.specs.declared.calendar.Fields.{Fields}
+use Rattle.tz_base.specs.declared.error.TzError.{TzError}
 use Rattle.tz_base.specs.Fields.{reading}
 use Rattle.tz_base.proofs.OrderLemmas.{civil_unique}
 use Rattle.tz_rule.specs.LocalTimeType.{LocalTimeType}
 use Rattle.tz.specs.DateTimes.{DateTime, ShowsInstant}
 use Rattle.tz.specs.Found.{Clock, Shows, PassesOver, IsFoundBy, IsEarlier, IsFound, instant_of}
-use Rattle.tz.specs.Walks.{moment_of, IsDateTimeOf, IsFrom, HoldsFrom, IsEntryOf, IsGiven, IsStep, IsWalk, IsFoundBefore, IsWalked}
+use Rattle.tz.specs.Walks.{IsOutside, HasOutside, IsSearchFault, moment_of, IsDateTimeOf, IsEntryOutside, IsFrom, HoldsFrom, IsEntryOf, IsGiven, IsStep, IsStepFault, IsWalk, IsFoundBefore, IsWalked}
 use Rattle.tz.specs.declared.datetime.found.FoundDateTimeKind.{FoundDateTimeKind}
 use Rattle.tz.specs.declared.datetime.found.FoundDateTimeKind.TheVariants.{Normal, Skipped}
 use Rattle.tz.specs.declared.datetime.walk.Entry.{Entry}
@@ -94,19 +95,40 @@ module _ (clock : Clock) (f : Fields) (w : Walk) (found : List FoundDateTimeKind
       let before : w.before ≡ Some a = (walked.just_before (u -ℤ pos 1) just_before a).0 passes.0 in
       (Jump u a b, (since, before, after, omega (arith, ints, r, passes.2), omega (arith, ints, r, passes.3)), (x, y, refl, sx, sy)))
 
-  -- and the entry is found
-  entry_found : (entry : Entry) (e : FoundDateTimeKind) → w.since <ℤ until → IsEntryOf w until entry → IsDateTimeOf f entry e → IsFoundBy clock f e × IsFrom w.since until (instant_of e)
-  entry_found (Shown u t) e some (kind, within, shown) is =
-      let normal : IsFoundBy clock f (Normal (moment_of f t u)) × IsFrom w.since until u = ((refl, ((holds u within t).1 kind, shown ∙ walked.walk.reading_is)), within) in
-      subst (λ (g : FoundDateTimeKind). IsFoundBy clock f g × IsFrom w.since until (instant_of g)) (sym is) normal
-  entry_found (Jump u a b) e some (since, before, kind, low, high) (x, y, is, sx, sy) =
+  -- the clock has what the entry says
+  shown_by_piece : (u : ℤ) (t : LocalTimeType) → IsEntryOf w until (Shown u t) → Shows clock (reading f) u t
+  shown_by_piece u t (kind, within, shown) = ((holds u within t).1 kind, shown ∙ walked.walk.reading_is)
+
+  passed_by_piece : (u : ℤ) (a b : LocalTimeType) → w.since <ℤ until → IsEntryOf w until (Jump u a b) → PassesOver clock (reading f) u a b
+  passed_by_piece u a b some (since, before, kind, low, high) =
       let r = walked.walk.reading_is in
-      let instant = sx.instant_is in
       let just_before : IsFrom (w.since -ℤ pos 1) w.since (u -ℤ pos 1) = (omega (arith, ints, since), omega (arith, ints, since)) in
       let here : IsFrom w.since until u = (omega (arith, ints, since), omega (arith, ints, since, some)) in
-      let passes : PassesOver clock (reading f) u a b = ((walked.just_before (u -ℤ pos 1) just_before a).1 before, (holds u here b).1 kind, omega (arith, ints, r, low), omega (arith, ints, r, high)) in
-      let skipped : IsFoundBy clock f (Skipped x y) × IsFrom w.since until x.unix_time = ((u, a, b, passes, sx, sy), (omega (arith, ints, instant, here.0), omega (arith, ints, instant, here.1))) in
+      ((walked.just_before (u -ℤ pos 1) just_before a).1 before, (holds u here b).1 kind, omega (arith, ints, r, low), omega (arith, ints, r, high))
+
+  -- and the entry is found
+  entry_found : (entry : Entry) (e : FoundDateTimeKind) → w.since <ℤ until → IsEntryOf w until entry → IsDateTimeOf f entry e → IsFoundBy clock f e × IsFrom w.since until (instant_of e)
+  entry_found (Shown u t) e some entry is =
+      let normal : IsFoundBy clock f (Normal (moment_of f t u)) × IsFrom w.since until u = ((refl, shown_by_piece u t entry), entry.1) in
+      subst (λ (g : FoundDateTimeKind). IsFoundBy clock f g × IsFrom w.since until (instant_of g)) (sym is) normal
+  entry_found (Jump u a b) e some entry (x, y, is, sx, sy) =
+      let instant = sx.instant_is in
+      let since = entry.0 in
+      let skipped : IsFoundBy clock f (Skipped x y) × IsFrom w.since until x.unix_time = ((u, a, b, passed_by_piece u a b some entry, sx, sy), (omega (arith, ints, instant, since), omega (arith, ints, instant, since, some))) in
       subst (λ (g : FoundDateTimeKind). IsFoundBy clock f g × IsFrom w.since until (instant_of g)) (sym is) skipped
+
+  -- where it lies outside the years of 32 bits, what is to be found does
+  outside_from_entry : (entry : Entry) → w.since <ℤ until → IsEntryOf w until entry → IsEntryOutside w.reading entry → HasOutside clock (reading f)
+  outside_from_entry (Shown u t) some entry outside =
+      let instant : w.reading -ℤ t.ut_offset ≡ u = omega (arith, ints, entry.2) in
+      inl (u, t, shown_by_piece u t entry, subst (λ (r : ℤ). IsOutside r u) walked.walk.reading_is (subst (λ (v : ℤ). IsOutside w.reading v) instant outside))
+  outside_from_entry (Jump u a b) some entry outside =
+      inr (u, a, b, passed_by_piece u a b some entry, subst (λ (r : ℤ). IsOutside r (u +ℤ a.ut_offset) ⊎ IsOutside r (u +ℤ b.ut_offset)) walked.walk.reading_is outside)
+
+  -- why a step past the piece is refused is why the search is
+  pub search_fault_from_step : (takes_memory : Type 0) (e : TzError) → IsStepFault takes_memory w until e → IsSearchFault takes_memory clock (reading f) e
+  search_fault_from_step takes_memory e (some, inl memory) = inl memory
+  search_fault_from_step takes_memory e (some, inr (is, entry, of_piece, outside)) = inr (is, outside_from_entry entry some of_piece outside)
 
   -- nothing in the piece
   found_before_none : w.since <ℤ until → ((entry : Entry) → ¬ IsEntryOf w until entry) → IsFoundBefore clock f until found
@@ -207,6 +229,12 @@ found_from_seen clock view f found shown passed is = record {
     see (Skipped x y) (u, a, b, passes, sx, sy) =
         let seen = passed u a b passes in
         (u, a, b, ((passes.0, seen.0), (passes.1, seen.1), passes.2, passes.3), sx, sy)
+
+-- why a search of the clock as it is seen is refused is why one of the clock is
+pub search_fault_from_seen : (clock : Clock) (view : ℤ → Type 0) (takes_memory : Type 0) (r : ℤ) (e : TzError) → IsSearchFault takes_memory (SeenClock clock view) r e → IsSearchFault takes_memory clock r e
+search_fault_from_seen clock view takes_memory r e (inl memory) = inl memory
+search_fault_from_seen clock view takes_memory r e (inr (is, inl (u, t, shows, outside))) = inr (is, inl (u, t, (shows.0.0, shows.1), outside))
+search_fault_from_seen clock view takes_memory r e (inr (is, inr (u, a, b, passes, outside))) = inr (is, inr (u, a, b, (passes.0.0, passes.1.0, passes.2, passes.3), outside))
 
 -- a piece that ends before its type shows the reading has no entry
 pub no_entry_before : (w : Walk) (until : ℤ) (t : LocalTimeType) → w.kind ≡ Some t → w.since ≤ℤ (w.reading -ℤ t.ut_offset) → until ≤ℤ (w.reading -ℤ t.ut_offset) → (entry : Entry) → ¬ IsEntryOf w until entry

@@ -7,7 +7,7 @@ use Rattle.tz_base.specs.declared.error.TzError.TheVariants as faults
 use Rattle.tz_base.specs.Fields.{reading, IsValid, IsReading}
 use Rattle.tz_rule.specs.LocalTimeType.{LocalTimeType}
 use Rattle.tz.specs.DateTimes.{DateTime, ShowsInstant}
-use Rattle.tz.specs.Found.{Clock, IsFoundBy, IsEarlier, instant_of}
+use Rattle.tz.specs.Found.{Clock, Shows, PassesOver, IsFoundBy, IsEarlier, instant_of}
 use Rattle.tz.specs.declared.datetime.found.FoundDateTimeKind.{FoundDateTimeKind}
 use Rattle.tz.specs.declared.datetime.found.FoundDateTimeKind.TheVariants.{Normal, Skipped}
 use Rattle.tz.specs.declared.datetime.walk.Entry.{Entry}
@@ -23,13 +23,20 @@ IsSmall x = (negsuc 70000000000000000 ≤ℤ x) × (x ≤ℤ pos 700000000000000
 abbrev pub IsNear : ℤ → ℤ → Type 0
 IsNear r x = ((r -ℤ pos 4294967296) <ℤ x) × (x <ℤ (r +ℤ pos 4294967296))
 
--- some moment near the reading lies outside the years of 32 bits
-abbrev pub IsNearAnEnd : ℤ → Type 0
-IsNearAnEnd r = (x : ℤ) × IsNear r x × ¬ IsReading x
+-- a moment near the reading that lies outside the years of 32 bits
+abbrev pub IsOutside : ℤ → ℤ → Type 0
+IsOutside r x = IsNear r x × ¬ IsReading x
 
--- why a search is refused: memory, if it takes any, or the reading is too near an end of the years of 32 bits
-abbrev pub IsSearchFault : Type 0 → ℤ → TzError → Type 0
-IsSearchFault takes_memory r e = ((e ≡ faults.Memory alloc_error) × takes_memory) ⊎ ((e ≡ faults.OutOfRange) × IsNearAnEnd r)
+-- a date time that is to be found lies outside those years: the clock shows the reading at such an instant, or is set forward over it
+-- from such a moment or to one
+abbrev pub HasOutside : Clock → ℤ → Type 0
+HasOutside clock r =
+    ((u : ℤ) × (t : LocalTimeType) × Shows clock r u t × IsOutside r u)
+    ⊎ ((u : ℤ) × (a : LocalTimeType) × (b : LocalTimeType) × PassesOver clock r u a b × (IsOutside r (u +ℤ a.ut_offset) ⊎ IsOutside r (u +ℤ b.ut_offset)))
+
+-- why a search is refused: memory, if it takes any, or a date time that is to be found lies outside the years of 32 bits
+abbrev pub IsSearchFault : Type 0 → Clock → ℤ → TzError → Type 0
+IsSearchFault takes_memory clock r e = ((e ≡ faults.Memory alloc_error) × takes_memory) ⊎ ((e ≡ faults.OutOfRange) × HasOutside clock r)
 
 -- the date time with these parts
 abbrev pub moment_of : Fields → LocalTimeType → ℤ → DateTime
@@ -45,6 +52,11 @@ IsDateTimeOf f (Jump u a b) found =
 abbrev pub IsEntryNear : ℤ → Entry → Type 0
 IsEntryNear r (Shown u t) = (u ≡ r -ℤ t.ut_offset) × IsNear r u
 IsEntryNear r (Jump u a b) = IsNear r (u +ℤ a.ut_offset) × IsNear r (u +ℤ b.ut_offset)
+
+-- a date time of the entry lies outside the years of 32 bits
+abbrev pub IsEntryOutside : ℤ → Entry → Type 0
+IsEntryOutside r (Shown u t) = IsOutside r (r -ℤ t.ut_offset)
+IsEntryOutside r (Jump u a b) = IsOutside r (u +ℤ a.ut_offset) ⊎ IsOutside r (u +ℤ b.ut_offset)
 
 -- the instants from one up to another, not counting that
 abbrev pub IsFrom : ℤ → ℤ → ℤ → Type 0
@@ -75,6 +87,16 @@ abbrev pub IsStep : Walk → Piece → Walk → List FoundDateTimeKind → Type 
 IsStep w piece next found =
     ((piece.from ≤ℤ w.since) × (next ≡ record w { kind = piece.kind }) × (found ≡ []))
     ⊎ ((w.since <ℤ piece.from) × (next ≡ record w { before = w.kind; since = piece.from; kind = piece.kind }) × IsGiven w piece.from found)
+
+-- why the last piece gives nothing, where it ends at an instant: memory, or its entry lies outside the years of 32 bits
+abbrev pub IsGiveFault : Type 0 → Walk → ℤ → TzError → Type 0
+IsGiveFault takes_memory w until e =
+    ((e ≡ faults.Memory alloc_error) × takes_memory)
+    ⊎ ((e ≡ faults.OutOfRange) × (entry : Entry) × IsEntryOf w until entry × IsEntryOutside w.reading entry)
+
+-- why a step to a piece that begins at an instant is refused: it ends the last piece, which gives nothing
+abbrev pub IsStepFault : Type 0 → Walk → ℤ → TzError → Type 0
+IsStepFault takes_memory w from e = (w.since <ℤ from) × IsGiveFault takes_memory w from e
 
 -- a walk for valid fields
 pub record IsWalk (f : Fields) (w : Walk) : Type 0 where

@@ -13,7 +13,7 @@ ghost use Rattle.tz_base.specs.declared.error.TzError.{TzError};
 ghost use Rattle.tz_base.specs.declared.error.TzError.TheVariants.{Memory};
 ghost use Rattle.tz_zone.specs.Clock.{IsClock};
 ghost use Rattle.tz_zone.specs.Table.{Zone};
-ghost use Rattle.tz.specs.FindFaults.{IsFarFromEnds, IsFindFault};
+ghost use Rattle.tz.specs.FindFaults.{IsPromised, IsFindFault};
 ghost use Rattle.tz.specs.Found.{IsFound};
 ghost use Rattle.tz.specs.declared.datetime.found.FoundDateTimeKind.{FoundDateTimeKind};
 ghost use Rattle.tz.specs.declared.datetime.found.FoundDateTimeKind.TheVariants.{Normal as normal};
@@ -61,9 +61,9 @@ pub fn projections_keep_the_instant()
     ensures { (z : Zone) (u : ℤ) (nanoseconds : ℕ) (d : DateTime) → ShowsByClock z u nanoseconds d → (d.unix_time ≡ u) × (d.fields.nanoseconds ≡ nanoseconds) }
 {}
 
-/// What [`crate::DateTime::from_timespec`] shows, [`crate::DateTime::find`] of its fields lists, wherever its year is 200 years or
-/// more from both ends of 32 bits and memory is not refused.
+/// What [`crate::DateTime::from_timespec`] shows, [`crate::DateTime::find`] of its fields lists, wherever the list is promised and
+/// memory is not refused.
 pub fn shown_date_times_are_found()
     ensures found { (z : Zone) (u : ℤ) (n : ℕ) (d : DateTime) (found : List FoundDateTimeKind) → ShowsByClock z u n d → IsFound (IsClock z) d.fields found → Contains found (normal d) }
-    ensures refused { (z : Zone) (u : ℤ) (n : ℕ) (d : DateTime) (e : TzError) → ShowsByClock z u n d → IsFarFromEnds d.fields.year → IsFindFault ⊤ d.fields e → e ≡ Memory alloc_error }
+    ensures refused { (z : Zone) (u : ℤ) (n : ℕ) (d : DateTime) (e : TzError) → ShowsByClock z u n d → IsPromised z d.fields.year → IsFindFault ⊤ (IsClock z) d.fields e → e ≡ Memory alloc_error }
 {}

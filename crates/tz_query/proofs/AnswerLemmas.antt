@@ -15,6 +15,7 @@ use Rattle.tz_rule.specs.LocalTimeType.{IsDesignation}
 use Rattle.tz_zone.specs.Table.{Zone}
 use Rattle.tz.specs.DateTimes.{IsClockFault}
 use Rattle.tz.specs.FindFaults.{IsFindFault}
+use Rattle.tz.specs.Found.{Clock}
 use Rattle.tz.specs.declared.datetime.found.FoundDateTimeKind.{FoundDateTimeKind}
 use Rattle.tz_query.specs.Lines.{IsLine, IsLineEnd, IsFirstLine, IsCut, AreLines, ended}
 use Rattle.tz_query.specs.Answers.{entry_text, IsFaultText, IsAnswer, AreAnswers}
@@ -117,12 +118,12 @@ entries_more found i d within =
     ∙ ended_push (map entry_text (take i found)) (entry_text (get_or found i d))
 
 -- a search is refused for the fields' fault, out of range, or for want of memory
-pub told_field_fault : (f : Fields) (fault : DateTimeError) → IsFindFault ⊤ f (DateTime fault) → IsFindFault ⊥ f (DateTime fault)
-told_field_fault f fault (inl first) = inl first
-told_field_fault f fault (inr (valid, inl (is, takes))) = absurd cc
-told_field_fault f fault (inr (valid, inr (is, near))) = absurd cc
+pub told_field_fault : (clock : Clock) (f : Fields) (fault : DateTimeError) → IsFindFault ⊤ clock f (DateTime fault) → IsFindFault ⊥ clock f (DateTime fault)
+told_field_fault clock f fault (inl first) = inl first
+told_field_fault clock f fault (inr (valid, inl (is, takes))) = absurd cc
+told_field_fault clock f fault (inr (valid, inr (is, near))) = absurd cc
 
-pub told_out_of_range : (f : Fields) → IsFindFault ⊤ f OutOfRange → IsFindFault ⊥ f OutOfRange
-told_out_of_range f (inl (fault, is, first)) = absurd cc
-told_out_of_range f (inr (valid, inl (is, takes))) = absurd cc
-told_out_of_range f (inr (valid, inr near)) = inr (valid, inr near)
+pub told_out_of_range : (clock : Clock) (f : Fields) → IsFindFault ⊤ clock f OutOfRange → IsFindFault ⊥ clock f OutOfRange
+told_out_of_range clock f (inl (fault, is, first)) = absurd cc
+told_out_of_range clock f (inr (valid, inl (is, takes))) = absurd cc
+told_out_of_range clock f (inr (valid, inr near)) = inr (valid, inr near)

@@ -19,7 +19,7 @@ use Rattle.tz_zone.specs.Clock.{IsClock, IsOver, IsTypeAfter}
 use Rattle.tz_zone.specs.ValidZone.{AreLeapSeconds}
 use Rattle.tz_zone.proofs.Clocks.{clock_unique, type_after_from_clock}
 use Rattle.tz.specs.DateTimes.{DateTime, ShowsByClock, IsClockFault}
-use Rattle.tz.specs.FindFaults.{IsFindFault, IsFarFromEnds}
+use Rattle.tz.specs.FindFaults.{IsFindFault, IsPromised}
 use Rattle.tz.specs.Found.{IsFound}
 use Rattle.tz.specs.declared.datetime.found.FoundDateTimeKind.{FoundDateTimeKind}
 use Rattle.tz.proofs.FarLemmas.{not_out_of_range, valid_without_fault}
@@ -254,60 +254,60 @@ first_fault_unique f InvalidNanoseconds InvalidSecond is is' = absurd (omega (ar
 first_fault_unique f InvalidNanoseconds InvalidNanoseconds is is' = refl
 
 -- why a search is refused, want of memory aside, is one reason where it is not both
-search_fault_unique : (f : Fields) (e e' : TzError) → IsFindFault ⊥ f e → IsFindFault ⊥ f e' → e ≡ e'
-search_fault_unique f e e' (inl (a, is, first)) (inl (b, is', first')) = is ∙ ap (λ x. FieldFault x) (first_fault_unique f a b first first') ∙ sym is'
-search_fault_unique f e e' (inl (a, is, first)) (inr (valid, fault)) = absurd (valid_without_fault f valid a first)
-search_fault_unique f e e' (inr (valid, fault)) (inl (b, is, first)) = absurd (valid_without_fault f valid b first)
-search_fault_unique f e e' (inr (valid, inl (is, none))) (inr fault) = absurd none
-search_fault_unique f e e' (inr (valid, inr (is, near))) (inr (valid', inl (is', none))) = absurd none
-search_fault_unique f e e' (inr (valid, inr (is, near))) (inr (valid', inr (is', near'))) = is ∙ sym is'
+search_fault_unique : (z : Zone) (f : Fields) (e e' : TzError) → IsFindFault ⊥ (IsClock z) f e → IsFindFault ⊥ (IsClock z) f e' → e ≡ e'
+search_fault_unique z f e e' (inl (a, is, first)) (inl (b, is', first')) = is ∙ ap (λ x. FieldFault x) (first_fault_unique f a b first first') ∙ sym is'
+search_fault_unique z f e e' (inl (a, is, first)) (inr (valid, fault)) = absurd (valid_without_fault f valid a first)
+search_fault_unique z f e e' (inr (valid, fault)) (inl (b, is, first)) = absurd (valid_without_fault f valid b first)
+search_fault_unique z f e e' (inr (valid, inl (is, none))) (inr fault) = absurd none
+search_fault_unique z f e e' (inr (valid, inr (is, near))) (inr (valid', inl (is', none))) = absurd none
+search_fault_unique z f e e' (inr (valid, inr (is, near))) (inr (valid', inr (is', near'))) = is ∙ sym is'
 
--- valid fields far from the ends have an answer that is no refusal
-no_far_fault : (f : Fields) → IsValid f → IsFarFromEnds f.year → (e : TzError) → ¬ IsFindFault ⊥ f e
-no_far_fault f valid far e (inl (fault, is, first)) = valid_without_fault f valid fault first
-no_far_fault f valid far e (inr (valid', inl (is, none))) = none
-no_far_fault f valid far e (inr (valid', inr (is, near))) = not_out_of_range ⊥ f far e (inr (valid', inr (is, near))) is
+-- valid fields have an answer that is no refusal, where the list is promised
+no_promised_fault : (z : Zone) (f : Fields) → IsValid f → IsPromised z f.year → (e : TzError) → ¬ IsFindFault ⊥ (IsClock z) f e
+no_promised_fault z f valid promised e (inl (fault, is, first)) = valid_without_fault f valid fault first
+no_promised_fault z f valid promised e (inr (valid', inl (is, none))) = none
+no_promised_fault z f valid promised e (inr (valid', inr (is, near))) = not_out_of_range ⊥ z f promised e (inr (valid', inr (is, near))) is
 
 -- the list is one, and so is the refusal
 found_answers_same : (z : Zone) (f : Fields) (answer other : List (List ℕ)) (found others : List FoundDateTimeKind) → IsFound (IsClock z) f found → IsFound (IsClock z) f others →
     answer ≡ found_lines found → other ≡ found_lines others → answer ≡ other
 found_answers_same z f answer other found others list list' same same' = same ∙ ap found_lines (found_unique (IsClock z) f found others list list') ∙ sym same'
 
-refused_answers_same : (f : Fields) (answer other : List (List ℕ)) (e e' : TzError) (text text' : List ℕ) → IsFindFault ⊥ f e → IsFindFault ⊥ f e' → IsFaultText e text → IsFaultText e' text' →
+refused_answers_same : (z : Zone) (f : Fields) (answer other : List (List ℕ)) (e e' : TzError) (text text' : List ℕ) → IsFindFault ⊥ (IsClock z) f e → IsFindFault ⊥ (IsClock z) f e' → IsFaultText e text → IsFaultText e' text' →
     answer ≡ (codes "E " ++ text) ∷ [] → other ≡ (codes "E " ++ text') ∷ [] → answer ≡ other
-refused_answers_same f answer other e e' text text' fault fault' told told' same same' =
-    let one = fault_text_unique e text text' told (subst (λ x. IsFaultText x text') (sym (search_fault_unique f e e' fault fault')) told') in
+refused_answers_same z f answer other e e' text text' fault fault' told told' same same' =
+    let one = fault_text_unique e text text' told (subst (λ x. IsFaultText x text') (sym (search_fault_unique z f e e' fault fault')) told') in
     same ∙ ap (λ t. (codes "E " ++ t) ∷ []) one ∙ sym same'
 
--- fields have one answer, unless they are valid and near an end of the years of 32 bits
-search_answer_unique : (z : Zone) (f : Fields) → (IsValid f → IsFarFromEnds f.year) → (answer other : List (List ℕ)) → IsSearchAnswer z f answer → IsSearchAnswer z f other → answer ≡ other
-search_answer_unique z f far answer other (inl (found, valid, list, same)) (inl (others, valid', list', same')) = found_answers_same z f answer other found others list list' same same'
-search_answer_unique z f far answer other (inl (found, valid, list, same)) (inr (e, text, fault, told, same')) = absurd (no_far_fault f valid (far valid) e fault)
-search_answer_unique z f far answer other (inr (e, text, fault, told, same)) (inl (found, valid, list, same')) = absurd (no_far_fault f valid (far valid) e fault)
-search_answer_unique z f far answer other (inr (e, text, fault, told, same)) (inr (e', text', fault', told', same')) =
-    refused_answers_same f answer other e e' text text' fault fault' told told' same same'
+-- fields have one answer, unless they are valid and the list is not promised
+search_answer_unique : (z : Zone) (f : Fields) → (IsValid f → IsPromised z f.year) → (answer other : List (List ℕ)) → IsSearchAnswer z f answer → IsSearchAnswer z f other → answer ≡ other
+search_answer_unique z f promised answer other (inl (found, valid, list, same)) (inl (others, valid', list', same')) = found_answers_same z f answer other found others list list' same same'
+search_answer_unique z f promised answer other (inl (found, valid, list, same)) (inr (e, text, fault, told, same')) = absurd (no_promised_fault z f valid (promised valid) e fault)
+search_answer_unique z f promised answer other (inr (e, text, fault, told, same)) (inl (found, valid, list, same')) = absurd (no_promised_fault z f valid (promised valid) e fault)
+search_answer_unique z f promised answer other (inr (e, text, fault, told, same)) (inr (e', text', fault', told', same')) =
+    refused_answers_same z f answer other e e' text text' fault fault' told told' same same'
 
--- near an end they may have two, one of which is that the search is out of range
+-- then they may have two, one of which is that the search is out of range
 abbrev pub AreAlike : List (List ℕ) → List (List ℕ) → Type 0
 AreAlike answer other = (answer ≡ other) ⊎ (answer ≡ codes "E OutOfRange" ∷ []) ⊎ (other ≡ codes "E OutOfRange" ∷ [])
 
-valid_out_of_range : (f : Fields) → IsValid f → (e : TzError) (text : List ℕ) → IsFindFault ⊥ f e → IsFaultText e text → text ≡ codes "OutOfRange"
-valid_out_of_range f valid e text (inl (fault, is, first)) told = absurd (valid_without_fault f valid fault first)
-valid_out_of_range f valid e text (inr (valid', inl (is, none))) told = absurd none
-valid_out_of_range f valid e text (inr (valid', inr (is, near))) told = subst (λ x. IsFaultText x text) is told
+valid_out_of_range : (z : Zone) (f : Fields) → IsValid f → (e : TzError) (text : List ℕ) → IsFindFault ⊥ (IsClock z) f e → IsFaultText e text → text ≡ codes "OutOfRange"
+valid_out_of_range z f valid e text (inl (fault, is, first)) told = absurd (valid_without_fault f valid fault first)
+valid_out_of_range z f valid e text (inr (valid', inl (is, none))) told = absurd none
+valid_out_of_range z f valid e text (inr (valid', inr (is, near))) told = subst (λ x. IsFaultText x text) is told
 
 search_answers_alike : (z : Zone) (f : Fields) (answer other : List (List ℕ)) → IsSearchAnswer z f answer → IsSearchAnswer z f other → AreAlike answer other
 search_answers_alike z f answer other (inl (found, valid, list, same)) (inl (others, valid', list', same')) = inl (found_answers_same z f answer other found others list list' same same')
-search_answers_alike z f answer other (inl (found, valid, list, same)) (inr (e, text, fault, told, same')) = inr (inr (same' ∙ ap (λ t. (codes "E " ++ t) ∷ []) (valid_out_of_range f valid e text fault told)))
-search_answers_alike z f answer other (inr (e, text, fault, told, same)) (inl (found, valid, list, same')) = inr (inl (same ∙ ap (λ t. (codes "E " ++ t) ∷ []) (valid_out_of_range f valid e text fault told)))
+search_answers_alike z f answer other (inl (found, valid, list, same)) (inr (e, text, fault, told, same')) = inr (inr (same' ∙ ap (λ t. (codes "E " ++ t) ∷ []) (valid_out_of_range z f valid e text fault told)))
+search_answers_alike z f answer other (inr (e, text, fault, told, same)) (inl (found, valid, list, same')) = inr (inl (same ∙ ap (λ t. (codes "E " ++ t) ∷ []) (valid_out_of_range z f valid e text fault told)))
 search_answers_alike z f answer other (inr (e, text, fault, told, same)) (inr (e', text', fault', told', same')) =
-    inl (refused_answers_same f answer other e e' text text' fault fault' told told' same same')
+    inl (refused_answers_same z f answer other e e' text text' fault fault' told told' same same')
 
 -- what a line asks for has one answer, or such two
 time_query_unique : (z : Zone) (u : ℤ) (n : ℕ) (answer other : List (List ℕ)) → AreLeapSeconds z.leap_seconds → IsQueryAnswer z (Time u n) answer → IsQueryAnswer z (Time u n) other → answer ≡ other
 time_query_unique z u n answer other leaps (text, told, same) (text', told', same') = same ∙ ap (λ t. t ∷ []) (time_answer_unique z leaps u n text text' told told') ∙ sym same'
 
-query_answer_unique : (z : Zone) (line : List ℕ) (query : Query) (answer other : List (List ℕ)) → AreLeapSeconds z.leap_seconds → HasOneAnswer line → IsQueryLine line query → IsQueryAnswer z query answer → IsQueryAnswer z query other → answer ≡ other
+query_answer_unique : (z : Zone) (line : List ℕ) (query : Query) (answer other : List (List ℕ)) → AreLeapSeconds z.leap_seconds → HasOneAnswer z line → IsQueryLine line query → IsQueryAnswer z query answer → IsQueryAnswer z query other → answer ≡ other
 query_answer_unique z line (Time u n) answer other leaps one is told told' = time_query_unique z u n answer other leaps told told'
 query_answer_unique z line (Search f) answer other leaps one is told told' = search_answer_unique z f (one f is) answer other told told'
 
@@ -323,25 +323,25 @@ line_answers_alike z line answer other leaps (inr (none, same)) (inl (query, is,
 line_answers_alike z line answer other leaps (inr (none, same)) (inr (none', same')) = inl (same ∙ sym same')
 
 -- a line that has one answer
-pub line_answer_unique : (z : Zone) (line : List ℕ) (answer other : List (List ℕ)) → AreLeapSeconds z.leap_seconds → HasOneAnswer line → IsAnswer z line answer → IsAnswer z line other → answer ≡ other
+pub line_answer_unique : (z : Zone) (line : List ℕ) (answer other : List (List ℕ)) → AreLeapSeconds z.leap_seconds → HasOneAnswer z line → IsAnswer z line answer → IsAnswer z line other → answer ≡ other
 line_answer_unique z line answer other leaps one (inl (query, is, told)) (inl (query', is', told')) =
     query_answer_unique z line query answer other leaps one is told (subst (λ q. IsQueryAnswer z q other) (sym (query_unique line query query' is is')) told')
 line_answer_unique z line answer other leaps one (inl (query, is, told)) (inr (none, same)) = absurd (none query is)
 line_answer_unique z line answer other leaps one (inr (none, same)) (inl (query, is, told)) = absurd (none query is)
 line_answer_unique z line answer other leaps one (inr (none, same)) (inr (none', same')) = same ∙ sym same'
 
-zip_unique : (z : Zone) (lines : List (List ℕ)) (answers others : List (List (List ℕ))) → AreLeapSeconds z.leap_seconds → All HasOneAnswer lines → AllZip (IsAnswer z) lines answers → AllZip (IsAnswer z) lines others → answers ≡ others
+zip_unique : (z : Zone) (lines : List (List ℕ)) (answers others : List (List (List ℕ))) → AreLeapSeconds z.leap_seconds → All (HasOneAnswer z) lines → AllZip (IsAnswer z) lines answers → AllZip (IsAnswer z) lines others → answers ≡ others
 zip_unique z [] [] [] leaps one each each' = refl
 zip_unique z [] [] (x ∷ others) leaps one each each' = absurd each'
 zip_unique z [] (x ∷ answers) others leaps one each each' = absurd each
 zip_unique z (line ∷ lines) [] others leaps one each each' = absurd each
 zip_unique z (line ∷ lines) (answer ∷ answers) [] leaps one each each' = absurd each'
 zip_unique z (line ∷ lines) (answer ∷ answers) (other ∷ others) leaps one each each' =
-    let first = line_answer_unique z line answer other leaps (All-head HasOneAnswer line lines one) each.0 each'.0 in
-    let more = zip_unique z lines answers others leaps (All-tail HasOneAnswer line lines one) each.1 each'.1 in
+    let first = line_answer_unique z line answer other leaps (All-head (HasOneAnswer z) line lines one) each.0 each'.0 in
+    let more = zip_unique z lines answers others leaps (All-tail (HasOneAnswer z) line lines one) each.1 each'.1 in
     cc
 
-pub answers_unique : (z : Zone) (queries bytes others : List ℕ) (lines : List (List ℕ)) → AreLeapSeconds z.leap_seconds → AreLines queries lines → All HasOneAnswer lines → AreAnswers z queries bytes → AreAnswers z queries others → bytes ≡ others
+pub answers_unique : (z : Zone) (queries bytes others : List ℕ) (lines : List (List ℕ)) → AreLeapSeconds z.leap_seconds → AreLines queries lines → All (HasOneAnswer z) lines → AreAnswers z queries bytes → AreAnswers z queries others → bytes ≡ others
 answers_unique z queries bytes others lines leaps cut one are are' =
     let found = answer_groups z queries bytes lines are cut in
     let found' = answer_groups z queries others lines are' cut in

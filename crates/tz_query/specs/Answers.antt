@@ -12,7 +12,7 @@ use Rattle.tz_rule.specs.LocalTimeType.{LocalTimeType}
 use Rattle.tz_zone.specs.Clock.{IsClock}
 use Rattle.tz_zone.specs.Table.{Zone}
 use Rattle.tz.specs.DateTimes.{DateTime, ShowsByClock, IsClockFault}
-use Rattle.tz.specs.FindFaults.{IsFindFault, IsFarFromEnds}
+use Rattle.tz.specs.FindFaults.{IsFindFault, IsPromised}
 use Rattle.tz.specs.Found.{IsFound}
 use Rattle.tz.specs.PrintedText.{printed_text}
 use Rattle.tz.specs.declared.datetime.found.FoundDateTimeKind.{FoundDateTimeKind}
@@ -63,7 +63,7 @@ found_lines found = (codes "F " ++ decimal (length found)) ∷ map entry_text fo
 abbrev pub IsSearchAnswer : Zone → Fields → List (List ℕ) → Type 0
 IsSearchAnswer z f answer =
     ((found : List FoundDateTimeKind) × IsValid f × IsFound (IsClock z) f found × (answer ≡ found_lines found))
-    ⊎ ((e : TzError) × (text : List ℕ) × IsFindFault ⊥ f e × IsFaultText e text × (answer ≡ (codes "E " ++ text) ∷ []))
+    ⊎ ((e : TzError) × (text : List ℕ) × IsFindFault ⊥ (IsClock z) f e × IsFaultText e text × (answer ≡ (codes "E " ++ text) ∷ []))
 
 -- the answer lines of a query
 abbrev pub IsQueryAnswer : Zone → Query → List (List ℕ) → Type 0
@@ -90,6 +90,6 @@ IsGroup answer =
     ((text : List ℕ) × (answer ≡ text ∷ []))
     ⊎ ((entries : List (List ℕ)) × (answer ≡ (codes "F " ++ decimal (length entries)) ∷ entries))
 
--- a line that has one answer: any but an `F` line of valid fields in a year that is less than 200 years from an end of 32 bits
-abbrev pub HasOneAnswer : List ℕ → Type 0
-HasOneAnswer line = (f : Fields) → IsSearchLine line f → IsValid f → IsFarFromEnds f.year
+-- a line that has one answer over a zone: any but an `F` line of valid fields in a year for which the list is not promised
+abbrev pub HasOneAnswer : Zone → List ℕ → Type 0
+HasOneAnswer z line = (f : Fields) → IsSearchLine line f → IsValid f → IsPromised z f.year

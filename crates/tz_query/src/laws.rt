@@ -22,12 +22,13 @@ pub fn each_line_has_a_group_of_answer_lines()
 {}
 
 /// What a line's answer is depends on that line and the zone alone, and so do all answers on the query bytes and the zone. Only a
-/// search near an end of the years of 32 bits has two answers at most, and one of them is that it is out of range.
+/// search whose list is not promised, near an end of the years of 32 bits, has two answers at most, and one of them is that it is
+/// out of range.
 pub fn answers_are_unique()
-    ensures line { (z : Zone) (line : List ℕ) (answer other : List (List ℕ)) → AreLeapSeconds z.leap_seconds → HasOneAnswer line
+    ensures line { (z : Zone) (line : List ℕ) (answer other : List (List ℕ)) → AreLeapSeconds z.leap_seconds → HasOneAnswer z line
         → IsAnswer z line answer → IsAnswer z line other → answer ≡ other }
     ensures two { (z : Zone) (line : List ℕ) (answer other : List (List ℕ)) → AreLeapSeconds z.leap_seconds → IsAnswer z line answer → IsAnswer z line other
         → (answer ≡ other) ⊎ (answer ≡ codes "E OutOfRange" ∷ []) ⊎ (other ≡ codes "E OutOfRange" ∷ []) }
     ensures all { (z : Zone) (queries bytes others : List ℕ) (lines : List (List ℕ)) → AreLeapSeconds z.leap_seconds → AreLines queries lines
-        → All HasOneAnswer lines → AreAnswers z queries bytes → AreAnswers z queries others → bytes ≡ others }
+        → All (HasOneAnswer z) lines → AreAnswers z queries bytes → AreAnswers z queries others → bytes ≡ others }
 {}

@@ -17,15 +17,16 @@ impl DateTime {
     ghost use Rattle.tz_zone.specs.ZoneRef.{zone_of};
     ghost use Rattle.tz.specs.Found.{IsFound};
     ghost use Rattle.tz.specs.Lists.{found_of, slots_of, count_of, reference_of};
-    ghost use Rattle.tz.specs.FindFaults.{IsFindFault, IsFarFromEnds};
+    ghost use Rattle.tz.specs.FindFaults.{IsFindFault, IsPromised};
     ghost use Rattle.tz.specs.Slots.{filled};
     ghost use Rattle.tz.specs.declared.datetime.found.FoundDateTimeKind.{FoundDateTimeKind};
 
     /// All date times at which the zone's clock shows the fields, and the jumps forward over them, by rising Unix time. The
     /// ranges are those of [`DateTime::new`].
     ///
-    /// A date time keeps the fields as they are given, second 60 included. `OutOfRange` tells that the years of 32 bits end
-    /// within 136.1 years of the fields.
+    /// A date time keeps the fields as they are given, second 60 included. `OutOfRange` tells that a date time of the list lies
+    /// outside the years of 32 bits. Never is that told of a year that is 200 years or more from both ends of these, nor, where
+    /// all offsets of the zone are above -25 and below 26 hours, of one that is three years or more from them.
     pub fn find<A: Allocator + Copy>(
         alloc: A,
         year: i32,
@@ -39,8 +40,8 @@ impl DateTime {
     ) -> Result<FoundDateTimeList<A>, TzError>
         ensures ok { IfOk result (λ list. IsFound (IsClock (zone_of time_zone_ref.entry)) (record { year = year; month = month; month_day = month_day; hour = hour; minute = minute; second = second; nanoseconds = nanoseconds }) (found_of list)) }
         ensures valid { OnOk result (IsValid (record { year = year; month = month; month_day = month_day; hour = hour; minute = minute; second = second; nanoseconds = nanoseconds })) }
-        ensures far { IsFarFromEnds year → IfErr result (λ e. e ≢ TzError.OutOfRange) }
-        ensures err { IfErr result (IsFindFault ⊤ (record { year = year; month = month; month_day = month_day; hour = hour; minute = minute; second = second; nanoseconds = nanoseconds })) }
+        ensures promised { IsPromised (zone_of time_zone_ref.entry) year → IfErr result (λ e. e ≢ TzError.OutOfRange) }
+        ensures err { IfErr result (IsFindFault ⊤ (IsClock (zone_of time_zone_ref.entry)) (record { year = year; month = month; month_day = month_day; hour = hour; minute = minute; second = second; nanoseconds = nanoseconds })) }
     {
         let fields = Fields {
             year,
@@ -62,8 +63,8 @@ impl DateTime {
     ) -> Result<FoundDateTimeList<A>, TzError>
         ensures ok { IfOk result (λ list. IsFound (IsClock (zone_of time_zone_ref.entry)) fields.now (found_of list)) }
         ensures valid { OnOk result (IsValid fields.now) }
-        ensures far { IsFarFromEnds fields.now.year → IfErr result (λ e. e ≢ TzError.OutOfRange) }
-        ensures err { IfErr result (IsFindFault ⊤ fields.now) }
+        ensures promised { IsPromised (zone_of time_zone_ref.entry) fields.now.year → IfErr result (λ e. e ≢ TzError.OutOfRange) }
+        ensures err { IfErr result (IsFindFault ⊤ (IsClock (zone_of time_zone_ref.entry)) fields.now) }
     {
         fields.check()?;
         let mut list = FoundDateTimeList::new_in(alloc);
@@ -89,8 +90,8 @@ impl DateTime {
             × IsFound (IsClock (zone_of time_zone_ref.entry)) (record { year = year; month = month; month_day = month_day; hour = hour; minute = minute; second = second; nanoseconds = nanoseconds }) found
             × (count_of list ≡ length found) × (slots_of list ≡ filled buf.old found)) }
         ensures valid { OnOk result (IsValid (record { year = year; month = month; month_day = month_day; hour = hour; minute = minute; second = second; nanoseconds = nanoseconds })) }
-        ensures far { IsFarFromEnds year → IfErr result (λ e. e ≢ TzError.OutOfRange) }
-        ensures err { IfErr result (IsFindFault ⊥ (record { year = year; month = month; month_day = month_day; hour = hour; minute = minute; second = second; nanoseconds = nanoseconds })) }
+        ensures promised { IsPromised (zone_of time_zone_ref.entry) year → IfErr result (λ e. e ≢ TzError.OutOfRange) }
+        ensures err { IfErr result (IsFindFault ⊥ (IsClock (zone_of time_zone_ref.entry)) (record { year = year; month = month; month_day = month_day; hour = hour; minute = minute; second = second; nanoseconds = nanoseconds })) }
     {
         let fields = Fields {
             year,
@@ -116,8 +117,8 @@ impl DateTime {
             × (count ≡ length found) × (buf.new ≡ filled buf.old found)) }
         ensures valid { OnOk result (IsValid fields.now) }
         ensures untouched { IsValid fields.now ⊎ (buf.new ≡ buf.old) }
-        ensures far { IsFarFromEnds fields.now.year → IfErr result (λ e. e ≢ TzError.OutOfRange) }
-        ensures err { IfErr result (IsFindFault ⊥ fields.now) }
+        ensures promised { IsPromised (zone_of time_zone_ref.entry) fields.now.year → IfErr result (λ e. e ≢ TzError.OutOfRange) }
+        ensures err { IfErr result (IsFindFault ⊥ (IsClock (zone_of time_zone_ref.entry)) fields.now) }
     {
         Fields::check(fields)?;
         let mut writer = SlotWriter::new(buf);

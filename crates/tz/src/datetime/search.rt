@@ -11,7 +11,7 @@ ghost use Rattle.tz_rule.specs.Rule.{IsRuleType};
 ghost use Rattle.tz_zone.specs.Clock.{IsClock};
 ghost use Rattle.tz_zone.specs.ZoneRef.{zone_of};
 ghost use Rattle.tz.specs.Found.{IsFound};
-ghost use Rattle.tz.specs.Walks.{HoldsAt, IsSearchFault, IsSmall, IsStep, IsWalk};
+ghost use Rattle.tz.specs.Walks.{HoldsAt, IsSearchFault, IsSmall, IsStep, IsStepFault, IsWalk};
 ghost use Rattle.tz.specs.Reached.{IsWithinReach, IsReachedAt, IsKindOf, IsTypeOfLast, IsDue, IsPieceOf, AreOffsetsOf, IsWindowOf};
 ghost use Rattle.tz.specs.RuleSpans.{IsSpan, ChangesOnlyAt, RuleClock, IsOverFrom, IsAtSeam, IsPastSeam};
 ghost use Rattle.tz.specs.declared.datetime.found.FoundDateTimeKind.{FoundDateTimeKind};
@@ -304,7 +304,7 @@ fn search_changes<L: DateTimeList>(
     requires changing { ChangesOnlyAt (zone_of zone) changes.now start last }
     ensures ok { OnOk result ((new : List FoundDateTimeKind) × L.gains list.old list.new new
         × ((low seam : ℤ) (f : Fields) (found : List FoundDateTimeKind) → IsPastSeam (zone_of zone.entry) low seam start last f start walk.old found → IsFound (RuleClock (zone_of zone.entry) low seam start last) f (found ++ new))) }
-    ensures err { IfErr result (IsSearchFault L.takes_memory (reading_of walk.old.fields)) }
+    ensures err { IfErr result (λ e. (low seam : ℤ) (f : Fields) (found : List FoundDateTimeKind) → IsPastSeam (zone_of zone.entry) low seam start last f start walk.old found → IsSearchFault L.takes_memory (IsClock (zone_of zone.entry)) (reading_of f) e) }
 {
     let mut from = start;
     while from <= last {
@@ -327,7 +327,7 @@ fn pass_seam<L: DateTimeList>(walk: &mut Walk, list: &mut L) -> Result<(), TzErr
     requires walk { IsWalk walk.old.fields walk.old }
     requires since { IsWithinReach walk.old.since }
     ensures ok { OnOk result ((new : List FoundDateTimeKind) × L.gains list.old list.new new × IsStep walk.old (record { from = walk.old.since +ℤ pos 1; kind = None }) walk.new new) }
-    ensures err { IfErr result (IsSearchFault L.takes_memory (reading_of walk.old.fields)) }
+    ensures err { IfErr result (IsStepFault L.takes_memory walk.old (walk.old.since +ℤ pos 1)) }
 {
     let gap = Piece {
         from: walk.since() + 1,
@@ -351,7 +351,7 @@ fn search_rule<L: DateTimeList>(
     requires over { IsOverFrom (zone_of zone) walk.old.since }
     ensures ok { OnOk result ((new : List FoundDateTimeKind) × L.gains list.old list.new new
         × ((low : ℤ) (found : List FoundDateTimeKind) → IsAtSeam (zone_of zone.entry) low high walk.old found → IsFound (IsClock (zone_of zone.entry)) walk.old.fields (found ++ new))) }
-    ensures err { IfErr result (IsSearchFault L.takes_memory (reading_of walk.old.fields)) }
+    ensures err { IfErr result (λ e. (low : ℤ) (found : List FoundDateTimeKind) → IsAtSeam (zone_of zone.entry) low high walk.old found → IsSearchFault L.takes_memory (IsClock (zone_of zone.entry)) (reading_of walk.old.fields) e) }
 {
     rule_parts_are_sound(&TransitionRule::Alternate(rule));
     let changes = changes_around(&rule, inner_year(walk.year()));
@@ -368,7 +368,7 @@ pub(super) fn search<L: DateTimeList>(
 ) -> Result<(), TzError>
     requires { IsValid fields.now }
     ensures ok { OnOk result ((found : List FoundDateTimeKind) × L.gains list.old list.new found × IsFound (IsClock (zone_of zone.entry)) fields.now found × (length found ≤ 2 ^ 33)) }
-    ensures err { IfErr result (IsSearchFault L.takes_memory (reading_of fields.now)) }
+    ensures err { IfErr result (IsSearchFault L.takes_memory (IsClock (zone_of zone.entry)) (reading_of fields.now)) }
 {
     let (low, high) = window(zone, fields.reading());
     let reached = reached_at(zone, low);

@@ -39,14 +39,14 @@ impl Entry {
     ghost use Rattle.std.specs.Prelude.{◌≡◌, ◌+ℤ◌, ◌-ℤ◌, IfOk, IfErr};
     ghost use Rattle.tz_base.specs.Fields.{IsValid, IsReading, reading as reading_of};
     ghost use Rattle.tz.specs.DateTimes.{ShowsInstant};
-    ghost use Rattle.tz.specs.Walks.{moment_of, IsDateTimeOf, IsEntryNear, IsNear, IsNearAnEnd};
+    ghost use Rattle.tz.specs.Walks.{moment_of, IsDateTimeOf, IsEntryNear, IsEntryOutside, IsNear, IsOutside};
 
     /// The valid fields in a type that shows them.
     fn shown(fields: &Fields, local_time_type: LocalTimeType) -> Result<DateTime, TzError>
         requires valid { IsValid fields.now }
         requires near { IsNear (reading_of fields.now) (reading_of fields.now -ℤ local_time_type.ut_offset) }
         ensures ok { IfOk result (λ d. d ≡ moment_of fields.now local_time_type (reading_of fields.now -ℤ local_time_type.ut_offset)) }
-        ensures err { IfErr result (λ e. (e ≡ TzError.OutOfRange) × IsNearAnEnd (reading_of fields.now)) }
+        ensures err { IfErr result (λ e. (e ≡ TzError.OutOfRange) × IsOutside (reading_of fields.now) (reading_of fields.now -ℤ local_time_type.ut_offset)) }
     {
         DateTime::new(
             fields.year,
@@ -69,7 +69,7 @@ impl Entry {
         requires valid { IsValid fields.now }
         requires near { IsNear (reading_of fields.now) (unix_time +ℤ local_time_type.ut_offset) }
         ensures ok { IfOk result (ShowsInstant unix_time fields.now.nanoseconds local_time_type) }
-        ensures err { IfErr result (λ e. (e ≡ TzError.OutOfRange) × IsNearAnEnd (reading_of fields.now)) }
+        ensures err { IfErr result (λ e. (e ≡ TzError.OutOfRange) × IsOutside (reading_of fields.now) (unix_time +ℤ local_time_type.ut_offset)) }
     {
         DateTime::from_timespec_and_local(unix_time, fields.nanoseconds, local_time_type)
     }
@@ -79,7 +79,7 @@ impl Entry {
         requires valid { IsValid fields.now }
         requires near { IsEntryNear (reading_of fields.now) self.now }
         ensures ok { IfOk result (IsDateTimeOf fields.now self.now) }
-        ensures err { IfErr result (λ e. (e ≡ TzError.OutOfRange) × IsNearAnEnd (reading_of fields.now)) }
+        ensures err { IfErr result (λ e. (e ≡ TzError.OutOfRange) × IsEntryOutside (reading_of fields.now) self.now) }
     {
         match *self {
             Entry::Shown(_, local_time_type) => {
@@ -100,8 +100,8 @@ impl Entry {
 
 impl Walk {
     ghost use Rattle.std.specs.Prelude.{◌≡◌, List, None, OnOk, IfErr, IfSome, IfNone};
-    ghost use Rattle.tz_base.specs.Fields.{IsValid, reading as reading_of};
-    ghost use Rattle.tz.specs.Walks.{IsSmall, IsWalk, IsEntryOf, IsEntryNear, IsGiven, IsStep, IsSearchFault};
+    ghost use Rattle.tz_base.specs.Fields.{IsValid};
+    ghost use Rattle.tz.specs.Walks.{IsSmall, IsWalk, IsEntryOf, IsEntryNear, IsGiven, IsStep, IsGiveFault, IsStepFault};
     ghost use Rattle.tz.specs.declared.datetime.walk.Entry.{Entry};
     ghost use Rattle.tz.specs.declared.datetime.found.FoundDateTimeKind.{FoundDateTimeKind};
 
@@ -172,7 +172,7 @@ impl Walk {
     fn give<L: DateTimeList>(&self, list: &mut L, until: i64) -> Result<(), TzError>
         requires { IsWalk self.now.fields self.now }
         ensures ok { OnOk result ((found : List FoundDateTimeKind) × L.gains list.old list.new found × IsGiven self.now until found) }
-        ensures err { IfErr result (IsSearchFault L.takes_memory (reading_of self.now.fields)) }
+        ensures err { IfErr result (IsGiveFault L.takes_memory self.now until) }
     {
         match self.entry(until) {
             Some(entry) => {
@@ -192,7 +192,7 @@ impl Walk {
     ) -> Result<(), TzError>
         requires { IsWalk self.old.fields self.old }
         ensures ok { OnOk result ((found : List FoundDateTimeKind) × L.gains list.old list.new found × IsStep self.old piece self.new found) }
-        ensures err { IfErr result (IsSearchFault L.takes_memory (reading_of self.old.fields)) }
+        ensures err { IfErr result (IsStepFault L.takes_memory self.old piece.from) }
     {
         if piece.from <= self.since {
             self.kind = piece.kind;

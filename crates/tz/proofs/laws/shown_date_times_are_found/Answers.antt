@@ -15,4 +15,4 @@ returns-clause-found c z u n d found (t, clock, shows) is =
     is.complete (Normal d) (refl, (here, at ∙ sym reads ∙ sym shows.civil.reads))
 
 pub returns-clause-refused : goal.returns-clause-refused
-returns-clause-refused c z u n d e (t, clock, shows) far fault = only_memory_is_refused d.fields shows.civil.valid e fault (not_out_of_range ⊤ d.fields far e fault)
+returns-clause-refused c z u n d e (t, clock, shows) promised fault = only_memory_is_refused (IsClock z) d.fields shows.civil.valid e fault (not_out_of_range ⊤ z d.fields promised e fault)

@@ -1,4 +1,4 @@
--- A line that is not near an end has one answer, and so have all lines that are not.
+-- A line whose list is promised has one answer, and so have all such lines.
 use Rattle.tz_query.proofs.LawLemmas.{line_answer_unique, line_answers_alike, answers_unique}
 use Rattle.tz_query.proofs.laws.answers_are_unique.Goals as goal
 

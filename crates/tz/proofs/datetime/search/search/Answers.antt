@@ -1,16 +1,18 @@
 -- From one transition to the next, and to the end of the window.
 use Rattle.std.proofs.Common.{◌≡◌, ◌≤◌, ◌++◌, [], inl, inr, sym, ap, subst, arith, rules, length, ℤ, Option}
 use Rattle.std.proofs.lemmas.Int.{ints, to_z-of_z}
-use Rattle.std.proofs.lemmas.Result.{on_ok_weaker}
+use Rattle.std.proofs.lemmas.Result.{IfErr-weaker, err_from_is_err_and, on_ok_weaker}
 use mir.Syntax.{w64}
 use mir.Val.{SFits}
 use Rattle.tz_rule.specs.LocalTimeType.{LocalTimeType}
 use Rattle.tz_zone.specs.ZoneRef.{zone_of}
 use Rattle.tz_base.specs.declared.calendar.Fields.{Fields}
+use Rattle.tz_base.specs.Fields.{reading}
 use Rattle.tz_zone.specs.Clock.{IsClock}
 use Rattle.tz.specs.Found.{IsFound}
+use Rattle.tz.specs.Walks.{IsSearchFault}
 use Rattle.tz.specs.Reached.{IsSteadyAfter, IsKindOf}
-use Rattle.tz.proofs.SearchLemmas.{due_between, on_the_way_from_start, on_the_way_past, found_in_window, over_from_seam, at_seam, found_from_window, few_found}
+use Rattle.tz.proofs.SearchLemmas.{due_between, on_the_way_from_start, on_the_way_past, fault_on_the_way, found_in_window, fault_in_window, over_from_seam, at_seam, found_from_window, few_found}
 use Rattle.tz.proofs.datetime.search.search.Goals as goal
 use Rattle.tz.proofs.datetime.search.search.Goals.{then-come-transitions+in_default, else-come-transitions}
 
@@ -68,6 +70,16 @@ loop-place-preserved g c =
       way.6,
     )
 
+pub returns-in_err-step-clause-err : goal.returns-in_err-step-clause-err
+returns-in_err-step-clause-err g c =
+    let z = zone_of c.args.zone in
+    let high = c.window-low.result.1 in
+    let fits_high : SFits w64 high = search rules in
+    let at_high = simp to_z-of_z at c.reached_at-come.ensures.reached in
+    let way = simp to_z-of_z at c.loop-place.invariant in
+    let p = err_from_is_err_and c.from_residual.result c.from_residual.ensures.1 in
+    rw (p.1, p.2) (fault_on_the_way z c.args.zone.sound way.1 high c.args.fields.now c.window-low.ensures.high.1 c.reached_at-come.result at_high c.loop-place.place c.loop-place.walk way.0 way.3 c.loop-place-test.true c.piece_at.result c.piece_at.ensures _ _ c.in_err-step.ensures.err)
+
 pub search_rule-requires-clause-over : goal.search_rule-requires-clause-over
 search_rule-requires-clause-over g c =
     let z = zone_of c.args.zone in
@@ -97,6 +109,20 @@ returns-in-Some-clause-ok g c =
       few_found z way.1 high f (way.0 ++ rest.0) way.4 way.5 is,
     )) ok
 
+pub returns-in-Some-clause-err : goal.returns-in-Some-clause-err
+returns-in-Some-clause-err g c =
+    let z = zone_of c.args.zone in
+    let f = c.args.fields.now in
+    let high = c.window-low.result.1 in
+    let fits_high : SFits w64 high = search rules in
+    let at_high = simp to_z-of_z at c.reached_at-come.ensures.reached in
+    let way = simp to_z-of_z at c.loop-place.invariant in
+    let size = ap length c.transitions.ensures in
+    let at = at_seam z c.args.zone.sound way.1 high f c.window-low.ensures.high.1 c.reached_at-come.result at_high c.loop-place.place c.loop-place.walk way.0 way.3 (omega (arith, size)) way.4 in
+    let err = simp to_z-of_z at c.search_rule.ensures.err in
+    IfErr-weaker c.search_rule.result _ _
+    (λ e fault. subst (λ (x : Fields). IsSearchFault g.L.DateTimeList.takes_memory (IsClock z) (reading x) e) way.3.walked.walk.fields_are (fault way.1 way.0 at)) err
+
 pub returns-clause-ok : goal.returns-clause-ok
 returns-clause-ok g c =
     let z = zone_of c.args.zone in
@@ -119,3 +145,19 @@ returns-clause-ok g c =
       found,
       few_found z way.1 high f (way.0 ++ step.0) way.4 way.5 found,
     )) c.step-2.ensures.ok
+
+pub returns-clause-err : goal.returns-clause-err
+returns-clause-err g c =
+    let z = zone_of c.args.zone in
+    let high = c.window-low.result.1 in
+    let fits_high : SFits w64 high = search rules in
+    let at_high = simp to_z-of_z at c.reached_at-come.ensures.reached in
+    let way = simp to_z-of_z at c.loop-place.invariant in
+    let size = ap length c.transitions.ensures in
+    let all : c.reached_at-come.result ≤ c.loop-place.place = omega arith in
+    let steady : IsSteadyAfter z c.reached_at-come.result = elim c.if-come-transitions.branch [
+      | then-come-transitions+in_default w ↦ inr w.in_default.ensures.none
+      | else-come-transitions w ↦ inl (omega (arith, size, c.reached_at-come.ensures.within, w.if-come-transitions.false))
+    ] in
+    IfErr-weaker c.step-2.result _ _ (λ e fault.
+    fault_in_window z c.args.zone.sound way.1 high c.args.fields.now c.window-low.ensures.high.1 c.reached_at-come.result at_high c.loop-place.place c.loop-place.walk way.0 way.3 steady all _ _ e fault (omega (arith, ints))) c.step-2.ensures.err

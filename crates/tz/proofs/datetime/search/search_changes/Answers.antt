@@ -1,11 +1,11 @@
 -- From one change to the next.
 use Rattle.std.proofs.Common.{[], ◌++◌, append-nil, append_assoc, arith, rules}
 use Rattle.std.proofs.lemmas.Int.{ints, to_z-of_z}
-use Rattle.std.proofs.lemmas.Result.{on_ok_weaker}
+use Rattle.std.proofs.lemmas.Result.{IfErr-weaker, err_from_is_err_and, on_ok_weaker}
 use mir.Syntax.{w64}
 use mir.Val.{SFits}
 use Rattle.tz_zone.specs.ZoneRef.{zone_of}
-use Rattle.tz.proofs.RuleSearchLemmas.{past_change, found_past_changes}
+use Rattle.tz.proofs.RuleSearchLemmas.{past_change, fault_past_change, found_past_changes}
 use Rattle.tz.proofs.WalkLemmas.{walk_steps}
 use Rattle.tz.proofs.datetime.search.search_changes.Goals as goal
 
@@ -35,6 +35,13 @@ loop-from-preserved g c =
           c.next_change-from.result (omega (arith, ints, next.within)) (λ change of_changes after until. next.none change of_changes (omega (arith, ints, after)) until)),
     )
 
+pub returns-in_err-step-clause-err : goal.returns-in_err-step-clause-err
+returns-in_err-step-clause-err g c =
+    let p = err_from_is_err_and c.from_residual.result c.from_residual.ensures.1 in
+    let way = rw (to_z-of_z w64 c.args.start c.ranges.start, to_z-of_z w64 c.args.last c.ranges.last) at c.loop-from.invariant in
+    rw (p.1, p.2) (λ low seam f found past.
+    fault_past_change (zone_of c.args.zone) low seam c.args.start c.args.last f _ c.loop-from.walk (found ++ way.0) (way.4 low seam f found past) _ _ _ c.in_err-step.ensures.err (omega (arith, ints)))
+
 pub returns-clause-ok : goal.returns-clause-ok
 returns-clause-ok g c =
     let way = rw (to_z-of_z w64 c.args.start c.ranges.start, to_z-of_z w64 c.args.last c.ranges.last) at c.loop-from.invariant in
@@ -46,3 +53,9 @@ returns-clause-ok g c =
           (found_past_changes (zone_of c.args.zone) low seam c.args.start c.args.last f _ c.loop-from.walk (found ++ way.0) (way.4 low seam f found past) (omega (arith, ints, c.loop-from-test.false)) _ c.step-2.new.self step.0 step.2 (omega (arith, ints))),
     ))
     c.step-2.ensures.ok
+
+pub returns-clause-err : goal.returns-clause-err
+returns-clause-err g c =
+    let way = rw (to_z-of_z w64 c.args.start c.ranges.start, to_z-of_z w64 c.args.last c.ranges.last) at c.loop-from.invariant in
+    IfErr-weaker c.step-2.result _ _ (λ e fault low seam f found past.
+    fault_past_change (zone_of c.args.zone) low seam c.args.start c.args.last f _ c.loop-from.walk (found ++ way.0) (way.4 low seam f found past) _ _ e fault (omega (arith, ints, c.loop-from-test.false))) c.step-2.ensures.err

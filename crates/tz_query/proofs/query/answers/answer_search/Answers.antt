@@ -6,6 +6,8 @@ use Rattle.std.proofs.lemmas.Result.{IfOk-weaker}
 use mir.Syntax.{w32}
 use mir.Val.{SFits}
 use Rattle.tz_base.specs.declared.error.TzError.TheVariants.{DateTime, OutOfRange}
+use Rattle.tz_zone.specs.Clock.{IsClock}
+use Rattle.tz_zone.specs.ZoneRef.{zone_of}
 use Rattle.tz.specs.Lists.{found_of}
 use Rattle.tz_query.specs.Lines.{ended}
 use Rattle.tz_query.specs.Answers.{found_lines, field_fault_text}
@@ -33,7 +35,7 @@ returns-in-Err-DateTime g c =
     IfOk-weaker c.append_fault.result _ _
     (λ done items. (
       (codes "E " ++ field_fault_text fault) ∷ [],
-      inr (DateTime fault, field_fault_text fault, told_field_fault c.args.fields.now fault refused, refl, refl),
+      inr (DateTime fault, field_fault_text fault, told_field_fault (IsClock (zone_of c.args.zone)) c.args.fields.now fault refused, refl, refl),
       items ∙ ap (λ name. was ++ ended ((codes "E " ++ name) ∷ [])) c.field_fault_name.ensures.text,
     ))
     c.append_fault.ensures
@@ -44,5 +46,5 @@ returns-in-Err-OutOfRange g c =
     let error : c.in-Err-OutOfRange.field-0 ≡ OutOfRange = search rules in
     let refused = rw (c.in-Err-OutOfRange.is, error, to_z-of_z w32 c.args.fields.now.year fits) at c.find-found.ensures.err in
     IfOk-weaker c.append_fault-in-Err-OutOfRange.result _ _
-    (λ done items. (codes "E OutOfRange" ∷ [], inr (OutOfRange, codes "OutOfRange", told_out_of_range c.args.fields.now refused, refl, refl), items))
+    (λ done items. (codes "E OutOfRange" ∷ [], inr (OutOfRange, codes "OutOfRange", told_out_of_range (IsClock (zone_of c.args.zone)) c.args.fields.now refused, refl, refl), items))
     c.append_fault-in-Err-OutOfRange.ensures

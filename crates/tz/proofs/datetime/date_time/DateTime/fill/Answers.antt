@@ -2,14 +2,15 @@
 use Rattle.std.proofs.Common.{◌∙◌, inr, sym, [], arith}
 use Rattle.std.proofs.lemmas.Result.{err_from_is_err_and}
 use Rattle.std.proofs.lemmas.Grind.{common_steps}
+use Rattle.tz_zone.specs.ZoneRef.{zone_of}
 use Rattle.tz.proofs.FarLemmas.{not_out_of_range}
 use Rattle.tz.proofs.SlotLemmas.{filled_none}
 use Rattle.tz.proofs.datetime.date_time.DateTime.fill.Goals as goal
 
-pub returns-in_err-search-clause-far : goal.returns-in_err-search-clause-far
-returns-in_err-search-clause-far c =
+pub returns-in_err-search-clause-promised : goal.returns-in_err-search-clause-promised
+returns-in_err-search-clause-promised c =
     let p = err_from_is_err_and c.from_residual-in_err-search.result c.from_residual-in_err-search.ensures.1 in
-    λ far. rw (p.1, p.2) (not_out_of_range ⊥ c.args.fields.now far _ (inr (c.in_ok-check.ensures.ok, c.in_err-search.ensures.err)))
+    λ promised. rw (p.1, p.2) (not_out_of_range ⊥ (zone_of c.args.time_zone_ref) c.args.fields.now promised _ (inr (c.in_ok-check.ensures.ok, c.in_err-search.ensures.err)))
 
 pub returns-clause-ok : goal.returns-clause-ok
 returns-clause-ok c =
