@@ -2,6 +2,7 @@ pub mod SlotLemmas
 pub mod WalkLemmas
 pub mod EffectLemmas
 pub mod KindLemmas
+pub mod ClockStarts
 pub mod SearchLemmas
 pub mod RuleYearLemmas
 pub mod RuleSearchLemmas

@@ -1,13 +1,15 @@
 -- What the clauses of the counts give for a leap time.
-use Rattle.std.proofs.Common.{◌≡◌, ◌≢◌, ℕ, zero, suc, ◌<◌, refl, sym, ap, ◌∙◌, inl, inr, arith, Bool, true, false, ℤ, negsuc, ◌+ℤ◌, ◌≤ℤ◌, List, [], ◌∷◌, take, Some}
+use Rattle.std.proofs.Common.{◌≡◌, ◌≢◌, ℕ, zero, suc, ◌<◌, refl, sym, ap, ◌∙◌, inl, inr, arith, Bool, true, false, ℤ, negsuc, ◌+ℤ◌, ◌-ℤ◌, ◌≤ℤ◌, ◌<ℤ◌, List, [], ◌∷◌, take, Some}
 use Rattle.std.specs.Prelude.{slice_get, MatchBool}
-use Rattle.std.proofs.lemmas.Int.{ints}
+use Rattle.std.specs.Int.{int_max}
+use Rattle.std.proofs.lemmas.Int.{ints, by_lt_z, int_max_is}
 use Rattle.std.proofs.lemmas.Option.{none-some, same_Some}
 use lib.Signed.{le_z}
 use Rattle.tz_zone.specs.Table.{LeapSecond}
-use Rattle.tz_zone.specs.LeapTime.{IsInstant, IsStart, IsReached, IsBeforeStart, IsLeapTimeRefused, IsMomentOf, IsEffect, IsEffectRefused}
+use Rattle.tz_zone.specs.LeapTime.{IsInstant, IsStart, IsReached, IsBeforeStart, IsFirstBegun, IsLeapTimeRefused, IsMomentOf, IsEffect, IsEffectRefused}
 use Rattle.tz_zone.specs.ValidZone.{AreLeapSeconds}
 use Rattle.tz_zone.proofs.LeapTimes.{IsInstant-from_bounds, instant_bounds, past_later}
+use Rattle.tz_zone.proofs.LeapMoments.{int_max-one}
 use Rattle.tz_zone.proofs.LeapLists.{IsReachedCount, IsReached-below}
 
 -- what a comparison decides
@@ -36,6 +38,44 @@ begun_by_comparison leaps l u a b start same_time same_sum = at (le_z a b) refl
     at : (t : Bool) → t ≡ le_z a b → MatchBool t (¬ IsBeforeStart leaps u) (IsBeforeStart leaps u)
     at true e = not_before (let order : a ≤ℤ b = grind (arith, ints) in omega (arith, ints))
     at false e = (l, start, grind (arith, ints))
+
+-- the first instant that is not before the start is the start's, or the one to begin from where that is later
+pub first_begun_at : (leaps : List LeapSecond) (l : LeapSecond) (from high b : ℤ) → IsStart leaps l → b ≡ int_max (l.unix_leap_time -ℤ l.correction) from → b ≤ℤ high → IsFirstBegun leaps from high b
+first_begun_at leaps l from high b start is within =
+    let begin = l.unix_leap_time -ℤ l.correction in
+    let greatest = int_max_is begin from in
+    record {
+      from_is = omega (arith, ints);
+      high_is = within;
+      begun = λ (l', start', before).
+          let same = start_unique leaps l' l start' start in
+          let same_time = ap (λ (x : LeapSecond). x.unix_leap_time) same in
+          let same_correction = ap (λ (x : LeapSecond). x.correction) same in
+          absurd (omega (arith, ints));
+      first = λ u from_u begun.
+          by_lt_z (u +ℤ l.correction) l.unix_leap_time
+          (λ before. absurd (begun (l, start, before)))
+          (λ come. elim (int_max-one begin from) [
+            | inl e ↦ omega (arith, ints, is, e, come)
+            | inr e ↦ omega (arith, ints, is, e, from_u)
+          ]);
+    }
+
+-- what lies between two instants is one
+pub instant_between : (from high b : ℤ) → IsInstant from → IsInstant high → from ≤ℤ b → b ≤ℤ high → IsInstant b
+instant_between from high b low_fits high_fits low_is high_is =
+    IsInstant-from_bounds b (omega (arith, ints, instant_bounds from low_fits)) (omega (arith, ints, instant_bounds high high_fits))
+
+-- where it lies past the end, all up to the end is before the start
+pub all_before_start : (leaps : List LeapSecond) (l : LeapSecond) (from high b : ℤ) → IsStart leaps l → b ≡ int_max (l.unix_leap_time -ℤ l.correction) from → from ≤ℤ high → high <ℤ b → (u : ℤ) → u ≤ℤ high → IsBeforeStart leaps u
+all_before_start leaps l from high b start is order past u up_to = (
+  l,
+  start,
+  elim (int_max-one (l.unix_leap_time -ℤ l.correction) from) [
+    | inl e ↦ omega (arith, ints, is, e)
+    | inr e ↦ absurd (omega (arith, ints, is, e))
+  ],
+)
 
 -- an item of the front of a list
 pub slice_get-take : {X : Type 0} (xs : List X) (n i : ℕ) (x : X) → slice_get (take n xs) i ≡ Some x → (i < n) × (slice_get xs i ≡ Some x)

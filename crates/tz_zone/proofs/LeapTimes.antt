@@ -80,6 +80,10 @@ module _ (leaps : List LeapSecond) (are : AreLeapSeconds leaps) where
   not_refused_within u begun h (inl before) = begun before
   not_refused_within u begun h (inr past) = not_past_within u h past
 
+  -- what is not before a truncated start stays so
+  pub begun_later : (u w : ℤ) → u ≤ℤ w → ¬ IsBeforeStart leaps u → ¬ IsBeforeStart leaps w
+  begun_later u w h begun (l, start, before) = begun (l, start, omega (arith, ints, h, before))
+
   -- where a truncated start is not ahead, its record is reached
   pub start_reached : (u : ℤ) (k : ℕ) (l : LeapSecond) → IsReachedCount leaps u k → IsStart leaps l → ¬ IsBeforeStart leaps u → 0 < k
   start_reached u k l count start begun =

@@ -1,12 +1,15 @@
 //! What the crates above use of zones and their users do not: leap times, and where they take effect.
 
-ghost use Rattle.std.specs.Prelude.{◌≡◌, ℕ, ◌+◌, true, false, ◌<◌, ◌≤◌, ◌↔◌, ◌+ℤ◌, ◌≤ℤ◌, ◌<ℤ◌, length, slice_get, ℤ, IsTrue, IfOk, IfErr, IfSome, IfNone, MatchBool, MatchOption, Some, ◌-ℤ◌};
+ghost use Rattle.std.specs.Prelude.{◌≡◌, ℕ, ◌+◌, true, false, ◌<◌, ◌≤◌, ◌↔◌, ◌+ℤ◌, ◌≤ℤ◌, ◌<ℤ◌, length, [], slice_get, ℤ, IsTrue, IfOk, IfErr, IfSome, IfNone, MatchBool, MatchOption, Some, ◌-ℤ◌};
+ghost use Rattle.tz_rule.specs.LocalTimeType.{LocalTimeType};
 ghost use Rattle.tz_zone.specs.Table.{Transition, LeapSecond};
-ghost use Rattle.tz_zone.specs.LeapTime.{IsInstant, IsStart, correction_at_start as correction_of_start, correction_before as correction_at_place, IsReached, IsBeforeStart, IsPastInstants, IsLeapTimeRefused, IsLeapTime, IsMomentOf, IsEffect, IsEffectRefused};
+ghost use Rattle.tz_zone.specs.Clock.{IsClock};
+ghost use Rattle.tz_zone.specs.ZoneRef.{zone_of};
+ghost use Rattle.tz_zone.specs.LeapTime.{IsInstant, IsStart, correction_at_start as correction_of_start, correction_before as correction_at_place, IsReached, IsBeforeStart, IsFirstBegun, IsLeapTimeRefused, IsLeapTime, IsMomentOf, IsEffect, IsEffectRefused};
 ghost use Rattle.tz_zone.specs.ValidZone.{AreLeapSeconds, HasBegunAt, ExpiresAt, IsPlainTable, IsRising};
 
 use crate::partition::{Places, partition_point};
-use crate::timezone::{LeapSecond, Transition};
+use crate::timezone::{LeapSecond, TimeZoneRef, Transition};
 use tz_base::error::TzError;
 
 /// From the start of the table up to this instant each one has a leap time, whatever the leap seconds.
@@ -78,6 +81,38 @@ fn has_begun(leap_seconds: &[LeapSecond], unix_time: i64) -> bool
         }
         None => true,
     }
+}
+
+/// The first instant from one on up to another that is not before a truncated start, if there is any.
+pub fn first_begun(leap_seconds: &[LeapSecond], from: i64, high: i64) -> Option<i64>
+    requires { from ≤ℤ high }
+    ensures some { IfSome result (IsFirstBegun leap_seconds.now from high) }
+    ensures none { IfNone result ((u : ℤ) → u ≤ℤ high → IsBeforeStart leap_seconds.now u) }
+{
+    let Some(start) = truncated_start(leap_seconds) else {
+        return Some(from);
+    };
+    let begin = less(start.unix_leap_time(), start.correction()).max(i128::from(from));
+    if i128::from(high) < begin {
+        return None;
+    }
+    Some(begin as i64)
+}
+
+/// The zone, but without leap seconds where it has no transitions: its clock asks for none.
+pub fn with_used_leap_seconds(zone: TimeZoneRef<'_>) -> TimeZoneRef<'_>
+    ensures clock { (u : ℤ) (t : LocalTimeType) → (IsClock (zone_of result) u t → IsClock (zone_of zone.entry) u t) × (IsClock (zone_of zone.entry) u t → IsClock (zone_of result) u t) }
+    ensures used { (zone_of result).transitions ≡ [] → (zone_of result).leap_seconds ≡ [] }
+{
+    if !zone.transitions().is_empty() {
+        return zone;
+    }
+    TimeZoneRef::from_valid_parts(
+        zone.transitions(),
+        zone.local_time_types(),
+        &[],
+        zone.extra_rule(),
+    )
 }
 
 /// Whether a truncated start has come at the leap time.

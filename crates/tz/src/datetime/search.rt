@@ -8,6 +8,7 @@ ghost use Rattle.tz_base.specs.Days.{first_day};
 ghost use Rattle.tz_base.specs.Fields.{IsValid, reading as reading_of};
 ghost use Rattle.tz_rule.specs.LocalTimeType.{LocalTimeType};
 ghost use Rattle.tz_rule.specs.Rule.{IsRuleType};
+ghost use Rattle.tz_zone.specs.LeapTime.{IsBeforeStart};
 ghost use Rattle.tz_zone.specs.Clock.{IsClock};
 ghost use Rattle.tz_zone.specs.ZoneRef.{zone_of};
 ghost use Rattle.tz.specs.Found.{IsFound};
@@ -23,12 +24,13 @@ use tz_base::constants::SECONDS_PER_DAY;
 use tz_base::error::TzError;
 use tz_rule::inner::{end, find_local_time_type, start};
 use tz_rule::laws::rule_parts_are_sound;
-use tz_zone::inner::{effect, leap, transitions_up_to};
+use tz_zone::inner::{effect, first_begun, leap, transitions_up_to, with_used_leap_seconds};
 use tz_zone::timezone::{AlternateTime, LocalTimeType, TimeZoneRef, TransitionRule};
 
 /// How many transitions have come at an instant.
 fn reached_at(zone: TimeZoneRef<'_>, unix_time: i64) -> usize
-    requires { IsWithinReach unix_time }
+    requires reach { IsWithinReach unix_time }
+    requires begun { ¬ IsBeforeStart (zone_of zone).leap_seconds unix_time }
     ensures within { result ≤ length (zone_of zone.entry).transitions }
     ensures reached { IsReachedAt (zone_of zone.entry) unix_time result }
 {
@@ -153,7 +155,7 @@ fn window(zone: TimeZoneRef<'_>, reading: i64) -> (i64, i64)
     ensures high { IsWithinReach result.1 }
     ensures order { result.0 ≤ℤ result.1 }
     ensures width { (result.1 -ℤ result.0) ≤ℤ pos (2 ^ 32) }
-    ensures offsets { IsWindowOf (zone_of zone.entry) reading result.0 result.1 }
+    ensures offsets { AreOffsetsOf (zone_of zone.entry) (reading -ℤ result.1) (reading -ℤ result.0) }
 {
     let (least, greatest) = offsets(zone);
     (reading - i64::from(greatest), reading - i64::from(least))
@@ -360,17 +362,24 @@ fn search_rule<L: DateTimeList>(
     search_changes(walk, list, zone, &changes, start, last)
 }
 
-/// Adds all that is found of valid fields to the list, in order.
-pub(super) fn search<L: DateTimeList>(
+/// Adds all that is found of valid fields in a window to the list, in order.
+fn search_window<L: DateTimeList>(
     list: &mut L,
     fields: &Fields,
     zone: TimeZoneRef<'_>,
+    low: i64,
+    high: i64,
 ) -> Result<(), TzError>
-    requires { IsValid fields.now }
+    requires valid { IsValid fields.now }
+    requires low { IsWithinReach low }
+    requires high { IsWithinReach high }
+    requires order { low ≤ℤ high }
+    requires width { (high -ℤ low) ≤ℤ pos (2 ^ 32) }
+    requires begun { ¬ IsBeforeStart (zone_of zone).leap_seconds low }
+    requires window { IsWindowOf (zone_of zone) (reading_of fields.now) low high }
     ensures ok { OnOk result ((found : List FoundDateTimeKind) × L.gains list.old list.new found × IsFound (IsClock (zone_of zone.entry)) fields.now found × (length found ≤ 2 ^ 33)) }
     ensures err { IfErr result (IsSearchFault L.takes_memory (IsClock (zone_of zone.entry)) (reading_of fields.now)) }
 {
-    let (low, high) = window(zone, fields.reading());
     let reached = reached_at(zone, low);
     let come = reached_at(zone, high);
     let first = Piece {
@@ -391,4 +400,22 @@ pub(super) fn search<L: DateTimeList>(
         kind: None,
     };
     walk.step(list, end)
+}
+
+/// Adds all that is found of valid fields to the list, in order. A zone with transitions has no clock before its leap seconds begin.
+pub(super) fn search<L: DateTimeList>(
+    list: &mut L,
+    fields: &Fields,
+    zone: TimeZoneRef<'_>,
+) -> Result<(), TzError>
+    requires { IsValid fields.now }
+    ensures ok { OnOk result ((found : List FoundDateTimeKind) × L.gains list.old list.new found × IsFound (IsClock (zone_of zone.entry)) fields.now found × (length found ≤ 2 ^ 33)) }
+    ensures err { IfErr result (IsSearchFault L.takes_memory (IsClock (zone_of zone.entry)) (reading_of fields.now)) }
+{
+    let zone = with_used_leap_seconds(zone);
+    let (from, high) = window(zone, fields.reading());
+    match first_begun(zone.leap_seconds(), from, high) {
+        Some(low) => search_window(list, fields, zone, low, high),
+        None => Ok(()),
+    }
 }

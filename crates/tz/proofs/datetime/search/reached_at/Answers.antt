@@ -13,7 +13,7 @@ pub unwrap-unix_leap_time-requires : goal.unwrap-unix_leap_time-requires
 unwrap-unix_leap_time-requires c =
     let z = c.args.zone in
     let refused = rw (c.leap_seconds.ensures, to_z-of_z w64 c.args.unix_time c.ranges.unix_time) at c.leap.ensures.err in
-    ok_from_err c.leap.result (IfErr-weaker c.leap.result _ _ (λ e h. not_refused_within z.leap_seconds.now z.sound.leap_seconds_are c.args.unix_time c.requires.1 h.1) refused)
+    ok_from_err c.leap.result (IfErr-weaker c.leap.result _ _ (λ e h. not_refused_within z.leap_seconds.now z.sound.leap_seconds_are c.args.unix_time c.requires.begun c.requires.reach.1 h.1) refused)
 
 pub transitions_up_to-requires : goal.transitions_up_to-requires
 transitions_up_to-requires c = rw c.transitions.ensures (λ i. (c.args.zone.sound.transitions_are i).1)

@@ -116,3 +116,5 @@ fn a_rule_after_transitions(rt: HostRuntime) -> Result<(), Fail> {
     assert_eq!(rt; entries, 200);
     Ok(())
 }
+
+mod leap_tables;

@@ -4,7 +4,7 @@ use Rattle.tz_zone.specs.ZoneRef.{zone_of}
 use Rattle.tz_base.specs.Fields.{reading}
 use Rattle.tz.specs.Reached.{IsWithinReach, IsWindowOf, IsOnTheWay}
 use Rattle.tz.specs.declared.datetime.found.FoundDateTimeKind.{FoundDateTimeKind}
-use Rattle.tz.proofs.datetime.search.search.Given as goal
+use Rattle.tz.proofs.datetime.search.search_window.Given as goal
 
 abbrev pub invariant-loop-place : goal.invariant-loop-place
 invariant-loop-place g l =
