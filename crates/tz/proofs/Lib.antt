@@ -7,7 +7,9 @@ pub mod SearchLemmas
 pub mod RuleYearLemmas
 pub mod RuleSearchLemmas
 pub mod FarLemmas
+pub mod FoundLemmas
 pub mod PairLemmas
 pub mod PrintedLemmas
 pub mod ComparisonsByParts
 pub mod FieldOrder
+pub mod TotalLemmas

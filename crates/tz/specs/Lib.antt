@@ -12,3 +12,4 @@ pub mod FindFaults
 pub mod PrintedText
 pub mod UtcConstants
 pub mod Lists
+pub mod SlotEquality

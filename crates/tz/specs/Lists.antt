@@ -12,11 +12,11 @@ found_of list = list.found.items
 
 -- the slots that a list was lent, and how many date times it counts
 abbrev pub slots_of : FoundDateTimeListRefMut → Slots
-slots_of list = list.buf.slots.now
+slots_of list = list.buf.now
 
 abbrev pub count_of : FoundDateTimeListRefMut → ℕ
 count_of list = list.count
 
 -- the reference by which the list writes to those slots: two lists with one reference have the same slots
 abbrev pub reference_of : FoundDateTimeListRefMut → GName
-reference_of list = list.buf.slots.ghost_name
+reference_of list = list.buf.ghost_name

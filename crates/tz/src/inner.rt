@@ -34,7 +34,7 @@ static PAIRS: [u8; 200] =
 
 /// The tens of a number below 100, as a digit.
 #[inline(always)]
-fn tens(number: u8) -> u8
+pub fn tens(number: u8) -> u8
     requires { number < 100 }
     ensures { result ≡ 48 + number / 10 }
 {
@@ -43,7 +43,7 @@ fn tens(number: u8) -> u8
 
 /// The ones of a number below 100, as a digit.
 #[inline(always)]
-fn ones(number: u8) -> u8
+pub fn ones(number: u8) -> u8
     requires { number < 100 }
     ensures { result ≡ 48 + number % 10 }
 {
@@ -304,7 +304,7 @@ impl TextBuffer {
     }
 
     /// Appends `Z`, or the sign and the size of an offset in seconds.
-    fn push_offset(&mut self, ut_offset: i32)
+    pub fn push_offset(&mut self, ut_offset: i32)
         requires { length self.old + 17 ≤ 128 }
         ensures text { self.new ≡ self.old ++ offset_text ut_offset }
         ensures len { length self.new ≤ length self.old + 17 }

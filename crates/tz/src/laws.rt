@@ -1,5 +1,5 @@
 //! Laws of date times. A function here does nothing, or one call that it speaks of; its contract is the law, in the words of the
-//! contracts of [`UtcDateTime`] and [`crate::DateTime`].
+//! contracts of [`crate::UtcDateTime`] and [`crate::DateTime`].
 
 ghost use Rattle.std.specs.Prelude.{◌≡◌, ℕ, ◌<◌, true, pos, ℤ, ◌+ℤ◌, ◌↔◌, List, ⊤, alloc_error};
 ghost use Rattle.std.specs.List.{Contains};
@@ -17,10 +17,10 @@ ghost use Rattle.tz.specs.FindFaults.{IsPromised, IsFindFault};
 ghost use Rattle.tz.specs.Found.{IsFound};
 ghost use Rattle.tz.specs.declared.datetime.found.FoundDateTimeKind.{FoundDateTimeKind};
 ghost use Rattle.tz.specs.declared.datetime.found.FoundDateTimeKind.TheVariants.{Normal as normal};
+ghost use Rattle.tz.specs.contracts.datetime.utc_date_time.UtcDateTimeOrd.TheImpl as utc_order;
 ghost use Rattle.tz.specs.DateTimes.{DateTime, IsDateTime, IsUtc, IsUtcAt, IsShowFault, IsForwards, IsBackwards, ShowsByClock, utc_total, total_of, moment_eq, moment_cmp};
 
-use crate::{DateTime, UtcDateTime};
-use std::cmp::Ordering;
+use crate::DateTime;
 
 /// [`UtcDateTime::from_timespec`] of a date time's Unix time and nanoseconds is that date time again, unless its second is 60.
 pub fn utc_date_times_come_back()
@@ -49,12 +49,15 @@ pub fn date_time_parts_are_sound(date_time: &DateTime)
     date_time.parts_are_sound();
 }
 
-/// UTC date times with a second below 60 are in order as their total nanoseconds are.
-pub fn order_of_utc_date_times(a: UtcDateTime, b: UtcDateTime) -> Ordering
-    ensures { a.second < 60 → b.second < 60 → result ≡ int_cmp (utc_total a) (utc_total b) }
-{
-    a.cmp(&b)
-}
+/// The order of UTC date times is that of their total nanoseconds, among those with a second below 60.
+pub fn order_of_utc_date_times()
+    ensures { (a b : Fields) → IsUtc a → IsUtc b → a.second < 60 → b.second < 60 → (utc_order.ghosts).cmp a b ≡ int_cmp (utc_total a) (utc_total b) }
+{}
+
+/// What [`crate::DateTime::find`] finds of fields is one list, whatever the search.
+pub fn found_lists_are_unique()
+    ensures { (z : Zone) (f : Fields) (found others : List FoundDateTimeKind) → IsFound (IsClock z) f found → IsFound (IsClock z) f others → found ≡ others }
+{}
 
 /// A projection keeps the Unix time and the nanoseconds.
 pub fn projections_keep_the_instant()

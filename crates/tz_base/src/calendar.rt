@@ -36,7 +36,7 @@ const ADDED_YEARS: i64 = 2_147_484_000;
 /// The days from January 1st of the year -2147484000 to 1970-01-01.
 const ADDED_DAYS: i64 = 784_353_144_398;
 
-/// Their seconds.
+/// The seconds from January 1st of the year -2147484000 to 1970-01-01.
 const ADDED_SECONDS: i64 = 67_768_111_675_987_200;
 
 /// The reading of the first second of the years of 32 bits.
@@ -60,17 +60,25 @@ pub fn is_leap_year(year: i32) -> bool
     years % 400 == 0 || (years % 4 == 0 && years % 100 != 0)
 }
 
-/// How many days the month has.
+/// How many days a month of a leap year or of another one has.
 #[tactic(auto, unfolding(crate::specs::Days::month_length))]
+pub fn days_of_month(leap: bool, month: u8) -> u8
+    requires { IsMonth month }
+    ensures { result ≡ month_length leap month }
+{
+    match month {
+        2 => { if leap { 29 } else { 28 } }
+        4 | 6 | 9 | 11 => 30,
+        _ => 31,
+    }
+}
+
+/// How many days the month of a year has.
 pub fn days_in_month(year: i32, month: u8) -> u8
     requires { IsMonth month }
     ensures { result ≡ month_length (is_leap year) month }
 {
-    match month {
-        2 => { if is_leap_year(year) { 29 } else { 28 } }
-        4 | 6 | 9 | 11 => 30,
-        _ => 31,
-    }
+    days_of_month(is_leap_year(year), month)
 }
 
 /// The days of so many years, the first of which 400 divides.
@@ -99,8 +107,8 @@ pub fn first_day_of_year(year: i32) -> i64
     days_of_years(moved_year(year)) as i64 - ADDED_DAYS
 }
 
-/// The days of the year before the month.
-fn days_before_month(leap: bool, month: u8) -> u16
+/// The days of a leap year or of another one before a month of it.
+pub fn days_before_month(leap: bool, month: u8) -> u16
     requires { IsMonth month }
     ensures value { result ≡ months_length leap (month - 1) }
     ensures bound { result ≤ 335 }

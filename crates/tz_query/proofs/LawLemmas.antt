@@ -28,7 +28,7 @@ use Rattle.tz_query.specs.Numbers.{AreNumbers}
 use Rattle.tz_query.specs.Queries.{Query, Time, Search, IsLineOf, IsQueryLine, numbers_of}
 use Rattle.tz_query.specs.Answers.{moment_text, entry_text, found_lines, IsFaultText, IsTimeAnswer, IsSearchAnswer, IsQueryAnswer, IsAnswer, AreAnswers, IsGroup, HasOneAnswer}
 use Rattle.tz_query.proofs.AnswerLemmas.{no_lines}
-use Rattle.tz_query.proofs.FoundLemmas.{found_unique}
+use Rattle.tz.proofs.FoundLemmas.{found_unique}
 use Rattle.tz_query.proofs.NumberLemmas.{parts_in_front, parts_unique}
 
 -- a line has no LF

@@ -2,4 +2,5 @@ pub mod NumberLemmas
 pub mod LineLemmas
 pub mod AnswerLemmas
 pub mod LawLemmas
-pub mod FoundLemmas
+pub mod FastNumbers
+pub mod PageLemmas

@@ -4,5 +4,8 @@ pub mod Lines
 pub mod Numbers
 pub mod Queries
 pub mod Answers
+pub mod Streams
+pub mod Pages
+pub mod Tails
 pub mod Program
 pub mod FileAnswers

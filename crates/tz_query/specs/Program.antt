@@ -3,14 +3,13 @@
 use Rattle.std.specs.Prelude.{◌≡◌, ℕ, ◌⊎◌, ℤ, List, [], ◌∷◌, Option, None, Ok, Vec, vec_items, map, codes, FitsSigned}
 use Rattle.std.specs.Borrow.{Bor}
 use Rattle.std.specs.Int.{w32}
-use Rattle.std.specs.Io.KnownBytes.{Appends, Consumes, IsAtEnd}
 use Rattle.std.specs.declared.alloc.Global.{Global}
 use Rattle.tz_rule.specs.LocalTimeType.{plain_type}
 use Rattle.tz_zone.specs.Settings.{Read, IsSettingsAnswer}
 use Rattle.tz_zone.specs.Table.{Zone, zone_with}
 use Rattle.tz_zone.specs.TzFile.{IsTzFile}
 use Rattle.tz_query.specs.Numbers.{IsNumber}
-use Rattle.tz_query.specs.Answers.{AreAnswers}
+use Rattle.tz_query.specs.Streams.{WritesAnswers}
 
 -- the texts that words lend
 abbrev pub texts_of : List (Bor (List ℕ)) → List (List ℕ)
@@ -50,10 +49,5 @@ AsksForZone reads words zone = (option : List ℕ) × (word : List ℕ) × (word
 -- the input is read to its end, and its answers over the zone of the words are written, where the bytes of input and output are known
 pub record AnswersInput (reads : List ℕ → Read → Type 0) (words : List (List ℕ)) (unread left written now : Option (List ℕ)) : Type 0 where
   pub zone : Zone
-  pub queries : List ℕ
-  pub answers : List ℕ
   pub asked : AsksForZone reads words zone
-  pub read : Consumes unread left queries
-  pub at_end : IsAtEnd left
-  pub answered : AreAnswers zone queries answers
-  pub wrote : Appends written now answers
+  pub wrote : WritesAnswers zone unread left written now

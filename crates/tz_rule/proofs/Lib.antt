@@ -3,6 +3,8 @@ pub mod DayPlaces
 pub mod YearPlaces
 pub mod YearKinds
 pub mod YearlyInstants
+pub mod PairKinds
+pub mod OrderByTables
 pub mod WeakerClauses
 pub mod RulesAcrossYears
 pub mod UtcYears

@@ -25,7 +25,7 @@ rule_type_unique (Two r) u t t' a b = alternate_type_unique r u t t' a.1 b.1
 
 module _ (r : AlternateTime) (range : IsInRuleRange r) (days : AreRuleDays r) where
   decide_daylight : (u year : ℤ) → IsUtcYear u year → IsDaylight (start_of r) (end_of r) u ⊎ ¬ IsDaylight (start_of r) (end_of r) u
-  decide_daylight u year is = by_pairing (ends_come_first r) (MatchBool-ends_come_first r range days)
+  decide_daylight u year is = by_pairing (ends_come_first r) (MatchBool-ends_come_first r days)
     where
       by_pairing : (b : Bool) → MatchBool b (EndsNextYear (start_of r) (end_of r)) (¬ EndsNextYear (start_of r) (end_of r)) → IsDaylight (start_of r) (end_of r) u ⊎ ¬ IsDaylight (start_of r) (end_of r) u
       by_pairing true h = decide_across_years (start_of r) (end_of r) (IsYearly-start_of r range days.start_is) (IsYearly-end_of r range days.end_is) u year is h

@@ -1,45 +1,56 @@
--- The years that are looked at tell whether a rule ends in the next year.
-use Rattle.std.proofs.Common.{◌≡◌, ℕ, ◌+◌, ◌<◌, Bool, true, false, refl, sym, arith, ℤ, pos, ◌+ℤ◌, ◌<ℤ◌, Decides, ◌∙◌, MatchBool}
+-- The kinds of years tell whether a rule ends in the next year.
+use Rattle.std.proofs.Common.{◌≡◌, Bool, true, false, refl, sym, arith, ℤ, ◌<ℤ◌, Decides, ◌∙◌, MatchBool}
 use Rattle.std.specs.Int.Signed.{lt_z}
 use Rattle.std.proofs.lemmas.Bool.{false≢true}
 use Rattle.std.proofs.lemmas.Bool.Decides.{Decides-below_or}
-use Rattle.std.proofs.lemmas.Int.{ints, by_lt_z}
+use Rattle.std.proofs.lemmas.Int.{ints}
 use Rattle.tz_rule.specs.Alternate.{AlternateTime, start_of, end_of, IsInRuleRange, AreRuleDays}
-use Rattle.tz_rule.specs.Pairing.{ends_next_year_in, ends_come_first}
+use Rattle.tz_rule.specs.Pairing.{ends_first_in, ends_come_first, IsKeptRule}
+use Rattle.tz_rule.specs.Parts.{rule_of}
 use Rattle.tz_rule.specs.Years.{EndsNextYear}
-use Rattle.tz_rule.specs.declared.timezone.check.Distance.TheVariants.{SameYear}
-use Rattle.tz_rule.proofs.YearlyInstants.{IsYearly-start_of, IsYearly-end_of, end_later_always}
+use Rattle.tz_rule.specs.YearTables.{entry, start_table, end_table, ComesFirst, ChangesOrder}
+use Rattle.tz_rule.specs.declared.timezone.alternate.AlternateTime.TheInside.{Inside}
+use Rattle.tz_rule.proofs.OrderByTables.{IsTableOf-start_of, IsTableOf-end_of, comes_first-year, comes_first-from, rule_is_consistent}
 
 Decides-lt_z : (a b : ℤ) → Decides (lt_z a b) (a <ℤ b)
 Decides-lt_z a b = (λ e. grind (arith, ints), λ h. grind (arith, ints))
 
-Decides-ends_next_year_in : (r : AlternateTime) → Decides (ends_come_first r) ((k : ℕ) × (k < 28) × (end_of r (pos (1972 + k)) <ℤ start_of r (pos (1972 + k))))
-unfolding ends_come_first ends_next_year_in
-Decides-ends_next_year_in r =
-    Decides-below_or (λ k. lt_z (end_of r (pos (1972 + k))) (start_of r (pos (1972 + k)))) (λ k. end_of r (pos (1972 + k)) <ℤ start_of r (pos (1972 + k))) (ends_next_year_in r)
-    (λ k. Decides-lt_z (end_of r (pos (1972 + k))) (start_of r (pos (1972 + k)))) refl (λ _. refl) 28
+Decides-ends_come_first : (r : AlternateTime) → Decides (ends_come_first r) (ComesFirst (end_table r) (start_table r))
+unfolding ends_come_first ends_first_in
+Decides-ends_come_first r =
+    Decides-below_or (λ k. lt_z (entry (end_table r) k) (entry (start_table r) k)) (λ k. entry (end_table r) k <ℤ entry (start_table r) k) (ends_first_in r)
+    (λ k. Decides-lt_z (entry (end_table r) k) (entry (start_table r) k)) refl (λ _. refl) 14
 
-not_next_year : (r : AlternateTime) → IsInRuleRange r → AreRuleDays r → ¬ ((k : ℕ) × (k < 28) × (end_of r (pos (1972 + k)) <ℤ start_of r (pos (1972 + k)))) → ¬ EndsNextYear (start_of r) (end_of r)
-not_next_year r range days none (y, h) =
-    let never = end_later_always (start_of r) (end_of r) (IsYearly-start_of r range days.start_is) (IsYearly-end_of r range days.end_is) SameYear
-    (λ m below. by_lt_z (end_of r (pos (1972 + m))) (start_of r (pos (1972 + m))) (λ less. absurd (none (m, below, less))) (λ more. more)) y in
-    let here : y +ℤ pos 0 ≡ y = omega (arith, ints) in
-    let same = rw here at never in
-    omega (arith, ints)
-
-pub MatchBool-ends_come_first : (r : AlternateTime) → IsInRuleRange r → AreRuleDays r → MatchBool (ends_come_first r) (EndsNextYear (start_of r) (end_of r)) (¬ EndsNextYear (start_of r) (end_of r))
-MatchBool-ends_come_first r range days = by_test (ends_come_first r) refl
+pub MatchBool-ends_come_first : (r : AlternateTime) → AreRuleDays r → MatchBool (ends_come_first r) (EndsNextYear (start_of r) (end_of r)) (¬ EndsNextYear (start_of r) (end_of r))
+MatchBool-ends_come_first r days = by_test (ends_come_first r) refl
   where
     by_test : (b : Bool) → ends_come_first r ≡ b → MatchBool b (EndsNextYear (start_of r) (end_of r)) (¬ EndsNextYear (start_of r) (end_of r))
-    by_test true e = let found = (Decides-ends_next_year_in r).0 e in (pos (1972 + found.0), found.2)
-    by_test false e = not_next_year r range days (λ found. false≢true (sym e ∙ (Decides-ends_next_year_in r).1 found))
+    by_test true e =
+        comes_first-year (end_of r) (start_of r) (end_table r) (start_table r) (IsTableOf-end_of r (end_table r) refl days.end_is) (IsTableOf-start_of r (start_table r) refl days.start_is) ((Decides-ends_come_first r).0 e)
+    by_test false e =
+        λ (y, h). false≢true (sym e ∙ (Decides-ends_come_first r).1 (comes_first-from (end_of r) (start_of r) (end_table r) (start_table r) (IsTableOf-end_of r (end_table r) refl days.end_is) (IsTableOf-start_of r (start_table r) refl days.start_is) y h))
 
 -- what is found is what is kept
-pub ends_come_first-is : (r : AlternateTime) → IsInRuleRange r → AreRuleDays r → (b : Bool) → MatchBool b (EndsNextYear (start_of r) (end_of r)) (¬ EndsNextYear (start_of r) (end_of r)) → b ≡ ends_come_first r
-ends_come_first-is r range days b h = same (ends_come_first r) b h (MatchBool-ends_come_first r range days)
+pub ends_come_first-is : (r : AlternateTime) (b : Bool) → MatchBool b (ComesFirst (end_table r) (start_table r)) (¬ ComesFirst (end_table r) (start_table r)) → b ≡ ends_come_first r
+ends_come_first-is r b h = same (ends_come_first r) b h (Decides-ends_come_first r)
   where
-    same : (c b : Bool) → MatchBool b (EndsNextYear (start_of r) (end_of r)) (¬ EndsNextYear (start_of r) (end_of r)) → MatchBool c (EndsNextYear (start_of r) (end_of r)) (¬ EndsNextYear (start_of r) (end_of r)) → b ≡ c
-    same true true h k = refl
-    same true false h k = absurd (h k)
-    same false true h k = absurd (k h)
-    same false false h k = refl
+    same : (c b : Bool) → MatchBool b (ComesFirst (end_table r) (start_table r)) (¬ ComesFirst (end_table r) (start_table r)) → Decides c (ComesFirst (end_table r) (start_table r)) → b ≡ c
+    same true true h d = refl
+    same true false h d = absurd (h (d.0 refl))
+    same false true h d = sym (d.1 h)
+    same false false h d = refl
+
+-- what passed the check may be kept
+pub kept_from : (i : Inside) → IsInRuleRange (rule_of i.parts) → AreRuleDays (rule_of i.parts) → i.starts.0 ≡ start_table (rule_of i.parts) → i.ends.0 ≡ end_table (rule_of i.parts)
+    → ¬ ChangesOrder i.starts.0 i.ends.0 → MatchBool i.ends_next_year (ComesFirst i.ends.0 i.starts.0) (¬ ComesFirst i.ends.0 i.starts.0) → IsKeptRule i
+kept_from i range days starts ends none first =
+    let r = rule_of i.parts in
+    record {
+      is_consistent = rule_is_consistent r days i.starts.0 i.ends.0 starts ends range none;
+      are_days = days;
+      pairing = ends_come_first-is r i.ends_next_year (rw (starts, ends) at first);
+      starts_are = IsTableOf-start_of r i.starts.0 starts days.start_is;
+      ends_are = IsTableOf-end_of r i.ends.0 ends days.end_is;
+      starts_made = starts;
+      ends_made = ends;
+    }

@@ -1,6 +1,6 @@
 -- What follows from a clause on an answer follows for the answer.
 use Rattle.std.proofs.Common.{◌≡◌, Bool, true, false, Option, Some, None, MatchBool, refl, sym, arith, ℤ, ◌≤ℤ◌, ◌<ℤ◌}
-use Rattle.std.specs.Int.Signed.{le_z}
+use Rattle.std.specs.Int.Signed.{le_z, lt_z}
 use Rattle.std.specs.Option.{IfNone, is_some}
 use Rattle.std.proofs.lemmas.Bool.{false≢true}
 use Rattle.std.proofs.lemmas.Int.{ints}
@@ -30,3 +30,16 @@ MatchBool-le_z {P} {Q} a b if_true if_false = by_test (le_z a b) refl
     by_test : (t : Bool) → le_z a b ≡ t → MatchBool t P Q
     by_test true e = if_true (le_z-true a b e)
     by_test false e = if_false (le_z-false a b e)
+
+lt_z-true : (a b : ℤ) → lt_z a b ≡ true → a <ℤ b
+lt_z-true a b e = grind (arith, ints)
+
+lt_z-false : (a b : ℤ) → lt_z a b ≡ false → b ≤ℤ a
+lt_z-false a b e = grind (arith, ints)
+
+pub MatchBool-lt_z : {P Q : Type 0} (a b : ℤ) → (a <ℤ b → P) → (b ≤ℤ a → Q) → MatchBool (lt_z a b) P Q
+MatchBool-lt_z {P} {Q} a b if_true if_false = by_test (lt_z a b) refl
+  where
+    by_test : (t : Bool) → lt_z a b ≡ t → MatchBool t P Q
+    by_test true e = if_true (lt_z-true a b e)
+    by_test false e = if_false (lt_z-false a b e)

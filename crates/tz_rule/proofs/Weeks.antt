@@ -4,13 +4,10 @@ use Rattle.std.proofs.lemmas.Int.{ints, int_rem_euclid_is}
 use Rattle.std.specs.Int.RustNames.{unsigned_abs}
 use Rattle.tz_base.specs.Cycles.{days_of_years}
 use Rattle.tz_base.specs.Days.{first_day, week_day_of, year_length}
+use Rattle.tz_rule.specs.Kinds.{week_day_of_year}
 use Rattle.tz_base.proofs.DayLemmas.{first_day-next}
 use Rattle.tz_base.proofs.OrderLemmas.{weeks_before, first_day-period, week_day_of-period}
 use Rattle.tz_base.proofs.YearLemmas.{first_day-moved}
-
--- the week day of January 1st
-unfoldable pub week_day_of_year : ℤ → ℕ
-week_day_of_year year = unsigned_abs (week_day_of (first_day year))
 
 remainder : (day : ℤ) → (m : ℕ) × (week_day_of day ≡ pos (m % 7)) × ((i : ℕ) → week_day_of (day +ℤ pos i) ≡ pos ((m + i) % 7))
 unfolding week_day_of

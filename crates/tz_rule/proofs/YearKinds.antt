@@ -8,7 +8,8 @@ use Rattle.tz_base.specs.Days.{is_leap}
 use Rattle.tz_base.proofs.TestsBelow.{all_below, passes_at}
 use Rattle.tz_base.proofs.YearLemmas.{is_leap-moved}
 use Rattle.tz_rule.specs.Same.{Decides-beq}
-use Rattle.tz_rule.proofs.Weeks.{week_day_of_year, week_day_of_year-moved}
+use Rattle.tz_rule.specs.Kinds.{week_day_of_year}
+use Rattle.tz_rule.proofs.Weeks.{week_day_of_year-moved}
 
 -- two years are alike, with the years after them: both are leap or not, and begin on one week day
 pub record IsAlike (x y : ℤ) : Type 0 where
@@ -17,15 +18,15 @@ pub record IsAlike (x y : ℤ) : Type 0 where
   pub week_day : week_day_of_year x ≡ week_day_of_year y
 
 -- a number below a bound at which a test passes
-any_below : (ℕ → Bool) → ℕ → Bool
+unfoldable pub any_below : (ℕ → Bool) → ℕ → Bool
 any_below test zero = false
 any_below test (suc n) = test n || any_below test n
 
-found_below : (test : ℕ → Bool) (n : ℕ) → any_below test n ≡ true → (k : ℕ) × (k < n) × (test k ≡ true)
+pub found_below : (test : ℕ → Bool) (n : ℕ) → any_below test n ≡ true → (k : ℕ) × (k < n) × (test k ≡ true)
 unfolding any_below
 found_below test n = (Decides-below_or test (λ k. test k ≡ true) (any_below test) (λ k. (λ e. e, λ e. e)) refl (λ _. refl) n).0
 
-first_week_day : ℕ → ℕ
+unfoldable pub first_week_day : ℕ → ℕ
 first_week_day n = (days_of_years n + 6) % 7
 
 -- the test of the place of a year in its 400 years against a year from 1972 on

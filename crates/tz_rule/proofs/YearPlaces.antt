@@ -5,19 +5,12 @@ use Rattle.tz_base.specs.Days.{is_leap, month_length, months_length, first_day, 
 use Rattle.tz_base.proofs.DayLemmas.{day_number-is, months_length-le_year}
 use Rattle.tz_rule.specs.Day.{rule_day, IsRuleDay}
 use Rattle.tz_rule.specs.MonthWeek.{MonthWeek, IsMonthWeek}
-use Rattle.tz_rule.specs.Places.{julian_place, week_day_place}
+use Rattle.tz_rule.specs.Places.{week_day_place, place_in_year}
 use Rattle.tz_rule.specs.declared.timezone.rule_day.RuleDay.{RuleDay}
 use Rattle.tz_rule.specs.declared.timezone.rule_day.RuleDay.TheVariants.{Julian1WithoutLeap, Julian0WithLeap, MonthWeekDay}
 use Rattle.tz_rule.proofs.DayPlaces.{rule_day-julian, rule_day-zero_based, rule_day-month, julian_place-bound, week_day_place-bound, month_length-bounds}
-use Rattle.tz_rule.proofs.Weeks.{week_day_of_year, week_day_of_year-is, week_day_of-add}
-
--- how many days after January 1st of its year a rule day lies, by the kind of the year: whether it is leap, and the week day of its January 1st
-unfoldable pub place_in_year : RuleDay → Bool → ℕ → ℕ
-place_in_year (Julian1WithoutLeap n) leap first = julian_place leap n
-place_in_year (Julian0WithLeap n) leap first = n
-place_in_year (MonthWeekDay d) leap first =
-    let before = months_length leap (d.month - 1) in
-    before + week_day_place ((first + before) % 7) (month_length leap d.month) d.week d.week_day
+use Rattle.tz_rule.specs.Kinds.{week_day_of_year}
+use Rattle.tz_rule.proofs.Weeks.{week_day_of_year-is, week_day_of-add}
 
 month_begins : (year : ℤ) (month : ℕ) → day_number year month 1 ≡ first_day year +ℤ pos (months_length (is_leap year) (month - 1))
 month_begins year month = day_number-is year month 1 ∙ omega (arith, ints)

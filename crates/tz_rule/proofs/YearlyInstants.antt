@@ -7,13 +7,15 @@ use Rattle.tz_base.proofs.OrderLemmas.{first_day-mono, first_day-period, is_leap
 use Rattle.tz_rule.specs.Alternate.{AlternateTime, start_of, end_of, IsRuleOffset, IsRuleTime, IsInRuleRange, IsNearYear}
 use Rattle.tz_rule.specs.Day.{rule_day, IsRuleDay}
 use Rattle.tz_rule.specs.Distance.{years_of, start_year, end_year}
+use Rattle.tz_rule.specs.Kinds.{week_day_of_year}
+use Rattle.tz_rule.specs.Places.{place_in_year}
 use Rattle.tz_rule.specs.Years.{IsConflict, IsInconsistent}
 use Rattle.tz_rule.specs.declared.timezone.check.Distance.{Distance}
 use Rattle.tz_rule.specs.declared.timezone.check.Distance.TheVariants.{YearBefore, SameYear, YearAfter}
 use Rattle.tz_rule.specs.declared.timezone.rule_day.RuleDay.{RuleDay}
-use Rattle.tz_rule.proofs.Weeks.{week_day_of_year, week_day_of_year-next, week_day_of_year-period}
+use Rattle.tz_rule.proofs.Weeks.{week_day_of_year-next, week_day_of_year-period}
 use Rattle.tz_rule.proofs.YearKinds.{IsAlike, like_model}
-use Rattle.tz_rule.proofs.YearPlaces.{place_in_year, place_in_year-bound, rule_day-place}
+use Rattle.tz_rule.proofs.YearPlaces.{place_in_year-bound, rule_day-place}
 
 -- 00:00 UTC of January 1st
 abbrev pub year_start : ℤ → ℤ
@@ -27,14 +29,14 @@ pub record IsYearly (f : ℤ → ℤ) : Type 0 where
   pub period : (y : ℤ) → f (y +ℤ pos 400) ≡ f y +ℤ pos 12622780800
 
 -- a rule day's local time
-abbrev local_instant : RuleDay → ℤ → ℤ → ℤ → ℤ
+abbrev pub local_instant : RuleDay → ℤ → ℤ → ℤ → ℤ
 local_instant d time offset y = pos 86400 *ℤ rule_day d y +ℤ time -ℤ offset
 
 -- the place of a rule day in a year
-place_of : RuleDay → ℤ → ℕ
+unfoldable pub place_of : RuleDay → ℤ → ℕ
 place_of d y = place_in_year d (is_leap y) (week_day_of_year y)
 
-local_instant-is : (d : RuleDay) (time offset y : ℤ) → IsRuleDay d → (local_instant d time offset y ≡ year_start y +ℤ pos (86400 * place_of d y) +ℤ time -ℤ offset) × (place_of d y ≤ 365)
+pub local_instant-is : (d : RuleDay) (time offset y : ℤ) → IsRuleDay d → (local_instant d time offset y ≡ year_start y +ℤ pos (86400 * place_of d y) +ℤ time -ℤ offset) × (place_of d y ≤ 365)
 unfolding place_of
 local_instant-is d time offset y valid =
     let day = rule_day-place d y valid in

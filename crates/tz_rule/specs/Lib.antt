@@ -4,11 +4,13 @@ pub mod LocalTimeType
 pub mod Designation
 pub mod JulianDay
 pub mod MonthWeek
+pub mod Kinds
 pub mod Places
 pub mod Day
 pub mod Years
 pub mod Alternate
 pub mod Distance
+pub mod YearTables
 pub mod Parts
 pub mod Pairing
 pub mod Daylight

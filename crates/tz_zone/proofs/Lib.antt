@@ -3,10 +3,12 @@ pub mod LeapLists
 pub mod LeapTimes
 pub mod LeapMoments
 pub mod RisingTimes
+pub mod Halving
 pub mod LeapAnswers
 pub mod TableChecks
 pub mod RuleChecks
 pub mod Clocks
+pub mod SegmentLemmas
 pub mod TzFileLaws
 pub mod TzNames
 pub mod TzTables

@@ -5,6 +5,7 @@ use Rattle.std.proofs.lemmas.Int.{ints, by_lt_z}
 use Rattle.std.proofs.lemmas.Bool.{cases_lt}
 use Rattle.std.proofs.lemmas.Option.{slice_get_within, slice_get-get_or, same_Some}
 use Rattle.tz_zone.specs.Table.{Transition, LeapSecond}
+use Rattle.tz_zone.specs.Clock.{AreReached, AreAhead}
 use Rattle.tz_zone.specs.ValidZone.{AreLeapSeconds, IsRising}
 use Rattle.tz_zone.proofs.LeapSteps.{times_rise}
 use Rattle.tz_zone.proofs.LeapLists.{time_at, time_at-is, AreSteps-from_leaps}
@@ -53,6 +54,26 @@ transitions_rise transitions rising i j x y h at at' =
         let next : slice_get transitions (i + 1) ≡ Some (get_or transitions (i + 1) x) = slice_get-get_or transitions (i + 1) x (omega arith) in
         let place : i + 1 + suc m ≡ i + suc (suc m) = omega arith in
         omega (arith, ints, rising i x (get_or transitions (i + 1) x) at next, by_steps m (i + 1) (get_or transitions (i + 1) x) y next (ap (slice_get transitions) place ∙ at'))
+
+-- where one transition is reached, all before it are
+pub reached_through : (transitions : List Transition) → IsRising transitions → (v : ℤ) (k : ℕ) (change : Transition) → slice_get transitions k ≡ Some change → change.unix_leap_time ≤ℤ v → AreReached transitions v (k + 1)
+reached_through transitions rising v k change at reached i x h at' =
+    elim (cases_lt i k) [
+      | inl less ↦ omega (arith, ints, transitions_rise transitions rising i k x change less at' at, reached)
+      | inr more ↦
+          let place : i ≡ k = omega arith in
+          rw (same_Some x change (sym at' ∙ ap (slice_get transitions) place ∙ at)) reached
+    ]
+
+-- where one is ahead, all after it are
+pub ahead_from : (transitions : List Transition) → IsRising transitions → (v : ℤ) (k : ℕ) (change : Transition) → slice_get transitions k ≡ Some change → v <ℤ change.unix_leap_time → AreAhead transitions v k
+ahead_from transitions rising v k change at ahead i x h at' =
+    elim (cases_lt k i) [
+      | inl less ↦ omega (arith, ints, transitions_rise transitions rising k i change x less at at', ahead)
+      | inr more ↦
+          let place : i ≡ k = omega arith in
+          rw (same_Some x change (sym at' ∙ ap (slice_get transitions) place ∙ at)) ahead
+    ]
 
 -- and those of leap seconds
 pub leap_seconds_rise : (leaps : List LeapSecond) → AreLeapSeconds leaps → Rise (λ (l : LeapSecond). l.unix_leap_time) leaps

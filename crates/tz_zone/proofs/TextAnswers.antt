@@ -10,6 +10,7 @@ use Rattle.tz_base.specs.declared.error.parse.TzStringError.{TzStringError}
 use Rattle.tz_base.specs.declared.error.timezone.LocalTimeTypeError.{LocalTimeTypeError}
 use Rattle.tz_rule.specs.Alternate.{alternate_of}
 use Rattle.tz_rule.specs.LocalTimeType.{LocalTimeType, IsFirstTypeFault, type_of}
+use Rattle.tz_zone.specs.Bytes.{comma}
 use Rattle.tz_zone.specs.declared.parse.tz_string.time.WrittenTime.{WrittenTime}
 use Rattle.tz_zone.specs.TzText.{IsName, IsSignedTime, IsDaylightOffset, IsRuleText, AlternateText, IsAlternateText, std_type_of, dst_type_of, seconds_of, rule_of}
 use Rattle.tz_zone.specs.TzTextFault.{IsOffsetFault, IsNameFault, IsDaylightFault, IsRulesFault, IsTzTextFault}
@@ -26,16 +27,16 @@ pub daylight_fails : (extended : Bool) (text name rest : List ℕ) (offset : Wri
 daylight_fails extended text name rest offset left e name_is offset_is more fault = inr (inl (name, rest, name_is, inr (offset, left, offset_is, (more, fault))))
 
 -- behind the daylight name and its offset
-pub rules_fail : (extended : Bool) (text name after_name : List ℕ) (offset : Option WrittenTime) (rules : List ℕ) (e : TzError) → IsName text name after_name → IsDaylightOffset after_name offset (44 ∷ rules) → IsRulesFault extended rules e → IsDaylightFault extended text e
-rules_fail extended text name after_name offset rules e name_is offset_is fault = inr (name, after_name, name_is, inr (inr (offset, 44 ∷ rules, offset_is, inr (not_over, inr (rules, refl, fault)))))
+pub rules_fail : (extended : Bool) (text name after_name : List ℕ) (offset : Option WrittenTime) (rules : List ℕ) (e : TzError) → IsName text name after_name → IsDaylightOffset after_name offset (comma ∷ rules) → IsRulesFault extended rules e → IsDaylightFault extended text e
+rules_fail extended text name after_name offset rules e name_is offset_is fault = inr (name, after_name, name_is, inr (inr (offset, comma ∷ rules, offset_is, inr (not_over, inr (rules, refl, fault)))))
   where
-    not_over : 44 ∷ rules ≢ []
+    not_over : comma ∷ rules ≢ []
     not_over over = cc
 
 -- all parts of a text with daylight saving time
 pub whole_text : (extended : Bool) (text : List ℕ) (a : AlternateText) (after_name after_std rules : List ℕ) → IsName text a.std_name after_name → IsSignedTime after_name a.std_offset after_std
-    → (after_dst_name : List ℕ) × IsName after_std a.dst_name after_dst_name × IsDaylightOffset after_dst_name a.dst_offset (44 ∷ rules)
-    → (end_text : List ℕ) × IsRuleText extended rules a.start (44 ∷ end_text) × IsRuleText extended end_text a.end []
+    → (after_dst_name : List ℕ) × IsName after_std a.dst_name after_dst_name × IsDaylightOffset after_dst_name a.dst_offset (comma ∷ rules)
+    → (end_text : List ℕ) × IsRuleText extended rules a.start (comma ∷ end_text) × IsRuleText extended end_text a.end []
     → IsAlternateText extended text a
 whole_text extended text a after_name after_std rules name_is offset_is daylight both = record {
   after_std = after_std;

@@ -18,6 +18,7 @@ use Rattle.tz_rule.specs.declared.timezone.rule.TransitionRule.{TransitionRule}
 use Rattle.tz_rule.specs.declared.timezone.rule.TransitionRule.TheVariants.{Fixed, Alternate as Alternating}
 use Rattle.tz_rule.specs.declared.timezone.rule_day.RuleDay.{RuleDay}
 use Rattle.tz_rule.specs.declared.timezone.rule_day.RuleDay.TheVariants.{Julian1WithoutLeap, Julian0WithLeap, MonthWeekDay}
+use Rattle.tz_zone.specs.Bytes.{capital_j, capital_m, closing_bracket, comma, dot, slash}
 use Rattle.tz_zone.specs.declared.parse.tz_string.day.DayAndTime.{DayAndTime}
 use Rattle.tz_zone.specs.declared.parse.tz_string.time.WrittenTime.{WrittenTime}
 use Rattle.tz_zone.specs.TzText.{Begins, IsRun, IsNumber, is_in_brackets, IsName, IsPart, IsHms, IsSign, IsSignedTime, IsDayTimeSign, IsDayTime, IsMonthWeekText, IsDay, IsRuleText, IsDaylightOffset, IsTimeUpTo, offset_hours, day_time_hours, IsRuleInRange, IsNameAndOffset, AlternateText, IsAlternateText, IsAlternateInRange, std_type_of, rule_of, IsTzText}
@@ -93,15 +94,15 @@ no_day_number_fault bits in_range named text n rest e number range fits fault = 
 
 no_month_week_fault : (text : List ℕ) (d : MonthWeek) (rest : List ℕ) (e : TzError) → IsMonthWeekText text d rest → IsMonthWeek d → IsMonthWeekDayFault text e → ⊥
 no_month_week_fault text d rest e t range fault = elim fault [
-  | inl f ↦ no_day_number_fault 8 IsRuleMonth InvalidRuleDayMonth text d.month (46 ∷ t.0) e t.2 range.month_is (let most = range.month_is.1 in omega arith) f
-  | inr f ↦ behind_month (fails_behind 46 t.0 e _ (reached_once IsNumber number_is_one text d.month (46 ∷ t.0) t.2 _ f))
+  | inl f ↦ no_day_number_fault 8 IsRuleMonth InvalidRuleDayMonth text d.month (dot ∷ t.0) e t.2 range.month_is (let most = range.month_is.1 in omega arith) f
+  | inr f ↦ behind_month (fails_behind dot t.0 e _ (reached_once IsNumber number_is_one text d.month (dot ∷ t.0) t.2 _ f))
 ]
   where
-    behind_month : IsDayNumberFault 8 IsRuleWeek InvalidRuleDayWeek t.0 e ⊎ Reached IsNumber t.0 (λ week after_week. FailsFrom 46 after_week e (λ day_text. IsDayNumberFault 8 IsRuleWeekDay InvalidRuleDayWeekDay day_text e)) → ⊥
+    behind_month : IsDayNumberFault 8 IsRuleWeek InvalidRuleDayWeek t.0 e ⊎ Reached IsNumber t.0 (λ week after_week. FailsFrom dot after_week e (λ day_text. IsDayNumberFault 8 IsRuleWeekDay InvalidRuleDayWeekDay day_text e)) → ⊥
     behind_month p = elim p [
-      | inl f ↦ no_day_number_fault 8 IsRuleWeek InvalidRuleDayWeek t.0 d.week (46 ∷ t.1) e t.3 range.week_is (let most = range.week_is.1 in omega arith) f
+      | inl f ↦ no_day_number_fault 8 IsRuleWeek InvalidRuleDayWeek t.0 d.week (dot ∷ t.1) e t.3 range.week_is (let most = range.week_is.1 in omega arith) f
       | inr f ↦ no_day_number_fault 8 IsRuleWeekDay InvalidRuleDayWeekDay t.1 d.week_day rest e t.4 range.week_day_is (let most = range.week_day_is in omega arith)
-          (fails_behind 46 t.1 e _ (reached_once IsNumber number_is_one t.0 d.week (46 ∷ t.1) t.3 _ f))
+          (fails_behind dot t.1 e _ (reached_once IsNumber number_is_one t.0 d.week (dot ∷ t.1) t.3 _ f))
     ]
 
 no_day_fault : (text : List ℕ) (d : RuleDay) (rest : List ℕ) (e : TzError) → IsDay text d rest → IsRuleDay d → IsDayFault text e → ⊥
@@ -113,8 +114,8 @@ no_day_fault text (Julian1WithoutLeap n) rest e day range fault = elim fault [
 ]
 no_day_fault text (Julian0WithLeap n) rest e day range fault = elim fault [
   | inl f ↦ no_day_number_fault 16 IsZeroBasedDay InvalidRuleDayJulianDay text n rest e day range (omega arith) f.2
-  | inr (inl f) ↦ no_digit text 74 f.0 n rest refl f.1 day
-  | inr (inr f) ↦ no_digit text 77 f.0 n rest refl f.1 day
+  | inr (inl f) ↦ no_digit text capital_j f.0 n rest refl f.1 day
+  | inr (inr f) ↦ no_digit text capital_m f.0 n rest refl f.1 day
 ]
 no_day_fault text (MonthWeekDay d) rest e day range fault = elim fault [
   | inl f ↦ f.1 (day.0, day.1)
@@ -128,7 +129,7 @@ no_rule_text_fault extended text r rest e rule range fault = elim fault [
   | inr f ↦ behind_day (reached_once IsDay day_is_one text r.day rule.0 rule.1 _ f)
 ]
   where
-    behind_day : (time : List ℕ) × (rule.0 ≡ 47 ∷ time) × InText e (IsDayTimeFault extended time) → ⊥
+    behind_day : (time : List ℕ) × (rule.0 ≡ slash ∷ time) × InText e (IsDayTimeFault extended time) → ⊥
     behind_day f = elim rule.2 [
       | inl t ↦ (let P : List ℕ → Type 0 = λ time. IsDayTimeFault extended time f.2.0 in no_day_time_fault extended t.0 r.time rest f.2.0 t.2 range.time_is (subst P (same_rest f.1 t.1) f.2.2))
       | inr t ↦ absurd (t.0 (f.0, f.1))
@@ -141,11 +142,11 @@ no_last_rule_fault extended text r e rule range fault = elim fault [
 ]
 
 no_rules_fault : (extended : Bool) (text : List ℕ) (r : DayAndTime) (end_text : List ℕ) (s : DayAndTime) (e : TzError)
-    → IsRuleText extended text r (44 ∷ end_text) → IsRuleInRange extended r → IsRuleText extended end_text s [] → IsRuleInRange extended s → IsRulesFault extended text e → ⊥
+    → IsRuleText extended text r (comma ∷ end_text) → IsRuleInRange extended r → IsRuleText extended end_text s [] → IsRuleInRange extended s → IsRulesFault extended text e → ⊥
 no_rules_fault extended text r end_text s e start start_range end end_range fault = elim fault [
-  | inl f ↦ no_rule_text_fault extended text r (44 ∷ end_text) e start start_range f
+  | inl f ↦ no_rule_text_fault extended text r (comma ∷ end_text) e start start_range f
   | inr f ↦ no_last_rule_fault extended end_text s e end end_range
-      (fails_behind 44 end_text e (λ behind. IsLastRuleFault extended behind e) (reached_once (IsRuleText extended) (rule_text_is_one extended) text r (44 ∷ end_text) start _ f))
+      (fails_behind comma end_text e (λ behind. IsLastRuleFault extended behind e) (reached_once (IsRuleText extended) (rule_text_is_one extended) text r (comma ∷ end_text) start _ f))
 ]
 
 no_type_fault : (name : List ℕ) (f : LocalTimeTypeError) → IsDesignation name → IsFirstTypeFault (type_of (pos 0) false (Some name)) f → ⊥
@@ -162,7 +163,7 @@ no_name_fault text name rest e name_is is fault = elim fault [
     closed : IsUnclosed text → ⊥
     closed open_name = elim name_is [
       | inl n ↦ (let P : List ℕ → Type 0 = λ quoted. IsRun is_in_brackets quoted open_name.1 [] in
-          let same = run_is_one (subst P (same_rest open_name.2 n.1) open_name.3) n.2 in let none : [] ≡ 62 ∷ rest = same.1 in cc)
+          let same = run_is_one (subst P (same_rest open_name.2 n.1) open_name.3) n.2 in let none : [] ≡ closing_bracket ∷ rest = same.1 in cc)
       | inr n ↦ absurd (n.0 (open_name.0, open_name.2))
     ]
 
@@ -187,7 +188,7 @@ no_name_at_end name rest name_is = elim name_is [
   | inr n ↦ (let P : List ℕ → Type 0 = λ run. [] ≡ run ++ rest in sym (subst P n.1.longest n.1.parts))
 ]
 
-no_daylight_offset_fault : (text : List ℕ) (o : Option WrittenTime) (rest : List ℕ) (e : TzStringError) → IsDaylightOffset text o rest → IfSome o (IsTimeUpTo offset_hours) → ¬ Begins 44 text → IsOffsetFault text e → ⊥
+no_daylight_offset_fault : (text : List ℕ) (o : Option WrittenTime) (rest : List ℕ) (e : TzStringError) → IsDaylightOffset text o rest → IfSome o (IsTimeUpTo offset_hours) → ¬ Begins comma text → IsOffsetFault text e → ⊥
 no_daylight_offset_fault text None rest e offset range bare fault = bare offset.0
 no_daylight_offset_fault text (Some t) rest e offset range bare fault = no_offset_fault text t rest e offset.1 range fault
 
@@ -198,22 +199,22 @@ no_daylight_fault extended text a x e range fault = elim fault [
 ]
   where
     offset_there : x.after_dst_name ≡ [] → ⊥
-    offset_there over = let P : List ℕ → Type 0 = λ front. IsDaylightOffset front a.dst_offset (44 ∷ x.start_text) in no_offset_at_end a.dst_offset (44 ∷ x.start_text) (subst P over x.dst_offset_is)
+    offset_there over = let P : List ℕ → Type 0 = λ front. IsDaylightOffset front a.dst_offset (comma ∷ x.start_text) in no_offset_at_end a.dst_offset (comma ∷ x.start_text) (subst P over x.dst_offset_is)
 
-    behind_offset : LacksRules (44 ∷ x.start_text) e ⊎ ((44 ∷ x.start_text ≢ []) × FailsFrom 44 (44 ∷ x.start_text) e (λ rules. IsRulesFault extended rules e)) → ⊥
+    behind_offset : LacksRules (comma ∷ x.start_text) e ⊎ ((comma ∷ x.start_text ≢ []) × FailsFrom comma (comma ∷ x.start_text) e (λ rules. IsRulesFault extended rules e)) → ⊥
     behind_offset p = elim p [
       | inl f ↦ let none = f.0 in cc
       | inr f ↦ no_rules_fault extended x.start_text a.start x.end_text a.end e x.start_is range.start_is x.end_is range.end_is
-          (fails_behind 44 x.start_text e (λ rules. IsRulesFault extended rules e) f.1)
+          (fails_behind comma x.start_text e (λ rules. IsRulesFault extended rules e) f.1)
     ]
 
     behind_name : LacksRules x.after_dst_name e
-        ⊎ ((x.after_dst_name ≢ []) × ¬ Begins 44 x.after_dst_name × InText e (IsOffsetFault x.after_dst_name))
-        ⊎ Reached IsDaylightOffset x.after_dst_name (λ offset after_offset. LacksRules after_offset e ⊎ ((after_offset ≢ []) × FailsFrom 44 after_offset e (λ rules. IsRulesFault extended rules e))) → ⊥
+        ⊎ ((x.after_dst_name ≢ []) × ¬ Begins comma x.after_dst_name × InText e (IsOffsetFault x.after_dst_name))
+        ⊎ Reached IsDaylightOffset x.after_dst_name (λ offset after_offset. LacksRules after_offset e ⊎ ((after_offset ≢ []) × FailsFrom comma after_offset e (λ rules. IsRulesFault extended rules e))) → ⊥
     behind_name p = elim p [
       | inl f ↦ offset_there f.0
-      | inr (inl f) ↦ no_daylight_offset_fault x.after_dst_name a.dst_offset (44 ∷ x.start_text) f.2.0 x.dst_offset_is range.dst_offset_is f.1 f.2.2
-      | inr (inr f) ↦ behind_offset (reached_once IsDaylightOffset daylight_offset_is_one x.after_dst_name a.dst_offset (44 ∷ x.start_text) x.dst_offset_is _ f)
+      | inr (inl f) ↦ no_daylight_offset_fault x.after_dst_name a.dst_offset (comma ∷ x.start_text) f.2.0 x.dst_offset_is range.dst_offset_is f.1 f.2.2
+      | inr (inr f) ↦ behind_offset (reached_once IsDaylightOffset daylight_offset_is_one x.after_dst_name a.dst_offset (comma ∷ x.start_text) x.dst_offset_is _ f)
     ]
 
 no_range_fault : (r : AlternateTime) (f : TransitionRuleError) → IsInRuleRange r → IsRangeFault r f → ⊥
@@ -242,8 +243,8 @@ fixed_is_over : (extended : Bool) (text name : List ℕ) (t : WrittenTime) (a : 
 fixed_is_over extended text name t a std x =
     let same = name_and_offset_is_one text a.std_name name a.std_offset t x.after_std [] x.std_is std in
     let Name : List ℕ → Type 0 = λ front. IsName front a.dst_name x.after_dst_name in
-    let Offset : List ℕ → Type 0 = λ front. IsDaylightOffset front a.dst_offset (44 ∷ x.start_text) in
-    no_offset_at_end a.dst_offset (44 ∷ x.start_text) (subst Offset (no_name_at_end a.dst_name x.after_dst_name (subst Name same.2 x.dst_name_is)) x.dst_offset_is)
+    let Offset : List ℕ → Type 0 = λ front. IsDaylightOffset front a.dst_offset (comma ∷ x.start_text) in
+    no_offset_at_end a.dst_offset (comma ∷ x.start_text) (subst Offset (no_name_at_end a.dst_name x.after_dst_name (subst Name same.2 x.dst_name_is)) x.dst_offset_is)
 
 pub no_text_fault : (extended : Bool) (text : List ℕ) (rule : TransitionRule) (e : TzError) → IsTzText extended text rule → IsTzTextFault extended text e → ⊥
 no_text_fault extended text (Fixed type) e t fault = elim fault [

@@ -3,6 +3,7 @@ use Rattle.std.proofs.Common.{◌≡◌, ℕ, Bool, true, false, cond, List, [],
 use Rattle.std.proofs.lemmas.Bool.{not-false, eqb-true}
 use Rattle.std.proofs.lemmas.List.Sums.{take_while-cons}
 use Rattle.std.specs.List.{take_while}
+use Rattle.tz_zone.specs.Bytes.{closing_bracket, opening_bracket}
 use Rattle.tz_zone.specs.TzText.{Begins, IsRun, is_in_brackets}
 use Rattle.tz_zone.specs.TzTextFault.{IsUnclosed}
 
@@ -19,13 +20,13 @@ run_stops test (x ∷ xs) rest b e =
 pub stops_at : (test : ℕ → Bool) (text run rest : List ℕ) (b : ℕ) → IsRun test text run (b ∷ rest) → test b ≡ false
 stops_at test text run rest b r = run_stops test text rest b (r.parts ∙ ap (λ x. x ++ (b ∷ rest)) r.longest)
 
-over : (text name rest : List ℕ) → IsRun is_in_brackets text name rest → ¬ Begins 62 rest → rest ≡ []
+over : (text name rest : List ℕ) → IsRun is_in_brackets text name rest → ¬ Begins closing_bracket rest → rest ≡ []
 over text name [] run unbroken = refl
 over text name (b ∷ bs) run unbroken =
-    let bracket = eqb-true b 62 (not-false (eqb b 62) (stops_at is_in_brackets text name bs b run)) in
+    let bracket = eqb-true b closing_bracket (not-false (eqb b closing_bracket) (stops_at is_in_brackets text name bs b run)) in
     absurd (unbroken (bs, ap (λ x. x ∷ bs) bracket))
 
-pub unclosed : (text quoted name rest : List ℕ) → text ≡ 60 ∷ quoted → IsRun is_in_brackets quoted name rest → ¬ Begins 62 rest → IsUnclosed text
+pub unclosed : (text quoted name rest : List ℕ) → text ≡ opening_bracket ∷ quoted → IsRun is_in_brackets quoted name rest → ¬ Begins closing_bracket rest → IsUnclosed text
 unclosed text quoted name rest e run unbroken =
     let P : List ℕ → Type 0 = λ behind. IsRun is_in_brackets quoted name behind in
     (quoted, name, e, subst P (over quoted name rest run unbroken) run)

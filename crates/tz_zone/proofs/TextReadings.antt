@@ -9,6 +9,7 @@ use Rattle.std.specs.Str.Parse.{digits_value}
 use Rattle.tz_rule.specs.MonthWeek.{month_week}
 use Rattle.tz_rule.specs.declared.timezone.rule_day.RuleDay.{RuleDay}
 use Rattle.tz_rule.specs.declared.timezone.rule_day.RuleDay.TheVariants.{Julian1WithoutLeap, Julian0WithLeap, MonthWeekDay}
+use Rattle.tz_zone.specs.Bytes.{capital_j, capital_m, closing_bracket, comma, dot}
 use Rattle.tz_zone.specs.declared.parse.tz_string.day.DayAndTime.{DayAndTime}
 use Rattle.tz_zone.specs.declared.parse.tz_string.time.WrittenTime.{WrittenTime}
 use Rattle.tz_zone.specs.TzText.{IsRun, IsNumber, is_in_brackets, IsName, IsPart, IsHms, IsSign, IsSignedTime, IsDayTimeSign, IsDayTime, IsMonthWeekText, IsDay, IsTimeOfRule, IsRuleText, IsDaylightOffset, IsNameAndOffset, AlternateText, IsAlternateText}
@@ -116,9 +117,9 @@ day_time_is_one extended text t u rest more a b = behind_sign_is_one text (IsDay
 
 pub month_week_is_one : IsOne IsMonthWeekText
 month_week_is_one text d e rest more a b =
-    let month = number_is_one text d.month e.month (46 ∷ a.0) (46 ∷ b.0) a.2 b.2 in
-    let Week : List ℕ → Type 0 = λ front. IsNumber front d.week (46 ∷ a.1) in
-    let week = number_is_one b.0 d.week e.week (46 ∷ a.1) (46 ∷ b.1) (subst Week (same_tail month.1) a.3) b.3 in
+    let month = number_is_one text d.month e.month (dot ∷ a.0) (dot ∷ b.0) a.2 b.2 in
+    let Week : List ℕ → Type 0 = λ front. IsNumber front d.week (dot ∷ a.1) in
+    let week = number_is_one b.0 d.week e.week (dot ∷ a.1) (dot ∷ b.1) (subst Week (same_tail month.1) a.3) b.3 in
     let Day : List ℕ → Type 0 = λ front. IsNumber front d.week_day rest in
     let day = number_is_one b.1 d.week_day e.week_day rest more (subst Day (same_tail week.1) a.4) b.4 in
     let same : month_week d.month d.week d.week_day ≡ month_week e.month e.week e.week_day =
@@ -131,14 +132,14 @@ no_digit text b bs n rest none e number = absurd (false≢true (sym none ∙ num
 pub day_is_one : IsOne IsDay
 day_is_one text (Julian1WithoutLeap n) (Julian1WithoutLeap m) rest more a b =
     let same = number_behind_is_one n m rest more a.1 b.1 a.2 b.2 in (ap Julian1WithoutLeap same.0, same.1)
-day_is_one text (Julian1WithoutLeap n) (Julian0WithLeap m) rest more a b = no_digit text 74 a.0 m more refl a.1 b
+day_is_one text (Julian1WithoutLeap n) (Julian0WithLeap m) rest more a b = no_digit text capital_j a.0 m more refl a.1 b
 day_is_one text (Julian1WithoutLeap n) (MonthWeekDay d) rest more a b = let clash = same_byte a.1 b.1 in absurd (omega arith)
-day_is_one text (Julian0WithLeap n) (Julian1WithoutLeap m) rest more a b = no_digit text 74 b.0 n rest refl b.1 a
+day_is_one text (Julian0WithLeap n) (Julian1WithoutLeap m) rest more a b = no_digit text capital_j b.0 n rest refl b.1 a
 day_is_one text (Julian0WithLeap n) (Julian0WithLeap m) rest more a b =
     let same = number_is_one text n m rest more a b in (ap Julian0WithLeap same.0, same.1)
-day_is_one text (Julian0WithLeap n) (MonthWeekDay d) rest more a b = no_digit text 77 b.0 n rest refl b.1 a
+day_is_one text (Julian0WithLeap n) (MonthWeekDay d) rest more a b = no_digit text capital_m b.0 n rest refl b.1 a
 day_is_one text (MonthWeekDay d) (Julian1WithoutLeap m) rest more a b = let clash = same_byte a.1 b.1 in absurd (omega arith)
-day_is_one text (MonthWeekDay d) (Julian0WithLeap m) rest more a b = no_digit text 77 a.0 m more refl a.1 b
+day_is_one text (MonthWeekDay d) (Julian0WithLeap m) rest more a b = no_digit text capital_m a.0 m more refl a.1 b
 day_is_one text (MonthWeekDay d) (MonthWeekDay e) rest more a b =
     let P : List ℕ → Type 0 = λ front. IsMonthWeekText front d rest in
     let same = month_week_is_one b.0 d e rest more (subst P (same_rest a.1 b.1) a.2) b.2 in (ap MonthWeekDay same.0, same.1)
@@ -167,7 +168,7 @@ rule_text_is_one extended text r s rest more a b =
 pub name_is_one : IsOne IsName
 name_is_one text x y rest more a b = elim a [
   | inl p ↦ elim b [
-    | inl q ↦ (let P : List ℕ → Type 0 = λ front. IsRun is_in_brackets front x (62 ∷ rest) in let same = run_is_one (subst P (same_rest p.1 q.1) p.2) q.2 in (same.0, same_tail same.1))
+    | inl q ↦ (let P : List ℕ → Type 0 = λ front. IsRun is_in_brackets front x (closing_bracket ∷ rest) in let same = run_is_one (subst P (same_rest p.1 q.1) p.2) q.2 in (same.0, same_tail same.1))
     | inr q ↦ absurd (q.0 (p.0, p.1))
   ]
   | inr p ↦ elim b [ inl q ↦ absurd (p.0 (q.0, q.1)) | inr q ↦ run_is_one p.1 q.1 ]
@@ -197,10 +198,10 @@ alternate_text_is_one extended text a b x y =
     let std = name_and_offset_is_one text a.std_name b.std_name a.std_offset b.std_offset x.after_std y.after_std x.std_is y.std_is in
     let Name : List ℕ → Type 0 = λ front. IsName front a.dst_name x.after_dst_name in
     let name = name_is_one y.after_std a.dst_name b.dst_name x.after_dst_name y.after_dst_name (subst Name std.2 x.dst_name_is) y.dst_name_is in
-    let Offset : List ℕ → Type 0 = λ front. IsDaylightOffset front a.dst_offset (44 ∷ x.start_text) in
-    let offset = daylight_offset_is_one y.after_dst_name a.dst_offset b.dst_offset (44 ∷ x.start_text) (44 ∷ y.start_text) (subst Offset name.1 x.dst_offset_is) y.dst_offset_is in
-    let Start : List ℕ → Type 0 = λ front. IsRuleText extended front a.start (44 ∷ x.end_text) in
-    let start = rule_text_is_one extended y.start_text a.start b.start (44 ∷ x.end_text) (44 ∷ y.end_text) (subst Start (same_tail offset.1) x.start_is) y.start_is in
+    let Offset : List ℕ → Type 0 = λ front. IsDaylightOffset front a.dst_offset (comma ∷ x.start_text) in
+    let offset = daylight_offset_is_one y.after_dst_name a.dst_offset b.dst_offset (comma ∷ x.start_text) (comma ∷ y.start_text) (subst Offset name.1 x.dst_offset_is) y.dst_offset_is in
+    let Start : List ℕ → Type 0 = λ front. IsRuleText extended front a.start (comma ∷ x.end_text) in
+    let start = rule_text_is_one extended y.start_text a.start b.start (comma ∷ x.end_text) (comma ∷ y.end_text) (subst Start (same_tail offset.1) x.start_is) y.start_is in
     let End : List ℕ → Type 0 = λ front. IsRuleText extended front a.end [] in
     let end = rule_text_is_one extended y.end_text a.end b.end [] [] (subst End (same_tail start.1) x.end_is) y.end_is in
     let same : text_of a.std_name a.std_offset a.dst_name a.dst_offset a.start a.end ≡ text_of b.std_name b.std_offset b.dst_name b.dst_offset b.start b.end =

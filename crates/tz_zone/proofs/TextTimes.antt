@@ -1,11 +1,12 @@
 -- Faults of a time, from those of its numbers.
 use Rattle.std.proofs.Common.{◌≡◌, ℕ, ◌<◌, List, ◌∷◌, inl, inr, arith}
 use Rattle.tz_base.specs.declared.error.parse.TzStringError.{TzStringError}
+use Rattle.tz_zone.specs.Bytes.{colon}
 use Rattle.tz_zone.specs.declared.parse.tz_string.time.WrittenTime.{WrittenTime}
 use Rattle.tz_zone.specs.TzText.{IsPart, IsHms}
 use Rattle.tz_zone.specs.TzTextFault.{IsParseInt, HasNoNumber, TimeFaults, IsPartFault, IsHmsFault, IsTimeAbove}
 
-pub part_missing : (named : TzStringError) (text : List ℕ) (e : TzStringError) → IsParseInt e × ((number : List ℕ) × (text ≡ 58 ∷ number) × HasNoNumber 31 number) → IsPartFault named text e
+pub part_missing : (named : TzStringError) (text : List ℕ) (e : TzStringError) → IsParseInt e × ((number : List ℕ) × (text ≡ colon ∷ number) × HasNoNumber 31 number) → IsPartFault named text e
 part_missing named text e h = (h.1.0, h.1.1, inl (h.0, h.1.2))
 
 part_above : (named : TzStringError) (text : List ℕ) (n : ℕ) (rest : List ℕ) (e : TzStringError) → IsPart text n rest → e ≡ named → 59 < n → IsPartFault named text e

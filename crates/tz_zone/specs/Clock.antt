@@ -1,5 +1,5 @@
 -- The clock of a zone: which local time type it has at an instant, if any. (RFC 8536, section 3.2: transition times and types; 3.3: the footer.)
-use Rattle.std.specs.Prelude.{◌≡◌, ◌≢◌, ℕ, ◌-◌, ◌<◌, ◌⊎◌, ℤ, ◌≤ℤ◌, ◌<ℤ◌, List, [], length, Option, Some, None, slice_get}
+use Rattle.std.specs.Prelude.{◌≡◌, ◌≢◌, ℕ, ◌-◌, ◌<◌, ◌≤◌, ◌⊎◌, ℤ, ◌≤ℤ◌, ◌<ℤ◌, List, [], length, Option, Some, None, slice_get}
 use Rattle.tz_base.specs.declared.error.TzError.{TzError}
 use Rattle.tz_base.specs.declared.error.TzError.TheVariants.{OutOfRange, NoAvailableLocalTimeType}
 use Rattle.tz_rule.specs.LocalTimeType.{LocalTimeType}
@@ -11,6 +11,14 @@ use Rattle.tz_zone.specs.LeapTime.{IsLeapTime}
 -- the type with a number
 abbrev pub IsTypeAt : Zone → ℕ → LocalTimeType → Type 0
 IsTypeAt z i t = slice_get z.types i ≡ Some t
+
+-- the first k transitions are reached at a leap time: their times are not above it
+abbrev pub AreReached : List Transition → ℤ → ℕ → Type 0
+AreReached transitions l k = (i : ℕ) (change : Transition) → i < k → slice_get transitions i ≡ Some change → change.unix_leap_time ≤ℤ l
+
+-- the transitions from number k on are ahead of a leap time
+abbrev pub AreAhead : List Transition → ℤ → ℕ → Type 0
+AreAhead transitions l k = (i : ℕ) (change : Transition) → k ≤ i → slice_get transitions i ≡ Some change → l <ℤ change.unix_leap_time
 
 -- transition i is the last whose time has come at a leap time
 abbrev pub IsLastReached : List Transition → ℤ → ℕ → Transition → Type 0
@@ -27,6 +35,12 @@ abbrev pub IsTransitionType : Zone → ℤ → LocalTimeType → Type 0
 IsTransitionType z l t =
     (IsBeforeAll z.transitions l × IsTypeAt z 0 t)
     ⊎ ((i : ℕ) × (change : Transition) × IsLastReached z.transitions l i change × IsTypeAt z change.type_index t)
+
+-- the type of the last of the first k transitions, or type number 0 where k is 0
+abbrev pub IsTypeOfLast : Zone → ℕ → LocalTimeType → Type 0
+IsTypeOfLast z k t =
+    ((k ≡ 0) × IsTypeAt z 0 t)
+    ⊎ ((k ≢ 0) × (change : Transition) × (slice_get z.transitions (k - 1) ≡ Some change) × IsTypeAt z change.type_index t)
 
 -- the last transition
 abbrev pub IsLast : List Transition → Transition → Type 0

@@ -4,10 +4,14 @@ pub use Rattle.tz_rule.specs.LocalTimeType
 pub use Rattle.tz_rule.specs.Rule
 pub mod Table
 pub mod LeapTime
+pub mod Looks
 pub mod Clock
 pub mod ValidZone
 pub mod ZoneRef
+pub mod ZoneSeen
+pub mod Segments
 pub mod SameZone
+pub mod Bytes
 pub mod TzFile
 pub mod TzFileFault
 pub mod TzParts

@@ -1,7 +1,7 @@
 -- Which zone a text gives by the settings: that of a TZif file, or that of a TZ text.
 -- (POSIX.1-2017, Base Definitions, 8.3: TZ. The directories, `localtime` and a leading colon are as in tz-rs.)
 -- Of the reader of files it is known what it can answer for a path; where it can answer several things, so can the settings.
-use Rattle.std.specs.Prelude.{◌≡◌, ◌≢◌, ℕ, ◌⊎◌, false, List, [], ◌∷◌, ◌++◌, map, Result, Ok, Err, Some, Vec, vec_items, alloc_error}
+use Rattle.std.specs.Prelude.{◌≡◌, ◌≢◌, ℕ, ◌⊎◌, false, List, [], ◌∷◌, ◌++◌, map, Result, Ok, Err, Some, Vec, vec_items, alloc_error, codes}
 use Rattle.std.specs.Borrow.{Bor}
 use Rattle.std.specs.Str.{IsTrimAscii}
 use Rattle.std.specs.declared.alloc.Global.{Global}
@@ -15,6 +15,7 @@ use Rattle.tz_base.specs.declared.error.TzError.TheVariants.{TzString, Memory as
 use Rattle.tz_base.specs.declared.error.parse.TzStringError.TheVariants.{Empty}
 use Rattle.tz_rule.specs.declared.timezone.rule.TransitionRule.{TransitionRule}
 use Rattle.tz_rule.specs.declared.timezone.rule.TransitionRule.TheVariants.{Fixed, Alternate}
+use Rattle.tz_zone.specs.Bytes.{colon, slash}
 use Rattle.tz_zone.specs.Table.{Zone, zone_with}
 use Rattle.tz_zone.specs.TzFile.{IsTzFile}
 use Rattle.tz_zone.specs.TzFileFault.{FileFails}
@@ -31,14 +32,14 @@ Answer = Result Zone Error
 
 -- `localtime`, and the file of it
 abbrev pub local_time : List ℕ
-local_time = 108 ∷ 111 ∷ 99 ∷ 97 ∷ 108 ∷ 116 ∷ 105 ∷ 109 ∷ 101 ∷ []
+local_time = codes "localtime"
 
 abbrev pub local_time_file : List ℕ
-local_time_file = 47 ∷ 101 ∷ 116 ∷ 99 ∷ 47 ∷ local_time
+local_time_file = codes "/etc/localtime"
 
 -- the path of a name in a directory
 abbrev pub path_in : List ℕ → List ℕ → List ℕ
-path_in directory name = directory ++ 47 ∷ name
+path_in directory name = directory ++ slash ∷ name
 
 -- what can be found in the directories in turn: bytes and want of memory end the search, a failure goes on
 abbrev pub FindsIn : (List ℕ → Read → Type 0) → List (List ℕ) → List ℕ → Read → Type 0
@@ -50,7 +51,7 @@ FindsIn reads (directory ∷ directories) name found =
 
 -- what can be found for a name: an absolute one is a path
 abbrev pub Finds : (List ℕ → Read → Type 0) → List (List ℕ) → List ℕ → Read → Type 0
-Finds reads directories name found = (Begins 47 name × reads name found) ⊎ (¬ Begins 47 name × FindsIn reads directories name found)
+Finds reads directories name found = (Begins slash name × reads name found) ⊎ (¬ Begins slash name × FindsIn reads directories name found)
 
 -- the answer of the TZif reader for bytes: the zone of a file, or a fault of bytes that are none; want of memory is left to the calls
 abbrev pub IsFileAnswer : List ℕ → Answer → Type 0
@@ -99,8 +100,8 @@ abbrev pub IsSettingsAnswer : (List ℕ → Read → Type 0) → List (List ℕ)
 IsSettingsAnswer reads directories text answer =
     ((text ≡ []) × (answer ≡ Err (Tz (TzString Empty))))
     ⊎ ((text ≡ local_time) × IsLocalAnswer reads answer)
-    ⊎ ((name : List ℕ) × (text ≡ 58 ∷ name) × IsNamedAnswer reads directories name answer)
-    ⊎ ((text ≢ []) × (text ≢ local_time) × ¬ Begins 58 text × IsNamedOrTextAnswer reads directories text answer)
+    ⊎ ((name : List ℕ) × (text ≡ colon ∷ name) × IsNamedAnswer reads directories name answer)
+    ⊎ ((text ≢ []) × (text ≢ local_time) × ¬ Begins colon text × IsNamedOrTextAnswer reads directories text answer)
 
 -- the texts behind references
 abbrev pub texts_of : List (Bor (List ℕ)) → List (List ℕ)

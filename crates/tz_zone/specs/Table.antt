@@ -1,5 +1,5 @@
 -- What contracts see of a time zone: its four parts. (RFC 8536, section 3.2.)
-use Rattle.std.specs.Prelude.{ℕ, ℤ, List, Option}
+use Rattle.std.specs.Prelude.{ℕ, ℤ, List, [], ◌∷◌, Option, None}
 use Rattle.tz_rule.specs.LocalTimeType.{LocalTimeType}
 use Rattle.tz_rule.specs.declared.timezone.rule.TransitionRule.{TransitionRule}
 
@@ -23,3 +23,7 @@ pub record Zone : Type 0 where
 -- the zone with these parts
 abbrev pub zone_with : List Transition → List LocalTimeType → List LeapSecond → Option TransitionRule → Zone
 zone_with transitions types leaps rule = record { transitions = transitions; types = types; leap_seconds = leaps; extra_rule = rule }
+
+-- the zone that has one type alone
+abbrev pub zone_of_type : LocalTimeType → Zone
+zone_of_type t = zone_with [] (t ∷ []) [] None

@@ -1,10 +1,11 @@
 -- TZif files: which bytes are one, and the tables that they denote. (RFC 8536, section 3; version 4 after RFC 9636, section 3.)
-use Rattle.std.specs.Prelude.{◌≡◌, ◌≢◌, ℕ, ◌+◌, ◌-◌, ◌*◌, ◌<◌, ◌≤◌, ◌⊎◌, ℤ, Bool, ◌==◌, ◌||◌, if◌then◌else◌, List, [], ◌∷◌, length, take, drop, map, Option, Some, None, Contains, IsUtf8, slice_get, slice_index, slice_range}
+use Rattle.std.specs.Prelude.{◌≡◌, ◌≢◌, ℕ, ◌+◌, ◌-◌, ◌*◌, ◌<◌, ◌≤◌, ◌⊎◌, ℤ, Bool, ◌==◌, if◌then◌else◌, List, [], ◌∷◌, length, take, drop, map, Option, Some, None, Contains, IsUtf8, slice_get, slice_index, slice_range, codes, ◌||◌}
 use Rattle.std.specs.Char.{is_ascii_whitespace}
 use Rattle.std.specs.List.{range_with_len, before_first, prefix_len, suffix_len}
 use Rattle.std.specs.Int.{Width, w32, w64, byte_len, from_be_bytes, cast_signed}
 use Rattle.tz_rule.specs.LocalTimeType.{LocalTimeType, type_of, IsLocalTimeType}
 use Rattle.tz_rule.specs.declared.timezone.rule.TransitionRule.{TransitionRule}
+use Rattle.tz_zone.specs.Bytes.{colon, line_feed}
 use Rattle.tz_zone.specs.Table.{Transition, LeapSecond, Zone, zone_with}
 use Rattle.tz_zone.specs.TzText.{IsTzText}
 use Rattle.tz_zone.specs.ValidZone.{IsPlainTable, IsValidZone}
@@ -48,22 +49,38 @@ pub record AreCounts (n : Counts) : Type 0 where
 
 -- the first bytes are `TZif`
 abbrev pub HasMagic : List ℕ → Type 0
-HasMagic bytes = take 4 bytes ≡ 84 ∷ 90 ∷ 105 ∷ 102 ∷ []
+HasMagic bytes = take 4 bytes ≡ codes "TZif"
 
--- the byte of version 1, 2, 3 or 4
+-- the version bytes: 0, and the digits 2, 3 and 4
+abbrev pub version_1 : ℕ
+version_1 = 0
+
+abbrev pub version_2 : ℕ
+version_2 = 50
+
+abbrev pub version_3 : ℕ
+version_3 = 51
+
+abbrev pub version_4 : ℕ
+version_4 = 52
+
 abbrev pub IsVersion : ℕ → Type 0
-IsVersion byte = (byte ≡ 0) ⊎ (byte ≡ 50) ⊎ (byte ≡ 51) ⊎ (byte ≡ 52)
+IsVersion byte = (byte ≡ version_1) ⊎ (byte ≡ version_2) ⊎ (byte ≡ version_3) ⊎ (byte ≡ version_4)
+
+-- the length of a header
+abbrev pub header_len : ℕ
+header_len = 44
 
 -- a header stands at the front
 pub record IsHeader (bytes : List ℕ) : Type 0 where
-  pub whole : 44 ≤ length bytes
+  pub whole : header_len ≤ length bytes
   pub magic : HasMagic bytes
   pub version : IsVersion (slice_index bytes 4)
   pub counts : AreCounts (counts_of bytes)
 
 -- where the parts of the block begin behind their header, and where the block ends, if times have this width (section 3.2)
 abbrev pub indexes_at : Width → Counts → ℕ
-indexes_at w n = 44 + n.transition * byte_len w
+indexes_at w n = header_len + n.transition * byte_len w
 
 abbrev pub types_at : Width → Counts → ℕ
 types_at w n = indexes_at w n + n.transition
@@ -96,7 +113,7 @@ pub record Block : Type 0 where
 -- those of the block behind the header at the front
 unfoldable pub block_with : Width → Counts → List ℕ → Block
 block_with w n bytes = record {
-  times = slice_range bytes 44 (indexes_at w n);
+  times = slice_range bytes header_len (indexes_at w n);
   indexes = slice_range bytes (indexes_at w n) (types_at w n);
   types = slice_range bytes (types_at w n) (names_at w n);
   names = slice_range bytes (names_at w n) (leaps_at w n);
@@ -193,7 +210,7 @@ part_with w bytes = record {
 
 -- a file of version 1
 abbrev pub IsFirstVersion : List ℕ → Type 0
-IsFirstVersion bytes = slice_index bytes 4 ≡ 0
+IsFirstVersion bytes = slice_index bytes 4 ≡ version_1
 
 -- headers and blocks: nothing stands behind the first unit in version 1, and a second unit in later ones
 pub record IsFramed (bytes : List ℕ) : Type 0 where
@@ -203,11 +220,11 @@ pub record IsFramed (bytes : List ℕ) : Type 0 where
 
 -- the unit whose content is read: the only one, or the second, whose times have eight bytes
 unfoldable pub part_of : List ℕ → Part
-part_of bytes = if slice_index bytes 4 == 0 then part_with w32 bytes else part_with w64 (behind w32 bytes)
+part_of bytes = if slice_index bytes 4 == version_1 then part_with w32 bytes else part_with w64 (behind w32 bytes)
 
 -- what stands behind the second one is the footer (section 3.3)
 unfoldable pub footer_of : List ℕ → Option (List ℕ)
-footer_of bytes = if slice_index bytes 4 == 0 then None else Some (behind w64 (behind w32 bytes))
+footer_of bytes = if slice_index bytes 4 == version_1 then None else Some (behind w64 (behind w32 bytes))
 
 -- bytes without the ASCII white space at their ends
 unfoldable pub trimmed_start : List ℕ → List ℕ
@@ -218,11 +235,11 @@ trimmed bytes = take (length (trimmed_start bytes) - suffix_len is_ascii_whitesp
 
 -- the first and the last byte are line feeds, which may be one
 abbrev pub IsBetweenLineFeeds : List ℕ → Type 0
-IsBetweenLineFeeds footer = (slice_get footer 0 ≡ Some 10) × (slice_get footer (length footer - 1) ≡ Some 10)
+IsBetweenLineFeeds footer = (slice_get footer 0 ≡ Some line_feed) × (slice_get footer (length footer - 1) ≡ Some line_feed)
 
 -- what may stand between them: it does not begin with a colon, and has no zero byte
 abbrev pub MayBeText : List ℕ → Type 0
-MayBeText text = (slice_get text 0 ≢ Some 58) × ¬ Contains text 0
+MayBeText text = (slice_get text 0 ≢ Some colon) × ¬ Contains text 0
 
 pub record IsFooter (footer : List ℕ) : Type 0 where
   pub utf8 : IsUtf8 footer
@@ -241,11 +258,11 @@ IsExtraRule extended (Some footer) rule = IsFooter footer × IsTextRule extended
 
 -- texts are extended where the header of the unit that is read is of version 3 or 4 (section 3.3.1)
 abbrev pub is_extended : Part → Bool
-is_extended p = (p.version == 51) || (p.version == 52)
+is_extended p = (p.version == version_3) || (p.version == version_4)
 
 -- leap seconds may begin later or expire where that header is of version 4
 abbrev pub MayHold : ℕ → List LeapSecond → Type 0
-MayHold version leaps = (version ≡ 52) ⊎ IsPlainTable leaps
+MayHold version leaps = (version ≡ version_4) ⊎ IsPlainTable leaps
 
 abbrev pub HoldsLeapSeconds : Part → Type 0
 HoldsLeapSeconds p = MayHold p.version (leaps_of p.width p.block p.counts.leap)

@@ -13,14 +13,14 @@ use Rattle.tz_rule.specs.LocalTimeType.{IsFirstTypeFault}
 use Rattle.tz_rule.specs.declared.timezone.rule.TransitionRule.{TransitionRule}
 use Rattle.tz_zone.specs.TzTextFault.{IsTzTextFault}
 use Rattle.tz_zone.specs.ValidZone.{IsFirstZoneFault}
-use Rattle.tz_zone.specs.TzFile.{HasMagic, IsVersion, AreCounts, counts_of, IsHeader, end_at, IsUnit, behind, Block, Part, IsFlag, HasName, type_at, HasIndicators, IsContent, IsFirstVersion, IsFramed, part_of, footer_of, trimmed, IsBetweenLineFeeds, MayBeText, IsFooter, IsExtraRule, is_extended, HoldsLeapSeconds, zone_of_part}
+use Rattle.tz_zone.specs.TzFile.{header_len, HasMagic, IsVersion, AreCounts, counts_of, IsHeader, end_at, IsUnit, behind, Block, IsFlag, HasName, type_at, HasIndicators, IsContent, IsFirstVersion, IsFramed, part_of, footer_of, trimmed, IsBetweenLineFeeds, MayBeText, IsFooter, IsExtraRule, is_extended, zone_of_part, Part, HoldsLeapSeconds}
 
 -- faults of the header at the front
 abbrev pub HeaderFails : List ℕ → TzFileError → Type 0
-HeaderFails bytes (ParseData UnexpectedEof) = length bytes < 44
+HeaderFails bytes (ParseData UnexpectedEof) = length bytes < header_len
 HeaderFails bytes InvalidMagicNumber = (4 ≤ length bytes) × ¬ HasMagic bytes
 HeaderFails bytes UnsupportedTzFileVersion = (5 ≤ length bytes) × ¬ IsVersion (slice_index bytes 4)
-HeaderFails bytes InvalidHeader = (44 ≤ length bytes) × ¬ AreCounts (counts_of bytes)
+HeaderFails bytes InvalidHeader = (header_len ≤ length bytes) × ¬ AreCounts (counts_of bytes)
 HeaderFails _ _ = ⊥
 
 -- of the header or its block

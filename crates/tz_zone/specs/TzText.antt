@@ -12,6 +12,7 @@ use Rattle.tz_rule.specs.declared.timezone.rule_day.RuleDay.{RuleDay}
 use Rattle.tz_rule.specs.declared.timezone.rule_day.RuleDay.TheVariants.{Julian1WithoutLeap, Julian0WithLeap, MonthWeekDay}
 use Rattle.tz_rule.specs.declared.timezone.rule.TransitionRule.{TransitionRule}
 use Rattle.tz_rule.specs.declared.timezone.rule.TransitionRule.TheVariants.{Fixed, Alternate as Alternating}
+use Rattle.tz_zone.specs.Bytes.{capital_j, capital_m, closing_bracket, colon, comma, dot, minus_sign, opening_bracket, plus_sign, slash}
 use Rattle.tz_zone.specs.declared.parse.tz_string.day.DayAndTime.{DayAndTime}
 use Rattle.tz_zone.specs.declared.parse.tz_string.time.WrittenTime.{WrittenTime}
 
@@ -33,12 +34,12 @@ pub record IsNumber (text : List ℕ) (n : ℕ) (rest : List ℕ) : Type 0 where
 
 -- a name between angle brackets, or a run of letters
 abbrev pub is_in_brackets : ℕ → Bool
-is_in_brackets byte = not (byte == 62)
+is_in_brackets byte = not (byte == closing_bracket)
 
 abbrev pub IsName : List ℕ → List ℕ → List ℕ → Type 0
 IsName text name rest =
-    ((quoted : List ℕ) × (text ≡ 60 ∷ quoted) × IsRun is_in_brackets quoted name (62 ∷ rest))
-    ⊎ (¬ Begins 60 text × IsRun is_ascii_alphabetic text name rest)
+    ((quoted : List ℕ) × (text ≡ opening_bracket ∷ quoted) × IsRun is_in_brackets quoted name (closing_bracket ∷ rest))
+    ⊎ (¬ Begins opening_bracket text × IsRun is_ascii_alphabetic text name rest)
 
 -- a time is written as its numbers, with a sign or without; this one has no minus
 abbrev pub plain_time : ℕ → ℕ → ℕ → WrittenTime
@@ -47,8 +48,8 @@ plain_time hours minutes seconds = record { minus = false; hours = hours; minute
 -- a colon and a number, or 0 where no colon stands
 abbrev pub IsPart : List ℕ → ℕ → List ℕ → Type 0
 IsPart text n rest =
-    ((number : List ℕ) × (text ≡ 58 ∷ number) × IsNumber number n rest)
-    ⊎ (¬ Begins 58 text × (n ≡ 0) × (rest ≡ text))
+    ((number : List ℕ) × (text ≡ colon ∷ number) × IsNumber number n rest)
+    ⊎ (¬ Begins colon text × (n ≡ 0) × (rest ≡ text))
 
 -- hours, minutes and seconds, whatever sign the time has
 pub record IsHms (text : List ℕ) (t : WrittenTime) (rest : List ℕ) : Type 0 where
@@ -61,9 +62,9 @@ pub record IsHms (text : List ℕ) (t : WrittenTime) (rest : List ℕ) : Type 0 
 -- a sign, or none
 abbrev pub IsSign : List ℕ → Bool → List ℕ → Type 0
 IsSign text minus rest =
-    ((text ≡ 45 ∷ rest) × (minus ≡ true))
-    ⊎ ((text ≡ 43 ∷ rest) × (minus ≡ false))
-    ⊎ (¬ Begins 45 text × ¬ Begins 43 text × (rest ≡ text) × (minus ≡ false))
+    ((text ≡ minus_sign ∷ rest) × (minus ≡ true))
+    ⊎ ((text ≡ plus_sign ∷ rest) × (minus ≡ false))
+    ⊎ (¬ Begins minus_sign text × ¬ Begins plus_sign text × (rest ≡ text) × (minus ≡ false))
 
 abbrev pub IsSignedTime : List ℕ → WrittenTime → List ℕ → Type 0
 IsSignedTime text t rest = (unsigned : List ℕ) × IsSign text t.minus unsigned × IsHms unsigned t rest
@@ -80,26 +81,26 @@ IsDayTime extended text t rest = (unsigned : List ℕ) × IsDayTimeSign extended
 abbrev pub IsMonthWeekText : List ℕ → MonthWeek → List ℕ → Type 0
 IsMonthWeekText text d rest =
     (week : List ℕ) × (week_day : List ℕ)
-    × IsNumber text d.month (46 ∷ week) × IsNumber week d.week (46 ∷ week_day) × IsNumber week_day d.week_day rest
+    × IsNumber text d.month (dot ∷ week) × IsNumber week d.week (dot ∷ week_day) × IsNumber week_day d.week_day rest
 
 abbrev pub IsDay : List ℕ → RuleDay → List ℕ → Type 0
-IsDay text (Julian1WithoutLeap n) rest = (number : List ℕ) × (text ≡ 74 ∷ number) × IsNumber number n rest
+IsDay text (Julian1WithoutLeap n) rest = (number : List ℕ) × (text ≡ capital_j ∷ number) × IsNumber number n rest
 IsDay text (Julian0WithLeap n) rest = IsNumber text n rest
-IsDay text (MonthWeekDay d) rest = (month : List ℕ) × (text ≡ 77 ∷ month) × IsMonthWeekText month d rest
+IsDay text (MonthWeekDay d) rest = (month : List ℕ) × (text ≡ capital_m ∷ month) × IsMonthWeekText month d rest
 
 -- a slash and a time of day, or two o'clock where no slash stands
 abbrev pub IsTimeOfRule : Bool → List ℕ → WrittenTime → List ℕ → Type 0
 IsTimeOfRule extended text t rest =
-    ((time : List ℕ) × (text ≡ 47 ∷ time) × IsDayTime extended time t rest)
-    ⊎ (¬ Begins 47 text × (t ≡ plain_time 2 0 0) × (rest ≡ text))
+    ((time : List ℕ) × (text ≡ slash ∷ time) × IsDayTime extended time t rest)
+    ⊎ (¬ Begins slash text × (t ≡ plain_time 2 0 0) × (rest ≡ text))
 
 abbrev pub IsRuleText : Bool → List ℕ → DayAndTime → List ℕ → Type 0
 IsRuleText extended text rule rest = (after_day : List ℕ) × IsDay text rule.day after_day × IsTimeOfRule extended after_day rule.time rest
 
 -- an offset, or none where a comma stands
 abbrev pub IsDaylightOffset : List ℕ → Option WrittenTime → List ℕ → Type 0
-IsDaylightOffset text None rest = Begins 44 text × (rest ≡ text)
-IsDaylightOffset text (Some t) rest = ¬ Begins 44 text × IsSignedTime text t rest
+IsDaylightOffset text None rest = Begins comma text × (rest ≡ text)
+IsDaylightOffset text (Some t) rest = ¬ Begins comma text × IsSignedTime text t rest
 
 -- what a text with daylight saving time says
 pub record AlternateText : Type 0 where
@@ -124,8 +125,8 @@ pub record IsAlternateText (extended : Bool) (text : List ℕ) (a : AlternateTex
   pub end_text : List ℕ
   pub std_is : IsNameAndOffset text a.std_name a.std_offset after_std
   pub dst_name_is : IsName after_std a.dst_name after_dst_name
-  pub dst_offset_is : IsDaylightOffset after_dst_name a.dst_offset (44 ∷ start_text)
-  pub start_is : IsRuleText extended start_text a.start (44 ∷ end_text)
+  pub dst_offset_is : IsDaylightOffset after_dst_name a.dst_offset (comma ∷ start_text)
+  pub start_is : IsRuleText extended start_text a.start (comma ∷ end_text)
   pub end_is : IsRuleText extended end_text a.end []
 
 -- ranges: so many hours at most, and minutes and seconds below 60

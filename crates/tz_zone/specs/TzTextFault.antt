@@ -15,6 +15,7 @@ use Rattle.tz_rule.specs.LocalTimeType.{IsFirstTypeFault, type_of}
 use Rattle.tz_rule.specs.JulianDay.{IsJulianDay, IsZeroBasedDay}
 use Rattle.tz_rule.specs.MonthWeek.{IsRuleMonth, IsRuleWeek, IsRuleWeekDay}
 use Rattle.tz_rule.specs.Alternate.{IsFirstRuleFault}
+use Rattle.tz_zone.specs.Bytes.{capital_j, capital_m, colon, comma, dot, opening_bracket, slash}
 use Rattle.tz_zone.specs.declared.parse.tz_string.time.WrittenTime.{WrittenTime}
 use Rattle.tz_zone.specs.TzText.{Begins, IsRun, IsNumber, is_in_brackets, IsName, IsPart, IsSign, IsSignedTime, IsDayTimeSign, IsDay, IsRuleText, IsDaylightOffset, AlternateText, IsAlternateText, IsAlternateInRange, offset_hours, day_time_hours, rule_of}
 
@@ -55,7 +56,7 @@ IsNumberFault limit named text e =
 
 -- the same of minutes or seconds behind a colon
 abbrev pub IsPartFault : TzStringError → List ℕ → TzStringError → Type 0
-IsPartFault named text e = (number : List ℕ) × (text ≡ 58 ∷ number) × IsNumberFault 59 named number e
+IsPartFault named text e = (number : List ℕ) × (text ≡ colon ∷ number) × IsNumberFault 59 named number e
 
 abbrev pub IsHmsFault : ℕ → TimeFaults → List ℕ → TzStringError → Type 0
 IsHmsFault hours faults text e =
@@ -93,22 +94,22 @@ IsDayNumberFault bits in_range named text e =
 abbrev pub IsMonthWeekDayFault : List ℕ → TzError → Type 0
 IsMonthWeekDayFault text e =
     IsDayNumberFault 8 IsRuleMonth InvalidRuleDayMonth text e
-    ⊎ Reached IsNumber text (λ month after_month. FailsFrom 46 after_month e (λ week_text.
+    ⊎ Reached IsNumber text (λ month after_month. FailsFrom dot after_month e (λ week_text.
     IsDayNumberFault 8 IsRuleWeek InvalidRuleDayWeek week_text e
-    ⊎ Reached IsNumber week_text (λ week after_week. FailsFrom 46 after_week e (λ day_text.
+    ⊎ Reached IsNumber week_text (λ week after_week. FailsFrom dot after_week e (λ day_text.
     IsDayNumberFault 8 IsRuleWeekDay InvalidRuleDayWeekDay day_text e))))
 
 abbrev pub IsDayFault : List ℕ → TzError → Type 0
 IsDayFault text e =
-    (¬ Begins 74 text × ¬ Begins 77 text × IsDayNumberFault 16 IsZeroBasedDay InvalidRuleDayJulianDay text e)
-    ⊎ ((number : List ℕ) × (text ≡ 74 ∷ number) × IsDayNumberFault 16 IsJulianDay InvalidRuleDayJulianDay number e)
-    ⊎ ((month : List ℕ) × (text ≡ 77 ∷ month) × IsMonthWeekDayFault month e)
+    (¬ Begins capital_j text × ¬ Begins capital_m text × IsDayNumberFault 16 IsZeroBasedDay InvalidRuleDayJulianDay text e)
+    ⊎ ((number : List ℕ) × (text ≡ capital_j ∷ number) × IsDayNumberFault 16 IsJulianDay InvalidRuleDayJulianDay number e)
+    ⊎ ((month : List ℕ) × (text ≡ capital_m ∷ month) × IsMonthWeekDayFault month e)
 
 -- a day, or the time behind a slash
 abbrev pub IsRuleTextFault : Bool → List ℕ → TzError → Type 0
 IsRuleTextFault extended text e =
     IsDayFault text e
-    ⊎ Reached IsDay text (λ day after_day. (time : List ℕ) × (after_day ≡ 47 ∷ time) × InText e (IsDayTimeFault extended time))
+    ⊎ Reached IsDay text (λ day after_day. (time : List ℕ) × (after_day ≡ slash ∷ time) × InText e (IsDayTimeFault extended time))
 
 -- the last rule, and nothing behind it
 abbrev pub IsLastRuleFault : Bool → List ℕ → TzError → Type 0
@@ -120,11 +121,11 @@ IsLastRuleFault extended text e =
 abbrev pub IsRulesFault : Bool → List ℕ → TzError → Type 0
 IsRulesFault extended text e =
     IsRuleTextFault extended text e
-    ⊎ Reached (IsRuleText extended) text (λ start after_start. FailsFrom 44 after_start e (λ end_text. IsLastRuleFault extended end_text e))
+    ⊎ Reached (IsRuleText extended) text (λ start after_start. FailsFrom comma after_start e (λ end_text. IsLastRuleFault extended end_text e))
 
 -- an angle bracket is not closed
 abbrev pub IsUnclosed : List ℕ → Type 0
-IsUnclosed text = (quoted : List ℕ) × (name : List ℕ) × (text ≡ 60 ∷ quoted) × IsRun is_in_brackets quoted name []
+IsUnclosed text = (quoted : List ℕ) × (name : List ℕ) × (text ≡ opening_bracket ∷ quoted) × IsRun is_in_brackets quoted name []
 
 -- a name is not closed, or is no designation
 abbrev pub IsNameFault : List ℕ → TzError → Type 0
@@ -141,9 +142,9 @@ abbrev pub IsDaylightFault : Bool → List ℕ → TzError → Type 0
 IsDaylightFault extended text e =
     IsNameFault text e
     ⊎ Reached IsName text (λ name after_name. LacksRules after_name e
-    ⊎ ((after_name ≢ []) × ¬ Begins 44 after_name × InText e (IsOffsetFault after_name))
+    ⊎ ((after_name ≢ []) × ¬ Begins comma after_name × InText e (IsOffsetFault after_name))
     ⊎ Reached IsDaylightOffset after_name (λ offset after_offset. LacksRules after_offset e
-    ⊎ ((after_offset ≢ []) × FailsFrom 44 after_offset e (λ rules. IsRulesFault extended rules e))))
+    ⊎ ((after_offset ≢ []) × FailsFrom comma after_offset e (λ rules. IsRulesFault extended rules e))))
 
 -- the whole text is read and in range, and its rule is refused
 abbrev pub IsRefusedRule : Bool → List ℕ → TzError → Type 0

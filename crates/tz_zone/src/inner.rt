@@ -1,4 +1,4 @@
-//! What the crates above use of zones and their users do not: leap times, and where they take effect.
+//! For the crates above, and no part of the public surface: leap times, where they take effect, and a zone's transitions seen one at a time.
 
 ghost use Rattle.std.specs.Prelude.{◌≡◌, ℕ, ◌+◌, true, false, ◌<◌, ◌≤◌, ◌↔◌, ◌+ℤ◌, ◌≤ℤ◌, ◌<ℤ◌, length, [], slice_get, ℤ, IsTrue, IfOk, IfErr, IfSome, IfNone, MatchBool, MatchOption, Some, ◌-ℤ◌};
 ghost use Rattle.tz_rule.specs.LocalTimeType.{LocalTimeType};
@@ -8,8 +8,21 @@ ghost use Rattle.tz_zone.specs.ZoneRef.{zone_of};
 ghost use Rattle.tz_zone.specs.LeapTime.{IsInstant, IsStart, correction_at_start as correction_of_start, correction_before as correction_at_place, IsReached, IsBeforeStart, IsFirstBegun, IsLeapTimeRefused, IsLeapTime, IsMomentOf, IsEffect, IsEffectRefused};
 ghost use Rattle.tz_zone.specs.ValidZone.{AreLeapSeconds, HasBegunAt, ExpiresAt, IsPlainTable, IsRising};
 
+mod lookup;
+mod parts;
+mod reached;
+mod segment;
+mod segments;
+mod transitions;
+
 use crate::partition::{Places, partition_point};
 use crate::timezone::{LeapSecond, TimeZoneRef, Transition};
+pub use lookup::{find_local_time_type, other_parts, type_of_last};
+pub use parts::OtherParts;
+pub use reached::{transitions_reached, transitions_reached_between};
+pub use segment::Segment;
+pub use segments::segment_at;
+pub use transitions::{Counted, Transitions, Uncounted};
 use tz_base::error::TzError;
 
 /// From the start of the table up to this instant each one has a leap time, whatever the leap seconds.

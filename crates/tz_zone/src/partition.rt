@@ -1,6 +1,6 @@
 //! The partition point of places, by halving.
 
-ghost use Rattle.std.specs.Prelude.{◌≡◌, ℕ, ◌+◌, ◌<◌, ◌≤◌, MatchBool};
+ghost use Rattle.std.specs.Prelude.{◌≡◌, ℕ, ◌+◌, ◌-◌, ◌<◌, ◌≤◌, MatchBool};
 
 /// Places that a test passes up to some place, and not from there on.
 pub(crate) trait Places {
@@ -20,6 +20,17 @@ pub(crate) trait Places {
         ensures { MatchBool result (passes self.now place) (¬ passes self.now place) };
 }
 
+/// The place in the middle of those from `low` up to `high`: at most half of them lie before it, and at most half after it.
+pub(crate) fn middle(low: usize, high: usize) -> usize
+    requires { low < high }
+    ensures from { low ≤ result }
+    ensures within { result < high }
+    ensures before { (result - low) + (result - low) ≤ high - low }
+    ensures after { (high - (result + 1)) + (high - (result + 1)) ≤ high - low }
+{
+    low + (high - low) / 2
+}
+
 /// The partition point: the first place at which the test fails, or the number of places.
 pub(crate) fn partition_point<P: Places>(places: &P) -> usize
     ensures within { result ≤ P.count places.now }
@@ -29,11 +40,11 @@ pub(crate) fn partition_point<P: Places>(places: &P) -> usize
     let mut low = 0;
     let mut high = places.len();
     while low < high {
-        let middle = low + (high - low) / 2;
-        if places.passes_at(middle) {
-            low = middle + 1;
+        let place = middle(low, high);
+        if places.passes_at(place) {
+            low = place + 1;
         } else {
-            high = middle;
+            high = place;
         }
     }
     low

@@ -44,7 +44,7 @@ fn utc_reading(reading: i64, ut_offset: i32) -> Option<i64>
 /// A date time with the local time type that shows it, and its Unix time.
 ///
 /// Date times are compared by Unix time and then by nanoseconds, whatever their local time types.
-#[derive(Clone, Copy, Debug)]
+#[derive(Clone, Copy)]
 pub struct DateTime {
     fields: Fields,
     local_time_type: LocalTimeType,
@@ -127,11 +127,13 @@ impl DateTime {
     ghost use Rattle.tz_rule.specs.LocalTimeType.{LocalTimeType};
     ghost use Rattle.tz_zone.specs.Clock.{IsClock, IsLookupFault};
     ghost use Rattle.tz_zone.specs.ZoneRef.{zone_of};
-    ghost use Rattle.tz.specs.DateTimes.{DateTime, IsDateTime, ShowsInstant, IsShowFault, IsLocalFault, total_of, IsNearTotal, IsForwards, IsBackwards, ShowsByClock, IsClockFault, IsTotalFault, IsTotalClockFault, ShowsTotal, ShowsTotalByClock};
+    ghost use Rattle.tz.specs.DateTimes.{fields_of, DateTime, IsDateTime, ShowsInstant, IsShowFault, IsLocalFault, total_of, IsNearTotal, IsForwards, IsBackwards, ShowsByClock, IsClockFault, IsTotalFault, IsTotalClockFault, ShowsTotal, ShowsTotalByClock};
 
-    /// The date time with these fields, which the type shows. The ranges are those of [`UtcDateTime::new`].
+    /// The date time with these fields, which the type shows: the month from 1 to 12, the day of the month from 1, the hour from 0
+    /// to 23, the minute from 0 to 59, the second from 0 to 60 and the nanoseconds below a second.
     ///
-    /// `OutOfRange` tells that its Unix time is that of no UTC date time.
+    /// Of fields out of range the first one is named, in this order, and after them all that the month has no such day. Then
+    /// `OutOfRange` tells that the Unix time of the date time is that of no UTC date time.
     pub fn new(
         year: i32,
         month: u8,
@@ -143,13 +145,13 @@ impl DateTime {
         local_time_type: LocalTimeType,
     ) -> Result<Self, TzError>
         ensures value { IfOk result (λ d. d ≡ record {
-          fields = record { year = year; month = month; month_day = month_day; hour = hour; minute = minute; second = second; nanoseconds = nanoseconds };
+          fields = fields_of year month month_day hour minute second nanoseconds;
           local_time_type = local_time_type;
-          unix_time = reading (record { year = year; month = month; month_day = month_day; hour = hour; minute = minute; second = second; nanoseconds = nanoseconds }) -ℤ local_time_type.ut_offset;
+          unix_time = reading (fields_of year month month_day hour minute second nanoseconds) -ℤ local_time_type.ut_offset;
         }) }
-        ensures ok { OnOk result (IsValid (record { year = year; month = month; month_day = month_day; hour = hour; minute = minute; second = second; nanoseconds = nanoseconds })) }
-        ensures instant { OnOk result (IsReading (reading (record { year = year; month = month; month_day = month_day; hour = hour; minute = minute; second = second; nanoseconds = nanoseconds }) -ℤ local_time_type.ut_offset)) }
-        ensures err { IfErr result (IsLocalFault (record { year = year; month = month; month_day = month_day; hour = hour; minute = minute; second = second; nanoseconds = nanoseconds }) local_time_type.ut_offset) }
+        ensures ok { OnOk result (IsValid (fields_of year month month_day hour minute second nanoseconds)) }
+        ensures instant { OnOk result (IsReading (reading (fields_of year month month_day hour minute second nanoseconds) -ℤ local_time_type.ut_offset)) }
+        ensures err { IfErr result (IsLocalFault (fields_of year month month_day hour minute second nanoseconds) local_time_type.ut_offset) }
     {
         let fields = Fields {
             year,
@@ -382,6 +384,23 @@ impl DateTime {
         ensures { IsDateTime self.now }
     {
         let _ = &self.fields;
+    }
+}
+
+/// Prints the name of the type and its parts, the fields as if they stood in the type itself.
+impl fmt::Debug for DateTime {
+    fn fmt<W: fmt::Write>(&self, f: &mut fmt::Formatter<W>) -> fmt::Result {
+        f.debug_struct("DateTime")
+            .field("year", &self.fields.year)
+            .field("month", &self.fields.month)
+            .field("month_day", &self.fields.month_day)
+            .field("hour", &self.fields.hour)
+            .field("minute", &self.fields.minute)
+            .field("second", &self.fields.second)
+            .field("local_time_type", &self.local_time_type)
+            .field("unix_time", &self.unix_time)
+            .field("nanoseconds", &self.fields.nanoseconds)
+            .finish()
     }
 }
 

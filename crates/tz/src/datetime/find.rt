@@ -15,14 +15,18 @@ impl DateTime {
     ghost use Rattle.tz_base.specs.Fields.{IsValid};
     ghost use Rattle.tz_zone.specs.Clock.{IsClock};
     ghost use Rattle.tz_zone.specs.ZoneRef.{zone_of};
+    ghost use Rattle.tz.specs.DateTimes.{fields_of};
     ghost use Rattle.tz.specs.Found.{IsFound};
     ghost use Rattle.tz.specs.Lists.{found_of, slots_of, count_of, reference_of};
     ghost use Rattle.tz.specs.FindFaults.{IsFindFault, IsPromised};
     ghost use Rattle.tz.specs.Slots.{filled};
     ghost use Rattle.tz.specs.declared.datetime.found.FoundDateTimeKind.{FoundDateTimeKind};
 
-    /// All date times at which the zone's clock shows the fields, and the jumps forward over them, by rising Unix time. The
-    /// ranges are those of [`DateTime::new`].
+    /// All date times at which the zone's clock shows the fields, and the jumps forward over them, by rising Unix time.
+    ///
+    /// The month is from 1 to 12, the day of the month from 1, the hour from 0 to 23, the minute from 0 to 59, the second from 0 to
+    /// 60 and the nanoseconds below a second. Of fields out of range the first one is named, in this order, and after them all
+    /// that the month has no such day.
     ///
     /// A date time keeps the fields as they are given, second 60 included. `OutOfRange` tells that a date time of the list lies
     /// outside the years of 32 bits. Never is that told of a year that is 200 years or more from both ends of these, nor, where
@@ -38,10 +42,10 @@ impl DateTime {
         nanoseconds: u32,
         time_zone_ref: TimeZoneRef<'_>,
     ) -> Result<FoundDateTimeList<A>, TzError>
-        ensures ok { IfOk result (λ list. IsFound (IsClock (zone_of time_zone_ref.entry)) (record { year = year; month = month; month_day = month_day; hour = hour; minute = minute; second = second; nanoseconds = nanoseconds }) (found_of list)) }
-        ensures valid { OnOk result (IsValid (record { year = year; month = month; month_day = month_day; hour = hour; minute = minute; second = second; nanoseconds = nanoseconds })) }
+        ensures ok { IfOk result (λ list. IsFound (IsClock (zone_of time_zone_ref.entry)) (fields_of year month month_day hour minute second nanoseconds) (found_of list)) }
+        ensures valid { OnOk result (IsValid (fields_of year month month_day hour minute second nanoseconds)) }
         ensures promised { IsPromised (zone_of time_zone_ref.entry) year → IfErr result (λ e. e ≢ TzError.OutOfRange) }
-        ensures err { IfErr result (IsFindFault ⊤ (IsClock (zone_of time_zone_ref.entry)) (record { year = year; month = month; month_day = month_day; hour = hour; minute = minute; second = second; nanoseconds = nanoseconds })) }
+        ensures err { IfErr result (IsFindFault ⊤ (IsClock (zone_of time_zone_ref.entry)) (fields_of year month month_day hour minute second nanoseconds)) }
     {
         let fields = Fields {
             year,
@@ -72,8 +76,13 @@ impl DateTime {
         Ok(list)
     }
 
-    /// What [`DateTime::find`] finds, as far as the slots go; the other slots stay as they are, and all are counted. Nothing is
-    /// written where the fields are refused.
+    /// Writes all date times at which the zone's clock shows the fields, and the jumps forward over them, to the slots of a buffer,
+    /// by rising Unix time and as far as the slots go; the other slots stay as they are, and all that is found is counted.
+    ///
+    /// The month is from 1 to 12, the day of the month from 1, the hour from 0 to 23, the minute from 0 to 59, the second from 0 to
+    /// 60 and the nanoseconds below a second. Of fields out of range the first one is named, in this order, and after them all
+    /// that the month has no such day; nothing is written then. `OutOfRange` tells, as it does of [`DateTime::find`], that a date
+    /// time of the list lies outside the years of 32 bits.
     pub fn find_n<'a>(
         buf: &'a mut [Option<FoundDateTimeKind>],
         year: i32,
@@ -87,11 +96,11 @@ impl DateTime {
     ) -> Result<FoundDateTimeListRefMut<'a>, TzError>
         ensures same_reference { IfOk result (λ list. reference_of list ≡ buf.entry.ghost_name) }
         ensures ok { IfOk result (λ list. (found : List FoundDateTimeKind)
-            × IsFound (IsClock (zone_of time_zone_ref.entry)) (record { year = year; month = month; month_day = month_day; hour = hour; minute = minute; second = second; nanoseconds = nanoseconds }) found
+            × IsFound (IsClock (zone_of time_zone_ref.entry)) (fields_of year month month_day hour minute second nanoseconds) found
             × (count_of list ≡ length found) × (slots_of list ≡ filled buf.old found)) }
-        ensures valid { OnOk result (IsValid (record { year = year; month = month; month_day = month_day; hour = hour; minute = minute; second = second; nanoseconds = nanoseconds })) }
+        ensures valid { OnOk result (IsValid (fields_of year month month_day hour minute second nanoseconds)) }
         ensures promised { IsPromised (zone_of time_zone_ref.entry) year → IfErr result (λ e. e ≢ TzError.OutOfRange) }
-        ensures err { IfErr result (IsFindFault ⊥ (IsClock (zone_of time_zone_ref.entry)) (record { year = year; month = month; month_day = month_day; hour = hour; minute = minute; second = second; nanoseconds = nanoseconds })) }
+        ensures err { IfErr result (IsFindFault ⊥ (IsClock (zone_of time_zone_ref.entry)) (fields_of year month month_day hour minute second nanoseconds)) }
     {
         let fields = Fields {
             year,

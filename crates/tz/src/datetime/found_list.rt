@@ -2,13 +2,14 @@
 
 use super::{DateTime, FoundDateTimeKind};
 use std::alloc::{Allocator, Global};
+use std::fmt;
 use tz_base::error::TzError;
 
 /// The date times that a search found, by rising Unix time.
 ///
 /// Lists are equal when their entries are, on whichever allocators.
 #[derive(Drop)]
-#[derive_where(Debug, PartialEq)]
+#[derive_where(PartialEq)]
 pub struct FoundDateTimeList<A: Allocator + Copy = Global> {
     pub(super) found: Vec<FoundDateTimeKind, A>,
 }
@@ -27,7 +28,7 @@ impl<A: Allocator + Copy> FoundDateTimeList<A> {
         }
     }
 
-    /// The same list again, on the same allocator.
+    /// A copy of the list, on the same allocator.
     pub fn try_clone(&self) -> Result<Self, TzError>
         ensures ok { IfOk result (λ list. found_of list ≡ found_of self.now) }
         ensures err { IfErr result (λ e. e ≡ TzError.Memory alloc_error) }
@@ -67,5 +68,14 @@ impl<A: Allocator + Copy> FoundDateTimeList<A> {
         ensures { result.items ≡ found_of self }
     {
         self.found
+    }
+}
+
+/// Prints the name of the type and what was found, as if that alone stood in it.
+impl<A: Allocator + Copy> fmt::Debug for FoundDateTimeList<A> {
+    fn fmt<W: fmt::Write>(&self, f: &mut fmt::Formatter<W>) -> fmt::Result {
+        f.debug_tuple("FoundDateTimeList")
+            .field(&self.found)
+            .finish()
     }
 }

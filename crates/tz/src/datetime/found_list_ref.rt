@@ -1,32 +1,15 @@
 //! Lists of found date times in a buffer of the caller.
 
 use super::{DateTime, FoundDateTimeKind};
-
-/// Slots of the caller, compared by what they hold.
-#[derive(Debug, Drop)]
-struct Buffer<'a, T> {
-    slots: &'a mut [T],
-}
-
-impl<T: PartialEq> PartialEq for Buffer<'_, T> {
-    ghost use Rattle.std.specs.Cmp.{on_per};
-    ghost use Rattle.std.specs.Cmp.Lexicographic.{pointwise, lists_per};
-
-    ghost eq = { λ x y. pointwise T.eq x.slots.now y.slots.now };
-
-    ghost laws = { on_per (λ b. b.slots.now) (lists_per T.laws) };
-
-    fn eq(&self, other: &Self) -> bool {
-        *self.slots == *other.slots
-    }
-}
+use std::fmt;
 
 /// The date times that a search found, by rising Unix time, as far as a buffer goes.
 ///
-/// All are counted, and the first of them are in the buffer's first slots.
-#[derive(Debug, PartialEq, Drop)]
+/// All are counted, and the first of them are in the buffer's first slots. Lists are equal where the buffers hold the same in all
+/// slots, and the counts are the same.
+#[derive(Drop)]
 pub struct FoundDateTimeListRefMut<'a> {
-    buf: Buffer<'a, Option<FoundDateTimeKind>>,
+    buf: &'a mut [Option<FoundDateTimeKind>],
     count: usize,
 }
 
@@ -41,10 +24,7 @@ impl<'a> FoundDateTimeListRefMut<'a> {
         ensures slots { slots_of result ≡ buf.old }
         ensures count { count_of result ≡ 0 }
     {
-        FoundDateTimeListRefMut {
-            buf: Buffer { slots: buf },
-            count: 0,
-        }
+        FoundDateTimeListRefMut { buf, count: 0 }
     }
 
     /// The list of so many date times whose first are in the slots already.
@@ -53,24 +33,21 @@ impl<'a> FoundDateTimeListRefMut<'a> {
         ensures slots { slots_of result ≡ buf.old }
         ensures count { count_of result ≡ count }
     {
-        FoundDateTimeListRefMut {
-            buf: Buffer { slots: buf },
-            count,
-        }
+        FoundDateTimeListRefMut { buf, count }
     }
 
     /// How many slots were written.
     fn written(&self) -> usize
         ensures { result ≡ min (count_of self.now) (length (slots_of self.now)) }
     {
-        self.count.min(self.buf.slots.len())
+        self.count.min(self.buf.len())
     }
 
     /// The slots that were written.
     pub fn data(&self) -> &[Option<FoundDateTimeKind>]
         ensures { result.now ≡ written_of (slots_of self.now) (count_of self.now) }
     {
-        &self.buf.slots[..self.written()]
+        &self.buf[..self.written()]
     }
 
     /// How many date times were found, whether there was a slot for each or not.
@@ -84,7 +61,7 @@ impl<'a> FoundDateTimeListRefMut<'a> {
     pub fn is_exhaustive(&self) -> bool
         ensures { IsTrue result ↔ (count_of self.now ≤ length (slots_of self.now)) }
     {
-        self.count <= self.buf.slots.len()
+        self.count <= self.buf.len()
     }
 
     /// The earliest date time that was written; of a jump the side before it.
@@ -119,5 +96,36 @@ impl<'a> FoundDateTimeListRefMut<'a> {
             [Some(FoundDateTimeKind::Normal(date_time))] => Some(date_time),
             _ => None,
         }
+    }
+}
+
+impl PartialEq for FoundDateTimeListRefMut<'_> {
+    ghost use Rattle.std.specs.Cmp.Lexicographic.{pointwise};
+    ghost use Rattle.std.specs.Cmp.Rules.{comparing};
+    ghost use Rattle.std.specs.Prelude.{nat_eq};
+    ghost use Rattle.std.specs.Option.{option_eq};
+    ghost use Rattle.std.specs.Ordering.{on, eq_of_both};
+    ghost use Rattle.std.proofs.Common.{rules};
+    ghost use Rattle.tz.specs.SlotEquality.{options_per};
+    ghost use Rattle.tz.specs.contracts.datetime.found.FoundDateTimeKindPartialEq.TheImpl as kind_eq;
+    ghost use Rattle.tz.specs.contracts.datetime.found.FoundDateTimeKindPartialEq.TheImpl.Laws as kind_laws;
+
+    ghost eq = { eq_of_both (on (λ l. l.buf.now) (pointwise (option_eq (kind_eq.ghosts).eq))) (on (λ l. l.count) nat_eq) };
+
+    ghost laws = { Prim.search (comparing, rules, options_per, kind_laws.laws-law) };
+
+    fn eq(&self, other: &Self) -> bool {
+        *self.buf == *other.buf && self.count == other.count
+    }
+}
+
+/// Prints the name of the type, all slots, how many of them were written, and how many date times were found.
+impl fmt::Debug for FoundDateTimeListRefMut<'_> {
+    fn fmt<W: fmt::Write>(&self, f: &mut fmt::Formatter<W>) -> fmt::Result {
+        f.debug_struct("FoundDateTimeListRefMut")
+            .field("buf", &self.buf)
+            .field("current_index", &self.written())
+            .field("count", &self.count)
+            .finish()
     }
 }

@@ -21,7 +21,7 @@ pub(crate) trait DateTimeList {
         ensures ok { OnOk result (gains self.old self.new (found ∷ [])) }
         ensures err { OnErr result (takes_memory × gains self.old self.new []) };
 
-    /// It gains nothing where it stays as it is.
+    /// A list gains nothing where it stays as it is.
     ghost none: { (list : Self) → gains list list [] };
 
     /// One gain after another is a gain.

@@ -1,35 +1,24 @@
 //! Totals of nanoseconds, and durations between them.
 
-ghost use Rattle.std.specs.Prelude.{MatchBool, ◌≡◌, ◌≤◌, ◌<◌, pos, negsuc, ◌^◌, ◌≤ℤ◌, IfOk, IfErr};
+ghost use Rattle.std.specs.Prelude.{◌≡◌, ◌↔◌, pos, ◌^◌, ◌≤ℤ◌, IfOk, IfErr, IsSome, IfSome};
 ghost use Rattle.std.specs.Duration.{as_nanos};
 ghost use Rattle.tz_base.specs.Fields.{IsReading, IsTimespec};
 ghost use Rattle.tz.specs.DateTimes.{IsUtcTotal, IsNearTotal, IsForwards, IsBackwards};
 
 use std::time::Duration;
-use tz_base::constants::NANOSECONDS_PER_SECOND;
+use tz_base::calendar;
 
-/// The totals of the first nanosecond of all and of the last.
-const FIRST_TOTAL: i128 = -67_768_100_567_971_200_000_000_000;
-
-const LAST_TOTAL: i128 = 67_767_976_233_532_799_999_999_999;
-
-/// Whether the seconds of the total, rounded down, are those of a UTC date time.
-pub(super) fn is_utc_total(total: i128) -> bool
-    ensures { MatchBool result (IsUtcTotal total) (¬ IsUtcTotal total) }
+/// The seconds of the total, rounded down, and the nanoseconds that are over, if the seconds are those of a UTC date time.
+pub(super) fn utc_timespec(total: i128) -> Option<(i64, u32)>
+    ensures some { IfSome result (λ t. IsReading t.0 × IsTimespec total t.0 t.1) }
+    ensures in_range { IsSome result ↔ IsUtcTotal total }
 {
-    (FIRST_TOTAL..=LAST_TOTAL).contains(&total)
-}
-
-/// The seconds of the total, rounded down, and the nanoseconds that are over.
-pub(super) fn utc_timespec(total: i128) -> (i64, u32)
-    requires { IsUtcTotal total }
-    ensures reads { IsReading result.0 }
-    ensures value { IsTimespec total result.0 result.1 }
-{
-    let nanoseconds_per_second = i128::from(NANOSECONDS_PER_SECOND);
-    let seconds = total.div_euclid(nanoseconds_per_second);
-    let nanoseconds = total.rem_euclid(nanoseconds_per_second);
-    (seconds as i64, nanoseconds as u32)
+    let (seconds, nanoseconds) = calendar::timespec(total)?;
+    if calendar::is_reading(seconds) {
+        Some((seconds, nanoseconds))
+    } else {
+        None
+    }
 }
 
 /// The nanoseconds of a duration.

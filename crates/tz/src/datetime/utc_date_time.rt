@@ -4,7 +4,7 @@ ghost use Rattle.std.specs.Prelude.{MatchBool};
 ghost use Rattle.tz.specs.DateTimes.{IsPastTheEnd};
 
 use super::DateTime;
-use super::totals::{duration_between, is_utc_total, nanoseconds_of, utc_timespec};
+use super::totals::{duration_between, nanoseconds_of, utc_timespec};
 use crate::inner::TextBuffer;
 use std::fmt;
 use std::marker::Model;
@@ -20,7 +20,7 @@ use tz_zone::timezone::TimeZoneRef;
 ///
 /// Date times are compared field by field, so second 60 comes before the next minute's second 0, although both have the same
 /// Unix time.
-#[derive(Clone, Copy, Debug, PartialEq, Eq, PartialOrd, Ord)]
+#[derive(Clone, Copy, PartialEq, Eq, PartialOrd, Ord)]
 pub struct UtcDateTime {
     fields: Fields,
 }
@@ -37,6 +37,36 @@ impl Model for UtcDateTime {
 
     ghost inverse = { λ f. record { fields = f } };
 }
+
+const _: () = prove!(
+    UtcDateTime::UNIX_EPOCH.fields.year == 1970
+        && UtcDateTime::UNIX_EPOCH.fields.month == 1
+        && UtcDateTime::UNIX_EPOCH.fields.month_day == 1
+        && UtcDateTime::UNIX_EPOCH.fields.hour == 0
+        && UtcDateTime::UNIX_EPOCH.fields.minute == 0
+        && UtcDateTime::UNIX_EPOCH.fields.second == 0
+        && UtcDateTime::UNIX_EPOCH.fields.nanoseconds == 0
+);
+
+const _: () = prove!(
+    UtcDateTime::MIN.fields.year == i32::MIN
+        && UtcDateTime::MIN.fields.month == 1
+        && UtcDateTime::MIN.fields.month_day == 1
+        && UtcDateTime::MIN.fields.hour == 0
+        && UtcDateTime::MIN.fields.minute == 0
+        && UtcDateTime::MIN.fields.second == 0
+        && UtcDateTime::MIN.fields.nanoseconds == 0
+);
+
+const _: () = prove!(
+    UtcDateTime::MAX.fields.year == i32::MAX
+        && UtcDateTime::MAX.fields.month == 12
+        && UtcDateTime::MAX.fields.month_day == 31
+        && UtcDateTime::MAX.fields.hour == 23
+        && UtcDateTime::MAX.fields.minute == 59
+        && UtcDateTime::MAX.fields.second == 59
+        && UtcDateTime::MAX.fields.nanoseconds == 999_999_999
+);
 
 /// Whether the fields are second 60 of the last minute, which reads as a second past the years of 32 bits.
 fn is_past_the_end(fields: &Fields) -> bool
@@ -55,7 +85,7 @@ impl UtcDateTime {
     ghost use Rattle.std.specs.Duration.{as_nanos};
     ghost use Rattle.tz_base.specs.Days.{week_day_of, first_day};
     ghost use Rattle.tz_base.specs.Fields.{IsCivil, IsReading, reading, day_of};
-    ghost use Rattle.tz.specs.DateTimes.{IsUtc, IsUtcFault, IsShowFault, utc_total, IsUtcTotal, IsUtcAt, IsForwards, IsBackwards, ShowsByClock, IsClockFault};
+    ghost use Rattle.tz.specs.DateTimes.{fields_of, IsUtc, IsUtcFault, IsShowFault, utc_total, IsUtcTotal, IsUtcAt, IsForwards, IsBackwards, ShowsByClock, IsClockFault};
     ghost use Rattle.tz_zone.specs.ZoneRef.{zone_of};
 
     /// 1970-01-01T00:00:00Z, from which Unix time counts.
@@ -99,6 +129,9 @@ impl UtcDateTime {
 
     /// The date time with these fields: the month from 1 to 12, the day of the month from 1, the hour from 0 to 23, the minute
     /// from 0 to 59, the second from 0 to 60 and the nanoseconds below a second.
+    ///
+    /// Of fields out of range the first one is named, in this order, and after them all that the month has no such day. Second 60
+    /// of the last minute of all is `OutOfRange`, before them.
     pub fn new(
         year: i32,
         month: u8,
@@ -108,9 +141,9 @@ impl UtcDateTime {
         second: u8,
         nanoseconds: u32,
     ) -> Result<Self, TzError>
-        ensures value { IfOk result (λ d. d ≡ record { year = year; month = month; month_day = month_day; hour = hour; minute = minute; second = second; nanoseconds = nanoseconds }) }
-        ensures ok { OnOk result (IsUtc (record { year = year; month = month; month_day = month_day; hour = hour; minute = minute; second = second; nanoseconds = nanoseconds })) }
-        ensures err { IfErr result (IsUtcFault (record { year = year; month = month; month_day = month_day; hour = hour; minute = minute; second = second; nanoseconds = nanoseconds })) }
+        ensures value { IfOk result (λ d. d ≡ fields_of year month month_day hour minute second nanoseconds) }
+        ensures ok { OnOk result (IsUtc (fields_of year month month_day hour minute second nanoseconds)) }
+        ensures err { IfErr result (IsUtcFault (fields_of year month month_day hour minute second nanoseconds)) }
     {
         let fields = Fields {
             year,
@@ -158,21 +191,18 @@ impl UtcDateTime {
         ensures ok { IfOk result (IsUtcAt total_nanoseconds) }
         ensures err { IfErr result (λ e. (e ≡ TzError.OutOfRange) × ¬ IsUtcTotal total_nanoseconds) }
     {
-        if !is_utc_total(total_nanoseconds) {
-            return Err(TzError::OutOfRange);
-        }
-        Ok(UtcDateTime::at_total(total_nanoseconds))
+        UtcDateTime::at_total(total_nanoseconds).ok_or(TzError::OutOfRange)
     }
 
-    /// The date time of a total of nanoseconds.
-    fn at_total(total_nanoseconds: i128) -> Self
-        requires { IsUtcTotal total_nanoseconds }
-        ensures { IsUtcAt total_nanoseconds result }
+    /// The date time of a total of nanoseconds, if it has one.
+    fn at_total(total_nanoseconds: i128) -> Option<Self>
+        ensures in_range { IsSome result ↔ IsUtcTotal total_nanoseconds }
+        ensures some { IfSome result (IsUtcAt total_nanoseconds) }
     {
-        let (unix_time, nanoseconds) = utc_timespec(total_nanoseconds);
-        UtcDateTime {
+        let (unix_time, nanoseconds) = utc_timespec(total_nanoseconds)?;
+        Some(UtcDateTime {
             fields: Fields::from_reading(unix_time, nanoseconds),
-        }
+        })
     }
 
     /// The date time of a moment, which the caller hands in as Unix seconds and nanoseconds below a second.
@@ -274,12 +304,7 @@ impl UtcDateTime {
         ensures in_range { IsSome result ↔ IsUtcTotal (utc_total self.now +ℤ pos (as_nanos duration)) }
         ensures some { IfSome result (IsUtcAt (utc_total self.now +ℤ pos (as_nanos duration))) }
     {
-        let total = self.total_nanoseconds() + nanoseconds_of(duration);
-        if is_utc_total(total) {
-            Some(UtcDateTime::at_total(total))
-        } else {
-            None
-        }
+        UtcDateTime::at_total(self.total_nanoseconds() + nanoseconds_of(duration))
     }
 
     /// The date time so much earlier, or `None` where that is before [`UtcDateTime::MIN`].
@@ -287,12 +312,7 @@ impl UtcDateTime {
         ensures in_range { IsSome result ↔ IsUtcTotal (utc_total self.now -ℤ pos (as_nanos duration)) }
         ensures some { IfSome result (IsUtcAt (utc_total self.now -ℤ pos (as_nanos duration))) }
     {
-        let total = self.total_nanoseconds() - nanoseconds_of(duration);
-        if is_utc_total(total) {
-            Some(UtcDateTime::at_total(total))
-        } else {
-            None
-        }
+        UtcDateTime::at_total(self.total_nanoseconds() - nanoseconds_of(duration))
     }
 
     /// The duration from an earlier date time to this one, or `Err` with the way back where the other one is later.
@@ -317,7 +337,7 @@ impl Add<Duration> for UtcDateTime {
     ghost add_gives = { λ d s r. IsUtcAt (utc_total d +ℤ pos (as_nanos s)) r };
 
     fn add(self, duration: Duration) -> UtcDateTime {
-        UtcDateTime::at_total(self.total_nanoseconds() + nanoseconds_of(duration))
+        self.checked_add(duration).unwrap()
     }
 }
 
@@ -334,11 +354,11 @@ impl Sub<Duration> for UtcDateTime {
     ghost sub_gives = { λ d s r. IsUtcAt (utc_total d -ℤ pos (as_nanos s)) r };
 
     fn sub(self, duration: Duration) -> UtcDateTime {
-        UtcDateTime::at_total(self.total_nanoseconds() - nanoseconds_of(duration))
+        self.checked_sub(duration).unwrap()
     }
 }
 
-/// As `+`.
+/// The sum must not be past [`UtcDateTime::MAX`], as for `+`.
 impl AddAssign<Duration> for UtcDateTime {
     ghost use Rattle.std.specs.Prelude.{pos, ◌+ℤ◌};
     ghost use Rattle.std.specs.Duration.{as_nanos};
@@ -353,7 +373,7 @@ impl AddAssign<Duration> for UtcDateTime {
     }
 }
 
-/// As `-`.
+/// The difference must not be before [`UtcDateTime::MIN`], as for `-`.
 impl SubAssign<Duration> for UtcDateTime {
     ghost use Rattle.std.specs.Prelude.{pos, ◌-ℤ◌};
     ghost use Rattle.std.specs.Duration.{as_nanos};
@@ -385,6 +405,21 @@ impl TryFrom<DateTime> for UtcDateTime {
         Ok(UtcDateTime {
             fields: Fields::from_reading(date_time.unix_time(), date_time.nanoseconds()),
         })
+    }
+}
+
+/// Prints the name of the type and its fields, as if they stood in the type itself.
+impl fmt::Debug for UtcDateTime {
+    fn fmt<W: fmt::Write>(&self, f: &mut fmt::Formatter<W>) -> fmt::Result {
+        f.debug_struct("UtcDateTime")
+            .field("year", &self.fields.year)
+            .field("month", &self.fields.month)
+            .field("month_day", &self.fields.month_day)
+            .field("hour", &self.fields.hour)
+            .field("minute", &self.fields.minute)
+            .field("second", &self.fields.second)
+            .field("nanoseconds", &self.fields.nanoseconds)
+            .finish()
     }
 }
 

@@ -11,7 +11,7 @@ use tz_zone::timezone::LocalTimeType;
 pub(super) enum Entry {
     /// The clock shows the reading in a type.
     Shown(i64, LocalTimeType),
-    /// It is set forward from the first type to the second.
+    /// The clock is set forward from the first type to the second.
     Jump(i64, LocalTimeType, LocalTimeType),
 }
 
@@ -31,7 +31,7 @@ pub(super) struct Walk {
     before: Option<LocalTimeType>,
     /// Where the last piece begins.
     since: i64,
-    /// Its type.
+    /// The type in the last piece.
     kind: Option<LocalTimeType>,
 }
 
@@ -136,7 +136,7 @@ impl Walk {
         self.reading
     }
 
-    /// Its year.
+    /// The year of the reading that is looked for.
     pub(super) fn year(&self) -> i32
         ensures { result ≡ self.now.fields.year }
     {

@@ -1,14 +1,19 @@
 //! The answers of query lines.
 
-ghost use Rattle.std.specs.Prelude.{◌≡◌, ◌+◌, ◌<◌, ◌≤◌, ℕ, List, [], ◌∷◌, ◌++◌, length, map, codes, IfOk, IfErr, FitsSigned, alloc_error};
+ghost use Rattle.std.specs.Prelude.{◌≡◌, ◌+◌, ◌<◌, ◌≤◌, ℕ, List, [], ◌∷◌, ◌++◌, length, take, map, codes, IfOk, IfErr, FitsSigned, alloc_error};
 ghost use Rattle.std.specs.Fmt.{decimal};
 ghost use Rattle.std.specs.Int.{w32};
 ghost use Rattle.tz_base.specs.Fields.{IsValid};
+ghost use Rattle.tz_zone.specs.Segments.{IsSegmentOf, numbered_types};
 ghost use Rattle.tz_zone.specs.ZoneRef.{zone_of};
+ghost use Rattle.tz_query.specs.Tails.{types_of};
 ghost use Rattle.tz_query.specs.Lines.{IsFirstLine, ended};
 ghost use Rattle.tz_query.specs.Answers.{name_text, moment_text, entry_text, found_lines, field_fault_text, IsFaultText, IsTimeAnswer, IsSearchAnswer, IsAnswer, AreAnswers};
 
-use crate::query::queries::{after_line, read_search_line, read_time_line};
+use crate::query::fast::tail::Tail;
+use crate::query::fast::tails::tails_of;
+use crate::query::fast::time_lines::answer_time_line;
+use crate::query::lines::{after_line, read_search_line, read_time_line};
 use std::alloc::{AllocError, Allocator};
 use tz::datetime::{DateTime, FoundDateTimeKind};
 use tz::inner::TextBuffer;
@@ -16,10 +21,11 @@ use tz::laws::date_time_parts_are_sound;
 use tz::{LocalTimeType, TimeZoneRef, TzError};
 use tz_base::calendar::Fields;
 use tz_base::error::datetime::DateTimeError;
+use tz_zone::inner::Segment;
 
 /// Appends the name of a type, or `-` where it has none.
 #[inline]
-fn push_name(line: &mut TextBuffer, local_time_type: &LocalTimeType)
+pub(super) fn push_name(line: &mut TextBuffer, local_time_type: &LocalTimeType)
     requires { length line.old + 7 ≤ 128 }
     ensures text { line.new ≡ line.old ++ name_text local_time_type.now }
     ensures len { length line.new ≤ length line.old + 7 }
@@ -289,6 +295,64 @@ fn answer_line<'a, A: Allocator + Copy>(
     Ok(after_line(queries))
 }
 
+/// Appends what is on the page to the answers.
+fn flush<A: Allocator>(
+    answers: &mut Vec<u8, A>,
+    page: &[u8; 2040],
+    at: usize,
+) -> Result<(), AllocError>
+    requires { at ≤ 2040 }
+    ensures { IfOk result (λ _. answers.new.items ≡ answers.old.items ++ take at page.now) }
+{
+    answers.extend_from_slice(&page[..at])
+}
+
+/// Appends what is on the page where it is nearly full, and gives how much of it is used then.
+#[inline(always)]
+fn make_room<A: Allocator>(
+    answers: &mut Vec<u8, A>,
+    page: &[u8; 2040],
+    at: usize,
+) -> Result<usize, AllocError>
+    requires { at ≤ 2040 }
+    ensures end { IfOk result (λ end. end ≤ 1979) }
+    ensures text { IfOk result (λ end. (answers.new.items ++ take end page.now) ≡ (answers.old.items ++ take at page.now)) }
+{
+    if at <= 1979 {
+        return Ok(at);
+    }
+    flush(answers, page, at)?;
+    Ok(0)
+}
+
+/// Answers the first line, on the page where that is quick, and gives how much of the page is used and the bytes after that line.
+#[inline(always)]
+fn answer_next<'a, A: Allocator + Copy>(
+    alloc: A,
+    answers: &mut Vec<u8, A>,
+    line: &mut TextBuffer,
+    page: &mut [u8; 2040],
+    at: usize,
+    kept: &mut Segment,
+    tails: &[Tail],
+    zone: TimeZoneRef<'_>,
+    queries: &'a [u8],
+) -> Result<(usize, &'a [u8]), AllocError>
+    requires room { at ≤ 1979 }
+    requires kept { IsSegmentOf (zone_of zone) kept.old }
+    requires tails { types_of tails.now ≡ numbered_types (zone_of zone) }
+    ensures end { IfOk result (λ r. r.0 ≤ at + 61) }
+    ensures answer { IfOk result (λ r. (text : List ℕ) × (answer : List (List ℕ)) × IsFirstLine queries.now text r.1.now × IsAnswer (zone_of zone.entry) text answer × ((answers.new.items ++ take r.0 page.new) ≡ (answers.old.items ++ take at page.old) ++ ended answer)) }
+    ensures kept { IsSegmentOf (zone_of zone.entry) kept.new }
+{
+    if let Some(answered) = answer_time_line(page, at, kept, zone, tails, queries) {
+        return Ok(answered);
+    }
+    flush(answers, page, at)?;
+    let rest = answer_line(alloc, answers, line, zone, queries)?;
+    Ok((0, rest))
+}
+
 /// Answers query bytes over a zone.
 ///
 /// Each line asks for something by its letter and numbers, one space apart. `T u n` asks for the date time at the Unix time u with n
@@ -305,10 +369,30 @@ pub fn answer<A: Allocator + Copy>(
     ensures err { IfErr result (λ e. e ≡ TzError.Memory alloc_error) }
 {
     let mut answers = Vec::with_capacity(alloc, queries.len().saturating_mul(2))?;
+    let tails = tails_of(alloc, zone)?;
     let mut line = TextBuffer::new();
+    let mut page = [0; 2040];
+    let mut at = 0;
+    let mut kept = Segment {
+        from: 1,
+        until: 0,
+        number: 0,
+    };
     let mut rest = queries;
     while !rest.is_empty() {
-        rest = answer_line(alloc, &mut answers, &mut line, zone, rest)?;
+        let room = make_room(&mut answers, &page, at)?;
+        (at, rest) = answer_next(
+            alloc,
+            &mut answers,
+            &mut line,
+            &mut page,
+            room,
+            &mut kept,
+            &tails,
+            zone,
+            rest,
+        )?;
     }
+    flush(&mut answers, &page, at)?;
     Ok(answers)
 }

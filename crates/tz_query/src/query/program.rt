@@ -3,14 +3,13 @@
 ghost use Rattle.std.specs.Prelude.{◌≡◌, ◌≤◌, ℕ, ℤ, List, IfSome, IfNone, IfOk, OnOk, FitsSigned};
 ghost use Rattle.std.specs.Fn.{FnReturnsAt};
 ghost use Rattle.std.specs.Int.{w32};
-ghost use Rattle.std.specs.Io.KnownBytes.{Appends, Consumes, IsAtEnd};
 ghost use Rattle.tz_query.specs.Numbers.{IsNumber};
 ghost use Rattle.tz_query.specs.Program.{texts_of, IsZoneOfOffset, IsZoneOfFile, IsZoneOfText, IsZoneOfOption, AsksForZone, AnswersInput};
 ghost use Rattle.tz_zone.specs.ZoneRef.{own_zone_of};
 
-use crate::query::answers::answer;
 use crate::query::numbers::read_number;
-use std::alloc::{AllocError, Allocator};
+use crate::query::streams::{RunFault, run};
+use std::alloc::Allocator;
 use std::io::{Read, Write};
 use thiserror::Error;
 use tz::error::ReadFault;
@@ -23,20 +22,12 @@ enum Fault {
     Arguments,
     #[error("cannot read file")]
     File,
-    #[error("cannot read queries")]
-    Read,
-    #[error("cannot write answers")]
-    Write,
     #[error("no memory")]
     Memory,
     #[error("zone refused: {0}")]
     Zone(TzError),
-}
-
-impl From<AllocError> for Fault {
-    fn from(_: AllocError) -> Self {
-        Fault::Memory
-    }
+    #[error("{0}")]
+    Run(RunFault),
 }
 
 impl From<ReadFault> for Fault {
@@ -162,43 +153,8 @@ fn zone_of_words<A: Allocator + Copy, F: Fn(&str) -> Result<Vec<u8>, ReadFault> 
     }
 }
 
-/// Reads the input to its end.
-fn read_to_end<A: Allocator, R: Read>(alloc: A, input: &mut R) -> Result<Vec<u8, A>, Fault>
-    ensures { IfOk result (λ bytes. Consumes (R.remaining input.old) (R.remaining input.new) bytes.items × IsAtEnd (R.remaining input.new)) }
-{
-    let mut bytes = Vec::new(alloc);
-    let mut buffer = [0; 16_384];
-    for _ in 0..u64::MAX {
-        let Ok(count) = input.read(&mut buffer) else {
-            return Err(Fault::Read);
-        };
-        if count == 0 {
-            return Ok(bytes);
-        }
-        bytes.extend_from_slice(&buffer[..count])?;
-    }
-    Err(Fault::Read)
-}
-
-/// Writes all bytes.
-fn write_all<W: Write>(out: &mut W, bytes: &[u8]) -> Result<(), Fault>
-    ensures { OnOk result (Appends (W.contents out.old) (W.contents out.new) bytes.now) }
-{
-    let mut rest = bytes;
-    while !rest.is_empty() {
-        let Ok(count) = out.write(rest) else {
-            return Err(Fault::Write);
-        };
-        if count == 0 {
-            return Err(Fault::Write);
-        }
-        rest = &rest[count..];
-    }
-    Ok(())
-}
-
-/// Makes the zone, reads the queries and writes their answers.
-fn run<A, F, R, W>(
+/// Answers the input over the zone of the words.
+fn answer_input<A, F, R, W>(
     alloc: A,
     words: &[&str],
     reader: F,
@@ -214,9 +170,7 @@ where
     ensures { OnOk result (AnswersInput (FnReturnsAt F.Fn reader) (texts_of words.now) (R.remaining input.old) (R.remaining input.new) (W.contents out.old) (W.contents out.new)) }
 {
     let zone = zone_of_words(alloc, words, reader)?;
-    let queries = read_to_end(alloc, input)?;
-    let answers = answer(alloc, zone.as_ref(), &queries)?;
-    write_all(out, &answers)
+    run(alloc, zone.as_ref(), input, out).map_err(Fault::Run)
 }
 
 /// Runs the program and answers its status.
@@ -243,7 +197,7 @@ where
     ensures status { result ≤ 2 }
     ensures answered { result ≡ 0 → AnswersInput (FnReturnsAt F.Fn reader) (texts_of words.now) (R.remaining input.old) (R.remaining input.new) (W.contents out.old) (W.contents out.new) }
 {
-    match run(alloc, words, reader, input, out) {
+    match answer_input(alloc, words, reader, input, out) {
         Ok(()) => 0,
         Err(fault) => {
             let _ = writeln!(err, "tzq: {fault}");

@@ -6,6 +6,9 @@ use std::test::Fail;
 use tz::{LocalTimeType, TimeZone, TimeZoneRef, TzError};
 use tz_base::refusing::Refusing;
 
+pub mod failing;
+mod search;
+
 /// The answers over a fixed zone.
 fn answered<A: Allocator + Copy>(
     alloc: A,

@@ -6,7 +6,10 @@ ghost use Rattle.tz_rule.specs.Years.{IsConflict, IsInconsistent, EndsNextYear};
 
 use super::check::Parts;
 use super::daylight::rule_year;
+use super::year_kind::year_start;
+use super::year_table::YearTable;
 use super::{LocalTimeType, RuleDay};
+use std::fmt;
 use std::marker::Model;
 use tz_base::error::TzError;
 use tz_base::error::timezone::TransitionRuleError;
@@ -15,10 +18,12 @@ use tz_base::error::timezone::TransitionRuleError;
 ///
 /// A start and an end never change their order from one year to another, at any distance in years. Where some year's end comes before its start,
 /// daylight saving time lasts from each start to the next year's end, and else to the end of the same year.
-#[derive(Clone, Copy, Debug)]
+#[derive(Clone, Copy)]
 pub struct AlternateTime {
     parts: Parts,
     ends_next_year: bool,
+    starts: YearTable,
+    ends: YearTable,
 }
 
 impl Model for AlternateTime {
@@ -27,13 +32,13 @@ impl Model for AlternateTime {
     ghost Value = { AlternateTime };
 
     ghost use Rattle.tz_rule.specs.Parts.{rule_of};
-    ghost use Rattle.tz_rule.specs.Pairing.{IsKeptRule, parts_of, ends_come_first, kept_rule};
+    ghost use Rattle.tz_rule.specs.Pairing.{IsKeptRule, parts_of, ends_come_first, kept_of, kept_rule};
 
     ghost view = { λ r. rule_of r.parts };
 
     ghost invariant = { IsKeptRule };
 
-    ghost inverse = { λ r. record { parts = parts_of r; ends_next_year = ends_come_first r } };
+    ghost inverse = { kept_of };
 
     ghost inverse_ok = { λ r k. kept_rule r k };
 }
@@ -61,13 +66,17 @@ impl AlternateTime {
             dst_end_time,
         };
         parts.check_range()?;
-        if parts.conflict().is_some() {
+        let starts = parts.start_table();
+        let ends = parts.end_table();
+        if starts.changes_order(&ends) {
             return Err(TransitionRuleError::InconsistentRule);
         }
-        let ends_next_year = parts.ends_next_year();
+        let ends_next_year = ends.comes_first(&starts);
         Ok(AlternateTime {
             parts,
             ends_next_year,
+            starts,
+            ends,
         })
     }
 
@@ -146,15 +155,17 @@ impl AlternateTime {
         ensures value { result ≡ start_of self.now year }
         ensures bound { IsNearYear result year }
     {
-        self.parts.start_in(year)
+        let (start_of_year, kind) = year_start(year);
+        start_of_year + self.starts.entry(kind)
     }
 
-    /// The instant at which it ends in a year.
+    /// The instant at which daylight saving time ends in a year.
     pub(crate) fn end_in(&self, year: i32) -> i64
         ensures value { result ≡ end_of self.now year }
         ensures bound { IsNearYear result year }
     {
-        self.parts.end_in(year)
+        let (start_of_year, kind) = year_start(year);
+        start_of_year + self.ends.entry(kind)
     }
 
     /// Whether each start has the end of the next year.
@@ -180,7 +191,7 @@ impl AlternateTime {
         let Some(year) = rule_year(unix_time) else {
             return Err(TzError::OutOfRange);
         };
-        if self.parts.is_daylight(self.ends_next_year, unix_time, year) {
+        if self.is_daylight(unix_time, year) {
             Ok(&self.parts.dst)
         } else {
             Ok(&self.parts.std)
@@ -213,4 +224,17 @@ impl Eq for AlternateTime {
     ghost use Rattle.tz_rule.specs.SameRule.{same_alternate, Decides-same_alternate};
 
     ghost laws = { IsEquivalence-from_equality same_alternate Decides-same_alternate };
+}
+
+impl fmt::Debug for AlternateTime {
+    fn fmt<W: fmt::Write>(&self, f: &mut fmt::Formatter<W>) -> fmt::Result {
+        f.debug_struct("AlternateTime")
+            .field("std", self.std())
+            .field("dst", self.dst())
+            .field("dst_start", self.dst_start())
+            .field("dst_start_time", &self.dst_start_time())
+            .field("dst_end", self.dst_end())
+            .field("dst_end_time", &self.dst_end_time())
+            .finish()
+    }
 }

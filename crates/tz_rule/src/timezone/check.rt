@@ -1,11 +1,12 @@
-//! The parts of an alternate rule, and the check of their consistency over all years.
+//! The parts of an alternate rule, and the years between which their order changes.
 //!
 //! Each year has the kind of one of 1972 to 1999, and so have two years that follow one another, so those years stand for all.
 
 ghost use Rattle.std.specs.Prelude.{◌≡◌, ◌+◌, ◌<◌, ℤ, pos, negsuc, ◌+ℤ◌, ◌-ℤ◌, ◌*ℤ◌, ◌≤ℤ◌, ◌<ℤ◌, OnOk, IfErr, IfSome, IfNone, MatchBool};
 ghost use Rattle.tz_rule.specs.Alternate.{start_of, end_of, IsRuleOffset, IsRuleTime, IsInRuleRange, IsRangeFault, AreRuleDays};
-ghost use Rattle.tz_rule.specs.Years.{IsConflict, IsInconsistent, EndsNextYear};
+ghost use Rattle.tz_rule.specs.Years.{IsConflict, IsInconsistent};
 
+use super::year_table::YearTable;
 use super::{LocalTimeType, RuleDay};
 use tz_base::constants::SECONDS_PER_DAY;
 use tz_base::error::timezone::TransitionRuleError;
@@ -92,7 +93,7 @@ fn instant(day: i64, seconds: i64) -> i64
 }
 
 /// The six parts of an alternate rule.
-#[derive(Clone, Copy, Debug)]
+#[derive(Clone, Copy)]
 pub(super) struct Parts {
     pub(super) std: LocalTimeType,
     pub(super) dst: LocalTimeType,
@@ -106,9 +107,10 @@ impl Parts {
     ghost use Rattle.tz_rule.specs.Day.{IsRuleDay};
     ghost use Rattle.tz_rule.specs.Distance.{years_of};
     ghost use Rattle.tz_rule.specs.Parts.{rule_of};
+    ghost use Rattle.tz_rule.specs.YearTables.{start_table, end_table};
 
-    /// The instant at which daylight saving time starts in a year.
-    pub(super) fn start_in(&self, year: i32) -> i64
+    /// The instant at which daylight saving time starts in a year, from the rule day.
+    fn start_in(&self, year: i32) -> i64
         ensures value { result ≡ start_of (rule_of self.now) year }
         ensures day { IsRuleDay self.now.dst_start }
     {
@@ -116,8 +118,8 @@ impl Parts {
         instant(self.dst_start.in_year(year), seconds)
     }
 
-    /// The instant at which daylight saving time ends in a year.
-    pub(super) fn end_in(&self, year: i32) -> i64
+    /// The instant at which daylight saving time ends in a year, from the rule day.
+    fn end_in(&self, year: i32) -> i64
         ensures value { result ≡ end_of (rule_of self.now) year }
         ensures day { IsRuleDay self.now.dst_end }
     {
@@ -140,6 +142,24 @@ impl Parts {
             return Err(TransitionRuleError::InvalidDstStartEndTime);
         }
         Ok(())
+    }
+
+    /// How many seconds after 00:00 UTC of January 1st daylight saving time starts, by the kind of the year.
+    pub(super) fn start_table(&self) -> YearTable
+        requires { IsInRuleRange (rule_of self.now) }
+        ensures table { result.0 ≡ start_table (rule_of self.now) }
+        ensures day { IsRuleDay self.now.dst_start }
+    {
+        YearTable::of_day(&self.dst_start, self.dst_start_time - self.std.ut_offset())
+    }
+
+    /// How many seconds after 00:00 UTC of January 1st daylight saving time ends, by the kind of the year.
+    pub(super) fn end_table(&self) -> YearTable
+        requires { IsInRuleRange (rule_of self.now) }
+        ensures table { result.0 ≡ end_table (rule_of self.now) }
+        ensures day { IsRuleDay self.now.dst_end }
+    {
+        YearTable::of_day(&self.dst_end, self.dst_end_time - self.dst.ut_offset())
     }
 
     /// A year whose start comes before the end at the distance.
@@ -200,14 +220,5 @@ impl Parts {
             return Some(found);
         }
         self.conflict_at(Distance::YearBefore)
-    }
-
-    /// Whether some year's end comes before its start.
-    pub(super) fn ends_next_year(&self) -> bool
-        requires { IsInRuleRange (rule_of self.now) }
-        ensures days { AreRuleDays (rule_of self.now) }
-        ensures value { MatchBool result (EndsNextYear (start_of (rule_of self.now)) (end_of (rule_of self.now))) (¬ EndsNextYear (start_of (rule_of self.now)) (end_of (rule_of self.now))) }
-    {
-        self.end_first(Distance::SameYear).is_some()
     }
 }

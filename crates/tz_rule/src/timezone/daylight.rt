@@ -1,11 +1,11 @@
 //! Whether a rule has daylight saving time at an instant: the year of the instant and its two neighbours decide.
 
 ghost use Rattle.std.specs.Prelude.{IfSome, IfNone, MatchBool};
-ghost use Rattle.tz_rule.specs.Alternate.{start_of, end_of, IsInRuleRange, AreRuleDays, IsUtcYear, IsRuleYear, IsInRuleYears};
+ghost use Rattle.tz_rule.specs.Alternate.{start_of, end_of, IsUtcYear, IsRuleYear, IsInRuleYears};
 ghost use Rattle.tz_rule.specs.Daylight.{IsInSpan};
 ghost use Rattle.tz_rule.specs.Years.{EndsNextYear, IsDaylight};
 
-use super::check::Parts;
+use super::AlternateTime;
 use tz_base::calendar::{self, Fields};
 
 /// The first year in which a rule answers.
@@ -29,28 +29,25 @@ pub(super) fn rule_year(unix_time: i64) -> Option<i32>
     Some(year)
 }
 
-impl Parts {
-    ghost use Rattle.tz_rule.specs.Parts.{rule_of};
-
+impl AlternateTime {
     /// Whether the instant lies from one year's start up to, not including, a year's end.
     fn is_in_span(&self, unix_time: i64, start_year: i32, end_year: i32) -> bool
         ensures { MatchBool result
-            (IsInSpan (start_of (rule_of self.now)) (end_of (rule_of self.now)) unix_time start_year end_year)
-            (¬ IsInSpan (start_of (rule_of self.now)) (end_of (rule_of self.now)) unix_time start_year end_year) }
+            (IsInSpan (start_of self.now) (end_of self.now) unix_time start_year end_year)
+            (¬ IsInSpan (start_of self.now) (end_of self.now) unix_time start_year end_year) }
     {
         self.start_in(start_year) <= unix_time && unix_time < self.end_in(end_year)
     }
 
     /// Whether the instant is in daylight saving time, where each start has the end of its own year.
     fn is_daylight_in_order(&self, unix_time: i64, year: i32) -> bool
-        requires range { IsInRuleRange (rule_of self.now) }
-        requires days { AreRuleDays (rule_of self.now) }
-        requires in_order { ¬ EndsNextYear (start_of (rule_of self.now)) (end_of (rule_of self.now)) }
+        requires in_order { ¬ EndsNextYear (start_of self.now) (end_of self.now) }
         requires year { IsUtcYear unix_time year × IsRuleYear year }
         ensures { MatchBool result
-            (IsDaylight (start_of (rule_of self.now)) (end_of (rule_of self.now)) unix_time)
-            (¬ IsDaylight (start_of (rule_of self.now)) (end_of (rule_of self.now)) unix_time) }
+            (IsDaylight (start_of self.now) (end_of self.now) unix_time)
+            (¬ IsDaylight (start_of self.now) (end_of self.now) unix_time) }
     {
+        self.parts_are_sound();
         if self.is_in_span(unix_time, year - 1, year - 1) {
             return true;
         }
@@ -62,14 +59,13 @@ impl Parts {
 
     /// Whether the instant is in daylight saving time, where each start has the end of the next year.
     fn is_daylight_across_years(&self, unix_time: i64, year: i32) -> bool
-        requires range { IsInRuleRange (rule_of self.now) }
-        requires days { AreRuleDays (rule_of self.now) }
-        requires across { EndsNextYear (start_of (rule_of self.now)) (end_of (rule_of self.now)) }
+        requires across { EndsNextYear (start_of self.now) (end_of self.now) }
         requires year { IsUtcYear unix_time year × IsRuleYear year }
         ensures { MatchBool result
-            (IsDaylight (start_of (rule_of self.now)) (end_of (rule_of self.now)) unix_time)
-            (¬ IsDaylight (start_of (rule_of self.now)) (end_of (rule_of self.now)) unix_time) }
+            (IsDaylight (start_of self.now) (end_of self.now) unix_time)
+            (¬ IsDaylight (start_of self.now) (end_of self.now) unix_time) }
     {
+        self.parts_are_sound();
         if unix_time < self.end_in(year - 1) {
             return true;
         }
@@ -83,16 +79,13 @@ impl Parts {
     }
 
     /// Whether the instant is in daylight saving time.
-    pub(super) fn is_daylight(&self, ends_next_year: bool, unix_time: i64, year: i32) -> bool
-        requires range { IsInRuleRange (rule_of self.now) }
-        requires days { AreRuleDays (rule_of self.now) }
-        requires pairing { MatchBool ends_next_year (EndsNextYear (start_of (rule_of self.now)) (end_of (rule_of self.now))) (¬ EndsNextYear (start_of (rule_of self.now)) (end_of (rule_of self.now))) }
-        requires year { IsUtcYear unix_time year × IsRuleYear year }
+    pub(super) fn is_daylight(&self, unix_time: i64, year: i32) -> bool
+        requires { IsUtcYear unix_time year × IsRuleYear year }
         ensures { MatchBool result
-            (IsDaylight (start_of (rule_of self.now)) (end_of (rule_of self.now)) unix_time)
-            (¬ IsDaylight (start_of (rule_of self.now)) (end_of (rule_of self.now)) unix_time) }
+            (IsDaylight (start_of self.now) (end_of self.now) unix_time)
+            (¬ IsDaylight (start_of self.now) (end_of self.now) unix_time) }
     {
-        if ends_next_year {
+        if self.ends_next_year() {
             self.is_daylight_across_years(unix_time, year)
         } else {
             self.is_daylight_in_order(unix_time, year)

@@ -7,6 +7,8 @@ mod local_time_type;
 mod rule;
 mod rule_day;
 pub(crate) mod utc;
+mod year_kind;
+mod year_table;
 
 pub use alternate::AlternateTime;
 pub use local_time_type::LocalTimeType;

@@ -4,7 +4,7 @@ ghost use Rattle.std.specs.Prelude.{◌≡◌, ◌<◌, ◌≤◌, pos, negsuc, 
 ghost use Rattle.tz_base.specs.declared.error.timezone.TransitionRuleError.TheVariants as faults;
 ghost use Rattle.tz_rule.specs.JulianDay.{IsJulianDay, IsZeroBasedDay};
 ghost use Rattle.tz_rule.specs.MonthWeek.{MonthWeek, IsMonthWeek, IsFirstMonthWeekFault, IsRuleWeek, IsRuleWeekDay, month_week};
-ghost use Rattle.tz_rule.specs.Places.{julian_place as julian_place_of, week_day_place as week_day_place_of};
+ghost use Rattle.tz_rule.specs.Places.{julian_place as julian_place_of, week_day_place as week_day_place_of, place_in_year};
 
 use std::marker::Model;
 use tz_base::calendar;
@@ -84,6 +84,15 @@ impl Julian1WithoutLeap {
         let place = julian_place(calendar::is_leap_year(year), self.0);
         calendar::first_day_of_year(year) + i64::from(place)
     }
+
+    /// How many days after January 1st the day lies, in a leap year or another one.
+    fn place(&self, leap: bool) -> u16
+        ensures value { result ≡ julian_place_of leap self.now }
+        ensures bound { result ≤ 365 }
+        ensures range { IsJulianDay self.now }
+    {
+        julian_place(leap, self.0)
+    }
 }
 
 /// The day that lies n days after January 1st, from 0 to 365. In a year that is not leap 365 is the next January 1st. (POSIX.1-2017, 8.3: `n`.)
@@ -161,7 +170,7 @@ impl MonthWeekDay {
     ghost use Rattle.tz_rule.specs.Day.{rule_day};
     ghost use Rattle.tz_rule.specs.declared.timezone.rule_day.RuleDay.TheVariants as TheDays;
 
-    /// The day of the month from 1 to 12, the week from 1 to 5 and the week day from Sunday = 0 to 6.
+    /// The week day of a month: the month from 1 to 12, the week from 1 to 5, where 5 is the last, and the week day from 0 (Sunday) to 6.
     pub fn new(month: u8, week: u8, week_day: u8) -> Result<Self, TransitionRuleError>
         ensures value { IfOk result (λ d. d ≡ month_week month week week_day) }
         ensures ok { OnOk result (IsMonthWeek (month_week month week week_day)) }
@@ -222,6 +231,24 @@ impl MonthWeekDay {
         );
         first_day + i64::from(place)
     }
+
+    /// How many days after January 1st the day lies, in a leap year or another one whose January 1st has a week day.
+    #[tactic(auto, unfolding(crate::specs::Places::place_in_year))]
+    fn place(&self, leap: bool, first_week_day: u8) -> u16
+        requires { first_week_day < 7 }
+        ensures value { result ≡ place_in_year (TheDays.MonthWeekDay self.now) leap first_week_day }
+        ensures bound { result ≤ 365 }
+        ensures range { IsMonthWeek self.now }
+    {
+        let before = calendar::days_before_month(leap, self.month);
+        let place = week_day_place(
+            ((u16::from(first_week_day) + before) % 7) as u8,
+            calendar::days_of_month(leap, self.month),
+            self.week,
+            self.week_day,
+        );
+        before + u16::from(place)
+    }
 }
 
 /// A day of each year.
@@ -274,6 +301,21 @@ impl RuleDay {
             RuleDay::Julian1WithoutLeap(day) => day.in_year(year),
             RuleDay::Julian0WithLeap(day) => day.in_year(year),
             RuleDay::MonthWeekDay(day) => day.in_year(year),
+        }
+    }
+
+    /// How many days after January 1st the day lies, in a leap year or another one whose January 1st has a week day.
+    #[tactic(auto, unfolding(crate::specs::Places::place_in_year))]
+    pub(super) fn place(&self, leap: bool, first_week_day: u8) -> u16
+        requires { first_week_day < 7 }
+        ensures value { result ≡ place_in_year self.now leap first_week_day }
+        ensures bound { result ≤ 365 }
+        ensures range { IsRuleDay self.now }
+    {
+        match self {
+            RuleDay::Julian1WithoutLeap(day) => day.place(leap),
+            RuleDay::Julian0WithLeap(day) => day.get(),
+            RuleDay::MonthWeekDay(day) => day.place(leap, first_week_day),
         }
     }
 }

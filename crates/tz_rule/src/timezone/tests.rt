@@ -1,12 +1,15 @@
 //! Rules from outside: their starts, their types at instants, and which of them are refused.
 
 mod consistency;
+mod years;
 
 use super::{
     AlternateTime, Julian0WithLeap, Julian1WithoutLeap, LocalTimeType, MonthWeekDay, RuleDay,
     TransitionRule,
 };
 use crate::inner;
+use std::test::Fail;
+use tz_base::error::TzError;
 use tz_base::error::timezone::{LocalTimeTypeError, TransitionRuleError};
 
 /// Why a rule of a test is not made.
@@ -90,9 +93,54 @@ fn all_year_is_daylight(rt: HostRuntime) {
 
 #[test]
 fn out_of_range_at_the_ends(rt: HostRuntime) {
-    let all_year = all_year();
-    assert_eq!(rt; type_at(&all_year, i64::MIN), None);
-    assert_eq!(rt; type_at(&all_year, i64::MAX), None);
+    let (Ok(all_year), Ok(auckland)) = (
+        all_year(),
+        rule(43_200, 46_800, m(10, 1, 0, 7200), m(3, 3, 0, 7200)),
+    ) else {
+        panic!(rt; "refused");
+    };
+    for rule in [all_year, auckland] {
+        let rule = TransitionRule::Alternate(rule);
+        for unix_time in [i64::MIN, i64::MAX] {
+            let found = inner::find_local_time_type(&rule, unix_time);
+            assert!(rt; matches!(found, Err(TzError::OutOfRange)), "{unix_time}");
+        }
+    }
+}
+
+#[test]
+fn values_print_their_parts(rt: HostRuntime) -> Result<(), Fail> {
+    let Ok(made) = rule(0, 3600, j(59, -1), z(0, 7200)) else {
+        panic!(rt; "refused");
+    };
+    let types = "std: LocalTimeType { ut_offset: 0, is_dst: false, time_zone_designation: None }, \
+        dst: LocalTimeType { ut_offset: 3600, is_dst: true, time_zone_designation: None }";
+    let text = format!(in rt.alloc();
+        "AlternateTime {{ {types}, \
+        dst_start: Julian1WithoutLeap(Julian1WithoutLeap(59)), dst_start_time: -1, \
+        dst_end: Julian0WithLeap(Julian0WithLeap(0)), dst_end_time: 7200 }}"
+    )?;
+    let printed = format!(in rt.alloc(); "{made:?}")?;
+    assert_eq!(rt; printed.as_str(), text.as_str());
+
+    let alternate = format!(in rt.alloc(); "Alternate({made:?})")?;
+    let printed = format!(in rt.alloc(); "{:?}", TransitionRule::Alternate(made))?;
+    assert_eq!(rt; printed.as_str(), alternate.as_str());
+    let printed = format!(in rt.alloc(); "{:?}", TransitionRule::Fixed(LocalTimeType::utc()))?;
+    assert_eq!(rt;
+        printed.as_str(),
+        "Fixed(LocalTimeType { ut_offset: 0, is_dst: false, time_zone_designation: None })"
+    );
+
+    let Ok(last_sunday) = MonthWeekDay::new(3, 5, 0) else {
+        panic!(rt; "refused");
+    };
+    let printed = format!(in rt.alloc(); "{:?}", RuleDay::MonthWeekDay(last_sunday))?;
+    assert_eq!(rt;
+        printed.as_str(),
+        "MonthWeekDay(MonthWeekDay { month: 3, week: 5, week_day: 0 })"
+    );
+    Ok(())
 }
 
 #[test]

@@ -6,6 +6,7 @@ ghost use Rattle.std.specs.Prelude.{◌≡◌, [], ◌∷◌, false, pos};
 ghost use Rattle.tz_rule.specs.LocalTimeType.{plain_type};
 
 use super::local_time_type::Designation;
+use super::year_table::YearTable;
 use super::{LocalTimeType, TransitionRule};
 use std::slice;
 
@@ -68,6 +69,8 @@ struct PartsFields {
 struct AlternateFields {
     parts: PartsFields,
     ends_next_year: bool,
+    starts: YearTable,
+    ends: YearTable,
 }
 
 /// The fields of a rule.

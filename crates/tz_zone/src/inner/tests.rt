@@ -1,4 +1,4 @@
-//! LeapSecond times and effects around leap seconds of one second more and less, and at the ends of 64 bits.
+//! Leap times and effects around leap seconds of one second more and less, and at the ends of 64 bits.
 
 use super::*;
 use crate::timezone::{LocalTimeType, TimeZoneRef};
@@ -147,7 +147,7 @@ fn the_ends_with_a_second_more_and_less(rt: HostRuntime) {
     assert!(rt; is_out_of_range(effect_of(&leap_seconds, i64::MAX)));
 }
 
-/// LeapSecond times rise from instant to instant but at a second less, and effects are least.
+/// Leap times rise from instant to instant but at a second less, and effects are least.
 #[test]
 fn leap_seconds_of_both_kinds(rt: HostRuntime) {
     let leap_seconds = [

@@ -1,4 +1,4 @@
-//! LeapSecond seconds.
+//! Leap seconds.
 
 ghost use Rattle.std.specs.Prelude.{◌≡◌};
 

@@ -6,7 +6,6 @@ mod leap_second;
 mod settings;
 mod transition;
 mod zone;
-mod zone_data;
 mod zone_ref;
 
 pub use file::read_file;

@@ -5,6 +5,7 @@ ghost use Rattle.std.specs.String.{string_bytes};
 ghost use Rattle.tz_base.specs.declared.error.Error.TheVariants.{Tz};
 ghost use Rattle.tz_base.specs.declared.error.ReadFault.TheVariants.{Memory};
 ghost use Rattle.tz_base.specs.declared.error.TzError.TheVariants.{Memory as NoMemory};
+ghost use Rattle.tz_zone.specs.Bytes.{colon, slash};
 ghost use Rattle.tz_zone.specs.Settings.{path_in, IsFileAnswer, Opens, IsTextAnswer, rule_zone, local_time};
 ghost use Rattle.tz_zone.specs.TzText.{Begins};
 ghost use Rattle.tz_zone.specs.ZoneRef.{own_zone_of};
@@ -35,14 +36,14 @@ fn is_local_time(text: &str) -> bool
 
 /// The name behind a colon.
 fn after_colon(text: &str) -> Option<&str>
-    ensures { MatchOption result (¬ Begins 58 text.now) (λ name. text.now ≡ 58 ∷ name.now) }
+    ensures { MatchOption result (¬ Begins colon text.now) (λ name. text.now ≡ colon ∷ name.now) }
 {
     text.strip_prefix(':')
 }
 
 /// Whether the name is a path of its own.
 fn is_absolute(name: &str) -> bool
-    ensures { IsTrue result ↔ Begins 47 name.now }
+    ensures { IsTrue result ↔ Begins slash name.now }
 {
     matches!(name.as_bytes(), [b'/', ..])
 }
@@ -67,8 +68,8 @@ fn zone_of_bytes<A: Allocator + Copy>(alloc: A, bytes: &[u8]) -> Result<TimeZone
     }
 }
 
-/// Opens the file that was found.
-fn open<A: Allocator + Copy>(
+/// The zone of the file that was found.
+fn zone_of_found<A: Allocator + Copy>(
     alloc: A,
     found: Result<Vec<u8>, ReadFault>,
 ) -> Result<TimeZone<A>, Error>
@@ -184,7 +185,7 @@ impl<'a, F: Fn(&str) -> Result<Vec<u8>, ReadFault>> TimeZoneSettings<'a, F> {
             (λ zone. IsLocalAnswer (FnReturnsAt F.Fn (reader_of self.now)) (Ok (own_zone_of zone)))
             (λ e. (e ≡ Tz (NoMemory alloc_error)) ⊎ IsLocalAnswer (FnReturnsAt F.Fn (reader_of self.now)) (Err e)) }
     {
-        open(alloc, self.read(LOCAL_TIME_FILE))
+        zone_of_found(alloc, self.read(LOCAL_TIME_FILE))
     }
 
     /// The time zone of a text. (POSIX.1-2017, Base Definitions, 8.3)
@@ -207,7 +208,7 @@ impl<'a, F: Fn(&str) -> Result<Vec<u8>, ReadFault>> TimeZoneSettings<'a, F> {
             return self.parse_local(alloc);
         }
         match after_colon(tz_string) {
-            Some(name) => open(alloc, self.find(alloc, name)),
+            Some(name) => zone_of_found(alloc, self.find(alloc, name)),
             None => self.parse_name_or_text(alloc, tz_string),
         }
     }

@@ -1,5 +1,7 @@
 //! Zones and their clocks: which parts make a zone, and what is looked up around transitions, leap seconds and the ends of 64 bits.
 
+mod rules;
+
 use super::*;
 use std::alloc::{Allocator, Global};
 use std::process::Abort;
@@ -33,11 +35,11 @@ fn named(error: TzError) -> Fault {
 /// What makes a zone, as numbers.
 #[derive(Clone, Copy)]
 struct Parts<'a> {
-    /// LeapSecond times, and the numbers of the types that hold from there on.
+    /// Leap times, and the numbers of the types that hold from there on.
     transitions: &'a [(i64, usize)],
     /// The types' offsets.
     ut_offsets: &'a [i32],
-    /// LeapSecond times and corrections.
+    /// Leap times and corrections.
     leap_seconds: &'a [(i64, i32)],
     /// The offset of a fixed rule.
     rule_offset: Option<i32>,

@@ -5,6 +5,7 @@ ghost use Rattle.tz_zone.specs.ValidZone.{IsSoundTable, IsSoundTable-prop, IsVal
 
 use super::checks::check_parts;
 use super::{LeapSecond, LocalTimeType, TimeZoneRef, Transition, TransitionRule};
+use crate::parse::tz_file::parse_tz_file;
 use std::alloc::{Allocator, Global};
 use tz_base::error::TzError;
 
@@ -45,11 +46,13 @@ impl<A: Allocator + Copy> Eq for TimeZone<A> {
 }
 
 impl<A: Allocator + Copy> TimeZone<A> {
-    ghost use Rattle.std.specs.Prelude.{◌≡◌, ◌⊎◌, [], ◌∷◌, None, pos, alloc_error, IfOk, IfErr, OnOk};
+    ghost use Rattle.std.specs.Prelude.{◌≡◌, ◌⊎◌, pos, alloc_error, IfOk, IfErr, OnOk, MatchResult};
     ghost use Rattle.tz_base.specs.declared.error.timezone.LocalTimeTypeError.TheVariants as faults;
     ghost use Rattle.tz_rule.specs.LocalTimeType.{plain_type, IsOffset};
-    ghost use Rattle.tz_zone.specs.Table.{zone_with};
+    ghost use Rattle.tz_zone.specs.Table.{Zone, zone_with, zone_of_type};
     ghost use Rattle.tz_zone.specs.Clock.{IsClock, IsLookupFault};
+    ghost use Rattle.tz_zone.specs.TzFile.{IsTzFile};
+    ghost use Rattle.tz_zone.specs.TzFileFault.{IsReadFault};
     ghost use Rattle.tz_zone.specs.ValidZone.{IsValidZone, IsFirstZoneFault};
     ghost use Rattle.tz_zone.specs.ZoneRef.{zone_of, own_zone_of};
 
@@ -77,7 +80,7 @@ impl<A: Allocator + Copy> TimeZone<A> {
 
     /// The zone that has UTC's type alone.
     pub fn utc(alloc: A) -> Result<Self, TzError>
-        ensures ok { IfOk result (λ z. own_zone_of z ≡ zone_with [] (plain_type (pos 0) ∷ []) [] None) }
+        ensures ok { IfOk result (λ z. own_zone_of z ≡ zone_of_type (plain_type (pos 0))) }
         ensures err { IfErr result (λ e. e ≡ TzError.Memory alloc_error) }
     {
         TimeZone::with_type(alloc, LocalTimeType::utc())
@@ -85,7 +88,7 @@ impl<A: Allocator + Copy> TimeZone<A> {
 
     /// The zone that has one type alone, with this offset from UTC in seconds. `InvalidUtcOffset`, for the least offset, comes before memory is taken.
     pub fn fixed(alloc: A, ut_offset: i32) -> Result<Self, TzError>
-        ensures ok { IfOk result (λ z. IsOffset ut_offset × (own_zone_of z ≡ zone_with [] (plain_type ut_offset ∷ []) [] None)) }
+        ensures ok { IfOk result (λ z. IsOffset ut_offset × (own_zone_of z ≡ zone_of_type (plain_type ut_offset))) }
         ensures err { IfErr result (λ e. ((e ≡ TzError.LocalTimeType faults.InvalidUtcOffset) × ¬ IsOffset ut_offset) ⊎ ((e ≡ TzError.Memory alloc_error) × IsOffset ut_offset)) }
     {
         let local_time_type = LocalTimeType::with_ut_offset(ut_offset)?;
@@ -94,7 +97,7 @@ impl<A: Allocator + Copy> TimeZone<A> {
 
     /// The zone that has one type alone.
     fn with_type(alloc: A, local_time_type: LocalTimeType) -> Result<Self, TzError>
-        ensures ok { IfOk result (λ z. own_zone_of z ≡ zone_with [] (local_time_type ∷ []) [] None) }
+        ensures ok { IfOk result (λ z. own_zone_of z ≡ zone_of_type local_time_type) }
         ensures err { IfErr result (λ e. e ≡ TzError.Memory alloc_error) }
     {
         let local_time_types = Vec::from_array(alloc, [local_time_type])?;
@@ -106,7 +109,20 @@ impl<A: Allocator + Copy> TimeZone<A> {
         })
     }
 
-    /// The same zone again, on the same allocator.
+    /// The zone that the bytes of a TZif file denote. (RFC 8536)
+    ///
+    /// Refused are bytes that are no file of version 1, 2 or 3 (`TzFile`, and `TzString` for the footer's text), parts that make no local time
+    /// type, rule or zone (`LocalTimeType`, `TransitionRule`, `TimeZone`, `OutOfRange`), and a lack of memory (`Memory`). All parts of the file
+    /// are found before memory is taken, so that a count beyond the bytes takes none.
+    pub fn from_tz_data(alloc: A, bytes: &[u8]) -> Result<Self, TzError>
+        ensures ok { IfOk result (λ zone. IsTzFile bytes.now (own_zone_of zone)) }
+        ensures only { (zone : Zone) → IsTzFile bytes.now zone → MatchResult result (λ made. own_zone_of made ≡ zone) (λ e. e ≡ TzError.Memory alloc_error) }
+        ensures err { IfErr result (IsReadFault bytes.now) }
+    {
+        parse_tz_file(alloc, bytes)
+    }
+
+    /// A copy of the zone, on the same allocator.
     pub fn try_clone(&self) -> Result<Self, TzError>
         ensures ok { IfOk result (λ z. own_zone_of z ≡ own_zone_of self.now) }
         ensures err { IfErr result (λ e. e ≡ TzError.Memory alloc_error) }
@@ -142,7 +158,7 @@ impl<A: Allocator + Copy> TimeZone<A> {
         self.as_ref().find_local_time_type(unix_time)
     }
 
-    /// The clock's type at the current instant, which the caller hands in as Unix seconds.
+    /// The clock's type at the current instant, which the caller gives as Unix seconds.
     pub fn find_current_local_time_type(&self, unix_time: i64) -> Result<&LocalTimeType, TzError>
         ensures ok { IfOk result (λ t. IsClock (own_zone_of self.now) unix_time t.now) }
         ensures err { IfErr result (IsLookupFault (own_zone_of self.now) unix_time) }

@@ -5,7 +5,7 @@ ghost use Rattle.tz_zone.specs.ValidZone.{IsSoundTable, IsSoundTable-prop, IsVal
 
 use super::checks::check_parts;
 use super::{LeapSecond, LocalTimeType, Transition, TransitionRule};
-use crate::inner;
+use crate::inner::{self, Counted, Uncounted};
 use tz_base::error::TzError;
 
 /// A borrowed time zone.
@@ -49,11 +49,10 @@ impl<'a> Eq for TimeZoneRef<'a> {
 }
 
 impl<'a> TimeZoneRef<'a> {
-    ghost use Rattle.std.specs.Prelude.{◌≡◌, [], ◌∷◌, ℤ, None, pos, IfOk, IfErr, OnOk, IfSome, IfNone};
+    ghost use Rattle.std.specs.Prelude.{◌≡◌, ℕ, ◌+◌, ◌^◌, ◌<◌, ◌≤◌, [], ℤ, pos, length, IfOk, IfErr, OnOk, IfSome, IfNone};
     ghost use Rattle.tz_rule.specs.LocalTimeType.{plain_type};
-    ghost use Rattle.tz_rule.specs.LocalTimeType.{LocalTimeType};
-    ghost use Rattle.tz_zone.specs.Table.{zone_with};
-    ghost use Rattle.tz_zone.specs.Clock.{IsClock, IsTransitionType, IsTypeWithout, IsTypeAfter, IsFaultAfter, IsLookupFault};
+    ghost use Rattle.tz_zone.specs.Table.{zone_with, zone_of_type};
+    ghost use Rattle.tz_zone.specs.Clock.{IsClock, IsLookupFault};
     ghost use Rattle.tz_zone.specs.ValidZone.{ExpiresAt, IsSoundTable, IsValidZone, IsFirstZoneFault};
     ghost use Rattle.tz_zone.specs.ZoneRef.{zone_of};
 
@@ -103,7 +102,7 @@ impl<'a> TimeZoneRef<'a> {
 
     /// The zone that has UTC's type alone. Takes no memory.
     pub fn utc() -> TimeZoneRef<'static>
-        ensures { zone_of result ≡ zone_with [] (plain_type (pos 0) ∷ []) [] None }
+        ensures { zone_of result ≡ zone_of_type (plain_type (pos 0)) }
     {
         TimeZoneRef {
             transitions: &[],
@@ -158,48 +157,26 @@ impl<'a> TimeZoneRef<'a> {
         ensures ok { IfOk result (λ t. IsClock (zone_of self.now) unix_time t.now) }
         ensures err { IfErr result (IsLookupFault (zone_of self.now) unix_time) }
     {
-        let Some(last) = self.transitions.last() else {
-            return self.type_without_transitions(unix_time);
-        };
-        let unix_leap_time = inner::leap(self.leap_seconds, unix_time)?;
-        if unix_leap_time < last.unix_leap_time() {
-            Ok(self.type_of_transitions(unix_leap_time))
-        } else {
-            self.type_after_transitions(unix_time)
-        }
+        let mut view = Uncounted::new(self.transitions);
+        inner::find_local_time_type(&mut view, inner::other_parts(self), unix_time)
     }
 
-    /// The type where there are no transitions.
-    fn type_without_transitions(&self, unix_time: i64) -> Result<&'a LocalTimeType, TzError>
-        ensures ok { IfOk result (λ t. IsTypeWithout (zone_of self.now) (zone_of self.now).extra_rule unix_time t.now) }
-        ensures err { IfErr result (λ e. (e ≡ TzError.OutOfRange) × ((t : LocalTimeType) → ¬ IsTypeWithout (zone_of self.now) (zone_of self.now).extra_rule unix_time t)) }
+    /// The clock's type at an instant, and how many looks at transitions that took.
+    ///
+    /// A look reads one transition. The count stays at `u64::MAX` once it is there.
+    pub fn find_local_time_type_counted(
+        &self,
+        unix_time: i64,
+    ) -> (Result<&'a LocalTimeType, TzError>, u64)
+        ensures ok { IfOk result.0 (λ t. IsClock (zone_of self.now) unix_time t.now) }
+        ensures err { IfErr result.0 (IsLookupFault (zone_of self.now) unix_time) }
+        ensures few { (b : ℕ) → length (zone_of self.now).transitions < 2 ^ b → result.1 ≤ b + 2 }
+        ensures some { 0 < length (zone_of self.now).transitions → 1 ≤ result.1 }
+        ensures none { (zone_of self.now).transitions ≡ [] → result.1 ≡ 0 }
     {
-        match self.extra_rule {
-            Some(rule) => tz_rule::inner::find_local_time_type(rule, unix_time),
-            None => Ok(&self.local_time_types[0]),
-        }
-    }
-
-    /// The type from the last transition on.
-    fn type_after_transitions(&self, unix_time: i64) -> Result<&'a LocalTimeType, TzError>
-        ensures ok { IfOk result (λ t. IsTypeAfter (zone_of self.now).extra_rule unix_time t.now) }
-        ensures err { IfErr result (IsFaultAfter (zone_of self.now).extra_rule unix_time) }
-    {
-        match self.extra_rule {
-            Some(rule) => tz_rule::inner::find_local_time_type(rule, unix_time),
-            None => Err(TzError::NoAvailableLocalTimeType),
-        }
-    }
-
-    /// The type of the last transition whose time is not above a leap time, or type number 0.
-    fn type_of_transitions(&self, unix_leap_time: i64) -> &'a LocalTimeType
-        ensures { IsTransitionType (zone_of self.now) unix_leap_time result.now }
-    {
-        let count = inner::transitions_up_to(self.transitions, unix_leap_time);
-        if count == 0 {
-            return &self.local_time_types[0];
-        }
-        &self.local_time_types[self.transitions[count - 1].local_time_type_index()]
+        let mut view = Counted::new(self.transitions);
+        let answer = inner::find_local_time_type(&mut view, inner::other_parts(self), unix_time);
+        (answer, view.looks())
     }
 }
 

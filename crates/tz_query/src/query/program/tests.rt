@@ -1,9 +1,9 @@
 //! The program's answers, and its faults with their lines and statuses, by rows.
 
 use super::tool;
+use crate::query::tests::failing::{FailingReader, FailingWriter};
 use anyhow::anyhow;
 use std::alloc::{AllocError, Global};
-use std::io::{self, Read, Write};
 use std::test::Fail;
 use tz::error::ReadFault;
 use tz_base::refusing::Refusing;
@@ -12,52 +12,28 @@ use tz_base::refusing::Refusing;
 const UTC_V1: &[u8] =
     b"TZif\0\0\0\0\0\0\0\0\0\0\0\0\0\0\0\0\0\0\0\0\0\0\0\0\0\0\0\0\0\0\0\0\0\0\0\x01\0\0\0\x04\0\0\0\0\0\0UTC\0";
 
-/// The files: one of UTC, one cut short, and one for which there is no memory.
+/// A file of version 4 with one type, UTC, and leap seconds from 2016 on that expire.
+const UTC_V4: &[u8] = b"TZif4\
+    \0\0\0\0\0\0\0\0\0\0\0\0\0\0\0\
+    \0\0\0\0\0\0\0\0\0\0\0\0\0\0\0\0\0\0\0\x01\0\0\0\x04\
+    \0\0\0\0\0\0UTC\0\
+    TZif4\
+    \0\0\0\0\0\0\0\0\0\0\0\0\0\0\0\
+    \0\0\0\0\0\0\0\0\0\0\0\x02\0\0\0\0\0\0\0\x01\0\0\0\x04\
+    \0\0\0\0\0\0UTC\0\
+    \0\0\0\0\x58\x68\x46\x9a\0\0\0\x1b\
+    \0\0\0\0\x65\x53\xf1\0\0\0\0\x1b\
+    \n\n";
+
+/// The files: two of UTC, one cut short, and one for which there is no memory.
 fn file_at(alloc: Global, path: &str) -> Result<Vec<u8>, ReadFault> {
     match path {
         "/utc" => Ok(Vec::from_slice(alloc, UTC_V1)?),
+        "/utc_v4" => Ok(Vec::from_slice(alloc, UTC_V4)?),
         "/usr/share/zoneinfo/Zone/UTC" => Ok(Vec::from_slice(alloc, UTC_V1)?),
         "/cut" => Ok(Vec::from_slice(alloc, b"TZif")?),
         "/large" => Err(ReadFault::Memory(AllocError)),
         _ => Err(ReadFault::Failed(anyhow!("no such file"))),
-    }
-}
-
-/// A stream that passes calls on to another one, until it has passed on as many as it was given, and then fails.
-#[derive(Drop)]
-struct Failing<T> {
-    inner: T,
-    left: u8,
-}
-
-impl<T> Failing<T> {
-    /// Counts a call, and says whether it is passed on.
-    fn pass(&mut self) -> io::Result<()> {
-        match self.left.checked_sub(1) {
-            Some(left) => {
-                self.left = left;
-                Ok(())
-            }
-            None => Err(io::Error::from(io::ErrorKind::BrokenPipe)),
-        }
-    }
-}
-
-impl<T: Read> Read for Failing<T> {
-    fn read(&mut self, buf: &mut [u8]) -> io::Result<usize> {
-        self.pass()?;
-        self.inner.read(buf)
-    }
-}
-
-impl<T: Write> Write for Failing<T> {
-    fn write(&mut self, buf: &[u8]) -> io::Result<usize> {
-        self.pass()?;
-        self.inner.write(buf)
-    }
-
-    fn flush(&mut self) -> io::Result<()> {
-        Ok(())
     }
 }
 
@@ -78,7 +54,15 @@ fn answers_over_the_zone_of_the_words(rt: HostRuntime) -> Result<(), Fail> {
     let rows = [
         ("-o", "-3600", "1969-12-31T23:00:00.000000000-01:00 -"),
         ("-o", "-0000", "1970-01-01T00:00:00.000000000Z -"),
+        ("-o", "86400", "1970-01-02T00:00:00.000000000+24:00 -"),
+        ("-o", "100000", "1970-01-02T03:46:40.000000000+27:46:40 -"),
+        (
+            "-o",
+            "2147483647",
+            "2038-01-19T03:14:07.000000000+596523:14:07 -",
+        ),
         ("-f", "/utc", "1970-01-01T00:00:00.000000000Z UTC"),
+        ("-f", "/utc_v4", "1970-01-01T00:00:00.000000000Z UTC"),
         ("-z", "HST10", "1969-12-31T14:00:00.000000000-10:00 HST"),
         ("-z", " HST10\n", "1969-12-31T14:00:00.000000000-10:00 HST"),
         (
@@ -177,37 +161,34 @@ fn takes_an_option_and_its_word_alone(rt: HostRuntime) -> Result<(), Fail> {
     Ok(())
 }
 
+/// A writer over memory that fails after so many writes.
+fn failing_after(alloc: Global, calls: u8) -> FailingWriter {
+    FailingWriter {
+        bytes: Vec::new(alloc),
+        piece: usize::MAX,
+        calls,
+    }
+}
+
 /// What the program does with an input that fails after so many reads, an output that fails after so many writes, and an error
-/// output that fails at once or not.
+/// output that fails after so many.
 fn outcome_of_failing(
     alloc: Global,
+    words: &[&str],
     reads: u8,
     writes: u8,
     complaints: u8,
 ) -> Result<String, Fail> {
-    let mut input = Failing {
-        inner: b"T 0 0\n".as_slice(),
-        left: reads,
+    let mut input = FailingReader {
+        bytes: b"T 0 0\n",
+        calls: reads,
     };
-    let mut out = Failing {
-        inner: Vec::new(alloc),
-        left: writes,
-    };
-    let mut err = Failing {
-        inner: Vec::new(alloc),
-        left: complaints,
-    };
+    let mut out = failing_after(alloc, writes);
+    let mut err = failing_after(alloc, complaints);
     let reader = |path: &str| file_at(alloc, path);
-    let status = tool(
-        alloc,
-        &["-f", "/utc"],
-        reader,
-        &mut input,
-        &mut out,
-        &mut err,
-    );
-    let out = String::from_utf8(out.inner)?;
-    let err = String::from_utf8(err.inner)?;
+    let status = tool(alloc, words, reader, &mut input, &mut out, &mut err);
+    let out = String::from_utf8(out.bytes)?;
+    let err = String::from_utf8(err.bytes)?;
     Ok(format!(in alloc; "{status}|{out}|{err}")?)
 }
 
@@ -222,8 +203,29 @@ fn names_streams_that_fail(rt: HostRuntime) -> Result<(), Fail> {
         (9, 9, 0, "0|1970-01-01T00:00:00.000000000Z UTC\n|"),
     ];
     for (reads, writes, complaints, want) in &rows {
-        let found = outcome_of_failing(rt.alloc(), *reads, *writes, *complaints)?;
+        let words = ["-f", "/utc"];
+        let found = outcome_of_failing(rt.alloc(), &words, *reads, *writes, *complaints)?;
         assert_eq!(rt; found.as_str(), *want, "{reads} {writes} {complaints}");
+    }
+    Ok(())
+}
+
+#[test]
+fn the_zone_is_made_before_a_byte_is_read(rt: HostRuntime) -> Result<(), Fail> {
+    let rows = [
+        ("-x", "0", "1||tzq: bad arguments\n"),
+        ("-o", "x", "1||tzq: bad arguments\n"),
+        ("-f", "/none", "1||tzq: cannot read file\n"),
+        ("-f", "/large", "1||tzq: no memory\n"),
+        (
+            "-z",
+            "/cut",
+            "2||tzq: zone refused: invalid TZ file: unexpected end of data\n",
+        ),
+    ];
+    for (option, word, want) in &rows {
+        let found = outcome_of_failing(rt.alloc(), &[option, word], 0, 9, 9)?;
+        assert_eq!(rt; found.as_str(), *want, "{option} {word}");
     }
     Ok(())
 }

@@ -122,15 +122,20 @@ fn an_altered_file_answers_or_is_refused(rt: HostRuntime) -> Result<(), Fail> {
     Ok(())
 }
 
+/// Two lines over the file with a rule, and their answers.
+const QUERIES: &[u8] = b"F 2040 3 23 2 30 0 0\nT 2216073600 0\n";
+
+const ANSWERS: &[u8] = b"F 1\n\
+      S 2040-03-23T02:00:00.000000000+02:00 IST 2040-03-23T03:00:00.000000000+03:00 IDT\n\
+      2040-03-23T03:00:00.000000000+03:00 IDT\n";
+
 #[test]
-fn each_growth_can_be_refused(rt: HostRuntime) -> Result<(), Fail> {
-    let queries = b"T 2216073600 0\nT 0 0\nT 2145916800 0\n";
-    let answers = answer_tzif(rt.alloc(), JERUSALEM_V3, queries)?;
+fn each_growth_of_a_file_s_answers_can_be_refused(rt: HostRuntime) -> Result<(), Fail> {
     let mut refusals = 0u64;
     for left in 0..20u64 {
         let heap = Refusing::new(rt.alloc(), left);
-        match answer_tzif(&heap, JERUSALEM_V3, queries) {
-            Ok(given) => assert_eq!(rt; given.as_slice(), answers.as_slice()),
+        match answer_tzif(&heap, JERUSALEM_V3, QUERIES) {
+            Ok(given) => assert_eq!(rt; given.as_slice(), ANSWERS),
             Err(error) => {
                 assert!(rt; matches!(error, TzError::Memory(_)), "after {left}");
                 refusals = left + 1;
@@ -141,6 +146,30 @@ fn each_growth_can_be_refused(rt: HostRuntime) -> Result<(), Fail> {
             (u64::from(left < refusals), 0)
         );
     }
-    assert!(rt; (3..20).contains(&refusals));
+    assert!(rt; (4..20).contains(&refusals));
+    Ok(())
+}
+
+#[test]
+fn each_growth_of_answers_can_be_refused(rt: HostRuntime) -> Result<(), Fail> {
+    let zone = TimeZone::from_tz_data(rt.alloc(), JERUSALEM_V3)?;
+    let same = zone.try_clone()?;
+    let mut refusals = 0u64;
+    for left in 0..20u64 {
+        let heap = Refusing::new(rt.alloc(), left);
+        match answer(&heap, zone.as_ref(), QUERIES) {
+            Ok(given) => assert_eq!(rt; given.as_slice(), ANSWERS),
+            Err(error) => {
+                assert!(rt; matches!(error, TzError::Memory(_)), "after {left}");
+                refusals = left + 1;
+            }
+        }
+        assert_eq!(rt;
+            (heap.refused(), heap.held()),
+            (u64::from(left < refusals), 0)
+        );
+        assert!(rt; zone == same, "after {left}");
+    }
+    assert!(rt; (2..20).contains(&refusals));
     Ok(())
 }

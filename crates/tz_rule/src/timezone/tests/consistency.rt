@@ -145,6 +145,25 @@ fn both_ways(x: At, y: At) -> [[Option<bool>; 3]; 2] {
     [accepted(x, y, true), accepted(x, y, false)]
 }
 
+/// Start and end of rules that are near each other, within a year or at its end, and which of their three times are accepted.
+const NEAR: [(At, At, [Option<bool>; 3]); 4] = [
+    ((Day::M(12, 5, 0), 3), (Day::J(1), -4), NOT_EARLIER),
+    ((Day::M(4, 4, 2), 0), (Day::M(4, 5, 4), -2), ALL),
+    ((Day::M(3, 5, 2), 0), (Day::M(3, 5, 3), -1), NOT_EARLIER),
+    ((Day::Z(365), 0), (Day::Z(0), 0), NOT_LATER),
+];
+
+#[test]
+fn near_rows(rt: HostRuntime) {
+    for (start, end, answers) in NEAR.iter() {
+        assert_eq!(rt;
+            accepted(*start, *end, true),
+            *answers,
+            "{start:?} / {end:?}"
+        );
+    }
+}
+
 #[test]
 fn rows_of_months(rt: HostRuntime) {
     for month in 1..12u8 {

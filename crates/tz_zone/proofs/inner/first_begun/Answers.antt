@@ -1,6 +1,5 @@
 -- The later one of the start's instant and the one to begin from, unless it lies past the end.
 use Rattle.std.proofs.Common.{◌≡◌, arith, rules, ◌≤ℤ◌, ◌<ℤ◌, ◌-ℤ◌}
-use Rattle.std.specs.Int.{int_max}
 use Rattle.std.proofs.lemmas.Int.{ints, to_z-of_z}
 use mir.Syntax.{w64, w128}
 use mir.Val.{SFits, to_z, of_z}

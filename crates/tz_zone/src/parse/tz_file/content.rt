@@ -41,7 +41,7 @@ fn leap_second_at(part: &Part<'_>, index: u32) -> LeapSecond
 }
 
 /// The daylight flag of a type.
-fn read_daylight(byte: u8) -> Result<bool, TzFileError>
+fn read_daylight_flag(byte: u8) -> Result<bool, TzFileError>
     ensures ok { IfOk result (λ daylight. (daylight ≡ (byte == 1)) × IsFlag byte) }
     ensures err { IfErr result (λ e. (e ≡ file.InvalidDstIndicator) × ¬ IsFlag byte) }
 {
@@ -73,9 +73,9 @@ fn name_at(names: &[u8], index: usize) -> Option<&[u8]>
     }
 }
 
-/// The designation that a name makes: none where it is empty.
+/// The name, where it is not empty.
 #[tactic(auto, unfolding(crate::specs::TzFile::designation_of))]
-fn designation(name: &[u8]) -> Option<&[u8]>
+fn non_empty(name: &[u8]) -> Option<&[u8]>
     ensures { option_copied result ≡ designation_of name.now }
 {
     if name.is_empty() { None } else { Some(name) }
@@ -92,11 +92,11 @@ fn read_type(part: &Part<'_>, index: u32) -> Result<LocalTimeType, TzError>
 {
     let at = index as usize * 6;
     let ut_offset = signed_at(part.block.types, at);
-    let is_dst = read_daylight(part.block.types[at + 4])?;
+    let is_dst = read_daylight_flag(part.block.types[at + 4])?;
     let Some(name) = name_at(part.block.names, usize::from(part.block.types[at + 5])) else {
         return Err(TzError::TzFile(TzFileError::InvalidTimeZoneDesignationCharIndex));
     };
-    let local_time_type = LocalTimeType::new(ut_offset, is_dst, designation(name))?;
+    let local_time_type = LocalTimeType::new(ut_offset, is_dst, non_empty(name))?;
     Ok(local_time_type)
 }
 

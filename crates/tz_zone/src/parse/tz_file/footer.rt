@@ -10,31 +10,11 @@ use std::str;
 use tz_base::error::TzError;
 use tz_base::error::parse::TzFileError;
 
-/// Whether the first byte is this one.
-fn begins_with(bytes: &[u8], byte: u8) -> bool
-    ensures { MatchBool result (slice_get bytes.now 0 ≡ Some byte) (slice_get bytes.now 0 ≢ Some byte) }
-{
-    match bytes.first() {
-        Some(first) => *first == byte,
-        None => false,
-    }
-}
-
-/// Whether the last byte is this one.
-fn ends_with(bytes: &[u8], byte: u8) -> bool
-    ensures { MatchBool result (slice_get bytes.now (length bytes.now - 1) ≡ Some byte) (slice_get bytes.now (length bytes.now - 1) ≢ Some byte) }
-{
-    match bytes.last() {
-        Some(last) => *last == byte,
-        None => false,
-    }
-}
-
 /// Whether the first and the last byte are line feeds.
 fn is_between_line_feeds(footer: &[u8]) -> bool
     ensures { MatchBool result (IsBetweenLineFeeds footer.now) (¬ IsBetweenLineFeeds footer.now) }
 {
-    begins_with(footer, b'\n') && ends_with(footer, b'\n')
+    footer.first() == Some(&b'\n') && footer.last() == Some(&b'\n')
 }
 
 /// Whether a zero byte is among the bytes.
@@ -48,7 +28,7 @@ fn has_zero(bytes: &[u8]) -> bool
 fn may_be_text(text: &[u8]) -> bool
     ensures { MatchBool result (MayBeText text.now) (¬ MayBeText text.now) }
 {
-    !begins_with(text, b':') && !has_zero(text)
+    text.first() != Some(&b':') && !has_zero(text)
 }
 
 /// The bytes without white space at their ends.
@@ -73,7 +53,7 @@ fn footer_text(footer: &[u8]) -> Result<&[u8], TzFileError>
 }
 
 /// The rule of a footer, if its text is not empty.
-fn read_rule(footer: &[u8], extended: bool) -> Result<Option<TransitionRule>, TzError>
+fn read_footer(footer: &[u8], extended: bool) -> Result<Option<TransitionRule>, TzError>
     ensures ok { IfOk result (IsExtraRule extended (Some footer.now)) }
     ensures err { IfErr result (ExtraRuleFails extended (Some footer.now)) }
 {
@@ -94,7 +74,7 @@ pub(super) fn read_extra_rule(
     ensures err { IfErr result (ExtraRuleFails extended (option_copied footer.entry)) }
 {
     match footer {
-        Some(footer) => read_rule(footer, extended),
+        Some(footer) => read_footer(footer, extended),
         None => Ok(None),
     }
 }

@@ -1,7 +1,7 @@
 //! The header before a block. (RFC 8536, section 3.1)
 
 ghost use Rattle.std.specs.Prelude.{◌≡◌, ◌≤◌, ◌<◌, ◌^◌, length, MatchBool, MatchResult, IfOk, OnOk, IfErr};
-ghost use Rattle.tz_zone.specs.TzFile.{AreCounts, counts_of, HasMagic, IsIndicatorCount, IsVersion, IsHeader};
+ghost use Rattle.tz_zone.specs.TzFile.{header_len, AreCounts, counts_of, HasMagic, IsIndicatorCount, IsVersion, IsHeader};
 ghost use Rattle.tz_zone.specs.TzFileFault.{HeaderFails};
 ghost use Rattle.tz_zone.specs.TzParts.{counts_view};
 
@@ -33,7 +33,7 @@ impl Counts {
     /// The counts of a header.
     #[tactic(auto, unfolding(crate::specs::TzFile::counts_of))]
     fn read(bytes: &[u8]) -> Self
-        requires { 44 ≤ length bytes.now }
+        requires { header_len ≤ length bytes.now }
         ensures { counts_view result ≡ counts_of bytes.now }
     {
         Counts {

@@ -5,6 +5,7 @@ ghost use Rattle.tz_base.specs.declared.error.timezone.TransitionRuleError.TheVa
 ghost use Rattle.tz_rule.specs.JulianDay.{IsJulianDay, IsZeroBasedDay};
 ghost use Rattle.tz_rule.specs.MonthWeek.{IsMonthWeek};
 ghost use Rattle.tz_rule.specs.Day.{IsRuleDay};
+ghost use Rattle.tz_zone.specs.Bytes.{slash};
 ghost use Rattle.tz_zone.specs.TzText.{IsNumber, IsMonthWeekText, IsDay, IsTimeOfRule, IsTimeUpTo, day_time_hours, IsRuleText, IsRuleInRange};
 ghost use Rattle.tz_zone.specs.TzTextFault.{IsDayNumberFault, IsMonthWeekDayFault, IsDayFault, IsDayTimeFault, IsRuleTextFault};
 
@@ -76,7 +77,7 @@ fn read_rule_day(text: &[u8]) -> Result<(RuleDay, &[u8]), TzError>
 fn read_time_of_rule(text: &[u8], extended: bool) -> Result<(WrittenTime, &[u8]), TzStringError>
     ensures { MatchResult result
         (λ p. IsTimeOfRule extended text.now p.0 p.1.now × IsTimeUpTo (day_time_hours extended) p.0)
-        (λ e. (time : List ℕ) × (text.now ≡ 47 ∷ time) × IsDayTimeFault extended time e) }
+        (λ e. (time : List ℕ) × (text.now ≡ slash ∷ time) × IsDayTimeFault extended time e) }
 {
     match after_byte(text, b'/') {
         Some(time) => read_day_time(time, extended),

@@ -11,6 +11,7 @@ ghost use Rattle.tz_base.specs.declared.error.TzError.TheVariants.{TzString};
 ghost use Rattle.tz_rule.specs.Alternate.{IsRuleOffset};
 ghost use Rattle.tz_rule.specs.declared.timezone.rule.TransitionRule.{TransitionRule};
 ghost use Rattle.tz_rule.specs.LocalTimeType.{IsDesignation, IsFirstTypeFault, type_of};
+ghost use Rattle.tz_zone.specs.Bytes.{comma};
 ghost use Rattle.tz_zone.specs.TzText.{Begins, IsName, IsDaylightOffset, IsTimeUpTo, offset_hours, IsRuleText, IsRuleInRange, IsTzText};
 ghost use Rattle.tz_zone.specs.TzTextFault.{IsOffsetFault, IsLastRuleFault, IsRulesFault, IsDaylightFault, IsTzTextFault};
 
@@ -27,7 +28,7 @@ use tz_rule::timezone::{AlternateTime, LocalTimeType, TransitionRule};
 fn read_daylight_offset(text: &[u8]) -> Result<(Option<WrittenTime>, &[u8]), TzStringError>
     ensures { MatchResult result
         (λ p. IsDaylightOffset text.now p.0 p.1.now × IfSome p.0 (IsTimeUpTo offset_hours))
-        (λ e. ¬ Begins 44 text.now × IsOffsetFault text.now e) }
+        (λ e. ¬ Begins comma text.now × IsOffsetFault text.now e) }
 {
     match after_byte(text, b',') {
         Some(_) => Ok((None, text)),
@@ -41,7 +42,7 @@ fn read_daylight_offset(text: &[u8]) -> Result<(Option<WrittenTime>, &[u8]), TzS
 /// The daylight name, its offset, and the rules behind a comma.
 fn read_daylight(text: &[u8]) -> Result<(&[u8], Option<WrittenTime>, &[u8]), TzStringError>
     ensures { MatchResult result
-        (λ p. ((after_name : List ℕ) × IsName text.now p.0.now after_name × IsDaylightOffset after_name p.1 (44 ∷ p.2.now)) × IfSome p.1 (IsTimeUpTo offset_hours))
+        (λ p. ((after_name : List ℕ) × IsName text.now p.0.now after_name × IsDaylightOffset after_name p.1 (comma ∷ p.2.now)) × IfSome p.1 (IsTimeUpTo offset_hours))
         (λ e. (extended : Bool) → IsDaylightFault extended text.now (TzString e)) }
 {
     let (name, rest) = read_name(text)?;
@@ -74,7 +75,7 @@ fn read_last_rule(text: &[u8], extended: bool) -> Result<DayAndTime, TzError>
 /// The start and the end, with a comma between them and nothing behind.
 fn read_rules(text: &[u8], extended: bool) -> Result<(DayAndTime, DayAndTime), TzError>
     ensures { MatchResult result
-        (λ p. ((end_text : List ℕ) × IsRuleText extended text.now p.0 (44 ∷ end_text) × IsRuleText extended end_text p.1 []) × IsRuleInRange extended p.0 × IsRuleInRange extended p.1)
+        (λ p. ((end_text : List ℕ) × IsRuleText extended text.now p.0 (comma ∷ end_text) × IsRuleText extended end_text p.1 []) × IsRuleInRange extended p.0 × IsRuleInRange extended p.1)
         (IsRulesFault extended text.now) }
 {
     match read_rule(text, extended) {

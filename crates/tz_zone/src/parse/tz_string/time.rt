@@ -1,6 +1,7 @@
 //! Offsets and day times.
 
 ghost use Rattle.std.specs.Prelude.{◌≡◌, ◌∷◌, ◌<◌, ◌≤◌, ◌^◌, ℕ, List, MatchResult};
+ghost use Rattle.tz_zone.specs.Bytes.{colon};
 ghost use Rattle.tz_zone.specs.TzText.{IsPart, IsHms, IsSign, IsSignedTime, IsDayTimeSign, IsDayTime, IsTimeUpTo, offset_hours, day_time_hours};
 ghost use Rattle.tz_zone.specs.TzTextFault.{IsParseInt, HasNoNumber, IsHmsFault, IsTimeAbove, IsOffsetFault, IsDayTimeFault, TimeFaults, offset_faults, day_time_faults};
 
@@ -80,7 +81,7 @@ impl WrittenTime {
 
 /// A number behind a colon, or 0 where no colon stands, and the bytes behind.
 fn read_part(text: &[u8]) -> Result<(u32, &[u8]), TzStringError>
-    ensures { MatchResult result (λ p. IsPart text.now p.0 p.1.now) (λ e. IsParseInt e × ((number : List ℕ) × (text.now ≡ 58 ∷ number) × HasNoNumber 31 number)) }
+    ensures { MatchResult result (λ p. IsPart text.now p.0 p.1.now) (λ e. IsParseInt e × ((number : List ℕ) × (text.now ≡ colon ∷ number) × HasNoNumber 31 number)) }
 {
     match after_byte(text, b':') {
         Some(number) => read_time_number(number),

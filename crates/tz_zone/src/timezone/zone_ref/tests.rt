@@ -1,4 +1,4 @@
-//! UTC's borrowed zone, and equality of zones.
+//! UTC's borrowed zone, equality of zones, and the looks of lookups.
 
 use super::*;
 use crate::timezone::TimeZone;
@@ -35,3 +35,5 @@ fn zones_are_equal_by_their_parts(rt: HostRuntime) -> Result<(), Fail> {
     assert_ne!(rt; other.as_ref(), TimeZoneRef::utc());
     Ok(())
 }
+
+mod looks;

@@ -6,4 +6,4 @@ use Rattle.tz_rule.proofs.timezone.alternate.AlternateTime.ends_next_year.Goals 
 pub returns : goal.returns
 returns c =
     let kept = c.self.invariant in
-    rw (← c.self.view_is, kept.pairing) (MatchBool-ends_come_first (rule_of c.self.inside.parts) kept.is_consistent.in_range kept.are_days)
+    rw (← c.self.view_is, kept.pairing) (MatchBool-ends_come_first (rule_of c.self.inside.parts) kept.are_days)

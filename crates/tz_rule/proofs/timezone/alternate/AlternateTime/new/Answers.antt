@@ -1,27 +1,32 @@
 -- What is kept obeys the rules of its making.
-use Rattle.std.proofs.Common.{sym, ◌∙◌}
+use Rattle.std.proofs.Common.{refl, inr}
 use Rattle.std.proofs.lemmas.Int.{to_z-of_z}
 use mir.Syntax.{w32}
-use Rattle.tz_rule.proofs.RulesAcrossYears.{ends_come_first-is}
-use Rattle.tz_rule.proofs.WeakerClauses.{IfNone-no_value}
+use Rattle.tz_rule.specs.YearTables.{ChangesOrder}
+use Rattle.tz_rule.proofs.OrderByTables.{rule_is_consistent, rule_is_inconsistent}
+use Rattle.tz_rule.proofs.RulesAcrossYears.{kept_from}
 use Rattle.tz_rule.proofs.timezone.alternate.AlternateTime.new.Goals as goal
 
 pub invariant_of-result : goal.invariant_of-result
 invariant_of-result c =
-    let range = c.in_ok-check_range.ensures.ok in
-    let found = c.ends_next_year-ends_next_year.ensures in
-    record {
-      is_consistent = record { in_range = range; consistent = IfNone-no_value c.conflict.result (sym c.is_some.ensures ∙ c.if-is_some.false) c.conflict.ensures.none };
-      are_days = found.days;
-      pairing = ends_come_first-is _ range found.days c.ends_next_year-ends_next_year.result found.value;
-    }
+    let none : ¬ ChangesOrder c.start_table-starts.result.0 c.end_table-ends.result.0 = c.if-changes_order.ensures in
+    kept_from _ c.in_ok-check_range.ensures.ok (record { start_is = c.start_table-starts.ensures.day; end_is = c.end_table-ends.ensures.day }) c.start_table-starts.ensures.table c.end_table-ends.ensures.table none c.comes_first-ends_next_year.ensures
 
 pub returns-clause-ok : goal.returns-clause-ok
 returns-clause-ok c =
     let start_time = to_z-of_z w32 c.args.dst_start_time c.ranges.dst_start_time in
     let end_time = to_z-of_z w32 c.args.dst_end_time c.ranges.dst_end_time in
-    let none = rw (start_time, end_time) at c.conflict.ensures.none in
-    record {
-      in_range = rw (start_time, end_time) at c.in_ok-check_range.ensures.ok;
-      consistent = IfNone-no_value c.conflict.result (sym c.is_some.ensures ∙ c.if-is_some.false) none;
-    }
+    let starts = rw (start_time, end_time) at c.start_table-starts.ensures.table in
+    let ends = rw (start_time, end_time) at c.end_table-ends.ensures.table in
+    let none : ¬ ChangesOrder c.start_table-starts.result.0 c.end_table-ends.result.0 = c.if-changes_order.ensures in
+    rule_is_consistent _ (record { start_is = c.start_table-starts.ensures.day; end_is = c.end_table-ends.ensures.day }) _ _ starts ends (rw (start_time, end_time) at c.in_ok-check_range.ensures.ok) none
+
+pub returns-then-changes_order-clause-err : goal.returns-then-changes_order-clause-err
+returns-then-changes_order-clause-err c =
+    let start_time = to_z-of_z w32 c.args.dst_start_time c.ranges.dst_start_time in
+    let end_time = to_z-of_z w32 c.args.dst_end_time c.ranges.dst_end_time in
+    let starts = rw (start_time, end_time) at c.start_table-starts.ensures.table in
+    let ends = rw (start_time, end_time) at c.end_table-ends.ensures.table in
+    let range = rw (start_time, end_time) at c.in_ok-check_range.ensures.ok in
+    let changes : ChangesOrder c.start_table-starts.result.0 c.end_table-ends.result.0 = c.if-changes_order.ensures in
+    inr (refl, range, rule_is_inconsistent _ (record { start_is = c.start_table-starts.ensures.day; end_is = c.end_table-ends.ensures.day }) _ _ starts ends changes)

@@ -1,0 +1,163 @@
+-- Digits that are read eight at once, and nine digits that are copied.
+use Rattle.std.proofs.Common.{◌≡◌, ◌≢◌, ℕ, zero, suc, ◌+◌, ◌-◌, ◌*◌, ◌/◌, ◌%◌, ◌^◌, ◌<◌, ◌≤◌, Bool, true, false, cond, ℤ, pos, negsuc, neg_ℤ, ◌≤ℤ◌, List, [], ◌∷◌, ◌++◌, length, take, drop, get_or, set, replicate, refl, sym, ap, ◌∙◌, subst, arith, inl, inr}
+use Rattle.std.specs.Prelude.{slice_range}
+use Rattle.std.specs.Char.{digit_value, is_ascii_digit}
+use Rattle.std.specs.Str.Parse.{AllDigits, digits_value, digits_value_after}
+use Rattle.std.specs.Float.Numeral.{digits_len}
+use Rattle.std.proofs.lemmas.Bool.Decides.{nat_tests}
+use Rattle.std.proofs.lemmas.Int.{ints}
+use Rattle.std.proofs.lemmas.Int.Digits.{digits_value-lt, digits_value_push}
+use Rattle.std.proofs.lemmas.List.{take-append-drop, drop-drop, drop-take, drop_more, length-take-le, take_more}
+use Rattle.std.proofs.lemmas.List.Folds.{length-prefix_len}
+use Rattle.std.proofs.lemmas.List.Sums.{prefix_len-le-length}
+use Rattle.std.proofs.Math.Nat.{pow-le-pow_right}
+use mathlib.Core.Bool.{true≢false}
+use Rattle.core.proofs.dec2flt.DigitsLemmas.{digit_range, is_digit}
+use Rattle.tz.specs.PrintedText.{last_digits, nine_digits}
+use Rattle.tz_query.specs.Numbers.{IsNumber, IsNumberFront, IsDigitsFront, EndsDigits, IsPartFront}
+
+-- a digit by its value, and by its byte
+value_of_digit : (b : ℕ) → is_ascii_digit b ≡ true → (digit_value b < 10) × (b ≡ 48 + digit_value b)
+value_of_digit b is =
+    let range = digit_range b is in
+    let value = (is_digit b range.0 range.1).1 in
+    (omega (arith, range, value), omega (arith, range, value))
+
+digit_of_value : (b : ℕ) → digit_value b < 10 → (48 ≤ b) × (b ≤ 57)
+digit_of_value b is = (grind (arith, nat_tests), grind (arith, nat_tests))
+
+byte_of_value : (b : ℕ) → digit_value b < 10 → b ≡ 48 + digit_value b
+byte_of_value b is = let range = digit_of_value b is in (value_of_digit b (is_digit b range.0 range.1).0).1
+
+-- so many digits stand in front
+all_in_front : (bs : List ℕ) → AllDigits 10 (take (digits_len bs) bs)
+all_in_front [] = tt
+all_in_front (b ∷ bs) = go (is_ascii_digit b) refl (all_in_front bs)
+  where
+    go : (d : Bool) → is_ascii_digit b ≡ d → AllDigits 10 (take (digits_len bs) bs) → AllDigits 10 (take (cond d (1 + digits_len bs) 0) (b ∷ bs))
+    go true is more = let next : 1 + digits_len bs ≡ suc (digits_len bs) = omega arith in rw next ((value_of_digit b is).0, more)
+    go false is more = tt
+
+ends_behind : (bs : List ℕ) → EndsDigits (drop (digits_len bs) bs)
+ends_behind [] = tt
+ends_behind (b ∷ bs) = go (is_ascii_digit b) refl (ends_behind bs)
+  where
+    go : (d : Bool) → is_ascii_digit b ≡ d → EndsDigits (drop (digits_len bs) bs) → EndsDigits (drop (cond d (1 + digits_len bs) 0) (b ∷ bs))
+    go true is more = let next : 1 + digits_len bs ≡ suc (digits_len bs) = omega arith in rw next more
+    go false is more = λ digit. let range = digit_of_value b digit in true≢false (sym (is_digit b range.0 range.1).0 ∙ is)
+
+digits_front_is : (bs : List ℕ) (n : ℕ) → n ≡ digits_len bs → IsDigitsFront bs (take n bs) (drop n bs)
+digits_front_is bs n is =
+    record {
+      whole = sym (take-append-drop n bs);
+      all_digits = rw is (all_in_front bs);
+      ends = rw is (ends_behind bs);
+    }
+
+-- the digits from a place on to where they end
+module _ (bs : List ℕ) (place end : ℕ) (within : place ≤ length bs) (end_is : end ≡ place + digits_len (drop place bs)) where
+  count_is : end - place ≡ digits_len (drop place bs)
+  count_is = omega (arith, end_is)
+
+  pub front_at : IsDigitsFront (drop place bs) (slice_range bs place end) (drop end bs)
+  front_at =
+      let rest : drop (end - place) (drop place bs) ≡ drop end bs = drop-drop (end - place) place bs ∙ ap (λ n. drop n bs) (omega (arith, end_is)) in
+      subst (λ r. IsDigitsFront (drop place bs) (slice_range bs place end) r) rest (digits_front_is (drop place bs) (end - place) count_is)
+
+  pub length_at : length (slice_range bs place end) ≡ end - place
+  length_at = ap (λ n. length (take n (drop place bs))) count_is ∙ length-prefix_len is_ascii_digit (drop place bs) ∙ sym count_is
+
+  -- up to 18 of them nothing wraps
+  pub value_at : (value : ℕ) → end ≤ place + 18 → value ≡ (0 * 10 ^ (end - place) + digits_value 10 (slice_range bs place end)) % 2 ^ 64 →
+      (value ≡ digits_value 10 (slice_range bs place end)) × (value < 1000000000000000000)
+  value_at value few is =
+      let below = digits_value-lt 10 (slice_range bs place end) front_at.all_digits in
+      let power : 10 ^ length (slice_range bs place end) ≤ 10 ^ 18 = pow-le-pow_right (omega arith) {i = length (slice_range bs place end)} {j = 18} (omega (arith, length_at, few)) in
+      let small : digits_value 10 (slice_range bs place end) < 1000000000000000000 = omega (arith, below, power) in
+      let same : value ≡ digits_value 10 (slice_range bs place end) = omega (arith, is, small) in
+      (same, omega (arith, same, small))
+
+-- the last digits of the value of digits are these digits
+digits_in_front : (ds : List ℕ) (i : ℕ) → AllDigits 10 ds → AllDigits 10 (take i ds)
+digits_in_front ds zero all = tt
+digits_in_front [] (suc i) all = tt
+digits_in_front (d ∷ ds) (suc i) all = (all.0, digits_in_front ds i all.1)
+
+digit_at : (ds : List ℕ) (i : ℕ) → AllDigits 10 ds → i < length ds → digit_value (get_or ds i 0) < 10
+digit_at [] i all within = absurd (omega (arith, within))
+digit_at (d ∷ ds) zero all within = all.0
+digit_at (d ∷ ds) (suc i) all within = digit_at ds i all.1 (omega (arith, within))
+
+last_digits_are : (width : ℕ) (ds : List ℕ) → length ds ≡ width → AllDigits 10 ds → last_digits width (digits_value 10 ds) ≡ ds
+last_digits_are zero [] long all = refl
+last_digits_are zero (d ∷ ds) long all = absurd (omega (arith, long))
+last_digits_are (suc width) ds long all =
+    let front = take width ds in
+    let last = get_or ds width 0 in
+    let next : suc width ≡ width + 1 = omega arith in
+    let whole : take (width + 1) ds ≡ ds = ap (λ n. take n ds) (sym next ∙ sym long) ∙ take_all ds in
+    let split : ds ≡ front ++ last ∷ [] = sym whole ∙ take_more ds width 0 (omega (arith, long)) in
+    let value : digits_value 10 ds ≡ digits_value 10 front * 10 + digit_value last = ap (digits_value 10) split ∙ digits_value_push 10 front last in
+    let digit = digit_at ds width all (omega (arith, long)) in
+    let byte = byte_of_value last digit in
+    let tens : digits_value 10 ds / 10 ≡ digits_value 10 front = omega (arith, value, digit) in
+    let ones : 48 + digits_value 10 ds % 10 ≡ last = omega (arith, value, digit, byte) in
+    let before = last_digits_are width front (length-take-le width ds (omega (arith, long))) (digits_in_front ds width all) in
+    rw (tens, ones, before) (sym split)
+  where
+    take_all : (xs : List ℕ) → take (length xs) xs ≡ xs
+    take_all [] = refl
+    take_all (x ∷ xs) = ap (λ ys. x ∷ ys) (take_all xs)
+
+-- zeros in front change no value
+zeros_in_front : (k : ℕ) (ds : List ℕ) → digits_value 10 (replicate k 48 ++ ds) ≡ digits_value 10 ds
+zeros_in_front zero ds = refl
+zeros_in_front (suc k) ds = zeros_in_front k ds
+
+zeros_are_digits : (k : ℕ) (ds : List ℕ) → AllDigits 10 ds → AllDigits 10 (replicate k 48 ++ ds)
+zeros_are_digits zero ds all = all
+zeros_are_digits (suc k) ds all = (omega arith, zeros_are_digits k ds all)
+
+length_with_zeros : (k : ℕ) (ds : List ℕ) → length (replicate k 48 ++ ds) ≡ k + length ds
+length_with_zeros zero ds = omega arith
+length_with_zeros (suc k) ds = omega (arith, length_with_zeros k ds)
+
+-- nine digits, with zeros in front, are those of their value
+pub nine_digits_are : (k : ℕ) (ds : List ℕ) → k + length ds ≡ 9 → AllDigits 10 ds → (replicate k 48 ++ ds ≡ nine_digits (digits_value 10 ds)) × (digits_value 10 ds < 1000000000)
+unfolding nine_digits
+nine_digits_are k ds long all =
+    let padded = last_digits_are 9 (replicate k 48 ++ ds) (length_with_zeros k ds ∙ long) (zeros_are_digits k ds all) in
+    let power : 10 ^ length ds ≤ 10 ^ 9 = pow-le-pow_right (omega arith) {i = length ds} {j = 9} (omega (arith, long)) in
+    (sym padded ∙ ap (last_digits 9) (zeros_in_front k ds), omega (arith, digits_value-lt 10 ds all, power))
+
+-- numbers after a space
+module _ (bytes digits rest : List ℕ) (front : IsDigitsFront bytes digits rest) (some : 0 < length digits) (all : List ℕ) where
+  pub plain_part : all ≡ 32 ∷ bytes → IsPartFront all (pos (digits_value 10 digits)) rest
+  plain_part space =
+      (bytes, space, record { text = digits; whole = front.whole; is_number = (digits, (some, front.all_digits), inl (refl, refl)); ends = front.ends })
+
+  pub minus_part : all ≡ 32 ∷ 45 ∷ bytes → IsPartFront all (neg_ℤ (pos (digits_value 10 digits))) rest
+  minus_part space = (
+    45 ∷ bytes,
+    space,
+    record { text = 45 ∷ digits; whole = ap (λ bs. 45 ∷ bs) front.whole; is_number = (digits, (some, front.all_digits), inr (refl, refl)); ends = front.ends },
+  )
+
+-- a byte at a place, and what follows it
+pub byte_at : (bs : List ℕ) (place b : ℕ) → place < length bs → get_or bs place 0 ≡ b → drop place bs ≡ b ∷ drop (place + 1) bs
+byte_at bs place b within is = drop_more bs place 0 within ∙ ap (λ x. x ∷ drop (place + 1) bs) is
+
+-- one more zero in front
+pub one_more_zero : (bs : List ℕ) (i : ℕ) → i < length bs → set (replicate i 48 ++ drop i bs) i 48 ≡ replicate (i + 1) 48 ++ drop (i + 1) bs
+one_more_zero [] i within = absurd (omega (arith, within))
+one_more_zero (b ∷ bs) zero within = refl
+one_more_zero (b ∷ bs) (suc i) within = let next : suc i + 1 ≡ suc (i + 1) = omega arith in rw next (ap (λ xs. 48 ∷ xs) (one_more_zero bs i (omega (arith, within))))
+
+-- of the nine bytes before the end the last ones are the digits
+pub digits_of_nine : (bs : List ℕ) (start end k : ℕ) → start ≤ end → 9 ≤ end → end ≤ start + 9 → k ≡ 9 - (end - start) → drop k (slice_range bs (end - 9) end) ≡ slice_range bs start end
+digits_of_nine bs start end k after nine few is =
+    let long : end - (end - 9) ≡ k + (end - start) = omega (arith, after, nine, few, is) in
+    let place : end - 9 + k ≡ start = omega (arith, after, nine, few, is) in
+    ap (λ n. drop k (take n (drop (end - 9) bs))) long
+    ∙ drop-take k (end - start) (drop (end - 9) bs)
+    ∙ ap (λ xs. take (end - start) xs) (drop-drop k (end - 9) bs ∙ ap (λ n. drop n bs) place)

@@ -1,0 +1,27 @@
+-- `T`, two numbers and LF stand in front.
+use Rattle.std.proofs.Common.{◌≡◌, ◌+◌, ◌^◌, ◌<◌, pos, [], ◌∷◌, length, drop, inl, refl, sym, subst, arith, rules}
+use Rattle.std.proofs.lemmas.Int.{to_z-of_z}
+use Rattle.std.proofs.lemmas.List.{take_rest}
+use mir.Syntax.{w64}
+use mir.Val.{SFits}
+use Rattle.tz_query.specs.Queries.{IsTimeLineFront}
+use Rattle.tz_query.proofs.FastNumbers.{byte_at}
+use Rattle.tz_query.proofs.LineLemmas.{line_from_front}
+use Rattle.tz_query.proofs.query.fast.time_lines.read_line.Goals as goal
+
+pub returns-clause-line : goal.returns-clause-line
+returns-clause-line c =
+    let q = c.args.queries.now in
+    let u = c.in_ok-unix_time.unix_time in
+    let after = c.in_ok-unix_time.after_seconds in
+    let end = c.in_ok-line_end.line_end in
+    let digits = c.in_ok-line_end.ensures.number in
+    let n = digits.0 in
+    let fits : SFits w64 u = search rules in
+    let few : n < 2 ^ 32 = omega (arith, digits.1) in
+    let within : end < length q = omega (arith, c.if-queries-lt48.false, c.in_ok-unix_time.ensures.end, c.in_ok-line_end.ensures.end) in
+    let letter = byte_at q 0 84 (omega (arith, within)) c.if-queries-ne84.false in
+    let line_end = byte_at q end 10 within c.if-queries-line_end-ne10.false in
+    let line = line_from_front 84 (u ∷ pos n ∷ []) q (drop (end + 1) q) (λ e. absurd (omega (arith, e))) (drop 1 q, drop end q, letter, (drop after q, c.in_ok-unix_time.ensures.number, (drop end q, digits.3, refl)), inl line_end) in
+    let front : IsTimeLineFront q u n (drop (end + 1) q) = (line.0, line.1, record { line_is = line.2; seconds_fit = fits; nanoseconds_fit = few }) in
+    rw (to_z-of_z w64 u fits) (n, digits.1, digits.2, subst (IsTimeLineFront q u n) (sym (take_rest q (end + 1))) front)

@@ -1,6 +1,0 @@
-use Rattle.std.proofs.Common.{take}
-use Rattle.tz_query.specs.Lines.{IsLine}
-use Rattle.tz_query.proofs.query.queries.after_line.Given as goal
-
-abbrev pub invariant-loop-place : goal.invariant-loop-place
-invariant-loop-place l = IsLine (take l.place l.bytes)

@@ -1,0 +1,14 @@
+-- The parts of a printed line: up to the nanoseconds, and what follows them.
+use Rattle.std.specs.Prelude.{ℕ, List, [], ◌∷◌, ◌++◌}
+use Rattle.tz_base.specs.declared.calendar.Fields.{Fields}
+use Rattle.tz_rule.specs.LocalTimeType.{LocalTimeType}
+use Rattle.tz.specs.PrintedText.{two_digits, date_text, offset_text}
+use Rattle.tz_query.specs.Answers.{name_text}
+
+-- the date, `T`, and the time up to the point
+unfoldable pub front_text : Fields → List ℕ
+front_text f = date_text f ++ (84 ∷ two_digits f.hour ++ (58 ∷ two_digits f.minute ++ (58 ∷ two_digits f.second ++ 46 ∷ [])))
+
+-- the offset, the name, and LF
+unfoldable pub end_text : LocalTimeType → List ℕ
+end_text t = offset_text t.ut_offset ++ (32 ∷ name_text t ++ 10 ∷ [])

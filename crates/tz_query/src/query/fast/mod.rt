@@ -1,0 +1,9 @@
+//! Answers of the lines that are asked most, made in few steps.
+//!
+//! What is here answers a line or says no, and then the line is answered plainly.
+
+pub mod numbers;
+pub mod page;
+pub mod tail;
+pub mod tails;
+pub mod time_lines;

@@ -1,0 +1,50 @@
+//! A reader and a writer over memory that fail at a call that the test chooses.
+
+use std::io::{self, Read, Write};
+
+/// The fault of a call that fails.
+fn broken() -> io::Error {
+    io::Error::from(io::ErrorKind::BrokenPipe)
+}
+
+/// Reads bytes of memory at as many calls as it is allowed; each later call fails.
+#[derive(Drop)]
+pub struct FailingReader<'a> {
+    pub bytes: &'a [u8],
+    pub calls: u8,
+}
+
+impl Read for FailingReader<'_> {
+    ghost use Rattle.std.specs.Prelude.{Some};
+
+    ghost remaining = { λ reader. Some reader.bytes.now };
+
+    fn read(&mut self, buf: &mut [u8]) -> io::Result<usize> {
+        self.calls = self.calls.checked_sub(1).ok_or(broken())?;
+        self.bytes.read(buf)
+    }
+}
+
+/// Takes bytes into memory, up to a piece at each of as many calls as it is allowed; each later call fails.
+#[derive(Drop)]
+pub struct FailingWriter {
+    pub bytes: Vec<u8>,
+    pub piece: usize,
+    pub calls: u8,
+}
+
+impl Write for FailingWriter {
+    ghost use Rattle.std.specs.Prelude.{Some};
+
+    ghost contents = { λ writer. Some writer.bytes.items };
+
+    fn write(&mut self, buf: &[u8]) -> io::Result<usize> {
+        self.calls = self.calls.checked_sub(1).ok_or(broken())?;
+        let count = buf.len().min(self.piece);
+        self.bytes.write(&buf[..count])
+    }
+
+    fn flush(&mut self) -> io::Result<()> {
+        Ok(())
+    }
+}

@@ -1,0 +1,57 @@
+-- Tables of the fourteen kinds of years: for each kind, how many seconds after 00:00 UTC of January 1st an instant of the year lies.
+use Rattle.std.specs.Prelude.{◌≡◌, ◌⊎◌, ℕ, ◌*◌, ◌<◌, ℤ, pos, ◌+ℤ◌, ◌-ℤ◌, ◌*ℤ◌, ◌<ℤ◌, List, length, map, slice_index_or}
+use Rattle.std.specs.List.{range_with_len}
+use Rattle.tz_base.specs.Days.{first_day}
+use Rattle.tz_rule.specs.Alternate.{AlternateTime}
+use Rattle.tz_rule.specs.Kinds.{year_kind, is_leap_kind, week_day_of_kind, first_kind, second_kind, first_days}
+use Rattle.tz_rule.specs.Places.{place_in_year}
+use Rattle.tz_rule.specs.declared.timezone.rule_day.RuleDay.{RuleDay}
+
+-- the seconds of a kind
+abbrev pub entry : List ℤ → ℕ → ℤ
+entry table kind = slice_index_or table kind (pos 0)
+
+-- the table tells for every whole year how long after 00:00 UTC of January 1st its instant lies
+pub record IsTableOf (instants : ℤ → ℤ) (table : List ℤ) : Type 0 where
+  pub size : length table ≡ 14
+  pub entries : (year : ℤ) → entry table (year_kind year) ≡ instants year -ℤ pos 86400 *ℤ first_day year
+
+-- from 00:00 UTC of January 1st to so many seconds after 00:00 UTC of a rule day, in the years of a kind
+abbrev pub seconds_in_kind : RuleDay → ℤ → ℕ → ℤ
+seconds_in_kind day seconds kind = pos (86400 * place_in_year day (is_leap_kind kind) (week_day_of_kind kind)) +ℤ seconds
+
+unfoldable pub day_table : RuleDay → ℤ → List ℤ
+day_table day seconds = map (seconds_in_kind day seconds) (range_with_len 0 14)
+
+-- the tables of a rule's starts and ends
+unfoldable pub start_table : AlternateTime → List ℤ
+start_table r = day_table r.dst_start (r.dst_start_time -ℤ r.std.ut_offset)
+
+unfoldable pub end_table : AlternateTime → List ℤ
+end_table r = day_table r.dst_end (r.dst_end_time -ℤ r.dst.ut_offset)
+
+-- in the years of some kind the first instant comes before the second
+abbrev pub ComesFirst : List ℤ → List ℤ → Type 0
+ComesFirst a b = (kind : ℕ) × (kind < 14) × (entry a kind <ℤ entry b kind)
+
+-- from 00:00 UTC of January 1st of the first year of a pair kind to the instant of the second year
+abbrev pub next_entry : List ℤ → ℕ → ℤ
+next_entry b pair = entry b (second_kind pair) +ℤ pos (86400 * first_days pair)
+
+-- in some pair kind the first year's instant comes before the second year's, and after it
+abbrev pub ComesBeforeNext : List ℤ → List ℤ → Type 0
+ComesBeforeNext a b = (pair : ℕ) × (pair < 21) × (entry a (first_kind pair) <ℤ next_entry b pair)
+
+abbrev pub ComesAfterNext : List ℤ → List ℤ → Type 0
+ComesAfterNext a b = (pair : ℕ) × (pair < 21) × (next_entry b pair <ℤ entry a (first_kind pair))
+
+-- two instants change their order: within a year, or the first from one year to the next against the second
+abbrev pub ChangesInYear : List ℤ → List ℤ → Type 0
+ChangesInYear a b = ComesFirst a b × ComesFirst b a
+
+abbrev pub ChangesAcrossYears : List ℤ → List ℤ → Type 0
+ChangesAcrossYears a b = ComesBeforeNext a b × ComesAfterNext a b
+
+-- starts and ends change their order within a year or between neighbours
+abbrev pub ChangesOrder : List ℤ → List ℤ → Type 0
+ChangesOrder starts ends = ChangesInYear starts ends ⊎ ChangesAcrossYears starts ends ⊎ ChangesAcrossYears ends starts

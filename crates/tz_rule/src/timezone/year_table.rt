@@ -1,0 +1,119 @@
+//! Tables of an instant of each year, and the order of two such instants over all years, without a year.
+
+ghost use Rattle.std.specs.Prelude.{◌≡◌, ◌<◌, pos, negsuc, ◌≤ℤ◌, MatchBool};
+ghost use Rattle.tz_rule.specs.Day.{IsRuleDay};
+ghost use Rattle.tz_rule.specs.YearTables.{entry, next_entry, seconds_in_kind, day_table, ComesFirst, ComesBeforeNext, ComesAfterNext, ChangesInYear, ChangesAcrossYears, ChangesOrder};
+
+use super::RuleDay;
+use super::year_kind::{self, KINDS, PAIR_KINDS};
+
+/// How many seconds after 00:00 UTC of January 1st an instant of the year lies, for each kind of years.
+#[derive(Clone, Copy)]
+pub(super) struct YearTable([i32; KINDS]);
+
+/// The seconds from 00:00 UTC of January 1st to so many seconds after 00:00 UTC of a rule day, in the years of a kind.
+fn seconds_to_day(day: &RuleDay, seconds: i32, kind: usize) -> i32
+    requires seconds { (negsuc 999999 ≤ℤ seconds) × (seconds ≤ℤ pos 999999) }
+    requires kind { kind < 14 }
+    ensures value { result ≡ seconds_in_kind day.now seconds kind }
+    ensures day { IsRuleDay day.now }
+{
+    let place = day.place(kind >= 7, (kind % 7) as u8);
+    86_400 * i32::from(place) + seconds
+}
+
+impl YearTable {
+    /// The table of so many seconds after 00:00 UTC of a rule day.
+    pub(super) fn of_day(day: &RuleDay, seconds: i32) -> YearTable
+        requires { (negsuc 999999 ≤ℤ seconds) × (seconds ≤ℤ pos 999999) }
+        ensures table { result.0 ≡ day_table day.now seconds }
+        ensures day { IsRuleDay day.now }
+    {
+        let mut entries = [0; KINDS];
+        for kind in 0..KINDS {
+            entries[kind] = seconds_to_day(day, seconds, kind);
+        }
+        YearTable(entries)
+    }
+
+    /// The seconds of a kind.
+    pub(super) fn entry(&self, kind: usize) -> i64
+        requires { kind < 14 }
+        ensures value { result ≡ entry self.now.0 kind }
+        ensures bound { (negsuc 2147483647 ≤ℤ result) × (result ≤ℤ pos 2147483647) }
+    {
+        i64::from(self.0[kind])
+    }
+
+    /// The seconds from 00:00 UTC of January 1st of the first year of a pair kind to the instant of the second.
+    fn next_entry(&self, pair: usize) -> i64
+        requires { pair < 21 }
+        ensures { result ≡ next_entry self.now.0 pair }
+    {
+        let days = year_kind::first_days(pair);
+        self.entry(year_kind::second_kind(pair)) + 86_400 * i64::from(days)
+    }
+
+    /// Whether the instant comes before the other one in some year.
+    pub(super) fn comes_first(&self, other: &YearTable) -> bool
+        ensures { MatchBool result (ComesFirst self.now.0 other.now.0) (¬ ComesFirst self.now.0 other.now.0) }
+    {
+        for kind in 0..KINDS {
+            if self.entry(kind) < other.entry(kind) {
+                return true;
+            }
+        }
+        false
+    }
+
+    /// Whether the instant of some year comes before the other one of the next year.
+    fn comes_before_next(&self, other: &YearTable) -> bool
+        ensures { MatchBool result (ComesBeforeNext self.now.0 other.now.0) (¬ ComesBeforeNext self.now.0 other.now.0) }
+    {
+        for pair in 0..PAIR_KINDS {
+            if self.entry(year_kind::first_kind(pair)) < other.next_entry(pair) {
+                return true;
+            }
+        }
+        false
+    }
+
+    /// Whether the instant of some year comes after the other one of the next year.
+    fn comes_after_next(&self, other: &YearTable) -> bool
+        ensures { MatchBool result (ComesAfterNext self.now.0 other.now.0) (¬ ComesAfterNext self.now.0 other.now.0) }
+    {
+        for pair in 0..PAIR_KINDS {
+            if other.next_entry(pair) < self.entry(year_kind::first_kind(pair)) {
+                return true;
+            }
+        }
+        false
+    }
+
+    /// Whether the two instants change their order within a year from one year to another.
+    fn changes_in_year(&self, other: &YearTable) -> bool
+        ensures { MatchBool result (ChangesInYear self.now.0 other.now.0) (¬ ChangesInYear self.now.0 other.now.0) }
+    {
+        self.comes_first(other) && other.comes_first(self)
+    }
+
+    /// Whether the instant and the other one of the next year change their order.
+    fn changes_across_years(&self, other: &YearTable) -> bool
+        ensures { MatchBool result (ChangesAcrossYears self.now.0 other.now.0) (¬ ChangesAcrossYears self.now.0 other.now.0) }
+    {
+        self.comes_before_next(other) && self.comes_after_next(other)
+    }
+
+    /// Whether starts, of which this is the table, and ends change their order at some distance in years.
+    pub(super) fn changes_order(&self, ends: &YearTable) -> bool
+        ensures { MatchBool result (ChangesOrder self.now.0 ends.now.0) (¬ ChangesOrder self.now.0 ends.now.0) }
+    {
+        if self.changes_in_year(ends) {
+            return true;
+        }
+        if self.changes_across_years(ends) {
+            return true;
+        }
+        ends.changes_across_years(self)
+    }
+}

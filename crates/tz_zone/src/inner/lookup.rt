@@ -1,0 +1,121 @@
+//! The clock's type at an instant, over a view of the transitions.
+
+ghost use Rattle.std.specs.Prelude.{◌≡◌, ◌≢◌, ℕ, ◌+◌, ◌-◌, ◌^◌, ◌<◌, ◌≤◌, [], length, IfOk, IfErr};
+ghost use Rattle.tz_rule.specs.LocalTimeType.{LocalTimeType};
+ghost use Rattle.tz_zone.specs.Clock.{AreAhead, IsTransitionType, IsTypeOfLast, IsTypeWithout, IsTypeAfter, IsFaultAfter, IsClock, IsLookupFault};
+ghost use Rattle.tz_zone.specs.ValidZone.{IsSoundTable};
+ghost use Rattle.tz_zone.specs.ZoneRef.{zone_of};
+ghost use Rattle.tz_zone.specs.ZoneSeen.{zone_seen};
+
+use super::{OtherParts, Transitions, leap, transitions_reached_between};
+use crate::timezone::{LocalTimeType, TimeZoneRef, TransitionRule};
+use tz_base::error::TzError;
+
+/// What a zone has beside its transitions.
+pub fn other_parts<'a>(zone: &TimeZoneRef<'a>) -> OtherParts<'a>
+    ensures { zone_seen (zone_of zone.entry.now).transitions result ≡ zone_of zone.entry.now }
+{
+    OtherParts {
+        local_time_types: zone.local_time_types(),
+        leap_seconds: zone.leap_seconds(),
+        extra_rule: zone.extra_rule(),
+    }
+}
+
+/// The clock's type at an instant. (RFC 8536, section 3.2)
+///
+/// The last transition is looked at first: from there on no other is, and the extra rule tells the type.
+pub fn find_local_time_type<'a, V: Transitions>(
+    view: &mut V,
+    parts: OtherParts<'a>,
+    unix_time: i64,
+) -> Result<&'a LocalTimeType, TzError>
+    requires { IsSoundTable (zone_seen (V.list view.old) parts) }
+    ensures same { V.list view.new ≡ V.list view.old }
+    ensures ok { IfOk result (λ t. IsClock (zone_seen (V.list view.old) parts.entry) unix_time t.now) }
+    ensures err { IfErr result (IsLookupFault (zone_seen (V.list view.old) parts.entry) unix_time) }
+    ensures kept { V.looks view.old ≤ V.looks view.new }
+    ensures few { (b : ℕ) → length (V.list view.old) < 2 ^ b → V.looks view.new ≤ V.looks view.old + (b + 2) }
+    ensures some { 0 < length (V.list view.old) → V.next (V.looks view.old) ≤ V.looks view.new }
+    ensures none { V.list view.old ≡ [] → V.looks view.new ≡ V.looks view.old }
+{
+    let count = view.len();
+    if count == 0 {
+        return type_without_transitions(parts, unix_time);
+    }
+    let last = view.look(count - 1);
+    let unix_leap_time = leap(parts.leap_seconds, unix_time)?;
+    if unix_leap_time < last.unix_leap_time() {
+        Ok(type_before_last(view, parts, unix_leap_time))
+    } else {
+        type_after_transitions(parts.extra_rule, unix_time)
+    }
+}
+
+/// The type of a zone without transitions.
+fn type_without_transitions<'a>(
+    parts: OtherParts<'a>,
+    unix_time: i64,
+) -> Result<&'a LocalTimeType, TzError>
+    requires { parts.local_time_types.now ≢ [] }
+    ensures ok { IfOk result (λ t. IsTypeWithout (zone_seen [] parts.entry) parts.entry.extra_rule.now unix_time t.now) }
+    ensures err { IfErr result (λ e. (e ≡ TzError.OutOfRange) × ((t : LocalTimeType) → ¬ IsTypeWithout (zone_seen [] parts.entry) parts.entry.extra_rule.now unix_time t)) }
+{
+    match parts.extra_rule {
+        Some(rule) => tz_rule::inner::find_local_time_type(rule, unix_time),
+        None => Ok(&parts.local_time_types[0]),
+    }
+}
+
+/// The type from the last transition on, which the extra rule tells.
+fn type_after_transitions(
+    extra_rule: &Option<TransitionRule>,
+    unix_time: i64,
+) -> Result<&LocalTimeType, TzError>
+    ensures ok { IfOk result (λ t. IsTypeAfter extra_rule.now unix_time t.now) }
+    ensures err { IfErr result (IsFaultAfter extra_rule.now unix_time) }
+{
+    match extra_rule {
+        Some(rule) => tz_rule::inner::find_local_time_type(rule, unix_time),
+        None => Err(TzError::NoAvailableLocalTimeType),
+    }
+}
+
+/// The type at a leap time before the last transition's.
+fn type_before_last<'a, V: Transitions>(
+    view: &mut V,
+    parts: OtherParts<'a>,
+    unix_leap_time: i64,
+) -> &'a LocalTimeType
+    requires sound { IsSoundTable (zone_seen (V.list view.old) parts) }
+    requires before { AreAhead (V.list view.old) unix_leap_time (length (V.list view.old) - 1) }
+    ensures same { V.list view.new ≡ V.list view.old }
+    ensures value { IsTransitionType (zone_seen (V.list view.old) parts.entry) unix_leap_time result.now }
+    ensures kept { V.looks view.old ≤ V.looks view.new }
+    ensures few { (b : ℕ) → length (V.list view.old) < 2 ^ b → V.looks view.new ≤ V.looks view.old + (b + 1) }
+{
+    let last = view.len().saturating_sub(1);
+    let reached = transitions_reached_between(view, 0, last, unix_leap_time);
+    type_of_last(view, parts, reached)
+}
+
+/// The type of the last of the first `count` transitions, or type number 0 where there are none.
+pub fn type_of_last<'a, V: Transitions>(
+    view: &mut V,
+    parts: OtherParts<'a>,
+    count: usize,
+) -> &'a LocalTimeType
+    requires sound { IsSoundTable (zone_seen (V.list view.old) parts) }
+    requires within { count ≤ length (V.list view.old) }
+    ensures same { V.list view.new ≡ V.list view.old }
+    ensures value { IsTypeOfLast (zone_seen (V.list view.old) parts.entry) count result.now }
+    ensures kept { V.looks view.old ≤ V.looks view.new }
+    ensures few { V.looks view.new ≤ V.looks view.old + 1 }
+    ensures some { count ≢ 0 → V.next (V.looks view.old) ≤ V.looks view.new }
+{
+    if count == 0 {
+        return &parts.local_time_types[0];
+    }
+    let last = view.look(count - 1);
+    &parts.local_time_types[last.local_time_type_index()]
+}

@@ -1,0 +1,212 @@
+//! How many looks a lookup takes, and that it finds what a plain count finds.
+
+use super::*;
+use crate::inner;
+use std::alloc::{AllocError, Allocator, Global};
+use std::process::Abort;
+
+/// So many transitions, a million seconds apart from 0 on, to types 0 and 1 in turn.
+fn transitions_in_turn<A: Allocator + Copy>(
+    alloc: A,
+    count: u32,
+) -> Result<Vec<Transition, A>, AllocError> {
+    let mut transitions = Vec::new(alloc);
+    for i in 0..count {
+        let unix_leap_time = i64::from(i) * 1_000_000;
+        transitions.push(Transition::new(unix_leap_time, i as usize % 2))?;
+    }
+    Ok(transitions)
+}
+
+/// The types of offset 0 and of an hour.
+fn two_types() -> Result<[LocalTimeType; 2], Fail> {
+    Ok([
+        LocalTimeType::with_ut_offset(0).map_err(|_| "no type")?,
+        LocalTimeType::with_ut_offset(3600).map_err(|_| "no type")?,
+    ])
+}
+
+/// The number of binary digits.
+fn binary_digits(count: usize) -> u64 {
+    u64::from(usize::BITS - count.leading_zeros())
+}
+
+/// The offset that a count over all transitions finds, where no rule goes on after them.
+fn counted_offset(zone: &TimeZoneRef<'_>, unix_time: i64) -> Option<i32> {
+    let Some(last) = zone.transitions().last() else {
+        return Some(zone.local_time_types().first()?.ut_offset());
+    };
+    let unix_leap_time = inner::leap(zone.leap_seconds(), unix_time).ok()?;
+    if last.unix_leap_time() <= unix_leap_time {
+        return None;
+    }
+    let mut index = 0;
+    for transition in zone.transitions() {
+        if transition.unix_leap_time() <= unix_leap_time {
+            index = transition.local_time_type_index();
+        }
+    }
+    Some(zone.local_time_types().get(index)?.ut_offset())
+}
+
+/// The looks of a lookup, which finds what the call without a count finds, and what a plain count does.
+fn looks_at(rt: &impl Abort, zone: &TimeZoneRef<'_>, unix_time: i64) -> u64 {
+    let (answer, looks) = zone.find_local_time_type_counted(unix_time);
+    let offset = answer.ok().map(|found| found.ut_offset());
+    let uncounted = zone.find_local_time_type(unix_time).ok();
+    assert_eq!(rt; offset, uncounted.map(|found| found.ut_offset()));
+    assert_eq!(rt; offset, counted_offset(zone, unix_time));
+    assert!(rt; looks <= binary_digits(zone.transitions().len()).saturating_add(2));
+    assert_eq!(rt; looks == 0, zone.transitions().is_empty());
+    looks
+}
+
+#[test]
+fn a_thousand_transitions(rt: HostRuntime) -> Result<(), Fail> {
+    let types = two_types()?;
+    let transitions = transitions_in_turn(rt.alloc(), 1024)?;
+    let zone = TimeZoneRef::new(&transitions, &types, &[], &None).map_err(|_| "no zone")?;
+    let (answer, looks) = zone.find_local_time_type_counted(499_999_999);
+    assert_eq!(rt; answer.ok(), types.get(1));
+    assert!(rt; 1 <= looks && looks <= 13, "{looks} looks");
+    Ok(())
+}
+
+#[test]
+fn no_transition_and_one(rt: HostRuntime) -> Result<(), Fail> {
+    let types = two_types()?;
+    let none = TimeZoneRef::new(&[], &types, &[], &None).map_err(|_| "no zone")?;
+    let transitions = transitions_in_turn(rt.alloc(), 1)?;
+    let one = TimeZoneRef::new(&transitions, &types, &[], &None).map_err(|_| "no zone")?;
+    for unix_time in [i64::MIN, -1, 0, 1, i64::MAX] {
+        assert_eq!(rt; looks_at(&rt, &none, unix_time), 0);
+        assert_eq!(rt; looks_at(&rt, &one, unix_time), 1);
+    }
+    Ok(())
+}
+
+/// The least and the greatest number of looks, around each transition and at the ends.
+fn range_of_looks(rt: &impl Abort, zone: &TimeZoneRef<'_>) -> (u64, u64) {
+    let mut least = looks_at(rt, zone, i64::MIN);
+    let mut greatest = least;
+    for transition in zone.transitions() {
+        let unix_time = transition.unix_leap_time();
+        for near in [unix_time.saturating_sub(1), unix_time] {
+            let looks = looks_at(rt, zone, near);
+            least = least.min(looks);
+            greatest = greatest.max(looks);
+        }
+    }
+    (least, greatest)
+}
+
+#[test]
+fn around_powers_of_two(rt: HostRuntime) -> Result<(), Fail> {
+    let types = two_types()?;
+    for (power, digits) in [(4, 2), (8, 3), (16, 4), (64, 6), (512, 9), (4096, 12)] {
+        for (count, greatest) in [
+            (power - 1, digits + 2),
+            (power, digits + 2),
+            (power + 1, digits + 3),
+        ] {
+            let transitions = transitions_in_turn(rt.alloc(), count)?;
+            let zone = TimeZoneRef::new(&transitions, &types, &[], &None).map_err(|_| "no zone")?;
+            assert_eq!(rt;
+                range_of_looks(&rt, &zone),
+                (1, greatest),
+                "{count} transitions"
+            );
+        }
+    }
+    Ok(())
+}
+
+/// Leap seconds of one second more and less.
+fn leap_seconds() -> [LeapSecond; 4] {
+    [
+        LeapSecond::new(5_000_000, 1),
+        LeapSecond::new(10_000_001, 2),
+        LeapSecond::new(20_000_002, 1),
+        LeapSecond::new(30_000_000, 0),
+    ]
+}
+
+#[test]
+fn at_leap_seconds(rt: HostRuntime) -> Result<(), Fail> {
+    let types = two_types()?;
+    let leap_seconds = leap_seconds();
+    let transitions = [
+        Transition::new(4_999_999, 1),
+        Transition::new(5_000_000, 0),
+        Transition::new(5_000_001, 1),
+        Transition::new(10_000_001, 0),
+        Transition::new(10_000_002, 1),
+        Transition::new(20_000_001, 0),
+        Transition::new(20_000_002, 1),
+        Transition::new(30_000_000, 0),
+    ];
+    let zone = TimeZoneRef::new(&transitions, &types, &leap_seconds, &None).map_err(|_| "no zone")?;
+    for (first, last) in [
+        (4_999_990, 5_000_010),
+        (9_999_990, 10_000_010),
+        (19_999_990, 20_000_010),
+        (29_999_990, 30_000_010),
+    ] {
+        for unix_time in first..last {
+            let looks = looks_at(&rt, &zone, unix_time);
+            assert!(rt; 1 <= looks && looks <= 6);
+        }
+    }
+    Ok(())
+}
+
+/// The next pseudorandom number.
+fn next_random(number: u64) -> u64 {
+    number
+        .wrapping_mul(6_364_136_223_846_793_005)
+        .wrapping_add(1_442_695_040_888_963_407)
+}
+
+#[test]
+fn random_lists(rt: HostRuntime) -> Result<(), Fail> {
+    let types = two_types()?;
+    let mut random = 20_260_801;
+    for _ in 0..60 {
+        let mut transitions = Vec::new(rt.alloc());
+        let mut unix_leap_time = i64::MIN;
+        random = next_random(random);
+        let count = (random >> 32) % 70;
+        for _ in 0..count {
+            random = next_random(random);
+            let apart = 1 + ((random >> 33) % 5) as i64;
+            let far = if random >> 63 == 0 {
+                200_000_000_000_000_000
+            } else {
+                0
+            };
+            unix_leap_time = unix_leap_time.saturating_add(apart).saturating_add(far);
+            transitions.push(Transition::new(unix_leap_time, (random >> 40) as usize % 2))?;
+        }
+        let Ok(zone) = TimeZoneRef::new(&transitions, &types, &[], &None) else {
+            continue;
+        };
+        let (least, greatest) = range_of_looks(&rt, &zone);
+        assert!(rt; least <= greatest);
+    }
+    Ok(())
+}
+
+#[test]
+fn refused_lookups_are_counted(rt: HostRuntime) -> Result<(), Fail> {
+    let types = two_types()?;
+    let transitions = transitions_in_turn(rt.alloc(), 100)?;
+    let leap_seconds = [LeapSecond::new(0, 1)];
+    let zone = TimeZoneRef::new(&transitions, &types, &leap_seconds, &None).map_err(|_| "no zone")?;
+    let (over, looks) = zone.find_local_time_type_counted(i64::MAX - 1);
+    assert!(rt; matches!(over, Err(TzError::NoAvailableLocalTimeType)));
+    assert_eq!(rt; looks, 1);
+    let (out_of_range, looks) = zone.find_local_time_type_counted(i64::MAX);
+    assert!(rt; matches!(out_of_range, Err(TzError::OutOfRange)));
+    assert_eq!(rt; looks, 1);
+    Ok(())
+}
