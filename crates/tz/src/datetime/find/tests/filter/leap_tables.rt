@@ -106,9 +106,9 @@ fn clocks_that_begin_with_a_table(rt: HostRuntime) -> Result<(), Fail> {
         let unix_time = START.saturating_sub(i64::from(correction));
         let next = LeapSecond::new(START + 2_419_199, correction.saturating_add(1));
         let expiry = LeapSecond::new(START + 1, correction);
-        for leap_seconds in [&[first].as_slice(), &[first, next], &[first, expiry]] {
+        for leap_seconds in [[first].as_slice(), &[first, next], &[first, expiry]] {
             let entries = entries_of_table(&rt, rt.alloc(), leap_seconds, unix_time)?;
-            assert!(rt; entries > 300, "{entries} entries");
+            assert!(rt; entries > 200, "{entries} entries");
         }
     }
     Ok(())
