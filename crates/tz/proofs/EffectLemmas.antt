@@ -1,15 +1,15 @@
 -- A leap time that has come at some instant has an effect.
-use Rattle.std.proofs.Common.{◌≢◌, ℕ, zero, suc, ◌<◌, refl, arith, ℤ, pos, negsuc, ◌+ℤ◌, ◌≤ℤ◌, ◌<ℤ◌, List, length, Ok, Err}
+use Rattle.std.proofs.Common.{◌≢◌, ℕ, zero, suc, ◌<◌, refl, inl, arith, ℤ, pos, negsuc, ◌+ℤ◌, ◌≤ℤ◌, ◌<ℤ◌, List, length, Ok, Err}
 use Rattle.std.specs.Prelude.{IfErr, IsOk}
 use Rattle.std.specs.declared.result.Result.{Result}
 use Rattle.std.proofs.lemmas.Int.{ints, by_lt_z}
 use Rattle.std.proofs.lemmas.Option.{slice_get_within}
 use Rattle.tz_zone.specs.Table.{LeapSecond}
-use Rattle.tz_zone.specs.LeapTime.{IsInstant, correction_before, IsLeapTime, HasComeTo, IsEffectRefused}
+use Rattle.tz_zone.specs.LeapTime.{IsInstant, IsBeforeStart, correction_before, IsLeapTime, HasComeTo, IsEffectRefused}
 use Rattle.tz_zone.specs.ValidZone.{AreLeapSeconds}
 use Rattle.tz_zone.proofs.LeapSteps.{time_bound, correction_bound}
-use Rattle.tz_zone.proofs.LeapLists.{time_at, time_at-is, AreSteps-from_leaps, IsReachedCount, IsReached-at, count_exists}
-use Rattle.tz_zone.proofs.LeapTimes.{IsInstant-from_bounds, instant_bounds, IsLeapTime-from_count, leap_time_from_count, leap_time_fits, not_refused_within}
+use Rattle.tz_zone.proofs.LeapLists.{time_at, time_at-is, AreSteps-from_leaps, IsReachedCount, IsReached-at, correction_without_start, count_exists}
+use Rattle.tz_zone.proofs.LeapTimes.{IsInstant-from_bounds, instant_bounds, IsLeapTime-from_count, leap_time_from_count, leap_time_fits, start_reached, not_refused_within}
 
 -- a call that is never refused
 pub ok_from_err : {T E : Type 0} → (r : Result T E) → IfErr r (λ e. ⊥) → IsOk r
@@ -17,10 +17,10 @@ ok_from_err (Ok x) h = refl
 ok_from_err (Err e) h = absurd h
 
 module _ (leaps : List LeapSecond) (are : AreLeapSeconds leaps) where
-  pub leap_exists : (u : ℤ) → u ≤ℤ pos 80000000000000000 → (l : ℤ) × IsLeapTime leaps u l
-  leap_exists u h =
+  pub leap_exists : (u : ℤ) → ¬ IsBeforeStart leaps u → u ≤ℤ pos 80000000000000000 → (l : ℤ) × IsLeapTime leaps u l
+  leap_exists u begun h =
       let count = count_exists leaps are u in
-      (u +ℤ correction_before leaps count.0, IsLeapTime-from_count leaps are u count.0 count.1 (not_refused_within leaps are u h))
+      (u +ℤ correction_before leaps count.0, IsLeapTime-from_count leaps are u count.0 count.1 (not_refused_within leaps are u begun h))
 
   -- a leap time is an instant
   pub leap_time_is_instant : (u l : ℤ) → IsInstant u → IsLeapTime leaps u l → IsInstant l
@@ -35,7 +35,9 @@ module _ (leaps : List LeapSecond) (are : AreLeapSeconds leaps) where
       by_count count.0 count.1
     where
       by_count : (k : ℕ) → IsReachedCount leaps w k → negsuc 9223372036854775807 ≤ℤ w
-      by_count zero count = omega (arith, ints, leap_time_from_count leaps are w l zero count leap, come, instant_bounds v fits)
+      by_count zero count =
+          let none = correction_without_start leaps (λ s start. absurd (omega (arith, start_reached leaps are w zero s count start (λ before. leap.not_refused (inl before))))) in
+          omega (arith, ints, leap_time_from_count leaps are w l zero count leap, come, instant_bounds v fits)
       by_count (suc i) count =
           let last = IsReached-at leaps w (suc i) i count (omega arith) in
           let inside : i < length leaps = omega (arith, slice_get_within leaps i last.0 last.1.0) in

@@ -1,6 +1,6 @@
 -- Where the clock has one type in all the window of a reading, the reading is found once.
-use Rattle.std.proofs.Common.{◌≡◌, ◌<◌, zero, suc, refl, sym, ap, ◌∙◌, subst, arith, ℤ, pos, ◌+ℤ◌, ◌-ℤ◌, ◌≤ℤ◌, ◌<ℤ◌, List, [], ◌∷◌, length}
-use Rattle.std.specs.List.{All, AllPairs, Contains}
+use Rattle.std.proofs.Common.{◌≡◌, refl, sym, ap, ◌∙◌, arith, ℤ, pos, ◌-ℤ◌, ◌≤ℤ◌, ◌<ℤ◌, [], ◌∷◌}
+use Rattle.std.specs.List.{Contains}
 use Rattle.std.proofs.lemmas.Int.{ints}
 use Rattle.std.proofs.lemmas.List.Elements.{All-nil, All-cons}
 use Rattle.tz_base.specs.declared.calendar.Fields.{Fields}
@@ -12,7 +12,7 @@ use Rattle.tz_zone.specs.Segments.{IsStretch}
 use Rattle.tz_zone.specs.ValidZone.{AreLeapSeconds}
 use Rattle.tz_zone.proofs.Clocks.{clock_unique}
 use Rattle.tz.specs.DateTimes.{DateTime}
-use Rattle.tz.specs.Found.{IsFound, IsFoundBy, IsEarlier, PassesOver}
+use Rattle.tz.specs.Found.{IsFound, IsFoundBy}
 use Rattle.tz.specs.Reached.{AreOffsetsOf}
 use Rattle.tz.specs.declared.datetime.found.FoundDateTimeKind.{FoundDateTimeKind}
 use Rattle.tz.specs.declared.datetime.found.FoundDateTimeKind.TheVariants.{Normal, Skipped}

@@ -3,6 +3,7 @@ pub mod WalkLemmas
 pub mod EffectLemmas
 pub mod KindLemmas
 pub mod WindowLemmas
+pub mod ClockStarts
 pub mod SearchLemmas
 pub mod RuleYearLemmas
 pub mod RuleSearchLemmas

@@ -22,7 +22,7 @@ use Rattle.tz.specs.declared.datetime.walk.Piece.{Piece}
 use Rattle.tz.specs.declared.datetime.walk.Walk.{Walk}
 use Rattle.tz.proofs.KindLemmas.{alternate_type}
 use Rattle.tz.proofs.RuleYearLemmas.{IsOfYear, answered_from_years, years_from_answered, inner_year_from_answered, unchanged_between, rule_type_stays, years_from_rule_type}
-use Rattle.tz.proofs.SearchLemmas.{step_since}
+use Rattle.tz.proofs.SearchLemmas.{step_since, shown_in_window, passed_in_window}
 use Rattle.tz.proofs.WalkLemmas.{walked_on, walked_same, found_from_end, found_from_seen, search_fault_from_step, search_fault_from_seen}
 
 module _ (z : Zone) (low seam start end : ℤ) (f : Fields) (from : ℤ) (w : Walk) (found : List FoundDateTimeKind) (past : IsPastSeam z low seam start end f from w found) where
@@ -151,9 +151,9 @@ module _ (r : AlternateTime) (seam high : ℤ) where
       where
         shown : (u : ℤ) (t : LocalTimeType) → Shows (IsClock z) (reading f) u t → IsInView low seam start end u
         shown u t shows =
-            let offset = window u t shows.0 in
-            let low_u : low ≤ℤ u = omega (arith, ints, shows.1, offset.1) in
-            let high_u : u ≤ℤ high = omega (arith, ints, shows.1, offset.0) in
+            let within = shown_in_window z (reading f) low high window u t shows in
+            let low_u : low ≤ℤ u = within.0 in
+            let high_u : u ≤ℤ high = within.1 in
             by_lt_z seam u
             (λ after.
             let seam_u : seam ≤ℤ u = omega (arith, ints, after) in
@@ -165,12 +165,11 @@ module _ (r : AlternateTime) (seam high : ℤ) where
 
         passed : (u : ℤ) (a b : LocalTimeType) → PassesOver (IsClock z) (reading f) u a b → IsInView low seam start end (u -ℤ pos 1) × IsInView low seam start end u
         passed u a b passes =
-            let before = window (u -ℤ pos 1) a passes.0 in
-            let after = window u b passes.1 in
-            let low_before : low ≤ℤ (u -ℤ pos 1) = omega (arith, ints, passes.3, after.1) in
-            let low_u : low ≤ℤ u = omega (arith, ints, low_before) in
-            let high_u : u ≤ℤ high = omega (arith, ints, passes.2, before.0) in
-            let high_before : (u -ℤ pos 1) ≤ℤ high = omega (arith, ints, high_u) in
+            let within = passed_in_window z (reading f) low high window u a b passes in
+            let low_before : low ≤ℤ (u -ℤ pos 1) = within.0.0 in
+            let low_u : low ≤ℤ u = within.1.0 in
+            let high_u : u ≤ℤ high = within.1.1 in
+            let high_before : (u -ℤ pos 1) ≤ℤ high = within.0.1 in
             by_lt_z seam u
             (λ later.
             let seam_u : seam ≤ℤ u = omega (arith, ints, later) in

@@ -11,12 +11,12 @@ use Rattle.tz_base.specs.Fields.{reading}
 use Rattle.tz_rule.specs.LocalTimeType.{LocalTimeType}
 use Rattle.tz_rule.specs.declared.timezone.rule.TransitionRule.{TransitionRule}
 use Rattle.tz_zone.specs.Table.{Transition, Zone}
-use Rattle.tz_zone.specs.LeapTime.{IsInstant, IsLeapTime, HasComeTo}
+use Rattle.tz_zone.specs.LeapTime.{IsInstant, IsBeforeStart, IsLeapTime, HasComeTo}
 use Rattle.tz_zone.specs.Clock.{AreReached, IsClock}
 use Rattle.tz_zone.specs.ValidZone.{IsSoundTable}
-use Rattle.tz_zone.proofs.LeapTimes.{IsInstant-from_bounds, instant_bounds, leap_time_mono}
+use Rattle.tz_zone.proofs.LeapTimes.{IsInstant-from_bounds, instant_bounds, begun_later, leap_time_mono}
 use Rattle.tz_zone.proofs.RisingTimes.{Rise, transitions_rise}
-use Rattle.tz.specs.Found.{IsFoundBy, IsFound, instant_of}
+use Rattle.tz.specs.Found.{Shows, PassesOver, IsFoundBy, IsFound, instant_of}
 use Rattle.tz.specs.Walks.{IsSearchFault, HoldsFrom, IsFrom, IsStep, IsStepFault, IsWalk, IsWalked}
 use Rattle.tz.specs.Reached.{IsWithinReach, IsReachedAt, IsSteadyAfter, IsKindOf, IsDue, IsPieceOf, IsWindowOf, IsInWindow, WindowClock, IsOnTheWay}
 use Rattle.tz.specs.RuleSpans.{IsRuledIn, IsAtSeam}
@@ -49,6 +49,21 @@ step_since w piece next new (inr (late, is, given)) =
     let kind : next.kind ≡ piece.kind = ap (λ (x : Walk). x.kind) is in
     (omega (arith, ints, since, late), omega (arith, ints, since), inr since, kind)
 
+-- what the clock shows at the reading lies in its window
+pub shown_in_window : (z : Zone) (r low high : ℤ) → IsWindowOf z r low high → (u : ℤ) (t : LocalTimeType) → Shows (IsClock z) r u t → IsInWindow low high u
+shown_in_window z r low high (from, offsets, order, first) u t shows =
+    let offset = offsets u t shows.0 in
+    (first u t shows.0 (omega (arith, ints, shows.1, offset.1)), omega (arith, ints, shows.1, offset.0))
+
+-- and so do both sides of a jump over it
+pub passed_in_window : (z : Zone) (r low high : ℤ) → IsWindowOf z r low high → (u : ℤ) (a b : LocalTimeType) → PassesOver (IsClock z) r u a b → IsInWindow low high (u -ℤ pos 1) × IsInWindow low high u
+passed_in_window z r low high (from, offsets, order, first) u a b passes =
+    let before = offsets (u -ℤ pos 1) a passes.0 in
+    let after = offsets u b passes.1 in
+    let low_is = first (u -ℤ pos 1) a passes.0 (omega (arith, ints, passes.3, after.1)) in
+    let high_is : u ≤ℤ high = omega (arith, ints, passes.2, before.0) in
+    ((low_is, omega (arith, ints, high_is)), (omega (arith, ints, low_is), high_is))
+
 module _ (z : Zone) (sound : IsSoundTable z) where
   rise : Rise (λ (c : Transition). c.unix_leap_time) z.transitions
   rise = transitions_rise z.transitions (λ i. (sound.transitions_are i).1)
@@ -56,7 +71,8 @@ module _ (z : Zone) (sound : IsSoundTable z) where
   -- what has come stays so
   come_stays : (v u w : ℤ) → u ≤ℤ w → w ≤ℤ pos 80000000000000000 → HasComeTo z.leap_seconds v u → HasComeTo z.leap_seconds v w
   come_stays v u w h reach (l, leap, come) =
-      let next = leap_exists z.leap_seconds sound.leap_seconds_are w reach in
+      let begun = begun_later z.leap_seconds sound.leap_seconds_are u w h (λ before. leap.not_refused (inl before)) in
+      let next = leap_exists z.leap_seconds sound.leap_seconds_are w begun reach in
       (next.0, next.1, omega (arith, ints, come, leap_time_mono z.leap_seconds sound.leap_seconds_are u w l next.0 h leap next.1))
 
   -- the transitions past an instant take effect within reach
@@ -75,12 +91,12 @@ module _ (z : Zone) (sound : IsSoundTable z) where
       omega (arith, ints, at_low.come i change before at, leap_time_mono z.leap_seconds sound.leap_seconds_are low high at_low.time l order at_low.time_is leap)
 
   -- so many have come from where they have all come until the next one does
-  reached_between : (place : ℕ) (since u : ℤ) → since ≤ℤ u → u ≤ℤ pos 80000000000000000 →
+  reached_between : (place : ℕ) (since u : ℤ) → ¬ IsBeforeStart z.leap_seconds since → since ≤ℤ u → u ≤ℤ pos 80000000000000000 →
       ((i : ℕ) (change : Transition) → i < place → slice_get z.transitions i ≡ Some change → HasComeTo z.leap_seconds change.unix_leap_time since) →
       ((i : ℕ) (change : Transition) → place ≤ i → slice_get z.transitions i ≡ Some change → (l : ℤ) → IsLeapTime z.leap_seconds u l → l <ℤ change.unix_leap_time) →
       IsReachedAt z u place
-  reached_between place since u h reach come later =
-      let leap = leap_exists z.leap_seconds sound.leap_seconds_are u reach in
+  reached_between place since u begun h reach come later =
+      let leap = leap_exists z.leap_seconds sound.leap_seconds_are u (begun_later z.leap_seconds sound.leap_seconds_are since u h begun) reach in
       record {
         time = leap.0;
         time_is = leap.1;
@@ -96,6 +112,7 @@ module _ (z : Zone) (sound : IsSoundTable z) where
       walked = walked_from_start (WindowClock z low high) f w walk before (λ u t at. omega (arith, ints, since, at.1.0));
       kind = kind;
       come = λ i change less at. subst (λ (u : ℤ). HasComeTo z.leap_seconds change.unix_leap_time u) (sym since) (at_low.time, at_low.time_is, at_low.come i change less at);
+      begun = subst (λ (u : ℤ). ¬ IsBeforeStart z.leap_seconds u) (sym since) (λ before. at_low.time_is.not_refused (inl before));
       low_is = omega (arith, ints, since);
       high_is = omega (arith, ints, since, order);
       not_before = λ i change from at u (l, leap, come). by_lt_z u low
@@ -110,7 +127,7 @@ module _ (z : Zone) (sound : IsSoundTable z) where
           ((u : ℤ) → IsFrom w.since until u → IsSteadyAfter z place) →
           HoldsFrom (WindowClock z low high) w.since until w.kind
       holds_from until within_high later steady u within t =
-          let reached = reached_between place w.since u within.0 (omega (arith, ints, within.1, within_high, reach)) way.come (later u within) in
+          let reached = reached_between place w.since u way.begun within.0 (omega (arith, ints, within.1, within_high, reach)) way.come (later u within) in
           let kind = way.kind u reached (inl (steady u within)) t in
           let low_is : low ≤ℤ u = omega (arith, ints, way.low_is, within.0) in
           let high_is : u ≤ℤ high = omega (arith, ints, within.1, within_high) in
@@ -159,6 +176,7 @@ module _ (z : Zone) (sound : IsSoundTable z) where
                   let same : change ≡ other = same_Some change other (sym at ∙ ap (slice_get z.transitions) (sym here) ∙ at_i) in
                   subst (λ (c : Transition). HasComeTo z.leap_seconds c.unix_leap_time next.since) same (come_stays change.unix_leap_time piece.from next.since since.1 reach_is effect.has_come)
             ];
+            begun = begun_later z.leap_seconds sound.leap_seconds_are w.since next.since since.0 way.begun;
             low_is = omega (arith, ints, way.low_is, since.0);
             high_is = high_is;
             not_before = λ i other more at_i u (l, leap, come_i).
@@ -176,7 +194,7 @@ module _ (z : Zone) (sound : IsSoundTable z) where
       -- where all transitions have come, the clock is that of the rule from the last piece on
       ruled_from_seam : length z.transitions ≤ place → (rule : TransitionRule) → z.extra_rule ≡ Some rule → IsRuledIn z rule w.since high
       ruled_from_seam all rule is u from until =
-          let reached = reached_between place w.since u from (omega (arith, ints, until, reach)) way.come (λ i other more at_i. absurd (omega (arith, all, more, slice_get_within z.transitions i other at_i))) in
+          let reached = reached_between place w.since u way.begun from (omega (arith, ints, until, reach)) way.come (λ i other more at_i. absurd (omega (arith, all, more, slice_get_within z.transitions i other at_i))) in
           clock_of_rule z sound.leap_seconds_are (length z.transitions) refl rule is u (record {
             time = reached.time;
             time_is = reached.time_is;
@@ -187,7 +205,7 @@ module _ (z : Zone) (sound : IsSoundTable z) where
       pub at_seam : length z.transitions ≤ place → (rule : TransitionRule) → z.extra_rule ≡ Some rule → IsWindowOf z (reading f) low high → IsAtSeam z rule low high w found
       at_seam all rule is window = record {
         walked = subst (λ (g : Fields). IsWalked (WindowClock z low high) g w found) (sym way.walked.walk.fields_are) way.walked;
-        holds = way.kind w.since (reached_between place w.since w.since (omega (arith, ints)) (omega (arith, ints, way.high_is, reach)) way.come (λ i other more at_i. absurd (omega (arith, all, more, slice_get_within z.transitions i other at_i)))) (inr refl);
+        holds = way.kind w.since (reached_between place w.since w.since way.begun (omega (arith, ints)) (omega (arith, ints, way.high_is, reach)) way.come (λ i other more at_i. absurd (omega (arith, all, more, slice_get_within z.transitions i other at_i)))) (inr refl);
         low_is = way.low_is;
         high_is = way.high_is;
         ruled = ruled_from_seam all rule is;
@@ -241,14 +259,7 @@ module _ (z : Zone) (sound : IsSoundTable z) where
     -- no entry lies outside the window
     pub found_from_window : IsWindowOf z (reading f) low high → (found : List FoundDateTimeKind) → IsFound (WindowClock z low high) f found → IsFound (IsClock z) f found
     found_from_window window found is = found_from_seen (IsClock z) (IsInWindow low high) f found
-        (λ u t shows.
-        let offset = window u t shows.0 in
-        (omega (arith, ints, shows.1, offset.1), omega (arith, ints, shows.1, offset.0)))
-        (λ u a b passes.
-        let before = window (u -ℤ pos 1) a passes.0 in
-        let after = window u b passes.1 in
-        ((omega (arith, ints, passes.3, after.1), omega (arith, ints, passes.2, before.0)), (omega (arith, ints, passes.3, after.1), omega (arith, ints, passes.2, before.0))))
-        is
+        (shown_in_window z (reading f) low high window) (passed_in_window z (reading f) low high window) is
 
 -- a list of rising instants in a window is no longer than the window
 pub few_found : (z : Zone) (low high : ℤ) (f : Fields) (found : List FoundDateTimeKind) → IsWindowOf z (reading f) low high → (high -ℤ low) ≤ℤ pos 4294967296 → IsFound (IsClock z) f found → length found ≤ 8589934592
@@ -259,14 +270,11 @@ few_found z low high f (first ∷ rest) window width is =
     omega (arith, ints, last, until.1, width)
   where
     in_window : (e : FoundDateTimeKind) → IsFoundBy (IsClock z) f e → IsInWindow low high (instant_of e)
-    in_window (Normal d) (fields, shows) =
-        let offset = window d.unix_time d.local_time_type shows.0 in
-        (omega (arith, ints, shows.1, offset.1), omega (arith, ints, shows.1, offset.0))
+    in_window (Normal d) (fields, shows) = shown_in_window z (reading f) low high window d.unix_time d.local_time_type shows
     in_window (Skipped x y) (u, a, b, passes, sx, sy) =
-        let before = window (u -ℤ pos 1) a passes.0 in
-        let after = window u b passes.1 in
+        let within = (passed_in_window z (reading f) low high window u a b passes).1 in
         let instant = sx.instant_is in
-        (omega (arith, ints, instant, passes.3, after.1), omega (arith, ints, instant, passes.2, before.0))
+        (omega (arith, ints, instant, within.0), omega (arith, ints, instant, within.1))
 
     rising : (i : ℕ) → i < length (first ∷ rest) → (low +ℤ pos i) ≤ℤ instant_of (get_or (first ∷ rest) i first)
     rising zero h = omega (arith, ints, (in_window first (is.sound 0 first h)).0)

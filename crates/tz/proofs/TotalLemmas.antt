@@ -1,5 +1,5 @@
 -- Each total has seconds, rounded down, and nanoseconds over.
-use Rattle.std.proofs.Common.{◌≡◌, ◌-◌, ◌/◌, ◌%◌, ℕ, ℤ, pos, negsuc, arith}
+use Rattle.std.proofs.Common.{◌-◌, ◌/◌, ◌%◌, ℕ, ℤ, pos, negsuc, arith}
 use Rattle.std.proofs.lemmas.Int.{ints}
 use Rattle.tz_base.specs.Fields.{IsTimespec}
 

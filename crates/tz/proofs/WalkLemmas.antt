@@ -38,7 +38,7 @@ AllPairs-push R xs y pairs all i j d less within =
           rw (left, right) (all i d first)
     ]
 
-AllPairs-nil : {X : Type 0} (R : X → X → Type 0) → AllPairs R []
+pub AllPairs-nil : {X : Type 0} (R : X → X → Type 0) → AllPairs R []
 AllPairs-nil R i j d less within = absurd (omega arith)
 
 -- the sides of a jump are determined

@@ -6,13 +6,14 @@ use Rattle.std.specs.List.{All, Contains, range_with_len}
 use Rattle.std.proofs.lemmas.Int.{ints}
 use Rattle.std.proofs.lemmas.Bool.{cases_lt}
 use Rattle.std.proofs.lemmas.List.{get_or_default}
+use Rattle.std.proofs.lemmas.List.Elements.{All-weaker}
 use Rattle.std.proofs.lemmas.List.FromFn.{length-range_with_len, get_or-range_with_len}
 use Rattle.tz_rule.specs.LocalTimeType.{LocalTimeType}
 use Rattle.tz_rule.specs.Rule.{IsRuleType}
 use Rattle.tz_rule.specs.declared.timezone.rule.TransitionRule.{TransitionRule}
 use Rattle.tz_rule.specs.declared.timezone.rule.TransitionRule.TheVariants.{Fixed, Alternate}
 use Rattle.tz_zone.specs.Table.{Zone}
-use Rattle.tz.specs.Reached.{AreOffsetsOf, IsWindowOf}
+use Rattle.tz.specs.Reached.{AreOffsetsOf}
 use Rattle.tz.specs.Windows.{IsOffsetOfRule, IsOffset, IsLeastOffset, IsGreatestOffset, IsWindow, TakesEffectIn, AreRising, AtMostTakeEffectIn, AtMostTakeEffectAround}
 use Rattle.tz.proofs.KindLemmas.{fixed_type, alternate_type, offsets_from_types}
 
@@ -42,7 +43,7 @@ clock_between z least greatest is_least is_greatest =
     between : (o : ℤ) → IsOffset z.types z.extra_rule o → (least ≤ℤ o) × (o ≤ℤ greatest)
     between o is = (is_least.1 o is, is_greatest.1 o is)
 
-pub clock_in_window : (z : Zone) (r low high : ℤ) → IsWindow z.types z.extra_rule r low high → IsWindowOf z r low high
+pub clock_in_window : (z : Zone) (r low high : ℤ) → IsWindow z.types z.extra_rule r low high → AreOffsetsOf z (r -ℤ high) (r -ℤ low)
 clock_in_window z r low high window = clock_between z (r -ℤ high) (r -ℤ low) window.last window.first
 
 -- the least and the greatest offset are one each
@@ -72,6 +73,11 @@ pub most_in_window : (z : Zone) (r low high : ℤ) → IsWindow z.types z.extra_
 most_in_window z r low high window w around =
     let same = window_unique z.types z.extra_rule r around.0 around.1 low high around.2 window in
     subst (λ (v : ℤ). AtMostTakeEffectIn z low v w) same.1 (subst (λ (v : ℤ). AtMostTakeEffectIn z v around.1 w) same.0 around.3)
+
+-- and no more of them take effect in a window that begins later
+pub most_from_later : (z : Zone) (from low high : ℤ) → from ≤ℤ low → (w : ℕ) → AtMostTakeEffectIn z from high w → AtMostTakeEffectIn z low high w
+most_from_later z from low high later w most places rise effects =
+    most places rise (All-weaker (TakesEffectIn z low high) (TakesEffectIn z from high) (λ i (transition, u, at, effect, low_is, high_is). (transition, u, at, effect, omega (arith, ints, later, low_is), high_is)) places effects)
 
 -- a rising list whose elements another rising list contains is no longer
 no_longer : (places others : List ℕ) → AreRising places → AreRising others → All (Contains places) others → length others ≤ length places

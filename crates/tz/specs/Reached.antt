@@ -4,7 +4,7 @@ use Rattle.tz_rule.specs.LocalTimeType.{LocalTimeType}
 use Rattle.tz_rule.specs.Alternate.{AlternateTime}
 use Rattle.tz_rule.specs.declared.timezone.rule.TransitionRule.TheVariants.{Alternate}
 use Rattle.tz_zone.specs.Table.{Transition, Zone}
-use Rattle.tz_zone.specs.LeapTime.{IsInstant, IsLeapTime, HasComeTo, IsEffect}
+use Rattle.tz_zone.specs.LeapTime.{IsInstant, IsBeforeStart, IsLeapTime, HasComeTo, IsEffect}
 use Rattle.tz_zone.specs.Clock.{IsClock}
 use Rattle.tz_base.specs.declared.calendar.Fields.{Fields}
 use Rattle.tz.specs.Found.{Clock}
@@ -13,7 +13,7 @@ use Rattle.tz.specs.declared.datetime.found.FoundDateTimeKind.{FoundDateTimeKind
 use Rattle.tz.specs.declared.datetime.walk.Piece.{Piece}
 use Rattle.tz.specs.declared.datetime.walk.Walk.{Walk}
 
--- an instant that surely has a leap time
+-- an instant that surely has a leap time, unless it lies before the leap seconds begin
 abbrev pub IsWithinReach : ℤ → Type 0
 IsWithinReach u = (negsuc 79999999999999999 ≤ℤ u) × (u ≤ℤ pos 80000000000000000)
 
@@ -51,9 +51,12 @@ AreOffsetsOf z least greatest = (u : ℤ) (t : LocalTimeType) → IsClock z u t 
 abbrev pub IsInWindow : ℤ → ℤ → ℤ → Type 0
 IsInWindow low high u = (low ≤ℤ u) × (u ≤ℤ high)
 
--- the window in which the clock can show the reading, or be set forward over it
+-- the window in which the clock can show the reading, or be set forward over it: from some instant on, and there the clock has no type
+-- before its low end
 abbrev pub IsWindowOf : Zone → ℤ → ℤ → ℤ → Type 0
-IsWindowOf z r low high = AreOffsetsOf z (r -ℤ high) (r -ℤ low)
+IsWindowOf z r low high =
+    (from : ℤ) × AreOffsetsOf z (r -ℤ high) (r -ℤ from) × (from ≤ℤ low)
+    × ((u : ℤ) (t : LocalTimeType) → IsClock z u t → from ≤ℤ u → low ≤ℤ u)
 
 -- the clock of a zone as it is seen in a window
 abbrev pub WindowClock : Zone → ℤ → ℤ → Clock
@@ -64,6 +67,7 @@ pub record IsOnTheWay (z : Zone) (low high : ℤ) (f : Fields) (place : ℕ) (w 
   pub walked : IsWalked (WindowClock z low high) f w found
   pub kind : IsKindOf z place w.since w.kind
   pub come : (i : ℕ) (change : Transition) → i < place → slice_get z.transitions i ≡ Some change → HasComeTo z.leap_seconds change.unix_leap_time w.since
+  pub begun : ¬ IsBeforeStart z.leap_seconds w.since
   pub low_is : low ≤ℤ w.since
   pub high_is : w.since ≤ℤ high
   pub not_before : (i : ℕ) (change : Transition) → place ≤ i → slice_get z.transitions i ≡ Some change → (u : ℤ) → HasComeTo z.leap_seconds change.unix_leap_time u → w.since ≤ℤ u

@@ -5,12 +5,13 @@ use Rattle.std.proofs.lemmas.Bool.{cases_lt}
 use Rattle.std.proofs.lemmas.Int.{ints}
 use Rattle.std.proofs.lemmas.Option.{same_Some, none-some}
 use Rattle.tz_base.specs.declared.error.TzError.{TzError}
+use Rattle.tz_base.specs.declared.error.TzError.TheVariants.{OutOfRange}
 use Rattle.tz_rule.specs.LocalTimeType.{LocalTimeType}
 use Rattle.tz_rule.specs.declared.timezone.rule.TransitionRule.{TransitionRule}
 use Rattle.tz_rule.proofs.RuleTypes.{rule_type_unique}
 use Rattle.tz_zone.specs.Table.{Transition, Zone}
-use Rattle.tz_zone.specs.LeapTime.{IsLeapTime}
-use Rattle.tz_zone.specs.Clock.{AreReached, AreAhead, IsTypeAt, IsTypeOfLast, IsLast, IsTransitionType, IsTypeAfter, IsTypeWithout, IsTypeWith, IsFaultAfter, IsClock, IsLookupFault}
+use Rattle.tz_zone.specs.LeapTime.{IsLeapTimeRefused, IsLeapTime}
+use Rattle.tz_zone.specs.Clock.{AreReached, AreAhead, IsTypeAt, IsTypeOfLast, IsLast, IsTransitionType, IsTypeAfter, IsTypeWithout, IsTypeWith, IsFaultAfter, IsClock, IsOver, IsLookupFault}
 use Rattle.tz_zone.specs.ValidZone.{AreLeapSeconds}
 use Rattle.tz_zone.proofs.LeapTimes.{leap_time_unique}
 
@@ -52,6 +53,17 @@ module _ (z : Zone) (are : AreLeapSeconds z.leap_seconds) (last : Transition) (i
   fault_from_last e from (inl (fault, none)) = inl (fault, (last, l, is_last, leap, from, none))
   fault_from_last e from (inr (fault, some, no_type)) =
       inr (fault, (λ t clock. no_type t (type_after_from_clock t from clock)), (λ over. some over.5))
+
+-- where the instant has no leap time, a zone with transitions has no type
+pub fault_from_refused : (z : Zone) (last : Transition) → IsLast z.transitions last → (u : ℤ) → IsLeapTimeRefused z.leap_seconds u → (e : TzError) → e ≡ OutOfRange → IsLookupFault z u e
+fault_from_refused z last is_last u refused e is = inr (is, no_type, not_over)
+  where
+    no_type : (t : LocalTimeType) → ¬ IsClock z u t
+    no_type t (inl (none, type)) = some_from_last z.transitions last is_last none
+    no_type t (inr (last', is_last', (l, leap, side))) = leap.not_refused refused
+
+    not_over : ¬ IsOver z u
+    not_over (last', l, is_last', leap, from, none) = leap.not_refused refused
 
 -- a zone has one type with a number
 type_at_unique : (z : Zone) (i : ℕ) (t t' : LocalTimeType) → IsTypeAt z i t → IsTypeAt z i t' → t ≡ t'

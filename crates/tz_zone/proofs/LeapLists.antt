@@ -1,12 +1,14 @@
 -- A list of leap seconds, seen as two functions of its places: its leap times and the effects of leap times.
-use Rattle.std.proofs.Common.{◌≡◌, ℕ, zero, suc, ◌+◌, ◌-◌, ◌<◌, ◌≤◌, ◌⊎◌, inl, inr, refl, sym, ap, ◌∙◌, arith, ℤ, pos, negsuc, ◌+ℤ◌, ◌-ℤ◌, ◌<ℤ◌, List, length, get_or, Some}
-use Rattle.std.specs.Prelude.{slice_get}
+use Rattle.std.proofs.Common.{◌≡◌, ◌≢◌, ℕ, zero, suc, ◌+◌, ◌-◌, ◌<◌, ◌≤◌, ◌⊎◌, inl, inr, refl, sym, ap, ◌∙◌, arith, Bool, true, false, cond, eqb, ℤ, pos, negsuc, ◌+ℤ◌, ◌-ℤ◌, ◌≤ℤ◌, ◌<ℤ◌, neg_ℤ, List, [], ◌∷◌, length, get_or, Some}
+use Rattle.std.specs.Prelude.{slice_get, unsigned_abs, FitsSigned}
+use Rattle.std.specs.Int.{w32}
 use Rattle.std.proofs.lemmas.Int.{ints, by_lt_z}
 use Rattle.std.proofs.lemmas.Bool.{cases_lt}
+use Rattle.std.proofs.lemmas.Bool.Decides.{nat_tests}
 use Rattle.std.proofs.lemmas.Option.{slice_get_within, slice_get-get_or, get_or_from_slice_get}
 use Rattle.tz_zone.specs.Table.{LeapSecond}
-use Rattle.tz_zone.specs.LeapTime.{correction_at, correction_before, IsReached, IsCorrection}
-use Rattle.tz_zone.specs.ValidZone.{AreLeapSeconds, IsOneSecond}
+use Rattle.tz_zone.specs.LeapTime.{IsOneSecond, IsStart, correction_at, correction_at_start, correction_before, IsReached, IsCorrection}
+use Rattle.tz_zone.specs.ValidZone.{Follows, AreLeapSeconds}
 use Rattle.tz_zone.proofs.LeapSteps.{AreSteps, IsCount, reached_down}
 
 abbrev pub no_leap : LeapSecond
@@ -31,43 +33,103 @@ one_second : (c : ℤ) → IsOneSecond c → (c ≡ pos 1) ⊎ (c ≡ negsuc 0)
 one_second (pos n) e = inl (ap pos e)
 one_second (negsuc n) e = inr (ap negsuc (let h : n ≡ 0 = omega arith in h))
 
+one_second_bounds : (c : ℤ) → IsOneSecond c → (negsuc 0 ≤ℤ c) × (c ≤ℤ pos 1)
+one_second_bounds c is = elim (one_second c is) [
+  | inl e ↦ (omega (arith, ints), omega (arith, ints))
+  | inr e ↦ (omega (arith, ints), omega (arith, ints))
+]
+
+-- before a first record the correction is 0 where it is of one second, and otherwise its own
+abbrev IsFirstStep : LeapSecond → ℤ → Type 0
+IsFirstStep l c = ((c ≡ pos 0) × IsOneSecond l.correction) ⊎ ((c ≡ l.correction) × ¬ IsOneSecond l.correction)
+
+first_step : (l : LeapSecond) → IsFirstStep l (correction_at_start (Some l))
+first_step l = by_test (eqb (unsigned_abs l.correction) 1) refl
+  where
+    by_test : (b : Bool) → b ≡ eqb (unsigned_abs l.correction) 1 → IsFirstStep l (cond b (pos 0) l.correction)
+    by_test true e = inl (refl, grind (arith, nat_tests))
+    by_test false e = inr (refl, grind (arith, nat_tests))
+
+first_step_at : (leaps : List LeapSecond) (l : LeapSecond) → slice_get leaps 0 ≡ Some l → IsFirstStep l (correction_before leaps 0)
+first_step_at leaps l at = rw (sym (ap correction_at_start at)) at (first_step l)
+
+-- where there is no truncated start, the correction before the first record is 0
+pub correction_without_start : (leaps : List LeapSecond) → ((l : LeapSecond) → ¬ IsStart leaps l) → correction_before leaps 0 ≡ pos 0
+correction_without_start [] none = refl
+correction_without_start (l ∷ rest) none = elim (first_step l) [
+  | inl (e, is) ↦ e
+  | inr (e, other) ↦ absurd (none l (refl, other))
+]
+
+-- at a truncated start it is the first record's own
+pub correction_at_truncated : (leaps : List LeapSecond) (l : LeapSecond) → IsStart leaps l → correction_before leaps 0 ≡ l.correction
+correction_at_truncated leaps l (at, other) = elim (first_step_at leaps l at) [
+  | inl (e, is) ↦ absurd (other is)
+  | inr (e, other) ↦ e
+]
+
+correction_bounds : (z : ℤ) → FitsSigned w32 z → (neg_ℤ (pos 2147483648) ≤ℤ z) × (z ≤ℤ pos 2147483648)
+correction_bounds (pos n) fits = (omega (arith, ints, fits.sfits), omega (arith, ints, fits.sfits))
+correction_bounds (negsuc n) fits = (omega (arith, ints, fits.sfits), omega (arith, ints, fits.sfits))
+
+start_bounds : (leaps : List LeapSecond) → AreLeapSeconds leaps → (neg_ℤ (pos 2147483648) ≤ℤ correction_before leaps 0) × (correction_before leaps 0 ≤ℤ pos 2147483648)
+start_bounds [] are = (omega (arith, ints), omega (arith, ints))
+start_bounds (l ∷ rest) are = elim (first_step l) [
+  | inl (e, is) ↦ (omega (arith, ints), omega (arith, ints))
+  | inr (e, other) ↦ let bounds = correction_bounds l.correction (are.first l refl).1 in (omega (arith, ints), omega (arith, ints))
+]
+
+-- a record that follows another one leaves the correction, or is of one second
+step_between : (leaps : List LeapSecond) (i : ℕ) (l next : LeapSecond) → Follows leaps i l next → (negsuc 0 ≤ℤ (next.correction -ℤ l.correction)) × ((next.correction -ℤ l.correction) ≤ℤ pos 1)
+step_between leaps i l next follows = by_difference (next.correction -ℤ l.correction) refl
+  where
+    far : (next.correction ≢ l.correction) → IsOneSecond (next.correction -ℤ l.correction)
+    far other = (follows.1 (λ expiry. other expiry.1)).1
+
+    by_difference : (d : ℤ) → d ≡ next.correction -ℤ l.correction → (negsuc 0 ≤ℤ d) × (d ≤ℤ pos 1)
+    by_difference (pos zero) e = (omega (arith, ints), omega (arith, ints))
+    by_difference (pos (suc n)) e = rw e (one_second_bounds (next.correction -ℤ l.correction) (far (λ same. absurd (omega (arith, ints)))))
+    by_difference (negsuc n) e = rw e (one_second_bounds (next.correction -ℤ l.correction) (far (λ same. absurd (omega (arith, ints)))))
+
 pub AreSteps-from_leaps : (leaps : List LeapSecond) → AreLeapSeconds leaps → AreSteps (length leaps) (time_at leaps) (correction_before leaps)
 AreSteps-from_leaps leaps are = record {
-  none = refl;
+  start = start_bounds leaps are;
   first = λ h.
       let item = item_at leaps 0 h in
       let first = are.first item.0 item.1 in
       rw (time_at-is leaps 0 item.0 item.1) first.0;
   step = step;
-  apart = λ i h.
+  rise = λ i h.
       let item = item_at leaps i (omega arith) in
       let next = item_at leaps (i + 1) h in
-      let apart = are.apart i item.0 next.0 item.1 next.1 in
+      let follows = are.apart i item.0 next.0 item.1 next.1 in
+      rw (time_at-is leaps i item.0 item.1, time_at-is leaps (i + 1) next.0 next.1) follows.0;
+  apart = λ i h.
+      let item = item_at leaps i (omega arith) in
+      let next = item_at leaps (i + 1) (omega arith) in
+      let follows = are.apart i item.0 next.0 item.1 next.1 in
+      let apart = follows.1 (λ expiry. omega (arith, expiry.0)) in
       rw (time_at-is leaps i item.0 item.1, time_at-is leaps (i + 1) next.0 next.1) apart.0;
 }
   where
-    step : (i : ℕ) → i < length leaps → ((correction_before leaps (i + 1) -ℤ correction_before leaps i) ≡ pos 1) ⊎ ((correction_before leaps (i + 1) -ℤ correction_before leaps i) ≡ negsuc 0)
+    step : (i : ℕ) → i < length leaps → (negsuc 0 ≤ℤ (correction_before leaps (i + 1) -ℤ correction_before leaps i)) × ((correction_before leaps (i + 1) -ℤ correction_before leaps i) ≤ℤ pos 1)
     step zero h =
         let item = item_at leaps 0 h in
-        let first = are.first item.0 item.1 in
         let here = correction_before-suc leaps 0 item.0 item.1 in
-        elim (one_second item.0.correction first.1) [
-          | inl e ↦ inl (omega (arith, ints))
-          | inr e ↦ inr (omega (arith, ints))
+        elim (first_step_at leaps item.0 item.1) [
+          | inl (e, is) ↦ let bounds = one_second_bounds item.0.correction is in (omega (arith, ints), omega (arith, ints))
+          | inr (e, other) ↦ (omega (arith, ints), omega (arith, ints))
         ]
     step (suc i) h =
         let before = item_at leaps i (omega arith) in
         let same : i + 1 ≡ suc i = omega arith in
         let item = item_at leaps (suc i) h in
-        let apart = are.apart i before.0 item.0 before.1 (rw same item.1) in
+        let bounds = step_between leaps i before.0 item.0 (are.apart i before.0 item.0 before.1 (rw same item.1)) in
         let here = correction_before-suc leaps (suc i) item.0 item.1 in
         let last = correction_before-suc leaps i before.0 before.1 in
         let place : suc i + 1 ≡ suc (suc i) = omega arith in
         let moved = ap (correction_before leaps) place in
-        elim (one_second (item.0.correction -ℤ before.0.correction) apart.1) [
-          | inl e ↦ inl (omega (arith, ints))
-          | inr e ↦ inr (omega (arith, ints))
-        ]
+        (omega (arith, ints), omega (arith, ints))
 
 -- the count of leap seconds reached
 abbrev pub IsReachedCount : List LeapSecond → ℤ → ℕ → Type 0

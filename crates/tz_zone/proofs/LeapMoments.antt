@@ -1,14 +1,14 @@
 -- The moment of a leap time, from the count of leap seconds up to it.
-use Rattle.std.proofs.Common.{◌≡◌, ℕ, suc, ◌<◌, ◌≤◌, ◌⊎◌, Bool, true, false, cond, int_lt, inl, inr, refl, arith, ℤ, ◌+ℤ◌, ◌-ℤ◌, ◌≤ℤ◌, ◌<ℤ◌, List, length, Some}
+use Rattle.std.proofs.Common.{◌≡◌, ℕ, suc, ◌<◌, ◌≤◌, ◌⊎◌, Bool, true, false, cond, int_lt, inl, inr, refl, arith, ℤ, ◌-ℤ◌, ◌≤ℤ◌, ◌<ℤ◌, List, length, Some}
 use Rattle.std.specs.Prelude.{slice_get}
 use Rattle.std.specs.Int.{int_max}
 use Rattle.std.proofs.lemmas.Int.{ints, int_max_is}
 use Rattle.tz_zone.specs.Table.{LeapSecond}
-use Rattle.tz_zone.specs.LeapTime.{IsInstant, correction_before, IsMomentOf}
-use Rattle.tz_zone.specs.ValidZone.{AreLeapSeconds}
-use Rattle.tz_zone.proofs.LeapSteps.{IsTimeCount, IsMoment, moment_count}
-use Rattle.tz_zone.proofs.LeapLists.{time_at, time_at-is, correction_before-suc, AreSteps-from_leaps, item_at}
-use Rattle.tz_zone.proofs.LeapTimes.{IsLeapTime-from_count, least_from_moment, moment_low, instant_bounds}
+use Rattle.tz_zone.specs.LeapTime.{IsInstant, IsStart, correction_before, IsMomentOf}
+use Rattle.tz_zone.specs.ValidZone.{AreLeapSeconds, HasBegunAt}
+use Rattle.tz_zone.proofs.LeapSteps.{IsTimeCount, IsMoment}
+use Rattle.tz_zone.proofs.LeapLists.{time_at, time_at-is, correction_before-suc, correction_without_start, item_at}
+use Rattle.tz_zone.proofs.LeapTimes.{least_from_moment, comes_at_moment, begun_at_moment, no_start_up_to, leap_not_below_start, moment_low, instant_bounds}
 
 pub times_from_items : (leaps : List LeapSecond) (v : ℤ) (k : ℕ) → k ≤ length leaps → ((i : ℕ) (l : LeapSecond) → i < k → slice_get leaps i ≡ Some l → l.unix_leap_time ≤ℤ v) → ((i : ℕ) (l : LeapSecond) → k ≤ i → slice_get leaps i ≡ Some l → v <ℤ l.unix_leap_time) → IsTimeCount (length leaps) (time_at leaps) v k
 times_from_items leaps v k within come later = record {
@@ -18,8 +18,10 @@ times_from_items leaps v k within come later = record {
 }
 
 -- before all leap seconds it is the leap time itself
-pub IsMoment-none : (leaps : List LeapSecond) (v : ℤ) → IsMoment (time_at leaps) (correction_before leaps) v 0 v
-IsMoment-none leaps v = record { after = omega (arith, ints); reached = λ i e. absurd (omega arith); tight = inl (omega (arith, ints)) }
+pub IsMoment-none : (leaps : List LeapSecond) → AreLeapSeconds leaps → (v : ℤ) → HasBegunAt leaps v → IsTimeCount (length leaps) (time_at leaps) v 0 → IsMoment (time_at leaps) (correction_before leaps) v 0 v
+IsMoment-none leaps are v begun times =
+    let none = correction_without_start leaps (no_start_up_to leaps are v begun times) in
+    record { after = omega (arith, ints); reached = λ i e. absurd (omega arith); tight = inl (omega (arith, ints)) }
 
 -- after some it is the leap time less the correction, or the last leap second if that comes later
 pub IsMoment-some : (leaps : List LeapSecond) (v u : ℤ) (i : ℕ) (l : LeapSecond) → slice_get leaps i ≡ Some l → (v -ℤ l.correction) ≤ℤ u → (l.unix_leap_time -ℤ correction_before leaps i) ≤ℤ u → ((u ≡ v -ℤ l.correction) ⊎ (u ≡ l.unix_leap_time -ℤ correction_before leaps i)) → IsMoment (time_at leaps) (correction_before leaps) v (suc i) u
@@ -53,9 +55,19 @@ IsMoment-greater leaps v i l at =
     let greatest = int_max_is shifted reached in
     IsMoment-some leaps v (int_max shifted reached) i l at (omega (arith, ints)) (omega (arith, ints)) (int_max-one shifted reached)
 
-pub IsMomentOf-from_count : (leaps : List LeapSecond) → AreLeapSeconds leaps → (v u : ℤ) (k : ℕ) → IsInstant v → IsTimeCount (length leaps) (time_at leaps) v k → IsMoment (time_at leaps) (correction_before leaps) v k u → IsMomentOf leaps v u
-IsMomentOf-from_count leaps are v u k instant times moment = record {
+pub IsMomentOf-from_count : (leaps : List LeapSecond) → AreLeapSeconds leaps → (v u : ℤ) (k : ℕ) → IsInstant v → HasBegunAt leaps v → IsTimeCount (length leaps) (time_at leaps) v k → IsMoment (time_at leaps) (correction_before leaps) v k u → IsMomentOf leaps v u
+IsMomentOf-from_count leaps are v u k instant begun times moment = record {
   least = least_from_moment leaps are v u k times moment;
-  comes = λ answered. (u +ℤ correction_before leaps k, IsLeapTime-from_count leaps are u k (moment_count (length leaps) (time_at leaps) (correction_before leaps) (AreSteps-from_leaps leaps are) v u k times moment) answered, moment.after);
-  low = moment_low leaps are v u k (omega (arith, ints, instant_bounds v instant)) times moment;
+  comes = comes_at_moment leaps are v u k times moment;
+  begun = begun_at_moment leaps are v u k begun times moment;
+  low = moment_low leaps are v u k begun (omega (arith, ints, instant_bounds v instant)) times moment;
+}
+
+-- the moment of a leap time before a truncated start is that of the start's
+pub IsMomentOf-early : (leaps : List LeapSecond) → AreLeapSeconds leaps → (v m : ℤ) (l : LeapSecond) → IsStart leaps l → v <ℤ l.unix_leap_time → IsMomentOf leaps l.unix_leap_time m → IsMomentOf leaps v m
+IsMomentOf-early leaps are v m l start early moment = record {
+  least = λ w come. moment.least w (come.0, come.1, leap_not_below_start leaps are w come.0 l start come.1);
+  comes = λ answered. let come = moment.comes answered in (come.0, come.1, omega (arith, ints, come.2));
+  begun = moment.begun;
+  low = moment.low;
 }

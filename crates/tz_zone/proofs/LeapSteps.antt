@@ -1,14 +1,15 @@
 -- Leap seconds as two functions of their places: when each is reached, which correction holds, and where a leap time takes effect.
 use Rattle.std.proofs.Common.{◌≡◌, ℕ, zero, suc, ◌+◌, ◌-◌, ◌*◌, ◌<◌, ◌≤◌, ◌⊎◌, inl, inr, ap, arith, ℤ, pos, negsuc, neg_ℤ, ◌+ℤ◌, ◌-ℤ◌, ◌≤ℤ◌, ◌<ℤ◌}
-use Rattle.std.proofs.lemmas.Int.{ints, by_lt_z}
+use Rattle.std.proofs.lemmas.Int.{ints}
 use Rattle.std.proofs.lemmas.Bool.{cases_lt}
 
 -- place i has time t i, and c i is the correction before it
 pub record AreSteps (n : ℕ) (t c : ℕ → ℤ) : Type 0 where
-  pub none : c 0 ≡ pos 0
+  pub start : (neg_ℤ (pos 2147483648) ≤ℤ c 0) × (c 0 ≤ℤ pos 2147483648)
   pub first : 0 < n → pos 0 ≤ℤ t 0
-  pub step : (i : ℕ) → i < n → ((c (i + 1) -ℤ c i) ≡ pos 1) ⊎ ((c (i + 1) -ℤ c i) ≡ negsuc 0)
-  pub apart : (i : ℕ) → i + 1 < n → (t i +ℤ pos 2419199) ≤ℤ t (i + 1)
+  pub step : (i : ℕ) → i < n → (negsuc 0 ≤ℤ (c (i + 1) -ℤ c i)) × ((c (i + 1) -ℤ c i) ≤ℤ pos 1)
+  pub rise : (i : ℕ) → i + 1 < n → t i <ℤ t (i + 1)
+  pub apart : (i : ℕ) → i + 2 < n → (t i +ℤ pos 2419199) ≤ℤ t (i + 1)
 
 -- place i is reached at u
 abbrev pub Reached : (ℕ → ℤ) → (ℕ → ℤ) → ℕ → ℤ → Type 0
@@ -21,39 +22,39 @@ pub record IsCount (n : ℕ) (t c : ℕ → ℤ) (u : ℤ) (k : ℕ) : Type 0 wh
   pub beyond : (i : ℕ) → k ≤ i → i < n → (u +ℤ c i) <ℤ t i
 
 module _ (n : ℕ) (t c : ℕ → ℤ) (steps : AreSteps n t c) where
-  -- corrections grow by one second at most
-  pub correction_bound : (i : ℕ) → i ≤ n → (neg_ℤ (pos i) ≤ℤ c i) × (c i ≤ℤ pos i)
-  correction_bound zero h = (omega (arith, ints, steps.none), omega (arith, ints, steps.none))
+  -- corrections begin in 32 bits and grow by one second at most
+  pub correction_bound : (i : ℕ) → i ≤ n → (neg_ℤ (pos (i + 2147483648)) ≤ℤ c i) × (c i ≤ℤ pos (i + 2147483648))
+  correction_bound zero h = (omega (arith, ints, steps.start), omega (arith, ints, steps.start))
   correction_bound (suc i) h =
       let before = correction_bound i (omega arith) in
       let next : i + 1 ≡ suc i = omega arith in
-      elim (steps.step i (omega arith)) [
-        | inl e ↦ (omega (arith, ints, ap c next, before), omega (arith, ints, ap c next, before))
-        | inr e ↦ (omega (arith, ints, ap c next, before), omega (arith, ints, ap c next, before))
-      ]
+      let step = steps.step i (omega arith) in
+      (omega (arith, ints, ap c next, before, step), omega (arith, ints, ap c next, before, step))
 
-  -- times grow by at least four weeks, less a second
-  pub time_bound : (i : ℕ) → i < n → pos (2419199 * i) ≤ℤ t i
-  time_bound zero h = omega (arith, ints, steps.first h)
-  time_bound (suc i) h =
-      let next : i + 1 ≡ suc i = omega arith in
-      omega (arith, ints, ap t next, time_bound i (omega arith), steps.apart i (omega arith))
-
-  pub times_rise : (i m : ℕ) → i + m < n → (t i +ℤ pos (2419199 * m)) ≤ℤ t (i + m)
+  pub times_rise : (i m : ℕ) → i + m < n → (t i +ℤ pos m) ≤ℤ t (i + m)
   times_rise i zero h =
       let same : i + 0 ≡ i = omega arith in
       omega (arith, ints, ap t same)
   times_rise i (suc m) h =
       let next : i + m + 1 ≡ i + suc m = omega arith in
-      omega (arith, ints, ap t next, times_rise i m (omega arith), steps.apart (i + m) (omega arith))
+      omega (arith, ints, ap t next, times_rise i m (omega arith), steps.rise (i + m) (omega arith))
+
+  -- times grow by at least four weeks, less a second, but for the last
+  time_bound_inside : (i : ℕ) → i + 1 < n → pos (2419199 * i) ≤ℤ t i
+  time_bound_inside zero h = omega (arith, ints, steps.first (omega arith))
+  time_bound_inside (suc i) h =
+      let next : i + 1 ≡ suc i = omega arith in
+      omega (arith, ints, ap t next, time_bound_inside i (omega arith), steps.apart i (omega arith))
+
+  pub time_bound : (i : ℕ) → i < n → pos (2419199 * i) ≤ℤ (t i +ℤ pos 2419199)
+  time_bound zero h = omega (arith, ints, steps.first h)
+  time_bound (suc i) h =
+      let next : i + 1 ≡ suc i = omega arith in
+      omega (arith, ints, ap t next, time_bound_inside i (omega arith), steps.rise i (omega arith))
 
   -- what is reached later is reached after what comes before it
   reached_before : (i : ℕ) (u : ℤ) → i + 1 < n → Reached t c (i + 1) u → Reached t c i u
-  reached_before i u h r =
-      elim (steps.step i (omega arith)) [
-        | inl e ↦ omega (arith, ints, steps.apart i h)
-        | inr e ↦ omega (arith, ints, steps.apart i h)
-      ]
+  reached_before i u h r = omega (arith, ints, steps.rise i h, steps.step i (omega arith))
 
   pub reached_down : (i m : ℕ) (u : ℤ) → i + m < n → Reached t c (i + m) u → Reached t c i u
   reached_down i zero u h r =
@@ -70,6 +71,15 @@ module _ (n : ℕ) (t c : ℕ → ℤ) (steps : AreSteps n t c) where
         | inl less ↦ absurd (omega (arith, ints, a.reached m less, b.beyond m (omega arith) (omega (arith, a.within))))
         | inr more ↦ more
       ]
+
+  -- where the first place leaves the correction as it is, no leap time from there on is below its time
+  pub leap_from_start : (w : ℤ) (m : ℕ) → 0 < m → c 1 ≡ c 0 → IsCount n t c w m → t 0 ≤ℤ (w +ℤ c m)
+  leap_from_start w zero some same count = absurd (omega arith)
+  leap_from_start w (suc zero) some same count = omega (arith, ints, same, count.reached 0 (omega arith))
+  leap_from_start w (suc (suc m)) some same count =
+      let last : suc m + 1 ≡ suc (suc m) = omega arith in
+      let place : 0 + suc m ≡ suc m = omega arith in
+      omega (arith, ints, ap c last, ap t place, count.reached (suc m) (omega arith), times_rise 0 (suc m) (omega (arith, count.within)), steps.step (suc m) (omega (arith, count.within)))
 
   -- the leap time rises with the instant, or stays for one second
   pub leap_mono : (u w : ℤ) (k m : ℕ) → u ≤ℤ w → IsCount n t c u k → IsCount n t c w m → (u +ℤ c k) ≤ℤ (w +ℤ c m)
@@ -88,10 +98,8 @@ module _ (n : ℕ) (t c : ℕ → ℤ) (steps : AreSteps n t c) where
                 let reached = b.reached m (omega arith) in
                 let beyond = a.beyond k (omega arith) (omega (arith, b.within)) in
                 let rise = times_rise k (m - k) (omega (arith, b.within)) in
-                elim (steps.step m (omega (arith, b.within))) [
-                  | inl e ↦ omega (arith, ints, ap c next, ap t place)
-                  | inr e ↦ omega (arith, ints, ap c next, ap t place)
-                ]
+                let step = steps.step m (omega (arith, b.within)) in
+                omega (arith, ints, ap c next, ap t place)
             | inr more' ↦
                 let same : k ≡ suc m = omega arith in
                 omega (arith, ints, ap c same)
@@ -110,43 +118,44 @@ pub record IsMoment (t c : ℕ → ℤ) (v : ℤ) (k : ℕ) (u : ℤ) : Type 0 w
   pub tight : ((u +ℤ c k) ≡ v) ⊎ ((i : ℕ) × (suc i ≡ k) × ((u +ℤ c i) ≡ t i))
 
 module _ (n : ℕ) (t c : ℕ → ℤ) (steps : AreSteps n t c) where
-  -- at that instant just the leap seconds up to v are reached
-  pub moment_count : (v u : ℤ) (k : ℕ) → IsTimeCount n t v k → IsMoment t c v k u → IsCount n t c u k
-  moment_count v u k times moment = record {
-    within = times.within;
-    reached = λ i h.
-        let last : suc (k - 1) ≡ k = omega arith in
-        let place : i + (k - 1 - i) ≡ k - 1 = omega arith in
-        reached_down n t c steps i (k - 1 - i) u (omega (arith, times.within)) (rw place (moment.reached (k - 1) last));
-    beyond = λ i low high. beyond_from i low high moment.tight;
-  }
-    where
-      from_next : (i : ℕ) → k ≤ i → i < n → (u +ℤ c k) <ℤ t k → (u +ℤ c i) <ℤ t i
-      from_next i low high h =
-          by_lt_z (u +ℤ c i) (t i) (λ e. e) (λ r.
-          let place : k + (i - k) ≡ i = omega arith in
-          let down = reached_down n t c steps k (i - k) u (omega arith) (rw place r) in
-          absurd (omega (arith, ints, down)))
+  -- at that instant the leap seconds up to v are reached, if not more
+  moment_count : (v u : ℤ) (k m : ℕ) → IsTimeCount n t v k → IsMoment t c v k u → IsCount n t c u m → k ≤ m
+  moment_count v u k m times moment count =
+      elim (cases_lt m k) [
+        | inl less ↦
+            let last : suc (k - 1) ≡ k = omega arith in
+            let place : m + (k - 1 - m) ≡ k - 1 = omega arith in
+            let down = reached_down n t c steps m (k - 1 - m) u (omega (arith, times.within)) (rw place (moment.reached (k - 1) last)) in
+            absurd (omega (arith, ints, down, count.beyond m (omega arith) (omega (arith, times.within))))
+        | inr more ↦ more
+      ]
 
-      beyond_from : (i : ℕ) → k ≤ i → i < n → ((u +ℤ c k) ≡ v) ⊎ ((i : ℕ) × (suc i ≡ k) × ((u +ℤ c i) ≡ t i)) → (u +ℤ c i) <ℤ t i
-      beyond_from i low high (inl e) = from_next i low high (omega (arith, ints, times.later k (omega arith) (omega arith)))
-      beyond_from i low high (inr (j, last, e)) =
-          let next : j + 1 ≡ k = omega arith in
-          from_next i low high
-          (elim (steps.step j (omega (arith, times.within))) [
-            | inl s ↦ omega (arith, ints, ap c next, ap t next, steps.apart j (omega arith))
-            | inr s ↦ omega (arith, ints, ap c next, ap t next, steps.apart j (omega arith))
-          ])
+  -- where a place whose time is after v is reached, the leap time has come to v
+  past_time : (v w : ℤ) (k m : ℕ) → IsTimeCount n t v k → k < m → IsCount n t c w m → v ≤ℤ (w +ℤ c m)
+  past_time v w k m times less count =
+      let last : m - 1 + 1 ≡ m = omega arith in
+      omega (arith, ints, ap c last, times.later (m - 1) (omega arith) (omega (arith, count.within)), count.reached (m - 1) (omega arith), steps.step (m - 1) (omega (arith, count.within)))
+
+  -- at that instant the leap time has come to v
+  pub moment_comes : (v u : ℤ) (k m : ℕ) → IsTimeCount n t v k → IsMoment t c v k u → IsCount n t c u m → v ≤ℤ (u +ℤ c m)
+  moment_comes v u k m times moment count =
+      elim (cases_lt k m) [
+        | inl less ↦ past_time v u k m times less count
+        | inr more ↦
+            let same : m ≡ k = omega (arith, moment_count v u k m times moment count) in
+            omega (arith, ints, ap c same, moment.after)
+      ]
 
   -- before that instant no leap time has come to v
   pub moment_least : (v u w : ℤ) (k m : ℕ) → IsTimeCount n t v k → IsMoment t c v k u → w <ℤ u → IsCount n t c w m → (w +ℤ c m) <ℤ v
   moment_least v u w k m times moment before count =
       elim (cases_lt m k) [
         | inl less ↦ omega (arith, ints, count.beyond m (omega arith) (omega (arith, times.within)), times.come m less)
-        | inr more ↦
-            let same : m ≡ k = omega (arith, count_mono n t c steps w u m k (omega (arith, ints)) count (moment_count v u k times moment)) in
-            elim moment.tight [
-              | inl e ↦ omega (arith, ints, ap c same)
-              | inr (i, last, e) ↦ absurd (omega (arith, ints, count.reached i (omega arith)))
-            ]
+        | inr more ↦ elim moment.tight [
+          | inl e ↦ elim (cases_lt k m) [
+            | inl after ↦ absurd (omega (arith, ints, count.reached k after, times.later k (omega arith) (omega (arith, count.within))))
+            | inr not_after ↦ let same : m ≡ k = omega arith in omega (arith, ints, ap c same)
+          ]
+          | inr (i, last, e) ↦ absurd (omega (arith, ints, count.reached i (omega arith)))
+        ]
       ]

@@ -1,12 +1,12 @@
 -- Leap times and effects of a list of leap seconds: values, refusals, order, and that each has one value.
-use Rattle.std.proofs.Common.{◌≡◌, ◌≢◌, ℕ, zero, suc, ◌+◌, ◌<◌, ◌⊎◌, inl, inr, refl, sym, ap, ◌∙◌, arith, ℤ, pos, negsuc, ◌+ℤ◌, ◌≤ℤ◌, ◌<ℤ◌, List, length}
+use Rattle.std.proofs.Common.{◌≡◌, ℕ, zero, suc, ◌+◌, ◌<◌, ◌⊎◌, inl, inr, refl, sym, ap, ◌∙◌, arith, ℤ, pos, negsuc, ◌+ℤ◌, ◌≤ℤ◌, ◌<ℤ◌, List, length}
 use Rattle.std.proofs.lemmas.Int.{ints, by_lt_z}
 use Rattle.std.proofs.lemmas.Option.{slice_get_within}
 use Rattle.tz_zone.specs.Table.{LeapSecond}
-use Rattle.tz_zone.specs.LeapTime.{IsInstant, correction_before, IsReached, IsLeapTimeRefused, IsLeapTime, HasComeTo, IsEffect}
-use Rattle.tz_zone.specs.ValidZone.{AreLeapSeconds}
-use Rattle.tz_zone.proofs.LeapSteps.{AreSteps, correction_bound, time_bound, leap_mono, IsTimeCount, IsMoment, moment_count, moment_least}
-use Rattle.tz_zone.proofs.LeapLists.{time_at, time_at-is, correction_before-suc, IsReachedCount, AreSteps-from_leaps, IsReached-at, IsCorrection-from_count, correction_from_count, count_exists}
+use Rattle.tz_zone.specs.LeapTime.{IsInstant, IsStart, correction_before, IsReached, IsBeforeStart, IsPastInstants, IsLeapTimeRefused, IsLeapTime, HasComeTo, IsEffect}
+use Rattle.tz_zone.specs.ValidZone.{AreLeapSeconds, HasBegunAt}
+use Rattle.tz_zone.proofs.LeapSteps.{AreSteps, correction_bound, time_bound, leap_mono, leap_from_start, IsTimeCount, IsMoment, moment_comes, moment_least, reached_down}
+use Rattle.tz_zone.proofs.LeapLists.{time_at, time_at-is, correction_before-suc, correction_without_start, correction_at_truncated, IsReachedCount, AreSteps-from_leaps, IsReached-at, IsReached-below, IsCorrection-from_count, correction_from_count, count_exists}
 
 -- instants are the numbers of 64 bits
 pub IsInstant-from_bounds : (z : ℤ) → negsuc 9223372036854775807 ≤ℤ z → z ≤ℤ pos 9223372036854775807 → IsInstant z
@@ -55,21 +55,18 @@ module _ (leaps : List LeapSecond) (are : AreLeapSeconds leaps) where
       let here = correction_before-suc leaps i l r.0 in
       let next : i + 1 ≡ suc i = omega arith in
       let moved = ap (correction_before leaps) next in
-      above_instants (u +ℤ l.correction) outside
-      (elim (steps.step i inside) [
-        | inl e ↦ omega (arith, ints, r.1)
-        | inr e ↦ omega (arith, ints, r.1)
-      ])
+      let step = steps.step i inside in
+      above_instants (u +ℤ l.correction) outside (omega (arith, ints, r.1))
 
-  -- where an instant has no leap time, no later one has
-  pub refused_later : (u w : ℤ) → u ≤ℤ w → IsLeapTimeRefused leaps u → IsLeapTimeRefused leaps w
-  refused_later u w h (i, l, r, outside) =
+  -- where an instant is past those with a leap time, each later one is
+  pub past_later : (u w : ℤ) → u ≤ℤ w → IsPastInstants leaps u → IsPastInstants leaps w
+  past_later u w h (i, l, r, outside) =
       let above = refused_above u i l r outside in
       (i, l, (r.0, omega (arith, ints, r.1)), λ fits. absurd (omega (arith, ints, instant_bounds (w +ℤ l.correction) fits)))
 
-  -- and none is refused within 80000000000000000 seconds of 1970
-  pub not_refused_within : (u : ℤ) → u ≤ℤ pos 80000000000000000 → ¬ IsLeapTimeRefused leaps u
-  not_refused_within u h (i, l, r, outside) =
+  -- and none is past them within 80000000000000000 seconds of 1970
+  not_past_within : (u : ℤ) → u ≤ℤ pos 80000000000000000 → ¬ IsPastInstants leaps u
+  not_past_within u h (i, l, r, outside) =
       let above = refused_above u i l r outside in
       let inside : i < length leaps = omega (arith, slice_get_within leaps i l r.0) in
       let time = time_at-is leaps i l r.0 in
@@ -79,14 +76,39 @@ module _ (leaps : List LeapSecond) (are : AreLeapSeconds leaps) where
       let next = correction_bound (length leaps) (time_at leaps) (correction_before leaps) steps (suc i) (omega arith) in
       absurd (omega (arith, ints, r.1, bound, next))
 
+  pub not_refused_within : (u : ℤ) → ¬ IsBeforeStart leaps u → u ≤ℤ pos 80000000000000000 → ¬ IsLeapTimeRefused leaps u
+  not_refused_within u begun h (inl before) = begun before
+  not_refused_within u begun h (inr past) = not_past_within u h past
+
+  -- what is not before a truncated start stays so
+  pub begun_later : (u w : ℤ) → u ≤ℤ w → ¬ IsBeforeStart leaps u → ¬ IsBeforeStart leaps w
+  begun_later u w h begun (l, start, before) = begun (l, start, omega (arith, ints, h, before))
+
+  -- where a truncated start is not ahead, its record is reached
+  pub start_reached : (u : ℤ) (k : ℕ) (l : LeapSecond) → IsReachedCount leaps u k → IsStart leaps l → ¬ IsBeforeStart leaps u → 0 < k
+  start_reached u k l count start begun =
+      by_lt_z (u +ℤ l.correction) l.unix_leap_time
+      (λ before. absurd (begun (l, start, before)))
+      (λ come. IsReached-below leaps u k 0 l count (start.0, omega (arith, ints, correction_at_truncated leaps l start)))
+
+  -- and no leap time is below that of the start
+  pub leap_not_below_start : (u v : ℤ) (l : LeapSecond) → IsStart leaps l → IsLeapTime leaps u v → l.unix_leap_time ≤ℤ v
+  leap_not_below_start u v l start leap =
+      let count = count_exists leaps are u in
+      let some = start_reached u count.0 l count.1 start (λ before. leap.not_refused (inl before)) in
+      let same : correction_before leaps 1 ≡ correction_before leaps 0 = correction_before-suc leaps 0 l start.0 ∙ sym (correction_at_truncated leaps l start) in
+      let from_start = leap_from_start (length leaps) (time_at leaps) (correction_before leaps) steps u count.0 some same count.1 in
+      omega (arith, ints, time_at-is leaps 0 l start.0, leap_time_from_count u v count.0 count.1 leap)
+
   -- the sum of an instant and its correction is one of 64 bits where none is refused
   pub leap_time_fits : (u : ℤ) (k : ℕ) → IsReachedCount leaps u k → IsInstant u → ¬ IsLeapTimeRefused leaps u → IsInstant (u +ℤ correction_before leaps k)
   leap_time_fits u zero count fits answered =
-      let same : (u +ℤ pos 0) ≡ u = omega (arith, ints) in
+      let none = correction_without_start leaps (λ l start. absurd (omega (arith, start_reached u zero l count start (λ before. answered (inl before))))) in
+      let same : (u +ℤ correction_before leaps zero) ≡ u = omega (arith, ints) in
       rw same fits
   leap_time_fits u (suc k) count fits answered =
       let last = IsReached-at leaps u (suc k) k count (omega arith) in
-      by_bounds (u +ℤ correction_before leaps (suc k)) (λ outside. answered (k, last.0, last.1, λ inside. outside (rw (sym last.2) at inside)))
+      by_bounds (u +ℤ correction_before leaps (suc k)) (λ outside. answered (inr (k, last.0, last.1, λ inside. outside (rw (sym last.2) at inside))))
     where
       by_bounds : (z : ℤ) → ¬ ¬ IsInstant z → IsInstant z
       by_bounds z h =
@@ -106,23 +128,34 @@ module _ (leaps : List LeapSecond) (are : AreLeapSeconds leaps) where
       absurd (omega (arith, ints, leap_time_from_count w come.0 count.0 count.1 come.1, come.2)))
       (λ h. h)
 
-  -- the moment of a leap time is its effect, unless it is no instant or has no leap time itself
-  pub IsEffect-from_moment : (v u : ℤ) (k : ℕ) → v ≢ negsuc 9223372036854775807 → IsTimeCount (length leaps) (time_at leaps) v k → IsMoment (time_at leaps) (correction_before leaps) v k u → IsInstant u → ¬ IsLeapTimeRefused leaps u → IsEffect leaps v u
-  IsEffect-from_moment v u k high times moment instant answered =
-      let count = moment_count (length leaps) (time_at leaps) (correction_before leaps) steps v u k times moment in
-      record {
-        not_least = high;
-        instant = instant;
-        has_come = (u +ℤ correction_before leaps k, IsLeapTime-from_count u k count answered, moment.after);
-        least = least_from_moment v u k times moment;
-      }
+  -- at its moment a leap time has come, unless the moment has no leap time
+  pub comes_at_moment : (v u : ℤ) (k : ℕ) → IsTimeCount (length leaps) (time_at leaps) v k → IsMoment (time_at leaps) (correction_before leaps) v k u → ¬ IsLeapTimeRefused leaps u → HasComeTo leaps v u
+  comes_at_moment v u k times moment answered =
+      let count = count_exists leaps are u in
+      (u +ℤ correction_before leaps count.0, IsLeapTime-from_count u count.0 count.1 answered, moment_comes (length leaps) (time_at leaps) (correction_before leaps) steps v u k count.0 times moment count.1)
+
+  -- where no record's time is up to a leap time, and a truncated start has come at it, there is no truncated start
+  pub no_start_up_to : (v : ℤ) → HasBegunAt leaps v → IsTimeCount (length leaps) (time_at leaps) v 0 → (l : LeapSecond) → ¬ IsStart leaps l
+  no_start_up_to v begun times l start =
+      let inside = slice_get_within leaps 0 l start.0 in
+      absurd (omega (arith, ints, begun l start, times.later 0 (omega arith) (omega arith), time_at-is leaps 0 l start.0))
+
+  -- at the moment of a leap time that is not before a truncated start, the table has begun
+  pub begun_at_moment : (v u : ℤ) (k : ℕ) → HasBegunAt leaps v → IsTimeCount (length leaps) (time_at leaps) v k → IsMoment (time_at leaps) (correction_before leaps) v k u → ¬ IsBeforeStart leaps u
+  begun_at_moment v u zero begun times moment (l, start, before) = absurd (no_start_up_to v begun times l start)
+  begun_at_moment v u (suc k) begun times moment (l, start, before) =
+      let place : 0 + k ≡ k = omega arith in
+      let down = reached_down (length leaps) (time_at leaps) (correction_before leaps) steps 0 k u (omega (arith, times.within)) (rw place (moment.reached k refl)) in
+      absurd (omega (arith, ints, down, correction_at_truncated leaps l start, time_at-is leaps 0 l start.0))
 
   -- the moment of a leap time of 64 bits is not below them
-  pub moment_low : (v u : ℤ) (k : ℕ) → negsuc 9223372036854775807 ≤ℤ v → IsTimeCount (length leaps) (time_at leaps) v k → IsMoment (time_at leaps) (correction_before leaps) v k u → negsuc 9223372036854775807 ≤ℤ u
-  moment_low v u k low times moment = by_tight moment.tight
+  pub moment_low : (v u : ℤ) (k : ℕ) → HasBegunAt leaps v → negsuc 9223372036854775807 ≤ℤ v → IsTimeCount (length leaps) (time_at leaps) v k → IsMoment (time_at leaps) (correction_before leaps) v k u → negsuc 9223372036854775807 ≤ℤ u
+  moment_low v u k begun low times moment = by_tight moment.tight
     where
       by_count : (k : ℕ) → IsTimeCount (length leaps) (time_at leaps) v k → (u +ℤ correction_before leaps k) ≡ v → negsuc 9223372036854775807 ≤ℤ u
-      by_count zero times e = omega (arith, ints)
+      by_count zero times e =
+          let none = correction_without_start leaps (no_start_up_to v begun times) in
+          omega (arith, ints)
       by_count (suc i) times e =
           let time = time_bound (length leaps) (time_at leaps) (correction_before leaps) steps i (omega (arith, times.within)) in
           let bound = correction_bound (length leaps) (time_at leaps) (correction_before leaps) steps (suc i) times.within in

@@ -10,7 +10,7 @@ use Rattle.tz_rule.proofs.RuleTypes.{rule_type_unique}
 use Rattle.tz_zone.specs.Table.{Transition, LeapSecond, Zone}
 use Rattle.tz_zone.specs.LeapTime.{IsEffect}
 use Rattle.tz_zone.specs.Clock.{IsLast, IsTypeAt}
-use Rattle.tz_zone.specs.ValidZone.{AreLeapSeconds, IsRuleTypeAt, RuleAnswers, RuleAgrees}
+use Rattle.tz_zone.specs.ValidZone.{AreLeapSeconds, HasBegunAt, IsRuleTypeAt, RuleAnswers, RuleAgrees}
 use Rattle.tz_zone.proofs.LeapTimes.{effect_unique}
 
 pub no_rule_type_at : (leaps : List LeapSecond) (rule : TransitionRule) (v u : ℤ) → AreLeapSeconds leaps → IsEffect leaps v u → ((t : LocalTimeType) → ¬ IsRuleType rule u t) → (t : LocalTimeType) → ¬ IsRuleTypeAt leaps rule v t
@@ -26,22 +26,22 @@ module _ (z : Zone) (rule : TransitionRule) (last : Transition) (is_rule : z.ext
   same_last : (last' : Transition) → IsLast z.transitions last' → last ≡ last'
   same_last last' e = same_Some last last' (sym is_last ∙ e)
 
-  pub not_answers : ((t : LocalTimeType) → ¬ IsRuleTypeAt z.leap_seconds rule last.unix_leap_time t) → ¬ RuleAnswers z
-  not_answers none answers =
-      let answer = answers rule last is_rule is_last in
+  pub not_answers : HasBegunAt z.leap_seconds last.unix_leap_time → ((t : LocalTimeType) → ¬ IsRuleTypeAt z.leap_seconds rule last.unix_leap_time t) → ¬ RuleAnswers z
+  not_answers begun none answers =
+      let answer = answers rule last is_rule is_last begun in
       none answer.0 answer.1
 
   pub answers_at : (t : LocalTimeType) → IsRuleTypeAt z.leap_seconds rule last.unix_leap_time t → RuleAnswers z
-  answers_at t type rule' last' e e' = rw (sym (same_rule rule' e)) (rw (sym (same_last last' e')) (t, type))
+  answers_at t type rule' last' e e' begun = rw (sym (same_rule rule' e)) (rw (sym (same_last last' e')) (t, type))
 
   pub agrees_at : AreLeapSeconds z.leap_seconds → (t : LocalTimeType) → IsRuleTypeAt z.leap_seconds rule last.unix_leap_time t → IsTypeAt z last.type_index t → RuleAgrees z
-  agrees_at are t type at rule' last' e e' t' type' =
+  agrees_at are t type at rule' last' e e' begun t' type' =
       let with_rule = rw (sym (same_rule rule' e)) at type' in
       let with_last = rw (sym (ap (λ l. l.unix_leap_time) (same_last last' e'))) at with_rule in
       rw (ap (λ l. l.type_index) (sym (same_last last' e'))) (rw (sym (rule_type_at_unique z.leap_seconds rule last.unix_leap_time t t' are type with_last)) at)
 
-  pub not_agrees : (t t' : LocalTimeType) → IsRuleTypeAt z.leap_seconds rule last.unix_leap_time t → IsTypeAt z last.type_index t' → t ≢ t' → ¬ RuleAgrees z
-  not_agrees t t' type at other agrees = other (same_Some t t' (sym (agrees rule last is_rule is_last t type) ∙ at))
+  pub not_agrees : HasBegunAt z.leap_seconds last.unix_leap_time → (t t' : LocalTimeType) → IsRuleTypeAt z.leap_seconds rule last.unix_leap_time t → IsTypeAt z last.type_index t' → t ≢ t' → ¬ RuleAgrees z
+  not_agrees begun t t' type at other agrees = other (same_Some t t' (sym (agrees rule last is_rule is_last begun t type) ∙ at))
 
 -- what a test of two types has told
 pub same_from_test : (t t' : LocalTimeType) → false ≡ not (same_type t t') → t ≡ t'

@@ -10,12 +10,12 @@ use Rattle.tz_rule.specs.Rule.{IsRuleType}
 use Rattle.tz_rule.specs.declared.timezone.rule.TransitionRule.{TransitionRule}
 use Rattle.tz_rule.specs.declared.timezone.rule.TransitionRule.TheVariants.{Fixed, Alternate}
 use Rattle.tz_zone.specs.Table.{Transition, LeapSecond, Zone}
-use Rattle.tz_zone.specs.LeapTime.{IsInstant, IsLeapTimeRefused, IsLeapTime, IsCorrection, IsEffect}
+use Rattle.tz_zone.specs.LeapTime.{IsInstant, correction_before, IsBeforeStart, IsLeapTimeRefused, IsLeapTime, IsCorrection, IsEffect}
 use Rattle.tz_zone.specs.Clock.{IsTypeAt, IsTransitionType, IsLast, IsTypeAfter, IsTypeWithout, IsClock}
 use Rattle.tz_zone.specs.ValidZone.{AreLeapSeconds, IsSoundTable}
 use Rattle.tz_zone.specs.Segments.{rule_types, numbered_types, IsStretch, IsRuledFrom}
-use Rattle.tz_zone.proofs.LeapLists.{count_exists}
-use Rattle.tz_zone.proofs.LeapTimes.{IsLeapTime-from_count, leap_time_mono, refused_later, not_refused_within}
+use Rattle.tz_zone.proofs.LeapLists.{count_exists, correction_without_start}
+use Rattle.tz_zone.proofs.LeapTimes.{IsLeapTime-from_count, leap_time_mono, past_later, begun_later, not_refused_within}
 use Rattle.tz_zone.proofs.RisingTimes.{Rise, transitions_rise}
 use Rattle.tz_zone.proofs.Clocks.{type_before_first, type_of_last_reached, clock_before_last, clock_from_last}
 
@@ -33,14 +33,21 @@ effect_without leaps none v not_least fits =
       least = λ w come. omega (arith, ints, time_is w come.0 come.1.value, come.2);
     }
   where
+    no_correction : correction_before leaps 0 ≡ pos 0
+    no_correction = correction_without_start leaps (λ l start. nothing_at leaps none 0 l start.0)
+
+    answered : ¬ IsLeapTimeRefused leaps v
+    answered (inl (l, start, before)) = nothing_at leaps none 0 l start.0
+    answered (inr (i, l, reached, outside)) = nothing_at leaps none i l reached.0
+
     leap : IsLeapTime leaps v v
     leap = record {
-      not_refused = λ refused. nothing_at leaps none refused.0 refused.1 refused.2.0;
-      value = (pos 0, inl (refl, λ i l reached. nothing_at leaps none i l reached.0), omega (arith, ints));
+      not_refused = answered;
+      value = (correction_before leaps 0, inl (refl, λ i l reached. nothing_at leaps none i l reached.0), omega (arith, ints, no_correction));
     }
 
     time_is : (w l : ℤ) → (c : ℤ) × IsCorrection leaps w c × (l ≡ w +ℤ c) → l ≡ w
-    time_is w l (c, inl (zero_is, none_reached), is) = omega (arith, ints, zero_is, is)
+    time_is w l (c, inl (zero_is, none_reached), is) = omega (arith, ints, zero_is, no_correction, is)
     time_is w l (c, inr (i, leap_second, reached, is_it, last), is) = absurd (nothing_at leaps none i leap_second reached.0)
 
 module _ (z : Zone) (sound : IsSoundTable z) where
@@ -55,10 +62,19 @@ module _ (z : Zone) (sound : IsSoundTable z) where
       let count = count_exists z.leap_seconds are u in
       (_, IsLeapTime-from_count z.leap_seconds are u count.0 count.1 answered)
 
+  -- an effect does not lie before a truncated start
+  begun_at_effect : (time from : ℤ) → IsEffect z.leap_seconds time from → ¬ IsBeforeStart z.leap_seconds from
+  begun_at_effect time from effect early = effect.has_come.1.not_refused (inl early)
+
+  answered_before : (time until : ℤ) → IsEffect z.leap_seconds time until → (v : ℤ) → ¬ IsBeforeStart z.leap_seconds v → v <ℤ until → ¬ IsLeapTimeRefused z.leap_seconds v
+  answered_before time until effect v begun before (inl early) = begun early
+  answered_before time until effect v begun before (inr past) =
+      effect.has_come.1.not_refused (inr (past_later z.leap_seconds are v until (omega (arith, ints, before)) past))
+
   -- before the effect of a leap time it has not come
-  leap_before : (time until : ℤ) → IsEffect z.leap_seconds time until → (v : ℤ) → v <ℤ until → (l : ℤ) × IsLeapTime z.leap_seconds v l × (l <ℤ time)
-  leap_before time until effect v before =
-      let leap = leap_unless_refused v (λ refused. effect.has_come.1.not_refused (refused_later z.leap_seconds are v until (omega (arith, ints, before)) refused)) in (
+  leap_before : (time until : ℤ) → IsEffect z.leap_seconds time until → (v : ℤ) → ¬ IsBeforeStart z.leap_seconds v → v <ℤ until → (l : ℤ) × IsLeapTime z.leap_seconds v l × (l <ℤ time)
+  leap_before time until effect v begun before =
+      let leap = leap_unless_refused v (answered_before time until effect v begun before) in (
         leap.0,
         leap.1,
         by_lt_z leap.0 time (λ less. less) (λ come. absurd (omega (arith, ints, before, effect.least v (leap.0, leap.1, come)))),
@@ -98,22 +114,24 @@ module _ (z : Zone) (sound : IsSoundTable z) where
     clock_of : (v l : ℤ) → IsLeapTime z.leap_seconds v l → l <ℤ next.unix_leap_time → (t : LocalTimeType) → IsTransitionType z l t → IsClock z v t
     clock_of v l leap before t type = clock_before_last z are last_of.0 last_of.1 v l leap t (omega (arith, ints, before, last_of.2)) type
 
-    -- before the first transition
-    pub stretch_before_first : place ≡ 0 → (from : ℤ) (t : LocalTimeType) → IsTypeAt z 0 t → IsStretch z from until t
-    stretch_before_first none from t type v after before =
-        let leap = leap_before next.unix_leap_time until effect v before in
+    -- before the first transition, from where the leap seconds have begun
+    pub stretch_before_first : place ≡ 0 → (from : ℤ) → ¬ IsBeforeStart z.leap_seconds from → (t : LocalTimeType) → IsTypeAt z 0 t → IsStretch z from until t
+    stretch_before_first none from begun t type v after before =
+        let leap = leap_before next.unix_leap_time until effect v (begun_later z.leap_seconds are from v after begun) before in
         clock_of v leap.0 leap.1 leap.2 t (type_before_first z leap.0 place (later_from leap.0 leap.2) t none type)
 
     -- between two transitions
     pub stretch_between : place ≢ 0 → (change : Transition) → slice_get z.transitions (place - 1) ≡ Some change → (from : ℤ) → IsEffect z.leap_seconds change.unix_leap_time from → (t : LocalTimeType) → IsTypeAt z change.type_index t → IsStretch z from until t
     stretch_between some change at_change from effect_change t type v after before =
-        let leap = leap_before next.unix_leap_time until effect v before in
+        let begun = begun_later z.leap_seconds are from v after (begun_at_effect change.unix_leap_time from effect_change) in
+        let leap = leap_before next.unix_leap_time until effect v begun before in
         clock_of v leap.0 leap.1 leap.2 t (type_of_last_reached z leap.0 place (later_from leap.0 leap.2) t some change at_change (come_from change.unix_leap_time from effect_change v leap.0 after leap.1) type)
 
   -- from the last transition on
   pub ruled_from_last : (last : Transition) → IsLast z.transitions last → (seam : ℤ) → IsEffect z.leap_seconds last.unix_leap_time seam → IsRuledFrom z seam
   ruled_from_last last is_last seam effect rule extra v after reach t type =
-      let leap = leap_unless_refused v (not_refused_within z.leap_seconds are v reach) in
+      let begun = begun_later z.leap_seconds are seam v after (begun_at_effect last.unix_leap_time seam effect) in
+      let leap = leap_unless_refused v (not_refused_within z.leap_seconds are v begun reach) in
       clock_from_last z are last is_last v leap.0 leap.1 t (come_from last.unix_leap_time seam effect v leap.0 after leap.1) (subst (λ r. IsTypeAfter r v t) (sym extra) type)
 
 -- without transitions always

@@ -1,10 +1,10 @@
 -- What the loops over a table give: facts at all places, from facts at the places so far.
-use Rattle.std.proofs.Common.{◌≡◌, ℕ, ◌+◌, ◌-◌, ◌<◌, ◌≤◌, refl, sym, arith, ◌∙◌, List, length, get_or, Some, inl, inr}
+use Rattle.std.proofs.Common.{◌≡◌, ℕ, ◌+◌, ◌<◌, ◌≤◌, refl, sym, arith, ◌∙◌, List, length, get_or, Some, inl, inr}
 use Rattle.std.specs.Prelude.{slice_get}
 use Rattle.std.proofs.lemmas.Bool.{cases_lt}
 use Rattle.std.proofs.lemmas.Option.{slice_get_read, slice_get_within, same_Some}
 use Rattle.tz_zone.specs.Table.{Transition, LeapSecond}
-use Rattle.tz_zone.specs.ValidZone.{MayBeFirst, MayFollow, AreLeapSeconds, HasTypeAtPlace, RisesAtPlace}
+use Rattle.tz_zone.specs.ValidZone.{MayBeFirst, FollowsAt, AreLeapSeconds, HasTypeAtPlace, RisesAtPlace}
 
 -- one place more
 pub below_next : (P : ℕ → Type 0) (n : ℕ) → ((place : ℕ) → place < n → P place) → P n → (place : ℕ) → place < n + 1 → P place
@@ -17,26 +17,10 @@ below_next P n so_far next place h = elim (cases_lt place n) [
 pub item_read : {X : Type 0} (xs : List X) (i : ℕ) (x y : X) → i < length xs → x ≡ get_or xs i x → slice_get xs i ≡ Some y → x ≡ y
 item_read xs i x y within is at = same_Some x y (sym (slice_get_read xs (length xs) i x refl within is) ∙ at)
 
--- the leap seconds up to a place follow each other
-abbrev pub FollowBelow : List LeapSecond → ℕ → Type 0
-FollowBelow leaps n = (place : ℕ) (leap next : LeapSecond) → place + 1 < n → slice_get leaps place ≡ Some leap → slice_get leaps (place + 1) ≡ Some next → MayFollow leap next
-
-pub follow_next : (leaps : List LeapSecond) (i : ℕ) (leap next : LeapSecond) → 1 ≤ i → i < length leaps → leap ≡ get_or leaps (i - 1) leap → next ≡ get_or leaps i next → MayFollow leap next → FollowBelow leaps i → FollowBelow leaps (i + 1)
-follow_next leaps i leap next some within leap_is next_is follows so_far place l n h at_l at_n =
-    elim (cases_lt (place + 1) i) [
-      | inl below ↦ so_far place l n below at_l at_n
-      | inr past ↦
-          let same : place ≡ i - 1 = omega (arith, h, past, some) in
-          let same_next : place + 1 ≡ i = omega (arith, h, past, some) in
-          let first = item_read leaps (i - 1) leap l (omega (arith, within)) leap_is (rw same at at_l) in
-          let second = item_read leaps i next n within next_is (rw same_next at at_n) in
-          rw (sym first) (rw (sym second) follows)
-    ]
-
-pub are_from_loop : (leaps : List LeapSecond) (n : ℕ) (leap : LeapSecond) → 1 ≤ length leaps → leap ≡ get_or leaps 0 leap → MayBeFirst leap → length leaps ≤ n → FollowBelow leaps n → AreLeapSeconds leaps
+pub are_from_loop : (leaps : List LeapSecond) (n : ℕ) (leap : LeapSecond) → 1 ≤ length leaps → leap ≡ get_or leaps 0 leap → MayBeFirst leap → length leaps ≤ n → ((place : ℕ) → place < n → FollowsAt leaps place) → AreLeapSeconds leaps
 are_from_loop leaps n leap some leap_is first all follow = record {
   first = λ l at. rw (sym (item_read leaps 0 leap l some leap_is at)) first;
-  apart = λ i l next at_l at_next. follow i l next (omega (arith, all, slice_get_within leaps (i + 1) next at_next)) at_l at_next;
+  apart = λ i l next at_l at_next. follow i (omega (arith, all, slice_get_within leaps i l at_l)) l next at_l at_next;
 }
 
 -- no transition stands past the last place

@@ -1,6 +1,6 @@
 -- Bytes of a TZif file denote one zone, and no fault of theirs is there.
-use Rattle.std.proofs.Common.{◌≡◌, ℕ, length, Bool, List, Option, Some, None, Ok, refl, sym, ap, subst, ◌∙◌, inl, inr, arith}
-use Rattle.std.specs.Prelude.{IfSome, All, alloc_error}
+use Rattle.std.proofs.Common.{◌≡◌, ℕ, length, Bool, List, Option, Some, None, Result, Ok, Err, refl, sym, ap, subst, ◌∙◌, inl, inr, arith}
+use Rattle.std.specs.Prelude.{IfSome, IfOk, OnOk, All, alloc_error}
 use Rattle.std.specs.Int.{Width, w32, w64}
 use Rattle.tz_base.specs.declared.error.TzError.{TzError}
 use Rattle.tz_base.specs.declared.error.TzError.TheVariants.{TzFile, LocalTimeType as TypeFault, Memory}
@@ -14,7 +14,7 @@ use Rattle.tz_rule.specs.LocalTimeType.{LocalTimeType, IsDesignation, IsDesignat
 use Rattle.tz_rule.specs.declared.timezone.rule.TransitionRule.{TransitionRule}
 use Rattle.tz_zone.specs.Table.{Zone, zone_with}
 use Rattle.tz_zone.specs.ValidZone.{IsFirstTransitionFault, IsValidZone, IsFirstZoneFault}
-use Rattle.tz_zone.specs.TzFile.{IsHeader, IsUnit, IsTypeRecord, IsContent, IsFramed, IsTzFile, Block, Part, type_at, behind, part_of, footer_of, trimmed, IsFooter, IsExtraRule, is_extended, zone_of_part}
+use Rattle.tz_zone.specs.TzFile.{IsHeader, IsUnit, IsTypeRecord, IsContent, IsFramed, IsTzFile, Block, Part, type_at, behind, part_of, footer_of, trimmed, IsFooter, IsExtraRule, is_extended, MayHold, HoldsLeapSeconds, zone_of_part}
 use Rattle.tz_zone.specs.TzFileFault.{HeaderFails, UnitFails, FrameFails, FooterFails, ExtraRuleFails, TypeFails, ContentFails, FileFails, IsReadFault}
 use Rattle.tz_zone.specs.TzText.{IsTzText}
 use Rattle.tz_zone.specs.TzParts.{HasTables}
@@ -24,6 +24,31 @@ use Rattle.tz_zone.specs.declared.parse.tz_file.Tables.{Tables}
 -- the parts of a zone, from the tables that were read
 pub zone_of_tables : {A : Type 0} (p : Part) (t : Tables A) (rule : Option TransitionRule) → HasTables p t → zone_with t.transitions.items t.local_time_types.items t.leap_seconds.items rule ≡ zone_of_part p rule
 zone_of_tables p t rule has = rw (has.transitions, has.types, has.leap_seconds) refl
+
+-- and whether its version holds its leap seconds
+pub holds_from_tables : {A : Type 0} (p : Part) (t : Tables A) → HasTables p t → MayHold p.version t.leap_seconds.items → HoldsLeapSeconds p
+holds_from_tables p t has may = rw has.leap_seconds at may
+
+pub tables_from_holds : {A : Type 0} (p : Part) (t : Tables A) → HasTables p t → HoldsLeapSeconds p → MayHold p.version t.leap_seconds.items
+tables_from_holds p t has holds = rw has.leap_seconds holds
+
+-- the rule behind the part is that of the file
+pub rule_of_file : (bytes : List ℕ) (p : Part) (footer : Option (List ℕ)) (extended : Bool) (rule : Option TransitionRule) → p ≡ part_of bytes → extended ≡ is_extended p → footer ≡ footer_of bytes → IsExtraRule extended footer rule → IsExtraRule (is_extended (part_of bytes)) (footer_of bytes) rule
+rule_of_file bytes p footer extended rule same extended_same footer_same is =
+    subst (λ (f : Option (List ℕ)). IsExtraRule (is_extended (part_of bytes)) f rule) footer_same
+    (subst (λ (b : Bool). IsExtraRule b footer rule) (extended_same ∙ ap is_extended same) is)
+
+-- what is made of the tables and the rule is the zone of the file
+pub made_is_file : {X : Type 0} (bytes : List ℕ) (rule : Option TransitionRule) (made : Zone) (view : X → Zone) (r : Result X TzError) → IsFramed bytes → IsContent (part_of bytes).block (part_of bytes).counts.local_type → HoldsLeapSeconds (part_of bytes) → IsExtraRule (is_extended (part_of bytes)) (footer_of bytes) rule → made ≡ zone_of_part (part_of bytes) rule → IfOk r (λ x. view x ≡ made) → OnOk r (IsValidZone made) → IfOk r (λ x. IsTzFile bytes (view x))
+made_is_file bytes rule made view (Ok x) framed content holds of_file zone parts valid = subst (IsTzFile bytes) (sym (parts ∙ zone)) (record {
+  framed = framed;
+  content = content;
+  leap_seconds = holds;
+  rule = of_file;
+  denotes = refl;
+  valid = subst IsValidZone zone valid;
+})
+made_is_file bytes rule made view (Err e) framed content holds of_file zone parts valid = tt
 
 header_holds : (bytes : List ℕ) (e : TzFileError) → IsHeader bytes → HeaderFails bytes e → ⊥
 header_holds bytes (ParseData UnexpectedEof) h short = omega (arith, h.whole, short)
@@ -98,7 +123,8 @@ pub file_holds : (bytes : List ℕ) (z : Zone) (e : TzError) → IsTzFile bytes 
 file_holds bytes z e f (inl (fault, is, there)) = frame_holds bytes fault f.framed there
 file_holds bytes z e f (inr (inl (framed, there))) = content_holds (part_of bytes).block (part_of bytes).counts.local_type e f.content there
 file_holds bytes z e f (inr (inr (inl (framed, there)))) = extra_rule_holds (is_extended (part_of bytes)) (footer_of bytes) z.extra_rule e f.rule there
-file_holds bytes z e f (inr (inr (inr (framed, content, rule, is, there)))) =
+file_holds bytes z e f (inr (inr (inr (framed, content, rule, is, inl (named, fails))))) = fails f.leap_seconds
+file_holds bytes z e f (inr (inr (inr (framed, content, rule, is, inr (holds, there))))) =
     let same : z.extra_rule ≡ rule = one_extra_rule (is_extended (part_of bytes)) (footer_of bytes) z.extra_rule rule f.rule is in
     let zone : z ≡ zone_of_part (part_of bytes) rule = f.denotes ∙ ap (λ r. zone_of_part (part_of bytes) r) same in
     zone_holds (zone_of_part (part_of bytes) rule) e (subst (λ (made : Zone). IsValidZone made) zone f.valid) there

@@ -1,5 +1,6 @@
--- Leap time: Unix time with the leap seconds counted in. (RFC 8536, sections 2 and 3.2: leap-second records; refusal as in tz-rs.)
-use Rattle.std.specs.Prelude.{◌≡◌, ◌≢◌, ℕ, zero, suc, ◌<◌, ◌⊎◌, ℤ, pos, negsuc, ◌+ℤ◌, ◌≤ℤ◌, List, Option, Some, None, slice_get, FitsSigned}
+-- Leap time: Unix time with the leap seconds counted in. (RFC 8536, sections 2 and 3.2: leap-second records; RFC 9636, section 3.2: a truncated
+-- start; refusal as in tz-rs.)
+use Rattle.std.specs.Prelude.{◌≡◌, ◌≢◌, ◌==◌, ℕ, zero, suc, ◌<◌, ◌⊎◌, ℤ, pos, negsuc, ◌+ℤ◌, ◌≤ℤ◌, ◌<ℤ◌, if◌then◌else◌, List, Option, Some, None, slice_get, unsigned_abs, FitsSigned}
 use Rattle.std.specs.Int.{w64}
 use Rattle.tz_zone.specs.Table.{LeapSecond}
 
@@ -7,28 +8,57 @@ use Rattle.tz_zone.specs.Table.{LeapSecond}
 abbrev pub IsInstant : ℤ → Type 0
 IsInstant u = FitsSigned w64 u
 
--- the correction of a place of the list, and of the place before it: 0 before the first
+-- one second forth or back
+abbrev pub IsOneSecond : ℤ → Type 0
+IsOneSecond c = unsigned_abs c ≡ 1
+
+-- a truncated start: a first record of another correction, with which the table begins
+abbrev pub IsStart : List LeapSecond → LeapSecond → Type 0
+IsStart leaps l = (slice_get leaps 0 ≡ Some l) × ¬ IsOneSecond l.correction
+
+-- the correction of a place of the list
 abbrev pub correction_at : Option LeapSecond → ℤ
 correction_at (Some l) = l.correction
 correction_at None = pos 0
 
+-- the correction before the first place: 0, but the first one's own at a truncated start
+abbrev pub correction_at_start : Option LeapSecond → ℤ
+correction_at_start (Some l) = if unsigned_abs l.correction == 1 then pos 0 else l.correction
+correction_at_start None = pos 0
+
+-- the correction before a place
 abbrev pub correction_before : List LeapSecond → ℕ → ℤ
-correction_before leaps zero = pos 0
+correction_before leaps zero = correction_at_start (slice_get leaps 0)
 correction_before leaps (suc i) = correction_at (slice_get leaps i)
 
 -- leap second i is reached at u: u with the correction before it is not below its time
 abbrev pub IsReached : List LeapSecond → ℕ → LeapSecond → ℤ → Type 0
 IsReached leaps i l u = (slice_get leaps i ≡ Some l) × (l.unix_leap_time ≤ℤ (u +ℤ correction_before leaps i))
 
--- the correction at u is that of the last leap second reached, or 0
+-- the correction at u is that of the last leap second reached, or that before the first
 abbrev pub IsCorrection : List LeapSecond → ℤ → ℤ → Type 0
 IsCorrection leaps u c =
-    ((c ≡ pos 0) × ((i : ℕ) (l : LeapSecond) → ¬ IsReached leaps i l u))
+    ((c ≡ correction_before leaps 0) × ((i : ℕ) (l : LeapSecond) → ¬ IsReached leaps i l u))
     ⊎ ((i : ℕ) × (l : LeapSecond) × IsReached leaps i l u × (c ≡ l.correction) × ((j : ℕ) (later : LeapSecond) → i < j → ¬ IsReached leaps j later u))
 
--- u has no leap time in 64 bits: with the correction of some leap second reached it lies outside
+-- u lies before a truncated start
+abbrev pub IsBeforeStart : List LeapSecond → ℤ → Type 0
+IsBeforeStart leaps u = (l : LeapSecond) × IsStart leaps l × ((u +ℤ l.correction) <ℤ l.unix_leap_time)
+
+-- the first instant from one on, up to another, that does not lie before a truncated start
+pub record IsFirstBegun (leaps : List LeapSecond) (from high low : ℤ) : Type 0 where
+  pub from_is : from ≤ℤ low
+  pub high_is : low ≤ℤ high
+  pub begun : ¬ IsBeforeStart leaps low
+  pub first : (u : ℤ) → from ≤ℤ u → ¬ IsBeforeStart leaps u → low ≤ℤ u
+
+-- with the correction of some leap second reached u lies outside 64 bits
+abbrev pub IsPastInstants : List LeapSecond → ℤ → Type 0
+IsPastInstants leaps u = (i : ℕ) × (l : LeapSecond) × IsReached leaps i l u × ¬ IsInstant (u +ℤ l.correction)
+
+-- u has no leap time: the table begins later, or the leap time is not one of 64 bits
 abbrev pub IsLeapTimeRefused : List LeapSecond → ℤ → Type 0
-IsLeapTimeRefused leaps u = (i : ℕ) × (l : LeapSecond) × IsReached leaps i l u × ¬ IsInstant (u +ℤ l.correction)
+IsLeapTimeRefused leaps u = IsBeforeStart leaps u ⊎ IsPastInstants leaps u
 
 -- the leap time of u
 pub record IsLeapTime (leaps : List LeapSecond) (u v : ℤ) : Type 0 where
@@ -54,4 +84,5 @@ IsEffectRefused leaps v = (u : ℤ) → ¬ IsEffect leaps v u
 pub record IsMomentOf (leaps : List LeapSecond) (v m : ℤ) : Type 0 where
   pub least : (w : ℤ) → HasComeTo leaps v w → m ≤ℤ w
   pub comes : ¬ IsLeapTimeRefused leaps m → HasComeTo leaps v m
+  pub begun : ¬ IsBeforeStart leaps m
   pub low : negsuc 9223372036854775807 ≤ℤ m

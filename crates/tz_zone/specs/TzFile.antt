@@ -1,5 +1,5 @@
--- TZif files: which bytes are one, and the tables that they denote. (RFC 8536, section 3.)
-use Rattle.std.specs.Prelude.{◌≡◌, ◌≢◌, ℕ, ◌+◌, ◌-◌, ◌*◌, ◌<◌, ◌≤◌, ◌⊎◌, ℤ, Bool, ◌==◌, if◌then◌else◌, List, [], ◌∷◌, length, take, drop, map, Option, Some, None, Contains, IsUtf8, slice_get, slice_index, slice_range, codes}
+-- TZif files: which bytes are one, and the tables that they denote. (RFC 8536, section 3; version 4 after RFC 9636, section 3.)
+use Rattle.std.specs.Prelude.{◌≡◌, ◌≢◌, ℕ, ◌+◌, ◌-◌, ◌*◌, ◌<◌, ◌≤◌, ◌⊎◌, ℤ, Bool, ◌==◌, if◌then◌else◌, List, [], length, take, drop, map, Option, Some, None, Contains, IsUtf8, slice_get, slice_index, slice_range, codes, ◌||◌}
 use Rattle.std.specs.Char.{is_ascii_whitespace}
 use Rattle.std.specs.List.{range_with_len, before_first, prefix_len, suffix_len}
 use Rattle.std.specs.Int.{Width, w32, w64, byte_len, from_be_bytes, cast_signed}
@@ -8,7 +8,7 @@ use Rattle.tz_rule.specs.declared.timezone.rule.TransitionRule.{TransitionRule}
 use Rattle.tz_zone.specs.Bytes.{colon, line_feed}
 use Rattle.tz_zone.specs.Table.{Transition, LeapSecond, Zone, zone_with}
 use Rattle.tz_zone.specs.TzText.{IsTzText}
-use Rattle.tz_zone.specs.ValidZone.{IsValidZone}
+use Rattle.tz_zone.specs.ValidZone.{IsPlainTable, IsValidZone}
 
 -- the number that the bytes at a place write, the most significant first; signed in two's complement
 unfoldable pub number_at : Width → List ℕ → ℕ → ℕ
@@ -51,7 +51,7 @@ pub record AreCounts (n : Counts) : Type 0 where
 abbrev pub HasMagic : List ℕ → Type 0
 HasMagic bytes = take 4 bytes ≡ codes "TZif"
 
--- the version bytes: 0, and the digits 2 and 3
+-- the version bytes: 0, and the digits 2, 3 and 4
 abbrev pub version_1 : ℕ
 version_1 = 0
 
@@ -61,8 +61,11 @@ version_2 = 50
 abbrev pub version_3 : ℕ
 version_3 = 51
 
+abbrev pub version_4 : ℕ
+version_4 = 52
+
 abbrev pub IsVersion : ℕ → Type 0
-IsVersion byte = (byte ≡ version_1) ⊎ (byte ≡ version_2) ⊎ (byte ≡ version_3)
+IsVersion byte = (byte ≡ version_1) ⊎ (byte ≡ version_2) ⊎ (byte ≡ version_3) ⊎ (byte ≡ version_4)
 
 -- the length of a header
 abbrev pub header_len : ℕ
@@ -253,9 +256,16 @@ abbrev pub IsExtraRule : Bool → Option (List ℕ) → Option TransitionRule �
 IsExtraRule extended None rule = rule ≡ None
 IsExtraRule extended (Some footer) rule = IsFooter footer × IsTextRule extended (trimmed footer) rule
 
--- texts are extended where the header of the unit that is read is of version 3 (section 3.3.1)
+-- texts are extended where the header of the unit that is read is of version 3 or 4 (section 3.3.1)
 abbrev pub is_extended : Part → Bool
-is_extended p = p.version == version_3
+is_extended p = (p.version == version_3) || (p.version == version_4)
+
+-- leap seconds may begin later or expire where that header is of version 4
+abbrev pub MayHold : ℕ → List LeapSecond → Type 0
+MayHold version leaps = (version ≡ version_4) ⊎ IsPlainTable leaps
+
+abbrev pub HoldsLeapSeconds : Part → Type 0
+HoldsLeapSeconds p = MayHold p.version (leaps_of p.width p.block p.counts.leap)
 
 -- the zone of a part and a rule
 abbrev pub zone_of_part : Part → Option TransitionRule → Zone
@@ -269,6 +279,7 @@ zone_of_part p rule = zone_with
 pub record IsTzFile (bytes : List ℕ) (zone : Zone) : Type 0 where
   pub framed : IsFramed bytes
   pub content : IsContent (part_of bytes).block (part_of bytes).counts.local_type
+  pub leap_seconds : HoldsLeapSeconds (part_of bytes)
   pub rule : IsExtraRule (is_extended (part_of bytes)) (footer_of bytes) zone.extra_rule
   pub denotes : zone ≡ zone_of_part (part_of bytes) zone.extra_rule
   pub valid : IsValidZone zone

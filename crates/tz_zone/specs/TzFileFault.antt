@@ -4,15 +4,16 @@
 use Rattle.std.specs.Prelude.{◌≡◌, ◌≢◌, ℕ, ◌+◌, ◌*◌, ◌<◌, ◌≤◌, ◌⊎◌, Bool, List, [], length, Option, Some, None, IsUtf8, slice_index, alloc_error}
 use Rattle.std.specs.Int.{Width, w32, w64}
 use Rattle.tz_base.specs.declared.error.TzError.{TzError}
-use Rattle.tz_base.specs.declared.error.TzError.TheVariants.{TzFile, LocalTimeType as TypeFault, Memory}
+use Rattle.tz_base.specs.declared.error.TzError.TheVariants.{TzFile, TimeZone, LocalTimeType as TypeFault, Memory}
 use Rattle.tz_base.specs.declared.error.parse.ParseDataError.TheVariants.{UnexpectedEof}
 use Rattle.tz_base.specs.declared.error.parse.TzFileError.{TzFileError}
 use Rattle.tz_base.specs.declared.error.parse.TzFileError.TheVariants.{ParseData, InvalidMagicNumber, UnsupportedTzFileVersion, InvalidHeader, InvalidDstIndicator, InvalidTimeZoneDesignationCharIndex, InvalidStdWallUtLocal, RemainingDataV1, Utf8, InvalidFooter}
+use Rattle.tz_base.specs.declared.error.timezone.TimeZoneError.TheVariants.{InvalidLeapSecond}
 use Rattle.tz_rule.specs.LocalTimeType.{IsFirstTypeFault}
 use Rattle.tz_rule.specs.declared.timezone.rule.TransitionRule.{TransitionRule}
 use Rattle.tz_zone.specs.TzTextFault.{IsTzTextFault}
 use Rattle.tz_zone.specs.ValidZone.{IsFirstZoneFault}
-use Rattle.tz_zone.specs.TzFile.{header_len, HasMagic, IsVersion, AreCounts, counts_of, IsHeader, end_at, IsUnit, behind, Block, IsFlag, HasName, type_at, HasIndicators, IsContent, IsFirstVersion, IsFramed, part_of, footer_of, trimmed, IsBetweenLineFeeds, MayBeText, IsFooter, IsExtraRule, is_extended, zone_of_part}
+use Rattle.tz_zone.specs.TzFile.{header_len, HasMagic, IsVersion, AreCounts, counts_of, IsHeader, end_at, IsUnit, behind, Block, IsFlag, HasName, type_at, HasIndicators, IsContent, IsFirstVersion, IsFramed, part_of, footer_of, trimmed, IsBetweenLineFeeds, MayBeText, IsFooter, IsExtraRule, is_extended, zone_of_part, Part, HoldsLeapSeconds}
 
 -- faults of the header at the front
 abbrev pub HeaderFails : List ℕ → TzFileError → Type 0
@@ -64,6 +65,11 @@ ExtraRuleFails extended (Some footer) e =
     ((fault : TzFileError) × (e ≡ TzFile fault) × FooterFails footer fault)
     ⊎ (IsFooter footer × (trimmed footer ≢ []) × IsTzTextFault extended (trimmed footer) e)
 
+-- of the zone: leap seconds that the version does not hold, or a zone that is none
+abbrev pub ZoneFails : Part → Option TransitionRule → TzError → Type 0
+ZoneFails p rule e =
+    ((e ≡ TimeZone InvalidLeapSecond) × ¬ HoldsLeapSeconds p) ⊎ (HoldsLeapSeconds p × IsFirstZoneFault (zone_of_part p rule) e)
+
 -- the bytes fail as a file in this way
 abbrev pub FileFails : List ℕ → TzError → Type 0
 FileFails bytes e =
@@ -72,7 +78,7 @@ FileFails bytes e =
     ⊎ (IsFramed bytes × ExtraRuleFails (is_extended (part_of bytes)) (footer_of bytes) e)
     ⊎ (IsFramed bytes × IsContent (part_of bytes).block (part_of bytes).counts.local_type
     × (rule : Option TransitionRule) × IsExtraRule (is_extended (part_of bytes)) (footer_of bytes) rule
-    × IsFirstZoneFault (zone_of_part (part_of bytes) rule) e)
+    × ZoneFails (part_of bytes) rule e)
 
 -- a reading is refused for memory, or for a fault that is there
 abbrev pub IsReadFault : List ℕ → TzError → Type 0

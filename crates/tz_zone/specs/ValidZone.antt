@@ -1,5 +1,7 @@
--- Which parts make a zone, and which fault is named where they do not. (RFC 8536, section 3.2; the extra rule as in 3.3.)
-use Rattle.std.specs.Prelude.{◌≡◌, ◌≢◌, ℕ, ◌+◌, ◌<◌, ◌⊎◌, ℤ, pos, ◌+ℤ◌, ◌-ℤ◌, ◌≤ℤ◌, ◌<ℤ◌, List, [], unsigned_abs, length, Some, slice_get}
+-- Which parts make a zone, and which fault is named where they do not. (RFC 8536, section 3.2; the extra rule as in 3.3; leap-second tables
+-- that begin later or expire after RFC 9636, section 3.2.)
+use Rattle.std.specs.Prelude.{◌≡◌, ◌≢◌, ℕ, ◌+◌, ◌<◌, ◌⊎◌, ℤ, pos, ◌+ℤ◌, ◌-ℤ◌, ◌≤ℤ◌, ◌<ℤ◌, List, [], length, Some, slice_get, FitsSigned}
+use Rattle.std.specs.Int.{w32}
 use Rattle.std.proofs.Props.{props}
 use Rattle.tz_base.specs.declared.error.TzError.{TzError}
 use Rattle.tz_base.specs.declared.error.TzError.TheVariants.{TimeZone, OutOfRange}
@@ -9,7 +11,7 @@ use Rattle.tz_rule.specs.LocalTimeType.{LocalTimeType}
 use Rattle.tz_rule.specs.Rule.{IsRuleType}
 use Rattle.tz_rule.specs.declared.timezone.rule.TransitionRule.{TransitionRule}
 use Rattle.tz_zone.specs.Table.{Transition, LeapSecond, Zone}
-use Rattle.tz_zone.specs.LeapTime.{IsEffect}
+use Rattle.tz_zone.specs.LeapTime.{IsOneSecond, IsStart, IsEffect}
 use Rattle.tz_zone.specs.Clock.{IsTypeAt, IsLast}
 
 -- the transition at a place names one of so many types
@@ -31,30 +33,51 @@ RisesAt z i = RisesAtPlace z.transitions i
 abbrev pub IsRising : List Transition → Type 0
 IsRising transitions = (i : ℕ) → RisesAtPlace transitions i
 
--- one second forth or back
-abbrev pub IsOneSecond : ℤ → Type 0
-IsOneSecond c = unsigned_abs c ≡ 1
-
--- the first leap second comes at 0 or later, and is of one second
+-- the first leap second comes at 0 or later; its correction may be any of 32 bits
 abbrev pub MayBeFirst : LeapSecond → Type 0
-MayBeFirst l = (pos 0 ≤ℤ l.unix_leap_time) × IsOneSecond l.correction
+MayBeFirst l = (pos 0 ≤ℤ l.unix_leap_time) × FitsSigned w32 l.correction
 
 -- the next one comes at least 2419199 seconds later, and is of one second more or less
 abbrev pub MayFollow : LeapSecond → LeapSecond → Type 0
 MayFollow l next = ((l.unix_leap_time +ℤ pos 2419199) ≤ℤ next.unix_leap_time) × IsOneSecond (next.correction -ℤ l.correction)
 
+-- the record behind place i is the table's expiry: the last one, with the correction before it
+abbrev pub IsExpiry : List LeapSecond → ℕ → LeapSecond → LeapSecond → Type 0
+IsExpiry leaps i l next = (i + 2 ≡ length leaps) × (next.correction ≡ l.correction)
+
+-- the leap time at which the table expires
+abbrev pub ExpiresAt : List LeapSecond → ℤ → Type 0
+ExpiresAt leaps time =
+    (i : ℕ) × (l : LeapSecond) × (next : LeapSecond) × (slice_get leaps i ≡ Some l) × (slice_get leaps (i + 1) ≡ Some next)
+    × IsExpiry leaps i l next × (time ≡ next.unix_leap_time)
+
+-- a table as files before version 4 have it: it begins with the first leap second, and does not expire
+abbrev pub IsPlainTable : List LeapSecond → Type 0
+IsPlainTable leaps = ((l : LeapSecond) → ¬ IsStart leaps l) × ((time : ℤ) → ¬ ExpiresAt leaps time)
+
+-- the record behind place i comes later and, but for an expiry, is a leap second that may follow
+abbrev pub Follows : List LeapSecond → ℕ → LeapSecond → LeapSecond → Type 0
+Follows leaps i l next = (l.unix_leap_time <ℤ next.unix_leap_time) × (¬ IsExpiry leaps i l next → MayFollow l next)
+
+abbrev pub FollowsAt : List LeapSecond → ℕ → Type 0
+FollowsAt leaps i = (l next : LeapSecond) → slice_get leaps i ≡ Some l → slice_get leaps (i + 1) ≡ Some next → Follows leaps i l next
+
 -- a list of leap seconds
 pub record AreLeapSeconds (leaps : List LeapSecond) : Type 0 where
   pub first : (l : LeapSecond) → slice_get leaps 0 ≡ Some l → MayBeFirst l
-  pub apart : (i : ℕ) (l next : LeapSecond) → slice_get leaps i ≡ Some l → slice_get leaps (i + 1) ≡ Some next → MayFollow l next
+  pub apart : (i : ℕ) → FollowsAt leaps i
+
+-- a truncated start has come at a leap time
+abbrev pub HasBegunAt : List LeapSecond → ℤ → Type 0
+HasBegunAt leaps v = (l : LeapSecond) → IsStart leaps l → l.unix_leap_time ≤ℤ v
 
 -- what the extra rule answers where a leap time takes effect
 abbrev pub IsRuleTypeAt : List LeapSecond → TransitionRule → ℤ → LocalTimeType → Type 0
 IsRuleTypeAt leaps rule v t = (u : ℤ) × IsEffect leaps v u × IsRuleType rule u t
 
--- where a zone has an extra rule and a transition
+-- where a zone has an extra rule, and a last transition that is not before a truncated start
 abbrev pub AtLast : Zone → (TransitionRule → Transition → Type 0) → Type 0
-AtLast z P = (rule : TransitionRule) (last : Transition) → z.extra_rule ≡ Some rule → IsLast z.transitions last → P rule last
+AtLast z P = (rule : TransitionRule) (last : Transition) → z.extra_rule ≡ Some rule → IsLast z.transitions last → HasBegunAt z.leap_seconds last.unix_leap_time → P rule last
 
 -- the rule answers at the last transition
 abbrev pub RuleAnswers : Zone → Type 0

@@ -1,9 +1,9 @@
 //! For the crates above, and no part of the public surface: leap times, where they take effect, and a zone's transitions seen one at a time.
 
-ghost use Rattle.std.specs.Prelude.{◌≡◌, ℕ, ◌+◌, true, false, ◌<◌, ◌≤◌, ◌↔◌, ◌+ℤ◌, ◌≤ℤ◌, ◌<ℤ◌, length, slice_get, ℤ, IsTrue, IfOk, IfErr, MatchBool, Some, ◌-ℤ◌};
+ghost use Rattle.std.specs.Prelude.{◌≡◌, ℕ, ◌+◌, true, false, ◌<◌, ◌≤◌, ◌↔◌, ◌+ℤ◌, ◌≤ℤ◌, ◌<ℤ◌, length, slice_get, ℤ, IsTrue, IfOk, IfErr, IfSome, IfNone, MatchBool, MatchOption, Some, ◌-ℤ◌};
 ghost use Rattle.tz_zone.specs.Table.{Transition, LeapSecond};
-ghost use Rattle.tz_zone.specs.LeapTime.{IsInstant, correction_before as correction_at_place, IsReached, IsLeapTimeRefused, IsLeapTime, IsMomentOf, IsEffect, IsEffectRefused};
-ghost use Rattle.tz_zone.specs.ValidZone.{AreLeapSeconds, IsRising};
+ghost use Rattle.tz_zone.specs.LeapTime.{IsInstant, IsStart, correction_at_start as correction_of_start, correction_before as correction_at_place, IsReached, IsBeforeStart, IsFirstBegun, IsLeapTimeRefused, IsLeapTime, IsMomentOf, IsEffect, IsEffectRefused};
+ghost use Rattle.tz_zone.specs.ValidZone.{AreLeapSeconds, HasBegunAt, ExpiresAt, IsPlainTable, IsRising};
 
 mod lookup;
 mod parts;
@@ -22,18 +22,101 @@ pub use segments::segment_at;
 pub use transitions::{Counted, Transitions, Uncounted};
 use tz_base::error::TzError;
 
-/// Instants up to this one have a leap time, whatever the leap seconds.
+/// From the start of the table up to this instant each one has a leap time, whatever the leap seconds.
 const SURELY_ANSWERED: i64 = 80_000_000_000_000_000;
 
-/// The correction before a place of the list: 0 before the first.
+/// The truncated start: a first record whose correction is not one second, with which the table begins.
+fn truncated_start(leap_seconds: &[LeapSecond]) -> Option<&LeapSecond>
+    ensures { MatchOption result ((l : LeapSecond) → ¬ IsStart leap_seconds.now l) (λ l. IsStart leap_seconds.now l.now) }
+{
+    let first = leap_seconds.first()?;
+    if first.correction().unsigned_abs() == 1 {
+        return None;
+    }
+    Some(first)
+}
+
+/// The correction before the first place of the list: 0, but the first one's own at a truncated start.
+fn correction_at_start(leap_seconds: &[LeapSecond]) -> i32
+    ensures { result ≡ correction_of_start (slice_get leap_seconds.now 0) }
+{
+    match truncated_start(leap_seconds) {
+        Some(start) => start.correction(),
+        None => 0,
+    }
+}
+
+/// The correction before a place of the list.
 fn correction_before(leap_seconds: &[LeapSecond], place: usize) -> i32
     requires { place ≤ length leap_seconds.now }
     ensures { result ≡ correction_at_place leap_seconds.now place }
 {
     if place == 0 {
-        return 0;
+        return correction_at_start(leap_seconds);
     }
     leap_seconds[place - 1].correction()
+}
+
+/// The leap time at which the table expires: that of a last record with the correction before it.
+pub(crate) fn expiry(leap_seconds: &[LeapSecond]) -> Option<i64>
+    ensures some { IfSome result (ExpiresAt leap_seconds.now) }
+    ensures none { IfNone result ((time : ℤ) → ¬ ExpiresAt leap_seconds.now time) }
+{
+    if leap_seconds.len() < 2 {
+        return None;
+    }
+    let before = &leap_seconds[leap_seconds.len() - 2];
+    let last = &leap_seconds[leap_seconds.len() - 1];
+    if last.correction() != before.correction() {
+        return None;
+    }
+    Some(last.unix_leap_time())
+}
+
+/// Whether the table begins with its first leap second and does not expire, as in files before version 4.
+pub(crate) fn is_plain_table(leap_seconds: &[LeapSecond]) -> bool
+    ensures { MatchBool result (IsPlainTable leap_seconds.now) (¬ IsPlainTable leap_seconds.now) }
+{
+    truncated_start(leap_seconds).is_none() && expiry(leap_seconds).is_none()
+}
+
+/// Whether the instant is not before a truncated start.
+fn has_begun(leap_seconds: &[LeapSecond], unix_time: i64) -> bool
+    ensures { MatchBool result (¬ IsBeforeStart leap_seconds.now unix_time) (IsBeforeStart leap_seconds.now unix_time) }
+{
+    match truncated_start(leap_seconds) {
+        Some(start) => {
+            i128::from(start.unix_leap_time())
+                <= i128::from(unix_time) + i128::from(start.correction())
+        }
+        None => true,
+    }
+}
+
+/// The first instant from one on up to another that is not before a truncated start, if there is any.
+pub fn first_begun(leap_seconds: &[LeapSecond], from: i64, high: i64) -> Option<i64>
+    requires { from ≤ℤ high }
+    ensures some { IfSome result (IsFirstBegun leap_seconds.now from high) }
+    ensures none { IfNone result ((u : ℤ) → u ≤ℤ high → IsBeforeStart leap_seconds.now u) }
+{
+    let Some(start) = truncated_start(leap_seconds) else {
+        return Some(from);
+    };
+    let begin = less(start.unix_leap_time(), start.correction()).max(i128::from(from));
+    if i128::from(high) < begin {
+        return None;
+    }
+    Some(begin as i64)
+}
+
+/// Whether a truncated start has come at the leap time.
+pub(crate) fn has_begun_at(leap_seconds: &[LeapSecond], unix_leap_time: i64) -> bool
+    ensures { MatchBool result (HasBegunAt leap_seconds.now unix_leap_time) (¬ HasBegunAt leap_seconds.now unix_leap_time) }
+{
+    match truncated_start(leap_seconds) {
+        Some(start) => start.unix_leap_time() <= unix_leap_time,
+        None => true,
+    }
 }
 
 /// How many leap seconds are reached at an instant.
@@ -149,6 +232,9 @@ fn has_leap_time(leap_seconds: &[LeapSecond], unix_time: i64, reached: usize) ->
     requires beyond { (i : ℕ) (l : LeapSecond) → IsReached leap_seconds.now i l unix_time → i < reached }
     ensures { MatchBool result (¬ IsLeapTimeRefused leap_seconds.now unix_time) (IsLeapTimeRefused leap_seconds.now unix_time) }
 {
+    if !has_begun(leap_seconds, unix_time) {
+        return false;
+    }
     if unix_time <= SURELY_ANSWERED {
         return true;
     }
@@ -189,10 +275,11 @@ fn less(time: i64, correction: i32) -> i128
     i128::from(time) - i128::from(correction)
 }
 
-/// The moment of a leap time by the leap seconds up to it, which may lie past 64 bits: the leap time less the correction, but not
-/// before the last of them is reached.
-fn moment(leap_seconds: &[LeapSecond], unix_leap_time: i64) -> i128
-    requires { AreLeapSeconds leap_seconds.now }
+/// The moment of a leap time that is not before a truncated start, by the leap seconds up to it, which may lie past 64 bits: the leap
+/// time less the correction, but not before the last of them is reached.
+fn moment_from_start(leap_seconds: &[LeapSecond], unix_leap_time: i64) -> i128
+    requires leaps { AreLeapSeconds leap_seconds.now }
+    requires begun { HasBegunAt leap_seconds.now unix_leap_time }
     ensures { IsMomentOf leap_seconds.now unix_leap_time result }
 {
     let count = leap_seconds_up_to(leap_seconds, unix_leap_time);
@@ -206,6 +293,19 @@ fn moment(leap_seconds: &[LeapSecond], unix_leap_time: i64) -> i128
         correction_before(leap_seconds, count - 1),
     );
     shifted.max(reached)
+}
+
+/// The moment of a leap time, which may lie past 64 bits. Before a truncated start it is that of the start.
+fn moment(leap_seconds: &[LeapSecond], unix_leap_time: i64) -> i128
+    requires { AreLeapSeconds leap_seconds.now }
+    ensures { IsMomentOf leap_seconds.now unix_leap_time result }
+{
+    match truncated_start(leap_seconds) {
+        Some(start) if unix_leap_time < start.unix_leap_time() => {
+            moment_from_start(leap_seconds, start.unix_leap_time())
+        }
+        _ => moment_from_start(leap_seconds, unix_leap_time),
+    }
 }
 
 /// The instant at which a leap time takes effect: the least one whose leap time is not below it.

@@ -9,13 +9,13 @@ ghost use Rattle.tz_base.specs.Fields.{IsValid, reading as reading_of};
 ghost use Rattle.tz_rule.specs.LocalTimeType.{LocalTimeType};
 ghost use Rattle.tz_rule.specs.Rule.{IsRuleType};
 ghost use Rattle.tz_zone.specs.Table.{Zone};
-ghost use Rattle.tz_zone.specs.LeapTime.{IsLeapTime};
+ghost use Rattle.tz_zone.specs.LeapTime.{IsBeforeStart, IsLeapTime};
 ghost use Rattle.tz_zone.specs.Clock.{AreReached, AreAhead, IsTypeAfter, IsClock};
 ghost use Rattle.tz_zone.specs.ValidZone.{AreLeapSeconds, IsSoundTable};
 ghost use Rattle.tz_zone.specs.ZoneSeen.{zone_seen};
 ghost use Rattle.tz.specs.Found.{IsFound};
 ghost use Rattle.tz.specs.Walks.{HoldsAt, IsSearchFault, IsSmall, IsStep, IsStepFault, IsWalk};
-ghost use Rattle.tz.specs.Reached.{IsWithinReach, IsReachedAt, IsKindOf, IsDue, IsPieceOf, IsOnTheWay};
+ghost use Rattle.tz.specs.Reached.{IsWithinReach, IsReachedAt, IsKindOf, IsDue, IsPieceOf, IsWindowOf, IsOnTheWay};
 ghost use Rattle.tz.specs.Windows.{IsOffsetOfTypes, IsOffsetOfRule, IsLeastOffset, IsGreatestOffset, IsWindow, AtMostTakeEffectIn, AtMostTakeEffectAround};
 ghost use Rattle.tz.specs.RuleSpans.{IsSpan, ChangesOnlyAt, RuleClock, IsRuledIn, IsAtSeam, IsPastSeam};
 ghost use Rattle.tz.specs.declared.datetime.found.FoundDateTimeKind.{FoundDateTimeKind};
@@ -27,12 +27,15 @@ use tz_base::constants::SECONDS_PER_DAY;
 use tz_base::error::TzError;
 use tz_rule::inner::{end, find_local_time_type, start};
 use tz_rule::laws::rule_parts_are_sound;
-use tz_zone::inner::{OtherParts, Transitions, effect, leap, transitions_reached, type_of_last};
+use tz_zone::inner::{
+    OtherParts, Transitions, effect, first_begun, leap, transitions_reached, type_of_last,
+};
 use tz_zone::timezone::{AlternateTime, LeapSecond, LocalTimeType, Transition, TransitionRule};
 
-/// The leap time of an instant within reach.
+/// The leap time of an instant within reach that doesn't lie before the leap seconds begin.
 fn leap_time(leap_seconds: &[LeapSecond], unix_time: i64) -> i64
     requires leaps { AreLeapSeconds leap_seconds.now }
+    requires begun { ¬ IsBeforeStart leap_seconds.now unix_time }
     requires reach { IsWithinReach unix_time }
     ensures { IsLeapTime leap_seconds.now unix_time result }
 {
@@ -42,6 +45,7 @@ fn leap_time(leap_seconds: &[LeapSecond], unix_time: i64) -> i64
 /// How many transitions are reached at an instant.
 fn reached_at<V: Transitions>(view: &mut V, parts: OtherParts<'_>, unix_time: i64) -> usize
     requires sound { IsSoundTable (zone_seen (V.list view.old) parts) }
+    requires begun { ¬ IsBeforeStart parts.leap_seconds.now unix_time }
     requires reach { IsWithinReach unix_time }
     ensures same { V.list view.new ≡ V.list view.old }
     ensures within { result ≤ length (V.list view.old) }
@@ -404,6 +408,7 @@ fn walk_from<V: Transitions>(
 ) -> (Walk, usize)
     requires valid { IsValid fields.now }
     requires sound { IsSoundTable (zone_seen (V.list view.old) parts) }
+    requires begun { ¬ IsBeforeStart parts.leap_seconds.now low }
     requires reach { IsWithinReach low }
     ensures same { V.list view.new ≡ V.list view.old }
     ensures within { result.1 ≤ length (V.list view.old) }
@@ -458,7 +463,62 @@ fn walk_transitions<L: DateTimeList, V: Transitions>(
     Ok(count)
 }
 
-/// Adds all that is found of valid fields to the list, in order.
+/// The parts of a zone, but without leap seconds where it has no transitions: its clock then doesn't depend on them.
+fn used_parts<'a, V: Transitions>(view: &V, parts: OtherParts<'a>) -> OtherParts<'a>
+    requires sound { IsSoundTable (zone_seen (V.list view.now) parts) }
+    ensures sound { IsSoundTable (zone_seen (V.list view.now) result) }
+    ensures clock { (u : ℤ) (t : LocalTimeType) → (IsClock (zone_seen (V.list view.now) result) u t → IsClock (zone_seen (V.list view.now) parts.entry) u t) × (IsClock (zone_seen (V.list view.now) parts.entry) u t → IsClock (zone_seen (V.list view.now) result) u t) }
+    ensures used { V.list view.now ≡ [] → result.leap_seconds.now ≡ [] }
+    ensures same { 0 < length (V.list view.now) → zone_seen (V.list view.now) result ≡ zone_seen (V.list view.now) parts.entry }
+{
+    if view.len() > 0 {
+        return parts;
+    }
+    OtherParts {
+        local_time_types: parts.local_time_types,
+        leap_seconds: &[],
+        extra_rule: parts.extra_rule,
+    }
+}
+
+/// Adds all that is found of valid fields in a window to the list, in order.
+fn search_window<L: DateTimeList, V: Transitions>(
+    list: &mut L,
+    fields: &Fields,
+    view: &mut V,
+    parts: OtherParts<'_>,
+    low: i64,
+    high: i64,
+) -> Result<(), TzError>
+    requires valid { IsValid fields.now }
+    requires sound { IsSoundTable (zone_seen (V.list view.old) parts) }
+    requires low { IsWithinReach low }
+    requires high { IsWithinReach high }
+    requires order { low ≤ℤ high }
+    requires width { (high -ℤ low) ≤ℤ pos (2 ^ 32) }
+    requires begun { ¬ IsBeforeStart parts.leap_seconds.now low }
+    requires window { IsWindowOf (zone_seen (V.list view.old) parts) (reading_of fields.now) low high }
+    ensures ok { OnOk result ((found : List FoundDateTimeKind) × L.gains list.old list.new found × IsFound (IsClock (zone_seen (V.list view.old) parts.entry)) fields.now found × (length found ≤ 2 ^ 33)) }
+    ensures err { IfErr result (IsSearchFault L.takes_memory (IsClock (zone_seen (V.list view.old) parts.entry)) (reading_of fields.now)) }
+    ensures few { OnOk result ((b w : ℕ) → length (V.list view.old) < 2 ^ b → AtMostTakeEffectIn (zone_seen (V.list view.old) parts.entry) low high w → V.looks view.new ≤ V.looks view.old + (b + w + 2)) }
+    ensures some { OnOk result (0 < length (V.list view.old) → V.next (V.looks view.old) ≤ V.looks view.new) }
+    ensures none { OnOk result (length (V.list view.old) ≡ 0 → V.looks view.new ≡ V.looks view.old) }
+{
+    let (mut walk, front) = walk_from(fields, view, parts, low);
+    let reached = walk_transitions(&mut walk, list, view, parts, front, high)?;
+    if reached == view.len() {
+        if let Some((rule, alternate)) = alternate_rule(parts.extra_rule) {
+            return search_rule(&mut walk, list, rule, alternate, high);
+        }
+    }
+    let end = Piece {
+        from: high + 1,
+        kind: None,
+    };
+    walk.step(list, end)
+}
+
+/// Adds all that is found of valid fields to the list, in order. A zone with transitions has no clock before its leap seconds begin.
 pub(super) fn search<L: DateTimeList, V: Transitions>(
     list: &mut L,
     fields: &Fields,
@@ -473,17 +533,12 @@ pub(super) fn search<L: DateTimeList, V: Transitions>(
     ensures some { OnOk result (0 < length (V.list view.old) → V.next (V.looks view.old) ≤ V.looks view.new) }
     ensures none { OnOk result (length (V.list view.old) ≡ 0 → V.looks view.new ≡ V.looks view.old) }
 {
-    let (low, high) = window(parts.local_time_types, parts.extra_rule, fields.reading());
-    let (mut walk, front) = walk_from(fields, view, parts, low);
-    let reached = walk_transitions(&mut walk, list, view, parts, front, high)?;
-    if reached == view.len() {
-        if let Some((rule, alternate)) = alternate_rule(parts.extra_rule) {
-            return search_rule(&mut walk, list, rule, alternate, high);
-        }
-    }
-    let end = Piece {
-        from: high + 1,
-        kind: None,
+    let parts = used_parts(view, parts);
+    let (from, high) = window(parts.local_time_types, parts.extra_rule, fields.reading());
+    let Some(low) = first_begun(parts.leap_seconds, from, high) else {
+        // A search of a zone with transitions takes a look, whatever the fields.
+        view.look(0);
+        return Ok(());
     };
-    walk.step(list, end)
+    search_window(list, fields, view, parts, low, high)
 }

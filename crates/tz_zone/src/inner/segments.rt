@@ -8,7 +8,7 @@ ghost use Rattle.tz_zone.specs.ValidZone.{AreLeapSeconds};
 ghost use Rattle.tz_zone.specs.ZoneRef.{zone_of};
 
 use super::segment::Segment;
-use super::{SURELY_ANSWERED, Uncounted, effect, leap, transitions_reached};
+use super::{SURELY_ANSWERED, Uncounted, effect, first_begun, leap, transitions_reached};
 use crate::timezone::{LeapSecond, TimeZoneRef, Transition, TransitionRule};
 
 /// The instant at which a leap time takes effect, if there is one.
@@ -35,8 +35,9 @@ fn segment_before(zone: TimeZoneRef<'_>, place: usize) -> Option<Segment>
     let transitions = zone.transitions();
     let until = onset(zone.leap_seconds(), transitions[place].unix_leap_time())?;
     if place == 0 {
+        let begin = first_begun(zone.leap_seconds(), i64::MIN, until)?;
         return Some(Segment {
-            from: i64::MIN,
+            from: begin,
             until,
             number: 0,
         });

@@ -187,3 +187,5 @@ fn leap_seconds_of_both_kinds(rt: HostRuntime) {
         );
     }
 }
+
+mod tables;

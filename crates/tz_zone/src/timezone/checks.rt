@@ -1,9 +1,10 @@
 //! The checks of a zone's parts.
 
-ghost use Rattle.std.specs.Prelude.{◌≡◌, ◌≢◌, ℕ, pos, ◌+ℤ◌, ◌-ℤ◌, ◌≤ℤ◌, ◌<◌, length, [], OnOk, IfOk, IfErr, MatchBool};
+ghost use Rattle.std.specs.Prelude.{◌≡◌, ◌≢◌, ℕ, pos, ◌+ℤ◌, ◌-ℤ◌, ◌≤ℤ◌, ◌+◌, ◌<◌, length, [], OnOk, IfOk, IfErr, MatchBool};
 ghost use Rattle.tz_rule.specs.LocalTimeType.{LocalTimeType};
 ghost use Rattle.tz_zone.specs.Table.{zone_with};
-ghost use Rattle.tz_zone.specs.ValidZone.{IsRuleTypeAt, IsOneSecond, MayBeFirst, MayFollow, AreLeapSeconds, HasTypeAtPlace, RisesAtPlace, IsFirstTransitionFault, IsSoundTable, IsRuleFault, RuleAnswers, RuleAgrees, IsValidZone, IsFirstZoneFault};
+ghost use Rattle.tz_zone.specs.LeapTime.{IsOneSecond};
+ghost use Rattle.tz_zone.specs.ValidZone.{IsRuleTypeAt, MayBeFirst, MayFollow, FollowsAt, AreLeapSeconds, HasTypeAtPlace, RisesAtPlace, IsFirstTransitionFault, IsSoundTable, IsRuleFault, RuleAnswers, RuleAgrees, IsValidZone, IsFirstZoneFault};
 
 use super::{LeapSecond, LocalTimeType, Transition, TransitionRule};
 use crate::inner;
@@ -46,10 +47,10 @@ fn check_transitions(transitions: &[Transition], types: usize) -> Result<(), Tim
 }
 
 /// Whether a leap second may come first.
-fn may_be_first(leap_second: &LeapSecond) -> bool
-    ensures { MatchBool result (MayBeFirst leap_second.now) (¬ MayBeFirst leap_second.now) }
+fn may_be_first(leap_second: LeapSecond) -> bool
+    ensures { MatchBool result (MayBeFirst leap_second) (¬ MayBeFirst leap_second) }
 {
-    leap_second.unix_leap_time() >= 0 && leap_second.correction().unsigned_abs() == 1
+    leap_second.unix_leap_time() >= 0
 }
 
 /// Whether two corrections differ by one second.
@@ -74,6 +75,22 @@ fn may_follow(leap_second: &LeapSecond, next: &LeapSecond) -> bool
         && is_one_second_apart(leap_second.correction(), next.correction())
 }
 
+/// Whether the record behind a place comes later and, unless it is the table's expiry, is a leap second that may follow.
+fn follows_at(leap_seconds: &[LeapSecond], place: usize) -> bool
+    requires { place < length leap_seconds.now }
+    ensures { MatchBool result (FollowsAt leap_seconds.now place) (¬ FollowsAt leap_seconds.now place) }
+{
+    if place + 1 == leap_seconds.len() {
+        return true;
+    }
+    let leap_second = &leap_seconds[place];
+    let next = &leap_seconds[place + 1];
+    if place + 2 == leap_seconds.len() && next.correction() == leap_second.correction() {
+        return leap_second.unix_leap_time() < next.unix_leap_time();
+    }
+    may_follow(leap_second, next)
+}
+
 /// Whether the leap seconds are a table of such.
 fn are_leap_seconds(leap_seconds: &[LeapSecond]) -> bool
     ensures { MatchBool result (AreLeapSeconds leap_seconds.now) (¬ AreLeapSeconds leap_seconds.now) }
@@ -81,11 +98,11 @@ fn are_leap_seconds(leap_seconds: &[LeapSecond]) -> bool
     if leap_seconds.is_empty() {
         return true;
     }
-    if !may_be_first(&leap_seconds[0]) {
+    if !may_be_first(leap_seconds[0]) {
         return false;
     }
-    for i in 1..leap_seconds.len() {
-        if !may_follow(&leap_seconds[i - 1], &leap_seconds[i]) {
+    for i in 0..leap_seconds.len() {
+        if !follows_at(leap_seconds, i) {
             return false;
         }
     }
@@ -108,7 +125,7 @@ fn rule_type_at<'a>(
     }
 }
 
-/// The extra rule answers at the last transition, with that transition's type.
+/// The extra rule answers at the last transition, with that transition's type, unless the transition is before a truncated start.
 fn check_extra_rule(
     transitions: &[Transition],
     local_time_types: &[LocalTimeType],
@@ -126,7 +143,11 @@ fn check_extra_rule(
     let Some(last) = transitions.last() else {
         return Ok(());
     };
-    let rule_type = rule_type_at(rule, leap_seconds, last.unix_leap_time())?;
+    let last_time = last.unix_leap_time();
+    if !inner::has_begun_at(leap_seconds, last_time) {
+        return Ok(());
+    }
+    let rule_type = rule_type_at(rule, leap_seconds, last_time)?;
     if *rule_type != local_time_types[last.local_time_type_index()] {
         return Err(TzError::TimeZone(TimeZoneError::InconsistentExtraRule));
     }

@@ -170,6 +170,13 @@ fn zones_are_accepted(rt: HostRuntime) -> Result<(), Fail> {
         UTC.with_rule(3600),
         UTC.with_transitions(&[(i64::MIN, 0), (i64::MAX, 0)]),
         UTC.with_leap_seconds(&[(0, -1)]),
+        UTC.with_leap_seconds(&[(0, 0)]),
+        UTC.with_leap_seconds(&[(0, 2)]),
+        UTC.with_leap_seconds(&[(0, i32::MIN)]),
+        UTC.with_leap_seconds(&[(0, 2), (1, 2)]),
+        UTC.with_leap_seconds(&[(0, 2), (2_419_199, 3)]),
+        UTC.with_leap_seconds(&[(0, 1), (1, 1)]),
+        UTC.with_leap_seconds(&[(0, 1), (2_419_199, 1)]),
         UTC.with_leap_seconds(&[(i64::MAX, 1)]),
         UTC.with_leap_seconds(&[(0, 1), (2_419_199, 2)]),
         UTC.with_leap_seconds(&[(0, 1), (2_419_199, 0)]),
@@ -206,15 +213,19 @@ fn zones_are_refused(rt: HostRuntime) -> Result<(), Fail> {
             InvalidLocalTimeTypeIndex,
         ),
         (UTC.with_leap_seconds(&[(-1, 1)]), InvalidLeapSecond),
-        (UTC.with_leap_seconds(&[(0, 2)]), InvalidLeapSecond),
-        (UTC.with_leap_seconds(&[(0, 0)]), InvalidLeapSecond),
-        (UTC.with_leap_seconds(&[(0, i32::MIN)]), InvalidLeapSecond),
+        (UTC.with_leap_seconds(&[(-1, 2)]), InvalidLeapSecond),
+        (UTC.with_leap_seconds(&[(0, 1), (0, 1)]), InvalidLeapSecond),
+        (UTC.with_leap_seconds(&[(1, 1), (0, 1)]), InvalidLeapSecond),
         (
-            UTC.with_leap_seconds(&[(0, 1), (2_419_198, 2)]),
+            UTC.with_leap_seconds(&[(0, 1), (2_419_199, 1), (5_000_000, 2)]),
             InvalidLeapSecond,
         ),
         (
-            UTC.with_leap_seconds(&[(0, 1), (2_419_199, 1)]),
+            UTC.with_leap_seconds(&[(0, 2), (2_419_198, 3)]),
+            InvalidLeapSecond,
+        ),
+        (
+            UTC.with_leap_seconds(&[(0, 1), (2_419_198, 2)]),
             InvalidLeapSecond,
         ),
         (
@@ -266,7 +277,7 @@ fn zones_are_out_of_range(rt: HostRuntime) -> Result<(), Fail> {
 #[test]
 fn the_first_fault_of_a_zone_is_named(rt: HostRuntime) -> Result<(), Fail> {
     let rule = UTC.with_rule(3600).with_transitions(&[(i64::MIN, 0)]);
-    let leap_second = rule.with_leap_seconds(&[(0, 2)]);
+    let leap_second = rule.with_leap_seconds(&[(-1, 1)]);
     let transition = leap_second.with_transitions(&[(i64::MIN, 0), (i64::MIN, 1)]);
     let index = leap_second.with_transitions(&[(i64::MIN, 1), (i64::MIN, 0)]);
     for (parts, expected) in [
@@ -545,3 +556,5 @@ fn transitions_and_leap_seconds_have_their_parts(rt: HostRuntime) {
     assert!(rt; leap_second != LeapSecond::new(5, 7));
     assert!(rt; leap_second != LeapSecond::new(4, -7));
 }
+
+mod leap_tables;

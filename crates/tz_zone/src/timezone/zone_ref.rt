@@ -49,18 +49,19 @@ impl<'a> Eq for TimeZoneRef<'a> {
 }
 
 impl<'a> TimeZoneRef<'a> {
-    ghost use Rattle.std.specs.Prelude.{◌≡◌, ℕ, ◌+◌, ◌^◌, ◌<◌, ◌≤◌, [], pos, length, IfOk, IfErr, OnOk};
+    ghost use Rattle.std.specs.Prelude.{◌≡◌, ℕ, ◌+◌, ◌^◌, ◌<◌, ◌≤◌, [], ℤ, pos, length, IfOk, IfErr, OnOk, IfSome, IfNone};
     ghost use Rattle.tz_rule.specs.LocalTimeType.{plain_type};
     ghost use Rattle.tz_zone.specs.Table.{zone_with, zone_of_type};
     ghost use Rattle.tz_zone.specs.Clock.{IsClock, IsLookupFault};
-    ghost use Rattle.tz_zone.specs.ValidZone.{IsSoundTable, IsValidZone, IsFirstZoneFault};
+    ghost use Rattle.tz_zone.specs.ValidZone.{ExpiresAt, IsSoundTable, IsValidZone, IsFirstZoneFault};
     ghost use Rattle.tz_zone.specs.ZoneRef.{zone_of};
 
     /// The zone with these parts. (RFC 8536, section 3.2)
     ///
     /// The first fault is named: `NoLocalTimeType`; for each transition in turn `InvalidLocalTimeTypeIndex` and `InvalidTransition`, whose
-    /// times must rise; `InvalidLeapSecond`; and where there are a rule and a transition, `OutOfRange` where the last transition never takes
-    /// effect or the rule has no type there, and `InconsistentExtraRule` where its type there is another than the transition's.
+    /// times must rise; `InvalidLeapSecond`; and where there are a rule and a transition, and the last one is not before the leap seconds
+    /// begin, `OutOfRange` where it never takes effect or the rule has no type there, and `InconsistentExtraRule` where its type there is
+    /// another than the transition's.
     pub fn new(
         transitions: &'a [Transition],
         local_time_types: &'a [LocalTimeType],
@@ -130,6 +131,14 @@ impl<'a> TimeZoneRef<'a> {
         ensures { result.now ≡ (zone_of self.now).leap_seconds }
     {
         self.leap_seconds
+    }
+
+    /// The leap time at which the leap seconds expire: that of a last record that leaves the correction as it is. Takes no memory.
+    pub fn leap_expiry(&self) -> Option<i64>
+        ensures some { IfSome result (ExpiresAt (zone_of self.now).leap_seconds) }
+        ensures none { IfNone result ((time : ℤ) → ¬ ExpiresAt (zone_of self.now).leap_seconds time) }
+    {
+        inner::expiry(self.leap_seconds)
     }
 
     /// The rule from the last transition on.

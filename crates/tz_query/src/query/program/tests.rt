@@ -12,10 +12,24 @@ use tz_base::refusing::Refusing;
 const UTC_V1: &[u8] =
     b"TZif\0\0\0\0\0\0\0\0\0\0\0\0\0\0\0\0\0\0\0\0\0\0\0\0\0\0\0\0\0\0\0\0\0\0\0\x01\0\0\0\x04\0\0\0\0\0\0UTC\0";
 
-/// The files: one of UTC, one cut short, and one for which there is no memory.
+/// A file of version 4 with one type, UTC, and leap seconds from 2016 on that expire.
+const UTC_V4: &[u8] = b"TZif4\
+    \0\0\0\0\0\0\0\0\0\0\0\0\0\0\0\
+    \0\0\0\0\0\0\0\0\0\0\0\0\0\0\0\0\0\0\0\x01\0\0\0\x04\
+    \0\0\0\0\0\0UTC\0\
+    TZif4\
+    \0\0\0\0\0\0\0\0\0\0\0\0\0\0\0\
+    \0\0\0\0\0\0\0\0\0\0\0\x02\0\0\0\0\0\0\0\x01\0\0\0\x04\
+    \0\0\0\0\0\0UTC\0\
+    \0\0\0\0\x58\x68\x46\x9a\0\0\0\x1b\
+    \0\0\0\0\x65\x53\xf1\0\0\0\0\x1b\
+    \n\n";
+
+/// The files: two of UTC, one cut short, and one for which there is no memory.
 fn file_at(alloc: Global, path: &str) -> Result<Vec<u8>, ReadFault> {
     match path {
         "/utc" => Ok(Vec::from_slice(alloc, UTC_V1)?),
+        "/utc_v4" => Ok(Vec::from_slice(alloc, UTC_V4)?),
         "/usr/share/zoneinfo/Zone/UTC" => Ok(Vec::from_slice(alloc, UTC_V1)?),
         "/cut" => Ok(Vec::from_slice(alloc, b"TZif")?),
         "/large" => Err(ReadFault::Memory(AllocError)),
@@ -48,6 +62,7 @@ fn answers_over_the_zone_of_the_words(rt: HostRuntime) -> Result<(), Fail> {
             "2038-01-19T03:14:07.000000000+596523:14:07 -",
         ),
         ("-f", "/utc", "1970-01-01T00:00:00.000000000Z UTC"),
+        ("-f", "/utc_v4", "1970-01-01T00:00:00.000000000Z UTC"),
         ("-z", "HST10", "1969-12-31T14:00:00.000000000-10:00 HST"),
         ("-z", " HST10\n", "1969-12-31T14:00:00.000000000-10:00 HST"),
         (

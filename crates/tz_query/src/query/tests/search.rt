@@ -270,6 +270,41 @@ fn a_file_with_a_rule(rt: HostRuntime) -> Result<(), Fail> {
     Ok(())
 }
 
+/// A zone with transitions has no clock before its leap seconds begin.
+#[test]
+fn a_zone_whose_leap_seconds_begin_later(rt: HostRuntime) -> Result<(), Fail> {
+    let types = [
+        LocalTimeType::new(0, false, Some(b"A"))?,
+        LocalTimeType::new(3600, false, Some(b"B"))?,
+    ];
+    let transitions = [Transition::new(1_500_000_027, 1)];
+    let leap_seconds = [LeapSecond::new(1_483_228_826, 27)];
+    let rule = Some(TransitionRule::Fixed(types[1]));
+    let zone = TimeZoneRef::new(&transitions, &types, &leap_seconds, &rule)?;
+    expect_answers(
+        &rt,
+        rt.alloc(),
+        zone,
+        "T 1483228798 0\n\
+         T 1483228799 0\n\
+         T 1499999999 0\n\
+         T 1500000000 0\n\
+         F 2016 12 31 23 59 58 0\n\
+         F 2016 12 31 23 59 59 0\n\
+         F 2017 7 14 2 40 0 0\n",
+        "E OutOfRange\n\
+         2016-12-31T23:59:59.000000000Z A\n\
+         2017-07-14T02:39:59.000000000Z A\n\
+         2017-07-14T03:40:00.000000000+01:00 B\n\
+         F 0\n\
+         F 1\n\
+         N 2016-12-31T23:59:59.000000000Z A\n\
+         F 1\n\
+         S 2017-07-14T02:40:00.000000000Z A 2017-07-14T03:40:00.000000000+01:00 B\n",
+    )?;
+    Ok(())
+}
+
 #[test]
 fn fields_are_kept_or_refused_by_name(rt: HostRuntime) -> Result<(), Fail> {
     expect_answers(

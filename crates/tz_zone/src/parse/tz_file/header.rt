@@ -69,7 +69,7 @@ fn has_magic(bytes: &[u8]) -> bool
 fn is_version(byte: u8) -> bool
     ensures { MatchBool result (IsVersion byte) (¬ IsVersion byte) }
 {
-    matches!(byte, 0 | b'2' | b'3')
+    matches!(byte, 0 | b'2' | b'3' | b'4')
 }
 
 /// Reads the header at the front.

@@ -1,7 +1,7 @@
 //! TZif files. (RFC 8536)
 
-ghost use Rattle.std.specs.Prelude.{◌≡◌, ◌⊎◌, alloc_error, option_copied, IfOk, OnOk, IfErr};
-ghost use Rattle.tz_zone.specs.TzFile.{part_of, footer_of, IsFramed, IsContent, IsTzFile};
+ghost use Rattle.std.specs.Prelude.{◌≡◌, ◌⊎◌, alloc_error, option_copied, IfOk, OnOk, IfErr, MatchBool};
+ghost use Rattle.tz_zone.specs.TzFile.{part_of, footer_of, IsFramed, IsContent, MayHold, IsTzFile};
 ghost use Rattle.tz_zone.specs.TzFileFault.{FrameFails, ContentFails, IsReadFault};
 ghost use Rattle.tz_zone.specs.TzParts.{block_view, part_view, IsSized, HasTables};
 ghost use Rattle.tz_zone.specs.ZoneRef.{own_zone_of};
@@ -13,6 +13,7 @@ mod header;
 mod indicators;
 mod number;
 
+use crate::inner;
 use crate::timezone::{LeapSecond, LocalTimeType, TimeZone, Transition};
 use block::{Part, read_unit};
 use content::{read_leap_seconds, read_transitions, read_types};
@@ -22,6 +23,7 @@ use number::TimeSize;
 use std::alloc::{Allocator, Global};
 use tz_base::error::TzError;
 use tz_base::error::parse::TzFileError;
+use tz_base::error::timezone::TimeZoneError;
 
 /// What is read of a file.
 #[derive(Clone, Copy)]
@@ -81,6 +83,13 @@ fn read_tables<A: Allocator + Copy>(alloc: A, part: &Part<'_>) -> Result<Tables<
     })
 }
 
+/// Whether a block of this version may hold these leap seconds: before version 4 their table neither begins later nor expires.
+fn may_hold(version: u8, leap_seconds: &[LeapSecond]) -> bool
+    ensures { MatchBool result (MayHold version leap_seconds.now) (¬ MayHold version leap_seconds.now) }
+{
+    version == b'4' || inner::is_plain_table(leap_seconds)
+}
+
 /// Reads a zone from the bytes of a file.
 pub(crate) fn parse_tz_file<A: Allocator + Copy>(
     alloc: A,
@@ -91,7 +100,10 @@ pub(crate) fn parse_tz_file<A: Allocator + Copy>(
 {
     let frame = read_frame(bytes)?;
     let tables = read_tables(alloc, &frame.part)?;
-    let extra_rule = read_extra_rule(frame.footer, frame.part.version == b'3')?;
+    let extra_rule = read_extra_rule(frame.footer, frame.part.is_extended())?;
+    if !may_hold(frame.part.version, &tables.leap_seconds) {
+        return Err(TzError::TimeZone(TimeZoneError::InvalidLeapSecond));
+    }
     TimeZone::new(
         tables.transitions,
         tables.local_time_types,

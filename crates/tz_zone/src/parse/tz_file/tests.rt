@@ -263,7 +263,7 @@ fn jerusalem_is_read(rt: HostRuntime) -> Result<(), Fail> {
     assert_eq!(rt; bytes.len(), 147);
     expect_jerusalem(&rt, rt.alloc(), &bytes)?;
     // The first header's version and the first block's content make no difference, nor does a time of UT.
-    for (place, byte) in [(4, b'2'), (48, 7), (118, 0)] {
+    for (place, byte) in [(4, b'2'), (48, 7), (58, b'4'), (118, 0)] {
         expect_jerusalem(
             &rt,
             rt.alloc(),
@@ -418,3 +418,4 @@ fn leap_seconds_of_later_files_are_read(rt: HostRuntime) -> Result<(), Fail> {
 
 mod altered;
 mod layouts;
+mod version_4;

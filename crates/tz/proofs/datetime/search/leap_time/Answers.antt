@@ -1,4 +1,4 @@
--- Within reach no leap time is refused.
+-- Within reach no leap time is refused once the leap seconds have begun.
 use Rattle.std.proofs.Common.{rules}
 use Rattle.std.proofs.lemmas.Int.{to_z-of_z}
 use Rattle.std.proofs.lemmas.Result.{IfErr-weaker, IfOk-at_ok}
@@ -12,7 +12,7 @@ use Rattle.tz.proofs.datetime.search.leap_time.Goals as goal
 pub unwrap-requires : goal.unwrap-requires
 unwrap-requires c =
     let refused = rw (to_z-of_z w64 c.args.unix_time c.ranges.unix_time) at c.leap.ensures.err in
-    ok_from_err c.leap.result (IfErr-weaker c.leap.result _ _ (λ e h. not_refused_within c.args.leap_seconds.now c.requires.leaps c.args.unix_time c.requires.reach.1 h.1) refused)
+    ok_from_err c.leap.result (IfErr-weaker c.leap.result _ _ (λ e h. not_refused_within c.args.leap_seconds.now c.requires.leaps c.args.unix_time c.requires.begun c.requires.reach.1 h.1) refused)
 
 pub returns : goal.returns
 returns c =

@@ -7,11 +7,17 @@ use Rattle.std.proofs.lemmas.Result.{err_from_is_err_and}
 use mir.Syntax.{w64}
 use mir.Val.{SFits}
 use Rattle.tz_zone.specs.ZoneSeen.{zone_seen}
+use Rattle.tz_zone.proofs.LeapTimes.{begun_later}
 use Rattle.tz.specs.Reached.{IsOnTheWay}
 use Rattle.tz.specs.Windows.{TakesEffectIn}
 use Rattle.tz.proofs.SearchLemmas.{due_past, reached_later, from_in_window, on_the_way_past, effect_in_window, fault_on_the_way}
 use Rattle.tz.proofs.WindowLemmas.{as_many_as_passed}
 use Rattle.tz.proofs.datetime.search.walk_transitions.Goals as goal
+
+pub leap_time-unix_leap_time-requires-clause-begun : goal.leap_time-unix_leap_time-requires-clause-begun
+leap_time-unix_leap_time-requires-clause-begun g c =
+    let way = c.requires.way in
+    rw (to_z-of_z w64 c.args.high c.ranges.high) (begun_later c.args.parts.leap_seconds.now c.requires.sound.leap_seconds_are c.args.walk.now.since c.args.high way.high_is way.begun)
 
 pub loop-place-init : goal.loop-place-init
 loop-place-init g c =

@@ -270,3 +270,5 @@ fn rules_near_the_ends(rt: HostRuntime) -> Result<(), Fail> {
     assert!(rt; entries > 1000);
     Ok(())
 }
+
+mod leap_tables;

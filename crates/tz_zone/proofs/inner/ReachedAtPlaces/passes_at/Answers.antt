@@ -1,21 +1,13 @@
 -- The comparison is the one that the definition makes, in numbers of 128 bits.
-use Rattle.std.proofs.Common.{◌≡◌, refl, arith, rules, sym, ◌∙◌, ap, ℤ, ◌≤ℤ◌, Bool, true, false}
-use Rattle.std.specs.Prelude.{MatchBool}
+use Rattle.std.proofs.Common.{◌≡◌, refl, arith, rules, sym, ◌∙◌, ap}
 use Rattle.std.proofs.lemmas.Int.{ints}
 use Rattle.std.proofs.lemmas.Option.{slice_get_read, same_Some, get_or_from_slice_get}
-use lib.Signed.{le_z}
 use mir.Syntax.{w64, w128}
 use mir.Val.{SFits, to_z, of_z}
 use Rattle.tz_zone.specs.Table.{LeapSecond}
 use Rattle.tz_zone.specs.LeapTime.{IsReached}
+use Rattle.tz_zone.proofs.LeapAnswers.{by_comparison}
 use Rattle.tz_zone.proofs.inner.ReachedAtPlaces.passes_at.Goals as goal
-
-by_test : (a b : ℤ) (P : Type 0) → (a ≤ℤ b → P) → (P → a ≤ℤ b) → MatchBool (le_z a b) P (¬ P)
-by_test a b P f g = at (le_z a b) refl
-  where
-    at : (t : Bool) → t ≡ le_z a b → MatchBool t P (¬ P)
-    at true e = f (grind (arith, ints))
-    at false e = λ p. let order = g p in grind (arith, ints)
 
 pub returns : goal.returns
 returns c =
@@ -27,7 +19,7 @@ returns c =
     let correction = c.correction_before-correction.ensures in
     let read = get_or_from_slice_get s.leap_seconds.now c.args.place item item at in
     let read_time = ap (λ (l : LeapSecond). l.unix_leap_time) read in
-    by_test (to_z w128 (of_z w128 c.from.result)) _ ((l : LeapSecond) × IsReached s.leap_seconds.now c.args.place l s.unix_time)
+    by_comparison (to_z w128 (of_z w128 c.from.result)) _ ((l : LeapSecond) × IsReached s.leap_seconds.now c.args.place l s.unix_time)
     (λ order. (item, (at, omega (arith, ints))))
     (λ r.
     let same : r.0 ≡ item = same_Some r.0 item (sym r.1.0 ∙ at) in

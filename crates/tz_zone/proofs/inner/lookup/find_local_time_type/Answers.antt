@@ -1,13 +1,13 @@
 -- The leap time tells on which side of the last transition the instant lies.
 use Rattle.std.proofs.Common.{◌-◌, ◌<ℤ◌, ◌≤ℤ◌, List, length, sym, subst, arith, rules}
 use Rattle.std.proofs.lemmas.Int.{ints, to_z-of_z}
-use Rattle.std.proofs.lemmas.Result.{IfOk-weaker, IfErr-weaker}
+use Rattle.std.proofs.lemmas.Result.{IfOk-weaker, IfErr-weaker, err_from_is_err_and}
 use mir.Syntax.{w64}
 use mir.Val.{SFits}
 use Rattle.tz_zone.specs.Table.{Transition}
 use Rattle.tz_zone.specs.Clock.{AreAhead, IsTransitionType}
 use Rattle.tz_zone.specs.ZoneSeen.{zone_seen}
-use Rattle.tz_zone.proofs.Clocks.{clock_before_last, clock_from_last, fault_from_last}
+use Rattle.tz_zone.proofs.Clocks.{clock_before_last, clock_from_last, fault_from_last, fault_from_refused}
 use Rattle.tz_zone.proofs.RisingTimes.{ahead_from}
 use Rattle.tz_zone.proofs.inner.lookup.find_local_time_type.Goals as goal
 
@@ -64,3 +64,12 @@ returns-else-unix_leap_time-clause-err g c =
     IfErr-weaker c.type_after_transitions.result _ _
     (λ e fault. fault_from_last z c.requires.leap_seconds_are last is_last u l leap e from (rw (to_z-of_z w64 u c.ranges.unix_time) at fault))
     c.type_after_transitions.ensures.err
+
+pub returns-in_err-unix_leap_time-clause-err : goal.returns-in_err-unix_leap_time-clause-err
+returns-in_err-unix_leap_time-clause-err g c =
+    let z = zone_seen (g.V.Transitions.list c.args.view.now) c.args.parts in
+    let u = c.args.unix_time in
+    let p = err_from_is_err_and c.from_residual.result c.from_residual.ensures.1 in
+    let is_last = rw c.len-count.ensures at c.look-last.ensures.value in
+    let refused = rw (to_z-of_z w64 u c.ranges.unix_time) at c.in_err-unix_leap_time.ensures.err in
+    rw (p.1, p.2) (fault_from_refused z c.look-last.result is_last u refused.1 c.in_err-unix_leap_time.field-0.0 refused.0)

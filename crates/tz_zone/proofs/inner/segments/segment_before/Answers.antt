@@ -1,5 +1,5 @@
 -- The segment lies between the two transitions.
-use Rattle.std.proofs.Common.{◌≡◌, ◌<◌, ◌-◌, length, sym, ap, ◌∙◌, arith, rules, negsuc, Some}
+use Rattle.std.proofs.Common.{◌≡◌, ◌<◌, ◌-◌, length, sym, ap, ◌∙◌, arith, rules, Some}
 use Rattle.std.specs.Prelude.{slice_get}
 use Rattle.std.proofs.lemmas.Int.{to_z-of_z}
 use Rattle.std.proofs.lemmas.Option.{slice_get-get_or}
@@ -20,7 +20,10 @@ returns-then-place-eq0 c =
     let effect : IsEffect z.leap_seconds next.unix_leap_time until = rw (to_z-of_z w64 c.unix_leap_time.result time_fits, c.leap_seconds.ensures, c.unix_leap_time.ensures) at c.in_ok-until.ensures in
     let at : slice_get z.transitions c.args.place ≡ Some next = slice_get-get_or z.transitions c.args.place next c.requires ∙ ap Some (sym (rw c.transitions-transitions.ensures at c.index-transitions-place.is)) in
     let first = type_exists z c.args.zone.sound in
-    rw (to_z-of_z w64 until fits) (first.0, number_of_type z 0 first.0 first.1, stretch_before_first z c.args.zone.sound c.args.place next at until effect c.if-place-eq0.true (negsuc 9223372036854775807) first.0 first.1)
+    let from = c.in_ok-begin.begin in
+    let from_fits : SFits w64 from = search rules in
+    let begun = rw c.leap_seconds-then-place-eq0.ensures at c.in_ok-begin.ensures.some in
+    rw (to_z-of_z w64 until fits, to_z-of_z w64 from from_fits) (first.0, number_of_type z 0 first.0 first.1, stretch_before_first z c.args.zone.sound c.args.place next at until effect c.if-place-eq0.true from begun.begun first.0 first.1)
 
 pub returns : goal.returns
 returns c =

@@ -14,10 +14,11 @@ returns-in_err-rule_type-clause-err c =
     let p = err_from_is_err_and c.from_residual.result c.from_residual.ensures.1 in
     let z = zone_with c.args.transitions.now c.args.local_time_types.now c.args.leap_seconds.now c.args.extra_rule.now in
     let last = c.in-Some-last.last.now in
-    let time = c.unix_leap_time.ensures in
-    let fits : SFits w64 c.unix_leap_time.result = search rules in
-    let none = rw (to_z-of_z w64 c.unix_leap_time.result fits, time) at c.in_err-rule_type.ensures.err.1 in
-    rw (p.1, p.2) (inl (c.in_err-rule_type.ensures.err.0, not_answers z c.in-Some.rule last c.in-Some.is (sym c.in-Some-last.ensures.value) none))
+    let time = c.unix_leap_time-last_time.ensures in
+    let fits : SFits w64 c.unix_leap_time-last_time.result = search rules in
+    let begun = rw (to_z-of_z w64 c.unix_leap_time-last_time.result fits, time) at c.if-not-has_begun_at.ensures in
+    let none = rw (to_z-of_z w64 c.unix_leap_time-last_time.result fits, time) at c.in_err-rule_type.ensures.err.1 in
+    rw (p.1, p.2) (inl (c.in_err-rule_type.ensures.err.0, not_answers z c.in-Some.rule last c.in-Some.is (sym c.in-Some-last.ensures.value) begun none))
 
 pub offset_bounds-local_time_types-local_time_type_index : goal.offset_bounds-local_time_types-local_time_type_index
 offset_bounds-local_time_types-local_time_type_index c =
@@ -41,9 +42,10 @@ returns-then-ne-clause-err c =
     let index = c.local_time_type_index.ensures in
     let within : last.type_index < length c.args.local_time_types.now = (c.requires.transitions_are (length c.args.transitions.now - 1)).0 last is_last in
     let at = slice_get_read c.args.local_time_types.now _ last.type_index stored refl within (rw index at c.index-local_time_types-local_time_type_index.is) in
-    let fits : SFits w64 c.unix_leap_time.result = search rules in
-    let type = rw (to_z-of_z w64 c.unix_leap_time.result fits, c.unix_leap_time.ensures) at c.in_ok-rule_type.ensures.ok in
-    inr (refl, answers_at z c.in-Some.rule last c.in-Some.is is_last answer type, not_agrees z c.in-Some.rule last c.in-Some.is is_last answer stored type at (other_from_test answer stored c.if-ne.ensures))
+    let fits : SFits w64 c.unix_leap_time-last_time.result = search rules in
+    let type = rw (to_z-of_z w64 c.unix_leap_time-last_time.result fits, c.unix_leap_time-last_time.ensures) at c.in_ok-rule_type.ensures.ok in
+    let begun = rw (to_z-of_z w64 c.unix_leap_time-last_time.result fits, c.unix_leap_time-last_time.ensures) at c.if-not-has_begun_at.ensures in
+    inr (refl, answers_at z c.in-Some.rule last c.in-Some.is is_last answer type, not_agrees z c.in-Some.rule last c.in-Some.is is_last begun answer stored type at (other_from_test answer stored c.if-ne.ensures))
 
 pub returns-clause-agrees : goal.returns-clause-agrees
 returns-clause-agrees c =
@@ -55,6 +57,6 @@ returns-clause-agrees c =
     let index = c.local_time_type_index.ensures in
     let within : last.type_index < length c.args.local_time_types.now = (c.requires.transitions_are (length c.args.transitions.now - 1)).0 last is_last in
     let at = slice_get_read c.args.local_time_types.now _ last.type_index stored refl within (rw index at c.index-local_time_types-local_time_type_index.is) in
-    let fits : SFits w64 c.unix_leap_time.result = search rules in
-    let type = rw (to_z-of_z w64 c.unix_leap_time.result fits, c.unix_leap_time.ensures) at c.in_ok-rule_type.ensures.ok in
+    let fits : SFits w64 c.unix_leap_time-last_time.result = search rules in
+    let type = rw (to_z-of_z w64 c.unix_leap_time-last_time.result fits, c.unix_leap_time-last_time.ensures) at c.in_ok-rule_type.ensures.ok in
     agrees_at z c.in-Some.rule last c.in-Some.is is_last c.requires.leap_seconds_are answer type (rw (same_from_test answer stored c.if-ne.ensures) at)

@@ -54,7 +54,7 @@ fn altered_bytes_are_refused(rt: HostRuntime) -> Result<(), Fail> {
     let bytes = utc_v1(rt.alloc())?;
     for (place, byte, expected) in [
         (2, b'j', Fault::File(TzFileError::InvalidMagicNumber)),
-        (4, b'4', Fault::File(TzFileError::UnsupportedTzFileVersion)),
+        (4, b'5', Fault::File(TzFileError::UnsupportedTzFileVersion)),
         (23, 2, Fault::File(TzFileError::InvalidHeader)),
         (27, 2, Fault::File(TzFileError::InvalidHeader)),
         (39, 0, Fault::File(TzFileError::InvalidHeader)),
@@ -113,7 +113,7 @@ fn altered_later_files_are_refused(rt: HostRuntime) -> Result<(), Fail> {
         (56, b'j', Fault::File(TzFileError::InvalidMagicNumber)),
         (58, b'2', Fault::Text(TzStringError::InvalidDayTimeHour)),
         (58, 0, Fault::Text(TzStringError::InvalidDayTimeHour)),
-        (58, b'4', Fault::File(TzFileError::UnsupportedTzFileVersion)),
+        (58, b'5', Fault::File(TzFileError::UnsupportedTzFileVersion)),
         (
             106,
             1,
@@ -191,7 +191,7 @@ fn expect_same_zone(rt: &impl Abort, zone: TimeZoneRef<'_>) {
 
 /// Sets each byte to each other value, and answers how many of these files are accepted. The others are refused by a name that is not want
 /// of memory; of an accepted one the parts that its zone lends make an equal zone.
-fn accepted_alterations(rt: &impl Abort, alloc: Global, bytes: &mut Vec<u8>) -> u32 {
+pub(super) fn accepted_alterations(rt: &impl Abort, alloc: Global, bytes: &mut Vec<u8>) -> u32 {
     let mut accepted = 0u32;
     for place in 0..bytes.len() {
         let byte = bytes[place];
@@ -220,10 +220,10 @@ fn each_byte_of_a_first_version_is_altered(rt: HostRuntime) -> Result<(), Fail> 
     Ok(())
 }
 
-/// tz-rs accepts as many.
+/// tz-rs accepts as many, but for the two with a header of version 4.
 #[test]
 fn each_byte_of_a_later_version_is_altered(rt: HostRuntime) -> Result<(), Fail> {
     let accepted = accepted_alterations(&rt, rt.alloc(), &mut jerusalem_v3(rt.alloc())?);
-    assert_eq!(rt; accepted, 11_447);
+    assert_eq!(rt; accepted, 11_449);
     Ok(())
 }

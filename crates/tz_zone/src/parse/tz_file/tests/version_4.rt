@@ -1,0 +1,145 @@
+//! Files of version 4, whose leap-second tables may begin later and expire.
+
+use super::altered::accepted_alterations;
+use super::*;
+
+/// UTC with a table that begins at the end of 2016 and expires.
+fn utc_v4(alloc: Global) -> Result<Vec<u8>, AllocError> {
+    let mut bytes = Vec::new(alloc);
+    for leap_seconds in [0, 2u32] {
+        push_header(&mut bytes, b'4', &[0, 0, leap_seconds, 0, 1, 4])?;
+        bytes.extend_from_slice(b"\0\0\0\0\0\0UTC\0")?;
+    }
+    bytes.extend_from_slice(b"\0\0\0\0\x58\x68\x46\x9a\0\0\0\x1b")?;
+    bytes.extend_from_slice(b"\0\0\0\0\x65\x53\xf1\0\0\0\0\x1b\n\n")?;
+    Ok(bytes)
+}
+
+/// The leap seconds and their expiry are those of the bytes.
+fn expect_utc(
+    rt: &impl Abort,
+    alloc: Global,
+    bytes: &[u8],
+    correction: i32,
+    expiry: Option<i64>,
+) -> Result<(), TzError> {
+    let zone = TimeZone::from_tz_data(alloc, bytes)?;
+    let zone = zone.as_ref();
+    assert!(rt; zone.transitions().is_empty());
+    assert_eq!(rt;
+        zone.local_time_types(),
+        [LocalTimeType::new(0, false, Some(b"UTC"))?].as_slice()
+    );
+    assert_eq!(rt;
+        zone.leap_seconds(),
+        [
+            LeapSecond::new(1_483_228_826, 27),
+            LeapSecond::new(1_700_000_000, correction)
+        ]
+        .as_slice()
+    );
+    assert!(rt; zone.extra_rule().is_none());
+    assert_eq!(rt; zone.leap_expiry(), expiry);
+    Ok(())
+}
+
+#[test]
+fn a_table_that_begins_later_and_expires(rt: HostRuntime) -> Result<(), Fail> {
+    let bytes = utc_v4(rt.alloc())?;
+    assert_eq!(rt; bytes.len(), 134);
+    expect_utc(&rt, rt.alloc(), &bytes, 27, Some(1_700_000_000))?;
+    // The first header's version makes no difference.
+    for version in [b'2', b'3'] {
+        let other = with_byte(rt.alloc(), &bytes, 4, version)?;
+        expect_utc(&rt, rt.alloc(), &other, 27, Some(1_700_000_000))?;
+    }
+    // Of another correction the last record is a leap second.
+    let other = with_byte(rt.alloc(), &bytes, 131, 0x1c)?;
+    expect_utc(&rt, rt.alloc(), &other, 28, None)?;
+    Ok(())
+}
+
+#[test]
+fn tables_that_are_refused(rt: HostRuntime) -> Result<(), Fail> {
+    let bytes = utc_v4(rt.alloc())?;
+    for (place, byte, expected) in [
+        (4, 0, Fault::File(TzFileError::RemainingDataV1)),
+        (4, b'5', Fault::File(TzFileError::UnsupportedTzFileVersion)),
+        (58, 0, Fault::Zone(TimeZoneError::InvalidLeapSecond)),
+        (58, b'2', Fault::Zone(TimeZoneError::InvalidLeapSecond)),
+        (58, b'3', Fault::Zone(TimeZoneError::InvalidLeapSecond)),
+        (58, b'5', Fault::File(TzFileError::UnsupportedTzFileVersion)),
+        (131, 0x1d, Fault::Zone(TimeZoneError::InvalidLeapSecond)),
+        (108, 0x80, Fault::Zone(TimeZoneError::InvalidLeapSecond)),
+    ] {
+        let other = with_byte(rt.alloc(), &bytes, place, byte)?;
+        assert_eq!(rt; fault_of(rt.alloc(), &other), Some(expected), "at {place}");
+    }
+    Ok(())
+}
+
+/// Before version 4 a table that begins later is refused without an expiry, and one that expires without such a start.
+#[test]
+fn earlier_versions_have_plain_tables(rt: HostRuntime) -> Result<(), Fail> {
+    let bytes = utc_v4(rt.alloc())?;
+    let begins_later = with_byte(rt.alloc(), &bytes, 131, 0x1c)?;
+    let expires = with_byte(rt.alloc(), &with_byte(rt.alloc(), &bytes, 119, 1)?, 131, 1)?;
+    let plain = with_byte(rt.alloc(), &with_byte(rt.alloc(), &bytes, 119, 1)?, 131, 2)?;
+    let refused = Some(Fault::Zone(TimeZoneError::InvalidLeapSecond));
+    for version in [0, b'2', b'3'] {
+        for bytes in [&begins_later, &expires] {
+            let other = with_byte(rt.alloc(), bytes, 58, version)?;
+            assert_eq!(rt; fault_of(rt.alloc(), &other), refused);
+            assert_eq!(rt; fault_of(rt.alloc(), bytes), None);
+        }
+        let other = with_byte(rt.alloc(), &plain, 58, version)?;
+        assert_eq!(rt; fault_of(rt.alloc(), &other), None);
+    }
+    Ok(())
+}
+
+#[test]
+fn footers_are_extended(rt: HostRuntime) -> Result<(), Fail> {
+    let footer = b"\nIST-2IDT,M3.4.4/26,M10.5.0\n";
+    let bytes = with_footer(rt.alloc(), b'4', footer)?;
+    expect_jerusalem(&rt, rt.alloc(), &bytes)?;
+    // The first header's version does not extend them.
+    let mut bytes = with_footer(rt.alloc(), b'2', footer)?;
+    bytes = with_byte(rt.alloc(), &bytes, 4, b'4')?;
+    assert_eq!(rt;
+        fault_of(rt.alloc(), &bytes),
+        Some(Fault::Text(TzStringError::InvalidDayTimeHour))
+    );
+    Ok(())
+}
+
+#[test]
+fn cut_tables_are_refused(rt: HostRuntime) -> Result<(), Fail> {
+    let bytes = utc_v4(rt.alloc())?;
+    for len in 0..bytes.len() {
+        let expected = match len {
+            0..=131 => is_cut(),
+            133 => None,
+            _ => Some(Fault::File(TzFileError::InvalidFooter)),
+        };
+        assert_eq!(rt;
+            fault_of(rt.alloc(), &bytes[..len]),
+            expected,
+            "of {len} bytes"
+        );
+    }
+    Ok(())
+}
+
+#[test]
+fn each_byte_of_a_table_is_altered(rt: HostRuntime) -> Result<(), Fail> {
+    let accepted = accepted_alterations(&rt, rt.alloc(), &mut utc_v4(rt.alloc())?);
+    assert_eq!(rt; accepted, 14_109);
+    Ok(())
+}
+
+#[test]
+fn memory_is_refused_with_a_table(rt: HostRuntime) -> Result<(), Fail> {
+    expect_memory(&rt, rt.alloc(), &utc_v4(rt.alloc())?)?;
+    Ok(())
+}
