@@ -10,7 +10,8 @@ ghost use Rattle.tz.specs.PrintedText.{two_digits, nine_digits, two_digits_or_mo
 use crate::datetime::{DateTime, search};
 use std::marker::Model;
 use std::str;
-pub use tz_base::calendar::Fields;
+pub use tz_base::calendar::{Fields, is_reading};
+pub use tz_zone::inner::{Segment, segment_at};
 use tz_zone::timezone::TimeZoneRef;
 
 /// Two offsets between which those of all types lie that the clock has.

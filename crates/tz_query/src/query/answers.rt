@@ -19,9 +19,8 @@ use crate::query::meetings::answer_meeting;
 use std::alloc::{AllocError, Allocator};
 use tz::datetime::{DateTime, FoundDateTimeKind};
 use tz::error::datetime::DateTimeError;
-use tz::inner::{self, Fields, TextBuffer};
+use tz::inner::{self, Fields, Segment, TextBuffer};
 use tz::{LocalTimeType, TimeZoneRef, TzError};
-use tz_zone::inner::Segment;
 
 /// Appends the name of a type, or `-` where it has none.
 #[inline]

@@ -5,8 +5,7 @@ ghost use Rattle.tz_base.specs.Fields.{IsValid};
 ghost use Rattle.tz_query.specs.Pages.{end_text, front_text};
 
 use super::tail::Tail;
-use tz::inner::{ones, tens};
-use tz_base::calendar::Fields;
+use tz::inner::{Fields, ones, tens};
 
 /// The date and the time of fields up to the point before the nanoseconds, in a year of four digits.
 #[inline(always)]

@@ -16,9 +16,8 @@ use super::page::{front_of, push_line};
 use super::tail::Tail;
 use super::time_lines::keep;
 use tz::TimeZoneRef;
+use tz::inner::{Fields, Segment};
 use tz::timezone::TransitionRule;
-use tz_base::calendar::Fields;
-use tz_zone::inner::Segment;
 
 /// The fields that the first line asks for, if it is an `F` line of usual numbers, and the bytes after it. Its nanoseconds are copied,
 /// and are 0 in the fields.

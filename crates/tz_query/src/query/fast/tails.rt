@@ -8,7 +8,7 @@ ghost use Rattle.tz_query.specs.Tails.{types_of};
 use super::tail::Tail;
 use std::alloc::{AllocError, Allocator};
 use tz::TimeZoneRef;
-use tz_zone::timezone::TransitionRule;
+use tz::timezone::TransitionRule;
 
 /// The ends of lines of each type of a zone, and of those of its rule.
 pub fn tails_of<A: Allocator>(alloc: A, zone: TimeZoneRef<'_>) -> Result<Vec<Tail, A>, AllocError>

@@ -15,8 +15,7 @@ use super::numbers::{read_nanoseconds, read_seconds};
 use super::page::{front_of, push_line};
 use super::tail::Tail;
 use tz::TimeZoneRef;
-use tz_base::calendar::{self, Fields};
-use tz_zone::inner::{Segment, segment_at};
+use tz::inner::{Fields, Segment, is_reading, segment_at};
 
 /// The instant that the first line asks for, if it is a `T` line of usual numbers, and the bytes after it. Its nanoseconds are copied.
 ///
@@ -84,7 +83,7 @@ fn shown_fields(unix_time: i64, ut_offset: i32) -> Option<Fields>
     ensures year { IfSome result (λ f. (pos 1000 ≤ℤ f.year) × (f.year ≤ℤ pos 9999)) }
 {
     let reading = unix_time + i64::from(ut_offset);
-    if !calendar::is_reading(reading) {
+    if !is_reading(reading) {
         return None;
     }
     let fields = Fields::from_reading(reading, 0);
