@@ -29,8 +29,8 @@ abbrev pub IsSteadyAfter : Zone → ℕ → Type 0
 IsSteadyAfter z k = (k < length z.transitions) ⊎ ((r : AlternateTime) → z.extra_rule ≢ Some (Alternate r))
 
 -- what the clock has where so many transitions have come: at an instant, and wherever it is steady
-abbrev pub IsKindOf : Zone → ℕ → ℤ → Option LocalTimeType → Type 0
-IsKindOf z k from kind = (u : ℤ) → IsReachedAt z u k → IsSteadyAfter z k ⊎ (u ≡ from) → HoldsAt (IsClock z) u kind
+abbrev pub HoldsAfter : Zone → ℕ → ℤ → Option LocalTimeType → Type 0
+HoldsAfter z k from type = (u : ℤ) → IsReachedAt z u k → IsSteadyAfter z k ⊎ (u ≡ from) → HoldsAt (IsClock z) u type
 
 -- a transition that takes effect, if its time is not above a leap time: that one is an instant's, and its time is not the least of all
 abbrev pub IsDue : Zone → ℕ → ℤ → Type 0
@@ -41,7 +41,7 @@ IsDue z i l =
 -- the piece of the clock that begins where a transition takes effect
 abbrev pub IsPieceOf : Zone → ℕ → Piece → Type 0
 IsPieceOf z i piece =
-    ((change : Transition) × (slice_get z.transitions i ≡ Some change) × IsEffect z.leap_seconds change.unix_leap_time piece.from) × IsKindOf z (i + 1) piece.from piece.kind
+    ((change : Transition) × (slice_get z.transitions i ≡ Some change) × IsEffect z.leap_seconds change.unix_leap_time piece.from) × HoldsAfter z (i + 1) piece.from piece.local_time_type
 
 -- the offsets of all types that the clock has lie between these two
 abbrev pub AreOffsetsOf : Zone → ℤ → ℤ → Type 0
@@ -65,7 +65,7 @@ WindowClock z low high u t = IsClock z u t × IsInWindow low high u
 -- a walk past the pieces of a zone in a window, which has come to the piece after so many transitions
 pub record IsOnTheWay (z : Zone) (low high : ℤ) (f : Fields) (place : ℕ) (w : Walk) (found : List FoundDateTimeKind) : Type 0 where
   pub walked : IsWalked (WindowClock z low high) f w found
-  pub kind : IsKindOf z place w.since w.kind
+  pub holds : HoldsAfter z place w.since w.local_time_type
   pub come : (i : ℕ) (change : Transition) → i < place → slice_get z.transitions i ≡ Some change → HasComeTo z.leap_seconds change.unix_leap_time w.since
   pub begun : ¬ IsBeforeStart z.leap_seconds w.since
   pub low_is : low ≤ℤ w.since

@@ -16,7 +16,7 @@ use Rattle.tz_zone.specs.ValidZone.{AreLeapSeconds}
 use Rattle.tz_zone.proofs.Clocks.{last_unique, some_from_last, type_before_first, type_of_last_reached, clock_before_last, clock_from_last, type_after_from_clock}
 use Rattle.tz_zone.proofs.LeapTimes.{leap_time_unique}
 use Rattle.tz.specs.Walks.{HoldsAt}
-use Rattle.tz.specs.Reached.{IsReachedAt, IsSteadyAfter, IsKindOf, AreOffsetsOf}
+use Rattle.tz.specs.Reached.{IsReachedAt, IsSteadyAfter, HoldsAfter, AreOffsetsOf}
 
 abbrev pub no_change : Transition
 no_change = record { unix_leap_time = pos 0; type_index = 0 }
@@ -43,10 +43,10 @@ transition_type_unique z l t s (inr (i, c, (at, come, later), type)) (inr (j, d,
     ]
 
 -- a rule that is no alternate one has one type at all instants
-one_type_everywhere : (rule : TransitionRule) → ((r : AlternateTime) → rule ≢ Alternate r) → (v : ℤ) (kind : Option LocalTimeType) → HoldsAt (IsRuleType rule) v kind → (u : ℤ) → HoldsAt (IsRuleType rule) u kind
+one_type_everywhere : (rule : TransitionRule) → ((r : AlternateTime) → rule ≢ Alternate r) → (v : ℤ) (type : Option LocalTimeType) → HoldsAt (IsRuleType rule) v type → (u : ℤ) → HoldsAt (IsRuleType rule) u type
 unfolding IsRuleType
-one_type_everywhere (Fixed fixed) one v kind holds u = holds
-one_type_everywhere (Alternate r) one v kind holds u = absurd (one r refl)
+one_type_everywhere (Fixed fixed) one v type holds u = holds
+one_type_everywhere (Alternate r) one v type holds u = absurd (one r refl)
 
 -- its type is the fixed one, or one of the two
 pub fixed_type : (fixed : LocalTimeType) (u : ℤ) (t : LocalTimeType) → IsRuleType (Fixed fixed) u t → t ≡ fixed
@@ -60,8 +60,8 @@ alternate_type r u t (years, inr (day, is)) = inr is
 
 module _ (z : Zone) (are : AreLeapSeconds z.leap_seconds) (k : ℕ) where
   -- before the last transition it is the type of the last one that has come
-  pub kind_before_last : k < length z.transitions → (t : LocalTimeType) → IsTypeOfLast z k t → (from : ℤ) → IsKindOf z k from (Some t)
-  kind_before_last inside t type from u reached any s = (to, back)
+  pub holds_before_last : k < length z.transitions → (t : LocalTimeType) → IsTypeOfLast z k t → (from : ℤ) → HoldsAfter z k from (Some t)
+  holds_before_last inside t type from u reached any s = (to, back)
     where
       last : Transition
       last = get_or z.transitions (length z.transitions - 1) no_change
@@ -116,44 +116,44 @@ module _ (z : Zone) (are : AreLeapSeconds z.leap_seconds) (k : ℕ) where
         | inr none ↦ subst (λ (r : Option TransitionRule). (IsClock z u t → IsTypeWithout z r u t) × (IsTypeWithout z r u t → IsClock z u t)) e (clock_without all (omega arith) u t)
       ]
 
-  pub kind_with_rule : k ≡ length z.transitions → (rule : TransitionRule) → z.extra_rule ≡ Some rule → (from : ℤ) (kind : Option LocalTimeType) → HoldsAt (IsRuleType rule) from kind → IsKindOf z k from kind
-  kind_with_rule all rule e from kind holds u reached any t =
+  pub holds_with_rule : k ≡ length z.transitions → (rule : TransitionRule) → z.extra_rule ≡ Some rule → (from : ℤ) (type : Option LocalTimeType) → HoldsAt (IsRuleType rule) from type → HoldsAfter z k from type
+  holds_with_rule all rule e from type holds u reached any t =
       let here = spread any t in
       let clock = clock_of_rule all rule e u reached t in
       ((λ at. here.0 (clock.0 at)), (λ is. clock.1 (here.1 is)))
     where
-      spread : IsSteadyAfter z k ⊎ (u ≡ from) → HoldsAt (IsRuleType rule) u kind
+      spread : IsSteadyAfter z k ⊎ (u ≡ from) → HoldsAt (IsRuleType rule) u type
       spread (inl (inl less)) = absurd (omega (arith, less, all))
-      spread (inl (inr one)) = one_type_everywhere rule (λ r is. one r (e ∙ ap Some is)) from kind holds u
-      spread (inr is) = subst (λ (x : ℤ). HoldsAt (IsRuleType rule) x kind) (sym is) holds
+      spread (inl (inr one)) = one_type_everywhere rule (λ r is. one r (e ∙ ap Some is)) from type holds u
+      spread (inr is) = subst (λ (x : ℤ). HoldsAt (IsRuleType rule) x type) (sym is) holds
 
-  pub kind_after_all : k ≡ length z.transitions → k ≢ 0 → z.extra_rule ≡ None → (from : ℤ) → IsKindOf z k from None
-  kind_after_all all some e from u reached any t =
+  pub holds_after_all : k ≡ length z.transitions → k ≢ 0 → z.extra_rule ≡ None → (from : ℤ) → HoldsAfter z k from None
+  holds_after_all all some e from u reached any t =
       let clock = subst (λ (r : Option TransitionRule). (IsClock z u t → IsTypeAfter r u t) × (IsTypeAfter r u t → IsClock z u t)) e (clock_from_all all some u reached t) in
       ((λ at. absurd (clock.0 at)), λ is. absurd (none-some t is))
 
-  pub kind_from_last : k ≡ length z.transitions → k ≢ 0 → (from : ℤ) (kind : Option LocalTimeType) → HoldsAt (IsTypeAfter z.extra_rule) from kind → IsKindOf z k from kind
-  kind_from_last all some from kind = by_rule z.extra_rule refl
+  pub holds_from_last : k ≡ length z.transitions → k ≢ 0 → (from : ℤ) (type : Option LocalTimeType) → HoldsAt (IsTypeAfter z.extra_rule) from type → HoldsAfter z k from type
+  holds_from_last all some from type = by_rule z.extra_rule refl
     where
-      none : z.extra_rule ≡ None → (kind : Option LocalTimeType) → HoldsAt (IsTypeAfter None) from kind → IsKindOf z k from kind
-      none e None holds = kind_after_all all some e from
+      none : z.extra_rule ≡ None → (type : Option LocalTimeType) → HoldsAt (IsTypeAfter None) from type → HoldsAfter z k from type
+      none e None holds = holds_after_all all some e from
       none e (Some t) holds = absurd ((holds t).1 refl)
 
-      by_rule : (rule : Option TransitionRule) → z.extra_rule ≡ rule → HoldsAt (IsTypeAfter rule) from kind → IsKindOf z k from kind
-      by_rule (Some rule) e holds = kind_with_rule all rule e from kind holds
-      by_rule None e holds = none e kind holds
+      by_rule : (rule : Option TransitionRule) → z.extra_rule ≡ rule → HoldsAt (IsTypeAfter rule) from type → HoldsAfter z k from type
+      by_rule (Some rule) e holds = holds_with_rule all rule e from type holds
+      by_rule None e holds = none e type holds
 
   -- without transitions, too, where there is a rule
-  pub kind_from_rule : k ≡ length z.transitions → z.extra_rule ≢ None → (from : ℤ) (kind : Option LocalTimeType) → HoldsAt (IsTypeAfter z.extra_rule) from kind → IsKindOf z k from kind
-  kind_from_rule all ruled from kind = by_rule z.extra_rule refl
+  pub holds_from_rule : k ≡ length z.transitions → z.extra_rule ≢ None → (from : ℤ) (type : Option LocalTimeType) → HoldsAt (IsTypeAfter z.extra_rule) from type → HoldsAfter z k from type
+  holds_from_rule all ruled from type = by_rule z.extra_rule refl
     where
-      by_rule : (rule : Option TransitionRule) → z.extra_rule ≡ rule → HoldsAt (IsTypeAfter rule) from kind → IsKindOf z k from kind
-      by_rule (Some rule) e holds = kind_with_rule all rule e from kind holds
+      by_rule : (rule : Option TransitionRule) → z.extra_rule ≡ rule → HoldsAt (IsTypeAfter rule) from type → HoldsAfter z k from type
+      by_rule (Some rule) e holds = holds_with_rule all rule e from type holds
       by_rule None e holds = absurd (ruled e)
 
-  pub kind_of_type : k ≡ length z.transitions → k ≡ 0 → z.extra_rule ≡ None → (t : LocalTimeType) → IsTypeOfLast z 0 t → (from : ℤ) → IsKindOf z k from (Some t)
-  kind_of_type all none e t (inr (some, change, at, type)) from = absurd (some refl)
-  kind_of_type all none e t (inl (zero_is, at)) from = λ u reached any s.
+  pub holds_without_transitions : k ≡ length z.transitions → k ≡ 0 → z.extra_rule ≡ None → (t : LocalTimeType) → IsTypeOfLast z 0 t → (from : ℤ) → HoldsAfter z k from (Some t)
+  holds_without_transitions all none e t (inr (some, change, at, type)) from = absurd (some refl)
+  holds_without_transitions all none e t (inl (zero_is, at)) from = λ u reached any s.
       let clock = subst (λ (r : Option TransitionRule). (IsClock z u s → IsTypeWithout z r u s) × (IsTypeWithout z r u s → IsClock z u s)) e (clock_without all none u s) in
       ((λ shows. sym at ∙ clock.0 shows), λ is. clock.1 (at ∙ is))
 
