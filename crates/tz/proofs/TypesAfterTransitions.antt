@@ -1,4 +1,4 @@
--- The clock of a zone wherever so many transitions have come.
+-- The type of a clock after so many transitions.
 use Rattle.std.proofs.Common.{◌≡◌, ◌≢◌, ℕ, ◌-◌, ◌<◌, ◌⊎◌, ◌∙◌, inl, inr, refl, sym, ap, subst, arith, ℤ, pos, ◌≤ℤ◌, ◌<ℤ◌, List, [], ◌∷◌, length, get_or, Option, Some, None}
 use Rattle.std.specs.Prelude.{slice_get}
 use Rattle.std.proofs.lemmas.Int.{ints}
@@ -13,7 +13,7 @@ use Rattle.tz_rule.specs.Alternate.{AlternateTime}
 use Rattle.tz_zone.specs.Table.{Transition, Zone}
 use Rattle.tz_zone.specs.Clock.{IsTypeAt, IsTypeOfLast, IsLast, IsTransitionType, IsTypeAfter, IsTypeWithout, IsClock, IsLookupFault}
 use Rattle.tz_zone.specs.ValidZone.{AreLeapSeconds}
-use Rattle.tz_zone.proofs.Clocks.{last_unique, some_from_last, type_before_first, type_of_last_reached, clock_before_last, clock_from_last, type_after_from_clock}
+use Rattle.tz_zone.proofs.Clocks.{last_unique, some_from_last, transition_type_of_last, transition_type_unique, clock_before_last, clock_from_last, type_after_from_clock}
 use Rattle.tz_zone.proofs.LeapTimes.{leap_time_unique}
 use Rattle.tz.specs.Walks.{HoldsAt}
 use Rattle.tz.specs.Reached.{IsReachedAt, IsSteadyAfter, HoldsAfter, AreOffsetsOf}
@@ -24,23 +24,6 @@ no_change = record { unix_leap_time = pos 0; type_index = 0 }
 nil_from_length : {X : Type 0} (xs : List X) → length xs ≡ 0 → xs ≡ []
 nil_from_length [] e = refl
 nil_from_length (x ∷ xs) e = absurd (omega (arith, e))
-
--- at a leap time the transitions give one type
-transition_type_unique : (z : Zone) (l : ℤ) (t s : LocalTimeType) → IsTransitionType z l t → IsTransitionType z l s → t ≡ s
-transition_type_unique z l t s (inl (before, at)) (inl (before', at')) = same_Some t s (sym at ∙ at')
-transition_type_unique z l t s (inl (before, at)) (inr (j, d, (at', come', later'), type')) = absurd (omega (arith, ints, before j d at', come'))
-transition_type_unique z l t s (inr (i, c, (at, come, later), type)) (inl (before', at')) = absurd (omega (arith, ints, before' i c at, come))
-transition_type_unique z l t s (inr (i, c, (at, come, later), type)) (inr (j, d, (at', come', later'), type')) =
-    elim (cases_lt i j) [
-      | inl less ↦ absurd (omega (arith, ints, later j d less at', come'))
-      | inr not_less ↦ elim (cases_lt j i) [
-        | inl more ↦ absurd (omega (arith, ints, later' i c more at, come))
-        | inr not_more ↦
-            let place : i ≡ j = omega arith in
-            let change : c ≡ d = same_Some c d (sym at ∙ ap (slice_get z.transitions) place ∙ at') in
-            same_Some t s (sym type ∙ ap (λ (x : Transition). slice_get z.types x.type_index) change ∙ type')
-      ]
-    ]
 
 -- a rule that is no alternate one has one type at all instants
 one_type_everywhere : (rule : TransitionRule) → ((r : AlternateTime) → rule ≢ Alternate r) → (v : ℤ) (type : Option LocalTimeType) → HoldsAt (IsRuleType rule) v type → (u : ℤ) → HoldsAt (IsRuleType rule) u type
@@ -59,9 +42,9 @@ alternate_type r u t (years, inl (day, is)) = inl is
 alternate_type r u t (years, inr (day, is)) = inr is
 
 module _ (z : Zone) (are : AreLeapSeconds z.leap_seconds) (k : ℕ) where
-  -- before the last transition it is the type of the last one that has come
+  -- before the last transition it is the type of the last one that is reached
   pub holds_before_last : k < length z.transitions → (t : LocalTimeType) → IsTypeOfLast z k t → (from : ℤ) → HoldsAfter z k from (Some t)
-  holds_before_last inside t type from u reached any s = (to, back)
+  holds_before_last inside t type from u counted any s = (to, back)
     where
       last : Transition
       last = get_or z.transitions (length z.transitions - 1) no_change
@@ -69,32 +52,31 @@ module _ (z : Zone) (are : AreLeapSeconds z.leap_seconds) (k : ℕ) where
       is_last : IsLast z.transitions last
       is_last = slice_get-get_or z.transitions (length z.transitions - 1) no_change (omega arith)
 
-      before : reached.time <ℤ last.unix_leap_time
-      before = reached.later (length z.transitions - 1) last (omega arith) is_last
+      before : counted.time <ℤ last.unix_leap_time
+      before = counted.ahead (length z.transitions - 1) last (omega arith) is_last
 
-      of_type : IsTypeOfLast z k t → IsTransitionType z reached.time t
-      of_type (inl (none, at)) = type_before_first z reached.time k reached.later t none at
-      of_type (inr (some, change, at, is)) = type_of_last_reached z reached.time k reached.later t some change at (reached.come (k - 1) change (omega (arith, some)) at) is
+      of_type : IsTypeOfLast z k t → IsTransitionType z counted.time t
+      of_type = transition_type_of_last z counted.time k t counted.reached counted.ahead
 
       back : Some t ≡ Some s → IsClock z u s
-      back e = subst (λ (x : LocalTimeType). IsClock z u x) (same_Some t s e) (clock_before_last z are last is_last u reached.time reached.time_is t before (of_type type))
+      back e = subst (λ (x : LocalTimeType). IsClock z u x) (same_Some t s e) (clock_before_last z are last is_last u counted.time counted.time_is t before (of_type type))
 
       to : IsClock z u s → Some t ≡ Some s
       to (inl (none, without)) = absurd (some_from_last z.transitions last is_last none)
       to (inr (last', is_last', (l', leap', inl (before', type')))) =
-          let same : l' ≡ reached.time = leap_time_unique z.leap_seconds are u l' reached.time leap' reached.time_is in
-          ap Some (transition_type_unique z reached.time t s (of_type type) (subst (λ (x : ℤ). IsTransitionType z x s) same type'))
+          let same : l' ≡ counted.time = leap_time_unique z.leap_seconds are u l' counted.time leap' counted.time_is in
+          ap Some (transition_type_unique z counted.time t s (of_type type) (subst (λ (x : ℤ). IsTransitionType z x s) same type'))
       to (inr (last', is_last', (l', leap', inr (from', type')))) =
-          absurd (omega (arith, ints, before, from', leap_time_unique z.leap_seconds are u l' reached.time leap' reached.time_is, ap (λ (x : Transition). x.unix_leap_time) (last_unique z.transitions last' last is_last' is_last)))
+          absurd (omega (arith, ints, before, from', leap_time_unique z.leap_seconds are u l' counted.time leap' counted.time_is, ap (λ (x : Transition). x.unix_leap_time) (last_unique z.transitions last' last is_last' is_last)))
 
   -- from the last transition on it is what comes after it
   clock_from_all : k ≡ length z.transitions → k ≢ 0 → (u : ℤ) → IsReachedAt z u k → (t : LocalTimeType) → (IsClock z u t → IsTypeAfter z.extra_rule u t) × (IsTypeAfter z.extra_rule u t → IsClock z u t)
-  clock_from_all all some u reached t =
+  clock_from_all all some u counted t =
       let last = get_or z.transitions (length z.transitions - 1) no_change in
       let is_last : IsLast z.transitions last = slice_get-get_or z.transitions (length z.transitions - 1) no_change (omega (arith, all, some)) in
-      let from : last.unix_leap_time ≤ℤ reached.time = reached.come (length z.transitions - 1) last (omega (arith, all, some)) is_last in (
-        (λ clock. type_after_from_clock z are last is_last u reached.time reached.time_is t from clock),
-        (λ type. clock_from_last z are last is_last u reached.time reached.time_is t from type),
+      let from : last.unix_leap_time ≤ℤ counted.time = counted.reached (length z.transitions - 1) last (omega (arith, all, some)) is_last in (
+        (λ clock. type_after_from_clock z are last is_last u counted.time counted.time_is t from clock),
+        (λ type. clock_from_last z are last is_last u counted.time counted.time_is t from type),
       )
 
   -- without transitions it is that of such a zone
@@ -108,18 +90,18 @@ module _ (z : Zone) (are : AreLeapSeconds z.leap_seconds) (k : ℕ) where
       to (inl (none', type)) = type
       to (inr (last, is_last, with)) = absurd (some_from_last z.transitions last is_last empty)
 
-  -- where all have come it is that of the rule
+  -- where all are reached it is that of the rule
   pub clock_of_rule : k ≡ length z.transitions → (rule : TransitionRule) → z.extra_rule ≡ Some rule → (u : ℤ) → IsReachedAt z u k → (t : LocalTimeType) → (IsClock z u t → IsRuleType rule u t) × (IsRuleType rule u t → IsClock z u t)
-  clock_of_rule all rule e u reached t =
+  clock_of_rule all rule e u counted t =
       elim (cases_lt 0 k) [
-        | inl some ↦ subst (λ (r : Option TransitionRule). (IsClock z u t → IsTypeAfter r u t) × (IsTypeAfter r u t → IsClock z u t)) e (clock_from_all all (omega arith) u reached t)
+        | inl some ↦ subst (λ (r : Option TransitionRule). (IsClock z u t → IsTypeAfter r u t) × (IsTypeAfter r u t → IsClock z u t)) e (clock_from_all all (omega arith) u counted t)
         | inr none ↦ subst (λ (r : Option TransitionRule). (IsClock z u t → IsTypeWithout z r u t) × (IsTypeWithout z r u t → IsClock z u t)) e (clock_without all (omega arith) u t)
       ]
 
   pub holds_with_rule : k ≡ length z.transitions → (rule : TransitionRule) → z.extra_rule ≡ Some rule → (from : ℤ) (type : Option LocalTimeType) → HoldsAt (IsRuleType rule) from type → HoldsAfter z k from type
-  holds_with_rule all rule e from type holds u reached any t =
+  holds_with_rule all rule e from type holds u counted any t =
       let here = spread any t in
-      let clock = clock_of_rule all rule e u reached t in
+      let clock = clock_of_rule all rule e u counted t in
       ((λ at. here.0 (clock.0 at)), (λ is. clock.1 (here.1 is)))
     where
       spread : IsSteadyAfter z k ⊎ (u ≡ from) → HoldsAt (IsRuleType rule) u type
@@ -128,8 +110,8 @@ module _ (z : Zone) (are : AreLeapSeconds z.leap_seconds) (k : ℕ) where
       spread (inr is) = subst (λ (x : ℤ). HoldsAt (IsRuleType rule) x type) (sym is) holds
 
   pub holds_after_all : k ≡ length z.transitions → k ≢ 0 → z.extra_rule ≡ None → (from : ℤ) → HoldsAfter z k from None
-  holds_after_all all some e from u reached any t =
-      let clock = subst (λ (r : Option TransitionRule). (IsClock z u t → IsTypeAfter r u t) × (IsTypeAfter r u t → IsClock z u t)) e (clock_from_all all some u reached t) in
+  holds_after_all all some e from u counted any t =
+      let clock = subst (λ (r : Option TransitionRule). (IsClock z u t → IsTypeAfter r u t) × (IsTypeAfter r u t → IsClock z u t)) e (clock_from_all all some u counted t) in
       ((λ at. absurd (clock.0 at)), λ is. absurd (none-some t is))
 
   pub holds_from_last : k ≡ length z.transitions → k ≢ 0 → (from : ℤ) (type : Option LocalTimeType) → HoldsAt (IsTypeAfter z.extra_rule) from type → HoldsAfter z k from type
@@ -151,12 +133,6 @@ module _ (z : Zone) (are : AreLeapSeconds z.leap_seconds) (k : ℕ) where
       by_rule (Some rule) e holds = holds_with_rule all rule e from type holds
       by_rule None e holds = absurd (ruled e)
 
-  pub holds_without_transitions : k ≡ length z.transitions → k ≡ 0 → z.extra_rule ≡ None → (t : LocalTimeType) → IsTypeOfLast z 0 t → (from : ℤ) → HoldsAfter z k from (Some t)
-  holds_without_transitions all none e t (inr (some, change, at, type)) from = absurd (some refl)
-  holds_without_transitions all none e t (inl (zero_is, at)) from = λ u reached any s.
-      let clock = subst (λ (r : Option TransitionRule). (IsClock z u s → IsTypeWithout z r u s) × (IsTypeWithout z r u s → IsClock z u s)) e (clock_without all none u s) in
-      ((λ shows. sym at ∙ clock.0 shows), λ is. clock.1 (at ∙ is))
-
 -- the types of the clock are those of the list and of the rule
 pub offsets_from_types : (z : Zone) (least greatest : ℤ) →
     ((i : ℕ) (t : LocalTimeType) → IsTypeAt z i t → (least ≤ℤ t.ut_offset) × (t.ut_offset ≤ℤ greatest)) →
@@ -177,9 +153,3 @@ offsets_from_types z least greatest types rules u t = by_clock
     by_clock (inr (last, is_last, (l, leap, inl (before, inl (early, at))))) = types 0 t at
     by_clock (inr (last, is_last, (l, leap, inl (before, inr (i, change, reached, at))))) = types change.type_index t at
     by_clock (inr (last, is_last, (l, leap, inr (from, type)))) = after z.extra_rule refl type
-
--- where the lookup is refused, the clock has no type
-pub no_clock_from_fault : (z : Zone) → AreLeapSeconds z.leap_seconds → (u : ℤ) (e : TzError) → IsLookupFault z u e → (t : LocalTimeType) → ¬ IsClock z u t
-no_clock_from_fault z are u e (inl (is, (last, l, is_last, leap, from, none))) t clock =
-    subst (λ (r : Option TransitionRule). IsTypeAfter r u t → ⊥) (sym none) (λ at. at) (type_after_from_clock z are last is_last u l leap t from clock)
-no_clock_from_fault z are u e (inr (is, no_type, not_over)) t clock = no_type t clock
