@@ -1,5 +1,5 @@
 -- Between two transitions the clock keeps its type, and from the last one on it is that of the rule.
-use Rattle.std.proofs.Common.{◌≡◌, ◌≢◌, ℕ, zero, suc, ◌+◌, ◌-◌, ◌<◌, ◌≤◌, inl, inr, refl, sym, ap, ◌∙◌, subst, arith, ℤ, pos, negsuc, ◌+ℤ◌, ◌≤ℤ◌, ◌<ℤ◌, List, [], ◌∷◌, ◌++◌, length, get_or, Some, None}
+use Rattle.std.proofs.Common.{◌≡◌, ◌≢◌, ℕ, zero, suc, Bool, true, false, cond, ◌+◌, ◌-◌, ◌<◌, ◌≤◌, inl, inr, refl, sym, ap, ◌∙◌, subst, arith, ℤ, pos, negsuc, ◌+ℤ◌, ◌≤ℤ◌, ◌<ℤ◌, List, [], ◌∷◌, ◌++◌, length, get_or, Some, None}
 use Rattle.std.specs.Prelude.{slice_get}
 use Rattle.std.proofs.lemmas.Int.{ints, by_lt_z}
 use Rattle.std.proofs.lemmas.Bool.{cases_lt}
@@ -7,7 +7,10 @@ use Rattle.std.proofs.lemmas.Option.{slice_get_within, slice_get-get_or, same_So
 use Rattle.tz_rule.specs.LocalTimeType.{LocalTimeType}
 use Rattle.tz_rule.specs.Alternate.{AlternateTime}
 use Rattle.tz_rule.specs.Rule.{IsRuleType}
+use Rattle.tz_rule.specs.Stretches.{type_by, IsStretchOf}
 use Rattle.tz_rule.specs.declared.timezone.rule.TransitionRule.{TransitionRule}
+use Rattle.tz_rule.specs.declared.timezone.stretch.Stretch.{Stretch}
+use Rattle.tz_rule.proofs.UtcYears.{IsReading-from_rule_year}
 use Rattle.tz_rule.specs.declared.timezone.rule.TransitionRule.TheVariants.{Fixed, Alternate}
 use Rattle.tz_zone.specs.Table.{Transition, LeapSecond, Zone}
 use Rattle.tz_zone.specs.LeapTime.{IsInstant, correction_before, IsBeforeStart, IsLeapTimeRefused, IsLeapTime, IsCorrection, IsEffect}
@@ -202,3 +205,19 @@ other_type r u t (years, inr (not_daylight, is)) other = absurd (other is)
 -- one second is a stretch
 pub stretch_of_second : (z : Zone) (u : ℤ) (t : LocalTimeType) → IsClock z u t → IsStretch z u (u +ℤ pos 1) t
 stretch_of_second z u t clock v after before = let same : u ≡ v = omega (arith, ints, after, before) in subst (λ w. IsClock z w t) same clock
+
+-- the number of a rule's type
+pub number_by_daylight : (z : Zone) (r : AlternateTime) → z.extra_rule ≡ Some (Alternate r) → (daylight : Bool) (j : ℕ) → j ≡ length z.types + cond daylight 1 0 → slice_get (numbered_types z) j ≡ Some (type_by r daylight)
+number_by_daylight z r extra true j is = number_of_rule z (Alternate r) extra 1 j r.dst is refl
+number_by_daylight z r extra false j is = number_of_rule z (Alternate r) extra 0 j r.std is refl
+
+-- an alternate rule answers only where leap times surely fit
+within_reach : (r : AlternateTime) (v : ℤ) (t : LocalTimeType) → IsRuleType (Alternate r) v t → v ≤ℤ pos 80000000000000000
+unfolding IsRuleType
+within_reach r v t ((year, is, rule_year), type) = omega (arith, ints, (IsReading-from_rule_year v year is rule_year).1)
+
+-- a stretch of the rule is one of the zone from the seam on
+pub stretch_of_rule : (z : Zone) (seam : ℤ) → IsRuledFrom z seam → (r : AlternateTime) → z.extra_rule ≡ Some (Alternate r) → (s : Stretch) → IsStretchOf r s → (from : ℤ) → s.from ≤ℤ from → seam ≤ℤ from → IsStretch z from s.until (type_by r s.is_daylight)
+stretch_of_rule z seam ruled r extra s told from after_start after_seam v after before =
+    let type = told v (omega (arith, ints, after_start, after)) before in
+    ruled (Alternate r) extra v (omega (arith, ints, after_seam, after)) (within_reach r v _ type) _ type
