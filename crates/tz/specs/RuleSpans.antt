@@ -51,7 +51,7 @@ RuleClock z low seam start end u t = IsClock z u t × IsInView low seam start en
 -- a walk past the pieces of a zone in a window, which has come to the seam from which on the clock is that of a rule
 pub record IsAtSeam (z : Zone) (rule : TransitionRule) (low high : ℤ) (w : Walk) (found : List FoundDateTimeKind) : Type 0 where
   pub walked : IsWalked (WindowClock z low high) w.fields w found
-  pub holds : HoldsAt (IsClock z) w.since w.kind
+  pub holds : HoldsAt (IsClock z) w.since w.local_time_type
   pub low_is : low ≤ℤ w.since
   pub high_is : w.since ≤ℤ high
   pub ruled : IsRuledIn z rule w.since high
@@ -61,4 +61,4 @@ pub record IsAtSeam (z : Zone) (rule : TransitionRule) (low high : ℤ) (w : Wal
 pub record IsPastSeam (z : Zone) (low seam start end : ℤ) (f : Fields) (from : ℤ) (w : Walk) (found : List FoundDateTimeKind) : Type 0 where
   pub walked : IsWalked (RuleClock z low seam start end) f w found
   pub after_seam : seam <ℤ w.since
-  pub holds : HoldsFrom (RuleClock z low seam start end) w.since from w.kind
+  pub holds : HoldsFrom (RuleClock z low seam start end) w.since from w.local_time_type

@@ -67,7 +67,7 @@ pub record AreLeapSeconds (leaps : List LeapSecond) : Type 0 where
   pub first : (l : LeapSecond) → slice_get leaps 0 ≡ Some l → MayBeFirst l
   pub apart : (i : ℕ) → FollowsAt leaps i
 
--- a truncated start has come at a leap time
+-- a truncated start is reached at a leap time
 abbrev pub HasBegunAt : List LeapSecond → ℤ → Type 0
 HasBegunAt leaps v = (l : LeapSecond) → IsStart leaps l → l.unix_leap_time ≤ℤ v
 

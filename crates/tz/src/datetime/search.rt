@@ -15,7 +15,7 @@ ghost use Rattle.tz_zone.specs.ValidZone.{AreLeapSeconds, IsSoundTable};
 ghost use Rattle.tz_zone.specs.ZoneSeen.{zone_seen};
 ghost use Rattle.tz.specs.Found.{IsFound};
 ghost use Rattle.tz.specs.Walks.{HoldsAt, IsSearchFault, IsSmall, IsStep, IsStepFault, IsWalk};
-ghost use Rattle.tz.specs.Reached.{IsWithinReach, IsReachedAt, IsKindOf, IsDue, IsPieceOf, IsWindowOf, IsOnTheWay};
+ghost use Rattle.tz.specs.Reached.{IsWithinReach, IsReachedAt, HoldsAfter, IsDue, IsPieceOf, IsWindowOf, IsOnTheWay};
 ghost use Rattle.tz.specs.Windows.{IsOffsetOfTypes, IsOffsetOfRule, IsLeastOffset, IsGreatestOffset, IsWindow, AtMostTakeEffectIn, AtMostTakeEffectAround};
 ghost use Rattle.tz.specs.RuleSpans.{IsSpan, ChangesOnlyAt, RuleClock, IsRuledIn, IsAtSeam, IsPastSeam};
 ghost use Rattle.tz.specs.declared.datetime.found.FoundDateTimeKind.{FoundDateTimeKind};
@@ -88,7 +88,7 @@ fn type_from<V: Transitions>(
     requires sound { IsSoundTable (zone_seen (V.list view.old) parts) }
     requires within { reached ≤ length (V.list view.old) }
     ensures same { V.list view.new ≡ V.list view.old }
-    ensures value { IsKindOf (zone_seen (V.list view.old) parts.entry) reached from result }
+    ensures value { HoldsAfter (zone_seen (V.list view.old) parts.entry) reached from result }
     ensures kept { V.looks view.old ≤ V.looks view.new }
     ensures few { V.looks view.new ≤ V.looks view.old + 1 }
     ensures none { length (V.list view.old) ≡ 0 → V.looks view.new ≡ V.looks view.old }
@@ -140,7 +140,7 @@ fn piece_at<V: Transitions>(
     };
     Some(Piece {
         from,
-        kind: local_time_type,
+        local_time_type,
     })
 }
 
@@ -338,14 +338,14 @@ fn search_changes<L: DateTimeList>(
     while from <= last {
         let piece = Piece {
             from,
-            kind: rule_type(rule, from),
+            local_time_type: rule_type(rule, from),
         };
         walk.step(list, piece)?;
         from = next_change(changes, from, last);
     }
     let end = Piece {
         from: last + 1,
-        kind: None,
+        local_time_type: None,
     };
     walk.step(list, end)
 }
@@ -354,12 +354,12 @@ fn search_changes<L: DateTimeList>(
 fn pass_seam<L: DateTimeList>(walk: &mut Walk, list: &mut L) -> Result<(), TzError>
     requires walk { IsWalk walk.old.fields walk.old }
     requires since { IsWithinReach walk.old.since }
-    ensures ok { OnOk result ((new : List FoundDateTimeKind) × L.gains list.old list.new new × IsStep walk.old (record { from = walk.old.since +ℤ pos 1; kind = None }) walk.new new) }
+    ensures ok { OnOk result ((new : List FoundDateTimeKind) × L.gains list.old list.new new × IsStep walk.old (record { from = walk.old.since +ℤ pos 1; local_time_type = None }) walk.new new) }
     ensures err { IfErr result (IsStepFault L.takes_memory walk.old (walk.old.since +ℤ pos 1)) }
 {
     let gap = Piece {
         from: walk.since() + 1,
-        kind: None,
+        local_time_type: None,
     };
     walk.step(list, gap)
 }
@@ -423,7 +423,7 @@ fn walk_from<V: Transitions>(
     let reached = reached_at(view, parts, low);
     let first = Piece {
         from: low,
-        kind: type_from(view, parts, reached, low),
+        local_time_type: type_from(view, parts, reached, low),
     };
     (Walk::new(fields, first), reached)
 }
@@ -513,7 +513,7 @@ fn search_window<L: DateTimeList, V: Transitions>(
     }
     let end = Piece {
         from: high + 1,
-        kind: None,
+        local_time_type: None,
     };
     walk.step(list, end)
 }

@@ -19,7 +19,7 @@ pub(super) enum Entry {
 #[derive(Clone, Copy)]
 pub(super) struct Piece {
     pub(super) from: i64,
-    pub(super) kind: Option<LocalTimeType>,
+    pub(super) local_time_type: Option<LocalTimeType>,
 }
 
 /// A walk past the pieces of a clock.
@@ -32,7 +32,7 @@ pub(super) struct Walk {
     /// Where the last piece begins.
     since: i64,
     /// The type in the last piece.
-    kind: Option<LocalTimeType>,
+    local_time_type: Option<LocalTimeType>,
 }
 
 impl Entry {
@@ -111,14 +111,14 @@ impl Walk {
         ensures walk { IsWalk fields.now result }
         ensures before { result.before ≡ None }
         ensures since { result.since ≡ first.from }
-        ensures kind { result.kind ≡ first.kind }
+        ensures local_time_type { result.local_time_type ≡ first.local_time_type }
     {
         Walk {
             fields: *fields,
             reading: fields.reading(),
             before: None,
             since: first.from,
-            kind: first.kind,
+            local_time_type: first.local_time_type,
         }
     }
 
@@ -150,11 +150,11 @@ impl Walk {
         ensures near { IfSome result (IsEntryNear self.now.reading) }
         ensures none { IfNone result ((entry : Entry) → ¬ IsEntryOf self.now until entry) }
     {
-        let kind = self.kind?;
-        let shown_at = self.reading - i64::from(kind.ut_offset());
+        let local_time_type = self.local_time_type?;
+        let shown_at = self.reading - i64::from(local_time_type.ut_offset());
         if shown_at >= self.since {
             return if shown_at < until {
-                Some(Entry::Shown(shown_at, kind))
+                Some(Entry::Shown(shown_at, local_time_type))
             } else {
                 None
             };
@@ -162,7 +162,7 @@ impl Walk {
         let before = self.before?;
         let passed_at = self.reading - i64::from(before.ut_offset());
         if self.since <= passed_at {
-            Some(Entry::Jump(self.since, before, kind))
+            Some(Entry::Jump(self.since, before, local_time_type))
         } else {
             None
         }
@@ -195,13 +195,13 @@ impl Walk {
         ensures err { IfErr result (IsStepFault L.takes_memory self.old piece.from) }
     {
         if piece.from <= self.since {
-            self.kind = piece.kind;
+            self.local_time_type = piece.local_time_type;
             return Ok(());
         }
         self.give(list, piece.from)?;
-        self.before = self.kind;
+        self.before = self.local_time_type;
         self.since = piece.from;
-        self.kind = piece.kind;
+        self.local_time_type = piece.local_time_type;
         Ok(())
     }
 }

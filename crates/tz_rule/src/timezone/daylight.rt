@@ -38,6 +38,14 @@ pub(super) fn rule_year(unix_time: i64) -> Option<i32>
     Some(year)
 }
 
+/// Whether seconds of a year are ten days or more from its ends, also where it has 365 days.
+#[inline(always)]
+pub(super) fn is_mid_second(seconds: i64) -> bool
+    ensures { MatchBool result (IsMidSecond seconds) (¬ IsMidSecond seconds) }
+{
+    MID_YEAR_START <= seconds && seconds < MID_YEAR_END
+}
+
 impl AlternateTime {
     /// Whether the instant lies from one year's start up to, not including, a year's end.
     fn is_in_span(&self, unix_time: i64, start_year: i32, end_year: i32) -> bool

@@ -1,6 +1,7 @@
 //! Where the clock of a zone keeps its type, between one transition and the next and where a rule goes on.
 
-ghost use Rattle.std.specs.Prelude.{◌≡◌, ◌<◌, ◌≤ℤ◌, ◌<ℤ◌, [], length, Some, IfSome};
+ghost use Rattle.std.specs.Prelude.{◌≡◌, ◌+◌, ◌^◌, ◌<◌, ◌≤ℤ◌, ◌<ℤ◌, [], length, Some, IfSome, if◌then◌else◌};
+ghost use Rattle.tz_rule.specs.declared.timezone.rule.TransitionRule.TheVariants.{Alternate};
 ghost use Rattle.tz_zone.specs.Clock.{IsLast};
 ghost use Rattle.tz_zone.specs.LeapTime.{IsEffect};
 ghost use Rattle.tz_zone.specs.Segments.{IsSegmentOf, IsRuledFrom};
@@ -9,7 +10,7 @@ ghost use Rattle.tz_zone.specs.ZoneRef.{zone_of};
 
 use super::segment::Segment;
 use super::{SURELY_ANSWERED, Uncounted, effect, first_begun, leap, transitions_reached};
-use crate::timezone::{LeapSecond, TimeZoneRef, Transition, TransitionRule};
+use crate::timezone::{AlternateTime, LeapSecond, TimeZoneRef, Transition, TransitionRule};
 
 /// The instant at which a leap time takes effect, if there is one.
 #[inline(always)]
@@ -51,7 +52,57 @@ fn segment_before(zone: TimeZoneRef<'_>, place: usize) -> Option<Segment>
     })
 }
 
-/// The segment of a rule that tells the clock from an instant on.
+/// The segment of one second in which an alternate rule tells the clock from an instant on.
+fn segment_of_second(
+    zone: TimeZoneRef<'_>,
+    rule: &TransitionRule,
+    alternate: &AlternateTime,
+    seam: i64,
+    unix_time: i64,
+) -> Option<Segment>
+    requires rule { (zone_of zone).extra_rule ≡ Some rule.now }
+    requires alternate { rule.now ≡ Alternate alternate.now }
+    requires ruled { IsRuledFrom (zone_of zone) seam }
+    ensures { IfSome result (λ s. IsSegmentOf (zone_of zone.entry) s) }
+{
+    if unix_time < seam || unix_time >= SURELY_ANSWERED {
+        return None;
+    }
+    let Ok(local_time_type) = tz_rule::inner::find_local_time_type(rule, unix_time) else {
+        return None;
+    };
+    let types = zone.local_time_types().len();
+    let number = if local_time_type == alternate.std() {
+        types
+    } else {
+        types + 1
+    };
+    Some(Segment {
+        from: unix_time,
+        until: unix_time + 1,
+        number,
+    })
+}
+
+/// The later one of two instants.
+#[inline(always)]
+fn later(first: i64, second: i64) -> i64
+    ensures { (first ≤ℤ result) × (second ≤ℤ result) }
+{
+    if first < second { second } else { first }
+}
+
+/// The number of standard time or of daylight saving time, where the types of a rule follow so many others.
+#[inline(always)]
+fn number_by(types: usize, is_daylight: bool) -> usize
+    requires { types < 2 ^ 63 }
+    ensures { result ≡ types + (if is_daylight then 1 else 0) }
+{
+    if is_daylight { types + 1 } else { types }
+}
+
+/// The segment in which a rule tells the clock at an instant, from the seam on.
+#[inline(always)]
 fn segment_of_rule(
     zone: TimeZoneRef<'_>,
     rule: &TransitionRule,
@@ -70,21 +121,13 @@ fn segment_of_rule(
             number: types,
         }),
         TransitionRule::Alternate(alternate) => {
-            if unix_time < seam || unix_time >= SURELY_ANSWERED {
-                return None;
-            }
-            let Ok(local_time_type) = tz_rule::inner::find_local_time_type(rule, unix_time) else {
-                return None;
-            };
-            let number = if local_time_type == alternate.std() {
-                types
-            } else {
-                types + 1
+            let Some(stretch) = tz_rule::inner::stretch(alternate, unix_time) else {
+                return segment_of_second(zone, rule, alternate, seam, unix_time);
             };
             Some(Segment {
-                from: unix_time,
-                until: unix_time + 1,
-                number,
+                from: later(stretch.from, seam),
+                until: stretch.until,
+                number: number_by(types, stretch.is_daylight),
             })
         }
     }

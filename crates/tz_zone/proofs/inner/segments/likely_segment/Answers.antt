@@ -4,7 +4,7 @@ use Rattle.std.proofs.lemmas.Int.{ints, to_z-of_z}
 use mir.Syntax.{w64}
 use mir.Val.{SFits}
 use Rattle.tz_zone.specs.ZoneRef.{zone_of}
-use Rattle.tz_zone.proofs.SegmentLemmas.{last_to_come}
+use Rattle.tz_zone.proofs.SegmentLemmas.{fewer_reached}
 use Rattle.tz_zone.proofs.inner.segments.likely_segment.Goals as goal
 
 pub transitions_reached-requires : goal.transitions_reached-requires
@@ -18,4 +18,4 @@ segment_before-requires c =
     let time = c.unix_leap_time.ensures in
     let before : l <ℤ last.unix_leap_time = omega (arith, ints, c.if-unix_leap_time.true) in
     let reached = rw (to_z-of_z w64 l fits, c.new-view.ensures, c.transitions-transitions.ensures) at c.transitions_reached.ensures.reached in
-    last_to_come (zone_of c.args.zone).transitions last (rw c.transitions-transitions.ensures at (sym c.in-Some.ensures.value)) l before c.transitions_reached.result reached
+    fewer_reached (zone_of c.args.zone).transitions last (rw c.transitions-transitions.ensures at (sym c.in-Some.ensures.value)) l before c.transitions_reached.result reached
