@@ -29,7 +29,7 @@ pub fn utc_date_times_come_back()
     ensures err { (f : Fields) (e : TzError) → IsUtc f → ¬ IsShowFault (reading f) f.nanoseconds e }
 {}
 
-/// Where [`UtcDateTime::checked_add`] answers, [`UtcDateTime::duration_since`] gives the duration back.
+/// Where [`UtcDateTime::checked_add`] returns a date time, [`UtcDateTime::duration_since`] returns the duration.
 pub fn added_durations_come_back()
     ensures ok { (f g : Fields) (d e : Duration) → IsUtcAt (utc_total f +ℤ pos (as_nanos d)) g → IsForwards (utc_total f) (utc_total g) e → as_nanos e ≡ as_nanos d }
     ensures err { (f g : Fields) (d e : Duration) → IsUtcAt (utc_total f +ℤ pos (as_nanos d)) g → ¬ IsBackwards (utc_total f) (utc_total g) e }

@@ -1,6 +1,6 @@
 //! One test for each example.
 
-use crate::clocks::{print_instant, show_now};
+use crate::clocks::{new_year_an_hour_behind, print_instant, show_now};
 use crate::meetings::{alarm, count_meanings, next_monday_at_nine, weekly_meetings};
 use crate::zones::{local_time, local_zone, moved_ahead_in_2000, zone_of_setting};
 use std::test::Fail;
@@ -28,6 +28,8 @@ fn instants_are_shown(rt: HostRuntime) -> Result<(), Fail> {
     assert_eq!(rt; text.as_str(), "2000-03-26T03:00:00.000000000+02:00 CEST");
     let local = format!(in alloc; "{}", local_time(alloc, JERUSALEM, 2_216_073_600)?)?;
     assert_eq!(rt; local.as_str(), "2040-03-23T03:00:00.000000000+03:00");
+    let behind = format!(in alloc; "{}", new_year_an_hour_behind(alloc)?)?;
+    assert_eq!(rt; behind.as_str(), "2023-12-31T23:00:00.000000000-01:00");
     for (unix_time, shown) in [
         (946_684_799, "2000-01-01T00:59:59.000000000+01:00"),
         (946_684_800, "2000-01-01T02:00:00.000000000+02:00"),

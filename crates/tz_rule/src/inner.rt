@@ -11,7 +11,7 @@ pub use crate::timezone::utc::{no_rule, utc_types};
 use crate::timezone::{AlternateTime, LocalTimeType, TransitionRule};
 use tz_base::error::TzError;
 
-/// The type of the rule at an instant. An alternate rule answers in the UTC years that are two or more from both ends of `i32`.
+/// The type of the rule at an instant. An alternate rule has one in the UTC years that are two or more from both ends of `i32`.
 #[tactic(auto, unfolding(crate::specs::Rule::IsRuleType))]
 pub fn find_local_time_type(
     rule: &TransitionRule,

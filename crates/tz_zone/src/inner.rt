@@ -200,7 +200,7 @@ fn stays_with_all(leap_seconds: &[LeapSecond], unix_time: i64) -> bool
     true
 }
 
-/// Whether the instant has a leap time, where so many leap seconds are reached.
+/// Whether the instant has a leap time, where the first leap seconds of this number are reached.
 fn has_leap_time(leap_seconds: &[LeapSecond], unix_time: i64, reached: usize) -> bool
     requires leaps { AreLeapSeconds leap_seconds.now }
     requires within { reached ≤ length leap_seconds.now }

@@ -132,7 +132,7 @@ impl DateTime {
     /// The date time with these fields, which the type shows: the month from 1 to 12, the day of the month from 1, the hour from 0
     /// to 23, the minute from 0 to 59, the second from 0 to 60 and the nanoseconds below a second.
     ///
-    /// Of fields out of range the first one is named, in this order, and after them all that the month has no such day. Then
+    /// The first field out of range is named, in this order, and after them `InvalidMonthDay` where the month has no such day. Then
     /// `OutOfRange` tells that the Unix time of the date time is that of no UTC date time.
     pub fn new(
         year: i32,
@@ -223,7 +223,23 @@ impl DateTime {
 
     /// The date time that the zone's clock shows at a Unix time, with nanoseconds below a second.
     ///
-    /// The nanoseconds are refused first, then the lookup of the clock's type, and then a year that does not fit 32 bits.
+    /// Refused are a second of nanoseconds or more (`InvalidNanoseconds`), then an instant at which the zone's clock has no type, as by
+    /// [`TimeZoneRef::find_local_time_type`] (`NoAvailableLocalTimeType`, `OutOfRange`), and then a year that does not fit `i32`
+    /// (`OutOfRange`).
+    ///
+    /// What clocks of a zone show at a Unix time, and the name of their time:
+    ///
+    /// ```rust
+    /// pub fn print_instant(
+    ///     alloc: Global,
+    ///     zone: TimeZoneRef<'_>,
+    ///     unix_time: i64,
+    /// ) -> Result<String, TzError> {
+    ///     let date_time = DateTime::from_timespec(unix_time, 0, zone)?;
+    ///     let name = date_time.local_time_type().time_zone_designation();
+    ///     Ok(format!(in alloc; "{date_time} {name}")?)
+    /// }
+    /// ```
     pub fn from_timespec(
         unix_time: i64,
         nanoseconds: u32,
@@ -240,7 +256,7 @@ impl DateTime {
         DateTime::shown_by(unix_time, nanoseconds, *local_time_type)
     }
 
-    /// The date time that the type shows so many nanoseconds from 1970-01-01T00:00:00Z on.
+    /// The date time that the type shows a number of nanoseconds after 1970-01-01T00:00:00Z, or before it where the number is negative.
     pub fn from_total_nanoseconds_and_local(
         total_nanoseconds: i128,
         local_time_type: LocalTimeType,
@@ -254,7 +270,7 @@ impl DateTime {
         DateTime::shown_by(unix_time, nanoseconds, local_time_type)
     }
 
-    /// The date time that the zone's clock shows so many nanoseconds from 1970-01-01T00:00:00Z on.
+    /// The date time that the zone's clock shows a number of nanoseconds after 1970-01-01T00:00:00Z, or before it where the number is negative.
     pub fn from_total_nanoseconds(
         total_nanoseconds: i128,
         time_zone_ref: TimeZoneRef<'_>,
@@ -276,7 +292,17 @@ impl DateTime {
         DateTime::from_timespec(self.unix_time, self.fields.nanoseconds, time_zone_ref)
     }
 
-    /// What the zone's clock shows at a moment, which the caller passes as Unix seconds and nanoseconds below a second.
+    /// What the zone's clock shows at the current time, which the caller passes as Unix seconds and nanoseconds below a second.
+    ///
+    /// What clocks of a zone show now, by the system's clock:
+    ///
+    /// ```rust
+    /// pub fn show_now<C: Clock>(clock: &C, zone: TimeZoneRef<'_>) -> anyhow::Result<DateTime> {
+    ///     let since_1970 = SystemTime::now(clock)?.duration_since(UNIX_EPOCH)?;
+    ///     let seconds = i64::try_from(since_1970.as_secs())?;
+    ///     Ok(DateTime::now(seconds, since_1970.subsec_nanos(), zone)?)
+    /// }
+    /// ```
     pub fn now(
         unix_time: i64,
         nanoseconds: u32,

@@ -29,12 +29,47 @@ impl DateTime {
     /// All date times at which the zone's clock shows the fields, and the jumps forward over them, by rising Unix time.
     ///
     /// The month is from 1 to 12, the day of the month from 1, the hour from 0 to 23, the minute from 0 to 59, the second from 0 to
-    /// 60 and the nanoseconds below a second. Of fields out of range the first one is named, in this order, and after them all
-    /// that the month has no such day.
+    /// 60 and the nanoseconds below a second. The first field out of range is named, in this order, and after them
+    /// `InvalidMonthDay` where the month has no such day.
     ///
-    /// A date time keeps the fields as they are given, second 60 included. `OutOfRange` tells that a date time of the list lies
-    /// outside the years of 32 bits. Never is that told of a year that is 200 years or more from both ends of these, nor, where
-    /// all offsets of the zone are above -25 and below 26 hours, of one that is three years or more from them.
+    /// A date time keeps the fields as they are passed, second 60 included. `OutOfRange` tells that a date time of the list lies
+    /// outside the years of an `i32`. It is never returned for a year that is 200 years or more from both ends of these, nor, where
+    /// all offsets of the zone are above -25 and below 26 hours, for one that is three years or more from them. `Memory` tells that
+    /// an allocation for the list failed.
+    ///
+    /// When an alarm rings that is set to a local time: at the first instant at which clocks show it, or, where they are set forward
+    /// over it, right after that.
+    ///
+    /// ```rust
+    /// pub fn alarm(
+    ///     alloc: Global,
+    ///     zone: TimeZoneRef<'_>,
+    ///     local: UtcDateTime,
+    /// ) -> Result<Option<DateTime>, TzError> {
+    ///     let found = DateTime::find(
+    ///         alloc,
+    ///         local.year(),
+    ///         local.month(),
+    ///         local.month_day(),
+    ///         local.hour(),
+    ///         local.minute(),
+    ///         local.second(),
+    ///         local.nanoseconds(),
+    ///         zone,
+    ///     )?;
+    ///     Ok(match found.into_inner().as_slice() {
+    ///         [] => None,
+    ///         [FoundDateTimeKind::Normal(date_time), ..] => Some(*date_time),
+    ///         [
+    ///             FoundDateTimeKind::Skipped {
+    ///                 after_transition,
+    ///                 ..
+    ///             },
+    ///             ..
+    ///         ] => Some(*after_transition),
+    ///     })
+    /// }
+    /// ```
     pub fn find<A: Allocator + Copy>(
         alloc: A,
         year: i32,
@@ -85,9 +120,32 @@ impl DateTime {
     /// by rising Unix time and as far as the slots go; the other slots stay as they are, and all that is found is counted.
     ///
     /// The month is from 1 to 12, the day of the month from 1, the hour from 0 to 23, the minute from 0 to 59, the second from 0 to
-    /// 60 and the nanoseconds below a second. Of fields out of range the first one is named, in this order, and after them all
-    /// that the month has no such day; nothing is written then. `OutOfRange` tells, as it does of [`DateTime::find`], that a date
-    /// time of the list lies outside the years of 32 bits.
+    /// 60 and the nanoseconds below a second. The first field out of range is named, in this order, and after them
+    /// `InvalidMonthDay` where the month has no such day; nothing is written then.
+    ///
+    /// A date time keeps the fields as they are passed, second 60 included. `OutOfRange` tells that a date time of the list lies
+    /// outside the years of an `i32`. It is never returned for a year that is 200 years or more from both ends of these, nor, where
+    /// all offsets of the zone are above -25 and below 26 hours, for one that is three years or more from them. No memory is taken.
+    ///
+    /// How many instants and jumps a local time has, found without memory: 1 nearly always, 2 where clocks show it twice.
+    ///
+    /// ```rust
+    /// pub fn count_meanings(zone: TimeZoneRef<'_>, local: UtcDateTime) -> Result<usize, TzError> {
+    ///     let mut slots = [None; 2];
+    ///     let found = DateTime::find_n(
+    ///         &mut slots,
+    ///         local.year(),
+    ///         local.month(),
+    ///         local.month_day(),
+    ///         local.hour(),
+    ///         local.minute(),
+    ///         local.second(),
+    ///         local.nanoseconds(),
+    ///         zone,
+    ///     )?;
+    ///     Ok(found.count())
+    /// }
+    /// ```
     pub fn find_n<'a>(
         buf: &'a mut [Option<FoundDateTimeKind>],
         year: i32,

@@ -348,12 +348,12 @@ fn answer_next<'a, A: Allocator + Copy>(
 
 /// Answers query bytes over a zone.
 ///
-/// Each line asks for something by its letter and numbers, one space apart. `T u n` asks for the date time at the Unix time u with n
-/// nanoseconds: its answer is the date time and the name of its type, `-` where it has none. `F y mo d h mi s n` asks for what
-/// [`DateTime::find`] finds of these fields: its answer is `F` and how much that is, and a line for each, `N` with a date time and
-/// its name, or `S` with those before and after a jump. `W c y mo d h mi s n` asks for these fields in c weeks, each with the date that
-/// lies that many weeks later: its answer is `W` and c, and that of an `F` line for each week. Where a query is refused the answer is
-/// `E ` and why, and `E Line` where a line asks for nothing. Lines and answers are ended by LF; the last line may lack it.
+/// A query is a letter and numbers, one space apart. `T u n` is the date time at the Unix time u with n nanoseconds: its answer is the
+/// date time and the name of its type, `-` where it has none. `F y mo d h mi s n` is the search of [`DateTime::find`] for these fields: its
+/// answer is `F` and how many entries there are, and a line for each, `N` with a date time and its name, or `S` with those before and after
+/// a jump. `W c y mo d h mi s n` is that search in each of c weeks, for the date that lies as many weeks later: its answer is `W` and c, and
+/// that of an `F` line for each week. A query that is refused has the answer `E ` and why, and any other line `E Line`. Lines and answers
+/// are ended by LF; the last line may lack it.
 pub fn answer<A: Allocator + Copy>(
     alloc: A,
     zone: TimeZoneRef<'_>,

@@ -20,7 +20,7 @@ fn julian_place(leap: bool, day: u16) -> u16
     if leap && day > 59 { day } else { day - 1 }
 }
 
-/// How many days after its first day a month of so many days has a week day for the w-th time, and for the fifth week for the last time.
+/// How many days after its first day a month of this length has a week day for the w-th time, and for the fifth week for the last time.
 #[tactic(auto, unfolding(crate::specs::Places::week_day_place))]
 fn week_day_place(first_week_day: u8, days: u8, week: u8, week_day: u8) -> u8
     requires first { first_week_day < 7 }

@@ -1,4 +1,4 @@
-//! TZ texts. (POSIX.1-2017, Base Definitions, 8.3)
+//! TZ strings. (POSIX.1-2017, Base Definitions, 8.3)
 
 mod cursor;
 mod day;
@@ -122,7 +122,7 @@ fn read_text(text: &[u8], extended: bool) -> Result<TransitionRule, TzError>
     Ok(TransitionRule::Alternate(rule))
 }
 
-/// The rule that a TZ text denotes. (POSIX.1-2017, Base Definitions, 8.3)
+/// The rule that a TZ string denotes. (POSIX.1-2017, Base Definitions, 8.3)
 ///
 /// An extended text may have day times from -167 to 167 hours. (RFC 8536, section 3.3.1)
 pub(crate) fn parse_posix_tz(text: &[u8], extended: bool) -> Result<TransitionRule, TzError>
