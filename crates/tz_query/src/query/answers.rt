@@ -320,7 +320,7 @@ fn answer_next<'a, A: Allocator + Copy>(
     requires tails { types_of tails.now ≡ numbered_types (zone_of zone) }
     requires offsets { AreOffsetsOf (zone_of zone) offsets.0 offsets.1 }
     requires order { offsets.0 ≤ℤ offsets.1 }
-    ensures end { IfOk result (λ r. r.0 ≤ at + 67) }
+    ensures end { IfOk result (λ r. r.0 ≤ at + 130) }
     ensures answer { IfOk result (λ r. (text : List ℕ) × (answer : List (List ℕ)) × IsFirstLine queries.now text r.1.now × IsAnswer (zone_of zone.entry) text answer × ((answers.new.items ++ take r.0 page.new) ≡ (answers.old.items ++ take at page.old) ++ ended answer)) }
     ensures kept { IsSegmentOf (zone_of zone.entry) kept.new }
 {
