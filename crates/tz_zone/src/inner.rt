@@ -5,11 +5,13 @@ ghost use Rattle.tz_zone.specs.Table.{LeapSecond};
 ghost use Rattle.tz_zone.specs.LeapTime.{IsInstant, IsStart, correction_at_start as correction_of_start, correction_before as correction_at_place, IsReached, IsBeforeStart, IsFirstBegun, IsLeapTimeRefused, IsLeapTime, IsMomentOf, IsEffect, IsEffectRefused};
 ghost use Rattle.tz_zone.specs.ValidZone.{AreLeapSeconds, HasBegunAt, ExpiresAt, IsPlainTable};
 
+mod leap_spans;
 mod lookup;
 mod parts;
 mod reached;
 mod segment;
 mod segments;
+mod span;
 mod transitions;
 
 use crate::partition::{Places, partition_point};
