@@ -31,7 +31,8 @@ IsSegmentOf z s = (t : LocalTimeType) × (slice_get (numbered_types z) s.number 
 -- from an instant on the clock has the type of the rule, as far as leap times surely fit 64 bits
 abbrev pub IsRuledFrom : Zone → ℤ → Type 0
 IsRuledFrom z seam =
-    (rule : TransitionRule) → z.extra_rule ≡ Some rule → (v : ℤ) → seam ≤ℤ v → v ≤ℤ pos 80000000000000000 → (t : LocalTimeType) → IsRuleType rule v t → IsClock z v t
+    (rule : TransitionRule) → z.extra_rule ≡ Some rule → (v : ℤ) → seam ≤ℤ v → v ≤ℤ pos 80000000000000000 → (t : LocalTimeType) → IsRuleType rule v t
+    → IsClock z v t
 
 -- throughout a span leap time is ahead of Unix time by its correction; it ends where leap times surely fit 64 bits
 abbrev pub IsLeapSpan : List LeapSecond → LeapSpan → Type 0
