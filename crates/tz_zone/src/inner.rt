@@ -32,7 +32,8 @@ fn truncated_start(leap_seconds: &[LeapSecond]) -> Option<&LeapSecond>
     ensures { MatchOption result ((l : LeapSecond) → ¬ IsStart leap_seconds.now l) (λ l. IsStart leap_seconds.now l.now) }
 {
     let first = leap_seconds.first()?;
-    if first.correction().unsigned_abs() == 1 {
+    let correction = first.correction();
+    if correction == 1 || correction == -1 {
         return None;
     }
     Some(first)
