@@ -7,6 +7,7 @@ ghost use Rattle.tz_zone.specs.ZoneRef.{zone_of};
 ghost use Rattle.tz.specs.Reached.{AreOffsetsOf};
 ghost use Rattle.tz.specs.PrintedText.{two_digits, nine_digits, two_digits_or_more, date_text, time_text, seconds_text, duration_text, offset_text, printed_text};
 
+pub use crate::datetime::find::find_fields;
 use crate::datetime::{DateTime, search};
 use std::marker::Model;
 use std::str;

@@ -1,6 +1,6 @@
 //! Date times of a local time type.
 
-ghost use Rattle.std.specs.Prelude.{◌≡◌, ◌+ℤ◌, ◌-ℤ◌, IfSome, IfNone};
+ghost use Rattle.std.specs.Prelude.{◌≡◌, ◌+ℤ◌, IfSome, IfNone};
 ghost use Rattle.tz_base.specs.Fields.{IsReading};
 
 use super::totals::duration_between;
@@ -23,19 +23,6 @@ fn local_reading(unix_time: i64, ut_offset: i32) -> Option<i64>
     let reading = unix_time.checked_add(i64::from(ut_offset))?;
     if calendar::is_reading(reading) {
         Some(reading)
-    } else {
-        None
-    }
-}
-
-/// The Unix time at which a clock with this offset from UTC shows a reading, if it is that of a UTC date time.
-fn utc_reading(reading: i64, ut_offset: i32) -> Option<i64>
-    ensures some { IfSome result (λ u. (u ≡ reading -ℤ ut_offset) × IsReading u) }
-    ensures none { IfNone result (¬ IsReading (reading -ℤ ut_offset)) }
-{
-    let unix_time = reading.checked_sub(i64::from(ut_offset))?;
-    if calendar::is_reading(unix_time) {
-        Some(unix_time)
     } else {
         None
     }
@@ -173,11 +160,27 @@ impl DateTime {
         ensures err { IfErr result (IsLocalFault fields local_time_type.ut_offset) }
     {
         fields.check()?;
-        let Some(unix_time) = utc_reading(fields.reading(), local_time_type.ut_offset()) else {
+        let unix_time = fields.reading() - i64::from(local_time_type.ut_offset());
+        DateTime::from_valid_fields(&fields, local_time_type, unix_time)
+    }
+
+    /// The date time with valid fields, which the type shows at a Unix time. `OutOfRange` tells that this is that of no UTC date time.
+    pub(super) fn from_valid_fields(
+        fields: &Fields,
+        local_time_type: LocalTimeType,
+        unix_time: i64,
+    ) -> Result<Self, TzError>
+        requires valid { IsValid fields.now }
+        requires instant { unix_time ≡ reading fields.now -ℤ local_time_type.ut_offset }
+        ensures value { IfOk result (λ d. d ≡ record { fields = fields.now; local_time_type = local_time_type; unix_time = unix_time }) }
+        ensures ok { OnOk result (IsReading unix_time) }
+        ensures err { IfErr result (λ e. (e ≡ TzError.OutOfRange) × ¬ IsReading unix_time) }
+    {
+        if !calendar::is_reading(unix_time) {
             return Err(TzError::OutOfRange);
-        };
+        }
         Ok(DateTime {
-            fields,
+            fields: *fields,
             local_time_type,
             unix_time,
         })

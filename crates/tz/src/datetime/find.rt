@@ -1,5 +1,13 @@
 //! The date times at which the clock of a zone shows given fields.
 
+ghost use Rattle.std.specs.Prelude.{◌≡◌, ◌≢◌, ⊤, IfOk, IfErr, OnOk};
+ghost use Rattle.tz_base.specs.Fields.{IsValid};
+ghost use Rattle.tz_zone.specs.Clock.{IsClock};
+ghost use Rattle.tz_zone.specs.ZoneRef.{zone_of};
+ghost use Rattle.tz.specs.Found.{IsFound};
+ghost use Rattle.tz.specs.Lists.{found_of};
+ghost use Rattle.tz.specs.FindFaults.{IsFindFault, IsPromised};
+
 use super::found_list::FoundDateTimeList;
 use super::found_list_ref::FoundDateTimeListRefMut;
 use super::search::search;
@@ -10,6 +18,24 @@ use tz_base::calendar::Fields;
 use tz_base::error::TzError;
 use tz_zone::inner::{Counted, OtherParts, Transitions, Uncounted, other_parts};
 use tz_zone::timezone::TimeZoneRef;
+
+/// What [`DateTime::find`] finds of the fields.
+pub fn find_fields<A: Allocator + Copy>(
+    alloc: A,
+    fields: &Fields,
+    time_zone_ref: TimeZoneRef<'_>,
+) -> Result<FoundDateTimeList<A>, TzError>
+    ensures ok { IfOk result (λ list. IsFound (IsClock (zone_of time_zone_ref.entry)) fields.now (found_of list)) }
+    ensures valid { OnOk result (IsValid fields.now) }
+    ensures promised { IsPromised (zone_of time_zone_ref.entry) fields.now.year → IfErr result (λ e. e ≢ TzError.OutOfRange) }
+    ensures err { IfErr result (IsFindFault ⊤ (IsClock (zone_of time_zone_ref.entry)) fields.now) }
+{
+    fields.check()?;
+    let mut list = FoundDateTimeList::new_in(alloc);
+    let mut view = Uncounted::new(time_zone_ref.transitions());
+    search(&mut list, fields, &mut view, other_parts(&time_zone_ref))?;
+    Ok(list)
+}
 
 impl DateTime {
     ghost use Rattle.std.specs.Prelude.{◌≡◌, ◌≢◌, ◌⊎◌, ◌+◌, ◌*◌, ◌^◌, ◌<◌, ◌≤◌, ℕ, List, length, ⊤, IfOk, IfErr, OnOk};
@@ -95,25 +121,7 @@ impl DateTime {
             second,
             nanoseconds,
         };
-        DateTime::find_fields(alloc, &fields, time_zone_ref)
-    }
-
-    /// All date times at which the zone's clock shows the fields.
-    fn find_fields<A: Allocator + Copy>(
-        alloc: A,
-        fields: &Fields,
-        time_zone_ref: TimeZoneRef<'_>,
-    ) -> Result<FoundDateTimeList<A>, TzError>
-        ensures ok { IfOk result (λ list. IsFound (IsClock (zone_of time_zone_ref.entry)) fields.now (found_of list)) }
-        ensures valid { OnOk result (IsValid fields.now) }
-        ensures promised { IsPromised (zone_of time_zone_ref.entry) fields.now.year → IfErr result (λ e. e ≢ TzError.OutOfRange) }
-        ensures err { IfErr result (IsFindFault ⊤ (IsClock (zone_of time_zone_ref.entry)) fields.now) }
-    {
-        fields.check()?;
-        let mut list = FoundDateTimeList::new_in(alloc);
-        let mut view = Uncounted::new(time_zone_ref.transitions());
-        search(&mut list, fields, &mut view, other_parts(&time_zone_ref))?;
-        Ok(list)
+        find_fields(alloc, &fields, time_zone_ref)
     }
 
     /// Writes all date times at which the zone's clock shows the fields, and the jumps forward over them, to the slots of a buffer,

@@ -41,25 +41,6 @@ impl Entry {
     ghost use Rattle.tz.specs.DateTimes.{ShowsInstant};
     ghost use Rattle.tz.specs.Walks.{moment_of, IsDateTimeOf, IsEntryNear, IsEntryOutside, IsNear, IsOutside};
 
-    /// The valid fields in a type that shows them.
-    fn shown(fields: &Fields, local_time_type: LocalTimeType) -> Result<DateTime, TzError>
-        requires valid { IsValid fields.now }
-        requires near { IsNear (reading_of fields.now) (reading_of fields.now -ℤ local_time_type.ut_offset) }
-        ensures ok { IfOk result (λ d. d ≡ moment_of fields.now local_time_type (reading_of fields.now -ℤ local_time_type.ut_offset)) }
-        ensures err { IfErr result (λ e. (e ≡ TzError.OutOfRange) × IsOutside (reading_of fields.now) (reading_of fields.now -ℤ local_time_type.ut_offset)) }
-    {
-        DateTime::new(
-            fields.year,
-            fields.month,
-            fields.month_day,
-            fields.hour,
-            fields.minute,
-            fields.second,
-            fields.nanoseconds,
-            local_time_type,
-        )
-    }
-
     /// A side of a jump: its instant in a type.
     fn side(
         fields: &Fields,
@@ -82,8 +63,8 @@ impl Entry {
         ensures err { IfErr result (λ e. (e ≡ TzError.OutOfRange) × IsEntryOutside (reading_of fields.now) self.now) }
     {
         match *self {
-            Entry::Shown(_, local_time_type) => {
-                let date_time = Entry::shown(fields, local_time_type)?;
+            Entry::Shown(unix_time, local_time_type) => {
+                let date_time = DateTime::from_valid_fields(fields, local_time_type, unix_time)?;
                 Ok(FoundDateTimeKind::Normal(date_time))
             }
             Entry::Jump(unix_time, before, after) => {

@@ -236,18 +236,7 @@ pub fn answer_search<A: Allocator + Copy>(
 ) -> Result<(), AllocError>
     ensures { IfOk result (λ _. (answer : List (List ℕ)) × IsSearchAnswer (zone_of zone.entry) fields.now answer × (answers.new.items ≡ answers.old.items ++ ended answer)) }
 {
-    let found = DateTime::find(
-        alloc,
-        fields.year,
-        fields.month,
-        fields.month_day,
-        fields.hour,
-        fields.minute,
-        fields.second,
-        fields.nanoseconds,
-        zone,
-    );
-    match found {
+    match inner::find_fields(alloc, fields, zone) {
         Ok(list) => append_found(answers, line, &list.into_inner()),
         Err(TzError::DateTime(fault)) => append_fault(answers, line, field_fault_name(&fault)),
         Err(TzError::OutOfRange) => append_fault(answers, line, "OutOfRange"),

@@ -13,7 +13,7 @@ use Rattle.tz.specs.Found.{IsFound}
 use Rattle.tz.specs.Walks.{IsSearchFault}
 use Rattle.tz.specs.declared.datetime.found.FoundDateTimeKind.{FoundDateTimeKind}
 use Rattle.tz.proofs.FarLemmas.{not_out_of_range}
-use Rattle.tz.proofs.datetime.date_time.DateTime.find_fields.Goals as goal
+use Rattle.tz.proofs.datetime.find.find_fields.Goals as goal
 
 -- the fault of the same zone
 fault_in : (takes_memory : Type 0) (z z' : Zone) (r : ℤ) (e : TzError) → z ≡ z' → IsSearchFault takes_memory (IsClock z) r e → IsSearchFault takes_memory (IsClock z') r e
