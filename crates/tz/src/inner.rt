@@ -65,7 +65,7 @@ pub fn ones(number: u8) -> u8
 }
 
 impl TextBuffer {
-    /// A line without text.
+    /// An empty text.
     pub fn new() -> Self
         ensures { result ≡ [] }
     {
@@ -75,7 +75,7 @@ impl TextBuffer {
         }
     }
 
-    /// Takes the text off.
+    /// Clears the text.
     #[inline]
     pub fn clear(&mut self)
         ensures { self.new ≡ [] }

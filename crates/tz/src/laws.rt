@@ -67,7 +67,7 @@ pub fn projections_keep_the_instant()
 {}
 
 /// What [`crate::DateTime::from_timespec`] shows, [`crate::DateTime::find`] of its fields lists, wherever the list is promised and
-/// memory is not refused.
+/// no allocation fails.
 pub fn shown_date_times_are_found()
     ensures found { (z : Zone) (u : ℤ) (n : ℕ) (d : DateTime) (found : List FoundDateTimeKind) → ShowsByClock z u n d → IsFound (IsClock z) d.fields found
         → Contains found (normal d) }

@@ -77,7 +77,7 @@ pub fn field_fault_name(fault: &DateTimeError) -> &'static str
     }
 }
 
-/// The name of a refusal that an answer tells.
+/// The name of a refusal, as an answer has it.
 fn fault_name(error: &TzError) -> &'static str
     requires { (text : List ℕ) × IsFaultText error.now text }
     ensures text { IsFaultText error.now result.now }
@@ -247,7 +247,7 @@ pub fn answer_search<A: Allocator + Copy>(
     }
 }
 
-/// Appends the answer lines of the first line, and gives the bytes after that line.
+/// Appends the answer lines of the first line, and returns the bytes after that line.
 pub(super) fn answer_line<'a, A: Allocator + Copy>(
     alloc: A,
     answers: &mut Vec<u8, A>,
@@ -286,7 +286,7 @@ fn flush<A: Allocator>(
     answers.extend_from_slice(&page[..at])
 }
 
-/// Appends what is on the page where it is nearly full, and gives how much of it is used then.
+/// Appends what is on the page where it is nearly full, and returns how much of it is used then.
 #[inline(always)]
 fn make_room<A: Allocator>(
     answers: &mut Vec<u8, A>,
@@ -304,7 +304,7 @@ fn make_room<A: Allocator>(
     Ok(0)
 }
 
-/// Answers the first line, on the page where that is quick, and gives how much of the page is used and the bytes after that line.
+/// Answers the first line, on the page where that is quick, and returns how much of the page is used and the bytes after that line.
 #[inline(always)]
 fn answer_next<'a, A: Allocator + Copy>(
     alloc: A,

@@ -1,4 +1,4 @@
-//! The answers of lines that ask for a weekly meeting.
+//! The answers of lines for a weekly meeting.
 
 ghost use Rattle.std.specs.Prelude.{◌≡◌, ℕ, List, ◌++◌, length, IfOk};
 ghost use Rattle.std.specs.List.{flat_map};

@@ -65,7 +65,7 @@ fn write_all<W: Write>(out: &mut W, bytes: &[u8]) -> Result<(), RunFault>
     Ok(())
 }
 
-/// Reads the input to its end, and then writes the answers of its lines over a zone, as [`answer`] gives them.
+/// Reads the input to its end, and then writes the answers of its lines over a zone, as [`answer`] makes them.
 ///
 /// A run that fails before it writes leaves the writer as it was; after [`RunFault::Write`] a front of the answers may have been written.
 pub fn run<A: Allocator + Copy, R: Read, W: Write>(

@@ -27,7 +27,7 @@ pub const DEFAULT_DIRECTORIES: &[&str] = &[
 /// The file of the machine's local time.
 const LOCAL_TIME_FILE: &str = "/etc/localtime";
 
-/// Whether the text stands for the machine's local time.
+/// Whether the string stands for the machine's local time.
 fn is_local_time(text: &str) -> bool
     ensures { IsTrue result ↔ (text.now ≡ local_time) }
 {

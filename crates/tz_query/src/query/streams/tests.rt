@@ -10,7 +10,7 @@ use tz_base::refusing::Refusing;
 /// Two lines, the second without an end.
 const QUERIES: &[u8] = b"T 0 0\nF 2000 10 29 2 30 0 0";
 
-/// Their answers over the zone of Central Europe.
+/// The answers of these queries over the zone of Central Europe.
 const ANSWERS: &str = "1970-01-01T01:00:00.000000000+01:00 CET\n\
                        F 2\n\
                        N 2000-10-29T02:30:00.000000000+02:00 CEST\n\
@@ -26,7 +26,7 @@ fn name(answer: &Result<(), RunFault>) -> &'static str {
     }
 }
 
-/// What a run answers with a reader and a writer that fail after so many calls, and what the writer holds then, after `|`.
+/// What a run returns with a reader and a writer that fail after a number of calls, and what the writer holds then, after `|`.
 fn outcome(alloc: Global, reads: u8, writes: u8, piece: usize) -> Result<String, Fail> {
     let zone = central_europe(alloc)?;
     let mut input = FailingReader {

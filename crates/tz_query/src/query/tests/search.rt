@@ -377,7 +377,7 @@ fn reads_only_the_grammar(rt: HostRuntime) -> Result<(), Fail> {
     Ok(())
 }
 
-/// The answers where so many growths succeed.
+/// The answers where a number of growths succeed.
 fn answered<A: Allocator + Copy>(alloc: A) -> Result<Vec<u8, A>, TzError> {
     answer(alloc, TimeZoneRef::utc(), b"F 2000 1 1 0 0 0 0\nT 0\n")
 }
