@@ -11,16 +11,13 @@ ghost use Rattle.tz_rule.specs.Years.{EndsNextYear};
 use super::AlternateTime;
 use super::daylight::is_mid_second;
 use super::stretch::Stretch;
-use super::year_kind::year_start;
+use super::year_kind::{ADDED_YEARS, year_start};
 
 /// How far from 1970 an instant may lie: the neighbours of its year are years in which a rule answers.
 const GREATEST_DISTANCE: i64 = 60_000_000_000_000_000;
 
 /// The seconds from January 1st of the year -2147484000 to 1970-01-01.
 const ADDED_SECONDS: i64 = 67_768_111_675_987_200;
-
-/// The years from the year 0 back to the year -2147484000.
-const ADDED_YEARS: i64 = 2_147_484_000;
 
 /// The seconds of a year, on the average of 400 years.
 const SECONDS_PER_YEAR: u64 = 31_556_952;

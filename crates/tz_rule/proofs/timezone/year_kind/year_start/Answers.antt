@@ -1,19 +1,34 @@
--- The kind is made of the leap rule and the week day.
-use Rattle.std.proofs.Common.{rules, ap, ◌∙◌}
-use Rattle.std.specs.Int.RustNames.{unsigned_abs}
-use Rattle.std.proofs.lemmas.Int.{to_z-of_z}
-use mir.Syntax.{w32, w64}
-use mir.Val.{SFits}
+-- By the closed form of the days before the year, which is moved by cycles of 400 years.
+use Rattle.std.proofs.Common.{◌≡◌, ◌+◌, ◌%◌, ap, sym, ◌∙◌, arith, pos, ◌+ℤ◌}
+use Rattle.std.proofs.lemmas.Int.{ints, to_z-of_z}
+use mir.Syntax.{w32}
 use Rattle.tz_base.specs.Days.{is_leap}
-use Rattle.tz_rule.specs.Kinds.{kind_of, year_kind, week_day_of_year}
+use Rattle.tz_base.proofs.YearLemmas.{first_day-moved, is_leap-moved, days_of_years_bounds}
+use Rattle.tz_rule.specs.Kinds.{kind_of, year_kind}
+use Rattle.tz_rule.proofs.Weeks.{week_day_of_year-moved}
 use Rattle.tz_rule.proofs.timezone.year_kind.year_start.Goals as goal
 
-pub returns-clause-kind : goal.returns-clause-kind
-unfolding year_kind week_day_of_year
-returns-clause-kind c =
+pub returns-clause-start : goal.returns-clause-start
+returns-clause-start c =
+    let n = c.moved_year-years.result in
     let year = to_z-of_z w32 c.args.year c.ranges.year in
-    let fits : SFits w64 c.first_day_of_year-day.result = search rules in
-    let leap = rw year at c.is_leap_year.ensures in
-    let first = rw year at c.first_day_of_year-day.ensures.value in
-    let week_day = rw (to_z-of_z w64 c.first_day_of_year-day.result fits, first) at c.week_day_of_day.ensures.value in
-    c.kind_of-kind.ensures.value ∙ ap (λ b. kind_of b c.week_day_of_day.result) leap ∙ ap (λ d. kind_of (is_leap c.args.year) (unsigned_abs d)) week_day
+    let moved = first_day-moved c.args.year n 5368710 (omega (arith, ints, year, c.moved_year-years.ensures.value)) in
+    omega (arith, ints, moved, c.days_before_moved_year-days.ensures.value, c.days_before_moved_year-days.ensures.bound)
+
+pub returns-clause-kind : goal.returns-clause-kind
+unfolding year_kind
+returns-clause-kind c =
+    let n = c.moved_year-years.result in
+    let days = c.days_before_moved_year-days.result in
+    let year = to_z-of_z w32 c.args.year c.ranges.year in
+    let moved : c.args.year +ℤ pos 2147484000 ≡ pos n = omega (arith, ints, year, c.moved_year-years.ensures.value) in
+    let leap = c.is_moved_year_leap.ensures ∙ sym (is_leap-moved c.args.year n 5368710 moved) in
+    let week_day = ap (λ d. (d + 6) % 7) c.days_before_moved_year-days.ensures.value ∙ sym (week_day_of_year-moved c.args.year n 5368710 moved) in
+    c.kind_of-kind.ensures.value ∙ ap (λ b. kind_of b ((days + 6) % 7)) leap ∙ ap (kind_of (is_leap c.args.year)) week_day
+
+pub returns-clause-bound : goal.returns-clause-bound
+returns-clause-bound c =
+    let n = c.moved_year-years.result in
+    let year = to_z-of_z w32 c.args.year c.ranges.year in
+    let bounds = days_of_years_bounds c.args.year n c.ranges.year (omega (arith, ints, year, c.moved_year-years.ensures.value)) in
+    (omega (arith, ints, bounds, c.days_before_moved_year-days.ensures.value, c.days_before_moved_year-days.ensures.bound), omega (arith, ints, bounds, c.days_before_moved_year-days.ensures.value, c.days_before_moved_year-days.ensures.bound))
