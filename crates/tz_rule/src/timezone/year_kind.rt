@@ -1,6 +1,6 @@
 //! Kinds of years, by number: the week day of January 1st, and 7 more for a leap year. All years of a kind have the same calendar.
 
-ghost use Rattle.std.specs.Prelude.{◌≡◌, ◌*◌, ◌^◌, ◌<◌, ◌≤◌, pos, negsuc, ◌+ℤ◌, ◌*ℤ◌, ◌≤ℤ◌};
+ghost use Rattle.std.specs.Prelude.{◌≡◌, ◌*◌, ◌%◌, ◌^◌, ◌<◌, ◌≤◌, pos, negsuc, ◌+ℤ◌, ◌*ℤ◌, ◌≤ℤ◌};
 ghost use Rattle.tz_base.specs.Cycles.{days_of_years};
 ghost use Rattle.tz_base.specs.Days.{is_leap, first_day};
 ghost use Rattle.tz_rule.specs.Kinds.{kind_of as kind_by, days_of_kind as days_of, year_kind, first_kind as first_kind_of, second_kind as second_kind_of, first_days as first_days_of};
@@ -62,6 +62,20 @@ fn days_before_moved_year(years: u64) -> u64
     365 * years + (years + 3) / 4 - centuries + (centuries + 3) / 4
 }
 
+/// A seventh of 2^64, rounded up.
+const SEVENTH: u64 = 2_635_249_153_387_078_803;
+
+/// The days over whole weeks: the sevenths that are over are the fraction of a product of 64 bits.
+#[inline(always)]
+fn days_over_weeks(days: u64) -> u8
+    requires { days < 2 ^ 43 }
+    ensures value { result ≡ days % 7 }
+    ensures below { result < 7 }
+{
+    let fraction = days.wrapping_mul(SEVENTH);
+    (u128::from(fraction) * 7 / 18_446_744_073_709_551_616) as u8
+}
+
 /// 00:00 UTC of a year's January 1st, and the kind of the year.
 #[inline(always)]
 pub(super) fn year_start(year: i32) -> (i64, usize)
@@ -72,7 +86,7 @@ pub(super) fn year_start(year: i32) -> (i64, usize)
 {
     let years = moved_year(year);
     let days = days_before_moved_year(years);
-    let kind = kind_of(is_moved_year_leap(years), ((days + 6) % 7) as u8);
+    let kind = kind_of(is_moved_year_leap(years), days_over_weeks(days + 6));
     (SECONDS_PER_DAY * (days as i64 - ADDED_DAYS), kind)
 }
 

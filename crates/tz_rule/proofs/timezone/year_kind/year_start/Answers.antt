@@ -19,12 +19,11 @@ pub returns-clause-kind : goal.returns-clause-kind
 unfolding year_kind
 returns-clause-kind c =
     let n = c.moved_year-years.result in
-    let days = c.days_before_moved_year-days.result in
     let year = to_z-of_z w32 c.args.year c.ranges.year in
     let moved : c.args.year +ℤ pos 2147484000 ≡ pos n = omega (arith, ints, year, c.moved_year-years.ensures.value) in
     let leap = c.is_moved_year_leap.ensures ∙ sym (is_leap-moved c.args.year n 5368710 moved) in
-    let week_day = ap (λ d. (d + 6) % 7) c.days_before_moved_year-days.ensures.value ∙ sym (week_day_of_year-moved c.args.year n 5368710 moved) in
-    c.kind_of-kind.ensures.value ∙ ap (λ b. kind_of b ((days + 6) % 7)) leap ∙ ap (kind_of (is_leap c.args.year)) week_day
+    let week_day = c.days_over_weeks.ensures.value ∙ ap (λ d. (d + 6) % 7) c.days_before_moved_year-days.ensures.value ∙ sym (week_day_of_year-moved c.args.year n 5368710 moved) in
+    c.kind_of-kind.ensures.value ∙ ap (λ b. kind_of b c.days_over_weeks.result) leap ∙ ap (kind_of (is_leap c.args.year)) week_day
 
 pub returns-clause-bound : goal.returns-clause-bound
 returns-clause-bound c =
