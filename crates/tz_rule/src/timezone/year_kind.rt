@@ -1,6 +1,6 @@
 //! Kinds of years, by number: the week day of January 1st, and 7 more for a leap year. All years of a kind have the same calendar.
 
-ghost use Rattle.std.specs.Prelude.{◌≡◌, ◌*◌, ◌%◌, ◌^◌, ◌<◌, ◌≤◌, pos, negsuc, ◌+ℤ◌, ◌*ℤ◌, ◌≤ℤ◌};
+ghost use Rattle.std.specs.Prelude.{◌≡◌, ◌*◌, ◌%◌, ◌^◌, ◌<◌, ◌≤◌, pos, negsuc, ◌+ℤ◌, ◌-ℤ◌, ◌*ℤ◌, ◌≤ℤ◌};
 ghost use Rattle.tz_base.specs.Cycles.{days_of_years};
 ghost use Rattle.tz_base.specs.Days.{is_leap, first_day};
 ghost use Rattle.tz_rule.specs.Kinds.{kind_of as kind_by, days_of_kind as days_of, year_kind, first_kind as first_kind_of, second_kind as second_kind_of, first_days as first_days_of};
@@ -14,7 +14,7 @@ pub(super) const KINDS: usize = 14;
 pub(super) const PAIR_KINDS: usize = 21;
 
 /// Years that are added to make every year of 32 bits positive: 5368710 cycles of 400 years.
-pub(super) const ADDED_YEARS: i64 = 2_147_484_000;
+const ADDED_YEARS: i64 = 2_147_484_000;
 
 /// The days from January 1st of the year -2147484000 to 1970-01-01.
 const ADDED_DAYS: i64 = 784_353_144_398;
@@ -76,6 +76,20 @@ fn days_over_weeks(days: u64) -> u8
     (u128::from(fraction) * 7 / 18_446_744_073_709_551_616) as u8
 }
 
+/// 00:00 UTC of a moved year's January 1st, and the kind of the year.
+#[inline(always)]
+pub(super) fn moved_year_start(years: u64) -> (i64, usize)
+    requires { (352 ≤ years) × (years ≤ 4294967647) }
+    ensures start { result.0 ≡ pos 86400 *ℤ first_day (pos years -ℤ pos 2147484000) }
+    ensures kind { result.1 ≡ year_kind (pos years -ℤ pos 2147484000) }
+    ensures bound { (negsuc 67768100567971199 ≤ℤ result.0) × (result.0 ≤ℤ pos 67767976202016000) }
+    ensures below { result.1 < 14 }
+{
+    let days = days_before_moved_year(years);
+    let kind = kind_of(is_moved_year_leap(years), days_over_weeks(days + 6));
+    (SECONDS_PER_DAY * (days as i64 - ADDED_DAYS), kind)
+}
+
 /// 00:00 UTC of a year's January 1st, and the kind of the year.
 #[inline(always)]
 pub(super) fn year_start(year: i32) -> (i64, usize)
@@ -84,10 +98,7 @@ pub(super) fn year_start(year: i32) -> (i64, usize)
     ensures bound { (negsuc 67768100567971199 ≤ℤ result.0) × (result.0 ≤ℤ pos 67767976202016000) }
     ensures below { result.1 < 14 }
 {
-    let years = moved_year(year);
-    let days = days_before_moved_year(years);
-    let kind = kind_of(is_moved_year_leap(years), days_over_weeks(days + 6));
-    (SECONDS_PER_DAY * (days as i64 - ADDED_DAYS), kind)
+    moved_year_start(moved_year(year))
 }
 
 /// How many days the years of a kind have.

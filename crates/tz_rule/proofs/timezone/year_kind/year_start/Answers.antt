@@ -1,33 +1,19 @@
--- By the closed form of the days before the year, which is moved by cycles of 400 years.
-use Rattle.std.proofs.Common.{◌≡◌, ◌+◌, ◌%◌, ap, sym, ◌∙◌, arith, pos, ◌+ℤ◌}
+-- The year is moved by cycles of 400 years, and back.
+use Rattle.std.proofs.Common.{◌≡◌, ap, ◌∙◌, arith, pos, ◌-ℤ◌, ◌*ℤ◌}
 use Rattle.std.proofs.lemmas.Int.{ints, to_z-of_z}
 use mir.Syntax.{w32}
-use Rattle.tz_base.specs.Days.{is_leap}
-use Rattle.tz_base.proofs.YearLemmas.{first_day-moved, is_leap-moved, days_of_years_bounds}
-use Rattle.tz_rule.specs.Kinds.{kind_of, year_kind}
-use Rattle.tz_rule.proofs.Weeks.{week_day_of_year-moved}
+use Rattle.tz_base.specs.Days.{first_day}
+use Rattle.tz_rule.specs.Kinds.{year_kind}
 use Rattle.tz_rule.proofs.timezone.year_kind.year_start.Goals as goal
 
 pub returns-clause-start : goal.returns-clause-start
 returns-clause-start c =
-    let n = c.moved_year-years.result in
     let year = to_z-of_z w32 c.args.year c.ranges.year in
-    let moved = first_day-moved c.args.year n 5368710 (omega (arith, ints, year, c.moved_year-years.ensures.value)) in
-    omega (arith, ints, moved, c.days_before_moved_year-days.ensures.value, c.days_before_moved_year-days.ensures.bound)
+    let back : pos c.moved_year.result -ℤ pos 2147484000 ≡ c.args.year = omega (arith, ints, year, c.moved_year.ensures.value) in
+    c.moved_year_start.ensures.start ∙ ap (λ y. pos 86400 *ℤ first_day y) back
 
 pub returns-clause-kind : goal.returns-clause-kind
-unfolding year_kind
 returns-clause-kind c =
-    let n = c.moved_year-years.result in
     let year = to_z-of_z w32 c.args.year c.ranges.year in
-    let moved : c.args.year +ℤ pos 2147484000 ≡ pos n = omega (arith, ints, year, c.moved_year-years.ensures.value) in
-    let leap = c.is_moved_year_leap.ensures ∙ sym (is_leap-moved c.args.year n 5368710 moved) in
-    let week_day = c.days_over_weeks.ensures.value ∙ ap (λ d. (d + 6) % 7) c.days_before_moved_year-days.ensures.value ∙ sym (week_day_of_year-moved c.args.year n 5368710 moved) in
-    c.kind_of-kind.ensures.value ∙ ap (λ b. kind_of b c.days_over_weeks.result) leap ∙ ap (kind_of (is_leap c.args.year)) week_day
-
-pub returns-clause-bound : goal.returns-clause-bound
-returns-clause-bound c =
-    let n = c.moved_year-years.result in
-    let year = to_z-of_z w32 c.args.year c.ranges.year in
-    let bounds = days_of_years_bounds c.args.year n c.ranges.year (omega (arith, ints, year, c.moved_year-years.ensures.value)) in
-    (omega (arith, ints, bounds, c.days_before_moved_year-days.ensures.value, c.days_before_moved_year-days.ensures.bound), omega (arith, ints, bounds, c.days_before_moved_year-days.ensures.value, c.days_before_moved_year-days.ensures.bound))
+    let back : pos c.moved_year.result -ℤ pos 2147484000 ≡ c.args.year = omega (arith, ints, year, c.moved_year.ensures.value) in
+    c.moved_year_start.ensures.kind ∙ ap year_kind back
