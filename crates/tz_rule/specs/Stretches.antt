@@ -1,5 +1,5 @@
 -- Spans of time through which an alternate rule has one type. (POSIX.1-2017, Base Definitions, 8.3: the TZ variable.)
-use Rattle.std.specs.Prelude.{Bool, ℤ, pos, negsuc, ◌≤ℤ◌, ◌<ℤ◌, if◌then◌else◌}
+use Rattle.std.specs.Prelude.{ℕ, Bool, ℤ, pos, ◌-ℤ◌, negsuc, ◌≤ℤ◌, ◌<ℤ◌, if◌then◌else◌}
 use Rattle.tz_rule.specs.LocalTimeType.{LocalTimeType}
 use Rattle.tz_rule.specs.Alternate.{AlternateTime}
 use Rattle.tz_rule.specs.Rule.{IsRuleType}
@@ -17,3 +17,7 @@ IsStretchOf r s = (v : ℤ) → s.from ≤ℤ v → v <ℤ s.until → IsRuleTyp
 -- years whose neighbours are rule years too
 abbrev pub IsStretchYear : ℤ → Type 0
 IsStretchYear year = (negsuc 2147483644 ≤ℤ year) × (year ≤ℤ pos 2147483644)
+
+-- the year that stands 5368710 cycles of 400 years later
+abbrev pub moved_back : ℕ → ℤ
+moved_back years = pos years -ℤ pos 2147484000

@@ -162,6 +162,7 @@ impl AlternateTime {
     }
 
     /// How long after 00:00 UTC of January 1st daylight saving time starts in the years of a kind.
+    #[inline(always)]
     pub(super) fn start_in_kind(&self, kind: usize) -> i64
         requires { kind < 14 }
         ensures value { (year : ℤ) → year_kind year ≡ kind → result ≡ start_of self.now year -ℤ pos 86400 *ℤ first_day year }
@@ -171,6 +172,7 @@ impl AlternateTime {
     }
 
     /// How long after 00:00 UTC of January 1st daylight saving time ends in the years of a kind.
+    #[inline(always)]
     pub(super) fn end_in_kind(&self, kind: usize) -> i64
         requires { kind < 14 }
         ensures value { (year : ℤ) → year_kind year ≡ kind → result ≡ end_of self.now year -ℤ pos 86400 *ℤ first_day year }
@@ -207,6 +209,7 @@ impl AlternateTime {
     }
 
     /// Whether each start has the end of the next year.
+    #[inline(always)]
     pub(crate) fn ends_next_year(&self) -> bool
         ensures { MatchBool result (EndsNextYear (start_of self.now) (end_of self.now)) (¬ EndsNextYear (start_of self.now) (end_of self.now)) }
     {

@@ -3,15 +3,15 @@
 //! A stretch is told only where its start and its end lie ten days or more from the ends of their years. Then all others lie outside it.
 
 ghost use Rattle.std.specs.Prelude.{◌≡◌, pos, negsuc, ◌≤ℤ◌, ◌<ℤ◌, IfSome};
-ghost use Rattle.tz_rule.specs.Alternate.{start_of, end_of};
+ghost use Rattle.tz_rule.specs.Alternate.{start_of, end_of, IsRuleYear};
 ghost use Rattle.tz_rule.specs.Daylight.{IsMidYear};
-ghost use Rattle.tz_rule.specs.Stretches.{IsStretchOf, IsStretchYear};
+ghost use Rattle.tz_rule.specs.Stretches.{IsStretchOf, IsStretchYear, moved_back};
 ghost use Rattle.tz_rule.specs.Years.{EndsNextYear};
 
 use super::AlternateTime;
 use super::daylight::is_mid_second;
 use super::stretch::Stretch;
-use super::year_kind::year_start;
+use super::year_kind::moved_year_start;
 
 /// How far from 1970 an instant may lie: the neighbours of its year are years in which a rule answers.
 const GREATEST_DISTANCE: i64 = 60_000_000_000_000_000;
@@ -19,31 +19,28 @@ const GREATEST_DISTANCE: i64 = 60_000_000_000_000_000;
 /// The seconds from January 1st of the year -2147484000 to 1970-01-01.
 const ADDED_SECONDS: i64 = 67_768_111_675_987_200;
 
-/// The years from the year 0 back to the year -2147484000.
-const ADDED_YEARS: i64 = 2_147_484_000;
-
 /// The seconds of a year, on the average of 400 years.
 const SECONDS_PER_YEAR: u64 = 31_556_952;
 
-/// The year of an instant in UTC, or the neighbour of that year whose end lies less than two days away.
+/// The year of an instant in UTC, or the neighbour of that year whose end lies less than two days away, moved by cycles of 400 years.
 #[inline(always)]
-fn likely_year(unix_time: i64) -> Option<i32>
-    ensures { IfSome result IsStretchYear }
+fn likely_years(unix_time: i64) -> Option<u64>
+    ensures { IfSome result (λ years. IsStretchYear (moved_back years)) }
 {
     if unix_time < -GREATEST_DISTANCE || unix_time > GREATEST_DISTANCE {
         return None;
     }
-    let years = (unix_time + ADDED_SECONDS) as u64 / SECONDS_PER_YEAR;
-    Some((years as i64 - ADDED_YEARS) as i32)
+    Some((unix_time + ADDED_SECONDS) as u64 / SECONDS_PER_YEAR)
 }
 
 impl AlternateTime {
-    /// The start in a year, if it lies ten days or more from the ends of the year.
+    /// The start in a moved year, if it lies ten days or more from the ends of the year.
     #[inline(always)]
-    fn mid_start(&self, year: i32) -> Option<i64>
-        ensures { IfSome result (λ u. (u ≡ start_of self.now year) × IsMidYear u year) }
+    fn mid_start(&self, years: u64) -> Option<i64>
+        requires { IsRuleYear (moved_back years) }
+        ensures { IfSome result (λ u. (u ≡ start_of self.now (moved_back years)) × IsMidYear u (moved_back years)) }
     {
-        let (start_of_year, kind) = year_start(year);
+        let (start_of_year, kind) = moved_year_start(years);
         let seconds = self.start_in_kind(kind);
         if !is_mid_second(seconds) {
             return None;
@@ -51,12 +48,13 @@ impl AlternateTime {
         Some(start_of_year + seconds)
     }
 
-    /// The end in a year, if it lies ten days or more from the ends of the year.
+    /// The end in a moved year, if it lies ten days or more from the ends of the year.
     #[inline(always)]
-    fn mid_end(&self, year: i32) -> Option<i64>
-        ensures { IfSome result (λ u. (u ≡ end_of self.now year) × IsMidYear u year) }
+    fn mid_end(&self, years: u64) -> Option<i64>
+        requires { IsRuleYear (moved_back years) }
+        ensures { IfSome result (λ u. (u ≡ end_of self.now (moved_back years)) × IsMidYear u (moved_back years)) }
     {
-        let (start_of_year, kind) = year_start(year);
+        let (start_of_year, kind) = moved_year_start(years);
         let seconds = self.end_in_kind(kind);
         if !is_mid_second(seconds) {
             return None;
@@ -64,24 +62,24 @@ impl AlternateTime {
         Some(start_of_year + seconds)
     }
 
-    /// The stretch around an instant of the year or near it, where each start has the end of its own year.
+    /// The stretch around an instant of the moved year or near it, where each start has the end of its own year.
     #[inline(always)]
-    fn stretch_in_order(&self, unix_time: i64, year: i32) -> Option<Stretch>
+    fn stretch_in_order(&self, unix_time: i64, years: u64) -> Option<Stretch>
         requires in_order { ¬ EndsNextYear (start_of self.now) (end_of self.now) }
-        requires year { IsStretchYear year }
+        requires year { IsStretchYear (moved_back years) }
         ensures { IfSome result (λ s. IsStretchOf self.now s) }
     {
         self.parts_are_sound();
-        let start = self.mid_start(year)?;
+        let start = self.mid_start(years)?;
         if unix_time < start {
-            let from = self.mid_end(year - 1)?;
+            let from = self.mid_end(years - 1)?;
             return Some(Stretch {
                 from,
                 until: start,
                 is_daylight: false,
             });
         }
-        let end = self.mid_end(year)?;
+        let end = self.mid_end(years)?;
         if unix_time < end {
             return Some(Stretch {
                 from: start,
@@ -89,7 +87,7 @@ impl AlternateTime {
                 is_daylight: true,
             });
         }
-        let until = self.mid_start(year + 1)?;
+        let until = self.mid_start(years + 1)?;
         Some(Stretch {
             from: end,
             until,
@@ -97,24 +95,24 @@ impl AlternateTime {
         })
     }
 
-    /// The stretch around an instant of the year or near it, where each start has the end of the next year.
+    /// The stretch around an instant of the moved year or near it, where each start has the end of the next year.
     #[inline(always)]
-    fn stretch_across_years(&self, unix_time: i64, year: i32) -> Option<Stretch>
+    fn stretch_across_years(&self, unix_time: i64, years: u64) -> Option<Stretch>
         requires across { EndsNextYear (start_of self.now) (end_of self.now) }
-        requires year { IsStretchYear year }
+        requires year { IsStretchYear (moved_back years) }
         ensures { IfSome result (λ s. IsStretchOf self.now s) }
     {
         self.parts_are_sound();
-        let end = self.mid_end(year)?;
+        let end = self.mid_end(years)?;
         if unix_time < end {
-            let from = self.mid_start(year - 1)?;
+            let from = self.mid_start(years - 1)?;
             return Some(Stretch {
                 from,
                 until: end,
                 is_daylight: true,
             });
         }
-        let start = self.mid_start(year)?;
+        let start = self.mid_start(years)?;
         if unix_time < start {
             return Some(Stretch {
                 from: end,
@@ -122,7 +120,7 @@ impl AlternateTime {
                 is_daylight: false,
             });
         }
-        let until = self.mid_end(year + 1)?;
+        let until = self.mid_end(years + 1)?;
         Some(Stretch {
             from: start,
             until,
@@ -135,11 +133,11 @@ impl AlternateTime {
     fn likely_stretch(&self, unix_time: i64) -> Option<Stretch>
         ensures { IfSome result (λ s. IsStretchOf self.now s) }
     {
-        let year = likely_year(unix_time)?;
+        let years = likely_years(unix_time)?;
         if self.ends_next_year() {
-            self.stretch_across_years(unix_time, year)
+            self.stretch_across_years(unix_time, years)
         } else {
-            self.stretch_in_order(unix_time, year)
+            self.stretch_in_order(unix_time, years)
         }
     }
 

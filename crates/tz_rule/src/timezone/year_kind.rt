@@ -1,10 +1,10 @@
 //! Kinds of years, by number: the week day of January 1st, and 7 more for a leap year. All years of a kind have the same calendar.
 
-ghost use Rattle.std.specs.Prelude.{◌≡◌, ◌*◌, ◌<◌, ◌≤◌, pos, negsuc, ◌*ℤ◌, ◌≤ℤ◌};
-ghost use Rattle.tz_base.specs.Days.{first_day};
+ghost use Rattle.std.specs.Prelude.{◌≡◌, ◌*◌, ◌%◌, ◌^◌, ◌<◌, ◌≤◌, pos, negsuc, ◌+ℤ◌, ◌-ℤ◌, ◌*ℤ◌, ◌≤ℤ◌};
+ghost use Rattle.tz_base.specs.Cycles.{days_of_years};
+ghost use Rattle.tz_base.specs.Days.{is_leap, first_day};
 ghost use Rattle.tz_rule.specs.Kinds.{kind_of as kind_by, days_of_kind as days_of, year_kind, first_kind as first_kind_of, second_kind as second_kind_of, first_days as first_days_of};
 
-use tz_base::calendar;
 use tz_base::constants::SECONDS_PER_DAY;
 
 /// How many kinds of years there are.
@@ -13,7 +13,14 @@ pub(super) const KINDS: usize = 14;
 /// How many kinds there are of two years that follow one another.
 pub(super) const PAIR_KINDS: usize = 21;
 
+/// Years that are added to make every year of 32 bits positive: 5368710 cycles of 400 years.
+const ADDED_YEARS: i64 = 2_147_484_000;
+
+/// The days from January 1st of the year -2147484000 to 1970-01-01.
+const ADDED_DAYS: i64 = 784_353_144_398;
+
 /// The kind of the years that are leap, or are not, and whose January 1st has the week day.
+#[inline(always)]
 fn kind_of(leap: bool, first_week_day: u8) -> usize
     requires { first_week_day < 7 }
     ensures value { result ≡ kind_by leap first_week_day }
@@ -23,16 +30,75 @@ fn kind_of(leap: bool, first_week_day: u8) -> usize
     if leap { 7 + week_day } else { week_day }
 }
 
+/// The year, moved by cycles of 400 years until no year of 32 bits is negative.
+#[inline(always)]
+fn moved_year(year: i32) -> u64
+    ensures value { pos result ≡ year +ℤ pos 2147484000 }
+    ensures bound { result < 2 ^ 33 }
+{
+    (i64::from(year) + ADDED_YEARS) as u64
+}
+
+/// Whether a moved year is leap.
+#[inline(always)]
+fn is_moved_year_leap(years: u64) -> bool
+    ensures { result ≡ is_leap (pos years) }
+{
+    if years % 100 == 0 {
+        years % 16 == 0
+    } else {
+        years % 4 == 0
+    }
+}
+
+/// The days before a moved year.
+#[inline(always)]
+fn days_before_moved_year(years: u64) -> u64
+    requires { years < 2 ^ 33 }
+    ensures value { result ≡ days_of_years years }
+    ensures bound { result < 2 ^ 42 }
+{
+    let centuries = (years + 99) / 100;
+    365 * years + (years + 3) / 4 - centuries + (centuries + 3) / 4
+}
+
+/// A seventh of 2^64, rounded up.
+const SEVENTH: u64 = 2_635_249_153_387_078_803;
+
+/// The days over whole weeks: the sevenths that are over are the fraction of a product of 64 bits.
+#[inline(always)]
+fn days_over_weeks(days: u64) -> u8
+    requires { days < 2 ^ 43 }
+    ensures value { result ≡ days % 7 }
+    ensures below { result < 7 }
+{
+    let fraction = days.wrapping_mul(SEVENTH);
+    (u128::from(fraction) * 7 / 18_446_744_073_709_551_616) as u8
+}
+
+/// 00:00 UTC of a moved year's January 1st, and the kind of the year.
+#[inline(always)]
+pub(super) fn moved_year_start(years: u64) -> (i64, usize)
+    requires { (352 ≤ years) × (years ≤ 4294967647) }
+    ensures start { result.0 ≡ pos 86400 *ℤ first_day (pos years -ℤ pos 2147484000) }
+    ensures kind { result.1 ≡ year_kind (pos years -ℤ pos 2147484000) }
+    ensures bound { (negsuc 67768100567971199 ≤ℤ result.0) × (result.0 ≤ℤ pos 67767976202016000) }
+    ensures below { result.1 < 14 }
+{
+    let days = days_before_moved_year(years);
+    let kind = kind_of(is_moved_year_leap(years), days_over_weeks(days + 6));
+    (SECONDS_PER_DAY * (days as i64 - ADDED_DAYS), kind)
+}
+
 /// 00:00 UTC of a year's January 1st, and the kind of the year.
+#[inline(always)]
 pub(super) fn year_start(year: i32) -> (i64, usize)
     ensures start { result.0 ≡ pos 86400 *ℤ first_day year }
     ensures kind { result.1 ≡ year_kind year }
     ensures bound { (negsuc 67768100567971199 ≤ℤ result.0) × (result.0 ≤ℤ pos 67767976202016000) }
     ensures below { result.1 < 14 }
 {
-    let day = calendar::first_day_of_year(year);
-    let kind = kind_of(calendar::is_leap_year(year), calendar::week_day_of_day(day));
-    (SECONDS_PER_DAY * day, kind)
+    moved_year_start(moved_year(year))
 }
 
 /// How many days the years of a kind have.

@@ -37,6 +37,7 @@ impl YearTable {
     }
 
     /// The seconds of a kind.
+    #[inline(always)]
     pub(super) fn entry(&self, kind: usize) -> i64
         requires { kind < 14 }
         ensures value { result ≡ entry self.now.0 kind }
