@@ -14,7 +14,7 @@ ghost use Rattle.tz_query.specs.Tails.{types_of};
 use super::entries::{push_once, push_skipped, push_twice};
 use super::page::front_of;
 use super::tail::Tail;
-use super::time_lines::{keep, shown_fields};
+use super::time_lines::shown_fields;
 use tz::TimeZoneRef;
 use tz::inner::{Fields, Segment, segment_at};
 
@@ -68,6 +68,7 @@ fn push_around_jump(
     at: usize,
     zone: TimeZoneRef<'_>,
     fields: &Fields,
+    reading: i64,
     nine: &[u8; 9],
     jump: i64,
     before: &Tail,
@@ -75,13 +76,14 @@ fn push_around_jump(
 ) -> Option<usize>
     requires room { at ≤ 1910 }
     requires valid { IsValid fields.now }
+    requires reading { reading ≡ reading_of fields.now }
+    requires bound { (negsuc 67768100567971199 ≤ℤ reading) × (reading ≤ℤ pos 67767976233532800) }
     requires year { (pos 1000 ≤ℤ fields.now.year) × (fields.now.year ≤ℤ pos 9999) }
     requires window { HasOneJump (zone_of zone) (reading_of fields.now) jump before.now.local_time_type after.now.local_time_type }
     ensures some { (n : ℕ) → n < 1000000000 → nine.now ≡ nine_digits n → IfSome result (λ end. (answer : List (List ℕ)) × IsSearchAnswer (zone_of zone.entry) (record fields.now { nanoseconds = n }) answer × (take end page.new ≡ take at page.old ++ ended answer)) }
     ensures end { IfSome result (λ end. end ≤ at + 130) }
     ensures none { IfNone result (page.new ≡ page.old) }
 {
-    let reading = fields.reading();
     if is_before(reading, before, jump) {
         let front = front_of(fields);
         if is_before(reading, after, jump) {
@@ -105,31 +107,34 @@ fn tail_of<'a>(zone: TimeZoneRef<'_>, tails: &'a [Tail], segment: &Segment) -> &
     &tails[segment.number]
 }
 
-/// Answers fields in whose window the clock has two types on the page, if two segments are known to hold it, and gives the end of the answer.
+/// Answers fields in whose window the clock has two types on the page, if the kept segment and the next one hold it, and gives the
+/// end of the answer.
 #[inline(never)]
 pub fn answer_across_jump(
     page: &mut [u8; 2040],
     at: usize,
-    kept: &mut Segment,
+    kept: &Segment,
     zone: TimeZoneRef<'_>,
     tails: &[Tail],
     fields: &Fields,
+    reading: i64,
     nine: &[u8; 9],
     low: i64,
     high: i64,
 ) -> Option<usize>
     requires room { at ≤ 1910 }
-    requires kept { IsSegmentOf (zone_of zone) kept.old }
+    requires kept { IsSegmentOf (zone_of zone) kept.now }
     requires tails { types_of tails.now ≡ numbered_types (zone_of zone) }
     requires valid { IsValid fields.now }
+    requires reading { reading ≡ reading_of fields.now }
+    requires bound { (negsuc 67768100567971199 ≤ℤ reading) × (reading ≤ℤ pos 67767976233532800) }
     requires year { (pos 1000 ≤ℤ fields.now.year) × (fields.now.year ≤ℤ pos 9999) }
     requires offsets { AreOffsetsOf (zone_of zone) (reading_of fields.now -ℤ high) (reading_of fields.now -ℤ low) }
     ensures some { (n : ℕ) → n < 1000000000 → nine.now ≡ nine_digits n → IfSome result (λ end. (answer : List (List ℕ)) × IsSearchAnswer (zone_of zone.entry) (record fields.now { nanoseconds = n }) answer × (take end page.new ≡ take at page.old ++ ended answer)) }
     ensures end { IfSome result (λ end. end ≤ at + 130) }
     ensures none { IfNone result (page.new ≡ page.old) }
-    ensures kept { IsSegmentOf (zone_of zone.entry) kept.new }
 {
-    if !keep(kept, zone, low) {
+    if low < kept.from || low >= kept.until {
         return None;
     }
     let next = segment_at(zone, kept.until)?;
@@ -138,5 +143,7 @@ pub fn answer_across_jump(
     }
     let before = tail_of(zone, tails, kept);
     let after = tail_of(zone, tails, &next);
-    push_around_jump(page, at, zone, fields, nine, kept.until, before, after)
+    push_around_jump(
+        page, at, zone, fields, reading, nine, kept.until, before, after,
+    )
 }

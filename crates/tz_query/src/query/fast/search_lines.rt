@@ -1,8 +1,7 @@
 //! `F` lines that are found once, answered from a segment of the zone that holds all their window.
 
-ghost use Rattle.std.specs.Prelude.{◌≡◌, ◌+◌, ◌<◌, ◌≤◌, ℕ, ◌-ℤ◌, ◌≤ℤ◌, ◌<ℤ◌, List, ◌++◌, take, IfSome, IfNone};
+ghost use Rattle.std.specs.Prelude.{◌≡◌, ◌+◌, ◌<◌, ◌≤◌, ℕ, pos, negsuc, ◌-ℤ◌, ◌≤ℤ◌, ◌<ℤ◌, List, ◌++◌, take, IfSome, IfNone};
 ghost use Rattle.tz_base.specs.declared.calendar.Fields.{Fields};
-ghost use Rattle.tz_base.specs.Fields.{IsValid, reading as reading_of};
 ghost use Rattle.tz_zone.specs.ZoneRef.{zone_of};
 ghost use Rattle.tz_zone.specs.Segments.{IsSegmentOf, IsStretch, numbered_types};
 ghost use Rattle.tz.specs.PrintedText.{nine_digits};
@@ -76,15 +75,14 @@ fn tail_through<'a>(
     Some(&tails[kept.number])
 }
 
-/// The first and the last instant at which a clock whose offsets lie between two shows the fields.
+/// The first and the last instant at which a clock whose offsets lie between two shows a reading.
 #[inline(always)]
-fn window_of(fields: &Fields, offsets: (i32, i32)) -> (i64, i64)
-    requires { IsValid fields.now }
-    ensures low { result.0 ≡ reading_of fields.now -ℤ offsets.1 }
-    ensures high { result.1 ≡ reading_of fields.now -ℤ offsets.0 }
+fn window_of(reading: i64, offsets: (i32, i32)) -> (i64, i64)
+    requires { (negsuc 67768100567971199 ≤ℤ reading) × (reading ≤ℤ pos 67767976233532800) }
+    ensures low { result.0 ≡ reading -ℤ offsets.1 }
+    ensures high { result.1 ≡ reading -ℤ offsets.0 }
 {
     let (least, greatest) = offsets;
-    let reading = fields.reading();
     (reading - i64::from(greatest), reading - i64::from(least))
 }
 
@@ -117,11 +115,14 @@ pub fn answer_search_line<'a>(
     let Ok(()) = fields.check() else {
         return None;
     };
-    let (low, high) = window_of(&fields, offsets);
+    let reading = fields.reading();
+    let (low, high) = window_of(reading, offsets);
     if let Some(tail) = tail_through(kept, zone, tails, low, high) {
         let end = push_once(page, at, &front_of(&fields), &nine, tail);
         return Some((end, rest));
     }
-    let end = answer_across_jump(page, at, kept, zone, tails, &fields, &nine, low, high)?;
+    let end = answer_across_jump(
+        page, at, kept, zone, tails, &fields, reading, &nine, low, high,
+    )?;
     Some((end, rest))
 }

@@ -4,7 +4,7 @@ use crate::query::answers::{answer, answer_line};
 use std::alloc::Global;
 use std::process::Abort;
 use std::test::Fail;
-use tz::inner::TextBuffer;
+use tz::inner::{Fields, TextBuffer};
 use tz::timezone::{
     AlternateTime, Julian0WithLeap, Julian1WithoutLeap, LeapSecond, MonthWeekDay, RuleDay,
     Transition, TransitionRule,
@@ -178,5 +178,124 @@ fn lines_cut_at_each_length_are_answered_alike(rt: HostRuntime) -> Result<(), Fa
         expect_alike(&rt, rt.alloc(), TimeZoneRef::utc(), &queries[length..])?;
     }
     expect_alike_over_zones(&rt, rt.alloc(), queries.as_slice())?;
+    Ok(())
+}
+
+/// Appends `F` lines of readings around what clocks with these offsets show at an instant.
+fn push_lines_around(
+    alloc: Global,
+    queries: &mut Vec<u8, Global>,
+    unix_time: i64,
+    offsets: &[i64],
+) -> Result<(), TzError> {
+    for offset in offsets {
+        for distance in [
+            -10_800, -7201, -3601, -1801, -901, -2, -1, 0, 1, 2, 899, 1799, 3599, 3600, 7199,
+            10_800,
+        ] {
+            let fields = Fields::from_reading(unix_time + *offset + distance, 0);
+            let (year, month, month_day) = (fields.year, fields.month, fields.month_day);
+            let (hour, minute, second) = (fields.hour, fields.minute, fields.second);
+            let line = format!(in alloc;
+                "F {year} {month} {month_day} {hour} {minute} {second} 7\n"
+            )?;
+            queries.extend_from_slice(line.as_bytes())?;
+        }
+    }
+    Ok(())
+}
+
+#[test]
+fn lines_around_jumps_are_answered_alike(rt: HostRuntime) -> Result<(), Fail> {
+    let types = [
+        LocalTimeType::new(1234, false, Some(b"LMT"))?,
+        LocalTimeType::new(3600, false, Some(b"CET"))?,
+        LocalTimeType::new(7200, true, Some(b"CEST"))?,
+        LocalTimeType::new(3600, true, None)?,
+    ];
+    let transitions = [
+        Transition::new(-30_000_000_000, 1),
+        Transition::new(-1_000_000_000, 2),
+        Transition::new(78_796_801, 3),
+        Transition::new(94_694_402, 1),
+        Transition::new(900_000_000, 2),
+        Transition::new(1_005_000_000, 1),
+    ];
+    let leap_seconds = [
+        LeapSecond::new(78_796_800, 1),
+        LeapSecond::new(94_694_401, 2),
+        LeapSecond::new(126_230_402, 1),
+    ];
+    let central = AlternateTime::new(
+        LocalTimeType::new(3600, false, Some(b"CET"))?,
+        LocalTimeType::new(7200, true, Some(b"CEST"))?,
+        RuleDay::MonthWeekDay(MonthWeekDay::new(3, 5, 0)?),
+        7200,
+        RuleDay::MonthWeekDay(MonthWeekDay::new(10, 5, 0)?),
+        10_800,
+    )?;
+    let mut queries = Vec::new(rt.alloc());
+    for unix_time in [
+        -30_000_000_000,
+        -1_000_000_000,
+        78_796_800,
+        94_694_400,
+        900_000_000,
+        1_005_000_000,
+        1_711_846_800,
+        1_729_990_800,
+    ] {
+        push_lines_around(rt.alloc(), &mut queries, unix_time, &[3600, 7200])?;
+    }
+    for leap_seconds in [&leap_seconds[..0], &leap_seconds[..]] {
+        for rule in [&None, &Some(TransitionRule::Alternate(central))] {
+            let zone = TimeZoneRef::new(&transitions, &types, leap_seconds, rule)?;
+            expect_alike(&rt, rt.alloc(), zone, &queries)?;
+        }
+    }
+    Ok(())
+}
+
+#[test]
+fn lines_around_many_jumps_are_answered_alike(rt: HostRuntime) -> Result<(), Fail> {
+    let types = [
+        LocalTimeType::new(0, false, Some(b"Zero"))?,
+        LocalTimeType::new(1800, false, Some(b"Half"))?,
+        LocalTimeType::new(-900, false, Some(b"Back"))?,
+    ];
+    for apart in [600, 1799, 1800, 1801, 2699, 2700, 2701, 3000] {
+        let mut transitions = Vec::new(rt.alloc());
+        for place in 0..12u8 {
+            let number = usize::from(place) % 3;
+            transitions.push(Transition::new(1_000_000 + i64::from(place) * apart, number))?;
+        }
+        let zone = TimeZoneRef::new(&transitions, &types, &[], &None)?;
+        let mut queries = Vec::new(rt.alloc());
+        for place in [0, 1, 2, 5, 10, 11] {
+            push_lines_around(
+                rt.alloc(),
+                &mut queries,
+                1_000_000 + place * apart,
+                &[0, 1800],
+            )?;
+        }
+        expect_alike(&rt, rt.alloc(), zone, &queries)?;
+    }
+    Ok(())
+}
+
+#[test]
+fn lines_around_jumps_at_the_year_s_end_are_answered_alike(rt: HostRuntime) -> Result<(), Fail> {
+    let mut queries = Vec::new(rt.alloc());
+    for unix_time in [
+        1_704_067_200,
+        1_703_967_200,
+        1_721_433_600,
+        253_402_300_800,
+        -30_610_224_000,
+    ] {
+        push_lines_around(rt.alloc(), &mut queries, unix_time, &[0, 3601])?;
+    }
+    expect_alike_over_zones(&rt, rt.alloc(), &queries)?;
     Ok(())
 }

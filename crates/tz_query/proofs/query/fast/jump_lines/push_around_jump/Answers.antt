@@ -19,9 +19,9 @@ returns-then-is_before-2-clause-some c n part nine =
     let b = c.args.after.now.local_time_type in
     let page = take c.args.at c.args.page.now in
     let fits : SFits w64 jump = search rules in
-    let reading_fits : SFits w64 c.reading-reading.result = search rules in
-    let first : (reading f -ℤ a.ut_offset) <ℤ jump = rw (to_z-of_z w64 c.reading-reading.result reading_fits, to_z-of_z w64 jump fits, c.reading-reading.ensures.value) at c.if-is_before.ensures.before in
-    let second : (reading f -ℤ b.ut_offset) <ℤ jump = rw (to_z-of_z w64 c.reading-reading.result reading_fits, to_z-of_z w64 jump fits, c.reading-reading.ensures.value) at c.if-is_before-2.ensures.before in
+    let reading_fits : SFits w64 c.args.reading = search rules in
+    let first : (reading f -ℤ a.ut_offset) <ℤ jump = rw (to_z-of_z w64 c.args.reading reading_fits, to_z-of_z w64 jump fits, c.requires.reading) at c.if-is_before.ensures.before in
+    let second : (reading f -ℤ b.ut_offset) <ℤ jump = rw (to_z-of_z w64 c.args.reading reading_fits, to_z-of_z w64 jump fits, c.requires.reading) at c.if-is_before-2.ensures.before in
     let shown = shown_before z c.args.zone.sound.leap_seconds_are f n part c.requires.valid jump a b c.requires.window first second in
     let text : take c.push_once.result c.push_once.new.page ≡ page ++ (70 ∷ 32 ∷ 49 ∷ 10 ∷ 78 ∷ 32 ∷ (front_text f ++ (nine_digits n ++ end_text a))) =
     c.push_once.ensures.text
@@ -38,9 +38,9 @@ returns-then-is_before-clause-some c n part nine =
     let b = c.args.after.now.local_time_type in
     let page = take c.args.at c.args.page.now in
     let fits : SFits w64 jump = search rules in
-    let reading_fits : SFits w64 c.reading-reading.result = search rules in
-    let first : (reading f -ℤ a.ut_offset) <ℤ jump = rw (to_z-of_z w64 c.reading-reading.result reading_fits, to_z-of_z w64 jump fits, c.reading-reading.ensures.value) at c.if-is_before.ensures.before in
-    let second : jump ≤ℤ (reading f -ℤ b.ut_offset) = rw (to_z-of_z w64 c.reading-reading.result reading_fits, to_z-of_z w64 jump fits, c.reading-reading.ensures.value) at c.if-is_before-2.ensures.before in
+    let reading_fits : SFits w64 c.args.reading = search rules in
+    let first : (reading f -ℤ a.ut_offset) <ℤ jump = rw (to_z-of_z w64 c.args.reading reading_fits, to_z-of_z w64 jump fits, c.requires.reading) at c.if-is_before.ensures.before in
+    let second : jump ≤ℤ (reading f -ℤ b.ut_offset) = rw (to_z-of_z w64 c.args.reading reading_fits, to_z-of_z w64 jump fits, c.requires.reading) at c.if-is_before-2.ensures.before in
     let shown = shown_twice z c.args.zone.sound.leap_seconds_are f n part c.requires.valid jump a b c.requires.window first second in
     let text : take c.push_twice.result c.push_twice.new.page ≡ page ++ (70 ∷ 32 ∷ 50 ∷ 10 ∷ 78 ∷ 32 ∷ ((front_text f ++ (nine_digits n ++ end_text a)) ++ 78 ∷ 32 ∷ (front_text f ++ (nine_digits n ++ end_text b)))) =
     c.push_twice.ensures.text
@@ -51,11 +51,11 @@ returns-then-is_before-clause-some c n part nine =
 pub push_passed_fields-requires-clause-near : goal.push_passed_fields-requires-clause-near
 push_passed_fields-requires-clause-near c =
     let fits : SFits w64 c.args.jump = search rules in
-    let reading_fits : SFits w64 c.reading-reading.result = search rules in
-    let first = rw (to_z-of_z w64 c.reading-reading.result reading_fits, to_z-of_z w64 c.args.jump fits) at c.if-is_before.ensures.before in
-    let second = rw (to_z-of_z w64 c.reading-reading.result reading_fits, to_z-of_z w64 c.args.jump fits) at c.if-is_before-3.ensures.before in
+    let reading_fits : SFits w64 c.args.reading = search rules in
+    let first = rw (to_z-of_z w64 c.args.reading reading_fits, to_z-of_z w64 c.args.jump fits) at c.if-is_before.ensures.before in
+    let second = rw (to_z-of_z w64 c.args.reading reading_fits, to_z-of_z w64 c.args.jump fits) at c.if-is_before-3.ensures.before in
     rw (to_z-of_z w64 c.args.jump fits)
-    (omega (arith, ints, second, c.reading-reading.ensures.bound, c.is_before-2.ensures.offset), omega (arith, ints, first, c.reading-reading.ensures.bound, c.is_before.ensures.offset))
+    (omega (arith, ints, second, c.requires.bound, c.is_before-2.ensures.offset), omega (arith, ints, first, c.requires.bound, c.is_before.ensures.offset))
 
 pub returns-clause-some : goal.returns-clause-some
 returns-clause-some c n part nine =
@@ -66,9 +66,9 @@ returns-clause-some c n part nine =
     let b = c.args.after.now.local_time_type in
     let page = take c.args.at c.args.page.now in
     let fits : SFits w64 jump = search rules in
-    let reading_fits : SFits w64 c.reading-reading.result = search rules in
-    let first : jump ≤ℤ (reading f -ℤ a.ut_offset) = rw (to_z-of_z w64 c.reading-reading.result reading_fits, to_z-of_z w64 jump fits, c.reading-reading.ensures.value) at c.if-is_before.ensures.before in
-    let second : jump ≤ℤ (reading f -ℤ b.ut_offset) = rw (to_z-of_z w64 c.reading-reading.result reading_fits, to_z-of_z w64 jump fits, c.reading-reading.ensures.value) at c.if-is_before-3.ensures.before in
+    let reading_fits : SFits w64 c.args.reading = search rules in
+    let first : jump ≤ℤ (reading f -ℤ a.ut_offset) = rw (to_z-of_z w64 c.args.reading reading_fits, to_z-of_z w64 jump fits, c.requires.reading) at c.if-is_before.ensures.before in
+    let second : jump ≤ℤ (reading f -ℤ b.ut_offset) = rw (to_z-of_z w64 c.args.reading reading_fits, to_z-of_z w64 jump fits, c.requires.reading) at c.if-is_before-3.ensures.before in
     let shown = shown_after z c.args.zone.sound.leap_seconds_are f n part c.requires.valid jump a b c.requires.window first second in
     let text : take c.push_once-2.result c.push_once-2.new.page ≡ page ++ (70 ∷ 32 ∷ 49 ∷ 10 ∷ 78 ∷ 32 ∷ (front_text f ++ (nine_digits n ++ end_text b))) =
     c.push_once-2.ensures.text

@@ -11,6 +11,9 @@ use Rattle.tz_query.specs.Queries.{Search}
 use Rattle.tz_query.proofs.SearchLineLemmas.{shown_once}
 use Rattle.tz_query.proofs.query.fast.search_lines.answer_search_line.Goals as goal
 
+pub front_of-requires-clause-year : goal.front_of-requires-clause-year
+front_of-requires-clause-year c = omega (arith, ints, c.if-fields-lt1000.false, c.if-fields-gt9999.false)
+
 pub returns-in-Some-clause-some : goal.returns-in-Some-clause-some
 returns-in-Some-clause-some c =
     let z = zone_of c.args.zone in
@@ -24,8 +27,9 @@ returns-in-Some-clause-some c =
     let within = c.in-Some.ensures.within in
     let low_fits : SFits w64 c.window_of-low.result.0 = search rules in
     let high_fits : SFits w64 c.window_of-low.result.1 = search rules in
-    let low : kept.from ≤ℤ (reading f -ℤ greatest) = rw (to_z-of_z w64 c.window_of-low.result.0 low_fits, c.window_of-low.ensures.low) at within.0 in
-    let high : (reading f -ℤ least) <ℤ kept.until = rw (to_z-of_z w64 c.window_of-low.result.1 high_fits, c.window_of-low.ensures.high) at within.1 in
+    let reading_fits : SFits w64 c.reading-reading.result = search rules in
+    let low : kept.from ≤ℤ (reading f -ℤ greatest) = rw (to_z-of_z w64 c.window_of-low.result.0 low_fits, c.window_of-low.ensures.low, to_z-of_z w64 c.reading-reading.result reading_fits, c.reading-reading.ensures.value) at within.0 in
+    let high : (reading f -ℤ least) <ℤ kept.until = rw (to_z-of_z w64 c.window_of-low.result.1 high_fits, c.window_of-low.ensures.high, to_z-of_z w64 c.reading-reading.result reading_fits, c.reading-reading.ensures.value) at within.1 in
     let shown = shown_once z c.args.zone.sound.leap_seconds_are f n line.1 c.in-Ok.ensures.ok least greatest kept.from kept.until t c.requires.order c.requires.offsets c.in-Some.ensures.tail low high in
     let page = take c.args.at c.args.page.now in
     let text : take c.push_once-end.result c.push_once-end.new.page ≡ page ++ (70 ∷ 32 ∷ 49 ∷ 10 ∷ 78 ∷ 32 ∷ (front_text f ++ (nine_digits n ++ end_text t))) =
@@ -39,10 +43,11 @@ answer_across_jump-requires-clause-offsets c =
     let window = c.window_of-low in
     let low_fits : SFits w64 window.result.0 = search rules in
     let high_fits : SFits w64 window.result.1 = search rules in
+    let reading_fits : SFits w64 c.reading-reading.result = search rules in
+    let low : window.result.0 ≡ reading c.in_ok-fields.fields -ℤ c.args.offsets.1 = rw (to_z-of_z w64 c.reading-reading.result reading_fits, c.reading-reading.ensures.value) at window.ensures.low in
+    let high : window.result.1 ≡ reading c.in_ok-fields.fields -ℤ c.args.offsets.0 = rw (to_z-of_z w64 c.reading-reading.result reading_fits, c.reading-reading.ensures.value) at window.ensures.high in
     rw (to_z-of_z w64 window.result.0 low_fits, to_z-of_z w64 window.result.1 high_fits)
-    (λ u t clock.
-    let between = c.requires.offsets u t clock in
-    (omega (arith, ints, window.ensures.high, between.0), omega (arith, ints, window.ensures.low, between.1)))
+    (λ u t clock. let between = c.requires.offsets u t clock in (omega (arith, ints, high, between.0), omega (arith, ints, low, between.1)))
 
 pub returns-clause-some : goal.returns-clause-some
 returns-clause-some c =
