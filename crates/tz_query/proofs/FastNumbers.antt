@@ -1,20 +1,19 @@
 -- Digits that are read eight at once, and nine digits that are copied.
-use Rattle.std.proofs.Common.{◌≡◌, ◌≢◌, ℕ, zero, suc, ◌+◌, ◌-◌, ◌*◌, ◌/◌, ◌%◌, ◌^◌, ◌<◌, ◌≤◌, Bool, true, false, cond, ℤ, pos, negsuc, neg_ℤ, ◌≤ℤ◌, List, [], ◌∷◌, ◌++◌, length, take, drop, get_or, set, replicate, refl, sym, ap, ◌∙◌, subst, arith, inl, inr}
+use Rattle.std.proofs.Common.{◌≡◌, ℕ, zero, suc, ◌+◌, ◌-◌, ◌*◌, ◌/◌, ◌%◌, ◌^◌, ◌<◌, ◌≤◌, Bool, true, false, cond, pos, neg_ℤ, List, [], ◌∷◌, ◌++◌, length, take, drop, get_or, set, replicate, refl, sym, ap, ◌∙◌, subst, arith, inl, inr}
 use Rattle.std.specs.Prelude.{slice_range}
 use Rattle.std.specs.Char.{digit_value, is_ascii_digit}
-use Rattle.std.specs.Str.Parse.{AllDigits, digits_value, digits_value_after}
+use Rattle.std.specs.Str.Parse.{AllDigits, digits_value}
 use Rattle.std.specs.Float.Numeral.{digits_len}
 use Rattle.std.proofs.lemmas.Bool.Decides.{nat_tests}
-use Rattle.std.proofs.lemmas.Int.{ints}
 use Rattle.std.proofs.lemmas.Int.Digits.{digits_value-lt, digits_value_push}
-use Rattle.std.proofs.lemmas.List.{take-append-drop, drop-drop, drop-take, drop_more, length-take-le, take_more}
+use Rattle.std.proofs.lemmas.List.{take-append-drop, drop-drop, drop-take, drop_more, length-drop, length-take-le, take-take, take_more}
 use Rattle.std.proofs.lemmas.List.Folds.{length-prefix_len}
 use Rattle.std.proofs.lemmas.List.Sums.{prefix_len-le-length}
 use Rattle.std.proofs.Math.Nat.{pow-le-pow_right}
 use mathlib.Core.Bool.{true≢false}
 use Rattle.core.proofs.dec2flt.DigitsLemmas.{digit_range, is_digit}
 use Rattle.tz.specs.PrintedText.{last_digits, nine_digits}
-use Rattle.tz_query.specs.Numbers.{IsNumber, IsNumberFront, IsDigitsFront, EndsDigits, IsPartFront}
+use Rattle.tz_query.specs.Numbers.{IsNumberFront, IsDigitsFront, EndsDigits, IsPartFront}
 
 -- a digit by its value, and by its byte
 value_of_digit : (b : ℕ) → is_ascii_digit b ≡ true → (digit_value b < 10) × (b ≡ 48 + digit_value b)
@@ -76,6 +75,56 @@ module _ (bs : List ℕ) (place end : ℕ) (within : place ≤ length bs) (end_i
       let small : digits_value 10 (slice_range bs place end) < 1000000000000000000 = omega (arith, below, power) in
       let same : value ≡ digits_value 10 (slice_range bs place end) = omega (arith, is, small) in
       (same, omega (arith, same, small))
+
+-- the digits in front of some bytes are those in front of all, where they end among them
+digits_of_window : (xs : List ℕ) (n k : ℕ) → k ≡ digits_len (take n xs) → k < n → k ≡ digits_len xs
+digits_of_window xs zero k is few = absurd (omega (arith, few))
+digits_of_window [] (suc n) k is few = is
+digits_of_window (b ∷ bs) (suc n) k is few = go (is_ascii_digit b) is (λ j. digits_of_window bs n j)
+  where
+    go : (d : Bool) → k ≡ cond d (1 + digits_len (take n bs)) 0 → ((j : ℕ) → j ≡ digits_len (take n bs) → j < n → j ≡ digits_len bs) → k ≡ cond d (1 + digits_len bs) 0
+    go true is more = let rest = more (k - 1) (omega (arith, is)) (omega (arith, is, few)) in omega (arith, is, rest)
+    go false is more = is
+
+-- and otherwise those that follow are more
+digits_past_window : (xs : List ℕ) (n : ℕ) → n ≡ digits_len (take n xs) → digits_len xs ≡ n + digits_len (drop n xs)
+digits_past_window xs zero is = omega arith
+digits_past_window [] (suc n) is = absurd (omega (arith, is))
+digits_past_window (b ∷ bs) (suc n) is = go (is_ascii_digit b) is (digits_past_window bs n)
+  where
+    go : (d : Bool) → suc n ≡ cond d (1 + digits_len (take n bs)) 0 → (n ≡ digits_len (take n bs) → digits_len bs ≡ n + digits_len (drop n bs)) →
+        cond d (1 + digits_len bs) 0 ≡ suc n + digits_len (drop n bs)
+    go true is more = omega (arith, is, more (omega (arith, is)))
+    go false is more = absurd (omega (arith, is))
+
+-- the digits of so many bytes from a place on
+module _ (bs : List ℕ) (place n k : ℕ) (is : k ≡ 0 + digits_len (drop 0 (slice_range bs place (place + n)))) where
+  window : slice_range bs place (place + n) ≡ take n (drop place bs)
+  window = ap (λ m. take m (drop place bs)) (omega arith)
+
+  in_window : k ≡ digits_len (take n (drop place bs))
+  in_window = omega (arith, is, ap digits_len window)
+
+  pub few_in_window : place + n ≤ length bs → k ≤ n
+  few_in_window within =
+      let long = length-take-le n (drop place bs) (omega (arith, within, length-drop place bs)) in
+      omega (arith, in_window, long, prefix_len-le-length is_ascii_digit (take n (drop place bs)))
+
+  pub end_in_window : k < n → place + k ≡ place + digits_len (drop place bs)
+  end_in_window few = ap (λ m. place + m) (digits_of_window (drop place bs) n k in_window few)
+
+  pub end_of_window : (b : ℕ) → k ≡ n → is_ascii_digit b ≡ false → drop (place + k) bs ≡ b ∷ drop (place + k + 1) bs → place + k ≡ place + digits_len (drop place bs)
+  end_of_window b full other next =
+      let rest : drop n (drop place bs) ≡ drop (place + k) bs = drop-drop n place bs ∙ ap (λ m. drop m bs) (omega (arith, full)) in
+      let none : digits_len (drop n (drop place bs)) ≡ 0 = ap digits_len (rest ∙ next) ∙ ap (λ d. cond d (1 + digits_len (drop (place + k + 1) bs)) 0) other in
+      omega (arith, full, digits_past_window (drop place bs) n (omega (arith, full, in_window)), none)
+
+  -- their value
+  pub value_in_window : k ≤ n → (value : ℕ) → value ≡ (0 * 10 ^ (k - 0) + digits_value 10 (slice_range (slice_range bs place (place + n)) 0 k)) % 2 ^ 64 →
+      value ≡ (0 * 10 ^ (place + k - place) + digits_value 10 (slice_range bs place (place + k))) % 2 ^ 64
+  value_in_window within value value_is =
+      let digits : slice_range (slice_range bs place (place + n)) 0 k ≡ slice_range bs place (place + k) = ap (λ m. take m (slice_range bs place (place + n))) (omega arith) ∙ ap (take k) window ∙ take-take k n (drop place bs) within ∙ ap (λ m. take m (drop place bs)) (omega arith) in
+      omega (arith, value_is, ap (digits_value 10) digits)
 
 -- the last digits of the value of digits are these digits
 digits_in_front : (ds : List ℕ) (i : ℕ) → AllDigits 10 ds → AllDigits 10 (take i ds)

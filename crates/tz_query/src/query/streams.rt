@@ -1,12 +1,12 @@
 //! Answers over a reader and a writer.
 
-ghost use Rattle.std.specs.Prelude.{◌≡◌, ◌≢◌, IfOk, IfErr, OnOk};
+ghost use Rattle.std.specs.Prelude.{◌≡◌, ◌≢◌, ◌++◌, IfOk, IfErr, OnOk};
 ghost use Rattle.std.specs.Io.KnownBytes.{Appends, Consumes, IsAtEnd};
 ghost use Rattle.tz_query.specs.Streams.{WritesAnswers, WritesFront, WritesFrontOfAnswers};
 ghost use Rattle.tz_zone.specs.ZoneRef.{zone_of};
 
 use crate::query::answers::answer;
-use std::alloc::Allocator;
+use std::alloc::{AllocError, Allocator};
 use std::io::{Read, Write};
 use thiserror::Error;
 use tz::TimeZoneRef;
@@ -25,6 +25,19 @@ pub enum RunFault {
     Write,
 }
 
+/// How many bytes have room where input begins. Memory that is not written to costs little, and a growth may copy all that is held.
+const FIRST_ROOM: usize = 262_144;
+
+/// Appends a piece of the input.
+fn append<A: Allocator>(bytes: &mut Vec<u8, A>, piece: &[u8]) -> Result<(), AllocError>
+    ensures { IfOk result (λ _. bytes.new.items ≡ bytes.old.items ++ piece.now) }
+{
+    if bytes.is_empty() {
+        bytes.reserve(FIRST_ROOM)?;
+    }
+    bytes.extend_from_slice(piece)
+}
+
 /// Reads the input to its end.
 fn read_to_end<A: Allocator, R: Read>(alloc: A, input: &mut R) -> Result<Vec<u8, A>, RunFault>
     ensures ok { IfOk result (λ bytes. Consumes (R.remaining input.old) (R.remaining input.new) bytes.items × IsAtEnd (R.remaining input.new)) }
@@ -39,7 +52,7 @@ fn read_to_end<A: Allocator, R: Read>(alloc: A, input: &mut R) -> Result<Vec<u8,
         if count == 0 {
             return Ok(bytes);
         }
-        let Ok(()) = bytes.extend_from_slice(&buffer[..count]) else {
+        let Ok(()) = append(&mut bytes, &buffer[..count]) else {
             return Err(RunFault::Memory);
         };
     }

@@ -9,12 +9,21 @@ use crate::query::numbers::value_of;
 use core::dec2flt;
 
 /// The number of the digits at a place, if there are 1 to 18, and the place after them.
+///
+/// Eleven bytes hold the digits of the years up to 5138, and of a slice of this length eight are read at once, and then one at a time.
 #[inline(always)]
 fn read_few_digits(bytes: &[u8], place: usize) -> Option<(u64, usize)>
-    requires { place ≤ length bytes.now }
+    requires { place + 12 ≤ length bytes.now }
     ensures number { IfSome result (λ r. (digits : List ℕ) × IsDigitsFront (drop place bytes.now) digits (drop r.1 bytes.now) × (0 < length digits) × (r.0 ≡ digits_value 10 digits)) }
     ensures bound { IfSome result (λ r. (r.0 < 1000000000000000000) × (r.1 ≤ place + 18) × (r.1 ≤ length bytes.now)) }
 {
+    let (count, number) = dec2flt::read_digits(&bytes[place..place + 11], 0, 0);
+    if count == 0 {
+        return None;
+    }
+    if count < 11 || bytes[place + count] == b' ' {
+        return Some((number, place + count));
+    }
     let (end, number) = dec2flt::read_digits(bytes, place, 0);
     if end == place || end > place + 18 {
         return None;
@@ -25,7 +34,7 @@ fn read_few_digits(bytes: &[u8], place: usize) -> Option<(u64, usize)>
 /// The number of up to 18 digits after a space at a place, and the place after it.
 #[inline(always)]
 pub fn read_seconds(bytes: &[u8], place: usize) -> Option<(i64, usize)>
-    requires { place + 2 ≤ length bytes.now }
+    requires { place + 14 ≤ length bytes.now }
     ensures number { IfSome result (λ r. IsPartFront (drop place bytes.now) r.0 (drop r.1 bytes.now)) }
     ensures bound { IfSome result (λ r. (negsuc 1000000000000000000 ≤ℤ r.0) × (r.0 ≤ℤ pos 1000000000000000000)) }
     ensures end { IfSome result (λ r. (r.1 ≤ place + 20) × (r.1 ≤ length bytes.now)) }
@@ -41,23 +50,32 @@ pub fn read_seconds(bytes: &[u8], place: usize) -> Option<(i64, usize)>
     Some((size as i64, end))
 }
 
-/// Copies the number of up to nine digits after a space at a place, with zeros in front of it, and gives the place after it.
+/// Copies the number of up to nine digits after a space at a place, with zeros in front of it, and gives the place after it. Nine digits
+/// are taken where LF follows.
 #[inline(always)]
 pub fn read_nanoseconds(bytes: &[u8], place: usize, nine: &mut [u8; 9]) -> Option<usize>
-    requires { place < length bytes.now }
+    requires { place + 11 ≤ length bytes.now }
     ensures number { IfSome result (λ end. (n : ℕ) × (n < 1000000000) × (nine.new ≡ nine_digits n) × IsPartFront (drop place bytes.now) (pos n) (drop end bytes.now)) }
-    ensures end { IfSome result (λ end. (end ≤ place + 10) × (end ≤ length bytes.now)) }
+    ensures end { IfSome result (λ end. (end ≤ place + 10) × (end < length bytes.now)) }
 {
     if bytes[place] != b' ' {
         return None;
     }
     let start = place + 1;
-    let (end, _) = dec2flt::read_digits(bytes, start, 0);
-    if end == start || end > start + 9 || end < 9 {
+    let (count, _) = dec2flt::read_digits(&bytes[start..start + 9], 0, 0);
+    let end = start + count;
+    if count == 9 {
+        if bytes[end] != b'\n' {
+            return None;
+        }
+        nine.copy_from_slice(&bytes[start..start + 9]);
+        return Some(end);
+    }
+    if count == 0 || end < 9 {
         return None;
     }
     nine.copy_from_slice(&bytes[end - 9..end]);
-    let zeros = 9 - (end - start);
+    let zeros = 9 - count;
     for index in 0..zeros {
         nine[index] = b'0';
     }

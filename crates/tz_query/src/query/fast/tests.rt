@@ -132,6 +132,9 @@ fn lines_of_many_instants_are_answered_alike(rt: HostRuntime) -> Result<(), Fail
         -2_000_000_000i64,
         -1_000_000_000,
         -3,
+        78_796_800,
+        94_694_400,
+        126_230_400,
         900_000_000,
         1_005_000_000,
     ] {
@@ -172,7 +175,7 @@ fn numbers_of_each_length_are_answered_alike(rt: HostRuntime) -> Result<(), Fail
 #[test]
 fn lines_cut_at_each_length_are_answered_alike(rt: HostRuntime) -> Result<(), Fail> {
     let queries =
-        b"T 1700000000 123456789\nT -1 5\nT 1 1000000000\nF 2024 2 29 1 2 3 4\nT  7 7\nT 7  7\nT 7 7\r\nT 7\nT7 7\nT 1 2 3\nt 1 2\n\nT 1600000000 100\nT 253402300800 0\nT -62167219201 0\nT 123456789012345678 99\nT 1500000000 000000001\n";
+        b"T 1700000000 123456789\nT -1 5\nT 1 1000000000\nF 2024 2 29 1 2 3 4\nT  7 7\nT 7  7\nT 7 7\r\nT 7\nT7 7\nT 1 2 3\nt 1 2\n\nT 1600000000 100\nT 253402300800 0\nT -62167219201 0\nT 123456789012345678 99\nT 1500000000 000000001\nT 1 123456789 \nT 1 123456789\r\nT 1 1234567890\nT 12345678901 5\nT 123456789012 5\nT 12345678901x 5\nT -12345678901 12345678\n";
     for length in 0..=queries.len() {
         expect_alike(&rt, rt.alloc(), TimeZoneRef::utc(), &queries[..length])?;
         expect_alike(&rt, rt.alloc(), TimeZoneRef::utc(), &queries[length..])?;
