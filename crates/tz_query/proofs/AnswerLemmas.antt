@@ -1,34 +1,19 @@
 -- Names and refusals as an answer has them, and one more line and its answer.
-use Rattle.std.proofs.Common.{◌≡◌, ℕ, ◌+◌, ◌<◌, ◌≤◌, inl, inr, cond, ℤ, List, [], ◌∷◌, ◌++◌, length, take, get_or, refl, sym, ap, ◌∙◌, subst, arith, append_assoc, append-nil, length-append}
-use Rattle.std.specs.Prelude.{Option, Some, None, IfSome, Result, Ok, Err, IfOk, is_ok, unwrap_or, codes, map, ⊤}
+use Rattle.std.proofs.Common.{◌≡◌, ℕ, ◌+◌, ◌<◌, inl, inr, cond, ℤ, List, [], ◌∷◌, ◌++◌, length, take, get_or, refl, sym, ap, ◌∙◌, subst, arith, append_assoc, append-nil, length-append}
+use Rattle.std.specs.Prelude.{Result, Ok, Err, IfOk, is_ok, codes, map, ⊤}
 use Rattle.std.proofs.lemmas.List.{take_more, map-append}
 use Rattle.std.proofs.lemmas.List.Elements.{All-nil, All-cons}
 use Rattle.tz_base.specs.declared.calendar.Fields.{Fields}
 use Rattle.tz_base.specs.declared.error.TzError.{TzError}
 use Rattle.tz_base.specs.declared.error.TzError.TheVariants.{DateTime, OutOfRange}
 use Rattle.tz_base.specs.declared.error.datetime.DateTimeError.{DateTimeError}
-use Rattle.tz_rule.specs.LocalTimeType.{IsDesignation}
 use Rattle.tz_zone.specs.Table.{Zone}
 use Rattle.tz.specs.DateTimes.{IsClockFault}
 use Rattle.tz.specs.FindFaults.{IsFindFault}
 use Rattle.tz.specs.Found.{Clock}
 use Rattle.tz.specs.declared.datetime.found.FoundDateTimeKind.{FoundDateTimeKind}
-use Rattle.tz_query.specs.Numbers.{hyphen}
 use Rattle.tz_query.specs.Lines.{line_feed, IsLine, IsLineEnd, IsFirstLine, IsCut, AreLines, ended}
 use Rattle.tz_query.specs.Answers.{entry_text, IsFaultText, IsAnswer, AreAnswers}
-
--- a name, by what the type lends
-pub name_of_nothing : (o : Option (List ℕ)) → IfSome o IsDesignation → length (unwrap_or o []) ≡ 0 → unwrap_or o (hyphen ∷ []) ≡ hyphen ∷ []
-name_of_nothing None is empty = refl
-name_of_nothing (Some name) is empty = absurd (omega (arith, is.length_is.0, empty))
-
-pub name_of_some : (o : Option (List ℕ)) → 0 < length (unwrap_or o []) → unwrap_or o (hyphen ∷ []) ≡ unwrap_or o []
-name_of_some None some = absurd (omega (arith, some))
-name_of_some (Some name) some = refl
-
-pub name_is_short : (o : Option (List ℕ)) → IfSome o IsDesignation → length (unwrap_or o []) ≤ 7
-name_is_short None is = omega arith
-name_is_short (Some name) is = is.length_is.1
 
 -- every refusal of an instant has a name
 pub clock_fault_text : (z : Zone) (u : ℤ) (n : ℕ) (e : TzError) → IsClockFault z u n e → (text : List ℕ) × IsFaultText e text
@@ -76,17 +61,6 @@ AreAnswers-nil z = record { lines = []; answers = []; cut = record { cut = inl r
 pub AreAnswers-cons : (z : Zone) (bytes line rest more : List ℕ) (answer : List (List ℕ)) → 0 < length bytes → IsFirstLine bytes line rest → IsAnswer z line answer → AreAnswers z rest more → AreAnswers z bytes (ended answer ++ more)
 AreAnswers-cons z bytes line rest more answer some first is are =
     record { lines = line ∷ are.lines; answers = answer ∷ are.answers; cut = AreLines-cons bytes line rest are.lines some first are.cut; each = (is, are.each); written = ap (λ bs. ended answer ++ bs) are.written }
-
--- after a first line less is left
-pub first_line_shortens : (bytes line rest : List ℕ) → 0 < length bytes → IsFirstLine bytes line rest → length rest < length bytes
-first_line_shortens bytes line rest some first = cases first.end
-  where
-    whole : length bytes ≡ length line + length first.tail
-    whole = ap length first.cut ∙ length-append line first.tail
-
-    cases : IsLineEnd first.tail rest → length rest < length bytes
-    cases (inl end) = omega (arith, whole, ap length end)
-    cases (inr end) = omega (arith, some, ap length end.1)
 
 -- what was appended, where nothing was refused
 pub appended : {T E : Type 0} (r : Result T E) (now was more : List ℕ) → now ≡ cond (is_ok r) (was ++ more) was → IfOk r (λ _. now ≡ was ++ more)

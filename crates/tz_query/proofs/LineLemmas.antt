@@ -68,12 +68,7 @@ module _ (letter : ℕ) (numbers : List ℤ) (bytes rest : List ℕ) where
         record { parts = parts.0; whole = refl; are_numbers = parts.2 },
       )
 
--- where another letter stands in front, or no such numbers, or no end after them, the first line is no such line
-pub no_line_without_letter : (letter : ℕ) (bytes : List ℕ) → ((after : List ℕ) → bytes ≢ letter ∷ after) → (numbers : List ℤ) (rest line : List ℕ) → IsFirstLine bytes line rest → ¬ IsLineOf letter numbers line
-no_line_without_letter letter bytes none numbers rest line first is =
-    let front = front_from_line letter numbers bytes rest line first is in
-    none front.0 front.2
-
+-- where no such numbers follow the letter, or no end follows them, the first line is no such line
 pub no_line_without_numbers : (letter : ℕ) (bytes after : List ℕ) → bytes ≡ letter ∷ after → (numbers : List ℤ) → ((tail : List ℕ) → ¬ ArePartsFront after numbers tail) → (rest line : List ℕ) → IsFirstLine bytes line rest → ¬ IsLineOf letter numbers line
 no_line_without_numbers letter bytes after letter_is numbers none rest line first is =
     let front = front_from_line letter numbers bytes rest line first is in

@@ -46,12 +46,7 @@ digits_front_unique (d ∷ digits) (d' ∷ digits') rest rest' all all' ends end
     let (more, after) = digits_front_unique digits digits' rest rest' all.1 all'.1 ends ends' rest_same in
     (cc, after)
 
--- numbers in front of bytes, plain and with a sign
-pub number_from_digits : (bytes digits rest : List ℕ) (size : ℕ) (n : ℤ) → IsDigitsFront bytes digits rest → 0 < length digits → IsCapped digits size → FitsSigned w64 n → n ≡ pos 0 +ℤ pos size → IsNumberFront bytes n rest
-number_from_digits bytes digits rest size n front some (inl exact) fits is =
-    record { text = digits; whole = front.whole; is_number = (digits, (some, front.all_digits), inl (refl, omega (arith, ints, is, exact))); ends = front.ends }
-number_from_digits bytes digits rest size n front some (inr past) fits is = absurd (omega (arith, ints, past.0, is, fits))
-
+-- a number with a sign in front of bytes
 pub number_from_minus : (bytes after digits rest : List ℕ) (size : ℕ) (n : ℤ) → bytes ≡ hyphen ∷ after → IsDigitsFront after digits rest → 0 < length digits → IsCapped digits size → FitsSigned w64 n → n ≡ pos 0 -ℤ pos size → IsNumberFront bytes n rest
 number_from_minus bytes after digits rest size n minus front some (inl exact) fits is =
     record { text = hyphen ∷ digits; whole = minus ∙ ap (λ xs. hyphen ∷ xs) front.whole; is_number = (digits, (some, front.all_digits), inr (refl, omega (arith, ints, is, exact))); ends = front.ends }
@@ -206,10 +201,7 @@ numbers_from_parts bytes (n ∷ numbers) tail (after, (behind, spaced, front), a
       (text, more.0, refl, front.is_number, more.2),
     )
 
--- where no space stands in front, or no number after it, there is no such number
-pub no_part_without_space : (bytes : List ℕ) → ((after : List ℕ) → bytes ≢ space ∷ after) → (n : ℤ) (rest : List ℕ) → ¬ IsPartFront bytes n rest
-no_part_without_space bytes none n rest (after, spaced, front) = none after spaced
-
+-- where no number follows a space, there is no such number
 pub no_part_without_number : (bytes after : List ℕ) → bytes ≡ space ∷ after → ((n : ℤ) (rest : List ℕ) → FitsSigned w64 n → ¬ IsNumberFront after n rest) → (n : ℤ) (rest : List ℕ) → FitsSigned w64 n → ¬ IsPartFront bytes n rest
 no_part_without_number bytes after spaced none n rest fits (after', spaced', front) =
     let same : after' ≡ after = cc (spaced', spaced) in

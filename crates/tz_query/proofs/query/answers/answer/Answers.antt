@@ -1,5 +1,5 @@
 -- Each line's answer stands behind those before it, and in the end no line is left.
-use Rattle.std.proofs.Common.{◌≡◌, ◌+◌, ◌++◌, ◌<◌, ◌≤◌, [], length, take, refl, sym, ap, ◌∙◌, subst, arith, rules, append_assoc, append-nil}
+use Rattle.std.proofs.Common.{◌≡◌, ◌++◌, ◌<◌, [], length, take, sym, ap, ◌∙◌, subst, arith, rules, append_assoc, append-nil}
 use Rattle.std.proofs.lemmas.Int.{ints}
 use Rattle.tz_zone.specs.ZoneRef.{zone_of}
 use Rattle.tz_zone.proofs.SegmentLemmas.{number_of_type, type_exists}
