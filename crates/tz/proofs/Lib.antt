@@ -15,3 +15,4 @@ pub mod ComparisonsByParts
 pub mod FieldOrder
 pub mod TotalLemmas
 pub mod FoundOnce
+pub mod FoundAtJump

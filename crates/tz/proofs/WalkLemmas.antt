@@ -42,7 +42,7 @@ pub AllPairs-nil : {X : Type 0} (R : X → X → Type 0) → AllPairs R []
 AllPairs-nil R i j d less within = absurd (omega arith)
 
 -- the sides of a jump are determined
-side_unique : (u : ℤ) (n : ℕ) (t : LocalTimeType) (d e : DateTime) → ShowsInstant u n t d → ShowsInstant u n t e → d ≡ e
+pub side_unique : (u : ℤ) (n : ℕ) (t : LocalTimeType) (d e : DateTime) → ShowsInstant u n t d → ShowsInstant u n t e → d ≡ e
 side_unique u n t d e a b =
     ap (λ f. moment_of f d.local_time_type d.unix_time) (civil_unique (u +ℤ t.ut_offset) n d.fields e.fields a.civil b.civil)
     ∙ ap (λ s. moment_of e.fields s d.unix_time) (a.type_is ∙ sym b.type_is)

@@ -14,3 +14,4 @@ pub mod PrintedText
 pub mod UtcConstants
 pub mod Lists
 pub mod SlotEquality
+pub mod Jumps

@@ -41,7 +41,8 @@ IsDue z i l =
 -- the piece of the clock that begins where a transition takes effect
 abbrev pub IsPieceOf : Zone → ℕ → Piece → Type 0
 IsPieceOf z i piece =
-    ((change : Transition) × (slice_get z.transitions i ≡ Some change) × IsEffect z.leap_seconds change.unix_leap_time piece.from) × HoldsAfter z (i + 1) piece.from piece.local_time_type
+    ((change : Transition) × (slice_get z.transitions i ≡ Some change) × IsEffect z.leap_seconds change.unix_leap_time piece.from)
+    × HoldsAfter z (i + 1) piece.from piece.local_time_type
 
 -- the offsets of all types that the clock has lie between these two
 abbrev pub AreOffsetsOf : Zone → ℤ → ℤ → Type 0
@@ -70,4 +71,5 @@ pub record IsOnTheWay (z : Zone) (low high : ℤ) (f : Fields) (place : ℕ) (w 
   pub begun : ¬ IsBeforeStart z.leap_seconds w.since
   pub low_is : low ≤ℤ w.since
   pub high_is : w.since ≤ℤ high
-  pub not_before : (i : ℕ) (change : Transition) → place ≤ i → slice_get z.transitions i ≡ Some change → (u : ℤ) → IsTimeReached z.leap_seconds change.unix_leap_time u → w.since ≤ℤ u
+  pub not_before : (i : ℕ) (change : Transition) → place ≤ i → slice_get z.transitions i ≡ Some change → (u : ℤ)
+      → IsTimeReached z.leap_seconds change.unix_leap_time u → w.since ≤ℤ u

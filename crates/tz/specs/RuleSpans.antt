@@ -39,7 +39,8 @@ ChangesOnlyAt rule changes start end =
 
 -- between two instants the clock of a zone is that of a rule
 abbrev pub IsRuledIn : Zone → TransitionRule → ℤ → ℤ → Type 0
-IsRuledIn z rule start end = (u : ℤ) → start ≤ℤ u → u ≤ℤ end → (t : LocalTimeType) → (IsClock z u t → IsRuleType rule u t) × (IsRuleType rule u t → IsClock z u t)
+IsRuledIn z rule start end =
+    (u : ℤ) → start ≤ℤ u → u ≤ℤ end → (t : LocalTimeType) → (IsClock z u t → IsRuleType rule u t) × (IsRuleType rule u t → IsClock z u t)
 
 -- the clock of a zone, as it is seen up to a seam, and between two later instants
 abbrev pub IsInView : ℤ → ℤ → ℤ → ℤ → ℤ → Type 0

@@ -86,7 +86,8 @@ IsGiven w until found =
 abbrev pub IsStep : Walk → Piece → Walk → List FoundDateTimeKind → Type 0
 IsStep w piece next found =
     ((piece.from ≤ℤ w.since) × (next ≡ record w { local_time_type = piece.local_time_type }) × (found ≡ []))
-    ⊎ ((w.since <ℤ piece.from) × (next ≡ record w { before = w.local_time_type; since = piece.from; local_time_type = piece.local_time_type }) × IsGiven w piece.from found)
+    ⊎ ((w.since <ℤ piece.from) × (next ≡ record w { before = w.local_time_type; since = piece.from; local_time_type = piece.local_time_type })
+    × IsGiven w piece.from found)
 
 -- why the last piece gives nothing, where it ends at an instant: memory, or its entry lies outside the years of 32 bits
 abbrev pub IsGiveFault : Type 0 → Walk → ℤ → TzError → Type 0

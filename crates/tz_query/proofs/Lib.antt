@@ -6,3 +6,4 @@ pub mod FastNumbers
 pub mod PageLemmas
 pub mod WeekLemmas
 pub mod SearchLineLemmas
+pub mod JumpLineLemmas

@@ -55,13 +55,10 @@ three_pieces page front nine tail at len room front_len nine_len tail_len few =
     ∙ append_assoc (take at page ++ front) nine (take len tail)
     ∙ append_assoc (take at page) front (nine ++ take len tail)
 
--- the date time that a clock shows at an instant has these fields, with the nanoseconds put in
-pub shown_with : (z : Zone) (u : ℤ) (n : ℕ) (t : LocalTimeType) (f : Fields) → n < 1000000000 → IsClock z u t → IsCivil (u +ℤ t.ut_offset) 0 f → IsReading (u +ℤ t.ut_offset) →
-    (text : List ℕ) × IsTimeAnswer z u n text × (front_text f ++ (nine_digits n ++ end_text t) ≡ text ++ 10 ∷ [])
-shown_with z u n t f part clock civil reads =
-    let d : DateTime = record { fields = record f { nanoseconds = n }; local_time_type = t; unix_time = u } in
+-- the fields that are shown, with the nanoseconds put in
+pub civil_with : (x : ℤ) (n : ℕ) (f : Fields) → n < 1000000000 → IsCivil x 0 f → IsCivil x n (record f { nanoseconds = n })
+civil_with x n f part civil =
     let in_range = civil.valid.in_range in
-    let shown : IsCivil (u +ℤ t.ut_offset) n d.fields =
     record {
       valid = record {
         in_range = record { month = in_range.month; month_day = in_range.month_day; hour = in_range.hour; minute = in_range.minute; second = in_range.second; nanoseconds = part };
@@ -70,8 +67,14 @@ shown_with z u n t f part clock civil reads =
       below_60 = civil.below_60;
       reads = civil.reads;
       nanoseconds_are = refl;
-    } in
-    (moment_text d, inl (d, (t, clock, record { civil = shown; type_is = refl; instant_is = refl }), subst IsReading (sym civil.reads) reads, refl), line_text f n t u)
+    }
+
+-- the date time that a clock shows at an instant has these fields, with the nanoseconds put in
+pub shown_with : (z : Zone) (u : ℤ) (n : ℕ) (t : LocalTimeType) (f : Fields) → n < 1000000000 → IsClock z u t → IsCivil (u +ℤ t.ut_offset) 0 f → IsReading (u +ℤ t.ut_offset) →
+    (text : List ℕ) × IsTimeAnswer z u n text × (front_text f ++ (nine_digits n ++ end_text t) ≡ text ++ 10 ∷ [])
+shown_with z u n t f part clock civil reads =
+    let d : DateTime = record { fields = record f { nanoseconds = n }; local_time_type = t; unix_time = u } in
+    (moment_text d, inl (d, (t, clock, record { civil = civil_with (u +ℤ t.ut_offset) n f part civil; type_is = refl; instant_is = refl }), subst IsReading (sym civil.reads) reads, refl), line_text f n t u)
 
 -- the twenty bytes of fields in a year of four digits
 pub front_bytes : (f : Fields) (year : ℕ) → f.year ≡ pos year → 1000 ≤ year → year < 10000 → f.month < 100 → f.month_day < 100 → f.hour < 100 → f.minute < 100 → f.second < 100 →

@@ -19,8 +19,17 @@ use Rattle.tz_query.specs.Pages.{front_text, end_text}
 use Rattle.tz_query.proofs.PageLemmas.{line_text}
 
 -- the lines of one date time
-lines_of_one : (text : List ℕ) → ended ((codes "F " ++ decimal 1) ∷ (codes "N " ++ text) ∷ []) ≡ 70 ∷ 32 ∷ 49 ∷ 10 ∷ 78 ∷ 32 ∷ (text ++ 10 ∷ [])
+pub lines_of_one : (text : List ℕ) → ended ((codes "F " ++ decimal 1) ∷ (codes "N " ++ text) ∷ []) ≡ 70 ∷ 32 ∷ 49 ∷ 10 ∷ 78 ∷ 32 ∷ (text ++ 10 ∷ [])
 lines_of_one text = ap (λ count. ended ((codes "F " ++ count) ∷ (codes "N " ++ text) ∷ [])) (decimal_digit 1 (omega arith))
+
+-- fields stay valid with other nanoseconds
+pub valid_with : (f : Fields) (n : ℕ) → n < 1000000000 → IsValid f → IsValid (record f { nanoseconds = n })
+valid_with f n part valid =
+    let in_range = valid.in_range in
+    record {
+      in_range = record { month = in_range.month; month_day = in_range.month_day; hour = in_range.hour; minute = in_range.minute; second = in_range.second; nanoseconds = part };
+      in_month = valid.in_month;
+    }
 
 pub shown_once : (z : Zone) → AreLeapSeconds z.leap_seconds → (f : Fields) (n : ℕ) → n < 1000000000 → IsValid f → (least greatest from until : ℤ) (t : LocalTimeType) → least ≤ℤ greatest → AreOffsetsOf z least greatest →
     IsStretch z from until t → from ≤ℤ (reading f -ℤ greatest) → (reading f -ℤ least) <ℤ until →
@@ -28,14 +37,8 @@ pub shown_once : (z : Zone) → AreLeapSeconds z.leap_seconds → (f : Fields) (
 shown_once z are f n part valid least greatest from until t order offsets stretch low high =
     let g : Fields = record f { nanoseconds = n } in
     let one = the_one z are g least greatest from until t order offsets stretch low high in
-    let found = found_once z are g least greatest from until t order offsets stretch low high in
-    let in_range = valid.in_range in
-    let valid_g : IsValid g =
-    record {
-      in_range = record { month = in_range.month; month_day = in_range.month_day; hour = in_range.hour; minute = in_range.minute; second = in_range.second; nanoseconds = part };
-      in_month = valid.in_month;
-    } in (
+    let found = found_once z are g least greatest from until t order offsets stretch low high in (
       found_lines (Normal one ∷ []),
-      inl (Normal one ∷ [], valid_g, found, refl),
+      inl (Normal one ∷ [], valid_with f n part valid, found, refl),
       ap (λ line. 70 ∷ 32 ∷ 49 ∷ 10 ∷ 78 ∷ 32 ∷ line) (line_text f n t one.unix_time) ∙ sym (lines_of_one (moment_text one)),
     )

@@ -5,11 +5,13 @@ ghost use Rattle.tz_zone.specs.Table.{LeapSecond};
 ghost use Rattle.tz_zone.specs.LeapTime.{IsInstant, IsStart, correction_at_start as correction_of_start, correction_before as correction_at_place, IsReached, IsBeforeStart, IsFirstBegun, IsLeapTimeRefused, IsLeapTime, IsMomentOf, IsEffect, IsEffectRefused};
 ghost use Rattle.tz_zone.specs.ValidZone.{AreLeapSeconds, HasBegunAt, ExpiresAt, IsPlainTable};
 
+mod leap_spans;
 mod lookup;
 mod parts;
 mod reached;
 mod segment;
 mod segments;
+mod span;
 mod transitions;
 
 use crate::partition::{Places, partition_point};
@@ -30,7 +32,8 @@ fn truncated_start(leap_seconds: &[LeapSecond]) -> Option<&LeapSecond>
     ensures { MatchOption result ((l : LeapSecond) → ¬ IsStart leap_seconds.now l) (λ l. IsStart leap_seconds.now l.now) }
 {
     let first = leap_seconds.first()?;
-    if first.correction().unsigned_abs() == 1 {
+    let correction = first.correction();
+    if correction == 1 || correction == -1 {
         return None;
     }
     Some(first)

@@ -244,7 +244,9 @@ impl DateTime {
         ensures untouched { IsValid fields.now ⊎ (buf.new ≡ buf.old) }
         ensures promised { IsPromised (zone_seen (V.list view.old) parts.entry) fields.now.year → IfErr result (λ e. e ≢ TzError.OutOfRange) }
         ensures err { IfErr result (IsFindFault ⊥ (IsClock (zone_seen (V.list view.old) parts.entry)) fields.now) }
-        ensures few { OnOk result ((b w : ℕ) → length (V.list view.old) < 2 ^ b → AtMostTakeEffectAround (zone_seen (V.list view.old) parts.entry) (reading fields.now) w → V.looks view.new ≤ V.looks view.old + (2 * b + w + 4)) }
+        ensures few { OnOk result ((b w : ℕ) → length (V.list view.old) < 2 ^ b
+            → AtMostTakeEffectAround (zone_seen (V.list view.old) parts.entry) (reading fields.now) w
+            → V.looks view.new ≤ V.looks view.old + (2 * b + w + 4)) }
         ensures some { OnOk result (0 < length (V.list view.old) → V.next (V.looks view.old) ≤ V.looks view.new) }
         ensures none { OnOk result (length (V.list view.old) ≡ 0 → V.looks view.new ≡ V.looks view.old) }
     {

@@ -159,7 +159,8 @@ fn answer_time<A: Allocator>(
     unix_time: i64,
     nanoseconds: u32,
 ) -> Result<(), AllocError>
-    ensures { IfOk result (λ _. (text : List ℕ) × IsTimeAnswer (zone_of zone.entry) unix_time nanoseconds text × (answers.new.items ≡ answers.old.items ++ (text ++ line_feed ∷ []))) }
+    ensures { IfOk result (λ _. (text : List ℕ) × IsTimeAnswer (zone_of zone.entry) unix_time nanoseconds text
+        × (answers.new.items ≡ answers.old.items ++ (text ++ line_feed ∷ []))) }
 {
     line.clear();
     push_time_answer(line, zone, unix_time, nanoseconds);
@@ -234,7 +235,8 @@ pub fn answer_search<A: Allocator + Copy>(
     zone: TimeZoneRef<'_>,
     fields: &Fields,
 ) -> Result<(), AllocError>
-    ensures { IfOk result (λ _. (answer : List (List ℕ)) × IsSearchAnswer (zone_of zone.entry) fields.now answer × (answers.new.items ≡ answers.old.items ++ ended answer)) }
+    ensures { IfOk result (λ _. (answer : List (List ℕ)) × IsSearchAnswer (zone_of zone.entry) fields.now answer
+        × (answers.new.items ≡ answers.old.items ++ ended answer)) }
 {
     match inner::find_fields(alloc, fields, zone) {
         Ok(list) => append_found(answers, line, &list.into_inner()),
@@ -253,7 +255,8 @@ pub(super) fn answer_line<'a, A: Allocator + Copy>(
     zone: TimeZoneRef<'_>,
     queries: &'a [u8],
 ) -> Result<&'a [u8], AllocError>
-    ensures { IfOk result (λ rest. (text : List ℕ) × (answer : List (List ℕ)) × IsFirstLine queries.now text rest.now × IsAnswer (zone_of zone.entry) text answer × (answers.new.items ≡ answers.old.items ++ ended answer)) }
+    ensures { IfOk result (λ rest. (text : List ℕ) × (answer : List (List ℕ)) × IsFirstLine queries.now text rest.now
+        × IsAnswer (zone_of zone.entry) text answer × (answers.new.items ≡ answers.old.items ++ ended answer)) }
 {
     if let Some((unix_time, nanoseconds, rest)) = read_time_line(queries) {
         answer_time(answers, line, zone, unix_time, nanoseconds)?;
@@ -320,8 +323,9 @@ fn answer_next<'a, A: Allocator + Copy>(
     requires tails { types_of tails.now ≡ numbered_types (zone_of zone) }
     requires offsets { AreOffsetsOf (zone_of zone) offsets.0 offsets.1 }
     requires order { offsets.0 ≤ℤ offsets.1 }
-    ensures end { IfOk result (λ r. r.0 ≤ at + 67) }
-    ensures answer { IfOk result (λ r. (text : List ℕ) × (answer : List (List ℕ)) × IsFirstLine queries.now text r.1.now × IsAnswer (zone_of zone.entry) text answer × ((answers.new.items ++ take r.0 page.new) ≡ (answers.old.items ++ take at page.old) ++ ended answer)) }
+    ensures end { IfOk result (λ r. r.0 ≤ at + 130) }
+    ensures answer { IfOk result (λ r. (text : List ℕ) × (answer : List (List ℕ)) × IsFirstLine queries.now text r.1.now
+        × IsAnswer (zone_of zone.entry) text answer × ((answers.new.items ++ take r.0 page.new) ≡ (answers.old.items ++ take at page.old) ++ ended answer)) }
     ensures kept { IsSegmentOf (zone_of zone.entry) kept.new }
 {
     if let Some(answered) = answer_time_line(page, at, kept, zone, tails, queries) {

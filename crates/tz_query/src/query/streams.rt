@@ -76,7 +76,8 @@ pub fn run<A: Allocator + Copy, R: Read, W: Write>(
 ) -> Result<(), RunFault>
     ensures ok { OnOk result (WritesAnswers (zone_of zone.entry) (R.remaining input.old) (R.remaining input.new) (W.contents out.old) (W.contents out.new)) }
     ensures untouched { IfErr result (λ e. e ≢ RunFault.Write → out.new ≡ out.old) }
-    ensures begun { IfErr result (λ e. e ≡ RunFault.Write → WritesFrontOfAnswers (zone_of zone.entry) (R.remaining input.old) (R.remaining input.new) (W.contents out.old) (W.contents out.new)) }
+    ensures begun { IfErr result (λ e. e ≡ RunFault.Write
+        → WritesFrontOfAnswers (zone_of zone.entry) (R.remaining input.old) (R.remaining input.new) (W.contents out.old) (W.contents out.new)) }
 {
     let queries = read_to_end(alloc, input)?;
     let Ok(answers) = answer(alloc, zone, &queries) else {

@@ -14,13 +14,20 @@ use tz::{TimeZone, TzError};
 /// Answers query bytes over the zone that the bytes of a TZif file denote, as [`answer`](super::answer) does. (RFC 8536)
 ///
 /// Bytes that are no such file are refused as by [`TimeZone::from_tz_data`], before a query is read.
+///
+/// ```rust
+/// pub fn answer_lines(alloc: Global, file: &[u8], lines: &[u8]) -> Result<Vec<u8>, TzError> {
+///     query::answer_tzif(alloc, file, lines)
+/// }
+/// ```
 pub fn answer_tzif<A: Allocator + Copy>(
     alloc: A,
     tz_bytes: &[u8],
     queries: &[u8],
 ) -> Result<Vec<u8, A>, TzError>
     ensures ok { IfOk result (λ answers. AreFileAnswers tz_bytes.now queries.now answers.items) }
-    ensures only { (zone : Zone) → IsTzFile tz_bytes.now zone → MatchResult result (λ answers. AreAnswers zone queries.now answers.items) (λ e. e ≡ TzError.Memory alloc_error) }
+    ensures only { (zone : Zone) → IsTzFile tz_bytes.now zone
+        → MatchResult result (λ answers. AreAnswers zone queries.now answers.items) (λ e. e ≡ TzError.Memory alloc_error) }
     ensures err { IfErr result (IsReadFault tz_bytes.now) }
 {
     let zone = TimeZone::from_tz_data(alloc, tz_bytes)?;

@@ -57,7 +57,8 @@ fn may_be_first(leap_second: LeapSecond) -> bool
 fn is_one_second_apart(correction: i32, next: i32) -> bool
     ensures { MatchBool result (IsOneSecond (next -ℤ correction)) (¬ IsOneSecond (next -ℤ correction)) }
 {
-    (i64::from(next) - i64::from(correction)).unsigned_abs() == 1
+    let apart = i64::from(next) - i64::from(correction);
+    apart == 1 || apart == -1
 }
 
 /// Whether a leap time comes at least 28 days after another one, less a second.

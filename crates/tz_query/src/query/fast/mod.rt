@@ -2,6 +2,8 @@
 //!
 //! What is here answers a line or says no, and then the line is answered plainly.
 
+pub mod entries;
+pub mod jump_lines;
 pub mod numbers;
 pub mod page;
 pub mod search_lines;

@@ -1,7 +1,8 @@
 //! `F` lines that are found once, answered from a segment of the zone that holds all their window.
 
-ghost use Rattle.std.specs.Prelude.{◌≡◌, ◌+◌, ◌<◌, ◌≤◌, ℕ, ◌≤ℤ◌, ◌<ℤ◌, List, ◌++◌, take, IfSome, IfNone};
+ghost use Rattle.std.specs.Prelude.{◌≡◌, ◌+◌, ◌<◌, ◌≤◌, ℕ, ◌-ℤ◌, ◌≤ℤ◌, ◌<ℤ◌, List, ◌++◌, take, IfSome, IfNone};
 ghost use Rattle.tz_base.specs.declared.calendar.Fields.{Fields};
+ghost use Rattle.tz_base.specs.Fields.{IsValid, reading as reading_of};
 ghost use Rattle.tz_zone.specs.ZoneRef.{zone_of};
 ghost use Rattle.tz_zone.specs.Segments.{IsSegmentOf, IsStretch, numbered_types};
 ghost use Rattle.tz.specs.PrintedText.{nine_digits};
@@ -11,8 +12,10 @@ ghost use Rattle.tz_query.specs.Lines.{IsFirstLine, ended};
 ghost use Rattle.tz_query.specs.Queries.{IsSearchLineFront};
 ghost use Rattle.tz_query.specs.Tails.{types_of};
 
+use super::entries::push_once;
+use super::jump_lines::answer_across_jump;
 use super::numbers::{read_nanoseconds, read_small, read_year};
-use super::page::{front_of, push_line};
+use super::page::front_of;
 use super::tail::Tail;
 use super::time_lines::keep;
 use tz::TimeZoneRef;
@@ -73,7 +76,19 @@ fn tail_through<'a>(
     Some(&tails[kept.number])
 }
 
-/// Answers the first line on the page, if it is an `F` line of usual numbers that is found once in a known segment, and gives the end of its
+/// The first and the last instant at which a clock whose offsets lie between two shows the fields.
+#[inline(always)]
+fn window_of(fields: &Fields, offsets: (i32, i32)) -> (i64, i64)
+    requires { IsValid fields.now }
+    ensures low { result.0 ≡ reading_of fields.now -ℤ offsets.1 }
+    ensures high { result.1 ≡ reading_of fields.now -ℤ offsets.0 }
+{
+    let (least, greatest) = offsets;
+    let reading = fields.reading();
+    (reading - i64::from(greatest), reading - i64::from(least))
+}
+
+/// Answers the first line on the page, if it is an `F` line of usual numbers in whose window known segments lie, and gives the end of its
 /// answer and the bytes after it.
 #[inline(always)]
 pub fn answer_search_line<'a>(
@@ -85,12 +100,12 @@ pub fn answer_search_line<'a>(
     offsets: (i32, i32),
     queries: &'a [u8],
 ) -> Option<(usize, &'a [u8])>
-    requires room { at ≤ 1973 }
+    requires room { at ≤ 1910 }
     requires kept { IsSegmentOf (zone_of zone) kept.old }
     requires tails { types_of tails.now ≡ numbered_types (zone_of zone) }
     requires offsets { AreOffsetsOf (zone_of zone) offsets.0 offsets.1 }
     requires order { offsets.0 ≤ℤ offsets.1 }
-    ensures some { IfSome result (λ r. (r.0 ≤ at + 67) × ((text : List ℕ) × (answer : List (List ℕ)) × IsFirstLine queries.now text r.1.now × IsAnswer (zone_of zone.entry) text answer × (take r.0 page.new ≡ take at page.old ++ ended answer))) }
+    ensures some { IfSome result (λ r. (r.0 ≤ at + 130) × ((text : List ℕ) × (answer : List (List ℕ)) × IsFirstLine queries.now text r.1.now × IsAnswer (zone_of zone.entry) text answer × (take r.0 page.new ≡ take at page.old ++ ended answer))) }
     ensures none { IfNone result (take at page.new ≡ take at page.old) }
     ensures kept { IsSegmentOf (zone_of zone.entry) kept.new }
 {
@@ -102,12 +117,11 @@ pub fn answer_search_line<'a>(
     let Ok(()) = fields.check() else {
         return None;
     };
-    let (least, greatest) = offsets;
-    let reading = fields.reading();
-    let low = reading - i64::from(greatest);
-    let high = reading - i64::from(least);
-    let tail = tail_through(kept, zone, tails, low, high)?;
-    page[at..at + 6].copy_from_slice(b"F 1\nN ");
-    let end = push_line(page, at + 6, &front_of(&fields), &nine, tail);
+    let (low, high) = window_of(&fields, offsets);
+    if let Some(tail) = tail_through(kept, zone, tails, low, high) {
+        let end = push_once(page, at, &front_of(&fields), &nine, tail);
+        return Some((end, rest));
+    }
+    let end = answer_across_jump(page, at, kept, zone, tails, &fields, &nine, low, high)?;
     Some((end, rest))
 }

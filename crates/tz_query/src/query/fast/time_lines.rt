@@ -76,7 +76,7 @@ fn tail_at<'a>(
 
 /// What a clock with this offset from UTC shows at a Unix time, if its year has four digits.
 #[inline(always)]
-fn shown_fields(unix_time: i64, ut_offset: i32) -> Option<Fields>
+pub fn shown_fields(unix_time: i64, ut_offset: i32) -> Option<Fields>
     requires { (negsuc 1000000000000000000 ≤ℤ unix_time) × (unix_time ≤ℤ pos 1000000000000000000) }
     ensures fields { IfSome result (λ f. IsCivil (unix_time +ℤ ut_offset) 0 f) }
     ensures reading { IfSome result (λ f. IsReading (unix_time +ℤ ut_offset)) }

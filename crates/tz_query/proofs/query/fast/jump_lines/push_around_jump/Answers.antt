@@ -1,0 +1,77 @@
+-- The fields are shown before the jump, after it, on both sides or on neither.
+use Rattle.std.proofs.Common.{◌≡◌, ◌-ℤ◌, ◌≤ℤ◌, ◌<ℤ◌, ◌∷◌, ◌++◌, take, ap, ◌∙◌, arith, rules}
+use Rattle.std.proofs.lemmas.Int.{ints, to_z-of_z}
+use mir.Syntax.{w64}
+use mir.Val.{SFits}
+use Rattle.tz_base.specs.Fields.{reading}
+use Rattle.tz_zone.specs.ZoneRef.{zone_of}
+use Rattle.tz.specs.PrintedText.{nine_digits}
+use Rattle.tz_query.specs.Pages.{front_text, end_text}
+use Rattle.tz_query.proofs.JumpLineLemmas.{shown_before, shown_after, shown_twice}
+use Rattle.tz_query.proofs.query.fast.jump_lines.push_around_jump.Goals as goal
+
+pub returns-then-is_before-2-clause-some : goal.returns-then-is_before-2-clause-some
+returns-then-is_before-2-clause-some c n part nine =
+    let z = zone_of c.args.zone in
+    let f = c.args.fields.now in
+    let jump = c.args.jump in
+    let a = c.args.before.now.local_time_type in
+    let b = c.args.after.now.local_time_type in
+    let page = take c.args.at c.args.page.now in
+    let fits : SFits w64 jump = search rules in
+    let reading_fits : SFits w64 c.reading-reading.result = search rules in
+    let first : (reading f -ℤ a.ut_offset) <ℤ jump = rw (to_z-of_z w64 c.reading-reading.result reading_fits, to_z-of_z w64 jump fits, c.reading-reading.ensures.value) at c.if-is_before.ensures.before in
+    let second : (reading f -ℤ b.ut_offset) <ℤ jump = rw (to_z-of_z w64 c.reading-reading.result reading_fits, to_z-of_z w64 jump fits, c.reading-reading.ensures.value) at c.if-is_before-2.ensures.before in
+    let shown = shown_before z c.args.zone.sound.leap_seconds_are f n part c.requires.valid jump a b c.requires.window first second in
+    let text : take c.push_once.result c.push_once.new.page ≡ page ++ (70 ∷ 32 ∷ 49 ∷ 10 ∷ 78 ∷ 32 ∷ (front_text f ++ (nine_digits n ++ end_text a))) =
+    c.push_once.ensures.text
+    ∙ ap (λ bytes. page ++ (70 ∷ 32 ∷ 49 ∷ 10 ∷ 78 ∷ 32 ∷ (bytes ++ (c.args.nine.now ++ end_text a)))) c.front_of-front.ensures
+    ∙ ap (λ bytes. page ++ (70 ∷ 32 ∷ 49 ∷ 10 ∷ 78 ∷ 32 ∷ (front_text f ++ (bytes ++ end_text a)))) nine in
+    (shown.0, shown.1, text ∙ ap (λ bytes. page ++ bytes) shown.2)
+
+pub returns-then-is_before-clause-some : goal.returns-then-is_before-clause-some
+returns-then-is_before-clause-some c n part nine =
+    let z = zone_of c.args.zone in
+    let f = c.args.fields.now in
+    let jump = c.args.jump in
+    let a = c.args.before.now.local_time_type in
+    let b = c.args.after.now.local_time_type in
+    let page = take c.args.at c.args.page.now in
+    let fits : SFits w64 jump = search rules in
+    let reading_fits : SFits w64 c.reading-reading.result = search rules in
+    let first : (reading f -ℤ a.ut_offset) <ℤ jump = rw (to_z-of_z w64 c.reading-reading.result reading_fits, to_z-of_z w64 jump fits, c.reading-reading.ensures.value) at c.if-is_before.ensures.before in
+    let second : jump ≤ℤ (reading f -ℤ b.ut_offset) = rw (to_z-of_z w64 c.reading-reading.result reading_fits, to_z-of_z w64 jump fits, c.reading-reading.ensures.value) at c.if-is_before-2.ensures.before in
+    let shown = shown_twice z c.args.zone.sound.leap_seconds_are f n part c.requires.valid jump a b c.requires.window first second in
+    let text : take c.push_twice.result c.push_twice.new.page ≡ page ++ (70 ∷ 32 ∷ 50 ∷ 10 ∷ 78 ∷ 32 ∷ ((front_text f ++ (nine_digits n ++ end_text a)) ++ 78 ∷ 32 ∷ (front_text f ++ (nine_digits n ++ end_text b)))) =
+    c.push_twice.ensures.text
+    ∙ ap (λ bytes. page ++ (70 ∷ 32 ∷ 50 ∷ 10 ∷ 78 ∷ 32 ∷ ((bytes ++ (c.args.nine.now ++ end_text a)) ++ 78 ∷ 32 ∷ (bytes ++ (c.args.nine.now ++ end_text b))))) c.front_of-front.ensures
+    ∙ ap (λ bytes. page ++ (70 ∷ 32 ∷ 50 ∷ 10 ∷ 78 ∷ 32 ∷ ((front_text f ++ (bytes ++ end_text a)) ++ 78 ∷ 32 ∷ (front_text f ++ (bytes ++ end_text b))))) nine in
+    (shown.0, shown.1, text ∙ ap (λ bytes. page ++ bytes) shown.2)
+
+pub push_passed_fields-requires-clause-near : goal.push_passed_fields-requires-clause-near
+push_passed_fields-requires-clause-near c =
+    let fits : SFits w64 c.args.jump = search rules in
+    let reading_fits : SFits w64 c.reading-reading.result = search rules in
+    let first = rw (to_z-of_z w64 c.reading-reading.result reading_fits, to_z-of_z w64 c.args.jump fits) at c.if-is_before.ensures.before in
+    let second = rw (to_z-of_z w64 c.reading-reading.result reading_fits, to_z-of_z w64 c.args.jump fits) at c.if-is_before-3.ensures.before in
+    rw (to_z-of_z w64 c.args.jump fits)
+    (omega (arith, ints, second, c.reading-reading.ensures.bound, c.is_before-2.ensures.offset), omega (arith, ints, first, c.reading-reading.ensures.bound, c.is_before.ensures.offset))
+
+pub returns-clause-some : goal.returns-clause-some
+returns-clause-some c n part nine =
+    let z = zone_of c.args.zone in
+    let f = c.args.fields.now in
+    let jump = c.args.jump in
+    let a = c.args.before.now.local_time_type in
+    let b = c.args.after.now.local_time_type in
+    let page = take c.args.at c.args.page.now in
+    let fits : SFits w64 jump = search rules in
+    let reading_fits : SFits w64 c.reading-reading.result = search rules in
+    let first : jump ≤ℤ (reading f -ℤ a.ut_offset) = rw (to_z-of_z w64 c.reading-reading.result reading_fits, to_z-of_z w64 jump fits, c.reading-reading.ensures.value) at c.if-is_before.ensures.before in
+    let second : jump ≤ℤ (reading f -ℤ b.ut_offset) = rw (to_z-of_z w64 c.reading-reading.result reading_fits, to_z-of_z w64 jump fits, c.reading-reading.ensures.value) at c.if-is_before-3.ensures.before in
+    let shown = shown_after z c.args.zone.sound.leap_seconds_are f n part c.requires.valid jump a b c.requires.window first second in
+    let text : take c.push_once-2.result c.push_once-2.new.page ≡ page ++ (70 ∷ 32 ∷ 49 ∷ 10 ∷ 78 ∷ 32 ∷ (front_text f ++ (nine_digits n ++ end_text b))) =
+    c.push_once-2.ensures.text
+    ∙ ap (λ bytes. page ++ (70 ∷ 32 ∷ 49 ∷ 10 ∷ 78 ∷ 32 ∷ (bytes ++ (c.args.nine.now ++ end_text b)))) c.front_of.ensures
+    ∙ ap (λ bytes. page ++ (70 ∷ 32 ∷ 49 ∷ 10 ∷ 78 ∷ 32 ∷ (front_text f ++ (bytes ++ end_text b)))) nine in
+    (shown.0, shown.1, text ∙ ap (λ bytes. page ++ bytes) shown.2)

@@ -1,0 +1,142 @@
+//! `F` lines in whose window the clock has two types, with one jump between them.
+
+ghost use Rattle.std.specs.Prelude.{◌≡◌, ◌+◌, ◌<◌, ◌≤◌, ℕ, pos, negsuc, ◌-ℤ◌, ◌≤ℤ◌, ◌<ℤ◌, List, ◌++◌, take, IfSome, IfNone, MatchBool};
+ghost use Rattle.tz_base.specs.Fields.{IsValid, reading as reading_of};
+ghost use Rattle.tz_zone.specs.ZoneRef.{zone_of};
+ghost use Rattle.tz_zone.specs.Segments.{IsSegmentOf, IsStretch, numbered_types};
+ghost use Rattle.tz.specs.PrintedText.{nine_digits};
+ghost use Rattle.tz.specs.Jumps.{HasOneJump};
+ghost use Rattle.tz.specs.Reached.{AreOffsetsOf};
+ghost use Rattle.tz_query.specs.Answers.{IsSearchAnswer};
+ghost use Rattle.tz_query.specs.Lines.{ended};
+ghost use Rattle.tz_query.specs.Tails.{types_of};
+
+use super::entries::{push_once, push_skipped, push_twice};
+use super::page::front_of;
+use super::tail::Tail;
+use super::time_lines::{keep, shown_fields};
+use tz::TimeZoneRef;
+use tz::inner::{Fields, Segment, segment_at};
+
+/// Whether a reading, in this type, comes before an instant.
+#[inline(always)]
+fn is_before(reading: i64, tail: &Tail, unix_time: i64) -> bool
+    requires { (negsuc 67768100567971199 ≤ℤ reading) × (reading ≤ℤ pos 67767976233532800) }
+    ensures before { MatchBool result ((reading -ℤ tail.now.local_time_type.ut_offset) <ℤ unix_time) (unix_time ≤ℤ (reading -ℤ tail.now.local_time_type.ut_offset)) }
+    ensures offset { (negsuc 2147483647 ≤ℤ tail.now.local_time_type.ut_offset) × (tail.now.local_time_type.ut_offset ≤ℤ pos 2147483647) }
+{
+    reading - i64::from(tail.ut_offset()) < unix_time
+}
+
+/// Answers fields over which the clock jumps on the page, and gives the end of the answer, if the years of both sides have four digits.
+fn push_passed_fields(
+    page: &mut [u8; 2040],
+    at: usize,
+    zone: TimeZoneRef<'_>,
+    fields: &Fields,
+    nine: &[u8; 9],
+    jump: i64,
+    before: &Tail,
+    after: &Tail,
+) -> Option<usize>
+    requires room { at ≤ 1910 }
+    requires valid { IsValid fields.now }
+    requires near { (negsuc 100000000000000000 ≤ℤ jump) × (jump ≤ℤ pos 100000000000000000) }
+    requires window { HasOneJump (zone_of zone) (reading_of fields.now) jump before.now.local_time_type after.now.local_time_type }
+    requires before { jump ≤ℤ (reading_of fields.now -ℤ before.now.local_time_type.ut_offset) }
+    requires after { (reading_of fields.now -ℤ after.now.local_time_type.ut_offset) <ℤ jump }
+    ensures some { (n : ℕ) → n < 1000000000 → nine.now ≡ nine_digits n → IfSome result (λ end. (answer : List (List ℕ)) × IsSearchAnswer (zone_of zone.entry) (record fields.now { nanoseconds = n }) answer × (take end page.new ≡ take at page.old ++ ended answer)) }
+    ensures end { IfSome result (λ end. end ≤ at + 130) }
+    ensures none { IfNone result (page.new ≡ page.old) }
+{
+    let first = shown_fields(jump, before.ut_offset())?;
+    let second = shown_fields(jump, after.ut_offset())?;
+    Some(push_skipped(
+        page,
+        at,
+        &front_of(&first),
+        &front_of(&second),
+        nine,
+        before,
+        after,
+    ))
+}
+
+/// Answers fields in whose window the clock has two types on the page, and gives the end of the answer, if years have four digits.
+fn push_around_jump(
+    page: &mut [u8; 2040],
+    at: usize,
+    zone: TimeZoneRef<'_>,
+    fields: &Fields,
+    nine: &[u8; 9],
+    jump: i64,
+    before: &Tail,
+    after: &Tail,
+) -> Option<usize>
+    requires room { at ≤ 1910 }
+    requires valid { IsValid fields.now }
+    requires year { (pos 1000 ≤ℤ fields.now.year) × (fields.now.year ≤ℤ pos 9999) }
+    requires window { HasOneJump (zone_of zone) (reading_of fields.now) jump before.now.local_time_type after.now.local_time_type }
+    ensures some { (n : ℕ) → n < 1000000000 → nine.now ≡ nine_digits n → IfSome result (λ end. (answer : List (List ℕ)) × IsSearchAnswer (zone_of zone.entry) (record fields.now { nanoseconds = n }) answer × (take end page.new ≡ take at page.old ++ ended answer)) }
+    ensures end { IfSome result (λ end. end ≤ at + 130) }
+    ensures none { IfNone result (page.new ≡ page.old) }
+{
+    let reading = fields.reading();
+    if is_before(reading, before, jump) {
+        let front = front_of(fields);
+        if is_before(reading, after, jump) {
+            return Some(push_once(page, at, &front, nine, before));
+        }
+        return Some(push_twice(page, at, &front, nine, before, after));
+    }
+    if is_before(reading, after, jump) {
+        return push_passed_fields(page, at, zone, fields, nine, jump, before, after);
+    }
+    Some(push_once(page, at, &front_of(fields), nine, after))
+}
+
+/// The end of lines of a segment.
+#[inline(always)]
+fn tail_of<'a>(zone: TimeZoneRef<'_>, tails: &'a [Tail], segment: &Segment) -> &'a Tail
+    requires segment { IsSegmentOf (zone_of zone) segment.now }
+    requires tails { types_of tails.now ≡ numbered_types (zone_of zone) }
+    ensures { IsStretch (zone_of zone.entry) segment.now.from segment.now.until result.now.local_time_type }
+{
+    &tails[segment.number]
+}
+
+/// Answers fields in whose window the clock has two types on the page, if two segments are known to hold it, and gives the end of the answer.
+#[inline(never)]
+pub fn answer_across_jump(
+    page: &mut [u8; 2040],
+    at: usize,
+    kept: &mut Segment,
+    zone: TimeZoneRef<'_>,
+    tails: &[Tail],
+    fields: &Fields,
+    nine: &[u8; 9],
+    low: i64,
+    high: i64,
+) -> Option<usize>
+    requires room { at ≤ 1910 }
+    requires kept { IsSegmentOf (zone_of zone) kept.old }
+    requires tails { types_of tails.now ≡ numbered_types (zone_of zone) }
+    requires valid { IsValid fields.now }
+    requires year { (pos 1000 ≤ℤ fields.now.year) × (fields.now.year ≤ℤ pos 9999) }
+    requires offsets { AreOffsetsOf (zone_of zone) (reading_of fields.now -ℤ high) (reading_of fields.now -ℤ low) }
+    ensures some { (n : ℕ) → n < 1000000000 → nine.now ≡ nine_digits n → IfSome result (λ end. (answer : List (List ℕ)) × IsSearchAnswer (zone_of zone.entry) (record fields.now { nanoseconds = n }) answer × (take end page.new ≡ take at page.old ++ ended answer)) }
+    ensures end { IfSome result (λ end. end ≤ at + 130) }
+    ensures none { IfNone result (page.new ≡ page.old) }
+    ensures kept { IsSegmentOf (zone_of zone.entry) kept.new }
+{
+    if !keep(kept, zone, low) {
+        return None;
+    }
+    let next = segment_at(zone, kept.until)?;
+    if high >= next.until {
+        return None;
+    }
+    let before = tail_of(zone, tails, kept);
+    let after = tail_of(zone, tails, &next);
+    push_around_jump(page, at, zone, fields, nine, kept.until, before, after)
+}
