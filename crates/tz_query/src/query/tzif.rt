@@ -14,6 +14,12 @@ use tz::{TimeZone, TzError};
 /// Answers query bytes over the zone that the bytes of a TZif file denote, as [`answer`](super::answer) does. (RFC 8536)
 ///
 /// Bytes that are no such file are refused as by [`TimeZone::from_tz_data`], before a query is read.
+///
+/// ```rust
+/// pub fn answer_lines(alloc: Global, file: &[u8], lines: &[u8]) -> Result<Vec<u8>, TzError> {
+///     query::answer_tzif(alloc, file, lines)
+/// }
+/// ```
 pub fn answer_tzif<A: Allocator + Copy>(
     alloc: A,
     tz_bytes: &[u8],
