@@ -1,15 +1,15 @@
--- The tables of starts and ends tell what their years tell: which comes first, whether the order changes, and whether they lie in their own years.
-use Rattle.std.proofs.Common.{◌≡◌, inl, inr, ℕ, cond, sym, ap, ◌∙◌, subst, arith, ℤ, pos, negsuc, ◌+ℤ◌, ◌-ℤ◌, ◌<ℤ◌, List}
+-- The tables of starts and ends tell what their years tell: which comes first, and whether the order changes.
+use Rattle.std.proofs.Common.{◌≡◌, inl, inr, ℕ, sym, ap, ◌∙◌, subst, arith, ℤ, pos, negsuc, ◌+ℤ◌, ◌-ℤ◌, ◌<ℤ◌, List}
 use Rattle.std.proofs.lemmas.Int.{ints}
 use Rattle.std.proofs.lemmas.List.FromFn.{length-map-range_with_len, get_or-map-range_with_len}
 use Rattle.tz_base.specs.Days.{is_leap}
-use Rattle.tz_base.proofs.DayLemmas.{first_day-next, year_length-is}
-use Rattle.tz_rule.specs.Alternate.{AlternateTime, start_of, end_of, IsInRuleRange, IsConsistentRule, AreRuleDays, IsInOwnYear, HasInnerChanges}
+use Rattle.tz_base.proofs.DayLemmas.{first_day-next}
+use Rattle.tz_rule.specs.Alternate.{AlternateTime, start_of, end_of, IsInRuleRange, IsConsistentRule, AreRuleDays}
 use Rattle.tz_rule.specs.Day.{IsRuleDay}
 use Rattle.tz_rule.specs.Kinds.{year_kind, is_leap_kind, week_day_of_kind, first_kind, IsPairOf}
 use Rattle.tz_rule.specs.Places.{place_in_year}
 use Rattle.tz_rule.specs.Years.{IsConflict, IsInconsistent}
-use Rattle.tz_rule.specs.YearTables.{IsTableOf, entry, next_entry, seconds_in_kind, day_table, start_table, end_table, ComesFirst, ComesBeforeNext, ComesAfterNext, StaysInYears, ChangesOrder}
+use Rattle.tz_rule.specs.YearTables.{IsTableOf, entry, next_entry, seconds_in_kind, day_table, start_table, end_table, ComesFirst, ComesBeforeNext, ComesAfterNext, ChangesOrder}
 use Rattle.tz_rule.specs.declared.timezone.rule_day.RuleDay.{RuleDay}
 use Rattle.tz_rule.proofs.PairKinds.{year_kind-below, year_kind-leap, year_kind-week_day, pair_of, pair_occurs, kind_occurs}
 use Rattle.tz_rule.proofs.YearlyInstants.{IsYearly, place_of, local_instant, local_instant-is, IsYearly-start_of, IsYearly-end_of, consistent_from_near}
@@ -61,31 +61,6 @@ module _ (f g : ℤ → ℤ) (a b : List ℤ) (ta : IsTableOf f a) (tb : IsTable
 
   comes_after_next-from : (y : ℤ) → g (y +ℤ pos 1) <ℤ f y → ComesAfterNext a b
   comes_after_next-from y h = let pair = pair_of y in (pair.0, pair.1.below, omega (arith, ints, pair_entries y pair.0 pair.1))
-
--- instants lie in their own years exactly where the entries do
-
-stays_in_year : (f : ℤ → ℤ) (a : List ℤ) → IsTableOf f a → StaysInYears a → (y : ℤ) → IsInOwnYear f y
-stays_in_year f a ta stays y =
-    let inside = stays (year_kind y) (year_kind-below y) in
-    let days = year_length-is y ∙ ap (λ b. cond b 366 365) (sym (year_kind-leap y)) in
-    (omega (arith, ints, ta.entries y, inside.0), omega (arith, ints, ta.entries y, inside.1, first_day-next y, days))
-
-stays_by_years : (f : ℤ → ℤ) (a : List ℤ) → IsTableOf f a → ((y : ℤ) → IsInOwnYear f y) → StaysInYears a
-stays_by_years f a ta own kind below =
-    let occurs = kind_occurs kind below in
-    let y = occurs.0 in
-    let same = ap (entry a) occurs.1 in
-    let days = year_length-is y ∙ ap (λ b. cond b 366 365) (sym (year_kind-leap y) ∙ ap is_leap_kind occurs.1) in
-    (omega (arith, ints, ta.entries y, same, (own y).0), omega (arith, ints, ta.entries y, same, (own y).1, first_day-next y, days))
-
-pub inner_changes_by_tables : (r : AlternateTime) (a b : List ℤ) → IsTableOf (start_of r) a → IsTableOf (end_of r) b → StaysInYears a → StaysInYears b → HasInnerChanges r
-inner_changes_by_tables r a b ta tb start end = record { starts = stays_in_year (start_of r) a ta start; ends = stays_in_year (end_of r) b tb end }
-
-pub no_inner_changes_by_starts : (r : AlternateTime) (a : List ℤ) → IsTableOf (start_of r) a → ¬ StaysInYears a → ¬ HasInnerChanges r
-no_inner_changes_by_starts r a ta none has = none (stays_by_years (start_of r) a ta has.starts)
-
-pub no_inner_changes_by_ends : (r : AlternateTime) (b : List ℤ) → IsTableOf (end_of r) b → ¬ StaysInYears b → ¬ HasInnerChanges r
-no_inner_changes_by_ends r b tb none has = none (stays_by_years (end_of r) b tb has.ends)
 
 -- the order changes exactly where the tables say so
 

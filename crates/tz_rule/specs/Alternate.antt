@@ -82,15 +82,6 @@ IsInRuleYears u = (year : ℤ) × IsUtcYear u year × IsRuleYear year
 abbrev pub IsNearYear : ℤ → ℤ → Type 0
 IsNearYear u year = ((pos 86400 *ℤ first_day year) <ℤ (u +ℤ pos 864000)) × (u <ℤ (pos 86400 *ℤ first_day (year +ℤ pos 1) +ℤ pos 864000))
 
--- in its own year in UTC
-abbrev pub IsInOwnYear : (ℤ → ℤ) → ℤ → Type 0
-IsInOwnYear instants year = IsUtcYear (instants year) year
-
--- each start and each end lies in its own year in UTC
-pub record HasInnerChanges (r : AlternateTime) : Type 0 where
-  pub starts : (year : ℤ) → IsInOwnYear (start_of r) year
-  pub ends : (year : ℤ) → IsInOwnYear (end_of r) year
-
 -- the type of an alternate rule at an instant
 abbrev pub IsAlternateType : AlternateTime → ℤ → LocalTimeType → Type 0
 IsAlternateType r u t = (IsDaylight (start_of r) (end_of r) u × (t ≡ r.dst)) ⊎ (¬ IsDaylight (start_of r) (end_of r) u × (t ≡ r.std))

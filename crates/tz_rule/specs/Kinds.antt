@@ -22,10 +22,6 @@ is_leap_kind kind = nat_le 7 kind
 abbrev pub week_day_of_kind : ℕ → ℕ
 week_day_of_kind kind = kind % 7
 
--- how many days they have
-abbrev pub days_of_kind : ℕ → ℕ
-days_of_kind kind = (if is_leap_kind kind then 366 else 365)
-
 -- Two years that follow one another are of one of 21 pair kinds, each for the seven week days of the first year's January 1st:
 -- from 0 neither is leap, from 7 the second is, and from 14 the first is.
 

@@ -1,9 +1,9 @@
 -- Tables of the fourteen kinds of years: for each kind, how many seconds after 00:00 UTC of January 1st an instant of the year lies.
-use Rattle.std.specs.Prelude.{◌≡◌, ◌⊎◌, ℕ, ◌*◌, ◌<◌, ℤ, pos, ◌+ℤ◌, ◌-ℤ◌, ◌*ℤ◌, ◌≤ℤ◌, ◌<ℤ◌, List, length, map, slice_index_or}
+use Rattle.std.specs.Prelude.{◌≡◌, ◌⊎◌, ℕ, ◌*◌, ◌<◌, ℤ, pos, ◌+ℤ◌, ◌-ℤ◌, ◌*ℤ◌, ◌<ℤ◌, List, length, map, slice_index_or}
 use Rattle.std.specs.List.{range_with_len}
 use Rattle.tz_base.specs.Days.{first_day}
 use Rattle.tz_rule.specs.Alternate.{AlternateTime}
-use Rattle.tz_rule.specs.Kinds.{year_kind, is_leap_kind, week_day_of_kind, days_of_kind, first_kind, second_kind, first_days}
+use Rattle.tz_rule.specs.Kinds.{year_kind, is_leap_kind, week_day_of_kind, first_kind, second_kind, first_days}
 use Rattle.tz_rule.specs.Places.{place_in_year}
 use Rattle.tz_rule.specs.declared.timezone.rule_day.RuleDay.{RuleDay}
 
@@ -29,10 +29,6 @@ start_table r = day_table r.dst_start (r.dst_start_time -ℤ r.std.ut_offset)
 
 unfoldable pub end_table : AlternateTime → List ℤ
 end_table r = day_table r.dst_end (r.dst_end_time -ℤ r.dst.ut_offset)
-
--- in the years of each kind the instant lies in its own year
-abbrev pub StaysInYears : List ℤ → Type 0
-StaysInYears a = (kind : ℕ) → kind < 14 → (pos 0 ≤ℤ entry a kind) × (entry a kind <ℤ pos (86400 * days_of_kind kind))
 
 -- in the years of some kind the first instant comes before the second
 abbrev pub ComesFirst : List ℤ → List ℤ → Type 0

@@ -1,7 +1,7 @@
 //! For the crates above, not part of the public surface: the type of a rule at an instant and around it, its starts and ends, and the parts of UTC's zone.
 
-ghost use Rattle.std.specs.Prelude.{◌≡◌, ◌≤ℤ◌, ◌<ℤ◌, IfOk, IfErr, IfSome, MatchBool};
-ghost use Rattle.tz_rule.specs.Alternate.{start_of, end_of, IsNearYear, HasInnerChanges};
+ghost use Rattle.std.specs.Prelude.{◌≡◌, ◌≤ℤ◌, ◌<ℤ◌, IfOk, IfErr, IfSome};
+ghost use Rattle.tz_rule.specs.Alternate.{start_of, end_of, IsNearYear};
 ghost use Rattle.tz_rule.specs.LocalTimeType.{LocalTimeType};
 ghost use Rattle.tz_rule.specs.Rule.{IsRuleType};
 ghost use Rattle.tz_rule.specs.Stretches.{IsStretchOf};
@@ -40,13 +40,6 @@ pub fn end(rule: &AlternateTime, year: i32) -> i64
     ensures bound { IsNearYear result year }
 {
     rule.end_in(year)
-}
-
-/// Whether each start and each end of daylight saving time lies in its own year in UTC. This is a test of 28 entries, to be made once.
-pub fn has_inner_changes(rule: &AlternateTime) -> bool
-    ensures { MatchBool result (HasInnerChanges rule.now) (¬ HasInnerChanges rule.now) }
-{
-    rule.has_inner_changes()
 }
 
 /// A stretch in which the instant lies. Some instants that have a type are given none.

@@ -3,7 +3,7 @@
 ghost use Rattle.std.specs.Prelude.{◌≡◌, ◌<◌, ℤ, pos, negsuc, ◌-ℤ◌, ◌*ℤ◌, ◌≤ℤ◌, OnOk, IfOk, IfErr, IfSome, IfNone, MatchBool};
 ghost use Rattle.tz_base.specs.Days.{first_day};
 ghost use Rattle.tz_rule.specs.Kinds.{year_kind};
-ghost use Rattle.tz_rule.specs.Alternate.{start_of, end_of, alternate_of, IsInRuleRange, IsFirstRuleFault, IsConsistentRule, AreRuleDays, IsNearYear, IsInRuleYears, HasInnerChanges, IsAlternateType};
+ghost use Rattle.tz_rule.specs.Alternate.{start_of, end_of, alternate_of, IsInRuleRange, IsFirstRuleFault, IsConsistentRule, AreRuleDays, IsNearYear, IsInRuleYears, IsAlternateType};
 ghost use Rattle.tz_rule.specs.Years.{IsConflict, IsInconsistent, EndsNextYear};
 
 use super::check::Parts;
@@ -199,13 +199,6 @@ impl AlternateTime {
         self.parts_are_sound();
         let (start_of_year, kind) = year_start(year);
         start_of_year + self.end_in_kind(kind)
-    }
-
-    /// Whether each start and each end lies in its own year in UTC.
-    pub(crate) fn has_inner_changes(&self) -> bool
-        ensures { MatchBool result (HasInnerChanges self.now) (¬ HasInnerChanges self.now) }
-    {
-        self.starts.stays_in_years() && self.ends.stays_in_years()
     }
 
     /// Whether each start has the end of the next year.

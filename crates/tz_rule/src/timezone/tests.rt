@@ -357,11 +357,6 @@ fn days_ends_and_rules(rt: HostRuntime) {
     assert_eq!(rt; inner::start(&auckland, 2000), 970_322_400);
     assert_eq!(rt; inner::end(&auckland, 2000), 953_384_400);
     assert!(rt; auckland.ends_next_year());
-    assert!(rt; inner::has_inner_changes(&auckland));
-    let Ok(all_year) = all_year() else {
-        panic!(rt; "refused");
-    };
-    assert!(rt; !inner::has_inner_changes(&all_year));
 
     let fixed = TransitionRule::Fixed(*auckland.std());
     assert_eq!(rt; fixed, fixed);

@@ -3,7 +3,7 @@
 ghost use Rattle.std.specs.Prelude.{◌≡◌, ◌*◌, ◌%◌, ◌^◌, ◌<◌, ◌≤◌, pos, negsuc, ◌+ℤ◌, ◌-ℤ◌, ◌*ℤ◌, ◌≤ℤ◌};
 ghost use Rattle.tz_base.specs.Cycles.{days_of_years};
 ghost use Rattle.tz_base.specs.Days.{is_leap, first_day};
-ghost use Rattle.tz_rule.specs.Kinds.{kind_of as kind_by, days_of_kind as days_of, year_kind, first_kind as first_kind_of, second_kind as second_kind_of, first_days as first_days_of};
+ghost use Rattle.tz_rule.specs.Kinds.{kind_of as kind_by, year_kind, first_kind as first_kind_of, second_kind as second_kind_of, first_days as first_days_of};
 
 use tz_base::constants::SECONDS_PER_DAY;
 
@@ -99,14 +99,6 @@ pub(super) fn year_start(year: i32) -> (i64, usize)
     ensures below { result.1 < 14 }
 {
     moved_year_start(moved_year(year))
-}
-
-/// How many days the years of a kind have.
-pub(super) fn days_of_kind(kind: usize) -> u16
-    ensures value { result ≡ days_of kind }
-    ensures bound { result ≤ 366 }
-{
-    if kind >= 7 { 366 } else { 365 }
 }
 
 /// The kind of the first year of a pair kind.

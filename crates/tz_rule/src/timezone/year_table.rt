@@ -2,7 +2,7 @@
 
 ghost use Rattle.std.specs.Prelude.{◌≡◌, ◌<◌, pos, negsuc, ◌≤ℤ◌, MatchBool};
 ghost use Rattle.tz_rule.specs.Day.{IsRuleDay};
-ghost use Rattle.tz_rule.specs.YearTables.{entry, next_entry, seconds_in_kind, day_table, StaysInYears, ComesFirst, ComesBeforeNext, ComesAfterNext, ChangesInYear, ChangesAcrossYears, ChangesOrder};
+ghost use Rattle.tz_rule.specs.YearTables.{entry, next_entry, seconds_in_kind, day_table, ComesFirst, ComesBeforeNext, ComesAfterNext, ChangesInYear, ChangesAcrossYears, ChangesOrder};
 
 use super::RuleDay;
 use super::year_kind::{self, KINDS, PAIR_KINDS};
@@ -53,19 +53,6 @@ impl YearTable {
     {
         let days = year_kind::first_days(pair);
         self.entry(year_kind::second_kind(pair)) + 86_400 * i64::from(days)
-    }
-
-    /// Whether the instant lies in its own year, in every year.
-    pub(super) fn stays_in_years(&self) -> bool
-        ensures { MatchBool result (StaysInYears self.now.0) (¬ StaysInYears self.now.0) }
-    {
-        for kind in 0..KINDS {
-            let seconds = self.entry(kind);
-            if seconds < 0 || seconds >= 86_400 * i64::from(year_kind::days_of_kind(kind)) {
-                return false;
-            }
-        }
-        true
     }
 
     /// Whether the instant comes before the other one in some year.

@@ -1,6 +1,6 @@
 -- By the pairing, and the start and the end of the year.
-use Rattle.std.proofs.Common.{◌≡◌, arith, ℤ, pos, ◌+ℤ◌, ◌*ℤ◌, to_z, of_z}
-use Rattle.std.proofs.lemmas.Int.{ints, to_z-of_z}
+use Rattle.std.proofs.Common.{arith, pos, ◌+ℤ◌, ◌*ℤ◌, to_z, of_z}
+use Rattle.std.proofs.lemmas.Int.{ints}
 use mir.Syntax.{w64}
 use Rattle.tz_base.specs.Days.{first_day}
 use Rattle.tz_rule.specs.Alternate.{start_of, end_of}
