@@ -1,6 +1,6 @@
 //! Where the clock of a zone keeps its type, between one transition and the next and where a rule goes on.
 
-ghost use Rattle.std.specs.Prelude.{◌≡◌, ◌+◌, ◌^◌, ◌<◌, ◌≤ℤ◌, ◌<ℤ◌, [], length, Some, IfSome, if◌then◌else◌};
+ghost use Rattle.std.specs.Prelude.{◌≡◌, ◌+◌, ◌^◌, ◌<◌, ◌≤◌, ◌≤ℤ◌, ◌<ℤ◌, [], length, Some, IfSome, if◌then◌else◌};
 ghost use Rattle.tz_rule.specs.declared.timezone.rule.TransitionRule.TheVariants.{Alternate};
 ghost use Rattle.tz_zone.specs.Clock.{IsLast};
 ghost use Rattle.tz_zone.specs.Segments.{IsLeapSpan, IsSegmentOf, IsRuledFrom};
@@ -117,20 +117,38 @@ fn segment_of_rule(
     }
 }
 
+/// The greatest power of two up to a number.
+#[inline(always)]
+fn power_up_to(number: usize) -> usize
+    requires { 0 < number }
+    ensures { (0 < result) × (result ≤ number) }
+{
+    1 << number.ilog2()
+}
+
 /// The place of the first transition after a leap time, where the last one is after it.
+///
+/// The steps are powers of two, so they depend on the number of the transitions alone.
 #[inline(always)]
 fn place_after(transitions: &[Transition], unix_leap_time: i64) -> usize
     requires { 0 < length transitions.now }
     ensures { result < length transitions.now }
 {
+    let last = transitions.len() - 1;
+    if last == 0 {
+        return 0;
+    }
+    let power = power_up_to(last);
     let mut place = 0;
-    let mut count = transitions.len();
-    while count > 1 {
-        let half = count / 2;
-        if transitions[place + half - 1].unix_leap_time() <= unix_leap_time {
-            place += half;
+    if transitions[last - power].unix_leap_time() <= unix_leap_time {
+        place = last - power + 1;
+    }
+    let mut step = power / 2;
+    while step > 0 {
+        if transitions[place + step - 1].unix_leap_time() <= unix_leap_time {
+            place += step;
         }
-        count -= half;
+        step /= 2;
     }
     place
 }
@@ -227,7 +245,7 @@ fn segment_after(
 }
 
 /// A segment in which the instant lies. Some instants that have a type are given none.
-#[inline]
+#[inline(always)]
 pub fn segment_at(zone: TimeZoneRef<'_>, unix_time: i64) -> Option<Segment>
     ensures of { IfSome result (λ s. IsSegmentOf (zone_of zone.entry) s) }
     ensures within { IfSome result (λ s. (s.from ≤ℤ unix_time) × (unix_time <ℤ s.until)) }

@@ -13,8 +13,8 @@ use std::io::Read;
 use std::rt::Files;
 use tz_base::error::ReadFault;
 
-/// How many bytes are read at once. Time zone files are seldom longer.
-const PIECE: usize = 4096;
+/// How many bytes are read at once. A longer buffer takes longer to clear than a second read of the longest files of time zones.
+const PIECE: usize = 2_000;
 
 /// Reads a piece into the front of the buffer.
 fn read_piece<I: Read>(input: &mut I, buffer: &mut [u8]) -> Result<usize, ReadFault>

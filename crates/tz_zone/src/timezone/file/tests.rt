@@ -94,7 +94,7 @@ fn a_file_of_the_machine_is_read_whole(rt: HostRuntime) -> Result<(), Fail> {
         row.push(byte)?;
     }
     let mut bytes = Vec::new(alloc);
-    for _ in 0..12_000 {
+    for _ in 0..12_001 {
         bytes.extend_from_slice(&row)?;
     }
     assert!(rt; bytes.len() % PIECE != 0);
