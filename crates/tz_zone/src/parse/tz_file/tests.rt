@@ -273,11 +273,9 @@ fn jerusalem_is_read(rt: HostRuntime) -> Result<(), Fail> {
     Ok(())
 }
 
-#[test]
-fn honolulu_is_read(rt: HostRuntime) -> Result<(), Fail> {
-    let bytes = honolulu_v2(rt.alloc())?;
-    let zone = TimeZone::from_tz_data(rt.alloc(), &bytes)?;
-    let transitions = zone.as_ref().transitions();
+/// Holds a zone to the transitions, the types and the rule of Honolulu.
+fn expect_honolulu(rt: &impl Abort, zone: TimeZoneRef<'_>) -> Result<(), Fail> {
+    let transitions = zone.transitions();
     assert_eq!(rt; transitions.len(), 7);
     for (transition, (time, index)) in transitions.iter().zip(&HONOLULU) {
         assert_eq!(rt; *transition, Transition::new(*time, usize::from(*index)));
@@ -286,11 +284,15 @@ fn honolulu_is_read(rt: HostRuntime) -> Result<(), Fail> {
     let now = LocalTimeType::new(-36_000, false, Some(b"HST"))?;
     assert_eq!(rt; *zone.find_local_time_type(-1_156_939_200)?, summer);
     assert_eq!(rt; *zone.find_local_time_type(1_546_300_800)?, now);
-    assert_eq!(rt;
-        *zone.as_ref().extra_rule(),
-        Some(TransitionRule::Fixed(now))
-    );
+    assert_eq!(rt; *zone.extra_rule(), Some(TransitionRule::Fixed(now)));
     Ok(())
+}
+
+#[test]
+fn honolulu_is_read(rt: HostRuntime) -> Result<(), Fail> {
+    let bytes = honolulu_v2(rt.alloc())?;
+    let zone = TimeZone::from_tz_data(rt.alloc(), &bytes)?;
+    expect_honolulu(&rt, zone.as_ref())
 }
 
 #[test]
