@@ -21,7 +21,7 @@ fn read_few_digits(bytes: &[u8], place: usize) -> Option<(u64, usize)>
     if count == 0 {
         return None;
     }
-    if count < 11 || bytes[place + count] == b' ' {
+    if bytes[place + count] == b' ' {
         return Some((number, place + count));
     }
     let (end, number) = dec2flt::read_digits(bytes, place, 0);

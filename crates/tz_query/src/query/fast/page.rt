@@ -57,6 +57,6 @@ pub fn push_line(
 {
     page[at..at + 20].copy_from_slice(front);
     page[at + 20..at + 29].copy_from_slice(nine);
-    page[at + 29..at + 61].copy_from_slice(tail.bytes());
+    page[at + 29..at + 61].copy_from_slice(&tail.bytes());
     at + 29 + tail.len()
 }

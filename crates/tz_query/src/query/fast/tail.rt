@@ -41,10 +41,10 @@ impl Tail {
 
     /// The bytes, with those after the end of the text.
     #[inline(always)]
-    pub fn bytes(&self) -> &[u8; 32]
-        ensures { take self.now.len result.now ≡ end_text self.now.local_time_type }
+    pub fn bytes(&self) -> [u8; 32]
+        ensures { take self.now.len result ≡ end_text self.now.local_time_type }
     {
-        &self.bytes
+        self.bytes
     }
 
     /// How long the text is.

@@ -1,23 +1,22 @@
 -- The digits are those up to the place that was read to.
-use Rattle.std.proofs.Common.{◌≡◌, ◌<◌, ◌≤◌, ◌+◌, length, drop, refl, arith}
+use Rattle.std.proofs.Common.{◌≡◌, ◌<◌, ◌≤◌, ◌+◌, length, drop, refl, inl, inr, arith}
 use Rattle.std.specs.Prelude.{slice_range}
 use Rattle.std.specs.Float.Numeral.{digits_len}
+use Rattle.std.proofs.lemmas.Bool.{cases_lt}
 use Rattle.tz_query.proofs.FastNumbers.{front_at, length_at, value_at, byte_at, few_in_window, end_in_window, end_of_window, value_in_window}
-use Rattle.tz_query.proofs.query.fast.numbers.read_few_digits.Goals.{then-count-lt11-via-then-count-lt11, then-count-lt11-via-else-count-lt11+then-bytes-place-eq32}
 use Rattle.tz_query.proofs.query.fast.numbers.read_few_digits.Goals as goal
 
-pub returns-then-count-lt11-clause-number : goal.returns-then-count-lt11-clause-number
-returns-then-count-lt11-clause-number c =
+pub returns-then-bytes-place-eq32-clause-number : goal.returns-then-bytes-place-eq32-clause-number
+returns-then-bytes-place-eq32-clause-number c =
     let bs = c.args.bytes.now in
     let place = c.args.place in
     let read = c.read_digits-count in
     let k = read.result.0 in
     let few : k ≤ 11 = few_in_window bs place 11 k read.ensures.end (omega (arith, c.requires)) in
     let end_is : place + k ≡ place + digits_len (drop place bs) =
-    elim c.then-count-lt11.branch [
-      | then-count-lt11-via-then-count-lt11 w ↦ end_in_window bs place 11 k read.ensures.end w.if-count-lt11.true
-      | then-count-lt11-via-else-count-lt11+then-bytes-place-eq32 w ↦
-          end_of_window bs place 11 k read.ensures.end 32 (omega (arith, few, w.if-count-lt11.false)) refl (byte_at bs (place + k) 32 (omega (arith, few, c.requires)) w.if-bytes-place-eq32.true)
+    elim (cases_lt k 11) [
+      | inl less ↦ end_in_window bs place 11 k read.ensures.end less
+      | inr full ↦ end_of_window bs place 11 k read.ensures.end 32 (omega (arith, few, full)) refl (byte_at bs (place + k) 32 (omega (arith, few, c.requires)) c.if-bytes-place-eq32.true)
     ] in
     let within : place ≤ length bs = omega (arith, c.requires) in
     let long = length_at bs place (place + k) within end_is in
@@ -25,8 +24,8 @@ returns-then-count-lt11-clause-number c =
     let value = value_at bs place (place + k) within end_is read.result.1 (omega (arith, few)) (value_in_window bs place 11 k read.ensures.end few read.result.1 read.ensures.value) in
     (slice_range bs place (place + k), front_at bs place (place + k) within end_is, some, value.0)
 
-pub returns-then-count-lt11-clause-bound : goal.returns-then-count-lt11-clause-bound
-returns-then-count-lt11-clause-bound c =
+pub returns-then-bytes-place-eq32-clause-bound : goal.returns-then-bytes-place-eq32-clause-bound
+returns-then-bytes-place-eq32-clause-bound c =
     let bs = c.args.bytes.now in
     let place = c.args.place in
     let read = c.read_digits-count in

@@ -17,7 +17,7 @@ returns-clause-text c =
     let written = three_pieces c.args.page.now c.copy_from_slice.new.self c.copy_from_slice-2.new.self c.copy_from_slice-3.new.self at c.len.result room front_len nine_len tail_len c.len.ensures.1 in
     let page = take at c.args.page.now in
     let end = take c.len.result c.copy_from_slice-3.new.self in
-    let end_is : end ≡ end_text c.args.tail.now.local_time_type = ap (take c.len.result) c.copy_from_slice-3.ensures.after ∙ ap (λ n. take n c.bytes.result.now) c.len.ensures.0 ∙ c.bytes.ensures in
+    let end_is : end ≡ end_text c.args.tail.now.local_time_type = ap (take c.len.result) c.copy_from_slice-3.ensures.after ∙ ap (λ n. take n c.bytes.result) c.len.ensures.0 ∙ c.bytes.ensures in
     rw (first, second, third)
     (written
     ∙ ap (λ bytes. page ++ (bytes ++ (c.copy_from_slice-2.new.self ++ end))) c.copy_from_slice.ensures.after
