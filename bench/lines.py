@@ -13,8 +13,8 @@ def year_start(year):
 
 
 def nanoseconds(rng):
-    """Nine digits, and one time in eight fewer."""
-    return rng.choice((0, 0, 7, 500000000)) if rng.randrange(8) == 0 else rng.randrange(10**9)
+    """Nine digits, and one time in eight mostly fewer."""
+    return rng.choice((0, 0, 7, 500000000, rng.randrange(10**6))) if rng.randrange(8) == 0 else rng.randrange(10**9)
 
 
 def search_line(rng, reading):
@@ -27,10 +27,14 @@ def random_instants(rng, count, first=1900, last=2100):
 
 
 def log_instants(rng, count, first=2015, last=2035):
-    """Instants of a log: nearly sorted."""
-    begin, end = year_start(first), year_start(last + 1)
-    step = (end - begin) / (count + 1)
-    return [f'T {min(max(int(begin + step * n + rng.gauss(0, 30)), begin), end - 1)} {nanoseconds(rng)}' for n in range(count)]
+    """Instants of a log: nearly sorted, at distances in no order."""
+    at, end = year_start(first), year_start(last + 1)
+    step = 0.98 * (end - at) / count
+    instants = []
+    for _ in range(count):
+        at += step * rng.expovariate(1)
+        instants.append(f'T {int(min(at + rng.gauss(0, 30), end - 1))} {nanoseconds(rng)}')
+    return instants
 
 
 def random_readings(rng, count, first=1950, last=2037):
@@ -38,12 +42,16 @@ def random_readings(rng, count, first=1950, last=2037):
 
 
 def readings_at_jumps(rng, count, jumps, first=1950, last=2037):
-    """Readings within three hours of a zone's jumps."""
+    """Readings near a zone's jumps: half of them within three hours, half within two seconds."""
     near = [jump for jump in jumps if year_start(first) <= jump[0] < year_start(last + 1)]
     lines = []
     for _ in range(count):
         instant, before, after = rng.choice(near)
-        lines.append(search_line(rng, instant + min(before, after) + rng.randrange(-10800, 10800 + abs(after - before))))
+        if rng.randrange(2):
+            reading = instant + min(before, after) + rng.randrange(-10800, 10800 + abs(after - before))
+        else:
+            reading = instant + rng.choice((before, after)) + rng.randint(-2, 2)
+        lines.append(search_line(rng, reading))
     return lines
 
 

@@ -88,7 +88,7 @@ def main():
     ask.add_argument("--directory", default="/usr/share/zoneinfo")
     ask.add_argument("--cuts", type=int, default=40)
     ask.add_argument("--changes", type=int, default=40)
-    ask.add_argument("--files", type=int, default=0, help="so many files, chosen at random; 0 for all")
+    ask.add_argument("--files", type=int, default=0, help="how many files, chosen at random; 0 for all")
     ask.add_argument("--seed", type=int, default=1)
     ask.add_argument("--show", type=int, default=5, help="how many differences of each kind are shown")
     given = ask.parse_args()

@@ -1,5 +1,5 @@
 #!/usr/bin/env python3
-"""Cuts and changes TZ texts, and compares what tzq and another program with its command line answer over them.
+"""Cuts and changes TZ strings, and compares the answers of tzq and of another program with its command line over them.
 
 usage: altered_texts.py --tzq PATH --other PATH [--show N]
 
@@ -47,7 +47,7 @@ def near(text):
 
 
 def main():
-    ask = argparse.ArgumentParser(description="Compares two programs over altered TZ texts.")
+    ask = argparse.ArgumentParser(description="Compares two programs over altered TZ strings.")
     ask.add_argument("--tzq", required=True)
     ask.add_argument("--other", required=True)
     ask.add_argument("--show", type=int, default=5, help="how many differences of each kind are shown")

@@ -1,4 +1,4 @@
-//! tzq's command line over tz-rs: `-o OFFSET`, `-f FILE` or `-z TEXT`, and `T` and `F` lines on standard input.
+//! tzq's command line over tz-rs: `-o OFFSET`, `-f FILE` or `-z STRING`, and `T` and `F` lines on standard input.
 //!
 //! It answers as tzq does wherever tz-rs does, so that both can be compared and timed on the same lines.
 
@@ -81,7 +81,7 @@ fn answer_search(zone: TimeZoneRef<'_>, parts: [&str; 7], answers: &mut String) 
     })
 }
 
-/// Exactly so many parts, one space apart.
+/// Exactly `N` parts, one space apart.
 fn parts_of<const N: usize>(line: &str) -> Option<[&str; N]> {
     let mut parts = [""; N];
     let mut split = line.split(' ');

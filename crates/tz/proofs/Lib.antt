@@ -1,7 +1,7 @@
 pub mod SlotLemmas
 pub mod WalkLemmas
 pub mod EffectLemmas
-pub mod KindLemmas
+pub mod TypesAfterTransitions
 pub mod WindowLemmas
 pub mod ClockStarts
 pub mod SearchLemmas

@@ -20,19 +20,19 @@ use Rattle.tz.specs.RuleSpans.{IsNearReading, IsSpan, ChangesOnlyAt, IsInView, R
 use Rattle.tz.specs.declared.datetime.found.FoundDateTimeKind.{FoundDateTimeKind}
 use Rattle.tz.specs.declared.datetime.walk.Piece.{Piece}
 use Rattle.tz.specs.declared.datetime.walk.Walk.{Walk}
-use Rattle.tz.proofs.KindLemmas.{alternate_type}
+use Rattle.tz.proofs.TypesAfterTransitions.{alternate_type}
 use Rattle.tz.proofs.RuleYearLemmas.{IsOfYear, answered_from_years, years_from_answered, inner_year_from_answered, unchanged_between, rule_type_stays, years_from_rule_type}
 use Rattle.tz.proofs.SearchLemmas.{step_since, shown_in_window, passed_in_window}
 use Rattle.tz.proofs.WalkLemmas.{walked_on, walked_same, found_from_end, found_from_seen, search_fault_from_step, search_fault_from_seen}
 
 module _ (z : Zone) (low seam start end : ℤ) (f : Fields) (from : ℤ) (w : Walk) (found : List FoundDateTimeKind) (past : IsPastSeam z low seam start end f from w found) where
   -- from one change to the next
-  pub past_change : (rule : TransitionRule) → IsRuledIn z rule start end → (changes : List ℤ) → ChangesOnlyAt rule changes start end → start ≤ℤ from → (kind : Option LocalTimeType) → HoldsAt (IsRuleType rule) from kind →
-      (next : Walk) (new : List FoundDateTimeKind) → IsStep w (record { from = from; kind = kind }) next new →
+  pub past_change : (rule : TransitionRule) → IsRuledIn z rule start end → (changes : List ℤ) → ChangesOnlyAt rule changes start end → start ≤ℤ from → (type : Option LocalTimeType) → HoldsAt (IsRuleType rule) from type →
+      (next : Walk) (new : List FoundDateTimeKind) → IsStep w (record { from = from; local_time_type = type }) next new →
       (after : ℤ) → after ≤ℤ (end +ℤ pos 1) → ((change : ℤ) → Contains changes change → from <ℤ change → change <ℤ after → ⊥) →
       IsPastSeam z low seam start end f after next (found ++ new)
-  past_change rule ruled changes changing start_is kind holds next new step after until none =
-      let piece : Piece = record { from = from; kind = kind } in
+  past_change rule ruled changes changing start_is type holds next new step after until none =
+      let piece : Piece = record { from = from; local_time_type = type } in
       let since = step_since w piece next new step in
       record {
         walked = walked_on (RuleClock z low seam start end) f w found piece next new past.walked step past.holds;
@@ -67,7 +67,7 @@ module _ (z : Zone) (low seam start end : ℤ) (f : Fields) (from : ℤ) (w : Wa
 pub fault_at_seam : (z : Zone) (rule : TransitionRule) (low high : ℤ) (w : Walk) (found : List FoundDateTimeKind) → IsAtSeam z rule low high w found →
     (takes_memory : Type 0) (e : TzError) → IsStepFault takes_memory w (w.since +ℤ pos 1) e → IsSearchFault takes_memory (IsClock z) (reading w.fields) e
 fault_at_seam z rule low high w found at takes_memory e fault =
-    let holds : HoldsFrom (WindowClock z low high) w.since (w.since +ℤ pos 1) w.kind = λ u within t.
+    let holds : HoldsFrom (WindowClock z low high) w.since (w.since +ℤ pos 1) w.local_time_type = λ u within t.
     let same : u ≡ w.since = omega (arith, ints, within.0, within.1) in
     let here = at.holds t in (
       (λ seen. here.0 (subst (λ (v : ℤ). IsClock z v t) same seen.0)),
@@ -82,11 +82,11 @@ ruled_inside z rule seam high start end ruled from until u from_u until_u = rule
 
 -- past the seam the clock is not seen until the first of the instants that count
 pub past_seam : (z : Zone) (rule : TransitionRule) (low high start end : ℤ) (w : Walk) (found : List FoundDateTimeKind) → IsAtSeam z rule low high w found → w.since ≤ℤ start → end ≤ℤ high →
-    (next : Walk) (new : List FoundDateTimeKind) → IsStep w (record { from = w.since +ℤ pos 1; kind = None }) next new →
+    (next : Walk) (new : List FoundDateTimeKind) → IsStep w (record { from = w.since +ℤ pos 1; local_time_type = None }) next new →
     IsPastSeam z low w.since start end w.fields start next (found ++ new)
 past_seam z rule low high start end w found at start_is end_is next new step =
     let clock = RuleClock z low w.since start end in
-    let gap : Piece = record { from = w.since +ℤ pos 1; kind = None } in
+    let gap : Piece = record { from = w.since +ℤ pos 1; local_time_type = None } in
     let since = step_since w gap next new step in
     let walked = walked_same (WindowClock z low high) clock w.fields w found at.walked (λ u t early. (
       (λ seen. (seen.0, inl (seen.1.0, omega (arith, ints, early)))),
@@ -95,7 +95,7 @@ past_seam z rule low high start end w found at start_is end_is next new step =
         | inr after ↦ absurd (omega (arith, ints, after.0, start_is, early))
       ]),
     )) in
-    let here : HoldsFrom clock w.since (w.since +ℤ pos 1) w.kind = λ u within t.
+    let here : HoldsFrom clock w.since (w.since +ℤ pos 1) w.local_time_type = λ u within t.
     let same : u ≡ w.since = omega (arith, ints, within.0, within.1) in
     let holds = at.holds t in (
       (λ seen. holds.0 (subst (λ (v : ℤ). IsClock z v t) same seen.0)),

@@ -11,14 +11,14 @@ use Rattle.tz_base.specs.Fields.{reading}
 use Rattle.tz_rule.specs.LocalTimeType.{LocalTimeType}
 use Rattle.tz_rule.specs.declared.timezone.rule.TransitionRule.{TransitionRule}
 use Rattle.tz_zone.specs.Table.{Transition, Zone}
-use Rattle.tz_zone.specs.LeapTime.{IsInstant, IsBeforeStart, IsLeapTime, HasComeTo}
+use Rattle.tz_zone.specs.LeapTime.{IsInstant, IsBeforeStart, IsLeapTime, IsTimeReached}
 use Rattle.tz_zone.specs.Clock.{AreReached, IsClock}
 use Rattle.tz_zone.specs.ValidZone.{IsSoundTable}
 use Rattle.tz_zone.proofs.LeapTimes.{IsInstant-from_bounds, instant_bounds, begun_later, leap_time_mono}
 use Rattle.tz_zone.proofs.RisingTimes.{Rise, transitions_rise}
 use Rattle.tz.specs.Found.{Shows, PassesOver, IsFoundBy, IsFound, instant_of}
 use Rattle.tz.specs.Walks.{IsSearchFault, HoldsFrom, IsFrom, IsStep, IsStepFault, IsWalk, IsWalked}
-use Rattle.tz.specs.Reached.{IsWithinReach, IsReachedAt, IsSteadyAfter, IsKindOf, IsDue, IsPieceOf, IsWindowOf, IsInWindow, WindowClock, IsOnTheWay}
+use Rattle.tz.specs.Reached.{IsWithinReach, IsReachedAt, IsSteadyAfter, HoldsAfter, IsDue, IsPieceOf, IsWindowOf, IsInWindow, WindowClock, IsOnTheWay}
 use Rattle.tz.specs.RuleSpans.{IsRuledIn, IsAtSeam}
 use Rattle.tz.specs.Windows.{TakesEffectIn}
 use Rattle.tz.specs.declared.datetime.found.FoundDateTimeKind.{FoundDateTimeKind}
@@ -26,7 +26,7 @@ use Rattle.tz.specs.declared.datetime.found.FoundDateTimeKind.TheVariants.{Norma
 use Rattle.tz.specs.declared.datetime.walk.Piece.{Piece}
 use Rattle.tz.specs.declared.datetime.walk.Walk.{Walk}
 use Rattle.tz.proofs.EffectLemmas.{leap_exists, leap_time_is_instant}
-use Rattle.tz.proofs.KindLemmas.{no_change, clock_of_rule}
+use Rattle.tz.proofs.TypesAfterTransitions.{no_change, clock_of_rule}
 use Rattle.tz.proofs.WalkLemmas.{walked_on, walked_from_start, found_from_end, found_from_seen, search_fault_from_step, search_fault_from_seen}
 
 pub instant_within_reach : (u : ℤ) → IsWithinReach u → IsInstant u
@@ -39,15 +39,15 @@ on_the_way_of z low low' high f f' place w found low_is f_is way =
 
 -- a step does not go back, and comes to the piece
 pub step_since : (w : Walk) (piece : Piece) (next : Walk) (new : List FoundDateTimeKind) → IsStep w piece next new →
-    (w.since ≤ℤ next.since) × (piece.from ≤ℤ next.since) × ((next.since ≡ w.since) ⊎ (next.since ≡ piece.from)) × (next.kind ≡ piece.kind)
+    (w.since ≤ℤ next.since) × (piece.from ≤ℤ next.since) × ((next.since ≡ w.since) ⊎ (next.since ≡ piece.from)) × (next.local_time_type ≡ piece.local_time_type)
 step_since w piece next new (inl (early, is, none)) =
     let since : next.since ≡ w.since = ap (λ (x : Walk). x.since) is in
-    let kind : next.kind ≡ piece.kind = ap (λ (x : Walk). x.kind) is in
-    (omega (arith, ints, since), omega (arith, ints, since, early), inl since, kind)
+    let type_is : next.local_time_type ≡ piece.local_time_type = ap (λ (x : Walk). x.local_time_type) is in
+    (omega (arith, ints, since), omega (arith, ints, since, early), inl since, type_is)
 step_since w piece next new (inr (late, is, given)) =
     let since : next.since ≡ piece.from = ap (λ (x : Walk). x.since) is in
-    let kind : next.kind ≡ piece.kind = ap (λ (x : Walk). x.kind) is in
-    (omega (arith, ints, since, late), omega (arith, ints, since), inr since, kind)
+    let type_is : next.local_time_type ≡ piece.local_time_type = ap (λ (x : Walk). x.local_time_type) is in
+    (omega (arith, ints, since, late), omega (arith, ints, since), inr since, type_is)
 
 -- what the clock shows at the reading lies in its window
 pub shown_in_window : (z : Zone) (r low high : ℤ) → IsWindowOf z r low high → (u : ℤ) (t : LocalTimeType) → Shows (IsClock z) r u t → IsInWindow low high u
@@ -68,74 +68,74 @@ module _ (z : Zone) (sound : IsSoundTable z) where
   rise : Rise (λ (c : Transition). c.unix_leap_time) z.transitions
   rise = transitions_rise z.transitions (λ i. (sound.transitions_are i).1)
 
-  -- what has come stays so
-  come_stays : (v u w : ℤ) → u ≤ℤ w → w ≤ℤ pos 80000000000000000 → HasComeTo z.leap_seconds v u → HasComeTo z.leap_seconds v w
-  come_stays v u w h reach (l, leap, come) =
+  -- what is reached stays so
+  reached_stays : (v u w : ℤ) → u ≤ℤ w → w ≤ℤ pos 80000000000000000 → IsTimeReached z.leap_seconds v u → IsTimeReached z.leap_seconds v w
+  reached_stays v u w h reach (l, leap, reached) =
       let begun = begun_later z.leap_seconds sound.leap_seconds_are u w h (λ before. leap.not_refused (inl before)) in
       let next = leap_exists z.leap_seconds sound.leap_seconds_are w begun reach in
-      (next.0, next.1, omega (arith, ints, come, leap_time_mono z.leap_seconds sound.leap_seconds_are u w l next.0 h leap next.1))
+      (next.0, next.1, omega (arith, ints, reached, leap_time_mono z.leap_seconds sound.leap_seconds_are u w l next.0 h leap next.1))
 
   -- the transitions past an instant take effect within reach
   pub due_past : (low high l : ℤ) (reached place : ℕ) → IsWithinReach low → IsWithinReach high → IsReachedAt z low reached → IsLeapTime z.leap_seconds high l → reached ≤ place → IsDue z place l
   due_past low high l reached place reach_low reach_high at_low leap from = (
     (high, instant_within_reach high reach_high, leap),
     λ change at e.
-        let start = at_low.later place change from at in
+        let start = at_low.ahead place change from at in
         let time = instant_bounds at_low.time (leap_time_is_instant z.leap_seconds sound.leap_seconds_are low at_low.time (instant_within_reach low reach_low) at_low.time_is) in
         omega (arith, ints, start, time.0, e),
   )
 
-  -- the front of the window does not come after its end
+  -- what is reached at the front of the window is at its end
   pub reached_later : (low high l : ℤ) (reached : ℕ) → low ≤ℤ high → high ≤ℤ pos 80000000000000000 → IsReachedAt z low reached → IsLeapTime z.leap_seconds high l → AreReached z.transitions l reached
   reached_later low high l reached order reach at_low leap i change before at =
-      omega (arith, ints, at_low.come i change before at, leap_time_mono z.leap_seconds sound.leap_seconds_are low high at_low.time l order at_low.time_is leap)
+      omega (arith, ints, at_low.reached i change before at, leap_time_mono z.leap_seconds sound.leap_seconds_are low high at_low.time l order at_low.time_is leap)
 
-  -- so many have come from where they have all come until the next one does
+  -- so many are reached from where they all are until the next one is
   reached_between : (place : ℕ) (since u : ℤ) → ¬ IsBeforeStart z.leap_seconds since → since ≤ℤ u → u ≤ℤ pos 80000000000000000 →
-      ((i : ℕ) (change : Transition) → i < place → slice_get z.transitions i ≡ Some change → HasComeTo z.leap_seconds change.unix_leap_time since) →
+      ((i : ℕ) (change : Transition) → i < place → slice_get z.transitions i ≡ Some change → IsTimeReached z.leap_seconds change.unix_leap_time since) →
       ((i : ℕ) (change : Transition) → place ≤ i → slice_get z.transitions i ≡ Some change → (l : ℤ) → IsLeapTime z.leap_seconds u l → l <ℤ change.unix_leap_time) →
       IsReachedAt z u place
-  reached_between place since u begun h reach come later =
+  reached_between place since u begun h reach reached ahead =
       let leap = leap_exists z.leap_seconds sound.leap_seconds_are u (begun_later z.leap_seconds sound.leap_seconds_are since u h begun) reach in
       record {
         time = leap.0;
         time_is = leap.1;
-        come = λ i change less at.
-            let was = come i change less at in
+        reached = λ i change less at.
+            let was = reached i change less at in
             omega (arith, ints, was.2, leap_time_mono z.leap_seconds sound.leap_seconds_are since u was.0 leap.0 h was.1 leap.1);
-        later = λ i change more at. later i change more at leap.0 leap.1;
+        ahead = λ i change more at. ahead i change more at leap.0 leap.1;
       }
 
   module _ (low high : ℤ) (f : Fields) where
-    pub on_the_way_from_start : (reached : ℕ) (w : Walk) → low ≤ℤ pos 80000000000000000 → IsReachedAt z low reached → IsWalk f w → w.before ≡ None → w.since ≡ low → IsKindOf z reached w.since w.kind → low ≤ℤ high → IsOnTheWay z low high f reached w []
-    on_the_way_from_start reached w reach at_low walk before since kind order = record {
+    pub on_the_way_from_start : (place : ℕ) (w : Walk) → low ≤ℤ pos 80000000000000000 → IsReachedAt z low place → IsWalk f w → w.before ≡ None → w.since ≡ low → HoldsAfter z place w.since w.local_time_type → low ≤ℤ high → IsOnTheWay z low high f place w []
+    on_the_way_from_start place w reach at_low walk before since holds order = record {
       walked = walked_from_start (WindowClock z low high) f w walk before (λ u t at. omega (arith, ints, since, at.1.0));
-      kind = kind;
-      come = λ i change less at. subst (λ (u : ℤ). HasComeTo z.leap_seconds change.unix_leap_time u) (sym since) (at_low.time, at_low.time_is, at_low.come i change less at);
+      holds = holds;
+      reached = λ i change less at. subst (λ (u : ℤ). IsTimeReached z.leap_seconds change.unix_leap_time u) (sym since) (at_low.time, at_low.time_is, at_low.reached i change less at);
       begun = subst (λ (u : ℤ). ¬ IsBeforeStart z.leap_seconds u) (sym since) (λ before. at_low.time_is.not_refused (inl before));
       low_is = omega (arith, ints, since);
       high_is = omega (arith, ints, since, order);
-      not_before = λ i change from at u (l, leap, come). by_lt_z u low
-          (λ early. absurd (omega (arith, ints, leap_time_mono z.leap_seconds sound.leap_seconds_are u low l at_low.time (omega (arith, ints, early)) leap at_low.time_is, at_low.later i change from at, come)))
+      not_before = λ i change from at u (l, leap, reached). by_lt_z u low
+          (λ early. absurd (omega (arith, ints, leap_time_mono z.leap_seconds sound.leap_seconds_are u low l at_low.time (omega (arith, ints, early)) leap at_low.time_is, at_low.ahead i change from at, reached)))
           (λ from_low. omega (arith, ints, since, from_low));
     }
 
     module _ (reach : high ≤ℤ pos 80000000000000000) (place : ℕ) (w : Walk) (found : List FoundDateTimeKind) (way : IsOnTheWay z low high f place w found) where
-      -- the clock has the last piece's type where so many have come
+      -- the clock has the last piece's type where so many are reached
       holds_from : (until : ℤ) → until ≤ℤ (high +ℤ pos 1) →
           ((u : ℤ) → IsFrom w.since until u → (i : ℕ) (change : Transition) → place ≤ i → slice_get z.transitions i ≡ Some change → (l : ℤ) → IsLeapTime z.leap_seconds u l → l <ℤ change.unix_leap_time) →
           ((u : ℤ) → IsFrom w.since until u → IsSteadyAfter z place) →
-          HoldsFrom (WindowClock z low high) w.since until w.kind
+          HoldsFrom (WindowClock z low high) w.since until w.local_time_type
       holds_from until within_high later steady u within t =
-          let reached = reached_between place w.since u way.begun within.0 (omega (arith, ints, within.1, within_high, reach)) way.come (later u within) in
-          let kind = way.kind u reached (inl (steady u within)) t in
+          let reached = reached_between place w.since u way.begun within.0 (omega (arith, ints, within.1, within_high, reach)) way.reached (later u within) in
+          let holds = way.holds u reached (inl (steady u within)) t in
           let low_is : low ≤ℤ u = omega (arith, ints, way.low_is, within.0) in
           let high_is : u ≤ℤ high = omega (arith, ints, within.1, within_high) in
-          ((λ seen. kind.0 seen.0), (λ e. (kind.1 e, (low_is, high_is))))
+          ((λ seen. holds.0 seen.0), (λ e. (holds.1 e, (low_is, high_is))))
 
       -- up to where the next transition takes effect
-      pub holds_to_next : (piece : Piece) → IsPieceOf z place piece → piece.from ≤ℤ high → HoldsFrom (WindowClock z low high) w.since piece.from w.kind
-      holds_to_next piece ((change, at, effect), kind) from_high =
+      pub holds_to_next : (piece : Piece) → IsPieceOf z place piece → piece.from ≤ℤ high → HoldsFrom (WindowClock z low high) w.since piece.from w.local_time_type
+      holds_to_next piece ((change, at, effect), holds) from_high =
           holds_from piece.from (omega (arith, ints, from_high)) later (λ u within. inl (omega (arith, slice_get_within z.transitions place change at)))
         where
           later : (u : ℤ) → IsFrom w.since piece.from u → (i : ℕ) (other : Transition) → place ≤ i → slice_get z.transitions i ≡ Some other → (l : ℤ) → IsLeapTime z.leap_seconds u l → l <ℤ other.unix_leap_time
@@ -147,42 +147,42 @@ module _ (z : Zone) (sound : IsSoundTable z) where
                     let here : i ≡ place = omega arith in
                     omega (arith, ints, ap (λ (c : Transition). c.unix_leap_time) (same_Some change other (sym at ∙ ap (slice_get z.transitions) (sym here) ∙ at_i)))
               ] in
-              let come_here : change.unix_leap_time ≤ℤ l = omega (arith, ints, time, not_less) in
-              absurd (omega (arith, ints, within.1, effect.least u (l, leap, come_here))))
+              let reached_here : change.unix_leap_time ≤ℤ l = omega (arith, ints, time, not_less) in
+              absurd (omega (arith, ints, within.1, effect.least u (l, leap, reached_here))))
 
       -- a transition that is reached at the end of the window takes effect up to there
       pub from_in_window : (l : ℤ) → IsLeapTime z.leap_seconds high l → AreReached z.transitions l (place + 1) → (piece : Piece) → IsPieceOf z place piece → piece.from ≤ℤ high
-      from_in_window l leap come piece ((change, at, effect), kind) = effect.least high (l, leap, come place change (omega arith) at)
+      from_in_window l leap reached piece ((change, at, effect), holds) = effect.least high (l, leap, reached place change (omega arith) at)
 
       -- the next transition takes effect in the window
       pub effect_in_window : (piece : Piece) → IsPieceOf z place piece → piece.from ≤ℤ high → TakesEffectIn z low high place
-      effect_in_window piece ((change, at, effect), kind) from_high =
-          (change, piece.from, at, effect, omega (arith, ints, way.low_is, way.not_before place change (omega arith) at piece.from effect.has_come), from_high)
+      effect_in_window piece ((change, at, effect), holds) from_high =
+          (change, piece.from, at, effect, omega (arith, ints, way.low_is, way.not_before place change (omega arith) at piece.from effect.reached), from_high)
 
       pub on_the_way_past : (piece : Piece) (next : Walk) (new : List FoundDateTimeKind) → IsPieceOf z place piece → piece.from ≤ℤ high → IsStep w piece next new → IsOnTheWay z low high f (place + 1) next (found ++ new)
-      on_the_way_past piece next new ((change, at, effect), kind) from_high step =
+      on_the_way_past piece next new ((change, at, effect), holds) from_high step =
           let since = step_since w piece next new step in
           let high_is : next.since ≤ℤ high = elim since.2 [ inl e ↦ omega (arith, ints, e, way.high_is) | inr e ↦ omega (arith, ints, e, from_high) ] in
           let reach_is : next.since ≤ℤ pos 80000000000000000 = omega (arith, ints, high_is, reach) in
-          let not_early : w.since ≤ℤ piece.from = way.not_before place change (omega arith) at piece.from effect.has_come in
+          let not_early : w.since ≤ℤ piece.from = way.not_before place change (omega arith) at piece.from effect.reached in
           let since_is : piece.from ≡ next.since = elim since.2 [ inl e ↦ omega (arith, ints, e, not_early, since.1) | inr e ↦ sym e ] in
           record {
-            walked = walked_on (WindowClock z low high) f w found piece next new way.walked step (holds_to_next piece ((change, at, effect), kind) from_high);
-            kind = subst (λ (v : ℤ). IsKindOf z (place + 1) v next.kind) since_is (subst (λ (k : Option LocalTimeType). IsKindOf z (place + 1) piece.from k) (sym since.3) kind);
-            come = λ i other less at_i. elim (cases_lt i place) [
-              | inl before ↦ come_stays other.unix_leap_time w.since next.since since.0 reach_is (way.come i other before at_i)
+            walked = walked_on (WindowClock z low high) f w found piece next new way.walked step (holds_to_next piece ((change, at, effect), holds) from_high);
+            holds = subst (λ (v : ℤ). HoldsAfter z (place + 1) v next.local_time_type) since_is (subst (λ (k : Option LocalTimeType). HoldsAfter z (place + 1) piece.from k) (sym since.3) holds);
+            reached = λ i other less at_i. elim (cases_lt i place) [
+              | inl before ↦ reached_stays other.unix_leap_time w.since next.since since.0 reach_is (way.reached i other before at_i)
               | inr not_before ↦
                   let here : i ≡ place = omega arith in
                   let same : change ≡ other = same_Some change other (sym at ∙ ap (slice_get z.transitions) (sym here) ∙ at_i) in
-                  subst (λ (c : Transition). HasComeTo z.leap_seconds c.unix_leap_time next.since) same (come_stays change.unix_leap_time piece.from next.since since.1 reach_is effect.has_come)
+                  subst (λ (c : Transition). IsTimeReached z.leap_seconds c.unix_leap_time next.since) same (reached_stays change.unix_leap_time piece.from next.since since.1 reach_is effect.reached)
             ];
             begun = begun_later z.leap_seconds sound.leap_seconds_are w.since next.since since.0 way.begun;
             low_is = omega (arith, ints, way.low_is, since.0);
             high_is = high_is;
-            not_before = λ i other more at_i u (l, leap, come_i).
+            not_before = λ i other more at_i u (l, leap, reached_i).
                 let time = rise place i change other (omega (arith, more)) at at_i in
-                let come_here : change.unix_leap_time ≤ℤ l = omega (arith, ints, time, come_i) in
-                omega (arith, ints, since_is, effect.least u (l, leap, come_here));
+                let reached_here : change.unix_leap_time ≤ℤ l = omega (arith, ints, time, reached_i) in
+                omega (arith, ints, since_is, effect.least u (l, leap, reached_here));
           }
 
       -- a step to the next transition is refused for what the clock has
@@ -191,68 +191,68 @@ module _ (z : Zone) (sound : IsSoundTable z) where
           search_fault_from_seen (IsClock z) (IsInWindow low high) takes_memory (reading f) e
           (search_fault_from_step (WindowClock z low high) f w found way.walked piece.from (holds_to_next piece is from_high) takes_memory e fault)
 
-      -- where all transitions have come, the clock is that of the rule from the last piece on
+      -- where all transitions are reached, the clock is that of the rule from the last piece on
       ruled_from_seam : length z.transitions ≤ place → (rule : TransitionRule) → z.extra_rule ≡ Some rule → IsRuledIn z rule w.since high
       ruled_from_seam all rule is u from until =
-          let reached = reached_between place w.since u way.begun from (omega (arith, ints, until, reach)) way.come (λ i other more at_i. absurd (omega (arith, all, more, slice_get_within z.transitions i other at_i))) in
+          let counted = reached_between place w.since u way.begun from (omega (arith, ints, until, reach)) way.reached (λ i other more at_i. absurd (omega (arith, all, more, slice_get_within z.transitions i other at_i))) in
           clock_of_rule z sound.leap_seconds_are (length z.transitions) refl rule is u (record {
-            time = reached.time;
-            time_is = reached.time_is;
-            come = λ i change less at. reached.come i change (omega (arith, all, less)) at;
-            later = λ i other more at_i. absurd (omega (arith, more, slice_get_within z.transitions i other at_i));
+            time = counted.time;
+            time_is = counted.time_is;
+            reached = λ i change less at. counted.reached i change (omega (arith, all, less)) at;
+            ahead = λ i other more at_i. absurd (omega (arith, more, slice_get_within z.transitions i other at_i));
           })
 
       pub at_seam : length z.transitions ≤ place → (rule : TransitionRule) → z.extra_rule ≡ Some rule → IsWindowOf z (reading f) low high → IsAtSeam z rule low high w found
       at_seam all rule is window = record {
         walked = subst (λ (g : Fields). IsWalked (WindowClock z low high) g w found) (sym way.walked.walk.fields_are) way.walked;
-        holds = way.kind w.since (reached_between place w.since w.since way.begun (omega (arith, ints)) (omega (arith, ints, way.high_is, reach)) way.come (λ i other more at_i. absurd (omega (arith, all, more, slice_get_within z.transitions i other at_i)))) (inr refl);
+        holds = way.holds w.since (reached_between place w.since w.since way.begun (omega (arith, ints)) (omega (arith, ints, way.high_is, reach)) way.reached (λ i other more at_i. absurd (omega (arith, all, more, slice_get_within z.transitions i other at_i)))) (inr refl);
         low_is = way.low_is;
         high_is = way.high_is;
         ruled = ruled_from_seam all rule is;
         window = subst (λ (g : Fields). IsWindowOf z (reading g) low high) (sym way.walked.walk.fields_are) window;
       }
 
-      module _ (come : ℕ) (at_high : IsReachedAt z high come) where
+      module _ (count : ℕ) (at_high : IsReachedAt z high count) where
         -- up to the end of the window, where no transition takes effect any more
-        pub holds_to_end : IsSteadyAfter z come → come ≤ place → HoldsFrom (WindowClock z low high) w.since (high +ℤ pos 1) w.kind
+        pub holds_to_end : IsSteadyAfter z count → count ≤ place → HoldsFrom (WindowClock z low high) w.since (high +ℤ pos 1) w.local_time_type
         holds_to_end steady all =
             holds_from (high +ℤ pos 1) (omega (arith, ints)) (λ u within i change more at l leap.
             omega (
               arith,
               ints,
               leap_time_mono z.leap_seconds sound.leap_seconds_are u high l at_high.time (omega (arith, ints, within.1)) leap at_high.time_is,
-              at_high.later i change (omega (arith, all, more)) at,
+              at_high.ahead i change (omega (arith, all, more)) at,
             )) (steady_at steady)
           where
-            steady_at : IsSteadyAfter z come → (u : ℤ) → IsFrom w.since (high +ℤ pos 1) u → IsSteadyAfter z place
+            steady_at : IsSteadyAfter z count → (u : ℤ) → IsFrom w.since (high +ℤ pos 1) u → IsSteadyAfter z place
             steady_at (inr one) u within = inr one
             steady_at (inl less) u within =
-                elim (cases_lt come place) [
+                elim (cases_lt count place) [
                   | inl more ↦
-                      let change = get_or z.transitions come no_change in
-                      let at = slice_get-get_or z.transitions come no_change less in
-                      let was = way.come come change more at in
+                      let change = get_or z.transitions count no_change in
+                      let at = slice_get-get_or z.transitions count no_change less in
+                      let was = way.reached count change more at in
                       absurd (omega (
                         arith,
                         ints,
                         was.2,
-                        at_high.later come change (omega arith) at,
+                        at_high.ahead count change (omega arith) at,
                         leap_time_mono z.leap_seconds sound.leap_seconds_are w.since high was.0 at_high.time (omega (arith, ints, within.0, within.1)) was.1 at_high.time_is,
                       ))
                   | inr same ↦ inl (omega (arith, all, same, less))
                 ]
 
-        pub found_in_window : IsSteadyAfter z come → come ≤ place → (piece : Piece) (next : Walk) (new : List FoundDateTimeKind) → IsStep w piece next new → piece.from ≡ high +ℤ pos 1 → IsFound (WindowClock z low high) f (found ++ new)
+        pub found_in_window : IsSteadyAfter z count → count ≤ place → (piece : Piece) (next : Walk) (new : List FoundDateTimeKind) → IsStep w piece next new → piece.from ≡ high +ℤ pos 1 → IsFound (WindowClock z low high) f (found ++ new)
         found_in_window steady all piece next new step end =
             let since = step_since w piece next new step in
-            let holds = subst (λ (until : ℤ). HoldsFrom (WindowClock z low high) w.since until w.kind) (sym end) (holds_to_end steady all) in
+            let holds = subst (λ (until : ℤ). HoldsFrom (WindowClock z low high) w.since until w.local_time_type) (sym end) (holds_to_end steady all) in
             let walked = walked_on (WindowClock z low high) f w found piece next new way.walked step holds in
             found_from_end (WindowClock z low high) f next (found ++ new) walked (λ u t seen. omega (arith, ints, seen.1.1, since.1, end))
 
         -- and so is the step to the end of the window
-        pub fault_in_window : IsSteadyAfter z come → come ≤ place → (until : ℤ) (takes_memory : Type 0) (e : TzError) → IsStepFault takes_memory w until e → until ≡ high +ℤ pos 1 → IsSearchFault takes_memory (IsClock z) (reading f) e
+        pub fault_in_window : IsSteadyAfter z count → count ≤ place → (until : ℤ) (takes_memory : Type 0) (e : TzError) → IsStepFault takes_memory w until e → until ≡ high +ℤ pos 1 → IsSearchFault takes_memory (IsClock z) (reading f) e
         fault_in_window steady all until takes_memory e fault end =
-            let holds = subst (λ (v : ℤ). HoldsFrom (WindowClock z low high) w.since v w.kind) (sym end) (holds_to_end steady all) in
+            let holds = subst (λ (v : ℤ). HoldsFrom (WindowClock z low high) w.since v w.local_time_type) (sym end) (holds_to_end steady all) in
             search_fault_from_seen (IsClock z) (IsInWindow low high) takes_memory (reading f) e
             (search_fault_from_step (WindowClock z low high) f w found way.walked until holds takes_memory e fault)
 

@@ -56,21 +56,21 @@ date_time_unique f (Jump u s t) e g (x, y, is, sx, sy) (x', y', is', sx', sy') =
 
 -- a piece has one entry at most
 entry_unique : (w : Walk) (until : ℤ) (entry other : Entry) → IsEntryOf w until entry → IsEntryOf w until other → entry ≡ other
-entry_unique w until (Shown u t) (Shown u' t') (kind, within, shown) (kind', within', shown') =
-    let type : t ≡ t' = same_Some t t' (sym kind ∙ kind') in
+entry_unique w until (Shown u t) (Shown u' t') (type_is, within, shown) (type_is', within', shown') =
+    let type : t ≡ t' = same_Some t t' (sym type_is ∙ type_is') in
     let offset = ap (λ (s : LocalTimeType). s.ut_offset) type in
     let instant : u ≡ u' = omega (arith, ints, offset, shown, shown') in
     ap (λ v. Shown v t) instant ∙ ap (λ s. Shown u' s) type
-entry_unique w until (Shown u t) (Jump u' a b) (kind, within, shown) (since, before, kind', low, high) =
-    let offset = ap (λ (s : LocalTimeType). s.ut_offset) (same_Some t b (sym kind ∙ kind')) in
+entry_unique w until (Shown u t) (Jump u' a b) (type_is, within, shown) (since, before, type_is', low, high) =
+    let offset = ap (λ (s : LocalTimeType). s.ut_offset) (same_Some t b (sym type_is ∙ type_is')) in
     absurd (omega (arith, ints, offset, shown, within.0, since, high))
-entry_unique w until (Jump u' a b) (Shown u t) (since, before, kind', low, high) (kind, within, shown) =
-    let offset = ap (λ (s : LocalTimeType). s.ut_offset) (same_Some t b (sym kind ∙ kind')) in
+entry_unique w until (Jump u' a b) (Shown u t) (since, before, type_is', low, high) (type_is, within, shown) =
+    let offset = ap (λ (s : LocalTimeType). s.ut_offset) (same_Some t b (sym type_is ∙ type_is')) in
     absurd (omega (arith, ints, offset, shown, within.0, since, high))
-entry_unique w until (Jump u a b) (Jump u' a' b') (since, before, kind, low, high) (since', before', kind', low', high') =
-    ap (λ v. Jump v a b) (since ∙ sym since') ∙ ap (λ s. Jump u' s b) (same_Some a a' (sym before ∙ before')) ∙ ap (λ s. Jump u' a' s) (same_Some b b' (sym kind ∙ kind'))
+entry_unique w until (Jump u a b) (Jump u' a' b') (since, before, type_is, low, high) (since', before', type_is', low', high') =
+    ap (λ v. Jump v a b) (since ∙ sym since') ∙ ap (λ s. Jump u' s b) (same_Some a a' (sym before ∙ before')) ∙ ap (λ s. Jump u' a' s) (same_Some b b' (sym type_is ∙ type_is'))
 
-module _ (clock : Clock) (f : Fields) (w : Walk) (found : List FoundDateTimeKind) (walked : IsWalked clock f w found) (until : ℤ) (holds : HoldsFrom clock w.since until w.kind) where
+module _ (clock : Clock) (f : Fields) (w : Walk) (found : List FoundDateTimeKind) (walked : IsWalked clock f w found) (until : ℤ) (holds : HoldsFrom clock w.since until w.local_time_type) where
   -- what is found within the last piece is its entry
   entry_exists : (e : FoundDateTimeKind) → IsFoundBy clock f e → IsFrom w.since until (instant_of e) → (entry : Entry) × IsEntryOf w until entry × IsDateTimeOf f entry e
   entry_exists (Normal d) (fields, shows) within = (
@@ -82,11 +82,11 @@ module _ (clock : Clock) (f : Fields) (w : Walk) (found : List FoundDateTimeKind
       let instant = sx.instant_is in
       let r = walked.walk.reading_is in
       let here : IsFrom w.since until u = (omega (arith, ints, within.0), omega (arith, ints, within.1)) in
-      let after : w.kind ≡ Some b = (holds u here b).0 passes.1 in
+      let after : w.local_time_type ≡ Some b = (holds u here b).0 passes.1 in
       by_lt_z w.since u
       (λ later.
       let just_before : IsFrom w.since until (u -ℤ pos 1) = (omega (arith, ints, later), omega (arith, ints, here.1)) in
-      let before : w.kind ≡ Some a = (holds (u -ℤ pos 1) just_before a).0 passes.0 in
+      let before : w.local_time_type ≡ Some a = (holds (u -ℤ pos 1) just_before a).0 passes.0 in
       let offset = ap (λ (s : LocalTimeType). s.ut_offset) (same_Some a b (sym before ∙ after)) in
       absurd (omega (arith, ints, offset, passes.2, passes.3)))
       (λ not_later.
@@ -97,14 +97,14 @@ module _ (clock : Clock) (f : Fields) (w : Walk) (found : List FoundDateTimeKind
 
   -- the clock has what the entry says
   shown_by_piece : (u : ℤ) (t : LocalTimeType) → IsEntryOf w until (Shown u t) → Shows clock (reading f) u t
-  shown_by_piece u t (kind, within, shown) = ((holds u within t).1 kind, shown ∙ walked.walk.reading_is)
+  shown_by_piece u t (type_is, within, shown) = ((holds u within t).1 type_is, shown ∙ walked.walk.reading_is)
 
   passed_by_piece : (u : ℤ) (a b : LocalTimeType) → w.since <ℤ until → IsEntryOf w until (Jump u a b) → PassesOver clock (reading f) u a b
-  passed_by_piece u a b some (since, before, kind, low, high) =
+  passed_by_piece u a b some (since, before, type_is, low, high) =
       let r = walked.walk.reading_is in
       let just_before : IsFrom (w.since -ℤ pos 1) w.since (u -ℤ pos 1) = (omega (arith, ints, since), omega (arith, ints, since)) in
       let here : IsFrom w.since until u = (omega (arith, ints, since), omega (arith, ints, since, some)) in
-      ((walked.just_before (u -ℤ pos 1) just_before a).1 before, (holds u here b).1 kind, omega (arith, ints, r, low), omega (arith, ints, r, high))
+      ((walked.just_before (u -ℤ pos 1) just_before a).1 before, (holds u here b).1 type_is, omega (arith, ints, r, low), omega (arith, ints, r, high))
 
   -- and the entry is found
   entry_found : (entry : Entry) (e : FoundDateTimeKind) → w.since <ℤ until → IsEntryOf w until entry → IsDateTimeOf f entry e → IsFoundBy clock f e × IsFrom w.since until (instant_of e)
@@ -168,13 +168,13 @@ module _ (clock : Clock) (f : Fields) (w : Walk) (found : List FoundDateTimeKind
 
 -- a step to a piece keeps that all is found
 pub walked_on : (clock : Clock) (f : Fields) (w : Walk) (found : List FoundDateTimeKind) (piece : Piece) (next : Walk) (new : List FoundDateTimeKind) →
-    IsWalked clock f w found → IsStep w piece next new → HoldsFrom clock w.since piece.from w.kind → IsWalked clock f next (found ++ new)
+    IsWalked clock f w found → IsStep w piece next new → HoldsFrom clock w.since piece.from w.local_time_type → IsWalked clock f next (found ++ new)
 walked_on clock f w found piece next new walked (inl (early, is, none)) holds =
-    let same : IsWalked clock f (record w { kind = piece.kind }) found = record { walk = record { valid = walked.walk.valid; fields_are = walked.walk.fields_are; reading_is = walked.walk.reading_is; small = walked.walk.small }; so_far = walked.so_far; just_before = walked.just_before } in
+    let same : IsWalked clock f (record w { local_time_type = piece.local_time_type }) found = record { walk = record { valid = walked.walk.valid; fields_are = walked.walk.fields_are; reading_is = walked.walk.reading_is; small = walked.walk.small }; so_far = walked.so_far; just_before = walked.just_before } in
     let list : found ≡ found ++ new = sym (ap (λ es. found ++ es) none ∙ append-nil found) in
     subst (λ (es : List FoundDateTimeKind). IsWalked clock f next es) list (subst (λ (x : Walk). IsWalked clock f x found) (sym is) same)
 walked_on clock f w found piece next new walked (inr (late, is, given)) holds =
-    let moved : IsWalked clock f (record w { before = w.kind; since = piece.from; kind = piece.kind }) (found ++ new) = record {
+    let moved : IsWalked clock f (record w { before = w.local_time_type; since = piece.from; local_time_type = piece.local_time_type }) (found ++ new) = record {
       walk = record { valid = walked.walk.valid; fields_are = walked.walk.fields_are; reading_is = walked.walk.reading_is; small = walked.walk.small };
       so_far = found_before_given clock f w found walked piece.from holds new late given;
       just_before = λ u within. holds u (omega (arith, ints, late, within.0), within.1);
@@ -237,20 +237,20 @@ search_fault_from_seen clock view takes_memory r e (inr (is, inl (u, t, shows, o
 search_fault_from_seen clock view takes_memory r e (inr (is, inr (u, a, b, passes, outside))) = inr (is, inr (u, a, b, (passes.0.0, passes.1.0, passes.2, passes.3), outside))
 
 -- a piece that ends before its type shows the reading has no entry
-pub no_entry_before : (w : Walk) (until : ℤ) (t : LocalTimeType) → w.kind ≡ Some t → w.since ≤ℤ (w.reading -ℤ t.ut_offset) → until ≤ℤ (w.reading -ℤ t.ut_offset) → (entry : Entry) → ¬ IsEntryOf w until entry
-no_entry_before w until t is since late (Shown u s) (kind, within, shown) =
-    let offset = ap (λ (x : LocalTimeType). x.ut_offset) (same_Some t s (sym is ∙ kind)) in
+pub no_entry_before : (w : Walk) (until : ℤ) (t : LocalTimeType) → w.local_time_type ≡ Some t → w.since ≤ℤ (w.reading -ℤ t.ut_offset) → until ≤ℤ (w.reading -ℤ t.ut_offset) → (entry : Entry) → ¬ IsEntryOf w until entry
+no_entry_before w until t is since late (Shown u s) (type_is, within, shown) =
+    let offset = ap (λ (x : LocalTimeType). x.ut_offset) (same_Some t s (sym is ∙ type_is)) in
     absurd (omega (arith, ints, offset, shown, within.1, late))
-no_entry_before w until t is since late (Jump u a b) (at, before, kind, low, high) =
-    let offset = ap (λ (x : LocalTimeType). x.ut_offset) (same_Some t b (sym is ∙ kind)) in
+no_entry_before w until t is since late (Jump u a b) (at, before, type_is, low, high) =
+    let offset = ap (λ (x : LocalTimeType). x.ut_offset) (same_Some t b (sym is ∙ type_is)) in
     absurd (omega (arith, ints, offset, at, high, since))
 
 -- nor has one that begins after its type has shown the reading, and after the type before has
-pub no_entry_after : (w : Walk) (until : ℤ) (t s : LocalTimeType) → w.kind ≡ Some t → w.before ≡ Some s → (w.reading -ℤ t.ut_offset) <ℤ w.since → (w.reading -ℤ s.ut_offset) <ℤ w.since → (entry : Entry) → ¬ IsEntryOf w until entry
-no_entry_after w until t s is was shown passed (Shown u x) (kind, within, shows) =
-    let offset = ap (λ (y : LocalTimeType). y.ut_offset) (same_Some t x (sym is ∙ kind)) in
+pub no_entry_after : (w : Walk) (until : ℤ) (t s : LocalTimeType) → w.local_time_type ≡ Some t → w.before ≡ Some s → (w.reading -ℤ t.ut_offset) <ℤ w.since → (w.reading -ℤ s.ut_offset) <ℤ w.since → (entry : Entry) → ¬ IsEntryOf w until entry
+no_entry_after w until t s is was shown passed (Shown u x) (type_is, within, shows) =
+    let offset = ap (λ (y : LocalTimeType). y.ut_offset) (same_Some t x (sym is ∙ type_is)) in
     absurd (omega (arith, ints, offset, shows, within.0, shown))
-no_entry_after w until t s is was shown passed (Jump u a b) (at, before, kind, low, high) =
+no_entry_after w until t s is was shown passed (Jump u a b) (at, before, type_is, low, high) =
     let offset = ap (λ (y : LocalTimeType). y.ut_offset) (same_Some s a (sym was ∙ before)) in
     absurd (omega (arith, ints, offset, at, low, passed))
 
@@ -288,10 +288,10 @@ walked_same clock other f w found walked same = record {
 -- a step keeps what is looked for
 pub walk_steps : (f : Fields) (w : Walk) (piece : Piece) (next : Walk) (new : List FoundDateTimeKind) → IsWalk f w → IsStep w piece next new → IsWalk f next
 walk_steps f w piece next new walk (inl (early, is, none)) =
-    let same : IsWalk f (record w { kind = piece.kind }) = record { valid = walk.valid; fields_are = walk.fields_are; reading_is = walk.reading_is; small = walk.small } in
+    let same : IsWalk f (record w { local_time_type = piece.local_time_type }) = record { valid = walk.valid; fields_are = walk.fields_are; reading_is = walk.reading_is; small = walk.small } in
     subst (λ (x : Walk). IsWalk f x) (sym is) same
 walk_steps f w piece next new walk (inr (late, is, given)) =
-    let same : IsWalk f (record w { before = w.kind; since = piece.from; kind = piece.kind }) = record { valid = walk.valid; fields_are = walk.fields_are; reading_is = walk.reading_is; small = walk.small } in
+    let same : IsWalk f (record w { before = w.local_time_type; since = piece.from; local_time_type = piece.local_time_type }) = record { valid = walk.valid; fields_are = walk.fields_are; reading_is = walk.reading_is; small = walk.small } in
     subst (λ (x : Walk). IsWalk f x) (sym is) same
 
 pub own_walk : (f : Fields) (w : Walk) → IsWalk f w → IsWalk w.fields w

@@ -15,7 +15,7 @@ use Rattle.tz_rule.specs.declared.timezone.rule.TransitionRule.TheVariants.{Fixe
 use Rattle.tz_zone.specs.Table.{Zone}
 use Rattle.tz.specs.Reached.{AreOffsetsOf}
 use Rattle.tz.specs.Windows.{IsOffsetOfRule, IsOffset, IsLeastOffset, IsGreatestOffset, IsWindow, TakesEffectIn, AreRising, AtMostTakeEffectIn, AtMostTakeEffectAround}
-use Rattle.tz.proofs.KindLemmas.{fixed_type, alternate_type, offsets_from_types}
+use Rattle.tz.proofs.TypesAfterTransitions.{fixed_type, alternate_type, offsets_from_types}
 
 -- the offset of what a rule answers is one of its offsets
 offset_from_rule : (rule : TransitionRule) (u : ℤ) (t : LocalTimeType) → IsRuleType rule u t → IsOffsetOfRule rule t.ut_offset

@@ -39,7 +39,8 @@ ChangesOnlyAt rule changes start end =
 
 -- between two instants the clock of a zone is that of a rule
 abbrev pub IsRuledIn : Zone → TransitionRule → ℤ → ℤ → Type 0
-IsRuledIn z rule start end = (u : ℤ) → start ≤ℤ u → u ≤ℤ end → (t : LocalTimeType) → (IsClock z u t → IsRuleType rule u t) × (IsRuleType rule u t → IsClock z u t)
+IsRuledIn z rule start end =
+    (u : ℤ) → start ≤ℤ u → u ≤ℤ end → (t : LocalTimeType) → (IsClock z u t → IsRuleType rule u t) × (IsRuleType rule u t → IsClock z u t)
 
 -- the clock of a zone, as it is seen up to a seam, and between two later instants
 abbrev pub IsInView : ℤ → ℤ → ℤ → ℤ → ℤ → Type 0
@@ -51,7 +52,7 @@ RuleClock z low seam start end u t = IsClock z u t × IsInView low seam start en
 -- a walk past the pieces of a zone in a window, which has come to the seam from which on the clock is that of a rule
 pub record IsAtSeam (z : Zone) (rule : TransitionRule) (low high : ℤ) (w : Walk) (found : List FoundDateTimeKind) : Type 0 where
   pub walked : IsWalked (WindowClock z low high) w.fields w found
-  pub holds : HoldsAt (IsClock z) w.since w.kind
+  pub holds : HoldsAt (IsClock z) w.since w.local_time_type
   pub low_is : low ≤ℤ w.since
   pub high_is : w.since ≤ℤ high
   pub ruled : IsRuledIn z rule w.since high
@@ -61,4 +62,4 @@ pub record IsAtSeam (z : Zone) (rule : TransitionRule) (low high : ℤ) (w : Wal
 pub record IsPastSeam (z : Zone) (low seam start end : ℤ) (f : Fields) (from : ℤ) (w : Walk) (found : List FoundDateTimeKind) : Type 0 where
   pub walked : IsWalked (RuleClock z low seam start end) f w found
   pub after_seam : seam <ℤ w.since
-  pub holds : HoldsFrom (RuleClock z low seam start end) w.since from w.kind
+  pub holds : HoldsFrom (RuleClock z low seam start end) w.since from w.local_time_type

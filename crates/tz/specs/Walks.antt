@@ -64,17 +64,17 @@ IsFrom from until u = (from ≤ℤ u) × (u <ℤ until)
 
 -- at the instant the clock has this type, or none
 abbrev pub HoldsAt : Clock → ℤ → Option LocalTimeType → Type 0
-HoldsAt clock u kind = (t : LocalTimeType) → (clock u t → kind ≡ Some t) × (kind ≡ Some t → clock u t)
+HoldsAt clock u type = (t : LocalTimeType) → (clock u t → type ≡ Some t) × (type ≡ Some t → clock u t)
 
 -- from the one instant up to the other it has
 abbrev pub HoldsFrom : Clock → ℤ → ℤ → Option LocalTimeType → Type 0
-HoldsFrom clock from until kind = (u : ℤ) → IsFrom from until u → HoldsAt clock u kind
+HoldsFrom clock from until type = (u : ℤ) → IsFrom from until u → HoldsAt clock u type
 
 -- what the reading has in the last piece of a walk, which ends at an instant
 abbrev pub IsEntryOf : Walk → ℤ → Entry → Type 0
-IsEntryOf w until (Shown u t) = (w.kind ≡ Some t) × IsFrom w.since until u × ((u +ℤ t.ut_offset) ≡ w.reading)
+IsEntryOf w until (Shown u t) = (w.local_time_type ≡ Some t) × IsFrom w.since until u × ((u +ℤ t.ut_offset) ≡ w.reading)
 IsEntryOf w until (Jump u a b) =
-    (u ≡ w.since) × (w.before ≡ Some a) × (w.kind ≡ Some b) × ((u +ℤ a.ut_offset) ≤ℤ w.reading) × (w.reading <ℤ (u +ℤ b.ut_offset))
+    (u ≡ w.since) × (w.before ≡ Some a) × (w.local_time_type ≡ Some b) × ((u +ℤ a.ut_offset) ≤ℤ w.reading) × (w.reading <ℤ (u +ℤ b.ut_offset))
 
 -- what the last piece gives, where it ends at an instant: its entry, or nothing
 abbrev pub IsGiven : Walk → ℤ → List FoundDateTimeKind → Type 0
@@ -85,8 +85,9 @@ IsGiven w until found =
 -- a step to a next piece: one that begins later ends the last one, and otherwise it takes its place
 abbrev pub IsStep : Walk → Piece → Walk → List FoundDateTimeKind → Type 0
 IsStep w piece next found =
-    ((piece.from ≤ℤ w.since) × (next ≡ record w { kind = piece.kind }) × (found ≡ []))
-    ⊎ ((w.since <ℤ piece.from) × (next ≡ record w { before = w.kind; since = piece.from; kind = piece.kind }) × IsGiven w piece.from found)
+    ((piece.from ≤ℤ w.since) × (next ≡ record w { local_time_type = piece.local_time_type }) × (found ≡ []))
+    ⊎ ((w.since <ℤ piece.from) × (next ≡ record w { before = w.local_time_type; since = piece.from; local_time_type = piece.local_time_type })
+    × IsGiven w piece.from found)
 
 -- why the last piece gives nothing, where it ends at an instant: memory, or its entry lies outside the years of 32 bits
 abbrev pub IsGiveFault : Type 0 → Walk → ℤ → TzError → Type 0

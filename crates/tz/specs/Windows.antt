@@ -35,7 +35,8 @@ pub record IsWindow (types : List LocalTimeType) (extra_rule : Option Transition
 -- the transition at a place takes effect at one of two instants or between them
 abbrev pub TakesEffectIn : Zone → ℤ → ℤ → ℕ → Type 0
 TakesEffectIn z low high i =
-    (transition : Transition) × (u : ℤ) × (slice_get z.transitions i ≡ Some transition) × IsEffect z.leap_seconds transition.unix_leap_time u × (low ≤ℤ u) × (u ≤ℤ high)
+    (transition : Transition) × (u : ℤ) × (slice_get z.transitions i ≡ Some transition) × IsEffect z.leap_seconds transition.unix_leap_time u
+    × (low ≤ℤ u) × (u ≤ℤ high)
 
 -- a list of places that rise
 abbrev pub AreRising : List ℕ → Type 0

@@ -7,6 +7,7 @@ ghost use Rattle.tz_zone.specs.ZoneRef.{zone_of};
 ghost use Rattle.tz.specs.Reached.{AreOffsetsOf};
 ghost use Rattle.tz.specs.PrintedText.{two_digits, nine_digits, two_digits_or_more, date_text, time_text, seconds_text, duration_text, offset_text, printed_text};
 
+pub use crate::datetime::find::find_fields;
 use crate::datetime::{DateTime, search};
 use std::marker::Model;
 use std::str;
@@ -64,7 +65,7 @@ pub fn ones(number: u8) -> u8
 }
 
 impl TextBuffer {
-    /// A line without text.
+    /// An empty text.
     pub fn new() -> Self
         ensures { result ≡ [] }
     {
@@ -74,7 +75,7 @@ impl TextBuffer {
         }
     }
 
-    /// Takes the text off.
+    /// Clears the text.
     #[inline]
     pub fn clear(&mut self)
         ensures { self.new ≡ [] }

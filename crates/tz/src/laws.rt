@@ -29,9 +29,10 @@ pub fn utc_date_times_come_back()
     ensures err { (f : Fields) (e : TzError) → IsUtc f → ¬ IsShowFault (reading f) f.nanoseconds e }
 {}
 
-/// Where [`UtcDateTime::checked_add`] answers, [`UtcDateTime::duration_since`] gives the duration back.
+/// Where [`UtcDateTime::checked_add`] returns a date time, [`UtcDateTime::duration_since`] returns the duration.
 pub fn added_durations_come_back()
-    ensures ok { (f g : Fields) (d e : Duration) → IsUtcAt (utc_total f +ℤ pos (as_nanos d)) g → IsForwards (utc_total f) (utc_total g) e → as_nanos e ≡ as_nanos d }
+    ensures ok { (f g : Fields) (d e : Duration) → IsUtcAt (utc_total f +ℤ pos (as_nanos d)) g → IsForwards (utc_total f) (utc_total g) e
+        → as_nanos e ≡ as_nanos d }
     ensures err { (f g : Fields) (d e : Duration) → IsUtcAt (utc_total f +ℤ pos (as_nanos d)) g → ¬ IsBackwards (utc_total f) (utc_total g) e }
 {}
 
@@ -66,10 +67,12 @@ pub fn projections_keep_the_instant()
 {}
 
 /// What [`crate::DateTime::from_timespec`] shows, [`crate::DateTime::find`] of its fields lists, wherever the list is promised and
-/// memory is not refused.
+/// no allocation fails.
 pub fn shown_date_times_are_found()
-    ensures found { (z : Zone) (u : ℤ) (n : ℕ) (d : DateTime) (found : List FoundDateTimeKind) → ShowsByClock z u n d → IsFound (IsClock z) d.fields found → Contains found (normal d) }
-    ensures refused { (z : Zone) (u : ℤ) (n : ℕ) (d : DateTime) (e : TzError) → ShowsByClock z u n d → IsPromised z d.fields.year → IsFindFault ⊤ (IsClock z) d.fields e → e ≡ Memory alloc_error }
+    ensures found { (z : Zone) (u : ℤ) (n : ℕ) (d : DateTime) (found : List FoundDateTimeKind) → ShowsByClock z u n d → IsFound (IsClock z) d.fields found
+        → Contains found (normal d) }
+    ensures refused { (z : Zone) (u : ℤ) (n : ℕ) (d : DateTime) (e : TzError) → ShowsByClock z u n d → IsPromised z d.fields.year
+        → IsFindFault ⊤ (IsClock z) d.fields e → e ≡ Memory alloc_error }
 {}
 
 /// The number of transitions that take effect in a window is the length of a rising list that holds just these: at most w take effect

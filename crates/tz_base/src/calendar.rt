@@ -81,7 +81,7 @@ pub fn days_in_month(year: i32, month: u8) -> u8
     days_of_month(is_leap_year(year), month)
 }
 
-/// The days of so many years, the first of which 400 divides.
+/// The days of a number of years, the first of which 400 divides.
 #[tactic(auto, unfolding(crate::specs::Cycles::days_of_years))]
 fn days_of_years(years: u64) -> u64
     requires { years < 2 ^ 33 }
@@ -305,7 +305,7 @@ pub fn total_nanoseconds(unix_time: i64, nanoseconds: u32) -> i128
     i128::from(NANOSECONDS_PER_SECOND) * i128::from(unix_time) + i128::from(nanoseconds)
 }
 
-/// The seconds of a total of nanoseconds, rounded down, and the nanoseconds that are over, if the seconds fit 64 bits.
+/// The seconds of a total of nanoseconds, rounded down, and the nanoseconds that remain, if the seconds fit 64 bits.
 pub fn timespec(total: i128) -> Option<(i64, u32)>
     ensures found { IfSome result (λ t. IsTimespec total t.0 t.1) }
     ensures none { IfNone result ((seconds : ℤ) (nanoseconds : ℕ) → IsTimespec total seconds nanoseconds → ¬ FitsSigned w64 seconds) }

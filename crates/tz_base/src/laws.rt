@@ -47,10 +47,14 @@ pub fn constants_have_their_values()
     ensures days_per_4_years { DAYS_PER_4_YEARS ≡ pos 1461 }
     ensures days_per_100_years { DAYS_PER_100_YEARS ≡ pos 36524 }
     ensures days_per_400_years { DAYS_PER_400_YEARS ≡ pos 146097 }
-    ensures days_in_months_normal_year { DAYS_IN_MONTHS_NORMAL_YEAR ≡ pos 31 ∷ pos 28 ∷ pos 31 ∷ pos 30 ∷ pos 31 ∷ pos 30 ∷ pos 31 ∷ pos 31 ∷ pos 30 ∷ pos 31 ∷ pos 30 ∷ pos 31 ∷ [] }
-    ensures cumul_days_in_months_normal_year { CUMUL_DAYS_IN_MONTHS_NORMAL_YEAR ≡ pos 0 ∷ pos 31 ∷ pos 59 ∷ pos 90 ∷ pos 120 ∷ pos 151 ∷ pos 181 ∷ pos 212 ∷ pos 243 ∷ pos 273 ∷ pos 304 ∷ pos 334 ∷ [] }
-    ensures cumul_days_in_months_leap_year { CUMUL_DAYS_IN_MONTHS_LEAP_YEAR ≡ pos 0 ∷ pos 31 ∷ pos 60 ∷ pos 91 ∷ pos 121 ∷ pos 152 ∷ pos 182 ∷ pos 213 ∷ pos 244 ∷ pos 274 ∷ pos 305 ∷ pos 335 ∷ [] }
+    ensures days_in_months_normal_year { DAYS_IN_MONTHS_NORMAL_YEAR
+        ≡ pos 31 ∷ pos 28 ∷ pos 31 ∷ pos 30 ∷ pos 31 ∷ pos 30 ∷ pos 31 ∷ pos 31 ∷ pos 30 ∷ pos 31 ∷ pos 30 ∷ pos 31 ∷ [] }
+    ensures cumul_days_in_months_normal_year { CUMUL_DAYS_IN_MONTHS_NORMAL_YEAR
+        ≡ pos 0 ∷ pos 31 ∷ pos 59 ∷ pos 90 ∷ pos 120 ∷ pos 151 ∷ pos 181 ∷ pos 212 ∷ pos 243 ∷ pos 273 ∷ pos 304 ∷ pos 334 ∷ [] }
+    ensures cumul_days_in_months_leap_year { CUMUL_DAYS_IN_MONTHS_LEAP_YEAR
+        ≡ pos 0 ∷ pos 31 ∷ pos 60 ∷ pos 91 ∷ pos 121 ∷ pos 152 ∷ pos 182 ∷ pos 213 ∷ pos 244 ∷ pos 274 ∷ pos 305 ∷ pos 335 ∷ [] }
     ensures unix_offset_secs { UNIX_OFFSET_SECS ≡ pos 951868800 }
     ensures offset_year { OFFSET_YEAR ≡ pos 2000 }
-    ensures day_in_months_leap_year_from_march { DAY_IN_MONTHS_LEAP_YEAR_FROM_MARCH ≡ pos 31 ∷ pos 30 ∷ pos 31 ∷ pos 30 ∷ pos 31 ∷ pos 31 ∷ pos 30 ∷ pos 31 ∷ pos 30 ∷ pos 31 ∷ pos 31 ∷ pos 29 ∷ [] }
+    ensures day_in_months_leap_year_from_march { DAY_IN_MONTHS_LEAP_YEAR_FROM_MARCH
+        ≡ pos 31 ∷ pos 30 ∷ pos 31 ∷ pos 30 ∷ pos 31 ∷ pos 31 ∷ pos 30 ∷ pos 31 ∷ pos 30 ∷ pos 31 ∷ pos 31 ∷ pos 29 ∷ [] }
 {}

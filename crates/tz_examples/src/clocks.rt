@@ -2,7 +2,13 @@
 
 use std::alloc::{Allocator, Global};
 use std::time::{Clock, SystemTime, UNIX_EPOCH};
-use tz::{DateTime, TimeZoneRef, TzError};
+use tz::{DateTime, TimeZone, TimeZoneRef, TzError, UtcDateTime};
+
+/// What clocks an hour behind UTC show at the beginning of 2024 in UTC.
+pub fn new_year_an_hour_behind(alloc: Global) -> Result<DateTime, TzError> {
+    let zone = TimeZone::fixed(alloc, -3600)?;
+    UtcDateTime::new(2024, 1, 1, 0, 0, 0, 0)?.project(zone.as_ref())
+}
 
 /// What clocks of a zone show at a Unix time, and the name of their time.
 pub fn print_instant(

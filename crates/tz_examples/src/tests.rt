@@ -1,7 +1,8 @@
 //! One test for each example.
 
-use crate::clocks::{print_instant, show_now};
+use crate::clocks::{new_year_an_hour_behind, print_instant, show_now};
 use crate::meetings::{alarm, count_meanings, next_monday_at_nine, weekly_meetings};
+use crate::queries::answer_lines;
 use crate::zones::{local_time, local_zone, moved_ahead_in_2000, zone_of_setting};
 use std::test::Fail;
 use tz::{Error, UtcDateTime};
@@ -28,6 +29,8 @@ fn instants_are_shown(rt: HostRuntime) -> Result<(), Fail> {
     assert_eq!(rt; text.as_str(), "2000-03-26T03:00:00.000000000+02:00 CEST");
     let local = format!(in alloc; "{}", local_time(alloc, JERUSALEM, 2_216_073_600)?)?;
     assert_eq!(rt; local.as_str(), "2040-03-23T03:00:00.000000000+03:00");
+    let behind = format!(in alloc; "{}", new_year_an_hour_behind(alloc)?)?;
+    assert_eq!(rt; behind.as_str(), "2023-12-31T23:00:00.000000000-01:00");
     for (unix_time, shown) in [
         (946_684_799, "2000-01-01T00:59:59.000000000+01:00"),
         (946_684_800, "2000-01-01T02:00:00.000000000+02:00"),
@@ -36,6 +39,14 @@ fn instants_are_shown(rt: HostRuntime) -> Result<(), Fail> {
         assert_eq!(rt; text.as_str(), shown);
     }
     assert!(rt; show_now(&rt, zone.as_ref())?.unix_time() > 1_700_000_000);
+    Ok(())
+}
+
+#[test]
+fn query_lines_are_answered(rt: HostRuntime) -> Result<(), Fail> {
+    let answers = answer_lines(rt.alloc(), JERUSALEM, b"T 2216073600 0\nT\n")?;
+    let wanted = b"2040-03-23T03:00:00.000000000+03:00 IDT\nE Line\n";
+    assert_eq!(rt; answers.as_slice(), wanted.as_slice());
     Ok(())
 }
 

@@ -16,7 +16,7 @@ pub fn zone_of_setting<R: Files>(rt: &R, alloc: Global, setting: &str) -> Result
     TimeZone::from_posix_tz(alloc, reader, setting)
 }
 
-/// What clocks show at a Unix time in the zone of a TZif file whose bytes are at hand.
+/// What clocks show at a Unix time in the zone of a TZif file whose bytes were read.
 pub fn local_time(alloc: Global, file: &[u8], unix_time: i64) -> Result<DateTime, TzError> {
     let zone = TimeZone::from_tz_data(alloc, file)?;
     DateTime::from_timespec(unix_time, 0, zone.as_ref())

@@ -13,15 +13,16 @@ use Rattle.tz.specs.DateTimes.{IsClockFault}
 use Rattle.tz.specs.FindFaults.{IsFindFault}
 use Rattle.tz.specs.Found.{Clock}
 use Rattle.tz.specs.declared.datetime.found.FoundDateTimeKind.{FoundDateTimeKind}
-use Rattle.tz_query.specs.Lines.{IsLine, IsLineEnd, IsFirstLine, IsCut, AreLines, ended}
+use Rattle.tz_query.specs.Numbers.{hyphen}
+use Rattle.tz_query.specs.Lines.{line_feed, IsLine, IsLineEnd, IsFirstLine, IsCut, AreLines, ended}
 use Rattle.tz_query.specs.Answers.{entry_text, IsFaultText, IsAnswer, AreAnswers}
 
 -- a name, by what the type lends
-pub name_of_nothing : (o : Option (List ℕ)) → IfSome o IsDesignation → length (unwrap_or o []) ≡ 0 → unwrap_or o (45 ∷ []) ≡ 45 ∷ []
+pub name_of_nothing : (o : Option (List ℕ)) → IfSome o IsDesignation → length (unwrap_or o []) ≡ 0 → unwrap_or o (hyphen ∷ []) ≡ hyphen ∷ []
 name_of_nothing None is empty = refl
 name_of_nothing (Some name) is empty = absurd (omega (arith, is.length_is.0, empty))
 
-pub name_of_some : (o : Option (List ℕ)) → 0 < length (unwrap_or o []) → unwrap_or o (45 ∷ []) ≡ unwrap_or o []
+pub name_of_some : (o : Option (List ℕ)) → 0 < length (unwrap_or o []) → unwrap_or o (hyphen ∷ []) ≡ unwrap_or o []
 name_of_some None some = absurd (omega (arith, some))
 name_of_some (Some name) some = refl
 
@@ -42,7 +43,7 @@ no_lines [] are = refl
 no_lines (line ∷ lines) are = absurd (cases are.cut)
   where
     cases : IsCut [] (line ∷ lines) → ⊥
-    cases (inl is) = let l : 0 ≡ length line + length (10 ∷ ended lines) = ap length is ∙ length-append line (10 ∷ ended lines) in omega (arith, l)
+    cases (inl is) = let l : 0 ≡ length line + length (line_feed ∷ ended lines) = ap length is ∙ length-append line (line_feed ∷ ended lines) in omega (arith, l)
     cases (inr (front, last, split, some, is)) = some (nothing_behind (ended front) last (sym is))
       where
         nothing_behind : (xs ys : List ℕ) → xs ++ ys ≡ [] → ys ≡ []
@@ -54,14 +55,14 @@ pub AreLines-cons : (bytes line rest : List ℕ) (lines : List (List ℕ)) → 0
 AreLines-cons bytes line rest lines some first are = record { cut = cases first.end are.cut; without_ends = All-cons IsLine line lines first.without_end are.without_ends }
   where
     cases : IsLineEnd first.tail rest → IsCut rest lines → IsCut bytes (line ∷ lines)
-    cases (inl end) (inl is) = inl (first.cut ∙ ap (λ t. line ++ t) (end ∙ ap (λ r. 10 ∷ r) is))
+    cases (inl end) (inl is) = inl (first.cut ∙ ap (λ t. line ++ t) (end ∙ ap (λ r. line_feed ∷ r) is))
     cases (inl end) (inr (front, last, split, full, is)) =
         inr (
           line ∷ front,
           last,
           ap (λ ls. line ∷ ls) split,
           full,
-          first.cut ∙ ap (λ t. line ++ t) (end ∙ ap (λ r. 10 ∷ r) is) ∙ sym (append_assoc line (10 ∷ ended front) last),
+          first.cut ∙ ap (λ t. line ++ t) (end ∙ ap (λ r. line_feed ∷ r) is) ∙ sym (append_assoc line (line_feed ∷ ended front) last),
         )
     cases (inr end) cut =
         let none : lines ≡ [] = no_lines lines (subst (λ r. AreLines r lines) end.1 are) in
@@ -97,13 +98,13 @@ none_from_length [] none = refl
 none_from_length (b ∷ bytes) none = absurd (omega arith)
 
 -- one more line at the end
-ended_push : (lines : List (List ℕ)) (line : List ℕ) → ended (lines ++ line ∷ []) ≡ ended lines ++ (line ++ 10 ∷ [])
+ended_push : (lines : List (List ℕ)) (line : List ℕ) → ended (lines ++ line ∷ []) ≡ ended lines ++ (line ++ line_feed ∷ [])
 ended_push [] line = refl
-ended_push (first ∷ lines) line = ap (λ bs. first ++ 10 ∷ bs) (ended_push lines line) ∙ sym (append_assoc first (10 ∷ ended lines) (line ++ 10 ∷ []))
+ended_push (first ∷ lines) line = ap (λ bs. first ++ line_feed ∷ bs) (ended_push lines line) ∙ sym (append_assoc first (line_feed ∷ ended lines) (line ++ line_feed ∷ []))
 
 -- the lines of one more entry
 pub entries_more : (found : List FoundDateTimeKind) (i : ℕ) (d : FoundDateTimeKind) → i < length found →
-    ended (map entry_text (take (i + 1) found)) ≡ ended (map entry_text (take i found)) ++ (entry_text (get_or found i d) ++ 10 ∷ [])
+    ended (map entry_text (take (i + 1) found)) ≡ ended (map entry_text (take i found)) ++ (entry_text (get_or found i d) ++ line_feed ∷ [])
 entries_more found i d within =
     ap (λ es. ended (map entry_text es)) (take_more found i d within)
     ∙ ap ended (map-append entry_text (take i found) (get_or found i d ∷ []))

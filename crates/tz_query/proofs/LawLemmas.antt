@@ -24,9 +24,9 @@ use Rattle.tz.specs.FindFaults.{IsFindFault, IsPromised}
 use Rattle.tz.specs.Found.{IsFound}
 use Rattle.tz.specs.declared.datetime.found.FoundDateTimeKind.{FoundDateTimeKind}
 use Rattle.tz.proofs.FarLemmas.{not_out_of_range, valid_without_fault}
-use Rattle.tz_query.specs.Lines.{IsLine, IsCut, AreLines, ended}
+use Rattle.tz_query.specs.Lines.{line_feed, IsLine, IsCut, AreLines, ended}
 use Rattle.tz_query.specs.Numbers.{AreNumbers}
-use Rattle.tz_query.specs.Queries.{Query, Time, Search, Meeting, IsLineOf, IsQueryLine, numbers_of}
+use Rattle.tz_query.specs.Queries.{time_letter, search_letter, meeting_letter, Query, Time, Search, Meeting, IsLineOf, IsQueryLine, numbers_of}
 use Rattle.tz_query.specs.Weeks.{IsWeekOf}
 use Rattle.tz_query.specs.Answers.{moment_text, entry_text, field_fault_text, found_lines, meeting_lines, IsFaultText, IsTimeAnswer, IsSearchAnswer, IsWeekAnswer, AreWeekAnswers, IsMeetingAnswer, IsQueryAnswer, IsAnswer, AreAnswers, IsSearchGroup, IsGroup, HasOneAnswer, AreSearchesAlike, AreAlike}
 use Rattle.tz_query.proofs.AnswerLemmas.{no_lines}
@@ -34,27 +34,27 @@ use Rattle.tz.proofs.FoundLemmas.{found_unique}
 use Rattle.tz_query.proofs.NumberLemmas.{parts_in_front, parts_unique}
 
 -- a line has no LF
-no_end_within : (line front rest : List ℕ) → IsLine line → line ≡ front ++ 10 ∷ rest → ⊥
+no_end_within : (line front rest : List ℕ) → IsLine line → line ≡ front ++ line_feed ∷ rest → ⊥
 no_end_within [] [] rest is e = cc
 no_end_within [] (x ∷ front) rest is e = cc
-no_end_within (b ∷ line) [] rest is e = let same : b ≡ 10 = cc in All-head (λ x. x ≢ 10) b line is same
-no_end_within (b ∷ line) (x ∷ front) rest is e = let same : line ≡ front ++ 10 ∷ rest = cc in no_end_within line front rest (All-tail (λ x. x ≢ 10) b line is) same
+no_end_within (b ∷ line) [] rest is e = let same : b ≡ line_feed = cc in All-head (λ x. x ≢ line_feed) b line is same
+no_end_within (b ∷ line) (x ∷ front) rest is e = let same : line ≡ front ++ line_feed ∷ rest = cc in no_end_within line front rest (All-tail (λ x. x ≢ line_feed) b line is) same
 
 -- what stands before the first LF, and what stands after it
-first_line_unique : (line line' rest rest' : List ℕ) → IsLine line → IsLine line' → line ++ 10 ∷ rest ≡ line' ++ 10 ∷ rest' → (line ≡ line') × (rest ≡ rest')
+first_line_unique : (line line' rest rest' : List ℕ) → IsLine line → IsLine line' → line ++ line_feed ∷ rest ≡ line' ++ line_feed ∷ rest' → (line ≡ line') × (rest ≡ rest')
 first_line_unique [] [] rest rest' is is' e = (refl, cc)
-first_line_unique [] (x ∷ line') rest rest' is is' e = let same : x ≡ 10 = cc in absurd (All-head (λ b. b ≢ 10) x line' is' same)
-first_line_unique (b ∷ line) [] rest rest' is is' e = let same : b ≡ 10 = cc in absurd (All-head (λ x. x ≢ 10) b line is same)
+first_line_unique [] (x ∷ line') rest rest' is is' e = let same : x ≡ line_feed = cc in absurd (All-head (λ b. b ≢ line_feed) x line' is' same)
+first_line_unique (b ∷ line) [] rest rest' is is' e = let same : b ≡ line_feed = cc in absurd (All-head (λ x. x ≢ line_feed) b line is same)
 first_line_unique (b ∷ line) (x ∷ line') rest rest' is is' e =
     let first : b ≡ x = cc in
-    let behind : line ++ 10 ∷ rest ≡ line' ++ 10 ∷ rest' = cc in
-    let more = first_line_unique line line' rest rest' (All-tail (λ y. y ≢ 10) b line is) (All-tail (λ y. y ≢ 10) x line' is') behind in
+    let behind : line ++ line_feed ∷ rest ≡ line' ++ line_feed ∷ rest' = cc in
+    let more = first_line_unique line line' rest rest' (All-tail (λ y. y ≢ line_feed) b line is) (All-tail (λ y. y ≢ line_feed) x line' is') behind in
     let front = more.0 in
     (cc, more.1)
 
 -- the first line ends at an LF, or it is all there is
 abbrev IsEnded : List ℕ → List ℕ → List (List ℕ) → Type 0
-IsEnded bytes line lines = (rest : List ℕ) × (bytes ≡ line ++ 10 ∷ rest) × IsCut rest lines
+IsEnded bytes line lines = (rest : List ℕ) × (bytes ≡ line ++ line_feed ∷ rest) × IsCut rest lines
 
 abbrev IsLast : List ℕ → List ℕ → List (List ℕ) → Type 0
 IsLast bytes line lines = (lines ≡ []) × (bytes ≡ line)
@@ -68,7 +68,7 @@ first_of_cut bytes line lines (inr ([], last, split, full, is)) =
 first_of_cut bytes line lines (inr (x ∷ front, last, split, full, is)) =
     let same : x ≡ line = cc in
     let behind : lines ≡ front ++ last ∷ [] = cc in
-    inl (ended front ++ last, is ∙ append_assoc x (10 ∷ ended front) last ∙ ap (λ l. l ++ 10 ∷ (ended front ++ last)) same, inr (front, last, behind, full, refl))
+    inl (ended front ++ last, is ∙ append_assoc x (line_feed ∷ ended front) last ∙ ap (λ l. l ++ line_feed ∷ (ended front ++ last)) same, inr (front, last, behind, full, refl))
 
 nothing_of_cut : (bytes : List ℕ) → IsCut bytes [] → bytes ≡ []
 nothing_of_cut bytes (inl is) = is
@@ -171,21 +171,21 @@ meeting_unique count count' f g same =
 -- a line asks for one thing
 query_unique : (line : List ℕ) (query query' : Query) → IsQueryLine line query → IsQueryLine line query' → query ≡ query'
 query_unique line (Time u n) (Time u' n') is is' =
-    let same : u ∷ pos n ∷ [] ≡ u' ∷ pos n' ∷ [] = (line_of_unique 84 84 (u ∷ pos n ∷ []) (u' ∷ pos n' ∷ []) line is.line_is is'.line_is).1 refl in
+    let same : u ∷ pos n ∷ [] ≡ u' ∷ pos n' ∷ [] = (line_of_unique time_letter time_letter (u ∷ pos n ∷ []) (u' ∷ pos n' ∷ []) line is.line_is is'.line_is).1 refl in
     let seconds : u ≡ u' = cc in
     let number : pos n ≡ pos n' = cc in
     let nanoseconds : n ≡ n' = omega (arith, ints, number) in
     ap (λ x. Time x n) seconds ∙ ap (λ x. Time u' x) nanoseconds
-query_unique line (Time u n) (Search f) is is' = absurd (omega (arith, (line_of_unique 84 70 (u ∷ pos n ∷ []) (numbers_of f) line is.line_is is'.line_is).0))
-query_unique line (Search f) (Time u n) is is' = absurd (omega (arith, (line_of_unique 70 84 (numbers_of f) (u ∷ pos n ∷ []) line is.line_is is'.line_is).0))
-query_unique line (Time u n) (Meeting count f) is is' = absurd (omega (arith, (line_of_unique 84 87 (u ∷ pos n ∷ []) (pos count ∷ numbers_of f) line is.line_is is'.line_is).0))
-query_unique line (Meeting count f) (Time u n) is is' = absurd (omega (arith, (line_of_unique 87 84 (pos count ∷ numbers_of f) (u ∷ pos n ∷ []) line is.line_is is'.line_is).0))
-query_unique line (Search f) (Meeting count g) is is' = absurd (omega (arith, (line_of_unique 70 87 (numbers_of f) (pos count ∷ numbers_of g) line is.line_is is'.line_is).0))
-query_unique line (Meeting count f) (Search g) is is' = absurd (omega (arith, (line_of_unique 87 70 (pos count ∷ numbers_of f) (numbers_of g) line is.line_is is'.line_is).0))
+query_unique line (Time u n) (Search f) is is' = absurd (omega (arith, (line_of_unique time_letter search_letter (u ∷ pos n ∷ []) (numbers_of f) line is.line_is is'.line_is).0))
+query_unique line (Search f) (Time u n) is is' = absurd (omega (arith, (line_of_unique search_letter time_letter (numbers_of f) (u ∷ pos n ∷ []) line is.line_is is'.line_is).0))
+query_unique line (Time u n) (Meeting count f) is is' = absurd (omega (arith, (line_of_unique time_letter meeting_letter (u ∷ pos n ∷ []) (pos count ∷ numbers_of f) line is.line_is is'.line_is).0))
+query_unique line (Meeting count f) (Time u n) is is' = absurd (omega (arith, (line_of_unique meeting_letter time_letter (pos count ∷ numbers_of f) (u ∷ pos n ∷ []) line is.line_is is'.line_is).0))
+query_unique line (Search f) (Meeting count g) is is' = absurd (omega (arith, (line_of_unique search_letter meeting_letter (numbers_of f) (pos count ∷ numbers_of g) line is.line_is is'.line_is).0))
+query_unique line (Meeting count f) (Search g) is is' = absurd (omega (arith, (line_of_unique meeting_letter search_letter (pos count ∷ numbers_of f) (numbers_of g) line is.line_is is'.line_is).0))
 query_unique line (Meeting count f) (Meeting count' g) is is' =
-    meeting_unique count count' f g ((line_of_unique 87 87 (pos count ∷ numbers_of f) (pos count' ∷ numbers_of g) line is.line_is is'.line_is).1 refl)
+    meeting_unique count count' f g ((line_of_unique meeting_letter meeting_letter (pos count ∷ numbers_of f) (pos count' ∷ numbers_of g) line is.line_is is'.line_is).1 refl)
 query_unique line (Search f) (Search g) is is' =
-    ap (λ x. Search x) (fields_unique f g ((line_of_unique 70 70 (numbers_of f) (numbers_of g) line is.line_is is'.line_is).1 refl))
+    ap (λ x. Search x) (fields_unique f g ((line_of_unique search_letter search_letter (numbers_of f) (numbers_of g) line is.line_is is'.line_is).1 refl))
 
 -- a refusal has one text
 fault_text_unique : (e : TzError) (text text' : List ℕ) → IsFaultText e text → IsFaultText e text' → text ≡ text'
@@ -239,7 +239,7 @@ module _ (z : Zone) (leaps : AreLeapSeconds z.leap_seconds) (u : ℤ) (n : ℕ) 
   time_answer_unique answer other (inr (e, text, fault, is, same)) (inl (d, shows, in_range, same')) = absurd (no_fault d e shows in_range fault)
   time_answer_unique answer other (inr (e, text, fault, is, same)) (inr (e', text', fault', is', same')) =
       let one = fault_text_unique e text text' is (subst (λ x. IsFaultText x text') (sym (fault_unique e e' fault fault')) is') in
-      same ∙ ap (λ t. 69 ∷ 32 ∷ t) one ∙ sym same'
+      same ∙ ap (λ t. codes "E " ++ t) one ∙ sym same'
 
 -- fields have one first fault
 first_fault_unique : (f : Fields) (a b : DateTimeError) → IsFirstFault f a → IsFirstFault f b → a ≡ b

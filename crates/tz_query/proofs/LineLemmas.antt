@@ -6,14 +6,14 @@ use Rattle.std.specs.Char.{digit_value}
 use Rattle.std.specs.Str.Parse.{AllDigits}
 use Rattle.std.proofs.lemmas.List.{drop_more, length-take-le, take-append-drop}
 use Rattle.std.proofs.lemmas.List.Elements.{All-nil, All-cons, All-append}
-use Rattle.tz_query.specs.Lines.{IsLine, IsLineEnd, IsFirstLine}
+use Rattle.tz_query.specs.Lines.{line_feed, IsLine, IsLineEnd, IsFirstLine}
 use Rattle.tz_base.specs.declared.calendar.Fields.{Fields}
-use Rattle.tz_query.specs.Numbers.{IsNumber, EndsDigits, AreNumbers, IsPartFront, ArePartsFront}
+use Rattle.tz_query.specs.Numbers.{hyphen, space, IsNumber, EndsDigits, AreNumbers, IsPartFront, ArePartsFront}
 use Rattle.tz_query.specs.Queries.{Query, Time, Search, Meeting, IsLineOf, IsTimeLine, IsSearchLine, IsMeetingLine, IsQueryLine, AreFieldsOfBits, numbers_of, IsTimeLineFront, IsSearchLineFront, IsMeetingLineFront}
 use Rattle.tz_query.proofs.NumberLemmas.{no_part_after, parts_unique, parts_in_front, numbers_from_parts}
 
 -- the first line ends at an LF, or where the bytes end
-pub first_line_to_end : (bytes : List ℕ) (i : ℕ) → i < length bytes → IsLine (take i bytes) → get_or bytes i 0 ≡ 10 → IsFirstLine bytes (take i bytes) (drop (i + 1) bytes)
+pub first_line_to_end : (bytes : List ℕ) (i : ℕ) → i < length bytes → IsLine (take i bytes) → get_or bytes i 0 ≡ line_feed → IsFirstLine bytes (take i bytes) (drop (i + 1) bytes)
 first_line_to_end bytes i within line at =
     record { tail = drop i bytes; cut = sym (take-append-drop i bytes); end = inl (drop_more bytes i 0 within ∙ ap (λ b. b ∷ drop (i + 1) bytes) at); without_end = line }
 
@@ -22,13 +22,13 @@ whole_line bytes line = record { tail = []; cut = sym (append-nil bytes); end = 
 
 -- no digit is LF
 digits_are_line : (digits : List ℕ) → AllDigits 10 digits → IsLine digits
-digits_are_line [] all = All-nil (λ b. b ≢ 10)
+digits_are_line [] all = All-nil (λ b. b ≢ line_feed)
 digits_are_line (d ∷ digits) all =
-    All-cons (λ b. b ≢ 10) d digits (λ e. let value : digit_value d ≡ 36 = ap digit_value e in absurd (omega (arith, value, all.0))) (digits_are_line digits all.1)
+    All-cons (λ b. b ≢ line_feed) d digits (λ e. let value : digit_value d ≡ 36 = ap digit_value e in absurd (omega (arith, value, all.0))) (digits_are_line digits all.1)
 
 number_is_line : (text : List ℕ) (n : ℤ) → IsNumber text n → IsLine text
 number_is_line text n (digits, numeral, inl is) = subst IsLine (sym is.0) (digits_are_line digits numeral.1)
-number_is_line text n (digits, numeral, inr is) = subst IsLine (sym is.0) (All-cons (λ b. b ≢ 10) 45 digits (λ e. absurd (omega (arith, e))) (digits_are_line digits numeral.1))
+number_is_line text n (digits, numeral, inr is) = subst IsLine (sym is.0) (All-cons (λ b. b ≢ line_feed) hyphen digits (λ e. absurd (omega (arith, e))) (digits_are_line digits numeral.1))
 
 -- where a line ends, its digits end
 line_end_ends_digits : (tail rest : List ℕ) → IsLineEnd tail rest → EndsDigits tail
@@ -37,9 +37,9 @@ line_end_ends_digits tail rest (inr is) = subst EndsDigits (sym is.0) tt
 
 -- numbers have no LF
 numbers_are_line : (text : List ℕ) (numbers : List ℤ) → AreNumbers text numbers → IsLine text
-numbers_are_line text [] are = subst IsLine (sym are) (All-nil (λ b. b ≢ 10))
+numbers_are_line text [] are = subst IsLine (sym are) (All-nil (λ b. b ≢ line_feed))
 numbers_are_line text (n ∷ numbers) (number, rest, whole, is, are) =
-    subst IsLine (sym whole) (All-cons (λ b. b ≢ 10) 32 (number ++ rest) (λ e. absurd (omega (arith, e))) (All-append (λ b. b ≢ 10) number rest (number_is_line number n is) (numbers_are_line rest numbers are)))
+    subst IsLine (sym whole) (All-cons (λ b. b ≢ line_feed) space (number ++ rest) (λ e. absurd (omega (arith, e))) (All-append (λ b. b ≢ line_feed) number rest (number_is_line number n is) (numbers_are_line rest numbers are)))
 
 module _ (letter : ℕ) (numbers : List ℤ) (bytes rest : List ℕ) where
   -- what stands in front of the bytes where their first line is such a line
@@ -55,7 +55,7 @@ module _ (letter : ℕ) (numbers : List ℤ) (bytes rest : List ℕ) where
     first.end,
   )
 
-  pub line_from_front : letter ≢ 10 → IsFrontOf → (line : List ℕ) × IsFirstLine bytes line rest × IsLineOf letter numbers line
+  pub line_from_front : letter ≢ line_feed → IsFrontOf → (line : List ℕ) × IsFirstLine bytes line rest × IsLineOf letter numbers line
   line_from_front plain (after, tail, is, are, end) =
       let parts = numbers_from_parts after numbers tail are in (
         letter ∷ parts.0,
@@ -63,7 +63,7 @@ module _ (letter : ℕ) (numbers : List ℤ) (bytes rest : List ℕ) where
           tail = tail;
           cut = is ∙ ap (λ bs. letter ∷ bs) parts.1;
           end = end;
-          without_end = All-cons (λ b. b ≢ 10) letter parts.0 plain (numbers_are_line parts.0 numbers parts.2);
+          without_end = All-cons (λ b. b ≢ line_feed) letter parts.0 plain (numbers_are_line parts.0 numbers parts.2);
         },
         record { parts = parts.0; whole = refl; are_numbers = parts.2 },
       )

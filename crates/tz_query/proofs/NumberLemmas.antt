@@ -7,7 +7,7 @@ use Rattle.std.specs.Str.Parse.{AllDigits, digits_value, digits_value_after}
 use Rattle.std.proofs.lemmas.Bool.{cases_lt}
 use Rattle.std.proofs.lemmas.Int.{ints}
 use Rattle.std.proofs.lemmas.List.{take_more}
-use Rattle.tz_query.specs.Numbers.{IsNumber, IsNumberFront, IsDigitsFront, IsCapped, EndsDigits, AreNumbers, IsPartFront, ArePartsFront}
+use Rattle.tz_query.specs.Numbers.{hyphen, space, IsNumber, IsNumberFront, IsDigitsFront, IsCapped, EndsDigits, AreNumbers, IsPartFront, ArePartsFront}
 
 AllDigits-push : (digits : List ℕ) (b : ℕ) → AllDigits 10 digits → digit_value b < 10 → AllDigits 10 (digits ++ b ∷ [])
 AllDigits-push [] b all is = (is, tt)
@@ -52,9 +52,9 @@ number_from_digits bytes digits rest size n front some (inl exact) fits is =
     record { text = digits; whole = front.whole; is_number = (digits, (some, front.all_digits), inl (refl, omega (arith, ints, is, exact))); ends = front.ends }
 number_from_digits bytes digits rest size n front some (inr past) fits is = absurd (omega (arith, ints, past.0, is, fits))
 
-pub number_from_minus : (bytes after digits rest : List ℕ) (size : ℕ) (n : ℤ) → bytes ≡ 45 ∷ after → IsDigitsFront after digits rest → 0 < length digits → IsCapped digits size → FitsSigned w64 n → n ≡ pos 0 -ℤ pos size → IsNumberFront bytes n rest
+pub number_from_minus : (bytes after digits rest : List ℕ) (size : ℕ) (n : ℤ) → bytes ≡ hyphen ∷ after → IsDigitsFront after digits rest → 0 < length digits → IsCapped digits size → FitsSigned w64 n → n ≡ pos 0 -ℤ pos size → IsNumberFront bytes n rest
 number_from_minus bytes after digits rest size n minus front some (inl exact) fits is =
-    record { text = 45 ∷ digits; whole = minus ∙ ap (λ xs. 45 ∷ xs) front.whole; is_number = (digits, (some, front.all_digits), inr (refl, omega (arith, ints, is, exact))); ends = front.ends }
+    record { text = hyphen ∷ digits; whole = minus ∙ ap (λ xs. hyphen ∷ xs) front.whole; is_number = (digits, (some, front.all_digits), inr (refl, omega (arith, ints, is, exact))); ends = front.ends }
 number_from_minus bytes after digits rest size n minus front some (inr past) fits is = absurd (omega (arith, ints, past.0, is, fits))
 
 -- what stands in front of bytes that have no digit there, or a minus
@@ -62,7 +62,7 @@ digits_stand_first : (bytes digits rest : List ℕ) → IsDigitsFront bytes digi
 digits_stand_first bytes [] rest front some ends = absurd (omega arith)
 digits_stand_first bytes (d ∷ digits) rest front some ends = subst EndsDigits front.whole ends front.all_digits.0
 
-minus_stands_first : (bytes after digits rest : List ℕ) → bytes ≡ 45 ∷ after → IsDigitsFront bytes digits rest → 0 < length digits → ⊥
+minus_stands_first : (bytes after digits rest : List ℕ) → bytes ≡ hyphen ∷ after → IsDigitsFront bytes digits rest → 0 < length digits → ⊥
 minus_stands_first bytes after digits rest minus front some = digits_stand_first bytes digits rest front some (subst EndsDigits (sym minus) (λ digit. absurd (omega (arith, digit))))
 
 -- a number in front of bytes is plain, or has a minus
@@ -70,7 +70,7 @@ abbrev IsPlainFront : List ℕ → ℤ → List ℕ → Type 0
 IsPlainFront bytes n rest = (digits : List ℕ) × IsDigitsFront bytes digits rest × (0 < length digits) × (n ≡ pos (digits_value 10 digits))
 
 abbrev IsMinusFront : List ℕ → ℤ → List ℕ → Type 0
-IsMinusFront bytes n rest = (after : List ℕ) × (digits : List ℕ) × (bytes ≡ 45 ∷ after) × IsDigitsFront after digits rest × (0 < length digits) × (n ≡ neg_ℤ (pos (digits_value 10 digits)))
+IsMinusFront bytes n rest = (after : List ℕ) × (digits : List ℕ) × (bytes ≡ hyphen ∷ after) × IsDigitsFront after digits rest × (0 < length digits) × (n ≡ neg_ℤ (pos (digits_value 10 digits)))
 
 number_front_cases : (bytes : List ℕ) (n : ℤ) (rest : List ℕ) → IsNumberFront bytes n rest → IsPlainFront bytes n rest ⊎ IsMinusFront bytes n rest
 number_front_cases bytes n rest front = cases front.is_number
@@ -101,14 +101,14 @@ number_front_unique bytes n n' rest rest' front front' = both (number_front_case
         (value ∙ ap (λ ds. neg_ℤ (pos (digits_value 10 ds))) same.0 ∙ sym value', same.1)
 
 -- where no number is read there is none of 64 bits
-pub no_number_without_digits : (bytes : List ℕ) → EndsDigits bytes → ((after : List ℕ) → bytes ≢ 45 ∷ after) → (n : ℤ) (rest : List ℕ) → FitsSigned w64 n → ¬ IsNumberFront bytes n rest
+pub no_number_without_digits : (bytes : List ℕ) → EndsDigits bytes → ((after : List ℕ) → bytes ≢ hyphen ∷ after) → (n : ℤ) (rest : List ℕ) → FitsSigned w64 n → ¬ IsNumberFront bytes n rest
 no_number_without_digits bytes ends plain n rest fits front =
     elim (number_front_cases bytes n rest front) [
       | inl is ↦ digits_stand_first bytes is.0 rest is.1 is.2 ends
       | inr is ↦ plain is.0 is.2
     ]
 
-pub no_number_after_minus : (bytes after : List ℕ) → bytes ≡ 45 ∷ after → EndsDigits after → (n : ℤ) (rest : List ℕ) → FitsSigned w64 n → ¬ IsNumberFront bytes n rest
+pub no_number_after_minus : (bytes after : List ℕ) → bytes ≡ hyphen ∷ after → EndsDigits after → (n : ℤ) (rest : List ℕ) → FitsSigned w64 n → ¬ IsNumberFront bytes n rest
 no_number_after_minus bytes after minus ends n rest fits front =
     elim (number_front_cases bytes n rest front) [
       | inl is ↦ minus_stands_first bytes after is.0 rest minus is.1 is.2
@@ -126,7 +126,7 @@ no_number_of_64_bits bytes digits after size front some capped out n rest fits n
     cases is (inl exact) = out (subst (FitsSigned w64) (omega (arith, ints, is.3, exact, ap (λ ds. digits_value 10 ds) (digits_unique bytes digits is.0 after rest front is.1).0)) fits)
     cases is (inr past) = omega (arith, ints, past.1, fits, is.3, ap (λ ds. digits_value 10 ds) (digits_unique bytes digits is.0 after rest front is.1).0)
 
-pub no_negative_number_of_64_bits : (bytes minus_after digits after : List ℕ) (size : ℕ) → bytes ≡ 45 ∷ minus_after → IsDigitsFront minus_after digits after → 0 < length digits → IsCapped digits size → ¬ FitsSigned w64 (pos 0 -ℤ pos size) → (n : ℤ) (rest : List ℕ) → FitsSigned w64 n → ¬ IsNumberFront bytes n rest
+pub no_negative_number_of_64_bits : (bytes minus_after digits after : List ℕ) (size : ℕ) → bytes ≡ hyphen ∷ minus_after → IsDigitsFront minus_after digits after → 0 < length digits → IsCapped digits size → ¬ FitsSigned w64 (pos 0 -ℤ pos size) → (n : ℤ) (rest : List ℕ) → FitsSigned w64 n → ¬ IsNumberFront bytes n rest
 no_negative_number_of_64_bits bytes minus_after digits after size minus front some capped out n rest fits number =
     elim (number_front_cases bytes n rest number) [
       | inl is ↦ minus_stands_first bytes minus_after is.0 rest minus is.1 is.2
@@ -156,8 +156,8 @@ no_number_before_more text rest n front more n' is =
 
 -- the number after a space, and what follows it, are these alone
 pub part_unique : (bytes : List ℕ) (n n' : ℤ) (rest rest' : List ℕ) → IsPartFront bytes n rest → IsPartFront bytes n' rest' → (n ≡ n') × (rest ≡ rest')
-part_unique bytes n n' rest rest' (after, space, front) (after', space', front') =
-    let same : after' ≡ after = cc (space, space') in
+part_unique bytes n n' rest rest' (after, spaced, front) (after', spaced', front') =
+    let same : after' ≡ after = cc (spaced, spaced') in
     number_front_unique after n n' rest rest' front (subst (λ bs. IsNumberFront bs n' rest') same front')
 
 -- so are as many numbers
@@ -190,7 +190,7 @@ EndsDigits-parts text (n ∷ numbers) tail (number, rest, whole, is, are) ends =
 pub parts_in_front : (text : List ℕ) (numbers : List ℤ) (tail : List ℕ) → AreNumbers text numbers → EndsDigits tail → ArePartsFront (text ++ tail) numbers tail
 parts_in_front text [] tail are ends = ap (λ t. t ++ tail) are
 parts_in_front text (n ∷ numbers) tail (number, rest, whole, is, are) ends =
-    let cut : text ++ tail ≡ 32 ∷ (number ++ (rest ++ tail)) = ap (λ t. t ++ tail) whole ∙ ap (λ t. 32 ∷ t) (append_assoc number rest tail) in (
+    let cut : text ++ tail ≡ space ∷ (number ++ (rest ++ tail)) = ap (λ t. t ++ tail) whole ∙ ap (λ t. space ∷ t) (append_assoc number rest tail) in (
       rest ++ tail,
       (number ++ (rest ++ tail), cut, record { text = number; whole = refl; is_number = is; ends = EndsDigits-parts rest numbers tail are ends }),
       parts_in_front rest numbers tail are ends,
@@ -198,21 +198,21 @@ parts_in_front text (n ∷ numbers) tail (number, rest, whole, is, are) ends =
 
 pub numbers_from_parts : (bytes : List ℕ) (numbers : List ℤ) (tail : List ℕ) → ArePartsFront bytes numbers tail → (text : List ℕ) × (bytes ≡ text ++ tail) × AreNumbers text numbers
 numbers_from_parts bytes [] tail are = ([], are, refl)
-numbers_from_parts bytes (n ∷ numbers) tail (after, (behind, space, front), are) =
+numbers_from_parts bytes (n ∷ numbers) tail (after, (behind, spaced, front), are) =
     let more = numbers_from_parts after numbers tail are in
     let text = front.text in (
-      32 ∷ (text ++ more.0),
-      space ∙ ap (λ bs. 32 ∷ bs) (front.whole ∙ ap (λ bs. text ++ bs) more.1 ∙ sym (append_assoc text more.0 tail)),
+      space ∷ (text ++ more.0),
+      spaced ∙ ap (λ bs. space ∷ bs) (front.whole ∙ ap (λ bs. text ++ bs) more.1 ∙ sym (append_assoc text more.0 tail)),
       (text, more.0, refl, front.is_number, more.2),
     )
 
 -- where no space stands in front, or no number after it, there is no such number
-pub no_part_without_space : (bytes : List ℕ) → ((after : List ℕ) → bytes ≢ 32 ∷ after) → (n : ℤ) (rest : List ℕ) → ¬ IsPartFront bytes n rest
-no_part_without_space bytes none n rest (after, space, front) = none after space
+pub no_part_without_space : (bytes : List ℕ) → ((after : List ℕ) → bytes ≢ space ∷ after) → (n : ℤ) (rest : List ℕ) → ¬ IsPartFront bytes n rest
+no_part_without_space bytes none n rest (after, spaced, front) = none after spaced
 
-pub no_part_without_number : (bytes after : List ℕ) → bytes ≡ 32 ∷ after → ((n : ℤ) (rest : List ℕ) → FitsSigned w64 n → ¬ IsNumberFront after n rest) → (n : ℤ) (rest : List ℕ) → FitsSigned w64 n → ¬ IsPartFront bytes n rest
-no_part_without_number bytes after space none n rest fits (after', space', front) =
-    let same : after' ≡ after = cc (space', space) in
+pub no_part_without_number : (bytes after : List ℕ) → bytes ≡ space ∷ after → ((n : ℤ) (rest : List ℕ) → FitsSigned w64 n → ¬ IsNumberFront after n rest) → (n : ℤ) (rest : List ℕ) → FitsSigned w64 n → ¬ IsPartFront bytes n rest
+no_part_without_number bytes after spaced none n rest fits (after', spaced', front) =
+    let same : after' ≡ after = cc (spaced', spaced) in
     none n rest fits (subst (λ bs. IsNumberFront bs n rest) same front)
 
 -- another number is too great for its type

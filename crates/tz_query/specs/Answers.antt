@@ -131,4 +131,5 @@ AreSearchesAlike answer other = (answer ≡ other) ⊎ (answer ≡ codes "E OutO
 abbrev pub AreAlike : List (List ℕ) → List (List ℕ) → Type 0
 AreAlike answer other =
     AreSearchesAlike answer other
-    ⊎ ((weeks : List (List (List ℕ))) × (others : List (List (List ℕ))) × AllZip AreSearchesAlike weeks others × (answer ≡ meeting_lines weeks) × (other ≡ meeting_lines others))
+    ⊎ ((weeks : List (List (List ℕ))) × (others : List (List (List ℕ))) × AllZip AreSearchesAlike weeks others × (answer ≡ meeting_lines weeks)
+    × (other ≡ meeting_lines others))

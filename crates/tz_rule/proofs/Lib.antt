@@ -12,5 +12,6 @@ pub mod DaylightLemmas
 pub mod MidYear
 pub mod ChangePoints
 pub mod RuleTypes
+pub mod StretchLemmas
 pub mod SameLemmas
 pub mod Casts

@@ -15,6 +15,7 @@ pub mod Parts
 pub mod Pairing
 pub mod Daylight
 pub mod Rule
+pub mod Stretches
 pub mod Same
 pub mod SameDay
 pub mod SameRule

@@ -1,15 +1,17 @@
-//! For the crates above, not part of the public surface: the type of a rule at an instant, its starts and ends, and the parts of UTC's zone.
+//! For the crates above, not part of the public surface: the type of a rule at an instant and around it, its starts and ends, and the parts of UTC's zone.
 
-ghost use Rattle.std.specs.Prelude.{◌≡◌, IfOk, IfErr, MatchBool};
+ghost use Rattle.std.specs.Prelude.{◌≡◌, ◌≤ℤ◌, ◌<ℤ◌, IfOk, IfErr, IfSome, MatchBool};
 ghost use Rattle.tz_rule.specs.Alternate.{start_of, end_of, IsNearYear, HasInnerChanges};
 ghost use Rattle.tz_rule.specs.LocalTimeType.{LocalTimeType};
 ghost use Rattle.tz_rule.specs.Rule.{IsRuleType};
+ghost use Rattle.tz_rule.specs.Stretches.{IsStretchOf};
 
+pub use crate::timezone::stretch::Stretch;
 pub use crate::timezone::utc::{no_rule, utc_types};
 use crate::timezone::{AlternateTime, LocalTimeType, TransitionRule};
 use tz_base::error::TzError;
 
-/// The type of the rule at an instant. An alternate rule answers in the UTC years that are two or more from both ends of `i32`.
+/// The type of the rule at an instant. An alternate rule has one in the UTC years that are two or more from both ends of `i32`.
 #[tactic(auto, unfolding(crate::specs::Rule::IsRuleType))]
 pub fn find_local_time_type(
     rule: &TransitionRule,
@@ -45,4 +47,13 @@ pub fn has_inner_changes(rule: &AlternateTime) -> bool
     ensures { MatchBool result (HasInnerChanges rule.now) (¬ HasInnerChanges rule.now) }
 {
     rule.has_inner_changes()
+}
+
+/// A stretch in which the instant lies. Some instants that have a type are given none.
+#[inline(always)]
+pub fn stretch(rule: &AlternateTime, unix_time: i64) -> Option<Stretch>
+    ensures of { IfSome result (λ s. IsStretchOf rule.now s) }
+    ensures within { IfSome result (λ s. (s.from ≤ℤ unix_time) × (unix_time <ℤ s.until)) }
+{
+    rule.stretch(unix_time)
 }

@@ -23,7 +23,7 @@ pub fn rule_types_are_unique()
     ensures { (rule : Rule) (u : ℤ) (t t' : LocalTimeType) → IsRuleType rule u t → IsRuleType rule u t' → t ≡ t' }
 {}
 
-/// A rule has a type at each instant of the years in which it answers.
+/// A rule has a type at each instant of the years over which it is defined.
 pub fn rule_types_are_total(rule: &TransitionRule)
     ensures { (u : ℤ) → IsInRuleYears u → (t : LocalTimeType) × IsRuleType rule.now u t }
 {

@@ -1,6 +1,5 @@
 -- The clock of a zone with transitions, from the leap time of the instant.
-use Rattle.std.proofs.Common.{◌≡◌, ◌≢◌, ℕ, ◌-◌, ◌≤◌, ◌⊎◌, ◌∙◌, sym, ap, arith, inl, inr, ℤ, ◌≤ℤ◌, ◌<ℤ◌, List, [], Option, Some, None}
-use Rattle.std.specs.Prelude.{slice_get}
+use Rattle.std.proofs.Common.{◌≡◌, ◌≢◌, ℕ, ◌-◌, ◌⊎◌, ◌∙◌, sym, ap, arith, inl, inr, ℤ, ◌≤ℤ◌, ◌<ℤ◌, List, [], Option, Some, None}
 use Rattle.std.proofs.lemmas.Bool.{cases_lt}
 use Rattle.std.proofs.lemmas.Int.{ints}
 use Rattle.std.proofs.lemmas.Option.{same_Some, none-some}
@@ -21,13 +20,6 @@ last_unique transitions last last' at at' = same_Some last last' (sym at ∙ at'
 -- where some transition is the last, there are some
 pub some_from_last : (transitions : List Transition) (last : Transition) → IsLast transitions last → transitions ≢ []
 some_from_last transitions last at e = none-some last (rw e at at)
-
-module _ (z : Zone) (l : ℤ) (k : ℕ) (later : (i : ℕ) (change : Transition) → k ≤ i → slice_get z.transitions i ≡ Some change → l <ℤ change.unix_leap_time) (t : LocalTimeType) where
-  pub type_before_first : k ≡ 0 → IsTypeAt z 0 t → IsTransitionType z l t
-  type_before_first none type = inl ((λ i change at. later i change (omega (arith, none)) at), type)
-
-  pub type_of_last_reached : k ≢ 0 → (change : Transition) → slice_get z.transitions (k - 1) ≡ Some change → change.unix_leap_time ≤ℤ l → IsTypeAt z change.type_index t → IsTransitionType z l t
-  type_of_last_reached some change at come type = inr (k - 1, change, (at, come, (λ j next above at_next. later j next (omega (arith, some, above)) at_next)), type)
 
 -- the count of transitions that are reached tells the last one that is
 pub transition_type_of_last : (z : Zone) (l : ℤ) (k : ℕ) (t : LocalTimeType) → AreReached z.transitions l k → AreAhead z.transitions l k → IsTypeOfLast z k t → IsTransitionType z l t
@@ -69,15 +61,16 @@ fault_from_refused z last is_last u refused e is = inr (is, no_type, not_over)
 type_at_unique : (z : Zone) (i : ℕ) (t t' : LocalTimeType) → IsTypeAt z i t → IsTypeAt z i t' → t ≡ t'
 type_at_unique z i t t' at at' = same_Some t t' (sym at ∙ at')
 
-transition_type_unique : (z : Zone) (l : ℤ) (t t' : LocalTimeType) → IsTransitionType z l t → IsTransitionType z l t' → t ≡ t'
+-- at a leap time the transitions give one type
+pub transition_type_unique : (z : Zone) (l : ℤ) (t t' : LocalTimeType) → IsTransitionType z l t → IsTransitionType z l t' → t ≡ t'
 transition_type_unique z l t t' (inl (before, type)) (inl (before', type')) = type_at_unique z 0 t t' type type'
-transition_type_unique z l t t' (inl (before, type)) (inr (i, change, (at, come, later), type')) = absurd (omega (arith, ints, before i change at, come))
-transition_type_unique z l t t' (inr (i, change, (at, come, later), type)) (inl (before, type')) = absurd (omega (arith, ints, before i change at, come))
-transition_type_unique z l t t' (inr (i, change, (at, come, later), type)) (inr (j, change', (at', come', later'), type')) =
+transition_type_unique z l t t' (inl (before, type)) (inr (i, change, (at, reached, later), type')) = absurd (omega (arith, ints, before i change at, reached))
+transition_type_unique z l t t' (inr (i, change, (at, reached, later), type)) (inl (before, type')) = absurd (omega (arith, ints, before i change at, reached))
+transition_type_unique z l t t' (inr (i, change, (at, reached, later), type)) (inr (j, change', (at', reached', later'), type')) =
     elim (cases_lt i j) [
-      | inl below ↦ absurd (omega (arith, ints, later j change' below at', come'))
+      | inl below ↦ absurd (omega (arith, ints, later j change' below at', reached'))
       | inr above ↦ elim (cases_lt j i) [
-        | inl below ↦ absurd (omega (arith, ints, later' i change below at, come))
+        | inl below ↦ absurd (omega (arith, ints, later' i change below at, reached))
         | inr above' ↦
             let same : j ≡ i = omega arith in
             let change_same : change' ≡ change = same_Some change' change (sym at' ∙ rw same at) in

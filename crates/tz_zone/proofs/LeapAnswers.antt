@@ -55,8 +55,8 @@ first_begun_at leaps l from high b start is within =
       first = λ u from_u begun.
           by_lt_z (u +ℤ l.correction) l.unix_leap_time
           (λ before. absurd (begun (l, start, before)))
-          (λ come. elim (int_max-one begin from) [
-            | inl e ↦ omega (arith, ints, is, e, come)
+          (λ reached. elim (int_max-one begin from) [
+            | inl e ↦ omega (arith, ints, is, e, reached)
             | inr e ↦ omega (arith, ints, is, e, from_u)
           ]);
     }
@@ -107,14 +107,14 @@ refused_from_check leaps u k reached i l at outside =
 -- where the moment of a leap time is no instant, it has no effect
 pub effect_none : (leaps : List LeapSecond) (v m : ℤ) → IsMomentOf leaps v m → ¬ IsInstant m → IsEffectRefused leaps v
 effect_none leaps v m moment outside u effect =
-    outside (IsInstant-from_bounds m moment.low (omega (arith, ints, moment.least u effect.has_come, instant_bounds u effect.instant)))
+    outside (IsInstant-from_bounds m moment.low (omega (arith, ints, moment.least u effect.reached, instant_bounds u effect.instant)))
 
 -- where it has no leap time either
 pub effect_refused : (leaps : List LeapSecond) → AreLeapSeconds leaps → (v m : ℤ) → IsMomentOf leaps v m → IsLeapTimeRefused leaps m → IsEffectRefused leaps v
 effect_refused leaps are v m moment (inl before) u effect = absurd (moment.begun before)
 effect_refused leaps are v m moment (inr past) u effect =
-    effect.has_come.1.not_refused (inr (past_later leaps are m u (moment.least u effect.has_come) past))
+    effect.reached.1.not_refused (inr (past_later leaps are m u (moment.least u effect.reached) past))
 
 -- and otherwise the moment is the effect
 pub effect_found : (leaps : List LeapSecond) (v m : ℤ) → v ≢ negsuc 9223372036854775807 → IsMomentOf leaps v m → IsInstant m → ¬ IsLeapTimeRefused leaps m → IsEffect leaps v m
-effect_found leaps v m high moment instant answered = record { not_least = high; instant = instant; has_come = moment.comes answered; least = moment.least }
+effect_found leaps v m high moment instant answered = record { not_least = high; instant = instant; reached = moment.reached answered; least = moment.least }

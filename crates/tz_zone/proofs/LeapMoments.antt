@@ -8,12 +8,12 @@ use Rattle.tz_zone.specs.LeapTime.{IsInstant, IsStart, correction_before, IsMome
 use Rattle.tz_zone.specs.ValidZone.{AreLeapSeconds, HasBegunAt}
 use Rattle.tz_zone.proofs.LeapSteps.{IsTimeCount, IsMoment}
 use Rattle.tz_zone.proofs.LeapLists.{time_at, time_at-is, correction_before-suc, correction_without_start, item_at}
-use Rattle.tz_zone.proofs.LeapTimes.{least_from_moment, comes_at_moment, begun_at_moment, no_start_up_to, leap_not_below_start, moment_low, instant_bounds}
+use Rattle.tz_zone.proofs.LeapTimes.{least_from_moment, reached_at_moment, begun_at_moment, no_start_up_to, leap_not_below_start, moment_low, instant_bounds}
 
 pub times_from_items : (leaps : List LeapSecond) (v : ℤ) (k : ℕ) → k ≤ length leaps → ((i : ℕ) (l : LeapSecond) → i < k → slice_get leaps i ≡ Some l → l.unix_leap_time ≤ℤ v) → ((i : ℕ) (l : LeapSecond) → k ≤ i → slice_get leaps i ≡ Some l → v <ℤ l.unix_leap_time) → IsTimeCount (length leaps) (time_at leaps) v k
-times_from_items leaps v k within come later = record {
+times_from_items leaps v k within up_to later = record {
   within = within;
-  come = λ i h. let item = item_at leaps i (omega arith) in rw (time_at-is leaps i item.0 item.1) (come i item.0 h item.1);
+  up_to = λ i h. let item = item_at leaps i (omega arith) in rw (time_at-is leaps i item.0 item.1) (up_to i item.0 h item.1);
   later = λ i low high. let item = item_at leaps i high in rw (time_at-is leaps i item.0 item.1) (later i item.0 low item.1);
 }
 
@@ -58,7 +58,7 @@ IsMoment-greater leaps v i l at =
 pub IsMomentOf-from_count : (leaps : List LeapSecond) → AreLeapSeconds leaps → (v u : ℤ) (k : ℕ) → IsInstant v → HasBegunAt leaps v → IsTimeCount (length leaps) (time_at leaps) v k → IsMoment (time_at leaps) (correction_before leaps) v k u → IsMomentOf leaps v u
 IsMomentOf-from_count leaps are v u k instant begun times moment = record {
   least = least_from_moment leaps are v u k times moment;
-  comes = comes_at_moment leaps are v u k times moment;
+  reached = reached_at_moment leaps are v u k times moment;
   begun = begun_at_moment leaps are v u k begun times moment;
   low = moment_low leaps are v u k begun (omega (arith, ints, instant_bounds v instant)) times moment;
 }
@@ -66,8 +66,8 @@ IsMomentOf-from_count leaps are v u k instant begun times moment = record {
 -- the moment of a leap time before a truncated start is that of the start's
 pub IsMomentOf-early : (leaps : List LeapSecond) → AreLeapSeconds leaps → (v m : ℤ) (l : LeapSecond) → IsStart leaps l → v <ℤ l.unix_leap_time → IsMomentOf leaps l.unix_leap_time m → IsMomentOf leaps v m
 IsMomentOf-early leaps are v m l start early moment = record {
-  least = λ w come. moment.least w (come.0, come.1, leap_not_below_start leaps are w come.0 l start come.1);
-  comes = λ answered. let come = moment.comes answered in (come.0, come.1, omega (arith, ints, come.2));
+  least = λ w reached. moment.least w (reached.0, reached.1, leap_not_below_start leaps are w reached.0 l start reached.1);
+  reached = λ answered. let reached = moment.reached answered in (reached.0, reached.1, omega (arith, ints, reached.2));
   begun = moment.begun;
   low = moment.low;
 }

@@ -108,7 +108,7 @@ module _ (n : ℕ) (t c : ℕ → ℤ) (steps : AreSteps n t c) where
 -- just the first k times are at most v
 pub record IsTimeCount (n : ℕ) (t : ℕ → ℤ) (v : ℤ) (k : ℕ) : Type 0 where
   pub within : k ≤ n
-  pub come : (i : ℕ) → i < k → t i ≤ℤ v
+  pub up_to : (i : ℕ) → i < k → t i ≤ℤ v
   pub later : (i : ℕ) → k ≤ i → i < n → v <ℤ t i
 
 -- the instant of leap time v: v less the correction, but not before the last leap second is reached
@@ -130,15 +130,15 @@ module _ (n : ℕ) (t c : ℕ → ℤ) (steps : AreSteps n t c) where
         | inr more ↦ more
       ]
 
-  -- where a place whose time is after v is reached, the leap time has come to v
+  -- where a place whose time is after v is reached, leap time v is
   past_time : (v w : ℤ) (k m : ℕ) → IsTimeCount n t v k → k < m → IsCount n t c w m → v ≤ℤ (w +ℤ c m)
   past_time v w k m times less count =
       let last : m - 1 + 1 ≡ m = omega arith in
       omega (arith, ints, ap c last, times.later (m - 1) (omega arith) (omega (arith, count.within)), count.reached (m - 1) (omega arith), steps.step (m - 1) (omega (arith, count.within)))
 
-  -- at that instant the leap time has come to v
-  pub moment_comes : (v u : ℤ) (k m : ℕ) → IsTimeCount n t v k → IsMoment t c v k u → IsCount n t c u m → v ≤ℤ (u +ℤ c m)
-  moment_comes v u k m times moment count =
+  -- at that instant leap time v is reached
+  pub moment_reached : (v u : ℤ) (k m : ℕ) → IsTimeCount n t v k → IsMoment t c v k u → IsCount n t c u m → v ≤ℤ (u +ℤ c m)
+  moment_reached v u k m times moment count =
       elim (cases_lt k m) [
         | inl less ↦ past_time v u k m times less count
         | inr more ↦
@@ -146,11 +146,11 @@ module _ (n : ℕ) (t c : ℕ → ℤ) (steps : AreSteps n t c) where
             omega (arith, ints, ap c same, moment.after)
       ]
 
-  -- before that instant no leap time has come to v
+  -- before that instant it is not
   pub moment_least : (v u w : ℤ) (k m : ℕ) → IsTimeCount n t v k → IsMoment t c v k u → w <ℤ u → IsCount n t c w m → (w +ℤ c m) <ℤ v
   moment_least v u w k m times moment before count =
       elim (cases_lt m k) [
-        | inl less ↦ omega (arith, ints, count.beyond m (omega arith) (omega (arith, times.within)), times.come m less)
+        | inl less ↦ omega (arith, ints, count.beyond m (omega arith) (omega (arith, times.within)), times.up_to m less)
         | inr more ↦ elim moment.tight [
           | inl e ↦ elim (cases_lt k m) [
             | inl after ↦ absurd (omega (arith, ints, count.reached k after, times.later k (omega arith) (omega (arith, count.within))))

@@ -3,9 +3,9 @@ use Rattle.std.proofs.Common.{◌≡◌, ℕ, zero, suc, ◌+◌, ◌<◌, ◌�
 use Rattle.std.proofs.lemmas.Int.{ints, by_lt_z}
 use Rattle.std.proofs.lemmas.Option.{slice_get_within}
 use Rattle.tz_zone.specs.Table.{LeapSecond}
-use Rattle.tz_zone.specs.LeapTime.{IsInstant, IsStart, correction_before, IsReached, IsBeforeStart, IsPastInstants, IsLeapTimeRefused, IsLeapTime, HasComeTo, IsEffect}
+use Rattle.tz_zone.specs.LeapTime.{IsInstant, IsStart, correction_before, IsReached, IsBeforeStart, IsPastInstants, IsLeapTimeRefused, IsLeapTime, IsTimeReached, IsEffect}
 use Rattle.tz_zone.specs.ValidZone.{AreLeapSeconds, HasBegunAt}
-use Rattle.tz_zone.proofs.LeapSteps.{AreSteps, correction_bound, time_bound, leap_mono, leap_from_start, IsTimeCount, IsMoment, moment_comes, moment_least, reached_down}
+use Rattle.tz_zone.proofs.LeapSteps.{AreSteps, correction_bound, time_bound, leap_mono, leap_from_start, IsTimeCount, IsMoment, moment_reached, moment_least, reached_down}
 use Rattle.tz_zone.proofs.LeapLists.{time_at, time_at-is, correction_before-suc, correction_without_start, correction_at_truncated, IsReachedCount, AreSteps-from_leaps, IsReached-at, IsReached-below, IsCorrection-from_count, correction_from_count, count_exists}
 
 -- instants are the numbers of 64 bits
@@ -89,7 +89,7 @@ module _ (leaps : List LeapSecond) (are : AreLeapSeconds leaps) where
   start_reached u k l count start begun =
       by_lt_z (u +ℤ l.correction) l.unix_leap_time
       (λ before. absurd (begun (l, start, before)))
-      (λ come. IsReached-below leaps u k 0 l count (start.0, omega (arith, ints, correction_at_truncated leaps l start)))
+      (λ reached. IsReached-below leaps u k 0 l count (start.0, omega (arith, ints, correction_at_truncated leaps l start)))
 
   -- and no leap time is below that of the start
   pub leap_not_below_start : (u v : ℤ) (l : LeapSecond) → IsStart leaps l → IsLeapTime leaps u v → l.unix_leap_time ≤ℤ v
@@ -118,23 +118,23 @@ module _ (leaps : List LeapSecond) (are : AreLeapSeconds leaps) where
           (λ high. absurd (h (λ inside. absurd (omega (arith, ints, instant_bounds z inside)))))
           (λ high. IsInstant-from_bounds z low high))
 
-  -- no leap time comes to v before its moment
-  pub least_from_moment : (v u : ℤ) (k : ℕ) → IsTimeCount (length leaps) (time_at leaps) v k → IsMoment (time_at leaps) (correction_before leaps) v k u → (w : ℤ) → HasComeTo leaps v w → u ≤ℤ w
-  least_from_moment v u k times moment w come =
+  -- no leap time is reached before its moment
+  pub least_from_moment : (v u : ℤ) (k : ℕ) → IsTimeCount (length leaps) (time_at leaps) v k → IsMoment (time_at leaps) (correction_before leaps) v k u → (w : ℤ) → IsTimeReached leaps v w → u ≤ℤ w
+  least_from_moment v u k times moment w reached =
       by_lt_z w u
       (λ before.
       let count = count_exists leaps are w in
       let less = moment_least (length leaps) (time_at leaps) (correction_before leaps) steps v u w k count.0 times moment before count.1 in
-      absurd (omega (arith, ints, leap_time_from_count w come.0 count.0 count.1 come.1, come.2)))
+      absurd (omega (arith, ints, leap_time_from_count w reached.0 count.0 count.1 reached.1, reached.2)))
       (λ h. h)
 
-  -- at its moment a leap time has come, unless the moment has no leap time
-  pub comes_at_moment : (v u : ℤ) (k : ℕ) → IsTimeCount (length leaps) (time_at leaps) v k → IsMoment (time_at leaps) (correction_before leaps) v k u → ¬ IsLeapTimeRefused leaps u → HasComeTo leaps v u
-  comes_at_moment v u k times moment answered =
+  -- at its moment a leap time is reached, unless the moment has no leap time
+  pub reached_at_moment : (v u : ℤ) (k : ℕ) → IsTimeCount (length leaps) (time_at leaps) v k → IsMoment (time_at leaps) (correction_before leaps) v k u → ¬ IsLeapTimeRefused leaps u → IsTimeReached leaps v u
+  reached_at_moment v u k times moment answered =
       let count = count_exists leaps are u in
-      (u +ℤ correction_before leaps count.0, IsLeapTime-from_count u count.0 count.1 answered, moment_comes (length leaps) (time_at leaps) (correction_before leaps) steps v u k count.0 times moment count.1)
+      (u +ℤ correction_before leaps count.0, IsLeapTime-from_count u count.0 count.1 answered, moment_reached (length leaps) (time_at leaps) (correction_before leaps) steps v u k count.0 times moment count.1)
 
-  -- where no record's time is up to a leap time, and a truncated start has come at it, there is no truncated start
+  -- where no record's time is up to a leap time, and a truncated start is reached at it, there is no truncated start
   pub no_start_up_to : (v : ℤ) → HasBegunAt leaps v → IsTimeCount (length leaps) (time_at leaps) v 0 → (l : LeapSecond) → ¬ IsStart leaps l
   no_start_up_to v begun times l start =
       let inside = slice_get_within leaps 0 l start.0 in
@@ -159,7 +159,7 @@ module _ (leaps : List LeapSecond) (are : AreLeapSeconds leaps) where
       by_count (suc i) times e =
           let time = time_bound (length leaps) (time_at leaps) (correction_before leaps) steps i (omega (arith, times.within)) in
           let bound = correction_bound (length leaps) (time_at leaps) (correction_before leaps) steps (suc i) times.within in
-          omega (arith, ints, times.come i (omega arith), bound)
+          omega (arith, ints, times.up_to i (omega arith), bound)
 
       by_tight : ((u +ℤ correction_before leaps k) ≡ v) ⊎ ((i : ℕ) × (suc i ≡ k) × ((u +ℤ correction_before leaps i) ≡ time_at leaps i)) → negsuc 9223372036854775807 ≤ℤ u
       by_tight (inl e) = by_count k times e
@@ -170,4 +170,4 @@ module _ (leaps : List LeapSecond) (are : AreLeapSeconds leaps) where
 
   -- a leap time has one effect
   pub effect_unique : (v u u' : ℤ) → IsEffect leaps v u → IsEffect leaps v u' → u ≡ u'
-  effect_unique v u u' a b = omega (arith, ints, a.least u' b.has_come, b.least u a.has_come)
+  effect_unique v u u' a b = omega (arith, ints, a.least u' b.reached, b.least u a.reached)

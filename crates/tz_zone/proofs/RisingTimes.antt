@@ -1,4 +1,4 @@
--- Lists of items whose times rise: what comes up to a time is the front of the list.
+-- Lists of items whose times rise: what is up to a time is the front of the list.
 use Rattle.std.proofs.Common.{◌≡◌, ℕ, zero, suc, ◌+◌, ◌-◌, ◌<◌, ◌≤◌, arith, ap, sym, ◌∙◌, ℤ, ◌≤ℤ◌, ◌<ℤ◌, List, length, get_or, Some, inl, inr}
 use Rattle.std.specs.Prelude.{slice_get}
 use Rattle.std.proofs.lemmas.Int.{ints, by_lt_z}
@@ -15,8 +15,8 @@ abbrev pub Rise : {X : Type 0} → (X → ℤ) → List X → Type 0
 Rise {X} time xs = (i j : ℕ) (x y : X) → i < j → slice_get xs i ≡ Some x → slice_get xs j ≡ Some y → time x <ℤ time y
 
 module _ {X : Type 0} (time : X → ℤ) (xs : List X) (rise : Rise time xs) (v : ℤ) (k : ℕ) (within : k ≤ length xs) where
-  pub come_before_point : ((place : ℕ) → place + 1 ≡ k → (x : X) × (slice_get xs place ≡ Some x) × (time x ≤ℤ v)) → (i : ℕ) (x : X) → i < k → slice_get xs i ≡ Some x → time x ≤ℤ v
-  come_before_point before i x h at =
+  pub up_to_before_point : ((place : ℕ) → place + 1 ≡ k → (x : X) × (slice_get xs place ≡ Some x) × (time x ≤ℤ v)) → (i : ℕ) (x : X) → i < k → slice_get xs i ≡ Some x → time x ≤ℤ v
+  up_to_before_point before i x h at =
       let last = before (k - 1) (omega arith) in
       elim (cases_lt i (k - 1)) [
         | inl less ↦ omega (arith, ints, rise i (k - 1) x last.0 less at last.1, last.2)

@@ -1,54 +1,26 @@
 -- Between two transitions the clock keeps its type, and from the last one on it is that of the rule.
-use Rattle.std.proofs.Common.{◌≡◌, ◌≢◌, ℕ, zero, suc, ◌+◌, ◌-◌, ◌<◌, ◌≤◌, inl, inr, refl, sym, ap, ◌∙◌, subst, arith, ℤ, pos, negsuc, ◌+ℤ◌, ◌≤ℤ◌, ◌<ℤ◌, List, [], ◌∷◌, ◌++◌, length, get_or, Some, None}
+use Rattle.std.proofs.Common.{◌≡◌, ◌≢◌, ℕ, zero, suc, Bool, true, false, cond, ◌+◌, ◌-◌, ◌<◌, ◌≤◌, inl, inr, refl, sym, ap, ◌∙◌, subst, arith, ℤ, pos, ◌+ℤ◌, ◌≤ℤ◌, ◌<ℤ◌, List, [], ◌∷◌, ◌++◌, length, get_or, Some, None}
 use Rattle.std.specs.Prelude.{slice_get}
-use Rattle.std.proofs.lemmas.Int.{ints, by_lt_z}
+use Rattle.std.proofs.lemmas.Int.{ints}
 use Rattle.std.proofs.lemmas.Bool.{cases_lt}
 use Rattle.std.proofs.lemmas.Option.{slice_get_within, slice_get-get_or, same_Some}
 use Rattle.tz_rule.specs.LocalTimeType.{LocalTimeType}
 use Rattle.tz_rule.specs.Alternate.{AlternateTime}
 use Rattle.tz_rule.specs.Rule.{IsRuleType}
+use Rattle.tz_rule.specs.Stretches.{type_by, IsStretchOf}
 use Rattle.tz_rule.specs.declared.timezone.rule.TransitionRule.{TransitionRule}
+use Rattle.tz_rule.specs.declared.timezone.stretch.Stretch.{Stretch}
+use Rattle.tz_rule.proofs.UtcYears.{IsReading-from_rule_year}
 use Rattle.tz_rule.specs.declared.timezone.rule.TransitionRule.TheVariants.{Fixed, Alternate}
-use Rattle.tz_zone.specs.Table.{Transition, LeapSecond, Zone}
-use Rattle.tz_zone.specs.LeapTime.{IsInstant, correction_before, IsBeforeStart, IsLeapTimeRefused, IsLeapTime, IsCorrection, IsEffect}
+use Rattle.tz_zone.specs.Table.{Transition, Zone}
+use Rattle.tz_zone.specs.LeapTime.{IsLeapTimeRefused, IsLeapTime}
 use Rattle.tz_zone.specs.Clock.{IsTypeAt, IsTransitionType, IsLast, IsTypeAfter, IsTypeWithout, IsClock}
 use Rattle.tz_zone.specs.ValidZone.{AreLeapSeconds, IsSoundTable}
 use Rattle.tz_zone.specs.Segments.{rule_types, numbered_types, IsStretch, IsRuledFrom}
-use Rattle.tz_zone.proofs.LeapLists.{count_exists, correction_without_start}
-use Rattle.tz_zone.proofs.LeapTimes.{IsLeapTime-from_count, leap_time_mono, past_later, begun_later, not_refused_within}
+use Rattle.tz_zone.proofs.LeapLists.{count_exists}
+use Rattle.tz_zone.proofs.LeapTimes.{IsLeapTime-from_count, leap_time_mono, begun_later, not_refused_within}
 use Rattle.tz_zone.proofs.RisingTimes.{Rise, transitions_rise}
-use Rattle.tz_zone.proofs.Clocks.{type_before_first, type_of_last_reached, clock_before_last, clock_from_last}
-
--- no leap second is one of none
-nothing_at : (leaps : List LeapSecond) → leaps ≡ [] → (i : ℕ) (l : LeapSecond) → slice_get leaps i ≡ Some l → ⊥
-nothing_at leaps none i l at = let within = slice_get_within leaps i l at in let empty : length leaps ≡ 0 = ap length none in omega (arith, within, empty)
-
--- without leap seconds a time takes effect at itself
-pub effect_without : (leaps : List LeapSecond) → leaps ≡ [] → (v : ℤ) → v ≢ negsuc 9223372036854775807 → IsInstant v → IsEffect leaps v v
-effect_without leaps none v not_least fits =
-    record {
-      not_least = not_least;
-      instant = fits;
-      has_come = (v, leap, omega (arith, ints));
-      least = λ w come. omega (arith, ints, time_is w come.0 come.1.value, come.2);
-    }
-  where
-    no_correction : correction_before leaps 0 ≡ pos 0
-    no_correction = correction_without_start leaps (λ l start. nothing_at leaps none 0 l start.0)
-
-    answered : ¬ IsLeapTimeRefused leaps v
-    answered (inl (l, start, before)) = nothing_at leaps none 0 l start.0
-    answered (inr (i, l, reached, outside)) = nothing_at leaps none i l reached.0
-
-    leap : IsLeapTime leaps v v
-    leap = record {
-      not_refused = answered;
-      value = (correction_before leaps 0, inl (refl, λ i l reached. nothing_at leaps none i l reached.0), omega (arith, ints, no_correction));
-    }
-
-    time_is : (w l : ℤ) → (c : ℤ) × IsCorrection leaps w c × (l ≡ w +ℤ c) → l ≡ w
-    time_is w l (c, inl (zero_is, none_reached), is) = omega (arith, ints, zero_is, no_correction, is)
-    time_is w l (c, inr (i, leap_second, reached, is_it, last), is) = absurd (nothing_at leaps none i leap_second reached.0)
+use Rattle.tz_zone.proofs.Clocks.{clock_before_last, clock_from_last}
 
 module _ (z : Zone) (sound : IsSoundTable z) where
   are : AreLeapSeconds z.leap_seconds
@@ -62,29 +34,7 @@ module _ (z : Zone) (sound : IsSoundTable z) where
       let count = count_exists z.leap_seconds are u in
       (_, IsLeapTime-from_count z.leap_seconds are u count.0 count.1 answered)
 
-  -- an effect does not lie before a truncated start
-  begun_at_effect : (time from : ℤ) → IsEffect z.leap_seconds time from → ¬ IsBeforeStart z.leap_seconds from
-  begun_at_effect time from effect early = effect.has_come.1.not_refused (inl early)
-
-  answered_before : (time until : ℤ) → IsEffect z.leap_seconds time until → (v : ℤ) → ¬ IsBeforeStart z.leap_seconds v → v <ℤ until → ¬ IsLeapTimeRefused z.leap_seconds v
-  answered_before time until effect v begun before (inl early) = begun early
-  answered_before time until effect v begun before (inr past) =
-      effect.has_come.1.not_refused (inr (past_later z.leap_seconds are v until (omega (arith, ints, before)) past))
-
-  -- before the effect of a leap time it has not come
-  leap_before : (time until : ℤ) → IsEffect z.leap_seconds time until → (v : ℤ) → ¬ IsBeforeStart z.leap_seconds v → v <ℤ until → (l : ℤ) × IsLeapTime z.leap_seconds v l × (l <ℤ time)
-  leap_before time until effect v begun before =
-      let leap = leap_unless_refused v (answered_before time until effect v begun before) in (
-        leap.0,
-        leap.1,
-        by_lt_z leap.0 time (λ less. less) (λ come. absurd (omega (arith, ints, before, effect.least v (leap.0, leap.1, come)))),
-      )
-
-  -- from it on it has
-  come_from : (time from : ℤ) → IsEffect z.leap_seconds time from → (v l : ℤ) → from ≤ℤ v → IsLeapTime z.leap_seconds v l → time ≤ℤ l
-  come_from time from effect v l after leap = omega (arith, ints, effect.has_come.2, leap_time_mono z.leap_seconds are from v effect.has_come.0 l after effect.has_come.1 leap)
-
-  module _ (place : ℕ) (next : Transition) (at : slice_get z.transitions place ≡ Some next) (until : ℤ) (effect : IsEffect z.leap_seconds next.unix_leap_time until) where
+  module _ (place : ℕ) (next : Transition) (at : slice_get z.transitions place ≡ Some next) where
     -- what comes from the place on is later than what is before the next transition
     later_from : (l : ℤ) → l <ℤ next.unix_leap_time → (i : ℕ) (change : Transition) → place ≤ i → slice_get z.transitions i ≡ Some change → l <ℤ change.unix_leap_time
     later_from l before i change above at_i =
@@ -111,28 +61,26 @@ module _ (z : Zone) (sound : IsSoundTable z) where
           ],
         )
 
-    clock_of : (v l : ℤ) → IsLeapTime z.leap_seconds v l → l <ℤ next.unix_leap_time → (t : LocalTimeType) → IsTransitionType z l t → IsClock z v t
-    clock_of v l leap before t type = clock_before_last z are last_of.0 last_of.1 v l leap t (omega (arith, ints, before, last_of.2)) type
+    module _ (v l : ℤ) (leap : IsLeapTime z.leap_seconds v l) (before : l <ℤ next.unix_leap_time) (t : LocalTimeType) where
+      clock_of : IsTransitionType z l t → IsClock z v t
+      clock_of type = clock_before_last z are last_of.0 last_of.1 v l leap t (omega (arith, ints, before, last_of.2)) type
 
-    -- before the first transition, from where the leap seconds have begun
-    pub stretch_before_first : place ≡ 0 → (from : ℤ) → ¬ IsBeforeStart z.leap_seconds from → (t : LocalTimeType) → IsTypeAt z 0 t → IsStretch z from until t
-    stretch_before_first none from begun t type v after before =
-        let leap = leap_before next.unix_leap_time until effect v (begun_later z.leap_seconds are from v after begun) before in
-        clock_of v leap.0 leap.1 leap.2 t (type_before_first z leap.0 place (later_from leap.0 leap.2) t none type)
+      -- before the first transition
+      pub clock_before_first : place ≡ 0 → IsTypeAt z 0 t → IsClock z v t
+      clock_before_first none type = clock_of (inl (λ i other at_i. later_from l before i other (omega (arith, none)) at_i, type))
 
-    -- between two transitions
-    pub stretch_between : place ≢ 0 → (change : Transition) → slice_get z.transitions (place - 1) ≡ Some change → (from : ℤ) → IsEffect z.leap_seconds change.unix_leap_time from → (t : LocalTimeType) → IsTypeAt z change.type_index t → IsStretch z from until t
-    stretch_between some change at_change from effect_change t type v after before =
-        let begun = begun_later z.leap_seconds are from v after (begun_at_effect change.unix_leap_time from effect_change) in
-        let leap = leap_before next.unix_leap_time until effect v begun before in
-        clock_of v leap.0 leap.1 leap.2 t (type_of_last_reached z leap.0 place (later_from leap.0 leap.2) t some change at_change (come_from change.unix_leap_time from effect_change v leap.0 after leap.1) type)
+      -- between two transitions
+      pub clock_between : place ≢ 0 → (change : Transition) → slice_get z.transitions (place - 1) ≡ Some change → IsTypeAt z change.type_index t → change.unix_leap_time ≤ℤ l → IsClock z v t
+      clock_between some change at_change type reached =
+          clock_of (inr (place - 1, change, (at_change, reached, λ i other above at_i. later_from l before i other (omega (arith, some, above)) at_i), type))
 
-  -- from the last transition on
-  pub ruled_from_last : (last : Transition) → IsLast z.transitions last → (seam : ℤ) → IsEffect z.leap_seconds last.unix_leap_time seam → IsRuledFrom z seam
-  ruled_from_last last is_last seam effect rule extra v after reach t type =
-      let begun = begun_later z.leap_seconds are seam v after (begun_at_effect last.unix_leap_time seam effect) in
+  -- from an instant on at which the last transition is reached
+  pub ruled_from_last : (last : Transition) → IsLast z.transitions last → (seam l : ℤ) → IsLeapTime z.leap_seconds seam l → last.unix_leap_time ≤ℤ l → IsRuledFrom z seam
+  ruled_from_last last is_last seam l leap_seam reached rule extra v after reach t type =
+      let begun = begun_later z.leap_seconds are seam v after (λ early. leap_seam.not_refused (inl early)) in
       let leap = leap_unless_refused v (not_refused_within z.leap_seconds are v begun reach) in
-      clock_from_last z are last is_last v leap.0 leap.1 t (come_from last.unix_leap_time seam effect v leap.0 after leap.1) (subst (λ r. IsTypeAfter r v t) (sym extra) type)
+      let later = leap_time_mono z.leap_seconds are seam v l leap.0 after leap_seam leap.1 in
+      clock_from_last z are last is_last v leap.0 leap.1 t (omega (arith, ints, reached, later)) (subst (λ r. IsTypeAfter r v t) (sym extra) type)
 
 -- without transitions always
 pub ruled_without : (z : Zone) → z.transitions ≡ [] → (seam : ℤ) → IsRuledFrom z seam
@@ -154,11 +102,6 @@ number_of_type z i t at = slice_get-front z.types (rule_types z.extra_rule) i t 
 
 pub number_of_rule : (z : Zone) (rule : TransitionRule) → z.extra_rule ≡ Some rule → (i j : ℕ) (t : LocalTimeType) → j ≡ length z.types + i → slice_get (rule_types (Some rule)) i ≡ Some t → slice_get (numbered_types z) j ≡ Some t
 number_of_rule z rule extra i j t is at = slice_get-behind z.types (rule_types z.extra_rule) i j t is (ap (λ r. slice_get (rule_types r) i) extra ∙ at)
-
--- no items are none
-pub none_of_length : {X : Type 0} (xs : List X) → length xs ≡ 0 → xs ≡ []
-none_of_length [] none = refl
-none_of_length (x ∷ xs) none = absurd (omega (arith, none))
 
 -- a zone has a type with number 0, and that of each transition
 pub type_exists : (z : Zone) → IsSoundTable z → (t : LocalTimeType) × IsTypeAt z 0 t
@@ -182,16 +125,6 @@ pub fixed_stretch : (z : Zone) (seam : ℤ) → IsRuledFrom z seam → (fixed : 
 unfolding IsRuleType
 fixed_stretch z seam ruled fixed extra v after before = ruled (Fixed fixed) extra v after (omega (arith, ints, before)) fixed refl
 
--- where the last transition has not come, fewer have come than there are
-pub last_to_come : (transitions : List Transition) (last : Transition) → IsLast transitions last → (l : ℤ) → l <ℤ last.unix_leap_time → (place : ℕ) →
-    ((i : ℕ) (change : Transition) → i < place → slice_get transitions i ≡ Some change → change.unix_leap_time ≤ℤ l) → place < length transitions
-last_to_come transitions last is_last l before place come =
-    let within = slice_get_within transitions (length transitions - 1) last is_last in
-    elim (cases_lt (length transitions - 1) place) [
-      | inl passed ↦ absurd (omega (arith, ints, before, come (length transitions - 1) last passed is_last))
-      | inr not_passed ↦ omega (arith, within, not_passed)
-    ]
-
 -- the type of an alternate rule is one of two
 pub other_type : (r : AlternateTime) (u : ℤ) (t : LocalTimeType) → IsRuleType (Alternate r) u t → t ≢ r.std → t ≡ r.dst
 unfolding IsRuleType
@@ -201,3 +134,19 @@ other_type r u t (years, inr (not_daylight, is)) other = absurd (other is)
 -- one second is a stretch
 pub stretch_of_second : (z : Zone) (u : ℤ) (t : LocalTimeType) → IsClock z u t → IsStretch z u (u +ℤ pos 1) t
 stretch_of_second z u t clock v after before = let same : u ≡ v = omega (arith, ints, after, before) in subst (λ w. IsClock z w t) same clock
+
+-- the number of a rule's type
+pub number_by_daylight : (z : Zone) (r : AlternateTime) → z.extra_rule ≡ Some (Alternate r) → (daylight : Bool) (j : ℕ) → j ≡ length z.types + cond daylight 1 0 → slice_get (numbered_types z) j ≡ Some (type_by r daylight)
+number_by_daylight z r extra true j is = number_of_rule z (Alternate r) extra 1 j r.dst is refl
+number_by_daylight z r extra false j is = number_of_rule z (Alternate r) extra 0 j r.std is refl
+
+-- an alternate rule answers only where leap times surely fit
+within_reach : (r : AlternateTime) (v : ℤ) (t : LocalTimeType) → IsRuleType (Alternate r) v t → v ≤ℤ pos 80000000000000000
+unfolding IsRuleType
+within_reach r v t ((year, is, rule_year), type) = omega (arith, ints, (IsReading-from_rule_year v year is rule_year).1)
+
+-- a stretch of the rule is one of the zone from the seam on
+pub stretch_of_rule : (z : Zone) (seam : ℤ) → IsRuledFrom z seam → (r : AlternateTime) → z.extra_rule ≡ Some (Alternate r) → (s : Stretch) → IsStretchOf r s → (from : ℤ) → s.from ≤ℤ from → seam ≤ℤ from → IsStretch z from s.until (type_by r s.is_daylight)
+stretch_of_rule z seam ruled r extra s told from after_start after_seam v after before =
+    let type = told v (omega (arith, ints, after_start, after)) before in
+    ruled (Alternate r) extra v (omega (arith, ints, after_seam, after)) (within_reach r v _ type) _ type

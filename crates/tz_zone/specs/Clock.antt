@@ -20,17 +20,17 @@ AreReached transitions l k = (i : ℕ) (change : Transition) → i < k → slice
 abbrev pub AreAhead : List Transition → ℤ → ℕ → Type 0
 AreAhead transitions l k = (i : ℕ) (change : Transition) → k ≤ i → slice_get transitions i ≡ Some change → l <ℤ change.unix_leap_time
 
--- transition i is the last whose time has come at a leap time
+-- transition i is the last that is reached at a leap time
 abbrev pub IsLastReached : List Transition → ℤ → ℕ → Transition → Type 0
 IsLastReached transitions l i change =
     (slice_get transitions i ≡ Some change) × (change.unix_leap_time ≤ℤ l)
     × ((j : ℕ) (later : Transition) → i < j → slice_get transitions j ≡ Some later → l <ℤ later.unix_leap_time)
 
--- no transition's time has come at a leap time
+-- no transition is reached at a leap time
 abbrev pub IsBeforeAll : List Transition → ℤ → Type 0
 IsBeforeAll transitions l = (i : ℕ) (change : Transition) → slice_get transitions i ≡ Some change → l <ℤ change.unix_leap_time
 
--- the type of the last transition whose time has come, or type number 0 before the first
+-- the type of the last transition that is reached, or type number 0 before the first
 abbrev pub IsTransitionType : Zone → ℤ → LocalTimeType → Type 0
 IsTransitionType z l t =
     (IsBeforeAll z.transitions l × IsTypeAt z 0 t)
@@ -70,7 +70,7 @@ IsTypeWith z last u t =
 abbrev pub IsClock : Zone → ℤ → LocalTimeType → Type 0
 IsClock z u t = ((z.transitions ≡ []) × IsTypeWithout z z.extra_rule u t) ⊎ ((last : Transition) × IsLast z.transitions last × IsTypeWith z last u t)
 
--- the zone is over: its last transition has come, and no rule goes on
+-- the zone is over: its last transition is reached, and no rule goes on
 abbrev pub IsOver : Zone → ℤ → Type 0
 IsOver z u = (last : Transition) × (l : ℤ) × IsLast z.transitions last × IsLeapTime z.leap_seconds u l × (last.unix_leap_time ≤ℤ l) × (z.extra_rule ≡ None)
 

@@ -65,16 +65,16 @@ pub record IsLeapTime (leaps : List LeapSecond) (u v : ℤ) : Type 0 where
   pub not_refused : ¬ IsLeapTimeRefused leaps u
   pub value : (c : ℤ) × IsCorrection leaps u c × (v ≡ u +ℤ c)
 
--- the leap time of u is v or later
-abbrev pub HasComeTo : List LeapSecond → ℤ → ℤ → Type 0
-HasComeTo leaps v u = (l : ℤ) × IsLeapTime leaps u l × (v ≤ℤ l)
+-- leap time v is reached at u: that of u is not below it
+abbrev pub IsTimeReached : List LeapSecond → ℤ → ℤ → Type 0
+IsTimeReached leaps v u = (l : ℤ) × IsLeapTime leaps u l × (v ≤ℤ l)
 
--- the instant at which a leap time takes effect: the least one whose leap time has come to it
+-- the instant at which a leap time takes effect: the least one at which it is reached
 pub record IsEffect (leaps : List LeapSecond) (v u : ℤ) : Type 0 where
   pub not_least : v ≢ negsuc 9223372036854775807
   pub instant : IsInstant u
-  pub has_come : HasComeTo leaps v u
-  pub least : (w : ℤ) → HasComeTo leaps v w → u ≤ℤ w
+  pub reached : IsTimeReached leaps v u
+  pub least : (w : ℤ) → IsTimeReached leaps v w → u ≤ℤ w
 
 -- no instant is the effect
 abbrev pub IsEffectRefused : List LeapSecond → ℤ → Type 0
@@ -82,7 +82,7 @@ IsEffectRefused leaps v = (u : ℤ) → ¬ IsEffect leaps v u
 
 -- the whole number m is the effect of v, if it is an instant with a leap time; otherwise there is none
 pub record IsMomentOf (leaps : List LeapSecond) (v m : ℤ) : Type 0 where
-  pub least : (w : ℤ) → HasComeTo leaps v w → m ≤ℤ w
-  pub comes : ¬ IsLeapTimeRefused leaps m → HasComeTo leaps v m
+  pub least : (w : ℤ) → IsTimeReached leaps v w → m ≤ℤ w
+  pub reached : ¬ IsLeapTimeRefused leaps m → IsTimeReached leaps v m
   pub begun : ¬ IsBeforeStart leaps m
   pub low : negsuc 9223372036854775807 ≤ℤ m

@@ -1,12 +1,14 @@
 -- Spans of time through which the clock of a zone has one type. (RFC 8536, section 3.2: transition times and types; 3.3: the footer.)
-use Rattle.std.specs.Prelude.{◌≡◌, ℤ, pos, ◌≤ℤ◌, ◌<ℤ◌, List, [], ◌∷◌, ◌++◌, Option, Some, None, slice_get}
+use Rattle.std.specs.Prelude.{◌≡◌, ℤ, pos, ◌+ℤ◌, ◌≤ℤ◌, ◌<ℤ◌, List, [], ◌∷◌, ◌++◌, Option, Some, None, slice_get}
 use Rattle.tz_rule.specs.LocalTimeType.{LocalTimeType}
 use Rattle.tz_rule.specs.Rule.{IsRuleType}
 use Rattle.tz_rule.specs.declared.timezone.rule.TransitionRule.{TransitionRule}
 use Rattle.tz_rule.specs.declared.timezone.rule.TransitionRule.TheVariants.{Fixed, Alternate}
-use Rattle.tz_zone.specs.Table.{Zone}
+use Rattle.tz_zone.specs.Table.{LeapSecond, Zone}
+use Rattle.tz_zone.specs.LeapTime.{IsLeapTime}
 use Rattle.tz_zone.specs.Clock.{IsClock}
 use Rattle.tz_zone.specs.declared.inner.segment.Segment.{Segment}
+use Rattle.tz_zone.specs.declared.inner.span.LeapSpan.{LeapSpan}
 
 -- the types of a rule
 abbrev pub rule_types : Option TransitionRule → List LocalTimeType
@@ -29,4 +31,9 @@ IsSegmentOf z s = (t : LocalTimeType) × (slice_get (numbered_types z) s.number 
 -- from an instant on the clock has the type of the rule, as far as leap times surely fit 64 bits
 abbrev pub IsRuledFrom : Zone → ℤ → Type 0
 IsRuledFrom z seam =
-    (rule : TransitionRule) → z.extra_rule ≡ Some rule → (v : ℤ) → seam ≤ℤ v → v ≤ℤ pos 80000000000000000 → (t : LocalTimeType) → IsRuleType rule v t → IsClock z v t
+    (rule : TransitionRule) → z.extra_rule ≡ Some rule → (v : ℤ) → seam ≤ℤ v → v ≤ℤ pos 80000000000000000 → (t : LocalTimeType) → IsRuleType rule v t
+    → IsClock z v t
+
+-- throughout a span leap time is ahead of Unix time by its correction; it ends where leap times surely fit 64 bits
+abbrev pub IsLeapSpan : List LeapSecond → LeapSpan → Type 0
+IsLeapSpan leaps s = (s.until ≤ℤ pos 80000000000000000) × ((v : ℤ) → s.from ≤ℤ v → v <ℤ s.until → IsLeapTime leaps v (v +ℤ s.correction))

@@ -24,7 +24,9 @@ HasType z i = HasTypeAtPlace z.transitions (length z.types) i
 
 -- the transition at a place comes before the next one
 abbrev pub RisesAtPlace : List Transition → ℕ → Type 0
-RisesAtPlace transitions i = (change next : Transition) → slice_get transitions i ≡ Some change → slice_get transitions (i + 1) ≡ Some next → change.unix_leap_time <ℤ next.unix_leap_time
+RisesAtPlace transitions i =
+    (change next : Transition) → slice_get transitions i ≡ Some change → slice_get transitions (i + 1) ≡ Some next
+    → change.unix_leap_time <ℤ next.unix_leap_time
 
 abbrev pub RisesAt : Zone → ℕ → Type 0
 RisesAt z i = RisesAtPlace z.transitions i
@@ -67,7 +69,7 @@ pub record AreLeapSeconds (leaps : List LeapSecond) : Type 0 where
   pub first : (l : LeapSecond) → slice_get leaps 0 ≡ Some l → MayBeFirst l
   pub apart : (i : ℕ) → FollowsAt leaps i
 
--- a truncated start has come at a leap time
+-- a truncated start is reached at a leap time
 abbrev pub HasBegunAt : List LeapSecond → ℤ → Type 0
 HasBegunAt leaps v = (l : LeapSecond) → IsStart leaps l → l.unix_leap_time ≤ℤ v
 
@@ -77,7 +79,9 @@ IsRuleTypeAt leaps rule v t = (u : ℤ) × IsEffect leaps v u × IsRuleType rule
 
 -- where a zone has an extra rule, and a last transition that is not before a truncated start
 abbrev pub AtLast : Zone → (TransitionRule → Transition → Type 0) → Type 0
-AtLast z P = (rule : TransitionRule) (last : Transition) → z.extra_rule ≡ Some rule → IsLast z.transitions last → HasBegunAt z.leap_seconds last.unix_leap_time → P rule last
+AtLast z P =
+    (rule : TransitionRule) (last : Transition) → z.extra_rule ≡ Some rule → IsLast z.transitions last → HasBegunAt z.leap_seconds last.unix_leap_time
+    → P rule last
 
 -- the rule answers at the last transition
 abbrev pub RuleAnswers : Zone → Type 0
@@ -91,7 +95,8 @@ RuleAgrees z = AtLast z (λ rule last. (t : LocalTimeType) → IsRuleTypeAt z.le
 abbrev pub IsFirstTransitionFault : List Transition → ℕ → TimeZoneError → Type 0
 IsFirstTransitionFault transitions types e =
     (i : ℕ) × ((j : ℕ) → j < i → HasTypeAtPlace transitions types j × RisesAtPlace transitions j)
-    × (((e ≡ InvalidLocalTimeTypeIndex) × ¬ HasTypeAtPlace transitions types i) ⊎ ((e ≡ InvalidTransition) × HasTypeAtPlace transitions types i × ¬ RisesAtPlace transitions i))
+    × (((e ≡ InvalidLocalTimeTypeIndex) × ¬ HasTypeAtPlace transitions types i)
+    ⊎ ((e ≡ InvalidTransition) × HasTypeAtPlace transitions types i × ¬ RisesAtPlace transitions i))
 
 -- there are types, transitions name them and rise, and leap seconds are such
 pub record IsSoundTable (z : Zone) : Type 0 where

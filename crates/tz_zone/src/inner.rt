@@ -1,19 +1,21 @@
 //! For the crates above, and no part of the public surface: leap times, where they take effect, and a zone's transitions seen one at a time.
 
 ghost use Rattle.std.specs.Prelude.{◌≡◌, ℕ, ◌+◌, true, false, ◌<◌, ◌≤◌, ◌↔◌, ◌+ℤ◌, ◌≤ℤ◌, ◌<ℤ◌, length, slice_get, ℤ, IsTrue, IfOk, IfErr, IfSome, IfNone, MatchBool, MatchOption, Some, ◌-ℤ◌};
-ghost use Rattle.tz_zone.specs.Table.{Transition, LeapSecond};
+ghost use Rattle.tz_zone.specs.Table.{LeapSecond};
 ghost use Rattle.tz_zone.specs.LeapTime.{IsInstant, IsStart, correction_at_start as correction_of_start, correction_before as correction_at_place, IsReached, IsBeforeStart, IsFirstBegun, IsLeapTimeRefused, IsLeapTime, IsMomentOf, IsEffect, IsEffectRefused};
-ghost use Rattle.tz_zone.specs.ValidZone.{AreLeapSeconds, HasBegunAt, ExpiresAt, IsPlainTable, IsRising};
+ghost use Rattle.tz_zone.specs.ValidZone.{AreLeapSeconds, HasBegunAt, ExpiresAt, IsPlainTable};
 
+mod leap_spans;
 mod lookup;
 mod parts;
 mod reached;
 mod segment;
 mod segments;
+mod span;
 mod transitions;
 
 use crate::partition::{Places, partition_point};
-use crate::timezone::{LeapSecond, Transition};
+use crate::timezone::LeapSecond;
 pub use lookup::{find_local_time_type, other_parts, type_of_last};
 pub use parts::OtherParts;
 pub use reached::{transitions_reached, transitions_reached_between};
@@ -30,7 +32,8 @@ fn truncated_start(leap_seconds: &[LeapSecond]) -> Option<&LeapSecond>
     ensures { MatchOption result ((l : LeapSecond) → ¬ IsStart leap_seconds.now l) (λ l. IsStart leap_seconds.now l.now) }
 {
     let first = leap_seconds.first()?;
-    if first.correction().unsigned_abs() == 1 {
+    let correction = first.correction();
+    if correction == 1 || correction == -1 {
         return None;
     }
     Some(first)
@@ -109,7 +112,7 @@ pub fn first_begun(leap_seconds: &[LeapSecond], from: i64, high: i64) -> Option<
     Some(begin as i64)
 }
 
-/// Whether a truncated start has come at the leap time.
+/// Whether a truncated start is reached at the leap time.
 pub(crate) fn has_begun_at(leap_seconds: &[LeapSecond], unix_leap_time: i64) -> bool
     ensures { MatchBool result (HasBegunAt leap_seconds.now unix_leap_time) (¬ HasBegunAt leap_seconds.now unix_leap_time) }
 {
@@ -183,30 +186,6 @@ impl Places for LeapSecondsUpTo<'_> {
     }
 }
 
-/// Transitions, tested whether their time is not above a leap time.
-#[derive(Clone, Copy)]
-struct TransitionsUpTo<'a> {
-    transitions: &'a [Transition],
-    unix_leap_time: i64,
-}
-
-impl Places for TransitionsUpTo<'_> {
-    ghost use Rattle.std.specs.Prelude.{ℕ, ◌≡◌, ◌≤ℤ◌, Some, length, slice_get};
-    ghost use Rattle.tz_zone.specs.Table.{Transition};
-
-    ghost count = { λ s. length s.transitions.now };
-
-    ghost passes = { λ s place. (change : Transition) × (slice_get s.transitions.now place ≡ Some change) × (change.unix_leap_time ≤ℤ s.unix_leap_time) };
-
-    fn len(&self) -> usize {
-        self.transitions.len()
-    }
-
-    fn passes_at(&self, place: usize) -> bool {
-        self.transitions[place].unix_leap_time() <= self.unix_leap_time
-    }
-}
-
 /// Whether the instant stays in 64 bits with each of the corrections.
 fn stays_with_all(leap_seconds: &[LeapSecond], unix_time: i64) -> bool
     ensures { MatchBool result
@@ -224,7 +203,7 @@ fn stays_with_all(leap_seconds: &[LeapSecond], unix_time: i64) -> bool
     true
 }
 
-/// Whether the instant has a leap time, where so many leap seconds are reached.
+/// Whether the instant has a leap time, where the first leap seconds of this number are reached.
 fn has_leap_time(leap_seconds: &[LeapSecond], unix_time: i64, reached: usize) -> bool
     requires leaps { AreLeapSeconds leap_seconds.now }
     requires within { reached ≤ length leap_seconds.now }
@@ -259,7 +238,7 @@ pub fn leap(leap_seconds: &[LeapSecond], unix_time: i64) -> Result<i64, TzError>
 fn leap_seconds_up_to(leap_seconds: &[LeapSecond], unix_leap_time: i64) -> usize
     requires { AreLeapSeconds leap_seconds.now }
     ensures within { result ≤ length leap_seconds.now }
-    ensures come { (i : ℕ) (l : LeapSecond) → i < result → slice_get leap_seconds.now i ≡ Some l → l.unix_leap_time ≤ℤ unix_leap_time }
+    ensures up_to { (i : ℕ) (l : LeapSecond) → i < result → slice_get leap_seconds.now i ≡ Some l → l.unix_leap_time ≤ℤ unix_leap_time }
     ensures later { (i : ℕ) (l : LeapSecond) → result ≤ i → slice_get leap_seconds.now i ≡ Some l → unix_leap_time <ℤ l.unix_leap_time }
 {
     partition_point(&LeapSecondsUpTo {
@@ -324,19 +303,6 @@ pub fn effect(leap_seconds: &[LeapSecond], unix_leap_time: i64) -> Result<i64, T
         Ok(_) => Ok(unix_time),
         Err(error) => Err(error),
     }
-}
-
-/// How many transitions have a time that is not above a leap time.
-pub fn transitions_up_to(transitions: &[Transition], unix_leap_time: i64) -> usize
-    requires { IsRising transitions.now }
-    ensures within { result ≤ length transitions.now }
-    ensures come { (i : ℕ) (change : Transition) → i < result → slice_get transitions.now i ≡ Some change → change.unix_leap_time ≤ℤ unix_leap_time }
-    ensures later { (i : ℕ) (change : Transition) → result ≤ i → slice_get transitions.now i ≡ Some change → unix_leap_time <ℤ change.unix_leap_time }
-{
-    partition_point(&TransitionsUpTo {
-        transitions,
-        unix_leap_time,
-    })
 }
 
 #[cfg(test)]

@@ -1,5 +1,5 @@
 //! Answers query lines about date times: `tzq -o OFFSET` over the zone with this offset from UTC in seconds, `tzq -f FILE` over that of
-//! a TZif file, `tzq -z TEXT` over that of a TZ text.
+//! a TZif file, `tzq -z STRING` over that of a TZ string.
 #![tactic(auto)]
 
 use std::env;
@@ -7,7 +7,7 @@ use std::process::ExitCode;
 use tz::timezone;
 use tz_query::query;
 
-/// The words after the program's name, or none where they cannot be had.
+/// The arguments after the program's name, or none where they cannot be had.
 fn words_of(rt: &HostRuntime) -> Vec<String> {
     match env::args(rt) {
         Ok(args) => args

@@ -1,6 +1,6 @@
 //! Date times of a local time type.
 
-ghost use Rattle.std.specs.Prelude.{◌≡◌, ◌+ℤ◌, ◌-ℤ◌, IfSome, IfNone};
+ghost use Rattle.std.specs.Prelude.{◌≡◌, ◌+ℤ◌, IfSome, IfNone};
 ghost use Rattle.tz_base.specs.Fields.{IsReading};
 
 use super::totals::duration_between;
@@ -23,19 +23,6 @@ fn local_reading(unix_time: i64, ut_offset: i32) -> Option<i64>
     let reading = unix_time.checked_add(i64::from(ut_offset))?;
     if calendar::is_reading(reading) {
         Some(reading)
-    } else {
-        None
-    }
-}
-
-/// The Unix time at which a clock with this offset from UTC shows a reading, if it is that of a UTC date time.
-fn utc_reading(reading: i64, ut_offset: i32) -> Option<i64>
-    ensures some { IfSome result (λ u. (u ≡ reading -ℤ ut_offset) × IsReading u) }
-    ensures none { IfNone result (¬ IsReading (reading -ℤ ut_offset)) }
-{
-    let unix_time = reading.checked_sub(i64::from(ut_offset))?;
-    if calendar::is_reading(unix_time) {
-        Some(unix_time)
     } else {
         None
     }
@@ -132,7 +119,7 @@ impl DateTime {
     /// The date time with these fields, which the type shows: the month from 1 to 12, the day of the month from 1, the hour from 0
     /// to 23, the minute from 0 to 59, the second from 0 to 60 and the nanoseconds below a second.
     ///
-    /// Of fields out of range the first one is named, in this order, and after them all that the month has no such day. Then
+    /// The first field out of range is named, in this order, and after them `InvalidMonthDay` where the month has no such day. Then
     /// `OutOfRange` tells that the Unix time of the date time is that of no UTC date time.
     pub fn new(
         year: i32,
@@ -173,11 +160,27 @@ impl DateTime {
         ensures err { IfErr result (IsLocalFault fields local_time_type.ut_offset) }
     {
         fields.check()?;
-        let Some(unix_time) = utc_reading(fields.reading(), local_time_type.ut_offset()) else {
+        let unix_time = fields.reading() - i64::from(local_time_type.ut_offset());
+        DateTime::from_valid_fields(&fields, local_time_type, unix_time)
+    }
+
+    /// The date time with valid fields, which the type shows at a Unix time. `OutOfRange` tells that this is that of no UTC date time.
+    pub(super) fn from_valid_fields(
+        fields: &Fields,
+        local_time_type: LocalTimeType,
+        unix_time: i64,
+    ) -> Result<Self, TzError>
+        requires valid { IsValid fields.now }
+        requires instant { unix_time ≡ reading fields.now -ℤ local_time_type.ut_offset }
+        ensures value { IfOk result (λ d. d ≡ record { fields = fields.now; local_time_type = local_time_type; unix_time = unix_time }) }
+        ensures ok { OnOk result (IsReading unix_time) }
+        ensures err { IfErr result (λ e. (e ≡ TzError.OutOfRange) × ¬ IsReading unix_time) }
+    {
+        if !calendar::is_reading(unix_time) {
             return Err(TzError::OutOfRange);
-        };
+        }
         Ok(DateTime {
-            fields,
+            fields: *fields,
             local_time_type,
             unix_time,
         })
@@ -223,7 +226,23 @@ impl DateTime {
 
     /// The date time that the zone's clock shows at a Unix time, with nanoseconds below a second.
     ///
-    /// The nanoseconds are refused first, then the lookup of the clock's type, and then a year that does not fit 32 bits.
+    /// Refused are a second of nanoseconds or more (`InvalidNanoseconds`), then an instant at which the zone's clock has no type, as by
+    /// [`TimeZoneRef::find_local_time_type`] (`NoAvailableLocalTimeType`, `OutOfRange`), and then a year that does not fit `i32`
+    /// (`OutOfRange`).
+    ///
+    /// What clocks of a zone show at a Unix time, and the name of their time:
+    ///
+    /// ```rust
+    /// pub fn print_instant(
+    ///     alloc: Global,
+    ///     zone: TimeZoneRef<'_>,
+    ///     unix_time: i64,
+    /// ) -> Result<String, TzError> {
+    ///     let date_time = DateTime::from_timespec(unix_time, 0, zone)?;
+    ///     let name = date_time.local_time_type().time_zone_designation();
+    ///     Ok(format!(in alloc; "{date_time} {name}")?)
+    /// }
+    /// ```
     pub fn from_timespec(
         unix_time: i64,
         nanoseconds: u32,
@@ -240,7 +259,7 @@ impl DateTime {
         DateTime::shown_by(unix_time, nanoseconds, *local_time_type)
     }
 
-    /// The date time that the type shows so many nanoseconds from 1970-01-01T00:00:00Z on.
+    /// The date time that the type shows a number of nanoseconds after 1970-01-01T00:00:00Z, or before it where the number is negative.
     pub fn from_total_nanoseconds_and_local(
         total_nanoseconds: i128,
         local_time_type: LocalTimeType,
@@ -254,7 +273,7 @@ impl DateTime {
         DateTime::shown_by(unix_time, nanoseconds, local_time_type)
     }
 
-    /// The date time that the zone's clock shows so many nanoseconds from 1970-01-01T00:00:00Z on.
+    /// The date time that the zone's clock shows a number of nanoseconds after 1970-01-01T00:00:00Z, or before it where the number is negative.
     pub fn from_total_nanoseconds(
         total_nanoseconds: i128,
         time_zone_ref: TimeZoneRef<'_>,
@@ -276,7 +295,17 @@ impl DateTime {
         DateTime::from_timespec(self.unix_time, self.fields.nanoseconds, time_zone_ref)
     }
 
-    /// What the zone's clock shows at a moment, which the caller passes as Unix seconds and nanoseconds below a second.
+    /// What the zone's clock shows at the current time, which the caller passes as Unix seconds and nanoseconds below a second.
+    ///
+    /// What clocks of a zone show now, by the system's clock:
+    ///
+    /// ```rust
+    /// pub fn show_now<C: Clock>(clock: &C, zone: TimeZoneRef<'_>) -> anyhow::Result<DateTime> {
+    ///     let since_1970 = SystemTime::now(clock)?.duration_since(UNIX_EPOCH)?;
+    ///     let seconds = i64::try_from(since_1970.as_secs())?;
+    ///     Ok(DateTime::now(seconds, since_1970.subsec_nanos(), zone)?)
+    /// }
+    /// ```
     pub fn now(
         unix_time: i64,
         nanoseconds: u32,

@@ -1,5 +1,13 @@
 //! The date times at which the clock of a zone shows given fields.
 
+ghost use Rattle.std.specs.Prelude.{◌≡◌, ◌≢◌, ⊤, IfOk, IfErr, OnOk};
+ghost use Rattle.tz_base.specs.Fields.{IsValid};
+ghost use Rattle.tz_zone.specs.Clock.{IsClock};
+ghost use Rattle.tz_zone.specs.ZoneRef.{zone_of};
+ghost use Rattle.tz.specs.Found.{IsFound};
+ghost use Rattle.tz.specs.Lists.{found_of};
+ghost use Rattle.tz.specs.FindFaults.{IsFindFault, IsPromised};
+
 use super::found_list::FoundDateTimeList;
 use super::found_list_ref::FoundDateTimeListRefMut;
 use super::search::search;
@@ -10,6 +18,24 @@ use tz_base::calendar::Fields;
 use tz_base::error::TzError;
 use tz_zone::inner::{Counted, OtherParts, Transitions, Uncounted, other_parts};
 use tz_zone::timezone::TimeZoneRef;
+
+/// What [`DateTime::find`] finds of the fields.
+pub fn find_fields<A: Allocator + Copy>(
+    alloc: A,
+    fields: &Fields,
+    time_zone_ref: TimeZoneRef<'_>,
+) -> Result<FoundDateTimeList<A>, TzError>
+    ensures ok { IfOk result (λ list. IsFound (IsClock (zone_of time_zone_ref.entry)) fields.now (found_of list)) }
+    ensures valid { OnOk result (IsValid fields.now) }
+    ensures promised { IsPromised (zone_of time_zone_ref.entry) fields.now.year → IfErr result (λ e. e ≢ TzError.OutOfRange) }
+    ensures err { IfErr result (IsFindFault ⊤ (IsClock (zone_of time_zone_ref.entry)) fields.now) }
+{
+    fields.check()?;
+    let mut list = FoundDateTimeList::new_in(alloc);
+    let mut view = Uncounted::new(time_zone_ref.transitions());
+    search(&mut list, fields, &mut view, other_parts(&time_zone_ref))?;
+    Ok(list)
+}
 
 impl DateTime {
     ghost use Rattle.std.specs.Prelude.{◌≡◌, ◌≢◌, ◌⊎◌, ◌+◌, ◌*◌, ◌^◌, ◌<◌, ◌≤◌, ℕ, List, length, ⊤, IfOk, IfErr, OnOk};
@@ -29,12 +55,47 @@ impl DateTime {
     /// All date times at which the zone's clock shows the fields, and the jumps forward over them, by rising Unix time.
     ///
     /// The month is from 1 to 12, the day of the month from 1, the hour from 0 to 23, the minute from 0 to 59, the second from 0 to
-    /// 60 and the nanoseconds below a second. Of fields out of range the first one is named, in this order, and after them all
-    /// that the month has no such day.
+    /// 60 and the nanoseconds below a second. The first field out of range is named, in this order, and after them
+    /// `InvalidMonthDay` where the month has no such day.
     ///
-    /// A date time keeps the fields as they are given, second 60 included. `OutOfRange` tells that a date time of the list lies
-    /// outside the years of 32 bits. Never is that told of a year that is 200 years or more from both ends of these, nor, where
-    /// all offsets of the zone are above -25 and below 26 hours, of one that is three years or more from them.
+    /// A date time keeps the fields as they are passed, second 60 included. `OutOfRange` tells that a date time of the list lies
+    /// outside the years of an `i32`. It is never returned for a year that is 200 years or more from both ends of these, nor, where
+    /// all offsets of the zone are above -25 and below 26 hours, for one that is three years or more from them. `Memory` tells that
+    /// an allocation for the list failed.
+    ///
+    /// When an alarm rings that is set to a local time: at the first instant at which clocks show it, or, where they are set forward
+    /// over it, right after that.
+    ///
+    /// ```rust
+    /// pub fn alarm(
+    ///     alloc: Global,
+    ///     zone: TimeZoneRef<'_>,
+    ///     local: UtcDateTime,
+    /// ) -> Result<Option<DateTime>, TzError> {
+    ///     let found = DateTime::find(
+    ///         alloc,
+    ///         local.year(),
+    ///         local.month(),
+    ///         local.month_day(),
+    ///         local.hour(),
+    ///         local.minute(),
+    ///         local.second(),
+    ///         local.nanoseconds(),
+    ///         zone,
+    ///     )?;
+    ///     Ok(match found.into_inner().as_slice() {
+    ///         [] => None,
+    ///         [FoundDateTimeKind::Normal(date_time), ..] => Some(*date_time),
+    ///         [
+    ///             FoundDateTimeKind::Skipped {
+    ///                 after_transition,
+    ///                 ..
+    ///             },
+    ///             ..
+    ///         ] => Some(*after_transition),
+    ///     })
+    /// }
+    /// ```
     pub fn find<A: Allocator + Copy>(
         alloc: A,
         year: i32,
@@ -60,34 +121,39 @@ impl DateTime {
             second,
             nanoseconds,
         };
-        DateTime::find_fields(alloc, &fields, time_zone_ref)
-    }
-
-    /// All date times at which the zone's clock shows the fields.
-    fn find_fields<A: Allocator + Copy>(
-        alloc: A,
-        fields: &Fields,
-        time_zone_ref: TimeZoneRef<'_>,
-    ) -> Result<FoundDateTimeList<A>, TzError>
-        ensures ok { IfOk result (λ list. IsFound (IsClock (zone_of time_zone_ref.entry)) fields.now (found_of list)) }
-        ensures valid { OnOk result (IsValid fields.now) }
-        ensures promised { IsPromised (zone_of time_zone_ref.entry) fields.now.year → IfErr result (λ e. e ≢ TzError.OutOfRange) }
-        ensures err { IfErr result (IsFindFault ⊤ (IsClock (zone_of time_zone_ref.entry)) fields.now) }
-    {
-        fields.check()?;
-        let mut list = FoundDateTimeList::new_in(alloc);
-        let mut view = Uncounted::new(time_zone_ref.transitions());
-        search(&mut list, fields, &mut view, other_parts(&time_zone_ref))?;
-        Ok(list)
+        find_fields(alloc, &fields, time_zone_ref)
     }
 
     /// Writes all date times at which the zone's clock shows the fields, and the jumps forward over them, to the slots of a buffer,
     /// by rising Unix time and as far as the slots go; the other slots stay as they are, and all that is found is counted.
     ///
     /// The month is from 1 to 12, the day of the month from 1, the hour from 0 to 23, the minute from 0 to 59, the second from 0 to
-    /// 60 and the nanoseconds below a second. Of fields out of range the first one is named, in this order, and after them all
-    /// that the month has no such day; nothing is written then. `OutOfRange` tells, as it does of [`DateTime::find`], that a date
-    /// time of the list lies outside the years of 32 bits.
+    /// 60 and the nanoseconds below a second. The first field out of range is named, in this order, and after them
+    /// `InvalidMonthDay` where the month has no such day; nothing is written then.
+    ///
+    /// A date time keeps the fields as they are passed, second 60 included. `OutOfRange` tells that a date time of the list lies
+    /// outside the years of an `i32`. It is never returned for a year that is 200 years or more from both ends of these, nor, where
+    /// all offsets of the zone are above -25 and below 26 hours, for one that is three years or more from them. No memory is taken.
+    ///
+    /// How many instants and jumps a local time has, found without memory: 1 nearly always, 2 where clocks show it twice.
+    ///
+    /// ```rust
+    /// pub fn count_meanings(zone: TimeZoneRef<'_>, local: UtcDateTime) -> Result<usize, TzError> {
+    ///     let mut slots = [None; 2];
+    ///     let found = DateTime::find_n(
+    ///         &mut slots,
+    ///         local.year(),
+    ///         local.month(),
+    ///         local.month_day(),
+    ///         local.hour(),
+    ///         local.minute(),
+    ///         local.second(),
+    ///         local.nanoseconds(),
+    ///         zone,
+    ///     )?;
+    ///     Ok(found.count())
+    /// }
+    /// ```
     pub fn find_n<'a>(
         buf: &'a mut [Option<FoundDateTimeKind>],
         year: i32,
@@ -178,7 +244,9 @@ impl DateTime {
         ensures untouched { IsValid fields.now ⊎ (buf.new ≡ buf.old) }
         ensures promised { IsPromised (zone_seen (V.list view.old) parts.entry) fields.now.year → IfErr result (λ e. e ≢ TzError.OutOfRange) }
         ensures err { IfErr result (IsFindFault ⊥ (IsClock (zone_seen (V.list view.old) parts.entry)) fields.now) }
-        ensures few { OnOk result ((b w : ℕ) → length (V.list view.old) < 2 ^ b → AtMostTakeEffectAround (zone_seen (V.list view.old) parts.entry) (reading fields.now) w → V.looks view.new ≤ V.looks view.old + (2 * b + w + 4)) }
+        ensures few { OnOk result ((b w : ℕ) → length (V.list view.old) < 2 ^ b
+            → AtMostTakeEffectAround (zone_seen (V.list view.old) parts.entry) (reading fields.now) w
+            → V.looks view.new ≤ V.looks view.old + (2 * b + w + 4)) }
         ensures some { OnOk result (0 < length (V.list view.old) → V.next (V.looks view.old) ≤ V.looks view.new) }
         ensures none { OnOk result (length (V.list view.old) ≡ 0 → V.looks view.new ≡ V.looks view.old) }
     {

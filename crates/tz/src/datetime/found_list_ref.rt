@@ -5,8 +5,8 @@ use std::fmt;
 
 /// The date times that a search found, by rising Unix time, as far as a buffer goes.
 ///
-/// All are counted, and the first of them are in the buffer's first slots. Lists are equal where the buffers hold the same in all
-/// slots, and the counts are the same.
+/// All are counted, and the first of them are in the buffer's first slots. Lists are equal where all slots of the buffers are, and the
+/// counts are.
 #[derive(Drop)]
 pub struct FoundDateTimeListRefMut<'a> {
     buf: &'a mut [Option<FoundDateTimeKind>],
@@ -27,7 +27,7 @@ impl<'a> FoundDateTimeListRefMut<'a> {
         FoundDateTimeListRefMut { buf, count: 0 }
     }
 
-    /// The list of so many date times whose first are in the slots already.
+    /// The list of `count` date times, the first of which are in the slots already.
     pub(super) fn counted(buf: &'a mut [Option<FoundDateTimeKind>], count: usize) -> Self
         ensures same_reference { reference_of result ≡ buf.entry.ghost_name }
         ensures slots { slots_of result ≡ buf.old }

@@ -1,7 +1,7 @@
 //! Date times.
 
 mod date_time;
-mod find;
+pub(crate) mod find;
 mod found;
 mod found_list;
 mod found_list_ref;

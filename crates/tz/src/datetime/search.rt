@@ -15,7 +15,7 @@ ghost use Rattle.tz_zone.specs.ValidZone.{AreLeapSeconds, IsSoundTable};
 ghost use Rattle.tz_zone.specs.ZoneSeen.{zone_seen};
 ghost use Rattle.tz.specs.Found.{IsFound};
 ghost use Rattle.tz.specs.Walks.{HoldsAt, IsSearchFault, IsSmall, IsStep, IsStepFault, IsWalk};
-ghost use Rattle.tz.specs.Reached.{IsWithinReach, IsReachedAt, IsKindOf, IsDue, IsPieceOf, IsWindowOf, IsOnTheWay};
+ghost use Rattle.tz.specs.Reached.{IsWithinReach, IsReachedAt, HoldsAfter, IsDue, IsPieceOf, IsWindowOf, IsOnTheWay};
 ghost use Rattle.tz.specs.Windows.{IsOffsetOfTypes, IsOffsetOfRule, IsLeastOffset, IsGreatestOffset, IsWindow, AtMostTakeEffectIn, AtMostTakeEffectAround};
 ghost use Rattle.tz.specs.RuleSpans.{IsSpan, ChangesOnlyAt, RuleClock, IsRuledIn, IsAtSeam, IsPastSeam};
 ghost use Rattle.tz.specs.declared.datetime.found.FoundDateTimeKind.{FoundDateTimeKind};
@@ -88,7 +88,7 @@ fn type_from<V: Transitions>(
     requires sound { IsSoundTable (zone_seen (V.list view.old) parts) }
     requires within { reached ≤ length (V.list view.old) }
     ensures same { V.list view.new ≡ V.list view.old }
-    ensures value { IsKindOf (zone_seen (V.list view.old) parts.entry) reached from result }
+    ensures value { HoldsAfter (zone_seen (V.list view.old) parts.entry) reached from result }
     ensures kept { V.looks view.old ≤ V.looks view.new }
     ensures few { V.looks view.new ≤ V.looks view.old + 1 }
     ensures none { length (V.list view.old) ≡ 0 → V.looks view.new ≡ V.looks view.old }
@@ -140,7 +140,7 @@ fn piece_at<V: Transitions>(
     };
     Some(Piece {
         from,
-        kind: local_time_type,
+        local_time_type,
     })
 }
 
@@ -331,21 +331,23 @@ fn search_changes<L: DateTimeList>(
     requires last { last ≤ℤ pos 80000000000000000 }
     requires changing { ChangesOnlyAt rule.now changes.now start last }
     ensures ok { OnOk result ((new : List FoundDateTimeKind) × L.gains list.old list.new new
-        × ((z : Zone) (low seam : ℤ) (f : Fields) (found : List FoundDateTimeKind) → IsRuledIn z rule.now start last → IsPastSeam z low seam start last f start walk.old found → IsFound (RuleClock z low seam start last) f (found ++ new))) }
-    ensures err { IfErr result (λ e. (z : Zone) (low seam : ℤ) (f : Fields) (found : List FoundDateTimeKind) → IsRuledIn z rule.now start last → IsPastSeam z low seam start last f start walk.old found → IsSearchFault L.takes_memory (IsClock z) (reading_of f) e) }
+        × ((z : Zone) (low seam : ℤ) (f : Fields) (found : List FoundDateTimeKind) → IsRuledIn z rule.now start last
+        → IsPastSeam z low seam start last f start walk.old found → IsFound (RuleClock z low seam start last) f (found ++ new))) }
+    ensures err { IfErr result (λ e. (z : Zone) (low seam : ℤ) (f : Fields) (found : List FoundDateTimeKind) → IsRuledIn z rule.now start last
+        → IsPastSeam z low seam start last f start walk.old found → IsSearchFault L.takes_memory (IsClock z) (reading_of f) e) }
 {
     let mut from = start;
     while from <= last {
         let piece = Piece {
             from,
-            kind: rule_type(rule, from),
+            local_time_type: rule_type(rule, from),
         };
         walk.step(list, piece)?;
         from = next_change(changes, from, last);
     }
     let end = Piece {
         from: last + 1,
-        kind: None,
+        local_time_type: None,
     };
     walk.step(list, end)
 }
@@ -354,12 +356,13 @@ fn search_changes<L: DateTimeList>(
 fn pass_seam<L: DateTimeList>(walk: &mut Walk, list: &mut L) -> Result<(), TzError>
     requires walk { IsWalk walk.old.fields walk.old }
     requires since { IsWithinReach walk.old.since }
-    ensures ok { OnOk result ((new : List FoundDateTimeKind) × L.gains list.old list.new new × IsStep walk.old (record { from = walk.old.since +ℤ pos 1; kind = None }) walk.new new) }
+    ensures ok { OnOk result ((new : List FoundDateTimeKind) × L.gains list.old list.new new
+        × IsStep walk.old (record { from = walk.old.since +ℤ pos 1; local_time_type = None }) walk.new new) }
     ensures err { IfErr result (IsStepFault L.takes_memory walk.old (walk.old.since +ℤ pos 1)) }
 {
     let gap = Piece {
         from: walk.since() + 1,
-        kind: None,
+        local_time_type: None,
     };
     walk.step(list, gap)
 }
@@ -389,8 +392,10 @@ fn search_rule<L: DateTimeList>(
     requires high { IsWithinReach high }
     requires rule { rule.now ≡ TransitionRule.Alternate alternate.now }
     ensures ok { OnOk result ((new : List FoundDateTimeKind) × L.gains list.old list.new new
-        × ((z : Zone) (low : ℤ) (found : List FoundDateTimeKind) → IsAtSeam z rule.now low high walk.old found → IsFound (IsClock z) walk.old.fields (found ++ new))) }
-    ensures err { IfErr result (λ e. (z : Zone) (low : ℤ) (found : List FoundDateTimeKind) → IsAtSeam z rule.now low high walk.old found → IsSearchFault L.takes_memory (IsClock z) (reading_of walk.old.fields) e) }
+        × ((z : Zone) (low : ℤ) (found : List FoundDateTimeKind) → IsAtSeam z rule.now low high walk.old found
+        → IsFound (IsClock z) walk.old.fields (found ++ new))) }
+    ensures err { IfErr result (λ e. (z : Zone) (low : ℤ) (found : List FoundDateTimeKind) → IsAtSeam z rule.now low high walk.old found
+        → IsSearchFault L.takes_memory (IsClock z) (reading_of walk.old.fields) e) }
 {
     rule_parts_are_sound(rule);
     let changes = changes_around(alternate, inner_year(walk.year()));
@@ -423,7 +428,7 @@ fn walk_from<V: Transitions>(
     let reached = reached_at(view, parts, low);
     let first = Piece {
         from: low,
-        kind: type_from(view, parts, reached, low),
+        local_time_type: type_from(view, parts, reached, low),
     };
     (Walk::new(fields, first), reached)
 }
@@ -449,7 +454,8 @@ fn walk_transitions<L: DateTimeList, V: Transitions>(
     ensures err { IfErr result (IsSearchFault L.takes_memory (IsClock (zone_seen (V.list view.old) parts.entry)) (reading_of walk.old.fields)) }
     ensures same { OnOk result (V.list view.new ≡ V.list view.old) }
     ensures kept { OnOk result (V.looks view.old ≤ V.looks view.new) }
-    ensures few { OnOk result ((w : ℕ) → AtMostTakeEffectIn (zone_seen (V.list view.old) parts.entry) walk.old.since high w → V.looks view.new ≤ V.looks view.old + (w + 1)) }
+    ensures few { OnOk result ((w : ℕ) → AtMostTakeEffectIn (zone_seen (V.list view.old) parts.entry) walk.old.since high w
+        → V.looks view.new ≤ V.looks view.old + (w + 1)) }
     ensures none { OnOk result (length (V.list view.old) ≡ 0 → V.looks view.new ≡ V.looks view.old) }
 {
     let unix_leap_time = leap_time(parts.leap_seconds, high);
@@ -467,7 +473,8 @@ fn walk_transitions<L: DateTimeList, V: Transitions>(
 fn used_parts<'a, V: Transitions>(view: &V, parts: OtherParts<'a>) -> OtherParts<'a>
     requires sound { IsSoundTable (zone_seen (V.list view.now) parts) }
     ensures sound { IsSoundTable (zone_seen (V.list view.now) result) }
-    ensures clock { (u : ℤ) (t : LocalTimeType) → (IsClock (zone_seen (V.list view.now) result) u t → IsClock (zone_seen (V.list view.now) parts.entry) u t) × (IsClock (zone_seen (V.list view.now) parts.entry) u t → IsClock (zone_seen (V.list view.now) result) u t) }
+    ensures clock { (u : ℤ) (t : LocalTimeType) → (IsClock (zone_seen (V.list view.now) result) u t → IsClock (zone_seen (V.list view.now) parts.entry) u t)
+        × (IsClock (zone_seen (V.list view.now) parts.entry) u t → IsClock (zone_seen (V.list view.now) result) u t) }
     ensures used { V.list view.now ≡ [] → result.leap_seconds.now ≡ [] }
     ensures same { 0 < length (V.list view.now) → zone_seen (V.list view.now) result ≡ zone_seen (V.list view.now) parts.entry }
 {
@@ -498,9 +505,11 @@ fn search_window<L: DateTimeList, V: Transitions>(
     requires width { (high -ℤ low) ≤ℤ pos (2 ^ 32) }
     requires begun { ¬ IsBeforeStart parts.leap_seconds.now low }
     requires window { IsWindowOf (zone_seen (V.list view.old) parts) (reading_of fields.now) low high }
-    ensures ok { OnOk result ((found : List FoundDateTimeKind) × L.gains list.old list.new found × IsFound (IsClock (zone_seen (V.list view.old) parts.entry)) fields.now found × (length found ≤ 2 ^ 33)) }
+    ensures ok { OnOk result ((found : List FoundDateTimeKind) × L.gains list.old list.new found
+        × IsFound (IsClock (zone_seen (V.list view.old) parts.entry)) fields.now found × (length found ≤ 2 ^ 33)) }
     ensures err { IfErr result (IsSearchFault L.takes_memory (IsClock (zone_seen (V.list view.old) parts.entry)) (reading_of fields.now)) }
-    ensures few { OnOk result ((b w : ℕ) → length (V.list view.old) < 2 ^ b → AtMostTakeEffectIn (zone_seen (V.list view.old) parts.entry) low high w → V.looks view.new ≤ V.looks view.old + (b + w + 2)) }
+    ensures few { OnOk result ((b w : ℕ) → length (V.list view.old) < 2 ^ b → AtMostTakeEffectIn (zone_seen (V.list view.old) parts.entry) low high w
+        → V.looks view.new ≤ V.looks view.old + (b + w + 2)) }
     ensures some { OnOk result (0 < length (V.list view.old) → V.next (V.looks view.old) ≤ V.looks view.new) }
     ensures none { OnOk result (length (V.list view.old) ≡ 0 → V.looks view.new ≡ V.looks view.old) }
 {
@@ -513,7 +522,7 @@ fn search_window<L: DateTimeList, V: Transitions>(
     }
     let end = Piece {
         from: high + 1,
-        kind: None,
+        local_time_type: None,
     };
     walk.step(list, end)
 }
@@ -527,9 +536,12 @@ pub(super) fn search<L: DateTimeList, V: Transitions>(
 ) -> Result<(), TzError>
     requires valid { IsValid fields.now }
     requires sound { IsSoundTable (zone_seen (V.list view.old) parts) }
-    ensures ok { OnOk result ((found : List FoundDateTimeKind) × L.gains list.old list.new found × IsFound (IsClock (zone_seen (V.list view.old) parts.entry)) fields.now found × (length found ≤ 2 ^ 33)) }
+    ensures ok { OnOk result ((found : List FoundDateTimeKind) × L.gains list.old list.new found
+        × IsFound (IsClock (zone_seen (V.list view.old) parts.entry)) fields.now found × (length found ≤ 2 ^ 33)) }
     ensures err { IfErr result (IsSearchFault L.takes_memory (IsClock (zone_seen (V.list view.old) parts.entry)) (reading_of fields.now)) }
-    ensures few { OnOk result ((b w : ℕ) → length (V.list view.old) < 2 ^ b → AtMostTakeEffectAround (zone_seen (V.list view.old) parts.entry) (reading_of fields.now) w → V.looks view.new ≤ V.looks view.old + (2 * b + w + 4)) }
+    ensures few { OnOk result ((b w : ℕ) → length (V.list view.old) < 2 ^ b
+        → AtMostTakeEffectAround (zone_seen (V.list view.old) parts.entry) (reading_of fields.now) w
+        → V.looks view.new ≤ V.looks view.old + (2 * b + w + 4)) }
     ensures some { OnOk result (0 < length (V.list view.old) → V.next (V.looks view.old) ≤ V.looks view.new) }
     ensures none { OnOk result (length (V.list view.old) ≡ 0 → V.looks view.new ≡ V.looks view.old) }
 {

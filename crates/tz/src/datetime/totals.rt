@@ -8,7 +8,7 @@ ghost use Rattle.tz.specs.DateTimes.{IsUtcTotal, IsNearTotal, IsForwards, IsBack
 use std::time::Duration;
 use tz_base::calendar;
 
-/// The seconds of the total, rounded down, and the nanoseconds that are over, if the seconds are those of a UTC date time.
+/// The seconds of the total, rounded down, and the nanoseconds that remain, if the seconds are those of a UTC date time.
 pub(super) fn utc_timespec(total: i128) -> Option<(i64, u32)>
     ensures some { IfSome result (λ t. IsReading t.0 × IsTimespec total t.0 t.1) }
     ensures in_range { IsSome result ↔ IsUtcTotal total }

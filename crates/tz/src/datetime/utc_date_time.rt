@@ -130,8 +130,8 @@ impl UtcDateTime {
     /// The date time with these fields: the month from 1 to 12, the day of the month from 1, the hour from 0 to 23, the minute
     /// from 0 to 59, the second from 0 to 60 and the nanoseconds below a second.
     ///
-    /// Of fields out of range the first one is named, in this order, and after them all that the month has no such day. Second 60
-    /// of the last minute of all is `OutOfRange`, before them.
+    /// Second 60 of the last minute of `i32::MAX` is `OutOfRange`. Else the first field out of range is named, in this order, and after
+    /// them `InvalidMonthDay` where the month has no such day.
     pub fn new(
         year: i32,
         month: u8,
@@ -171,6 +171,8 @@ impl UtcDateTime {
     }
 
     /// The date time of a Unix time and nanoseconds below a second.
+    ///
+    /// `InvalidNanoseconds` refuses a second or more of them, and then `OutOfRange` a year that does not fit `i32`.
     pub fn from_timespec(unix_time: i64, nanoseconds: u32) -> Result<Self, TzError>
         ensures ok { IfOk result (IsCivil unix_time nanoseconds) }
         ensures instant { OnOk result (IsReading unix_time) }
@@ -187,7 +189,7 @@ impl UtcDateTime {
         })
     }
 
-    /// The date time of so many nanoseconds from [`UtcDateTime::UNIX_EPOCH`] on.
+    /// The date time a number of nanoseconds after [`UtcDateTime::UNIX_EPOCH`], or before it where the number is negative.
     pub fn from_total_nanoseconds(total_nanoseconds: i128) -> Result<Self, TzError>
         ensures ok { IfOk result (IsUtcAt total_nanoseconds) }
         ensures err { IfErr result (λ e. (e ≡ TzError.OutOfRange) × ¬ IsUtcTotal total_nanoseconds) }
@@ -206,7 +208,7 @@ impl UtcDateTime {
         })
     }
 
-    /// The date time of a moment, which the caller passes as Unix seconds and nanoseconds below a second.
+    /// The date time of the current time, which the caller passes as Unix seconds and nanoseconds below a second.
     pub fn now(unix_time: i64, nanoseconds: u32) -> Result<Self, TzError>
         ensures ok { IfOk result (IsCivil unix_time nanoseconds) }
         ensures err { IfErr result (IsShowFault unix_time nanoseconds) }
@@ -271,6 +273,31 @@ impl UtcDateTime {
     }
 
     /// The week day, from Sunday = 0 to 6.
+    ///
+    /// The next Monday at 9:00 in a zone, by the `alarm` of [`DateTime::find`]:
+    ///
+    /// ```rust
+    /// pub fn next_monday_at_nine(
+    ///     alloc: Global,
+    ///     zone: TimeZoneRef<'_>,
+    ///     now: i64,
+    /// ) -> Result<Option<DateTime>, TzError> {
+    ///     let today = DateTime::from_timespec(now, 0, zone)?;
+    ///     let nine = UtcDateTime::new(today.year(), today.month(), today.month_day(), 9, 0, 0, 0)?;
+    ///     for days in 0..8u64 {
+    ///         let local = nine
+    ///             .checked_add(Duration::from_secs(86_400 * days))
+    ///             .ok_or(TzError::OutOfRange)?;
+    ///         if local.week_day() == 1 {
+    ///             match alarm(alloc, zone, local)? {
+    ///                 Some(monday) if now < monday.unix_time() => return Ok(Some(monday)),
+    ///                 _ => {}
+    ///             }
+    ///         }
+    ///     }
+    ///     Ok(None)
+    /// }
+    /// ```
     pub fn week_day(&self) -> u8
         ensures { pos result ≡ week_day_of (day_of self.now) }
     {
@@ -293,6 +320,15 @@ impl UtcDateTime {
     }
 
     /// What the zone's clock shows at this instant.
+    ///
+    /// What clocks an hour behind UTC show at the beginning of 2024 in UTC:
+    ///
+    /// ```rust
+    /// pub fn new_year_an_hour_behind(alloc: Global) -> Result<DateTime, TzError> {
+    ///     let zone = TimeZone::fixed(alloc, -3600)?;
+    ///     UtcDateTime::new(2024, 1, 1, 0, 0, 0, 0)?.project(zone.as_ref())
+    /// }
+    /// ```
     pub fn project(&self, time_zone_ref: TimeZoneRef<'_>) -> Result<DateTime, TzError>
         ensures ok { IfOk result (ShowsByClock (zone_of time_zone_ref.entry) (reading self.now) self.now.nanoseconds) }
         ensures err { IfErr result (IsClockFault (zone_of time_zone_ref.entry) (reading self.now) self.now.nanoseconds) }
@@ -300,7 +336,29 @@ impl UtcDateTime {
         DateTime::from_timespec(self.unix_time(), self.fields.nanoseconds, time_zone_ref)
     }
 
-    /// The date time so much later, or `None` where that is past [`UtcDateTime::MAX`].
+    /// The date time later by a duration, or `None` where that is past [`UtcDateTime::MAX`].
+    ///
+    /// A meeting at one local time each week, by the `alarm` of [`DateTime::find`]. Weeks are added to the local time, not to the first
+    /// instant: an hour may be lost or gained between.
+    ///
+    /// ```rust
+    /// pub fn weekly_meetings(
+    ///     alloc: Global,
+    ///     zone: TimeZoneRef<'_>,
+    ///     first: UtcDateTime,
+    ///     weeks: u32,
+    /// ) -> Result<Vec<DateTime>, TzError> {
+    ///     let mut meetings = Vec::new(alloc);
+    ///     for week in 0..weeks {
+    ///         let after_first = Duration::from_secs(604_800 * u64::from(week));
+    ///         let local = first.checked_add(after_first).ok_or(TzError::OutOfRange)?;
+    ///         if let Some(meeting) = alarm(alloc, zone, local)? {
+    ///             meetings.push(meeting)?;
+    ///         }
+    ///     }
+    ///     Ok(meetings)
+    /// }
+    /// ```
     pub fn checked_add(&self, duration: Duration) -> Option<Self>
         ensures in_range { IsSome result ↔ IsUtcTotal (utc_total self.now +ℤ pos (as_nanos duration)) }
         ensures some { IfSome result (IsUtcAt (utc_total self.now +ℤ pos (as_nanos duration))) }
@@ -308,7 +366,7 @@ impl UtcDateTime {
         UtcDateTime::at_total(self.total_nanoseconds() + nanoseconds_of(duration))
     }
 
-    /// The date time so much earlier, or `None` where that is before [`UtcDateTime::MIN`].
+    /// The date time earlier by a duration, or `None` where that is before [`UtcDateTime::MIN`].
     pub fn checked_sub(&self, duration: Duration) -> Option<Self>
         ensures in_range { IsSome result ↔ IsUtcTotal (utc_total self.now -ℤ pos (as_nanos duration)) }
         ensures some { IfSome result (IsUtcAt (utc_total self.now -ℤ pos (as_nanos duration))) }

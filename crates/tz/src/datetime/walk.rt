@@ -19,7 +19,7 @@ pub(super) enum Entry {
 #[derive(Clone, Copy)]
 pub(super) struct Piece {
     pub(super) from: i64,
-    pub(super) kind: Option<LocalTimeType>,
+    pub(super) local_time_type: Option<LocalTimeType>,
 }
 
 /// A walk past the pieces of a clock.
@@ -32,7 +32,7 @@ pub(super) struct Walk {
     /// Where the last piece begins.
     since: i64,
     /// The type in the last piece.
-    kind: Option<LocalTimeType>,
+    local_time_type: Option<LocalTimeType>,
 }
 
 impl Entry {
@@ -40,25 +40,6 @@ impl Entry {
     ghost use Rattle.tz_base.specs.Fields.{IsValid, IsReading, reading as reading_of};
     ghost use Rattle.tz.specs.DateTimes.{ShowsInstant};
     ghost use Rattle.tz.specs.Walks.{moment_of, IsDateTimeOf, IsEntryNear, IsEntryOutside, IsNear, IsOutside};
-
-    /// The valid fields in a type that shows them.
-    fn shown(fields: &Fields, local_time_type: LocalTimeType) -> Result<DateTime, TzError>
-        requires valid { IsValid fields.now }
-        requires near { IsNear (reading_of fields.now) (reading_of fields.now -ℤ local_time_type.ut_offset) }
-        ensures ok { IfOk result (λ d. d ≡ moment_of fields.now local_time_type (reading_of fields.now -ℤ local_time_type.ut_offset)) }
-        ensures err { IfErr result (λ e. (e ≡ TzError.OutOfRange) × IsOutside (reading_of fields.now) (reading_of fields.now -ℤ local_time_type.ut_offset)) }
-    {
-        DateTime::new(
-            fields.year,
-            fields.month,
-            fields.month_day,
-            fields.hour,
-            fields.minute,
-            fields.second,
-            fields.nanoseconds,
-            local_time_type,
-        )
-    }
 
     /// A side of a jump: its instant in a type.
     fn side(
@@ -82,8 +63,8 @@ impl Entry {
         ensures err { IfErr result (λ e. (e ≡ TzError.OutOfRange) × IsEntryOutside (reading_of fields.now) self.now) }
     {
         match *self {
-            Entry::Shown(_, local_time_type) => {
-                let date_time = Entry::shown(fields, local_time_type)?;
+            Entry::Shown(unix_time, local_time_type) => {
+                let date_time = DateTime::from_valid_fields(fields, local_time_type, unix_time)?;
                 Ok(FoundDateTimeKind::Normal(date_time))
             }
             Entry::Jump(unix_time, before, after) => {
@@ -111,14 +92,14 @@ impl Walk {
         ensures walk { IsWalk fields.now result }
         ensures before { result.before ≡ None }
         ensures since { result.since ≡ first.from }
-        ensures kind { result.kind ≡ first.kind }
+        ensures local_time_type { result.local_time_type ≡ first.local_time_type }
     {
         Walk {
             fields: *fields,
             reading: fields.reading(),
             before: None,
             since: first.from,
-            kind: first.kind,
+            local_time_type: first.local_time_type,
         }
     }
 
@@ -150,11 +131,11 @@ impl Walk {
         ensures near { IfSome result (IsEntryNear self.now.reading) }
         ensures none { IfNone result ((entry : Entry) → ¬ IsEntryOf self.now until entry) }
     {
-        let kind = self.kind?;
-        let shown_at = self.reading - i64::from(kind.ut_offset());
+        let local_time_type = self.local_time_type?;
+        let shown_at = self.reading - i64::from(local_time_type.ut_offset());
         if shown_at >= self.since {
             return if shown_at < until {
-                Some(Entry::Shown(shown_at, kind))
+                Some(Entry::Shown(shown_at, local_time_type))
             } else {
                 None
             };
@@ -162,7 +143,7 @@ impl Walk {
         let before = self.before?;
         let passed_at = self.reading - i64::from(before.ut_offset());
         if self.since <= passed_at {
-            Some(Entry::Jump(self.since, before, kind))
+            Some(Entry::Jump(self.since, before, local_time_type))
         } else {
             None
         }
@@ -195,13 +176,13 @@ impl Walk {
         ensures err { IfErr result (IsStepFault L.takes_memory self.old piece.from) }
     {
         if piece.from <= self.since {
-            self.kind = piece.kind;
+            self.local_time_type = piece.local_time_type;
             return Ok(());
         }
         self.give(list, piece.from)?;
-        self.before = self.kind;
+        self.before = self.local_time_type;
         self.since = piece.from;
-        self.kind = piece.kind;
+        self.local_time_type = piece.local_time_type;
         Ok(())
     }
 }

@@ -14,7 +14,7 @@ fn plain_year_length(year: i32) -> u16
     if is_leap_year(year) { 366 } else { 365 }
 }
 
-/// The days of so many years from 1970 on, added up.
+/// The days of a number of years from 1970 on, added up.
 fn plain_years_from_1970(years: u16) -> u32
     ensures { result ≡ years_length_from_1970 years }
 {
@@ -25,7 +25,7 @@ fn plain_years_from_1970(years: u16) -> u32
     days
 }
 
-/// The days of so many years before 1970, added up.
+/// The days of a number of years before 1970, added up.
 fn plain_years_before_1970(years: u16) -> u32
     ensures { result ≡ years_length_before_1970 years }
 {

@@ -11,13 +11,13 @@ use crate::error::timezone::{LocalTimeTypeError, TimeZoneError, TransitionRuleEr
 use std::alloc::AllocError;
 use thiserror::Error;
 
-/// Any refusal of the crate but a fault of reading a file.
+/// Any refusal but that of a file that cannot be read.
 #[derive(Debug, Drop, Error)]
 pub enum TzError {
     /// The bytes are no TZif file.
     #[error("invalid TZ file: {0}")]
     TzFile(TzFileError),
-    /// The text is no TZ text.
+    /// The string is no TZ string.
     #[error("invalid TZ string: {0}")]
     TzString(TzStringError),
     /// The parts make no local time type.
@@ -38,12 +38,12 @@ pub enum TzError {
     /// The zone has no clock at the instant.
     #[error("no local time type is available for the specified timestamp")]
     NoAvailableLocalTimeType,
-    /// Memory was refused.
+    /// Out of memory: an allocation failed.
     #[error("no memory")]
     Memory(AllocError),
 }
 
-/// Any refusal of the crate.
+/// Any refusal.
 #[derive(Debug, Drop, Error)]
 pub enum Error {
     /// A file could not be read.
@@ -54,10 +54,10 @@ pub enum Error {
     Tz(TzError),
 }
 
-/// Why a file reader gave no bytes.
+/// Why a file reader returned no bytes.
 #[derive(Debug, Drop, Error)]
 pub enum ReadFault {
-    /// Memory was refused.
+    /// Out of memory: an allocation failed.
     #[error("no memory")]
     Memory(AllocError),
     /// The file could not be read.

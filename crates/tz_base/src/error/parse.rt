@@ -1,4 +1,4 @@
-//! Why bytes or a text make no time zone.
+//! Why bytes or a string make no time zone.
 
 use crate::error::timezone::{LocalTimeTypeError, TransitionRuleError};
 use std::num::ParseIntError;
@@ -16,10 +16,10 @@ pub enum ParseDataError {
     InvalidData,
 }
 
-/// Why a text is no TZ text.
+/// Why a string is no TZ string.
 #[derive(Debug, Drop, PartialEq, Eq, Error)]
 pub enum TzStringError {
-    /// The bytes are no UTF-8. It is never answered, since digits alone are converted.
+    /// The bytes are no UTF-8. No call returns this, since only digits are converted.
     #[error(transparent)]
     Utf8(Utf8Error),
     /// Digits are missing, or their number does not fit its type.
@@ -49,10 +49,10 @@ pub enum TzStringError {
     /// A daylight name is not followed by rules.
     #[error("missing DST start and end rules")]
     MissingDstStartEndRules,
-    /// Bytes follow the end of the text.
+    /// Bytes follow the end of the string.
     #[error("remaining data after parsing TZ string")]
     RemainingData,
-    /// The text is empty.
+    /// The string is empty.
     #[error("empty TZ string")]
     Empty,
 }

@@ -77,7 +77,7 @@ pub fn field_fault_name(fault: &DateTimeError) -> &'static str
     }
 }
 
-/// The name of a refusal that an answer tells.
+/// The name of a refusal, as an answer has it.
 fn fault_name(error: &TzError) -> &'static str
     requires { (text : List ℕ) × IsFaultText error.now text }
     ensures text { IsFaultText error.now result.now }
@@ -159,7 +159,8 @@ fn answer_time<A: Allocator>(
     unix_time: i64,
     nanoseconds: u32,
 ) -> Result<(), AllocError>
-    ensures { IfOk result (λ _. (text : List ℕ) × IsTimeAnswer (zone_of zone.entry) unix_time nanoseconds text × (answers.new.items ≡ answers.old.items ++ (text ++ line_feed ∷ []))) }
+    ensures { IfOk result (λ _. (text : List ℕ) × IsTimeAnswer (zone_of zone.entry) unix_time nanoseconds text
+        × (answers.new.items ≡ answers.old.items ++ (text ++ line_feed ∷ []))) }
 {
     line.clear();
     push_time_answer(line, zone, unix_time, nanoseconds);
@@ -234,20 +235,10 @@ pub fn answer_search<A: Allocator + Copy>(
     zone: TimeZoneRef<'_>,
     fields: &Fields,
 ) -> Result<(), AllocError>
-    ensures { IfOk result (λ _. (answer : List (List ℕ)) × IsSearchAnswer (zone_of zone.entry) fields.now answer × (answers.new.items ≡ answers.old.items ++ ended answer)) }
+    ensures { IfOk result (λ _. (answer : List (List ℕ)) × IsSearchAnswer (zone_of zone.entry) fields.now answer
+        × (answers.new.items ≡ answers.old.items ++ ended answer)) }
 {
-    let found = DateTime::find(
-        alloc,
-        fields.year,
-        fields.month,
-        fields.month_day,
-        fields.hour,
-        fields.minute,
-        fields.second,
-        fields.nanoseconds,
-        zone,
-    );
-    match found {
+    match inner::find_fields(alloc, fields, zone) {
         Ok(list) => append_found(answers, line, &list.into_inner()),
         Err(TzError::DateTime(fault)) => append_fault(answers, line, field_fault_name(&fault)),
         Err(TzError::OutOfRange) => append_fault(answers, line, "OutOfRange"),
@@ -256,7 +247,7 @@ pub fn answer_search<A: Allocator + Copy>(
     }
 }
 
-/// Appends the answer lines of the first line, and gives the bytes after that line.
+/// Appends the answer lines of the first line, and returns the bytes after that line.
 pub(super) fn answer_line<'a, A: Allocator + Copy>(
     alloc: A,
     answers: &mut Vec<u8, A>,
@@ -264,7 +255,8 @@ pub(super) fn answer_line<'a, A: Allocator + Copy>(
     zone: TimeZoneRef<'_>,
     queries: &'a [u8],
 ) -> Result<&'a [u8], AllocError>
-    ensures { IfOk result (λ rest. (text : List ℕ) × (answer : List (List ℕ)) × IsFirstLine queries.now text rest.now × IsAnswer (zone_of zone.entry) text answer × (answers.new.items ≡ answers.old.items ++ ended answer)) }
+    ensures { IfOk result (λ rest. (text : List ℕ) × (answer : List (List ℕ)) × IsFirstLine queries.now text rest.now
+        × IsAnswer (zone_of zone.entry) text answer × (answers.new.items ≡ answers.old.items ++ ended answer)) }
 {
     if let Some((unix_time, nanoseconds, rest)) = read_time_line(queries) {
         answer_time(answers, line, zone, unix_time, nanoseconds)?;
@@ -294,7 +286,7 @@ fn flush<A: Allocator>(
     answers.extend_from_slice(&page[..at])
 }
 
-/// Appends what is on the page where it is nearly full, and gives how much of it is used then.
+/// Appends what is on the page where it is nearly full, and returns how much of it is used then.
 #[inline(always)]
 fn make_room<A: Allocator>(
     answers: &mut Vec<u8, A>,
@@ -312,7 +304,7 @@ fn make_room<A: Allocator>(
     Ok(0)
 }
 
-/// Answers the first line, on the page where that is quick, and gives how much of the page is used and the bytes after that line.
+/// Answers the first line, on the page where that is quick, and returns how much of the page is used and the bytes after that line.
 #[inline(always)]
 fn answer_next<'a, A: Allocator + Copy>(
     alloc: A,
@@ -332,7 +324,8 @@ fn answer_next<'a, A: Allocator + Copy>(
     requires offsets { AreOffsetsOf (zone_of zone) offsets.0 offsets.1 }
     requires order { offsets.0 ≤ℤ offsets.1 }
     ensures end { IfOk result (λ r. r.0 ≤ at + 130) }
-    ensures answer { IfOk result (λ r. (text : List ℕ) × (answer : List (List ℕ)) × IsFirstLine queries.now text r.1.now × IsAnswer (zone_of zone.entry) text answer × ((answers.new.items ++ take r.0 page.new) ≡ (answers.old.items ++ take at page.old) ++ ended answer)) }
+    ensures answer { IfOk result (λ r. (text : List ℕ) × (answer : List (List ℕ)) × IsFirstLine queries.now text r.1.now
+        × IsAnswer (zone_of zone.entry) text answer × ((answers.new.items ++ take r.0 page.new) ≡ (answers.old.items ++ take at page.old) ++ ended answer)) }
     ensures kept { IsSegmentOf (zone_of zone.entry) kept.new }
 {
     if let Some(answered) = answer_time_line(page, at, kept, zone, tails, queries) {
@@ -348,12 +341,12 @@ fn answer_next<'a, A: Allocator + Copy>(
 
 /// Answers query bytes over a zone.
 ///
-/// Each line asks for something by its letter and numbers, one space apart. `T u n` asks for the date time at the Unix time u with n
-/// nanoseconds: its answer is the date time and the name of its type, `-` where it has none. `F y mo d h mi s n` asks for what
-/// [`DateTime::find`] finds of these fields: its answer is `F` and how much that is, and a line for each, `N` with a date time and
-/// its name, or `S` with those before and after a jump. `W c y mo d h mi s n` asks for these fields in c weeks, each with the date that
-/// lies that many weeks later: its answer is `W` and c, and that of an `F` line for each week. Where a query is refused the answer is
-/// `E ` and why, and `E Line` where a line asks for nothing. Lines and answers are ended by LF; the last line may lack it.
+/// A query is a letter and numbers, one space apart. `T u n` is the date time at the Unix time u with n nanoseconds: its answer is the
+/// date time and the name of its type, `-` where it has none. `F y mo d h mi s n` is the search of [`DateTime::find`] for these fields: its
+/// answer is `F` and how many entries there are, and a line for each, `N` with a date time and its name, or `S` with those before and after
+/// a jump. `W c y mo d h mi s n` is that search in each of c weeks, for the date that lies as many weeks later: its answer is `W` and c, and
+/// that of an `F` line for each week. A query that is refused has the answer `E ` and why, and any other line `E Line`. Lines and answers
+/// are ended by LF; the last line may lack it.
 pub fn answer<A: Allocator + Copy>(
     alloc: A,
     zone: TimeZoneRef<'_>,

@@ -1,4 +1,4 @@
-//! The first line of bytes, and what it asks for.
+//! The first line of bytes, and its query.
 
 ghost use Rattle.std.specs.Prelude.{◌≡◌, ℕ, ◌^◌, ◌<◌, [], ◌∷◌, List, ℤ, pos, length, IfSome, IfNone, FitsSigned};
 ghost use Rattle.std.specs.Int.{w64};
@@ -70,7 +70,7 @@ fn read_fields(bytes: &[u8]) -> Option<(Fields, &[u8])>
     Some((fields, rest))
 }
 
-/// The instant and the nanoseconds that the first line asks for, if it is a `T` line, and the bytes after it.
+/// The instant and the nanoseconds of the first line, if it is a `T` line, and the bytes after it.
 #[inline(always)]
 pub fn read_time_line(bytes: &[u8]) -> Option<(i64, u32, &[u8])>
     ensures some { IfSome result (λ r. IsTimeLineFront bytes.now r.0 r.1 r.2.now) }
@@ -82,7 +82,7 @@ pub fn read_time_line(bytes: &[u8]) -> Option<(i64, u32, &[u8])>
     Some((unix_time, nanoseconds, rest))
 }
 
-/// The fields that the first line asks for, if it is an `F` line, and the bytes after it.
+/// The fields of the first line, if it is an `F` line, and the bytes after it.
 #[inline(never)]
 pub fn read_search_line(bytes: &[u8]) -> Option<(Fields, &[u8])>
     ensures some { IfSome result (λ r. IsSearchLineFront bytes.now r.0 r.1.now) }
@@ -94,7 +94,7 @@ pub fn read_search_line(bytes: &[u8]) -> Option<(Fields, &[u8])>
     Some((fields, rest))
 }
 
-/// The number of weeks and the fields that the first line asks for, if it is a `W` line, and the bytes after it.
+/// The number of weeks and the fields of the first line, if it is a `W` line, and the bytes after it.
 #[inline(never)]
 pub fn read_meeting_line(bytes: &[u8]) -> Option<(u8, Fields, &[u8])>
     ensures some { IfSome result (λ r. IsMeetingLineFront bytes.now r.0 r.1 r.2.now) }

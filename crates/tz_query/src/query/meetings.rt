@@ -1,4 +1,4 @@
-//! The answers of lines that ask for a weekly meeting.
+//! The answers of lines for a weekly meeting.
 
 ghost use Rattle.std.specs.Prelude.{◌≡◌, ℕ, List, ◌++◌, length, IfOk};
 ghost use Rattle.std.specs.List.{flat_map};
@@ -27,7 +27,8 @@ fn answer_week<A: Allocator + Copy>(
 ) -> Result<(), AllocError>
     requires day { begins ≡ midnight (day_of first.now) }
     requires small { IsSmall begins }
-    ensures { IfOk result (λ _. (answer : List (List ℕ)) × IsWeekAnswer (zone_of zone.entry) first.now weeks answer × (answers.new.items ≡ answers.old.items ++ ended answer)) }
+    ensures { IfOk result (λ _. (answer : List (List ℕ)) × IsWeekAnswer (zone_of zone.entry) first.now weeks answer
+        × (answers.new.items ≡ answers.old.items ++ ended answer)) }
 {
     match week_of(first, begins, weeks) {
         Some(fields) => answer_search(alloc, answers, line, zone, &fields),
@@ -47,7 +48,8 @@ fn answer_weeks<A: Allocator + Copy>(
 ) -> Result<(), AllocError>
     requires day { begins ≡ midnight (day_of first.now) }
     requires small { IsSmall begins }
-    ensures { IfOk result (λ _. (weeks : List (List (List ℕ))) × (length weeks ≡ count) × AreWeekAnswers (zone_of zone.entry) first.now 0 weeks × (answers.new.items ≡ answers.old.items ++ flat_map ended weeks)) }
+    ensures { IfOk result (λ _. (weeks : List (List (List ℕ))) × (length weeks ≡ count) × AreWeekAnswers (zone_of zone.entry) first.now 0 weeks
+        × (answers.new.items ≡ answers.old.items ++ flat_map ended weeks)) }
 {
     for weeks in 0..count {
         answer_week(alloc, answers, line, zone, first, begins, weeks)?;
@@ -64,7 +66,8 @@ pub fn answer_meeting<A: Allocator + Copy>(
     first: &Fields,
     count: u8,
 ) -> Result<(), AllocError>
-    ensures { IfOk result (λ _. (answer : List (List ℕ)) × IsMeetingAnswer (zone_of zone.entry) count first.now answer × (answers.new.items ≡ answers.old.items ++ ended answer)) }
+    ensures { IfOk result (λ _. (answer : List (List ℕ)) × IsMeetingAnswer (zone_of zone.entry) count first.now answer
+        × (answers.new.items ≡ answers.old.items ++ ended answer)) }
 {
     match first_day_begins(first) {
         Ok(begins) => {

@@ -22,7 +22,7 @@ fn with_digit(number: u64, digit: u8) -> u64
     }
 }
 
-/// The value of a digit, which is below 10; every other byte gives 10 or more.
+/// The value of a digit, which is below 10; for every other byte it is 10 or more.
 #[inline(always)]
 pub fn value_of(byte: u8) -> u8
     ensures digit { result < 10 → (digit_value byte < 10) × (result ≡ digit_value byte) }

@@ -1,4 +1,4 @@
-//! The program over words, a reader of files, an input and outputs that are passed in.
+//! The program over arguments, a file reader, an input and outputs that are passed in.
 
 ghost use Rattle.std.specs.Prelude.{◌≡◌, ◌≤◌, ℕ, ℤ, List, IfSome, IfNone, IfOk, OnOk, FitsSigned};
 ghost use Rattle.std.specs.Fn.{FnReturnsAt};
@@ -70,7 +70,7 @@ impl Fault {
     }
 }
 
-/// The offset that a word gives, if the word is a number of 32 bits.
+/// The offset that an argument has, if it is a number of 32 bits.
 fn read_offset(word: &str) -> Option<i32>
     ensures some { IfSome result (λ offset. IsNumber word.now offset × FitsSigned w32 offset) }
     ensures none { IfNone result ((offset : ℤ) → FitsSigned w32 offset → ¬ IsNumber word.now offset) }
@@ -108,7 +108,7 @@ fn zone_of_file<A: Allocator + Copy, F: Fn(&str) -> Result<Vec<u8>, ReadFault>>(
     Ok(TimeZone::from_tz_data(alloc, &bytes)?)
 }
 
-/// The zone of a TZ text, or of the file that it names.
+/// The zone of a TZ string, or of the file that a name has.
 fn zone_of_text<A: Allocator + Copy, F: Fn(&str) -> Result<Vec<u8>, ReadFault> + Drop>(
     alloc: A,
     text: &str,
@@ -120,7 +120,7 @@ fn zone_of_text<A: Allocator + Copy, F: Fn(&str) -> Result<Vec<u8>, ReadFault> +
     Ok(TimeZone::from_posix_tz(alloc, reader, text)?)
 }
 
-/// The zone that an option asks for by its word.
+/// The zone of an option and its value.
 fn zone_of_option<A: Allocator + Copy, F: Fn(&str) -> Result<Vec<u8>, ReadFault> + Drop>(
     alloc: A,
     option: &str,
@@ -138,7 +138,7 @@ fn zone_of_option<A: Allocator + Copy, F: Fn(&str) -> Result<Vec<u8>, ReadFault>
     }
 }
 
-/// The zone that the words ask for.
+/// The zone of the arguments.
 fn zone_of_words<A: Allocator + Copy, F: Fn(&str) -> Result<Vec<u8>, ReadFault> + Drop>(
     alloc: A,
     words: &[&str],
@@ -153,7 +153,7 @@ fn zone_of_words<A: Allocator + Copy, F: Fn(&str) -> Result<Vec<u8>, ReadFault> 
     }
 }
 
-/// Answers the input over the zone of the words.
+/// Answers the input over the zone of the arguments.
 fn answer_input<A, F, R, W>(
     alloc: A,
     words: &[&str],
@@ -173,12 +173,12 @@ where
     run(alloc, zone.as_ref(), input, out).map_err(Fault::Run)
 }
 
-/// Runs the program and answers its status.
+/// Runs the program and returns its status.
 ///
-/// The words are an option and its word, which ask for a zone: `-o` and a number of seconds for that offset from UTC, `-f` and a path for
-/// the TZif file that the reader finds there, `-z` and a text for what [`TimeZone::from_posix_tz`] answers. The zone is made first, then
-/// the input is read to its end, and then the answers of its lines are written. A fault is one line on the error output, whether or not
-/// that line can be written: status 1, or 2 where the zone is refused.
+/// `words` are its arguments, an option and its value, which name a zone: `-o` that of an offset from UTC in seconds, `-f` that of the TZif
+/// file which the reader finds at a path, `-z` that of a string, as [`TimeZone::from_posix_tz`] returns it. The zone is made first, then the
+/// input is read to its end, and then the answers of its lines are written. A fault is one line on the error output, whether or not that
+/// line can be written: status 1, or 2 where the zone is refused.
 pub fn tool<A, F, R, W, E>(
     alloc: A,
     words: &[&str],

@@ -65,7 +65,7 @@ fn write_all<W: Write>(out: &mut W, bytes: &[u8]) -> Result<(), RunFault>
     Ok(())
 }
 
-/// Reads the input to its end, and then writes the answers of its lines over a zone, as [`answer`] gives them.
+/// Reads the input to its end, and then writes the answers of its lines over a zone, as [`answer`] makes them.
 ///
 /// A run that fails before it writes leaves the writer as it was; after [`RunFault::Write`] a front of the answers may have been written.
 pub fn run<A: Allocator + Copy, R: Read, W: Write>(
@@ -76,7 +76,8 @@ pub fn run<A: Allocator + Copy, R: Read, W: Write>(
 ) -> Result<(), RunFault>
     ensures ok { OnOk result (WritesAnswers (zone_of zone.entry) (R.remaining input.old) (R.remaining input.new) (W.contents out.old) (W.contents out.new)) }
     ensures untouched { IfErr result (λ e. e ≢ RunFault.Write → out.new ≡ out.old) }
-    ensures begun { IfErr result (λ e. e ≡ RunFault.Write → WritesFrontOfAnswers (zone_of zone.entry) (R.remaining input.old) (R.remaining input.new) (W.contents out.old) (W.contents out.new)) }
+    ensures begun { IfErr result (λ e. e ≡ RunFault.Write
+        → WritesFrontOfAnswers (zone_of zone.entry) (R.remaining input.old) (R.remaining input.new) (W.contents out.old) (W.contents out.new)) }
 {
     let queries = read_to_end(alloc, input)?;
     let Ok(answers) = answer(alloc, zone, &queries) else {

@@ -9,6 +9,7 @@ use tz_base::refusing::Refusing;
 pub mod failing;
 mod meetings;
 mod search;
+pub mod zones;
 
 /// The answers over a fixed zone.
 fn answered<A: Allocator + Copy>(

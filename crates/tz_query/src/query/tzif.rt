@@ -20,7 +20,8 @@ pub fn answer_tzif<A: Allocator + Copy>(
     queries: &[u8],
 ) -> Result<Vec<u8, A>, TzError>
     ensures ok { IfOk result (λ answers. AreFileAnswers tz_bytes.now queries.now answers.items) }
-    ensures only { (zone : Zone) → IsTzFile tz_bytes.now zone → MatchResult result (λ answers. AreAnswers zone queries.now answers.items) (λ e. e ≡ TzError.Memory alloc_error) }
+    ensures only { (zone : Zone) → IsTzFile tz_bytes.now zone
+        → MatchResult result (λ answers. AreAnswers zone queries.now answers.items) (λ e. e ≡ TzError.Memory alloc_error) }
     ensures err { IfErr result (IsReadFault tz_bytes.now) }
 {
     let zone = TimeZone::from_tz_data(alloc, tz_bytes)?;

@@ -83,7 +83,7 @@ fn seconds_in_utc(local_time: i32, offset: i32) -> i64
     i64::from(local_time) - i64::from(offset)
 }
 
-/// The instant that lies so many seconds after 00:00 UTC of a day.
+/// The instant that lies a number of seconds after 00:00 UTC of a day.
 fn instant(day: i64, seconds: i64) -> i64
     requires day { (negsuc 784353015832 ≤ℤ day) × (day ≤ℤ pos 784351577100) }
     requires seconds { (negsuc 4294967295 ≤ℤ seconds) × (seconds ≤ℤ pos 4294967295) }

@@ -11,10 +11,10 @@ use super::AlternateTime;
 use super::year_kind::year_start;
 use tz_base::calendar::{self, Fields};
 
-/// The first year in which a rule answers.
+/// The first year over which a rule is defined.
 const FIRST_YEAR: i32 = i32::MIN + 2;
 
-/// The last year in which a rule answers.
+/// The last year over which a rule is defined.
 const LAST_YEAR: i32 = i32::MAX - 2;
 
 /// From ten days after its beginning on, a year's previous starts and ends are over: they lie less than that outside their years.
@@ -23,7 +23,7 @@ const MID_YEAR_START: i64 = 864_000;
 /// Up to ten days before its end, which may come after 365 days, a year's next starts and ends are yet to come.
 const MID_YEAR_END: i64 = 30_672_000;
 
-/// The year of an instant in UTC, if it is one in which a rule answers.
+/// The year of an instant in UTC, if rules are defined over it.
 pub(super) fn rule_year(unix_time: i64) -> Option<i32>
     ensures some { IfSome result (λ year. IsUtcYear unix_time year × IsRuleYear year) }
     ensures none { IfNone result (¬ IsInRuleYears unix_time) }
@@ -36,6 +36,14 @@ pub(super) fn rule_year(unix_time: i64) -> Option<i32>
         return None;
     }
     Some(year)
+}
+
+/// Whether seconds of a year are ten days or more from its ends, also where it has 365 days.
+#[inline(always)]
+pub(super) fn is_mid_second(seconds: i64) -> bool
+    ensures { MatchBool result (IsMidSecond seconds) (¬ IsMidSecond seconds) }
+{
+    MID_YEAR_START <= seconds && seconds < MID_YEAR_END
 }
 
 impl AlternateTime {
@@ -87,7 +95,7 @@ impl AlternateTime {
         self.start_in(year + 1) <= unix_time
     }
 
-    /// Whether an instant is in daylight saving time, so many seconds after its year of the kind began, where that year alone decides.
+    /// Whether an instant is in daylight saving time, by the seconds since its year of the kind began, where that year alone decides.
     fn is_daylight_in_mid_year(&self, seconds: i64, kind: usize) -> bool
         requires kind { kind < 14 }
         requires mid { IsMidSecond seconds }

@@ -155,7 +155,7 @@ impl LocalTimeType {
         }
     }
 
-    /// The type with this offset in seconds, without a name.
+    /// The type with this offset in seconds, without a name. `i32::MIN` is `InvalidUtcOffset`.
     pub fn with_ut_offset(ut_offset: i32) -> Result<Self, LocalTimeTypeError>
         ensures value { IfOk result (λ t. t ≡ plain_type ut_offset) }
         ensures ok { OnOk result (IsOffset ut_offset) }

@@ -20,7 +20,7 @@ fn julian_place(leap: bool, day: u16) -> u16
     if leap && day > 59 { day } else { day - 1 }
 }
 
-/// How many days after its first day a month of so many days has a week day for the w-th time, and for the fifth week for the last time.
+/// How many days after its first day a month of this length has a week day for the w-th time, and for the fifth week for the last time.
 #[tactic(auto, unfolding(crate::specs::Places::week_day_place))]
 fn week_day_place(first_week_day: u8, days: u8, week: u8, week_day: u8) -> u8
     requires first { first_week_day < 7 }
@@ -55,7 +55,7 @@ impl Julian1WithoutLeap {
     ghost use Rattle.tz_rule.specs.Day.{rule_day};
     ghost use Rattle.tz_rule.specs.declared.timezone.rule_day.RuleDay.TheVariants as TheDays;
 
-    /// The day with this number, from 1 to 365.
+    /// The day with this number, from 1 to 365. Any other is `InvalidRuleDayJulianDay`.
     pub fn new(julian_day_1: u16) -> Result<Self, TransitionRuleError>
         ensures value { IfOk result (λ d. d ≡ julian_day_1) }
         ensures ok { OnOk result (IsJulianDay julian_day_1) }
@@ -116,7 +116,7 @@ impl Julian0WithLeap {
     ghost use Rattle.tz_rule.specs.Day.{rule_day};
     ghost use Rattle.tz_rule.specs.declared.timezone.rule_day.RuleDay.TheVariants as TheDays;
 
-    /// The day with this number, from 0 to 365.
+    /// The day with this number, from 0 to 365. Any other is `InvalidRuleDayJulianDay`.
     pub fn new(julian_day_0: u16) -> Result<Self, TransitionRuleError>
         ensures value { IfOk result (λ d. d ≡ julian_day_0) }
         ensures ok { OnOk result (IsZeroBasedDay julian_day_0) }
@@ -171,6 +171,8 @@ impl MonthWeekDay {
     ghost use Rattle.tz_rule.specs.declared.timezone.rule_day.RuleDay.TheVariants as TheDays;
 
     /// The week day of a month: the month from 1 to 12, the week from 1 to 5, where 5 is the last, and the week day from 0 (Sunday) to 6.
+    ///
+    /// The first number out of range is named: `InvalidRuleDayMonth`, `InvalidRuleDayWeek`, `InvalidRuleDayWeekDay`.
     pub fn new(month: u8, week: u8, week_day: u8) -> Result<Self, TransitionRuleError>
         ensures value { IfOk result (λ d. d ≡ month_week month week week_day) }
         ensures ok { OnOk result (IsMonthWeek (month_week month week week_day)) }

@@ -11,7 +11,7 @@ use super::year_kind::{self, KINDS, PAIR_KINDS};
 #[derive(Clone, Copy)]
 pub(super) struct YearTable([i32; KINDS]);
 
-/// The seconds from 00:00 UTC of January 1st to so many seconds after 00:00 UTC of a rule day, in the years of a kind.
+/// The seconds from 00:00 UTC of January 1st to a time after 00:00 UTC of a rule day, in the years of a kind.
 fn seconds_to_day(day: &RuleDay, seconds: i32, kind: usize) -> i32
     requires seconds { (negsuc 999999 ≤ℤ seconds) × (seconds ≤ℤ pos 999999) }
     requires kind { kind < 14 }
@@ -23,7 +23,7 @@ fn seconds_to_day(day: &RuleDay, seconds: i32, kind: usize) -> i32
 }
 
 impl YearTable {
-    /// The table of so many seconds after 00:00 UTC of a rule day.
+    /// The table of a time after 00:00 UTC of a rule day, in seconds.
     pub(super) fn of_day(day: &RuleDay, seconds: i32) -> YearTable
         requires { (negsuc 999999 ≤ℤ seconds) × (seconds ≤ℤ pos 999999) }
         ensures table { result.0 ≡ day_table day.now seconds }

@@ -1,57 +1,92 @@
 //! Where the clock of a zone keeps its type, between one transition and the next and where a rule goes on.
 
-ghost use Rattle.std.specs.Prelude.{◌≡◌, ◌<◌, ◌≤ℤ◌, ◌<ℤ◌, [], length, Some, IfSome};
+ghost use Rattle.std.specs.Prelude.{◌≡◌, ◌+◌, ◌^◌, ◌<◌, ◌≤ℤ◌, ◌<ℤ◌, [], length, Some, IfSome, if◌then◌else◌};
+ghost use Rattle.tz_rule.specs.declared.timezone.rule.TransitionRule.TheVariants.{Alternate};
 ghost use Rattle.tz_zone.specs.Clock.{IsLast};
-ghost use Rattle.tz_zone.specs.LeapTime.{IsEffect};
-ghost use Rattle.tz_zone.specs.Segments.{IsSegmentOf, IsRuledFrom};
-ghost use Rattle.tz_zone.specs.ValidZone.{AreLeapSeconds};
+ghost use Rattle.tz_zone.specs.Segments.{IsLeapSpan, IsSegmentOf, IsRuledFrom};
 ghost use Rattle.tz_zone.specs.ZoneRef.{zone_of};
 
+use super::SURELY_ANSWERED;
+use super::leap_spans::leap_span_at;
 use super::segment::Segment;
-use super::{SURELY_ANSWERED, Uncounted, effect, first_begun, leap, transitions_reached};
-use crate::timezone::{LeapSecond, TimeZoneRef, Transition, TransitionRule};
+use super::span::LeapSpan;
+use crate::timezone::{AlternateTime, TimeZoneRef, Transition, TransitionRule};
 
-/// The instant at which a leap time takes effect, if there is one.
+/// The segment of a span that ends where the transition at a place is reached, or before.
 #[inline(always)]
-fn onset(leap_seconds: &[LeapSecond], unix_leap_time: i64) -> Option<i64>
-    requires { AreLeapSeconds leap_seconds.now }
-    ensures { IfSome result (λ u. IsEffect leap_seconds.now unix_leap_time u) }
+fn segment_before(zone: TimeZoneRef<'_>, span: LeapSpan, place: usize) -> Segment
+    requires place { place < length (zone_of zone).transitions }
+    requires span { IsLeapSpan (zone_of zone).leap_seconds span }
+    ensures { IsSegmentOf (zone_of zone.entry) result }
 {
-    if leap_seconds.is_empty() && unix_leap_time > i64::MIN {
-        return Some(unix_leap_time);
+    let transitions = zone.transitions();
+    let until = span.until_time(transitions[place].unix_leap_time());
+    if place == 0 {
+        return Segment {
+            from: span.from,
+            until,
+            number: 0,
+        };
     }
-    match effect(leap_seconds, unix_leap_time) {
-        Ok(unix_time) => Some(unix_time),
-        Err(_) => None,
+    let change = &transitions[place - 1];
+    Segment {
+        from: span.from_time(change.unix_leap_time()),
+        until,
+        number: change.local_time_type_index(),
     }
 }
 
-/// The segment that ends where the transition at a place takes effect.
-#[inline(always)]
-fn segment_before(zone: TimeZoneRef<'_>, place: usize) -> Option<Segment>
-    requires { place < length (zone_of zone).transitions }
+/// The segment of one second in which an alternate rule tells the clock from an instant on.
+fn segment_of_second(
+    zone: TimeZoneRef<'_>,
+    rule: &TransitionRule,
+    alternate: &AlternateTime,
+    seam: i64,
+    unix_time: i64,
+) -> Option<Segment>
+    requires rule { (zone_of zone).extra_rule ≡ Some rule.now }
+    requires alternate { rule.now ≡ Alternate alternate.now }
+    requires ruled { IsRuledFrom (zone_of zone) seam }
     ensures { IfSome result (λ s. IsSegmentOf (zone_of zone.entry) s) }
 {
-    let transitions = zone.transitions();
-    let until = onset(zone.leap_seconds(), transitions[place].unix_leap_time())?;
-    if place == 0 {
-        let begin = first_begun(zone.leap_seconds(), i64::MIN, until)?;
-        return Some(Segment {
-            from: begin,
-            until,
-            number: 0,
-        });
+    if unix_time < seam || unix_time >= SURELY_ANSWERED {
+        return None;
     }
-    let change = &transitions[place - 1];
-    let from = onset(zone.leap_seconds(), change.unix_leap_time())?;
+    let Ok(local_time_type) = tz_rule::inner::find_local_time_type(rule, unix_time) else {
+        return None;
+    };
+    let types = zone.local_time_types().len();
+    let number = if local_time_type == alternate.std() {
+        types
+    } else {
+        types + 1
+    };
     Some(Segment {
-        from,
-        until,
-        number: change.local_time_type_index(),
+        from: unix_time,
+        until: unix_time + 1,
+        number,
     })
 }
 
-/// The segment of a rule that tells the clock from an instant on.
+/// The later one of two instants.
+#[inline(always)]
+fn later(first: i64, second: i64) -> i64
+    ensures { (first ≤ℤ result) × (second ≤ℤ result) }
+{
+    if first < second { second } else { first }
+}
+
+/// The number of standard time or of daylight saving time, where the types of a rule follow those of the zone.
+#[inline(always)]
+fn number_by(types: usize, is_daylight: bool) -> usize
+    requires { types < 2 ^ 63 }
+    ensures { result ≡ types + (if is_daylight then 1 else 0) }
+{
+    if is_daylight { types + 1 } else { types }
+}
+
+/// The segment in which a rule tells the clock at an instant, from the seam on.
+#[inline(always)]
 fn segment_of_rule(
     zone: TimeZoneRef<'_>,
     rule: &TransitionRule,
@@ -70,24 +105,69 @@ fn segment_of_rule(
             number: types,
         }),
         TransitionRule::Alternate(alternate) => {
-            if unix_time < seam || unix_time >= SURELY_ANSWERED {
-                return None;
-            }
-            let Ok(local_time_type) = tz_rule::inner::find_local_time_type(rule, unix_time) else {
-                return None;
-            };
-            let number = if local_time_type == alternate.std() {
-                types
-            } else {
-                types + 1
+            let Some(stretch) = tz_rule::inner::stretch(alternate, unix_time) else {
+                return segment_of_second(zone, rule, alternate, seam, unix_time);
             };
             Some(Segment {
-                from: unix_time,
-                until: unix_time + 1,
-                number,
+                from: later(stretch.from, seam),
+                until: stretch.until,
+                number: number_by(types, stretch.is_daylight),
             })
         }
     }
+}
+
+/// The place of the first transition after a leap time, where the last one is after it.
+#[inline(always)]
+fn place_after(transitions: &[Transition], unix_leap_time: i64) -> usize
+    requires { 0 < length transitions.now }
+    ensures { result < length transitions.now }
+{
+    let mut place = 0;
+    let mut count = transitions.len();
+    while count > 1 {
+        let half = count / 2;
+        if transitions[place + half - 1].unix_leap_time() <= unix_leap_time {
+            place += half;
+        }
+        count -= half;
+    }
+    place
+}
+
+/// A segment of a span, in which an instant is expected to lie.
+#[inline(always)]
+fn segment_in_span(
+    zone: TimeZoneRef<'_>,
+    last: &Transition,
+    span: LeapSpan,
+    unix_time: i64,
+) -> Option<Segment>
+    requires last { IsLast (zone_of zone).transitions last.now }
+    requires span { IsLeapSpan (zone_of zone).leap_seconds span }
+    ensures { IfSome result (λ s. IsSegmentOf (zone_of zone.entry) s) }
+{
+    let unix_leap_time = unix_time.saturating_add(i64::from(span.correction));
+    if unix_leap_time < last.unix_leap_time() {
+        let place = place_after(zone.transitions(), unix_leap_time);
+        Some(segment_before(zone, span, place))
+    } else {
+        segment_after(zone, last, span, unix_time)
+    }
+}
+
+/// A segment in which an instant is expected to lie, where there are leap seconds.
+#[inline(never)]
+fn segment_over_leap_seconds(
+    zone: TimeZoneRef<'_>,
+    last: &Transition,
+    unix_time: i64,
+) -> Option<Segment>
+    requires { IsLast (zone_of zone).transitions last.now }
+    ensures { IfSome result (λ s. IsSegmentOf (zone_of zone.entry) s) }
+{
+    let span = leap_span_at(zone.leap_seconds(), unix_time)?;
+    segment_in_span(zone, last, span, unix_time)
 }
 
 /// A segment in which an instant is expected to lie.
@@ -95,19 +175,18 @@ fn segment_of_rule(
 fn likely_segment(zone: TimeZoneRef<'_>, unix_time: i64) -> Option<Segment>
     ensures { IfSome result (λ s. IsSegmentOf (zone_of zone.entry) s) }
 {
-    let transitions = zone.transitions();
-    let Some(last) = transitions.last() else {
+    let Some(last) = zone.transitions().last() else {
         return segment_without_transitions(zone, unix_time);
     };
-    let Ok(unix_leap_time) = leap(zone.leap_seconds(), unix_time) else {
-        return None;
-    };
-    if unix_leap_time < last.unix_leap_time() {
-        let mut view = Uncounted::new(transitions);
-        segment_before(zone, transitions_reached(&mut view, unix_leap_time))
-    } else {
-        segment_after(zone, last, unix_time)
+    if !zone.leap_seconds().is_empty() {
+        return segment_over_leap_seconds(zone, last, unix_time);
     }
+    let span = LeapSpan {
+        from: i64::MIN,
+        until: SURELY_ANSWERED,
+        correction: 0,
+    };
+    segment_in_span(zone, last, span, unix_time)
 }
 
 /// The segment of a zone without transitions.
@@ -125,15 +204,25 @@ fn segment_without_transitions(zone: TimeZoneRef<'_>, unix_time: i64) -> Option<
     }
 }
 
-/// The segment from the last transition on.
-fn segment_after(zone: TimeZoneRef<'_>, last: &Transition, unix_time: i64) -> Option<Segment>
-    requires { IsLast (zone_of zone).transitions last.now }
+/// The segment of a span from the last transition on.
+#[inline(always)]
+fn segment_after(
+    zone: TimeZoneRef<'_>,
+    last: &Transition,
+    span: LeapSpan,
+    unix_time: i64,
+) -> Option<Segment>
+    requires last { IsLast (zone_of zone).transitions last.now }
+    requires span { IsLeapSpan (zone_of zone).leap_seconds span }
     ensures { IfSome result (λ s. IsSegmentOf (zone_of zone.entry) s) }
 {
     let Some(rule) = zone.extra_rule() else {
         return None;
     };
-    let seam = onset(zone.leap_seconds(), last.unix_leap_time())?;
+    let seam = span.from_time(last.unix_leap_time());
+    if unix_time < seam || unix_time >= span.until {
+        return None;
+    }
     segment_of_rule(zone, rule, seam, unix_time)
 }
 

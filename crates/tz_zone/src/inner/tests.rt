@@ -188,4 +188,5 @@ fn leap_seconds_of_both_kinds(rt: HostRuntime) {
     }
 }
 
+mod segments;
 mod tables;

@@ -6,7 +6,7 @@ use crate::timezone::Transition;
 
 /// A view of transitions.
 ///
-/// A body that is generic over its view can take looks and nothing else: it has no slice at hand, and can neither copy the view nor set
+/// A body that is generic over its view can take looks and nothing else: it has no slice, and can neither copy the view nor set
 /// its count back.
 pub trait Transitions {
     ghost use Rattle.std.specs.Prelude.{List};

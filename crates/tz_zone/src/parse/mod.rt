@@ -1,4 +1,4 @@
-//! Readers of TZif files and of TZ texts.
+//! Readers of TZif files and of TZ strings.
 
 pub(crate) mod tz_file;
 pub(crate) mod tz_string;

@@ -11,7 +11,7 @@ use crate::inner;
 use tz_base::error::TzError;
 use tz_base::error::timezone::TimeZoneError;
 
-/// Whether the transition at a place names one of so many types.
+/// Whether the transition at a place names one of the types, whose number is given.
 fn has_type_at(transitions: &[Transition], types: usize, place: usize) -> bool
     requires { place < length transitions.now }
     ensures { MatchBool result (HasTypeAtPlace transitions.now types place) (¬ HasTypeAtPlace transitions.now types place) }
@@ -30,7 +30,7 @@ fn rises_at(transitions: &[Transition], place: usize) -> bool
     transitions[place].unix_leap_time() < transitions[place + 1].unix_leap_time()
 }
 
-/// Each transition names one of so many types, and comes before the next one.
+/// Each transition names one of the types, whose number is given, and comes before the next one.
 fn check_transitions(transitions: &[Transition], types: usize) -> Result<(), TimeZoneError>
     ensures ok { OnOk result ((i : ℕ) → HasTypeAtPlace transitions.now types i × RisesAtPlace transitions.now i) }
     ensures err { IfErr result (IsFirstTransitionFault transitions.now types) }
@@ -57,7 +57,8 @@ fn may_be_first(leap_second: LeapSecond) -> bool
 fn is_one_second_apart(correction: i32, next: i32) -> bool
     ensures { MatchBool result (IsOneSecond (next -ℤ correction)) (¬ IsOneSecond (next -ℤ correction)) }
 {
-    (i64::from(next) - i64::from(correction)).unsigned_abs() == 1
+    let apart = i64::from(next) - i64::from(correction);
+    apart == 1 || apart == -1
 }
 
 /// Whether a leap time comes at least 28 days after another one, less a second.
@@ -91,7 +92,7 @@ fn follows_at(leap_seconds: &[LeapSecond], place: usize) -> bool
     may_follow(leap_second, next)
 }
 
-/// Whether the leap seconds are a table of such.
+/// Whether the leap seconds make a table.
 fn are_leap_seconds(leap_seconds: &[LeapSecond]) -> bool
     ensures { MatchBool result (AreLeapSeconds leap_seconds.now) (¬ AreLeapSeconds leap_seconds.now) }
 {
@@ -109,7 +110,7 @@ fn are_leap_seconds(leap_seconds: &[LeapSecond]) -> bool
     true
 }
 
-/// The type that a rule answers where a leap time takes effect.
+/// The type that a rule has where a leap time takes effect.
 fn rule_type_at<'a>(
     rule: &'a TransitionRule,
     leap_seconds: &[LeapSecond],
@@ -125,7 +126,7 @@ fn rule_type_at<'a>(
     }
 }
 
-/// The extra rule answers at the last transition, with that transition's type, unless the transition is before a truncated start.
+/// The extra rule has a type at the last transition, which is that transition's, unless the transition is before a truncated start.
 fn check_extra_rule(
     transitions: &[Transition],
     local_time_types: &[LocalTimeType],

@@ -13,7 +13,7 @@ use std::io::Read;
 use std::rt::Files;
 use tz_base::error::ReadFault;
 
-/// How many bytes are asked for at once. Files of time zones are seldom longer.
+/// How many bytes are read at once. Time zone files are seldom longer.
 const PIECE: usize = 4096;
 
 /// Reads a piece into the front of the buffer.

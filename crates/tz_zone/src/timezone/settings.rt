@@ -1,4 +1,4 @@
-//! Settings by which the time zone of a text is found.
+//! Settings by which the time zone of a string is found.
 
 ghost use Rattle.std.specs.Prelude.{◌≡◌, ◌⊎◌, ◌∷◌, map, Ok, Err, IfOk, IfErr, MatchOption, MatchResult, IsTrue, ◌↔◌, alloc_error};
 ghost use Rattle.std.specs.String.{string_bytes};
@@ -27,7 +27,7 @@ pub const DEFAULT_DIRECTORIES: &[&str] = &[
 /// The file of the machine's local time.
 const LOCAL_TIME_FILE: &str = "/etc/localtime";
 
-/// Whether the text stands for the machine's local time.
+/// Whether the string stands for the machine's local time.
 fn is_local_time(text: &str) -> bool
     ensures { IsTrue result ↔ (text.now ≡ local_time) }
 {
@@ -105,7 +105,7 @@ fn zone_of_rule<A: Allocator + Copy>(alloc: A, rule: TransitionRule) -> Result<T
     TimeZone::new(Vec::new(alloc), types, Vec::new(alloc), Some(rule))
 }
 
-/// The zone of a TZ text, with white space at its ends or without.
+/// The zone of a TZ string, with white space at its ends or without.
 fn zone_of_text<A: Allocator + Copy>(alloc: A, text: &str) -> Result<TimeZone<A>, Error>
     ensures { MatchResult result (λ zone. IsTextAnswer text.now (Ok (own_zone_of zone))) (λ e. (e ≡ Tz (NoMemory alloc_error)) ⊎ IsTextAnswer text.now (Err e)) }
 {
@@ -115,8 +115,8 @@ fn zone_of_text<A: Allocator + Copy>(alloc: A, text: &str) -> Result<TimeZone<A>
 
 /// How a time zone is found: the directories of files, and the function that reads one.
 ///
-/// The function answers the bytes of the file at a path. It is called with each path in turn, and no more once a path has given bytes
-/// or memory was refused.
+/// The function returns the bytes of the file at a path. It is called with each path in turn, and no more once it has returned bytes or
+/// `ReadFault::Memory`.
 #[derive(Drop)]
 pub struct TimeZoneSettings<'a, F> {
     directories: &'a [&'a str],
@@ -139,7 +139,7 @@ impl<'a, F: Fn(&str) -> Result<Vec<u8>, ReadFault>> TimeZoneSettings<'a, F> {
         }
     }
 
-    /// What the reader answers for the path.
+    /// What the reader returns for the path.
     fn read(&self, path: &str) -> Result<Vec<u8>, ReadFault>
         requires { F.IsAlwaysCallable (reader_of self.now) }
         ensures { FnReturnsAt F.Fn (reader_of self.now) path.now result }
@@ -188,9 +188,14 @@ impl<'a, F: Fn(&str) -> Result<Vec<u8>, ReadFault>> TimeZoneSettings<'a, F> {
         zone_of_found(alloc, self.read(LOCAL_TIME_FILE))
     }
 
-    /// The time zone of a text. (POSIX.1-2017, Base Definitions, 8.3)
+    /// The time zone of a string. (POSIX.1-2017, Base Definitions, 8.3)
     ///
-    /// `localtime` is the machine's local time. A text that begins with `:` names a file, and any other text a file or else a rule.
+    /// `localtime` is the machine's local time. A string that begins with `:` names a file, below one of the directories or, with `/` at its
+    /// front, by its path. Any other string names a file, or is a TZ string where there is no such file.
+    ///
+    /// Refused are the empty string and one that is no TZ string (`Tz(TzString)`, `Tz(LocalTimeType)`, `Tz(TransitionRule)`), a file that is
+    /// no TZif file (`Tz`), a file of `localtime` or of a name after `:` that cannot be read (`Io`), and an allocation that fails
+    /// (`Tz(Memory)`).
     pub fn parse_posix_tz<A: Allocator + Copy>(
         &self,
         alloc: A,
@@ -213,7 +218,7 @@ impl<'a, F: Fn(&str) -> Result<Vec<u8>, ReadFault>> TimeZoneSettings<'a, F> {
         }
     }
 
-    /// The zone of the file with the name, or that of the text where there is none.
+    /// The zone of the file with the name, or that of the TZ string where there is none.
     fn parse_name_or_text<A: Allocator + Copy>(
         &self,
         alloc: A,
@@ -236,7 +241,17 @@ impl<A: Allocator + Copy> TimeZone<A> {
     ghost use Rattle.std.specs.Fn.{FnReturnsAt};
     ghost use Rattle.tz_zone.specs.Settings.{IsLocalAnswer, IsSettingsAnswer};
 
-    /// The machine's local time zone, as [`TimeZoneSettings::parse_local`] answers with this function that reads a file.
+    /// The machine's local time zone: that of the TZif file at `/etc/localtime`, whose bytes the reader returns for this path.
+    ///
+    /// Refused are a file that cannot be read (`Io`), one that is no TZif file (`Tz`), and an allocation that fails (`Tz(Memory)`).
+    ///
+    /// By the reader of the machine's files:
+    ///
+    /// ```rust
+    /// pub fn local_zone<R: Files>(rt: &R, alloc: Global) -> Result<TimeZone, Error> {
+    ///     TimeZone::local(alloc, |path: &str| timezone::read_file(rt, alloc, path))
+    /// }
+    /// ```
     pub fn local<F: Fn(&str) -> Result<Vec<u8>, ReadFault> + Drop>(
         alloc: A,
         reader: F,
@@ -250,7 +265,21 @@ impl<A: Allocator + Copy> TimeZone<A> {
         settings.parse_local(alloc)
     }
 
-    /// The time zone of a text, as [`TimeZoneSettings::parse_posix_tz`] answers with the usual directories and this function that reads a file.
+    /// The time zone of a string, with the [usual directories](DEFAULT_DIRECTORIES) and this function that reads a file. (POSIX.1-2017, Base
+    /// Definitions, 8.3)
+    ///
+    /// `localtime` is the machine's local time. A string that begins with `:` names a file, below one of the directories or, with `/` at its
+    /// front, by its path. Any other string names a file, or is a TZ string where there is no such file. Strings are refused as by
+    /// [`TimeZoneSettings::parse_posix_tz`].
+    ///
+    /// The zone of a name such as `Europe/Paris`, or of a TZ string such as `CET-1CEST,M3.5.0,M10.5.0/3`:
+    ///
+    /// ```rust
+    /// pub fn zone_of_setting<R: Files>(rt: &R, alloc: Global, setting: &str) -> Result<TimeZone, Error> {
+    ///     let reader = |path: &str| timezone::read_file(rt, alloc, path);
+    ///     TimeZone::from_posix_tz(alloc, reader, setting)
+    /// }
+    /// ```
     pub fn from_posix_tz<F: Fn(&str) -> Result<Vec<u8>, ReadFault> + Drop>(
         alloc: A,
         reader: F,

@@ -58,7 +58,10 @@ impl<A: Allocator + Copy> TimeZone<A> {
 
     /// The zone with these parts. (RFC 8536, section 3.2)
     ///
-    /// Refused as by [`TimeZoneRef::new`]. Lists that make no zone are dropped.
+    /// The first fault is named: `NoLocalTimeType`; for each transition in turn `InvalidLocalTimeTypeIndex` and `InvalidTransition`, whose
+    /// times must rise; `InvalidLeapSecond`; and where there are a rule and a transition, and the last one is not before the leap seconds
+    /// begin, `OutOfRange` where it never takes effect or the rule has no type there, and `InconsistentExtraRule` where its type there is
+    /// another than the transition's. Lists that make no zone are dropped.
     pub fn new(
         transitions: Vec<Transition, A>,
         local_time_types: Vec<LocalTimeType, A>,
@@ -86,7 +89,9 @@ impl<A: Allocator + Copy> TimeZone<A> {
         TimeZone::with_type(alloc, LocalTimeType::utc())
     }
 
-    /// The zone that has one type alone, with this offset from UTC in seconds. `InvalidUtcOffset`, for the least offset, comes before memory is taken.
+    /// The zone that has one type alone, with this offset from UTC in seconds.
+    ///
+    /// `InvalidUtcOffset` refuses `i32::MIN`, before memory is taken; `Memory` tells that an allocation failed.
     pub fn fixed(alloc: A, ut_offset: i32) -> Result<Self, TzError>
         ensures ok { IfOk result (λ z. IsOffset ut_offset × (own_zone_of z ≡ zone_of_type (plain_type ut_offset))) }
         ensures err { IfErr result (λ e. ((e ≡ TzError.LocalTimeType faults.InvalidUtcOffset) × ¬ IsOffset ut_offset) ⊎ ((e ≡ TzError.Memory alloc_error) × IsOffset ut_offset)) }
@@ -111,9 +116,18 @@ impl<A: Allocator + Copy> TimeZone<A> {
 
     /// The zone that the bytes of a TZif file denote. (RFC 8536)
     ///
-    /// Refused are bytes that are no file of version 1, 2 or 3 (`TzFile`, and `TzString` for the footer's text), parts that make no local time
-    /// type, rule or zone (`LocalTimeType`, `TransitionRule`, `TimeZone`, `OutOfRange`), and a lack of memory (`Memory`). All parts of the file
-    /// are found before memory is taken, so that a count beyond the bytes takes none.
+    /// Refused are bytes that are no file of version 1 to 4 (`TzFile`, and `TzString` for the footer's string), parts that make no local time
+    /// type, rule or zone (`LocalTimeType`, `TransitionRule`, `TimeZone`, `OutOfRange`), and an allocation that fails (`Memory`). All parts of
+    /// the file are found before memory is taken, so that a count beyond the bytes takes none.
+    ///
+    /// What clocks show at a Unix time in the zone of a file whose bytes were read:
+    ///
+    /// ```rust
+    /// pub fn local_time(alloc: Global, file: &[u8], unix_time: i64) -> Result<DateTime, TzError> {
+    ///     let zone = TimeZone::from_tz_data(alloc, file)?;
+    ///     DateTime::from_timespec(unix_time, 0, zone.as_ref())
+    /// }
+    /// ```
     pub fn from_tz_data(alloc: A, bytes: &[u8]) -> Result<Self, TzError>
         ensures ok { IfOk result (λ zone. IsTzFile bytes.now (own_zone_of zone)) }
         ensures only { (zone : Zone) → IsTzFile bytes.now zone → MatchResult result (λ made. own_zone_of made ≡ zone) (λ e. e ≡ TzError.Memory alloc_error) }
@@ -150,7 +164,10 @@ impl<A: Allocator + Copy> TimeZone<A> {
         )
     }
 
-    /// The clock's type at an instant, as [`TimeZoneRef::find_local_time_type`] answers.
+    /// The clock's type at an instant. (RFC 8536, section 3.2)
+    ///
+    /// From the last transition on it is the extra rule's. Without a rule there is none: `NoAvailableLocalTimeType`.
+    /// `OutOfRange` tells that the instant has no leap time, or lies in a year over which the rule is not defined.
     pub fn find_local_time_type(&self, unix_time: i64) -> Result<&LocalTimeType, TzError>
         ensures ok { IfOk result (λ t. IsClock (own_zone_of self.now) unix_time t.now) }
         ensures err { IfErr result (IsLookupFault (own_zone_of self.now) unix_time) }
@@ -158,7 +175,7 @@ impl<A: Allocator + Copy> TimeZone<A> {
         self.as_ref().find_local_time_type(unix_time)
     }
 
-    /// The clock's type at the current instant, which the caller gives as Unix seconds.
+    /// The clock's type at the current time, which the caller passes as Unix seconds.
     pub fn find_current_local_time_type(&self, unix_time: i64) -> Result<&LocalTimeType, TzError>
         ensures ok { IfOk result (λ t. IsClock (own_zone_of self.now) unix_time t.now) }
         ensures err { IfErr result (IsLookupFault (own_zone_of self.now) unix_time) }

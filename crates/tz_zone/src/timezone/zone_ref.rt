@@ -62,6 +62,20 @@ impl<'a> TimeZoneRef<'a> {
     /// times must rise; `InvalidLeapSecond`; and where there are a rule and a transition, and the last one is not before the leap seconds
     /// begin, `OutOfRange` where it never takes effect or the rule has no type there, and `InconsistentExtraRule` where its type there is
     /// another than the transition's.
+    ///
+    /// A zone from parts, without memory: clocks were an hour ahead of UTC until the year 2000, and are two from then on.
+    ///
+    /// ```rust
+    /// pub fn moved_ahead_in_2000(unix_time: i64) -> Result<DateTime, TzError> {
+    ///     let before = LocalTimeType::new(3600, false, Some(b"EARLY"))?;
+    ///     let after = LocalTimeType::new(7200, false, Some(b"LATE"))?;
+    ///     let types = [before, after];
+    ///     let transitions = [Transition::new(946_684_800, 1)];
+    ///     let rule = Some(TransitionRule::Fixed(after));
+    ///     let zone = TimeZoneRef::new(&transitions, &types, &[], &rule)?;
+    ///     DateTime::from_timespec(unix_time, 0, zone)
+    /// }
+    /// ```
     pub fn new(
         transitions: &'a [Transition],
         local_time_types: &'a [LocalTimeType],
@@ -151,7 +165,7 @@ impl<'a> TimeZoneRef<'a> {
     /// The clock's type at an instant. (RFC 8536, section 3.2)
     ///
     /// From the last transition on it is the extra rule's. Without a rule there is none: `NoAvailableLocalTimeType`.
-    /// `OutOfRange` tells that the instant has no leap time, or lies in a year in which the rule has no answer.
+    /// `OutOfRange` tells that the instant has no leap time, or lies in a year over which the rule is not defined.
     #[inline(always)]
     pub fn find_local_time_type(&self, unix_time: i64) -> Result<&'a LocalTimeType, TzError>
         ensures ok { IfOk result (λ t. IsClock (zone_of self.now) unix_time t.now) }

@@ -94,7 +94,7 @@ fn choice_of(listed: &[Summary]) -> Choice {
     (unique, earliest, latest)
 }
 
-/// What a list in so many slots says of itself, where these are found.
+/// What a list in a number of slots says of itself, where these are found.
 fn facts_of(found: &[Summary], slots: usize) -> Facts {
     let written = found.get(..slots).unwrap_or(found);
     let (unique, earliest, latest) = choice_of(written);

@@ -19,7 +19,6 @@ use super::tail::Tail;
 use super::time_lines::keep;
 use tz::TimeZoneRef;
 use tz::inner::{Fields, Segment};
-use tz::timezone::TransitionRule;
 
 /// The fields that the first line asks for, if it is an `F` line of usual numbers, and the bytes after it. Its nanoseconds are copied,
 /// and are 0 in the fields.
@@ -52,18 +51,6 @@ fn read_line<'a>(queries: &'a [u8], nine: &mut [u8; 9]) -> Option<(Fields, &'a [
     Some((fields, &queries[line_end + 1..]))
 }
 
-/// Whether an alternate rule tells the clock at an instant: no segment of more than a second is known there.
-#[inline(always)]
-fn is_in_alternate_rule(zone: TimeZoneRef<'_>, unix_time: i64) -> bool {
-    match zone.extra_rule() {
-        Some(TransitionRule::Alternate(_)) => match zone.transitions().last() {
-            Some(last) => last.unix_leap_time() <= unix_time,
-            None => true,
-        },
-        _ => false,
-    }
-}
-
 /// The end of lines for all instants from the first one to the second, if one segment is known to hold them, which is kept then.
 #[inline(always)]
 fn tail_through<'a>(
@@ -79,9 +66,6 @@ fn tail_through<'a>(
     ensures within { IfSome result (λ tail. (kept.new.from ≤ℤ low) × (high <ℤ kept.new.until)) }
     ensures kept { IsSegmentOf (zone_of zone.entry) kept.new }
 {
-    if is_in_alternate_rule(zone, low) {
-        return None;
-    }
     if !keep(kept, zone, low) {
         return None;
     }

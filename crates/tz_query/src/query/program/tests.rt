@@ -161,7 +161,7 @@ fn takes_an_option_and_its_word_alone(rt: HostRuntime) -> Result<(), Fail> {
     Ok(())
 }
 
-/// A writer over memory that fails after so many writes.
+/// A writer over memory that fails after a number of writes.
 fn failing_after(alloc: Global, calls: u8) -> FailingWriter {
     FailingWriter {
         bytes: Vec::new(alloc),
@@ -170,8 +170,8 @@ fn failing_after(alloc: Global, calls: u8) -> FailingWriter {
     }
 }
 
-/// What the program does with an input that fails after so many reads, an output that fails after so many writes, and an error
-/// output that fails after so many.
+/// What the program does with an input that fails after a number of reads, an output that fails after one of writes, and an error
+/// output that fails after one.
 fn outcome_of_failing(
     alloc: Global,
     words: &[&str],
@@ -230,7 +230,7 @@ fn the_zone_is_made_before_a_byte_is_read(rt: HostRuntime) -> Result<(), Fail> {
     Ok(())
 }
 
-/// What the program does where so many growths are granted and each later one is refused, and how many were refused.
+/// What the program does where a number of growths are granted and each later one is refused, and how many were refused.
 fn outcome_of_refusing(alloc: Global, words: &[&str], left: u64) -> Result<(String, u64), Fail> {
     let heap = Refusing::new(alloc, left);
     let mut input = b"T 0 0\n".as_slice();

@@ -2,26 +2,19 @@
 
 use super::*;
 use crate::query::tests::failing::{FailingReader, FailingWriter};
+use crate::query::tests::zones::central_europe;
 use std::alloc::Global;
 use std::test::Fail;
-use tz::TimeZone;
-use tz::error::ReadFault;
 use tz_base::refusing::Refusing;
 
 /// Two lines, the second without an end.
 const QUERIES: &[u8] = b"T 0 0\nF 2000 10 29 2 30 0 0";
 
-/// Their answers over the zone of Central Europe.
+/// The answers of these queries over the zone of Central Europe.
 const ANSWERS: &str = "1970-01-01T01:00:00.000000000+01:00 CET\n\
                        F 2\n\
                        N 2000-10-29T02:30:00.000000000+02:00 CEST\n\
                        N 2000-10-29T02:30:00.000000000+01:00 CET\n";
-
-/// The zone of Central Europe, by its rule alone.
-fn central_europe(alloc: Global) -> Result<TimeZone, tz::Error> {
-    let no_file = |_: &str| Err(ReadFault::Failed(anyhow::anyhow!("no such file")));
-    TimeZone::from_posix_tz(alloc, no_file, "CET-1CEST,M3.5.0,M10.5.0/3")
-}
 
 /// The name of what a run answers.
 fn name(answer: &Result<(), RunFault>) -> &'static str {
@@ -33,7 +26,7 @@ fn name(answer: &Result<(), RunFault>) -> &'static str {
     }
 }
 
-/// What a run answers with a reader and a writer that fail after so many calls, and what the writer holds then, after `|`.
+/// What a run returns with a reader and a writer that fail after a number of calls, and what the writer holds then, after `|`.
 fn outcome(alloc: Global, reads: u8, writes: u8, piece: usize) -> Result<String, Fail> {
     let zone = central_europe(alloc)?;
     let mut input = FailingReader {

@@ -1,10 +1,9 @@
 //! `W` lines over zones whose answers are known.
 
 use crate::query::answer;
-use std::alloc::Global;
+use crate::query::tests::zones::central_europe;
 use std::test::Fail;
-use tz::error::ReadFault;
-use tz::{TimeZone, TimeZoneRef, TzError, UtcDateTime};
+use tz::{TimeZoneRef, TzError, UtcDateTime};
 use tz_base::refusing::Refusing;
 
 /// Three weeks over a jump of the clock of Central Europe, and their answer.
@@ -17,12 +16,6 @@ const JUMPED: &str = "W 3\n\
     S 2000-03-26T02:00:00.000000000+01:00 CET 2000-03-26T03:00:00.000000000+02:00 CEST\n\
     F 1\n\
     N 2000-04-02T02:30:00.000000000+02:00 CEST\n";
-
-/// The zone of Central Europe, by its rule alone.
-fn central_europe(alloc: Global) -> Result<TimeZone, tz::Error> {
-    let no_file = |_: &str| Err(ReadFault::Failed(anyhow::anyhow!("no such file")));
-    TimeZone::from_posix_tz(alloc, no_file, "CET-1CEST,M3.5.0,M10.5.0/3")
-}
 
 #[test]
 fn a_meeting_keeps_its_time_of_day_over_a_jump(rt: HostRuntime) -> Result<(), Fail> {

@@ -1,12 +1,13 @@
 //! `F` lines over zones whose answers are known.
 
 use crate::query::answer;
+use crate::query::tests::zones::central_europe;
 use std::alloc::{AllocError, Allocator, Global};
 use std::process::Abort;
 use std::test::Fail;
 use tz::timezone::{
-    AlternateTime, Julian0WithLeap, Julian1WithoutLeap, LeapSecond, MonthWeekDay, RuleDay,
-    Transition, TransitionRule,
+    AlternateTime, Julian0WithLeap, Julian1WithoutLeap, LeapSecond, RuleDay, Transition,
+    TransitionRule,
 };
 use tz::{LocalTimeType, TimeZone, TimeZoneRef, TzError};
 use tz_base::refusing::Refusing;
@@ -36,19 +37,6 @@ fn expect_answers_by_rule(
     let rule = Some(TransitionRule::Alternate(rule));
     let zone = TimeZoneRef::new(&[], &types, &[], &rule)?;
     expect_answers(rt, alloc, zone, queries, answers)
-}
-
-/// The rule of `CET-1CEST,M3.5.0,M10.5.0/3`.
-fn central_europe() -> Result<AlternateTime, TzError> {
-    let rule = AlternateTime::new(
-        LocalTimeType::new(3600, false, Some(b"CET"))?,
-        LocalTimeType::new(7200, true, Some(b"CEST"))?,
-        RuleDay::MonthWeekDay(MonthWeekDay::new(3, 5, 0)?),
-        7200,
-        RuleDay::MonthWeekDay(MonthWeekDay::new(10, 5, 0)?),
-        10_800,
-    )?;
-    Ok(rule)
 }
 
 /// The rule of `EST5EDT,0/0,J365/25`.
@@ -95,10 +83,11 @@ fn jerusalem_v3(alloc: Global) -> Result<Vec<u8>, AllocError> {
 
 #[test]
 fn a_rule_skips_and_repeats_an_hour(rt: HostRuntime) -> Result<(), Fail> {
-    expect_answers_by_rule(
+    let zone = central_europe(rt.alloc())?;
+    expect_answers(
         &rt,
         rt.alloc(),
-        central_europe()?,
+        zone.as_ref(),
         "F 2000 3 26 2 30 0 0\n\
          F 2000 10 29 2 30 0 0\n\
          F 2000 7 1 12 0 0 5\n",
@@ -388,7 +377,7 @@ fn reads_only_the_grammar(rt: HostRuntime) -> Result<(), Fail> {
     Ok(())
 }
 
-/// The answers where so many growths succeed.
+/// The answers where a number of growths succeed.
 fn answered<A: Allocator + Copy>(alloc: A) -> Result<Vec<u8, A>, TzError> {
     answer(alloc, TimeZoneRef::utc(), b"F 2000 1 1 0 0 0 0\nT 0\n")
 }

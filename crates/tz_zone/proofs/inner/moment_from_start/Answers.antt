@@ -15,7 +15,7 @@ returns-then-count-eq0 c =
     let v = c.args.unix_leap_time in
     let fits = c.ranges.unix_leap_time in
     let count = c.leap_seconds_up_to-count.ensures in
-    let times = times_from_items leaps v c.leap_seconds_up_to-count.result count.within (simp to_z-of_z at count.come) (simp to_z-of_z at count.later) in
+    let times = times_from_items leaps v c.leap_seconds_up_to-count.result count.within (simp to_z-of_z at count.up_to) (simp to_z-of_z at count.later) in
     let same : to_z w128 (of_z w128 c.less.result) ≡ v = omega (arith, ints, c.less.ensures) in
     let none = rw c.if-count-eq0.true at times in
     rw same (IsMomentOf-from_count leaps c.requires.leaps v v 0 fits c.requires.begun none (IsMoment-none leaps c.requires.leaps v c.requires.begun none))
@@ -27,7 +27,7 @@ returns c =
     let fits = c.ranges.unix_leap_time in
     let k = c.leap_seconds_up_to-count.result in
     let count = c.leap_seconds_up_to-count.ensures in
-    let times = times_from_items leaps v k count.within (simp to_z-of_z at count.come) (simp to_z-of_z at count.later) in
+    let times = times_from_items leaps v k count.within (simp to_z-of_z at count.up_to) (simp to_z-of_z at count.later) in
     let item = c.index-leap_seconds-count.result in
     let at = slice_get_read leaps _ (k - 1) item refl (omega arith) c.index-leap_seconds-count.is in
     let last : k ≡ suc (k - 1) = omega arith in

@@ -31,17 +31,17 @@ fn leap_by_records(leap_seconds: &[LeapSecond], unix_time: i64) -> Option<i64> {
     unix_leap_time
 }
 
-/// Whether a leap time has come at an instant.
-fn has_come(leap_seconds: &[LeapSecond], unix_leap_time: i64, unix_time: i64) -> bool {
+/// Whether a leap time is reached at an instant.
+fn is_reached(leap_seconds: &[LeapSecond], unix_leap_time: i64, unix_time: i64) -> bool {
     leap_by_records(leap_seconds, unix_time).is_some_and(|found| unix_leap_time <= found)
 }
 
-/// The effect of a leap time is the least instant at which it has come: it has not before, or nowhere where the effect is refused.
+/// The effect of a leap time is the least instant at which it is reached: it is not before, or nowhere where the effect is refused.
 fn expect_effect(rt: &impl Abort, leap_seconds: &[LeapSecond], unix_leap_time: i64) {
     let found = effect_of(leap_seconds, unix_leap_time);
     let end = match found {
         Ok(unix_time) => {
-            assert!(rt; has_come(leap_seconds, unix_leap_time, unix_time));
+            assert!(rt; is_reached(leap_seconds, unix_leap_time, unix_time));
             unix_time.checked_sub(1)
         }
         Err(error) => {
@@ -56,7 +56,7 @@ fn expect_effect(rt: &impl Abort, leap_seconds: &[LeapSecond], unix_leap_time: i
         return;
     };
     for step in 0..8i64 {
-        assert!(rt; !has_come(leap_seconds, unix_leap_time, end.saturating_sub(step)));
+        assert!(rt; !is_reached(leap_seconds, unix_leap_time, end.saturating_sub(step)));
     }
 }
 

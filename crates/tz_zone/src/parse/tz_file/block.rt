@@ -76,7 +76,7 @@ pub(super) struct Part<'a> {
 }
 
 impl Part<'_> {
-    /// Whether a TZ text behind the block is an extended one. (RFC 8536, section 3.3.1)
+    /// Whether a TZ string behind the block is an extended one. (RFC 8536, section 3.3.1)
     pub(super) fn is_extended(&self) -> bool
         ensures { result ≡ is_extended (part_view self.now) }
     {

@@ -1,4 +1,4 @@
-//! The footer behind the second block: a TZ text between two line feeds. (RFC 8536, section 3.3)
+//! The footer behind the second block: a TZ string between two line feeds. (RFC 8536, section 3.3)
 
 ghost use Rattle.std.specs.Prelude.{◌≡◌, ◌≢◌, ◌-◌, [], Some, Contains, length, option_copied, slice_get, IfOk, IfErr, OnOk, MatchBool};
 ghost use Rattle.tz_zone.specs.TzFile.{trimmed, IsBetweenLineFeeds, MayBeText, IsFooter, IsExtraRule};
@@ -24,7 +24,7 @@ fn has_zero(bytes: &[u8]) -> bool
     bytes.contains(&0)
 }
 
-/// Whether a TZ text may stand in a footer.
+/// Whether a TZ string may stand in a footer.
 fn may_be_text(text: &[u8]) -> bool
     ensures { MatchBool result (MayBeText text.now) (¬ MayBeText text.now) }
 {

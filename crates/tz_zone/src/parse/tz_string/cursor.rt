@@ -1,4 +1,4 @@
-//! The front of a text.
+//! The front of a string.
 
 ghost use Rattle.std.specs.Prelude.{◌≡◌, ◌∷◌, MatchOption, MatchResult};
 ghost use Rattle.std.specs.Char.{is_ascii_digit, is_ascii_alphabetic};

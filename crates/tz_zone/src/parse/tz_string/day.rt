@@ -16,7 +16,7 @@ use tz_base::error::TzError;
 use tz_base::error::parse::TzStringError;
 use tz_rule::timezone::{Julian0WithLeap, Julian1WithoutLeap, MonthWeekDay, RuleDay};
 
-/// A rule of a text: a day of each year, and a time of that day.
+/// A rule of a string: a day of each year, and a time of that day.
 #[derive(Clone, Copy)]
 pub(super) struct DayAndTime {
     pub(super) day: RuleDay,

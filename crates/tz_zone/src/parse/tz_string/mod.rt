@@ -1,4 +1,4 @@
-//! TZ texts. (POSIX.1-2017, Base Definitions, 8.3)
+//! TZ strings. (POSIX.1-2017, Base Definitions, 8.3)
 
 mod cursor;
 mod day;
@@ -102,7 +102,7 @@ fn named_type(
     LocalTimeType::new(ut_offset, is_dst, Some(name))
 }
 
-/// What the text denotes.
+/// What the string denotes.
 fn read_text(text: &[u8], extended: bool) -> Result<TransitionRule, TzError>
     ensures { MatchResult result (IsTzText extended text.now) (IsTzTextFault extended text.now) }
 {
@@ -122,9 +122,9 @@ fn read_text(text: &[u8], extended: bool) -> Result<TransitionRule, TzError>
     Ok(TransitionRule::Alternate(rule))
 }
 
-/// The rule that a TZ text denotes. (POSIX.1-2017, Base Definitions, 8.3)
+/// The rule that a TZ string denotes. (POSIX.1-2017, Base Definitions, 8.3)
 ///
-/// An extended text may have day times from -167 to 167 hours. (RFC 8536, section 3.3.1)
+/// An extended string may have day times from -167 to 167 hours. (RFC 8536, section 3.3.1)
 pub(crate) fn parse_posix_tz(text: &[u8], extended: bool) -> Result<TransitionRule, TzError>
     ensures ok { IfOk result (IsTzText extended text.now) }
     ensures err { IfErr result (IsTzTextFault extended text.now) }

@@ -1,4 +1,4 @@
-//! TZ texts and the rules that they denote, and texts that are none.
+//! TZ strings and the rules that they denote, and texts that are none.
 
 use super::parse_posix_tz;
 use crate::samples::{Fault, named};
@@ -338,7 +338,7 @@ fn type_text(alloc: Global, local_time_type: &LocalTimeType) -> Result<String, F
     Ok(format!(in alloc; "{name} {}", local_time_type.ut_offset())?)
 }
 
-/// A day as a TZ text has it, and a time of that day in seconds.
+/// A day as a TZ string has it, and a time of that day in seconds.
 fn change_text(alloc: Global, day: &RuleDay, time: i32) -> Result<String, Fail> {
     Ok(match day {
         RuleDay::Julian1WithoutLeap(day) => format!(in alloc; "J{} {time}", day.get())?,

@@ -9,16 +9,16 @@ use super::cursor::after_byte;
 use super::number::read_time_number;
 use tz_base::error::parse::TzStringError;
 
-/// The greatest hour of an offset, and of a day time in an ordinary text.
+/// The greatest hour of an offset, and of a day time in an ordinary string.
 const DAY_HOURS: u32 = 24;
 
-/// The greatest hour of a day time in an extended text.
+/// The greatest hour of a day time in an extended string.
 const EXTENDED_HOURS: u32 = 167;
 
 /// The greatest minute, and the greatest second.
 const LAST_OF_SIXTY: u32 = 59;
 
-/// How far daylight saving time is ahead of standard time, in seconds, where a text does not say.
+/// How far daylight saving time is ahead of standard time, in seconds, where a string does not say.
 const DEFAULT_SAVING: i32 = 3600;
 
 /// A time as it is written: whether after a minus, and its numbers.
@@ -56,7 +56,7 @@ impl WrittenTime {
         if self.minus { -seconds } else { seconds }
     }
 
-    /// The seconds that an offset adds to UTC: a text has those that it takes off.
+    /// The seconds that an offset adds to UTC: a string has those that are subtracted.
     pub(super) fn ut_offset(self) -> i32
         requires { IsTimeUpTo offset_hours self }
         ensures value { result ≡ ut_offset_of self }
@@ -65,7 +65,7 @@ impl WrittenTime {
         -self.total_seconds()
     }
 
-    /// The seconds that daylight saving time adds to UTC: an hour more than standard time, where the text has no offset.
+    /// The seconds that daylight saving time adds to UTC: an hour more than standard time, where the string has no offset.
     pub(super) fn daylight_ut_offset(self, daylight: Option<WrittenTime>) -> i32
         requires std { IsTimeUpTo offset_hours self }
         requires dst { IfSome daylight (IsTimeUpTo offset_hours) }
@@ -120,7 +120,7 @@ fn read_sign(text: &[u8]) -> (bool, &[u8])
     (false, text)
 }
 
-/// The sign of a day time, which an ordinary text does not have.
+/// The sign of a day time, which an ordinary string does not have.
 fn read_day_time_sign(text: &[u8], extended: bool) -> (bool, &[u8])
     ensures { IsDayTimeSign extended text.now result.0 result.1.now }
 {

@@ -6,7 +6,7 @@ use crate::parse::tz_string::parse_posix_tz;
 /// Central European Time, and other rules whose starts and ends are at given times.
 const CENTRAL_EUROPE: &str = "CET-1CEST,M3.5.0,M10.5.0/3";
 
-/// The rule that a TZ text writes, with day times of up to a week.
+/// The rule that a TZ string denotes, with day times of up to a week.
 fn rule(text: &str) -> Result<Option<TransitionRule>, Fail> {
     let rule = parse_posix_tz(text.as_bytes(), true).map_err(|_| "no rule")?;
     Ok(Some(rule))

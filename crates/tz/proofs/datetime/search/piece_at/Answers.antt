@@ -10,9 +10,9 @@ use Rattle.tz_zone.specs.Clock.{IsTypeOfLast}
 use Rattle.tz_zone.specs.LeapTime.{IsEffect}
 use Rattle.tz_zone.specs.ZoneSeen.{zone_seen}
 use Rattle.tz_zone.proofs.RisingTimes.{reached_through, ahead_from}
-use Rattle.tz.specs.Reached.{IsKindOf}
+use Rattle.tz.specs.Reached.{HoldsAfter}
 use Rattle.tz.proofs.EffectLemmas.{ok_from_err, effect_not_refused}
-use Rattle.tz.proofs.KindLemmas.{kind_before_last, kind_from_last}
+use Rattle.tz.proofs.TypesAfterTransitions.{holds_before_last, holds_from_last}
 use Rattle.tz.proofs.datetime.search.piece_at.Goals as goal
 use Rattle.tz.proofs.datetime.search.piece_at.Goals.{then-place-count, else-place-count}
 
@@ -61,18 +61,18 @@ returns-clause-some g c =
     let from_fits : SFits w64 from = search rules in
     let ok = rw (to_z-of_z w64 v fits) at c.effect.ensures.ok in
     let effect = IfOk-at_ok (λ u. IsEffect z.leap_seconds v u) c.unwrap-from.ensures ok in
-    let kind : IsKindOf z (c.args.place + 1) from c.if-place-count.local_time_type = elim c.if-place-count.branch [
+    let holds : HoldsAfter z (c.args.place + 1) from c.if-place-count.local_time_type = elim c.if-place-count.branch [
       | then-place-count w ↦
           let t = w.type_named.result in
           let here : slice_get z.transitions ((c.args.place + 1) - 1) ≡ Some transition = rw (add_sub c.args.place) at_place in
           let last : IsTypeOfLast z (c.args.place + 1) t = inr (omega arith, transition, here, w.type_named.ensures) in
-          subst (λ (k : Option LocalTimeType). IsKindOf z (c.args.place + 1) from k) (sym w.local_time_type-is) (kind_before_last z c.requires.sound.leap_seconds_are (c.args.place + 1) (omega (arith, w.if-place-count.true, c.len-count.ensures)) t last from)
+          subst (λ (k : Option LocalTimeType). HoldsAfter z (c.args.place + 1) from k) (sym w.local_time_type-is) (holds_before_last z c.requires.sound.leap_seconds_are (c.args.place + 1) (omega (arith, w.if-place-count.true, c.len-count.ensures)) t last from)
       | else-place-count w ↦
           let holds = rw (to_z-of_z w64 from from_fits) at w.type_from_last-local_time_type.ensures in
           let all : c.args.place + 1 ≡ length z.transitions = omega (arith, w.if-place-count.false, c.len-count.ensures, c.requires.within) in
-          subst (λ (k : Option LocalTimeType). IsKindOf z (c.args.place + 1) from k) (sym w.local_time_type-is) (kind_from_last z c.requires.sound.leap_seconds_are (c.args.place + 1) all (omega arith) from w.type_from_last-local_time_type.result holds)
+          subst (λ (k : Option LocalTimeType). HoldsAfter z (c.args.place + 1) from k) (sym w.local_time_type-is) (holds_from_last z c.requires.sound.leap_seconds_are (c.args.place + 1) all (omega arith) from w.type_from_last-local_time_type.result holds)
     ] in
-    rw (to_z-of_z w64 from from_fits) ((transition, at_place, subst (λ (x : ℤ). IsEffect z.leap_seconds x from) time effect), kind)
+    rw (to_z-of_z w64 from from_fits) ((transition, at_place, subst (λ (x : ℤ). IsEffect z.leap_seconds x from) time effect), holds)
 
 pub returns-clause-reached : goal.returns-clause-reached
 returns-clause-reached g c =

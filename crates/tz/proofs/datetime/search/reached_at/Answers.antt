@@ -13,6 +13,6 @@ returns-clause-reached g c =
     let l = c.leap_time-unix_leap_time.result in
     let fits : SFits w64 l = search rules in
     let time = rw (to_z-of_z w64 c.args.unix_time c.ranges.unix_time) at c.leap_time-unix_leap_time.ensures in
-    let come = rw (to_z-of_z w64 l fits) at c.transitions_reached.ensures.reached in
-    let later = rw (to_z-of_z w64 l fits) at c.transitions_reached.ensures.ahead in
-    record { time = l; time_is = time; come = come; later = later }
+    let reached = rw (to_z-of_z w64 l fits) at c.transitions_reached.ensures.reached in
+    let ahead = rw (to_z-of_z w64 l fits) at c.transitions_reached.ensures.ahead in
+    record { time = l; time_is = time; reached = reached; ahead = ahead }

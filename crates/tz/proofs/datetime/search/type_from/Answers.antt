@@ -4,14 +4,14 @@ use Rattle.std.proofs.lemmas.Bool.{false≢true}
 use Rattle.std.proofs.lemmas.Int.{to_z-of_z}
 use mir.Syntax.{w64}
 use Rattle.tz_zone.specs.ZoneSeen.{zone_seen}
-use Rattle.tz.proofs.KindLemmas.{kind_before_last, kind_from_last, kind_from_rule}
+use Rattle.tz.proofs.TypesAfterTransitions.{holds_before_last, holds_from_last, holds_from_rule}
 use Rattle.tz.proofs.datetime.search.type_from.Goals as goal
 use Rattle.tz.proofs.datetime.search.type_from.Goals.{else-reached-eq0-via-then-reached-eq0+else-is_none, else-reached-eq0-via-else-reached-eq0}
 
 pub returns-then-reached-len-clause-value : goal.returns-then-reached-len-clause-value
 returns-then-reached-len-clause-value g c =
     let z = zone_seen (g.V.Transitions.list c.args.view.now) c.args.parts in
-    kind_before_last z c.requires.sound.leap_seconds_are c.args.reached (omega (arith, c.len.ensures, c.if-reached-len.true)) c.type_of_last.result.now c.type_of_last.ensures.value c.args.from
+    holds_before_last z c.requires.sound.leap_seconds_are c.args.reached (omega (arith, c.len.ensures, c.if-reached-len.true)) c.type_of_last.result.now c.type_of_last.ensures.value c.args.from
 
 pub returns-clause-value : goal.returns-clause-value
 returns-clause-value g c =
@@ -21,6 +21,6 @@ returns-clause-value g c =
     elim c.else-reached-eq0.branch [
       | else-reached-eq0-via-then-reached-eq0+else-is_none w ↦
           let ruled : z.extra_rule ≢ None = λ e. absurd (false≢true (sym (ap is_some e) ∙ w.is_none.ensures ∙ ap not w.if-is_none.false)) in
-          kind_from_rule z c.requires.sound.leap_seconds_are c.args.reached all ruled c.args.from c.type_from_last.result holds
-      | else-reached-eq0-via-else-reached-eq0 w ↦ kind_from_last z c.requires.sound.leap_seconds_are c.args.reached all w.if-reached-eq0.false c.args.from c.type_from_last.result holds
+          holds_from_rule z c.requires.sound.leap_seconds_are c.args.reached all ruled c.args.from c.type_from_last.result holds
+      | else-reached-eq0-via-else-reached-eq0 w ↦ holds_from_last z c.requires.sound.leap_seconds_are c.args.reached all w.if-reached-eq0.false c.args.from c.type_from_last.result holds
     ]

@@ -4,7 +4,7 @@ use Rattle.std.proofs.lemmas.Int.{to_z-of_z}
 use mir.Syntax.{w64}
 use Rattle.tz_rule.specs.LocalTimeType.{LocalTimeType}
 use Rattle.tz_zone.specs.ZoneSeen.{zone_seen}
-use Rattle.tz.specs.Reached.{IsKindOf}
+use Rattle.tz.specs.Reached.{HoldsAfter}
 use Rattle.tz.proofs.SearchLemmas.{on_the_way_from_start}
 use Rattle.tz.proofs.datetime.search.walk_from.Goals as goal
 
@@ -33,8 +33,8 @@ returns-clause-way g c high order =
     let since : walk.since ≡ low = rw (to_z-of_z w64 low c.ranges.low) at new.since in
     let at_low = rw (to_z-of_z w64 low c.ranges.low) at c.reached_at-reached.ensures.reached in
     let first = rw (c.reached_at-reached.ensures.same, to_z-of_z w64 low c.ranges.low) at c.type_from.ensures.value in
-    let kind = subst (λ (v : ℤ). IsKindOf z reached v walk.kind) (sym since) (subst (λ (k : Option LocalTimeType). IsKindOf z reached low k) (sym new.kind) first) in
-    on_the_way_from_start z c.requires.sound low high c.args.fields.now reached walk c.requires.reach.1 at_low new.walk new.before since kind order
+    let holds = subst (λ (v : ℤ). HoldsAfter z reached v walk.local_time_type) (sym since) (subst (λ (k : Option LocalTimeType). HoldsAfter z reached low k) (sym new.local_time_type) first) in
+    on_the_way_from_start z c.requires.sound low high c.args.fields.now reached walk c.requires.reach.1 at_low new.walk new.before since holds order
 
 pub returns-clause-few : goal.returns-clause-few
 returns-clause-few g c b size = omega (arith, c.reached_at-reached.ensures.few b size, c.type_from.ensures.few)

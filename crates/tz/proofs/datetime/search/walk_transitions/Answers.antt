@@ -30,7 +30,7 @@ loop-place-init g c =
     rw (to_z-of_z w64 high c.ranges.high, to_z-of_z w64 l fits) (record {
       same = refl;
       found = ([], g.met.L.DateTimeList.none c.args.list.now, way);
-      come = reached_later z c.requires.sound c.args.walk.now.since high l c.args.reached way.high_is c.requires.high.1 c.requires.reached leap;
+      reached = reached_later z c.requires.sound c.args.walk.now.since high l c.args.reached way.high_is c.requires.high.1 c.requires.reached leap;
       effects = λ i from until. absurd (omega (arith, from, until));
       kept = omega arith;
       few = omega arith;
@@ -75,7 +75,7 @@ loop-place-preserved g c =
         g.met.L.DateTimeList.more c.args.list.now c.loop-place.list c.step.new.list so_far.found.0 step.0 so_far.found.1 step.1,
         on_the_way_past z sound low high f c.requires.high.1 place c.loop-place.walk so_far.found.0 way piece c.step.new.self step.0 look.some from_high step.2,
       );
-      come = look.reached;
+      reached = look.reached;
       effects = λ i from until. elim (cases_lt i place) [
         | inl before ↦ so_far.effects i from before
         | inr not_before ↦
@@ -116,7 +116,7 @@ returns-in_default-clause-ok g c =
       so_far.found.0,
       so_far.found.1,
       omega (arith, c.loop-place-test.true, c.len-count.ensures),
-      record { time = l; time_is = leap; come = so_far.come; later = look.ahead },
+      record { time = l; time_is = leap; reached = so_far.reached; ahead = look.ahead },
       so_far.found.2,
     )
 
@@ -149,8 +149,8 @@ returns g c =
         record {
           time = l;
           time_is = leap;
-          come = λ i change before at. so_far.come i change (omega (arith, before, count)) at;
-          later = λ i change from at. absurd (omega (arith, from, count, end, slice_get_within z.transitions i change at));
+          reached = λ i change before at. so_far.reached i change (omega (arith, before, count)) at;
+          ahead = λ i change from at. absurd (omega (arith, from, count, end, slice_get_within z.transitions i change at));
         },
         subst (λ (k : ℕ). IsOnTheWay z low high c.args.walk.now.fields k c.loop-place.walk so_far.found.0) count so_far.found.2,
       );

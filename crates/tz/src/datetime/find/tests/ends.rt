@@ -3,7 +3,7 @@
 use super::texts::{expect_texts, expect_texts_by_rule};
 use super::*;
 
-/// A rule with the greatest and the least offset and the latest and the earliest times that a rule may have. No TZ text says it.
+/// A rule with the greatest and the least offset and the latest and the earliest times that a rule may have. No TZ string denotes it.
 fn widest() -> Result<AlternateTime, TzError> {
     let rule = AlternateTime::new(
         LocalTimeType::new(93_599, false, Some(b"A"))?,

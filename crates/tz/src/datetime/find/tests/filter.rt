@@ -99,7 +99,7 @@ fn entries_of(
     }
 }
 
-/// The search and the filter find the same of so many readings; how many entries that are.
+/// The search and the filter find the same entries of a number of readings; how many entries these are.
 fn entries_by_both(
     rt: &impl Abort,
     alloc: Global,
@@ -166,7 +166,7 @@ impl Random {
         i64::try_from((self.0 >> 33) % count).unwrap_or(0)
     }
 
-    /// Up to so many quarters of an hour either way, in seconds.
+    /// Up to a number of quarters of an hour either way, in seconds.
     fn seconds(&mut self, quarters: u16) -> i32 {
         let place = self.below(2 * u64::from(quarters) + 1);
         let seconds = place

@@ -121,7 +121,7 @@ fn a_thousand_transitions(rt: HostRuntime) -> Result<(), Fail> {
     Ok(())
 }
 
-/// The fields that read so many seconds after 1970.
+/// The fields that read a number of seconds after 1970.
 fn reading_of(seconds: i64) -> Result<Reading, TzError> {
     let fields = UtcDateTime::from_timespec(seconds, 0)?;
     let (hour, minute, second) = (fields.hour(), fields.minute(), fields.second());

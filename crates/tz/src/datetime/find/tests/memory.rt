@@ -6,7 +6,7 @@ use tz_base::refusing::Refusing;
 /// Of so many allocations that are passed on, with how few a call is refused, if it is.
 const MOST: u64 = 12;
 
-/// What `find` finds where so many allocations are passed on, if there is memory, and how many are refused.
+/// What `find` finds where a number of allocations are passed on, if there is memory, and how many are refused.
 fn found_with(
     alloc: Global,
     left: u64,
@@ -102,7 +102,7 @@ enum Outcome {
     Copied,
 }
 
-/// The jumps that cross, found and copied where so many allocations are passed on; and how many allocations were refused and not freed.
+/// The jumps that cross, found and copied where a number of allocations are passed on; and how many allocations were refused and not freed.
 fn copied_with(rt: &impl Abort, alloc: Global, left: u64) -> Result<(Outcome, u64, u64), TzError> {
     let (transitions, types) = crossing()?;
     let rule = None;

@@ -1,10 +1,7 @@
 -- What is found, or the name of a refusal.
 use Rattle.std.proofs.Common.{◌≡◌, ◌∷◌, [], ◌++◌, inl, inr, refl, ap, ◌∙◌, rules}
 use Rattle.std.specs.Prelude.{codes}
-use Rattle.std.proofs.lemmas.Int.{to_z-of_z}
 use Rattle.std.proofs.lemmas.Result.{IfOk-weaker}
-use mir.Syntax.{w32}
-use mir.Val.{SFits}
 use Rattle.tz_base.specs.declared.error.TzError.TheVariants.{DateTime, OutOfRange}
 use Rattle.tz_zone.specs.Clock.{IsClock}
 use Rattle.tz_zone.specs.ZoneRef.{zone_of}
@@ -16,22 +13,19 @@ use Rattle.tz_query.proofs.query.answers.answer_search.Goals as goal
 
 pub returns-in-Ok : goal.returns-in-Ok
 returns-in-Ok g c =
-    let year = c.args.fields.now.year in
-    let fits : SFits w32 year = search rules in
     let was = c.args.answers.now.items in
     let found = found_of c.in-Ok.list in
-    let is = rw (to_z-of_z w32 year fits) at c.in-Ok.ensures.ok in
-    let valid = rw (to_z-of_z w32 year fits) at c.in-Ok.ensures.valid in
     let same : c.deref.result.now ≡ found = c.deref.ensures.value ∙ c.into_inner.ensures in
-    IfOk-weaker c.append_found.result _ _ (λ done items. (found_lines found, inl (found, valid, is, refl), items ∙ ap (λ es. was ++ ended (found_lines es)) same)) c.append_found.ensures
+    IfOk-weaker c.append_found.result _ _
+    (λ done items. (found_lines found, inl (found, c.in-Ok.ensures.valid, c.in-Ok.ensures.ok, refl), items ∙ ap (λ es. was ++ ended (found_lines es)) same))
+    c.append_found.ensures
 
 pub returns-in-Err-DateTime : goal.returns-in-Err-DateTime
 returns-in-Err-DateTime g c =
-    let fits : SFits w32 c.args.fields.now.year = search rules in
     let was = c.args.answers.now.items in
     let fault = c.in-Err-DateTime.fault in
     let error : c.in-Err-DateTime.field-0 ≡ DateTime fault = search rules in
-    let refused = rw (c.in-Err-DateTime.is, error, to_z-of_z w32 c.args.fields.now.year fits) at c.find-found.ensures.err in
+    let refused = rw (c.in-Err-DateTime.is, error) at c.find_fields.ensures.err in
     IfOk-weaker c.append_fault.result _ _
     (λ done items. (
       (codes "E " ++ field_fault_text fault) ∷ [],
@@ -42,9 +36,8 @@ returns-in-Err-DateTime g c =
 
 pub returns-in-Err-OutOfRange : goal.returns-in-Err-OutOfRange
 returns-in-Err-OutOfRange g c =
-    let fits : SFits w32 c.args.fields.now.year = search rules in
     let error : c.in-Err-OutOfRange.field-0 ≡ OutOfRange = search rules in
-    let refused = rw (c.in-Err-OutOfRange.is, error, to_z-of_z w32 c.args.fields.now.year fits) at c.find-found.ensures.err in
+    let refused = rw (c.in-Err-OutOfRange.is, error) at c.find_fields.ensures.err in
     IfOk-weaker c.append_fault-in-Err-OutOfRange.result _ _
     (λ done items. (codes "E OutOfRange" ∷ [], inr (OutOfRange, codes "OutOfRange", told_out_of_range (IsClock (zone_of c.args.zone)) c.args.fields.now refused, refl, refl), items))
     c.append_fault-in-Err-OutOfRange.ensures

@@ -1,7 +1,7 @@
 -- One more entry is there.
 use Rattle.std.proofs.Common.{◌≡◌, ◌<◌, ◌++◌, ◌∷◌, [], length, take, get_or, sym, ap, ◌∙◌, append_assoc, rules}
 use Rattle.std.specs.Prelude.{map}
-use Rattle.tz_query.specs.Lines.{ended}
+use Rattle.tz_query.specs.Lines.{line_feed, ended}
 use Rattle.tz_query.specs.Answers.{entry_text}
 use Rattle.tz_query.proofs.AnswerLemmas.{entries_more}
 use Rattle.tz_query.proofs.query.answers.append_entries.Goals as goal
@@ -14,10 +14,10 @@ loop-entry-preserved g c =
     let e = c.entry-item.result in
     let was = c.args.answers.now.items in
     let within : i < length found = search rules in
-    let line = entry_text (get_or found i e) ++ 10 ∷ [] in
+    let line = entry_text (get_or found i e) ++ line_feed ∷ [] in
     let text : c.push_entry.new.line ≡ entry_text (get_or found i e) = c.push_entry.ensures.text ∙ ap entry_text c.entry-item.is in
     c.in_ok-append_line.ensures
-    ∙ ap (λ t. loop.answers.items ++ (t ++ 10 ∷ [])) text
+    ∙ ap (λ t. loop.answers.items ++ (t ++ line_feed ∷ [])) text
     ∙ ap (λ bs. bs ++ line) loop.invariant
     ∙ append_assoc was (ended (map entry_text (take i found))) line
     ∙ ap (λ bs. was ++ bs) (sym (entries_more found i e within))

@@ -1,5 +1,5 @@
 -- The day's date is that of the week.
-use Rattle.std.proofs.Common.{◌≡◌, ◌*◌, pos, ◌+ℤ◌, refl, sym, subst, arith, rules}
+use Rattle.std.proofs.Common.{◌≡◌, ◌*◌, pos, ◌+ℤ◌, refl, subst, arith, rules}
 use Rattle.std.proofs.lemmas.Int.{ints, to_z-of_z}
 use mir.Syntax.{w32, w64}
 use mir.Val.{SFits}

@@ -1,17 +1,11 @@
 -- The rule's types come after those of the zone.
-use Rattle.std.proofs.Common.{◌≡◌, ◌+◌, ◌+ℤ◌, pos, length, refl, sym, ap, ◌∙◌, subst, arith, rules, Some}
-use Rattle.std.specs.Prelude.{slice_get}
-use Rattle.std.proofs.lemmas.Int.{ints, to_z-of_z}
+use Rattle.std.proofs.Common.{◌≡◌, refl, ap, ◌∙◌, arith, rules, length, Some}
+use Rattle.std.proofs.lemmas.Int.{to_z-of_z}
 use mir.Syntax.{w64}
 use mir.Val.{SFits}
-use mathlib.Core.Bool.{true≢false}
-use Rattle.tz_rule.specs.Rule.{IsRuleType}
-use Rattle.tz_rule.specs.Same.{Decides-same_type}
 use Rattle.tz_rule.specs.declared.timezone.rule.TransitionRule.TheVariants.{Alternate}
-use Rattle.tz_zone.specs.Segments.{numbered_types}
 use Rattle.tz_zone.specs.ZoneRef.{zone_of}
-use Rattle.tz_zone.proofs.SegmentLemmas.{number_of_rule, fixed_stretch, other_type, stretch_of_second}
-use Rattle.tz_zone.proofs.inner.segments.segment_of_rule.Goals.{then-eq, else-eq}
+use Rattle.tz_zone.proofs.SegmentLemmas.{number_of_rule, fixed_stretch, number_by_daylight, stretch_of_rule}
 use Rattle.tz_zone.proofs.inner.segments.segment_of_rule.Goals as goal
 
 pub returns-in-Fixed : goal.returns-in-Fixed
@@ -23,29 +17,17 @@ returns-in-Fixed c =
     rw (to_z-of_z w64 c.args.seam c.ranges.seam, c.local_time_types-types.ensures)
     (fixed, numbered, fixed_stretch z c.args.seam c.requires.ruled fixed extra)
 
-pub returns-after-eq : goal.returns-after-eq
-returns-after-eq c =
+pub returns-in-Some : goal.returns-in-Some
+returns-in-Some c =
     let z = zone_of c.args.zone in
     let r = c.in-Alternate.alternate in
-    let u = c.args.unix_time in
-    let t = c.in-Ok.local_time_type.now in
-    let from = rw (to_z-of_z w64 u c.ranges.unix_time, to_z-of_z w64 c.args.seam c.ranges.seam) at c.if-unix_time-seam.false in
-    let reach = rw (to_z-of_z w64 u c.ranges.unix_time) at c.if-unix_time-ge-SURELY_ANSWERED.false in
-    let next : SFits w64 (u +ℤ pos 1) = search rules in
-    let type = rw (to_z-of_z w64 u c.ranges.unix_time) at c.in-Ok.ensures.ok in
-    let of_alternate : IsRuleType (Alternate r) u t = subst (λ rule. IsRuleType rule u t) c.in-Alternate.is type in
-    let clock = c.requires.ruled c.args.rule.now c.requires.rule u (omega (arith, ints, from)) (omega (arith, ints, reach)) t type in
+    let s = c.in-Some.stretch in
     let extra : z.extra_rule ≡ Some (Alternate r) = c.requires.rule ∙ ap Some c.in-Alternate.is in
-    let same = Decides-same_type t c.std.result.now in
-    let numbered : slice_get (numbered_types z) c.if-eq.number ≡ Some t =
-    elim c.if-eq.branch [
-      | then-eq w ↦
-          let is : t ≡ r.std = same.0 (sym c.eq.ensures ∙ w.if-eq.true) ∙ c.std.ensures in
-          let at : c.if-eq.number ≡ length z.types = w.number-is ∙ ap length c.local_time_types-types.ensures in
-          number_of_rule z (Alternate r) extra 0 c.if-eq.number t (omega (arith, at)) (ap Some (sym is))
-      | else-eq w ↦
-          let is : t ≡ r.dst = other_type r u t of_alternate (λ e. true≢false (sym (same.1 (e ∙ sym c.std.ensures)) ∙ sym c.eq.ensures ∙ w.if-eq.false)) in
-          let at : c.if-eq.number ≡ length z.types + 1 = w.number-is ∙ ap (λ types. length types + 1) c.local_time_types-types.ensures in
-          number_of_rule z (Alternate r) extra 1 c.if-eq.number t at (ap Some (sym is))
-    ] in
-    rw (to_z-of_z w64 u c.ranges.unix_time, to_z-of_z w64 (u +ℤ pos 1) next) (t, numbered, stretch_of_second z u t clock)
+    let from_fits : SFits w64 s.from = search rules in
+    let until_fits : SFits w64 s.until = search rules in
+    let later_fits : SFits w64 c.later.result = search rules in
+    let from = rw (to_z-of_z w64 s.from from_fits) at c.later.ensures.0 in
+    let seam = rw (to_z-of_z w64 c.args.seam c.ranges.seam) at c.later.ensures.1 in
+    let types = ap length c.local_time_types-types.ensures in
+    rw (to_z-of_z w64 c.later.result later_fits, to_z-of_z w64 s.until until_fits)
+    (_, number_by_daylight z r extra s.is_daylight c.number_by.result (rw types at c.number_by.ensures), stretch_of_rule z c.args.seam c.requires.ruled r extra s c.in-Some.ensures.of c.later.result from seam)

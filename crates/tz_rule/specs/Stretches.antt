@@ -1,0 +1,19 @@
+-- Spans of time through which an alternate rule has one type. (POSIX.1-2017, Base Definitions, 8.3: the TZ variable.)
+use Rattle.std.specs.Prelude.{Bool, ℤ, pos, negsuc, ◌≤ℤ◌, ◌<ℤ◌, if◌then◌else◌}
+use Rattle.tz_rule.specs.LocalTimeType.{LocalTimeType}
+use Rattle.tz_rule.specs.Alternate.{AlternateTime}
+use Rattle.tz_rule.specs.Rule.{IsRuleType}
+use Rattle.tz_rule.specs.declared.timezone.rule.TransitionRule.TheVariants.{Alternate}
+use Rattle.tz_rule.specs.declared.timezone.stretch.Stretch.{Stretch}
+
+-- the type of daylight saving time, or that of standard time
+abbrev pub type_by : AlternateTime → Bool → LocalTimeType
+type_by r is_daylight = if is_daylight then r.dst else r.std
+
+-- the rule has the stretch's type throughout it
+abbrev pub IsStretchOf : AlternateTime → Stretch → Type 0
+IsStretchOf r s = (v : ℤ) → s.from ≤ℤ v → v <ℤ s.until → IsRuleType (Alternate r) v (type_by r s.is_daylight)
+
+-- years whose neighbours are rule years too
+abbrev pub IsStretchYear : ℤ → Type 0
+IsStretchYear year = (negsuc 2147483644 ≤ℤ year) × (year ≤ℤ pos 2147483644)

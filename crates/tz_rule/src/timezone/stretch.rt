@@ -1,0 +1,12 @@
+//! A span of time through which an alternate rule has one type.
+
+/// A span of time through which an alternate rule has one type.
+#[derive(Clone, Copy)]
+pub struct Stretch {
+    /// The first instant.
+    pub from: i64,
+    /// The first instant after it.
+    pub until: i64,
+    /// Whether its type is that of daylight saving time.
+    pub is_daylight: bool,
+}

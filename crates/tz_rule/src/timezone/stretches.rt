@@ -1,0 +1,158 @@
+//! Where an alternate rule keeps its type, between a start and an end of daylight saving time.
+//!
+//! A stretch is told only where its start and its end lie ten days or more from the ends of their years. Then all others lie outside it.
+
+ghost use Rattle.std.specs.Prelude.{◌≡◌, pos, negsuc, ◌≤ℤ◌, ◌<ℤ◌, IfSome};
+ghost use Rattle.tz_rule.specs.Alternate.{start_of, end_of};
+ghost use Rattle.tz_rule.specs.Daylight.{IsMidYear};
+ghost use Rattle.tz_rule.specs.Stretches.{IsStretchOf, IsStretchYear};
+ghost use Rattle.tz_rule.specs.Years.{EndsNextYear};
+
+use super::AlternateTime;
+use super::daylight::is_mid_second;
+use super::stretch::Stretch;
+use super::year_kind::year_start;
+
+/// How far from 1970 an instant may lie: the neighbours of its year are years in which a rule answers.
+const GREATEST_DISTANCE: i64 = 60_000_000_000_000_000;
+
+/// The seconds from January 1st of the year -2147484000 to 1970-01-01.
+const ADDED_SECONDS: i64 = 67_768_111_675_987_200;
+
+/// The years from the year 0 back to the year -2147484000.
+const ADDED_YEARS: i64 = 2_147_484_000;
+
+/// The seconds of a year, on the average of 400 years.
+const SECONDS_PER_YEAR: u64 = 31_556_952;
+
+/// The year of an instant in UTC, or the neighbour of that year whose end lies less than two days away.
+#[inline(always)]
+fn likely_year(unix_time: i64) -> Option<i32>
+    ensures { IfSome result IsStretchYear }
+{
+    if unix_time < -GREATEST_DISTANCE || unix_time > GREATEST_DISTANCE {
+        return None;
+    }
+    let years = (unix_time + ADDED_SECONDS) as u64 / SECONDS_PER_YEAR;
+    Some((years as i64 - ADDED_YEARS) as i32)
+}
+
+impl AlternateTime {
+    /// The start in a year, if it lies ten days or more from the ends of the year.
+    #[inline(always)]
+    fn mid_start(&self, year: i32) -> Option<i64>
+        ensures { IfSome result (λ u. (u ≡ start_of self.now year) × IsMidYear u year) }
+    {
+        let (start_of_year, kind) = year_start(year);
+        let seconds = self.start_in_kind(kind);
+        if !is_mid_second(seconds) {
+            return None;
+        }
+        Some(start_of_year + seconds)
+    }
+
+    /// The end in a year, if it lies ten days or more from the ends of the year.
+    #[inline(always)]
+    fn mid_end(&self, year: i32) -> Option<i64>
+        ensures { IfSome result (λ u. (u ≡ end_of self.now year) × IsMidYear u year) }
+    {
+        let (start_of_year, kind) = year_start(year);
+        let seconds = self.end_in_kind(kind);
+        if !is_mid_second(seconds) {
+            return None;
+        }
+        Some(start_of_year + seconds)
+    }
+
+    /// The stretch around an instant of the year or near it, where each start has the end of its own year.
+    #[inline(always)]
+    fn stretch_in_order(&self, unix_time: i64, year: i32) -> Option<Stretch>
+        requires in_order { ¬ EndsNextYear (start_of self.now) (end_of self.now) }
+        requires year { IsStretchYear year }
+        ensures { IfSome result (λ s. IsStretchOf self.now s) }
+    {
+        self.parts_are_sound();
+        let start = self.mid_start(year)?;
+        if unix_time < start {
+            let from = self.mid_end(year - 1)?;
+            return Some(Stretch {
+                from,
+                until: start,
+                is_daylight: false,
+            });
+        }
+        let end = self.mid_end(year)?;
+        if unix_time < end {
+            return Some(Stretch {
+                from: start,
+                until: end,
+                is_daylight: true,
+            });
+        }
+        let until = self.mid_start(year + 1)?;
+        Some(Stretch {
+            from: end,
+            until,
+            is_daylight: false,
+        })
+    }
+
+    /// The stretch around an instant of the year or near it, where each start has the end of the next year.
+    #[inline(always)]
+    fn stretch_across_years(&self, unix_time: i64, year: i32) -> Option<Stretch>
+        requires across { EndsNextYear (start_of self.now) (end_of self.now) }
+        requires year { IsStretchYear year }
+        ensures { IfSome result (λ s. IsStretchOf self.now s) }
+    {
+        self.parts_are_sound();
+        let end = self.mid_end(year)?;
+        if unix_time < end {
+            let from = self.mid_start(year - 1)?;
+            return Some(Stretch {
+                from,
+                until: end,
+                is_daylight: true,
+            });
+        }
+        let start = self.mid_start(year)?;
+        if unix_time < start {
+            return Some(Stretch {
+                from: end,
+                until: start,
+                is_daylight: false,
+            });
+        }
+        let until = self.mid_end(year + 1)?;
+        Some(Stretch {
+            from: start,
+            until,
+            is_daylight: true,
+        })
+    }
+
+    /// A stretch in which the instant is expected to lie.
+    #[inline(always)]
+    fn likely_stretch(&self, unix_time: i64) -> Option<Stretch>
+        ensures { IfSome result (λ s. IsStretchOf self.now s) }
+    {
+        let year = likely_year(unix_time)?;
+        if self.ends_next_year() {
+            self.stretch_across_years(unix_time, year)
+        } else {
+            self.stretch_in_order(unix_time, year)
+        }
+    }
+
+    /// A stretch in which the instant lies. Some instants that have a type are given none.
+    #[inline(always)]
+    pub(crate) fn stretch(&self, unix_time: i64) -> Option<Stretch>
+        ensures of { IfSome result (λ s. IsStretchOf self.now s) }
+        ensures within { IfSome result (λ s. (s.from ≤ℤ unix_time) × (unix_time <ℤ s.until)) }
+    {
+        let stretch = self.likely_stretch(unix_time)?;
+        if unix_time < stretch.from || unix_time >= stretch.until {
+            return None;
+        }
+        Some(stretch)
+    }
+}
