@@ -12,7 +12,7 @@ use crate::datetime::{DateTime, search};
 use std::marker::Model;
 use std::str;
 pub use tz_base::calendar::{Fields, is_reading};
-pub use tz_zone::inner::{Segment, segment_at};
+pub use tz_zone::inner::{Segment, segment_at, segment_following};
 use tz_zone::timezone::TimeZoneRef;
 
 /// Two offsets between which those of all types lie that the clock has.

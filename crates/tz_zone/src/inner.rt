@@ -20,7 +20,7 @@ pub use lookup::{find_local_time_type, other_parts, type_of_last};
 pub use parts::OtherParts;
 pub use reached::{transitions_reached, transitions_reached_between};
 pub use segment::Segment;
-pub use segments::segment_at;
+pub use segments::{segment_at, segment_following};
 pub use transitions::{Counted, Transitions, Uncounted};
 use tz_base::error::TzError;
 

@@ -365,6 +365,7 @@ pub fn answer<A: Allocator + Copy>(
         from: 1,
         until: 0,
         number: 0,
+        next_place: 0,
     };
     let mut rest = queries;
     while !rest.is_empty() {

@@ -9,4 +9,6 @@ pub struct Segment {
     pub until: i64,
     /// The number of its type, where the types of the rule follow those of the zone.
     pub number: usize,
+    /// The place of the transition with which the next segment is expected to end.
+    pub next_place: usize,
 }

@@ -26,6 +26,7 @@ fn segment_before(zone: TimeZoneRef<'_>, span: LeapSpan, place: usize) -> Segmen
             from: span.from,
             until,
             number: 0,
+            next_place: 1,
         };
     }
     let change = &transitions[place - 1];
@@ -33,6 +34,7 @@ fn segment_before(zone: TimeZoneRef<'_>, span: LeapSpan, place: usize) -> Segmen
         from: span.from_time(change.unix_leap_time()),
         until,
         number: change.local_time_type_index(),
+        next_place: place + 1,
     }
 }
 
@@ -65,6 +67,7 @@ fn segment_of_second(
         from: unix_time,
         until: unix_time + 1,
         number,
+        next_place: usize::MAX,
     })
 }
 
@@ -103,6 +106,7 @@ fn segment_of_rule(
             from: seam,
             until: SURELY_ANSWERED,
             number: types,
+            next_place: usize::MAX,
         }),
         TransitionRule::Alternate(alternate) => {
             let Some(stretch) = tz_rule::inner::stretch(alternate, unix_time) else {
@@ -112,6 +116,7 @@ fn segment_of_rule(
                 from: later(stretch.from, seam),
                 until: stretch.until,
                 number: number_by(types, stretch.is_daylight),
+                next_place: usize::MAX,
             })
         }
     }
@@ -218,6 +223,7 @@ fn segment_without_transitions(zone: TimeZoneRef<'_>, unix_time: i64) -> Option<
             from: i64::MIN,
             until: i64::MAX,
             number: 0,
+            next_place: usize::MAX,
         }),
     }
 }
@@ -255,4 +261,24 @@ pub fn segment_at(zone: TimeZoneRef<'_>, unix_time: i64) -> Option<Segment>
         return None;
     }
     Some(segment)
+}
+
+/// The segment in which another one ends. Some segments that end have none.
+pub fn segment_following(zone: TimeZoneRef<'_>, segment: &Segment) -> Option<Segment>
+    ensures of { IfSome result (λ s. IsSegmentOf (zone_of zone.entry) s) }
+    ensures within { IfSome result (λ s. (s.from ≤ℤ segment.now.until) × (segment.now.until <ℤ s.until)) }
+{
+    let place = segment.next_place;
+    if place < zone.transitions().len() && zone.leap_seconds().is_empty() {
+        let span = LeapSpan {
+            from: i64::MIN,
+            until: SURELY_ANSWERED,
+            correction: 0,
+        };
+        let next = segment_before(zone, span, place);
+        if next.from <= segment.until && segment.until < next.until {
+            return Some(next);
+        }
+    }
+    segment_at(zone, segment.until)
 }

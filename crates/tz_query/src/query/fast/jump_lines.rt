@@ -16,7 +16,7 @@ use super::page::front_of;
 use super::tail::Tail;
 use super::time_lines::shown_fields;
 use tz::TimeZoneRef;
-use tz::inner::{Fields, Segment, segment_at};
+use tz::inner::{Fields, Segment, segment_following};
 
 /// Whether a reading, in this type, comes before an instant.
 #[inline(always)]
@@ -137,7 +137,7 @@ pub fn answer_across_jump(
     if low < kept.from || low >= kept.until {
         return None;
     }
-    let next = segment_at(zone, kept.until)?;
+    let next = segment_following(zone, kept)?;
     if high >= next.until {
         return None;
     }

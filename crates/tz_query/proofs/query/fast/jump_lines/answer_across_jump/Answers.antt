@@ -19,7 +19,7 @@ push_around_jump-requires-clause-window c =
     let lasts : to_z w64 (of_z w64 low) <ℤ to_z w64 (of_z w64 kept.until) = omega (arith, ints, c.if-low-kept-2.false) in
     let from : kept.from ≤ℤ low = rw (to_z-of_z w64 kept.from from_fits, to_z-of_z w64 low low_fits) at begun in
     let until : low <ℤ kept.until = rw (to_z-of_z w64 low low_fits, to_z-of_z w64 kept.until jump_fits) at lasts in
-    let follows : (next.from ≤ℤ kept.until) × (kept.until <ℤ next.until) = rw (to_z-of_z w64 kept.until jump_fits) at c.in_ok-next.ensures.within in
+    let follows : (next.from ≤ℤ kept.until) × (kept.until <ℤ next.until) = c.in_ok-next.ensures.within in
     let stated : to_z w64 (of_z w64 c.args.high) <ℤ to_z w64 (of_z w64 next.until) = omega (arith, ints, c.if-high-next.false) in
     let ends : c.args.high <ℤ next.until = rw (to_z-of_z w64 c.args.high high_fits, to_z-of_z w64 next.until until_fits) at stated in
     rw (to_z-of_z w64 kept.until jump_fits)
