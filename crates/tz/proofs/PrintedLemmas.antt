@@ -50,7 +50,7 @@ pub decimal-two_digits : (n : ℕ) → 10 ≤ n → n < 100 → decimal n ≡ tw
 decimal-two_digits n from below =
     decimal_step n from (omega arith) ∙ ap (λ xs. xs ++ (48 + n % 10) ∷ []) (decimal_digit (n / 10) (omega arith)) ∙ sym (two_digits-below n below)
 
--- so many digits the parts have
+-- this many digits the parts have
 pub length-two_digits : (n : ℕ) → length (two_digits n) ≡ 2
 unfolding two_digits
 length-two_digits n = refl

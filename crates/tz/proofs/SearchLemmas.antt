@@ -90,7 +90,7 @@ module _ (z : Zone) (sound : IsSoundTable z) where
   reached_later low high l reached order reach at_low leap i change before at =
       omega (arith, ints, at_low.reached i change before at, leap_time_mono z.leap_seconds sound.leap_seconds_are low high at_low.time l order at_low.time_is leap)
 
-  -- so many are reached from where they all are until the next one is
+  -- this many are reached from where they all are until the next one is
   reached_between : (place : ℕ) (since u : ℤ) → ¬ IsBeforeStart z.leap_seconds since → since ≤ℤ u → u ≤ℤ pos 80000000000000000 →
       ((i : ℕ) (change : Transition) → i < place → slice_get z.transitions i ≡ Some change → IsTimeReached z.leap_seconds change.unix_leap_time since) →
       ((i : ℕ) (change : Transition) → place ≤ i → slice_get z.transitions i ≡ Some change → (l : ℤ) → IsLeapTime z.leap_seconds u l → l <ℤ change.unix_leap_time) →
@@ -121,7 +121,7 @@ module _ (z : Zone) (sound : IsSoundTable z) where
     }
 
     module _ (reach : high ≤ℤ pos 80000000000000000) (place : ℕ) (w : Walk) (found : List FoundDateTimeKind) (way : IsOnTheWay z low high f place w found) where
-      -- the clock has the last piece's type where so many are reached
+      -- the clock has the last piece's type where this many are reached
       holds_from : (until : ℤ) → until ≤ℤ (high +ℤ pos 1) →
           ((u : ℤ) → IsFrom w.since until u → (i : ℕ) (change : Transition) → place ≤ i → slice_get z.transitions i ≡ Some change → (l : ℤ) → IsLeapTime z.leap_seconds u l → l <ℤ change.unix_leap_time) →
           ((u : ℤ) → IsFrom w.since until u → IsSteadyAfter z place) →

@@ -56,7 +56,7 @@ moment_cmp = then_cmp (on (λ d. d.unix_time) int_cmp) (on (λ d. d.fields.nanos
 abbrev pub IsUtcFault : Fields → TzError → Type 0
 IsUtcFault f e = ((e ≡ faults.OutOfRange) × IsPastTheEnd f) ⊎ ((fault : DateTimeError) × (e ≡ faults.DateTime fault) × ¬ IsPastTheEnd f × IsFirstFault f fault)
 
--- why there is no date time with a reading and so many nanoseconds
+-- why there is no date time with a reading and this many nanoseconds
 abbrev pub IsShowFault : ℤ → ℕ → TzError → Type 0
 IsShowFault x nanoseconds e =
     ((e ≡ faults.DateTime field_faults.InvalidNanoseconds) × (1000000000 ≤ nanoseconds))

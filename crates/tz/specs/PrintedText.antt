@@ -31,7 +31,7 @@ time_text f = two_digits f.hour ++ (58 ∷ two_digits f.minute ++ (58 ∷ two_di
 abbrev pub seconds_text : ℕ → List ℕ
 seconds_text seconds = if seconds == 0 then [] else 58 ∷ two_digits seconds
 
--- hh:mm or hh:mm:ss of so many seconds
+-- hh:mm or hh:mm:ss of this many seconds
 unfoldable pub duration_text : ℕ → List ℕ
 duration_text seconds = two_digits_or_more (seconds / 3600) ++ (58 ∷ two_digits ((seconds / 60) % 60) ++ seconds_text (seconds % 60))
 

@@ -17,18 +17,18 @@ use Rattle.tz.specs.declared.datetime.walk.Walk.{Walk}
 abbrev pub IsWithinReach : ℤ → Type 0
 IsWithinReach u = (negsuc 79999999999999999 ≤ℤ u) × (u ≤ℤ pos 80000000000000000)
 
--- so many transitions are reached at an instant, and the others are ahead
+-- this many transitions are reached at an instant, and the others are ahead
 pub record IsReachedAt (z : Zone) (u : ℤ) (k : ℕ) : Type 0 where
   pub time : ℤ
   pub time_is : IsLeapTime z.leap_seconds u time
   pub reached : AreReached z.transitions time k
   pub ahead : AreAhead z.transitions time k
 
--- where so many transitions are reached, the clock has one type: others are ahead, or the rule, if any, has only one
+-- where this many transitions are reached, the clock has one type: others are ahead, or the rule, if any, has only one
 abbrev pub IsSteadyAfter : Zone → ℕ → Type 0
 IsSteadyAfter z k = (k < length z.transitions) ⊎ ((r : AlternateTime) → z.extra_rule ≢ Some (Alternate r))
 
--- what the clock has where so many transitions are reached: at an instant, and wherever it is steady
+-- what the clock has where this many transitions are reached: at an instant, and wherever it is steady
 abbrev pub HoldsAfter : Zone → ℕ → ℤ → Option LocalTimeType → Type 0
 HoldsAfter z k from type = (u : ℤ) → IsReachedAt z u k → IsSteadyAfter z k ⊎ (u ≡ from) → HoldsAt (IsClock z) u type
 
@@ -63,7 +63,7 @@ IsWindowOf z r low high =
 abbrev pub WindowClock : Zone → ℤ → ℤ → Clock
 WindowClock z low high u t = IsClock z u t × IsInWindow low high u
 
--- a walk past the pieces of a zone in a window, which has come to the piece after so many transitions
+-- a walk past the pieces of a zone in a window, which has come to the piece after this many transitions
 pub record IsOnTheWay (z : Zone) (low high : ℤ) (f : Fields) (place : ℕ) (w : Walk) (found : List FoundDateTimeKind) : Type 0 where
   pub walked : IsWalked (WindowClock z low high) f w found
   pub holds : HoldsAfter z place w.since w.local_time_type

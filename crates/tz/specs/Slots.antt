@@ -8,7 +8,7 @@ use Rattle.tz.specs.declared.datetime.found.FoundDateTimeKind.TheVariants.{Norma
 abbrev pub Slots : Type 0
 Slots = List (Option FoundDateTimeKind)
 
--- the slots that are written where so many were found: one for each, as far as they go
+-- the slots that are written where this many were found: one for each, as far as they go
 abbrev pub written_of : Slots → ℕ → Slots
 written_of slots count = take (min count (length slots)) slots
 

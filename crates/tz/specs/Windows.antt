@@ -42,10 +42,10 @@ TakesEffectIn z low high i =
 abbrev pub AreRising : List ℕ → Type 0
 AreRising places = AllPairs (λ i j. i < j) places
 
--- no more than so many transitions take effect there
+-- no more than this many transitions take effect there
 abbrev pub AtMostTakeEffectIn : Zone → ℤ → ℤ → ℕ → Type 0
 AtMostTakeEffectIn z low high w = (places : List ℕ) → AreRising places → All (TakesEffectIn z low high) places → length places ≤ w
 
--- no more than so many take effect in the window of a reading
+-- no more than this many take effect in the window of a reading
 abbrev pub AtMostTakeEffectAround : Zone → ℤ → ℕ → Type 0
 AtMostTakeEffectAround z r w = (low : ℤ) × (high : ℤ) × IsWindow z.types z.extra_rule r low high × AtMostTakeEffectIn z low high w

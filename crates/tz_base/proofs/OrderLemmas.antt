@@ -20,7 +20,7 @@ days_of_years-mono : (m n : ℕ) → m ≤ n → days_of_years m + 365 * (n - m)
 unfolding days_of_years
 days_of_years-mono m n h = omega arith
 
--- so many years have at least 365 days each
+-- this many years have at least 365 days each
 pub first_day-mono : (a b : ℤ) (n : ℕ) → (a +ℤ pos n) ≡ b → (first_day a +ℤ pos (365 * n)) ≤ℤ first_day b
 first_day-mono a b n e =
     let moved = moved_together a b in

@@ -1,11 +1,11 @@
 -- The closed forms that the calendar computes by. Years are moved by cycles of 400 years until they are not negative.
 use Rattle.std.specs.Prelude.{ℕ, ◌+◌, ◌-◌, ◌*◌, ◌/◌, ◌%◌}
 
--- the days of so many years, from January 1st of the year 0
+-- the days of this many years, from January 1st of the year 0
 unfoldable pub days_of_years : ℕ → ℕ
 days_of_years n = 365 * n + (n + 3) / 4 - (n + 99) / 100 + (n + 399) / 400
 
--- the days of so many years, from March 1st of the year 0
+-- the days of this many years, from March 1st of the year 0
 unfoldable pub days_of_march_years : ℕ → ℕ
 days_of_march_years n = 365 * n + n / 4 - n / 100 + n / 400
 

@@ -27,17 +27,17 @@ unfoldable pub months_length : Bool → ℕ → ℕ
 months_length leap zero = 0
 months_length leap (suc months) = months_length leap months + month_length leap (suc months)
 
--- the days of so many years from 1970 on
+-- the days of this many years from 1970 on
 unfoldable pub years_length_from_1970 : ℕ → ℕ
 years_length_from_1970 zero = 0
 years_length_from_1970 (suc years) = years_length_from_1970 years + year_length (pos 1970 +ℤ pos years)
 
--- the days of so many years before 1970
+-- the days of this many years before 1970
 unfoldable pub years_length_before_1970 : ℕ → ℕ
 years_length_before_1970 zero = 0
 years_length_before_1970 (suc years) = years_length_before_1970 years + year_length (pos 1969 -ℤ pos years)
 
--- the number of the day that lies so many years after January 1st of 1970, or before it
+-- the number of the day that lies this many years after January 1st of 1970, or before it
 abbrev pub first_day_after : ℤ → ℤ
 first_day_after (pos years) = pos (years_length_from_1970 years)
 first_day_after (negsuc years) = neg_ℤ (pos (years_length_before_1970 (suc years)))

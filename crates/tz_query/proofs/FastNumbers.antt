@@ -28,7 +28,7 @@ digit_of_value b is = (grind (arith, nat_tests), grind (arith, nat_tests))
 byte_of_value : (b : ℕ) → digit_value b < 10 → b ≡ 48 + digit_value b
 byte_of_value b is = let range = digit_of_value b is in (value_of_digit b (is_digit b range.0 range.1).0).1
 
--- so many digits stand in front
+-- this many digits stand in front
 all_in_front : (bs : List ℕ) → AllDigits 10 (take (digits_len bs) bs)
 all_in_front [] = tt
 all_in_front (b ∷ bs) = go (is_ascii_digit b) refl (all_in_front bs)
@@ -97,7 +97,7 @@ digits_past_window (b ∷ bs) (suc n) is = go (is_ascii_digit b) is (digits_past
     go true is more = omega (arith, is, more (omega (arith, is)))
     go false is more = absurd (omega (arith, is))
 
--- the digits of so many bytes from a place on
+-- the digits of this many bytes from a place on
 module _ (bs : List ℕ) (place n k : ℕ) (is : k ≡ 0 + digits_len (drop 0 (slice_range bs place (place + n)))) where
   window : slice_range bs place (place + n) ≡ take n (drop place bs)
   window = ap (λ m. take m (drop place bs)) (omega arith)

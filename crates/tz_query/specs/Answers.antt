@@ -73,7 +73,7 @@ IsWeekAnswer z f weeks answer =
     ((g : Fields) × IsInYears (day_after f weeks) × IsWeekOf f weeks g × IsSearchAnswer z g answer)
     ⊎ (¬ IsInYears (day_after f weeks) × (answer ≡ codes "E OutOfRange" ∷ []))
 
--- the answer lines of weeks in turn, the first of them so many weeks after the fields
+-- the answer lines of weeks in turn, the first of them this many weeks after the fields
 abbrev pub AreWeekAnswers : Zone → Fields → ℕ → List (List (List ℕ)) → Type 0
 AreWeekAnswers z f weeks [] = ⊤
 AreWeekAnswers z f weeks (answer ∷ answers) = IsWeekAnswer z f weeks answer × AreWeekAnswers z f (weeks + 1) answers
@@ -82,7 +82,7 @@ AreWeekAnswers z f weeks (answer ∷ answers) = IsWeekAnswer z f weeks answer ×
 abbrev pub meeting_lines : List (List (List ℕ)) → List (List ℕ)
 meeting_lines weeks = (codes "W " ++ decimal (length weeks)) ∷ flat_map (λ (week : List (List ℕ)). week) weeks
 
--- the answer lines of a meeting: those of so many weeks, or the first fault of its fields
+-- the answer lines of a meeting: those of this many weeks, or the first fault of its fields
 abbrev pub IsMeetingAnswer : Zone → ℕ → Fields → List (List ℕ) → Type 0
 IsMeetingAnswer z count f answer =
     (IsValid f × (weeks : List (List (List ℕ))) × (length weeks ≡ count) × AreWeekAnswers z f 0 weeks × (answer ≡ meeting_lines weeks))

@@ -11,15 +11,15 @@ use Rattle.tz_zone.specs.TzFile.{IsTzFile}
 use Rattle.tz_query.specs.Numbers.{IsNumber}
 use Rattle.tz_query.specs.Streams.{WritesAnswers}
 
--- the texts that words lend
+-- the texts that arguments lend
 abbrev pub texts_of : List (Bor (List ℕ)) → List (List ℕ)
-texts_of words = map (λ (word : Bor (List ℕ)). word.now) words
+texts_of arguments = map (λ (value : Bor (List ℕ)). value.now) arguments
 
 -- the zone of one type without a name
 abbrev pub fixed_zone : ℤ → Zone
 fixed_zone offset = zone_with [] (plain_type offset ∷ []) [] None
 
--- the directories in which the files of a TZ text are
+-- the directories in which the files of a TZ string are
 abbrev pub usual_directories : List (List ℕ)
 usual_directories = codes "/usr/share/zoneinfo" ∷ codes "/share/zoneinfo" ∷ codes "/etc/zoneinfo" ∷ []
 
@@ -31,23 +31,23 @@ IsZoneOfOffset number zone = (offset : ℤ) × IsNumber number offset × FitsSig
 abbrev pub IsZoneOfFile : (List ℕ → Read → Type 0) → List ℕ → Zone → Type 0
 IsZoneOfFile reads path zone = (bytes : Vec ℕ Global) × reads path (Ok bytes) × IsTzFile (vec_items bytes) zone
 
--- a TZ text gives the zone that the settings can answer for it
+-- a TZ string gives the zone that the settings can answer for it
 abbrev pub IsZoneOfText : (List ℕ → Read → Type 0) → List ℕ → Zone → Type 0
 IsZoneOfText reads text zone = IsSettingsAnswer reads usual_directories text (Ok zone)
 
--- the zone that an option asks for by its word
+-- the zone that an option and its value name
 abbrev pub IsZoneOfOption : (List ℕ → Read → Type 0) → List ℕ → List ℕ → Zone → Type 0
-IsZoneOfOption reads option word zone =
-    ((option ≡ codes "-o") × IsZoneOfOffset word zone)
-    ⊎ ((option ≡ codes "-f") × IsZoneOfFile reads word zone)
-    ⊎ ((option ≡ codes "-z") × IsZoneOfText reads word zone)
+IsZoneOfOption reads option value zone =
+    ((option ≡ codes "-o") × IsZoneOfOffset value zone)
+    ⊎ ((option ≡ codes "-f") × IsZoneOfFile reads value zone)
+    ⊎ ((option ≡ codes "-z") × IsZoneOfText reads value zone)
 
--- two words ask for a zone, an option and its word
-abbrev pub AsksForZone : (List ℕ → Read → Type 0) → List (List ℕ) → Zone → Type 0
-AsksForZone reads words zone = (option : List ℕ) × (word : List ℕ) × (words ≡ option ∷ word ∷ []) × IsZoneOfOption reads option word zone
+-- two arguments name a zone, an option and its value
+abbrev pub NamesZone : (List ℕ → Read → Type 0) → List (List ℕ) → Zone → Type 0
+NamesZone reads arguments zone = (option : List ℕ) × (value : List ℕ) × (arguments ≡ option ∷ value ∷ []) × IsZoneOfOption reads option value zone
 
--- the input is read to its end, and its answers over the zone of the words are written, where the bytes of input and output are known
-pub record AnswersInput (reads : List ℕ → Read → Type 0) (words : List (List ℕ)) (unread left written now : Option (List ℕ)) : Type 0 where
+-- the input is read to its end, and its answers over the zone of the arguments are written, where the bytes of input and output are known
+pub record AnswersInput (reads : List ℕ → Read → Type 0) (arguments : List (List ℕ)) (unread left written now : Option (List ℕ)) : Type 0 where
   pub zone : Zone
-  pub asked : AsksForZone reads words zone
+  pub asked : NamesZone reads arguments zone
   pub wrote : WritesAnswers zone unread left written now

@@ -5,7 +5,7 @@ use Rattle.tz_base.specs.declared.calendar.Fields.{Fields}
 use Rattle.tz_query.specs.Lines.{IsFirstLine}
 use Rattle.tz_query.specs.Numbers.{AreNumbers}
 
--- what a line asks for: the date time of an instant, with nanoseconds, the date times of fields, or those of fields in so many weeks
+-- what a line asks for: the date time of an instant, with nanoseconds, the date times of fields, or those of fields in a number of weeks
 pub data Query : Type 0 where
   Time : ℤ → ℕ → Query
   Search : Fields → Query

@@ -14,7 +14,7 @@ use Rattle.tz_rule.specs.Places.{julian_place, week_day_place}
 use Rattle.tz_rule.specs.declared.timezone.rule_day.RuleDay.TheVariants.{Julian1WithoutLeap, Julian0WithLeap, MonthWeekDay}
 use Rattle.tz_rule.proofs.Weeks.{week_day_of-add, same_pos}
 
--- so many numbers from k on
+-- this many numbers from k on
 places_from : ℕ → ℕ → List ℕ
 places_from k zero = []
 places_from k (suc n) = k ∷ places_from (k + 1) n

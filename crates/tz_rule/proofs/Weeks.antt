@@ -21,7 +21,7 @@ remainder day =
 pub same_pos : (m n : ℕ) → pos m ≡ pos n → m ≡ n
 same_pos m n e = cc
 
--- so many days later
+-- this many days later
 pub week_day_of-add : (day : ℤ) (w i : ℕ) → week_day_of day ≡ pos w → week_day_of (day +ℤ pos i) ≡ pos ((w + i) % 7)
 week_day_of-add day w i e =
     let r = remainder day in

@@ -13,7 +13,7 @@ IsRuleDay (Julian1WithoutLeap n) = IsJulianDay n
 IsRuleDay (Julian0WithLeap n) = IsZeroBasedDay n
 IsRuleDay (MonthWeekDay d) = IsMonthWeek d
 
--- so many days from a day on
+-- this many days from a day on
 unfoldable pub days_from : ℤ → ℕ → List ℤ
 days_from day zero = []
 days_from day (suc n) = day ∷ days_from (day +ℤ pos 1) n

@@ -9,7 +9,7 @@ years_of YearBefore = negsuc 0
 years_of SameYear = pos 0
 years_of YearAfter = pos 1
 
--- the years of the start and of the end, where the earlier of them lies so many years after 1972
+-- the years of the start and of the end, where the earlier of them lies this many years after 1972
 abbrev pub start_year : Distance → ℕ → ℕ
 start_year YearBefore place = 1973 + place
 start_year SameYear place = 1972 + place

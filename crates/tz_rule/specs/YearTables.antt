@@ -16,7 +16,7 @@ pub record IsTableOf (instants : ℤ → ℤ) (table : List ℤ) : Type 0 where
   pub size : length table ≡ 14
   pub entries : (year : ℤ) → entry table (year_kind year) ≡ instants year -ℤ pos 86400 *ℤ first_day year
 
--- from 00:00 UTC of January 1st to so many seconds after 00:00 UTC of a rule day, in the years of a kind
+-- from 00:00 UTC of January 1st to this many seconds after 00:00 UTC of a rule day, in the years of a kind
 abbrev pub seconds_in_kind : RuleDay → ℤ → ℕ → ℤ
 seconds_in_kind day seconds kind = pos (86400 * place_in_year day (is_leap_kind kind) (week_day_of_kind kind)) +ℤ seconds
 

@@ -2,7 +2,7 @@
 use Rattle.std.proofs.Common.{◌≡◌, ℕ, zero, suc, ◌+◌, ◌^◌, ◌<◌, ◌≤◌, ◌⊎◌, inl, inr, ap, arith}
 use Rattle.std.proofs.Math.Nat.{pow-suc}
 
--- of so many places some are left after so many looks: each bound of the looks at all of them leaves a bound of those at the rest
+-- of this many places some are left after this many looks: each bound of the looks at all of them leaves a bound of those at the rest
 abbrev pub AreFewLooks : ℕ → ℕ → ℕ → ℕ → Type 0
 AreFewLooks before places looks left = (b : ℕ) → places < 2 ^ b → (m : ℕ) × (left < 2 ^ m) × (looks + m ≤ before + b)
 

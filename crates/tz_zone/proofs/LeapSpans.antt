@@ -1,4 +1,4 @@
--- The span in which so many leap seconds are reached: its ends, kept to 64 bits, and the leap time throughout it.
+-- The span in which this many leap seconds are reached: its ends, kept to 64 bits, and the leap time throughout it.
 use Rattle.std.proofs.Common.{◌≡◌, ℕ, zero, suc, ◌+◌, ◌≤◌, refl, sym, arith, ℤ, pos, negsuc, ◌+ℤ◌, ◌≤ℤ◌, ◌<ℤ◌, List, length}
 use Rattle.std.specs.Int.{w64, saturate_signed}
 use Rattle.std.proofs.lemmas.Int.{ints}
@@ -29,6 +29,6 @@ module _ (leaps : List LeapSecond) (are : AreLeapSeconds leaps) (k : ℕ) (withi
       let reached = count.reached 0 (omega (arith, some)) in
       absurd (omega (arith, ints, reached, early, time_at-is leaps 0 l start.0, correction_at_truncated leaps l start))
 
-  -- where so many leap seconds are reached, leap time is ahead by the correction before the next one
+  -- where this many leap seconds are reached, leap time is ahead by the correction before the next one
   pub leap_of_count : IsLeapTime leaps v (v +ℤ correction_before leaps k)
   leap_of_count = IsLeapTime-from_count leaps are v k count (not_refused_within leaps are v (begun_by k refl) reach)

@@ -1,4 +1,4 @@
--- What is read and in range has none of the faults: a TZ text has no fault that is there.
+-- What is read and in range has none of the faults: a TZ string has no fault that is there.
 use Rattle.std.proofs.Common.{◌≡◌, ◌≢◌, ◌⊎◌, ℕ, ◌^◌, ◌<◌, ◌≤◌, Bool, true, false, List, [], ◌∷◌, ◌++◌, refl, sym, ap, ◌∙◌, subst, inl, inr, arith, Option, Some, None, Result, Ok, Err, pos}
 use Rattle.std.specs.Option.{IfSome}
 use Rattle.std.specs.Result.{MatchResult}
@@ -268,7 +268,7 @@ one_rule extended text (Fixed t) (Alternating s) a b = absurd (fixed_is_over ext
 one_rule extended text (Alternating r) (Fixed u) a b = absurd (fixed_is_over extended text b.0 b.1 a.0 b.2 a.1)
 one_rule extended text (Alternating r) (Alternating s) a b = ap Alternating (a.4 ∙ ap rule_of (alternate_text_is_one extended text a.0 b.0 a.1 b.1) ∙ sym b.4)
 
--- what reads the text, or names a fault that is there, answers the rule of a TZ text
+-- what reads the text, or names a fault that is there, answers the rule of a TZ string
 pub reads_texts : (extended : Bool) (text : List ℕ) (r : Result TransitionRule TzError) → MatchResult r (IsTzText extended text) (IsTzTextFault extended text) → (rule : TransitionRule) → IsTzText extended text rule → r ≡ Ok rule
 reads_texts extended text (Ok s) h rule t = ap Ok (one_rule extended text s rule h t)
 reads_texts extended text (Err e) h rule t = absurd (no_text_fault extended text rule e t h)

@@ -1,4 +1,4 @@
--- Which zone a text gives by the settings: that of a TZif file, or that of a TZ text.
+-- Which zone a text gives by the settings: that of a TZif file, or that of a TZ string.
 -- (POSIX.1-2017, Base Definitions, 8.3: TZ. The directories, `localtime` and a leading colon are as in tz-rs.)
 -- Of the reader of files it is known what it can answer for a path; where it can answer several things, so can the settings.
 use Rattle.std.specs.Prelude.{◌≡◌, ◌≢◌, ℕ, ◌⊎◌, false, List, [], ◌∷◌, ◌++◌, map, Result, Ok, Err, Some, Vec, vec_items, alloc_error, codes}
@@ -69,7 +69,7 @@ abbrev pub rule_zone : TransitionRule → Zone
 rule_zone (Fixed type) = zone_with [] (type ∷ []) [] (Some (Fixed type))
 rule_zone (Alternate rule) = zone_with [] (rule.std ∷ rule.dst ∷ []) [] (Some (Alternate rule))
 
--- the answer of the reader of ordinary TZ texts, without white space at both ends: the zone of a text, or a fault of one that is none
+-- the answer of the reader of ordinary TZ strings, without white space at both ends: the zone of a text, or a fault of one that is none
 abbrev pub IsTextAnswer : List ℕ → Answer → Type 0
 IsTextAnswer text (Ok zone) =
     (trimmed : List ℕ) × IsTrimAscii text trimmed × (rule : TransitionRule) × IsTzText false trimmed rule × (zone ≡ rule_zone rule)
@@ -77,7 +77,7 @@ IsTextAnswer text (Err e) =
     (trimmed : List ℕ) × IsTrimAscii text trimmed × ((rule : TransitionRule) → ¬ IsTzText false trimmed rule)
     × (f : TzError) × (e ≡ Tz f) × IsTzTextFault false trimmed f
 
--- what was found is opened, and where nothing was found the name is read as a TZ text
+-- what was found is opened, and where nothing was found the name is read as a TZ string
 abbrev pub OpensOrReads : List ℕ → Read → Answer → Type 0
 OpensOrReads text (Ok bytes) answer = Opens (Ok bytes) answer
 OpensOrReads text (Err (Memory e)) answer = Opens (Err (Memory e)) answer

@@ -186,7 +186,7 @@ IsIndicatorPair std_wall ut_local = ((std_wall ≡ 0) × (ut_local ≡ 0)) ⊎ (
 abbrev pub HasIndicators : Block → ℕ → Type 0
 HasIndicators block i = IsIndicatorPair (slice_index block.std_walls i) (slice_index block.ut_locals i)
 
--- the content of a block with so many types
+-- the content of a block with this many types
 pub record IsContent (block : Block) (count : ℕ) : Type 0 where
   pub types : (i : ℕ) → i < count → IsTypeRecord block i
   pub indicators : (i : ℕ) → i < count → HasIndicators block i

@@ -48,7 +48,7 @@ SomeTypeFails block count e = (i : ℕ) × (i < count) × TypeFails block i e
 abbrev pub IndicatorsFail : Block → ℕ → Type 0
 IndicatorsFail block count = (i : ℕ) × (i < count) × ¬ HasIndicators block i
 
--- of the content of a block with so many types
+-- of the content of a block with this many types
 abbrev pub ContentFails : Block → ℕ → TzError → Type 0
 ContentFails block count e = SomeTypeFails block count e ⊎ ((e ≡ TzFile InvalidStdWallUtLocal) × IndicatorsFail block count)
 

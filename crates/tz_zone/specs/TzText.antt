@@ -1,4 +1,4 @@
--- The grammar of TZ texts, and the rules that they denote. (POSIX.1-2017, Base Definitions, 8.3: the TZ variable. RFC 8536, section 3.3.1: extended day times.)
+-- The grammar of TZ strings, and the rules that they denote. (POSIX.1-2017, Base Definitions, 8.3: the TZ variable. RFC 8536, section 3.3.1: extended day times.)
 -- A part of the grammar is a relation of a text, of what is read at its front, and of the bytes behind.
 -- Runs are the longest ones, and the reading asks for no range.
 use Rattle.std.specs.Prelude.{◌≡◌, ◌≢◌, ℕ, ◌+◌, ◌*◌, ◌≤◌, ◌==◌, Bool, true, false, not, ◌⊎◌, ℤ, pos, neg_ℤ, ◌+ℤ◌, List, [], ◌∷◌, ◌++◌, take_while, Option, Some, None, IfSome, if◌then◌else◌}
@@ -129,7 +129,7 @@ pub record IsAlternateText (extended : Bool) (text : List ℕ) (a : AlternateTex
   pub start_is : IsRuleText extended start_text a.start (comma ∷ end_text)
   pub end_is : IsRuleText extended end_text a.end []
 
--- ranges: so many hours at most, and minutes and seconds below 60
+-- ranges: this many hours at most, and minutes and seconds below 60
 pub record IsTimeUpTo (hours : ℕ) (t : WrittenTime) : Type 0 where
   pub hours_are : t.hours ≤ hours
   pub minutes_are : t.minutes ≤ 59

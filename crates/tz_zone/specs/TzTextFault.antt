@@ -1,4 +1,4 @@
--- Why a text is no TZ text: the reading reaches a place, and what has to hold there does not. (POSIX.1-2017, Base Definitions, 8.3; RFC 8536, section 3.3.1.)
+-- Why a text is no TZ string: the reading reaches a place, and what has to hold there does not. (POSIX.1-2017, Base Definitions, 8.3; RFC 8536, section 3.3.1.)
 -- A bad name and a number out of range do not stop the reading; a missing number and a missing or wrong byte do.
 use Rattle.std.specs.Prelude.{◌≡◌, ◌≢◌, ℕ, ◌^◌, ◌<◌, ◌≤◌, Bool, false, ◌⊎◌, pos, List, [], ◌∷◌, Some}
 use Rattle.std.specs.declared.num.ParseIntError.{ParseIntError}
@@ -28,7 +28,7 @@ abbrev pub IsMissingByte : ℕ → List ℕ → ParseDataError → Type 0
 IsMissingByte byte text UnexpectedEof = text ≡ []
 IsMissingByte byte text InvalidData = (text ≢ []) × ¬ Begins byte text
 
--- digits are missing, or their number does not fit so many bits
+-- digits are missing, or their number does not fit this many bits
 abbrev pub HasNoNumber : ℕ → List ℕ → Type 0
 HasNoNumber bits text = (n : ℕ) (rest : List ℕ) → IsNumber text n rest → 2 ^ bits ≤ n
 

@@ -14,7 +14,7 @@ use Rattle.tz_zone.specs.Table.{Transition, LeapSecond, Zone}
 use Rattle.tz_zone.specs.LeapTime.{IsOneSecond, IsStart, IsEffect}
 use Rattle.tz_zone.specs.Clock.{IsTypeAt, IsLast}
 
--- the transition at a place names one of so many types
+-- the transition at a place names one of this many types
 abbrev pub HasTypeAtPlace : List Transition → ℕ → ℕ → Type 0
 HasTypeAtPlace transitions types i = (change : Transition) → slice_get transitions i ≡ Some change → change.type_index < types
 

@@ -8,7 +8,7 @@ use tz::timezone;
 use tz_query::query;
 
 /// The arguments after the program's name, or none where they cannot be had.
-fn words_of(rt: &HostRuntime) -> Vec<String> {
+fn arguments_of(rt: &HostRuntime) -> Vec<String> {
     match env::args(rt) {
         Ok(args) => args
             .skip(1)
@@ -19,10 +19,10 @@ fn words_of(rt: &HostRuntime) -> Vec<String> {
 }
 
 fn main(rt: HostRuntime) -> ExitCode {
-    let words = words_of(&rt);
-    let texts: Vec<&str> = words
+    let arguments = arguments_of(&rt);
+    let texts: Vec<&str> = arguments
         .iter()
-        .map(|word| word.as_str())
+        .map(|argument| argument.as_str())
         .collect(rt.alloc())
         .unwrap_or(Vec::new(rt.alloc()));
     let reader = |path: &str| timezone::read_file(&rt, rt.alloc(), path);

@@ -78,7 +78,7 @@ fn type_from_last(extra_rule: &Option<TransitionRule>, unix_time: i64) -> Option
     }
 }
 
-/// The clock's type at an instant from which on so many transitions are reached, if it has any.
+/// The clock's type at an instant from which on this many transitions are reached, if it has any.
 fn type_from<V: Transitions>(
     view: &mut V,
     parts: OtherParts<'_>,

@@ -457,7 +457,7 @@ fn second_60_moves_as_the_next_second_0(rt: HostRuntime) {
     }
 }
 
-/// The date times so much later and earlier by the operators, where the tests allow them.
+/// The date times later and earlier by a duration, by the operators, where the tests allow them.
 fn later(date_time: UtcDateTime, duration: Duration) -> Option<[UtcDateTime; 2]> {
     date_time.checked_add(duration)?;
     let mut moved = date_time;

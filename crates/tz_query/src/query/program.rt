@@ -4,7 +4,7 @@ ghost use Rattle.std.specs.Prelude.{◌≡◌, ◌≤◌, ℕ, ℤ, List, IfSome
 ghost use Rattle.std.specs.Fn.{FnReturnsAt};
 ghost use Rattle.std.specs.Int.{w32};
 ghost use Rattle.tz_query.specs.Numbers.{IsNumber};
-ghost use Rattle.tz_query.specs.Program.{texts_of, IsZoneOfOffset, IsZoneOfFile, IsZoneOfText, IsZoneOfOption, AsksForZone, AnswersInput};
+ghost use Rattle.tz_query.specs.Program.{texts_of, IsZoneOfOffset, IsZoneOfFile, IsZoneOfText, IsZoneOfOption, NamesZone, AnswersInput};
 ghost use Rattle.tz_zone.specs.ZoneRef.{own_zone_of};
 
 use crate::query::numbers::read_number;
@@ -71,11 +71,11 @@ impl Fault {
 }
 
 /// The offset that an argument has, if it is a number of 32 bits.
-fn read_offset(word: &str) -> Option<i32>
-    ensures some { IfSome result (λ offset. IsNumber word.now offset × FitsSigned w32 offset) }
-    ensures none { IfNone result ((offset : ℤ) → FitsSigned w32 offset → ¬ IsNumber word.now offset) }
+fn read_offset(value: &str) -> Option<i32>
+    ensures some { IfSome result (λ offset. IsNumber value.now offset × FitsSigned w32 offset) }
+    ensures none { IfNone result ((offset : ℤ) → FitsSigned w32 offset → ¬ IsNumber value.now offset) }
 {
-    let (number, rest) = read_number(word.as_bytes())?;
+    let (number, rest) = read_number(value.as_bytes())?;
     if !rest.is_empty() {
         return None;
     }
@@ -124,31 +124,31 @@ fn zone_of_text<A: Allocator + Copy, F: Fn(&str) -> Result<Vec<u8>, ReadFault> +
 fn zone_of_option<A: Allocator + Copy, F: Fn(&str) -> Result<Vec<u8>, ReadFault> + Drop>(
     alloc: A,
     option: &str,
-    word: &str,
+    value: &str,
     reader: F,
 ) -> Result<TimeZone<A>, Fault>
     requires { F.IsAlwaysCallable reader }
-    ensures { IfOk result (λ zone. IsZoneOfOption (FnReturnsAt F.Fn reader) option.now word.now (own_zone_of zone)) }
+    ensures { IfOk result (λ zone. IsZoneOfOption (FnReturnsAt F.Fn reader) option.now value.now (own_zone_of zone)) }
 {
     match option {
-        "-o" => zone_of_offset(alloc, word),
-        "-f" => zone_of_file(alloc, word, &reader),
-        "-z" => zone_of_text(alloc, word, reader),
+        "-o" => zone_of_offset(alloc, value),
+        "-f" => zone_of_file(alloc, value, &reader),
+        "-z" => zone_of_text(alloc, value, reader),
         _ => Err(Fault::Arguments),
     }
 }
 
 /// The zone of the arguments.
-fn zone_of_words<A: Allocator + Copy, F: Fn(&str) -> Result<Vec<u8>, ReadFault> + Drop>(
+fn zone_of_arguments<A: Allocator + Copy, F: Fn(&str) -> Result<Vec<u8>, ReadFault> + Drop>(
     alloc: A,
-    words: &[&str],
+    arguments: &[&str],
     reader: F,
 ) -> Result<TimeZone<A>, Fault>
     requires { F.IsAlwaysCallable reader }
-    ensures { IfOk result (λ zone. AsksForZone (FnReturnsAt F.Fn reader) (texts_of words.now) (own_zone_of zone)) }
+    ensures { IfOk result (λ zone. NamesZone (FnReturnsAt F.Fn reader) (texts_of arguments.now) (own_zone_of zone)) }
 {
-    match words {
-        [option, word] => zone_of_option(alloc, option, word, reader),
+    match arguments {
+        [option, value] => zone_of_option(alloc, option, value, reader),
         _ => Err(Fault::Arguments),
     }
 }
@@ -156,7 +156,7 @@ fn zone_of_words<A: Allocator + Copy, F: Fn(&str) -> Result<Vec<u8>, ReadFault> 
 /// Answers the input over the zone of the arguments.
 fn answer_input<A, F, R, W>(
     alloc: A,
-    words: &[&str],
+    arguments: &[&str],
     reader: F,
     input: &mut R,
     out: &mut W,
@@ -167,21 +167,21 @@ where
     R: Read,
     W: Write,
     requires { F.IsAlwaysCallable reader }
-    ensures { OnOk result (AnswersInput (FnReturnsAt F.Fn reader) (texts_of words.now) (R.remaining input.old) (R.remaining input.new) (W.contents out.old) (W.contents out.new)) }
+    ensures { OnOk result (AnswersInput (FnReturnsAt F.Fn reader) (texts_of arguments.now) (R.remaining input.old) (R.remaining input.new) (W.contents out.old) (W.contents out.new)) }
 {
-    let zone = zone_of_words(alloc, words, reader)?;
+    let zone = zone_of_arguments(alloc, arguments, reader)?;
     run(alloc, zone.as_ref(), input, out).map_err(Fault::Run)
 }
 
 /// Runs the program and returns its status.
 ///
-/// `words` are its arguments, an option and its value, which name a zone: `-o` that of an offset from UTC in seconds, `-f` that of the TZif
+/// `arguments` are an option and its value, which name a zone: `-o` that of an offset from UTC in seconds, `-f` that of the TZif
 /// file which the reader finds at a path, `-z` that of a string, as [`TimeZone::from_posix_tz`] returns it. The zone is made first, then the
 /// input is read to its end, and then the answers of its lines are written. A fault is one line on the error output, whether or not that
 /// line can be written: status 1, or 2 where the zone is refused.
 pub fn tool<A, F, R, W, E>(
     alloc: A,
-    words: &[&str],
+    arguments: &[&str],
     reader: F,
     input: &mut R,
     out: &mut W,
@@ -195,9 +195,9 @@ where
     E: Write,
     requires { F.IsAlwaysCallable reader }
     ensures status { result ≤ 2 }
-    ensures answered { result ≡ 0 → AnswersInput (FnReturnsAt F.Fn reader) (texts_of words.now) (R.remaining input.old) (R.remaining input.new) (W.contents out.old) (W.contents out.new) }
+    ensures answered { result ≡ 0 → AnswersInput (FnReturnsAt F.Fn reader) (texts_of arguments.now) (R.remaining input.old) (R.remaining input.new) (W.contents out.old) (W.contents out.new) }
 {
-    match answer_input(alloc, words, reader, input, out) {
+    match answer_input(alloc, arguments, reader, input, out) {
         Ok(()) => 0,
         Err(fault) => {
             let _ = writeln!(err, "tzq: {fault}");

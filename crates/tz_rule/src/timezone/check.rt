@@ -39,7 +39,7 @@ impl Distance {
         }
     }
 
-    /// The year of the start, where the earlier year lies so many years after 1972.
+    /// The year of the start, where the earlier year lies this many years after 1972.
     fn start_year(self, place: u8) -> i32
         requires { place < 28 }
         ensures { result ≡ pos (start_year self place) }
@@ -50,7 +50,7 @@ impl Distance {
         }
     }
 
-    /// The year of the end, where the earlier year lies so many years after 1972.
+    /// The year of the end, where the earlier year lies this many years after 1972.
     fn end_year(self, place: u8) -> i32
         requires { place < 28 }
         ensures { result ≡ pos (end_year self place) }

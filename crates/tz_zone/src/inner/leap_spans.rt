@@ -38,7 +38,7 @@ fn count_reached(leap_seconds: &[LeapSecond], unix_time: i64) -> usize
     leap_seconds_reached(leap_seconds, unix_time)
 }
 
-/// The first instant of the span in which so many leap seconds are reached, unless it lies before a truncated start.
+/// The first instant of the span in which this many leap seconds are reached, unless it lies before a truncated start.
 fn start_of(leap_seconds: &[LeapSecond], reached: usize) -> Option<i64>
     requires { reached ≤ length leap_seconds.now }
     ensures plain { IfSome result (λ from. reached ≡ 0 → (l : LeapSecond) → ¬ IsStart leap_seconds.now l) }
@@ -53,7 +53,7 @@ fn start_of(leap_seconds: &[LeapSecond], reached: usize) -> Option<i64>
     }
 }
 
-/// The first instant after the span in which so many leap seconds are reached.
+/// The first instant after the span in which this many leap seconds are reached.
 fn end_of(leap_seconds: &[LeapSecond], reached: usize) -> i64
     requires { reached ≤ length leap_seconds.now }
     ensures bound { result ≤ℤ pos 80000000000000000 }

@@ -38,12 +38,12 @@ fn file_at(alloc: Global, path: &str) -> Result<Vec<u8>, ReadFault> {
 }
 
 /// What the program does: its status, and its outputs, each after `|`.
-fn outcome(alloc: Global, words: &[&str], queries: &[u8]) -> Result<String, Fail> {
+fn outcome(alloc: Global, arguments: &[&str], queries: &[u8]) -> Result<String, Fail> {
     let mut input = queries;
     let mut out = Vec::new(alloc);
     let mut err = Vec::new(alloc);
     let reader = |path: &str| file_at(alloc, path);
-    let status = tool(alloc, words, reader, &mut input, &mut out, &mut err);
+    let status = tool(alloc, arguments, reader, &mut input, &mut out, &mut err);
     let out = String::from_utf8(out)?;
     let err = String::from_utf8(err)?;
     Ok(format!(in alloc; "{status}|{out}|{err}")?)
@@ -154,9 +154,9 @@ fn takes_an_option_and_its_word_alone(rt: HostRuntime) -> Result<(), Fail> {
         &["-o", "+1"],
         &["-O", "1"],
     ];
-    for words in &bad {
-        let found = outcome(rt.alloc(), words, b"T 0 0\n")?;
-        assert_eq!(rt; found.as_str(), "1||tzq: bad arguments\n", "{words:?}");
+    for arguments in &bad {
+        let found = outcome(rt.alloc(), arguments, b"T 0 0\n")?;
+        assert_eq!(rt; found.as_str(), "1||tzq: bad arguments\n", "{arguments:?}");
     }
     Ok(())
 }
@@ -174,7 +174,7 @@ fn failing_after(alloc: Global, calls: u8) -> FailingWriter {
 /// output that fails after one.
 fn outcome_of_failing(
     alloc: Global,
-    words: &[&str],
+    arguments: &[&str],
     reads: u8,
     writes: u8,
     complaints: u8,
@@ -186,7 +186,7 @@ fn outcome_of_failing(
     let mut out = failing_after(alloc, writes);
     let mut err = failing_after(alloc, complaints);
     let reader = |path: &str| file_at(alloc, path);
-    let status = tool(alloc, words, reader, &mut input, &mut out, &mut err);
+    let status = tool(alloc, arguments, reader, &mut input, &mut out, &mut err);
     let out = String::from_utf8(out.bytes)?;
     let err = String::from_utf8(err.bytes)?;
     Ok(format!(in alloc; "{status}|{out}|{err}")?)
@@ -203,8 +203,8 @@ fn names_streams_that_fail(rt: HostRuntime) -> Result<(), Fail> {
         (9, 9, 0, "0|1970-01-01T00:00:00.000000000Z UTC\n|"),
     ];
     for (reads, writes, complaints, want) in &rows {
-        let words = ["-f", "/utc"];
-        let found = outcome_of_failing(rt.alloc(), &words, *reads, *writes, *complaints)?;
+        let arguments = ["-f", "/utc"];
+        let found = outcome_of_failing(rt.alloc(), &arguments, *reads, *writes, *complaints)?;
         assert_eq!(rt; found.as_str(), *want, "{reads} {writes} {complaints}");
     }
     Ok(())
@@ -231,22 +231,26 @@ fn the_zone_is_made_before_a_byte_is_read(rt: HostRuntime) -> Result<(), Fail> {
 }
 
 /// What the program does where a number of growths are granted and each later one is refused, and how many were refused.
-fn outcome_of_refusing(alloc: Global, words: &[&str], left: u64) -> Result<(String, u64), Fail> {
+fn outcome_of_refusing(
+    alloc: Global,
+    arguments: &[&str],
+    left: u64,
+) -> Result<(String, u64), Fail> {
     let heap = Refusing::new(alloc, left);
     let mut input = b"T 0 0\n".as_slice();
     let mut out = Vec::new(alloc);
     let mut err = Vec::new(alloc);
     let reader = |path: &str| file_at(alloc, path);
-    let status = tool(&heap, words, reader, &mut input, &mut out, &mut err);
+    let status = tool(&heap, arguments, reader, &mut input, &mut out, &mut err);
     let out = String::from_utf8(out)?;
     let err = String::from_utf8(err)?;
     Ok((format!(in alloc; "{status}|{out}|{err}")?, heap.refused()))
 }
 
 /// How many growths the program needs to give the answer, where with each lesser number it has no memory; none if it says otherwise.
-fn needed(alloc: Global, words: &[&str], answer: &str) -> Result<Option<u64>, Fail> {
+fn needed(alloc: Global, arguments: &[&str], answer: &str) -> Result<Option<u64>, Fail> {
     for left in 0..40u64 {
-        let (found, refused) = outcome_of_refusing(alloc, words, left)?;
+        let (found, refused) = outcome_of_refusing(alloc, arguments, left)?;
         if refused == 0 {
             return Ok(if found.as_str() == answer {
                 Some(left)

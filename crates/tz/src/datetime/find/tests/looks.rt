@@ -88,7 +88,7 @@ fn seconds_to(place: usize) -> i64 {
     i64::try_from(place).unwrap_or(0).wrapping_mul(1_000_000)
 }
 
-/// So many transitions, a million seconds apart, between two types that are an hour apart.
+/// This many transitions, a million seconds apart, between two types that are an hour apart.
 fn alternating(alloc: Global, len: usize) -> Result<Vec<Transition>, AllocError> {
     let mut transitions = Vec::new(alloc);
     for place in 0..len {

@@ -3,7 +3,7 @@
 use super::*;
 use tz_base::refusing::Refusing;
 
-/// Of so many allocations that are passed on, with how few a call is refused, if it is.
+/// Of this many allocations that are passed on, with how few a call is refused, if it is.
 const MOST: u64 = 12;
 
 /// What `find` finds where a number of allocations are passed on, if there is memory, and how many are refused.

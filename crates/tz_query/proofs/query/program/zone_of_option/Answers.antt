@@ -1,4 +1,4 @@
--- The text is the word of its option.
+-- The text is the value of its option.
 use Rattle.std.proofs.Common.{inr}
 use Rattle.std.proofs.lemmas.Result.{IfOk-weaker}
 use Rattle.tz_query.proofs.query.program.zone_of_option.Goals as goal

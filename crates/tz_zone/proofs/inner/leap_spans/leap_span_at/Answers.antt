@@ -1,4 +1,4 @@
--- Throughout the span so many leap seconds are reached.
+-- Throughout the span this many leap seconds are reached.
 use Rattle.std.proofs.Common.{◌≤ℤ◌, pos, negsuc, arith, rules}
 use Rattle.std.proofs.lemmas.Int.{ints, to_z-of_z}
 use mir.Syntax.{w32, w64}

@@ -5,7 +5,7 @@ use crate::inner;
 use std::alloc::{AllocError, Allocator, Global};
 use std::process::Abort;
 
-/// So many transitions, a million seconds apart from 0 on, to types 0 and 1 in turn.
+/// This many transitions, a million seconds apart from 0 on, to types 0 and 1 in turn.
 fn transitions_in_turn<A: Allocator + Copy>(
     alloc: A,
     count: u32,
