@@ -4,6 +4,12 @@
 #[cfg(test)]
 mod borrowed_zones;
 #[cfg(test)]
+mod date_times;
+#[cfg(test)]
+mod files;
+#[cfg(test)]
+mod find;
+#[cfg(test)]
 mod owned_zones;
 #[cfg(test)]
 mod samples;

@@ -5,7 +5,9 @@ use std::alloc::{AllocError, Global};
 use tz_base::error::parse::{TzFileError, TzStringError};
 use tz_base::error::timezone::{LocalTimeTypeError, TimeZoneError, TransitionRuleError};
 use tz_base::error::{Error, ReadFault, TzError};
-use tz_zone::timezone::{TimeZone, TransitionRule};
+use tz_zone::timezone::{
+    AlternateTime, LocalTimeType, MonthWeekDay, RuleDay, TimeZone, TransitionRule,
+};
 
 /// A refusal that can be compared.
 #[derive(Debug, Drop, PartialEq, Eq)]
@@ -68,7 +70,7 @@ pub(crate) fn utc_v1(alloc: Global) -> Result<Vec<u8>, AllocError> {
     Ok(bytes)
 }
 
-/// One type without transitions, and a footer.
+/// A file with one type, UTC, without transitions, and a footer.
 pub(crate) fn without_transitions(
     alloc: Global,
     version: u8,
@@ -92,11 +94,21 @@ pub(crate) fn ordinary_rule(alloc: Global, text: &str) -> Result<Option<Transiti
 
 /// The rule that a file of version 3 has in its footer, where day times are of up to a week.
 pub(crate) fn extended_rule(alloc: Global, text: &str) -> Result<Option<TransitionRule>, TzError> {
-    let mut footer = Vec::new(alloc);
-    footer.push(b'\n')?;
-    footer.extend_from_slice(text.as_bytes())?;
-    footer.push(b'\n')?;
-    let bytes = without_transitions(alloc, b'3', &footer)?;
+    let footer = format!(in alloc; "\n{text}\n")?;
+    let bytes = without_transitions(alloc, b'3', footer.as_bytes())?;
     let zone = TimeZone::from_tz_data(alloc, &bytes)?;
     Ok(*zone.as_ref().extra_rule())
+}
+
+/// The rule of `CET-1CEST,M3.5.0,M10.5.0/3`.
+pub(crate) fn central_europe() -> Result<AlternateTime, TzError> {
+    let rule = AlternateTime::new(
+        LocalTimeType::new(3600, false, Some(b"CET"))?,
+        LocalTimeType::new(7200, true, Some(b"CEST"))?,
+        RuleDay::MonthWeekDay(MonthWeekDay::new(3, 5, 0)?),
+        7200,
+        RuleDay::MonthWeekDay(MonthWeekDay::new(10, 5, 0)?),
+        10_800,
+    )?;
+    Ok(rule)
 }

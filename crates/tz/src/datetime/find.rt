@@ -254,6 +254,3 @@ impl DateTime {
         Ok(writer.count())
     }
 }
-
-#[cfg(test)]
-mod tests;

@@ -1,6 +1,8 @@
 //! The texts in the footers of the time zone database's files, as of 2025, and the rules that they denote by tz-rs.
 
 use super::*;
+use crate::samples::without_transitions;
+use tz_zone::timezone::TimeZone;
 
 /// Ordinary texts, and what they denote: each type's name and offset from UTC, then each change's day and time of day, in seconds.
 const ORDINARY: &[(&str, &str)] = &[
@@ -207,7 +209,12 @@ fn footers_are_read(rt: HostRuntime) -> Result<(), Fail> {
     expect_rules(&rt, rt.alloc(), ORDINARY, true)?;
     expect_rules(&rt, rt.alloc(), EXTENDED, true)?;
     for (text, _) in EXTENDED {
-        assert!(rt; ordinary_rule(rt.alloc(), text).is_err(), "{text}");
+        let footer = format!(in rt.alloc(); "\n{text}\n")?;
+        let bytes = without_transitions(rt.alloc(), b'2', footer.as_bytes())?;
+        assert!(rt;
+            TimeZone::from_tz_data(rt.alloc(), &bytes).is_err(),
+            "{text}"
+        );
     }
     Ok(())
 }
