@@ -5,6 +5,4 @@ pub mod inner;
 pub mod laws;
 mod parse;
 mod partition;
-#[cfg(test)]
-mod samples;
 pub mod timezone;

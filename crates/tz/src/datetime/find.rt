@@ -256,6 +256,3 @@ impl DateTime {
         Ok(writer.count())
     }
 }
-
-#[cfg(test)]
-mod tests;

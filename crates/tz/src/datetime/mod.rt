@@ -17,6 +17,3 @@ pub use found::FoundDateTimeKind;
 pub use found_list::FoundDateTimeList;
 pub use found_list_ref::FoundDateTimeListRefMut;
 pub use utc_date_time::UtcDateTime;
-
-#[cfg(test)]
-mod tests;

@@ -18,6 +18,3 @@ pub use tz_rule::timezone::{
 };
 pub use zone::TimeZone;
 pub use zone_ref::TimeZoneRef;
-
-#[cfg(test)]
-mod tests;

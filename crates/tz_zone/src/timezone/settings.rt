@@ -294,6 +294,3 @@ impl<A: Allocator + Copy> TimeZone<A> {
         settings.parse_posix_tz(alloc, tz_string)
     }
 }
-
-#[cfg(test)]
-mod tests;

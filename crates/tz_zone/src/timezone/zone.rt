@@ -183,6 +183,3 @@ impl<A: Allocator + Copy> TimeZone<A> {
         self.find_local_time_type(unix_time)
     }
 }
-
-#[cfg(test)]
-mod tests;

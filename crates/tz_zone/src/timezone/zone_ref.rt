@@ -193,6 +193,3 @@ impl<'a> TimeZoneRef<'a> {
         (answer, view.looks())
     }
 }
-
-#[cfg(test)]
-mod tests;

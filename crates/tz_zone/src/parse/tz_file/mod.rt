@@ -111,6 +111,3 @@ pub(crate) fn parse_tz_file<A: Allocator + Copy>(
         extra_rule,
     )
 }
-
-#[cfg(test)]
-mod tests;

@@ -132,6 +132,3 @@ pub(crate) fn parse_posix_tz(text: &[u8], extended: bool) -> Result<TransitionRu
 {
     read_text(text, extended)
 }
-
-#[cfg(test)]
-mod tests;

@@ -1,8 +1,8 @@
 //! Zones and their clocks: which parts make a zone, and what is looked up around transitions, leap seconds and the ends of 64 bits.
 
+mod leap_tables;
 mod rules;
 
-use super::*;
 use std::alloc::{Allocator, Global};
 use std::process::Abort;
 use std::test::Fail;
@@ -12,6 +12,9 @@ use tz_base::error::timezone::TimeZoneError::{
     NoLocalTimeType,
 };
 use tz_base::error::timezone::{LocalTimeTypeError, TimeZoneError};
+use tz_zone::timezone::{
+    LeapSecond, LocalTimeType, TimeZone, TimeZoneRef, Transition, TransitionRule,
+};
 
 /// A refusal that can be compared.
 #[derive(Clone, Copy, Debug, PartialEq, Eq)]
@@ -556,5 +559,3 @@ fn transitions_and_leap_seconds_have_their_parts(rt: HostRuntime) {
     assert!(rt; leap_second != LeapSecond::new(5, 7));
     assert!(rt; leap_second != LeapSecond::new(4, -7));
 }
-
-mod leap_tables;

@@ -352,7 +352,7 @@ fn expect_refusal(
     extended: bool,
     refusal: &str,
 ) -> Result<(), Fail> {
-    let Some(error) = parse_posix_tz(text.as_bytes(), extended).err() else {
+    let Some(error) = rule_of(alloc, text, extended).err() else {
         assert!(rt; false, "{text} is accepted");
         return Ok(());
     };

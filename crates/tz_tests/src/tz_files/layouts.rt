@@ -1,6 +1,7 @@
 //! Files as compilers of time zones lay them out: fat ones, slim ones, and ones with leap seconds.
 
 use super::*;
+use crate::samples::central_europe;
 
 /// What a unit holds: transitions with their types, types with the places of their names, names, leap seconds, and both lists of
 /// indicators, which are alike.
@@ -169,24 +170,13 @@ fn fat_zone(alloc: Global, extra_rule: Option<TransitionRule>) -> Result<TimeZon
     )?)
 }
 
-/// The rule of the fat file.
-fn fat_rule() -> Result<TransitionRule, Fail> {
-    Ok(TransitionRule::Alternate(AlternateTime::new(
-        LocalTimeType::new(3600, false, Some(b"CET"))?,
-        LocalTimeType::new(7200, true, Some(b"CEST"))?,
-        sunday(3, 5)?,
-        7200,
-        sunday(10, 5)?,
-        10_800,
-    )?))
-}
-
 #[test]
 fn a_fat_file_is_read(rt: HostRuntime) -> Result<(), Fail> {
     let bytes = file(rt.alloc(), &FAT, &FAT, b"\nCET-1CEST,M3.5.0,M10.5.0/3\n")?;
     assert_eq!(rt; bytes.len(), 288);
     let zone = TimeZone::from_tz_data(rt.alloc(), &bytes)?;
-    assert!(rt; zone == fat_zone(rt.alloc(), Some(fat_rule()?))?);
+    let rule = TransitionRule::Alternate(central_europe()?);
+    assert!(rt; zone == fat_zone(rt.alloc(), Some(rule))?);
     expect_offsets(
         &rt,
         &zone,

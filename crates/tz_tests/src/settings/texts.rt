@@ -1,12 +1,12 @@
 //! Texts that the settings read where there is no file: the zones that they denote, and refusals.
 
-use crate::parse::tz_string::parse_posix_tz;
-use crate::timezone::{TimeZone, TimeZoneRef, TimeZoneSettings, TransitionRule};
+use crate::samples::extended_rule;
 use anyhow::anyhow;
 use std::alloc::Global;
 use std::process::Abort;
 use std::test::Fail;
 use tz_base::error::{Error, ReadFault};
+use tz_zone::timezone::{TimeZone, TimeZoneRef, TimeZoneSettings, TransitionRule};
 
 /// Texts that are refused, and the refusal's text.
 const REFUSED: &[(&str, &str)] = &[
@@ -76,7 +76,7 @@ fn texts_are_zones_of_their_rules(rt: HostRuntime) -> Result<(), Fail> {
         "STD-24:59:59DST,J1,J365",
         "CET-1CEST,M3.5.0,M10.5.0/3",
     ] {
-        let rule = parse_posix_tz(text.as_bytes(), false)?;
+        let rule = extended_rule(rt.alloc(), text)?.ok_or("no rule")?;
         expect_zone(&rt, &zone_of(rt.alloc(), text)?, rule)?;
         let spaced = format!(in rt.alloc(); " {text}\n")?;
         expect_zone(&rt, &zone_of(rt.alloc(), spaced.as_str())?, rule)?;

@@ -1,10 +1,6 @@
 //! TZif files: vectors and the zones that they denote, footers, and refused memory.
 
-use crate::samples::{Fault, named, push_header, utc_v1};
-use crate::timezone::{
-    AlternateTime, Julian0WithLeap, Julian1WithoutLeap, LeapSecond, LocalTimeType, MonthWeekDay,
-    RuleDay, TimeZone, TimeZoneRef, Transition, TransitionRule,
-};
+use crate::samples::{Fault, named, push_header, utc_v1, without_transitions};
 use std::alloc::{AllocError, Allocator, Global};
 use std::process::Abort;
 use std::test::Fail;
@@ -12,6 +8,10 @@ use tz_base::error::TzError;
 use tz_base::error::parse::{ParseDataError, TzFileError, TzStringError};
 use tz_base::error::timezone::{LocalTimeTypeError, TimeZoneError};
 use tz_base::refusing::Refusing;
+use tz_zone::timezone::{
+    AlternateTime, Julian0WithLeap, Julian1WithoutLeap, LeapSecond, LocalTimeType, MonthWeekDay,
+    RuleDay, TimeZone, TimeZoneRef, Transition, TransitionRule,
+};
 
 /// How the bytes are refused.
 fn fault_of(alloc: Global, bytes: &[u8]) -> Option<Fault> {
@@ -158,17 +158,6 @@ fn with_footer(alloc: Global, version: u8, footer: &[u8]) -> Result<Vec<u8>, All
 /// Israel from 2038 on.
 fn jerusalem_v3(alloc: Global) -> Result<Vec<u8>, AllocError> {
     with_footer(alloc, b'3', b"\nIST-2IDT,M3.4.4/26,M10.5.0\n")
-}
-
-/// One type without transitions, and a footer.
-fn without_transitions(alloc: Global, version: u8, footer: &[u8]) -> Result<Vec<u8>, AllocError> {
-    let mut bytes = Vec::new(alloc);
-    for version in [b'2', version] {
-        push_header(&mut bytes, version, &[0, 0, 0, 0, 1, 4])?;
-        bytes.extend_from_slice(b"\0\0\0\0\0\0UTC\0")?;
-    }
-    bytes.extend_from_slice(footer)?;
-    Ok(bytes)
 }
 
 /// The transitions of Honolulu's times.

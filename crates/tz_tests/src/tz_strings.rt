@@ -1,21 +1,33 @@
 //! TZ strings and the rules that they denote, and texts that are none.
 
-use super::parse_posix_tz;
-use crate::samples::{Fault, named};
+mod altered;
+mod footers;
+
+use crate::samples::{Fault, extended_rule, named, named_by_settings, ordinary_rule};
 use std::alloc::Global;
 use std::process::Abort;
 use std::test::Fail;
+use tz_base::error::Error;
 use tz_base::error::parse::{ParseDataError, TzStringError};
 use tz_base::error::timezone::{LocalTimeTypeError, TransitionRuleError};
-use tz_rule::timezone::{
+use tz_zone::timezone::{
     AlternateTime, Julian0WithLeap, Julian1WithoutLeap, LocalTimeType, MonthWeekDay, RuleDay,
     TransitionRule,
 };
 
+/// The rule that a text denotes.
+fn rule_of(alloc: Global, text: &str, extended: bool) -> Result<Option<TransitionRule>, Error> {
+    if extended {
+        Ok(extended_rule(alloc, text)?)
+    } else {
+        ordinary_rule(alloc, text)
+    }
+}
+
 /// The ordinary text is refused so.
-fn expect_fault(rt: &impl Abort, text: &str, fault: Fault) {
+fn expect_fault(rt: &impl Abort, alloc: Global, text: &str, fault: Fault) {
     assert_eq!(rt;
-        parse_posix_tz(text.as_bytes(), false).err().map(named),
+        ordinary_rule(alloc, text).err().map(named_by_settings),
         Some(fault),
         "{text}"
     );
@@ -24,11 +36,12 @@ fn expect_fault(rt: &impl Abort, text: &str, fault: Fault) {
 /// The text denotes the rule.
 fn expect_rule(
     rt: &impl Abort,
+    alloc: Global,
     text: &str,
     extended: bool,
     rule: TransitionRule,
 ) -> Result<(), Fail> {
-    assert_eq!(rt; parse_posix_tz(text.as_bytes(), extended)?, rule, "{text}");
+    assert_eq!(rt; rule_of(alloc, text, extended)?, Some(rule), "{text}");
     Ok(())
 }
 
@@ -64,8 +77,8 @@ fn a_name_and_an_offset_are_one_type(rt: HostRuntime) -> Result<(), Fail> {
         ("X-24:59:59", "X", 89_999),
     ] {
         let rule = TransitionRule::Fixed(local_type(name, ut_offset, false)?);
-        expect_rule(&rt, text, false, rule)?;
-        expect_rule(&rt, text, true, rule)?;
+        expect_rule(&rt, rt.alloc(), text, false, rule)?;
+        expect_rule(&rt, rt.alloc(), text, true, rule)?;
     }
     Ok(())
 }
@@ -74,6 +87,7 @@ fn a_name_and_an_offset_are_one_type(rt: HostRuntime) -> Result<(), Fail> {
 fn two_names_and_two_rules_are_an_alternate_rule(rt: HostRuntime) -> Result<(), Fail> {
     expect_rule(
         &rt,
+        rt.alloc(),
         "<-03>+3<+03>-3,J1,J365",
         false,
         TransitionRule::Alternate(AlternateTime::new(
@@ -87,6 +101,7 @@ fn two_names_and_two_rules_are_an_alternate_rule(rt: HostRuntime) -> Result<(), 
     )?;
     expect_rule(
         &rt,
+        rt.alloc(),
         "NZST-12:00:00NZDT-13:00:00,M10.1.0/02:00:00,M3.3.0/02:00:00",
         false,
         TransitionRule::Alternate(AlternateTime::new(
@@ -100,6 +115,7 @@ fn two_names_and_two_rules_are_an_alternate_rule(rt: HostRuntime) -> Result<(), 
     )?;
     expect_rule(
         &rt,
+        rt.alloc(),
         "IST-1GMT0,M10.5.0,M3.5.0/1",
         false,
         TransitionRule::Alternate(AlternateTime::new(
@@ -113,6 +129,7 @@ fn two_names_and_two_rules_are_an_alternate_rule(rt: HostRuntime) -> Result<(), 
     )?;
     expect_rule(
         &rt,
+        rt.alloc(),
         "EST5EDT,0/0,J365/24",
         false,
         TransitionRule::Alternate(AlternateTime::new(
@@ -140,7 +157,13 @@ fn daylight_saving_time_is_an_hour_ahead_by_default(rt: HostRuntime) -> Result<(
             julian_1(365)?,
             7200,
         )?;
-        expect_rule(&rt, text, false, TransitionRule::Alternate(rule))?;
+        expect_rule(
+            &rt,
+            rt.alloc(),
+            text,
+            false,
+            TransitionRule::Alternate(rule),
+        )?;
     }
     Ok(())
 }
@@ -149,6 +172,7 @@ fn daylight_saving_time_is_an_hour_ahead_by_default(rt: HostRuntime) -> Result<(
 fn extended_texts_have_wider_day_times(rt: HostRuntime) -> Result<(), Fail> {
     expect_rule(
         &rt,
+        rt.alloc(),
         "<-03>3<-02>,M3.5.0/-2,M10.5.0/-1",
         true,
         TransitionRule::Alternate(AlternateTime::new(
@@ -162,6 +186,7 @@ fn extended_texts_have_wider_day_times(rt: HostRuntime) -> Result<(), Fail> {
     )?;
     expect_rule(
         &rt,
+        rt.alloc(),
         "EST5EDT,0/0,J365/25",
         true,
         TransitionRule::Alternate(AlternateTime::new(
@@ -173,13 +198,19 @@ fn extended_texts_have_wider_day_times(rt: HostRuntime) -> Result<(), Fail> {
             90_000,
         )?),
     )?;
-    expect_fault(&rt, "<-03>3<-02>,M3.5.0/-2,M10.5.0/-1", Fault::Number);
     expect_fault(
         &rt,
+        rt.alloc(),
+        "<-03>3<-02>,M3.5.0/-2,M10.5.0/-1",
+        Fault::Number,
+    );
+    expect_fault(
+        &rt,
+        rt.alloc(),
         "EST5EDT,0/0,J365/25",
         Fault::Text(TzStringError::InvalidDayTimeHour),
     );
-    let inconsistent = parse_posix_tz(b"A0B0,J59/0:0:1,J60/-24", true);
+    let inconsistent = extended_rule(rt.alloc(), "A0B0,J59/0:0:1,J60/-24");
     assert_eq!(rt;
         inconsistent.err().map(named),
         Some(Fault::Rule(TransitionRuleError::InconsistentRule))
@@ -190,7 +221,7 @@ fn extended_texts_have_wider_day_times(rt: HostRuntime) -> Result<(), Fail> {
 #[test]
 fn numbers_are_digits_that_fit(rt: HostRuntime) {
     for text in [
-        "",
+        " ",
         "HST",
         "HST+",
         "HST:",
@@ -212,45 +243,57 @@ fn numbers_are_digits_that_fit(rt: HostRuntime) {
         "A1B,J1,",
         "A1B,J1,x",
     ] {
-        expect_fault(&rt, text, Fault::Number);
+        expect_fault(&rt, rt.alloc(), text, Fault::Number);
     }
 }
 
 #[test]
 fn numbers_are_in_range(rt: HostRuntime) {
-    expect_fault(&rt, "A25", Fault::Text(TzStringError::InvalidOffsetHour));
     expect_fault(
         &rt,
+        rt.alloc(),
+        "A25",
+        Fault::Text(TzStringError::InvalidOffsetHour),
+    );
+    expect_fault(
+        &rt,
+        rt.alloc(),
         "A2147483647",
         Fault::Text(TzStringError::InvalidOffsetHour),
     );
     expect_fault(
         &rt,
+        rt.alloc(),
         "A0:60",
         Fault::Text(TzStringError::InvalidOffsetMinute),
     );
     expect_fault(
         &rt,
+        rt.alloc(),
         "A0:0:60",
         Fault::Text(TzStringError::InvalidOffsetSecond),
     );
     expect_fault(
         &rt,
+        rt.alloc(),
         "A0B25,0,1",
         Fault::Text(TzStringError::InvalidOffsetHour),
     );
     expect_fault(
         &rt,
+        rt.alloc(),
         "A0B,0/25,1",
         Fault::Text(TzStringError::InvalidDayTimeHour),
     );
     expect_fault(
         &rt,
+        rt.alloc(),
         "A0B,0/0:60,1",
         Fault::Text(TzStringError::InvalidDayTimeMinute),
     );
     expect_fault(
         &rt,
+        rt.alloc(),
         "A0B,0,1/0:0:60",
         Fault::Text(TzStringError::InvalidDayTimeSecond),
     );
@@ -264,7 +307,7 @@ fn numbers_are_in_range(rt: HostRuntime) {
         ("A0B,M1.6.0,1", TransitionRuleError::InvalidRuleDayWeek),
         ("A0B,M1.1.7,1", TransitionRuleError::InvalidRuleDayWeekDay),
     ] {
-        expect_fault(&rt, text, Fault::Rule(fault));
+        expect_fault(&rt, rt.alloc(), text, Fault::Rule(fault));
     }
 }
 
@@ -287,7 +330,7 @@ fn names_are_designations(rt: HostRuntime) {
             LocalTimeTypeError::InvalidTimeZoneDesignationLength,
         ),
     ] {
-        expect_fault(&rt, text, Fault::Type(fault));
+        expect_fault(&rt, rt.alloc(), text, Fault::Type(fault));
     }
 }
 
@@ -298,6 +341,7 @@ fn bytes_stand_where_they_have_to(rt: HostRuntime) {
     ] {
         expect_fault(
             &rt,
+            rt.alloc(),
             text,
             Fault::Text(TzStringError::ParseData(ParseDataError::UnexpectedEof)),
         );
@@ -312,6 +356,7 @@ fn bytes_stand_where_they_have_to(rt: HostRuntime) {
     ] {
         expect_fault(
             &rt,
+            rt.alloc(),
             text,
             Fault::Text(TzStringError::ParseData(ParseDataError::InvalidData)),
         );
@@ -319,6 +364,7 @@ fn bytes_stand_where_they_have_to(rt: HostRuntime) {
     for text in ["IST-1GMT0", "EET-2EEST", "A0<B>"] {
         expect_fault(
             &rt,
+            rt.alloc(),
             text,
             Fault::Text(TzStringError::MissingDstStartEndRules),
         );
@@ -328,7 +374,12 @@ fn bytes_stand_where_they_have_to(rt: HostRuntime) {
         "EST5EDT,0,J365,",
         "EST5EDT,0,J365/1:2:3:4",
     ] {
-        expect_fault(&rt, text, Fault::Text(TzStringError::RemainingData));
+        expect_fault(
+            &rt,
+            rt.alloc(),
+            text,
+            Fault::Text(TzStringError::RemainingData),
+        );
     }
 }
 
@@ -371,12 +422,9 @@ fn expect_rules(
     extended: bool,
 ) -> Result<(), Fail> {
     for (text, expected) in rows {
-        let rule = parse_posix_tz(text.as_bytes(), extended)?;
+        let rule = rule_of(alloc, text, extended)?.ok_or("no rule")?;
         let found = rule_text(alloc, &rule)?;
         assert_eq!(rt; found.as_str(), *expected, "{text}");
     }
     Ok(())
 }
-
-mod altered;
-mod footers;

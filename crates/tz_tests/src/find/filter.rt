@@ -3,8 +3,8 @@
 ghost use Rattle.std.specs.Prelude.{◌<◌};
 
 use super::*;
-use crate::datetime::UtcDateTime;
-use crate::error::timezone::LocalTimeTypeError;
+use tz::datetime::UtcDateTime;
+use tz_base::error::timezone::LocalTimeTypeError;
 
 /// Instants and readings a quarter of an hour apart: no clock of these tests changes between them, so no entry lies there.
 const STEP: i64 = 900;

@@ -2,16 +2,16 @@
 
 ghost use Rattle.std.specs.Prelude.{◌≡◌};
 
-use crate::datetime::{DateTime, FoundDateTimeKind, FoundDateTimeList, FoundDateTimeListRefMut};
-use crate::error::TzError;
-use crate::error::datetime::DateTimeError;
-use crate::timezone::{
-    AlternateTime, Julian0WithLeap, Julian1WithoutLeap, LeapSecond, LocalTimeType, MonthWeekDay,
-    RuleDay, TimeZoneRef, Transition, TransitionRule,
-};
 use std::alloc::{AllocError, Allocator, Global};
 use std::process::Abort;
 use std::test::Fail;
+use tz::datetime::{DateTime, FoundDateTimeKind, FoundDateTimeList, FoundDateTimeListRefMut};
+use tz_base::error::TzError;
+use tz_base::error::datetime::DateTimeError;
+use tz_zone::timezone::{
+    AlternateTime, Julian0WithLeap, Julian1WithoutLeap, LeapSecond, LocalTimeType, MonthWeekDay,
+    RuleDay, TimeZoneRef, Transition, TransitionRule,
+};
 
 mod ends;
 mod filter;
@@ -20,7 +20,8 @@ mod memory;
 mod texts;
 mod zones;
 
-use zones::{central_europe, crossing, far_offset};
+use crate::samples::central_europe;
+use zones::{crossing, far_offset};
 
 /// A Unix time, and the offsets before it and at it; those of a date time that is shown are the same.
 type Summary = (i64, i32, i32);

@@ -1,8 +1,6 @@
 //! What the settings ask of the reader, and what they answer.
 
-use super::{DEFAULT_DIRECTORIES, TimeZoneSettings};
 use crate::samples::{Fault, named_by_settings as named, utc_v1};
-use crate::timezone::{LocalTimeType, TimeZone, TransitionRule};
 use anyhow::anyhow;
 use std::alloc::{AllocError, Allocator, Global};
 use std::cell::Cell;
@@ -11,6 +9,9 @@ use std::test::Fail;
 use tz_base::error::parse::{ParseDataError, TzFileError, TzStringError};
 use tz_base::error::{Error, ReadFault};
 use tz_base::refusing::Refusing;
+use tz_zone::timezone::{
+    DEFAULT_DIRECTORIES, LocalTimeType, TimeZone, TimeZoneSettings, TransitionRule,
+};
 
 /// What stands at a path.
 #[derive(Clone, Copy)]

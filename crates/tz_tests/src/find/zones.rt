@@ -1,7 +1,7 @@
 //! Zones that several tests search in.
 
 use super::*;
-use crate::error::timezone::LocalTimeTypeError;
+use tz_base::error::timezone::LocalTimeTypeError;
 
 /// A zone with jumps over the same hour: its transitions and its types.
 pub(super) fn crossing() -> Result<([Transition; 6], [LocalTimeType; 5]), LocalTimeTypeError> {
@@ -21,19 +21,6 @@ pub(super) fn crossing() -> Result<([Transition; 6], [LocalTimeType; 5]), LocalT
         Transition::new(32_400, 0),
     ];
     Ok((transitions, types))
-}
-
-/// The rule of `CET-1CEST,M3.5.0,M10.5.0/3`.
-pub(super) fn central_europe() -> Result<AlternateTime, TzError> {
-    let rule = AlternateTime::new(
-        LocalTimeType::new(3600, false, Some(b"CET"))?,
-        LocalTimeType::new(7200, true, Some(b"CEST"))?,
-        RuleDay::MonthWeekDay(MonthWeekDay::new(3, 5, 0)?),
-        7200,
-        RuleDay::MonthWeekDay(MonthWeekDay::new(10, 5, 0)?),
-        10_800,
-    )?;
-    Ok(rule)
 }
 
 /// A zone with an hour at an offset of 68 years, and its rule.

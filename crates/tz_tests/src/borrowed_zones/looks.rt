@@ -1,9 +1,11 @@
 //! How many looks a lookup takes, and that it finds what a plain count finds.
 
-use super::*;
-use crate::inner;
 use std::alloc::{AllocError, Allocator, Global};
 use std::process::Abort;
+use std::test::Fail;
+use tz_base::error::TzError;
+use tz_zone::inner;
+use tz_zone::timezone::{LeapSecond, LocalTimeType, TimeZoneRef, Transition};
 
 /// This many transitions, a million seconds apart from 0 on, to types 0 and 1 in turn.
 fn transitions_in_turn<A: Allocator + Copy>(

@@ -1,8 +1,9 @@
 //! UTC's borrowed zone, equality of zones, and the looks of lookups.
 
-use super::*;
-use crate::timezone::TimeZone;
+mod looks;
+
 use std::test::Fail;
+use tz_zone::timezone::{LocalTimeType, TimeZone, TimeZoneRef};
 
 #[test]
 fn utc_has_one_type(rt: HostRuntime) -> Result<(), Fail> {
@@ -35,5 +36,3 @@ fn zones_are_equal_by_their_parts(rt: HostRuntime) -> Result<(), Fail> {
     assert_ne!(rt; other.as_ref(), TimeZoneRef::utc());
     Ok(())
 }
-
-mod looks;

@@ -1,10 +1,13 @@
 //! Zones that own their parts: with memory enough, and with each growth refused in turn.
 
-use super::*;
-use std::alloc::AllocError;
+use std::alloc::{AllocError, Allocator};
 use std::test::Fail;
+use tz_base::error::TzError;
 use tz_base::error::timezone::{LocalTimeTypeError, TimeZoneError};
 use tz_base::refusing::Refusing;
+use tz_zone::timezone::{
+    LeapSecond, LocalTimeType, TimeZone, TimeZoneRef, Transition, TransitionRule,
+};
 
 /// Two transitions, two types and a leap second.
 fn parts<A: Allocator + Copy>(
@@ -68,12 +71,8 @@ fn the_current_type_is_that_of_the_moment_given(rt: HostRuntime) -> Result<(), F
         let local_time_type = zone.find_current_local_time_type(unix_time)?;
         assert_eq!(rt; local_time_type.ut_offset(), ut_offset, "at {unix_time}");
     }
-    let over = TimeZone::new(
-        zone.transitions,
-        zone.local_time_types,
-        zone.leap_seconds,
-        None,
-    )?;
+    let (transitions, local_time_types, leap_seconds) = parts(rt.alloc())?;
+    let over = TimeZone::new(transitions, local_time_types, leap_seconds, None)?;
     assert!(rt;
         matches!(
             over.find_current_local_time_type(7199),

@@ -1,7 +1,7 @@
 //! Counted looks of searches, beside bounds that are computed from all transitions.
 
 use super::*;
-use crate::datetime::UtcDateTime;
+use tz::datetime::UtcDateTime;
 use tz_base::calendar::Fields;
 use tz_zone::inner::effect;
 

@@ -1,16 +1,10 @@
 //! Zones whose rule has two types: what the zone's own lookup finds, and which last transitions such a rule agrees with.
 
 use super::*;
-use crate::parse::tz_string::parse_posix_tz;
+use crate::samples::extended_rule;
 
 /// Central European Time, and other rules whose starts and ends are at given times.
 const CENTRAL_EUROPE: &str = "CET-1CEST,M3.5.0,M10.5.0/3";
-
-/// The rule that a TZ string denotes, with day times of up to a week.
-fn rule(text: &str) -> Result<Option<TransitionRule>, Fail> {
-    let rule = parse_posix_tz(text.as_bytes(), true).map_err(|_| "no rule")?;
-    Ok(Some(rule))
-}
 
 /// The offset and the daylight flag that a zone without transitions has at an instant.
 fn found_at(
@@ -48,7 +42,7 @@ fn the_zone_has_the_type_of_its_rule(rt: HostRuntime) -> Result<(), Fail> {
         ("STD0DST0,100/0,101/-24:01:40", 8_639_999, 0, false),
         ("STD0DST0,100/0,101/-24:01:40", 8_640_000, 0, true),
     ] {
-        let found = found_at(&types, &rule(text)?, unix_time).ok();
+        let found = found_at(&types, &extended_rule(rt.alloc(), text)?, unix_time).ok();
         assert_eq!(rt; found, Some((ut_offset, is_dst)), "{text} at {unix_time}");
     }
     Ok(())
@@ -58,7 +52,7 @@ fn the_zone_has_the_type_of_its_rule(rt: HostRuntime) -> Result<(), Fail> {
 fn no_rule_of_two_types_answers_at_the_ends(rt: HostRuntime) -> Result<(), Fail> {
     let types = [LocalTimeType::utc()];
     for text in [CENTRAL_EUROPE, "EST5EDT,0/0,J365/25", "STD0DST0,J60/0,59/0"] {
-        let rule = rule(text)?;
+        let rule = extended_rule(rt.alloc(), text)?;
         for unix_time in [i64::MIN, i64::MAX] {
             let refused = found_at(&types, &rule, unix_time).map_err(named);
             assert_eq!(rt; refused, Err(Fault::OutOfRange), "{text} at {unix_time}");
@@ -69,7 +63,7 @@ fn no_rule_of_two_types_answers_at_the_ends(rt: HostRuntime) -> Result<(), Fail>
 
 #[test]
 fn the_last_transition_agrees_with_the_rule(rt: HostRuntime) -> Result<(), Fail> {
-    let rule = rule(CENTRAL_EUROPE)?;
+    let rule = extended_rule(rt.alloc(), CENTRAL_EUROPE)?;
     let types = [
         LocalTimeType::new(3600, false, Some(b"CET")).map_err(|_| "no type")?,
         LocalTimeType::new(7200, true, Some(b"CEST")).map_err(|_| "no type")?,

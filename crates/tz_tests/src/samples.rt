@@ -1,9 +1,13 @@
-//! Refusals that can be compared, and a file, for the tests of this crate.
+//! Refusals that can be compared, files, and the rules that texts denote.
 
+use anyhow::anyhow;
 use std::alloc::{AllocError, Global};
 use tz_base::error::parse::{TzFileError, TzStringError};
 use tz_base::error::timezone::{LocalTimeTypeError, TimeZoneError, TransitionRuleError};
-use tz_base::error::{Error, TzError};
+use tz_base::error::{Error, ReadFault, TzError};
+use tz_zone::timezone::{
+    AlternateTime, LocalTimeType, MonthWeekDay, RuleDay, TimeZone, TransitionRule,
+};
 
 /// A refusal that can be compared.
 #[derive(Debug, Drop, PartialEq, Eq)]
@@ -64,4 +68,47 @@ pub(crate) fn utc_v1(alloc: Global) -> Result<Vec<u8>, AllocError> {
     push_header(&mut bytes, 0, &[0, 0, 0, 0, 1, 4])?;
     bytes.extend_from_slice(b"\0\0\0\0\0\0UTC\0")?;
     Ok(bytes)
+}
+
+/// A file with one type, UTC, without transitions, and a footer.
+pub(crate) fn without_transitions(
+    alloc: Global,
+    version: u8,
+    footer: &[u8],
+) -> Result<Vec<u8>, AllocError> {
+    let mut bytes = Vec::new(alloc);
+    for version in [b'2', version] {
+        push_header(&mut bytes, version, &[0, 0, 0, 0, 1, 4])?;
+        bytes.extend_from_slice(b"\0\0\0\0\0\0UTC\0")?;
+    }
+    bytes.extend_from_slice(footer)?;
+    Ok(bytes)
+}
+
+/// The rule that the settings read in an ordinary text, where no file can be read.
+pub(crate) fn ordinary_rule(alloc: Global, text: &str) -> Result<Option<TransitionRule>, Error> {
+    let no_file = |_: &str| Err(ReadFault::Failed(anyhow!("no file")));
+    let zone = TimeZone::from_posix_tz(alloc, no_file, text)?;
+    Ok(*zone.as_ref().extra_rule())
+}
+
+/// The rule that a file of version 3 has in its footer, where day times are of up to a week.
+pub(crate) fn extended_rule(alloc: Global, text: &str) -> Result<Option<TransitionRule>, TzError> {
+    let footer = format!(in alloc; "\n{text}\n")?;
+    let bytes = without_transitions(alloc, b'3', footer.as_bytes())?;
+    let zone = TimeZone::from_tz_data(alloc, &bytes)?;
+    Ok(*zone.as_ref().extra_rule())
+}
+
+/// The rule of `CET-1CEST,M3.5.0,M10.5.0/3`.
+pub(crate) fn central_europe() -> Result<AlternateTime, TzError> {
+    let rule = AlternateTime::new(
+        LocalTimeType::new(3600, false, Some(b"CET"))?,
+        LocalTimeType::new(7200, true, Some(b"CEST"))?,
+        RuleDay::MonthWeekDay(MonthWeekDay::new(3, 5, 0)?),
+        7200,
+        RuleDay::MonthWeekDay(MonthWeekDay::new(10, 5, 0)?),
+        10_800,
+    )?;
+    Ok(rule)
 }

@@ -1,7 +1,7 @@
 //! Searches whose entries are compared as texts, with their fields and the names of their types.
 
 use super::*;
-use crate::timezone::TimeZone;
+use tz_zone::timezone::TimeZone;
 
 /// The name of the date time's type, or `-`.
 fn name(date_time: &DateTime) -> &str {

@@ -1,15 +1,15 @@
-//! Date times from outside: instants and fields with their answers, the ends of the years, order, arithmetic and printing.
+//! Date times: instants and fields with their answers, the ends of the years, order, arithmetic and printing.
 
-use super::*;
-use crate::error::TzError;
-use crate::error::datetime::DateTimeError;
-use crate::timezone::{LocalTimeType, TimeZone, TimeZoneRef, Transition};
 use std::alloc::{AllocError, Global};
 use std::cmp::Ordering;
 use std::fmt::Display;
 use std::process::Abort;
 use std::test::Fail;
 use std::time::Duration;
+use tz::datetime::{DateTime, UtcDateTime};
+use tz_base::error::TzError;
+use tz_base::error::datetime::DateTimeError;
+use tz_zone::timezone::{LocalTimeType, TimeZone, TimeZoneRef, Transition};
 
 /// The date time prints as the text.
 fn expect_text(
@@ -214,7 +214,7 @@ fn the_first_second_of_2000(rt: HostRuntime) -> Result<(), Fail> {
 }
 
 /// The first and the last date time, and the one from which Unix time counts.
-#[tactic(auto, using(crate::specs::UtcConstants::unix_epoch_is_utc, crate::specs::UtcConstants::min_is_utc, crate::specs::UtcConstants::max_is_utc))]
+#[tactic(auto, using(tz::specs::UtcConstants::unix_epoch_is_utc, tz::specs::UtcConstants::min_is_utc, tz::specs::UtcConstants::max_is_utc))]
 fn constants() -> [UtcDateTime; 3] {
     [UtcDateTime::MIN, UtcDateTime::UNIX_EPOCH, UtcDateTime::MAX]
 }

@@ -1,9 +1,8 @@
 //! The texts in the footers of the time zone database's files, as of 2025, and the rules that they denote by tz-rs.
 
 use super::*;
-use crate::timezone::TimeZone;
-use anyhow::anyhow;
-use tz_base::error::{Error, ReadFault};
+use crate::samples::without_transitions;
+use tz_zone::timezone::TimeZone;
 
 /// Ordinary texts, and what they denote: each type's name and offset from UTC, then each change's day and time of day, in seconds.
 const ORDINARY: &[(&str, &str)] = &[
@@ -210,23 +209,22 @@ fn footers_are_read(rt: HostRuntime) -> Result<(), Fail> {
     expect_rules(&rt, rt.alloc(), ORDINARY, true)?;
     expect_rules(&rt, rt.alloc(), EXTENDED, true)?;
     for (text, _) in EXTENDED {
-        assert!(rt; parse_posix_tz(text.as_bytes(), false).is_err(), "{text}");
+        let footer = format!(in rt.alloc(); "\n{text}\n")?;
+        let bytes = without_transitions(rt.alloc(), b'2', footer.as_bytes())?;
+        assert!(rt;
+            TimeZone::from_tz_data(rt.alloc(), &bytes).is_err(),
+            "{text}"
+        );
     }
     Ok(())
-}
-
-/// What the settings answer for the text where no file can be read.
-fn zone_of(alloc: Global, text: &str) -> Result<TimeZone, Error> {
-    let no_file = |_: &str| Err(ReadFault::Failed(anyhow!("no file")));
-    TimeZone::from_posix_tz(alloc, no_file, text)
 }
 
 #[test]
 fn settings_read_ordinary_footers(rt: HostRuntime) -> Result<(), Fail> {
     for (text, _) in ORDINARY {
-        let rule = Some(parse_posix_tz(text.as_bytes(), false)?);
-        let zone = zone_of(rt.alloc(), text)?;
-        assert_eq!(rt; *zone.as_ref().extra_rule(), rule, "{text}");
+        let rule = extended_rule(rt.alloc(), text)?;
+        assert!(rt; rule.is_some());
+        assert_eq!(rt; ordinary_rule(rt.alloc(), text)?, rule, "{text}");
     }
     Ok(())
 }
@@ -234,6 +232,6 @@ fn settings_read_ordinary_footers(rt: HostRuntime) -> Result<(), Fail> {
 #[test]
 fn settings_refuse_extended_footers(rt: HostRuntime) {
     for (text, _) in EXTENDED {
-        assert!(rt; zone_of(rt.alloc(), text).is_err(), "{text}");
+        assert!(rt; ordinary_rule(rt.alloc(), text).is_err(), "{text}");
     }
 }
