@@ -15,7 +15,8 @@ use crate::timezone::LeapSecond;
 #[inline(always)]
 fn reach(leap_seconds: &[LeapSecond], place: usize) -> i64
     requires { place < length leap_seconds.now }
-    ensures { (l : LeapSecond) → slice_get leap_seconds.now place ≡ Some l → result ≡ saturate_signed w64 (l.unix_leap_time -ℤ correction_at_place leap_seconds.now place) }
+    ensures { (l : LeapSecond) → slice_get leap_seconds.now place ≡ Some l
+        → result ≡ saturate_signed w64 (l.unix_leap_time -ℤ correction_at_place leap_seconds.now place) }
 {
     let correction = correction_before(leap_seconds, place);
     leap_seconds[place]
@@ -42,7 +43,8 @@ fn count_reached(leap_seconds: &[LeapSecond], unix_time: i64) -> usize
 fn start_of(leap_seconds: &[LeapSecond], reached: usize) -> Option<i64>
     requires { reached ≤ length leap_seconds.now }
     ensures plain { IfSome result (λ from. reached ≡ 0 → (l : LeapSecond) → ¬ IsStart leap_seconds.now l) }
-    ensures reached { IfSome result (λ from. (v : ℤ) → from ≤ℤ v → v ≤ℤ pos 80000000000000000 → (place : ℕ) → place + 1 ≡ reached → (l : LeapSecond) × IsReached leap_seconds.now place l v) }
+    ensures reached { IfSome result (λ from. (v : ℤ) → from ≤ℤ v → v ≤ℤ pos 80000000000000000
+        → (place : ℕ) → place + 1 ≡ reached → (l : LeapSecond) × IsReached leap_seconds.now place l v) }
 {
     if reached > 0 {
         return Some(reach(leap_seconds, reached - 1));

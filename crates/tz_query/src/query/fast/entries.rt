@@ -71,7 +71,8 @@ pub fn push_skipped(
     after: &Tail,
 ) -> usize
     requires { at ≤ 1910 }
-    ensures text { (text : List ℕ) → (front_before.now ++ (nine.now ++ end_text before.now.local_time_type)) ≡ text ++ 10 ∷ [] → take result page.new ≡ take at page.old ++ (70 ∷ 32 ∷ 49 ∷ 10 ∷ 83 ∷ 32 ∷ (text ++ (32 ∷ (front_after.now ++ (nine.now ++ end_text after.now.local_time_type))))) }
+    ensures text { (text : List ℕ) → (front_before.now ++ (nine.now ++ end_text before.now.local_time_type)) ≡ text ++ 10 ∷ []
+        → take result page.new ≡ take at page.old ++ (70 ∷ 32 ∷ 49 ∷ 10 ∷ 83 ∷ 32 ∷ (text ++ (32 ∷ (front_after.now ++ (nine.now ++ end_text after.now.local_time_type))))) }
     ensures end { result ≤ at + 130 }
 {
     let end = push_marked(page, at, b"F 1\nS ", front_before, nine, before);

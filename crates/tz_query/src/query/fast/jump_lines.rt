@@ -45,7 +45,9 @@ fn push_passed_fields(
     requires window { HasOneJump (zone_of zone) (reading_of fields.now) jump before.now.local_time_type after.now.local_time_type }
     requires before { jump ≤ℤ (reading_of fields.now -ℤ before.now.local_time_type.ut_offset) }
     requires after { (reading_of fields.now -ℤ after.now.local_time_type.ut_offset) <ℤ jump }
-    ensures some { (n : ℕ) → n < 1000000000 → nine.now ≡ nine_digits n → IfSome result (λ end. (answer : List (List ℕ)) × IsSearchAnswer (zone_of zone.entry) (record fields.now { nanoseconds = n }) answer × (take end page.new ≡ take at page.old ++ ended answer)) }
+    ensures some { (n : ℕ) → n < 1000000000 → nine.now ≡ nine_digits n
+        → IfSome result (λ end. (answer : List (List ℕ)) × IsSearchAnswer (zone_of zone.entry) (record fields.now { nanoseconds = n }) answer
+        × (take end page.new ≡ take at page.old ++ ended answer)) }
     ensures end { IfSome result (λ end. end ≤ at + 130) }
     ensures none { IfNone result (page.new ≡ page.old) }
 {
@@ -80,7 +82,9 @@ fn push_around_jump(
     requires bound { (negsuc 67768100567971199 ≤ℤ reading) × (reading ≤ℤ pos 67767976233532800) }
     requires year { (pos 1000 ≤ℤ fields.now.year) × (fields.now.year ≤ℤ pos 9999) }
     requires window { HasOneJump (zone_of zone) (reading_of fields.now) jump before.now.local_time_type after.now.local_time_type }
-    ensures some { (n : ℕ) → n < 1000000000 → nine.now ≡ nine_digits n → IfSome result (λ end. (answer : List (List ℕ)) × IsSearchAnswer (zone_of zone.entry) (record fields.now { nanoseconds = n }) answer × (take end page.new ≡ take at page.old ++ ended answer)) }
+    ensures some { (n : ℕ) → n < 1000000000 → nine.now ≡ nine_digits n
+        → IfSome result (λ end. (answer : List (List ℕ)) × IsSearchAnswer (zone_of zone.entry) (record fields.now { nanoseconds = n }) answer
+        × (take end page.new ≡ take at page.old ++ ended answer)) }
     ensures end { IfSome result (λ end. end ≤ at + 130) }
     ensures none { IfNone result (page.new ≡ page.old) }
 {
@@ -130,7 +134,9 @@ pub fn answer_across_jump(
     requires bound { (negsuc 67768100567971199 ≤ℤ reading) × (reading ≤ℤ pos 67767976233532800) }
     requires year { (pos 1000 ≤ℤ fields.now.year) × (fields.now.year ≤ℤ pos 9999) }
     requires offsets { AreOffsetsOf (zone_of zone) (reading_of fields.now -ℤ high) (reading_of fields.now -ℤ low) }
-    ensures some { (n : ℕ) → n < 1000000000 → nine.now ≡ nine_digits n → IfSome result (λ end. (answer : List (List ℕ)) × IsSearchAnswer (zone_of zone.entry) (record fields.now { nanoseconds = n }) answer × (take end page.new ≡ take at page.old ++ ended answer)) }
+    ensures some { (n : ℕ) → n < 1000000000 → nine.now ≡ nine_digits n
+        → IfSome result (λ end. (answer : List (List ℕ)) × IsSearchAnswer (zone_of zone.entry) (record fields.now { nanoseconds = n }) answer
+        × (take end page.new ≡ take at page.old ++ ended answer)) }
     ensures end { IfSome result (λ end. end ≤ at + 130) }
     ensures none { IfNone result (page.new ≡ page.old) }
 {

@@ -14,7 +14,8 @@ use core::dec2flt;
 #[inline(always)]
 fn read_few_digits(bytes: &[u8], place: usize) -> Option<(u64, usize)>
     requires { place + 12 ≤ length bytes.now }
-    ensures number { IfSome result (λ r. (digits : List ℕ) × IsDigitsFront (drop place bytes.now) digits (drop r.1 bytes.now) × (0 < length digits) × (r.0 ≡ digits_value 10 digits)) }
+    ensures number { IfSome result (λ r. (digits : List ℕ) × IsDigitsFront (drop place bytes.now) digits (drop r.1 bytes.now) × (0 < length digits)
+        × (r.0 ≡ digits_value 10 digits)) }
     ensures bound { IfSome result (λ r. (r.0 < 1000000000000000000) × (r.1 ≤ place + 18) × (r.1 ≤ length bytes.now)) }
 {
     let (count, number) = dec2flt::read_digits(&bytes[place..place + 11], 0, 0);
@@ -55,7 +56,8 @@ pub fn read_seconds(bytes: &[u8], place: usize) -> Option<(i64, usize)>
 #[inline(always)]
 pub fn read_nanoseconds(bytes: &[u8], place: usize, nine: &mut [u8; 9]) -> Option<usize>
     requires { place + 11 ≤ length bytes.now }
-    ensures number { IfSome result (λ end. (n : ℕ) × (n < 1000000000) × (nine.new ≡ nine_digits n) × IsPartFront (drop place bytes.now) (pos n) (drop end bytes.now)) }
+    ensures number { IfSome result (λ end. (n : ℕ) × (n < 1000000000) × (nine.new ≡ nine_digits n)
+        × IsPartFront (drop place bytes.now) (pos n) (drop end bytes.now)) }
     ensures end { IfSome result (λ end. (end ≤ place + 10) × (end < length bytes.now)) }
 {
     if bytes[place] != b' ' {

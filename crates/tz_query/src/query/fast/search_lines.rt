@@ -24,7 +24,8 @@ use tz::inner::{Fields, Segment};
 /// and are 0 in the fields.
 #[inline(always)]
 fn read_line<'a>(queries: &'a [u8], nine: &mut [u8; 9]) -> Option<(Fields, &'a [u8])>
-    ensures { IfSome result (λ r. (n : ℕ) × (n < 1000000000) × (nine.new ≡ nine_digits n) × IsSearchLineFront queries.now (record r.0 { nanoseconds = n }) r.1.now) }
+    ensures { IfSome result (λ r. (n : ℕ) × (n < 1000000000) × (nine.new ≡ nine_digits n)
+        × IsSearchLineFront queries.now (record r.0 { nanoseconds = n }) r.1.now) }
 {
     if queries.len() < 64 || queries[0] != b'F' || queries[1] != b' ' {
         return None;
@@ -103,7 +104,8 @@ pub fn answer_search_line<'a>(
     requires tails { types_of tails.now ≡ numbered_types (zone_of zone) }
     requires offsets { AreOffsetsOf (zone_of zone) offsets.0 offsets.1 }
     requires order { offsets.0 ≤ℤ offsets.1 }
-    ensures some { IfSome result (λ r. (r.0 ≤ at + 130) × ((text : List ℕ) × (answer : List (List ℕ)) × IsFirstLine queries.now text r.1.now × IsAnswer (zone_of zone.entry) text answer × (take r.0 page.new ≡ take at page.old ++ ended answer))) }
+    ensures some { IfSome result (λ r. (r.0 ≤ at + 130) × ((text : List ℕ) × (answer : List (List ℕ)) × IsFirstLine queries.now text r.1.now
+        × IsAnswer (zone_of zone.entry) text answer × (take r.0 page.new ≡ take at page.old ++ ended answer))) }
     ensures none { IfNone result (take at page.new ≡ take at page.old) }
     ensures kept { IsSegmentOf (zone_of zone.entry) kept.new }
 {

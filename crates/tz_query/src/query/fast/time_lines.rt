@@ -106,7 +106,8 @@ pub fn answer_time_line<'a>(
     requires room { at ≤ 1979 }
     requires kept { IsSegmentOf (zone_of zone) kept.old }
     requires tails { types_of tails.now ≡ numbered_types (zone_of zone) }
-    ensures some { IfSome result (λ r. (r.0 ≤ at + 61) × ((text : List ℕ) × (answer : List (List ℕ)) × IsFirstLine queries.now text r.1.now × IsAnswer (zone_of zone.entry) text answer × (take r.0 page.new ≡ take at page.old ++ ended answer))) }
+    ensures some { IfSome result (λ r. (r.0 ≤ at + 61) × ((text : List ℕ) × (answer : List (List ℕ)) × IsFirstLine queries.now text r.1.now
+        × IsAnswer (zone_of zone.entry) text answer × (take r.0 page.new ≡ take at page.old ++ ended answer))) }
     ensures none { IfNone result (take at page.new ≡ take at page.old) }
     ensures kept { IsSegmentOf (zone_of zone.entry) kept.new }
 {
