@@ -1,16 +1,16 @@
 -- A line on a page is its front, its nanoseconds and its end, each copied whole.
-use Rattle.std.proofs.Common.{◌≡◌, ℕ, zero, suc, get_or, ◌+◌, ◌-◌, ◌/◌, ◌%◌, ◌<◌, ◌≤◌, List, [], ◌∷◌, ◌++◌, length, take, drop, map, refl, sym, ap, ◌∙◌, subst, arith, rules, append_assoc, append-nil, length-append, ℤ, pos, ◌+ℤ◌, inl, inr}
-use Rattle.std.specs.Prelude.{slice_get, Some, codes}
+use Rattle.std.proofs.Common.{◌≡◌, ℕ, zero, suc, get_or, ◌+◌, ◌/◌, ◌%◌, ◌<◌, ◌≤◌, List, [], ◌∷◌, ◌++◌, length, take, drop, refl, sym, ap, ◌∙◌, subst, arith, append_assoc, length-append, ℤ, pos, ◌+ℤ◌, inl}
+use Rattle.std.specs.Prelude.{slice_get, Some}
 use Rattle.std.proofs.lemmas.List.{length-take-le, take-append-le}
 use Rattle.std.proofs.Math.Seq.{take-append-add}
 use Rattle.std.proofs.lemmas.Slice.{take-put_mid}
 use Rattle.tz_base.specs.declared.calendar.Fields.{Fields}
-use Rattle.tz_base.specs.Fields.{IsCivil, IsValid, IsInRange, IsReading, reading}
+use Rattle.tz_base.specs.Fields.{IsCivil, IsReading}
 use Rattle.tz_rule.specs.LocalTimeType.{LocalTimeType}
 use Rattle.tz_zone.specs.Table.{Zone}
 use Rattle.tz_zone.specs.Clock.{IsClock}
 use Rattle.tz.specs.PrintedText.{two_digits, nine_digits, date_text, time_text, offset_text, printed_text}
-use Rattle.tz.specs.DateTimes.{DateTime, IsDateTime, ShowsInstant, ShowsByClock}
+use Rattle.tz.specs.DateTimes.{DateTime}
 use Rattle.tz.proofs.PrintedLemmas.{two_digits-below, decimal-four}
 use Rattle.tz_query.specs.Answers.{name_text, moment_text, IsTimeAnswer}
 use Rattle.tz_query.specs.Pages.{front_text, end_text}

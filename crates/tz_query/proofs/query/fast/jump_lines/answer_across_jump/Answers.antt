@@ -1,5 +1,5 @@
 -- The two segments hold the window.
-use Rattle.std.proofs.Common.{◌≤ℤ◌, ◌<ℤ◌, to_z, of_z, refl, arith, rules}
+use Rattle.std.proofs.Common.{◌≤ℤ◌, ◌<ℤ◌, to_z, of_z, arith, rules}
 use Rattle.std.proofs.lemmas.Int.{ints, to_z-of_z}
 use mir.Syntax.{w64}
 use mir.Val.{SFits}

@@ -1,5 +1,5 @@
 -- A plain number, or one with a minus.
-use Rattle.std.proofs.Common.{◌≡◌, ◌+◌, ◌<◌, ◌∷◌, length, drop, pos, neg_ℤ, ◌-ℤ◌, to_z, of_z, sym, ap, ◌∙◌, arith, rules, subst}
+use Rattle.std.proofs.Common.{◌≡◌, ◌+◌, ◌∷◌, drop, pos, neg_ℤ, ◌-ℤ◌, to_z, of_z, ap, ◌∙◌, arith, subst}
 use Rattle.std.specs.Str.Parse.{digits_value}
 use Rattle.std.proofs.lemmas.Int.{ints}
 use mir.Syntax.{w64}

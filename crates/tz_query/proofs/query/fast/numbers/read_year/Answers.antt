@@ -1,5 +1,5 @@
 -- Four digits stand before a space.
-use Rattle.std.proofs.Common.{◌≡◌, ◌+◌, ◌*◌, ◌<◌, [], ◌∷◌, length, drop, get_or, refl, sym, ap, ◌∙◌, arith}
+use Rattle.std.proofs.Common.{◌≡◌, ◌+◌, [], ◌∷◌, drop, get_or, refl, ap, ◌∙◌, arith}
 use Rattle.tz_query.proofs.FastNumbers.{byte_at, front_before_space}
 use Rattle.tz_query.proofs.query.fast.numbers.read_year.Goals as goal
 

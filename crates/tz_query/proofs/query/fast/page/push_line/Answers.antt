@@ -1,5 +1,5 @@
 -- The three pieces make the line.
-use Rattle.std.proofs.Common.{◌≡◌, ◌+◌, ◌-◌, ◌≤◌, ◌++◌, take, length, ap, ◌∙◌, sym, arith, rules}
+use Rattle.std.proofs.Common.{◌≡◌, ◌+◌, ◌-◌, ◌≤◌, ◌++◌, take, length, ap, ◌∙◌, arith, rules}
 use Rattle.tz_query.specs.Pages.{end_text}
 use Rattle.tz_query.proofs.PageLemmas.{three_pieces}
 use Rattle.tz_query.proofs.query.fast.page.push_line.Goals as goal

@@ -1,10 +1,10 @@
 -- `F`, seven numbers and LF stand in front.
-use Rattle.std.proofs.Common.{◌≡◌, ◌+◌, ◌^◌, ◌<◌, pos, [], ◌∷◌, length, drop, inl, refl, sym, to_z, of_z, subst, arith, rules}
+use Rattle.std.proofs.Common.{◌≡◌, ◌+◌, ◌<◌, pos, length, drop, inl, refl, sym, to_z, of_z, subst, arith, rules}
 use Rattle.std.proofs.lemmas.Int.{ints}
 use Rattle.std.proofs.lemmas.List.{take_rest}
 use mir.Syntax.{w32}
 use Rattle.tz_base.specs.declared.calendar.Fields.{Fields}
-use Rattle.tz_query.specs.Numbers.{IsPartFront, ArePartsFront}
+use Rattle.tz_query.specs.Numbers.{ArePartsFront}
 use Rattle.tz_query.specs.Queries.{AreFieldsOfBits, numbers_of, IsSearchLineFront}
 use Rattle.tz_query.proofs.FastNumbers.{byte_at}
 use Rattle.tz_query.proofs.LineLemmas.{line_from_front}

@@ -1,5 +1,5 @@
 -- The end has the type of the segment.
-use Rattle.std.proofs.Common.{◌≡◌, ◌≤ℤ◌, ◌<ℤ◌, ap, ◌∙◌, sym, subst, rules}
+use Rattle.std.proofs.Common.{ap, ◌∙◌, sym, subst}
 use Rattle.std.specs.Prelude.{slice_get}
 use Rattle.tz_zone.specs.ZoneRef.{zone_of}
 use Rattle.tz_zone.specs.Segments.{IsStretch}

@@ -1,10 +1,9 @@
 -- The line asks for an instant, and the clock shows it.
-use Rattle.std.proofs.Common.{◌≡◌, ◌+◌, ℤ, ◌+ℤ◌, pos, [], ◌∷◌, ◌++◌, take, inl, refl, sym, ap, ◌∙◌, subst, arith, rules}
+use Rattle.std.proofs.Common.{◌≡◌, ◌+ℤ◌, [], ◌∷◌, ◌++◌, take, inl, refl, ap, ◌∙◌, rules}
 use Rattle.std.proofs.lemmas.Int.{to_z-of_z}
 use mir.Syntax.{w32, w64}
 use mir.Val.{SFits}
 use Rattle.tz_base.specs.Fields.{IsCivil, IsReading}
-use Rattle.tz_zone.specs.Clock.{IsClock}
 use Rattle.tz_zone.specs.ZoneRef.{zone_of}
 use Rattle.tz.specs.PrintedText.{nine_digits}
 use Rattle.tz_query.specs.Pages.{front_text, end_text}

@@ -1,5 +1,5 @@
 -- `T`, two numbers and LF stand in front.
-use Rattle.std.proofs.Common.{◌≡◌, ◌+◌, ◌^◌, ◌<◌, pos, [], ◌∷◌, length, drop, inl, refl, sym, subst, arith, rules}
+use Rattle.std.proofs.Common.{◌+◌, ◌^◌, ◌<◌, pos, [], ◌∷◌, length, drop, inl, refl, sym, subst, arith, rules}
 use Rattle.std.proofs.lemmas.Int.{to_z-of_z}
 use Rattle.std.proofs.lemmas.List.{take_rest}
 use mir.Syntax.{w64}

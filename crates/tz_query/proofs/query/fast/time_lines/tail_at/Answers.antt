@@ -1,8 +1,6 @@
 -- The end has the type of the segment.
-use Rattle.std.proofs.Common.{◌≡◌, ◌≤ℤ◌, ◌<ℤ◌, ap, ◌∙◌, sym, subst, rules}
+use Rattle.std.proofs.Common.{◌≤ℤ◌, ◌<ℤ◌, ap, ◌∙◌, sym, subst, rules}
 use Rattle.std.specs.Prelude.{slice_get}
-use Rattle.std.proofs.lemmas.Int.{to_z-of_z}
-use mir.Syntax.{w64}
 use Rattle.tz_zone.specs.ZoneRef.{zone_of}
 use Rattle.tz_zone.specs.Clock.{IsClock}
 use Rattle.tz_query.proofs.PageLemmas.{tail_type}
