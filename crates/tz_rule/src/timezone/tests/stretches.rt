@@ -16,15 +16,15 @@ fn is_daylight_at(rule: &AlternateTime, unix_time: i64) -> Option<bool> {
 
 /// Whether the rule has the stretch's type at its ends and at instants between them, and the other type before it and after it.
 fn is_one_span(rule: &AlternateTime, stretch: &Stretch) -> bool {
-    let length = stretch.until - stretch.from;
+    let step = stretch.until.wrapping_sub(stretch.from) / 8;
     for part in 0..8i64 {
-        let unix_time = stretch.from + part * length / 8;
+        let unix_time = stretch.from.wrapping_add(step.wrapping_mul(part));
         if is_daylight_at(rule, unix_time) != Some(stretch.is_daylight) {
             return false;
         }
     }
-    is_daylight_at(rule, stretch.until - 1) == Some(stretch.is_daylight)
-        && is_daylight_at(rule, stretch.from - 1) == Some(!stretch.is_daylight)
+    is_daylight_at(rule, stretch.until.wrapping_sub(1)) == Some(stretch.is_daylight)
+        && is_daylight_at(rule, stretch.from.wrapping_sub(1)) == Some(!stretch.is_daylight)
         && is_daylight_at(rule, stretch.until) == Some(!stretch.is_daylight)
 }
 
@@ -45,7 +45,7 @@ fn are_right_in(rule: &AlternateTime, year: i32, need_not_be_found: bool) -> boo
     };
     for instant in [inner::start(rule, year), inner::end(rule, year), new_year] {
         for distance in [-1_728_000i64, -86_400, -1, 0, 1, 86_400, 1_728_000] {
-            if !is_right(rule, instant + distance, need_not_be_found) {
+            if !is_right(rule, instant.wrapping_add(distance), need_not_be_found) {
                 return false;
             }
         }
@@ -64,7 +64,11 @@ fn are_right(rule: Result<AlternateTime, Refusal>, need_not_be_found: bool) -> b
         }
     }
     for step in 0..40i32 {
-        if !are_right_in(&rule, 91_234_567 * (step - 20), need_not_be_found) {
+        if !are_right_in(
+            &rule,
+            step.wrapping_sub(20).wrapping_mul(91_234_567),
+            need_not_be_found,
+        ) {
             return false;
         }
     }
