@@ -4,7 +4,7 @@ use crate::query::answers::{answer, answer_line};
 use std::alloc::Global;
 use std::process::Abort;
 use std::test::Fail;
-use tz::inner::{Fields, TextBuffer};
+use tz::inner::{Fields, TextBuffer, is_reading};
 use tz::timezone::{
     AlternateTime, Julian0WithLeap, Julian1WithoutLeap, LeapSecond, MonthWeekDay, RuleDay,
     Transition, TransitionRule,
@@ -196,7 +196,11 @@ fn push_lines_around(
             -10_800, -7201, -3601, -1801, -901, -2, -1, 0, 1, 2, 899, 1799, 3599, 3600, 7199,
             10_800,
         ] {
-            let fields = Fields::from_reading(unix_time + *offset + distance, 0);
+            let reading = unix_time.wrapping_add(*offset).wrapping_add(distance);
+            if !is_reading(reading) {
+                continue;
+            }
+            let fields = Fields::from_reading(reading, 0);
             let (year, month, month_day) = (fields.year, fields.month, fields.month_day);
             let (hour, minute, second) = (fields.hour, fields.minute, fields.second);
             let line = format!(in alloc;
