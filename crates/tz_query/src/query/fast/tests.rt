@@ -270,11 +270,12 @@ fn lines_around_many_jumps_are_answered_alike(rt: HostRuntime) -> Result<(), Fai
         LocalTimeType::new(1800, false, Some(b"Half"))?,
         LocalTimeType::new(-900, false, Some(b"Back"))?,
     ];
-    for apart in [600, 1799, 1800, 1801, 2699, 2700, 2701, 3000] {
+    for apart in [600i64, 1799, 1800, 1801, 2699, 2700, 2701, 3000] {
         let mut transitions = Vec::new(rt.alloc());
         for place in 0..12u8 {
             let number = usize::from(place) % 3;
-            transitions.push(Transition::new(1_000_000 + i64::from(place) * apart, number))?;
+            let unix_time = apart.wrapping_mul(i64::from(place)).wrapping_add(1_000_000);
+            transitions.push(Transition::new(unix_time, number))?;
         }
         let zone = TimeZoneRef::new(&transitions, &types, &[], &None)?;
         let mut queries = Vec::new(rt.alloc());
@@ -282,7 +283,7 @@ fn lines_around_many_jumps_are_answered_alike(rt: HostRuntime) -> Result<(), Fai
             push_lines_around(
                 rt.alloc(),
                 &mut queries,
-                1_000_000 + place * apart,
+                apart.wrapping_mul(place).wrapping_add(1_000_000),
                 &[0, 1800],
             )?;
         }
