@@ -358,6 +358,3 @@ impl TextBuffer {
         self.push_date_time(date_time.fields(), date_time.local_time_type().ut_offset());
     }
 }
-
-#[cfg(test)]
-mod tests;

@@ -316,6 +316,3 @@ pub fn timespec(total: i128) -> Option<(i64, u32)>
     let seconds = i64::try_from(seconds).ok()?;
     Some((seconds, nanoseconds))
 }
-
-#[cfg(test)]
-mod tests;

@@ -71,6 +71,3 @@ pub const OFFSET_YEAR: i64 = 2000;
 pub const DAY_IN_MONTHS_LEAP_YEAR_FROM_MARCH: [i64; 12] = [
     31, 30, 31, 30, 31, 31, 30, 31, 30, 31, 31, 29,
 ];
-
-#[cfg(test)]
-mod tests;

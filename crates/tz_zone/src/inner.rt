@@ -16,6 +16,7 @@ mod transitions;
 
 use crate::partition::{Places, partition_point};
 use crate::timezone::LeapSecond;
+pub use crate::timezone::file::read_to_end;
 pub use lookup::{find_local_time_type, other_parts, type_of_last};
 pub use parts::OtherParts;
 pub use reached::{transitions_reached, transitions_reached_between};
@@ -304,6 +305,3 @@ pub fn effect(leap_seconds: &[LeapSecond], unix_leap_time: i64) -> Result<i64, T
         Err(error) => Err(error),
     }
 }
-
-#[cfg(test)]
-mod tests;

@@ -64,6 +64,3 @@ pub enum ReadFault {
     #[error(transparent)]
     Failed(anyhow::Error),
 }
-
-#[cfg(test)]
-mod tests;

@@ -248,7 +248,7 @@ pub fn answer_search<A: Allocator + Copy>(
 }
 
 /// Appends the answer lines of the first line, and returns the bytes after that line.
-pub(super) fn answer_line<'a, A: Allocator + Copy>(
+pub fn answer_line<'a, A: Allocator + Copy>(
     alloc: A,
     answers: &mut Vec<u8, A>,
     line: &mut TextBuffer,

@@ -1,6 +1,6 @@
 //! Queries, a line each, and their answers.
 
-mod answers;
+pub(crate) mod answers;
 mod fast;
 mod lines;
 mod meetings;
@@ -14,6 +14,3 @@ pub use answers::answer;
 pub use program::tool;
 pub use streams::{RunFault, run};
 pub use tzif::answer_tzif;
-
-#[cfg(test)]
-mod tests;

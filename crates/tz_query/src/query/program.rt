@@ -205,6 +205,3 @@ where
         }
     }
 }
-
-#[cfg(test)]
-mod tests;

@@ -98,6 +98,3 @@ pub fn run<A: Allocator + Copy, R: Read, W: Write>(
     };
     write_all(out, &answers)
 }
-
-#[cfg(test)]
-mod tests;

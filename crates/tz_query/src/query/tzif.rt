@@ -33,6 +33,3 @@ pub fn answer_tzif<A: Allocator + Copy>(
     let zone = TimeZone::from_tz_data(alloc, tz_bytes)?;
     answer(alloc, zone.as_ref(), queries)
 }
-
-#[cfg(test)]
-mod tests;

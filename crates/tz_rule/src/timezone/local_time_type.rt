@@ -200,6 +200,3 @@ impl LocalTimeType {
         }
     }
 }
-
-#[cfg(test)]
-mod tests;

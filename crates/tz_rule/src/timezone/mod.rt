@@ -16,6 +16,3 @@ pub use alternate::AlternateTime;
 pub use local_time_type::LocalTimeType;
 pub use rule::TransitionRule;
 pub use rule_day::{Julian0WithLeap, Julian1WithoutLeap, MonthWeekDay, RuleDay};
-
-#[cfg(test)]
-mod tests;

@@ -38,7 +38,7 @@ fn append<A: Allocator>(bytes: &mut Vec<u8, A>, piece: &[u8]) -> Result<(), Read
 }
 
 /// Reads the input to its end.
-fn read_to_end<A: Allocator, I: Read>(alloc: A, input: &mut I) -> Result<Vec<u8, A>, ReadFault>
+pub fn read_to_end<A: Allocator, I: Read>(alloc: A, input: &mut I) -> Result<Vec<u8, A>, ReadFault>
     ensures { IfOk result (λ bytes. Consumes (I.remaining input.old) (I.remaining input.new) bytes.items × IsAtEnd (I.remaining input.new)) }
 {
     let mut bytes = Vec::new(alloc);
@@ -73,6 +73,3 @@ pub fn read_file<R: Files>(rt: &R, alloc: Global, path: &str) -> Result<Vec<u8>,
     let mut file = open(rt, path)?;
     read_to_end(alloc, &mut file)
 }
-
-#[cfg(test)]
-mod tests;

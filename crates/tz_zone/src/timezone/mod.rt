@@ -1,7 +1,7 @@
 //! Transitions, leap seconds and time zones.
 
 mod checks;
-mod file;
+pub(crate) mod file;
 mod leap_second;
 mod settings;
 mod transition;

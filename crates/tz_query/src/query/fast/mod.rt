@@ -9,6 +9,4 @@ pub mod page;
 pub mod search_lines;
 pub mod tail;
 pub mod tails;
-#[cfg(test)]
-mod tests;
 pub mod time_lines;

@@ -1,0 +1,53 @@
+//! The reader of files, over the machine's files.
+
+mod failing;
+
+use std::test::Fail;
+use std::{env, fs, process};
+use tz_base::error::{Error, ReadFault};
+use tz_zone::timezone::{LocalTimeType, TimeZoneSettings, read_file};
+
+/// Some MiB, of which the last piece of 2000 bytes is not whole.
+#[test]
+fn a_file_of_the_machine_is_read_whole(rt: HostRuntime) -> Result<(), Fail> {
+    let alloc = rt.alloc();
+    let name = format!(in alloc; "tz-read-file-{}", process::id(rt.process()))?;
+    let path = env::temp_dir(&rt)?.join(alloc, name.as_str())?;
+    let mut row = Vec::new(alloc);
+    for byte in 0..251u8 {
+        row.push(byte)?;
+    }
+    let mut bytes = Vec::new(alloc);
+    for _ in 0..12_001 {
+        bytes.extend_from_slice(&row)?;
+    }
+    assert!(rt; bytes.len() % 2000 != 0);
+    fs::write(&rt, path.as_str(), bytes.as_slice())?;
+    let read = read_file(&rt, alloc, path.as_str());
+    fs::remove_file(&rt, path.as_str())?;
+    assert_eq!(rt; read?, bytes);
+    Ok(())
+}
+
+#[test]
+fn a_directory_or_no_file_is_a_fault(rt: HostRuntime) -> Result<(), Fail> {
+    let alloc = rt.alloc();
+    for path in ["/", "/no/such/file", "", "/etc\0/localtime"] {
+        let read = read_file(&rt, alloc, path);
+        assert!(rt; matches!(read, Err(ReadFault::Failed(_))), "{path}");
+    }
+    assert!(rt; read_file(&rt, alloc, "/dev/null")?.is_empty());
+    Ok(())
+}
+
+#[test]
+fn the_settings_take_it(rt: HostRuntime) -> Result<(), Fail> {
+    let alloc = rt.alloc();
+    let settings = TimeZoneSettings::new(&["/no/such"], |path: &str| read_file(&rt, alloc, path));
+    let zone = settings.parse_posix_tz(alloc, "HST10")?;
+    let types = [LocalTimeType::new(-36_000, false, Some(b"HST"))?];
+    assert_eq!(rt; zone.as_ref().local_time_types(), types.as_slice());
+    let directory = settings.parse_posix_tz(alloc, ":/");
+    assert!(rt; matches!(directory, Err(Error::Io(_))));
+    Ok(())
+}

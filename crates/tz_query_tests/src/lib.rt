@@ -1,0 +1,21 @@
+//! Tests of query lines and of the program, and examples of the crates `tz` and `tz_query`.
+#![tactic(auto)]
+
+#[cfg(test)]
+mod failing;
+#[cfg(test)]
+mod fast;
+#[cfg(test)]
+mod lines;
+#[cfg(test)]
+mod meetings;
+#[cfg(test)]
+mod program;
+#[cfg(test)]
+mod samples;
+#[cfg(test)]
+mod search;
+#[cfg(test)]
+mod streams;
+#[cfg(test)]
+mod tzif;

@@ -1,0 +1,299 @@
+//! Query lines, by rows and by another program's answers.
+
+use std::alloc::Allocator;
+use std::test::Fail;
+use tz::{LocalTimeType, TimeZone, TimeZoneRef, TzError};
+use tz_base::refusing::Refusing;
+use tz_query::query::answer;
+
+/// The answers over a fixed zone.
+fn answered<A: Allocator + Copy>(
+    alloc: A,
+    ut_offset: i32,
+    queries: &[u8],
+) -> Result<Vec<u8, A>, TzError> {
+    let zone = TimeZone::fixed(alloc, ut_offset)?;
+    answer(alloc, zone.as_ref(), queries)
+}
+
+/// Offsets with lines at the limits of their numbers, of years and of offsets, and what tz-rs answers to them.
+const LIMITS: [(i32, &str, &str); 11] = [
+    (
+        0,
+        "T 0 0\n\
+         T -1 999999999\n\
+         T 951868799 1\n\
+         T 951868800 10\n\
+         T 67767976233532799 999999999\n\
+         T 67767976233532800 0\n\
+         T -67768100567971200 0\n\
+         T -67768100567971201 999999999\n\
+         T -62135596800 0\n\
+         T -62135596801 0\n\
+         T -62167219200 0\n\
+         T -62167219201 0\n\
+         T 253402300799 999999999\n\
+         T 253402300800 0\n\
+         T 9223372036854775807 0\n\
+         T -9223372036854775808 0\n\
+         T 9223372036854775808 0\n\
+         T -9223372036854775809 0\n\
+         T 5 4294967296\n\
+         T 5 -1\n\
+         T -0 -000\n\
+         T 4107542400 0\n\
+         T 4107542399 0\n\
+         T 68169600 0\n",
+        "1970-01-01T00:00:00.000000000Z -\n\
+         1969-12-31T23:59:59.999999999Z -\n\
+         2000-02-29T23:59:59.000000001Z -\n\
+         2000-03-01T00:00:00.000000010Z -\n\
+         2147483647-12-31T23:59:59.999999999Z -\n\
+         E OutOfRange\n\
+         -2147483648-01-01T00:00:00.000000000Z -\n\
+         E OutOfRange\n\
+         1-01-01T00:00:00.000000000Z -\n\
+         0-12-31T23:59:59.000000000Z -\n\
+         0-01-01T00:00:00.000000000Z -\n\
+         -1-12-31T23:59:59.000000000Z -\n\
+         9999-12-31T23:59:59.999999999Z -\n\
+         10000-01-01T00:00:00.000000000Z -\n\
+         E OutOfRange\n\
+         E OutOfRange\n\
+         E Line\n\
+         E Line\n\
+         E Line\n\
+         E Line\n\
+         1970-01-01T00:00:00.000000000Z -\n\
+         2100-03-01T00:00:00.000000000Z -\n\
+         2100-02-28T23:59:59.000000000Z -\n\
+         1972-02-29T00:00:00.000000000Z -\n",
+    ),
+    (
+        3600,
+        "T 67767976233529199 0\n\
+         T 67767976233529200 0\n\
+         T -67768100567974800 0\n\
+         T -67768100567974801 0\n\
+         T -3600 0\n\
+         T 1078012799 123456789\n\
+         T 1078012800 0\n",
+        "2147483647-12-31T23:59:59.000000000+01:00 -\n\
+         E OutOfRange\n\
+         -2147483648-01-01T00:00:00.000000000+01:00 -\n\
+         E OutOfRange\n\
+         1970-01-01T00:00:00.000000000+01:00 -\n\
+         2004-02-29T00:59:59.123456789+01:00 -\n\
+         2004-02-29T01:00:00.000000000+01:00 -\n",
+    ),
+    (
+        -3600,
+        "T 946684800 123456789\n\
+         T 67767976233536399 1\n\
+         T 67767976233536400 0\n\
+         T -67768100567967600 0\n\
+         T -67768100567967601 0\n",
+        "1999-12-31T23:00:00.123456789-01:00 -\n\
+         2147483647-12-31T23:59:59.000000001-01:00 -\n\
+         E OutOfRange\n\
+         -2147483648-01-01T00:00:00.000000000-01:00 -\n\
+         E OutOfRange\n",
+    ),
+    (
+        1,
+        "T -1 0\n\
+         T -2 0\n\
+         T -62167219201 0\n\
+         T 67767976233532798 0\n\
+         T 67767976233532799 0\n",
+        "1970-01-01T00:00:00.000000000+00:00:01 -\n\
+         1969-12-31T23:59:59.000000000+00:00:01 -\n\
+         0-01-01T00:00:00.000000000+00:00:01 -\n\
+         2147483647-12-31T23:59:59.000000000+00:00:01 -\n\
+         E OutOfRange\n",
+    ),
+    (
+        -1,
+        "T 1 0\n\
+         T 0 100000000\n\
+         T 0 10000000\n\
+         T 67767976233532799 0\n\
+         T -67768100567971199 0\n\
+         T -67768100567971200 0\n",
+        "1970-01-01T00:00:00.000000000-00:00:01 -\n\
+         1969-12-31T23:59:59.100000000-00:00:01 -\n\
+         1969-12-31T23:59:59.010000000-00:00:01 -\n\
+         2147483647-12-31T23:59:58.000000000-00:00:01 -\n\
+         -2147483648-01-01T00:00:00.000000000-00:00:01 -\n\
+         E OutOfRange\n",
+    ),
+    (
+        86399,
+        "T 1 0\n\
+         T 0 0\n\
+         T -86400 0\n",
+        "1970-01-02T00:00:00.000000000+23:59:59 -\n\
+         1970-01-01T23:59:59.000000000+23:59:59 -\n\
+         1969-12-31T23:59:59.000000000+23:59:59 -\n",
+    ),
+    (
+        -34200,
+        "T 34200 0\n\
+         T 34199 999999999\n",
+        "1970-01-01T00:00:00.000000000-09:30 -\n\
+         1969-12-31T23:59:59.999999999-09:30 -\n",
+    ),
+    (
+        359999,
+        "T 0 0\n\
+         T -360000 0\n",
+        "1970-01-05T03:59:59.000000000+99:59:59 -\n\
+         1969-12-31T23:59:59.000000000+99:59:59 -\n",
+    ),
+    (
+        360000,
+        "T 0 0\n",
+        "1970-01-05T04:00:00.000000000+100:00 -\n",
+    ),
+    (
+        2147483647,
+        "T -2147483647 0\n\
+         T 67767974086049152 0\n\
+         T 67767974086049153 0\n\
+         T 9223372036854775807 0\n",
+        "1970-01-01T00:00:00.000000000+596523:14:07 -\n\
+         2147483647-12-31T23:59:59.000000000+596523:14:07 -\n\
+         E OutOfRange\n\
+         E OutOfRange\n",
+    ),
+    (
+        -2147483647,
+        "T 2147483647 0\n\
+         T -67768098420487553 0\n\
+         T -67768098420487554 0\n\
+         T -9223372036854775808 0\n",
+        "1970-01-01T00:00:00.000000000-596523:14:07 -\n\
+         -2147483648-01-01T00:00:00.000000000-596523:14:07 -\n\
+         E OutOfRange\n\
+         E OutOfRange\n",
+    ),
+];
+
+#[test]
+fn answers_at_the_limits_as_tz_rs(rt: HostRuntime) -> Result<(), Fail> {
+    for (ut_offset, queries, answers) in &LIMITS {
+        let found = answered(rt.alloc(), *ut_offset, queries.as_bytes())?;
+        assert_eq!(rt; found.as_slice(), answers.as_bytes());
+    }
+    Ok(())
+}
+
+#[test]
+fn refuses_by_name(rt: HostRuntime) -> Result<(), Fail> {
+    let queries =
+        b"T 0\nT 0 1000000000\nF 2001 300 1 0 0 0 0\nT 9223372036854775807 1000000000\nT 9223372036854775807 999999999\n";
+    let answers = b"E Line\nE InvalidNanoseconds\nE Line\nE InvalidNanoseconds\nE OutOfRange\n";
+    assert_eq!(rt;
+        answered(rt.alloc(), 0, queries)?.as_slice(),
+        answers.as_slice()
+    );
+    Ok(())
+}
+
+#[test]
+fn reads_only_the_grammar(rt: HostRuntime) -> Result<(), Fail> {
+    let lines = [
+        "T +1 5", "T 1  5", "T 1 5 ", "", " T 1 5", "T  1 5", "T 1 5 6", "T 1", "T", "t 1 5",
+        "T 1 5\r", "T -1 --5", "T - 5", "T 1 -", "T 1\t5", "T1 5", "T 1e3 5", "T 1 5x", "W 1 5",
+    ];
+    for line in &lines {
+        let mut queries = Vec::new(rt.alloc());
+        queries.extend_from_slice(line.as_bytes())?;
+        queries.push(b'\n')?;
+        let found = answered(rt.alloc(), 0, queries.as_slice())?;
+        assert_eq!(rt; found.as_slice(), b"E Line\n".as_slice(), "{line}");
+    }
+    let found = answered(
+        rt.alloc(),
+        0,
+        b"T 1 \xFF\n\xC3\x28\nT 1 5\0\nT 00000000000000000000001 5",
+    )?;
+    assert_eq!(rt;
+        found.as_slice(),
+        b"E Line\nE Line\nE Line\n1970-01-01T00:00:01.000000005Z -\n".as_slice()
+    );
+    Ok(())
+}
+
+#[test]
+fn cuts_lines_at_each_lf(rt: HostRuntime) -> Result<(), Fail> {
+    let epoch = b"1970-01-01T00:00:00.000000000Z -\n";
+    assert_eq!(rt; answered(rt.alloc(), 0, b"")?.len(), 0);
+    assert_eq!(rt;
+        answered(rt.alloc(), 0, b"\n")?.as_slice(),
+        b"E Line\n".as_slice()
+    );
+    assert_eq!(rt;
+        answered(rt.alloc(), 0, b"T 0 0")?.as_slice(),
+        epoch.as_slice()
+    );
+    assert_eq!(rt;
+        answered(rt.alloc(), 0, b"T 0 0\n")?.as_slice(),
+        epoch.as_slice()
+    );
+    let found = answered(rt.alloc(), 0, b"\n\nT 0 0\n\nT 0 0")?;
+    assert_eq!(rt;
+        found.as_slice(),
+        b"E Line\nE Line\n1970-01-01T00:00:00.000000000Z -\nE Line\n1970-01-01T00:00:00.000000000Z -\n".as_slice()
+    );
+    Ok(())
+}
+
+#[test]
+fn reads_a_million_digits(rt: HostRuntime) -> Result<(), Fail> {
+    let mut zeros = Vec::new(rt.alloc());
+    zeros.extend_from_slice(b"T ")?;
+    zeros.resize(1_000_000, b'0')?;
+    zeros.extend_from_slice(b"7 5\nT 0 ")?;
+    zeros.resize(2_000_000, b'9')?;
+    let found = answered(rt.alloc(), 0, zeros.as_slice())?;
+    assert_eq!(rt;
+        found.as_slice(),
+        b"1970-01-01T00:00:07.000000005Z -\nE Line\n".as_slice()
+    );
+    Ok(())
+}
+
+#[test]
+fn prints_the_name_of_the_type(rt: HostRuntime) -> Result<(), Fail> {
+    let types = [LocalTimeType::new(20700, false, Some(b"+0545"))?];
+    let rule = None;
+    let zone = TimeZoneRef::new(&[], &types, &[], &rule)?;
+    let found = answer(rt.alloc(), zone, b"T 0 0\n")?;
+    assert_eq!(rt;
+        found.as_slice(),
+        b"1970-01-01T05:45:00.000000000+05:45 +0545\n".as_slice()
+    );
+    Ok(())
+}
+
+#[test]
+fn refused_memory_changes_no_answer(rt: HostRuntime) -> Result<(), Fail> {
+    let queries = b"T 946684800 123456789\nT 0\n";
+    let answers = b"1999-12-31T23:00:00.123456789-01:00 -\nE Line\n";
+    let mut refusals = 0u64;
+    for left in 0..20u64 {
+        let heap = Refusing::new(rt.alloc(), left);
+        match answered(&heap, -3600, queries) {
+            Ok(found) => assert_eq!(rt; found.as_slice(), answers.as_slice()),
+            Err(error) => {
+                assert!(rt; matches!(error, TzError::Memory(_)));
+                refusals = left + 1;
+            }
+        }
+        assert_eq!(rt; heap.refused(), u64::from(left < refusals));
+    }
+    assert!(rt; refusals > 1);
+    assert!(rt; refusals < 20);
+    Ok(())
+}

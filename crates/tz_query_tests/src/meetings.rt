@@ -1,0 +1,100 @@
+//! `W` lines over zones whose answers are known.
+
+use crate::samples::central_europe;
+use std::test::Fail;
+use tz::{TimeZoneRef, TzError, UtcDateTime};
+use tz_base::refusing::Refusing;
+use tz_query::query::answer;
+
+/// Three weeks over a jump of the clock of Central Europe, and their answer.
+const OVER_A_JUMP: &str = "W 3 2000 3 19 2 30 0 0";
+
+const JUMPED: &str = "W 3\n\
+    F 1\n\
+    N 2000-03-19T02:30:00.000000000+01:00 CET\n\
+    F 1\n\
+    S 2000-03-26T02:00:00.000000000+01:00 CET 2000-03-26T03:00:00.000000000+02:00 CEST\n\
+    F 1\n\
+    N 2000-04-02T02:30:00.000000000+02:00 CEST\n";
+
+#[test]
+fn a_meeting_keeps_its_time_of_day_over_a_jump(rt: HostRuntime) -> Result<(), Fail> {
+    let zone = central_europe(rt.alloc())?;
+    let found = answer(rt.alloc(), zone.as_ref(), OVER_A_JUMP.as_bytes())?;
+    assert_eq!(rt; found.as_slice(), JUMPED.as_bytes());
+    Ok(())
+}
+
+#[test]
+fn meetings_have_these_answers(rt: HostRuntime) -> Result<(), Fail> {
+    let rows = [
+        (
+            "W 2 2016 12 31 23 59 60 0",
+            "W 2\nF 1\nN 2016-12-31T23:59:60.000000000Z -\nF 1\nN 2017-01-07T23:59:60.000000000Z -\n",
+        ),
+        ("W 0 2001 2 28 0 0 0 0", "W 0\n"),
+        ("W 003 2001 13 1 0 0 0 0", "E InvalidMonth\n"),
+        (
+            "W 001 2001 2 22 0 0 0 7",
+            "W 1\nF 1\nN 2001-02-22T00:00:00.000000007Z -\n",
+        ),
+        ("W 0 2001 2 29 0 0 0 0", "E InvalidMonthDay\n"),
+        ("W 1 2001 2 28 0 0 61 0", "E InvalidSecond\n"),
+        ("W 1 2001 2 29 0 0 60 0", "E InvalidMonthDay\n"),
+        ("W 256 2001 2 28 0 0 0 0", "E Line\n"),
+        ("W -1 2001 2 28 0 0 0 0", "E Line\n"),
+        ("W 2001 2 28 0 0 0 0", "E Line\n"),
+        (
+            "W 2 2147483647 12 31 0 0 0 0",
+            "W 2\nF 1\nN 2147483647-12-31T00:00:00.000000000Z -\nE OutOfRange\n",
+        ),
+        ("W 1 2147483647 12 31 23 59 60 0", "W 1\nE OutOfRange\n"),
+        (
+            "W 1 -2147483648 1 1 0 0 0 0",
+            "W 1\nF 1\nN -2147483648-01-01T00:00:00.000000000Z -\n",
+        ),
+    ];
+    for (line, want) in &rows {
+        let found = answer(rt.alloc(), TimeZoneRef::utc(), line.as_bytes())?;
+        assert_eq!(rt; found.as_slice(), want.as_bytes(), "{line}");
+    }
+    Ok(())
+}
+
+#[test]
+fn the_longest_meeting_is_asked_for_week_by_week(rt: HostRuntime) -> Result<(), Fail> {
+    let zone = central_europe(rt.alloc())?;
+    let mut want = Vec::from_slice(rt.alloc(), b"W 255\n")?;
+    for weeks in 0..255u8 {
+        let date = UtcDateTime::from_timespec(941_328_000 + 604_800 * i64::from(weeks), 0)?;
+        let (year, month, day) = (date.year(), date.month(), date.month_day());
+        let line = format!(in rt.alloc(); "F {year} {month} {day} 2 30 0 0")?;
+        let answers = answer(rt.alloc(), zone.as_ref(), line.as_bytes())?;
+        want.extend_from_slice(&answers)?;
+    }
+    let found = answer(rt.alloc(), zone.as_ref(), b"W 255 1999 10 31 2 30 0 0")?;
+    assert_eq!(rt; found.as_slice(), want.as_slice());
+    Ok(())
+}
+
+#[test]
+fn each_growth_of_a_meeting_can_be_refused(rt: HostRuntime) -> Result<(), Fail> {
+    let zone = central_europe(rt.alloc())?;
+    let mut refusals = 0u64;
+    for left in 0..40u64 {
+        let heap = Refusing::new(rt.alloc(), left);
+        match answer(&heap, zone.as_ref(), OVER_A_JUMP.as_bytes()) {
+            Ok(found) => assert_eq!(rt; found.as_slice(), JUMPED.as_bytes()),
+            Err(error) => {
+                assert!(rt; matches!(error, TzError::Memory(_)), "after {left}");
+                refusals = left + 1;
+            }
+        }
+        assert_eq!(rt;
+            (heap.refused(), heap.held()),
+            (u64::from(left < refusals), 0)
+        );
+    }
+    assert!(rt; (4..40).contains(&refusals));
+    Ok(())
+}

@@ -1,0 +1,386 @@
+//! `F` lines over zones whose answers are known.
+
+use crate::samples::{JERUSALEM_V3, central_europe};
+use std::alloc::{Allocator, Global};
+use std::process::Abort;
+use std::test::Fail;
+use tz::timezone::{
+    AlternateTime, Julian0WithLeap, Julian1WithoutLeap, LeapSecond, RuleDay, Transition,
+    TransitionRule,
+};
+use tz::{LocalTimeType, TimeZone, TimeZoneRef, TzError};
+use tz_base::refusing::Refusing;
+use tz_query::query::answer;
+
+/// The queries have these answers.
+fn expect_answers(
+    rt: &impl Abort,
+    alloc: Global,
+    zone: TimeZoneRef<'_>,
+    queries: &str,
+    answers: &str,
+) -> Result<(), TzError> {
+    let found = answer(alloc, zone, queries.as_bytes())?;
+    assert_eq!(rt; found.as_slice(), answers.as_bytes());
+    Ok(())
+}
+
+/// The queries have these answers over the zone of one rule alone.
+fn expect_answers_by_rule(
+    rt: &impl Abort,
+    alloc: Global,
+    rule: AlternateTime,
+    queries: &str,
+    answers: &str,
+) -> Result<(), TzError> {
+    let types = [*rule.std(), *rule.dst()];
+    let rule = Some(TransitionRule::Alternate(rule));
+    let zone = TimeZoneRef::new(&[], &types, &[], &rule)?;
+    expect_answers(rt, alloc, zone, queries, answers)
+}
+
+/// The rule of `EST5EDT,0/0,J365/25`.
+fn always_eastern_daylight() -> Result<AlternateTime, TzError> {
+    let rule = AlternateTime::new(
+        LocalTimeType::new(-18_000, false, Some(b"EST"))?,
+        LocalTimeType::new(-14_400, true, Some(b"EDT"))?,
+        RuleDay::Julian0WithLeap(Julian0WithLeap::new(0)?),
+        0,
+        RuleDay::Julian1WithoutLeap(Julian1WithoutLeap::new(365)?),
+        90_000,
+    )?;
+    Ok(rule)
+}
+
+/// A rule whose daylight time goes on over the end of the year.
+fn overlapping_years() -> Result<AlternateTime, TzError> {
+    let rule = AlternateTime::new(
+        LocalTimeType::new(0, false, Some(b"A"))?,
+        LocalTimeType::new(3600, true, Some(b"B"))?,
+        RuleDay::Julian1WithoutLeap(Julian1WithoutLeap::new(1)?),
+        0,
+        RuleDay::Julian1WithoutLeap(Julian1WithoutLeap::new(365)?),
+        172_800,
+    )?;
+    Ok(rule)
+}
+
+#[test]
+fn a_rule_skips_and_repeats_an_hour(rt: HostRuntime) -> Result<(), Fail> {
+    let zone = central_europe(rt.alloc())?;
+    expect_answers(
+        &rt,
+        rt.alloc(),
+        zone.as_ref(),
+        "F 2000 3 26 2 30 0 0\n\
+         F 2000 10 29 2 30 0 0\n\
+         F 2000 7 1 12 0 0 5\n",
+        "F 1\n\
+         S 2000-03-26T02:00:00.000000000+01:00 CET 2000-03-26T03:00:00.000000000+02:00 CEST\n\
+         F 2\n\
+         N 2000-10-29T02:30:00.000000000+02:00 CEST\n\
+         N 2000-10-29T02:30:00.000000000+01:00 CET\n\
+         F 1\n\
+         N 2000-07-01T12:00:00.000000005+02:00 CEST\n",
+    )?;
+    Ok(())
+}
+
+#[test]
+fn a_rule_for_all_the_year_never_jumps(rt: HostRuntime) -> Result<(), Fail> {
+    expect_answers_by_rule(
+        &rt,
+        rt.alloc(),
+        always_eastern_daylight()?,
+        "F 2000 1 1 0 30 0 0\n",
+        "F 1\nN 2000-01-01T00:30:00.000000000-04:00 EDT\n",
+    )?;
+    expect_answers_by_rule(
+        &rt,
+        rt.alloc(),
+        overlapping_years()?,
+        "F 2001 1 1 0 30 0 0\n",
+        "F 1\nN 2001-01-01T00:30:00.000000000+01:00 B\n",
+    )?;
+    Ok(())
+}
+
+#[test]
+fn transitions_of_a_day(rt: HostRuntime) -> Result<(), Fail> {
+    let types = [
+        LocalTimeType::new(0, false, Some(b"STD"))?,
+        LocalTimeType::new(3600, true, Some(b"DST"))?,
+    ];
+    let transitions = [
+        Transition::new(3600, 1),
+        Transition::new(86_400, 0),
+        Transition::new(i64::MAX, 0),
+    ];
+    let rule = None;
+    let zone = TimeZoneRef::new(&transitions, &types, &[], &rule)?;
+    expect_answers(
+        &rt,
+        rt.alloc(),
+        zone,
+        "F 1970 1 2 0 30 0 0\n\
+         F 1970 1 1 1 30 0 0\n",
+        "F 2\n\
+         N 1970-01-02T00:30:00.000000000+01:00 DST\n\
+         N 1970-01-02T00:30:00.000000000Z STD\n\
+         F 1\n\
+         S 1970-01-01T01:00:00.000000000Z STD 1970-01-01T02:00:00.000000000+01:00 DST\n",
+    )?;
+    Ok(())
+}
+
+#[test]
+fn jumps_that_cross(rt: HostRuntime) -> Result<(), Fail> {
+    let types = [
+        LocalTimeType::with_ut_offset(0)?,
+        LocalTimeType::with_ut_offset(3600)?,
+        LocalTimeType::with_ut_offset(-10_800)?,
+        LocalTimeType::with_ut_offset(-19_800)?,
+        LocalTimeType::with_ut_offset(-16_200)?,
+    ];
+    let transitions = [
+        Transition::new(0, 0),
+        Transition::new(7200, 1),
+        Transition::new(14_400, 2),
+        Transition::new(25_200, 3),
+        Transition::new(28_800, 4),
+        Transition::new(32_400, 0),
+    ];
+    let rule = None;
+    let zone = TimeZoneRef::new(&transitions, &types, &[], &rule)?;
+    expect_answers(
+        &rt,
+        rt.alloc(),
+        zone,
+        "F 1970 1 1 2 30 0 0\nF 1970 1 1 5 0 0 0\n",
+        "F 3\n\
+         S 1970-01-01T02:00:00.000000000Z - 1970-01-01T03:00:00.000000000+01:00 -\n\
+         N 1970-01-01T02:30:00.000000000-03:00 -\n\
+         S 1970-01-01T02:30:00.000000000-05:30 - 1970-01-01T03:30:00.000000000-04:30 -\n\
+         F 0\n",
+    )?;
+    Ok(())
+}
+
+#[test]
+fn transitions_that_take_effect_at_one_instant_make_one_jump(rt: HostRuntime) -> Result<(), Fail> {
+    let types = [
+        LocalTimeType::with_ut_offset(0)?,
+        LocalTimeType::with_ut_offset(3600)?,
+        LocalTimeType::with_ut_offset(7200)?,
+    ];
+    let transitions = [Transition::new(100, 1), Transition::new(101, 2)];
+    let leap_seconds = [LeapSecond::new(100, 1)];
+    let rule = Some(TransitionRule::Fixed(types[2]));
+    let zone = TimeZoneRef::new(&transitions, &types, &leap_seconds, &rule)?;
+    expect_answers(
+        &rt,
+        rt.alloc(),
+        zone,
+        "F 1970 1 1 1 8 20 0\n",
+        "F 1\nS 1970-01-01T00:01:40.000000000Z - 1970-01-01T02:01:40.000000000+02:00 -\n",
+    )?;
+    Ok(())
+}
+
+/// The rule of the zone whose second type is many years ahead.
+fn far_rule() -> Result<AlternateTime, TzError> {
+    let rule = AlternateTime::new(
+        LocalTimeType::with_ut_offset(0)?,
+        LocalTimeType::with_ut_offset(3600)?,
+        RuleDay::Julian1WithoutLeap(Julian1WithoutLeap::new(300)?),
+        0,
+        RuleDay::Julian1WithoutLeap(Julian1WithoutLeap::new(90)?),
+        3600,
+    )?;
+    Ok(rule)
+}
+
+#[test]
+fn an_offset_of_many_years(rt: HostRuntime) -> Result<(), Fail> {
+    let types = [
+        LocalTimeType::with_ut_offset(0)?,
+        LocalTimeType::with_ut_offset(i32::MAX)?,
+        LocalTimeType::with_ut_offset(3600)?,
+    ];
+    let transitions = [
+        Transition::new(0, 0),
+        Transition::new(3600, 1),
+        Transition::new(7200, 0),
+        Transition::new(10_800, 2),
+    ];
+    let rule = Some(TransitionRule::Alternate(far_rule()?));
+    let zone = TimeZoneRef::new(&transitions, &types, &[], &rule)?;
+    expect_answers(
+        &rt,
+        rt.alloc(),
+        zone,
+        "F 1970 1 1 3 30 0 0\n",
+        "F 2\n\
+         S 1970-01-01T01:00:00.000000000Z - 2038-01-19T04:14:07.000000000+596523:14:07 -\n\
+         S 1970-01-01T03:00:00.000000000Z - 1970-01-01T04:00:00.000000000+01:00 -\n",
+    )?;
+    Ok(())
+}
+
+#[test]
+fn a_file_with_a_rule(rt: HostRuntime) -> Result<(), Fail> {
+    let zone = TimeZone::from_tz_data(rt.alloc(), JERUSALEM_V3)?;
+    expect_answers(
+        &rt,
+        rt.alloc(),
+        zone.as_ref(),
+        "F 2040 3 23 2 30 0 0\nT 2216073600 0\n",
+        "F 1\n\
+         S 2040-03-23T02:00:00.000000000+02:00 IST 2040-03-23T03:00:00.000000000+03:00 IDT\n\
+         2040-03-23T03:00:00.000000000+03:00 IDT\n",
+    )?;
+    Ok(())
+}
+
+/// A zone with transitions has no clock before its leap seconds begin.
+#[test]
+fn a_zone_whose_leap_seconds_begin_later(rt: HostRuntime) -> Result<(), Fail> {
+    let types = [
+        LocalTimeType::new(0, false, Some(b"A"))?,
+        LocalTimeType::new(3600, false, Some(b"B"))?,
+    ];
+    let transitions = [Transition::new(1_500_000_027, 1)];
+    let leap_seconds = [LeapSecond::new(1_483_228_826, 27)];
+    let rule = Some(TransitionRule::Fixed(types[1]));
+    let zone = TimeZoneRef::new(&transitions, &types, &leap_seconds, &rule)?;
+    expect_answers(
+        &rt,
+        rt.alloc(),
+        zone,
+        "T 1483228798 0\n\
+         T 1483228799 0\n\
+         T 1499999999 0\n\
+         T 1500000000 0\n\
+         F 2016 12 31 23 59 58 0\n\
+         F 2016 12 31 23 59 59 0\n\
+         F 2017 7 14 2 40 0 0\n",
+        "E OutOfRange\n\
+         2016-12-31T23:59:59.000000000Z A\n\
+         2017-07-14T02:39:59.000000000Z A\n\
+         2017-07-14T03:40:00.000000000+01:00 B\n\
+         F 0\n\
+         F 1\n\
+         N 2016-12-31T23:59:59.000000000Z A\n\
+         F 1\n\
+         S 2017-07-14T02:40:00.000000000Z A 2017-07-14T03:40:00.000000000+01:00 B\n",
+    )?;
+    Ok(())
+}
+
+#[test]
+fn fields_are_kept_or_refused_by_name(rt: HostRuntime) -> Result<(), Fail> {
+    expect_answers(
+        &rt,
+        rt.alloc(),
+        TimeZoneRef::utc(),
+        "F 2016 12 31 23 59 60 0\n\
+         T 0\n\
+         T 0 1000000000\n\
+         F 2001 300 1 0 0 0 0\n\
+         F 2001 13 1 0 0 0 0\n\
+         F 2000 -0 1 0 0 0 0\n\
+         F 2001 2 29 24 0 0 0\n\
+         F 2001 2 29 0 0 0 0\n\
+         F 2001 2 28 0 60 0 0\n\
+         F 2001 2 28 0 0 61 0\n\
+         F 2001 2 28 0 0 0 1000000000\n\
+         F -02001 0002 28 -0 -00 0 000000000000000000000000000000",
+        "F 1\n\
+         N 2016-12-31T23:59:60.000000000Z -\n\
+         E Line\n\
+         E InvalidNanoseconds\n\
+         E Line\n\
+         E InvalidMonth\n\
+         E InvalidMonth\n\
+         E InvalidHour\n\
+         E InvalidMonthDay\n\
+         E InvalidMinute\n\
+         E InvalidSecond\n\
+         E InvalidNanoseconds\n\
+         F 1\n\
+         N -2001-02-28T00:00:00.000000000Z -\n",
+    )?;
+    Ok(())
+}
+
+#[test]
+fn years_of_32_bits_are_asked_for(rt: HostRuntime) -> Result<(), Fail> {
+    expect_answers(
+        &rt,
+        rt.alloc(),
+        TimeZoneRef::utc(),
+        "F 2147483447 12 31 23 59 60 1\n\
+         F -2147483448 1 1 0 0 0 0\n\
+         F 2147483648 1 1 0 0 0 0\n\
+         F -2147483649 1 1 0 0 0 0\n",
+        "F 1\n\
+         N 2147483447-12-31T23:59:60.000000001Z -\n\
+         F 1\n\
+         N -2147483448-01-01T00:00:00.000000000Z -\n\
+         E Line\n\
+         E Line\n",
+    )?;
+    Ok(())
+}
+
+#[test]
+fn reads_only_the_grammar(rt: HostRuntime) -> Result<(), Fail> {
+    let lines = [
+        "F 2000 1 1 0 0 0",
+        "F 2000 1 1 0 0 0 0 0",
+        "F 2000 1 1 0 0 0 0 ",
+        "F 2000 1 1 0 0 0  0",
+        " F 2000 1 1 0 0 0 0",
+        "F  2000 1 1 0 0 0 0",
+        "F2000 1 1 0 0 0 0",
+        "f 2000 1 1 0 0 0 0",
+        "F +2000 1 1 0 0 0 0",
+        "F 2000 256 1 0 0 0 0",
+        "F 2000 -1 1 0 0 0 0",
+        "F 2000 1 1 0 0 0 4294967296",
+        "F 2000 1 1 0 0 0 -1",
+        "F 2000 1 1 0 0 0 0x",
+        "F 2000-1-1 0 0 0 0",
+        "F",
+    ];
+    for line in &lines {
+        let found = answer(rt.alloc(), TimeZoneRef::utc(), line.as_bytes())?;
+        assert_eq!(rt; found.as_slice(), b"E Line\n".as_slice(), "{line}");
+    }
+    Ok(())
+}
+
+/// The answers where a number of growths succeed.
+fn answered<A: Allocator + Copy>(alloc: A) -> Result<Vec<u8, A>, TzError> {
+    answer(alloc, TimeZoneRef::utc(), b"F 2000 1 1 0 0 0 0\nT 0\n")
+}
+
+#[test]
+fn refused_memory_changes_no_answer(rt: HostRuntime) -> Result<(), Fail> {
+    let answers = b"F 1\nN 2000-01-01T00:00:00.000000000Z -\nE Line\n";
+    let mut refusals = 0u64;
+    for left in 0..20u64 {
+        let heap = Refusing::new(rt.alloc(), left);
+        match answered(&heap) {
+            Ok(found) => assert_eq!(rt; found.as_slice(), answers.as_slice()),
+            Err(error) => {
+                assert!(rt; matches!(error, TzError::Memory(_)));
+                refusals = left + 1;
+            }
+        }
+        assert_eq!(rt; heap.refused(), u64::from(left < refusals));
+    }
+    assert!(rt; refusals > 1);
+    assert!(rt; refusals < 20);
+    Ok(())
+}

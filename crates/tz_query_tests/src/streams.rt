@@ -1,0 +1,112 @@
+//! Runs over streams that fail and with memory that is refused, by rows.
+
+use crate::failing::{FailingReader, FailingWriter};
+use crate::samples::central_europe;
+use std::alloc::Global;
+use std::test::Fail;
+use tz_base::refusing::Refusing;
+use tz_query::query::{RunFault, run};
+
+/// Two lines, the second without an end.
+const QUERIES: &[u8] = b"T 0 0\nF 2000 10 29 2 30 0 0";
+
+/// The answers of these queries over the zone of Central Europe.
+const ANSWERS: &str = "1970-01-01T01:00:00.000000000+01:00 CET\n\
+                       F 2\n\
+                       N 2000-10-29T02:30:00.000000000+02:00 CEST\n\
+                       N 2000-10-29T02:30:00.000000000+01:00 CET\n";
+
+/// The name of what a run answers.
+fn name(answer: &Result<(), RunFault>) -> &'static str {
+    match answer {
+        Ok(()) => "Ok",
+        Err(RunFault::Read) => "Read",
+        Err(RunFault::Memory) => "Memory",
+        Err(RunFault::Write) => "Write",
+    }
+}
+
+/// What a run returns with a reader and a writer that fail after a number of calls, and what the writer holds then, after `|`.
+fn outcome(alloc: Global, reads: u8, writes: u8, piece: usize) -> Result<String, Fail> {
+    let zone = central_europe(alloc)?;
+    let mut input = FailingReader {
+        bytes: QUERIES,
+        calls: reads,
+    };
+    let mut out = FailingWriter {
+        bytes: Vec::new(alloc),
+        piece,
+        calls: writes,
+    };
+    let answer = run(alloc, zone.as_ref(), &mut input, &mut out);
+    let written = String::from_utf8(out.bytes)?;
+    Ok(format!(in alloc; "{}|{written}", name(&answer))?)
+}
+
+#[test]
+fn all_answers_are_written_whatever_a_write_takes(rt: HostRuntime) -> Result<(), Fail> {
+    let want = format!(in rt.alloc(); "Ok|{ANSWERS}")?;
+    for piece in [1, 5, 10, 127, usize::MAX] {
+        let found = outcome(rt.alloc(), 2, u8::MAX, piece)?;
+        assert_eq!(rt; found.as_str(), want.as_str(), "{piece}");
+    }
+    Ok(())
+}
+
+#[test]
+fn a_failed_read_writes_nothing(rt: HostRuntime) -> Result<(), Fail> {
+    for reads in [0, 1] {
+        let found = outcome(rt.alloc(), reads, u8::MAX, usize::MAX)?;
+        assert_eq!(rt; found.as_str(), "Read|", "{reads}");
+    }
+    Ok(())
+}
+
+#[test]
+fn a_failed_write_leaves_a_front(rt: HostRuntime) -> Result<(), Fail> {
+    for (writes, piece, front) in [(0, usize::MAX, 0), (1, 10, 10), (3, 10, 30), (9, 0, 0)] {
+        let found = outcome(rt.alloc(), u8::MAX, writes, piece)?;
+        let want = format!(in rt.alloc(); "Write|{}", ANSWERS.get(..front).unwrap_or(""))?;
+        assert_eq!(rt; found.as_str(), want.as_str(), "{writes} writes of {piece}");
+    }
+    Ok(())
+}
+
+#[test]
+fn each_growth_can_be_refused(rt: HostRuntime) -> Result<(), Fail> {
+    let zone = central_europe(rt.alloc())?;
+    let same = central_europe(rt.alloc())?;
+    let mut refusals = 0u64;
+    for left in 0..20u64 {
+        let heap = Refusing::new(rt.alloc(), left);
+        let mut input = QUERIES;
+        let mut out = Vec::new(rt.alloc());
+        match run(&heap, zone.as_ref(), &mut input, &mut out) {
+            Ok(()) => assert_eq!(rt; out.as_slice(), ANSWERS.as_bytes()),
+            Err(fault) => {
+                assert!(rt; matches!(fault, RunFault::Memory), "after {left}");
+                assert_eq!(rt; out.len(), 0, "after {left}");
+                refusals = left + 1;
+            }
+        }
+        assert_eq!(rt;
+            (heap.refused(), heap.held()),
+            (u64::from(left < refusals), 0)
+        );
+        assert!(rt; zone == same, "after {left}");
+    }
+    assert!(rt; (3..20).contains(&refusals));
+    Ok(())
+}
+
+#[test]
+fn faults_have_the_program_s_words(rt: HostRuntime) -> Result<(), Fail> {
+    for (fault, text) in [
+        (RunFault::Read, "cannot read queries"),
+        (RunFault::Memory, "no memory"),
+        (RunFault::Write, "cannot write answers"),
+    ] {
+        assert_eq!(rt; format!(in rt.alloc(); "{fault}")?.as_str(), text);
+    }
+    Ok(())
+}

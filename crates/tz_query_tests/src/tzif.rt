@@ -1,0 +1,160 @@
+//! Answers over TZif files, by rows.
+
+use crate::samples::{JERUSALEM_V3, UTC_V1};
+use std::alloc::{AllocError, Global};
+use std::test::Fail;
+use tz::{TimeZone, TzError};
+use tz_base::refusing::Refusing;
+use tz_query::query::{answer, answer_tzif};
+
+/// The answers, or the text of the refusal.
+fn answered(alloc: Global, tz_bytes: &[u8], queries: &str) -> Result<String, Fail> {
+    Ok(match answer_tzif(alloc, tz_bytes, queries.as_bytes()) {
+        Ok(answers) => String::from_utf8(answers)?,
+        Err(error) => format!(in alloc; "refused: {error}")?,
+    })
+}
+
+/// The bytes with one of them changed.
+fn altered(alloc: Global, bytes: &[u8], place: usize, byte: u8) -> Result<Vec<u8>, AllocError> {
+    let mut other = Vec::from_slice(alloc, bytes)?;
+    if place < other.len() {
+        other[place] = byte;
+    }
+    Ok(other)
+}
+
+#[test]
+fn a_file_s_zone_answers(rt: HostRuntime) -> Result<(), Fail> {
+    let alloc = rt.alloc();
+    assert_eq!(rt; (UTC_V1.len(), JERUSALEM_V3.len()), (54, 147));
+    for (file, queries, answers) in [
+        (UTC_V1, "T 0 0\n", "1970-01-01T00:00:00.000000000Z UTC\n"),
+        (
+            JERUSALEM_V3,
+            "T 2216073600 0\nT 2216073599 0",
+            "2040-03-23T03:00:00.000000000+03:00 IDT\n2040-03-23T01:59:59.000000000+02:00 IST\n",
+        ),
+        (JERUSALEM_V3, "T 0\n", "E Line\n"),
+        (JERUSALEM_V3, "", ""),
+        // A file without a rule has no clock from its last transition on.
+        (
+            &JERUSALEM_V3[..120],
+            "T 2145916799 0\nT 2145916800 0\n",
+            "2038-01-01T01:59:59.000000000+02:00 IST\nE NoAvailableLocalTimeType\n",
+        ),
+    ] {
+        let given = answered(alloc, file, queries)?;
+        assert_eq!(rt; given.as_str(), answers, "{queries}");
+    }
+    Ok(())
+}
+
+#[test]
+fn a_cut_file_is_refused(rt: HostRuntime) -> Result<(), Fail> {
+    let alloc = rt.alloc();
+    for (file, refusal) in [
+        (
+            &JERUSALEM_V3[..146],
+            "refused: invalid TZ file: invalid footer",
+        ),
+        (
+            &JERUSALEM_V3[..119],
+            "refused: invalid TZ file: invalid footer",
+        ),
+        (
+            &JERUSALEM_V3[..118],
+            "refused: invalid TZ file: unexpected end of data",
+        ),
+        (
+            &JERUSALEM_V3[..0],
+            "refused: invalid TZ file: unexpected end of data",
+        ),
+        (
+            &UTC_V1[..53],
+            "refused: invalid TZ file: unexpected end of data",
+        ),
+    ] {
+        let given = answered(alloc, file, "T 0 0\n")?;
+        assert_eq!(rt; given.as_str(), refusal, "of {} bytes", file.len());
+    }
+    let mut longer = Vec::from_slice(alloc, UTC_V1)?;
+    longer.push(0)?;
+    let given = answered(alloc, &longer, "T 0 0\n")?;
+    assert_eq!(rt;
+        given.as_str(),
+        "refused: invalid TZ file: remaining data after the end of a TZif v1 data block"
+    );
+    Ok(())
+}
+
+#[test]
+fn an_altered_file_answers_or_is_refused(rt: HostRuntime) -> Result<(), Fail> {
+    let alloc = rt.alloc();
+    for (place, byte, answer) in [
+        (4, b'2', "2040-03-23T03:00:00.000000000+03:00 IDT\n"),
+        (
+            58,
+            b'2',
+            "refused: invalid TZ string: invalid day time hour",
+        ),
+        (2, b'j', "refused: invalid TZ file: invalid magic number"),
+    ] {
+        let file = altered(alloc, JERUSALEM_V3, place, byte)?;
+        let given = answered(alloc, &file, "T 2216073600 0\n")?;
+        assert_eq!(rt; given.as_str(), answer, "at {place}");
+    }
+    Ok(())
+}
+
+/// Two lines over the file with a rule, and their answers.
+const QUERIES: &[u8] = b"F 2040 3 23 2 30 0 0\nT 2216073600 0\n";
+
+const ANSWERS: &[u8] = b"F 1\n\
+      S 2040-03-23T02:00:00.000000000+02:00 IST 2040-03-23T03:00:00.000000000+03:00 IDT\n\
+      2040-03-23T03:00:00.000000000+03:00 IDT\n";
+
+#[test]
+fn each_growth_of_a_file_s_answers_can_be_refused(rt: HostRuntime) -> Result<(), Fail> {
+    let mut refusals = 0u64;
+    for left in 0..20u64 {
+        let heap = Refusing::new(rt.alloc(), left);
+        match answer_tzif(&heap, JERUSALEM_V3, QUERIES) {
+            Ok(given) => assert_eq!(rt; given.as_slice(), ANSWERS),
+            Err(error) => {
+                assert!(rt; matches!(error, TzError::Memory(_)), "after {left}");
+                refusals = left + 1;
+            }
+        }
+        assert_eq!(rt;
+            (heap.refused(), heap.held()),
+            (u64::from(left < refusals), 0)
+        );
+    }
+    assert!(rt; (4..20).contains(&refusals));
+    Ok(())
+}
+
+#[test]
+fn each_growth_of_answers_can_be_refused(rt: HostRuntime) -> Result<(), Fail> {
+    let zone = TimeZone::from_tz_data(rt.alloc(), JERUSALEM_V3)?;
+    let same = zone.try_clone()?;
+    let mut refusals = 0u64;
+    for left in 0..20u64 {
+        let heap = Refusing::new(rt.alloc(), left);
+        match answer(&heap, zone.as_ref(), QUERIES) {
+            Ok(given) => assert_eq!(rt; given.as_slice(), ANSWERS),
+            Err(error) => {
+                assert!(rt; matches!(error, TzError::Memory(_)), "after {left}");
+                refusals = left + 1;
+            }
+        }
+        assert_eq!(rt;
+            (heap.refused(), heap.held()),
+            (u64::from(left < refusals), 0)
+        );
+        assert!(rt; zone == same, "after {left}");
+    }
+    assert!(rt; (2..20).contains(&refusals));
+    Ok(())
+}

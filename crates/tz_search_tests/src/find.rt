@@ -1,0 +1,646 @@
+//! Searches in zones whose date times are known.
+
+ghost use Rattle.std.specs.Prelude.{◌≡◌};
+
+use std::alloc::{AllocError, Allocator, Global};
+use std::process::Abort;
+use std::test::Fail;
+use tz::datetime::{DateTime, FoundDateTimeKind, FoundDateTimeList, FoundDateTimeListRefMut};
+use tz_base::error::TzError;
+use tz_base::error::datetime::DateTimeError;
+use tz_zone::timezone::{
+    AlternateTime, Julian0WithLeap, Julian1WithoutLeap, LeapSecond, LocalTimeType, MonthWeekDay,
+    RuleDay, TimeZoneRef, Transition, TransitionRule,
+};
+
+mod ends;
+mod filter;
+mod looks;
+mod memory;
+mod texts;
+mod zones;
+
+use zones::{central_europe, crossing, far_offset};
+
+/// A Unix time, and the offsets before it and at it; those of a date time that is shown are the same.
+type Summary = (i64, i32, i32);
+
+/// Year, month, day of the month, hour, minute, second.
+type Reading = (i32, u8, u8, u8, u8, u8);
+
+/// A Unix time and an offset.
+type Moment = (i64, i32);
+
+/// The unique, the earliest and the latest date time of a list.
+type Choice = (Option<Moment>, Option<Moment>, Option<Moment>);
+
+/// The count of a list, whether there was a slot for each, and how many slots were written; and its choice.
+type Facts = ((usize, bool, usize), Choice);
+
+fn summary(found: &FoundDateTimeKind) -> Summary {
+    match found {
+        FoundDateTimeKind::Normal(date_time) => {
+            let offset = date_time.local_time_type().ut_offset();
+            (date_time.unix_time(), offset, offset)
+        }
+        FoundDateTimeKind::Skipped {
+            before_transition,
+            after_transition,
+        } => (
+            after_transition.unix_time(),
+            before_transition.local_time_type().ut_offset(),
+            after_transition.local_time_type().ut_offset(),
+        ),
+    }
+}
+
+fn find<A: Allocator + Copy>(
+    alloc: A,
+    zone: TimeZoneRef<'_>,
+    reading: Reading,
+) -> Result<FoundDateTimeList<A>, TzError> {
+    let (year, month, month_day, hour, minute, second) = reading;
+    DateTime::find(alloc, year, month, month_day, hour, minute, second, 0, zone)
+}
+
+fn find_n<'a>(
+    buf: &'a mut [Option<FoundDateTimeKind>],
+    zone: TimeZoneRef<'_>,
+    reading: Reading,
+) -> Result<FoundDateTimeListRefMut<'a>, TzError> {
+    let (year, month, month_day, hour, minute, second) = reading;
+    DateTime::find_n(buf, year, month, month_day, hour, minute, second, 0, zone)
+}
+
+fn moment(date_time: DateTime) -> Moment {
+    (
+        date_time.unix_time(),
+        date_time.local_time_type().ut_offset(),
+    )
+}
+
+/// The unique, the earliest and the latest date time, where these are listed.
+fn choice_of(listed: &[Summary]) -> Choice {
+    let unique = match *listed {
+        [(unix_time, before, after)] if before == after => Some((unix_time, after)),
+        _ => None,
+    };
+    let earliest = listed
+        .first()
+        .map(|(unix_time, before, _)| (*unix_time, *before));
+    let latest = listed
+        .last()
+        .map(|(unix_time, _, after)| (*unix_time, *after));
+    (unique, earliest, latest)
+}
+
+/// What a list in a number of slots says of itself, where these are found.
+fn facts_of(found: &[Summary], slots: usize) -> Facts {
+    let written = found.get(..slots).unwrap_or(found);
+    let (unique, earliest, latest) = choice_of(written);
+    let is_exhaustive = found.len() <= slots;
+    let unique = if is_exhaustive { unique } else { None };
+    (
+        (found.len(), is_exhaustive, written.len()),
+        (unique, earliest, latest),
+    )
+}
+
+fn facts(list: &FoundDateTimeListRefMut<'_>) -> Facts {
+    (
+        (list.count(), list.is_exhaustive(), list.data().len()),
+        (
+            list.unique().map(moment),
+            list.earliest().map(moment),
+            list.latest().map(moment),
+        ),
+    )
+}
+
+/// What `find` finds.
+fn summaries<A: Allocator + Copy>(
+    alloc: Global,
+    list: FoundDateTimeList<A>,
+) -> Result<Vec<Summary>, AllocError> {
+    let mut found = Vec::new(alloc);
+    for kind in &list.into_inner() {
+        found.push(summary(kind))?;
+    }
+    Ok(found)
+}
+
+/// The list of `find` holds these.
+fn expect_list(
+    rt: &impl Abort,
+    alloc: Global,
+    zone: TimeZoneRef<'_>,
+    reading: Reading,
+    expected: &[Summary],
+) -> Result<(), TzError> {
+    let list = find(alloc, zone, reading)?;
+    let choice = (
+        list.unique().map(moment),
+        list.earliest().map(moment),
+        list.latest().map(moment),
+    );
+    assert_eq!(rt; choice, choice_of(expected));
+    assert_eq!(rt; summaries(alloc, list)?.as_slice(), expected);
+    Ok(())
+}
+
+/// A date time of a slot that no search of these tests finds, and its summary.
+fn held() -> Result<FoundDateTimeKind, TzError> {
+    let utc = LocalTimeType::utc();
+    Ok(FoundDateTimeKind::Normal(DateTime::new(1234, 5, 6, 7, 8, 9, 0, utc)?))
+}
+
+const HELD: Summary = (-23_215_049_511, 0, 0);
+
+/// Whether the slots begin with these, as far as they go, and the others hold what they held.
+fn are_written(slots: &[Option<FoundDateTimeKind>], found: &[Summary]) -> bool {
+    let mut places = slots.iter().enumerate();
+    places.all(|(place, slot)| {
+        slot.as_ref().map(summary) == Some(*found.get(place).unwrap_or(&HELD))
+    })
+}
+
+/// `find_n` finds these, and leaves the slots past them as they were.
+fn expect_written(
+    rt: &impl Abort,
+    buf: &mut [Option<FoundDateTimeKind>],
+    zone: TimeZoneRef<'_>,
+    reading: Reading,
+    expected: &[Summary],
+) -> Result<(), TzError> {
+    let slots = buf.len();
+    let list = find_n(buf, zone, reading)?;
+    assert_eq!(rt; facts(&list), facts_of(expected, slots));
+    assert!(rt; are_written(list.data(), expected));
+    drop(list);
+    assert!(rt; are_written(buf, expected));
+    Ok(())
+}
+
+/// Both searches find these, `find_n` with no slot and with up to three.
+fn expect_found(
+    rt: &impl Abort,
+    alloc: Global,
+    zone: TimeZoneRef<'_>,
+    reading: Reading,
+    expected: &[Summary],
+) -> Result<(), TzError> {
+    expect_list(rt, alloc, zone, reading, expected)?;
+    let held = Some(held()?);
+    expect_written(rt, &mut [], zone, reading, expected)?;
+    expect_written(rt, &mut [held], zone, reading, expected)?;
+    expect_written(rt, &mut [held, held], zone, reading, expected)?;
+    expect_written(rt, &mut [held, held, held], zone, reading, expected)
+}
+
+/// Both searches find these of each reading.
+fn expect_all(
+    rt: &impl Abort,
+    alloc: Global,
+    zone: TimeZoneRef<'_>,
+    rows: &[(Reading, &[Summary])],
+) -> Result<(), TzError> {
+    for (reading, expected) in rows {
+        expect_found(rt, alloc, zone, *reading, expected)?;
+    }
+    Ok(())
+}
+
+/// The jumps of the zone with jumps that cross.
+const FIRST_JUMP: Summary = (7200, 0, 3600);
+
+const SECOND_JUMP: Summary = (28_800, -19_800, -16_200);
+
+/// An hour and a minute of its day, and what is found.
+const CROSSED: [(u8, u8, &[Summary]); 17] = [
+    (0, 0, &[(0, 0, 0)]),
+    (1, 0, &[(3600, 0, 0), (14_400, -10_800, -10_800)]),
+    (1, 15, &[(4500, 0, 0), (15_300, -10_800, -10_800)]),
+    (
+        1,
+        30,
+        &[
+            (5400, 0, 0),
+            (16_200, -10_800, -10_800),
+            (25_200, -19_800, -19_800),
+        ],
+    ),
+    (
+        1,
+        45,
+        &[
+            (6300, 0, 0),
+            (17_100, -10_800, -10_800),
+            (26_100, -19_800, -19_800),
+        ],
+    ),
+    (
+        2,
+        0,
+        &[
+            FIRST_JUMP,
+            (18_000, -10_800, -10_800),
+            (27_000, -19_800, -19_800),
+        ],
+    ),
+    (
+        2,
+        15,
+        &[
+            FIRST_JUMP,
+            (18_900, -10_800, -10_800),
+            (27_900, -19_800, -19_800),
+        ],
+    ),
+    (
+        2,
+        45,
+        &[FIRST_JUMP, (20_700, -10_800, -10_800), SECOND_JUMP],
+    ),
+    (
+        3,
+        0,
+        &[(7200, 3600, 3600), (21_600, -10_800, -10_800), SECOND_JUMP],
+    ),
+    (
+        3,
+        15,
+        &[(8100, 3600, 3600), (22_500, -10_800, -10_800), SECOND_JUMP],
+    ),
+    (
+        3,
+        30,
+        &[
+            (9000, 3600, 3600),
+            (23_400, -10_800, -10_800),
+            (28_800, -16_200, -16_200),
+        ],
+    ),
+    (
+        3,
+        45,
+        &[
+            (9900, 3600, 3600),
+            (24_300, -10_800, -10_800),
+            (29_700, -16_200, -16_200),
+        ],
+    ),
+    (4, 0, &[(10_800, 3600, 3600), (30_600, -16_200, -16_200)]),
+    (4, 15, &[(11_700, 3600, 3600), (31_500, -16_200, -16_200)]),
+    (4, 30, &[(12_600, 3600, 3600)]),
+    (4, 45, &[(13_500, 3600, 3600)]),
+    (23, 59, &[]),
+];
+
+#[test]
+fn jumps_that_cross(rt: HostRuntime) -> Result<(), Fail> {
+    let (transitions, types) = crossing()?;
+    let rule = None;
+    let zone = TimeZoneRef::new(&transitions, &types, &[], &rule)?;
+    for (hour, minute, expected) in CROSSED {
+        expect_found(
+            &rt,
+            rt.alloc(),
+            zone,
+            (1970, 1, 1, hour, minute, 0),
+            expected,
+        )?;
+    }
+    Ok(())
+}
+
+#[test]
+fn a_rule_goes_on_after_the_last_transition(rt: HostRuntime) -> Result<(), Fail> {
+    let alloc = rt.alloc();
+    let types = [LocalTimeType::with_ut_offset(3600)?];
+    let no_rule = None;
+    let rule = Some(TransitionRule::Fixed(types[0]));
+    let transitions = [Transition::new(0, 0)];
+    for zone in [
+        TimeZoneRef::new(&[], &types, &[], &no_rule)?,
+        TimeZoneRef::new(&[], &types, &[], &rule)?,
+    ] {
+        expect_found(
+            &rt,
+            alloc,
+            zone,
+            (2000, 1, 1, 0, 0, 0),
+            &[(946_681_200, 3600, 3600)],
+        )?;
+    }
+    let zone = TimeZoneRef::new(&transitions, &types, &[], &rule)?;
+    for (year, unix_time) in [(1960, -315_622_800), (1980, 315_529_200)] {
+        expect_found(
+            &rt,
+            alloc,
+            zone,
+            (year, 1, 1, 0, 0, 0),
+            &[(unix_time, 3600, 3600)],
+        )?;
+    }
+    let over = TimeZoneRef::new(&transitions, &types, &[], &no_rule)?;
+    expect_found(&rt, alloc, over, (1980, 1, 1, 0, 0, 0), &[])?;
+    Ok(())
+}
+
+#[test]
+fn lists_are_compared_by_their_entries(rt: HostRuntime) -> Result<(), Fail> {
+    let utc = TimeZoneRef::utc();
+    let midnight = find(rt.alloc(), utc, (2000, 1, 1, 0, 0, 0))?;
+    let again = find(rt.alloc(), utc, (2000, 1, 1, 0, 0, 0))?;
+    let noon = find(rt.alloc(), utc, (2000, 1, 1, 12, 0, 0))?;
+    let empty = FoundDateTimeList::new_in(rt.alloc());
+    assert_eq!(rt; midnight, again);
+    assert!(rt; midnight != noon);
+    assert!(rt; midnight != empty);
+    Ok(())
+}
+
+/// A written slot, a slot past them and the count all tell.
+#[test]
+fn lists_in_buffers_are_compared_by_all_slots(rt: HostRuntime) -> Result<(), Fail> {
+    let utc = TimeZoneRef::utc();
+    let midnight = (2000, 1, 1, 0, 0, 0);
+    let mut buf = [None, None];
+    let list = find_n(&mut buf, utc, midnight)?;
+    let mut same_buf = [None, None];
+    assert_eq!(rt; list, find_n(&mut same_buf, utc, midnight)?);
+    let mut other_buf = [None, None];
+    assert!(rt; list != find_n(&mut other_buf, utc, (2000, 1, 1, 12, 0, 0))?);
+    let mut held_buf = [None, Some(held()?)];
+    assert!(rt; list != find_n(&mut held_buf, utc, midnight)?);
+    assert!(rt; list != FoundDateTimeListRefMut::new(&mut same_buf));
+    Ok(())
+}
+
+/// A list with nothing found leaves the slots as they are once it is gone.
+fn lend(buf: &mut [Option<FoundDateTimeKind>])
+    ensures { buf.new ≡ buf.old }
+{
+    let _list = FoundDateTimeListRefMut::new(buf);
+}
+
+#[test]
+fn an_empty_list_leaves_the_slots(rt: HostRuntime) -> Result<(), Fail> {
+    let held = Some(held()?);
+    let mut buf = [held, None, held];
+    lend(&mut buf);
+    assert!(rt; holds(&buf, &held));
+    Ok(())
+}
+
+/// Lists are printed with what they hold alone.
+#[test]
+fn lists_are_printed(rt: HostRuntime) -> Result<(), Fail> {
+    let alloc = rt.alloc();
+    let utc = TimeZoneRef::utc();
+    let list = find(alloc, utc, (2000, 1, 1, 0, 0, 0))?;
+    let Some(date_time) = list.unique() else {
+        panic!(rt; "no date time");
+    };
+    let printed = format!(in alloc; "{list:?}")?;
+    let expected = format!(in alloc; "FoundDateTimeList([Normal({date_time:?})])")?;
+    assert_eq!(rt; printed.as_str(), expected.as_str());
+    let mut buf = [None, None];
+    let slots = find_n(&mut buf, utc, (2000, 1, 1, 0, 0, 0))?;
+    let printed = format!(in alloc; "{slots:?}")?;
+    let expected = format!(in alloc;
+        "FoundDateTimeListRefMut {{ buf: [Some(Normal({date_time:?})), None], current_index: 1, count: 1 }}"
+    )?;
+    assert_eq!(rt; printed.as_str(), expected.as_str());
+    Ok(())
+}
+
+/// Whether the first and the third of three slots hold this, and the second is empty.
+fn holds(slots: &[Option<FoundDateTimeKind>], held: &Option<FoundDateTimeKind>) -> bool {
+    matches!(slots, [first, None, third] if first == held && third == held)
+}
+
+/// Fields with one fault each, which `find_n` names; the slots hold what they held.
+#[test]
+fn refused_fields_write_nothing(rt: HostRuntime) -> Result<(), Fail> {
+    let held = Some(held()?);
+    for (fields, fault) in [
+        ((13, 1, 0, 0, 0, 0), DateTimeError::InvalidMonth),
+        ((2, 29, 0, 0, 0, 0), DateTimeError::InvalidMonthDay),
+        ((1, 1, 24, 0, 0, 0), DateTimeError::InvalidHour),
+        ((1, 1, 0, 60, 0, 0), DateTimeError::InvalidMinute),
+        ((1, 1, 0, 0, 61, 0), DateTimeError::InvalidSecond),
+        (
+            (1, 1, 0, 0, 0, 1_000_000_000),
+            DateTimeError::InvalidNanoseconds,
+        ),
+    ] {
+        let (month, month_day, hour, minute, second, nanoseconds) = fields;
+        let mut buf = [held, None, held];
+        let refused = DateTime::find_n(
+            &mut buf,
+            2001,
+            month,
+            month_day,
+            hour,
+            minute,
+            second,
+            nanoseconds,
+            TimeZoneRef::utc(),
+        )
+        .err();
+        assert!(rt; matches!(refused, Some(TzError::DateTime(named)) if named == fault));
+        assert!(rt; holds(&buf, &held));
+    }
+    Ok(())
+}
+
+/// A zone that is set back an hour after each hour, so that it shows half past midnight seven times.
+#[test]
+fn more_are_found_than_a_list_begins_with(rt: HostRuntime) -> Result<(), Fail> {
+    let alloc = rt.alloc();
+    let mut types = Vec::new(alloc);
+    let mut transitions = Vec::new(alloc);
+    let mut expected = Vec::new(alloc);
+    for hours in 0..7i32 {
+        let back = hours.saturating_mul(-3600);
+        let hour = i64::from(hours).saturating_mul(3600);
+        types.push(LocalTimeType::with_ut_offset(back)?)?;
+        transitions.push(Transition::new(hour, usize::try_from(hours)?))?;
+        expected.push((hour.saturating_add(1800), back, back))?;
+    }
+    let rule = Some(TransitionRule::Fixed(LocalTimeType::with_ut_offset(-21_600)?));
+    let zone = TimeZoneRef::new(&transitions, &types, &[], &rule)?;
+    expect_found(&rt, alloc, zone, (1970, 1, 1, 0, 30, 0), &expected)?;
+    Ok(())
+}
+
+/// The zone of one rule alone.
+fn expect_found_by_rule(
+    rt: &impl Abort,
+    alloc: Global,
+    rule: AlternateTime,
+    rows: &[(Reading, &[Summary])],
+) -> Result<(), TzError> {
+    let types = [*rule.std(), *rule.dst()];
+    let rule = Some(TransitionRule::Alternate(rule));
+    let zone = TimeZoneRef::new(&[], &types, &[], &rule)?;
+    expect_all(rt, alloc, zone, rows)
+}
+
+#[test]
+fn a_rule_of_one_morning(rt: HostRuntime) -> Result<(), Fail> {
+    let day = RuleDay::Julian1WithoutLeap(Julian1WithoutLeap::new(1)?);
+    let rule = AlternateTime::new(
+        LocalTimeType::with_ut_offset(0)?,
+        LocalTimeType::with_ut_offset(3600)?,
+        day,
+        7200,
+        day,
+        12_600,
+    )?;
+    for (year, midnight) in [(2000, 946_684_800i64), (2010, 1_262_304_000)] {
+        let jump = (midnight + 7200, 0, 3600);
+        expect_found_by_rule(
+            &rt,
+            rt.alloc(),
+            rule,
+            &[
+                ((year, 1, 1, 1, 45, 0), &[(midnight + 6300, 0, 0)]),
+                ((year, 1, 1, 2, 15, 0), &[jump]),
+                ((year, 1, 1, 2, 45, 0), &[jump, (midnight + 9900, 0, 0)]),
+                (
+                    (year, 1, 1, 3, 15, 0),
+                    &[(midnight + 8100, 3600, 3600), (midnight + 11_700, 0, 0)],
+                ),
+                ((year, 1, 1, 3, 45, 0), &[(midnight + 13_500, 0, 0)]),
+            ],
+        )?;
+    }
+    Ok(())
+}
+
+/// The jump over 68 years of the zone with a far offset.
+const FAR_JUMP: Summary = (3600, 0, 2_147_483_647);
+
+/// The first hours.
+const FAR_MORNING: [(u8, &[Summary]); 4] = [
+    (0, &[(1800, 0, 0)]),
+    (1, &[FAR_JUMP]),
+    (2, &[FAR_JUMP, (9000, 0, 0)]),
+    (4, &[FAR_JUMP, (12_600, 3600, 3600)]),
+];
+
+#[test]
+fn the_morning_of_a_far_jump(rt: HostRuntime) -> Result<(), Fail> {
+    let (transitions, types, rule) = far_offset()?;
+    let rule = Some(TransitionRule::Alternate(rule));
+    let zone = TimeZoneRef::new(&transitions, &types, &[], &rule)?;
+    for (hour, expected) in FAR_MORNING {
+        expect_found(&rt, rt.alloc(), zone, (1970, 1, 1, hour, 30, 0), expected)?;
+    }
+    expect_found(
+        &rt,
+        rt.alloc(),
+        zone,
+        (2038, 1, 19, 5, 0, 0),
+        &[
+            (6353, 2_147_483_647, 2_147_483_647),
+            (2_147_486_400, 3600, 3600),
+        ],
+    )?;
+    Ok(())
+}
+
+/// Years that the jump passes over, and the Unix time at which each begins.
+const FAR_YEARS: [(i32, i64, i64); 3] = [
+    (1970, 0, 0),
+    (2000, 946_684_800, 86_400),
+    (2030, 1_893_456_000, 0),
+];
+
+#[test]
+fn a_rule_under_a_far_jump(rt: HostRuntime) -> Result<(), Fail> {
+    let alloc = rt.alloc();
+    let (transitions, types, rule) = far_offset()?;
+    let rule = Some(TransitionRule::Alternate(rule));
+    let zone = TimeZoneRef::new(&transitions, &types, &[], &rule)?;
+    for (year, start, leap_day) in FAR_YEARS {
+        let march = start + leap_day;
+        expect_all(
+            &rt,
+            alloc,
+            zone,
+            &[
+                (
+                    (year, 2, 1, 0, 0, 0),
+                    &[FAR_JUMP, (start + 2_674_800, 3600, 3600)],
+                ),
+                (
+                    (year, 3, 31, 0, 30, 0),
+                    &[
+                        FAR_JUMP,
+                        (march + 7_687_800, 3600, 3600),
+                        (march + 7_691_400, 0, 0),
+                    ],
+                ),
+                (
+                    (year, 6, 1, 0, 0, 0),
+                    &[FAR_JUMP, (march + 13_046_400, 0, 0)],
+                ),
+                (
+                    (year, 10, 27, 0, 30, 0),
+                    &[FAR_JUMP, (march + 25_833_600, 0, 3600)],
+                ),
+                (
+                    (year, 11, 1, 0, 0, 0),
+                    &[FAR_JUMP, (march + 26_262_000, 3600, 3600)],
+                ),
+            ],
+        )?;
+    }
+    Ok(())
+}
+
+#[test]
+fn a_rule_after_a_far_jump(rt: HostRuntime) -> Result<(), Fail> {
+    let (transitions, types, rule) = far_offset()?;
+    let rule = Some(TransitionRule::Alternate(rule));
+    let zone = TimeZoneRef::new(&transitions, &types, &[], &rule)?;
+    let start = 2_145_916_800;
+    expect_all(
+        &rt,
+        rt.alloc(),
+        zone,
+        &[
+            ((2038, 2, 1, 0, 0, 0), &[(start + 2_674_800, 3600, 3600)]),
+            (
+                (2038, 3, 31, 0, 30, 0),
+                &[(start + 7_687_800, 3600, 3600), (start + 7_691_400, 0, 0)],
+            ),
+            ((2038, 6, 1, 0, 0, 0), &[(start + 13_046_400, 0, 0)]),
+            ((2038, 10, 27, 0, 30, 0), &[(start + 25_833_600, 0, 3600)]),
+            ((2038, 11, 1, 0, 0, 0), &[(start + 26_262_000, 3600, 3600)]),
+        ],
+    )?;
+    Ok(())
+}
+
+#[test]
+fn nothing_is_found_after_the_last_transition_without_a_rule(rt: HostRuntime) -> Result<(), Fail> {
+    let types = [LocalTimeType::utc()];
+    let transitions = [Transition::new(0, 0)];
+    let rule = None;
+    let zone = TimeZoneRef::new(&transitions, &types, &[], &rule)?;
+    expect_all(
+        &rt,
+        rt.alloc(),
+        zone,
+        &[
+            ((1969, 12, 31, 23, 59, 59), &[(-1, 0, 0)]),
+            ((1969, 12, 31, 23, 59, 60), &[]),
+            ((1970, 1, 1, 0, 0, 0), &[]),
+        ],
+    )?;
+    Ok(())
+}

@@ -1,0 +1,85 @@
+//! The constants beside the calendar, and beside one another.
+
+use tz_base::calendar;
+use tz_base::constants::*;
+
+#[test]
+fn units_are_made_of_smaller_ones(rt: HostRuntime) {
+    for (unit, number, smaller) in [
+        (SECONDS_PER_HOUR, MINUTES_PER_HOUR, SECONDS_PER_MINUTE),
+        (SECONDS_PER_DAY, HOURS_PER_DAY, SECONDS_PER_HOUR),
+        (SECONDS_PER_WEEK, DAYS_PER_WEEK, SECONDS_PER_DAY),
+        (SECONDS_PER_28_DAYS, 4, SECONDS_PER_WEEK),
+        (
+            SECONDS_PER_NORMAL_YEAR,
+            DAYS_PER_NORMAL_YEAR,
+            SECONDS_PER_DAY,
+        ),
+        (SECONDS_PER_LEAP_YEAR, 366, SECONDS_PER_DAY),
+    ] {
+        assert_eq!(rt; unit, number.wrapping_mul(smaller));
+    }
+    assert_eq!(rt; SECONDS_PER_MINUTE, 60);
+    assert_eq!(rt; NANOSECONDS_PER_SECOND, 1_000_000_000);
+}
+
+#[test]
+fn cycles_have_the_days_of_their_years(rt: HostRuntime) {
+    let first = calendar::first_day_of_year(2001);
+    for (years, days) in [
+        (1, DAYS_PER_NORMAL_YEAR),
+        (4, DAYS_PER_4_YEARS),
+        (100, DAYS_PER_100_YEARS),
+        (400, DAYS_PER_400_YEARS),
+    ] {
+        let next = calendar::first_day_of_year(2001 + years);
+        assert_eq!(rt; next.wrapping_sub(first), days, "{years}");
+    }
+}
+
+/// The constants of a month, by its place: its length in a year that is not leap, and the days before it in such a year and in a leap one.
+fn months(place: usize) -> Option<(i64, i64, i64)> {
+    Some((
+        *DAYS_IN_MONTHS_NORMAL_YEAR.get(place)?,
+        *CUMUL_DAYS_IN_MONTHS_NORMAL_YEAR.get(place)?,
+        *CUMUL_DAYS_IN_MONTHS_LEAP_YEAR.get(place)?,
+    ))
+}
+
+/// The days of a year before a month of it.
+fn days_before(year: i32, month: u8) -> i64 {
+    if month < 1 || month > 12 {
+        return -1;
+    }
+    calendar::days_since_unix_epoch(year, month, 1).wrapping_sub(calendar::first_day_of_year(year))
+}
+
+#[test]
+fn tables_of_months_are_the_calendar_s(rt: HostRuntime) {
+    assert_eq!(rt; MONTHS_PER_YEAR, 12);
+    for month in 1..13u8 {
+        let days = (
+            i64::from(calendar::days_in_month(2001, month)),
+            days_before(2001, month),
+            days_before(2000, month),
+        );
+        assert_eq!(rt; months(usize::from(month) - 1), Some(days), "{month}");
+    }
+}
+
+#[test]
+fn years_are_counted_from_march_of_2000(rt: HostRuntime) {
+    let first = calendar::days_since_unix_epoch(2000, 3, 1);
+    assert_eq!(rt; UNIX_OFFSET_SECS, first.wrapping_mul(SECONDS_PER_DAY));
+    assert_eq!(rt; OFFSET_YEAR, 2000);
+    for place in 0..12u8 {
+        let days = calendar::days_in_month(2000, (place + 2) % 12 + 1);
+        assert_eq!(rt;
+            DAY_IN_MONTHS_LEAP_YEAR_FROM_MARCH
+                .get(usize::from(place))
+                .copied(),
+            Some(i64::from(days)),
+            "{place}"
+        );
+    }
+}

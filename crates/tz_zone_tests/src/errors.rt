@@ -1,0 +1,282 @@
+//! The texts of the errors, and what `?` makes of them.
+
+use std::alloc::{AllocError, Global};
+use std::fmt::Display;
+use std::process::Abort;
+use std::test::Fail;
+use tz_base::error::datetime::DateTimeError;
+use tz_base::error::parse::{ParseDataError, TzFileError, TzStringError};
+use tz_base::error::timezone::{LocalTimeTypeError, TimeZoneError, TransitionRuleError};
+use tz_base::error::{Error, ReadFault, TzError};
+
+/// The error prints as the text.
+fn expect_text(
+    rt: &impl Abort,
+    alloc: Global,
+    error: &impl Display,
+    text: &str,
+) -> Result<(), AllocError> {
+    let printed = format!(in alloc; "{error}")?;
+    assert_eq!(rt; printed.as_str(), text);
+    Ok(())
+}
+
+#[test]
+fn part_errors_have_their_texts(rt: HostRuntime) -> Result<(), Fail> {
+    let alloc = rt.alloc();
+    for (error, text) in [
+        (DateTimeError::InvalidMonth, "invalid month"),
+        (DateTimeError::InvalidMonthDay, "invalid month day"),
+        (DateTimeError::InvalidHour, "invalid hour"),
+        (DateTimeError::InvalidMinute, "invalid minute"),
+        (DateTimeError::InvalidSecond, "invalid second"),
+        (DateTimeError::InvalidNanoseconds, "invalid nanoseconds"),
+    ] {
+        expect_text(&rt, alloc, &error, text)?;
+    }
+    for (error, text) in [
+        (
+            LocalTimeTypeError::InvalidTimeZoneDesignationLength,
+            "time zone designation must have between 3 and 7 characters",
+        ),
+        (
+            LocalTimeTypeError::InvalidTimeZoneDesignationChar,
+            "invalid characters in time zone designation",
+        ),
+        (LocalTimeTypeError::InvalidUtcOffset, "invalid UTC offset"),
+    ] {
+        expect_text(&rt, alloc, &error, text)?;
+    }
+    for (error, text) in [
+        (
+            TransitionRuleError::InvalidRuleDayJulianDay,
+            "invalid rule day julian day",
+        ),
+        (
+            TransitionRuleError::InvalidRuleDayMonth,
+            "invalid rule day month",
+        ),
+        (
+            TransitionRuleError::InvalidRuleDayWeek,
+            "invalid rule day week",
+        ),
+        (
+            TransitionRuleError::InvalidRuleDayWeekDay,
+            "invalid rule day week day",
+        ),
+        (
+            TransitionRuleError::InvalidStdUtcOffset,
+            "invalid standard time UTC offset",
+        ),
+        (
+            TransitionRuleError::InvalidDstUtcOffset,
+            "invalid Daylight Saving Time UTC offset",
+        ),
+        (
+            TransitionRuleError::InvalidDstStartEndTime,
+            "invalid DST start or end time",
+        ),
+        (
+            TransitionRuleError::InconsistentRule,
+            "DST transition rules are not consistent from one year to another",
+        ),
+    ] {
+        expect_text(&rt, alloc, &error, text)?;
+    }
+    for (error, text) in [
+        (
+            TimeZoneError::NoLocalTimeType,
+            "list of local time types must not be empty",
+        ),
+        (
+            TimeZoneError::InvalidLocalTimeTypeIndex,
+            "invalid local time type index",
+        ),
+        (TimeZoneError::InvalidTransition, "invalid transition"),
+        (TimeZoneError::InvalidLeapSecond, "invalid leap second"),
+        (
+            TimeZoneError::InconsistentExtraRule,
+            "extra transition rule is inconsistent with the last transition",
+        ),
+    ] {
+        expect_text(&rt, alloc, &error, text)?;
+    }
+    Ok(())
+}
+
+#[test]
+fn reader_errors_have_their_texts(rt: HostRuntime) -> Result<(), Fail> {
+    let alloc = rt.alloc();
+    for (error, text) in [
+        (ParseDataError::UnexpectedEof, "unexpected end of data"),
+        (ParseDataError::InvalidData, "invalid data"),
+    ] {
+        expect_text(&rt, alloc, &error, text)?;
+        expect_text(&rt, alloc, &TzStringError::from(error), text)?;
+        expect_text(&rt, alloc, &TzFileError::from(error), text)?;
+    }
+    let not_text = std::str::from_utf8(&[255]).err().ok_or("255 is no text")?;
+    let not_number = "".parse::<u8>().err().ok_or("no digits are no number")?;
+    let utf8_text = format!(in alloc; "{not_text}")?;
+    let number_text = format!(in alloc; "{not_number}")?;
+    expect_text(
+        &rt,
+        alloc,
+        &TzStringError::from(not_text),
+        utf8_text.as_str(),
+    )?;
+    expect_text(&rt, alloc, &TzFileError::from(not_text), utf8_text.as_str())?;
+    expect_text(
+        &rt,
+        alloc,
+        &TzStringError::from(not_number),
+        number_text.as_str(),
+    )?;
+    let texts = [
+        (&TzStringError::InvalidOffsetHour, "invalid offset hour"),
+        (&TzStringError::InvalidOffsetMinute, "invalid offset minute"),
+        (&TzStringError::InvalidOffsetSecond, "invalid offset second"),
+        (&TzStringError::InvalidDayTimeHour, "invalid day time hour"),
+        (
+            &TzStringError::InvalidDayTimeMinute,
+            "invalid day time minute",
+        ),
+        (
+            &TzStringError::InvalidDayTimeSecond,
+            "invalid day time second",
+        ),
+        (
+            &TzStringError::MissingDstStartEndRules,
+            "missing DST start and end rules",
+        ),
+        (
+            &TzStringError::RemainingData,
+            "remaining data after parsing TZ string",
+        ),
+        (&TzStringError::Empty, "empty TZ string"),
+    ];
+    for (error, text) in texts {
+        expect_text(&rt, alloc, error, text)?;
+    }
+    let files = [
+        (&TzFileError::InvalidMagicNumber, "invalid magic number"),
+        (
+            &TzFileError::UnsupportedTzFileVersion,
+            "unsupported TZ file version",
+        ),
+        (&TzFileError::InvalidHeader, "invalid header"),
+        (&TzFileError::InvalidFooter, "invalid footer"),
+        (&TzFileError::InvalidDstIndicator, "invalid DST indicator"),
+        (
+            &TzFileError::InvalidTimeZoneDesignationCharIndex,
+            "invalid time zone designation char index",
+        ),
+        (
+            &TzFileError::InvalidStdWallUtLocal,
+            "invalid couple of standard/wall and UT/local indicators",
+        ),
+        (
+            &TzFileError::RemainingDataV1,
+            "remaining data after the end of a TZif v1 data block",
+        ),
+    ];
+    for (error, text) in files {
+        expect_text(&rt, alloc, error, text)?;
+    }
+    Ok(())
+}
+
+#[test]
+fn whole_errors_have_their_texts(rt: HostRuntime) -> Result<(), Fail> {
+    let alloc = rt.alloc();
+    let texts = [
+        (
+            &TzError::from(TzFileError::InvalidFooter),
+            "invalid TZ file: invalid footer",
+        ),
+        (
+            &TzError::from(TzStringError::Empty),
+            "invalid TZ string: empty TZ string",
+        ),
+        (
+            &TzError::from(LocalTimeTypeError::InvalidUtcOffset),
+            "invalid local time type: invalid UTC offset",
+        ),
+        (
+            &TzError::from(TransitionRuleError::InvalidRuleDayWeek),
+            "invalid transition rule: invalid rule day week",
+        ),
+        (
+            &TzError::from(TimeZoneError::InvalidTransition),
+            "invalid time zone: invalid transition",
+        ),
+        (
+            &TzError::from(DateTimeError::InvalidMonth),
+            "invalid date time: invalid month",
+        ),
+        (&TzError::OutOfRange, "out of range operation"),
+        (
+            &TzError::NoAvailableLocalTimeType,
+            "no local time type is available for the specified timestamp",
+        ),
+        (&TzError::from(AllocError), "no memory"),
+    ];
+    for (error, text) in texts {
+        expect_text(&rt, alloc, error, text)?;
+    }
+    expect_text(
+        &rt,
+        alloc,
+        &Error::from(TzError::OutOfRange),
+        "out of range operation",
+    )?;
+    expect_text(
+        &rt,
+        alloc,
+        &Error::Io(anyhow::anyhow!("no such file")),
+        "no such file",
+    )?;
+    expect_text(&rt, alloc, &ReadFault::from(AllocError), "no memory")?;
+    expect_text(
+        &rt,
+        alloc,
+        &ReadFault::Failed(anyhow::anyhow!("no such file")),
+        "no such file",
+    )?;
+    Ok(())
+}
+
+#[test]
+fn part_errors_become_whole_ones(rt: HostRuntime) -> Result<(), Fail> {
+    let alloc = rt.alloc();
+    let texts = [
+        (
+            &Error::from(TzFileError::InvalidHeader),
+            "invalid TZ file: invalid header",
+        ),
+        (
+            &Error::from(TzStringError::Empty),
+            "invalid TZ string: empty TZ string",
+        ),
+        (
+            &Error::from(LocalTimeTypeError::InvalidUtcOffset),
+            "invalid local time type: invalid UTC offset",
+        ),
+        (
+            &Error::from(TransitionRuleError::InvalidRuleDayMonth),
+            "invalid transition rule: invalid rule day month",
+        ),
+        (
+            &Error::from(TimeZoneError::InvalidLeapSecond),
+            "invalid time zone: invalid leap second",
+        ),
+        (
+            &Error::from(DateTimeError::InvalidHour),
+            "invalid date time: invalid hour",
+        ),
+    ];
+    for (error, text) in texts {
+        expect_text(&rt, alloc, error, text)?;
+    }
+    Ok(())
+}

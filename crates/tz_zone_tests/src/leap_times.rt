@@ -1,0 +1,192 @@
+//! Leap times and effects around leap seconds of one second more and less, and at the ends of 64 bits.
+
+mod tables;
+
+use tz_base::error::TzError;
+use tz_zone::inner::{effect, leap};
+use tz_zone::timezone::{LeapSecond, LocalTimeType, TimeZoneRef};
+
+/// The leap times of the leap seconds from 1972 to 2016, each of one second more.
+const LEAP_TIMES: [i64; 27] = [
+    78796800, 94694401, 126230402, 157766403, 189302404, 220924805, 252460806, 283996807,
+    315532808, 362793609, 394329610, 425865611, 489024012, 567993613, 631152014, 662688015,
+    709948816, 741484817, 773020818, 820454419, 867715220, 915148821, 1136073622, 1230768023,
+    1341100824, 1435708825, 1483228826,
+];
+
+/// The leap seconds from 1972 to 2016.
+fn leap_seconds_to_2016() -> [LeapSecond; 27] {
+    let mut leap_seconds = [LeapSecond::new(0, 0); 27];
+    for i in 0..27usize {
+        leap_seconds[i] = LeapSecond::new(LEAP_TIMES[i], i as i32 + 1);
+    }
+    leap_seconds
+}
+
+/// The leap time of an instant, once the leap seconds are checked.
+fn leap_of(leap_seconds: &[LeapSecond], unix_time: i64) -> Result<i64, TzError> {
+    let types = [LocalTimeType::utc()];
+    let zone = TimeZoneRef::new(&[], &types, leap_seconds, &None)?;
+    leap(zone.leap_seconds(), unix_time)
+}
+
+/// Where a leap time takes effect, once the leap seconds are checked.
+fn effect_of(leap_seconds: &[LeapSecond], unix_leap_time: i64) -> Result<i64, TzError> {
+    let types = [LocalTimeType::utc()];
+    let zone = TimeZoneRef::new(&[], &types, leap_seconds, &None)?;
+    effect(zone.leap_seconds(), unix_leap_time)
+}
+
+/// Whether a time is out of range.
+fn is_out_of_range(time: Result<i64, TzError>) -> bool {
+    matches!(time, Err(TzError::OutOfRange))
+}
+
+#[test]
+fn the_leap_second_of_2005(rt: HostRuntime) {
+    let leap_seconds = leap_seconds_to_2016();
+    for (unix_time, unix_leap_time) in [
+        (1136073599, 1136073621),
+        (1136073600, 1136073623),
+        (1136073601, 1136073624),
+    ] {
+        assert_eq!(rt;
+            leap_of(&leap_seconds, unix_time).ok(),
+            Some(unix_leap_time)
+        );
+    }
+    for (unix_leap_time, unix_time) in [
+        (1136073621, 1136073599),
+        (1136073622, 1136073600),
+        (1136073623, 1136073600),
+        (1136073624, 1136073601),
+    ] {
+        assert_eq!(rt;
+            effect_of(&leap_seconds, unix_leap_time).ok(),
+            Some(unix_time)
+        );
+    }
+}
+
+#[test]
+fn every_leap_second_to_2016(rt: HostRuntime) {
+    let leap_seconds = leap_seconds_to_2016();
+    for (earlier, leap_time) in LEAP_TIMES.iter().enumerate() {
+        let instant = leap_time.wrapping_sub(earlier as i64);
+        for (step, unix_leap_step) in [(-1, -1), (0, 1), (1, 2)] {
+            assert_eq!(rt;
+                leap_of(&leap_seconds, instant.wrapping_add(step)).ok(),
+                Some(leap_time.wrapping_add(unix_leap_step))
+            );
+        }
+        for (unix_leap_step, step) in [(-1, -1), (0, 0), (1, 0), (2, 1)] {
+            assert_eq!(rt;
+                effect_of(&leap_seconds, leap_time.wrapping_add(unix_leap_step)).ok(),
+                Some(instant.wrapping_add(step))
+            );
+        }
+    }
+}
+
+#[test]
+fn a_leap_second_of_one_second_less(rt: HostRuntime) {
+    let leap_seconds = [LeapSecond::new(100, -1)];
+    for (unix_time, unix_leap_time) in [(99, 99), (100, 99), (101, 100)] {
+        assert_eq!(rt;
+            leap_of(&leap_seconds, unix_time).ok(),
+            Some(unix_leap_time)
+        );
+    }
+    for (unix_leap_time, unix_time) in [(98, 98), (99, 99), (100, 101), (101, 102)] {
+        assert_eq!(rt;
+            effect_of(&leap_seconds, unix_leap_time).ok(),
+            Some(unix_time)
+        );
+    }
+}
+
+#[test]
+fn the_ends_without_leap_seconds(rt: HostRuntime) {
+    for unix_time in [i64::MIN + 1, -1, 0, i64::MAX] {
+        assert_eq!(rt; leap_of(&[], unix_time).ok(), Some(unix_time));
+        assert_eq!(rt; effect_of(&[], unix_time).ok(), Some(unix_time));
+    }
+    assert_eq!(rt; leap_of(&[], i64::MIN).ok(), Some(i64::MIN));
+    assert!(rt; is_out_of_range(effect_of(&[], i64::MIN)));
+}
+
+#[test]
+fn the_ends_with_a_second_more(rt: HostRuntime) {
+    let leap_seconds = [LeapSecond::new(0, 1)];
+    assert_eq!(rt; leap_of(&leap_seconds, i64::MIN).ok(), Some(i64::MIN));
+    assert_eq!(rt; leap_of(&leap_seconds, i64::MAX - 1).ok(), Some(i64::MAX));
+    assert!(rt; is_out_of_range(leap_of(&leap_seconds, i64::MAX)));
+    assert!(rt; is_out_of_range(effect_of(&leap_seconds, i64::MIN)));
+    assert_eq!(rt;
+        effect_of(&leap_seconds, i64::MIN + 1).ok(),
+        Some(i64::MIN + 1)
+    );
+    assert_eq!(rt; effect_of(&leap_seconds, i64::MAX).ok(), Some(i64::MAX - 1));
+}
+
+#[test]
+fn the_ends_with_a_second_less(rt: HostRuntime) {
+    let leap_seconds = [LeapSecond::new(0, -1)];
+    assert_eq!(rt; leap_of(&leap_seconds, i64::MIN).ok(), Some(i64::MIN));
+    assert_eq!(rt; leap_of(&leap_seconds, i64::MAX).ok(), Some(i64::MAX - 1));
+    assert_eq!(rt; effect_of(&leap_seconds, i64::MAX - 1).ok(), Some(i64::MAX));
+    assert!(rt; is_out_of_range(effect_of(&leap_seconds, i64::MAX)));
+}
+
+/// A correction that is no longer in force is out of range all the same.
+#[test]
+fn the_ends_with_a_second_more_and_less(rt: HostRuntime) {
+    let leap_seconds = [LeapSecond::new(0, 1), LeapSecond::new(2_419_199, 0)];
+    assert_eq!(rt;
+        leap_of(&leap_seconds, i64::MAX - 1).ok(),
+        Some(i64::MAX - 1)
+    );
+    assert!(rt; is_out_of_range(leap_of(&leap_seconds, i64::MAX)));
+    assert!(rt; is_out_of_range(effect_of(&leap_seconds, i64::MAX)));
+}
+
+/// Leap times rise from instant to instant but at a second less, and effects are least.
+#[test]
+fn leap_seconds_of_both_kinds(rt: HostRuntime) {
+    let leap_seconds = [
+        LeapSecond::new(3, -1),
+        LeapSecond::new(2_419_202, 0),
+        LeapSecond::new(4_838_401, 1),
+        LeapSecond::new(7_257_600, 0),
+    ];
+    for (unix_time, unix_leap_time) in [
+        (2, 2),
+        (3, 2),
+        (2_419_202, 2_419_201),
+        (2_419_203, 2_419_203),
+        (4_838_400, 4_838_400),
+        (4_838_401, 4_838_402),
+        (7_257_598, 7_257_599),
+        (7_257_599, 7_257_599),
+    ] {
+        assert_eq!(rt;
+            leap_of(&leap_seconds, unix_time).ok(),
+            Some(unix_leap_time)
+        );
+    }
+    for (unix_leap_time, unix_time) in [
+        (2, 2),
+        (3, 4),
+        (2_419_201, 2_419_202),
+        (2_419_202, 2_419_203),
+        (2_419_203, 2_419_203),
+        (4_838_401, 4_838_401),
+        (7_257_599, 7_257_598),
+        (7_257_600, 7_257_600),
+    ] {
+        assert_eq!(rt;
+            effect_of(&leap_seconds, unix_leap_time).ok(),
+            Some(unix_time)
+        );
+    }
+}

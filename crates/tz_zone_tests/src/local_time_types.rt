@@ -1,0 +1,130 @@
+//! Names of every length and byte, the parts of a type, and which refusal comes first.
+
+use std::test::Fail;
+use tz_base::error::timezone::LocalTimeTypeError;
+use tz_zone::timezone::LocalTimeType;
+
+/// The refusal of a type with this name, if it is refused.
+fn fault_of_name(name: &[u8]) -> Option<LocalTimeTypeError> {
+    LocalTimeType::new(0, false, Some(name)).err()
+}
+
+#[test]
+fn names_have_one_to_seven_bytes(rt: HostRuntime) {
+    let length = LocalTimeTypeError::InvalidTimeZoneDesignationLength;
+    let char = LocalTimeTypeError::InvalidTimeZoneDesignationChar;
+    for (name, fault) in [
+        (b"".as_slice(), Some(length)),
+        (b"1".as_slice(), None),
+        (b"-03".as_slice(), None),
+        (b"1234567".as_slice(), None),
+        (b"12345678".as_slice(), Some(length)),
+        (b"1234567\0".as_slice(), Some(length)),
+        (b"123\0\0\0".as_slice(), Some(char)),
+        (b"\0".as_slice(), Some(char)),
+        (b"AB CD".as_slice(), Some(char)),
+    ] {
+        assert_eq!(rt; fault_of_name(name), fault, "{name:?}");
+    }
+}
+
+#[test]
+fn names_have_letters_digits_and_signs(rt: HostRuntime) {
+    let mut accepted = 0u8;
+    for byte in 0..=u8::MAX {
+        let expected = byte.is_ascii_alphanumeric() || byte == b'+' || byte == b'-';
+        for name in [[byte, b'A', b'A'], [b'A', byte, b'A'], [b'A', b'A', byte]] {
+            assert_eq!(rt; fault_of_name(&name).is_none(), expected, "{byte}");
+        }
+        accepted = accepted.wrapping_add(u8::from(expected));
+    }
+    assert_eq!(rt; accepted, 64);
+}
+
+#[test]
+fn the_first_fault_is_named(rt: HostRuntime) {
+    let offset = LocalTimeTypeError::InvalidUtcOffset;
+    let length = LocalTimeTypeError::InvalidTimeZoneDesignationLength;
+    let char = LocalTimeTypeError::InvalidTimeZoneDesignationChar;
+    for (ut_offset, name, fault) in [
+        (i32::MIN, Some(b"12345 78".as_slice()), offset),
+        (i32::MIN, Some(b"12 4".as_slice()), offset),
+        (i32::MIN, None, offset),
+        (i32::MIN + 1, Some(b"12345 78".as_slice()), length),
+        (i32::MIN + 1, Some(b"12 4".as_slice()), char),
+    ] {
+        assert_eq!(rt; LocalTimeType::new(ut_offset, true, name), Err(fault));
+    }
+}
+
+#[test]
+fn a_type_has_its_parts(rt: HostRuntime) -> Result<(), LocalTimeTypeError> {
+    for (ut_offset, is_dst, name, text) in [
+        (-37886, false, Some(b"LMT".as_slice()), "LMT"),
+        (50400, true, Some(b"+14".as_slice()), "+14"),
+        (i32::MAX, true, Some(b"aZ09+-x".as_slice()), "aZ09+-x"),
+        (i32::MIN + 1, false, Some(b"Z".as_slice()), "Z"),
+        (3600, true, None, ""),
+    ] {
+        let local_time_type = LocalTimeType::new(ut_offset, is_dst, name)?;
+        assert_eq!(rt; local_time_type.ut_offset(), ut_offset);
+        assert_eq!(rt; local_time_type.is_dst(), is_dst);
+        assert_eq!(rt; local_time_type.time_zone_designation(), text);
+    }
+    Ok(())
+}
+
+#[test]
+fn plain_types_have_an_offset_alone(rt: HostRuntime) -> Result<(), LocalTimeTypeError> {
+    for ut_offset in [i32::MIN + 1, -1, 0, 3600, i32::MAX] {
+        let plain = LocalTimeType::with_ut_offset(ut_offset)?;
+        assert_eq!(rt; plain, LocalTimeType::new(ut_offset, false, None)?);
+        assert_eq!(rt; plain.ut_offset(), ut_offset);
+        assert!(rt; !plain.is_dst());
+        assert_eq!(rt; plain.time_zone_designation(), "");
+    }
+    assert_eq!(rt; LocalTimeType::utc(), LocalTimeType::with_ut_offset(0)?);
+    assert_eq!(rt;
+        LocalTimeType::with_ut_offset(i32::MIN),
+        Err(LocalTimeTypeError::InvalidUtcOffset)
+    );
+    Ok(())
+}
+
+#[test]
+fn equal_types_have_equal_parts(rt: HostRuntime) -> Result<(), LocalTimeTypeError> {
+    let types = [
+        LocalTimeType::new(3600, false, Some(b"CET"))?,
+        LocalTimeType::new(3601, false, Some(b"CET"))?,
+        LocalTimeType::new(3600, true, Some(b"CET"))?,
+        LocalTimeType::new(3600, false, Some(b"CEU"))?,
+        LocalTimeType::new(3600, false, Some(b"CE"))?,
+        LocalTimeType::new(3600, false, Some(b"CET0"))?,
+        LocalTimeType::new(3600, false, None)?,
+    ];
+    for (i, one) in types.iter().enumerate() {
+        for (j, other) in types.iter().enumerate() {
+            assert_eq!(rt; one == other, i == j, "{i} {j}");
+        }
+    }
+    Ok(())
+}
+
+#[test]
+fn types_print_their_parts(rt: HostRuntime) -> Result<(), Fail> {
+    let cet = LocalTimeType::new(3600, false, Some(b"CET"))?;
+    for (local_time_type, text) in [
+        (
+            LocalTimeType::utc(),
+            "LocalTimeType { ut_offset: 0, is_dst: false, time_zone_designation: None }",
+        ),
+        (
+            cet,
+            "LocalTimeType { ut_offset: 3600, is_dst: false, time_zone_designation: Some(\"CET\") }",
+        ),
+    ] {
+        let printed = format!(in rt.alloc(); "{local_time_type:?}")?;
+        assert_eq!(rt; printed.as_str(), text);
+    }
+    Ok(())
+}

@@ -1,0 +1,83 @@
+//! The allocator that refuses, and what collections hold once it has refused.
+
+use std::alloc::{AllocError, Allocator};
+use std::test::Fail;
+use tz_base::refusing::Refusing;
+
+fn joined<A: Allocator + Copy>(alloc: A, words: &[&str]) -> Result<String<A>, AllocError> {
+    let mut parts = Vec::new(alloc);
+    for word in words {
+        parts.push(String::from_str(alloc, word)?)?;
+    }
+    let mut text = String::new(alloc);
+    for part in &parts {
+        text.push_str(part.as_str())?;
+    }
+    Ok(text)
+}
+
+#[test]
+fn passes_on_as_many_as_it_was_given(rt: HostRuntime) {
+    for left in 0..4u64 {
+        let heap = Refusing::new(rt.alloc(), left);
+        for asked in 0..6u64 {
+            let passed_on = Box::new(&heap, 7u8).is_ok();
+            assert_eq!(rt; passed_on, asked < left, "{asked} of {left}");
+        }
+        assert_eq!(rt; heap.refused(), 6 - left);
+    }
+}
+
+#[test]
+fn a_vec_keeps_its_items(rt: HostRuntime) -> Result<(), Fail> {
+    let heap = Refusing::new(rt.alloc(), 1);
+    let mut v = Vec::with_capacity(&heap, 2)?;
+    v.push(1u8)?;
+    v.push(2)?;
+    assert!(rt; v.push(3).is_err());
+    assert_eq!(rt; v.as_slice(), [1, 2].as_slice());
+    assert_eq!(rt; heap.refused(), 1);
+    Ok(())
+}
+
+#[test]
+fn a_string_keeps_its_text(rt: HostRuntime) -> Result<(), Fail> {
+    let heap = Refusing::new(rt.alloc(), 1);
+    let mut s = String::from_str(&heap, "ab")?;
+    assert!(rt; s.push_str("a longer text than the first").is_err());
+    assert_eq!(rt; s.as_str(), "ab");
+    assert_eq!(rt; heap.refused(), 1);
+    Ok(())
+}
+
+#[test]
+fn refuses_each_allocation_in_turn(rt: HostRuntime) {
+    let mut refusals = 0u64;
+    for left in 0..20u64 {
+        let heap = Refusing::new(rt.alloc(), left);
+        match joined(&heap, &["no", "more", "room"]) {
+            Ok(text) => assert_eq!(rt; text.as_str(), "nomoreroom"),
+            Err(AllocError) => refusals = left + 1,
+        }
+        assert_eq!(rt; heap.refused(), u64::from(left < refusals));
+        assert_eq!(rt; heap.held(), 0);
+    }
+    assert!(rt; refusals > 3);
+    assert!(rt; refusals < 20);
+}
+
+#[test]
+fn frees_by_the_inner_allocator(rt: HostRuntime) -> Result<(), Fail> {
+    let inner = Refusing::new(rt.alloc(), 10);
+    let heap = Refusing::new(&inner, 10);
+    let mut v = Vec::with_capacity(&heap, 1)?;
+    for item in 0..100u8 {
+        v.push(item)?;
+    }
+    assert_eq!(rt; v.len(), 100);
+    assert_eq!(rt; v.last(), Some(&99));
+    assert_eq!(rt; (heap.held(), inner.held()), (1, 1));
+    drop(v);
+    assert_eq!(rt; (heap.held(), inner.held()), (0, 0));
+    Ok(())
+}

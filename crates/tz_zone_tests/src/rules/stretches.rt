@@ -1,0 +1,129 @@
+//! Stretches of rules beside the types at their instants.
+
+use super::{Refusal, j, m, rule, start_in, z};
+use tz_rule::inner::{self, Stretch};
+use tz_rule::timezone::{AlternateTime, TransitionRule};
+
+/// Whether a rule has daylight saving time at an instant.
+fn is_daylight_at(rule: &AlternateTime, unix_time: i64) -> Option<bool> {
+    let rule = TransitionRule::Alternate(*rule);
+    match inner::find_local_time_type(&rule, unix_time) {
+        Ok(found) => Some(found.is_dst()),
+        Err(_) => None,
+    }
+}
+
+/// Whether the rule has the stretch's type at its ends and at instants between them, and the other type before it and after it.
+fn is_one_span(rule: &AlternateTime, stretch: &Stretch) -> bool {
+    let step = stretch.until.wrapping_sub(stretch.from) / 8;
+    for part in 0..8i64 {
+        let unix_time = stretch.from.wrapping_add(step.wrapping_mul(part));
+        if is_daylight_at(rule, unix_time) != Some(stretch.is_daylight) {
+            return false;
+        }
+    }
+    is_daylight_at(rule, stretch.until.wrapping_sub(1)) == Some(stretch.is_daylight)
+        && is_daylight_at(rule, stretch.from.wrapping_sub(1)) == Some(!stretch.is_daylight)
+        && is_daylight_at(rule, stretch.until) == Some(!stretch.is_daylight)
+}
+
+/// Whether the stretch around an instant has one type, where one is found or need not be.
+fn is_right(rule: &AlternateTime, unix_time: i64, need_not_be_found: bool) -> bool {
+    match inner::stretch(rule, unix_time) {
+        Some(stretch) => {
+            stretch.from <= unix_time && unix_time < stretch.until && is_one_span(rule, &stretch)
+        }
+        None => need_not_be_found,
+    }
+}
+
+/// Whether stretches are right near the start and the end of a year, and near its January 1st.
+fn are_right_in(rule: &AlternateTime, year: i32, need_not_be_found: bool) -> bool {
+    let Some(new_year) = start_in(z(0, 0), year) else {
+        return false;
+    };
+    for instant in [inner::start(rule, year), inner::end(rule, year), new_year] {
+        for distance in [-1_728_000i64, -86_400, -1, 0, 1, 86_400, 1_728_000] {
+            if !is_right(rule, instant.wrapping_add(distance), need_not_be_found) {
+                return false;
+            }
+        }
+    }
+    true
+}
+
+/// Whether stretches are right in near and far years.
+fn are_right(rule: Result<AlternateTime, Refusal>, need_not_be_found: bool) -> bool {
+    let Ok(rule) = rule else {
+        return false;
+    };
+    for year in 1899..2001i32 {
+        if !are_right_in(&rule, year, need_not_be_found) {
+            return false;
+        }
+    }
+    for step in 0..40i32 {
+        if !are_right_in(
+            &rule,
+            step.wrapping_sub(20).wrapping_mul(91_234_567),
+            need_not_be_found,
+        ) {
+            return false;
+        }
+    }
+    true
+}
+
+#[test]
+fn stretches_lie_between_starts_and_ends(rt: HostRuntime) {
+    let paris = rule(3600, 7200, m(3, 5, 0, 7200), m(10, 5, 0, 10_800));
+    assert!(rt; are_right(paris, false));
+    let auckland = rule(43_200, 46_800, m(9, 5, 0, 7200), m(4, 1, 0, 10_800));
+    assert!(rt; are_right(auckland, false));
+    let dublin = rule(3600, 0, m(10, 5, 0, 7200), m(3, 5, 0, 3600));
+    assert!(rt; are_right(dublin, false));
+    let fiji = rule(43_200, 46_800, m(11, 2, 0, 0), m(1, 2, 3, 356_400));
+    assert!(rt; are_right(fiji, false));
+    let days = rule(0, 3600, j(60, 0), z(300, -86_400));
+    assert!(rt; are_right(days, false));
+    let short = rule(0, 0, z(100, 0), z(101, -86_500));
+    assert!(rt; are_right(short, false));
+}
+
+#[test]
+fn stretches_near_the_end_of_the_year_are_right_or_not_found(rt: HostRuntime) {
+    let from_new_year = rule(0, 3600, z(0, 0), j(200, 0));
+    assert!(rt; are_right(from_new_year, true));
+    let to_new_year = rule(0, 3600, j(200, 0), j(365, 90_000));
+    assert!(rt; are_right(to_new_year, true));
+    let over_new_year = rule(3600, -3600, z(365, 86_400), m(1, 2, 0, 0));
+    assert!(rt; are_right(over_new_year, true));
+    let in_december = rule(-7200, 3600, m(12, 4, 0, -500_000), m(6, 1, 0, 500_000));
+    assert!(rt; are_right(in_december, true));
+    let in_january = rule(-7200, 3600, m(6, 1, 0, 500_000), m(1, 2, 0, -500_000));
+    assert!(rt; are_right(in_january, true));
+}
+
+#[test]
+fn no_stretches_without_standard_time_or_years(rt: HostRuntime) {
+    let all_year = rule(-18_000, -14_400, z(0, 0), j(365, 90_000));
+    let (Ok(all_year), Ok(paris)) = (
+        all_year,
+        rule(3600, 7200, m(3, 5, 0, 7200), m(10, 5, 0, 10_800)),
+    ) else {
+        panic!(rt; "refused");
+    };
+    for unix_time in [0, 1_000_000_000, i64::MIN, i64::MAX] {
+        assert!(rt; inner::stretch(&all_year, unix_time).is_none());
+    }
+    for unix_time in [i64::MIN, i64::MAX, -60_000_000_000_000_001] {
+        assert!(rt; inner::stretch(&paris, unix_time).is_none());
+    }
+    // Daylight saving time of 2024.
+    let Some(found) = inner::stretch(&paris, 1_720_000_000) else {
+        panic!(rt; "no stretch");
+    };
+    assert_eq!(rt; found.from, 1_711_846_800);
+    assert_eq!(rt; found.until, 1_729_990_800);
+    assert!(rt; found.is_daylight);
+}

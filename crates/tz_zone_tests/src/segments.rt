@@ -1,0 +1,121 @@
+//! Segments of zones with an alternate rule, from its seam on, beside the types at their instants.
+
+use std::process::Abort;
+use tz_base::error::TzError;
+use tz_zone::inner::segment_at;
+use tz_zone::timezone::{
+    AlternateTime, LeapSecond, LocalTimeType, MonthWeekDay, RuleDay, TimeZoneRef, Transition,
+    TransitionRule,
+};
+
+/// Central European time.
+fn central() -> Result<AlternateTime, TzError> {
+    Ok(AlternateTime::new(
+        LocalTimeType::new(3600, false, Some(b"CET"))?,
+        LocalTimeType::new(7200, true, Some(b"CEST"))?,
+        RuleDay::MonthWeekDay(MonthWeekDay::new(3, 5, 0)?),
+        7200,
+        RuleDay::MonthWeekDay(MonthWeekDay::new(10, 5, 0)?),
+        10_800,
+    )?)
+}
+
+/// Southern time whose daylight saving time ends in the first days of January.
+fn to_january() -> Result<AlternateTime, TzError> {
+    Ok(AlternateTime::new(
+        LocalTimeType::new(3600, false, Some(b"CET"))?,
+        LocalTimeType::new(7200, true, Some(b"CEST"))?,
+        RuleDay::MonthWeekDay(MonthWeekDay::new(10, 5, 0)?),
+        7200,
+        RuleDay::MonthWeekDay(MonthWeekDay::new(1, 1, 0)?),
+        10_800,
+    )?)
+}
+
+/// The offset at an instant.
+fn offset_at(zone: TimeZoneRef<'_>, unix_time: i64) -> Option<i32> {
+    match zone.find_local_time_type(unix_time) {
+        Ok(found) => Some(found.ut_offset()),
+        Err(_) => None,
+    }
+}
+
+/// The segment around an instant goes so far, and has the offset of its ends.
+fn expect_segment(
+    rt: &impl Abort,
+    zone: TimeZoneRef<'_>,
+    unix_time: i64,
+    from: i64,
+    until: i64,
+    number: usize,
+) {
+    let Some(found) = segment_at(zone, unix_time) else {
+        panic!(rt; "no segment at {unix_time}");
+    };
+    assert_eq!(rt; found.from, from, "{unix_time}");
+    assert_eq!(rt; found.until, until, "{unix_time}");
+    assert_eq!(rt; found.number, number, "{unix_time}");
+    let offset = offset_at(zone, unix_time);
+    assert_eq!(rt; offset_at(zone, from), offset, "{unix_time}");
+    assert_eq!(rt; offset_at(zone, until - 1), offset, "{unix_time}");
+}
+
+#[test]
+fn segments_of_a_rule_begin_at_the_seam(rt: HostRuntime) -> Result<(), TzError> {
+    let types = [
+        LocalTimeType::new(3600, false, Some(b"CET"))?,
+        LocalTimeType::new(7200, true, Some(b"CEST"))?,
+    ];
+    let rule = Some(TransitionRule::Alternate(central()?));
+    // Summer of 2024 begins at 1711846800 and ends at 1729990800, and that of 2025 begins at 1743296400.
+    let transitions = [
+        Transition::new(1_000_000_000, 0),
+        Transition::new(1_720_000_000, 1),
+    ];
+    let zone = TimeZoneRef::new(&transitions, &types, &[], &rule)?;
+    expect_segment(&rt, zone, 1_719_999_999, 1_000_000_000, 1_720_000_000, 0);
+    expect_segment(&rt, zone, 1_720_000_000, 1_720_000_000, 1_729_990_800, 3);
+    expect_segment(&rt, zone, 1_729_990_799, 1_720_000_000, 1_729_990_800, 3);
+    expect_segment(&rt, zone, 1_729_990_800, 1_729_990_800, 1_743_296_400, 2);
+    expect_segment(&rt, zone, 1_735_689_600, 1_729_990_800, 1_743_296_400, 2);
+
+    let zone = TimeZoneRef::new(&[], &types, &[], &rule)?;
+    expect_segment(&rt, zone, 1_719_999_999, 1_711_846_800, 1_729_990_800, 3);
+    expect_segment(&rt, zone, 1_735_689_599, 1_729_990_800, 1_743_296_400, 2);
+    assert!(rt; segment_at(zone, i64::MAX).is_none());
+    assert!(rt; segment_at(zone, i64::MIN).is_none());
+    Ok(())
+}
+
+#[test]
+fn segments_of_a_rule_begin_at_the_effect_of_the_last_transition(
+    rt: HostRuntime,
+) -> Result<(), TzError> {
+    let types = [
+        LocalTimeType::new(3600, false, Some(b"CET"))?,
+        LocalTimeType::new(7200, true, Some(b"CEST"))?,
+    ];
+    let rule = Some(TransitionRule::Alternate(central()?));
+    let transitions = [Transition::new(1_720_000_002, 1)];
+    let leap_seconds = [
+        LeapSecond::new(78_796_800, 1),
+        LeapSecond::new(94_694_401, 2),
+    ];
+    let zone = TimeZoneRef::new(&transitions, &types, &leap_seconds, &rule)?;
+    expect_segment(&rt, zone, 1_725_000_000, 1_720_000_000, 1_729_990_800, 3);
+    expect_segment(&rt, zone, 1_735_689_600, 1_729_990_800, 1_743_296_400, 2);
+    Ok(())
+}
+
+#[test]
+fn segments_of_a_rule_near_the_end_of_the_year_last_a_second(
+    rt: HostRuntime,
+) -> Result<(), TzError> {
+    let types = [LocalTimeType::new(3600, false, Some(b"CET"))?];
+    let rule = Some(TransitionRule::Alternate(to_january()?));
+    let zone = TimeZoneRef::new(&[], &types, &[], &rule)?;
+    for (unix_time, number) in [(1_735_689_600, 2), (1_720_000_000, 1)] {
+        expect_segment(&rt, zone, unix_time, unix_time, unix_time + 1, number);
+    }
+    Ok(())
+}
