@@ -1,25 +1,15 @@
 //! One test for each example.
 
-use crate::clocks::{new_year_an_hour_behind, print_instant, show_now};
-use crate::meetings::{alarm, count_meanings, next_monday_at_nine, weekly_meetings};
-use crate::queries::answer_lines;
-use crate::zones::{local_time, local_zone, moved_ahead_in_2000, zone_of_setting};
+use super::clocks::{new_year_an_hour_behind, print_instant, show_now};
+use super::meetings::{alarm, count_meanings, next_monday_at_nine, weekly_meetings};
+use super::queries::answer_lines;
+use super::zones::{local_time, local_zone, moved_ahead_in_2000, zone_of_setting};
+use crate::samples::JERUSALEM_V3;
 use std::test::Fail;
 use tz::{Error, UtcDateTime};
 
 /// The clocks of central Europe.
 const CENTRAL_EUROPE: &str = "CET-1CEST,M3.5.0,M10.5.0/3";
-
-/// Israel from 2038 on, as a file of version 3.
-const JERUSALEM: &[u8] = b"TZif3\
-    \0\0\0\0\0\0\0\0\0\0\0\0\0\0\0\
-    \0\0\0\0\0\0\0\0\0\0\0\0\0\0\0\0\0\0\0\x01\0\0\0\x04\
-    \0\0\x1c\x20\0\0IST\0\
-    TZif3\
-    \0\0\0\0\0\0\0\0\0\0\0\0\0\0\0\
-    \0\0\0\x01\0\0\0\x01\0\0\0\0\0\0\0\x01\0\0\0\x01\0\0\0\x04\
-    \0\0\0\0\x7f\xe8\x17\x80\0\0\0\x1c\x20\0\0IST\0\x01\x01\
-    \nIST-2IDT,M3.4.4/26,M10.5.0\n";
 
 #[test]
 fn instants_are_shown(rt: HostRuntime) -> Result<(), Fail> {
@@ -27,7 +17,7 @@ fn instants_are_shown(rt: HostRuntime) -> Result<(), Fail> {
     let zone = zone_of_setting(&rt, alloc, CENTRAL_EUROPE)?;
     let text = print_instant(alloc, zone.as_ref(), 954_032_400)?;
     assert_eq!(rt; text.as_str(), "2000-03-26T03:00:00.000000000+02:00 CEST");
-    let local = format!(in alloc; "{}", local_time(alloc, JERUSALEM, 2_216_073_600)?)?;
+    let local = format!(in alloc; "{}", local_time(alloc, JERUSALEM_V3, 2_216_073_600)?)?;
     assert_eq!(rt; local.as_str(), "2040-03-23T03:00:00.000000000+03:00");
     let behind = format!(in alloc; "{}", new_year_an_hour_behind(alloc)?)?;
     assert_eq!(rt; behind.as_str(), "2023-12-31T23:00:00.000000000-01:00");
@@ -44,7 +34,7 @@ fn instants_are_shown(rt: HostRuntime) -> Result<(), Fail> {
 
 #[test]
 fn query_lines_are_answered(rt: HostRuntime) -> Result<(), Fail> {
-    let answers = answer_lines(rt.alloc(), JERUSALEM, b"T 2216073600 0\nT\n")?;
+    let answers = answer_lines(rt.alloc(), JERUSALEM_V3, b"T 2216073600 0\nT\n")?;
     let wanted = b"2040-03-23T03:00:00.000000000+03:00 IDT\nE Line\n";
     assert_eq!(rt; answers.as_slice(), wanted.as_slice());
     Ok(())
