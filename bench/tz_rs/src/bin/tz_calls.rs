@@ -1,4 +1,4 @@
-//! Makes one call of tz-rs many times: `tz_calls CALL TIMES SETTING`. It is crates/tz_calls over tz-rs, and prints the same sums.
+//! Makes one call of tz-rs many times: `tz_calls CALL TIMES SETTING`. It is bench/tz_calls/main.rt.txt over tz-rs, and prints the same sums.
 
 use std::env;
 use std::error::Error;
