@@ -1,13 +1,8 @@
-//! Tests of what reads zones: files, TZ strings and settings.
+//! Tests of the reader of TZif files, and samples for the tests of all that reads zones.
 #![tactic(auto)]
 
 #[cfg(test)]
 mod files;
-#[cfg(test)]
-mod samples;
-#[cfg(test)]
-mod settings;
+pub mod samples;
 #[cfg(test)]
 mod tz_files;
-#[cfg(test)]
-mod tz_strings;

@@ -9,9 +9,26 @@ use tz_zone::timezone::{
     AlternateTime, LocalTimeType, MonthWeekDay, RuleDay, TimeZone, TransitionRule,
 };
 
+/// A file of version 1 with one type, UTC.
+pub const UTC_V1: &[u8] = b"TZif\0\
+    \0\0\0\0\0\0\0\0\0\0\0\0\0\0\0\
+    \0\0\0\0\0\0\0\0\0\0\0\0\0\0\0\0\0\0\0\x01\0\0\0\x04\
+    \0\0\0\0\0\0UTC\0";
+
+/// Israel from 2038 on, as a file of version 3: one type of two hours east, in the second block a transition to it, and a rule.
+pub const JERUSALEM_V3: &[u8] = b"TZif3\
+    \0\0\0\0\0\0\0\0\0\0\0\0\0\0\0\
+    \0\0\0\0\0\0\0\0\0\0\0\0\0\0\0\0\0\0\0\x01\0\0\0\x04\
+    \0\0\x1c\x20\0\0IST\0\
+    TZif3\
+    \0\0\0\0\0\0\0\0\0\0\0\0\0\0\0\
+    \0\0\0\x01\0\0\0\x01\0\0\0\0\0\0\0\x01\0\0\0\x01\0\0\0\x04\
+    \0\0\0\0\x7f\xe8\x17\x80\0\0\0\x1c\x20\0\0IST\0\x01\x01\
+    \nIST-2IDT,M3.4.4/26,M10.5.0\n";
+
 /// A refusal that can be compared.
 #[derive(Debug, Drop, PartialEq, Eq)]
-pub(crate) enum Fault {
+pub enum Fault {
     File(TzFileError),
     Number,
     Text(TzStringError),
@@ -25,7 +42,7 @@ pub(crate) enum Fault {
 }
 
 /// The refusal, to be compared.
-pub(crate) fn named(error: TzError) -> Fault {
+pub fn named(error: TzError) -> Fault {
     match error {
         TzError::TzFile(part) => Fault::File(part),
         TzError::TzString(TzStringError::ParseInt(_)) => Fault::Number,
@@ -40,7 +57,7 @@ pub(crate) fn named(error: TzError) -> Fault {
 }
 
 /// The refusal of the settings, to be compared.
-pub(crate) fn named_by_settings(error: Error) -> Fault {
+pub fn named_by_settings(error: Error) -> Fault {
     match error {
         Error::Io(_) => Fault::Io,
         Error::Tz(error) => named(error),
@@ -48,11 +65,7 @@ pub(crate) fn named_by_settings(error: Error) -> Fault {
 }
 
 /// Writes a header: the counts of UT/local and standard/wall indicators, leap seconds, transitions, types and name bytes.
-pub(crate) fn push_header(
-    bytes: &mut Vec<u8>,
-    version: u8,
-    counts: &[u32],
-) -> Result<(), AllocError> {
+pub fn push_header(bytes: &mut Vec<u8>, version: u8, counts: &[u32]) -> Result<(), AllocError> {
     bytes.extend_from_slice(b"TZif")?;
     bytes.push(version)?;
     bytes.extend_from_slice(&[0; 15])?;
@@ -62,16 +75,13 @@ pub(crate) fn push_header(
     Ok(())
 }
 
-/// A file of version 1 with one type, UTC.
-pub(crate) fn utc_v1(alloc: Global) -> Result<Vec<u8>, AllocError> {
-    let mut bytes = Vec::new(alloc);
-    push_header(&mut bytes, 0, &[0, 0, 0, 0, 1, 4])?;
-    bytes.extend_from_slice(b"\0\0\0\0\0\0UTC\0")?;
-    Ok(bytes)
+/// The bytes of `UTC_V1`, to be altered.
+pub fn utc_v1(alloc: Global) -> Result<Vec<u8>, AllocError> {
+    Vec::from_slice(alloc, UTC_V1)
 }
 
 /// A file with one type, UTC, without transitions, and a footer.
-pub(crate) fn without_transitions(
+pub fn without_transitions(
     alloc: Global,
     version: u8,
     footer: &[u8],
@@ -86,14 +96,14 @@ pub(crate) fn without_transitions(
 }
 
 /// The rule that the settings read in an ordinary text, where no file can be read.
-pub(crate) fn ordinary_rule(alloc: Global, text: &str) -> Result<Option<TransitionRule>, Error> {
+pub fn ordinary_rule(alloc: Global, text: &str) -> Result<Option<TransitionRule>, Error> {
     let no_file = |_: &str| Err(ReadFault::Failed(anyhow!("no file")));
     let zone = TimeZone::from_posix_tz(alloc, no_file, text)?;
     Ok(*zone.as_ref().extra_rule())
 }
 
 /// The rule that a file of version 3 has in its footer, where day times are of up to a week.
-pub(crate) fn extended_rule(alloc: Global, text: &str) -> Result<Option<TransitionRule>, TzError> {
+pub fn extended_rule(alloc: Global, text: &str) -> Result<Option<TransitionRule>, TzError> {
     let footer = format!(in alloc; "\n{text}\n")?;
     let bytes = without_transitions(alloc, b'3', footer.as_bytes())?;
     let zone = TimeZone::from_tz_data(alloc, &bytes)?;
@@ -101,7 +111,7 @@ pub(crate) fn extended_rule(alloc: Global, text: &str) -> Result<Option<Transiti
 }
 
 /// The rule of `CET-1CEST,M3.5.0,M10.5.0/3`.
-pub(crate) fn central_europe() -> Result<AlternateTime, TzError> {
+pub fn central_europe() -> Result<AlternateTime, TzError> {
     let rule = AlternateTime::new(
         LocalTimeType::new(3600, false, Some(b"CET"))?,
         LocalTimeType::new(7200, true, Some(b"CEST"))?,

@@ -1,8 +1,6 @@
-//! Tests of query lines and of the program, and examples of the crates `tz` and `tz_query`.
+//! Tests of query lines and of the program.
 #![tactic(auto)]
 
-#[cfg(test)]
-mod examples;
 #[cfg(test)]
 mod failing;
 #[cfg(test)]

@@ -1,6 +1,6 @@
 //! `F` lines over zones whose answers are known.
 
-use crate::samples::{JERUSALEM_V3, central_europe};
+use crate::samples::central_europe;
 use std::alloc::{Allocator, Global};
 use std::process::Abort;
 use std::test::Fail;
@@ -10,6 +10,7 @@ use tz::timezone::{
 };
 use tz::{LocalTimeType, TimeZone, TimeZoneRef, TzError};
 use tz_base::refusing::Refusing;
+use tz_file_tests::samples::JERUSALEM_V3;
 use tz_query::query::answer;
 
 /// The queries have these answers.

@@ -1,9 +1,5 @@
-//! Tests of date times: made, printed and searched for.
+//! Tests of searches.
 #![tactic(auto)]
 
 #[cfg(test)]
-mod date_times;
-#[cfg(test)]
 mod find;
-#[cfg(test)]
-mod printed;

@@ -2,23 +2,12 @@
 
 use std::process::Abort;
 use tz_base::error::TzError;
+use tz_file_tests::samples::central_europe;
 use tz_zone::inner::segment_at;
 use tz_zone::timezone::{
     AlternateTime, LeapSecond, LocalTimeType, MonthWeekDay, RuleDay, TimeZoneRef, Transition,
     TransitionRule,
 };
-
-/// Central European time.
-fn central() -> Result<AlternateTime, TzError> {
-    Ok(AlternateTime::new(
-        LocalTimeType::new(3600, false, Some(b"CET"))?,
-        LocalTimeType::new(7200, true, Some(b"CEST"))?,
-        RuleDay::MonthWeekDay(MonthWeekDay::new(3, 5, 0)?),
-        7200,
-        RuleDay::MonthWeekDay(MonthWeekDay::new(10, 5, 0)?),
-        10_800,
-    )?)
-}
 
 /// Southern time whose daylight saving time ends in the first days of January.
 fn to_january() -> Result<AlternateTime, TzError> {
@@ -66,7 +55,7 @@ fn segments_of_a_rule_begin_at_the_seam(rt: HostRuntime) -> Result<(), TzError> 
         LocalTimeType::new(3600, false, Some(b"CET"))?,
         LocalTimeType::new(7200, true, Some(b"CEST"))?,
     ];
-    let rule = Some(TransitionRule::Alternate(central()?));
+    let rule = Some(TransitionRule::Alternate(central_europe()?));
     // Summer of 2024 begins at 1711846800 and ends at 1729990800, and that of 2025 begins at 1743296400.
     let transitions = [
         Transition::new(1_000_000_000, 0),
@@ -95,7 +84,7 @@ fn segments_of_a_rule_begin_at_the_effect_of_the_last_transition(
         LocalTimeType::new(3600, false, Some(b"CET"))?,
         LocalTimeType::new(7200, true, Some(b"CEST"))?,
     ];
-    let rule = Some(TransitionRule::Alternate(central()?));
+    let rule = Some(TransitionRule::Alternate(central_europe()?));
     let transitions = [Transition::new(1_720_000_002, 1)];
     let leap_seconds = [
         LeapSecond::new(78_796_800, 1),

@@ -125,7 +125,7 @@ fn a_rule_200_years_from_the_ends(rt: HostRuntime) -> Result<(), Fail> {
     expect_texts_by_rule(
         &rt,
         rt.alloc(),
-        central_europe(rt.alloc())?,
+        central_europe()?,
         &[
             (
                 (i32::MIN + 200, 3, 26, 2, 30, 0),

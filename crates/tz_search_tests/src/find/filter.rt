@@ -127,7 +127,7 @@ fn jumps_that_cross(rt: HostRuntime) -> Result<(), Fail> {
 
 #[test]
 fn the_days_of_a_rule(rt: HostRuntime) -> Result<(), Fail> {
-    let rule = central_europe(rt.alloc())?;
+    let rule = central_europe()?;
     let types = [*rule.std(), *rule.dst()];
     let rule = Some(TransitionRule::Alternate(rule));
     let zone = TimeZoneRef::new(&[], &types, &[], &rule)?;

@@ -177,7 +177,7 @@ fn a_rule_s_own_years_take_looks_at_the_last_transitions_alone(
     rt: HostRuntime,
 ) -> Result<(), Fail> {
     let transitions = [Transition::new(0, 0)];
-    let rule = central_europe(rt.alloc())?;
+    let rule = central_europe()?;
     let types = [*rule.std(), *rule.dst()];
     let rule = Some(TransitionRule::Alternate(rule));
     let gap: &[Summary] = &[(13_576_813_200, 3600, 7200)];

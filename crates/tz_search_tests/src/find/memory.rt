@@ -43,7 +43,7 @@ fn growths(
 
 #[test]
 fn an_hour_twice_with_each_growth_refused(rt: HostRuntime) -> Result<(), Fail> {
-    let rule = central_europe(rt.alloc())?;
+    let rule = central_europe()?;
     let types = [*rule.std(), *rule.dst()];
     let rule = Some(TransitionRule::Alternate(rule));
     let zone = TimeZoneRef::new(&[], &types, &[], &rule)?;

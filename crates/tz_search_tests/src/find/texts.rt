@@ -97,7 +97,7 @@ fn an_hour_left_out_and_an_hour_twice(rt: HostRuntime) -> Result<(), Fail> {
     expect_texts_by_rule(
         &rt,
         rt.alloc(),
-        central_europe(rt.alloc())?,
+        central_europe()?,
         &[
             (
                 (2000, 3, 26, 2, 30, 0),

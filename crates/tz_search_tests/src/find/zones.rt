@@ -1,20 +1,7 @@
 //! Zones that several tests search in.
 
 use super::*;
-use anyhow::anyhow;
-use tz_base::error::ReadFault;
 use tz_base::error::timezone::LocalTimeTypeError;
-use tz_zone::timezone::TimeZone;
-
-/// The rule of Central Europe, as its TZ string has it.
-pub(super) fn central_europe(alloc: Global) -> Result<AlternateTime, Fail> {
-    let no_file = |_: &str| Err(ReadFault::Failed(anyhow!("no file")));
-    let zone = TimeZone::from_posix_tz(alloc, no_file, "CET-1CEST,M3.5.0,M10.5.0/3")?;
-    match zone.as_ref().extra_rule() {
-        Some(TransitionRule::Alternate(rule)) => Ok(*rule),
-        _ => Err("no alternate rule")?,
-    }
-}
 
 /// A zone with jumps over the same hour: its transitions and its types.
 pub(super) fn crossing() -> Result<([Transition; 6], [LocalTimeType; 5]), LocalTimeTypeError> {

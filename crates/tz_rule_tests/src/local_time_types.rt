@@ -2,7 +2,7 @@
 
 use std::test::Fail;
 use tz_base::error::timezone::LocalTimeTypeError;
-use tz_zone::timezone::LocalTimeType;
+use tz_rule::timezone::LocalTimeType;
 
 /// The refusal of a type with this name, if it is refused.
 fn fault_of_name(name: &[u8]) -> Option<LocalTimeTypeError> {

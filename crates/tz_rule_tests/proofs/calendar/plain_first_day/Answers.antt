@@ -2,7 +2,7 @@
 use Rattle.std.proofs.Common.{◌≡◌, ℕ, zero, suc, ◌<◌, ap, arith, ℤ, pos, negsuc, neg_ℤ, ◌+ℤ◌, ◌-ℤ◌}
 use Rattle.std.proofs.lemmas.Int.{ints}
 use Rattle.tz_base.specs.Days.{years_length_from_1970, years_length_before_1970, first_day, first_day_after}
-use Rattle.tz_zone_tests.proofs.calendar.plain_first_day.Goals as goal
+use Rattle.tz_rule_tests.proofs.calendar.plain_first_day.Goals as goal
 
 first_day-before : (year : ℤ) (n r : ℕ) → r ≡ years_length_before_1970 n → year +ℤ pos n ≡ pos 1970 → 0 < n → first_day year ≡ neg_ℤ (pos r)
 unfolding first_day

@@ -1,0 +1,9 @@
+//! Tests of date times, and examples of the crates `tz` and `tz_query`.
+#![tactic(auto)]
+
+#[cfg(test)]
+mod date_times;
+#[cfg(test)]
+mod examples;
+#[cfg(test)]
+mod printed;

@@ -1,0 +1,7 @@
+//! Tests of TZ strings and of settings.
+#![tactic(auto)]
+
+#[cfg(test)]
+mod settings;
+#[cfg(test)]
+mod tz_strings;
