@@ -1,0 +1,35 @@
+-- Each list's clone is the list.
+use Rattle.std.proofs.lemmas.List.Elements.{same_from_all_zip}
+use Rattle.std.proofs.lemmas.Result.{err_from_is_err_and}
+use Rattle.tz_zone.proofs.timezone.zone.TimeZone.try_clone.Goals as goal
+
+pub invariant_of-result : goal.invariant_of-result
+invariant_of-result g c =
+    let zone = c.args.self.now in
+    let transitions = same_from_all_zip _ zone.transitions.items c.in_ok-transitions.transitions.items c.in_ok-transitions.ensures.cases.0 (λ x y e. e) in
+    let types = same_from_all_zip _ zone.local_time_types.items c.in_ok-local_time_types.local_time_types.items c.in_ok-local_time_types.ensures.cases.0 (λ x y e. e) in
+    let leaps = same_from_all_zip _ zone.leap_seconds.items c.in_ok-leap_seconds.leap_seconds.items c.in_ok-leap_seconds.ensures.cases.0 (λ x y e. e) in
+    record { sound = rw (transitions, types, leaps) zone.sound; valid = rw (transitions, types, leaps) zone.valid }
+
+pub returns-clause-ok : goal.returns-clause-ok
+returns-clause-ok g c =
+    let zone = c.args.self.now in
+    let transitions = same_from_all_zip _ zone.transitions.items c.in_ok-transitions.transitions.items c.in_ok-transitions.ensures.cases.0 (λ x y e. e) in
+    let types = same_from_all_zip _ zone.local_time_types.items c.in_ok-local_time_types.local_time_types.items c.in_ok-local_time_types.ensures.cases.0 (λ x y e. e) in
+    let leaps = same_from_all_zip _ zone.leap_seconds.items c.in_ok-leap_seconds.leap_seconds.items c.in_ok-leap_seconds.ensures.cases.0 (λ x y e. e) in
+    rw (transitions, types, leaps)
+
+pub returns-in_err-transitions-clause-err : goal.returns-in_err-transitions-clause-err
+returns-in_err-transitions-clause-err g c =
+    let p = err_from_is_err_and c.from_residual.result c.from_residual.ensures.1 in
+    rw p.1 p.2
+
+pub returns-in_err-local_time_types-clause-err : goal.returns-in_err-local_time_types-clause-err
+returns-in_err-local_time_types-clause-err g c =
+    let p = err_from_is_err_and c.from_residual-in_err-local_time_types.result c.from_residual-in_err-local_time_types.ensures.1 in
+    rw p.1 p.2
+
+pub returns-in_err-leap_seconds-clause-err : goal.returns-in_err-leap_seconds-clause-err
+returns-in_err-leap_seconds-clause-err g c =
+    let p = err_from_is_err_and c.from_residual-in_err-leap_seconds.result c.from_residual-in_err-leap_seconds.ensures.1 in
+    rw p.1 p.2
