@@ -1,0 +1,32 @@
+-- A zone of one type alone is valid.
+use Rattle.std.proofs.Common.{[]}
+use Rattle.std.proofs.lemmas.Result.{err_from_is_err_and}
+use Rattle.tz_rule.specs.LocalTimeType.{LocalTimeType}
+use Rattle.tz_zone.specs.Table.{zone_of_type}
+use Rattle.tz_zone.specs.ValidZone.{IsValidZone}
+use Rattle.tz_zone.proofs.timezone.zone.TimeZone.with_type.Goals as goal
+
+is_valid : (t : LocalTimeType) → IsValidZone (zone_of_type t)
+is_valid t = record {
+  table = record {
+    has_types = λ e. cc;
+    transitions_are = λ i. (λ change at. cc, λ change next at at_next. cc);
+    leap_seconds_are = record { first = λ l at. cc; apart = λ i l next at at_next. cc };
+  };
+  rule_answers = λ rule last is at begun. cc;
+  rule_agrees = λ rule last is at begun. cc;
+}
+
+pub invariant_of-result-clause-sound : goal.invariant_of-result-clause-sound
+invariant_of-result-clause-sound g c = rw (c.new.ensures.items, c.in_ok-local_time_types.ensures.items, c.new-2.ensures.items) (is_valid c.args.local_time_type).table
+
+pub invariant_of-result-clause-valid : goal.invariant_of-result-clause-valid
+invariant_of-result-clause-valid g c = rw (c.new.ensures.items, c.in_ok-local_time_types.ensures.items, c.new-2.ensures.items) (∣ is_valid c.args.local_time_type ∣₁)
+
+pub returns-clause-ok : goal.returns-clause-ok
+returns-clause-ok g c = rw (c.new.ensures.items, c.in_ok-local_time_types.ensures.items, c.new-2.ensures.items)
+
+pub returns-in_err-local_time_types-clause-err : goal.returns-in_err-local_time_types-clause-err
+returns-in_err-local_time_types-clause-err g c =
+    let p = err_from_is_err_and c.from_residual.result c.from_residual.ensures.1 in
+    rw p.1 p.2
