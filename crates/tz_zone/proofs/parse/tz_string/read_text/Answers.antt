@@ -1,12 +1,12 @@
-use Rattle.std.proofs.Common.{refl, ap, ◌∙◌, subst, true, false, inl, inr}
+use Rattle.std.proofs.Common.{refl, ap, ◌∙◌, subst, true, false, inl, inr, rules}
 use Rattle.std.specs.Prelude.{FitsSigned}
 use Rattle.std.specs.Int.{w32}
 use Rattle.tz_base.specs.declared.error.TzError.TheVariants.{TzString, LocalTimeType as TypeFault, TransitionRule}
 use Rattle.tz_rule.specs.Alternate.{AlternateTime, IsConsistentRule, IsFirstRuleFault}
 use Rattle.tz_zone.specs.TzText.{AlternateText, daylight_offset_of, ut_offset_of}
 use Rattle.tz_zone.proofs.QuestionMarkExits.{exit}
-use Rattle.tz_zone.proofs.TextEnds.{goes_on}
-use Rattle.tz_zone.proofs.TextAnswers.{bad_name, offset_fails, daylight_fails, rules_fail, whole_text, same_rule_of, same_type_of, passed}
+use Rattle.tz_zone.proofs.TextEnds.{is_over, goes_on}
+use Rattle.tz_zone.proofs.TextAnswers.{bad_name, offset_fails, daylight_fails, rules_fail, whole_text, same_rule_of, same_type_of, passed, offset_passed, week_at_most}
 use Rattle.tz_zone.proofs.parse.tz_string.read_text.Goals as goal
 
 pub returns-in_err-std_name : goal.returns-in_err-std_name
@@ -110,3 +110,47 @@ returns c =
       subst IsConsistentRule same c.in_ok-rule.ensures.ok,
       c.in_ok-rule.ensures.value ∙ same,
     )
+
+pub returns-in_err-fixed : goal.returns-in_err-fixed
+returns-in_err-fixed c =
+    let name = c.in_ok-std_name in
+    let f = c.in_err-fixed.field-0.0 in
+    exit _ _ (TypeFault f) _ c.from_residual-in_err-fixed.ensures.1
+    (inl (bad_name c.args.text.now name.std_name.now name.rest.now f name.ensures c.in_err-fixed.ensures))
+
+pub returns-then-is_empty : goal.returns-then-is_empty
+returns-then-is_empty c =
+    let name = c.in_ok-std_name in
+    let offset = c.in_ok-std_offset in
+    let fits : FitsSigned w32 c.ut_offset.result = search rules in (
+      name.std_name.now,
+      offset.std_offset,
+      record { after_name = name.rest.now; name_is = name.ensures; offset_is = rw (is_over offset.rest.now c.if-is_empty.ensures) at offset.ensures.0 },
+      c.in_ok-fixed.ensures.1,
+      offset.ensures.1,
+      same_type_of c.in_ok-fixed.fixed _ (ut_offset_of offset.std_offset) false name.std_name.now c.in_ok-fixed.ensures.0 (passed c.ut_offset.result _ fits c.ut_offset.ensures.value),
+    )
+
+pub named_type-requires : goal.named_type-requires
+named_type-requires c = offset_passed c.ut_offset.result (search rules) c.ut_offset.ensures.range
+
+pub named_type-requires-2 : goal.named_type-requires-2
+named_type-requires-2 c = offset_passed c.ut_offset-2.result (search rules) c.ut_offset-2.ensures.range
+
+pub named_type-requires-3 : goal.named_type-requires-3
+named_type-requires-3 c = offset_passed c.daylight_ut_offset.result (search rules) c.daylight_ut_offset.ensures.range
+
+pub ut_offset-requires : goal.ut_offset-requires
+ut_offset-requires c = c.in_ok-std_offset.ensures.1
+
+pub ut_offset-requires-2 : goal.ut_offset-requires-2
+ut_offset-requires-2 c = c.in_ok-std_offset.ensures.1
+
+pub daylight_ut_offset-requires : goal.daylight_ut_offset-requires
+daylight_ut_offset-requires c = record { std = c.in_ok-std_offset.ensures.1; dst = c.in_ok-dst_name.ensures.1 }
+
+pub total_seconds-start_time-requires : goal.total_seconds-start_time-requires
+total_seconds-start_time-requires c = week_at_most c.args.extended c.in_ok-start.start.time c.in_ok-start.ensures.1.time_is
+
+pub total_seconds-end_time-requires : goal.total_seconds-end_time-requires
+total_seconds-end_time-requires c = week_at_most c.args.extended c.in_ok-start.end.time c.in_ok-start.ensures.2.time_is
