@@ -1,6 +1,7 @@
 -- The count of transitions that are reached tells the type.
-use Rattle.std.proofs.Common.{List, subst}
+use Rattle.std.proofs.Common.{List, subst, arith}
 use Rattle.std.proofs.lemmas.Int.{to_z-of_z}
+use mir.Syntax.{w64}
 use Rattle.tz_zone.specs.Table.{Transition}
 use Rattle.tz_zone.specs.Clock.{IsTypeOfLast}
 use Rattle.tz_zone.specs.ZoneSeen.{zone_seen}
@@ -9,6 +10,30 @@ use Rattle.tz_zone.proofs.inner.lookup.type_before_last.Goals as goal
 
 pub transitions_reached_between-reached-requires-clause-rising : goal.transitions_reached_between-reached-requires-clause-rising
 transitions_reached_between-reached-requires-clause-rising g c = λ i. (c.requires.sound.transitions_are i).1
+
+pub transitions_reached_between-reached-requires-clause-inside : goal.transitions_reached_between-reached-requires-clause-inside
+transitions_reached_between-reached-requires-clause-inside g c = omega (arith, c.saturating_sub-last.ensures, c.len.ensures)
+
+pub transitions_reached_between-reached-requires-clause-ahead : goal.transitions_reached_between-reached-requires-clause-ahead
+transitions_reached_between-reached-requires-clause-ahead g c =
+    let fits = c.ranges.unix_leap_time in
+    let last = c.saturating_sub-last.ensures in
+    let count = c.len.ensures in
+    λ i change from at. rw (to_z-of_z w64 c.args.unix_leap_time fits) (c.requires.before i change (omega arith) at)
+
+pub type_of_last-requires-clause-within : goal.type_of_last-requires-clause-within
+type_of_last-requires-clause-within g c =
+    let between = c.transitions_reached_between-reached.ensures in
+    rw between.same (omega (arith, between.within, c.saturating_sub-last.ensures, c.len.ensures))
+
+pub type_of_last-requires-clause-sound : goal.type_of_last-requires-clause-sound
+type_of_last-requires-clause-sound g c = rw c.transitions_reached_between-reached.ensures.same c.requires.sound
+
+pub returns-clause-few : goal.returns-clause-few
+returns-clause-few g c =
+    let last = c.saturating_sub-last.ensures in
+    let count = c.len.ensures in
+    λ b below. omega (arith, c.type_of_last.ensures.few, c.transitions_reached_between-reached.ensures.few b (omega arith))
 
 pub returns-clause-value : goal.returns-clause-value
 returns-clause-value g c =
