@@ -1,31 +1,119 @@
 -- The reading less an offset tells where a type shows it.
-use Rattle.std.proofs.Common.{◌-ℤ◌, ◌≤ℤ◌, ◌<ℤ◌, arith}
-use Rattle.std.proofs.lemmas.Int.{ints}
+use Rattle.std.proofs.Common.{◌≡◌, ◌<◌, ℤ, pos, negsuc, ◌+ℤ◌, ◌-ℤ◌, ◌≤ℤ◌, ◌<ℤ◌, true, false, refl, arith, rules}
+use Rattle.std.proofs.lemmas.Int.{ints, to_z-of_z}
+use lib.Signed.{mag, le_z, lt_z}
+use mir.Syntax.{w32, w64}
+use mir.Val.{to_z, of_z, SFits}
+use Rattle.tz.specs.Walks.{IsNear, IsSmall}
 use Rattle.tz.proofs.WalkLemmas.{no_entry_before, no_entry_after}
 use Rattle.tz.proofs.datetime.walk.Walk.entry.Goals as goal
 
+abbrev same : ℤ → ℤ
+same u = to_z w64 (of_z w64 u)
+
+abbrev less : ℤ → ℤ → ℤ
+less reading wide = same reading -ℤ same wide
+
+-- an instant, the reading less an offset, beside the ends of the last piece
+record IsShown (reading since until offset shown : ℤ) : Type 0 where
+  is : shown ≡ reading -ℤ offset
+  small : (negsuc 2147483647 ≤ℤ offset) × (offset ≤ℤ pos 2147483647)
+  near : IsNear reading (reading -ℤ offset)
+  from_since : le_z (same since) shown ≡ true → since ≤ℤ (reading -ℤ offset)
+  before_since : le_z (same since) shown ≡ false → (reading -ℤ offset) <ℤ since
+  before_until : lt_z shown (same until) ≡ true → (reading -ℤ offset) <ℤ until
+  from_until : lt_z shown (same until) ≡ false → until ≤ℤ (reading -ℤ offset)
+
+shown_fits : (reading at wide : ℤ) → IsSmall reading → mag at < 2147483648 → wide ≡ to_z w32 (of_z w32 at) → SFits w64 (less reading wide)
+shown_fits reading at wide small tiny wide_is = omega (arith, ints)
+
+shown_is : (reading at wide : ℤ) → IsSmall reading → mag at < 2147483648 → wide ≡ to_z w32 (of_z w32 at) → same (less reading wide) ≡ reading -ℤ at
+shown_is reading at wide small tiny wide_is = omega (arith, ints)
+
+shown_of : (reading since until offset at wide : ℤ) → IsSmall reading → SFits w64 since → SFits w64 until → mag at < 2147483648 → at ≡ offset → wide ≡ to_z w32 (of_z w32 at) →
+    IsShown reading since until offset (same (less reading wide))
+shown_of reading since until offset at wide small fits ends tiny offset_is wide_is =
+    let is = shown_is reading at wide small tiny wide_is in
+    shown_by (same (less reading wide)) (omega (arith, ints, is, offset_is)) (omega (arith, ints), omega (arith, ints))
+  where
+    shown_by : (shown : ℤ) → shown ≡ reading -ℤ offset → (negsuc 2147483647 ≤ℤ offset) × (offset ≤ℤ pos 2147483647) → IsShown reading since until offset shown
+    shown_by shown is small = record {
+      is = is;
+      small = small;
+      near = (omega (arith, ints, small.1), omega (arith, ints, small.0));
+      from_since = λ test. omega (arith, ints, to_z-of_z w64 since fits, is, test);
+      before_since = λ test. omega (arith, ints, to_z-of_z w64 since fits, is, test);
+      before_until = λ test. omega (arith, ints, to_z-of_z w64 until ends, is, test);
+      from_until = λ test. omega (arith, ints, to_z-of_z w64 until ends, is, test);
+    }
+
+-- a piece that begins after its type has shown the reading, and before or when the type before has
+jump_of : (reading since until offset before shown passed : ℤ) → SFits w64 since → IsShown reading since until offset shown → IsShown reading since until before passed → (reading -ℤ offset) <ℤ since → since ≤ℤ (reading -ℤ before) →
+    (((same since +ℤ before) ≤ℤ reading) × (reading <ℤ (same since +ℤ offset))) × IsNear reading (same since +ℤ before) × IsNear reading (same since +ℤ offset)
+jump_of reading since until offset before shown passed fits x y late early =
+    let is = to_z-of_z w64 since fits in
+    rw is ((omega (arith, ints, early), omega (arith, ints, late)), (omega (arith, ints, late, x.small.1, y.small.0), omega (arith, ints, early)), (omega (arith, ints, late), omega (arith, ints, early, x.small.1, y.small.0)))
+
+pub overflow_sub-shown_at : goal.overflow_sub-shown_at
+overflow_sub-shown_at c = shown_fits c.args.self.now.reading c.ut_offset.result c.from.result c.requires c.ut_offset.type_inv c.from.ensures
+
 pub returns-then-shown_at-until-clause-some : goal.returns-then-shown_at-until-clause-some
-returns-then-shown_at-until-clause-some c = (c.in_ok-local_time_type.was, (omega (arith, ints), omega (arith, ints)), omega (arith, ints))
+returns-then-shown_at-until-clause-some c =
+    let w = c.args.self.now in
+    let t = c.in_ok-local_time_type.local_time_type in
+    let fits : SFits w64 w.since = search rules in
+    let shown = shown_of w.reading w.since c.args.until t.ut_offset c.ut_offset.result c.from.result c.requires fits c.ranges.until c.ut_offset.type_inv c.ut_offset.ensures c.from.ensures in
+    let from = shown.from_since c.if-shown_at-self.true in
+    let before = shown.before_until c.if-shown_at-until.true in
+    rw shown.is (c.in_ok-local_time_type.was, (from, before), omega (arith, ints))
+
+pub returns-then-shown_at-until-clause-near : goal.returns-then-shown_at-until-clause-near
+returns-then-shown_at-until-clause-near c =
+    let w = c.args.self.now in
+    let t = c.in_ok-local_time_type.local_time_type in
+    let fits : SFits w64 w.since = search rules in
+    let shown = shown_of w.reading w.since c.args.until t.ut_offset c.ut_offset.result c.from.result c.requires fits c.ranges.until c.ut_offset.type_inv c.ut_offset.ensures c.from.ensures in
+    rw shown.is (refl, shown.near)
 
 pub returns-else-shown_at-until-clause-none : goal.returns-else-shown_at-until-clause-none
 returns-else-shown_at-until-clause-none c =
     let w = c.args.self.now in
     let t = c.in_ok-local_time_type.local_time_type in
-    let since : w.since ≤ℤ (w.reading -ℤ t.ut_offset) = omega (arith, ints) in
-    let late : c.args.until ≤ℤ (w.reading -ℤ t.ut_offset) = omega (arith, ints) in
-    no_entry_before w c.args.until t c.in_ok-local_time_type.was since late
+    let fits : SFits w64 w.since = search rules in
+    let shown = shown_of w.reading w.since c.args.until t.ut_offset c.ut_offset.result c.from.result c.requires fits c.ranges.until c.ut_offset.type_inv c.ut_offset.ensures c.from.ensures in
+    no_entry_before w c.args.until t c.in_ok-local_time_type.was (shown.from_since c.if-shown_at-self.true) (shown.from_until c.if-shown_at-until.false)
+
+pub overflow_sub-passed_at : goal.overflow_sub-passed_at
+overflow_sub-passed_at c = shown_fits c.args.self.now.reading c.ut_offset-2.result c.from-2.result c.requires c.ut_offset-2.type_inv c.from-2.ensures
 
 pub returns-then-self-passed_at-clause-some : goal.returns-then-self-passed_at-clause-some
-returns-then-self-passed_at-clause-some c = (omega (arith, ints), c.in_ok-before.was, c.in_ok-local_time_type.was, omega (arith, ints), omega (arith, ints))
+returns-then-self-passed_at-clause-some c =
+    let w = c.args.self.now in
+    let t = c.in_ok-local_time_type.local_time_type in
+    let fits : SFits w64 w.since = search rules in
+    let b = c.in_ok-before.before in
+    let shown = shown_of w.reading w.since c.args.until t.ut_offset c.ut_offset.result c.from.result c.requires fits c.ranges.until c.ut_offset.type_inv c.ut_offset.ensures c.from.ensures in
+    let passed = shown_of w.reading w.since c.args.until b.ut_offset c.ut_offset-2.result c.from-2.result c.requires fits c.ranges.until c.ut_offset-2.type_inv c.ut_offset-2.ensures c.from-2.ensures in
+    let jump = jump_of w.reading w.since c.args.until t.ut_offset b.ut_offset _ _ fits shown passed (shown.before_since c.if-shown_at-self.false) (passed.from_since c.if-self-passed_at.true) in
+    (to_z-of_z w64 w.since fits, c.in_ok-before.was, c.in_ok-local_time_type.was, jump.0.0, jump.0.1)
 
 pub returns-then-self-passed_at-clause-near : goal.returns-then-self-passed_at-clause-near
-returns-then-self-passed_at-clause-near c = ((omega (arith, ints), omega (arith, ints)), (omega (arith, ints), omega (arith, ints)))
+returns-then-self-passed_at-clause-near c =
+    let w = c.args.self.now in
+    let t = c.in_ok-local_time_type.local_time_type in
+    let fits : SFits w64 w.since = search rules in
+    let b = c.in_ok-before.before in
+    let shown = shown_of w.reading w.since c.args.until t.ut_offset c.ut_offset.result c.from.result c.requires fits c.ranges.until c.ut_offset.type_inv c.ut_offset.ensures c.from.ensures in
+    let passed = shown_of w.reading w.since c.args.until b.ut_offset c.ut_offset-2.result c.from-2.result c.requires fits c.ranges.until c.ut_offset-2.type_inv c.ut_offset-2.ensures c.from-2.ensures in
+    let jump = jump_of w.reading w.since c.args.until t.ut_offset b.ut_offset _ _ fits shown passed (shown.before_since c.if-shown_at-self.false) (passed.from_since c.if-self-passed_at.true) in
+    (jump.1, jump.2)
 
 pub returns-else-self-passed_at-clause-none : goal.returns-else-self-passed_at-clause-none
 returns-else-self-passed_at-clause-none c =
     let w = c.args.self.now in
     let t = c.in_ok-local_time_type.local_time_type in
-    let s = c.in_ok-before.before in
-    let shown : (w.reading -ℤ t.ut_offset) <ℤ w.since = omega (arith, ints) in
-    let passed : (w.reading -ℤ s.ut_offset) <ℤ w.since = omega (arith, ints) in
-    no_entry_after w c.args.until t s c.in_ok-local_time_type.was c.in_ok-before.was shown passed
+    let fits : SFits w64 w.since = search rules in
+    let b = c.in_ok-before.before in
+    let shown = shown_of w.reading w.since c.args.until t.ut_offset c.ut_offset.result c.from.result c.requires fits c.ranges.until c.ut_offset.type_inv c.ut_offset.ensures c.from.ensures in
+    let passed = shown_of w.reading w.since c.args.until b.ut_offset c.ut_offset-2.result c.from-2.result c.requires fits c.ranges.until c.ut_offset-2.type_inv c.ut_offset-2.ensures c.from-2.ensures in
+    no_entry_after w c.args.until t b c.in_ok-local_time_type.was c.in_ok-before.was (shown.before_since c.if-shown_at-self.false) (passed.before_since c.if-self-passed_at.false)
