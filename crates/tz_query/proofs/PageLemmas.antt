@@ -1,7 +1,7 @@
 -- A line on a page is its front, its nanoseconds and its end, each copied whole.
 use Rattle.std.proofs.Common.{◌≡◌, ℕ, zero, suc, get_or, ◌+◌, ◌/◌, ◌%◌, ◌<◌, ◌≤◌, List, [], ◌∷◌, ◌++◌, length, take, drop, refl, sym, ap, ◌∙◌, subst, arith, append_assoc, length-append, ℤ, pos, ◌+ℤ◌, inl}
 use Rattle.std.specs.Prelude.{slice_get, Some}
-use Rattle.std.proofs.lemmas.List.{length-take-le, take-append-le}
+use Rattle.std.proofs.lemmas.List.{length-map, length-take-le, take-append-le}
 use Rattle.std.proofs.Math.Seq.{take-append-add}
 use Rattle.std.proofs.lemmas.Slice.{take-put_mid}
 use Rattle.tz_base.specs.declared.calendar.Fields.{Fields}
@@ -84,6 +84,10 @@ pub front_bytes : (f : Fields) (year : ℕ) → f.year ≡ pos year → 1000 ≤
 unfolding front_text date_text
 front_bytes f year is from below month day hour minute second =
     rw (is, decimal-four year from below, two_digits-below f.month month, two_digits-below f.month_day day, two_digits-below f.hour hour, two_digits-below f.minute minute, two_digits-below f.second second) refl
+
+-- a type with a number has an end of a line
+pub tail_within : (tails : List Tail) (types : List LocalTimeType) (i : ℕ) (t : LocalTimeType) → types_of tails ≡ types → slice_get types i ≡ Some t → i < length tails
+tail_within tails types i t are at = omega (arith, slice_get_within types i t at, ap length are, length-map tails (λ (tail : Tail). tail.local_time_type))
 
 -- an end of a line is that of the type with its number
 pub tail_type : (tails : List Tail) (i : ℕ) (tail : Tail) (t : LocalTimeType) → slice_get (types_of tails) i ≡ Some t → tail ≡ get_or tails i tail → tail.local_time_type ≡ t

@@ -18,8 +18,8 @@ returns-then-is_before-2-clause-some c n part nine =
     let a = c.args.before.now.local_time_type in
     let b = c.args.after.now.local_time_type in
     let page = take c.args.at c.args.page.now in
-    let fits : SFits w64 jump = search rules in
-    let reading_fits : SFits w64 c.args.reading = search rules in
+    let fits = c.ranges.jump in
+    let reading_fits = c.ranges.reading in
     let first : (reading f -ℤ a.ut_offset) <ℤ jump = rw (to_z-of_z w64 c.args.reading reading_fits, to_z-of_z w64 jump fits, c.requires.reading) at c.if-is_before.ensures.before in
     let second : (reading f -ℤ b.ut_offset) <ℤ jump = rw (to_z-of_z w64 c.args.reading reading_fits, to_z-of_z w64 jump fits, c.requires.reading) at c.if-is_before-2.ensures.before in
     let shown = shown_before z c.args.zone.sound.leap_seconds_are f n part c.requires.valid jump a b c.requires.window first second in
@@ -37,8 +37,8 @@ returns-then-is_before-clause-some c n part nine =
     let a = c.args.before.now.local_time_type in
     let b = c.args.after.now.local_time_type in
     let page = take c.args.at c.args.page.now in
-    let fits : SFits w64 jump = search rules in
-    let reading_fits : SFits w64 c.args.reading = search rules in
+    let fits = c.ranges.jump in
+    let reading_fits = c.ranges.reading in
     let first : (reading f -ℤ a.ut_offset) <ℤ jump = rw (to_z-of_z w64 c.args.reading reading_fits, to_z-of_z w64 jump fits, c.requires.reading) at c.if-is_before.ensures.before in
     let second : jump ≤ℤ (reading f -ℤ b.ut_offset) = rw (to_z-of_z w64 c.args.reading reading_fits, to_z-of_z w64 jump fits, c.requires.reading) at c.if-is_before-2.ensures.before in
     let shown = shown_twice z c.args.zone.sound.leap_seconds_are f n part c.requires.valid jump a b c.requires.window first second in
@@ -50,8 +50,8 @@ returns-then-is_before-clause-some c n part nine =
 
 pub push_passed_fields-requires-clause-near : goal.push_passed_fields-requires-clause-near
 push_passed_fields-requires-clause-near c =
-    let fits : SFits w64 c.args.jump = search rules in
-    let reading_fits : SFits w64 c.args.reading = search rules in
+    let fits = c.ranges.jump in
+    let reading_fits = c.ranges.reading in
     let first = rw (to_z-of_z w64 c.args.reading reading_fits, to_z-of_z w64 c.args.jump fits) at c.if-is_before.ensures.before in
     let second = rw (to_z-of_z w64 c.args.reading reading_fits, to_z-of_z w64 c.args.jump fits) at c.if-is_before-3.ensures.before in
     rw (to_z-of_z w64 c.args.jump fits)
@@ -65,8 +65,8 @@ returns-clause-some c n part nine =
     let a = c.args.before.now.local_time_type in
     let b = c.args.after.now.local_time_type in
     let page = take c.args.at c.args.page.now in
-    let fits : SFits w64 jump = search rules in
-    let reading_fits : SFits w64 c.args.reading = search rules in
+    let fits = c.ranges.jump in
+    let reading_fits = c.ranges.reading in
     let first : jump ≤ℤ (reading f -ℤ a.ut_offset) = rw (to_z-of_z w64 c.args.reading reading_fits, to_z-of_z w64 jump fits, c.requires.reading) at c.if-is_before.ensures.before in
     let second : jump ≤ℤ (reading f -ℤ b.ut_offset) = rw (to_z-of_z w64 c.args.reading reading_fits, to_z-of_z w64 jump fits, c.requires.reading) at c.if-is_before-3.ensures.before in
     let shown = shown_after z c.args.zone.sound.leap_seconds_are f n part c.requires.valid jump a b c.requires.window first second in
@@ -75,3 +75,21 @@ returns-clause-some c n part nine =
     ∙ ap (λ bytes. page ++ (70 ∷ 32 ∷ 49 ∷ 10 ∷ 78 ∷ 32 ∷ (bytes ++ (c.args.nine.now ++ end_text b)))) c.front_of.ensures
     ∙ ap (λ bytes. page ++ (70 ∷ 32 ∷ 49 ∷ 10 ∷ 78 ∷ 32 ∷ (front_text f ++ (bytes ++ end_text b)))) nine in
     (shown.0, shown.1, text ∙ ap (λ bytes. page ++ bytes) shown.2)
+
+pub is_before-requires : goal.is_before-requires
+is_before-requires c = rw (to_z-of_z w64 c.args.reading c.ranges.reading) c.requires.bound
+
+pub is_before-requires-then-is_before : goal.is_before-requires-then-is_before
+is_before-requires-then-is_before c = rw (to_z-of_z w64 c.args.reading c.ranges.reading) c.requires.bound
+
+pub is_before-requires-2 : goal.is_before-requires-2
+is_before-requires-2 c = rw (to_z-of_z w64 c.args.reading c.ranges.reading) c.requires.bound
+
+pub push_passed_fields-requires-clause-window : goal.push_passed_fields-requires-clause-window
+push_passed_fields-requires-clause-window c = rw (to_z-of_z w64 c.args.jump c.ranges.jump) c.requires.window
+
+pub push_passed_fields-requires-clause-before : goal.push_passed_fields-requires-clause-before
+push_passed_fields-requires-clause-before c = rw (to_z-of_z w64 c.args.reading c.ranges.reading, c.requires.reading) at c.if-is_before.ensures.before
+
+pub push_passed_fields-requires-clause-after : goal.push_passed_fields-requires-clause-after
+push_passed_fields-requires-clause-after c = rw (to_z-of_z w64 c.args.reading c.ranges.reading, c.requires.reading) at c.if-is_before-3.ensures.before

@@ -31,3 +31,12 @@ returns-clause-number c =
     let value : pos (digits_value 10 read.0) ≡ to_z w64 c.in_ok-size-2.size = omega (arith, ints, read.3, bound) in
     let part = plain_part (drop (place + 1) bs) read.0 (drop c.in_ok-size-2.end bs) read.1 read.2 (drop place bs) space in
     subst (λ n. IsPartFront (drop place bs) n (drop c.in_ok-size-2.end bs)) value part
+
+pub overflow_sub-result : goal.overflow_sub-result
+overflow_sub-result c = omega (arith, ints, c.in_ok-size.ensures.bound.0)
+
+pub returns-then-bytes-place-eq45-clause-bound : goal.returns-then-bytes-place-eq45-clause-bound
+returns-then-bytes-place-eq45-clause-bound c = omega (arith, ints, c.in_ok-size.ensures.bound.0)
+
+pub returns-clause-bound : goal.returns-clause-bound
+returns-clause-bound c = omega (arith, ints, c.in_ok-size-2.ensures.bound.0)

@@ -31,3 +31,24 @@ returns-clause-some c =
     ∙ ap (λ bytes. page ++ (bytes ++ (c.read_line.new.nine ++ end_text t))) c.front_of.ensures
     ∙ ap (λ bytes. page ++ (front_text f ++ (bytes ++ end_text t))) line.2 in
     (c.push_line-end.ensures.end, (front.0, shown.0 ∷ [], front.1, inl (Time u line.0, front.2, (shown.0, shown.1, refl)), text ∙ ap (λ bytes. page ++ bytes) shown.2))
+
+pub returns-in_err-unix_time : goal.returns-in_err-unix_time
+returns-in_err-unix_time c = rw c.from_residual.ensures (record { some = tt; none = refl; kept = c.requires.kept })
+
+pub returns-in_err-tail : goal.returns-in_err-tail
+returns-in_err-tail c = rw c.from_residual-in_err-tail.ensures (record { some = tt; none = refl; kept = c.tail_at.ensures.kept })
+
+pub returns-in_err-fields : goal.returns-in_err-fields
+returns-in_err-fields c = rw c.from_residual-in_err-fields.ensures (record { some = tt; none = refl; kept = c.tail_at.ensures.kept })
+
+pub shown_fields-requires : goal.shown_fields-requires
+shown_fields-requires c = let fits : SFits w64 c.in_ok-unix_time.unix_time = search rules in rw (to_z-of_z w64 c.in_ok-unix_time.unix_time fits) c.in_ok-unix_time.ensures.bound
+
+pub front_of-requires-clause-valid : goal.front_of-requires-clause-valid
+front_of-requires-clause-valid c = c.in_ok-fields.ensures.fields.valid
+
+pub front_of-requires-clause-year : goal.front_of-requires-clause-year
+front_of-requires-clause-year c = c.in_ok-fields.ensures.year
+
+pub returns-clause-kept : goal.returns-clause-kept
+returns-clause-kept c = c.tail_at.ensures.kept
