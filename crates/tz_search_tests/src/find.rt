@@ -9,8 +9,8 @@ use tz::datetime::{DateTime, FoundDateTimeKind, FoundDateTimeList, FoundDateTime
 use tz_base::error::TzError;
 use tz_base::error::datetime::DateTimeError;
 use tz_zone::timezone::{
-    AlternateTime, Julian0WithLeap, Julian1WithoutLeap, LeapSecond, LocalTimeType, MonthWeekDay,
-    RuleDay, TimeZoneRef, Transition, TransitionRule,
+    AlternateTime, Julian0WithLeap, Julian1WithoutLeap, LeapSecond, LocalTimeType, RuleDay,
+    TimeZoneRef, Transition, TransitionRule,
 };
 
 mod ends;
