@@ -21,6 +21,17 @@ last_unique transitions last last' at at' = same_Some last last' (sym at ∙ at'
 pub some_from_last : (transitions : List Transition) (last : Transition) → IsLast transitions last → transitions ≢ []
 some_from_last transitions last at e = none-some last (rw e at at)
 
+-- without transitions
+pub fault_without : (z : Zone) → z.transitions ≡ [] → (u : ℤ) (e : TzError) → e ≡ OutOfRange → ((t : LocalTimeType) → ¬ IsTypeWithout z z.extra_rule u t) → IsLookupFault z u e
+fault_without z none u e is never = inr (is, no_type, not_over)
+  where
+    no_type : (t : LocalTimeType) → ¬ IsClock z u t
+    no_type t (inl (without, type)) = never t type
+    no_type t (inr (last, is_last, type)) = some_from_last z.transitions last is_last none
+
+    not_over : ¬ IsOver z u
+    not_over (last, l, is_last, leap, from, rule) = some_from_last z.transitions last is_last none
+
 -- the count of transitions that are reached tells the last one that is
 pub transition_type_of_last : (z : Zone) (l : ℤ) (k : ℕ) (t : LocalTimeType) → AreReached z.transitions l k → AreAhead z.transitions l k → IsTypeOfLast z k t → IsTransitionType z l t
 transition_type_of_last z l k t reached ahead (inl (none, type)) = inl ((λ i change at. ahead i change (omega (arith, none)) at), type)

@@ -1,5 +1,5 @@
 -- The leap time tells on which side of the last transition the instant lies.
-use Rattle.std.proofs.Common.{◌-◌, ◌<ℤ◌, ◌≤ℤ◌, List, length, sym, subst, arith, rules}
+use Rattle.std.proofs.Common.{◌-◌, ◌<ℤ◌, ◌≤ℤ◌, List, [], length, inl, sym, ap, ◌≡◌, ◌∙◌, refl, ◌∷◌, subst, arith, rules}
 use Rattle.std.proofs.lemmas.Int.{ints, to_z-of_z}
 use Rattle.std.proofs.lemmas.Result.{IfOk-weaker, IfErr-weaker, err_from_is_err_and}
 use mir.Syntax.{w64}
@@ -7,9 +7,13 @@ use mir.Val.{SFits}
 use Rattle.tz_zone.specs.Table.{Transition}
 use Rattle.tz_zone.specs.Clock.{AreAhead, IsTransitionType}
 use Rattle.tz_zone.specs.ZoneSeen.{zone_seen}
-use Rattle.tz_zone.proofs.Clocks.{clock_before_last, clock_from_last, fault_from_last, fault_from_refused}
+use Rattle.tz_zone.proofs.Clocks.{clock_before_last, clock_from_last, fault_from_last, fault_from_refused, fault_without}
 use Rattle.tz_zone.proofs.RisingTimes.{ahead_from}
 use Rattle.tz_zone.proofs.inner.lookup.find_local_time_type.Goals as goal
+
+length_zero : {X : Type 0} (xs : List X) → length xs ≡ 0 → xs ≡ []
+length_zero [] e = refl
+length_zero (x ∷ xs) e = absurd (omega arith)
 
 pub type_before_last-requires-clause-before : goal.type_before_last-requires-clause-before
 type_before_last-requires-clause-before g c =
@@ -73,3 +77,55 @@ returns-in_err-unix_leap_time-clause-err g c =
     let is_last = rw c.len-count.ensures at c.look-last.ensures.value in
     let refused = rw (to_z-of_z w64 u c.ranges.unix_time) at c.in_err-unix_leap_time.ensures.err in
     rw (p.1, p.2) (fault_from_refused z c.look-last.result is_last u refused.1 c.in_err-unix_leap_time.field-0.0 refused.0)
+
+pub type_before_last-requires-clause-sound : goal.type_before_last-requires-clause-sound
+type_before_last-requires-clause-sound g c = rw c.look-last.ensures.same c.requires
+
+pub returns-then-count-eq0-clause-ok : goal.returns-then-count-eq0-clause-ok
+returns-then-count-eq0-clause-ok g c =
+    let none = length_zero (g.V.Transitions.list c.args.view.now) (sym c.len-count.ensures ∙ c.if-count-eq0.true) in
+    rw none (IfOk-weaker c.type_without_transitions.result _ _ (λ t type. inl (refl, rw (to_z-of_z w64 c.args.unix_time c.ranges.unix_time) at type)) c.type_without_transitions.ensures.ok)
+
+pub returns-then-count-eq0-clause-err : goal.returns-then-count-eq0-clause-err
+returns-then-count-eq0-clause-err g c =
+    let none = length_zero (g.V.Transitions.list c.args.view.now) (sym c.len-count.ensures ∙ c.if-count-eq0.true) in
+    rw none (IfErr-weaker c.type_without_transitions.result _ _
+    (λ e fault. fault_without (zone_seen [] c.args.parts) refl c.args.unix_time e fault.0 (rw (to_z-of_z w64 c.args.unix_time c.ranges.unix_time) at fault.1))
+    c.type_without_transitions.ensures.err)
+
+pub returns-then-unix_leap_time-clause-kept : goal.returns-then-unix_leap_time-clause-kept
+returns-then-unix_leap_time-clause-kept g c = omega (arith, c.type_before_last.ensures.kept, c.look-last.ensures.counted, g.met.V.Transitions.no_less (g.V.Transitions.looks c.args.view.now))
+
+pub returns-then-unix_leap_time-clause-few : goal.returns-then-unix_leap_time-clause-few
+returns-then-unix_leap_time-clause-few g c = λ b below.
+    omega (arith, c.type_before_last.ensures.few b (rw c.look-last.ensures.same below), c.look-last.ensures.counted, g.met.V.Transitions.one_more (g.V.Transitions.looks c.args.view.now))
+
+pub returns-then-unix_leap_time-clause-some : goal.returns-then-unix_leap_time-clause-some
+returns-then-unix_leap_time-clause-some g c = λ some. omega (arith, c.type_before_last.ensures.kept, c.look-last.ensures.counted)
+
+pub returns-then-unix_leap_time-clause-none : goal.returns-then-unix_leap_time-clause-none
+returns-then-unix_leap_time-clause-none g c = λ none. absurd (c.if-count-eq0.false (c.len-count.ensures ∙ ap length none))
+
+pub returns-else-unix_leap_time-clause-kept : goal.returns-else-unix_leap_time-clause-kept
+returns-else-unix_leap_time-clause-kept g c = omega (arith, c.look-last.ensures.counted, g.met.V.Transitions.no_less (g.V.Transitions.looks c.args.view.now))
+
+pub returns-else-unix_leap_time-clause-few : goal.returns-else-unix_leap_time-clause-few
+returns-else-unix_leap_time-clause-few g c = λ b below. omega (arith, c.look-last.ensures.counted, g.met.V.Transitions.one_more (g.V.Transitions.looks c.args.view.now))
+
+pub returns-else-unix_leap_time-clause-some : goal.returns-else-unix_leap_time-clause-some
+returns-else-unix_leap_time-clause-some g c = λ some. omega (arith, c.look-last.ensures.counted)
+
+pub returns-else-unix_leap_time-clause-none : goal.returns-else-unix_leap_time-clause-none
+returns-else-unix_leap_time-clause-none g c = λ none. absurd (c.if-count-eq0.false (c.len-count.ensures ∙ ap length none))
+
+pub returns-in_err-unix_leap_time-clause-kept : goal.returns-in_err-unix_leap_time-clause-kept
+returns-in_err-unix_leap_time-clause-kept g c = omega (arith, c.look-last.ensures.counted, g.met.V.Transitions.no_less (g.V.Transitions.looks c.args.view.now))
+
+pub returns-in_err-unix_leap_time-clause-few : goal.returns-in_err-unix_leap_time-clause-few
+returns-in_err-unix_leap_time-clause-few g c = λ b below. omega (arith, c.look-last.ensures.counted, g.met.V.Transitions.one_more (g.V.Transitions.looks c.args.view.now))
+
+pub returns-in_err-unix_leap_time-clause-some : goal.returns-in_err-unix_leap_time-clause-some
+returns-in_err-unix_leap_time-clause-some g c = λ some. omega (arith, c.look-last.ensures.counted)
+
+pub returns-in_err-unix_leap_time-clause-none : goal.returns-in_err-unix_leap_time-clause-none
+returns-in_err-unix_leap_time-clause-none g c = λ none. absurd (c.if-count-eq0.false (c.len-count.ensures ∙ ap length none))
