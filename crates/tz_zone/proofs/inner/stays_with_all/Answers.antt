@@ -36,5 +36,5 @@ loop-leap_second-preserved c =
     let same = cast_same item.correction c.correction.result c.from.result (search rules) c.correction.ensures c.from.ensures in
     let fits = fits_some c.checked_add.result _ c.checked_add.ensures c.if-is_none.ensures in
     λ k leap less is. below_more (λ k. (leap : LeapSecond) → slice_get leaps k ≡ Some leap → SFits w64 (to_z w64 (of_z w64 c.args.unix_time) +ℤ leap.correction)) i (λ k less leap is. c.loop-leap_second.invariant k leap less is) (λ leap e.
-        let item_is : item ≡ leap = c.leap_second-item.is ∙ get_or_from_slice_get leaps i leap item e in
-        rw (same ∙ ap (λ l. l.correction) item_is) at fits) k less leap is
+    let item_is : item ≡ leap = c.leap_second-item.is ∙ get_or_from_slice_get leaps i leap item e in
+    rw (same ∙ ap (λ l. l.correction) item_is) at fits) k less leap is
