@@ -1,5 +1,5 @@
 -- Names and refusals as an answer has them, and one more line and its answer.
-use Rattle.std.proofs.Common.{◌≡◌, ℕ, ◌+◌, ◌<◌, inl, inr, cond, ℤ, List, [], ◌∷◌, ◌++◌, length, take, get_or, refl, sym, ap, ◌∙◌, subst, arith, append_assoc, append-nil, length-append}
+use Rattle.std.proofs.Common.{◌≡◌, ℕ, zero, suc, ◌+◌, ◌<◌, ◌==◌, Bool, false, inl, inr, cond, ℤ, List, [], ◌∷◌, ◌++◌, length, take, get_or, refl, sym, ap, ◌∙◌, subst, arith, append_assoc, append-nil, length-append}
 use Rattle.std.specs.Prelude.{Result, Ok, Err, IfOk, is_ok, codes, map, ⊤}
 use Rattle.std.proofs.lemmas.List.{take_more, map-append}
 use Rattle.std.proofs.lemmas.List.Elements.{All-nil, All-cons}
@@ -54,6 +54,14 @@ AreLines-cons bytes line rest lines some first are = record { cut = cases first.
         let whole : bytes ≡ line = first.cut ∙ ap (λ t. line ++ t) end.0 ∙ append-nil line in
         inr ([], line, ap (λ ls. line ∷ ls) none, (λ e. absurd (omega (arith, some, ap length (whole ∙ e)))), whole)
 
+-- fewer bytes are left behind a line
+pub rest_is_shorter : (bytes line rest : List ℕ) → IsFirstLine bytes line rest → 0 < length bytes → length rest < length bytes
+rest_is_shorter bytes line rest first some = cases first.end
+  where
+    cases : IsLineEnd first.tail rest → length rest < length bytes
+    cases (inl end) = omega (arith, ap length first.cut, length-append line first.tail, ap length end)
+    cases (inr end) = omega (arith, some, ap length end.1)
+
 pub AreAnswers-nil : (z : Zone) → AreAnswers z [] []
 AreAnswers-nil z = record { lines = []; answers = []; cut = record { cut = inl refl; without_ends = All-nil IsLine }; each = tt; written = refl }
 
@@ -66,6 +74,11 @@ AreAnswers-cons z bytes line rest more answer some first is are =
 pub appended : {T E : Type 0} (r : Result T E) (now was more : List ℕ) → now ≡ cond (is_ok r) (was ++ more) was → IfOk r (λ _. now ≡ was ++ more)
 appended (Ok x) now was more e = e
 appended (Err x) now was more e = tt
+
+-- bytes are left where a test finds them not empty
+pub some_left : (n : ℕ) (empty : Bool) → empty ≡ (n == 0) → empty ≡ false → 0 < n
+some_left zero empty is not = cc
+some_left (suc n) empty is not = omega arith
 
 pub none_from_length : (bytes : List ℕ) → length bytes ≡ 0 → bytes ≡ []
 none_from_length [] none = refl

@@ -42,3 +42,12 @@ shown_once z are f n part valid least greatest from until t order offsets stretc
       inl (Normal one ∷ [], valid_with f n part valid, found, refl),
       ap (λ line. 70 ∷ 32 ∷ 49 ∷ 10 ∷ 78 ∷ 32 ∷ line) (line_text f n t one.unix_time) ∙ sym (lines_of_one (moment_text one)),
     )
+
+-- what is written, as its parts are known
+pub written_once : (written page front nine answer : List ℕ) (f : Fields) (n : ℕ) (t : LocalTimeType) → written ≡ page ++ (70 ∷ 32 ∷ 49 ∷ 10 ∷ 78 ∷ 32 ∷ (front ++ (nine ++ end_text t))) →
+    front ≡ front_text f → nine ≡ nine_digits n → 70 ∷ 32 ∷ 49 ∷ 10 ∷ 78 ∷ 32 ∷ (front_text f ++ (nine_digits n ++ end_text t)) ≡ answer → written ≡ page ++ answer
+written_once written page front nine answer f n t text front_is nine_is is =
+    text
+    ∙ ap (λ bytes. page ++ (70 ∷ 32 ∷ 49 ∷ 10 ∷ 78 ∷ 32 ∷ (bytes ++ (nine ++ end_text t)))) front_is
+    ∙ ap (λ bytes. page ++ (70 ∷ 32 ∷ 49 ∷ 10 ∷ 78 ∷ 32 ∷ (front_text f ++ (bytes ++ end_text t)))) nine_is
+    ∙ ap (λ bytes. page ++ bytes) is

@@ -1,12 +1,20 @@
 -- Each line's answer stands behind those before it, and in the end no line is left.
 use Rattle.std.proofs.Common.{◌≡◌, ◌++◌, ◌<◌, [], length, take, sym, ap, ◌∙◌, subst, arith, rules, append_assoc, append-nil}
 use Rattle.std.proofs.lemmas.Int.{ints}
+use Rattle.std.proofs.lemmas.Result.{IfOk-from_err}
+use Rattle.std.specs.Result.{IfErr, IsErrAnd}
+use Rattle.std.specs.Prelude.{Result, Ok, Err}
+use Rattle.tz_query.specs.Tails.{types_of}
 use Rattle.tz_zone.specs.ZoneRef.{zone_of}
 use Rattle.tz_zone.proofs.SegmentLemmas.{number_of_type, type_exists}
 use Rattle.tz_query.specs.Lines.{ended}
 use Rattle.tz_query.specs.Answers.{AreAnswers}
-use Rattle.tz_query.proofs.AnswerLemmas.{AreAnswers-nil, AreAnswers-cons, none_from_length}
+use Rattle.tz_query.proofs.AnswerLemmas.{AreAnswers-nil, AreAnswers-cons, rest_is_shorter, some_left, none_from_length}
 use Rattle.tz_query.proofs.query.answers.answer.Goals as goal
+
+if_err : {T E : Type 0} (P : E → Type 0) (r : Result T E) → IsErrAnd r P → IfErr r P
+if_err P (Ok x) h = tt
+if_err P (Err e) h = h
 
 pub loop-rest-init : goal.loop-rest-init
 loop-rest-init g c =
@@ -23,7 +31,7 @@ loop-rest-preserved g c =
     let room = c.in_ok-room.ensures in
     let next = c.in_ok-at.ensures in
     let step = next.answer in
-    let some : 0 < length c.loop-rest.rest.now = search rules in (
+    let some = some_left (length c.loop-rest.rest.now) c.is_empty.result c.is_empty.ensures c.loop-rest-test.true in (
       omega (arith, room.end, next.end),
       next.kept,
       λ more are.
@@ -40,3 +48,21 @@ returns-clause-ok g c =
     let all = c.in_ok-flush.ensures in
     subst (AreAnswers z c.args.queries.now) (append-nil (c.loop-rest.answers.items ++ take c.loop-rest.at c.loop-rest.page) ∙ sym all)
     (c.loop-rest.invariant.2 [] (subst (λ rest. AreAnswers z rest []) (sym (none_from_length c.loop-rest.rest.now none)) (AreAnswers-nil z)))
+
+pub loop-rest-smaller : goal.loop-rest-smaller
+loop-rest-smaller g c =
+    let next = c.in_ok-at.ensures.answer in
+    let some : 0 < length c.loop-rest.rest.now = some_left (length c.loop-rest.rest.now) c.is_empty.result c.is_empty.ensures c.loop-rest-test.true in
+    rest_is_shorter c.loop-rest.rest.now next.0 c.in_ok-at.field-0-1.now next.2 some
+
+pub answer_next-requires : goal.answer_next-requires
+answer_next-requires g c = record { room = c.in_ok-room.ensures.end; kept = c.loop-rest.invariant.1; tails = ap types_of c.deref.ensures.value ∙ c.in_ok-tails.ensures; offsets = c.offsets-offsets.ensures.between; order = c.offsets-offsets.ensures.order }
+
+pub returns-in_err-room : goal.returns-in_err-room
+returns-in_err-room g c = record { ok = IfOk-from_err c.from_residual-in_err-room.result _ c.from_residual-in_err-room.ensures.0; err = if_err _ c.from_residual-in_err-room.result c.from_residual-in_err-room.ensures.1 }
+
+pub returns-in_err-at : goal.returns-in_err-at
+returns-in_err-at g c = record { ok = IfOk-from_err c.from_residual-in_err-at.result _ c.from_residual-in_err-at.ensures.0; err = if_err _ c.from_residual-in_err-at.result c.from_residual-in_err-at.ensures.1 }
+
+pub returns-in_err-flush : goal.returns-in_err-flush
+returns-in_err-flush g c = record { ok = IfOk-from_err c.from_residual-in_err-flush.result _ c.from_residual-in_err-flush.ensures.0; err = if_err _ c.from_residual-in_err-flush.result c.from_residual-in_err-flush.ensures.1 }

@@ -7,6 +7,8 @@ use Rattle.tz_base.specs.Fields.{reading}
 use Rattle.tz_zone.specs.ZoneRef.{zone_of}
 use Rattle.tz.specs.PrintedText.{nine_digits}
 use Rattle.tz_query.specs.Pages.{front_text, end_text}
+use Rattle.tz_query.specs.Lines.{ended}
+use Rattle.tz_query.proofs.SearchLineLemmas.{written_once}
 use Rattle.tz_query.proofs.JumpLineLemmas.{shown_before, shown_after, shown_twice}
 use Rattle.tz_query.proofs.query.fast.jump_lines.push_around_jump.Goals as goal
 
@@ -17,17 +19,13 @@ returns-then-is_before-2-clause-some c n part nine =
     let jump = c.args.jump in
     let a = c.args.before.now.local_time_type in
     let b = c.args.after.now.local_time_type in
-    let page = take c.args.at c.args.page.now in
     let fits = c.ranges.jump in
     let reading_fits = c.ranges.reading in
     let first : (reading f -ℤ a.ut_offset) <ℤ jump = rw (to_z-of_z w64 c.args.reading reading_fits, to_z-of_z w64 jump fits, c.requires.reading) at c.if-is_before.ensures.before in
     let second : (reading f -ℤ b.ut_offset) <ℤ jump = rw (to_z-of_z w64 c.args.reading reading_fits, to_z-of_z w64 jump fits, c.requires.reading) at c.if-is_before-2.ensures.before in
     let shown = shown_before z c.args.zone.sound.leap_seconds_are f n part c.requires.valid jump a b c.requires.window first second in
-    let text : take c.push_once.result c.push_once.new.page ≡ page ++ (70 ∷ 32 ∷ 49 ∷ 10 ∷ 78 ∷ 32 ∷ (front_text f ++ (nine_digits n ++ end_text a))) =
-    c.push_once.ensures.text
-    ∙ ap (λ bytes. page ++ (70 ∷ 32 ∷ 49 ∷ 10 ∷ 78 ∷ 32 ∷ (bytes ++ (c.args.nine.now ++ end_text a)))) c.front_of-front.ensures
-    ∙ ap (λ bytes. page ++ (70 ∷ 32 ∷ 49 ∷ 10 ∷ 78 ∷ 32 ∷ (front_text f ++ (bytes ++ end_text a)))) nine in
-    (shown.0, shown.1, text ∙ ap (λ bytes. page ++ bytes) shown.2)
+    let text = written_once (take c.push_once.result c.push_once.new.page) (take c.args.at c.args.page.now) c.front_of-front.result c.args.nine.now (ended shown.0) f n a c.push_once.ensures.text c.front_of-front.ensures nine shown.2 in
+    (shown.0, shown.1, text)
 
 pub returns-then-is_before-clause-some : goal.returns-then-is_before-clause-some
 returns-then-is_before-clause-some c n part nine =
@@ -64,17 +62,13 @@ returns-clause-some c n part nine =
     let jump = c.args.jump in
     let a = c.args.before.now.local_time_type in
     let b = c.args.after.now.local_time_type in
-    let page = take c.args.at c.args.page.now in
     let fits = c.ranges.jump in
     let reading_fits = c.ranges.reading in
     let first : jump ≤ℤ (reading f -ℤ a.ut_offset) = rw (to_z-of_z w64 c.args.reading reading_fits, to_z-of_z w64 jump fits, c.requires.reading) at c.if-is_before.ensures.before in
     let second : jump ≤ℤ (reading f -ℤ b.ut_offset) = rw (to_z-of_z w64 c.args.reading reading_fits, to_z-of_z w64 jump fits, c.requires.reading) at c.if-is_before-3.ensures.before in
     let shown = shown_after z c.args.zone.sound.leap_seconds_are f n part c.requires.valid jump a b c.requires.window first second in
-    let text : take c.push_once-2.result c.push_once-2.new.page ≡ page ++ (70 ∷ 32 ∷ 49 ∷ 10 ∷ 78 ∷ 32 ∷ (front_text f ++ (nine_digits n ++ end_text b))) =
-    c.push_once-2.ensures.text
-    ∙ ap (λ bytes. page ++ (70 ∷ 32 ∷ 49 ∷ 10 ∷ 78 ∷ 32 ∷ (bytes ++ (c.args.nine.now ++ end_text b)))) c.front_of.ensures
-    ∙ ap (λ bytes. page ++ (70 ∷ 32 ∷ 49 ∷ 10 ∷ 78 ∷ 32 ∷ (front_text f ++ (bytes ++ end_text b)))) nine in
-    (shown.0, shown.1, text ∙ ap (λ bytes. page ++ bytes) shown.2)
+    let text = written_once (take c.push_once-2.result c.push_once-2.new.page) (take c.args.at c.args.page.now) c.front_of.result c.args.nine.now (ended shown.0) f n b c.push_once-2.ensures.text c.front_of.ensures nine shown.2 in
+    (shown.0, shown.1, text)
 
 pub is_before-requires : goal.is_before-requires
 is_before-requires c = rw (to_z-of_z w64 c.args.reading c.ranges.reading) c.requires.bound

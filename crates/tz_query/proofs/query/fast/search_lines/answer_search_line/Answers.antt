@@ -1,21 +1,20 @@
 -- The fields are found once, in the segment that holds their window, or as it is answered around a jump.
-use Rattle.std.proofs.Common.{◌≡◌, ◌-ℤ◌, ◌≤ℤ◌, ◌<ℤ◌, ◌∷◌, ◌++◌, take, inl, ap, ◌∙◌, arith, rules}
+use Rattle.std.proofs.Common.{◌≡◌, ◌-ℤ◌, ◌≤ℤ◌, ◌<ℤ◌, ◌∷◌, ◌++◌, take, inl, refl, ap, ◌∙◌, arith, rules}
 use Rattle.std.proofs.lemmas.Int.{ints, to_z-of_z}
 use mir.Syntax.{w64}
 use mir.Val.{SFits}
 use Rattle.tz_base.specs.Fields.{reading}
 use Rattle.tz_zone.specs.ZoneRef.{zone_of}
-use Rattle.tz.specs.PrintedText.{nine_digits}
-use Rattle.tz_query.specs.Pages.{front_text, end_text}
+use Rattle.tz_query.specs.Lines.{ended}
 use Rattle.tz_query.specs.Queries.{Search}
-use Rattle.tz_query.proofs.SearchLineLemmas.{shown_once}
+use Rattle.tz_query.proofs.SearchLineLemmas.{shown_once, written_once}
 use Rattle.tz_query.proofs.query.fast.search_lines.answer_search_line.Goals as goal
 
-pub front_of-requires-clause-year : goal.front_of-requires-clause-year
-front_of-requires-clause-year c = omega (arith, ints, c.if-fields-lt1000.false, c.if-fields-gt9999.false)
+pub front_of-requires : goal.front_of-requires
+front_of-requires c = record { valid = c.in-Ok.ensures.ok; year = omega (arith, ints, c.if-fields-lt1000.false, c.if-fields-gt9999.false) }
 
-pub returns-in-Some-clause-some : goal.returns-in-Some-clause-some
-returns-in-Some-clause-some c =
+pub returns-in-Some : goal.returns-in-Some
+returns-in-Some c =
     let z = zone_of c.args.zone in
     let t = c.in-Some.tail.now.local_time_type in
     let f = c.in_ok-fields.fields in
@@ -27,27 +26,36 @@ returns-in-Some-clause-some c =
     let within = c.in-Some.ensures.within in
     let low_fits : SFits w64 c.window_of-low.result.0 = search rules in
     let high_fits : SFits w64 c.window_of-low.result.1 = search rules in
-    let reading_fits : SFits w64 c.reading-reading.result = search rules in
+    let reading_fits : SFits w64 c.reading-reading.result = record { sfits = c.reading-reading.type_inv } in
     let low : kept.from ≤ℤ (reading f -ℤ greatest) = rw (to_z-of_z w64 c.window_of-low.result.0 low_fits, c.window_of-low.ensures.low, to_z-of_z w64 c.reading-reading.result reading_fits, c.reading-reading.ensures.value) at within.0 in
     let high : (reading f -ℤ least) <ℤ kept.until = rw (to_z-of_z w64 c.window_of-low.result.1 high_fits, c.window_of-low.ensures.high, to_z-of_z w64 c.reading-reading.result reading_fits, c.reading-reading.ensures.value) at within.1 in
     let shown = shown_once z c.args.zone.sound.leap_seconds_are f n line.1 c.in-Ok.ensures.ok least greatest kept.from kept.until t c.requires.order c.requires.offsets c.in-Some.ensures.tail low high in
-    let page = take c.args.at c.args.page.now in
-    let text : take c.push_once-end.result c.push_once-end.new.page ≡ page ++ (70 ∷ 32 ∷ 49 ∷ 10 ∷ 78 ∷ 32 ∷ (front_text f ++ (nine_digits n ++ end_text t))) =
-    c.push_once-end.ensures.text
-    ∙ ap (λ bytes. page ++ (70 ∷ 32 ∷ 49 ∷ 10 ∷ 78 ∷ 32 ∷ (bytes ++ (c.read_line.new.nine ++ end_text t)))) c.front_of.ensures
-    ∙ ap (λ bytes. page ++ (70 ∷ 32 ∷ 49 ∷ 10 ∷ 78 ∷ 32 ∷ (front_text f ++ (bytes ++ end_text t)))) line.2 in
-    (omega (arith, c.push_once-end.ensures.end), (line.3.0, shown.0, line.3.1, inl (Search (record f { nanoseconds = n }), line.3.2, shown.1), text ∙ ap (λ bytes. page ++ bytes) shown.2))
+    let text = written_once (take c.push_once-end.result c.push_once-end.new.page) (take c.args.at c.args.page.now) c.front_of.result c.read_line.new.nine (ended shown.0) f n t c.push_once-end.ensures.text c.front_of.ensures line.2 shown.2 in
+    record {
+      some = (omega (arith, c.push_once-end.ensures.end), (line.3.0, shown.0, line.3.1, inl (Search (record f { nanoseconds = n }), line.3.2, shown.1), text));
+      none = tt;
+      kept = c.tail_through.ensures.kept;
+    }
 
-pub answer_across_jump-requires-clause-offsets : goal.answer_across_jump-requires-clause-offsets
-answer_across_jump-requires-clause-offsets c =
+pub answer_across_jump-requires : goal.answer_across_jump-requires
+answer_across_jump-requires c =
     let window = c.window_of-low in
     let low_fits : SFits w64 window.result.0 = search rules in
     let high_fits : SFits w64 window.result.1 = search rules in
-    let reading_fits : SFits w64 c.reading-reading.result = search rules in
-    let low : window.result.0 ≡ reading c.in_ok-fields.fields -ℤ c.args.offsets.1 = rw (to_z-of_z w64 c.reading-reading.result reading_fits, c.reading-reading.ensures.value) at window.ensures.low in
-    let high : window.result.1 ≡ reading c.in_ok-fields.fields -ℤ c.args.offsets.0 = rw (to_z-of_z w64 c.reading-reading.result reading_fits, c.reading-reading.ensures.value) at window.ensures.high in
-    rw (to_z-of_z w64 window.result.0 low_fits, to_z-of_z w64 window.result.1 high_fits)
-    (λ u t clock. let between = c.requires.offsets u t clock in (omega (arith, ints, high, between.0), omega (arith, ints, low, between.1)))
+    let read = to_z-of_z w64 c.reading-reading.result (record { sfits = c.reading-reading.type_inv }) in
+    let low : window.result.0 ≡ reading c.in_ok-fields.fields -ℤ c.args.offsets.1 = rw (read, c.reading-reading.ensures.value) at window.ensures.low in
+    let high : window.result.1 ≡ reading c.in_ok-fields.fields -ℤ c.args.offsets.0 = rw (read, c.reading-reading.ensures.value) at window.ensures.high in
+    record {
+      room = c.requires.room;
+      kept = c.tail_through.ensures.kept;
+      tails = c.requires.tails;
+      valid = c.in-Ok.ensures.ok;
+      reading = rw read c.reading-reading.ensures.value;
+      bound = rw read c.reading-reading.ensures.bound;
+      year = omega (arith, ints, c.if-fields-lt1000.false, c.if-fields-gt9999.false);
+      offsets = rw (to_z-of_z w64 window.result.0 low_fits, to_z-of_z w64 window.result.1 high_fits)
+          (λ u t clock. let between = c.requires.offsets u t clock in (omega (arith, ints, high, between.0), omega (arith, ints, low, between.1)));
+    }
 
 pub returns-clause-some : goal.returns-clause-some
 returns-clause-some c =
@@ -56,3 +64,12 @@ returns-clause-some c =
     let n = line.0 in
     let found = c.in_ok-end.ensures.some n line.1 line.2 in
     (c.in_ok-end.ensures.end, (line.3.0, found.0, line.3.1, inl (Search (record f { nanoseconds = n }), line.3.2, found.1), found.2))
+
+pub returns-in_err-fields : goal.returns-in_err-fields
+returns-in_err-fields c = rw c.from_residual.ensures (record { some = tt; none = refl; kept = c.requires.kept })
+
+pub window_of-low-requires : goal.window_of-low-requires
+window_of-low-requires c = rw (to_z-of_z w64 c.reading-reading.result (record { sfits = c.reading-reading.type_inv })) c.reading-reading.ensures.bound
+
+pub returns-in_err-end : goal.returns-in_err-end
+returns-in_err-end c = rw c.from_residual-in_err-end.ensures (record { some = tt; none = ap (take c.args.at) c.in_err-end.ensures.none; kept = c.tail_through.ensures.kept })
