@@ -1,8 +1,7 @@
 -- The fields are shown before the jump, after it, on both sides or on neither.
-use Rattle.std.proofs.Common.{◌≡◌, ◌-ℤ◌, ◌≤ℤ◌, ◌<ℤ◌, ◌∷◌, ◌++◌, take, ap, ◌∙◌, arith, rules}
+use Rattle.std.proofs.Common.{◌≡◌, ◌-ℤ◌, ◌≤ℤ◌, ◌<ℤ◌, ◌∷◌, ◌++◌, take, ap, ◌∙◌, arith}
 use Rattle.std.proofs.lemmas.Int.{ints, to_z-of_z}
 use mir.Syntax.{w64}
-use mir.Val.{SFits}
 use Rattle.tz_base.specs.Fields.{reading}
 use Rattle.tz_zone.specs.ZoneRef.{zone_of}
 use Rattle.tz.specs.PrintedText.{nine_digits}
