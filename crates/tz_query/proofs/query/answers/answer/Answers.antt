@@ -31,7 +31,7 @@ loop-rest-preserved g c =
     let room = c.in_ok-room.ensures in
     let next = c.in_ok-at.ensures in
     let step = next.answer in
-    let some = some_left (length c.loop-rest.rest.now) c.is_empty.result c.is_empty.ensures c.loop-rest-test.true in (
+    let some : 0 < length c.loop-rest.rest.now = search some_left in (
       omega (arith, room.end, next.end),
       next.kept,
       λ more are.
@@ -52,7 +52,7 @@ returns-clause-ok g c =
 pub loop-rest-smaller : goal.loop-rest-smaller
 loop-rest-smaller g c =
     let next = c.in_ok-at.ensures.answer in
-    let some : 0 < length c.loop-rest.rest.now = some_left (length c.loop-rest.rest.now) c.is_empty.result c.is_empty.ensures c.loop-rest-test.true in
+    let some : 0 < length c.loop-rest.rest.now = search some_left in
     rest_is_shorter c.loop-rest.rest.now next.0 c.in_ok-at.field-0-1.now next.2 some
 
 pub answer_next-requires : goal.answer_next-requires

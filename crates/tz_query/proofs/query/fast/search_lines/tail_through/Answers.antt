@@ -27,4 +27,4 @@ bounds-tails-kept c = let place = c.keep.ensures.kept in tail_within c.args.tail
 pub returns-clause-within : goal.returns-clause-within
 returns-clause-within c =
     let within = c.keep.ensures.within c.if-not-keep.false in
-    (search rules, omega (arith, ints, c.if-high-kept.false))
+    (search rules, omega (arith, ints))
