@@ -9,6 +9,7 @@ use std::time::Duration;
 use tz::datetime::{DateTime, UtcDateTime};
 use tz_base::error::TzError;
 use tz_base::error::datetime::DateTimeError;
+use tz_file_tests::samples::expect_eq;
 use tz_zone::timezone::{LocalTimeType, TimeZone, TimeZoneRef, Transition};
 
 /// The date time prints as the text.
@@ -19,9 +20,9 @@ fn expect_text(
     text: &str,
 ) -> Result<(), AllocError> {
     let printed = format!(in alloc; "{date_time}")?;
-    assert_eq!(rt; printed.as_str(), text);
+    expect_eq(rt, &printed.as_str(), &text);
     let padded = format!(in alloc; "{date_time:60}")?;
-    assert_eq!(rt; padded.as_str(), text);
+    expect_eq(rt, &padded.as_str(), &text);
     Ok(())
 }
 
@@ -113,10 +114,10 @@ fn utc_date_times_have_the_parts_of_their_instant(rt: HostRuntime) {
     for (nanoseconds, (unix_time, year, month, month_day)) in (10u32..).zip(NOONS) {
         let parts = (year, month, month_day, (12, 1, 6), nanoseconds);
         let total = i128::from(unix_time) * 1_000_000_000 + i128::from(nanoseconds);
-        assert_eq!(rt; utc_parts_at(unix_time, nanoseconds), Some(parts));
-        assert_eq!(rt; utc_parts_now(unix_time, nanoseconds), Some(parts));
-        assert_eq!(rt; utc_parts_of_total(total), Some(parts));
-        assert_eq!(rt; utc_instant_of(parts), Some((unix_time, total)));
+        expect_eq(&rt, &utc_parts_at(unix_time, nanoseconds), &Some(parts));
+        expect_eq(&rt, &utc_parts_now(unix_time, nanoseconds), &Some(parts));
+        expect_eq(&rt, &utc_parts_of_total(total), &Some(parts));
+        expect_eq(&rt, &utc_instant_of(parts), &Some((unix_time, total)));
     }
 }
 
@@ -189,9 +190,9 @@ fn zones_of_one_type_show_its_offset(rt: HostRuntime) -> Result<(), Fail> {
 #[test]
 fn the_first_second_of_2000(rt: HostRuntime) -> Result<(), Fail> {
     let date_time = UtcDateTime::new(2000, 1, 1, 0, 0, 0, 123_456_789)?;
-    assert_eq!(rt; date_time.week_day(), 6);
-    assert_eq!(rt; date_time.year_day(), 0);
-    assert_eq!(rt; date_time.unix_time(), 946_684_800);
+    expect_eq(&rt, &date_time.week_day(), &6);
+    expect_eq(&rt, &date_time.year_day(), &0);
+    expect_eq(&rt, &date_time.unix_time(), &946_684_800);
     expect_text(
         &rt,
         rt.alloc(),
@@ -200,8 +201,8 @@ fn the_first_second_of_2000(rt: HostRuntime) -> Result<(), Fail> {
     )?;
     let zone = TimeZone::fixed(rt.alloc(), -3600)?;
     let local = date_time.project(zone.as_ref())?;
-    assert_eq!(rt; local.week_day(), 5);
-    assert_eq!(rt; local.year_day(), 364);
+    expect_eq(&rt, &local.week_day(), &5);
+    expect_eq(&rt, &local.year_day(), &364);
     expect_text(
         &rt,
         rt.alloc(),
@@ -226,9 +227,9 @@ const LAST: i64 = 67_767_976_233_532_799;
 #[test]
 fn the_years_end(rt: HostRuntime) -> Result<(), Fail> {
     let [first, epoch, last] = constants();
-    assert_eq!(rt; UtcDateTime::from_timespec(FIRST, 0)?, first);
-    assert_eq!(rt; UtcDateTime::from_timespec(0, 0)?, epoch);
-    assert_eq!(rt; UtcDateTime::from_timespec(LAST, 999_999_999)?, last);
+    expect_eq(&rt, &UtcDateTime::from_timespec(FIRST, 0)?, &first);
+    expect_eq(&rt, &UtcDateTime::from_timespec(0, 0)?, &epoch);
+    expect_eq(&rt, &UtcDateTime::from_timespec(LAST, 999_999_999)?, &last);
     expect_text(
         &rt,
         rt.alloc(),
@@ -251,9 +252,10 @@ fn no_date_time_is_past_the_ends(rt: HostRuntime) {
         assert!(rt; is_out_of_range(UtcDateTime::from_timespec(unix_time, 999_999_999)));
     }
     for unix_time in [i64::MIN, FIRST - 1, 0, LAST + 1, i64::MAX] {
-        assert_eq!(rt;
-            field_fault(UtcDateTime::from_timespec(unix_time, 1_000_000_000)),
-            Some(DateTimeError::InvalidNanoseconds)
+        expect_eq(
+            &rt,
+            &field_fault(UtcDateTime::from_timespec(unix_time, 1_000_000_000)),
+            &Some(DateTimeError::InvalidNanoseconds),
         );
     }
 }
@@ -263,9 +265,10 @@ fn the_first_fault_of_fields_is_named(rt: HostRuntime) {
     let past_the_end = (i32::MAX, 12, 31, (23, 59, 60), 1_000_000_000);
     assert!(rt; is_out_of_range(utc_of(past_the_end)));
     assert!(rt; is_out_of_range(utc_of((i32::MAX, 12, 31, (23, 59, 60), 0))));
-    assert_eq!(rt;
-        field_fault(local_of(past_the_end, 0)),
-        Some(DateTimeError::InvalidNanoseconds)
+    expect_eq(
+        &rt,
+        &field_fault(local_of(past_the_end, 0)),
+        &Some(DateTimeError::InvalidNanoseconds),
     );
     assert!(rt; is_out_of_range(local_of((i32::MAX, 12, 31, (23, 59, 60), 0), 0)));
     for (parts, fault) in [
@@ -305,8 +308,8 @@ fn the_first_fault_of_fields_is_named(rt: HostRuntime) {
         ((2001, 2, 29, (0, 0, 0), 0), DateTimeError::InvalidMonthDay),
         ((1900, 2, 29, (0, 0, 0), 0), DateTimeError::InvalidMonthDay),
     ] {
-        assert_eq!(rt; field_fault(utc_of(parts)), Some(fault));
-        assert_eq!(rt; field_fault(local_of(parts, 3600)), Some(fault));
+        expect_eq(&rt, &field_fault(utc_of(parts)), &Some(fault));
+        expect_eq(&rt, &field_fault(local_of(parts, 3600)), &Some(fault));
     }
     assert!(rt; utc_of((2000, 2, 29, (23, 59, 60), 999_999_999)).is_ok());
 }
@@ -316,20 +319,26 @@ fn local_years_end_where_utc_does(rt: HostRuntime) -> Result<(), Fail> {
     assert!(rt; is_out_of_range(local_of((i32::MAX, 12, 31, (23, 30, 0), 0), -3600)));
     let west = LocalTimeType::with_ut_offset(-3600)?;
     let late = DateTime::from_timespec_and_local(67_767_976_233_532_800, 0, west)?;
-    assert_eq!(rt; parts_of_local(late), (i32::MAX, 12, 31, (23, 0, 0), 0));
+    expect_eq(
+        &rt,
+        &parts_of_local(late),
+        &(i32::MAX, 12, 31, (23, 0, 0), 0),
+    );
     assert!(rt; is_out_of_range(UtcDateTime::try_from(late)));
     assert!(rt;
         is_out_of_range(DateTime::from_timespec_and_local(-67_768_100_567_971_200, 0, west))
     );
-    assert_eq!(rt;
-        field_fault(DateTime::from_timespec_and_local(i64::MAX, 1_000_000_000, west)),
-        Some(DateTimeError::InvalidNanoseconds)
+    expect_eq(
+        &rt,
+        &field_fault(DateTime::from_timespec_and_local(i64::MAX, 1_000_000_000, west)),
+        &Some(DateTimeError::InvalidNanoseconds),
     );
     assert!(rt; is_out_of_range(DateTime::from_timespec_and_local(i64::MIN, 0, west)));
     let noon = DateTime::from_timespec_and_local(951_825_666, 7, west)?;
-    assert_eq!(rt;
-        UtcDateTime::try_from(noon).ok(),
-        UtcDateTime::from_timespec(951_825_666, 7).ok()
+    expect_eq(
+        &rt,
+        &UtcDateTime::try_from(noon).ok(),
+        &UtcDateTime::from_timespec(951_825_666, 7).ok(),
     );
     Ok(())
 }
@@ -343,11 +352,15 @@ fn totals_are_rounded_down(rt: HostRuntime) -> Result<(), Fail> {
         "1969-12-31T23:59:59.999999999Z",
     )?;
     let last_of_1969 = (1969, 12, 31, (23, 59, 59), 999_999_999);
-    assert_eq!(rt; utc_parts_of_total(-1), Some(last_of_1969));
-    assert_eq!(rt; utc_parts_of_total(0), Some((1970, 1, 1, (0, 0, 0), 0)));
+    expect_eq(&rt, &utc_parts_of_total(-1), &Some(last_of_1969));
+    expect_eq(
+        &rt,
+        &utc_parts_of_total(0),
+        &Some((1970, 1, 1, (0, 0, 0), 0)),
+    );
     let local = DateTime::from_total_nanoseconds(-1, TimeZoneRef::utc())?;
-    assert_eq!(rt; parts_of_local(local), last_of_1969);
-    assert_eq!(rt; local.total_nanoseconds(), -1);
+    expect_eq(&rt, &parts_of_local(local), &last_of_1969);
+    expect_eq(&rt, &local.total_nanoseconds(), &(-1));
     Ok(())
 }
 
@@ -357,9 +370,10 @@ fn parts_are_printed(rt: HostRuntime) -> Result<(), Fail> {
     let alloc = rt.alloc();
     let utc = UtcDateTime::new(2000, 1, 2, 3, 4, 5, 6)?;
     let printed = format!(in alloc; "{utc:?}")?;
-    assert_eq!(rt;
-        printed.as_str(),
-        "UtcDateTime { year: 2000, month: 1, month_day: 2, hour: 3, minute: 4, second: 5, nanoseconds: 6 }"
+    expect_eq(
+        &rt,
+        &printed.as_str(),
+        &"UtcDateTime { year: 2000, month: 1, month_day: 2, hour: 3, minute: 4, second: 5, nanoseconds: 6 }",
     );
     let cet = LocalTimeType::new(3600, false, Some(b"CET"))?;
     let local = DateTime::new(2000, 1, 2, 3, 4, 5, 6, cet)?;
@@ -367,7 +381,7 @@ fn parts_are_printed(rt: HostRuntime) -> Result<(), Fail> {
     let expected = format!(in alloc;
         "DateTime {{ year: 2000, month: 1, month_day: 2, hour: 3, minute: 4, second: 5, local_time_type: {cet:?}, unix_time: 946778645, nanoseconds: 6 }}"
     )?;
-    assert_eq!(rt; printed.as_str(), expected.as_str());
+    expect_eq(&rt, &printed.as_str(), &expected.as_str());
     Ok(())
 }
 
@@ -375,13 +389,15 @@ fn parts_are_printed(rt: HostRuntime) -> Result<(), Fail> {
 fn totals_end_with_the_years(rt: HostRuntime) {
     let first = i128::from(FIRST) * 1_000_000_000;
     let last = i128::from(LAST) * 1_000_000_000 + 999_999_999;
-    assert_eq!(rt;
-        utc_parts_of_total(first),
-        Some((i32::MIN, 1, 1, (0, 0, 0), 0))
+    expect_eq(
+        &rt,
+        &utc_parts_of_total(first),
+        &Some((i32::MIN, 1, 1, (0, 0, 0), 0)),
     );
-    assert_eq!(rt;
-        utc_parts_of_total(last),
-        Some((i32::MAX, 12, 31, (23, 59, 59), 999_999_999))
+    expect_eq(
+        &rt,
+        &utc_parts_of_total(last),
+        &Some((i32::MAX, 12, 31, (23, 59, 59), 999_999_999)),
     );
     for total in [i128::MIN, first - 1, last + 1, i128::MAX] {
         let utc_type = LocalTimeType::utc();
@@ -409,9 +425,10 @@ fn the_lookup_is_refused_before_the_year(rt: HostRuntime) -> Result<(), Fail> {
             Err(TzError::NoAvailableLocalTimeType)
         )
     );
-    assert_eq!(rt;
-        field_fault(DateTime::from_timespec(0, 1_000_000_000, zone)),
-        Some(DateTimeError::InvalidNanoseconds)
+    expect_eq(
+        &rt,
+        &field_fault(DateTime::from_timespec(0, 1_000_000_000, zone)),
+        &Some(DateTimeError::InvalidNanoseconds),
     );
     assert!(rt; is_out_of_range(DateTime::from_timespec(i64::MIN, 0, zone)));
     Ok(())
@@ -422,13 +439,13 @@ fn durations_go_both_ways(rt: HostRuntime) {
     let nanosecond = Duration::from_nanos(1);
     let [_, epoch, _] = constants();
     let before = utc_of((1969, 12, 31, (23, 59, 59), 999_999_999)).ok();
-    assert_eq!(rt; epoch.checked_sub(nanosecond), before);
+    expect_eq(&rt, &epoch.checked_sub(nanosecond), &before);
     for before in before {
-        assert_eq!(rt; epoch.duration_since(before), Ok(nanosecond));
-        assert_eq!(rt; before.duration_since(epoch), Err(nanosecond));
-        assert_eq!(rt; before.checked_add(nanosecond), Some(epoch));
+        expect_eq(&rt, &epoch.duration_since(before), &Ok(nanosecond));
+        expect_eq(&rt, &before.duration_since(epoch), &Err(nanosecond));
+        expect_eq(&rt, &before.checked_add(nanosecond), &Some(epoch));
     }
-    assert_eq!(rt; epoch.duration_since(epoch), Ok(Duration::ZERO));
+    expect_eq(&rt, &epoch.duration_since(epoch), &Ok(Duration::ZERO));
 }
 
 #[test]
@@ -436,23 +453,24 @@ fn durations_end_with_the_years(rt: HostRuntime) {
     let nanosecond = Duration::from_nanos(1);
     let all = Duration::new(135_536_076_801_503_999, 999_999_999);
     let [first, _, last] = constants();
-    assert_eq!(rt; last.checked_add(nanosecond), None);
-    assert_eq!(rt; first.checked_sub(nanosecond), None);
-    assert_eq!(rt; last.checked_add(Duration::ZERO), Some(last));
-    assert_eq!(rt; first.checked_add(all), Some(last));
-    assert_eq!(rt; last.checked_sub(all), Some(first));
-    assert_eq!(rt; last.duration_since(first), Ok(all));
-    assert_eq!(rt; first.duration_since(last), Err(all));
-    assert_eq!(rt; first.checked_add(Duration::MAX), None);
-    assert_eq!(rt; last.checked_sub(Duration::MAX), None);
+    expect_eq(&rt, &last.checked_add(nanosecond), &None);
+    expect_eq(&rt, &first.checked_sub(nanosecond), &None);
+    expect_eq(&rt, &last.checked_add(Duration::ZERO), &Some(last));
+    expect_eq(&rt, &first.checked_add(all), &Some(last));
+    expect_eq(&rt, &last.checked_sub(all), &Some(first));
+    expect_eq(&rt, &last.duration_since(first), &Ok(all));
+    expect_eq(&rt, &first.duration_since(last), &Err(all));
+    expect_eq(&rt, &first.checked_add(Duration::MAX), &None);
+    expect_eq(&rt, &last.checked_sub(Duration::MAX), &None);
 }
 
 #[test]
 fn second_60_moves_as_the_next_second_0(rt: HostRuntime) {
     for second_60 in utc_of((2016, 12, 31, (23, 59, 60), 0)).ok() {
-        assert_eq!(rt;
-            second_60.checked_add(Duration::ZERO),
-            utc_of((2017, 1, 1, (0, 0, 0), 0)).ok()
+        expect_eq(
+            &rt,
+            &second_60.checked_add(Duration::ZERO),
+            &utc_of((2017, 1, 1, (0, 0, 0), 0)).ok(),
         );
     }
 }
@@ -490,7 +508,7 @@ fn local_date_times_are_compared_by_instant(rt: HostRuntime) -> Result<(), Fail>
     let east = local_of((2000, 1, 1, (1, 0, 0), 0), 3600)?;
     let utc = local_of((2000, 1, 1, (0, 0, 0), 0), 0)?;
     assert!(rt; east == utc);
-    assert_eq!(rt; east.cmp(&utc), Ordering::Equal);
+    expect_eq(&rt, &east.cmp(&utc), &Ordering::Equal);
     expect_text(
         &rt,
         rt.alloc(),
@@ -501,8 +519,16 @@ fn local_date_times_are_compared_by_instant(rt: HostRuntime) -> Result<(), Fail>
     let later = local_of((2000, 1, 1, (0, 0, 0), 1), 0)?;
     assert!(rt; east < later);
     assert!(rt; east != later);
-    assert_eq!(rt; later.duration_since(east), Ok(Duration::from_nanos(1)));
-    assert_eq!(rt; east.duration_since(later), Err(Duration::from_nanos(1)));
+    expect_eq(
+        &rt,
+        &later.duration_since(east),
+        &Ok(Duration::from_nanos(1)),
+    );
+    expect_eq(
+        &rt,
+        &east.duration_since(later),
+        &Err(Duration::from_nanos(1)),
+    );
     let west = local_of((1999, 12, 31, (23, 0, 1), 0), -3600)?;
     assert!(rt; later < west);
     Ok(())
@@ -513,8 +539,8 @@ fn second_60_is_before_the_next_minute(rt: HostRuntime) -> Result<(), Fail> {
     let second_60 = UtcDateTime::new(2016, 12, 31, 23, 59, 60, 0)?;
     let new_year = UtcDateTime::new(2017, 1, 1, 0, 0, 0, 0)?;
     assert!(rt; second_60 < new_year);
-    assert_eq!(rt; second_60.unix_time(), 1_483_228_800);
-    assert_eq!(rt; new_year.unix_time(), 1_483_228_800);
+    expect_eq(&rt, &second_60.unix_time(), &1_483_228_800);
+    expect_eq(&rt, &new_year.unix_time(), &1_483_228_800);
     expect_text(
         &rt,
         rt.alloc(),

@@ -2,6 +2,7 @@
 
 mod failing;
 
+use crate::samples::expect_eq;
 use std::test::Fail;
 use std::{env, fs, process};
 use tz_base::error::{Error, ReadFault};
@@ -25,7 +26,7 @@ fn a_file_of_the_machine_is_read_whole(rt: HostRuntime) -> Result<(), Fail> {
     fs::write(&rt, path.as_str(), bytes.as_slice())?;
     let read = read_file(&rt, alloc, path.as_str());
     fs::remove_file(&rt, path.as_str())?;
-    assert_eq!(rt; read?, bytes);
+    expect_eq(&rt, &read?, &bytes);
     Ok(())
 }
 
@@ -46,7 +47,7 @@ fn the_settings_take_it(rt: HostRuntime) -> Result<(), Fail> {
     let settings = TimeZoneSettings::new(&["/no/such"], |path: &str| read_file(&rt, alloc, path));
     let zone = settings.parse_posix_tz(alloc, "HST10")?;
     let types = [LocalTimeType::new(-36_000, false, Some(b"HST"))?];
-    assert_eq!(rt; zone.as_ref().local_time_types(), types.as_slice());
+    expect_eq(&rt, &zone.as_ref().local_time_types(), &types.as_slice());
     let directory = settings.parse_posix_tz(alloc, ":/");
     assert!(rt; matches!(directory, Err(Error::Io(_))));
     Ok(())

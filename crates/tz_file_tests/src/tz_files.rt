@@ -1,6 +1,8 @@
 //! TZif files: vectors and the zones that they denote, footers, and refused memory.
 
-use crate::samples::{Fault, named, push_header, utc_v1, without_transitions};
+use crate::samples::{
+    Fault, expect_eq, expect_eq_at, named, push_header, utc_v1, without_transitions,
+};
 use std::alloc::{AllocError, Allocator, Global};
 use std::process::Abort;
 use std::test::Fail;
@@ -81,12 +83,13 @@ fn with_byte(alloc: Global, bytes: &[u8], place: usize, byte: u8) -> Result<Vec<
 #[test]
 fn utc_is_read(rt: HostRuntime) -> Result<(), Fail> {
     let bytes = utc_v1(rt.alloc())?;
-    assert_eq!(rt; bytes.len(), 54);
+    expect_eq(&rt, &bytes.len(), &54);
     let zone = TimeZone::from_tz_data(rt.alloc(), &bytes)?;
     let zone = zone.as_ref();
-    assert_eq!(rt;
-        zone.local_time_types(),
-        [LocalTimeType::new(0, false, Some(b"UTC"))?].as_slice()
+    expect_eq(
+        &rt,
+        &zone.local_time_types(),
+        &[LocalTimeType::new(0, false, Some(b"UTC"))?].as_slice(),
     );
     assert!(rt; zone.transitions().is_empty());
     assert!(rt; zone.leap_seconds().is_empty());
@@ -97,19 +100,24 @@ fn utc_is_read(rt: HostRuntime) -> Result<(), Fail> {
 #[test]
 fn leap_seconds_are_read(rt: HostRuntime) -> Result<(), Fail> {
     let bytes = utc_v1_leap(rt.alloc())?;
-    assert_eq!(rt; bytes.len(), 272);
+    expect_eq(&rt, &bytes.len(), &272);
     let zone = TimeZone::from_tz_data(rt.alloc(), &bytes)?;
-    assert_eq!(rt;
-        zone.as_ref().local_time_types(),
-        [LocalTimeType::new(0, false, Some(b"UTC"))?].as_slice()
+    expect_eq(
+        &rt,
+        &zone.as_ref().local_time_types(),
+        &[LocalTimeType::new(0, false, Some(b"UTC"))?].as_slice(),
     );
     assert!(rt; zone.as_ref().extra_rule().is_none());
     let leap_seconds = zone.as_ref().leap_seconds();
-    assert_eq!(rt; leap_seconds.len(), 27);
+    expect_eq(&rt, &leap_seconds.len(), &27);
     let mut correction = 0i32;
     for (leap_second, time) in leap_seconds.iter().zip(&LEAP_TIMES) {
         correction = correction.saturating_add(1);
-        assert_eq!(rt; *leap_second, LeapSecond::new(i64::from(*time), correction));
+        expect_eq(
+            &rt,
+            leap_second,
+            &LeapSecond::new(i64::from(*time), correction),
+        );
     }
     Ok(())
 }
@@ -121,17 +129,13 @@ fn expect_memory(rt: &impl Abort, alloc: Global, bytes: &[u8]) -> Result<(), Fai
     for left in 0..10u64 {
         let heap = Refusing::new(alloc, left);
         let answer = TimeZone::from_tz_data(&heap, bytes);
-        assert_eq!(rt; bytes, lent.as_slice(), "after {left}");
+        expect_eq_at(rt, &left, &bytes, &lent.as_slice());
         if heap.refused() == 0 {
             assert!(rt; answer.is_ok_and(|zone| zone.as_ref() == ample.as_ref()));
             return Ok(());
         }
-        assert_eq!(rt;
-            answer.err().map(named),
-            Some(Fault::Memory),
-            "after {left}"
-        );
-        assert_eq!(rt; heap.held(), 0);
+        expect_eq_at(rt, &left, &answer.err().map(named), &Some(Fault::Memory));
+        expect_eq(rt, &heap.held(), &0);
     }
     assert!(rt; false, "growths without end");
     Ok(())
@@ -233,23 +237,25 @@ fn jerusalem_rule() -> Result<TransitionRule, TzError> {
 fn expect_jerusalem(rt: &impl Abort, alloc: Global, bytes: &[u8]) -> Result<(), TzError> {
     let zone = TimeZone::from_tz_data(alloc, bytes)?;
     let zone = zone.as_ref();
-    assert_eq!(rt;
-        zone.transitions(),
-        [Transition::new(2_145_916_800, 0)].as_slice()
+    expect_eq(
+        rt,
+        &zone.transitions(),
+        &[Transition::new(2_145_916_800, 0)].as_slice(),
     );
-    assert_eq!(rt;
-        zone.local_time_types(),
-        [LocalTimeType::new(7200, false, Some(b"IST"))?].as_slice()
+    expect_eq(
+        rt,
+        &zone.local_time_types(),
+        &[LocalTimeType::new(7200, false, Some(b"IST"))?].as_slice(),
     );
     assert!(rt; zone.leap_seconds().is_empty());
-    assert_eq!(rt; *zone.extra_rule(), Some(jerusalem_rule()?));
+    expect_eq(rt, zone.extra_rule(), &Some(jerusalem_rule()?));
     Ok(())
 }
 
 #[test]
 fn jerusalem_is_read(rt: HostRuntime) -> Result<(), Fail> {
     let bytes = jerusalem_v3(rt.alloc())?;
-    assert_eq!(rt; bytes.len(), 147);
+    expect_eq(&rt, &bytes.len(), &147);
     expect_jerusalem(&rt, rt.alloc(), &bytes)?;
     // The first header's version and the first block's content make no difference, nor does a time of UT.
     for (place, byte) in [(4, b'2'), (48, 7), (58, b'4'), (118, 0)] {
@@ -265,15 +271,19 @@ fn jerusalem_is_read(rt: HostRuntime) -> Result<(), Fail> {
 /// Holds a zone to the transitions, the types and the rule of Honolulu.
 fn expect_honolulu(rt: &impl Abort, zone: TimeZoneRef<'_>) -> Result<(), Fail> {
     let transitions = zone.transitions();
-    assert_eq!(rt; transitions.len(), 7);
+    expect_eq(rt, &transitions.len(), &7);
     for (transition, (time, index)) in transitions.iter().zip(&HONOLULU) {
-        assert_eq!(rt; *transition, Transition::new(*time, usize::from(*index)));
+        expect_eq(
+            rt,
+            transition,
+            &(Transition::new(*time, usize::from(*index))),
+        );
     }
     let summer = LocalTimeType::new(-34_200, true, Some(b"HDT"))?;
     let now = LocalTimeType::new(-36_000, false, Some(b"HST"))?;
-    assert_eq!(rt; *zone.find_local_time_type(-1_156_939_200)?, summer);
-    assert_eq!(rt; *zone.find_local_time_type(1_546_300_800)?, now);
-    assert_eq!(rt; *zone.extra_rule(), Some(TransitionRule::Fixed(now)));
+    expect_eq(rt, zone.find_local_time_type(-1_156_939_200)?, &summer);
+    expect_eq(rt, zone.find_local_time_type(1_546_300_800)?, &now);
+    expect_eq(rt, zone.extra_rule(), &Some(TransitionRule::Fixed(now)));
     Ok(())
 }
 
@@ -296,7 +306,7 @@ fn footers_are_read(rt: HostRuntime) -> Result<(), Fail> {
     ] {
         let bytes = with_footer(rt.alloc(), b'3', footer)?;
         let zone = TimeZone::from_tz_data(rt.alloc(), &bytes)?;
-        assert_eq!(rt; *zone.as_ref().extra_rule(), expected);
+        expect_eq(&rt, zone.as_ref().extra_rule(), &expected);
     }
     Ok(())
 }
@@ -319,7 +329,7 @@ fn footers_are_refused(rt: HostRuntime) -> Result<(), Fail> {
         ),
     ] {
         let bytes = with_footer(rt.alloc(), b'3', footer)?;
-        assert_eq!(rt; fault_of(rt.alloc(), &bytes), Some(expected));
+        expect_eq(&rt, &fault_of(rt.alloc(), &bytes), &Some(expected));
     }
     let bytes = with_footer(rt.alloc(), b'3', b"\n\xff\n")?;
     let refused = fault_of(rt.alloc(), &bytes);
@@ -336,12 +346,13 @@ fn expect_extended(
     rule: AlternateTime,
 ) -> Result<(), Fail> {
     let bytes = without_transitions(alloc, b'2', footer)?;
-    assert_eq!(rt; fault_of(alloc, &bytes), Some(fault));
+    expect_eq(rt, &fault_of(alloc, &bytes), &Some(fault));
     let bytes = without_transitions(alloc, b'3', footer)?;
     let zone = TimeZone::from_tz_data(alloc, &bytes)?;
-    assert_eq!(rt;
-        *zone.as_ref().extra_rule(),
-        Some(TransitionRule::Alternate(rule))
+    expect_eq(
+        rt,
+        zone.as_ref().extra_rule(),
+        &Some(TransitionRule::Alternate(rule)),
     );
     Ok(())
 }
@@ -399,9 +410,10 @@ fn leap_seconds_of_later_files_are_read(rt: HostRuntime) -> Result<(), Fail> {
     let bytes = utc_v2_leap(rt.alloc())?;
     let zone = TimeZone::from_tz_data(rt.alloc(), &bytes)?;
     let earlier = TimeZone::from_tz_data(rt.alloc(), &utc_v1_leap(rt.alloc())?)?;
-    assert_eq!(rt;
-        zone.as_ref().leap_seconds(),
-        earlier.as_ref().leap_seconds()
+    expect_eq(
+        &rt,
+        &zone.as_ref().leap_seconds(),
+        &earlier.as_ref().leap_seconds(),
     );
     assert!(rt; zone.as_ref().extra_rule().is_some());
     Ok(())

@@ -9,7 +9,7 @@ use tz::timezone::{
     Transition, TransitionRule,
 };
 use tz::{LocalTimeType, TimeZoneRef, TzError};
-use tz_file_tests::samples::central_europe as central_europe_rule;
+use tz_file_tests::samples::{central_europe as central_europe_rule, expect_eq};
 use tz_query::inner::answer_line;
 use tz_query::query::answer;
 
@@ -40,7 +40,7 @@ fn expect_alike(
 ) -> Result<(), TzError> {
     let fast = answer(alloc, zone, queries)?;
     let plain = answered_plainly(alloc, zone, queries)?;
-    assert_eq!(rt; fast.as_slice(), plain.as_slice());
+    expect_eq(rt, &fast.as_slice(), &plain.as_slice());
     Ok(())
 }
 

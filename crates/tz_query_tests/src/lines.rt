@@ -4,6 +4,7 @@ use std::alloc::Allocator;
 use std::test::Fail;
 use tz::{LocalTimeType, TimeZone, TimeZoneRef, TzError};
 use tz_base::refusing::Refusing;
+use tz_file_tests::samples::{expect_eq, expect_eq_at};
 use tz_query::query::answer;
 
 /// The answers over a fixed zone.
@@ -183,7 +184,7 @@ const LIMITS: [(i32, &str, &str); 11] = [
 fn answers_at_the_limits_as_tz_rs(rt: HostRuntime) -> Result<(), Fail> {
     for (ut_offset, queries, answers) in &LIMITS {
         let found = answered(rt.alloc(), *ut_offset, queries.as_bytes())?;
-        assert_eq!(rt; found.as_slice(), answers.as_bytes());
+        expect_eq(&rt, &found.as_slice(), &answers.as_bytes());
     }
     Ok(())
 }
@@ -193,9 +194,10 @@ fn refuses_by_name(rt: HostRuntime) -> Result<(), Fail> {
     let queries =
         b"T 0\nT 0 1000000000\nF 2001 300 1 0 0 0 0\nT 9223372036854775807 1000000000\nT 9223372036854775807 999999999\n";
     let answers = b"E Line\nE InvalidNanoseconds\nE Line\nE InvalidNanoseconds\nE OutOfRange\n";
-    assert_eq!(rt;
-        answered(rt.alloc(), 0, queries)?.as_slice(),
-        answers.as_slice()
+    expect_eq(
+        &rt,
+        &answered(rt.alloc(), 0, queries)?.as_slice(),
+        &answers.as_slice(),
     );
     Ok(())
 }
@@ -211,16 +213,17 @@ fn reads_only_the_grammar(rt: HostRuntime) -> Result<(), Fail> {
         queries.extend_from_slice(line.as_bytes())?;
         queries.push(b'\n')?;
         let found = answered(rt.alloc(), 0, queries.as_slice())?;
-        assert_eq!(rt; found.as_slice(), b"E Line\n".as_slice(), "{line}");
+        expect_eq_at(&rt, &line, &found.as_slice(), &b"E Line\n".as_slice());
     }
     let found = answered(
         rt.alloc(),
         0,
         b"T 1 \xFF\n\xC3\x28\nT 1 5\0\nT 00000000000000000000001 5",
     )?;
-    assert_eq!(rt;
-        found.as_slice(),
-        b"E Line\nE Line\nE Line\n1970-01-01T00:00:01.000000005Z -\n".as_slice()
+    expect_eq(
+        &rt,
+        &found.as_slice(),
+        &b"E Line\nE Line\nE Line\n1970-01-01T00:00:01.000000005Z -\n".as_slice(),
     );
     Ok(())
 }
@@ -228,23 +231,27 @@ fn reads_only_the_grammar(rt: HostRuntime) -> Result<(), Fail> {
 #[test]
 fn cuts_lines_at_each_lf(rt: HostRuntime) -> Result<(), Fail> {
     let epoch = b"1970-01-01T00:00:00.000000000Z -\n";
-    assert_eq!(rt; answered(rt.alloc(), 0, b"")?.len(), 0);
-    assert_eq!(rt;
-        answered(rt.alloc(), 0, b"\n")?.as_slice(),
-        b"E Line\n".as_slice()
+    expect_eq(&rt, &answered(rt.alloc(), 0, b"")?.len(), &0);
+    expect_eq(
+        &rt,
+        &answered(rt.alloc(), 0, b"\n")?.as_slice(),
+        &b"E Line\n".as_slice(),
     );
-    assert_eq!(rt;
-        answered(rt.alloc(), 0, b"T 0 0")?.as_slice(),
-        epoch.as_slice()
+    expect_eq(
+        &rt,
+        &answered(rt.alloc(), 0, b"T 0 0")?.as_slice(),
+        &epoch.as_slice(),
     );
-    assert_eq!(rt;
-        answered(rt.alloc(), 0, b"T 0 0\n")?.as_slice(),
-        epoch.as_slice()
+    expect_eq(
+        &rt,
+        &answered(rt.alloc(), 0, b"T 0 0\n")?.as_slice(),
+        &epoch.as_slice(),
     );
     let found = answered(rt.alloc(), 0, b"\n\nT 0 0\n\nT 0 0")?;
-    assert_eq!(rt;
-        found.as_slice(),
-        b"E Line\nE Line\n1970-01-01T00:00:00.000000000Z -\nE Line\n1970-01-01T00:00:00.000000000Z -\n".as_slice()
+    expect_eq(
+        &rt,
+        &found.as_slice(),
+        &b"E Line\nE Line\n1970-01-01T00:00:00.000000000Z -\nE Line\n1970-01-01T00:00:00.000000000Z -\n".as_slice(),
     );
     Ok(())
 }
@@ -257,9 +264,10 @@ fn reads_a_million_digits(rt: HostRuntime) -> Result<(), Fail> {
     zeros.extend_from_slice(b"7 5\nT 0 ")?;
     zeros.resize(2_000_000, b'9')?;
     let found = answered(rt.alloc(), 0, zeros.as_slice())?;
-    assert_eq!(rt;
-        found.as_slice(),
-        b"1970-01-01T00:00:07.000000005Z -\nE Line\n".as_slice()
+    expect_eq(
+        &rt,
+        &found.as_slice(),
+        &b"1970-01-01T00:00:07.000000005Z -\nE Line\n".as_slice(),
     );
     Ok(())
 }
@@ -270,9 +278,10 @@ fn prints_the_name_of_the_type(rt: HostRuntime) -> Result<(), Fail> {
     let rule = None;
     let zone = TimeZoneRef::new(&[], &types, &[], &rule)?;
     let found = answer(rt.alloc(), zone, b"T 0 0\n")?;
-    assert_eq!(rt;
-        found.as_slice(),
-        b"1970-01-01T05:45:00.000000000+05:45 +0545\n".as_slice()
+    expect_eq(
+        &rt,
+        &found.as_slice(),
+        &b"1970-01-01T05:45:00.000000000+05:45 +0545\n".as_slice(),
     );
     Ok(())
 }
@@ -285,13 +294,13 @@ fn refused_memory_changes_no_answer(rt: HostRuntime) -> Result<(), Fail> {
     for left in 0..20u64 {
         let heap = Refusing::new(rt.alloc(), left);
         match answered(&heap, -3600, queries) {
-            Ok(found) => assert_eq!(rt; found.as_slice(), answers.as_slice()),
+            Ok(found) => expect_eq(&rt, &found.as_slice(), &answers.as_slice()),
             Err(error) => {
                 assert!(rt; matches!(error, TzError::Memory(_)));
                 refusals = left + 1;
             }
         }
-        assert_eq!(rt; heap.refused(), u64::from(left < refusals));
+        expect_eq(&rt, &heap.refused(), &u64::from(left < refusals));
     }
     assert!(rt; refusals > 1);
     assert!(rt; refusals < 20);

@@ -4,6 +4,7 @@ use crate::samples::central_europe;
 use std::test::Fail;
 use tz::{TimeZoneRef, TzError, UtcDateTime};
 use tz_base::refusing::Refusing;
+use tz_file_tests::samples::{expect_eq, expect_eq_at};
 use tz_query::query::answer;
 
 /// Three weeks over a jump of the clock of Central Europe, and their answer.
@@ -21,7 +22,7 @@ const JUMPED: &str = "W 3\n\
 fn a_meeting_keeps_its_time_of_day_over_a_jump(rt: HostRuntime) -> Result<(), Fail> {
     let zone = central_europe(rt.alloc())?;
     let found = answer(rt.alloc(), zone.as_ref(), OVER_A_JUMP.as_bytes())?;
-    assert_eq!(rt; found.as_slice(), JUMPED.as_bytes());
+    expect_eq(&rt, &found.as_slice(), &JUMPED.as_bytes());
     Ok(())
 }
 
@@ -56,7 +57,7 @@ fn meetings_have_these_answers(rt: HostRuntime) -> Result<(), Fail> {
     ];
     for (line, want) in &rows {
         let found = answer(rt.alloc(), TimeZoneRef::utc(), line.as_bytes())?;
-        assert_eq!(rt; found.as_slice(), want.as_bytes(), "{line}");
+        expect_eq_at(&rt, &line, &found.as_slice(), &want.as_bytes());
     }
     Ok(())
 }
@@ -73,7 +74,7 @@ fn the_longest_meeting_is_asked_for_week_by_week(rt: HostRuntime) -> Result<(), 
         want.extend_from_slice(&answers)?;
     }
     let found = answer(rt.alloc(), zone.as_ref(), b"W 255 1999 10 31 2 30 0 0")?;
-    assert_eq!(rt; found.as_slice(), want.as_slice());
+    expect_eq(&rt, &found.as_slice(), &want.as_slice());
     Ok(())
 }
 
@@ -84,15 +85,16 @@ fn each_growth_of_a_meeting_can_be_refused(rt: HostRuntime) -> Result<(), Fail> 
     for left in 0..40u64 {
         let heap = Refusing::new(rt.alloc(), left);
         match answer(&heap, zone.as_ref(), OVER_A_JUMP.as_bytes()) {
-            Ok(found) => assert_eq!(rt; found.as_slice(), JUMPED.as_bytes()),
+            Ok(found) => expect_eq(&rt, &found.as_slice(), &JUMPED.as_bytes()),
             Err(error) => {
                 assert!(rt; matches!(error, TzError::Memory(_)), "after {left}");
                 refusals = left + 1;
             }
         }
-        assert_eq!(rt;
-            (heap.refused(), heap.held()),
-            (u64::from(left < refusals), 0)
+        expect_eq(
+            &rt,
+            &(heap.refused(), heap.held()),
+            &(u64::from(left < refusals), 0),
         );
     }
     assert!(rt; (4..40).contains(&refusals));

@@ -10,7 +10,7 @@ use tz::timezone::{
 };
 use tz::{LocalTimeType, TimeZone, TimeZoneRef, TzError};
 use tz_base::refusing::Refusing;
-use tz_file_tests::samples::JERUSALEM_V3;
+use tz_file_tests::samples::{JERUSALEM_V3, expect_eq, expect_eq_at};
 use tz_query::query::answer;
 
 /// The queries have these answers.
@@ -22,7 +22,7 @@ fn expect_answers(
     answers: &str,
 ) -> Result<(), TzError> {
     let found = answer(alloc, zone, queries.as_bytes())?;
-    assert_eq!(rt; found.as_slice(), answers.as_bytes());
+    expect_eq(rt, &found.as_slice(), &answers.as_bytes());
     Ok(())
 }
 
@@ -356,7 +356,7 @@ fn reads_only_the_grammar(rt: HostRuntime) -> Result<(), Fail> {
     ];
     for line in &lines {
         let found = answer(rt.alloc(), TimeZoneRef::utc(), line.as_bytes())?;
-        assert_eq!(rt; found.as_slice(), b"E Line\n".as_slice(), "{line}");
+        expect_eq_at(&rt, &line, &found.as_slice(), &b"E Line\n".as_slice());
     }
     Ok(())
 }
@@ -373,13 +373,13 @@ fn refused_memory_changes_no_answer(rt: HostRuntime) -> Result<(), Fail> {
     for left in 0..20u64 {
         let heap = Refusing::new(rt.alloc(), left);
         match answered(&heap) {
-            Ok(found) => assert_eq!(rt; found.as_slice(), answers.as_slice()),
+            Ok(found) => expect_eq(&rt, &found.as_slice(), &answers.as_slice()),
             Err(error) => {
                 assert!(rt; matches!(error, TzError::Memory(_)));
                 refusals = left + 1;
             }
         }
-        assert_eq!(rt; heap.refused(), u64::from(left < refusals));
+        expect_eq(&rt, &heap.refused(), &u64::from(left < refusals));
     }
     assert!(rt; refusals > 1);
     assert!(rt; refusals < 20);

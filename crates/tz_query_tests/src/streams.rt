@@ -5,6 +5,7 @@ use crate::samples::central_europe;
 use std::alloc::Global;
 use std::test::Fail;
 use tz_base::refusing::Refusing;
+use tz_file_tests::samples::{expect_eq, expect_eq_at};
 use tz_query::query::{RunFault, run};
 
 /// Two lines, the second without an end.
@@ -48,7 +49,7 @@ fn all_answers_are_written_whatever_a_write_takes(rt: HostRuntime) -> Result<(),
     let want = format!(in rt.alloc(); "Ok|{ANSWERS}")?;
     for piece in [1, 5, 10, 127, usize::MAX] {
         let found = outcome(rt.alloc(), 2, u8::MAX, piece)?;
-        assert_eq!(rt; found.as_str(), want.as_str(), "{piece}");
+        expect_eq_at(&rt, &piece, &found.as_str(), &want.as_str());
     }
     Ok(())
 }
@@ -57,7 +58,7 @@ fn all_answers_are_written_whatever_a_write_takes(rt: HostRuntime) -> Result<(),
 fn a_failed_read_writes_nothing(rt: HostRuntime) -> Result<(), Fail> {
     for reads in [0, 1] {
         let found = outcome(rt.alloc(), reads, u8::MAX, usize::MAX)?;
-        assert_eq!(rt; found.as_str(), "Read|", "{reads}");
+        expect_eq_at(&rt, &reads, &found.as_str(), &"Read|");
     }
     Ok(())
 }
@@ -82,16 +83,17 @@ fn each_growth_can_be_refused(rt: HostRuntime) -> Result<(), Fail> {
         let mut input = QUERIES;
         let mut out = Vec::new(rt.alloc());
         match run(&heap, zone.as_ref(), &mut input, &mut out) {
-            Ok(()) => assert_eq!(rt; out.as_slice(), ANSWERS.as_bytes()),
+            Ok(()) => expect_eq(&rt, &out.as_slice(), &ANSWERS.as_bytes()),
             Err(fault) => {
                 assert!(rt; matches!(fault, RunFault::Memory), "after {left}");
-                assert_eq!(rt; out.len(), 0, "after {left}");
+                expect_eq_at(&rt, &left, &out.len(), &0);
                 refusals = left + 1;
             }
         }
-        assert_eq!(rt;
-            (heap.refused(), heap.held()),
-            (u64::from(left < refusals), 0)
+        expect_eq(
+            &rt,
+            &(heap.refused(), heap.held()),
+            &(u64::from(left < refusals), 0),
         );
         assert!(rt; zone == same, "after {left}");
     }
@@ -106,7 +108,7 @@ fn faults_have_the_program_s_words(rt: HostRuntime) -> Result<(), Fail> {
         (RunFault::Memory, "no memory"),
         (RunFault::Write, "cannot write answers"),
     ] {
-        assert_eq!(rt; format!(in rt.alloc(); "{fault}")?.as_str(), text);
+        expect_eq(&rt, &format!(in rt.alloc(); "{fault}")?.as_str(), &text);
     }
     Ok(())
 }

@@ -4,7 +4,7 @@ use std::alloc::{AllocError, Global};
 use std::test::Fail;
 use tz::{TimeZone, TzError};
 use tz_base::refusing::Refusing;
-use tz_file_tests::samples::{JERUSALEM_V3, UTC_V1};
+use tz_file_tests::samples::{JERUSALEM_V3, UTC_V1, expect_eq, expect_eq_at};
 use tz_query::query::{answer, answer_tzif};
 
 /// The answers, or the text of the refusal.
@@ -27,7 +27,7 @@ fn altered(alloc: Global, bytes: &[u8], place: usize, byte: u8) -> Result<Vec<u8
 #[test]
 fn a_file_s_zone_answers(rt: HostRuntime) -> Result<(), Fail> {
     let alloc = rt.alloc();
-    assert_eq!(rt; (UTC_V1.len(), JERUSALEM_V3.len()), (54, 147));
+    expect_eq(&rt, &(UTC_V1.len(), JERUSALEM_V3.len()), &(54, 147));
     for (file, queries, answers) in [
         (UTC_V1, "T 0 0\n", "1970-01-01T00:00:00.000000000Z UTC\n"),
         (
@@ -45,7 +45,7 @@ fn a_file_s_zone_answers(rt: HostRuntime) -> Result<(), Fail> {
         ),
     ] {
         let given = answered(alloc, file, queries)?;
-        assert_eq!(rt; given.as_str(), answers, "{queries}");
+        expect_eq_at(&rt, &queries, &given.as_str(), &answers);
     }
     Ok(())
 }
@@ -81,9 +81,10 @@ fn a_cut_file_is_refused(rt: HostRuntime) -> Result<(), Fail> {
     let mut longer = Vec::from_slice(alloc, UTC_V1)?;
     longer.push(0)?;
     let given = answered(alloc, &longer, "T 0 0\n")?;
-    assert_eq!(rt;
-        given.as_str(),
-        "refused: invalid TZ file: remaining data after the end of a TZif v1 data block"
+    expect_eq(
+        &rt,
+        &given.as_str(),
+        &"refused: invalid TZ file: remaining data after the end of a TZif v1 data block",
     );
     Ok(())
 }
@@ -102,7 +103,7 @@ fn an_altered_file_answers_or_is_refused(rt: HostRuntime) -> Result<(), Fail> {
     ] {
         let file = altered(alloc, JERUSALEM_V3, place, byte)?;
         let given = answered(alloc, &file, "T 2216073600 0\n")?;
-        assert_eq!(rt; given.as_str(), answer, "at {place}");
+        expect_eq_at(&rt, &place, &given.as_str(), &answer);
     }
     Ok(())
 }
@@ -120,15 +121,16 @@ fn each_growth_of_a_file_s_answers_can_be_refused(rt: HostRuntime) -> Result<(),
     for left in 0..20u64 {
         let heap = Refusing::new(rt.alloc(), left);
         match answer_tzif(&heap, JERUSALEM_V3, QUERIES) {
-            Ok(given) => assert_eq!(rt; given.as_slice(), ANSWERS),
+            Ok(given) => expect_eq(&rt, &given.as_slice(), &ANSWERS),
             Err(error) => {
                 assert!(rt; matches!(error, TzError::Memory(_)), "after {left}");
                 refusals = left + 1;
             }
         }
-        assert_eq!(rt;
-            (heap.refused(), heap.held()),
-            (u64::from(left < refusals), 0)
+        expect_eq(
+            &rt,
+            &(heap.refused(), heap.held()),
+            &(u64::from(left < refusals), 0),
         );
     }
     assert!(rt; (4..20).contains(&refusals));
@@ -143,15 +145,16 @@ fn each_growth_of_answers_can_be_refused(rt: HostRuntime) -> Result<(), Fail> {
     for left in 0..20u64 {
         let heap = Refusing::new(rt.alloc(), left);
         match answer(&heap, zone.as_ref(), QUERIES) {
-            Ok(given) => assert_eq!(rt; given.as_slice(), ANSWERS),
+            Ok(given) => expect_eq(&rt, &given.as_slice(), &ANSWERS),
             Err(error) => {
                 assert!(rt; matches!(error, TzError::Memory(_)), "after {left}");
                 refusals = left + 1;
             }
         }
-        assert_eq!(rt;
-            (heap.refused(), heap.held()),
-            (u64::from(left < refusals), 0)
+        expect_eq(
+            &rt,
+            &(heap.refused(), heap.held()),
+            &(u64::from(left < refusals), 0),
         );
         assert!(rt; zone == same, "after {left}");
     }

@@ -6,6 +6,7 @@ ghost use Rattle.tz_base.specs.Days.{is_leap, year_length, years_length_from_197
 use tz_base::calendar::{Fields, days_in_month, is_leap_year, timespec, total_nanoseconds};
 use tz_base::constants::NANOSECONDS_PER_SECOND;
 use tz_base::error::datetime::DateTimeError;
+use tz_file_tests::samples::expect_eq;
 
 /// The days of the year.
 #[tactic(auto, unfolding(tz_base::specs::Days::year_length))]
@@ -242,8 +243,8 @@ fn instants_have_their_days(rt: HostRuntime) {
             nanoseconds: 7,
             ..midnight(year, month, month_day)
         };
-        assert_eq!(rt; civil(instant, 7), Some(fields));
-        assert_eq!(rt; facts(fields).map(|f| f.0), Some(instant));
+        expect_eq(&rt, &civil(instant, 7), &Some(fields));
+        expect_eq(&rt, &facts(fields).map(|f| f.0), &Some(instant));
     }
 }
 
@@ -258,11 +259,19 @@ fn readings_end_with_the_years(rt: HostRuntime) {
         ..midnight(i32::MAX, 12, 31)
     };
     let leap_second = Fields { second: 60, ..last };
-    assert_eq!(rt; civil(-67_768_100_567_971_200, 0), Some(first));
-    assert_eq!(rt; civil(67_767_976_233_532_799, 999_999_999), Some(last));
-    assert_eq!(rt; facts(first), Some((-67_768_100_567_971_200, 2, 0)));
-    assert_eq!(rt; facts(last), Some((67_767_976_233_532_799, 2, 364)));
-    assert_eq!(rt; facts(leap_second), Some((67_767_976_233_532_800, 2, 364)));
+    expect_eq(&rt, &civil(-67_768_100_567_971_200, 0), &Some(first));
+    expect_eq(
+        &rt,
+        &civil(67_767_976_233_532_799, 999_999_999),
+        &Some(last),
+    );
+    expect_eq(&rt, &facts(first), &Some((-67_768_100_567_971_200, 2, 0)));
+    expect_eq(&rt, &facts(last), &Some((67_767_976_233_532_799, 2, 364)));
+    expect_eq(
+        &rt,
+        &facts(leap_second),
+        &Some((67_767_976_233_532_800, 2, 364)),
+    );
 }
 
 #[test]
@@ -306,9 +315,9 @@ fn the_first_fault_is_named(rt: HostRuntime) {
         (midnight(2000, 1, 0), DateTimeError::InvalidMonthDay),
         (midnight(1900, 2, 29), DateTimeError::InvalidMonthDay),
     ] {
-        assert_eq!(rt; fields.check(), Err(fault));
+        expect_eq(&rt, &fields.check(), &Err(fault));
     }
-    assert_eq!(rt; midnight(2000, 2, 29).check(), Ok(()));
+    expect_eq(&rt, &midnight(2000, 2, 29).check(), &Ok(()));
 }
 
 /// Whether each day of the year is the one that is counted from the year's first day, to which days are added.
@@ -360,8 +369,8 @@ fn totals_go_both_ways(rt: HostRuntime) {
         (i64::MAX, 999_999_999, 9_223_372_036_854_775_807_999_999_999),
         (i64::MIN, 0, -9_223_372_036_854_775_808_000_000_000),
     ] {
-        assert_eq!(rt; total_nanoseconds(seconds, nanoseconds), total);
-        assert_eq!(rt; timespec(total), Some((seconds, nanoseconds)));
+        expect_eq(&rt, &total_nanoseconds(seconds, nanoseconds), &total);
+        expect_eq(&rt, &timespec(total), &Some((seconds, nanoseconds)));
     }
     for total in [
         i128::MIN,
@@ -369,7 +378,7 @@ fn totals_go_both_ways(rt: HostRuntime) {
         9_223_372_036_854_775_808_000_000_000,
         i128::MAX,
     ] {
-        assert_eq!(rt; timespec(total), None);
+        expect_eq(&rt, &timespec(total), &None);
     }
 }
 
@@ -424,5 +433,5 @@ fn fields_are_compared_from_the_year_on(rt: HostRuntime) {
     for (earlier, later) in rising.iter().zip(rising.iter().skip(1)) {
         assert!(rt; earlier < later);
     }
-    assert_eq!(rt; fields, rising[7]);
+    expect_eq(&rt, &fields, &rising[7]);
 }

@@ -2,6 +2,7 @@
 
 use tz_base::calendar;
 use tz_base::constants::*;
+use tz_file_tests::samples::{expect_eq, expect_eq_at};
 
 #[test]
 fn units_are_made_of_smaller_ones(rt: HostRuntime) {
@@ -17,10 +18,10 @@ fn units_are_made_of_smaller_ones(rt: HostRuntime) {
         ),
         (SECONDS_PER_LEAP_YEAR, 366, SECONDS_PER_DAY),
     ] {
-        assert_eq!(rt; unit, number.wrapping_mul(smaller));
+        expect_eq(&rt, &unit, &number.wrapping_mul(smaller));
     }
-    assert_eq!(rt; SECONDS_PER_MINUTE, 60);
-    assert_eq!(rt; NANOSECONDS_PER_SECOND, 1_000_000_000);
+    expect_eq(&rt, &SECONDS_PER_MINUTE, &60);
+    expect_eq(&rt, &NANOSECONDS_PER_SECOND, &1_000_000_000);
 }
 
 #[test]
@@ -33,7 +34,7 @@ fn cycles_have_the_days_of_their_years(rt: HostRuntime) {
         (400, DAYS_PER_400_YEARS),
     ] {
         let next = calendar::first_day_of_year(2001 + years);
-        assert_eq!(rt; next.wrapping_sub(first), days, "{years}");
+        expect_eq_at(&rt, &years, &next.wrapping_sub(first), &days);
     }
 }
 
@@ -56,30 +57,31 @@ fn days_before(year: i32, month: u8) -> i64 {
 
 #[test]
 fn tables_of_months_are_the_calendar_s(rt: HostRuntime) {
-    assert_eq!(rt; MONTHS_PER_YEAR, 12);
+    expect_eq(&rt, &MONTHS_PER_YEAR, &12);
     for month in 1..13u8 {
         let days = (
             i64::from(calendar::days_in_month(2001, month)),
             days_before(2001, month),
             days_before(2000, month),
         );
-        assert_eq!(rt; months(usize::from(month) - 1), Some(days), "{month}");
+        expect_eq_at(&rt, &month, &(months(usize::from(month) - 1)), &Some(days));
     }
 }
 
 #[test]
 fn years_are_counted_from_march_of_2000(rt: HostRuntime) {
     let first = calendar::days_since_unix_epoch(2000, 3, 1);
-    assert_eq!(rt; UNIX_OFFSET_SECS, first.wrapping_mul(SECONDS_PER_DAY));
-    assert_eq!(rt; OFFSET_YEAR, 2000);
+    expect_eq(&rt, &UNIX_OFFSET_SECS, &first.wrapping_mul(SECONDS_PER_DAY));
+    expect_eq(&rt, &OFFSET_YEAR, &2000);
     for place in 0..12u8 {
         let days = calendar::days_in_month(2000, (place + 2) % 12 + 1);
-        assert_eq!(rt;
-            DAY_IN_MONTHS_LEAP_YEAR_FROM_MARCH
+        expect_eq_at(
+            &rt,
+            &place,
+            &DAY_IN_MONTHS_LEAP_YEAR_FROM_MARCH
                 .get(usize::from(place))
                 .copied(),
-            Some(i64::from(days)),
-            "{place}"
+            &Some(i64::from(days)),
         );
     }
 }

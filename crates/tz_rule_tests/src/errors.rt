@@ -8,6 +8,7 @@ use tz_base::error::datetime::DateTimeError;
 use tz_base::error::parse::{ParseDataError, TzFileError, TzStringError};
 use tz_base::error::timezone::{LocalTimeTypeError, TimeZoneError, TransitionRuleError};
 use tz_base::error::{Error, ReadFault, TzError};
+use tz_file_tests::samples::expect_eq;
 
 /// The error prints as the text.
 fn expect_text(
@@ -17,7 +18,7 @@ fn expect_text(
     text: &str,
 ) -> Result<(), AllocError> {
     let printed = format!(in alloc; "{error}")?;
-    assert_eq!(rt; printed.as_str(), text);
+    expect_eq(rt, &printed.as_str(), &text);
     Ok(())
 }
 

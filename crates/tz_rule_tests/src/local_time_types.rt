@@ -2,6 +2,7 @@
 
 use std::test::Fail;
 use tz_base::error::timezone::LocalTimeTypeError;
+use tz_file_tests::samples::{expect_eq, expect_eq_at};
 use tz_rule::timezone::LocalTimeType;
 
 /// The refusal of a type with this name, if it is refused.
@@ -34,11 +35,11 @@ fn names_have_letters_digits_and_signs(rt: HostRuntime) {
     for byte in 0..=u8::MAX {
         let expected = byte.is_ascii_alphanumeric() || byte == b'+' || byte == b'-';
         for name in [[byte, b'A', b'A'], [b'A', byte, b'A'], [b'A', b'A', byte]] {
-            assert_eq!(rt; fault_of_name(&name).is_none(), expected, "{byte}");
+            expect_eq_at(&rt, &byte, &fault_of_name(&name).is_none(), &expected);
         }
         accepted = accepted.wrapping_add(u8::from(expected));
     }
-    assert_eq!(rt; accepted, 64);
+    expect_eq(&rt, &accepted, &64);
 }
 
 #[test]
@@ -53,7 +54,7 @@ fn the_first_fault_is_named(rt: HostRuntime) {
         (i32::MIN + 1, Some(b"12345 78".as_slice()), length),
         (i32::MIN + 1, Some(b"12 4".as_slice()), char),
     ] {
-        assert_eq!(rt; LocalTimeType::new(ut_offset, true, name), Err(fault));
+        expect_eq(&rt, &LocalTimeType::new(ut_offset, true, name), &Err(fault));
     }
 }
 
@@ -67,9 +68,9 @@ fn a_type_has_its_parts(rt: HostRuntime) -> Result<(), LocalTimeTypeError> {
         (3600, true, None, ""),
     ] {
         let local_time_type = LocalTimeType::new(ut_offset, is_dst, name)?;
-        assert_eq!(rt; local_time_type.ut_offset(), ut_offset);
-        assert_eq!(rt; local_time_type.is_dst(), is_dst);
-        assert_eq!(rt; local_time_type.time_zone_designation(), text);
+        expect_eq(&rt, &local_time_type.ut_offset(), &ut_offset);
+        expect_eq(&rt, &local_time_type.is_dst(), &is_dst);
+        expect_eq(&rt, &local_time_type.time_zone_designation(), &text);
     }
     Ok(())
 }
@@ -78,15 +79,20 @@ fn a_type_has_its_parts(rt: HostRuntime) -> Result<(), LocalTimeTypeError> {
 fn plain_types_have_an_offset_alone(rt: HostRuntime) -> Result<(), LocalTimeTypeError> {
     for ut_offset in [i32::MIN + 1, -1, 0, 3600, i32::MAX] {
         let plain = LocalTimeType::with_ut_offset(ut_offset)?;
-        assert_eq!(rt; plain, LocalTimeType::new(ut_offset, false, None)?);
-        assert_eq!(rt; plain.ut_offset(), ut_offset);
+        expect_eq(&rt, &plain, &LocalTimeType::new(ut_offset, false, None)?);
+        expect_eq(&rt, &plain.ut_offset(), &ut_offset);
         assert!(rt; !plain.is_dst());
-        assert_eq!(rt; plain.time_zone_designation(), "");
+        expect_eq(&rt, &plain.time_zone_designation(), &"");
     }
-    assert_eq!(rt; LocalTimeType::utc(), LocalTimeType::with_ut_offset(0)?);
-    assert_eq!(rt;
-        LocalTimeType::with_ut_offset(i32::MIN),
-        Err(LocalTimeTypeError::InvalidUtcOffset)
+    expect_eq(
+        &rt,
+        &LocalTimeType::utc(),
+        &LocalTimeType::with_ut_offset(0)?,
+    );
+    expect_eq(
+        &rt,
+        &LocalTimeType::with_ut_offset(i32::MIN),
+        &Err(LocalTimeTypeError::InvalidUtcOffset),
     );
     Ok(())
 }
@@ -124,7 +130,7 @@ fn types_print_their_parts(rt: HostRuntime) -> Result<(), Fail> {
         ),
     ] {
         let printed = format!(in rt.alloc(); "{local_time_type:?}")?;
-        assert_eq!(rt; printed.as_str(), text);
+        expect_eq(&rt, &printed.as_str(), &text);
     }
     Ok(())
 }

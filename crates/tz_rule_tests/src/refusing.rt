@@ -3,6 +3,7 @@
 use std::alloc::{AllocError, Allocator};
 use std::test::Fail;
 use tz_base::refusing::Refusing;
+use tz_file_tests::samples::expect_eq;
 
 fn joined<A: Allocator + Copy>(alloc: A, words: &[&str]) -> Result<String<A>, AllocError> {
     let mut parts = Vec::new(alloc);
@@ -24,7 +25,7 @@ fn passes_on_as_many_as_it_was_given(rt: HostRuntime) {
             let passed_on = Box::new(&heap, 7u8).is_ok();
             assert_eq!(rt; passed_on, asked < left, "{asked} of {left}");
         }
-        assert_eq!(rt; heap.refused(), 6 - left);
+        expect_eq(&rt, &heap.refused(), &(6 - left));
     }
 }
 
@@ -35,8 +36,8 @@ fn a_vec_keeps_its_items(rt: HostRuntime) -> Result<(), Fail> {
     v.push(1u8)?;
     v.push(2)?;
     assert!(rt; v.push(3).is_err());
-    assert_eq!(rt; v.as_slice(), [1, 2].as_slice());
-    assert_eq!(rt; heap.refused(), 1);
+    expect_eq(&rt, &v.as_slice(), &[1, 2].as_slice());
+    expect_eq(&rt, &heap.refused(), &1);
     Ok(())
 }
 
@@ -45,8 +46,8 @@ fn a_string_keeps_its_text(rt: HostRuntime) -> Result<(), Fail> {
     let heap = Refusing::new(rt.alloc(), 1);
     let mut s = String::from_str(&heap, "ab")?;
     assert!(rt; s.push_str("a longer text than the first").is_err());
-    assert_eq!(rt; s.as_str(), "ab");
-    assert_eq!(rt; heap.refused(), 1);
+    expect_eq(&rt, &s.as_str(), &"ab");
+    expect_eq(&rt, &heap.refused(), &1);
     Ok(())
 }
 
@@ -56,11 +57,11 @@ fn refuses_each_allocation_in_turn(rt: HostRuntime) {
     for left in 0..20u64 {
         let heap = Refusing::new(rt.alloc(), left);
         match joined(&heap, &["no", "more", "room"]) {
-            Ok(text) => assert_eq!(rt; text.as_str(), "nomoreroom"),
+            Ok(text) => expect_eq(&rt, &text.as_str(), &"nomoreroom"),
             Err(AllocError) => refusals = left + 1,
         }
-        assert_eq!(rt; heap.refused(), u64::from(left < refusals));
-        assert_eq!(rt; heap.held(), 0);
+        expect_eq(&rt, &heap.refused(), &u64::from(left < refusals));
+        expect_eq(&rt, &heap.held(), &0);
     }
     assert!(rt; refusals > 3);
     assert!(rt; refusals < 20);
@@ -74,10 +75,10 @@ fn frees_by_the_inner_allocator(rt: HostRuntime) -> Result<(), Fail> {
     for item in 0..100u8 {
         v.push(item)?;
     }
-    assert_eq!(rt; v.len(), 100);
-    assert_eq!(rt; v.last(), Some(&99));
-    assert_eq!(rt; (heap.held(), inner.held()), (1, 1));
+    expect_eq(&rt, &v.len(), &100);
+    expect_eq(&rt, &v.last(), &Some(&99));
+    expect_eq(&rt, &(heap.held(), inner.held()), &(1, 1));
     drop(v);
-    assert_eq!(rt; (heap.held(), inner.held()), (0, 0));
+    expect_eq(&rt, &(heap.held(), inner.held()), &(0, 0));
     Ok(())
 }

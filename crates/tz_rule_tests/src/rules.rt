@@ -7,6 +7,7 @@ mod years;
 use std::test::Fail;
 use tz_base::error::TzError;
 use tz_base::error::timezone::{LocalTimeTypeError, TransitionRuleError};
+use tz_file_tests::samples::{expect_eq, expect_eq_at};
 use tz_rule::inner;
 use tz_rule::timezone::{
     AlternateTime, Julian0WithLeap, Julian1WithoutLeap, LocalTimeType, MonthWeekDay, RuleDay,
@@ -82,14 +83,15 @@ fn all_year() -> Result<AlternateTime, Refusal> {
 fn all_year_is_daylight(rt: HostRuntime) {
     let first = all_year();
     for unix_time in [946_701_000, 946_702_799, 946_702_800] {
-        assert_eq!(rt;
-            type_at(&first, unix_time),
-            Some((-14_400, true)),
-            "{unix_time}"
+        expect_eq_at(
+            &rt,
+            &unix_time,
+            &type_at(&first, unix_time),
+            &Some((-14_400, true)),
         );
     }
     let second = rule(0, 3600, j(1, 0), j(365, 172_800));
-    assert_eq!(rt; type_at(&second, 978_305_400), Some((3600, true)));
+    expect_eq(&rt, &type_at(&second, 978_305_400), &Some((3600, true)));
 }
 
 #[test]
@@ -122,24 +124,26 @@ fn values_print_their_parts(rt: HostRuntime) -> Result<(), Fail> {
         dst_end: Julian0WithLeap(Julian0WithLeap(0)), dst_end_time: 7200 }}"
     )?;
     let printed = format!(in rt.alloc(); "{made:?}")?;
-    assert_eq!(rt; printed.as_str(), text.as_str());
+    expect_eq(&rt, &printed.as_str(), &text.as_str());
 
     let alternate = format!(in rt.alloc(); "Alternate({made:?})")?;
     let printed = format!(in rt.alloc(); "{:?}", TransitionRule::Alternate(made))?;
-    assert_eq!(rt; printed.as_str(), alternate.as_str());
+    expect_eq(&rt, &printed.as_str(), &alternate.as_str());
     let printed = format!(in rt.alloc(); "{:?}", TransitionRule::Fixed(LocalTimeType::utc()))?;
-    assert_eq!(rt;
-        printed.as_str(),
-        "Fixed(LocalTimeType { ut_offset: 0, is_dst: false, time_zone_designation: None })"
+    expect_eq(
+        &rt,
+        &printed.as_str(),
+        &"Fixed(LocalTimeType { ut_offset: 0, is_dst: false, time_zone_designation: None })",
     );
 
     let Ok(last_sunday) = MonthWeekDay::new(3, 5, 0) else {
         panic!(rt; "refused");
     };
     let printed = format!(in rt.alloc(); "{:?}", RuleDay::MonthWeekDay(last_sunday))?;
-    assert_eq!(rt;
-        printed.as_str(),
-        "MonthWeekDay(MonthWeekDay { month: 3, week: 5, week_day: 0 })"
+    expect_eq(
+        &rt,
+        &printed.as_str(),
+        &"MonthWeekDay(MonthWeekDay { month: 3, week: 5, week_day: 0 })",
     );
     Ok(())
 }
@@ -147,7 +151,7 @@ fn values_print_their_parts(rt: HostRuntime) -> Result<(), Fail> {
 #[test]
 fn the_pairing_is_the_rules(rt: HostRuntime) {
     let tie = rule(0, 0, j(60, 0), z(59, 0));
-    assert_eq!(rt; type_at(&tie, 978_307_200), Some((0, true)));
+    expect_eq(&rt, &type_at(&tie, 978_307_200), &Some((0, true)));
 
     let tie_across_years = rule(0, 0, z(59, 0), j(60, 0));
     for (unix_time, is_dst) in [
@@ -155,10 +159,11 @@ fn the_pairing_is_the_rules(rt: HostRuntime) {
         (951_868_800, false),
         (983_404_800, false),
     ] {
-        assert_eq!(rt;
-            type_at(&tie_across_years, unix_time),
-            Some((0, is_dst)),
-            "{unix_time}"
+        expect_eq_at(
+            &rt,
+            &unix_time,
+            &type_at(&tie_across_years, unix_time),
+            &Some((0, is_dst)),
         );
     }
 }
@@ -172,10 +177,11 @@ fn offsets_of_zones(rt: HostRuntime) {
         (970_322_399, 43_200),
         (970_322_400, 46_800),
     ] {
-        assert_eq!(rt;
-            type_at(&auckland, unix_time),
-            Some((offset, offset == 46_800)),
-            "{unix_time}"
+        expect_eq_at(
+            &rt,
+            &unix_time,
+            &type_at(&auckland, unix_time),
+            &Some((offset, offset == 46_800)),
         );
     }
 
@@ -187,15 +193,17 @@ fn offsets_of_zones(rt: HostRuntime) {
         (972_781_199, 3600, -7200),
         (972_781_200, 0, -10_800),
     ] {
-        assert_eq!(rt;
-            type_at(&dublin, unix_time),
-            Some((in_dublin, in_dublin == 0)),
-            "{unix_time}"
+        expect_eq_at(
+            &rt,
+            &unix_time,
+            &type_at(&dublin, unix_time),
+            &Some((in_dublin, in_dublin == 0)),
         );
-        assert_eq!(rt;
-            type_at(&nuuk, unix_time),
-            Some((in_nuuk, in_nuuk == -7200)),
-            "{unix_time}"
+        expect_eq_at(
+            &rt,
+            &unix_time,
+            &type_at(&nuuk, unix_time),
+            &Some((in_nuuk, in_nuuk == -7200)),
         );
     }
 }
@@ -209,7 +217,12 @@ fn short_gaps_and_none(rt: HostRuntime) {
         (8_639_999, false),
         (8_640_000, true),
     ] {
-        assert_eq!(rt; type_at(&gap, unix_time), Some((0, is_dst)), "{unix_time}");
+        expect_eq_at(
+            &rt,
+            &unix_time,
+            &type_at(&gap, unix_time),
+            &Some((0, is_dst)),
+        );
     }
 
     let never = rule(0, 3600, j(365, 89_999), z(0, 7198));
@@ -222,19 +235,29 @@ fn short_gaps_and_none(rt: HostRuntime) {
         946_688_399,
         946_688_400,
     ] {
-        assert_eq!(rt; type_at(&never, unix_time), Some((0, false)), "{unix_time}");
-        assert_eq!(rt; type_at(&always, unix_time), Some((0, true)), "{unix_time}");
+        expect_eq_at(
+            &rt,
+            &unix_time,
+            &type_at(&never, unix_time),
+            &Some((0, false)),
+        );
+        expect_eq_at(
+            &rt,
+            &unix_time,
+            &type_at(&always, unix_time),
+            &Some((0, true)),
+        );
     }
 }
 
 #[test]
 fn starts(rt: HostRuntime) {
-    assert_eq!(rt; start_in(j(60, 43_200), 2000), Some(951_912_000));
-    assert_eq!(rt; start_in(z(59, 43_200), 2000), Some(951_825_600));
-    assert_eq!(rt; start_in(m(2, 5, 2, 43_200), 2000), Some(951_825_600));
-    assert_eq!(rt; start_in(m(2, 5, 2, 43_200), 2001), Some(983_275_200));
-    assert_eq!(rt; start_in(z(365, 0), 2000), Some(978_220_800));
-    assert_eq!(rt; start_in(z(365, 0), 1999), Some(946_684_800));
+    expect_eq(&rt, &start_in(j(60, 43_200), 2000), &Some(951_912_000));
+    expect_eq(&rt, &start_in(z(59, 43_200), 2000), &Some(951_825_600));
+    expect_eq(&rt, &start_in(m(2, 5, 2, 43_200), 2000), &Some(951_825_600));
+    expect_eq(&rt, &start_in(m(2, 5, 2, 43_200), 2001), &Some(983_275_200));
+    expect_eq(&rt, &start_in(z(365, 0), 2000), &Some(978_220_800));
+    expect_eq(&rt, &start_in(z(365, 0), 1999), &Some(946_684_800));
 }
 
 /// The conflict of the parts, with offsets of 0.
@@ -253,15 +276,19 @@ fn near_days(rt: HostRuntime) {
     let refused = Some(Refusal::Rule(TransitionRuleError::InconsistentRule));
     for (time, week_days, days) in [(-1, refused, None), (0, None, None), (1, None, refused)] {
         let found = rule(0, 0, m(2, 4, 2, time), m(2, 5, 3, -86_400));
-        assert_eq!(rt; found.err(), week_days, "{time}");
+        expect_eq_at(&rt, &time, &found.err(), &week_days);
         let found = rule(0, 0, j(59, time), j(60, -86_400));
-        assert_eq!(rt; found.err(), days, "{time}");
+        expect_eq_at(&rt, &time, &found.err(), &days);
     }
 
     // In 1973, which is not leap, the start comes after the end, and in 1972 before it.
-    assert_eq!(rt; conflict(j(59, 1), j(60, -86_400)), Some((1973, 1972, 0)));
-    assert_eq!(rt; conflict(j(59, 0), j(60, -86_400)), None);
-    assert_eq!(rt; conflict(j(59, 604_800), j(60, -86_400)), None);
+    expect_eq(
+        &rt,
+        &conflict(j(59, 1), j(60, -86_400)),
+        &Some((1973, 1972, 0)),
+    );
+    expect_eq(&rt, &conflict(j(59, 0), j(60, -86_400)), &None);
+    expect_eq(&rt, &conflict(j(59, 604_800), j(60, -86_400)), &None);
 }
 
 #[test]
@@ -273,100 +300,117 @@ fn parts_and_faults(rt: HostRuntime) {
     ) else {
         panic!(rt; "refused");
     };
-    assert_eq!(rt; made, same);
+    expect_eq(&rt, &made, &same);
     assert_ne!(rt; made, other);
-    assert_eq!(rt; made.std().ut_offset(), -18_000);
-    assert_eq!(rt; made.dst().ut_offset(), -14_400);
-    assert_eq!(rt; made.dst_start_time(), 0);
-    assert_eq!(rt; made.dst_end_time(), 90_000);
+    expect_eq(&rt, &made.std().ut_offset(), &(-18_000));
+    expect_eq(&rt, &made.dst().ut_offset(), &(-14_400));
+    expect_eq(&rt, &made.dst_start_time(), &0);
+    expect_eq(&rt, &made.dst_end_time(), &90_000);
     assert_ne!(rt; *made.dst_start(), *made.dst_end());
 
     let fault = |found: Result<AlternateTime, Refusal>| found.err();
-    assert_eq!(rt;
-        fault(rule(-90_000, 93_600, z(0, 604_800), z(0, 0))),
-        Some(Refusal::Rule(TransitionRuleError::InvalidStdUtcOffset))
+    expect_eq(
+        &rt,
+        &(fault(rule(-90_000, 93_600, z(0, 604_800), z(0, 0)))),
+        &Some(Refusal::Rule(TransitionRuleError::InvalidStdUtcOffset)),
     );
-    assert_eq!(rt;
-        fault(rule(-89_999, 93_600, z(0, 604_800), z(0, 0))),
-        Some(Refusal::Rule(TransitionRuleError::InvalidDstUtcOffset))
+    expect_eq(
+        &rt,
+        &(fault(rule(-89_999, 93_600, z(0, 604_800), z(0, 0)))),
+        &Some(Refusal::Rule(TransitionRuleError::InvalidDstUtcOffset)),
     );
-    assert_eq!(rt;
-        fault(rule(-89_999, 93_599, z(0, 604_800), z(0, 0))),
-        Some(Refusal::Rule(TransitionRuleError::InvalidDstStartEndTime))
+    expect_eq(
+        &rt,
+        &(fault(rule(-89_999, 93_599, z(0, 604_800), z(0, 0)))),
+        &Some(Refusal::Rule(TransitionRuleError::InvalidDstStartEndTime)),
     );
-    assert_eq!(rt;
-        fault(rule(0, 0, z(0, 0), z(0, -604_800))),
-        Some(Refusal::Rule(TransitionRuleError::InvalidDstStartEndTime))
+    expect_eq(
+        &rt,
+        &fault(rule(0, 0, z(0, 0), z(0, -604_800))),
+        &Some(Refusal::Rule(TransitionRuleError::InvalidDstStartEndTime)),
     );
-    assert_eq!(rt;
-        fault(rule(0, 0, z(366, 0), z(0, 0))),
-        Some(Refusal::Rule(TransitionRuleError::InvalidRuleDayJulianDay))
+    expect_eq(
+        &rt,
+        &fault(rule(0, 0, z(366, 0), z(0, 0))),
+        &Some(Refusal::Rule(TransitionRuleError::InvalidRuleDayJulianDay)),
     );
-    assert_eq!(rt;
-        fault(rule(0, 0, j(0, 0), z(0, 0))),
-        Some(Refusal::Rule(TransitionRuleError::InvalidRuleDayJulianDay))
+    expect_eq(
+        &rt,
+        &fault(rule(0, 0, j(0, 0), z(0, 0))),
+        &Some(Refusal::Rule(TransitionRuleError::InvalidRuleDayJulianDay)),
     );
-    assert_eq!(rt;
-        fault(rule(0, 0, m(13, 0, 7, 0), z(0, 0))),
-        Some(Refusal::Rule(TransitionRuleError::InvalidRuleDayMonth))
+    expect_eq(
+        &rt,
+        &fault(rule(0, 0, m(13, 0, 7, 0), z(0, 0))),
+        &Some(Refusal::Rule(TransitionRuleError::InvalidRuleDayMonth)),
     );
-    assert_eq!(rt;
-        fault(rule(0, 0, m(12, 6, 7, 0), z(0, 0))),
-        Some(Refusal::Rule(TransitionRuleError::InvalidRuleDayWeek))
+    expect_eq(
+        &rt,
+        &fault(rule(0, 0, m(12, 6, 7, 0), z(0, 0))),
+        &Some(Refusal::Rule(TransitionRuleError::InvalidRuleDayWeek)),
     );
-    assert_eq!(rt;
-        fault(rule(0, 0, m(12, 5, 7, 0), z(0, 0))),
-        Some(Refusal::Rule(TransitionRuleError::InvalidRuleDayWeekDay))
+    expect_eq(
+        &rt,
+        &fault(rule(0, 0, m(12, 5, 7, 0), z(0, 0))),
+        &Some(Refusal::Rule(TransitionRuleError::InvalidRuleDayWeekDay)),
     );
 }
 
 #[test]
 fn designations(rt: HostRuntime) {
     let fault = |name: &[u8]| LocalTimeType::new(0, false, Some(name)).err();
-    assert_eq!(rt;
-        fault(b""),
-        Some(LocalTimeTypeError::InvalidTimeZoneDesignationLength)
+    expect_eq(
+        &rt,
+        &fault(b""),
+        &Some(LocalTimeTypeError::InvalidTimeZoneDesignationLength),
     );
-    assert_eq!(rt;
-        fault(b"12345678"),
-        Some(LocalTimeTypeError::InvalidTimeZoneDesignationLength)
+    expect_eq(
+        &rt,
+        &fault(b"12345678"),
+        &Some(LocalTimeTypeError::InvalidTimeZoneDesignationLength),
     );
-    assert_eq!(rt;
-        fault(b"123\0\0\0"),
-        Some(LocalTimeTypeError::InvalidTimeZoneDesignationChar)
+    expect_eq(
+        &rt,
+        &fault(b"123\0\0\0"),
+        &Some(LocalTimeTypeError::InvalidTimeZoneDesignationChar),
     );
-    assert_eq!(rt; fault(b"1"), None);
-    assert_eq!(rt; fault(b"1234567"), None);
+    expect_eq(&rt, &fault(b"1"), &None);
+    expect_eq(&rt, &fault(b"1234567"), &None);
     let found = LocalTimeType::with_ut_offset(i32::MIN).err();
-    assert_eq!(rt; found, Some(LocalTimeTypeError::InvalidUtcOffset));
+    expect_eq(&rt, &found, &Some(LocalTimeTypeError::InvalidUtcOffset));
 }
 
 #[test]
 fn days_ends_and_rules(rt: HostRuntime) {
     let found = Julian1WithoutLeap::new(365).map(|day| day.get());
-    assert_eq!(rt; found.ok(), Some(365));
+    expect_eq(&rt, &found.ok(), &Some(365));
     let found = Julian0WithLeap::new(365).map(|day| day.get());
-    assert_eq!(rt; found.ok(), Some(365));
+    expect_eq(&rt, &found.ok(), &Some(365));
     let found = MonthWeekDay::new(12, 5, 6).map(|day| (day.month(), day.week(), day.week_day()));
-    assert_eq!(rt; found.ok(), Some((12, 5, 6)));
+    expect_eq(&rt, &found.ok(), &Some((12, 5, 6)));
 
     let found = rule(43_200, 46_800, m(10, 1, 0, 7200), m(3, 3, 0, 7200));
     let Ok(auckland) = found else {
         panic!(rt; "refused");
     };
-    assert_eq!(rt; inner::start(&auckland, 2000), 970_322_400);
-    assert_eq!(rt; inner::end(&auckland, 2000), 953_384_400);
+    expect_eq(&rt, &inner::start(&auckland, 2000), &970_322_400);
+    expect_eq(&rt, &inner::end(&auckland, 2000), &953_384_400);
     // Daylight saving time that starts in 2000 ends in 2001.
     let found = inner::stretch(&auckland, 970_322_400).map(|found| (found.from, found.until));
-    assert_eq!(rt; found, Some((970_322_400, inner::end(&auckland, 2001))));
+    expect_eq(
+        &rt,
+        &found,
+        &Some((970_322_400, inner::end(&auckland, 2001))),
+    );
 
     let fixed = TransitionRule::Fixed(*auckland.std());
-    assert_eq!(rt; fixed, fixed);
+    expect_eq(&rt, &fixed, &fixed);
     assert_ne!(rt; fixed, TransitionRule::Alternate(auckland));
-    assert_eq!(rt;
-        inner::find_local_time_type(&fixed, i64::MIN)
+    expect_eq(
+        &rt,
+        &inner::find_local_time_type(&fixed, i64::MIN)
             .map(|found| found.ut_offset())
             .ok(),
-        Some(43_200)
+        &Some(43_200),
     );
 }

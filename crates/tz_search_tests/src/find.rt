@@ -20,7 +20,7 @@ mod memory;
 mod texts;
 mod zones;
 
-use tz_file_tests::samples::central_europe;
+use tz_file_tests::samples::{central_europe, expect_eq};
 use zones::{crossing, far_offset};
 
 /// A Unix time, and the offsets before it and at it; those of a date time that is shown are the same.
@@ -144,8 +144,8 @@ fn expect_list(
         list.earliest().map(moment),
         list.latest().map(moment),
     );
-    assert_eq!(rt; choice, choice_of(expected));
-    assert_eq!(rt; summaries(alloc, list)?.as_slice(), expected);
+    expect_eq(rt, &choice, &choice_of(expected));
+    expect_eq(rt, &summaries(alloc, list)?.as_slice(), &expected);
     Ok(())
 }
 
@@ -175,7 +175,7 @@ fn expect_written(
 ) -> Result<(), TzError> {
     let slots = buf.len();
     let list = find_n(buf, zone, reading)?;
-    assert_eq!(rt; facts(&list), facts_of(expected, slots));
+    expect_eq(rt, &facts(&list), &facts_of(expected, slots));
     assert!(rt; are_written(list.data(), expected));
     drop(list);
     assert!(rt; are_written(buf, expected));
@@ -355,7 +355,7 @@ fn lists_are_compared_by_their_entries(rt: HostRuntime) -> Result<(), Fail> {
     let again = find(rt.alloc(), utc, (2000, 1, 1, 0, 0, 0))?;
     let noon = find(rt.alloc(), utc, (2000, 1, 1, 12, 0, 0))?;
     let empty = FoundDateTimeList::new_in(rt.alloc());
-    assert_eq!(rt; midnight, again);
+    expect_eq(&rt, &midnight, &again);
     assert!(rt; midnight != noon);
     assert!(rt; midnight != empty);
     Ok(())
@@ -369,7 +369,7 @@ fn lists_in_buffers_are_compared_by_all_slots(rt: HostRuntime) -> Result<(), Fai
     let mut buf = [None, None];
     let list = find_n(&mut buf, utc, midnight)?;
     let mut same_buf = [None, None];
-    assert_eq!(rt; list, find_n(&mut same_buf, utc, midnight)?);
+    expect_eq(&rt, &list, &find_n(&mut same_buf, utc, midnight)?);
     let mut other_buf = [None, None];
     assert!(rt; list != find_n(&mut other_buf, utc, (2000, 1, 1, 12, 0, 0))?);
     let mut held_buf = [None, Some(held()?)];
@@ -405,14 +405,14 @@ fn lists_are_printed(rt: HostRuntime) -> Result<(), Fail> {
     };
     let printed = format!(in alloc; "{list:?}")?;
     let expected = format!(in alloc; "FoundDateTimeList([Normal({date_time:?})])")?;
-    assert_eq!(rt; printed.as_str(), expected.as_str());
+    expect_eq(&rt, &printed.as_str(), &expected.as_str());
     let mut buf = [None, None];
     let slots = find_n(&mut buf, utc, (2000, 1, 1, 0, 0, 0))?;
     let printed = format!(in alloc; "{slots:?}")?;
     let expected = format!(in alloc;
         "FoundDateTimeListRefMut {{ buf: [Some(Normal({date_time:?})), None], current_index: 1, count: 1 }}"
     )?;
-    assert_eq!(rt; printed.as_str(), expected.as_str());
+    expect_eq(&rt, &printed.as_str(), &expected.as_str());
     Ok(())
 }
 

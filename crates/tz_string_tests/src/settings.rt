@@ -8,7 +8,7 @@ use std::test::Fail;
 use tz_base::error::parse::{ParseDataError, TzFileError, TzStringError};
 use tz_base::error::{Error, ReadFault};
 use tz_base::refusing::Refusing;
-use tz_file_tests::samples::{Fault, named_by_settings as named, utc_v1};
+use tz_file_tests::samples::{Fault, expect_eq, expect_eq_at, named_by_settings as named, utc_v1};
 use tz_zone::timezone::{
     DEFAULT_DIRECTORIES, LocalTimeType, TimeZone, TimeZoneSettings, TransitionRule,
 };
@@ -73,8 +73,8 @@ fn expect_fault(
     };
     let settings = TimeZoneSettings::new(&["/a", "/b", "/c"], |path: &str| files.read(path));
     let answer = settings.parse_posix_tz(alloc, text).err().map(named);
-    assert_eq!(rt; answer, Some(fault), "{text}");
-    assert_eq!(rt; files.asked.get(), asked, "{text}");
+    expect_eq_at(rt, &text, &answer, &Some(fault));
+    expect_eq_at(rt, &text, &files.asked.get(), &asked);
 }
 
 /// The text has the zone of this one type, after these were asked for.
@@ -93,12 +93,13 @@ fn expect_type(
     };
     let settings = TimeZoneSettings::new(&["/a", "/b", "/c"], |path: &str| files.read(path));
     let zone = settings.parse_posix_tz(alloc, text)?;
-    assert_eq!(rt;
-        zone.as_ref().local_time_types(),
-        [local_time_type].as_slice(),
-        "{text}"
+    expect_eq_at(
+        rt,
+        &text,
+        &zone.as_ref().local_time_types(),
+        &[local_time_type].as_slice(),
     );
-    assert_eq!(rt; files.asked.get(), asked, "{text}");
+    expect_eq_at(rt, &text, &files.asked.get(), &asked);
     Ok(())
 }
 
@@ -211,11 +212,11 @@ fn local_time_has_its_file(rt: HostRuntime) -> Result<(), Fail> {
         asked: Cell::new(0),
     };
     let zone = TimeZone::local(alloc, |path: &str| files.read(path))?;
-    assert_eq!(rt; zone.as_ref().local_time_types(), [utc()?].as_slice());
+    expect_eq(&rt, &zone.as_ref().local_time_types(), &[utc()?].as_slice());
     let settings = TimeZoneSettings::new(DEFAULT_DIRECTORIES, |path: &str| files.read(path));
     let zone = settings.parse_local(alloc)?;
-    assert_eq!(rt; zone.as_ref().local_time_types(), [utc()?].as_slice());
-    assert_eq!(rt; files.asked.get(), 11);
+    expect_eq(&rt, &zone.as_ref().local_time_types(), &[utc()?].as_slice());
+    expect_eq(&rt, &files.asked.get(), &11);
     Ok(())
 }
 
@@ -239,12 +240,12 @@ fn the_usual_directories_are_asked(rt: HostRuntime) -> Result<(), Fail> {
         |path: &str| files.read(path),
         "CET-1CEST,M3.5.0,M10.5.0/3",
     )?;
-    assert_eq!(rt; files.asked.get(), 123);
+    expect_eq(&rt, &files.asked.get(), &123);
     let types = [
         LocalTimeType::new(3600, false, Some(b"CET"))?,
         LocalTimeType::new(7200, true, Some(b"CEST"))?,
     ];
-    assert_eq!(rt; zone.as_ref().local_time_types(), types.as_slice());
+    expect_eq(&rt, &zone.as_ref().local_time_types(), &types.as_slice());
     assert!(rt; zone.as_ref().transitions().is_empty());
     assert!(rt;
         matches!(
@@ -274,7 +275,7 @@ fn the_reader_s_fault_is_handed_on(rt: HostRuntime) -> Result<(), Fail> {
             return Ok(());
         };
         let printed = format!(in alloc; "{error}")?;
-        assert_eq!(rt; printed.as_str(), fault, "{text}");
+        expect_eq_at(&rt, &text, &printed.as_str(), &fault);
     }
     Ok(())
 }
@@ -333,15 +334,16 @@ fn without_directories_only_paths_are_asked(rt: HostRuntime) -> Result<(), Fail>
     };
     let settings = TimeZoneSettings::new(&[], |path: &str| files.read(path));
     let zone = settings.parse_posix_tz(alloc, "HST10")?;
-    assert_eq!(rt; zone.find_local_time_type(0)?.ut_offset(), -36_000);
-    assert_eq!(rt;
-        settings.parse_posix_tz(alloc, ":x").err().map(named),
-        Some(Fault::Io)
+    expect_eq(&rt, &zone.find_local_time_type(0)?.ut_offset(), &(-36_000));
+    expect_eq(
+        &rt,
+        &settings.parse_posix_tz(alloc, ":x").err().map(named),
+        &Some(Fault::Io),
     );
-    assert_eq!(rt; files.asked.get(), 0);
+    expect_eq(&rt, &files.asked.get(), &0);
     let zone = settings.parse_posix_tz(alloc, "/x")?;
-    assert_eq!(rt; zone.as_ref().local_time_types(), [utc()?].as_slice());
-    assert_eq!(rt; files.asked.get(), 1);
+    expect_eq(&rt, &zone.as_ref().local_time_types(), &[utc()?].as_slice());
+    expect_eq(&rt, &files.asked.get(), &1);
     Ok(())
 }
 
@@ -360,8 +362,8 @@ fn expect_usual_fault(
         asked: Cell::new(0),
     };
     let answer = TimeZone::from_posix_tz(alloc, |path: &str| files.read(path), text);
-    assert_eq!(rt; answer.err().map(named), fault, "{text}");
-    assert_eq!(rt; files.asked.get(), asked, "{text}");
+    expect_eq_at(rt, &text, &answer.err().map(named), &fault);
+    expect_eq_at(rt, &text, &files.asked.get(), &asked);
 }
 
 #[test]
@@ -393,8 +395,8 @@ fn expect_local_fault(rt: &impl Abort, alloc: Global, reply: Reply, fault: Fault
         asked: Cell::new(0),
     };
     let answer = TimeZone::local(alloc, |path: &str| files.read(path));
-    assert_eq!(rt; answer.err().map(named), Some(fault));
-    assert_eq!(rt; files.asked.get(), 1);
+    expect_eq(rt, &answer.err().map(named), &Some(fault));
+    expect_eq(rt, &files.asked.get(), &1);
 }
 
 #[test]

@@ -9,7 +9,9 @@ use std::test::Fail;
 use tz_base::error::Error;
 use tz_base::error::parse::{ParseDataError, TzStringError};
 use tz_base::error::timezone::{LocalTimeTypeError, TransitionRuleError};
-use tz_file_tests::samples::{Fault, extended_rule, named, named_by_settings, ordinary_rule};
+use tz_file_tests::samples::{
+    Fault, expect_eq, expect_eq_at, extended_rule, named, named_by_settings, ordinary_rule,
+};
 use tz_zone::timezone::{
     AlternateTime, Julian0WithLeap, Julian1WithoutLeap, LocalTimeType, MonthWeekDay, RuleDay,
     TransitionRule,
@@ -26,10 +28,11 @@ fn rule_of(alloc: Global, text: &str, extended: bool) -> Result<Option<Transitio
 
 /// The ordinary text is refused so.
 fn expect_fault(rt: &impl Abort, alloc: Global, text: &str, fault: Fault) {
-    assert_eq!(rt;
-        ordinary_rule(alloc, text).err().map(named_by_settings),
-        Some(fault),
-        "{text}"
+    expect_eq_at(
+        rt,
+        &text,
+        &ordinary_rule(alloc, text).err().map(named_by_settings),
+        &Some(fault),
     );
 }
 
@@ -41,7 +44,7 @@ fn expect_rule(
     extended: bool,
     rule: TransitionRule,
 ) -> Result<(), Fail> {
-    assert_eq!(rt; rule_of(alloc, text, extended)?, Some(rule), "{text}");
+    expect_eq_at(rt, &text, &rule_of(alloc, text, extended)?, &Some(rule));
     Ok(())
 }
 
@@ -211,9 +214,10 @@ fn extended_texts_have_wider_day_times(rt: HostRuntime) -> Result<(), Fail> {
         Fault::Text(TzStringError::InvalidDayTimeHour),
     );
     let inconsistent = extended_rule(rt.alloc(), "A0B0,J59/0:0:1,J60/-24");
-    assert_eq!(rt;
-        inconsistent.err().map(named),
-        Some(Fault::Rule(TransitionRuleError::InconsistentRule))
+    expect_eq(
+        &rt,
+        &inconsistent.err().map(named),
+        &Some(Fault::Rule(TransitionRuleError::InconsistentRule)),
     );
     Ok(())
 }
@@ -424,7 +428,7 @@ fn expect_rules(
     for (text, expected) in rows {
         let rule = rule_of(alloc, text, extended)?.ok_or("no rule")?;
         let found = rule_text(alloc, &rule)?;
-        assert_eq!(rt; found.as_str(), *expected, "{text}");
+        expect_eq_at(rt, &text, &found.as_str(), expected);
     }
     Ok(())
 }

@@ -3,6 +3,7 @@
 mod looks;
 
 use std::test::Fail;
+use tz_file_tests::samples::expect_eq;
 use tz_zone::timezone::{LocalTimeType, TimeZone, TimeZoneRef};
 
 #[test]
@@ -11,15 +12,15 @@ fn utc_has_one_type(rt: HostRuntime) -> Result<(), Fail> {
     assert!(rt; zone.transitions().is_empty());
     assert!(rt; zone.leap_seconds().is_empty());
     let types = zone.local_time_types();
-    assert_eq!(rt; types.len(), 1);
-    assert_eq!(rt; types[0], LocalTimeType::utc());
-    assert_eq!(rt; types[0].time_zone_designation(), "");
+    expect_eq(&rt, &types.len(), &1);
+    expect_eq(&rt, &types[0], &LocalTimeType::utc());
+    expect_eq(&rt, &types[0].time_zone_designation(), &"");
     assert!(rt; zone.extra_rule().is_none());
     let copied_rule = *zone.extra_rule();
     assert!(rt; copied_rule.is_none());
     for unix_time in [i64::MIN, -1, 0, i64::MAX] {
         let found = zone.find_local_time_type(unix_time).map_err(|_| "no type")?;
-        assert_eq!(rt; *found, LocalTimeType::utc());
+        expect_eq(&rt, found, &LocalTimeType::utc());
     }
     Ok(())
 }
@@ -30,9 +31,9 @@ fn zones_are_equal_by_their_parts(rt: HostRuntime) -> Result<(), Fail> {
     let utc = TimeZone::utc(alloc).map_err(|_| "no zone")?;
     let same = TimeZone::fixed(alloc, 0).map_err(|_| "no zone")?;
     let other = TimeZone::fixed(alloc, 3600).map_err(|_| "no zone")?;
-    assert_eq!(rt; utc, same);
+    expect_eq(&rt, &utc, &same);
     assert_ne!(rt; utc, other);
-    assert_eq!(rt; utc.as_ref(), TimeZoneRef::utc());
+    expect_eq(&rt, &utc.as_ref(), &TimeZoneRef::utc());
     assert_ne!(rt; other.as_ref(), TimeZoneRef::utc());
     Ok(())
 }

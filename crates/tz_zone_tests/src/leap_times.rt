@@ -3,6 +3,7 @@
 mod tables;
 
 use tz_base::error::TzError;
+use tz_file_tests::samples::expect_eq;
 use tz_zone::inner::{effect, leap};
 use tz_zone::timezone::{LeapSecond, LocalTimeType, TimeZoneRef};
 
@@ -50,9 +51,10 @@ fn the_leap_second_of_2005(rt: HostRuntime) {
         (1136073600, 1136073623),
         (1136073601, 1136073624),
     ] {
-        assert_eq!(rt;
-            leap_of(&leap_seconds, unix_time).ok(),
-            Some(unix_leap_time)
+        expect_eq(
+            &rt,
+            &leap_of(&leap_seconds, unix_time).ok(),
+            &Some(unix_leap_time),
         );
     }
     for (unix_leap_time, unix_time) in [
@@ -61,9 +63,10 @@ fn the_leap_second_of_2005(rt: HostRuntime) {
         (1136073623, 1136073600),
         (1136073624, 1136073601),
     ] {
-        assert_eq!(rt;
-            effect_of(&leap_seconds, unix_leap_time).ok(),
-            Some(unix_time)
+        expect_eq(
+            &rt,
+            &effect_of(&leap_seconds, unix_leap_time).ok(),
+            &Some(unix_time),
         );
     }
 }
@@ -74,15 +77,17 @@ fn every_leap_second_to_2016(rt: HostRuntime) {
     for (earlier, leap_time) in LEAP_TIMES.iter().enumerate() {
         let instant = leap_time.wrapping_sub(earlier as i64);
         for (step, unix_leap_step) in [(-1, -1), (0, 1), (1, 2)] {
-            assert_eq!(rt;
-                leap_of(&leap_seconds, instant.wrapping_add(step)).ok(),
-                Some(leap_time.wrapping_add(unix_leap_step))
+            expect_eq(
+                &rt,
+                &leap_of(&leap_seconds, instant.wrapping_add(step)).ok(),
+                &Some(leap_time.wrapping_add(unix_leap_step)),
             );
         }
         for (unix_leap_step, step) in [(-1, -1), (0, 0), (1, 0), (2, 1)] {
-            assert_eq!(rt;
-                effect_of(&leap_seconds, leap_time.wrapping_add(unix_leap_step)).ok(),
-                Some(instant.wrapping_add(step))
+            expect_eq(
+                &rt,
+                &effect_of(&leap_seconds, leap_time.wrapping_add(unix_leap_step)).ok(),
+                &Some(instant.wrapping_add(step)),
             );
         }
     }
@@ -92,15 +97,17 @@ fn every_leap_second_to_2016(rt: HostRuntime) {
 fn a_leap_second_of_one_second_less(rt: HostRuntime) {
     let leap_seconds = [LeapSecond::new(100, -1)];
     for (unix_time, unix_leap_time) in [(99, 99), (100, 99), (101, 100)] {
-        assert_eq!(rt;
-            leap_of(&leap_seconds, unix_time).ok(),
-            Some(unix_leap_time)
+        expect_eq(
+            &rt,
+            &leap_of(&leap_seconds, unix_time).ok(),
+            &Some(unix_leap_time),
         );
     }
     for (unix_leap_time, unix_time) in [(98, 98), (99, 99), (100, 101), (101, 102)] {
-        assert_eq!(rt;
-            effect_of(&leap_seconds, unix_leap_time).ok(),
-            Some(unix_time)
+        expect_eq(
+            &rt,
+            &effect_of(&leap_seconds, unix_leap_time).ok(),
+            &Some(unix_time),
         );
     }
 }
@@ -108,33 +115,50 @@ fn a_leap_second_of_one_second_less(rt: HostRuntime) {
 #[test]
 fn the_ends_without_leap_seconds(rt: HostRuntime) {
     for unix_time in [i64::MIN + 1, -1, 0, i64::MAX] {
-        assert_eq!(rt; leap_of(&[], unix_time).ok(), Some(unix_time));
-        assert_eq!(rt; effect_of(&[], unix_time).ok(), Some(unix_time));
+        expect_eq(&rt, &leap_of(&[], unix_time).ok(), &Some(unix_time));
+        expect_eq(&rt, &effect_of(&[], unix_time).ok(), &Some(unix_time));
     }
-    assert_eq!(rt; leap_of(&[], i64::MIN).ok(), Some(i64::MIN));
+    expect_eq(&rt, &leap_of(&[], i64::MIN).ok(), &Some(i64::MIN));
     assert!(rt; is_out_of_range(effect_of(&[], i64::MIN)));
 }
 
 #[test]
 fn the_ends_with_a_second_more(rt: HostRuntime) {
     let leap_seconds = [LeapSecond::new(0, 1)];
-    assert_eq!(rt; leap_of(&leap_seconds, i64::MIN).ok(), Some(i64::MIN));
-    assert_eq!(rt; leap_of(&leap_seconds, i64::MAX - 1).ok(), Some(i64::MAX));
+    expect_eq(&rt, &leap_of(&leap_seconds, i64::MIN).ok(), &Some(i64::MIN));
+    expect_eq(
+        &rt,
+        &leap_of(&leap_seconds, i64::MAX - 1).ok(),
+        &Some(i64::MAX),
+    );
     assert!(rt; is_out_of_range(leap_of(&leap_seconds, i64::MAX)));
     assert!(rt; is_out_of_range(effect_of(&leap_seconds, i64::MIN)));
-    assert_eq!(rt;
-        effect_of(&leap_seconds, i64::MIN + 1).ok(),
-        Some(i64::MIN + 1)
+    expect_eq(
+        &rt,
+        &effect_of(&leap_seconds, i64::MIN + 1).ok(),
+        &Some(i64::MIN + 1),
     );
-    assert_eq!(rt; effect_of(&leap_seconds, i64::MAX).ok(), Some(i64::MAX - 1));
+    expect_eq(
+        &rt,
+        &effect_of(&leap_seconds, i64::MAX).ok(),
+        &Some(i64::MAX - 1),
+    );
 }
 
 #[test]
 fn the_ends_with_a_second_less(rt: HostRuntime) {
     let leap_seconds = [LeapSecond::new(0, -1)];
-    assert_eq!(rt; leap_of(&leap_seconds, i64::MIN).ok(), Some(i64::MIN));
-    assert_eq!(rt; leap_of(&leap_seconds, i64::MAX).ok(), Some(i64::MAX - 1));
-    assert_eq!(rt; effect_of(&leap_seconds, i64::MAX - 1).ok(), Some(i64::MAX));
+    expect_eq(&rt, &leap_of(&leap_seconds, i64::MIN).ok(), &Some(i64::MIN));
+    expect_eq(
+        &rt,
+        &leap_of(&leap_seconds, i64::MAX).ok(),
+        &Some(i64::MAX - 1),
+    );
+    expect_eq(
+        &rt,
+        &effect_of(&leap_seconds, i64::MAX - 1).ok(),
+        &Some(i64::MAX),
+    );
     assert!(rt; is_out_of_range(effect_of(&leap_seconds, i64::MAX)));
 }
 
@@ -142,9 +166,10 @@ fn the_ends_with_a_second_less(rt: HostRuntime) {
 #[test]
 fn the_ends_with_a_second_more_and_less(rt: HostRuntime) {
     let leap_seconds = [LeapSecond::new(0, 1), LeapSecond::new(2_419_199, 0)];
-    assert_eq!(rt;
-        leap_of(&leap_seconds, i64::MAX - 1).ok(),
-        Some(i64::MAX - 1)
+    expect_eq(
+        &rt,
+        &leap_of(&leap_seconds, i64::MAX - 1).ok(),
+        &Some(i64::MAX - 1),
     );
     assert!(rt; is_out_of_range(leap_of(&leap_seconds, i64::MAX)));
     assert!(rt; is_out_of_range(effect_of(&leap_seconds, i64::MAX)));
@@ -169,9 +194,10 @@ fn leap_seconds_of_both_kinds(rt: HostRuntime) {
         (7_257_598, 7_257_599),
         (7_257_599, 7_257_599),
     ] {
-        assert_eq!(rt;
-            leap_of(&leap_seconds, unix_time).ok(),
-            Some(unix_leap_time)
+        expect_eq(
+            &rt,
+            &leap_of(&leap_seconds, unix_time).ok(),
+            &Some(unix_leap_time),
         );
     }
     for (unix_leap_time, unix_time) in [
@@ -184,9 +210,10 @@ fn leap_seconds_of_both_kinds(rt: HostRuntime) {
         (7_257_599, 7_257_598),
         (7_257_600, 7_257_600),
     ] {
-        assert_eq!(rt;
-            effect_of(&leap_seconds, unix_leap_time).ok(),
-            Some(unix_time)
+        expect_eq(
+            &rt,
+            &effect_of(&leap_seconds, unix_leap_time).ok(),
+            &Some(unix_time),
         );
     }
 }

@@ -5,6 +5,7 @@ use std::test::Fail;
 use tz_base::error::TzError;
 use tz_base::error::timezone::{LocalTimeTypeError, TimeZoneError};
 use tz_base::refusing::Refusing;
+use tz_file_tests::samples::{expect_eq, expect_eq_at};
 use tz_zone::timezone::{
     LeapSecond, LocalTimeType, TimeZone, TimeZoneRef, Transition, TransitionRule,
 };
@@ -51,14 +52,14 @@ fn zones_of_one_type(rt: HostRuntime) -> Result<(), Fail> {
         let types = [plain];
         let expected = TimeZoneRef::new(&[], &types, &[], &none)?;
         let zone = TimeZone::fixed(rt.alloc(), ut_offset)?;
-        assert_eq!(rt; zone.as_ref(), expected, "{ut_offset}");
+        expect_eq_at(&rt, &ut_offset, &zone.as_ref(), &expected);
         if ut_offset == 0 {
             let utc = TimeZone::utc(rt.alloc())?;
-            assert_eq!(rt; utc.as_ref(), expected);
+            expect_eq(&rt, &utc.as_ref(), &expected);
         }
         for unix_time in [i64::MIN, 0, i64::MAX] {
-            assert_eq!(rt; *zone.find_local_time_type(unix_time)?, plain);
-            assert_eq!(rt; *zone.find_current_local_time_type(unix_time)?, plain);
+            expect_eq(&rt, zone.find_local_time_type(unix_time)?, &plain);
+            expect_eq(&rt, zone.find_current_local_time_type(unix_time)?, &plain);
         }
     }
     Ok(())
@@ -69,7 +70,7 @@ fn the_current_type_is_that_of_the_moment_given(rt: HostRuntime) -> Result<(), F
     let zone = two_transitions(rt.alloc())?;
     for (unix_time, ut_offset) in [(-1, 0), (0, 3600), (7198, 3600), (7199, 0)] {
         let local_time_type = zone.find_current_local_time_type(unix_time)?;
-        assert_eq!(rt; local_time_type.ut_offset(), ut_offset, "at {unix_time}");
+        expect_eq_at(&rt, &unix_time, &local_time_type.ut_offset(), &ut_offset);
     }
     let (transitions, local_time_types, leap_seconds) = parts(rt.alloc())?;
     let over = TimeZone::new(transitions, local_time_types, leap_seconds, None)?;
@@ -87,11 +88,11 @@ fn the_current_type_is_that_of_the_moment_given(rt: HostRuntime) -> Result<(), F
 fn one_type_with_each_growth_refused(rt: HostRuntime) {
     for left in 0..2u64 {
         let heap = Refusing::new(rt.alloc(), left);
-        assert_eq!(rt; is_memory(&TimeZone::utc(&heap)), left == 0);
-        assert_eq!(rt; heap.held(), 0);
+        expect_eq(&rt, &is_memory(&TimeZone::utc(&heap)), &(left == 0));
+        expect_eq(&rt, &heap.held(), &0);
         let heap = Refusing::new(rt.alloc(), left);
-        assert_eq!(rt; is_memory(&TimeZone::fixed(&heap, 3600)), left == 0);
-        assert_eq!(rt; heap.held(), 0);
+        expect_eq(&rt, &is_memory(&TimeZone::fixed(&heap, 3600)), &(left == 0));
+        expect_eq(&rt, &heap.held(), &0);
         let heap = Refusing::new(rt.alloc(), left);
         assert!(rt;
             matches!(
@@ -99,7 +100,7 @@ fn one_type_with_each_growth_refused(rt: HostRuntime) {
                 Err(TzError::LocalTimeType(LocalTimeTypeError::InvalidUtcOffset))
             )
         );
-        assert_eq!(rt; heap.refused(), 0);
+        expect_eq(&rt, &heap.refused(), &0);
     }
 }
 
@@ -116,20 +117,20 @@ fn a_clone_with_each_growth_refused(rt: HostRuntime) -> Result<(), Fail> {
             assert!(rt; zone.as_ref() == source.as_ref());
             match &clone {
                 Ok(clone) => {
-                    assert_eq!(rt; heap.held(), held.wrapping_mul(2));
+                    expect_eq(&rt, &heap.held(), &held.wrapping_mul(2));
                     assert!(rt; *clone == zone);
                     blocks = held;
                 }
                 Err(_) => {
                     assert!(rt; is_memory(&clone));
-                    assert_eq!(rt; heap.held(), held);
-                    assert_eq!(rt; heap.refused(), 1);
+                    expect_eq(&rt, &heap.held(), &held);
+                    expect_eq(&rt, &heap.refused(), &1);
                 }
             }
         }
-        assert_eq!(rt; heap.held(), 0);
+        expect_eq(&rt, &heap.held(), &0);
     }
-    assert_eq!(rt; blocks, 3);
+    expect_eq(&rt, &blocks, &3);
     Ok(())
 }
 
@@ -138,7 +139,7 @@ fn a_clone_with_each_growth_refused(rt: HostRuntime) -> Result<(), Fail> {
 fn refused_parts_are_dropped(rt: HostRuntime) -> Result<(), Fail> {
     let heap = Refusing::new(rt.alloc(), u64::MAX);
     let (transitions, local_time_types, leap_seconds) = parts(&heap)?;
-    assert_eq!(rt; heap.held(), 3);
+    expect_eq(&rt, &heap.held(), &3);
     let extra_rule = Some(TransitionRule::Fixed(LocalTimeType::with_ut_offset(1)?));
     let zone = TimeZone::new(transitions, local_time_types, leap_seconds, extra_rule);
     assert!(rt;
@@ -147,6 +148,6 @@ fn refused_parts_are_dropped(rt: HostRuntime) -> Result<(), Fail> {
             Err(TzError::TimeZone(TimeZoneError::InconsistentExtraRule))
         )
     );
-    assert_eq!(rt; heap.held(), 0);
+    expect_eq(&rt, &heap.held(), &0);
     Ok(())
 }

@@ -2,7 +2,7 @@
 
 use std::process::Abort;
 use tz_base::error::TzError;
-use tz_file_tests::samples::central_europe;
+use tz_file_tests::samples::{central_europe, expect_eq_at};
 use tz_zone::inner::segment_at;
 use tz_zone::timezone::{
     AlternateTime, LeapSecond, LocalTimeType, MonthWeekDay, RuleDay, TimeZoneRef, Transition,
@@ -41,12 +41,12 @@ fn expect_segment(
     let Some(found) = segment_at(zone, unix_time) else {
         panic!(rt; "no segment at {unix_time}");
     };
-    assert_eq!(rt; found.from, from, "{unix_time}");
-    assert_eq!(rt; found.until, until, "{unix_time}");
-    assert_eq!(rt; found.number, number, "{unix_time}");
+    expect_eq_at(rt, &unix_time, &found.from, &from);
+    expect_eq_at(rt, &unix_time, &found.until, &until);
+    expect_eq_at(rt, &unix_time, &found.number, &number);
     let offset = offset_at(zone, unix_time);
-    assert_eq!(rt; offset_at(zone, from), offset, "{unix_time}");
-    assert_eq!(rt; offset_at(zone, until - 1), offset, "{unix_time}");
+    expect_eq_at(rt, &unix_time, &offset_at(zone, from), &offset);
+    expect_eq_at(rt, &unix_time, &offset_at(zone, until - 1), &offset);
 }
 
 #[test]

@@ -12,6 +12,7 @@ use tz_base::error::timezone::TimeZoneError::{
     NoLocalTimeType,
 };
 use tz_base::error::timezone::{LocalTimeTypeError, TimeZoneError};
+use tz_file_tests::samples::{expect_eq, expect_eq_at};
 use tz_zone::timezone::{
     LeapSecond, LocalTimeType, TimeZone, TimeZoneRef, Transition, TransitionRule,
 };
@@ -150,7 +151,7 @@ fn offset_at<A: Allocator + Copy>(zone: &TimeZone<A>, unix_time: i64) -> Result<
 /// The clock has these offsets at instants.
 fn expect_offsets(rt: &impl Abort, zone: &TimeZone, lookups: &[(i64, Result<i32, Fault>)]) {
     for (unix_time, expected) in lookups {
-        assert_eq!(rt; offset_at(zone, *unix_time), *expected, "at {unix_time}");
+        expect_eq_at(rt, &unix_time, &offset_at(zone, *unix_time), expected);
     }
 }
 
@@ -161,8 +162,8 @@ fn expect_fault(
     parts: Parts<'_>,
     expected: Option<Fault>,
 ) -> Result<(), TzError> {
-    assert_eq!(rt; parts.zone(alloc).err().map(named), expected);
-    assert_eq!(rt; parts.borrowed_fault(alloc)?, expected);
+    expect_eq(rt, &parts.zone(alloc).err().map(named), &expected);
+    expect_eq(rt, &parts.borrowed_fault(alloc)?, &expected);
     Ok(())
 }
 
@@ -478,7 +479,7 @@ fn the_rule_has_the_last_type(rt: HostRuntime) -> Result<(), Fail> {
         let fixed = LocalTimeType::new(ut_offset, is_dst, Some(name))?;
         let extra_rule = Some(TransitionRule::Fixed(fixed));
         let zone = TimeZoneRef::new(&transitions, &local_time_types, &[], &extra_rule);
-        assert_eq!(rt; zone.err().map(named), expected.map(Fault::Zone));
+        expect_eq(&rt, &zone.err().map(named), &expected.map(Fault::Zone));
     }
     Ok(())
 }
@@ -493,14 +494,14 @@ fn ten_thousand_transitions(rt: HostRuntime) -> Result<(), Fail> {
     }
     let local_time_types = UTC.with_types(&[0, 3600, 7200]).local_time_types(alloc)?;
     let zone = TimeZone::new(transitions, local_time_types, Vec::new(alloc), None)?;
-    assert_eq!(rt; offset_at(&zone, -1), Ok(0));
+    expect_eq(&rt, &offset_at(&zone, -1), &Ok(0));
     for i in 0..9_999u16 {
         let begin = i64::from(i) * 1000;
         let expected = Ok(i32::from(i % 3) * 3600);
-        assert_eq!(rt; offset_at(&zone, begin), expected, "{i}");
-        assert_eq!(rt; offset_at(&zone, begin + 999), expected, "{i}");
+        expect_eq_at(&rt, &i, &offset_at(&zone, begin), &expected);
+        expect_eq_at(&rt, &i, &offset_at(&zone, begin + 999), &expected);
     }
-    assert_eq!(rt; offset_at(&zone, 9_999_000), Err(Fault::NoType));
+    expect_eq(&rt, &offset_at(&zone, 9_999_000), &Err(Fault::NoType));
     Ok(())
 }
 
@@ -525,7 +526,7 @@ fn types_outlive_the_zone(rt: HostRuntime) -> Result<(), Fail> {
     let local_time_types = [LocalTimeType::utc(), later];
     let extra_rule = Some(TransitionRule::Fixed(later));
     let types = lent(&transitions, &local_time_types, &extra_rule)?;
-    assert_eq!(rt; types, (&LocalTimeType::utc(), &later));
+    expect_eq(&rt, &types, &(&LocalTimeType::utc(), &later));
     Ok(())
 }
 
@@ -537,9 +538,9 @@ fn a_zone_has_its_parts(rt: HostRuntime) -> Result<(), Fail> {
     let leap_seconds = [LeapSecond::new(100, 1)];
     let extra_rule = Some(TransitionRule::Fixed(utc));
     let zone = TimeZoneRef::new(&transitions, &local_time_types, &leap_seconds, &extra_rule)?;
-    assert_eq!(rt; zone.transitions(), transitions.as_slice());
-    assert_eq!(rt; zone.local_time_types(), local_time_types.as_slice());
-    assert_eq!(rt; zone.leap_seconds(), leap_seconds.as_slice());
+    expect_eq(&rt, &zone.transitions(), &transitions.as_slice());
+    expect_eq(&rt, &zone.local_time_types(), &local_time_types.as_slice());
+    expect_eq(&rt, &zone.leap_seconds(), &leap_seconds.as_slice());
     assert!(rt; matches!(zone.extra_rule(), Some(TransitionRule::Fixed(fixed)) if *fixed == utc));
     Ok(())
 }
@@ -547,14 +548,14 @@ fn a_zone_has_its_parts(rt: HostRuntime) -> Result<(), Fail> {
 #[test]
 fn transitions_and_leap_seconds_have_their_parts(rt: HostRuntime) {
     let transition = Transition::new(-5, 7);
-    assert_eq!(rt; transition.unix_leap_time(), -5);
-    assert_eq!(rt; transition.local_time_type_index(), 7);
+    expect_eq(&rt, &transition.unix_leap_time(), &(-5));
+    expect_eq(&rt, &transition.local_time_type_index(), &7);
     assert!(rt; transition == Transition::new(-5, 7));
     assert!(rt; transition != Transition::new(-5, 6));
     assert!(rt; transition != Transition::new(-4, 7));
     let leap_second = LeapSecond::new(5, -7);
-    assert_eq!(rt; leap_second.unix_leap_time(), 5);
-    assert_eq!(rt; leap_second.correction(), -7);
+    expect_eq(&rt, &leap_second.unix_leap_time(), &5);
+    expect_eq(&rt, &leap_second.correction(), &(-7));
     assert!(rt; leap_second == LeapSecond::new(5, -7));
     assert!(rt; leap_second != LeapSecond::new(5, 7));
     assert!(rt; leap_second != LeapSecond::new(4, -7));

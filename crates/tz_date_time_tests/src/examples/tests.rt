@@ -6,7 +6,7 @@ use super::queries::answer_lines;
 use super::zones::{local_time, local_zone, moved_ahead_in_2000, zone_of_setting};
 use std::test::Fail;
 use tz::{Error, UtcDateTime};
-use tz_file_tests::samples::JERUSALEM_V3;
+use tz_file_tests::samples::{JERUSALEM_V3, expect_eq};
 
 /// The clocks of central Europe.
 const CENTRAL_EUROPE: &str = "CET-1CEST,M3.5.0,M10.5.0/3";
@@ -16,17 +16,25 @@ fn instants_are_shown(rt: HostRuntime) -> Result<(), Fail> {
     let alloc = rt.alloc();
     let zone = zone_of_setting(&rt, alloc, CENTRAL_EUROPE)?;
     let text = print_instant(alloc, zone.as_ref(), 954_032_400)?;
-    assert_eq!(rt; text.as_str(), "2000-03-26T03:00:00.000000000+02:00 CEST");
+    expect_eq(
+        &rt,
+        &text.as_str(),
+        &"2000-03-26T03:00:00.000000000+02:00 CEST",
+    );
     let local = format!(in alloc; "{}", local_time(alloc, JERUSALEM_V3, 2_216_073_600)?)?;
-    assert_eq!(rt; local.as_str(), "2040-03-23T03:00:00.000000000+03:00");
+    expect_eq(&rt, &local.as_str(), &"2040-03-23T03:00:00.000000000+03:00");
     let behind = format!(in alloc; "{}", new_year_an_hour_behind(alloc)?)?;
-    assert_eq!(rt; behind.as_str(), "2023-12-31T23:00:00.000000000-01:00");
+    expect_eq(
+        &rt,
+        &behind.as_str(),
+        &"2023-12-31T23:00:00.000000000-01:00",
+    );
     for (unix_time, shown) in [
         (946_684_799, "2000-01-01T00:59:59.000000000+01:00"),
         (946_684_800, "2000-01-01T02:00:00.000000000+02:00"),
     ] {
         let text = format!(in alloc; "{}", moved_ahead_in_2000(unix_time)?)?;
-        assert_eq!(rt; text.as_str(), shown);
+        expect_eq(&rt, &text.as_str(), &shown);
     }
     assert!(rt; show_now(&rt, zone.as_ref())?.unix_time() > 1_700_000_000);
     Ok(())
@@ -36,7 +44,7 @@ fn instants_are_shown(rt: HostRuntime) -> Result<(), Fail> {
 fn query_lines_are_answered(rt: HostRuntime) -> Result<(), Fail> {
     let answers = answer_lines(rt.alloc(), JERUSALEM_V3, b"T 2216073600 0\nT\n")?;
     let wanted = b"2040-03-23T03:00:00.000000000+03:00 IDT\nE Line\n";
-    assert_eq!(rt; answers.as_slice(), wanted.as_slice());
+    expect_eq(&rt, &answers.as_slice(), &wanted.as_slice());
     Ok(())
 }
 
@@ -62,8 +70,8 @@ fn alarms_ring_in_gaps_and_folds(rt: HostRuntime) -> Result<(), Fail> {
         (UtcDateTime::new(2000, 7, 1, 0, 0, 0, 0)?, 962_402_400, 1),
     ] {
         let rings = alarm(alloc, zone.as_ref(), local)?;
-        assert_eq!(rt; rings.map(|alarm| alarm.unix_time()), Some(instant));
-        assert_eq!(rt; count_meanings(zone.as_ref(), local)?, meanings);
+        expect_eq(&rt, &rings.map(|alarm| alarm.unix_time()), &Some(instant));
+        expect_eq(&rt, &count_meanings(zone.as_ref(), local)?, &meanings);
     }
     Ok(())
 }
@@ -79,9 +87,9 @@ fn meetings_keep_their_local_time(rt: HostRuntime) -> Result<(), Fail> {
         "2000-03-26T09:00:00.000000000+02:00",
         "2000-04-02T09:00:00.000000000+02:00",
     ];
-    assert_eq!(rt; meetings.len(), shown.len());
+    expect_eq(&rt, &meetings.len(), &shown.len());
     for (meeting, shown) in meetings.iter().zip(shown) {
-        assert_eq!(rt; format!(in alloc; "{meeting}")?.as_str(), shown);
+        expect_eq(&rt, &format!(in alloc; "{meeting}")?.as_str(), &shown);
     }
     for (now, monday) in [
         // A Sunday; Monday at 9:00 itself; one second before it.
@@ -90,7 +98,7 @@ fn meetings_keep_their_local_time(rt: HostRuntime) -> Result<(), Fail> {
         (954_140_399, 954_140_400),
     ] {
         let next = next_monday_at_nine(alloc, zone.as_ref(), now)?;
-        assert_eq!(rt; next.map(|next| next.unix_time()), Some(monday));
+        expect_eq(&rt, &next.map(|next| next.unix_time()), &Some(monday));
     }
     Ok(())
 }

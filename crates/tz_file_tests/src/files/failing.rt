@@ -1,5 +1,6 @@
 //! The reader of files, over readers in memory that fail.
 
+use crate::samples::{expect_eq, expect_eq_at};
 use std::alloc::{Allocator, Global};
 use std::io::{self, Read};
 use std::test::Fail;
@@ -51,7 +52,7 @@ fn a_reader_is_read_to_its_end_or_fails(rt: HostRuntime) -> Result<(), Fail> {
             calls_left,
         };
         let read = named(alloc, read_to_end(alloc, &mut input))?;
-        assert_eq!(rt; read.as_str(), wanted, "{calls_left}");
+        expect_eq_at(&rt, &calls_left, &read.as_str(), &wanted);
     }
     Ok(())
 }
@@ -68,15 +69,16 @@ fn each_growth_can_be_refused(rt: HostRuntime) -> Result<(), Fail> {
             calls_left: 100,
         };
         match read_to_end(&heap, &mut input) {
-            Ok(bytes) => assert_eq!(rt; bytes.as_slice(), text.as_slice()),
+            Ok(bytes) => expect_eq(&rt, &bytes.as_slice(), &text.as_slice()),
             Err(fault) => {
                 assert!(rt; matches!(fault, ReadFault::Memory(_)), "{left}");
                 refusals = left + 1;
             }
         }
-        assert_eq!(rt;
-            (heap.refused(), heap.held()),
-            (u64::from(left < refusals), 0)
+        expect_eq(
+            &rt,
+            &(heap.refused(), heap.held()),
+            &(u64::from(left < refusals), 0),
         );
     }
     assert!(rt; (2..30).contains(&refusals));

@@ -1,22 +1,20 @@
 //! Files that are cut short, and files with bytes altered.
 
 use super::*;
+use crate::samples::{expect_eq, expect_eq_at};
 
 #[test]
 fn cut_files_are_refused(rt: HostRuntime) -> Result<(), Fail> {
     for bytes in [utc_v1(rt.alloc())?, utc_v1_leap(rt.alloc())?] {
         for len in 0..bytes.len() {
-            assert_eq!(rt;
-                fault_of(rt.alloc(), &bytes[..len]),
-                is_cut(),
-                "of {len} bytes"
-            );
+            expect_eq_at(&rt, &len, &fault_of(rt.alloc(), &bytes[..len]), &is_cut());
         }
         let mut longer = bytes.clone()?;
         longer.push(0)?;
-        assert_eq!(rt;
-            fault_of(rt.alloc(), &longer),
-            Some(Fault::File(TzFileError::RemainingDataV1))
+        expect_eq(
+            &rt,
+            &fault_of(rt.alloc(), &longer),
+            &Some(Fault::File(TzFileError::RemainingDataV1)),
         );
     }
     Ok(())
@@ -31,20 +29,21 @@ fn cut_later_files_are_refused(rt: HostRuntime) -> Result<(), Fail> {
             120 => None,
             _ => Some(Fault::File(TzFileError::InvalidFooter)),
         };
-        assert_eq!(rt;
-            fault_of(rt.alloc(), &bytes[..len]),
-            expected,
-            "of {len} bytes"
-        );
+        expect_eq_at(&rt, &len, &fault_of(rt.alloc(), &bytes[..len]), &expected);
     }
     let cut = with_footer(rt.alloc(), b'3', b"\n")?;
-    assert_eq!(rt; cut.len(), 120);
+    expect_eq(&rt, &cut.len(), &120);
     let zone = TimeZone::from_tz_data(rt.alloc(), &cut)?;
     assert!(rt; zone.as_ref().extra_rule().is_none());
-    assert_eq!(rt; zone.find_local_time_type(2_145_916_799)?.ut_offset(), 7200);
-    assert_eq!(rt;
-        zone.find_local_time_type(2_145_916_800).err().map(named),
-        Some(Fault::NoType)
+    expect_eq(
+        &rt,
+        &zone.find_local_time_type(2_145_916_799)?.ut_offset(),
+        &7200,
+    );
+    expect_eq(
+        &rt,
+        &zone.find_local_time_type(2_145_916_800).err().map(named),
+        &Some(Fault::NoType),
     );
     Ok(())
 }
@@ -79,10 +78,10 @@ fn altered_bytes_are_refused(rt: HostRuntime) -> Result<(), Fail> {
         (44, 0x80, Fault::Type(LocalTimeTypeError::InvalidUtcOffset)),
     ] {
         let other = with_byte(rt.alloc(), &bytes, place, byte)?;
-        assert_eq!(rt; fault_of(rt.alloc(), &other), Some(expected), "at {place}");
+        expect_eq_at(&rt, &place, &fault_of(rt.alloc(), &other), &Some(expected));
     }
     let other = with_byte(rt.alloc(), &bytes, 43, 5)?;
-    assert_eq!(rt; fault_of(rt.alloc(), &other), is_cut());
+    expect_eq(&rt, &fault_of(rt.alloc(), &other), &is_cut());
     Ok(())
 }
 
@@ -97,10 +96,10 @@ fn altered_leap_seconds_are_refused(rt: HostRuntime) -> Result<(), Fail> {
         (270, 2, Fault::File(TzFileError::InvalidStdWallUtLocal)),
     ] {
         let other = with_byte(rt.alloc(), &bytes, place, byte)?;
-        assert_eq!(rt; fault_of(rt.alloc(), &other), Some(expected), "at {place}");
+        expect_eq_at(&rt, &place, &fault_of(rt.alloc(), &other), &Some(expected));
     }
     let other = with_byte(rt.alloc(), &bytes, 270, 1)?;
-    assert_eq!(rt; fault_of(rt.alloc(), &other), None);
+    expect_eq(&rt, &fault_of(rt.alloc(), &other), &None);
     Ok(())
 }
 
@@ -123,7 +122,7 @@ fn altered_later_files_are_refused(rt: HostRuntime) -> Result<(), Fail> {
         (146, b' ', Fault::File(TzFileError::InvalidFooter)),
     ] {
         let other = with_byte(rt.alloc(), &bytes, place, byte)?;
-        assert_eq!(rt; fault_of(rt.alloc(), &other), Some(expected), "at {place}");
+        expect_eq_at(&rt, &place, &fault_of(rt.alloc(), &other), &Some(expected));
     }
     Ok(())
 }
@@ -132,9 +131,10 @@ fn altered_later_files_are_refused(rt: HostRuntime) -> Result<(), Fail> {
 fn a_name_may_be_empty(rt: HostRuntime) -> Result<(), Fail> {
     let bytes = with_byte(rt.alloc(), &utc_v1(rt.alloc())?, 49, 3)?;
     let zone = TimeZone::from_tz_data(rt.alloc(), &bytes)?;
-    assert_eq!(rt;
-        zone.as_ref().local_time_types(),
-        [LocalTimeType::utc()].as_slice()
+    expect_eq(
+        &rt,
+        &zone.as_ref().local_time_types(),
+        &[LocalTimeType::utc()].as_slice(),
     );
     Ok(())
 }
@@ -170,11 +170,12 @@ fn counts_beyond_the_bytes_take_no_memory(rt: HostRuntime) -> Result<(), Fail> {
         bytes = with_byte(rt.alloc(), &bytes, place, 0xff)?;
     }
     let heap = Refusing::new(rt.alloc(), 0);
-    assert_eq!(rt;
-        TimeZone::from_tz_data(&heap, &bytes).err().map(named),
-        is_cut()
+    expect_eq(
+        &rt,
+        &TimeZone::from_tz_data(&heap, &bytes).err().map(named),
+        &is_cut(),
     );
-    assert_eq!(rt; heap.refused(), 0);
+    expect_eq(&rt, &heap.refused(), &0);
     Ok(())
 }
 
@@ -216,7 +217,7 @@ pub(super) fn accepted_alterations(rt: &impl Abort, alloc: Global, bytes: &mut V
 #[test]
 fn each_byte_of_a_first_version_is_altered(rt: HostRuntime) -> Result<(), Fail> {
     let accepted = accepted_alterations(&rt, rt.alloc(), &mut utc_v1(rt.alloc())?);
-    assert_eq!(rt; accepted, 5040);
+    expect_eq(&rt, &accepted, &5040);
     Ok(())
 }
 
@@ -224,6 +225,6 @@ fn each_byte_of_a_first_version_is_altered(rt: HostRuntime) -> Result<(), Fail> 
 #[test]
 fn each_byte_of_a_later_version_is_altered(rt: HostRuntime) -> Result<(), Fail> {
     let accepted = accepted_alterations(&rt, rt.alloc(), &mut jerusalem_v3(rt.alloc())?);
-    assert_eq!(rt; accepted, 11_449);
+    expect_eq(&rt, &accepted, &11_449);
     Ok(())
 }

@@ -1,7 +1,7 @@
 //! Files as compilers of time zones lay them out: fat ones, slim ones, and ones with leap seconds.
 
 use super::*;
-use crate::samples::central_europe;
+use crate::samples::{central_europe, expect_eq, expect_eq_at};
 
 /// What a unit holds: transitions with their types, types with the places of their names, names, leap seconds, and both lists of
 /// indicators, which are alike.
@@ -137,10 +137,11 @@ fn sunday(month: u8, week: u8) -> Result<RuleDay, Fail> {
 /// The zone's clock shows these offsets from UTC at these instants.
 fn expect_offsets(rt: &impl Abort, zone: &TimeZone, offsets: &[(i64, i32)]) -> Result<(), Fail> {
     for (unix_time, ut_offset) in offsets {
-        assert_eq!(rt;
-            zone.find_local_time_type(*unix_time)?.ut_offset(),
-            *ut_offset,
-            "at {unix_time}"
+        expect_eq_at(
+            rt,
+            &unix_time,
+            &zone.find_local_time_type(*unix_time)?.ut_offset(),
+            ut_offset,
         );
     }
     Ok(())
@@ -173,7 +174,7 @@ fn fat_zone(alloc: Global, extra_rule: Option<TransitionRule>) -> Result<TimeZon
 #[test]
 fn a_fat_file_is_read(rt: HostRuntime) -> Result<(), Fail> {
     let bytes = file(rt.alloc(), &FAT, &FAT, b"\nCET-1CEST,M3.5.0,M10.5.0/3\n")?;
-    assert_eq!(rt; bytes.len(), 288);
+    expect_eq(&rt, &bytes.len(), &288);
     let zone = TimeZone::from_tz_data(rt.alloc(), &bytes)?;
     let rule = TransitionRule::Alternate(central_europe()?);
     assert!(rt; zone == fat_zone(rt.alloc(), Some(rule))?);
@@ -198,13 +199,13 @@ fn a_fat_file_is_read(rt: HostRuntime) -> Result<(), Fail> {
 fn times_of_four_bytes_are_read(rt: HostRuntime) -> Result<(), Fail> {
     let mut bytes = Vec::new(rt.alloc());
     push_unit(&mut bytes, false, &FAT)?;
-    assert_eq!(rt; bytes.len(), 116);
+    expect_eq(&rt, &bytes.len(), &116);
     let bytes = with_byte(rt.alloc(), &bytes, 4, 0)?;
     let zone = TimeZone::from_tz_data(rt.alloc(), &bytes)?;
     assert!(rt; zone == fat_zone(rt.alloc(), None)?);
     expect_offsets(&rt, &zone, &[(-1_883_091_209, 3208), (909_277_199, 7200)])?;
     let after = zone.find_local_time_type(909_277_200).err().map(named);
-    assert_eq!(rt; after, Some(Fault::NoType));
+    expect_eq(&rt, &after, &Some(Fault::NoType));
     Ok(())
 }
 
@@ -242,7 +243,7 @@ fn slim_zone(alloc: Global) -> Result<TimeZone, Fail> {
 #[test]
 fn a_slim_file_is_read(rt: HostRuntime) -> Result<(), Fail> {
     let bytes = file(rt.alloc(), &NOTHING, &SLIM, b"\nEST5EDT,M3.2.0,M11.1.0\n")?;
-    assert_eq!(rt; bytes.len(), 185);
+    expect_eq(&rt, &bytes.len(), &185);
     let zone = TimeZone::from_tz_data(rt.alloc(), &bytes)?;
     assert!(rt; zone == slim_zone(rt.alloc())?);
     expect_offsets(

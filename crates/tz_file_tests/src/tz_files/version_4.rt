@@ -2,6 +2,7 @@
 
 use super::altered::accepted_alterations;
 use super::*;
+use crate::samples::{expect_eq, expect_eq_at};
 
 /// UTC with a table that begins at the end of 2016 and expires.
 fn utc_v4(alloc: Global) -> Result<Vec<u8>, AllocError> {
@@ -26,27 +27,29 @@ fn expect_utc(
     let zone = TimeZone::from_tz_data(alloc, bytes)?;
     let zone = zone.as_ref();
     assert!(rt; zone.transitions().is_empty());
-    assert_eq!(rt;
-        zone.local_time_types(),
-        [LocalTimeType::new(0, false, Some(b"UTC"))?].as_slice()
+    expect_eq(
+        rt,
+        &zone.local_time_types(),
+        &[LocalTimeType::new(0, false, Some(b"UTC"))?].as_slice(),
     );
-    assert_eq!(rt;
-        zone.leap_seconds(),
-        [
+    expect_eq(
+        rt,
+        &zone.leap_seconds(),
+        &[
             LeapSecond::new(1_483_228_826, 27),
-            LeapSecond::new(1_700_000_000, correction)
+            LeapSecond::new(1_700_000_000, correction),
         ]
-        .as_slice()
+        .as_slice(),
     );
     assert!(rt; zone.extra_rule().is_none());
-    assert_eq!(rt; zone.leap_expiry(), expiry);
+    expect_eq(rt, &zone.leap_expiry(), &expiry);
     Ok(())
 }
 
 #[test]
 fn a_table_that_begins_later_and_expires(rt: HostRuntime) -> Result<(), Fail> {
     let bytes = utc_v4(rt.alloc())?;
-    assert_eq!(rt; bytes.len(), 134);
+    expect_eq(&rt, &bytes.len(), &134);
     expect_utc(&rt, rt.alloc(), &bytes, 27, Some(1_700_000_000))?;
     // The first header's version makes no difference.
     for version in [b'2', b'3'] {
@@ -73,7 +76,7 @@ fn tables_that_are_refused(rt: HostRuntime) -> Result<(), Fail> {
         (108, 0x80, Fault::Zone(TimeZoneError::InvalidLeapSecond)),
     ] {
         let other = with_byte(rt.alloc(), &bytes, place, byte)?;
-        assert_eq!(rt; fault_of(rt.alloc(), &other), Some(expected), "at {place}");
+        expect_eq_at(&rt, &place, &fault_of(rt.alloc(), &other), &Some(expected));
     }
     Ok(())
 }
@@ -89,11 +92,11 @@ fn earlier_versions_have_plain_tables(rt: HostRuntime) -> Result<(), Fail> {
     for version in [0, b'2', b'3'] {
         for bytes in [&begins_later, &expires] {
             let other = with_byte(rt.alloc(), bytes, 58, version)?;
-            assert_eq!(rt; fault_of(rt.alloc(), &other), refused);
-            assert_eq!(rt; fault_of(rt.alloc(), bytes), None);
+            expect_eq(&rt, &fault_of(rt.alloc(), &other), &refused);
+            expect_eq(&rt, &fault_of(rt.alloc(), bytes), &None);
         }
         let other = with_byte(rt.alloc(), &plain, 58, version)?;
-        assert_eq!(rt; fault_of(rt.alloc(), &other), None);
+        expect_eq(&rt, &fault_of(rt.alloc(), &other), &None);
     }
     Ok(())
 }
@@ -106,9 +109,10 @@ fn footers_are_extended(rt: HostRuntime) -> Result<(), Fail> {
     // The first header's version does not extend them.
     let mut bytes = with_footer(rt.alloc(), b'2', footer)?;
     bytes = with_byte(rt.alloc(), &bytes, 4, b'4')?;
-    assert_eq!(rt;
-        fault_of(rt.alloc(), &bytes),
-        Some(Fault::Text(TzStringError::InvalidDayTimeHour))
+    expect_eq(
+        &rt,
+        &fault_of(rt.alloc(), &bytes),
+        &Some(Fault::Text(TzStringError::InvalidDayTimeHour)),
     );
     Ok(())
 }
@@ -122,11 +126,7 @@ fn cut_tables_are_refused(rt: HostRuntime) -> Result<(), Fail> {
             133 => None,
             _ => Some(Fault::File(TzFileError::InvalidFooter)),
         };
-        assert_eq!(rt;
-            fault_of(rt.alloc(), &bytes[..len]),
-            expected,
-            "of {len} bytes"
-        );
+        expect_eq_at(&rt, &len, &fault_of(rt.alloc(), &bytes[..len]), &expected);
     }
     Ok(())
 }
@@ -134,7 +134,7 @@ fn cut_tables_are_refused(rt: HostRuntime) -> Result<(), Fail> {
 #[test]
 fn each_byte_of_a_table_is_altered(rt: HostRuntime) -> Result<(), Fail> {
     let accepted = accepted_alterations(&rt, rt.alloc(), &mut utc_v4(rt.alloc())?);
-    assert_eq!(rt; accepted, 14_109);
+    expect_eq(&rt, &accepted, &14_109);
     Ok(())
 }
 

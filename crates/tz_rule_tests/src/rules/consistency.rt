@@ -1,6 +1,7 @@
 //! Rules whose days are near each other: which are consistent, with one day's time a second earlier, as it is, and a second later.
 
 use tz_base::error::timezone::TransitionRuleError;
+use tz_file_tests::samples::expect_eq_at;
 use tz_rule::timezone::{
     AlternateTime, Julian0WithLeap, Julian1WithoutLeap, LocalTimeType, MonthWeekDay, RuleDay,
 };
@@ -171,64 +172,75 @@ fn rows_of_months(rt: HostRuntime) {
         let after_next = if month == 11 { 1 } else { month + 2 };
         let day = |month, week, week_day, days| (Day::M(month, week, week_day), days);
 
-        assert_eq!(rt;
-            both_ways(day(month, 4, 0, 0), day(month, 5, 0, 0)),
-            [NOT_LATER; 2],
-            "{month}"
+        expect_eq_at(
+            &rt,
+            &month,
+            &both_ways(day(month, 4, 0, 0), day(month, 5, 0, 0)),
+            &[NOT_LATER; 2],
         );
-        assert_eq!(rt;
-            both_ways(day(month, 4, 0, 4), day(next, 1, 0, -3)),
-            [NOT_LATER; 2],
-            "{month}"
+        expect_eq_at(
+            &rt,
+            &month,
+            &both_ways(day(month, 4, 0, 4), day(next, 1, 0, -3)),
+            &[NOT_LATER; 2],
         );
-        assert_eq!(rt;
-            both_ways(day(month, 3, 2, 0), day(month, 4, 3, -1)),
-            [NOT_LATER; 2],
-            "{month}"
+        expect_eq_at(
+            &rt,
+            &month,
+            &both_ways(day(month, 3, 2, 0), day(month, 4, 3, -1)),
+            &[NOT_LATER; 2],
         );
-        assert_eq!(rt;
-            both_ways(day(month, 5, 2, 0), day(next, 1, 3, -1)),
-            [NOT_LATER; 2],
-            "{month}"
-        );
-
-        assert_eq!(rt;
-            both_ways(day(month, 5, 0, 0), day(month, 5, 0, 0)),
-            [ALL; 2],
-            "{month}"
-        );
-        assert_eq!(rt;
-            both_ways(day(month, 5, 0, 4), day(next, 1, 0, -3)),
-            [ALL; 2],
-            "{month}"
-        );
-        assert_eq!(rt;
-            both_ways(day(month, 5, 0, 0), day(next, 5, 0, 0)),
-            [ALL; 2],
-            "{month}"
-        );
-        assert_eq!(rt;
-            both_ways(day(month, 5, 2, 0), day(next, 5, 3, 0)),
-            [ALL; 2],
-            "{month}"
+        expect_eq_at(
+            &rt,
+            &month,
+            &both_ways(day(month, 5, 2, 0), day(next, 1, 3, -1)),
+            &[NOT_LATER; 2],
         );
 
-        assert_eq!(rt;
-            both_ways(day(month, 5, 2, 0), day(month, 5, 3, -1)),
-            [NOT_EARLIER; 2],
-            "{month}"
+        expect_eq_at(
+            &rt,
+            &month,
+            &both_ways(day(month, 5, 0, 0), day(month, 5, 0, 0)),
+            &[ALL; 2],
+        );
+        expect_eq_at(
+            &rt,
+            &month,
+            &both_ways(day(month, 5, 0, 4), day(next, 1, 0, -3)),
+            &[ALL; 2],
+        );
+        expect_eq_at(
+            &rt,
+            &month,
+            &both_ways(day(month, 5, 0, 0), day(next, 5, 0, 0)),
+            &[ALL; 2],
+        );
+        expect_eq_at(
+            &rt,
+            &month,
+            &both_ways(day(month, 5, 2, 0), day(next, 5, 3, 0)),
+            &[ALL; 2],
+        );
+
+        expect_eq_at(
+            &rt,
+            &month,
+            &both_ways(day(month, 5, 2, 0), day(month, 5, 3, -1)),
+            &[NOT_EARLIER; 2],
         );
 
         let at_once = |x, y| [is_accepted(x, 0, y, true), is_accepted(x, 0, y, false)];
-        assert_eq!(rt;
-            at_once(day(month, 1, 0, 0), day(after_next, 1, 0, 0)),
-            [Some(true); 2],
-            "{month}"
+        expect_eq_at(
+            &rt,
+            &month,
+            &at_once(day(month, 1, 0, 0), day(after_next, 1, 0, 0)),
+            &[Some(true); 2],
         );
-        assert_eq!(rt;
-            at_once(day(month, 3, 0, 4), day(month, 4, 0, -3)),
-            [Some(true); 2],
-            "{month}"
+        expect_eq_at(
+            &rt,
+            &month,
+            &at_once(day(month, 3, 0, 4), day(month, 4, 0, -3)),
+            &[Some(true); 2],
         );
     }
 }

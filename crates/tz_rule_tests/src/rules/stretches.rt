@@ -1,6 +1,7 @@
 //! Stretches of rules beside the types at their instants.
 
 use super::{Refusal, j, m, rule, start_in, z};
+use tz_file_tests::samples::expect_eq;
 use tz_rule::inner::{self, Stretch};
 use tz_rule::timezone::{AlternateTime, TransitionRule};
 
@@ -123,7 +124,7 @@ fn no_stretches_without_standard_time_or_years(rt: HostRuntime) {
     let Some(found) = inner::stretch(&paris, 1_720_000_000) else {
         panic!(rt; "no stretch");
     };
-    assert_eq!(rt; found.from, 1_711_846_800);
-    assert_eq!(rt; found.until, 1_729_990_800);
+    expect_eq(&rt, &found.from, &1_711_846_800);
+    expect_eq(&rt, &found.until, &1_729_990_800);
     assert!(rt; found.is_daylight);
 }

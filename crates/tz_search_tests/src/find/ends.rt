@@ -2,6 +2,7 @@
 
 use super::texts::{expect_texts, expect_texts_by_rule};
 use super::*;
+use tz_file_tests::samples::expect_eq;
 
 /// A rule with the greatest and the least offset and the latest and the earliest times that a rule may have. No TZ string denotes it.
 fn widest() -> Result<AlternateTime, TzError> {
@@ -28,7 +29,11 @@ fn lookups_of_the_widest_rule(rt: HostRuntime) -> Result<(), Fail> {
         (16_160_397, -89_999),
         (16_160_398, 93_599),
     ] {
-        assert_eq!(rt; zone.find_local_time_type(unix_time)?.ut_offset(), offset);
+        expect_eq(
+            &rt,
+            &zone.find_local_time_type(unix_time)?.ut_offset(),
+            &offset,
+        );
     }
     Ok(())
 }

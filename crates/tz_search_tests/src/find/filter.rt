@@ -5,6 +5,7 @@ ghost use Rattle.std.specs.Prelude.{◌<◌};
 use super::*;
 use tz::datetime::UtcDateTime;
 use tz_base::error::timezone::LocalTimeTypeError;
+use tz_file_tests::samples::expect_eq;
 
 /// Instants and readings a quarter of an hour apart: no clock of these tests changes between them, so no entry lies there.
 const STEP: i64 = 900;
@@ -93,7 +94,7 @@ fn entries_of(
         }
         found => {
             let found = found?;
-            assert_eq!(rt; found.as_slice(), expected.as_slice());
+            expect_eq(rt, &found.as_slice(), &expected.as_slice());
             Ok(found.len())
         }
     }
@@ -121,7 +122,7 @@ fn jumps_that_cross(rt: HostRuntime) -> Result<(), Fail> {
     let rule = None;
     let zone = TimeZoneRef::new(&transitions, &types, &[], &rule)?;
     let entries = entries_by_both(&rt, rt.alloc(), zone, -43_200, 100)?;
-    assert_eq!(rt; entries, 92);
+    expect_eq(&rt, &entries, &92);
     Ok(())
 }
 
@@ -133,9 +134,9 @@ fn the_days_of_a_rule(rt: HostRuntime) -> Result<(), Fail> {
     let zone = TimeZoneRef::new(&[], &types, &[], &rule)?;
     // 2000-03-26, with a jump, and 2000-10-29, with an hour twice.
     let spring = entries_by_both(&rt, rt.alloc(), zone, 954_028_800, 96)?;
-    assert_eq!(rt; spring, 96);
+    expect_eq(&rt, &spring, &96);
     let autumn = entries_by_both(&rt, rt.alloc(), zone, 972_777_600, 96)?;
-    assert_eq!(rt; autumn, 100);
+    expect_eq(&rt, &autumn, &100);
     Ok(())
 }
 
@@ -148,7 +149,7 @@ fn a_rule_after_transitions(rt: HostRuntime) -> Result<(), Fail> {
     let transitions = [first, last];
     let zone = TimeZoneRef::new(&transitions, &types, &[], &rule)?;
     let entries = entries_by_both(&rt, rt.alloc(), zone, -43_200, 200)?;
-    assert_eq!(rt; entries, 200);
+    expect_eq(&rt, &entries, &200);
     Ok(())
 }
 

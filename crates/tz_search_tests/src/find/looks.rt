@@ -3,6 +3,7 @@
 use super::*;
 use tz::datetime::UtcDateTime;
 use tz_base::calendar::Fields;
+use tz_file_tests::samples::expect_eq;
 use tz_zone::inner::effect;
 
 /// The least and the greatest offset of the zone.
@@ -61,7 +62,7 @@ pub(super) fn expect_counted(
     let (list, looks) = DateTime::find_n_counted(
         buf, year, month, month_day, hour, minute, second, 0, zone,
     )?;
-    assert_eq!(rt; facts(&list), facts_of(expected, slots));
+    expect_eq(rt, &facts(&list), &facts_of(expected, slots));
     assert!(rt; are_written(list.data(), expected));
     let fields = Fields {
         year,
@@ -79,7 +80,7 @@ pub(super) fn expect_counted(
         .wrapping_add(effects)
         .wrapping_add(4);
     assert!(rt; looks <= bound);
-    assert_eq!(rt; looks == 0, len == 0);
+    expect_eq(rt, &(looks == 0), &(len == 0));
     Ok(looks)
 }
 
@@ -237,7 +238,7 @@ fn refused_fields_and_years_are_refused_alike(rt: HostRuntime) -> Result<(), Fai
                 .map(|error| format!(in rt.alloc(); "{error}"))
                 .transpose()?,
         );
-        assert_eq!(rt; refused, refused_counted);
+        expect_eq(&rt, &refused, &refused_counted);
         assert!(rt; are_written(&counted, &[]));
     }
     Ok(())

@@ -2,6 +2,7 @@
 
 use super::*;
 use tz_base::refusing::Refusing;
+use tz_file_tests::samples::expect_eq;
 
 /// Of this many allocations that are passed on, with how few a call is refused, if it is.
 const MOST: u64 = 12;
@@ -32,9 +33,9 @@ fn growths(
     let mut growths = 0u64;
     for left in 0..MOST {
         let (found, refused) = found_with(alloc, left, zone, reading)?;
-        assert_eq!(rt; refused, u64::from(found.is_none()));
+        expect_eq(rt, &refused, &u64::from(found.is_none()));
         match found {
-            Some(found) => assert_eq!(rt; found.as_slice(), expected),
+            Some(found) => expect_eq(rt, &found.as_slice(), &expected),
             None => growths = left + 1,
         }
     }
@@ -73,7 +74,7 @@ fn nothing_is_found_without_memory(rt: HostRuntime) -> Result<(), Fail> {
     let rule = None;
     let zone = TimeZoneRef::new(&transitions, &types, &[], &rule)?;
     let growths = growths(&rt, rt.alloc(), zone, (1970, 1, 1, 5, 0, 0), &[])?;
-    assert_eq!(rt; growths, 0);
+    expect_eq(&rt, &growths, &0);
     Ok(())
 }
 
@@ -113,7 +114,7 @@ fn copied_with(rt: &impl Abort, alloc: Global, left: u64) -> Result<(Outcome, u6
         return Ok((Outcome::NotFound, heap.refused(), heap.held()));
     };
     let (kept, is_equal) = copied(alloc, list)?;
-    assert_eq!(rt; kept.as_slice(), found.as_slice());
+    expect_eq(rt, &kept.as_slice(), &found.as_slice());
     assert!(rt; is_equal != Some(false));
     let outcome = if is_equal.is_some() {
         Outcome::Copied
@@ -129,14 +130,14 @@ fn a_copy_with_each_growth_refused(rt: HostRuntime) -> Result<(), Fail> {
     let mut refusals = 0u64;
     for left in 0..MOST {
         let (outcome, refused, held) = copied_with(&rt, rt.alloc(), left)?;
-        assert_eq!(rt; refused, u64::from(outcome != Outcome::Copied));
-        assert_eq!(rt; held, 0);
+        expect_eq(&rt, &refused, &u64::from(outcome != Outcome::Copied));
+        expect_eq(&rt, &held, &0);
         if outcome == Outcome::NotCopied {
             refusals = left + 1;
         }
         last = outcome;
     }
     assert!(rt; refusals > 1);
-    assert_eq!(rt; last, Outcome::Copied);
+    expect_eq(&rt, &last, &Outcome::Copied);
     Ok(())
 }

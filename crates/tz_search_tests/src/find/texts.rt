@@ -1,6 +1,7 @@
 //! Searches whose entries are compared as texts, with their fields and the names of their types.
 
 use super::*;
+use tz_file_tests::samples::expect_eq;
 use tz_zone::timezone::TimeZone;
 
 /// The name of the date time's type, or `-`.
@@ -71,8 +72,12 @@ pub(super) fn expect_texts(
     rows: &[(Reading, &str)],
 ) -> Result<(), TzError> {
     for (reading, expected) in rows {
-        assert_eq!(rt; texts(alloc, zone, *reading)?.as_str(), *expected);
-        assert_eq!(rt; texts_of_slots(alloc, zone, *reading)?.as_str(), *expected);
+        expect_eq(rt, &texts(alloc, zone, *reading)?.as_str(), expected);
+        expect_eq(
+            rt,
+            &texts_of_slots(alloc, zone, *reading)?.as_str(),
+            expected,
+        );
         let found = summaries(alloc, find(alloc, zone, *reading)?)?;
         expect_found(rt, alloc, zone, *reading, &found)?;
     }
@@ -279,7 +284,7 @@ const JERUSALEM: &[u8] =
 
 #[test]
 fn a_rule_of_a_file(rt: HostRuntime) -> Result<(), Fail> {
-    assert_eq!(rt; JERUSALEM.len(), 147);
+    expect_eq(&rt, &JERUSALEM.len(), &147);
     let zone = TimeZone::from_tz_data(rt.alloc(), JERUSALEM)?;
     expect_texts(
         &rt,

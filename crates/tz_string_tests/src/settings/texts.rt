@@ -5,7 +5,7 @@ use std::alloc::Global;
 use std::process::Abort;
 use std::test::Fail;
 use tz_base::error::{Error, ReadFault};
-use tz_file_tests::samples::extended_rule;
+use tz_file_tests::samples::{expect_eq_at, extended_rule};
 use tz_zone::timezone::{TimeZone, TimeZoneRef, TimeZoneSettings, TransitionRule};
 
 /// Texts that are refused, and the refusal's text.
@@ -95,7 +95,7 @@ fn clocks_turn_when_the_text_says(rt: HostRuntime) -> Result<(), Fail> {
         (970_322_400, 46_800),
     ] {
         let local_time_type = zone.find_local_time_type(unix_time)?;
-        assert_eq!(rt; local_time_type.ut_offset(), ut_offset, "at {unix_time}");
+        expect_eq_at(&rt, &unix_time, &local_time_type.ut_offset(), &ut_offset);
     }
     Ok(())
 }
@@ -106,7 +106,7 @@ fn refusals_say_why(rt: HostRuntime) -> Result<(), Fail> {
     for (text, refusal) in REFUSED {
         let error = zone_of(alloc, text).err().ok_or("accepted")?;
         let printed = format!(in alloc; "{error}")?;
-        assert_eq!(rt; printed.as_str(), *refusal, "{text}");
+        expect_eq_at(&rt, &text, &printed.as_str(), refusal);
     }
     Ok(())
 }

@@ -1,6 +1,7 @@
 //! Texts near good ones: their beginnings, and texts with one byte replaced. The answers are those of tz-rs.
 
 use super::*;
+use tz_file_tests::samples::expect_eq_at;
 
 /// Ordinary texts, and what they denote: each type's name and offset from UTC, then each change's day and time of day, in seconds.
 const ORDINARY_READ: &[(&str, &str)] = &[
@@ -357,7 +358,7 @@ fn expect_refusal(
         return Ok(());
     };
     let printed = format!(in alloc; "{error}")?;
-    assert_eq!(rt; printed.as_str(), refusal, "{text}");
+    expect_eq_at(rt, &text, &printed.as_str(), &refusal);
     Ok(())
 }
 

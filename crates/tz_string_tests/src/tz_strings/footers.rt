@@ -1,7 +1,7 @@
 //! The texts in the footers of the time zone database's files, as of 2025, and the rules that they denote by tz-rs.
 
 use super::*;
-use tz_file_tests::samples::without_transitions;
+use tz_file_tests::samples::{expect_eq_at, without_transitions};
 use tz_zone::timezone::TimeZone;
 
 /// Ordinary texts, and what they denote: each type's name and offset from UTC, then each change's day and time of day, in seconds.
@@ -224,7 +224,7 @@ fn settings_read_ordinary_footers(rt: HostRuntime) -> Result<(), Fail> {
     for (text, _) in ORDINARY {
         let rule = extended_rule(rt.alloc(), text)?;
         assert!(rt; rule.is_some());
-        assert_eq!(rt; ordinary_rule(rt.alloc(), text)?, rule, "{text}");
+        expect_eq_at(&rt, &text, &ordinary_rule(rt.alloc(), text)?, &rule);
     }
     Ok(())
 }

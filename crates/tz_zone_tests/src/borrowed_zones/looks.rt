@@ -4,6 +4,7 @@ use std::alloc::{AllocError, Allocator, Global};
 use std::process::Abort;
 use std::test::Fail;
 use tz_base::error::TzError;
+use tz_file_tests::samples::expect_eq;
 use tz_zone::inner;
 use tz_zone::timezone::{LeapSecond, LocalTimeType, TimeZoneRef, Transition};
 
@@ -56,10 +57,10 @@ fn looks_at(rt: &impl Abort, zone: &TimeZoneRef<'_>, unix_time: i64) -> u64 {
     let (answer, looks) = zone.find_local_time_type_counted(unix_time);
     let offset = answer.ok().map(|found| found.ut_offset());
     let uncounted = zone.find_local_time_type(unix_time).ok();
-    assert_eq!(rt; offset, uncounted.map(|found| found.ut_offset()));
-    assert_eq!(rt; offset, counted_offset(zone, unix_time));
+    expect_eq(rt, &offset, &uncounted.map(|found| found.ut_offset()));
+    expect_eq(rt, &offset, &counted_offset(zone, unix_time));
     assert!(rt; looks <= binary_digits(zone.transitions().len()).saturating_add(2));
-    assert_eq!(rt; looks == 0, zone.transitions().is_empty());
+    expect_eq(rt, &(looks == 0), &zone.transitions().is_empty());
     looks
 }
 
@@ -69,7 +70,7 @@ fn a_thousand_transitions(rt: HostRuntime) -> Result<(), Fail> {
     let transitions = transitions_in_turn(rt.alloc(), 1024)?;
     let zone = TimeZoneRef::new(&transitions, &types, &[], &None).map_err(|_| "no zone")?;
     let (answer, looks) = zone.find_local_time_type_counted(499_999_999);
-    assert_eq!(rt; answer.ok(), types.get(1));
+    expect_eq(&rt, &answer.ok(), &types.get(1));
     assert!(rt; 1 <= looks && looks <= 13, "{looks} looks");
     Ok(())
 }
@@ -81,8 +82,8 @@ fn no_transition_and_one(rt: HostRuntime) -> Result<(), Fail> {
     let transitions = transitions_in_turn(rt.alloc(), 1)?;
     let one = TimeZoneRef::new(&transitions, &types, &[], &None).map_err(|_| "no zone")?;
     for unix_time in [i64::MIN, -1, 0, 1, i64::MAX] {
-        assert_eq!(rt; looks_at(&rt, &none, unix_time), 0);
-        assert_eq!(rt; looks_at(&rt, &one, unix_time), 1);
+        expect_eq(&rt, &looks_at(&rt, &none, unix_time), &0);
+        expect_eq(&rt, &looks_at(&rt, &one, unix_time), &1);
     }
     Ok(())
 }
@@ -206,9 +207,9 @@ fn refused_lookups_are_counted(rt: HostRuntime) -> Result<(), Fail> {
     let zone = TimeZoneRef::new(&transitions, &types, &leap_seconds, &None).map_err(|_| "no zone")?;
     let (over, looks) = zone.find_local_time_type_counted(i64::MAX - 1);
     assert!(rt; matches!(over, Err(TzError::NoAvailableLocalTimeType)));
-    assert_eq!(rt; looks, 1);
+    expect_eq(&rt, &looks, &1);
     let (out_of_range, looks) = zone.find_local_time_type_counted(i64::MAX);
     assert!(rt; matches!(out_of_range, Err(TzError::OutOfRange)));
-    assert_eq!(rt; looks, 1);
+    expect_eq(&rt, &looks, &1);
     Ok(())
 }

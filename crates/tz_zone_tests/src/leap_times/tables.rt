@@ -4,6 +4,7 @@ use super::*;
 use std::alloc::{AllocError, Global};
 use std::process::Abort;
 use std::test::Fail;
+use tz_file_tests::samples::expect_eq;
 
 /// The leap time by the records in turn: each one reached moves it, and it has to stay in 64 bits.
 fn leap_by_records(leap_seconds: &[LeapSecond], unix_time: i64) -> Option<i64> {
@@ -69,9 +70,10 @@ fn expect_definitions(
 ) {
     for step in -6..=6i64 {
         let unix_time = unix_time.saturating_add(step);
-        assert_eq!(rt;
-            leap_of(leap_seconds, unix_time).ok(),
-            leap_by_records(leap_seconds, unix_time)
+        expect_eq(
+            rt,
+            &leap_of(leap_seconds, unix_time).ok(),
+            &leap_by_records(leap_seconds, unix_time),
         );
         expect_effect(rt, leap_seconds, unix_leap_time.saturating_add(step));
     }
@@ -165,15 +167,17 @@ fn tables_of_all_kinds(rt: HostRuntime) -> Result<(), Fail> {
 fn an_expiry_one_second_behind(rt: HostRuntime) {
     let leap_seconds = [LeapSecond::new(0, 1), LeapSecond::new(1, 1)];
     for (unix_time, unix_leap_time) in [(-1, -1), (0, 1), (1, 2)] {
-        assert_eq!(rt;
-            leap_of(&leap_seconds, unix_time).ok(),
-            Some(unix_leap_time)
+        expect_eq(
+            &rt,
+            &leap_of(&leap_seconds, unix_time).ok(),
+            &Some(unix_leap_time),
         );
     }
     for (unix_leap_time, unix_time) in [(-1, -1), (0, 0), (1, 0), (2, 1)] {
-        assert_eq!(rt;
-            effect_of(&leap_seconds, unix_leap_time).ok(),
-            Some(unix_time)
+        expect_eq(
+            &rt,
+            &effect_of(&leap_seconds, unix_leap_time).ok(),
+            &Some(unix_time),
         );
     }
 }
@@ -189,20 +193,23 @@ fn a_table_that_begins_later(rt: HostRuntime) {
         assert!(rt; is_out_of_range(leap_of(&leap_seconds, unix_time)));
     }
     for unix_time in [1_483_228_799, 1_483_228_800, 1_700_000_000] {
-        assert_eq!(rt;
-            leap_of(&leap_seconds, unix_time).ok(),
-            Some(unix_time.wrapping_add(27))
+        expect_eq(
+            &rt,
+            &leap_of(&leap_seconds, unix_time).ok(),
+            &Some(unix_time.wrapping_add(27)),
         );
     }
     for unix_leap_time in [i64::MIN + 1, 0, 1_483_228_826] {
-        assert_eq!(rt;
-            effect_of(&leap_seconds, unix_leap_time).ok(),
-            Some(1_483_228_799)
+        expect_eq(
+            &rt,
+            &effect_of(&leap_seconds, unix_leap_time).ok(),
+            &Some(1_483_228_799),
         );
     }
     assert!(rt; is_out_of_range(effect_of(&leap_seconds, i64::MIN)));
-    assert_eq!(rt;
-        effect_of(&leap_seconds, 1_483_228_827).ok(),
-        Some(1_483_228_800)
+    expect_eq(
+        &rt,
+        &effect_of(&leap_seconds, 1_483_228_827).ok(),
+        &Some(1_483_228_800),
     );
 }

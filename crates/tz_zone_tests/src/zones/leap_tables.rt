@@ -1,6 +1,7 @@
 //! Leap-second tables that begin later or expire.
 
 use super::*;
+use tz_file_tests::samples::expect_eq;
 
 /// One leap second is known, and the table begins with it.
 const LATE: Parts<'static> = Parts {
@@ -32,7 +33,7 @@ fn tables_expire(rt: HostRuntime) -> Result<(), Fail> {
         (&[(0, 1), (2_419_199, 2), (2_419_200, 2)], Some(2_419_200)),
         (&[(0, -5), (i64::MAX, -5)], Some(i64::MAX)),
     ] {
-        assert_eq!(rt; expiry(rt.alloc(), leap_seconds)?, expected);
+        expect_eq(&rt, &expiry(rt.alloc(), leap_seconds)?, &expected);
     }
     Ok(())
 }
