@@ -1,5 +1,6 @@
 //! Date times: instants and fields with their answers, the ends of the years, order, arithmetic and printing.
 
+use crate::expect::expect_eq;
 use std::alloc::{AllocError, Global};
 use std::cmp::Ordering;
 use std::fmt::Display;
@@ -9,7 +10,6 @@ use std::time::Duration;
 use tz::datetime::{DateTime, UtcDateTime};
 use tz_base::error::TzError;
 use tz_base::error::datetime::DateTimeError;
-use tz_file_tests::samples::expect_eq;
 use tz_zone::timezone::{LocalTimeType, TimeZone, TimeZoneRef, Transition};
 
 /// The date time prints as the text.

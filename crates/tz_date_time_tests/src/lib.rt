@@ -6,4 +6,6 @@ mod date_times;
 #[cfg(test)]
 mod examples;
 #[cfg(test)]
+mod expect;
+#[cfg(test)]
 mod printed;

@@ -1,8 +1,8 @@
 //! Printed date times at the limits of their parts.
 
+use crate::expect::expect_eq;
 use std::test::Fail;
 use tz::inner::{Fields, TextBuffer};
-use tz_file_tests::samples::expect_eq;
 
 /// Prints fields and an offset.
 fn printed(fields: Fields, ut_offset: i32) -> TextBuffer {

@@ -2,7 +2,7 @@
 
 mod failing;
 
-use crate::samples::expect_eq;
+use crate::expect::expect_eq;
 use std::test::Fail;
 use std::{env, fs, process};
 use tz_base::error::{Error, ReadFault};

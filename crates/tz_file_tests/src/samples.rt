@@ -2,8 +2,6 @@
 
 use anyhow::anyhow;
 use std::alloc::{AllocError, Global};
-use std::fmt::{Debug, Display};
-use std::process::Abort;
 use tz_base::error::parse::{TzFileError, TzStringError};
 use tz_base::error::timezone::{LocalTimeTypeError, TimeZoneError, TransitionRuleError};
 use tz_base::error::{Error, ReadFault, TzError};
@@ -123,19 +121,4 @@ pub fn central_europe() -> Result<AlternateTime, TzError> {
         10_800,
     )?;
     Ok(rule)
-}
-
-/// The values are equal. The proof of a test walks through each `assert_eq!` anew, and through a call of this in a fraction of that.
-pub fn expect_eq<T: Debug + PartialEq>(rt: &impl Abort, found: &T, wanted: &T) {
-    assert_eq!(rt; *found, *wanted);
-}
-
-/// The values at a place of a table are equal.
-pub fn expect_eq_at<T: Debug + PartialEq>(
-    rt: &impl Abort,
-    place: &impl Display,
-    found: &T,
-    wanted: &T,
-) {
-    assert_eq!(rt; *found, *wanted, "{place}");
 }

@@ -1,8 +1,7 @@
 //! TZif files: vectors and the zones that they denote, footers, and refused memory.
 
-use crate::samples::{
-    Fault, expect_eq, expect_eq_at, named, push_header, utc_v1, without_transitions,
-};
+use crate::expect::{expect_eq, expect_eq_at};
+use crate::samples::{Fault, named, push_header, utc_v1, without_transitions};
 use std::alloc::{AllocError, Allocator, Global};
 use std::process::Abort;
 use std::test::Fail;

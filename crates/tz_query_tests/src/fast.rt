@@ -1,5 +1,6 @@
 //! The fast answers beside the plain ones.
 
+use crate::expect::expect_eq;
 use std::alloc::Global;
 use std::process::Abort;
 use std::test::Fail;
@@ -9,7 +10,7 @@ use tz::timezone::{
     Transition, TransitionRule,
 };
 use tz::{LocalTimeType, TimeZoneRef, TzError};
-use tz_file_tests::samples::{central_europe as central_europe_rule, expect_eq};
+use tz_file_tests::samples::central_europe as central_europe_rule;
 use tz_query::inner::answer_line;
 use tz_query::query::answer;
 

@@ -1,10 +1,10 @@
 //! Query lines, by rows and by another program's answers.
 
+use crate::expect::{expect_eq, expect_eq_at};
 use std::alloc::Allocator;
 use std::test::Fail;
 use tz::{LocalTimeType, TimeZone, TimeZoneRef, TzError};
 use tz_base::refusing::Refusing;
-use tz_file_tests::samples::{expect_eq, expect_eq_at};
 use tz_query::query::answer;
 
 /// The answers over a fixed zone.

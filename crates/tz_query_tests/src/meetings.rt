@@ -1,10 +1,10 @@
 //! `W` lines over zones whose answers are known.
 
+use crate::expect::{expect_eq, expect_eq_at};
 use crate::samples::central_europe;
 use std::test::Fail;
 use tz::{TimeZoneRef, TzError, UtcDateTime};
 use tz_base::refusing::Refusing;
-use tz_file_tests::samples::{expect_eq, expect_eq_at};
 use tz_query::query::answer;
 
 /// Three weeks over a jump of the clock of Central Europe, and their answer.

@@ -1,12 +1,13 @@
 //! The program's answers, and its faults with their lines and statuses, by rows.
 
+use crate::expect::expect_eq;
 use crate::failing::{FailingReader, FailingWriter};
 use anyhow::anyhow;
 use std::alloc::{AllocError, Global};
 use std::test::Fail;
 use tz::error::ReadFault;
 use tz_base::refusing::Refusing;
-use tz_file_tests::samples::{UTC_V1, expect_eq};
+use tz_file_tests::samples::UTC_V1;
 use tz_query::query::tool;
 
 /// A file of version 4 with one type, UTC, and leap seconds from 2016 on that expire.

@@ -1,5 +1,6 @@
 //! `F` lines over zones whose answers are known.
 
+use crate::expect::{expect_eq, expect_eq_at};
 use crate::samples::central_europe;
 use std::alloc::{Allocator, Global};
 use std::process::Abort;
@@ -10,7 +11,7 @@ use tz::timezone::{
 };
 use tz::{LocalTimeType, TimeZone, TimeZoneRef, TzError};
 use tz_base::refusing::Refusing;
-use tz_file_tests::samples::{JERUSALEM_V3, expect_eq, expect_eq_at};
+use tz_file_tests::samples::JERUSALEM_V3;
 use tz_query::query::answer;
 
 /// The queries have these answers.

@@ -1,11 +1,11 @@
 //! Runs over streams that fail and with memory that is refused, by rows.
 
+use crate::expect::{expect_eq, expect_eq_at};
 use crate::failing::{FailingReader, FailingWriter};
 use crate::samples::central_europe;
 use std::alloc::Global;
 use std::test::Fail;
 use tz_base::refusing::Refusing;
-use tz_file_tests::samples::{expect_eq, expect_eq_at};
 use tz_query::query::{RunFault, run};
 
 /// Two lines, the second without an end.

@@ -1,10 +1,11 @@
 //! Answers over TZif files, by rows.
 
+use crate::expect::{expect_eq, expect_eq_at};
 use std::alloc::{AllocError, Global};
 use std::test::Fail;
 use tz::{TimeZone, TzError};
 use tz_base::refusing::Refusing;
-use tz_file_tests::samples::{JERUSALEM_V3, UTC_V1, expect_eq, expect_eq_at};
+use tz_file_tests::samples::{JERUSALEM_V3, UTC_V1};
 use tz_query::query::{answer, answer_tzif};
 
 /// The answers, or the text of the refusal.

@@ -1,8 +1,8 @@
 //! The constants beside the calendar, and beside one another.
 
+use crate::expect::{expect_eq, expect_eq_at};
 use tz_base::calendar;
 use tz_base::constants::*;
-use tz_file_tests::samples::{expect_eq, expect_eq_at};
 
 #[test]
 fn units_are_made_of_smaller_ones(rt: HostRuntime) {
@@ -64,7 +64,7 @@ fn tables_of_months_are_the_calendar_s(rt: HostRuntime) {
             days_before(2001, month),
             days_before(2000, month),
         );
-        expect_eq_at(&rt, &month, &(months(usize::from(month) - 1)), &Some(days));
+        expect_eq_at(&rt, &month, &months(usize::from(month) - 1), &Some(days));
     }
 }
 

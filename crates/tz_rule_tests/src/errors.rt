@@ -1,5 +1,6 @@
 //! The texts of the errors, and what `?` makes of them.
 
+use crate::expect::expect_eq;
 use std::alloc::{AllocError, Global};
 use std::fmt::Display;
 use std::process::Abort;
@@ -8,7 +9,6 @@ use tz_base::error::datetime::DateTimeError;
 use tz_base::error::parse::{ParseDataError, TzFileError, TzStringError};
 use tz_base::error::timezone::{LocalTimeTypeError, TimeZoneError, TransitionRuleError};
 use tz_base::error::{Error, ReadFault, TzError};
-use tz_file_tests::samples::expect_eq;
 
 /// The error prints as the text.
 fn expect_text(

@@ -8,6 +8,8 @@ mod constants;
 #[cfg(test)]
 mod errors;
 #[cfg(test)]
+mod expect;
+#[cfg(test)]
 mod local_time_types;
 #[cfg(test)]
 mod refusing;

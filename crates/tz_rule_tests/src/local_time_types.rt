@@ -1,8 +1,8 @@
 //! Names of every length and byte, the parts of a type, and which refusal comes first.
 
+use crate::expect::{expect_eq, expect_eq_at};
 use std::test::Fail;
 use tz_base::error::timezone::LocalTimeTypeError;
-use tz_file_tests::samples::{expect_eq, expect_eq_at};
 use tz_rule::timezone::LocalTimeType;
 
 /// The refusal of a type with this name, if it is refused.

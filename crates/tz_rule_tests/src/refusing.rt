@@ -1,9 +1,9 @@
 //! The allocator that refuses, and what collections hold once it has refused.
 
+use crate::expect::expect_eq;
 use std::alloc::{AllocError, Allocator};
 use std::test::Fail;
 use tz_base::refusing::Refusing;
-use tz_file_tests::samples::expect_eq;
 
 fn joined<A: Allocator + Copy>(alloc: A, words: &[&str]) -> Result<String<A>, AllocError> {
     let mut parts = Vec::new(alloc);

@@ -4,10 +4,10 @@ mod consistency;
 mod stretches;
 mod years;
 
+use crate::expect::{expect_eq, expect_eq_at};
 use std::test::Fail;
 use tz_base::error::TzError;
 use tz_base::error::timezone::{LocalTimeTypeError, TransitionRuleError};
-use tz_file_tests::samples::{expect_eq, expect_eq_at};
 use tz_rule::inner;
 use tz_rule::timezone::{
     AlternateTime, Julian0WithLeap, Julian1WithoutLeap, LocalTimeType, MonthWeekDay, RuleDay,

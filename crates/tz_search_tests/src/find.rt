@@ -20,7 +20,8 @@ mod memory;
 mod texts;
 mod zones;
 
-use tz_file_tests::samples::{central_europe, expect_eq};
+use crate::expect::expect_eq;
+use tz_file_tests::samples::central_europe;
 use zones::{crossing, far_offset};
 
 /// A Unix time, and the offsets before it and at it; those of a date time that is shown are the same.

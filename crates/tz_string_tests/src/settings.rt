@@ -1,5 +1,6 @@
 //! What the settings ask of the reader, and what they answer.
 
+use crate::expect::{expect_eq, expect_eq_at};
 use anyhow::anyhow;
 use std::alloc::{AllocError, Allocator, Global};
 use std::cell::Cell;
@@ -8,7 +9,7 @@ use std::test::Fail;
 use tz_base::error::parse::{ParseDataError, TzFileError, TzStringError};
 use tz_base::error::{Error, ReadFault};
 use tz_base::refusing::Refusing;
-use tz_file_tests::samples::{Fault, expect_eq, expect_eq_at, named_by_settings as named, utc_v1};
+use tz_file_tests::samples::{Fault, named_by_settings as named, utc_v1};
 use tz_zone::timezone::{
     DEFAULT_DIRECTORIES, LocalTimeType, TimeZone, TimeZoneSettings, TransitionRule,
 };

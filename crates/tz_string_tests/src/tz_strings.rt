@@ -3,15 +3,14 @@
 mod altered;
 mod footers;
 
+use crate::expect::{expect_eq, expect_eq_at};
 use std::alloc::Global;
 use std::process::Abort;
 use std::test::Fail;
 use tz_base::error::Error;
 use tz_base::error::parse::{ParseDataError, TzStringError};
 use tz_base::error::timezone::{LocalTimeTypeError, TransitionRuleError};
-use tz_file_tests::samples::{
-    Fault, expect_eq, expect_eq_at, extended_rule, named, named_by_settings, ordinary_rule,
-};
+use tz_file_tests::samples::{Fault, extended_rule, named, named_by_settings, ordinary_rule};
 use tz_zone::timezone::{
     AlternateTime, Julian0WithLeap, Julian1WithoutLeap, LocalTimeType, MonthWeekDay, RuleDay,
     TransitionRule,

@@ -2,8 +2,8 @@
 
 mod looks;
 
+use crate::expect::expect_eq;
 use std::test::Fail;
-use tz_file_tests::samples::expect_eq;
 use tz_zone::timezone::{LocalTimeType, TimeZone, TimeZoneRef};
 
 #[test]

@@ -2,8 +2,8 @@
 
 mod tables;
 
+use crate::expect::expect_eq;
 use tz_base::error::TzError;
-use tz_file_tests::samples::expect_eq;
 use tz_zone::inner::{effect, leap};
 use tz_zone::timezone::{LeapSecond, LocalTimeType, TimeZoneRef};
 

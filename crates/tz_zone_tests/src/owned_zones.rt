@@ -1,11 +1,11 @@
 //! Zones that own their parts: with memory enough, and with each growth refused in turn.
 
+use crate::expect::{expect_eq, expect_eq_at};
 use std::alloc::{AllocError, Allocator};
 use std::test::Fail;
 use tz_base::error::TzError;
 use tz_base::error::timezone::{LocalTimeTypeError, TimeZoneError};
 use tz_base::refusing::Refusing;
-use tz_file_tests::samples::{expect_eq, expect_eq_at};
 use tz_zone::timezone::{
     LeapSecond, LocalTimeType, TimeZone, TimeZoneRef, Transition, TransitionRule,
 };

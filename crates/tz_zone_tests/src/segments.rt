@@ -1,8 +1,9 @@
 //! Segments of zones with an alternate rule, from its seam on, beside the types at their instants.
 
+use crate::expect::expect_eq_at;
 use std::process::Abort;
 use tz_base::error::TzError;
-use tz_file_tests::samples::{central_europe, expect_eq_at};
+use tz_file_tests::samples::central_europe;
 use tz_zone::inner::segment_at;
 use tz_zone::timezone::{
     AlternateTime, LeapSecond, LocalTimeType, MonthWeekDay, RuleDay, TimeZoneRef, Transition,

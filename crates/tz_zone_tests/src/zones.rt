@@ -3,6 +3,7 @@
 mod leap_tables;
 mod rules;
 
+use crate::expect::{expect_eq, expect_eq_at};
 use std::alloc::{Allocator, Global};
 use std::process::Abort;
 use std::test::Fail;
@@ -12,7 +13,6 @@ use tz_base::error::timezone::TimeZoneError::{
     NoLocalTimeType,
 };
 use tz_base::error::timezone::{LocalTimeTypeError, TimeZoneError};
-use tz_file_tests::samples::{expect_eq, expect_eq_at};
 use tz_zone::timezone::{
     LeapSecond, LocalTimeType, TimeZone, TimeZoneRef, Transition, TransitionRule,
 };

@@ -4,9 +4,10 @@ use super::clocks::{new_year_an_hour_behind, print_instant, show_now};
 use super::meetings::{alarm, count_meanings, next_monday_at_nine, weekly_meetings};
 use super::queries::answer_lines;
 use super::zones::{local_time, local_zone, moved_ahead_in_2000, zone_of_setting};
+use crate::expect::expect_eq;
 use std::test::Fail;
 use tz::{Error, UtcDateTime};
-use tz_file_tests::samples::{JERUSALEM_V3, expect_eq};
+use tz_file_tests::samples::JERUSALEM_V3;
 
 /// The clocks of central Europe.
 const CENTRAL_EUROPE: &str = "CET-1CEST,M3.5.0,M10.5.0/3";

@@ -1,6 +1,6 @@
 //! The reader of files, over readers in memory that fail.
 
-use crate::samples::{expect_eq, expect_eq_at};
+use crate::expect::{expect_eq, expect_eq_at};
 use std::alloc::{Allocator, Global};
 use std::io::{self, Read};
 use std::test::Fail;

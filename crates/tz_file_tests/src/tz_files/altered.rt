@@ -1,7 +1,7 @@
 //! Files that are cut short, and files with bytes altered.
 
 use super::*;
-use crate::samples::{expect_eq, expect_eq_at};
+use crate::expect::{expect_eq, expect_eq_at};
 
 #[test]
 fn cut_files_are_refused(rt: HostRuntime) -> Result<(), Fail> {

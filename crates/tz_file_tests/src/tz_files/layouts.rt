@@ -1,7 +1,8 @@
 //! Files as compilers of time zones lay them out: fat ones, slim ones, and ones with leap seconds.
 
 use super::*;
-use crate::samples::{central_europe, expect_eq, expect_eq_at};
+use crate::expect::{expect_eq, expect_eq_at};
+use crate::samples::central_europe;
 
 /// What a unit holds: transitions with their types, types with the places of their names, names, leap seconds, and both lists of
 /// indicators, which are alike.

@@ -2,7 +2,7 @@
 
 use super::altered::accepted_alterations;
 use super::*;
-use crate::samples::{expect_eq, expect_eq_at};
+use crate::expect::{expect_eq, expect_eq_at};
 
 /// UTC with a table that begins at the end of 2016 and expires.
 fn utc_v4(alloc: Global) -> Result<Vec<u8>, AllocError> {

@@ -1,7 +1,7 @@
 //! Rules whose days are near each other: which are consistent, with one day's time a second earlier, as it is, and a second later.
 
+use crate::expect::expect_eq_at;
 use tz_base::error::timezone::TransitionRuleError;
-use tz_file_tests::samples::expect_eq_at;
 use tz_rule::timezone::{
     AlternateTime, Julian0WithLeap, Julian1WithoutLeap, LocalTimeType, MonthWeekDay, RuleDay,
 };

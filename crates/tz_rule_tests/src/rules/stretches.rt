@@ -1,7 +1,7 @@
 //! Stretches of rules beside the types at their instants.
 
 use super::{Refusal, j, m, rule, start_in, z};
-use tz_file_tests::samples::expect_eq;
+use crate::expect::expect_eq;
 use tz_rule::inner::{self, Stretch};
 use tz_rule::timezone::{AlternateTime, TransitionRule};
 

@@ -2,7 +2,7 @@
 
 use super::texts::{expect_texts, expect_texts_by_rule};
 use super::*;
-use tz_file_tests::samples::expect_eq;
+use crate::expect::expect_eq;
 
 /// A rule with the greatest and the least offset and the latest and the earliest times that a rule may have. No TZ string denotes it.
 fn widest() -> Result<AlternateTime, TzError> {

@@ -3,9 +3,9 @@
 ghost use Rattle.std.specs.Prelude.{◌<◌};
 
 use super::*;
+use crate::expect::expect_eq;
 use tz::datetime::UtcDateTime;
 use tz_base::error::timezone::LocalTimeTypeError;
-use tz_file_tests::samples::expect_eq;
 
 /// Instants and readings a quarter of an hour apart: no clock of these tests changes between them, so no entry lies there.
 const STEP: i64 = 900;

@@ -1,9 +1,9 @@
 //! Counted looks of searches, beside bounds that are computed from all transitions.
 
 use super::*;
+use crate::expect::expect_eq;
 use tz::datetime::UtcDateTime;
 use tz_base::calendar::Fields;
-use tz_file_tests::samples::expect_eq;
 use tz_zone::inner::effect;
 
 /// The least and the greatest offset of the zone.

@@ -1,8 +1,8 @@
 //! Searches and copies with each growth refused in turn.
 
 use super::*;
+use crate::expect::expect_eq;
 use tz_base::refusing::Refusing;
-use tz_file_tests::samples::expect_eq;
 
 /// Of this many allocations that are passed on, with how few a call is refused, if it is.
 const MOST: u64 = 12;

@@ -1,7 +1,7 @@
 //! Searches whose entries are compared as texts, with their fields and the names of their types.
 
 use super::*;
-use tz_file_tests::samples::expect_eq;
+use crate::expect::expect_eq;
 use tz_zone::timezone::TimeZone;
 
 /// The name of the date time's type, or `-`.

@@ -1,11 +1,12 @@
 //! Texts that the settings read where there is no file: the zones that they denote, and refusals.
 
+use crate::expect::expect_eq_at;
 use anyhow::anyhow;
 use std::alloc::Global;
 use std::process::Abort;
 use std::test::Fail;
 use tz_base::error::{Error, ReadFault};
-use tz_file_tests::samples::{expect_eq_at, extended_rule};
+use tz_file_tests::samples::extended_rule;
 use tz_zone::timezone::{TimeZone, TimeZoneRef, TimeZoneSettings, TransitionRule};
 
 /// Texts that are refused, and the refusal's text.

@@ -1,7 +1,7 @@
 //! Texts near good ones: their beginnings, and texts with one byte replaced. The answers are those of tz-rs.
 
 use super::*;
-use tz_file_tests::samples::expect_eq_at;
+use crate::expect::expect_eq_at;
 
 /// Ordinary texts, and what they denote: each type's name and offset from UTC, then each change's day and time of day, in seconds.
 const ORDINARY_READ: &[(&str, &str)] = &[

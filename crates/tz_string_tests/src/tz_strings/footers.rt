@@ -1,7 +1,8 @@
 //! The texts in the footers of the time zone database's files, as of 2025, and the rules that they denote by tz-rs.
 
 use super::*;
-use tz_file_tests::samples::{expect_eq_at, without_transitions};
+use crate::expect::expect_eq_at;
+use tz_file_tests::samples::without_transitions;
 use tz_zone::timezone::TimeZone;
 
 /// Ordinary texts, and what they denote: each type's name and offset from UTC, then each change's day and time of day, in seconds.

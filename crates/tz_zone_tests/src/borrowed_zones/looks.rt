@@ -1,10 +1,10 @@
 //! How many looks a lookup takes, and that it finds what a plain count finds.
 
+use crate::expect::expect_eq;
 use std::alloc::{AllocError, Allocator, Global};
 use std::process::Abort;
 use std::test::Fail;
 use tz_base::error::TzError;
-use tz_file_tests::samples::expect_eq;
 use tz_zone::inner;
 use tz_zone::timezone::{LeapSecond, LocalTimeType, TimeZoneRef, Transition};
 

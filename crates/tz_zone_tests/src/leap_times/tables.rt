@@ -1,10 +1,10 @@
 //! Leap times and effects beside their definitions, over tables that begin later, expire or end with 64 bits.
 
 use super::*;
+use crate::expect::expect_eq;
 use std::alloc::{AllocError, Global};
 use std::process::Abort;
 use std::test::Fail;
-use tz_file_tests::samples::expect_eq;
 
 /// The leap time by the records in turn: each one reached moves it, and it has to stay in 64 bits.
 fn leap_by_records(leap_seconds: &[LeapSecond], unix_time: i64) -> Option<i64> {

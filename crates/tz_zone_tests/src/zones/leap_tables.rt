@@ -1,7 +1,7 @@
 //! Leap-second tables that begin later or expire.
 
 use super::*;
-use tz_file_tests::samples::expect_eq;
+use crate::expect::expect_eq;
 
 /// One leap second is known, and the table begins with it.
 const LATE: Parts<'static> = Parts {

@@ -1,7 +1,7 @@
 //! Searches around the start and the expiry of leap-second tables, beside the filter of each second.
 
 use super::*;
-use tz_file_tests::samples::expect_eq;
+use crate::expect::expect_eq;
 
 /// The leap time at which the tables of these tests begin.
 const START: i64 = 1_483_228_826;

@@ -1,0 +1,19 @@
+//! Comparisons of tests. The proof of a test walks through each `assert_eq!` where it is written out, and through a call of these much faster.
+
+use std::fmt::{Debug, Display};
+use std::process::Abort;
+
+/// The values are equal.
+pub(crate) fn expect_eq<T: Debug + PartialEq>(rt: &impl Abort, found: &T, wanted: &T) {
+    assert_eq!(rt; *found, *wanted);
+}
+
+/// The values at a place of a table are equal.
+pub(crate) fn expect_eq_at<T: Debug + PartialEq>(
+    rt: &impl Abort,
+    place: &impl Display,
+    found: &T,
+    wanted: &T,
+) {
+    assert_eq!(rt; *found, *wanted, "{place}");
+}
