@@ -276,7 +276,7 @@ fn the_reader_s_fault_is_handed_on(rt: HostRuntime) -> Result<(), Fail> {
             return Ok(());
         };
         let printed = format!(in alloc; "{error}")?;
-        expect_eq_at(&rt, &text, &printed.as_str(), &fault);
+        assert_eq!(rt; printed.as_str(), fault, "{text}");
     }
     Ok(())
 }

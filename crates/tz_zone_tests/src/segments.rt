@@ -47,7 +47,12 @@ fn expect_segment(
     expect_eq_at(rt, &unix_time, &found.number, &number);
     let offset = offset_at(zone, unix_time);
     expect_eq_at(rt, &unix_time, &offset_at(zone, from), &offset);
-    expect_eq_at(rt, &unix_time, &offset_at(zone, until - 1), &offset);
+    expect_eq_at(
+        rt,
+        &unix_time,
+        &offset_at(zone, until.wrapping_sub(1)),
+        &offset,
+    );
 }
 
 #[test]
