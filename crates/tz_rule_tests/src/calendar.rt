@@ -4,6 +4,7 @@ ghost use Rattle.std.specs.Prelude.{◌≡◌, ◌≤◌, negsuc, ◌≤ℤ◌, 
 ghost use Rattle.tz_base.specs.Days.{is_leap, year_length, years_length_from_1970, years_length_before_1970, first_day};
 
 use crate::expect::expect_eq;
+use std::process::Abort;
 use tz_base::calendar::{Fields, days_in_month, is_leap_year, timespec, total_nanoseconds};
 use tz_base::constants::NANOSECONDS_PER_SECOND;
 use tz_base::error::datetime::DateTimeError;
@@ -211,25 +212,28 @@ const INSTANTS: [(i64, i32, u8, u8); 14] = [
     (32540356866, 3001, 3, 1),
 ];
 
+/// The calendar finds the day by its number, and the number by the day.
+fn expect_agrees(rt: &impl Abort, fields: Fields, day: i64, year_day: u16) {
+    let (year, month) = (fields.year, fields.month);
+    assert!(rt; agrees(fields, day, year_day), "{year}-{month}");
+}
+
 #[test]
 fn months_begin_and_end(rt: HostRuntime) {
     let mut year_day = 0u16;
-    for (year, month, length, first) in MONTHS {
-        if month == 1 {
+    for (year, month, length, first) in MONTHS.iter() {
+        if *month == 1 {
             year_day = 0;
         }
-        assert!(rt;
-            agrees(midnight(year, month, 1), first, year_day),
-            "{year}-{month}"
+        expect_agrees(&rt, midnight(*year, *month, 1), *first, year_day);
+        let next = first.wrapping_add(i64::from(*length));
+        year_day = year_day.wrapping_add(u16::from(*length));
+        expect_agrees(
+            &rt,
+            midnight(*year, *month, *length),
+            next.wrapping_sub(1),
+            year_day.wrapping_sub(1),
         );
-        let last = length.wrapping_sub(1);
-        let end = midnight(year, month, length);
-        year_day = year_day.wrapping_add(u16::from(last));
-        assert!(rt;
-            agrees(end, first.wrapping_add(i64::from(last)), year_day),
-            "{year}-{month}"
-        );
-        year_day = year_day.wrapping_add(1);
     }
 }
 

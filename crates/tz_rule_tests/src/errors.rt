@@ -22,168 +22,203 @@ fn expect_text(
     Ok(())
 }
 
-#[test]
-fn part_errors_have_their_texts(rt: HostRuntime) -> Result<(), Fail> {
-    let alloc = rt.alloc();
-    for (error, text) in [
-        (DateTimeError::InvalidMonth, "invalid month"),
-        (DateTimeError::InvalidMonthDay, "invalid month day"),
-        (DateTimeError::InvalidHour, "invalid hour"),
-        (DateTimeError::InvalidMinute, "invalid minute"),
-        (DateTimeError::InvalidSecond, "invalid second"),
-        (DateTimeError::InvalidNanoseconds, "invalid nanoseconds"),
-    ] {
-        expect_text(&rt, alloc, &error, text)?;
-    }
-    for (error, text) in [
-        (
-            LocalTimeTypeError::InvalidTimeZoneDesignationLength,
-            "time zone designation must have between 3 and 7 characters",
-        ),
-        (
-            LocalTimeTypeError::InvalidTimeZoneDesignationChar,
-            "invalid characters in time zone designation",
-        ),
-        (LocalTimeTypeError::InvalidUtcOffset, "invalid UTC offset"),
-    ] {
-        expect_text(&rt, alloc, &error, text)?;
-    }
-    for (error, text) in [
-        (
-            TransitionRuleError::InvalidRuleDayJulianDay,
-            "invalid rule day julian day",
-        ),
-        (
-            TransitionRuleError::InvalidRuleDayMonth,
-            "invalid rule day month",
-        ),
-        (
-            TransitionRuleError::InvalidRuleDayWeek,
-            "invalid rule day week",
-        ),
-        (
-            TransitionRuleError::InvalidRuleDayWeekDay,
-            "invalid rule day week day",
-        ),
-        (
-            TransitionRuleError::InvalidStdUtcOffset,
-            "invalid standard time UTC offset",
-        ),
-        (
-            TransitionRuleError::InvalidDstUtcOffset,
-            "invalid Daylight Saving Time UTC offset",
-        ),
-        (
-            TransitionRuleError::InvalidDstStartEndTime,
-            "invalid DST start or end time",
-        ),
-        (
-            TransitionRuleError::InconsistentRule,
-            "DST transition rules are not consistent from one year to another",
-        ),
-    ] {
-        expect_text(&rt, alloc, &error, text)?;
-    }
-    for (error, text) in [
-        (
-            TimeZoneError::NoLocalTimeType,
-            "list of local time types must not be empty",
-        ),
-        (
-            TimeZoneError::InvalidLocalTimeTypeIndex,
-            "invalid local time type index",
-        ),
-        (TimeZoneError::InvalidTransition, "invalid transition"),
-        (TimeZoneError::InvalidLeapSecond, "invalid leap second"),
-        (
-            TimeZoneError::InconsistentExtraRule,
-            "extra transition rule is inconsistent with the last transition",
-        ),
-    ] {
-        expect_text(&rt, alloc, &error, text)?;
+/// Each error prints as its text.
+fn expect_texts<E: Display>(
+    rt: &impl Abort,
+    alloc: Global,
+    texts: &[(E, &str)],
+) -> Result<(), AllocError> {
+    for (error, text) in texts {
+        expect_text(rt, alloc, error, text)?;
     }
     Ok(())
 }
 
+/// The error prints as the one it was made of.
+fn expect_same_text(
+    rt: &impl Abort,
+    alloc: Global,
+    error: &impl Display,
+    part: &impl Display,
+) -> Result<(), AllocError> {
+    let text = format!(in alloc; "{part}")?;
+    expect_text(rt, alloc, error, text.as_str())
+}
+
+/// An error of numbers, and the one made of it, print the same.
+fn expect_number_text(rt: &impl Abort, alloc: Global) -> Result<(), Fail> {
+    let error = "".parse::<u8>().err().ok_or("no digits are no number")?;
+    let text = format!(in alloc; "{error}")?;
+    expect_text(rt, alloc, &TzStringError::from(error), text.as_str())?;
+    Ok(())
+}
+
+/// An error of the data, and the errors of the readers made of it, print as the text.
+fn expect_data_text(
+    rt: &impl Abort,
+    alloc: Global,
+    error: ParseDataError,
+    text: &str,
+) -> Result<(), AllocError> {
+    expect_text(rt, alloc, &error, text)?;
+    expect_text(rt, alloc, &TzStringError::from(error), text)?;
+    expect_text(rt, alloc, &TzFileError::from(error), text)
+}
+
+#[test]
+fn part_errors_have_their_texts(rt: HostRuntime) -> Result<(), Fail> {
+    let alloc = rt.alloc();
+    expect_texts(
+        &rt,
+        alloc,
+        &[
+            (DateTimeError::InvalidMonth, "invalid month"),
+            (DateTimeError::InvalidMonthDay, "invalid month day"),
+            (DateTimeError::InvalidHour, "invalid hour"),
+            (DateTimeError::InvalidMinute, "invalid minute"),
+            (DateTimeError::InvalidSecond, "invalid second"),
+            (DateTimeError::InvalidNanoseconds, "invalid nanoseconds"),
+        ],
+    )?;
+    expect_texts(
+        &rt,
+        alloc,
+        &[
+            (
+                LocalTimeTypeError::InvalidTimeZoneDesignationLength,
+                "time zone designation must have between 3 and 7 characters",
+            ),
+            (
+                LocalTimeTypeError::InvalidTimeZoneDesignationChar,
+                "invalid characters in time zone designation",
+            ),
+            (LocalTimeTypeError::InvalidUtcOffset, "invalid UTC offset"),
+        ],
+    )?;
+    expect_texts(
+        &rt,
+        alloc,
+        &[
+            (
+                TransitionRuleError::InvalidRuleDayJulianDay,
+                "invalid rule day julian day",
+            ),
+            (
+                TransitionRuleError::InvalidRuleDayMonth,
+                "invalid rule day month",
+            ),
+            (
+                TransitionRuleError::InvalidRuleDayWeek,
+                "invalid rule day week",
+            ),
+            (
+                TransitionRuleError::InvalidRuleDayWeekDay,
+                "invalid rule day week day",
+            ),
+            (
+                TransitionRuleError::InvalidStdUtcOffset,
+                "invalid standard time UTC offset",
+            ),
+            (
+                TransitionRuleError::InvalidDstUtcOffset,
+                "invalid Daylight Saving Time UTC offset",
+            ),
+            (
+                TransitionRuleError::InvalidDstStartEndTime,
+                "invalid DST start or end time",
+            ),
+            (
+                TransitionRuleError::InconsistentRule,
+                "DST transition rules are not consistent from one year to another",
+            ),
+        ],
+    )?;
+    expect_texts(
+        &rt,
+        alloc,
+        &[
+            (
+                TimeZoneError::NoLocalTimeType,
+                "list of local time types must not be empty",
+            ),
+            (
+                TimeZoneError::InvalidLocalTimeTypeIndex,
+                "invalid local time type index",
+            ),
+            (TimeZoneError::InvalidTransition, "invalid transition"),
+            (TimeZoneError::InvalidLeapSecond, "invalid leap second"),
+            (
+                TimeZoneError::InconsistentExtraRule,
+                "extra transition rule is inconsistent with the last transition",
+            ),
+        ],
+    )?;
+    Ok(())
+}
+
+/// The errors of strings that are not made of others, and their texts.
+const STRING_TEXTS: [(&TzStringError, &str); 9] = [
+    (&TzStringError::InvalidOffsetHour, "invalid offset hour"),
+    (&TzStringError::InvalidOffsetMinute, "invalid offset minute"),
+    (&TzStringError::InvalidOffsetSecond, "invalid offset second"),
+    (&TzStringError::InvalidDayTimeHour, "invalid day time hour"),
+    (
+        &TzStringError::InvalidDayTimeMinute,
+        "invalid day time minute",
+    ),
+    (
+        &TzStringError::InvalidDayTimeSecond,
+        "invalid day time second",
+    ),
+    (
+        &TzStringError::MissingDstStartEndRules,
+        "missing DST start and end rules",
+    ),
+    (
+        &TzStringError::RemainingData,
+        "remaining data after parsing TZ string",
+    ),
+    (&TzStringError::Empty, "empty TZ string"),
+];
+
+/// The errors of files that are not made of others, and their texts.
+const FILE_TEXTS: [(&TzFileError, &str); 8] = [
+    (&TzFileError::InvalidMagicNumber, "invalid magic number"),
+    (
+        &TzFileError::UnsupportedTzFileVersion,
+        "unsupported TZ file version",
+    ),
+    (&TzFileError::InvalidHeader, "invalid header"),
+    (&TzFileError::InvalidFooter, "invalid footer"),
+    (&TzFileError::InvalidDstIndicator, "invalid DST indicator"),
+    (
+        &TzFileError::InvalidTimeZoneDesignationCharIndex,
+        "invalid time zone designation char index",
+    ),
+    (
+        &TzFileError::InvalidStdWallUtLocal,
+        "invalid couple of standard/wall and UT/local indicators",
+    ),
+    (
+        &TzFileError::RemainingDataV1,
+        "remaining data after the end of a TZif v1 data block",
+    ),
+];
+
 #[test]
 fn reader_errors_have_their_texts(rt: HostRuntime) -> Result<(), Fail> {
     let alloc = rt.alloc();
-    for (error, text) in [
-        (ParseDataError::UnexpectedEof, "unexpected end of data"),
-        (ParseDataError::InvalidData, "invalid data"),
-    ] {
-        expect_text(&rt, alloc, &error, text)?;
-        expect_text(&rt, alloc, &TzStringError::from(error), text)?;
-        expect_text(&rt, alloc, &TzFileError::from(error), text)?;
-    }
+    let eof = ParseDataError::UnexpectedEof;
+    expect_data_text(&rt, alloc, eof, "unexpected end of data")?;
+    expect_data_text(&rt, alloc, ParseDataError::InvalidData, "invalid data")?;
+
     let not_text = std::str::from_utf8(&[255]).err().ok_or("255 is no text")?;
-    let not_number = "".parse::<u8>().err().ok_or("no digits are no number")?;
-    let utf8_text = format!(in alloc; "{not_text}")?;
-    let number_text = format!(in alloc; "{not_number}")?;
-    expect_text(
-        &rt,
-        alloc,
-        &TzStringError::from(not_text),
-        utf8_text.as_str(),
-    )?;
-    expect_text(&rt, alloc, &TzFileError::from(not_text), utf8_text.as_str())?;
-    expect_text(
-        &rt,
-        alloc,
-        &TzStringError::from(not_number),
-        number_text.as_str(),
-    )?;
-    let texts = [
-        (&TzStringError::InvalidOffsetHour, "invalid offset hour"),
-        (&TzStringError::InvalidOffsetMinute, "invalid offset minute"),
-        (&TzStringError::InvalidOffsetSecond, "invalid offset second"),
-        (&TzStringError::InvalidDayTimeHour, "invalid day time hour"),
-        (
-            &TzStringError::InvalidDayTimeMinute,
-            "invalid day time minute",
-        ),
-        (
-            &TzStringError::InvalidDayTimeSecond,
-            "invalid day time second",
-        ),
-        (
-            &TzStringError::MissingDstStartEndRules,
-            "missing DST start and end rules",
-        ),
-        (
-            &TzStringError::RemainingData,
-            "remaining data after parsing TZ string",
-        ),
-        (&TzStringError::Empty, "empty TZ string"),
-    ];
-    for (error, text) in texts {
-        expect_text(&rt, alloc, error, text)?;
-    }
-    let files = [
-        (&TzFileError::InvalidMagicNumber, "invalid magic number"),
-        (
-            &TzFileError::UnsupportedTzFileVersion,
-            "unsupported TZ file version",
-        ),
-        (&TzFileError::InvalidHeader, "invalid header"),
-        (&TzFileError::InvalidFooter, "invalid footer"),
-        (&TzFileError::InvalidDstIndicator, "invalid DST indicator"),
-        (
-            &TzFileError::InvalidTimeZoneDesignationCharIndex,
-            "invalid time zone designation char index",
-        ),
-        (
-            &TzFileError::InvalidStdWallUtLocal,
-            "invalid couple of standard/wall and UT/local indicators",
-        ),
-        (
-            &TzFileError::RemainingDataV1,
-            "remaining data after the end of a TZif v1 data block",
-        ),
-    ];
-    for (error, text) in files {
-        expect_text(&rt, alloc, error, text)?;
-    }
+    expect_same_text(&rt, alloc, &TzStringError::from(not_text), &not_text)?;
+    expect_same_text(&rt, alloc, &TzFileError::from(not_text), &not_text)?;
+    expect_number_text(&rt, alloc)?;
+
+    expect_texts(&rt, alloc, &STRING_TEXTS)?;
+    expect_texts(&rt, alloc, &FILE_TEXTS)?;
     Ok(())
 }
 
@@ -222,9 +257,7 @@ fn whole_errors_have_their_texts(rt: HostRuntime) -> Result<(), Fail> {
         ),
         (&TzError::from(AllocError), "no memory"),
     ];
-    for (error, text) in texts {
-        expect_text(&rt, alloc, error, text)?;
-    }
+    expect_texts(&rt, alloc, &texts)?;
     expect_text(
         &rt,
         alloc,
@@ -276,8 +309,6 @@ fn part_errors_become_whole_ones(rt: HostRuntime) -> Result<(), Fail> {
             "invalid date time: invalid hour",
         ),
     ];
-    for (error, text) in texts {
-        expect_text(&rt, alloc, error, text)?;
-    }
+    expect_texts(&rt, alloc, &texts)?;
     Ok(())
 }

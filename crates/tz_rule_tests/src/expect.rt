@@ -1,5 +1,6 @@
 //! Comparisons of tests. The proof of a test walks through each `assert_eq!` where it is written out, and through a call of these much faster.
 
+use std::alloc::{AllocError, Global};
 use std::fmt::{Debug, Display};
 use std::process::Abort;
 
@@ -16,4 +17,21 @@ pub(crate) fn expect_eq_at<T: Debug + PartialEq>(
     wanted: &T,
 ) {
     assert_eq!(rt; *found, *wanted, "{place}");
+}
+
+/// The values differ.
+pub(crate) fn expect_ne<T: Debug + PartialEq>(rt: &impl Abort, found: &T, other: &T) {
+    assert_ne!(rt; *found, *other);
+}
+
+/// The value is shown to programmers as the text.
+pub(crate) fn expect_debug(
+    rt: &impl Abort,
+    alloc: Global,
+    value: &impl Debug,
+    text: &str,
+) -> Result<(), AllocError> {
+    let printed = format!(in alloc; "{value:?}")?;
+    expect_eq(rt, &printed.as_str(), &text);
+    Ok(())
 }

@@ -1,6 +1,7 @@
 //! Names of every length and byte, the parts of a type, and which refusal comes first.
 
-use crate::expect::{expect_eq, expect_eq_at};
+use crate::expect::{expect_debug, expect_eq, expect_eq_at};
+use std::process::Abort;
 use std::test::Fail;
 use tz_base::error::timezone::LocalTimeTypeError;
 use tz_rule::timezone::LocalTimeType;
@@ -8,6 +9,11 @@ use tz_rule::timezone::LocalTimeType;
 /// The refusal of a type with this name, if it is refused.
 fn fault_of_name(name: &[u8]) -> Option<LocalTimeTypeError> {
     LocalTimeType::new(0, false, Some(name)).err()
+}
+
+/// A type with this name is refused so, or is not refused.
+fn expect_fault_of_name(rt: &impl Abort, name: &[u8], fault: Option<LocalTimeTypeError>) {
+    assert_eq!(rt; fault_of_name(name), fault, "{name:?}");
 }
 
 #[test]
@@ -25,7 +31,7 @@ fn names_have_one_to_seven_bytes(rt: HostRuntime) {
         (b"\0".as_slice(), Some(char)),
         (b"AB CD".as_slice(), Some(char)),
     ] {
-        assert_eq!(rt; fault_of_name(name), fault, "{name:?}");
+        expect_fault_of_name(&rt, name, fault);
     }
 }
 
@@ -58,6 +64,19 @@ fn the_first_fault_is_named(rt: HostRuntime) {
     }
 }
 
+/// The type has these parts.
+fn expect_parts(
+    rt: &impl Abort,
+    local_time_type: &LocalTimeType,
+    ut_offset: i32,
+    is_dst: bool,
+    name: &str,
+) {
+    expect_eq(rt, &local_time_type.ut_offset(), &ut_offset);
+    expect_eq(rt, &local_time_type.is_dst(), &is_dst);
+    expect_eq(rt, &local_time_type.time_zone_designation(), &name);
+}
+
 #[test]
 fn a_type_has_its_parts(rt: HostRuntime) -> Result<(), LocalTimeTypeError> {
     for (ut_offset, is_dst, name, text) in [
@@ -68,9 +87,7 @@ fn a_type_has_its_parts(rt: HostRuntime) -> Result<(), LocalTimeTypeError> {
         (3600, true, None, ""),
     ] {
         let local_time_type = LocalTimeType::new(ut_offset, is_dst, name)?;
-        expect_eq(&rt, &local_time_type.ut_offset(), &ut_offset);
-        expect_eq(&rt, &local_time_type.is_dst(), &is_dst);
-        expect_eq(&rt, &local_time_type.time_zone_designation(), &text);
+        expect_parts(&rt, &local_time_type, ut_offset, is_dst, text);
     }
     Ok(())
 }
@@ -80,38 +97,46 @@ fn plain_types_have_an_offset_alone(rt: HostRuntime) -> Result<(), LocalTimeType
     for ut_offset in [i32::MIN + 1, -1, 0, 3600, i32::MAX] {
         let plain = LocalTimeType::with_ut_offset(ut_offset)?;
         expect_eq(&rt, &plain, &LocalTimeType::new(ut_offset, false, None)?);
-        expect_eq(&rt, &plain.ut_offset(), &ut_offset);
-        assert!(rt; !plain.is_dst());
-        expect_eq(&rt, &plain.time_zone_designation(), &"");
+        expect_parts(&rt, &plain, ut_offset, false, "");
     }
-    expect_eq(
-        &rt,
-        &LocalTimeType::utc(),
-        &LocalTimeType::with_ut_offset(0)?,
-    );
-    expect_eq(
-        &rt,
-        &LocalTimeType::with_ut_offset(i32::MIN),
-        &Err(LocalTimeTypeError::InvalidUtcOffset),
-    );
+    let utc = LocalTimeType::with_ut_offset(0)?;
+    expect_eq(&rt, &LocalTimeType::utc(), &utc);
+    let refused = LocalTimeType::with_ut_offset(i32::MIN);
+    expect_eq(&rt, &refused, &Err(LocalTimeTypeError::InvalidUtcOffset));
+    Ok(())
+}
+
+/// Parts of types of which each differs from the others.
+const DIFFERENT: [(i32, bool, Option<&[u8]>); 7] = [
+    (3600, false, Some(b"CET")),
+    (3601, false, Some(b"CET")),
+    (3600, true, Some(b"CET")),
+    (3600, false, Some(b"CEU")),
+    (3600, false, Some(b"CE")),
+    (3600, false, Some(b"CET0")),
+    (3600, false, None),
+];
+
+/// The type of the parts equals the one with its place, and no other.
+fn expect_equal_at(
+    rt: &impl Abort,
+    place: usize,
+    one: &LocalTimeType,
+    parts: &[(i32, bool, Option<&[u8]>)],
+) -> Result<(), LocalTimeTypeError> {
+    for (i, (ut_offset, is_dst, name)) in parts.iter().enumerate() {
+        let other = LocalTimeType::new(*ut_offset, *is_dst, *name)?;
+        assert_eq!(rt; *one == other, i == place, "{place} {i}");
+    }
     Ok(())
 }
 
 #[test]
 fn equal_types_have_equal_parts(rt: HostRuntime) -> Result<(), LocalTimeTypeError> {
-    let types = [
-        LocalTimeType::new(3600, false, Some(b"CET"))?,
-        LocalTimeType::new(3601, false, Some(b"CET"))?,
-        LocalTimeType::new(3600, true, Some(b"CET"))?,
-        LocalTimeType::new(3600, false, Some(b"CEU"))?,
-        LocalTimeType::new(3600, false, Some(b"CE"))?,
-        LocalTimeType::new(3600, false, Some(b"CET0"))?,
-        LocalTimeType::new(3600, false, None)?,
-    ];
-    for (i, one) in types.iter().enumerate() {
-        for (j, other) in types.iter().enumerate() {
-            assert_eq!(rt; one == other, i == j, "{i} {j}");
-        }
+    let parts = DIFFERENT.as_slice();
+    for (i, (ut_offset, is_dst, name)) in parts.iter().enumerate() {
+        let one = LocalTimeType::new(*ut_offset, *is_dst, *name)?;
+        expect_equal_at(&rt, i, &one, parts)?;
     }
     Ok(())
 }
@@ -129,8 +154,7 @@ fn types_print_their_parts(rt: HostRuntime) -> Result<(), Fail> {
             "LocalTimeType { ut_offset: 3600, is_dst: false, time_zone_designation: Some(\"CET\") }",
         ),
     ] {
-        let printed = format!(in rt.alloc(); "{local_time_type:?}")?;
-        expect_eq(&rt, &printed.as_str(), &text);
+        expect_debug(&rt, rt.alloc(), &local_time_type, text)?;
     }
     Ok(())
 }

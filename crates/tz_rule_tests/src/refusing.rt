@@ -2,6 +2,7 @@
 
 use crate::expect::expect_eq;
 use std::alloc::{AllocError, Allocator};
+use std::process::Abort;
 use std::test::Fail;
 use tz_base::refusing::Refusing;
 
@@ -17,13 +18,18 @@ fn joined<A: Allocator + Copy>(alloc: A, words: &[&str]) -> Result<String<A>, Al
     Ok(text)
 }
 
+/// As many allocations as the allocator was given are passed on.
+fn expect_passed_on(rt: &impl Abort, asked: u64, left: u64, passed_on: bool) {
+    assert_eq!(rt; passed_on, asked < left, "{asked} of {left}");
+}
+
 #[test]
 fn passes_on_as_many_as_it_was_given(rt: HostRuntime) {
     for left in 0..4u64 {
         let heap = Refusing::new(rt.alloc(), left);
         for asked in 0..6u64 {
             let passed_on = Box::new(&heap, 7u8).is_ok();
-            assert_eq!(rt; passed_on, asked < left, "{asked} of {left}");
+            expect_passed_on(&rt, asked, left, passed_on);
         }
         expect_eq(&rt, &heap.refused(), &(6 - left));
     }
@@ -67,14 +73,20 @@ fn refuses_each_allocation_in_turn(rt: HostRuntime) {
     assert!(rt; refusals < 20);
 }
 
+/// The numbers below 100, in room that is asked for again and again.
+fn hundred<A: Allocator>(alloc: A) -> Result<Vec<u8, A>, AllocError> {
+    let mut v = Vec::with_capacity(alloc, 1)?;
+    for item in 0..100u8 {
+        v.push(item)?;
+    }
+    Ok(v)
+}
+
 #[test]
 fn frees_by_the_inner_allocator(rt: HostRuntime) -> Result<(), Fail> {
     let inner = Refusing::new(rt.alloc(), 10);
     let heap = Refusing::new(&inner, 10);
-    let mut v = Vec::with_capacity(&heap, 1)?;
-    for item in 0..100u8 {
-        v.push(item)?;
-    }
+    let v = hundred(&heap)?;
     expect_eq(&rt, &v.len(), &100);
     expect_eq(&rt, &v.last(), &Some(&99));
     expect_eq(&rt, &(heap.held(), inner.held()), &(1, 1));

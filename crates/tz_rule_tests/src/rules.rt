@@ -4,7 +4,8 @@ mod consistency;
 mod stretches;
 mod years;
 
-use crate::expect::{expect_eq, expect_eq_at};
+use crate::expect::{expect_debug, expect_eq, expect_eq_at, expect_ne};
+use std::process::Abort;
 use std::test::Fail;
 use tz_base::error::TzError;
 use tz_base::error::timezone::{LocalTimeTypeError, TransitionRuleError};
@@ -55,6 +56,14 @@ fn rule(
     let start = start.map_err(Refusal::Rule)?;
     let end = end.map_err(Refusal::Rule)?;
     AlternateTime::new(std, dst, start.day, start.time, end.day, end.time).map_err(Refusal::Rule)
+}
+
+/// The rule, which is not refused.
+fn expect_made(rt: &impl Abort, made: Result<AlternateTime, Refusal>) -> AlternateTime {
+    let Ok(made) = made else {
+        panic!(rt; "refused");
+    };
+    made
 }
 
 /// The offset and the daylight flag at an instant.
@@ -111,40 +120,34 @@ fn out_of_range_at_the_ends(rt: HostRuntime) {
     }
 }
 
+/// What is printed for the rule of a test.
+const PRINTED: &str = "AlternateTime { \
+    std: LocalTimeType { ut_offset: 0, is_dst: false, time_zone_designation: None }, \
+    dst: LocalTimeType { ut_offset: 3600, is_dst: true, time_zone_designation: None }, \
+    dst_start: Julian1WithoutLeap(Julian1WithoutLeap(59)), dst_start_time: -1, \
+    dst_end: Julian0WithLeap(Julian0WithLeap(0)), dst_end_time: 7200 }";
+
 #[test]
 fn values_print_their_parts(rt: HostRuntime) -> Result<(), Fail> {
-    let Ok(made) = rule(0, 3600, j(59, -1), z(0, 7200)) else {
-        panic!(rt; "refused");
-    };
-    let types = "std: LocalTimeType { ut_offset: 0, is_dst: false, time_zone_designation: None }, \
-        dst: LocalTimeType { ut_offset: 3600, is_dst: true, time_zone_designation: None }";
-    let text = format!(in rt.alloc();
-        "AlternateTime {{ {types}, \
-        dst_start: Julian1WithoutLeap(Julian1WithoutLeap(59)), dst_start_time: -1, \
-        dst_end: Julian0WithLeap(Julian0WithLeap(0)), dst_end_time: 7200 }}"
+    let alloc = rt.alloc();
+    let made = expect_made(&rt, rule(0, 3600, j(59, -1), z(0, 7200)));
+    expect_debug(&rt, alloc, &made, PRINTED)?;
+
+    let alternate = format!(in alloc; "Alternate({made:?})")?;
+    let rule = TransitionRule::Alternate(made);
+    expect_debug(&rt, alloc, &rule, alternate.as_str())?;
+    expect_debug(
+        &rt,
+        alloc,
+        &TransitionRule::Fixed(LocalTimeType::utc()),
+        "Fixed(LocalTimeType { ut_offset: 0, is_dst: false, time_zone_designation: None })",
     )?;
-    let printed = format!(in rt.alloc(); "{made:?}")?;
-    expect_eq(&rt, &printed.as_str(), &text.as_str());
-
-    let alternate = format!(in rt.alloc(); "Alternate({made:?})")?;
-    let printed = format!(in rt.alloc(); "{:?}", TransitionRule::Alternate(made))?;
-    expect_eq(&rt, &printed.as_str(), &alternate.as_str());
-    let printed = format!(in rt.alloc(); "{:?}", TransitionRule::Fixed(LocalTimeType::utc()))?;
-    expect_eq(
+    expect_debug(
         &rt,
-        &printed.as_str(),
-        &"Fixed(LocalTimeType { ut_offset: 0, is_dst: false, time_zone_designation: None })",
-    );
-
-    let Ok(last_sunday) = MonthWeekDay::new(3, 5, 0) else {
-        panic!(rt; "refused");
-    };
-    let printed = format!(in rt.alloc(); "{:?}", RuleDay::MonthWeekDay(last_sunday))?;
-    expect_eq(
-        &rt,
-        &printed.as_str(),
-        &"MonthWeekDay(MonthWeekDay { month: 3, week: 5, week_day: 0 })",
-    );
+        alloc,
+        &RuleDay::MonthWeekDay(MonthWeekDay::new(3, 5, 0)?),
+        "MonthWeekDay(MonthWeekDay { month: 3, week: 5, week_day: 0 })",
+    )?;
     Ok(())
 }
 
@@ -291,69 +294,63 @@ fn near_days(rt: HostRuntime) {
     expect_eq(&rt, &conflict(j(59, 604_800), j(60, -86_400)), &None);
 }
 
+/// The rule is refused with this fault.
+fn expect_fault(
+    rt: &impl Abort,
+    found: Result<AlternateTime, Refusal>,
+    fault: TransitionRuleError,
+) {
+    expect_eq(rt, &found.err(), &Some(Refusal::Rule(fault)));
+}
+
+/// The rule with this start and offsets of 0 is refused with this fault.
+fn expect_fault_of_start(
+    rt: &impl Abort,
+    start: Result<At, TransitionRuleError>,
+    fault: TransitionRuleError,
+) {
+    expect_fault(rt, rule(0, 0, start, z(0, 0)), fault);
+}
+
+/// The parts of the rule of `all_year`.
+fn expect_parts_of_all_year(rt: &impl Abort, made: &AlternateTime) {
+    expect_eq(rt, &made.std().ut_offset(), &(-18_000));
+    expect_eq(rt, &made.dst().ut_offset(), &(-14_400));
+    expect_eq(rt, &made.dst_start_time(), &0);
+    expect_eq(rt, &made.dst_end_time(), &90_000);
+    expect_ne(rt, made.dst_start(), made.dst_end());
+}
+
 #[test]
 fn parts_and_faults(rt: HostRuntime) {
-    let (Ok(made), Ok(same), Ok(other)) = (
-        all_year(),
-        all_year(),
-        rule(-18_000, -14_400, z(0, 1), j(365, 90_000)),
-    ) else {
-        panic!(rt; "refused");
-    };
+    let made = expect_made(&rt, all_year());
+    let same = expect_made(&rt, all_year());
+    let other = expect_made(&rt, rule(-18_000, -14_400, z(0, 1), j(365, 90_000)));
     expect_eq(&rt, &made, &same);
-    assert_ne!(rt; made, other);
-    expect_eq(&rt, &made.std().ut_offset(), &(-18_000));
-    expect_eq(&rt, &made.dst().ut_offset(), &(-14_400));
-    expect_eq(&rt, &made.dst_start_time(), &0);
-    expect_eq(&rt, &made.dst_end_time(), &90_000);
-    assert_ne!(rt; *made.dst_start(), *made.dst_end());
+    expect_ne(&rt, &made, &other);
+    expect_parts_of_all_year(&rt, &made);
 
-    let fault = |found: Result<AlternateTime, Refusal>| found.err();
-    expect_eq(
+    for (std, dst, fault) in [
+        (-90_000, 93_600, TransitionRuleError::InvalidStdUtcOffset),
+        (-89_999, 93_600, TransitionRuleError::InvalidDstUtcOffset),
+        (-89_999, 93_599, TransitionRuleError::InvalidDstStartEndTime),
+    ] {
+        expect_fault(&rt, rule(std, dst, z(0, 604_800), z(0, 0)), fault);
+    }
+    expect_fault(
         &rt,
-        &(fault(rule(-90_000, 93_600, z(0, 604_800), z(0, 0)))),
-        &Some(Refusal::Rule(TransitionRuleError::InvalidStdUtcOffset)),
+        rule(0, 0, z(0, 0), z(0, -604_800)),
+        TransitionRuleError::InvalidDstStartEndTime,
     );
-    expect_eq(
-        &rt,
-        &(fault(rule(-89_999, 93_600, z(0, 604_800), z(0, 0)))),
-        &Some(Refusal::Rule(TransitionRuleError::InvalidDstUtcOffset)),
-    );
-    expect_eq(
-        &rt,
-        &(fault(rule(-89_999, 93_599, z(0, 604_800), z(0, 0)))),
-        &Some(Refusal::Rule(TransitionRuleError::InvalidDstStartEndTime)),
-    );
-    expect_eq(
-        &rt,
-        &fault(rule(0, 0, z(0, 0), z(0, -604_800))),
-        &Some(Refusal::Rule(TransitionRuleError::InvalidDstStartEndTime)),
-    );
-    expect_eq(
-        &rt,
-        &fault(rule(0, 0, z(366, 0), z(0, 0))),
-        &Some(Refusal::Rule(TransitionRuleError::InvalidRuleDayJulianDay)),
-    );
-    expect_eq(
-        &rt,
-        &fault(rule(0, 0, j(0, 0), z(0, 0))),
-        &Some(Refusal::Rule(TransitionRuleError::InvalidRuleDayJulianDay)),
-    );
-    expect_eq(
-        &rt,
-        &fault(rule(0, 0, m(13, 0, 7, 0), z(0, 0))),
-        &Some(Refusal::Rule(TransitionRuleError::InvalidRuleDayMonth)),
-    );
-    expect_eq(
-        &rt,
-        &fault(rule(0, 0, m(12, 6, 7, 0), z(0, 0))),
-        &Some(Refusal::Rule(TransitionRuleError::InvalidRuleDayWeek)),
-    );
-    expect_eq(
-        &rt,
-        &fault(rule(0, 0, m(12, 5, 7, 0), z(0, 0))),
-        &Some(Refusal::Rule(TransitionRuleError::InvalidRuleDayWeekDay)),
-    );
+    for (start, fault) in [
+        (z(366, 0), TransitionRuleError::InvalidRuleDayJulianDay),
+        (j(0, 0), TransitionRuleError::InvalidRuleDayJulianDay),
+        (m(13, 0, 7, 0), TransitionRuleError::InvalidRuleDayMonth),
+        (m(12, 6, 7, 0), TransitionRuleError::InvalidRuleDayWeek),
+        (m(12, 5, 7, 0), TransitionRuleError::InvalidRuleDayWeekDay),
+    ] {
+        expect_fault_of_start(&rt, start, fault);
+    }
 }
 
 #[test]
@@ -380,37 +377,36 @@ fn designations(rt: HostRuntime) {
     expect_eq(&rt, &found, &Some(LocalTimeTypeError::InvalidUtcOffset));
 }
 
+/// The days are the ones they were made of.
+fn expect_days(rt: &impl Abort) {
+    let found = Julian1WithoutLeap::new(365).map(|day| day.get());
+    expect_eq(rt, &found.ok(), &Some(365));
+    let found = Julian0WithLeap::new(365).map(|day| day.get());
+    expect_eq(rt, &found.ok(), &Some(365));
+    let found = MonthWeekDay::new(12, 5, 6).map(|day| (day.month(), day.week(), day.week_day()));
+    expect_eq(rt, &found.ok(), &Some((12, 5, 6)));
+}
+
+/// The start and the end of a rule of the south, and the stretch between them.
+fn expect_ends_of_auckland(rt: &impl Abort, auckland: &AlternateTime) {
+    expect_eq(rt, &inner::start(auckland, 2000), &970_322_400);
+    expect_eq(rt, &inner::end(auckland, 2000), &953_384_400);
+    // Daylight saving time that starts in 2000 ends in 2001.
+    let found = inner::stretch(auckland, 970_322_400).map(|found| (found.from, found.until));
+    let wanted = (970_322_400, inner::end(auckland, 2001));
+    expect_eq(rt, &found, &Some(wanted));
+}
+
 #[test]
 fn days_ends_and_rules(rt: HostRuntime) {
-    let found = Julian1WithoutLeap::new(365).map(|day| day.get());
-    expect_eq(&rt, &found.ok(), &Some(365));
-    let found = Julian0WithLeap::new(365).map(|day| day.get());
-    expect_eq(&rt, &found.ok(), &Some(365));
-    let found = MonthWeekDay::new(12, 5, 6).map(|day| (day.month(), day.week(), day.week_day()));
-    expect_eq(&rt, &found.ok(), &Some((12, 5, 6)));
-
+    expect_days(&rt);
     let found = rule(43_200, 46_800, m(10, 1, 0, 7200), m(3, 3, 0, 7200));
-    let Ok(auckland) = found else {
-        panic!(rt; "refused");
-    };
-    expect_eq(&rt, &inner::start(&auckland, 2000), &970_322_400);
-    expect_eq(&rt, &inner::end(&auckland, 2000), &953_384_400);
-    // Daylight saving time that starts in 2000 ends in 2001.
-    let found = inner::stretch(&auckland, 970_322_400).map(|found| (found.from, found.until));
-    expect_eq(
-        &rt,
-        &found,
-        &Some((970_322_400, inner::end(&auckland, 2001))),
-    );
+    let auckland = expect_made(&rt, found);
+    expect_ends_of_auckland(&rt, &auckland);
 
     let fixed = TransitionRule::Fixed(*auckland.std());
     expect_eq(&rt, &fixed, &fixed);
-    assert_ne!(rt; fixed, TransitionRule::Alternate(auckland));
-    expect_eq(
-        &rt,
-        &inner::find_local_time_type(&fixed, i64::MIN)
-            .map(|found| found.ut_offset())
-            .ok(),
-        &Some(43_200),
-    );
+    expect_ne(&rt, &fixed, &TransitionRule::Alternate(auckland));
+    let found = inner::find_local_time_type(&fixed, i64::MIN).map(|found| found.ut_offset());
+    expect_eq(&rt, &found.ok(), &Some(43_200));
 }

@@ -1,6 +1,7 @@
 //! Rules whose days are near each other: which are consistent, with one day's time a second earlier, as it is, and a second later.
 
 use crate::expect::expect_eq_at;
+use std::process::Abort;
 use tz_base::error::timezone::TransitionRuleError;
 use tz_rule::timezone::{
     AlternateTime, Julian0WithLeap, Julian1WithoutLeap, LocalTimeType, MonthWeekDay, RuleDay,
@@ -16,6 +17,9 @@ enum Day {
 
 /// A rule day and a day time in whole days.
 type At = (Day, i8);
+
+/// Which of the three times are accepted.
+type Answers = [Option<bool>; 3];
 
 /// The rule day of a table's day.
 fn rule_day(day: Day) -> Result<RuleDay, TransitionRuleError> {
@@ -52,7 +56,7 @@ fn is_accepted(x: At, seconds: i8, y: At, is_start: bool) -> Option<bool> {
 }
 
 /// Which of the three times are accepted.
-fn accepted(x: At, y: At, is_start: bool) -> [Option<bool>; 3] {
+fn accepted(x: At, y: At, is_start: bool) -> Answers {
     [
         is_accepted(x, -1, y, is_start),
         is_accepted(x, 0, y, is_start),
@@ -61,11 +65,11 @@ fn accepted(x: At, y: At, is_start: bool) -> [Option<bool>; 3] {
 }
 
 /// Accepted at each of the three times, refused a second later, and refused a second earlier.
-const ALL: [Option<bool>; 3] = [Some(true), Some(true), Some(true)];
+const ALL: Answers = [Some(true), Some(true), Some(true)];
 
-const NOT_LATER: [Option<bool>; 3] = [Some(true), Some(true), Some(false)];
+const NOT_LATER: Answers = [Some(true), Some(true), Some(false)];
 
-const NOT_EARLIER: [Option<bool>; 3] = [Some(false), Some(true), Some(true)];
+const NOT_EARLIER: Answers = [Some(false), Some(true), Some(true)];
 
 /// Refused where the first day comes a second later.
 const REFUSED_LATER: [(At, At); 28] = [
@@ -125,29 +129,34 @@ const REFUSED_EARLIER: [(At, At); 11] = [
     ((Day::M(4, 4, 2), 5), (Day::M(5, 1, 5), -5)),
 ];
 
-#[test]
-fn rows(rt: HostRuntime) {
-    for (x, y) in REFUSED_LATER.iter() {
-        assert_eq!(rt; accepted(*x, *y, true), NOT_LATER, "{x:?} / {y:?}");
-        assert_eq!(rt; accepted(*x, *y, false), NOT_LATER, "{y:?} / {x:?}");
-    }
-    for (x, y) in NEVER_REFUSED.iter() {
-        assert_eq!(rt; accepted(*x, *y, true), ALL, "{x:?} / {y:?}");
-        assert_eq!(rt; accepted(*x, *y, false), ALL, "{y:?} / {x:?}");
-    }
-    for (x, y) in REFUSED_EARLIER.iter() {
-        assert_eq!(rt; accepted(*x, *y, true), NOT_EARLIER, "{x:?} / {y:?}");
-        assert_eq!(rt; accepted(*x, *y, false), NOT_EARLIER, "{y:?} / {x:?}");
+/// The rule with the first day as the start, or as the end, has these answers.
+fn expect_answers(rt: &impl Abort, x: &At, y: &At, is_start: bool, answers: &Answers) {
+    let (start, end) = if is_start { (x, y) } else { (y, x) };
+    assert_eq!(rt; accepted(*x, *y, is_start), *answers, "{start:?} / {end:?}");
+}
+
+/// Each row has these answers, and has them with start and end exchanged.
+fn expect_rows(rt: &impl Abort, rows: &[(At, At)], answers: &Answers) {
+    for (x, y) in rows {
+        expect_answers(rt, x, y, true, answers);
+        expect_answers(rt, x, y, false, answers);
     }
 }
 
+#[test]
+fn rows(rt: HostRuntime) {
+    expect_rows(&rt, &REFUSED_LATER, &NOT_LATER);
+    expect_rows(&rt, &NEVER_REFUSED, &ALL);
+    expect_rows(&rt, &REFUSED_EARLIER, &NOT_EARLIER);
+}
+
 /// The answers for two days, and for the same with start and end exchanged.
-fn both_ways(x: At, y: At) -> [[Option<bool>; 3]; 2] {
+fn both_ways(x: At, y: At) -> [Answers; 2] {
     [accepted(x, y, true), accepted(x, y, false)]
 }
 
 /// Start and end of rules that are near each other, within a year or at its end, and which of their three times are accepted.
-const NEAR: [(At, At, [Option<bool>; 3]); 4] = [
+const NEAR: [(At, At, Answers); 4] = [
     ((Day::M(12, 5, 0), 3), (Day::J(1), -4), NOT_EARLIER),
     ((Day::M(4, 4, 2), 0), (Day::M(4, 5, 4), -2), ALL),
     ((Day::M(3, 5, 2), 0), (Day::M(3, 5, 3), -1), NOT_EARLIER),
@@ -157,11 +166,47 @@ const NEAR: [(At, At, [Option<bool>; 3]); 4] = [
 #[test]
 fn near_rows(rt: HostRuntime) {
     for (start, end, answers) in NEAR.iter() {
-        assert_eq!(rt;
-            accepted(*start, *end, true),
-            *answers,
-            "{start:?} / {end:?}"
-        );
+        expect_answers(&rt, start, end, true, answers);
+    }
+}
+
+/// A day of a month with a day time in whole days.
+fn day_of_month(month: u8, week: u8, week_day: u8, days: i8) -> At {
+    (Day::M(month, week, week_day), days)
+}
+
+/// Two days have these answers in a row of the month, and have them with start and end exchanged.
+fn expect_both_ways(rt: &impl Abort, month: u8, x: At, y: At, answers: Answers) {
+    expect_eq_at(rt, &month, &both_ways(x, y), &[answers; 2]);
+}
+
+/// Two days are accepted in a row of the month as they are, and with start and end exchanged.
+fn expect_accepted(rt: &impl Abort, month: u8, x: At, y: At) {
+    let found = [is_accepted(x, 0, y, true), is_accepted(x, 0, y, false)];
+    expect_eq_at(rt, &month, &found, &[Some(true); 2]);
+}
+
+/// The rows of a month that are refused where the first day comes a second later.
+fn expect_refused_later(rt: &impl Abort, month: u8, next: u8) {
+    for (x, y) in [
+        (day_of_month(month, 4, 0, 0), day_of_month(month, 5, 0, 0)),
+        (day_of_month(month, 4, 0, 4), day_of_month(next, 1, 0, -3)),
+        (day_of_month(month, 3, 2, 0), day_of_month(month, 4, 3, -1)),
+        (day_of_month(month, 5, 2, 0), day_of_month(next, 1, 3, -1)),
+    ] {
+        expect_both_ways(rt, month, x, y, NOT_LATER);
+    }
+}
+
+/// The rows of a month that are accepted at each time.
+fn expect_never_refused(rt: &impl Abort, month: u8, next: u8) {
+    for (x, y) in [
+        (day_of_month(month, 5, 0, 0), day_of_month(month, 5, 0, 0)),
+        (day_of_month(month, 5, 0, 4), day_of_month(next, 1, 0, -3)),
+        (day_of_month(month, 5, 0, 0), day_of_month(next, 5, 0, 0)),
+        (day_of_month(month, 5, 2, 0), day_of_month(next, 5, 3, 0)),
+    ] {
+        expect_both_ways(rt, month, x, y, ALL);
     }
 }
 
@@ -170,77 +215,16 @@ fn rows_of_months(rt: HostRuntime) {
     for month in 1..12u8 {
         let next = month + 1;
         let after_next = if month == 11 { 1 } else { month + 2 };
-        let day = |month, week, week_day, days| (Day::M(month, week, week_day), days);
-
-        expect_eq_at(
-            &rt,
-            &month,
-            &both_ways(day(month, 4, 0, 0), day(month, 5, 0, 0)),
-            &[NOT_LATER; 2],
+        expect_refused_later(&rt, month, next);
+        expect_never_refused(&rt, month, next);
+        let (x, y) = (day_of_month(month, 5, 2, 0), day_of_month(month, 5, 3, -1));
+        expect_both_ways(&rt, month, x, y, NOT_EARLIER);
+        let (x, y) = (
+            day_of_month(month, 1, 0, 0),
+            day_of_month(after_next, 1, 0, 0),
         );
-        expect_eq_at(
-            &rt,
-            &month,
-            &both_ways(day(month, 4, 0, 4), day(next, 1, 0, -3)),
-            &[NOT_LATER; 2],
-        );
-        expect_eq_at(
-            &rt,
-            &month,
-            &both_ways(day(month, 3, 2, 0), day(month, 4, 3, -1)),
-            &[NOT_LATER; 2],
-        );
-        expect_eq_at(
-            &rt,
-            &month,
-            &both_ways(day(month, 5, 2, 0), day(next, 1, 3, -1)),
-            &[NOT_LATER; 2],
-        );
-
-        expect_eq_at(
-            &rt,
-            &month,
-            &both_ways(day(month, 5, 0, 0), day(month, 5, 0, 0)),
-            &[ALL; 2],
-        );
-        expect_eq_at(
-            &rt,
-            &month,
-            &both_ways(day(month, 5, 0, 4), day(next, 1, 0, -3)),
-            &[ALL; 2],
-        );
-        expect_eq_at(
-            &rt,
-            &month,
-            &both_ways(day(month, 5, 0, 0), day(next, 5, 0, 0)),
-            &[ALL; 2],
-        );
-        expect_eq_at(
-            &rt,
-            &month,
-            &both_ways(day(month, 5, 2, 0), day(next, 5, 3, 0)),
-            &[ALL; 2],
-        );
-
-        expect_eq_at(
-            &rt,
-            &month,
-            &both_ways(day(month, 5, 2, 0), day(month, 5, 3, -1)),
-            &[NOT_EARLIER; 2],
-        );
-
-        let at_once = |x, y| [is_accepted(x, 0, y, true), is_accepted(x, 0, y, false)];
-        expect_eq_at(
-            &rt,
-            &month,
-            &at_once(day(month, 1, 0, 0), day(after_next, 1, 0, 0)),
-            &[Some(true); 2],
-        );
-        expect_eq_at(
-            &rt,
-            &month,
-            &at_once(day(month, 3, 0, 4), day(month, 4, 0, -3)),
-            &[Some(true); 2],
-        );
+        expect_accepted(&rt, month, x, y);
+        let (x, y) = (day_of_month(month, 3, 0, 4), day_of_month(month, 4, 0, -3));
+        expect_accepted(&rt, month, x, y);
     }
 }
