@@ -45,6 +45,14 @@ fn expect_same_text(
     expect_text(rt, alloc, error, text.as_str())
 }
 
+/// An error of bytes that are no text, and the ones made of it, print the same.
+fn expect_utf8_text(rt: &impl Abort, alloc: Global) -> Result<(), Fail> {
+    let error = std::str::from_utf8(&[255]).err().ok_or("255 is no text")?;
+    expect_same_text(rt, alloc, &TzStringError::from(error), &error)?;
+    expect_same_text(rt, alloc, &TzFileError::from(error), &error)?;
+    Ok(())
+}
+
 /// An error of numbers, and the one made of it, print the same.
 fn expect_number_text(rt: &impl Abort, alloc: Global) -> Result<(), Fail> {
     let error = "".parse::<u8>().err().ok_or("no digits are no number")?;
@@ -212,9 +220,7 @@ fn reader_errors_have_their_texts(rt: HostRuntime) -> Result<(), Fail> {
     expect_data_text(&rt, alloc, eof, "unexpected end of data")?;
     expect_data_text(&rt, alloc, ParseDataError::InvalidData, "invalid data")?;
 
-    let not_text = std::str::from_utf8(&[255]).err().ok_or("255 is no text")?;
-    expect_same_text(&rt, alloc, &TzStringError::from(not_text), &not_text)?;
-    expect_same_text(&rt, alloc, &TzFileError::from(not_text), &not_text)?;
+    expect_utf8_text(&rt, alloc)?;
     expect_number_text(&rt, alloc)?;
 
     expect_texts(&rt, alloc, &STRING_TEXTS)?;
@@ -222,61 +228,60 @@ fn reader_errors_have_their_texts(rt: HostRuntime) -> Result<(), Fail> {
     Ok(())
 }
 
+/// The errors of programs that read files themselves print as the ones they were made of.
+fn expect_read_texts(rt: &impl Abort, alloc: Global) -> Result<(), AllocError> {
+    let errors = [
+        (Error::from(TzError::OutOfRange), "out of range operation"),
+        (Error::Io(anyhow::anyhow!("no such file")), "no such file"),
+    ];
+    expect_texts(rt, alloc, &errors)?;
+    let faults = [
+        (ReadFault::from(AllocError), "no memory"),
+        (
+            ReadFault::Failed(anyhow::anyhow!("no such file")),
+            "no such file",
+        ),
+    ];
+    expect_texts(rt, alloc, &faults)
+}
+
 #[test]
 fn whole_errors_have_their_texts(rt: HostRuntime) -> Result<(), Fail> {
     let alloc = rt.alloc();
     let texts = [
         (
-            &TzError::from(TzFileError::InvalidFooter),
+            TzError::from(TzFileError::InvalidFooter),
             "invalid TZ file: invalid footer",
         ),
         (
-            &TzError::from(TzStringError::Empty),
+            TzError::from(TzStringError::Empty),
             "invalid TZ string: empty TZ string",
         ),
         (
-            &TzError::from(LocalTimeTypeError::InvalidUtcOffset),
+            TzError::from(LocalTimeTypeError::InvalidUtcOffset),
             "invalid local time type: invalid UTC offset",
         ),
         (
-            &TzError::from(TransitionRuleError::InvalidRuleDayWeek),
+            TzError::from(TransitionRuleError::InvalidRuleDayWeek),
             "invalid transition rule: invalid rule day week",
         ),
         (
-            &TzError::from(TimeZoneError::InvalidTransition),
+            TzError::from(TimeZoneError::InvalidTransition),
             "invalid time zone: invalid transition",
         ),
         (
-            &TzError::from(DateTimeError::InvalidMonth),
+            TzError::from(DateTimeError::InvalidMonth),
             "invalid date time: invalid month",
         ),
-        (&TzError::OutOfRange, "out of range operation"),
+        (TzError::OutOfRange, "out of range operation"),
         (
-            &TzError::NoAvailableLocalTimeType,
+            TzError::NoAvailableLocalTimeType,
             "no local time type is available for the specified timestamp",
         ),
-        (&TzError::from(AllocError), "no memory"),
+        (TzError::from(AllocError), "no memory"),
     ];
     expect_texts(&rt, alloc, &texts)?;
-    expect_text(
-        &rt,
-        alloc,
-        &Error::from(TzError::OutOfRange),
-        "out of range operation",
-    )?;
-    expect_text(
-        &rt,
-        alloc,
-        &Error::Io(anyhow::anyhow!("no such file")),
-        "no such file",
-    )?;
-    expect_text(&rt, alloc, &ReadFault::from(AllocError), "no memory")?;
-    expect_text(
-        &rt,
-        alloc,
-        &ReadFault::Failed(anyhow::anyhow!("no such file")),
-        "no such file",
-    )?;
+    expect_read_texts(&rt, alloc)?;
     Ok(())
 }
 
@@ -285,27 +290,27 @@ fn part_errors_become_whole_ones(rt: HostRuntime) -> Result<(), Fail> {
     let alloc = rt.alloc();
     let texts = [
         (
-            &Error::from(TzFileError::InvalidHeader),
+            Error::from(TzFileError::InvalidHeader),
             "invalid TZ file: invalid header",
         ),
         (
-            &Error::from(TzStringError::Empty),
+            Error::from(TzStringError::Empty),
             "invalid TZ string: empty TZ string",
         ),
         (
-            &Error::from(LocalTimeTypeError::InvalidUtcOffset),
+            Error::from(LocalTimeTypeError::InvalidUtcOffset),
             "invalid local time type: invalid UTC offset",
         ),
         (
-            &Error::from(TransitionRuleError::InvalidRuleDayMonth),
+            Error::from(TransitionRuleError::InvalidRuleDayMonth),
             "invalid transition rule: invalid rule day month",
         ),
         (
-            &Error::from(TimeZoneError::InvalidLeapSecond),
+            Error::from(TimeZoneError::InvalidLeapSecond),
             "invalid time zone: invalid leap second",
         ),
         (
-            &Error::from(DateTimeError::InvalidHour),
+            Error::from(DateTimeError::InvalidHour),
             "invalid date time: invalid hour",
         ),
     ];

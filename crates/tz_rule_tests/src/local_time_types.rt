@@ -11,11 +11,6 @@ fn fault_of_name(name: &[u8]) -> Option<LocalTimeTypeError> {
     LocalTimeType::new(0, false, Some(name)).err()
 }
 
-/// A type with this name is refused so, or is not refused.
-fn expect_fault_of_name(rt: &impl Abort, name: &[u8], fault: Option<LocalTimeTypeError>) {
-    assert_eq!(rt; fault_of_name(name), fault, "{name:?}");
-}
-
 #[test]
 fn names_have_one_to_seven_bytes(rt: HostRuntime) {
     let length = LocalTimeTypeError::InvalidTimeZoneDesignationLength;
@@ -31,7 +26,7 @@ fn names_have_one_to_seven_bytes(rt: HostRuntime) {
         (b"\0".as_slice(), Some(char)),
         (b"AB CD".as_slice(), Some(char)),
     ] {
-        expect_fault_of_name(&rt, name, fault);
+        expect_eq(&rt, &(name, fault_of_name(name)), &(name, fault));
     }
 }
 
@@ -126,7 +121,7 @@ fn expect_equal_at(
 ) -> Result<(), LocalTimeTypeError> {
     for (i, (ut_offset, is_dst, name)) in parts.iter().enumerate() {
         let other = LocalTimeType::new(*ut_offset, *is_dst, *name)?;
-        assert_eq!(rt; *one == other, i == place, "{place} {i}");
+        expect_eq_at(rt, &place, &(i, *one == other), &(i, i == place));
     }
     Ok(())
 }

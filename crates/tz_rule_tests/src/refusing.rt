@@ -1,26 +1,26 @@
 //! The allocator that refuses, and what collections hold once it has refused.
 
-use crate::expect::expect_eq;
+use crate::expect::{expect_eq, expect_eq_at};
 use std::alloc::{AllocError, Allocator};
-use std::process::Abort;
 use std::test::Fail;
 use tz_base::refusing::Refusing;
 
-fn joined<A: Allocator + Copy>(alloc: A, words: &[&str]) -> Result<String<A>, AllocError> {
+/// The words, each in room of its own.
+fn strings<A: Allocator + Copy>(alloc: A, words: &[&str]) -> Result<Vec<String<A>, A>, AllocError> {
     let mut parts = Vec::new(alloc);
     for word in words {
         parts.push(String::from_str(alloc, word)?)?;
     }
+    Ok(parts)
+}
+
+fn joined<A: Allocator + Copy>(alloc: A, words: &[&str]) -> Result<String<A>, AllocError> {
+    let parts = strings(alloc, words)?;
     let mut text = String::new(alloc);
     for part in &parts {
         text.push_str(part.as_str())?;
     }
     Ok(text)
-}
-
-/// As many allocations as the allocator was given are passed on.
-fn expect_passed_on(rt: &impl Abort, asked: u64, left: u64, passed_on: bool) {
-    assert_eq!(rt; passed_on, asked < left, "{asked} of {left}");
 }
 
 #[test]
@@ -29,18 +29,24 @@ fn passes_on_as_many_as_it_was_given(rt: HostRuntime) {
         let heap = Refusing::new(rt.alloc(), left);
         for asked in 0..6u64 {
             let passed_on = Box::new(&heap, 7u8).is_ok();
-            expect_passed_on(&rt, asked, left, passed_on);
+            expect_eq_at(&rt, &left, &(asked, passed_on), &(asked, asked < left));
         }
         expect_eq(&rt, &heap.refused(), &(6 - left));
     }
 }
 
+/// A vector with room for two numbers and no more.
+fn one_and_two<A: Allocator>(alloc: A) -> Result<Vec<u8, A>, AllocError> {
+    let mut v = Vec::with_capacity(alloc, 2)?;
+    v.push(1)?;
+    v.push(2)?;
+    Ok(v)
+}
+
 #[test]
 fn a_vec_keeps_its_items(rt: HostRuntime) -> Result<(), Fail> {
     let heap = Refusing::new(rt.alloc(), 1);
-    let mut v = Vec::with_capacity(&heap, 2)?;
-    v.push(1u8)?;
-    v.push(2)?;
+    let mut v = one_and_two(&heap)?;
     assert!(rt; v.push(3).is_err());
     expect_eq(&rt, &v.as_slice(), &[1, 2].as_slice());
     expect_eq(&rt, &heap.refused(), &1);

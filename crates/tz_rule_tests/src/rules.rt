@@ -5,6 +5,7 @@ mod stretches;
 mod years;
 
 use crate::expect::{expect_debug, expect_eq, expect_eq_at, expect_ne};
+use std::alloc::{AllocError, Global};
 use std::process::Abort;
 use std::test::Fail;
 use tz_base::error::TzError;
@@ -77,6 +78,16 @@ fn type_at(rule: &Result<AlternateTime, Refusal>, unix_time: i64) -> Option<(i32
     }
 }
 
+/// The rule has this offset and this daylight flag at an instant.
+fn expect_type_at(
+    rt: &impl Abort,
+    rule: &Result<AlternateTime, Refusal>,
+    unix_time: i64,
+    wanted: (i32, bool),
+) {
+    expect_eq_at(rt, &unix_time, &type_at(rule, unix_time), &Some(wanted));
+}
+
 /// The start in a year of a rule with offsets of 0 that ends in July.
 fn start_in(start: Result<At, TransitionRuleError>, year: i32) -> Option<i64> {
     let rule = rule(0, 0, start, j(200, 0)).ok()?;
@@ -92,32 +103,28 @@ fn all_year() -> Result<AlternateTime, Refusal> {
 fn all_year_is_daylight(rt: HostRuntime) {
     let first = all_year();
     for unix_time in [946_701_000, 946_702_799, 946_702_800] {
-        expect_eq_at(
-            &rt,
-            &unix_time,
-            &type_at(&first, unix_time),
-            &Some((-14_400, true)),
-        );
+        expect_type_at(&rt, &first, unix_time, (-14_400, true));
     }
     let second = rule(0, 3600, j(1, 0), j(365, 172_800));
     expect_eq(&rt, &type_at(&second, 978_305_400), &Some((3600, true)));
 }
 
+/// The rule has no type at the first instant and at the last one.
+fn expect_out_of_range(rt: &impl Abort, rule: AlternateTime) {
+    let rule = TransitionRule::Alternate(rule);
+    for unix_time in [i64::MIN, i64::MAX] {
+        let found = inner::find_local_time_type(&rule, unix_time);
+        assert!(rt; matches!(found, Err(TzError::OutOfRange)), "{unix_time}");
+    }
+}
+
 #[test]
 fn out_of_range_at_the_ends(rt: HostRuntime) {
-    let (Ok(all_year), Ok(auckland)) = (
-        all_year(),
-        rule(43_200, 46_800, m(10, 1, 0, 7200), m(3, 3, 0, 7200)),
-    ) else {
-        panic!(rt; "refused");
-    };
-    for rule in [all_year, auckland] {
-        let rule = TransitionRule::Alternate(rule);
-        for unix_time in [i64::MIN, i64::MAX] {
-            let found = inner::find_local_time_type(&rule, unix_time);
-            assert!(rt; matches!(found, Err(TzError::OutOfRange)), "{unix_time}");
-        }
-    }
+    let all_year = expect_made(&rt, all_year());
+    expect_out_of_range(&rt, all_year);
+    let auckland = rule(43_200, 46_800, m(10, 1, 0, 7200), m(3, 3, 0, 7200));
+    let auckland = expect_made(&rt, auckland);
+    expect_out_of_range(&rt, auckland);
 }
 
 /// What is printed for the rule of a test.
@@ -127,15 +134,19 @@ const PRINTED: &str = "AlternateTime { \
     dst_start: Julian1WithoutLeap(Julian1WithoutLeap(59)), dst_start_time: -1, \
     dst_end: Julian0WithLeap(Julian0WithLeap(0)), dst_end_time: 7200 }";
 
+/// The rule is printed as one of two kinds.
+fn expect_alternate(rt: &impl Abort, alloc: Global, made: AlternateTime) -> Result<(), AllocError> {
+    let text = format!(in alloc; "Alternate({made:?})")?;
+    expect_debug(rt, alloc, &TransitionRule::Alternate(made), text.as_str())
+}
+
 #[test]
 fn values_print_their_parts(rt: HostRuntime) -> Result<(), Fail> {
     let alloc = rt.alloc();
     let made = expect_made(&rt, rule(0, 3600, j(59, -1), z(0, 7200)));
     expect_debug(&rt, alloc, &made, PRINTED)?;
 
-    let alternate = format!(in alloc; "Alternate({made:?})")?;
-    let rule = TransitionRule::Alternate(made);
-    expect_debug(&rt, alloc, &rule, alternate.as_str())?;
+    expect_alternate(&rt, alloc, made)?;
     expect_debug(
         &rt,
         alloc,
@@ -162,12 +173,7 @@ fn the_pairing_is_the_rules(rt: HostRuntime) {
         (951_868_800, false),
         (983_404_800, false),
     ] {
-        expect_eq_at(
-            &rt,
-            &unix_time,
-            &type_at(&tie_across_years, unix_time),
-            &Some((0, is_dst)),
-        );
+        expect_type_at(&rt, &tie_across_years, unix_time, (0, is_dst));
     }
 }
 
@@ -180,12 +186,7 @@ fn offsets_of_zones(rt: HostRuntime) {
         (970_322_399, 43_200),
         (970_322_400, 46_800),
     ] {
-        expect_eq_at(
-            &rt,
-            &unix_time,
-            &type_at(&auckland, unix_time),
-            &Some((offset, offset == 46_800)),
-        );
+        expect_type_at(&rt, &auckland, unix_time, (offset, offset == 46_800));
     }
 
     let dublin = rule(3600, 0, m(10, 5, 0, 7200), m(3, 5, 0, 3600));
@@ -196,18 +197,8 @@ fn offsets_of_zones(rt: HostRuntime) {
         (972_781_199, 3600, -7200),
         (972_781_200, 0, -10_800),
     ] {
-        expect_eq_at(
-            &rt,
-            &unix_time,
-            &type_at(&dublin, unix_time),
-            &Some((in_dublin, in_dublin == 0)),
-        );
-        expect_eq_at(
-            &rt,
-            &unix_time,
-            &type_at(&nuuk, unix_time),
-            &Some((in_nuuk, in_nuuk == -7200)),
-        );
+        expect_type_at(&rt, &dublin, unix_time, (in_dublin, in_dublin == 0));
+        expect_type_at(&rt, &nuuk, unix_time, (in_nuuk, in_nuuk == -7200));
     }
 }
 
@@ -220,12 +211,7 @@ fn short_gaps_and_none(rt: HostRuntime) {
         (8_639_999, false),
         (8_640_000, true),
     ] {
-        expect_eq_at(
-            &rt,
-            &unix_time,
-            &type_at(&gap, unix_time),
-            &Some((0, is_dst)),
-        );
+        expect_type_at(&rt, &gap, unix_time, (0, is_dst));
     }
 
     let never = rule(0, 3600, j(365, 89_999), z(0, 7198));
@@ -238,18 +224,8 @@ fn short_gaps_and_none(rt: HostRuntime) {
         946_688_399,
         946_688_400,
     ] {
-        expect_eq_at(
-            &rt,
-            &unix_time,
-            &type_at(&never, unix_time),
-            &Some((0, false)),
-        );
-        expect_eq_at(
-            &rt,
-            &unix_time,
-            &type_at(&always, unix_time),
-            &Some((0, true)),
-        );
+        expect_type_at(&rt, &never, unix_time, (0, false));
+        expect_type_at(&rt, &always, unix_time, (0, true));
     }
 }
 

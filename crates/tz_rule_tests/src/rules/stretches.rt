@@ -1,7 +1,8 @@
 //! Stretches of rules beside the types at their instants.
 
-use super::{Refusal, j, m, rule, start_in, z};
+use super::{Refusal, expect_made, j, m, rule, start_in, z};
 use crate::expect::expect_eq;
+use std::process::Abort;
 use tz_rule::inner::{self, Stretch};
 use tz_rule::timezone::{AlternateTime, TransitionRule};
 
@@ -75,56 +76,61 @@ fn are_right(rule: Result<AlternateTime, Refusal>, need_not_be_found: bool) -> b
     true
 }
 
+/// The stretches of a rule are right in near and far years.
+fn expect_right(rt: &impl Abort, rule: Result<AlternateTime, Refusal>, need_not_be_found: bool) {
+    assert!(rt; are_right(rule, need_not_be_found));
+}
+
 #[test]
 fn stretches_lie_between_starts_and_ends(rt: HostRuntime) {
     let paris = rule(3600, 7200, m(3, 5, 0, 7200), m(10, 5, 0, 10_800));
-    assert!(rt; are_right(paris, false));
+    expect_right(&rt, paris, false);
     let auckland = rule(43_200, 46_800, m(9, 5, 0, 7200), m(4, 1, 0, 10_800));
-    assert!(rt; are_right(auckland, false));
+    expect_right(&rt, auckland, false);
     let dublin = rule(3600, 0, m(10, 5, 0, 7200), m(3, 5, 0, 3600));
-    assert!(rt; are_right(dublin, false));
+    expect_right(&rt, dublin, false);
     let fiji = rule(43_200, 46_800, m(11, 2, 0, 0), m(1, 2, 3, 356_400));
-    assert!(rt; are_right(fiji, false));
+    expect_right(&rt, fiji, false);
     let days = rule(0, 3600, j(60, 0), z(300, -86_400));
-    assert!(rt; are_right(days, false));
+    expect_right(&rt, days, false);
     let short = rule(0, 0, z(100, 0), z(101, -86_500));
-    assert!(rt; are_right(short, false));
+    expect_right(&rt, short, false);
 }
 
 #[test]
 fn stretches_near_the_end_of_the_year_are_right_or_not_found(rt: HostRuntime) {
     let from_new_year = rule(0, 3600, z(0, 0), j(200, 0));
-    assert!(rt; are_right(from_new_year, true));
+    expect_right(&rt, from_new_year, true);
     let to_new_year = rule(0, 3600, j(200, 0), j(365, 90_000));
-    assert!(rt; are_right(to_new_year, true));
+    expect_right(&rt, to_new_year, true);
     let over_new_year = rule(3600, -3600, z(365, 86_400), m(1, 2, 0, 0));
-    assert!(rt; are_right(over_new_year, true));
+    expect_right(&rt, over_new_year, true);
     let in_december = rule(-7200, 3600, m(12, 4, 0, -500_000), m(6, 1, 0, 500_000));
-    assert!(rt; are_right(in_december, true));
+    expect_right(&rt, in_december, true);
     let in_january = rule(-7200, 3600, m(6, 1, 0, 500_000), m(1, 2, 0, -500_000));
-    assert!(rt; are_right(in_january, true));
+    expect_right(&rt, in_january, true);
+}
+
+/// No stretch is found at any of the instants.
+fn expect_no_stretch(rt: &impl Abort, rule: &AlternateTime, unix_times: &[i64]) {
+    for unix_time in unix_times {
+        assert!(rt; inner::stretch(rule, *unix_time).is_none());
+    }
 }
 
 #[test]
 fn no_stretches_without_standard_time_or_years(rt: HostRuntime) {
-    let all_year = rule(-18_000, -14_400, z(0, 0), j(365, 90_000));
-    let (Ok(all_year), Ok(paris)) = (
-        all_year,
-        rule(3600, 7200, m(3, 5, 0, 7200), m(10, 5, 0, 10_800)),
-    ) else {
-        panic!(rt; "refused");
-    };
-    for unix_time in [0, 1_000_000_000, i64::MIN, i64::MAX] {
-        assert!(rt; inner::stretch(&all_year, unix_time).is_none());
-    }
-    for unix_time in [i64::MIN, i64::MAX, -60_000_000_000_000_001] {
-        assert!(rt; inner::stretch(&paris, unix_time).is_none());
-    }
+    let all_year = expect_made(&rt, rule(-18_000, -14_400, z(0, 0), j(365, 90_000)));
+    expect_no_stretch(&rt, &all_year, &[0, 1_000_000_000, i64::MIN, i64::MAX]);
+    let paris = rule(3600, 7200, m(3, 5, 0, 7200), m(10, 5, 0, 10_800));
+    let paris = expect_made(&rt, paris);
+    let out_of_range = [i64::MIN, i64::MAX, -60_000_000_000_000_001];
+    expect_no_stretch(&rt, &paris, &out_of_range);
     // Daylight saving time of 2024.
-    let Some(found) = inner::stretch(&paris, 1_720_000_000) else {
-        panic!(rt; "no stretch");
-    };
-    expect_eq(&rt, &found.from, &1_711_846_800);
-    expect_eq(&rt, &found.until, &1_729_990_800);
-    assert!(rt; found.is_daylight);
+    let found = inner::stretch(&paris, 1_720_000_000).map(|found| (
+        found.from,
+        found.until,
+        found.is_daylight,
+    ));
+    expect_eq(&rt, &found, &Some((1_711_846_800, 1_729_990_800, true)));
 }
