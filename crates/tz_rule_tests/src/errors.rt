@@ -165,50 +165,50 @@ fn part_errors_have_their_texts(rt: HostRuntime) -> Result<(), Fail> {
 }
 
 /// The errors of strings that are not made of others, and their texts.
-const STRING_TEXTS: [(&TzStringError, &str); 9] = [
-    (&TzStringError::InvalidOffsetHour, "invalid offset hour"),
-    (&TzStringError::InvalidOffsetMinute, "invalid offset minute"),
-    (&TzStringError::InvalidOffsetSecond, "invalid offset second"),
-    (&TzStringError::InvalidDayTimeHour, "invalid day time hour"),
+const STRING_TEXTS: [(TzStringError, &str); 9] = [
+    (TzStringError::InvalidOffsetHour, "invalid offset hour"),
+    (TzStringError::InvalidOffsetMinute, "invalid offset minute"),
+    (TzStringError::InvalidOffsetSecond, "invalid offset second"),
+    (TzStringError::InvalidDayTimeHour, "invalid day time hour"),
     (
-        &TzStringError::InvalidDayTimeMinute,
+        TzStringError::InvalidDayTimeMinute,
         "invalid day time minute",
     ),
     (
-        &TzStringError::InvalidDayTimeSecond,
+        TzStringError::InvalidDayTimeSecond,
         "invalid day time second",
     ),
     (
-        &TzStringError::MissingDstStartEndRules,
+        TzStringError::MissingDstStartEndRules,
         "missing DST start and end rules",
     ),
     (
-        &TzStringError::RemainingData,
+        TzStringError::RemainingData,
         "remaining data after parsing TZ string",
     ),
-    (&TzStringError::Empty, "empty TZ string"),
+    (TzStringError::Empty, "empty TZ string"),
 ];
 
 /// The errors of files that are not made of others, and their texts.
-const FILE_TEXTS: [(&TzFileError, &str); 8] = [
-    (&TzFileError::InvalidMagicNumber, "invalid magic number"),
+const FILE_TEXTS: [(TzFileError, &str); 8] = [
+    (TzFileError::InvalidMagicNumber, "invalid magic number"),
     (
-        &TzFileError::UnsupportedTzFileVersion,
+        TzFileError::UnsupportedTzFileVersion,
         "unsupported TZ file version",
     ),
-    (&TzFileError::InvalidHeader, "invalid header"),
-    (&TzFileError::InvalidFooter, "invalid footer"),
-    (&TzFileError::InvalidDstIndicator, "invalid DST indicator"),
+    (TzFileError::InvalidHeader, "invalid header"),
+    (TzFileError::InvalidFooter, "invalid footer"),
+    (TzFileError::InvalidDstIndicator, "invalid DST indicator"),
     (
-        &TzFileError::InvalidTimeZoneDesignationCharIndex,
+        TzFileError::InvalidTimeZoneDesignationCharIndex,
         "invalid time zone designation char index",
     ),
     (
-        &TzFileError::InvalidStdWallUtLocal,
+        TzFileError::InvalidStdWallUtLocal,
         "invalid couple of standard/wall and UT/local indicators",
     ),
     (
-        &TzFileError::RemainingDataV1,
+        TzFileError::RemainingDataV1,
         "remaining data after the end of a TZif v1 data block",
     ),
 ];
