@@ -8,6 +8,8 @@ mod failing;
 #[cfg(test)]
 mod fast;
 #[cfg(test)]
+mod growths;
+#[cfg(test)]
 mod lines;
 #[cfg(test)]
 mod meetings;

@@ -1,7 +1,9 @@
 //! Query lines, by rows and by another program's answers.
 
-use crate::expect::{expect_eq, expect_eq_at};
-use std::alloc::Allocator;
+use crate::expect::expect_eq;
+use crate::growths::{expect_answers_or_refusal, expect_growths};
+use std::alloc::{Allocator, Global};
+use std::process::Abort;
 use std::test::Fail;
 use tz::{LocalTimeType, TimeZone, TimeZoneRef, TzError};
 use tz_base::refusing::Refusing;
@@ -15,6 +17,18 @@ fn answered<A: Allocator + Copy>(
 ) -> Result<Vec<u8, A>, TzError> {
     let zone = TimeZone::fixed(alloc, ut_offset)?;
     answer(alloc, zone.as_ref(), queries)
+}
+
+/// The queries have these answers over UTC.
+fn expect_answered(
+    rt: &impl Abort,
+    alloc: Global,
+    queries: &[u8],
+    answers: &[u8],
+) -> Result<(), TzError> {
+    let found = answered(alloc, 0, queries)?;
+    expect_eq(rt, &found.as_slice(), &answers);
+    Ok(())
 }
 
 /// Offsets with lines at the limits of their numbers, of years and of offsets, and what tz-rs answers to them.
@@ -194,65 +208,55 @@ fn refuses_by_name(rt: HostRuntime) -> Result<(), Fail> {
     let queries =
         b"T 0\nT 0 1000000000\nF 2001 300 1 0 0 0 0\nT 9223372036854775807 1000000000\nT 9223372036854775807 999999999\n";
     let answers = b"E Line\nE InvalidNanoseconds\nE Line\nE InvalidNanoseconds\nE OutOfRange\n";
-    expect_eq(
-        &rt,
-        &answered(rt.alloc(), 0, queries)?.as_slice(),
-        &answers.as_slice(),
-    );
+    expect_answered(&rt, rt.alloc(), queries, answers)?;
     Ok(())
+}
+
+/// Lines that are none of the grammar.
+const NO_LINES: [&str; 19] = [
+    "T +1 5", "T 1  5", "T 1 5 ", "", " T 1 5", "T  1 5", "T 1 5 6", "T 1", "T", "t 1 5",
+    "T 1 5\r", "T -1 --5", "T - 5", "T 1 -", "T 1\t5", "T1 5", "T 1e3 5", "T 1 5x", "W 1 5",
+];
+
+/// The line with an LF is refused.
+fn expect_no_line(rt: &impl Abort, alloc: Global, line: &str) -> Result<(), TzError> {
+    let mut queries = Vec::new(alloc);
+    queries.extend_from_slice(line.as_bytes())?;
+    queries.push(b'\n')?;
+    expect_answered(rt, alloc, queries.as_slice(), b"E Line\n")
 }
 
 #[test]
 fn reads_only_the_grammar(rt: HostRuntime) -> Result<(), Fail> {
-    let lines = [
-        "T +1 5", "T 1  5", "T 1 5 ", "", " T 1 5", "T  1 5", "T 1 5 6", "T 1", "T", "t 1 5",
-        "T 1 5\r", "T -1 --5", "T - 5", "T 1 -", "T 1\t5", "T1 5", "T 1e3 5", "T 1 5x", "W 1 5",
-    ];
-    for line in &lines {
-        let mut queries = Vec::new(rt.alloc());
-        queries.extend_from_slice(line.as_bytes())?;
-        queries.push(b'\n')?;
-        let found = answered(rt.alloc(), 0, queries.as_slice())?;
-        expect_eq_at(&rt, &line, &found.as_slice(), &b"E Line\n".as_slice());
+    for line in &NO_LINES {
+        expect_no_line(&rt, rt.alloc(), line)?;
     }
-    let found = answered(
-        rt.alloc(),
-        0,
-        b"T 1 \xFF\n\xC3\x28\nT 1 5\0\nT 00000000000000000000001 5",
-    )?;
-    expect_eq(
+    expect_answered(
         &rt,
-        &found.as_slice(),
-        &b"E Line\nE Line\nE Line\n1970-01-01T00:00:01.000000005Z -\n".as_slice(),
-    );
+        rt.alloc(),
+        b"T 1 \xFF\n\xC3\x28\nT 1 5\0\nT 00000000000000000000001 5",
+        b"E Line\nE Line\nE Line\n1970-01-01T00:00:01.000000005Z -\n",
+    )?;
     Ok(())
 }
 
+/// Queries with lines that end in an LF and in none, and their answers.
+const CUT_LINES: [(&[u8], &[u8]); 5] = [
+    (b"", b""),
+    (b"\n", b"E Line\n"),
+    (b"T 0 0", b"1970-01-01T00:00:00.000000000Z -\n"),
+    (b"T 0 0\n", b"1970-01-01T00:00:00.000000000Z -\n"),
+    (
+        b"\n\nT 0 0\n\nT 0 0",
+        b"E Line\nE Line\n1970-01-01T00:00:00.000000000Z -\nE Line\n1970-01-01T00:00:00.000000000Z -\n",
+    ),
+];
+
 #[test]
 fn cuts_lines_at_each_lf(rt: HostRuntime) -> Result<(), Fail> {
-    let epoch = b"1970-01-01T00:00:00.000000000Z -\n";
-    expect_eq(&rt, &answered(rt.alloc(), 0, b"")?.len(), &0);
-    expect_eq(
-        &rt,
-        &answered(rt.alloc(), 0, b"\n")?.as_slice(),
-        &b"E Line\n".as_slice(),
-    );
-    expect_eq(
-        &rt,
-        &answered(rt.alloc(), 0, b"T 0 0")?.as_slice(),
-        &epoch.as_slice(),
-    );
-    expect_eq(
-        &rt,
-        &answered(rt.alloc(), 0, b"T 0 0\n")?.as_slice(),
-        &epoch.as_slice(),
-    );
-    let found = answered(rt.alloc(), 0, b"\n\nT 0 0\n\nT 0 0")?;
-    expect_eq(
-        &rt,
-        &found.as_slice(),
-        &b"E Line\nE Line\n1970-01-01T00:00:00.000000000Z -\nE Line\n1970-01-01T00:00:00.000000000Z -\n".as_slice(),
-    );
+    for (queries, answers) in &CUT_LINES {
+        expect_answered(&rt, rt.alloc(), queries, answers)?;
+    }
     Ok(())
 }
 
@@ -263,12 +267,12 @@ fn reads_a_million_digits(rt: HostRuntime) -> Result<(), Fail> {
     zeros.resize(1_000_000, b'0')?;
     zeros.extend_from_slice(b"7 5\nT 0 ")?;
     zeros.resize(2_000_000, b'9')?;
-    let found = answered(rt.alloc(), 0, zeros.as_slice())?;
-    expect_eq(
+    expect_answered(
         &rt,
-        &found.as_slice(),
-        &b"1970-01-01T00:00:07.000000005Z -\nE Line\n".as_slice(),
-    );
+        rt.alloc(),
+        zeros.as_slice(),
+        b"1970-01-01T00:00:07.000000005Z -\nE Line\n",
+    )?;
     Ok(())
 }
 
@@ -290,19 +294,14 @@ fn prints_the_name_of_the_type(rt: HostRuntime) -> Result<(), Fail> {
 fn refused_memory_changes_no_answer(rt: HostRuntime) -> Result<(), Fail> {
     let queries = b"T 946684800 123456789\nT 0\n";
     let answers = b"1999-12-31T23:00:00.123456789-01:00 -\nE Line\n";
-    let mut refusals = 0u64;
+    let mut growths = 0u64;
     for left in 0..20u64 {
         let heap = Refusing::new(rt.alloc(), left);
-        match answered(&heap, -3600, queries) {
-            Ok(found) => expect_eq(&rt, &found.as_slice(), &answers.as_slice()),
-            Err(error) => {
-                assert!(rt; matches!(error, TzError::Memory(_)));
-                refusals = left + 1;
-            }
+        let given = answered(&heap, -3600, queries);
+        if expect_answers_or_refusal(&rt, left, &heap, given, answers) {
+            growths = left + 1;
         }
-        expect_eq(&rt, &heap.refused(), &u64::from(left < refusals));
     }
-    assert!(rt; refusals > 1);
-    assert!(rt; refusals < 20);
+    expect_growths(&rt, growths, 2..20);
     Ok(())
 }

@@ -1,10 +1,10 @@
 //! `W` lines over zones whose answers are known.
 
 use crate::expect::{expect_eq, expect_eq_at};
+use crate::growths::expect_each_growth_can_be_refused;
 use crate::samples::central_europe;
 use std::test::Fail;
-use tz::{TimeZoneRef, TzError, UtcDateTime};
-use tz_base::refusing::Refusing;
+use tz::{TimeZoneRef, UtcDateTime};
 use tz_query::query::answer;
 
 /// Three weeks over a jump of the clock of Central Europe, and their answer.
@@ -26,36 +26,38 @@ fn a_meeting_keeps_its_time_of_day_over_a_jump(rt: HostRuntime) -> Result<(), Fa
     Ok(())
 }
 
+/// Lines over UTC, and their answers.
+const MEETINGS: [(&str, &str); 13] = [
+    (
+        "W 2 2016 12 31 23 59 60 0",
+        "W 2\nF 1\nN 2016-12-31T23:59:60.000000000Z -\nF 1\nN 2017-01-07T23:59:60.000000000Z -\n",
+    ),
+    ("W 0 2001 2 28 0 0 0 0", "W 0\n"),
+    ("W 003 2001 13 1 0 0 0 0", "E InvalidMonth\n"),
+    (
+        "W 001 2001 2 22 0 0 0 7",
+        "W 1\nF 1\nN 2001-02-22T00:00:00.000000007Z -\n",
+    ),
+    ("W 0 2001 2 29 0 0 0 0", "E InvalidMonthDay\n"),
+    ("W 1 2001 2 28 0 0 61 0", "E InvalidSecond\n"),
+    ("W 1 2001 2 29 0 0 60 0", "E InvalidMonthDay\n"),
+    ("W 256 2001 2 28 0 0 0 0", "E Line\n"),
+    ("W -1 2001 2 28 0 0 0 0", "E Line\n"),
+    ("W 2001 2 28 0 0 0 0", "E Line\n"),
+    (
+        "W 2 2147483647 12 31 0 0 0 0",
+        "W 2\nF 1\nN 2147483647-12-31T00:00:00.000000000Z -\nE OutOfRange\n",
+    ),
+    ("W 1 2147483647 12 31 23 59 60 0", "W 1\nE OutOfRange\n"),
+    (
+        "W 1 -2147483648 1 1 0 0 0 0",
+        "W 1\nF 1\nN -2147483648-01-01T00:00:00.000000000Z -\n",
+    ),
+];
+
 #[test]
 fn meetings_have_these_answers(rt: HostRuntime) -> Result<(), Fail> {
-    let rows = [
-        (
-            "W 2 2016 12 31 23 59 60 0",
-            "W 2\nF 1\nN 2016-12-31T23:59:60.000000000Z -\nF 1\nN 2017-01-07T23:59:60.000000000Z -\n",
-        ),
-        ("W 0 2001 2 28 0 0 0 0", "W 0\n"),
-        ("W 003 2001 13 1 0 0 0 0", "E InvalidMonth\n"),
-        (
-            "W 001 2001 2 22 0 0 0 7",
-            "W 1\nF 1\nN 2001-02-22T00:00:00.000000007Z -\n",
-        ),
-        ("W 0 2001 2 29 0 0 0 0", "E InvalidMonthDay\n"),
-        ("W 1 2001 2 28 0 0 61 0", "E InvalidSecond\n"),
-        ("W 1 2001 2 29 0 0 60 0", "E InvalidMonthDay\n"),
-        ("W 256 2001 2 28 0 0 0 0", "E Line\n"),
-        ("W -1 2001 2 28 0 0 0 0", "E Line\n"),
-        ("W 2001 2 28 0 0 0 0", "E Line\n"),
-        (
-            "W 2 2147483647 12 31 0 0 0 0",
-            "W 2\nF 1\nN 2147483647-12-31T00:00:00.000000000Z -\nE OutOfRange\n",
-        ),
-        ("W 1 2147483647 12 31 23 59 60 0", "W 1\nE OutOfRange\n"),
-        (
-            "W 1 -2147483648 1 1 0 0 0 0",
-            "W 1\nF 1\nN -2147483648-01-01T00:00:00.000000000Z -\n",
-        ),
-    ];
-    for (line, want) in &rows {
+    for (line, want) in &MEETINGS {
         let found = answer(rt.alloc(), TimeZoneRef::utc(), line.as_bytes())?;
         expect_eq_at(&rt, &line, &found.as_slice(), &want.as_bytes());
     }
@@ -81,22 +83,13 @@ fn the_longest_meeting_is_asked_for_week_by_week(rt: HostRuntime) -> Result<(), 
 #[test]
 fn each_growth_of_a_meeting_can_be_refused(rt: HostRuntime) -> Result<(), Fail> {
     let zone = central_europe(rt.alloc())?;
-    let mut refusals = 0u64;
-    for left in 0..40u64 {
-        let heap = Refusing::new(rt.alloc(), left);
-        match answer(&heap, zone.as_ref(), OVER_A_JUMP.as_bytes()) {
-            Ok(found) => expect_eq(&rt, &found.as_slice(), &JUMPED.as_bytes()),
-            Err(error) => {
-                assert!(rt; matches!(error, TzError::Memory(_)), "after {left}");
-                refusals = left + 1;
-            }
-        }
-        expect_eq(
-            &rt,
-            &(heap.refused(), heap.held()),
-            &(u64::from(left < refusals), 0),
-        );
-    }
-    assert!(rt; (4..40).contains(&refusals));
+    expect_each_growth_can_be_refused(
+        &rt,
+        rt.alloc(),
+        zone.as_ref(),
+        OVER_A_JUMP.as_bytes(),
+        JUMPED.as_bytes(),
+        4..40,
+    );
     Ok(())
 }

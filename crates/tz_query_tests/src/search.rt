@@ -1,8 +1,9 @@
 //! `F` lines over zones whose answers are known.
 
 use crate::expect::{expect_eq, expect_eq_at};
+use crate::growths::expect_each_growth_can_be_refused;
 use crate::samples::central_europe;
-use std::alloc::{Allocator, Global};
+use std::alloc::Global;
 use std::process::Abort;
 use std::test::Fail;
 use tz::timezone::{
@@ -10,7 +11,6 @@ use tz::timezone::{
     TransitionRule,
 };
 use tz::{LocalTimeType, TimeZone, TimeZoneRef, TzError};
-use tz_base::refusing::Refusing;
 use tz_file_tests::samples::JERUSALEM_V3;
 use tz_query::query::answer;
 
@@ -335,54 +335,43 @@ fn years_of_32_bits_are_asked_for(rt: HostRuntime) -> Result<(), Fail> {
     Ok(())
 }
 
+/// Lines that are none of the grammar.
+const NO_LINES: [&str; 16] = [
+    "F 2000 1 1 0 0 0",
+    "F 2000 1 1 0 0 0 0 0",
+    "F 2000 1 1 0 0 0 0 ",
+    "F 2000 1 1 0 0 0  0",
+    " F 2000 1 1 0 0 0 0",
+    "F  2000 1 1 0 0 0 0",
+    "F2000 1 1 0 0 0 0",
+    "f 2000 1 1 0 0 0 0",
+    "F +2000 1 1 0 0 0 0",
+    "F 2000 256 1 0 0 0 0",
+    "F 2000 -1 1 0 0 0 0",
+    "F 2000 1 1 0 0 0 4294967296",
+    "F 2000 1 1 0 0 0 -1",
+    "F 2000 1 1 0 0 0 0x",
+    "F 2000-1-1 0 0 0 0",
+    "F",
+];
+
 #[test]
 fn reads_only_the_grammar(rt: HostRuntime) -> Result<(), Fail> {
-    let lines = [
-        "F 2000 1 1 0 0 0",
-        "F 2000 1 1 0 0 0 0 0",
-        "F 2000 1 1 0 0 0 0 ",
-        "F 2000 1 1 0 0 0  0",
-        " F 2000 1 1 0 0 0 0",
-        "F  2000 1 1 0 0 0 0",
-        "F2000 1 1 0 0 0 0",
-        "f 2000 1 1 0 0 0 0",
-        "F +2000 1 1 0 0 0 0",
-        "F 2000 256 1 0 0 0 0",
-        "F 2000 -1 1 0 0 0 0",
-        "F 2000 1 1 0 0 0 4294967296",
-        "F 2000 1 1 0 0 0 -1",
-        "F 2000 1 1 0 0 0 0x",
-        "F 2000-1-1 0 0 0 0",
-        "F",
-    ];
-    for line in &lines {
+    for line in &NO_LINES {
         let found = answer(rt.alloc(), TimeZoneRef::utc(), line.as_bytes())?;
         expect_eq_at(&rt, &line, &found.as_slice(), &b"E Line\n".as_slice());
     }
     Ok(())
 }
 
-/// The answers where a number of growths succeed.
-fn answered<A: Allocator + Copy>(alloc: A) -> Result<Vec<u8, A>, TzError> {
-    answer(alloc, TimeZoneRef::utc(), b"F 2000 1 1 0 0 0 0\nT 0\n")
-}
-
 #[test]
-fn refused_memory_changes_no_answer(rt: HostRuntime) -> Result<(), Fail> {
-    let answers = b"F 1\nN 2000-01-01T00:00:00.000000000Z -\nE Line\n";
-    let mut refusals = 0u64;
-    for left in 0..20u64 {
-        let heap = Refusing::new(rt.alloc(), left);
-        match answered(&heap) {
-            Ok(found) => expect_eq(&rt, &found.as_slice(), &answers.as_slice()),
-            Err(error) => {
-                assert!(rt; matches!(error, TzError::Memory(_)));
-                refusals = left + 1;
-            }
-        }
-        expect_eq(&rt, &heap.refused(), &u64::from(left < refusals));
-    }
-    assert!(rt; refusals > 1);
-    assert!(rt; refusals < 20);
-    Ok(())
+fn refused_memory_changes_no_answer(rt: HostRuntime) {
+    expect_each_growth_can_be_refused(
+        &rt,
+        rt.alloc(),
+        TimeZoneRef::utc(),
+        b"F 2000 1 1 0 0 0 0\nT 0\n",
+        b"F 1\nN 2000-01-01T00:00:00.000000000Z -\nE Line\n",
+        2..20,
+    );
 }

@@ -2,9 +2,13 @@
 
 use crate::expect::{expect_eq, expect_eq_at};
 use crate::failing::{FailingReader, FailingWriter};
+use crate::growths::{expect_growths, expect_refusal};
 use crate::samples::central_europe;
 use std::alloc::Global;
+use std::fmt::Display;
+use std::process::Abort;
 use std::test::Fail;
+use tz::TimeZoneRef;
 use tz_base::refusing::Refusing;
 use tz_query::query::{RunFault, run};
 
@@ -63,41 +67,70 @@ fn a_failed_read_writes_nothing(rt: HostRuntime) -> Result<(), Fail> {
     Ok(())
 }
 
+/// A run whose writer fails after a number of pieces leaves a front of the answers of this length.
+fn expect_front(
+    rt: &impl Abort,
+    alloc: Global,
+    writes: u8,
+    piece: usize,
+    length: usize,
+) -> Result<(), Fail> {
+    let found = outcome(alloc, u8::MAX, writes, piece)?;
+    let want = format!(in alloc; "Write|{}", ANSWERS.get(..length).unwrap_or(""))?;
+    expect_eq_at(rt, &piece, &found.as_str(), &want.as_str());
+    Ok(())
+}
+
 #[test]
 fn a_failed_write_leaves_a_front(rt: HostRuntime) -> Result<(), Fail> {
-    for (writes, piece, front) in [(0, usize::MAX, 0), (1, 10, 10), (3, 10, 30), (9, 0, 0)] {
-        let found = outcome(rt.alloc(), u8::MAX, writes, piece)?;
-        let want = format!(in rt.alloc(); "Write|{}", ANSWERS.get(..front).unwrap_or(""))?;
-        assert_eq!(rt; found.as_str(), want.as_str(), "{writes} writes of {piece}");
+    for (writes, piece, length) in [(0, usize::MAX, 0), (1, 10, 10), (3, 10, 30), (9, 0, 0)] {
+        expect_front(&rt, rt.alloc(), writes, piece, length)?;
     }
     Ok(())
+}
+
+/// A run where a number of growths are granted and each later one is refused writes all answers, or none for want of memory. Says
+/// whether a growth was refused.
+fn run_is_refused(rt: &impl Abort, alloc: Global, zone: TimeZoneRef<'_>, left: u64) -> bool {
+    let heap = Refusing::new(alloc, left);
+    let mut input = QUERIES;
+    let mut out = Vec::new(alloc);
+    let answer = run(&heap, zone, &mut input, &mut out);
+    let refused = answer.is_err();
+    let (outcome, written) = if refused {
+        ("Memory", "")
+    } else {
+        ("Ok", ANSWERS)
+    };
+    expect_eq_at(rt, &left, &name(&answer), &outcome);
+    expect_eq_at(rt, &left, &out.as_slice(), &written.as_bytes());
+    expect_refusal(rt, left, &heap, refused);
+    refused
 }
 
 #[test]
 fn each_growth_can_be_refused(rt: HostRuntime) -> Result<(), Fail> {
     let zone = central_europe(rt.alloc())?;
     let same = central_europe(rt.alloc())?;
-    let mut refusals = 0u64;
+    let mut growths = 0u64;
     for left in 0..20u64 {
-        let heap = Refusing::new(rt.alloc(), left);
-        let mut input = QUERIES;
-        let mut out = Vec::new(rt.alloc());
-        match run(&heap, zone.as_ref(), &mut input, &mut out) {
-            Ok(()) => expect_eq(&rt, &out.as_slice(), &ANSWERS.as_bytes()),
-            Err(fault) => {
-                assert!(rt; matches!(fault, RunFault::Memory), "after {left}");
-                expect_eq_at(&rt, &left, &out.len(), &0);
-                refusals = left + 1;
-            }
+        if run_is_refused(&rt, rt.alloc(), zone.as_ref(), left) {
+            growths = left + 1;
         }
-        expect_eq(
-            &rt,
-            &(heap.refused(), heap.held()),
-            &(u64::from(left < refusals), 0),
-        );
-        assert!(rt; zone == same, "after {left}");
+        expect_eq_at(&rt, &left, &zone, &same);
     }
-    assert!(rt; (3..20).contains(&refusals));
+    expect_growths(&rt, growths, 3..20);
+    Ok(())
+}
+
+/// The value prints as this text.
+fn expect_text(
+    rt: &impl Abort,
+    alloc: Global,
+    value: &impl Display,
+    text: &str,
+) -> Result<(), Fail> {
+    expect_eq(rt, &format!(in alloc; "{value}")?.as_str(), &text);
     Ok(())
 }
 
@@ -108,7 +141,7 @@ fn faults_have_the_program_s_words(rt: HostRuntime) -> Result<(), Fail> {
         (RunFault::Memory, "no memory"),
         (RunFault::Write, "cannot write answers"),
     ] {
-        expect_eq(&rt, &format!(in rt.alloc(); "{fault}")?.as_str(), &text);
+        expect_text(&rt, rt.alloc(), &fault, text)?;
     }
     Ok(())
 }

@@ -1,9 +1,10 @@
 //! Answers over TZif files, by rows.
 
 use crate::expect::{expect_eq, expect_eq_at};
+use crate::growths::{expect_answers_or_refusal, expect_growths};
 use std::alloc::{AllocError, Global};
 use std::test::Fail;
-use tz::{TimeZone, TzError};
+use tz::TimeZone;
 use tz_base::refusing::Refusing;
 use tz_file_tests::samples::{JERUSALEM_V3, UTC_V1};
 use tz_query::query::{answer, answer_tzif};
@@ -117,48 +118,31 @@ const ANSWERS: &[u8] = b"F 1\n\
       2040-03-23T03:00:00.000000000+03:00 IDT\n";
 
 #[test]
-fn each_growth_of_a_file_s_answers_can_be_refused(rt: HostRuntime) -> Result<(), Fail> {
-    let mut refusals = 0u64;
+fn each_growth_of_a_file_s_answers_can_be_refused(rt: HostRuntime) {
+    let mut growths = 0u64;
     for left in 0..20u64 {
         let heap = Refusing::new(rt.alloc(), left);
-        match answer_tzif(&heap, JERUSALEM_V3, QUERIES) {
-            Ok(given) => expect_eq(&rt, &given.as_slice(), &ANSWERS),
-            Err(error) => {
-                assert!(rt; matches!(error, TzError::Memory(_)), "after {left}");
-                refusals = left + 1;
-            }
+        let given = answer_tzif(&heap, JERUSALEM_V3, QUERIES);
+        if expect_answers_or_refusal(&rt, left, &heap, given, ANSWERS) {
+            growths = left + 1;
         }
-        expect_eq(
-            &rt,
-            &(heap.refused(), heap.held()),
-            &(u64::from(left < refusals), 0),
-        );
     }
-    assert!(rt; (4..20).contains(&refusals));
-    Ok(())
+    expect_growths(&rt, growths, 4..20);
 }
 
 #[test]
 fn each_growth_of_answers_can_be_refused(rt: HostRuntime) -> Result<(), Fail> {
     let zone = TimeZone::from_tz_data(rt.alloc(), JERUSALEM_V3)?;
     let same = zone.try_clone()?;
-    let mut refusals = 0u64;
+    let mut growths = 0u64;
     for left in 0..20u64 {
         let heap = Refusing::new(rt.alloc(), left);
-        match answer(&heap, zone.as_ref(), QUERIES) {
-            Ok(given) => expect_eq(&rt, &given.as_slice(), &ANSWERS),
-            Err(error) => {
-                assert!(rt; matches!(error, TzError::Memory(_)), "after {left}");
-                refusals = left + 1;
-            }
+        let given = answer(&heap, zone.as_ref(), QUERIES);
+        if expect_answers_or_refusal(&rt, left, &heap, given, ANSWERS) {
+            growths = left + 1;
         }
-        expect_eq(
-            &rt,
-            &(heap.refused(), heap.held()),
-            &(u64::from(left < refusals), 0),
-        );
-        assert!(rt; zone == same, "after {left}");
+        expect_eq_at(&rt, &left, &zone, &same);
     }
-    assert!(rt; (2..20).contains(&refusals));
+    expect_growths(&rt, growths, 2..20);
     Ok(())
 }
