@@ -1,9 +1,9 @@
 //! The program's answers, and its faults with their lines and statuses, by rows.
 
-use crate::expect::expect_eq;
 use crate::failing::{FailingReader, FailingWriter};
 use anyhow::anyhow;
 use std::alloc::{AllocError, Global};
+use std::process::Abort;
 use std::test::Fail;
 use tz::error::ReadFault;
 use tz_base::refusing::Refusing;
@@ -35,6 +35,13 @@ fn file_at(alloc: Global, path: &str) -> Result<Vec<u8>, ReadFault> {
     }
 }
 
+/// The status and the outputs of the program, each after `|`.
+fn written(alloc: Global, status: u8, out: Vec<u8>, err: Vec<u8>) -> Result<String, Fail> {
+    let out = String::from_utf8(out)?;
+    let err = String::from_utf8(err)?;
+    Ok(format!(in alloc; "{status}|{out}|{err}")?)
+}
+
 /// What the program does: its status, and its outputs, each after `|`.
 fn outcome(alloc: Global, arguments: &[&str], queries: &[u8]) -> Result<String, Fail> {
     let mut input = queries;
@@ -42,124 +49,148 @@ fn outcome(alloc: Global, arguments: &[&str], queries: &[u8]) -> Result<String, 
     let mut err = Vec::new(alloc);
     let reader = |path: &str| file_at(alloc, path);
     let status = tool(alloc, arguments, reader, &mut input, &mut out, &mut err);
-    let out = String::from_utf8(out)?;
-    let err = String::from_utf8(err)?;
-    Ok(format!(in alloc; "{status}|{out}|{err}")?)
+    written(alloc, status, out, err)
 }
+
+/// The program does this.
+fn expect_outcome(
+    rt: &impl Abort,
+    alloc: Global,
+    arguments: &[&str],
+    queries: &[u8],
+    want: &str,
+) -> Result<(), Fail> {
+    let found = outcome(alloc, arguments, queries)?;
+    assert_eq!(rt; found.as_str(), want, "{arguments:?}");
+    Ok(())
+}
+
+/// Asked for the epoch, the program does what a text says between two others.
+fn expect_outcome_around(
+    rt: &impl Abort,
+    alloc: Global,
+    arguments: &[&str],
+    before: &str,
+    text: &str,
+    after: &str,
+) -> Result<(), Fail> {
+    let want = format!(in alloc; "{before}{text}{after}")?;
+    expect_outcome(rt, alloc, arguments, b"T 0 0\n", want.as_str())
+}
+
+/// Options with their words, and the epoch in their zone.
+const ZONES: [(&str, &str, &str); 13] = [
+    ("-o", "-3600", "1969-12-31T23:00:00.000000000-01:00 -"),
+    ("-o", "-0000", "1970-01-01T00:00:00.000000000Z -"),
+    ("-o", "86400", "1970-01-02T00:00:00.000000000+24:00 -"),
+    ("-o", "100000", "1970-01-02T03:46:40.000000000+27:46:40 -"),
+    (
+        "-o",
+        "2147483647",
+        "2038-01-19T03:14:07.000000000+596523:14:07 -",
+    ),
+    ("-f", "/utc", "1970-01-01T00:00:00.000000000Z UTC"),
+    ("-f", "/utc_v4", "1970-01-01T00:00:00.000000000Z UTC"),
+    ("-z", "HST10", "1969-12-31T14:00:00.000000000-10:00 HST"),
+    ("-z", " HST10\n", "1969-12-31T14:00:00.000000000-10:00 HST"),
+    (
+        "-z",
+        "CET-1CEST,M3.5.0,M10.5.0/3",
+        "1970-01-01T01:00:00.000000000+01:00 CET",
+    ),
+    ("-z", "/utc", "1970-01-01T00:00:00.000000000Z UTC"),
+    ("-z", ":/utc", "1970-01-01T00:00:00.000000000Z UTC"),
+    ("-z", "Zone/UTC", "1970-01-01T00:00:00.000000000Z UTC"),
+];
 
 #[test]
 fn answers_over_the_zone_of_the_words(rt: HostRuntime) -> Result<(), Fail> {
-    let rows = [
-        ("-o", "-3600", "1969-12-31T23:00:00.000000000-01:00 -"),
-        ("-o", "-0000", "1970-01-01T00:00:00.000000000Z -"),
-        ("-o", "86400", "1970-01-02T00:00:00.000000000+24:00 -"),
-        ("-o", "100000", "1970-01-02T03:46:40.000000000+27:46:40 -"),
-        (
-            "-o",
-            "2147483647",
-            "2038-01-19T03:14:07.000000000+596523:14:07 -",
-        ),
-        ("-f", "/utc", "1970-01-01T00:00:00.000000000Z UTC"),
-        ("-f", "/utc_v4", "1970-01-01T00:00:00.000000000Z UTC"),
-        ("-z", "HST10", "1969-12-31T14:00:00.000000000-10:00 HST"),
-        ("-z", " HST10\n", "1969-12-31T14:00:00.000000000-10:00 HST"),
-        (
-            "-z",
-            "CET-1CEST,M3.5.0,M10.5.0/3",
-            "1970-01-01T01:00:00.000000000+01:00 CET",
-        ),
-        ("-z", "/utc", "1970-01-01T00:00:00.000000000Z UTC"),
-        ("-z", ":/utc", "1970-01-01T00:00:00.000000000Z UTC"),
-        ("-z", "Zone/UTC", "1970-01-01T00:00:00.000000000Z UTC"),
-    ];
-    for (option, word, answer) in &rows {
-        let found = outcome(rt.alloc(), &[option, word], b"T 0 0\n")?;
-        let want = format!(in rt.alloc(); "0|{answer}\n|")?;
-        assert_eq!(rt; found.as_str(), want.as_str(), "{option} {word}");
+    for (option, word, answer) in &ZONES {
+        expect_outcome_around(&rt, rt.alloc(), &[option, word], "0|", answer, "\n|")?;
     }
-    let first = outcome(rt.alloc(), &["-o", "-3600"], b"T 946684800 123456789\n")?;
-    expect_eq(
+    expect_outcome(
         &rt,
-        &first.as_str(),
-        &"0|1999-12-31T23:00:00.123456789-01:00 -\n|",
-    );
-    expect_eq(
-        &rt,
-        &outcome(rt.alloc(), &["-z", "A0"], b"")?.as_str(),
-        &"0||",
-    );
+        rt.alloc(),
+        &["-o", "-3600"],
+        b"T 946684800 123456789\n",
+        "0|1999-12-31T23:00:00.123456789-01:00 -\n|",
+    )?;
+    expect_outcome(&rt, rt.alloc(), &["-z", "A0"], b"", "0||")?;
     Ok(())
 }
+
+/// Options with their words, and the error of their zone.
+const REFUSED_ZONES: [(&str, &str, &str); 5] = [
+    (
+        "-o",
+        "-2147483648",
+        "invalid local time type: invalid UTC offset",
+    ),
+    ("-f", "/cut", "invalid TZ file: unexpected end of data"),
+    ("-z", "/cut", "invalid TZ file: unexpected end of data"),
+    (
+        "-z",
+        "EET-2EEST",
+        "invalid TZ string: missing DST start and end rules",
+    ),
+    ("-z", "", "invalid TZ string: empty TZ string"),
+];
 
 #[test]
 fn refuses_zones_by_their_error(rt: HostRuntime) -> Result<(), Fail> {
-    let rows = [
-        (
-            "-o",
-            "-2147483648",
-            "invalid local time type: invalid UTC offset",
-        ),
-        ("-f", "/cut", "invalid TZ file: unexpected end of data"),
-        ("-z", "/cut", "invalid TZ file: unexpected end of data"),
-        (
-            "-z",
-            "EET-2EEST",
-            "invalid TZ string: missing DST start and end rules",
-        ),
-        ("-z", "", "invalid TZ string: empty TZ string"),
-    ];
-    for (option, word, error) in &rows {
-        let found = outcome(rt.alloc(), &[option, word], b"T 0 0\n")?;
-        let want = format!(in rt.alloc(); "2||tzq: zone refused: {error}\n")?;
-        assert_eq!(rt; found.as_str(), want.as_str(), "{option} {word}");
+    for (option, word, error) in &REFUSED_ZONES {
+        let before = "2||tzq: zone refused: ";
+        expect_outcome_around(&rt, rt.alloc(), &[option, word], before, error, "\n")?;
     }
     Ok(())
 }
+
+/// Options with their words, and why there are no bytes.
+const NO_FILES: [(&str, &str, &str); 10] = [
+    ("-f", "/", "cannot read file"),
+    ("-f", "", "cannot read file"),
+    ("-f", "Zone/UTC", "cannot read file"),
+    ("-f", "HST10", "cannot read file"),
+    ("-f", "/large", "no memory"),
+    ("-z", ":/none", "cannot read file"),
+    ("-z", ":HST10", "cannot read file"),
+    ("-z", "localtime", "cannot read file"),
+    ("-z", "/large", "no memory"),
+    ("-z", ":/large", "no memory"),
+];
 
 #[test]
 fn names_files_that_give_no_bytes(rt: HostRuntime) -> Result<(), Fail> {
-    let rows = [
-        ("-f", "/", "cannot read file"),
-        ("-f", "", "cannot read file"),
-        ("-f", "Zone/UTC", "cannot read file"),
-        ("-f", "HST10", "cannot read file"),
-        ("-f", "/large", "no memory"),
-        ("-z", ":/none", "cannot read file"),
-        ("-z", ":HST10", "cannot read file"),
-        ("-z", "localtime", "cannot read file"),
-        ("-z", "/large", "no memory"),
-        ("-z", ":/large", "no memory"),
-    ];
-    for (option, word, fault) in &rows {
-        let found = outcome(rt.alloc(), &[option, word], b"T 0 0\n")?;
-        let want = format!(in rt.alloc(); "1||tzq: {fault}\n")?;
-        assert_eq!(rt; found.as_str(), want.as_str(), "{option} {word}");
+    for (option, word, fault) in &NO_FILES {
+        expect_outcome_around(&rt, rt.alloc(), &[option, word], "1||tzq: ", fault, "\n")?;
     }
     Ok(())
 }
 
+/// Arguments that are none of an option and its word.
+const BAD_ARGUMENTS: [&[&str]; 15] = [
+    &[],
+    &["-o"],
+    &["-f"],
+    &["-z"],
+    &["-o", "1", "2"],
+    &["-z", "HST10", ""],
+    &["-x", "1"],
+    &["", "1"],
+    &["-", "1"],
+    &["1", "-o"],
+    &["-o", "2147483648"],
+    &["-o", ""],
+    &["-o", "1 "],
+    &["-o", "+1"],
+    &["-O", "1"],
+];
+
 #[test]
 fn takes_an_option_and_its_word_alone(rt: HostRuntime) -> Result<(), Fail> {
-    let bad: [&[&str]; 15] = [
-        &[],
-        &["-o"],
-        &["-f"],
-        &["-z"],
-        &["-o", "1", "2"],
-        &["-z", "HST10", ""],
-        &["-x", "1"],
-        &["", "1"],
-        &["-", "1"],
-        &["1", "-o"],
-        &["-o", "2147483648"],
-        &["-o", ""],
-        &["-o", "1 "],
-        &["-o", "+1"],
-        &["-O", "1"],
-    ];
-    for arguments in &bad {
-        let found = outcome(rt.alloc(), arguments, b"T 0 0\n")?;
-        assert_eq!(rt; found.as_str(), "1||tzq: bad arguments\n", "{arguments:?}");
+    for arguments in &BAD_ARGUMENTS {
+        let want = "1||tzq: bad arguments\n";
+        expect_outcome(&rt, rt.alloc(), arguments, b"T 0 0\n", want)?;
     }
     Ok(())
 }
@@ -190,45 +221,59 @@ fn outcome_of_failing(
     let mut err = failing_after(alloc, complaints);
     let reader = |path: &str| file_at(alloc, path);
     let status = tool(alloc, arguments, reader, &mut input, &mut out, &mut err);
-    let out = String::from_utf8(out.bytes)?;
-    let err = String::from_utf8(err.bytes)?;
-    Ok(format!(in alloc; "{status}|{out}|{err}")?)
+    written(alloc, status, out.bytes, err.bytes)
 }
+
+/// The program does this with streams that fail after these numbers of reads, writes and complaints.
+fn expect_outcome_of_failing(
+    rt: &impl Abort,
+    alloc: Global,
+    arguments: &[&str],
+    calls: (u8, u8, u8),
+    want: &str,
+) -> Result<(), Fail> {
+    let (reads, writes, complaints) = calls;
+    let found = outcome_of_failing(alloc, arguments, reads, writes, complaints)?;
+    assert_eq!(rt; found.as_str(), want, "{arguments:?} {calls:?}");
+    Ok(())
+}
+
+/// After how many reads, writes and complaints the streams fail, and what the program does.
+const FAILING_STREAMS: [(u8, u8, u8, &str); 6] = [
+    (0, 9, 9, "1||tzq: cannot read queries\n"),
+    (1, 9, 9, "1||tzq: cannot read queries\n"),
+    (0, 9, 0, "1||"),
+    (9, 0, 9, "1||tzq: cannot write answers\n"),
+    (9, 0, 0, "1||"),
+    (9, 9, 0, "0|1970-01-01T00:00:00.000000000Z UTC\n|"),
+];
 
 #[test]
 fn names_streams_that_fail(rt: HostRuntime) -> Result<(), Fail> {
-    let rows = [
-        (0, 9, 9, "1||tzq: cannot read queries\n"),
-        (1, 9, 9, "1||tzq: cannot read queries\n"),
-        (0, 9, 0, "1||"),
-        (9, 0, 9, "1||tzq: cannot write answers\n"),
-        (9, 0, 0, "1||"),
-        (9, 9, 0, "0|1970-01-01T00:00:00.000000000Z UTC\n|"),
-    ];
-    for (reads, writes, complaints, want) in &rows {
-        let arguments = ["-f", "/utc"];
-        let found = outcome_of_failing(rt.alloc(), &arguments, *reads, *writes, *complaints)?;
-        assert_eq!(rt; found.as_str(), *want, "{reads} {writes} {complaints}");
+    for (reads, writes, complaints, want) in &FAILING_STREAMS {
+        let calls = (*reads, *writes, *complaints);
+        expect_outcome_of_failing(&rt, rt.alloc(), &["-f", "/utc"], calls, want)?;
     }
     Ok(())
 }
 
+/// Options with their words, and what the program does where no byte can be read.
+const FAULTS_OF_ZONES: [(&str, &str, &str); 5] = [
+    ("-x", "0", "1||tzq: bad arguments\n"),
+    ("-o", "x", "1||tzq: bad arguments\n"),
+    ("-f", "/none", "1||tzq: cannot read file\n"),
+    ("-f", "/large", "1||tzq: no memory\n"),
+    (
+        "-z",
+        "/cut",
+        "2||tzq: zone refused: invalid TZ file: unexpected end of data\n",
+    ),
+];
+
 #[test]
 fn the_zone_is_made_before_a_byte_is_read(rt: HostRuntime) -> Result<(), Fail> {
-    let rows = [
-        ("-x", "0", "1||tzq: bad arguments\n"),
-        ("-o", "x", "1||tzq: bad arguments\n"),
-        ("-f", "/none", "1||tzq: cannot read file\n"),
-        ("-f", "/large", "1||tzq: no memory\n"),
-        (
-            "-z",
-            "/cut",
-            "2||tzq: zone refused: invalid TZ file: unexpected end of data\n",
-        ),
-    ];
-    for (option, word, want) in &rows {
-        let found = outcome_of_failing(rt.alloc(), &[option, word], 0, 9, 9)?;
-        assert_eq!(rt; found.as_str(), *want, "{option} {word}");
+    for (option, word, want) in &FAULTS_OF_ZONES {
+        expect_outcome_of_failing(&rt, rt.alloc(), &[option, word], (0, 9, 9), want)?;
     }
     Ok(())
 }
@@ -245,9 +290,7 @@ fn outcome_of_refusing(
     let mut err = Vec::new(alloc);
     let reader = |path: &str| file_at(alloc, path);
     let status = tool(&heap, arguments, reader, &mut input, &mut out, &mut err);
-    let out = String::from_utf8(out)?;
-    let err = String::from_utf8(err)?;
-    Ok((format!(in alloc; "{status}|{out}|{err}")?, heap.refused()))
+    Ok((written(alloc, status, out, err)?, heap.refused()))
 }
 
 /// How many growths the program needs to give the answer, where with each lesser number it has no memory; none if it says otherwise.
@@ -268,31 +311,35 @@ fn needed(alloc: Global, arguments: &[&str], answer: &str) -> Result<Option<u64>
     Ok(None)
 }
 
+/// Options with their words, the answer, and the least number of growths that it needs.
+const NEEDS: [(&str, &str, &str, u64); 5] = [
+    ("-o", "0", "0|1970-01-01T00:00:00.000000000Z -\n|", 3),
+    ("-f", "/utc", "0|1970-01-01T00:00:00.000000000Z UTC\n|", 3),
+    ("-z", "/utc", "0|1970-01-01T00:00:00.000000000Z UTC\n|", 3),
+    (
+        "-z",
+        "Zone/UTC",
+        "0|1970-01-01T00:00:00.000000000Z UTC\n|",
+        4,
+    ),
+    (
+        "-z",
+        "HST10",
+        "0|1969-12-31T14:00:00.000000000-10:00 HST\n|",
+        6,
+    ),
+];
+
+/// The program needs at least this many growths.
+fn expect_at_least(rt: &impl Abort, word: &str, growths: Option<u64>, least: u64) {
+    assert!(rt; growths.is_some_and(|growths| growths >= least), "{word}");
+}
+
 #[test]
 fn without_memory_it_writes_nothing(rt: HostRuntime) -> Result<(), Fail> {
-    let rows = [
-        ("-o", "0", "0|1970-01-01T00:00:00.000000000Z -\n|", 3),
-        ("-f", "/utc", "0|1970-01-01T00:00:00.000000000Z UTC\n|", 3),
-        ("-z", "/utc", "0|1970-01-01T00:00:00.000000000Z UTC\n|", 3),
-        (
-            "-z",
-            "Zone/UTC",
-            "0|1970-01-01T00:00:00.000000000Z UTC\n|",
-            4,
-        ),
-        (
-            "-z",
-            "HST10",
-            "0|1969-12-31T14:00:00.000000000-10:00 HST\n|",
-            6,
-        ),
-    ];
-    for (option, word, answer, least) in &rows {
+    for (option, word, answer, least) in &NEEDS {
         let growths = needed(rt.alloc(), &[option, word], answer)?;
-        assert!(rt;
-            growths.is_some_and(|growths| growths >= *least),
-            "{option} {word}"
-        );
+        expect_at_least(&rt, word, growths, *least);
     }
     Ok(())
 }
