@@ -2,15 +2,15 @@
 
 mod looks;
 
-use crate::expect::expect_eq;
+use crate::expect::{expect_eq, expect_ne};
 use std::test::Fail;
 use tz_zone::timezone::{LocalTimeType, TimeZone, TimeZoneRef};
 
 #[test]
 fn utc_has_one_type(rt: HostRuntime) -> Result<(), Fail> {
     let zone = TimeZoneRef::utc();
-    assert!(rt; zone.transitions().is_empty());
-    assert!(rt; zone.leap_seconds().is_empty());
+    expect_eq(&rt, &zone.transitions().len(), &0);
+    expect_eq(&rt, &zone.leap_seconds().len(), &0);
     let types = zone.local_time_types();
     expect_eq(&rt, &types.len(), &1);
     expect_eq(&rt, &types[0], &LocalTimeType::utc());
@@ -19,7 +19,7 @@ fn utc_has_one_type(rt: HostRuntime) -> Result<(), Fail> {
     let copied_rule = *zone.extra_rule();
     assert!(rt; copied_rule.is_none());
     for unix_time in [i64::MIN, -1, 0, i64::MAX] {
-        let found = zone.find_local_time_type(unix_time).map_err(|_| "no type")?;
+        let found = zone.find_local_time_type(unix_time)?;
         expect_eq(&rt, found, &LocalTimeType::utc());
     }
     Ok(())
@@ -28,12 +28,12 @@ fn utc_has_one_type(rt: HostRuntime) -> Result<(), Fail> {
 #[test]
 fn zones_are_equal_by_their_parts(rt: HostRuntime) -> Result<(), Fail> {
     let alloc = rt.alloc();
-    let utc = TimeZone::utc(alloc).map_err(|_| "no zone")?;
-    let same = TimeZone::fixed(alloc, 0).map_err(|_| "no zone")?;
-    let other = TimeZone::fixed(alloc, 3600).map_err(|_| "no zone")?;
+    let utc = TimeZone::utc(alloc)?;
+    let same = TimeZone::fixed(alloc, 0)?;
+    let other = TimeZone::fixed(alloc, 3600)?;
     expect_eq(&rt, &utc, &same);
-    assert_ne!(rt; utc, other);
+    expect_ne(&rt, &utc, &other);
     expect_eq(&rt, &utc.as_ref(), &TimeZoneRef::utc());
-    assert_ne!(rt; other.as_ref(), TimeZoneRef::utc());
+    expect_ne(&rt, &other.as_ref(), &TimeZoneRef::utc());
     Ok(())
 }

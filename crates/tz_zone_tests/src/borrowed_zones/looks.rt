@@ -1,6 +1,6 @@
 //! How many looks a lookup takes, and that it finds what a plain count finds.
 
-use crate::expect::expect_eq;
+use crate::expect::{expect_eq, expect_eq_at};
 use std::alloc::{AllocError, Allocator, Global};
 use std::process::Abort;
 use std::test::Fail;
@@ -22,10 +22,10 @@ fn transitions_in_turn<A: Allocator + Copy>(
 }
 
 /// The types of offset 0 and of an hour.
-fn two_types() -> Result<[LocalTimeType; 2], Fail> {
+fn two_types() -> Result<[LocalTimeType; 2], TzError> {
     Ok([
-        LocalTimeType::with_ut_offset(0).map_err(|_| "no type")?,
-        LocalTimeType::with_ut_offset(3600).map_err(|_| "no type")?,
+        LocalTimeType::with_ut_offset(0)?,
+        LocalTimeType::with_ut_offset(3600)?,
     ])
 }
 
@@ -64,23 +64,28 @@ fn looks_at(rt: &impl Abort, zone: &TimeZoneRef<'_>, unix_time: i64) -> u64 {
     looks
 }
 
+/// The number of looks lies between these, both included.
+fn expect_between(rt: &impl Abort, looks: u64, least: u64, greatest: u64) {
+    assert!(rt; least <= looks && looks <= greatest, "{looks} looks");
+}
+
 #[test]
 fn a_thousand_transitions(rt: HostRuntime) -> Result<(), Fail> {
     let types = two_types()?;
     let transitions = transitions_in_turn(rt.alloc(), 1024)?;
-    let zone = TimeZoneRef::new(&transitions, &types, &[], &None).map_err(|_| "no zone")?;
+    let zone = TimeZoneRef::new(&transitions, &types, &[], &None)?;
     let (answer, looks) = zone.find_local_time_type_counted(499_999_999);
     expect_eq(&rt, &answer.ok(), &types.get(1));
-    assert!(rt; 1 <= looks && looks <= 13, "{looks} looks");
+    expect_between(&rt, looks, 1, 13);
     Ok(())
 }
 
 #[test]
 fn no_transition_and_one(rt: HostRuntime) -> Result<(), Fail> {
     let types = two_types()?;
-    let none = TimeZoneRef::new(&[], &types, &[], &None).map_err(|_| "no zone")?;
+    let none = TimeZoneRef::new(&[], &types, &[], &None)?;
     let transitions = transitions_in_turn(rt.alloc(), 1)?;
-    let one = TimeZoneRef::new(&transitions, &types, &[], &None).map_err(|_| "no zone")?;
+    let one = TimeZoneRef::new(&transitions, &types, &[], &None)?;
     for unix_time in [i64::MIN, -1, 0, 1, i64::MAX] {
         expect_eq(&rt, &looks_at(&rt, &none, unix_time), &0);
         expect_eq(&rt, &looks_at(&rt, &one, unix_time), &1);
@@ -103,23 +108,46 @@ fn range_of_looks(rt: &impl Abort, zone: &TimeZoneRef<'_>) -> (u64, u64) {
     (least, greatest)
 }
 
+/// Numbers of transitions around powers of two, and the greatest number of looks.
+const AROUND_POWERS: [(u32, u64); 18] = [
+    (3, 4),
+    (4, 4),
+    (5, 5),
+    (7, 5),
+    (8, 5),
+    (9, 6),
+    (15, 6),
+    (16, 6),
+    (17, 7),
+    (63, 8),
+    (64, 8),
+    (65, 9),
+    (511, 11),
+    (512, 11),
+    (513, 12),
+    (4095, 14),
+    (4096, 14),
+    (4097, 15),
+];
+
+/// Lookups among this many transitions take from one look to this many.
+fn expect_range_of_looks(
+    rt: &impl Abort,
+    alloc: Global,
+    count: u32,
+    greatest: u64,
+) -> Result<(), TzError> {
+    let types = two_types()?;
+    let transitions = transitions_in_turn(alloc, count)?;
+    let zone = TimeZoneRef::new(&transitions, &types, &[], &None)?;
+    expect_eq_at(rt, &count, &range_of_looks(rt, &zone), &(1, greatest));
+    Ok(())
+}
+
 #[test]
 fn around_powers_of_two(rt: HostRuntime) -> Result<(), Fail> {
-    let types = two_types()?;
-    for (power, digits) in [(4, 2), (8, 3), (16, 4), (64, 6), (512, 9), (4096, 12)] {
-        for (count, greatest) in [
-            (power - 1, digits + 2),
-            (power, digits + 2),
-            (power + 1, digits + 3),
-        ] {
-            let transitions = transitions_in_turn(rt.alloc(), count)?;
-            let zone = TimeZoneRef::new(&transitions, &types, &[], &None).map_err(|_| "no zone")?;
-            assert_eq!(rt;
-                range_of_looks(&rt, &zone),
-                (1, greatest),
-                "{count} transitions"
-            );
-        }
+    for (count, greatest) in &AROUND_POWERS {
+        expect_range_of_looks(&rt, rt.alloc(), *count, *greatest)?;
     }
     Ok(())
 }
@@ -148,7 +176,7 @@ fn at_leap_seconds(rt: HostRuntime) -> Result<(), Fail> {
         Transition::new(20_000_002, 1),
         Transition::new(30_000_000, 0),
     ];
-    let zone = TimeZoneRef::new(&transitions, &types, &leap_seconds, &None).map_err(|_| "no zone")?;
+    let zone = TimeZoneRef::new(&transitions, &types, &leap_seconds, &None)?;
     for (first, last) in [
         (4_999_990, 5_000_010),
         (9_999_990, 10_000_010),
@@ -157,7 +185,7 @@ fn at_leap_seconds(rt: HostRuntime) -> Result<(), Fail> {
     ] {
         for unix_time in first..last {
             let looks = looks_at(&rt, &zone, unix_time);
-            assert!(rt; 1 <= looks && looks <= 6);
+            expect_between(&rt, looks, 1, 6);
         }
     }
     Ok(())
@@ -204,7 +232,7 @@ fn refused_lookups_are_counted(rt: HostRuntime) -> Result<(), Fail> {
     let types = two_types()?;
     let transitions = transitions_in_turn(rt.alloc(), 100)?;
     let leap_seconds = [LeapSecond::new(0, 1)];
-    let zone = TimeZoneRef::new(&transitions, &types, &leap_seconds, &None).map_err(|_| "no zone")?;
+    let zone = TimeZoneRef::new(&transitions, &types, &leap_seconds, &None)?;
     let (over, looks) = zone.find_local_time_type_counted(i64::MAX - 1);
     assert!(rt; matches!(over, Err(TzError::NoAvailableLocalTimeType)));
     expect_eq(&rt, &looks, &1);
