@@ -5,7 +5,6 @@ use crate::failing::{FailingReader, FailingWriter};
 use crate::growths::{expect_growths, expect_refusal};
 use crate::samples::central_europe;
 use std::alloc::Global;
-use std::fmt::Display;
 use std::process::Abort;
 use std::test::Fail;
 use tz::TimeZoneRef;
@@ -123,17 +122,6 @@ fn each_growth_can_be_refused(rt: HostRuntime) -> Result<(), Fail> {
     Ok(())
 }
 
-/// The value prints as this text.
-fn expect_text(
-    rt: &impl Abort,
-    alloc: Global,
-    value: &impl Display,
-    text: &str,
-) -> Result<(), Fail> {
-    expect_eq(rt, &format!(in alloc; "{value}")?.as_str(), &text);
-    Ok(())
-}
-
 #[test]
 fn faults_have_the_program_s_words(rt: HostRuntime) -> Result<(), Fail> {
     for (fault, text) in [
@@ -141,7 +129,7 @@ fn faults_have_the_program_s_words(rt: HostRuntime) -> Result<(), Fail> {
         (RunFault::Memory, "no memory"),
         (RunFault::Write, "cannot write answers"),
     ] {
-        expect_text(&rt, rt.alloc(), &fault, text)?;
+        expect_eq(&rt, &format!(in rt.alloc(); "{fault}")?.as_str(), &text);
     }
     Ok(())
 }
