@@ -525,106 +525,109 @@ fn a_rule_of_one_morning(rt: HostRuntime) -> Result<(), Fail> {
 /// The jump over 68 years of the zone with a far offset.
 const FAR_JUMP: Summary = (3600, 0, 2_147_483_647);
 
-/// The first hours.
-const FAR_MORNING: [(u8, &[Summary]); 4] = [
-    (0, &[(1800, 0, 0)]),
-    (1, &[FAR_JUMP]),
-    (2, &[FAR_JUMP, (9000, 0, 0)]),
-    (4, &[FAR_JUMP, (12_600, 3600, 3600)]),
-];
-
-#[test]
-fn the_morning_of_a_far_jump(rt: HostRuntime) -> Result<(), Fail> {
+/// The zone with a far offset.
+fn expect_found_by_far_offset(
+    rt: &impl Abort,
+    alloc: Global,
+    rows: &[(Reading, &[Summary])],
+) -> Result<(), TzError> {
     let (transitions, types, rule) = far_offset()?;
     let rule = Some(TransitionRule::Alternate(rule));
     let zone = TimeZoneRef::new(&transitions, &types, &[], &rule)?;
-    for (hour, expected) in FAR_MORNING {
-        expect_found(&rt, rt.alloc(), zone, (1970, 1, 1, hour, 30, 0), expected)?;
-    }
-    expect_found(
-        &rt,
-        rt.alloc(),
-        zone,
+    expect_all(rt, alloc, zone, rows)
+}
+
+/// The first hours, and a time to which the jump leads.
+const FAR_MORNING: [(Reading, &[Summary]); 5] = [
+    ((1970, 1, 1, 0, 30, 0), &[(1800, 0, 0)]),
+    ((1970, 1, 1, 1, 30, 0), &[FAR_JUMP]),
+    ((1970, 1, 1, 2, 30, 0), &[FAR_JUMP, (9000, 0, 0)]),
+    ((1970, 1, 1, 4, 30, 0), &[FAR_JUMP, (12_600, 3600, 3600)]),
+    (
         (2038, 1, 19, 5, 0, 0),
         &[
             (6353, 2_147_483_647, 2_147_483_647),
             (2_147_486_400, 3600, 3600),
         ],
-    )?;
+    ),
+];
+
+#[test]
+fn the_morning_of_a_far_jump(rt: HostRuntime) -> Result<(), Fail> {
+    expect_found_by_far_offset(&rt, rt.alloc(), &FAR_MORNING)?;
     Ok(())
 }
 
-/// Years that the jump passes over, and the Unix time at which each begins.
-const FAR_YEARS: [(i32, i64, i64); 3] = [
-    (1970, 0, 0),
-    (2000, 946_684_800, 86_400),
-    (2030, 1_893_456_000, 0),
+/// Days of years that the jump passes over.
+const UNDER_FAR_JUMP: [(Reading, &[Summary]); 15] = [
+    ((1970, 2, 1, 0, 0, 0), &[FAR_JUMP, (2_674_800, 3600, 3600)]),
+    (
+        (1970, 3, 31, 0, 30, 0),
+        &[FAR_JUMP, (7_687_800, 3600, 3600), (7_691_400, 0, 0)],
+    ),
+    ((1970, 6, 1, 0, 0, 0), &[FAR_JUMP, (13_046_400, 0, 0)]),
+    ((1970, 10, 27, 0, 30, 0), &[FAR_JUMP, (25_833_600, 0, 3600)]),
+    (
+        (1970, 11, 1, 0, 0, 0),
+        &[FAR_JUMP, (26_262_000, 3600, 3600)],
+    ),
+    (
+        (2000, 2, 1, 0, 0, 0),
+        &[FAR_JUMP, (949_359_600, 3600, 3600)],
+    ),
+    (
+        (2000, 3, 31, 0, 30, 0),
+        &[FAR_JUMP, (954_459_000, 3600, 3600), (954_462_600, 0, 0)],
+    ),
+    ((2000, 6, 1, 0, 0, 0), &[FAR_JUMP, (959_817_600, 0, 0)]),
+    (
+        (2000, 10, 27, 0, 30, 0),
+        &[FAR_JUMP, (972_604_800, 0, 3600)],
+    ),
+    (
+        (2000, 11, 1, 0, 0, 0),
+        &[FAR_JUMP, (973_033_200, 3600, 3600)],
+    ),
+    (
+        (2030, 2, 1, 0, 0, 0),
+        &[FAR_JUMP, (1_896_130_800, 3600, 3600)],
+    ),
+    (
+        (2030, 3, 31, 0, 30, 0),
+        &[FAR_JUMP, (1_901_143_800, 3600, 3600), (1_901_147_400, 0, 0)],
+    ),
+    ((2030, 6, 1, 0, 0, 0), &[FAR_JUMP, (1_906_502_400, 0, 0)]),
+    (
+        (2030, 10, 27, 0, 30, 0),
+        &[FAR_JUMP, (1_919_289_600, 0, 3600)],
+    ),
+    (
+        (2030, 11, 1, 0, 0, 0),
+        &[FAR_JUMP, (1_919_718_000, 3600, 3600)],
+    ),
 ];
 
 #[test]
 fn a_rule_under_a_far_jump(rt: HostRuntime) -> Result<(), Fail> {
-    let alloc = rt.alloc();
-    let (transitions, types, rule) = far_offset()?;
-    let rule = Some(TransitionRule::Alternate(rule));
-    let zone = TimeZoneRef::new(&transitions, &types, &[], &rule)?;
-    for (year, start, leap_day) in FAR_YEARS {
-        let march = start + leap_day;
-        expect_all(
-            &rt,
-            alloc,
-            zone,
-            &[
-                (
-                    (year, 2, 1, 0, 0, 0),
-                    &[FAR_JUMP, (start + 2_674_800, 3600, 3600)],
-                ),
-                (
-                    (year, 3, 31, 0, 30, 0),
-                    &[
-                        FAR_JUMP,
-                        (march + 7_687_800, 3600, 3600),
-                        (march + 7_691_400, 0, 0),
-                    ],
-                ),
-                (
-                    (year, 6, 1, 0, 0, 0),
-                    &[FAR_JUMP, (march + 13_046_400, 0, 0)],
-                ),
-                (
-                    (year, 10, 27, 0, 30, 0),
-                    &[FAR_JUMP, (march + 25_833_600, 0, 3600)],
-                ),
-                (
-                    (year, 11, 1, 0, 0, 0),
-                    &[FAR_JUMP, (march + 26_262_000, 3600, 3600)],
-                ),
-            ],
-        )?;
-    }
+    expect_found_by_far_offset(&rt, rt.alloc(), &UNDER_FAR_JUMP)?;
     Ok(())
 }
 
+/// Days of the year in which the jump ends.
+const AFTER_FAR_JUMP: [(Reading, &[Summary]); 5] = [
+    ((2038, 2, 1, 0, 0, 0), &[(2_148_591_600, 3600, 3600)]),
+    (
+        (2038, 3, 31, 0, 30, 0),
+        &[(2_153_604_600, 3600, 3600), (2_153_608_200, 0, 0)],
+    ),
+    ((2038, 6, 1, 0, 0, 0), &[(2_158_963_200, 0, 0)]),
+    ((2038, 10, 27, 0, 30, 0), &[(2_171_750_400, 0, 3600)]),
+    ((2038, 11, 1, 0, 0, 0), &[(2_172_178_800, 3600, 3600)]),
+];
+
 #[test]
 fn a_rule_after_a_far_jump(rt: HostRuntime) -> Result<(), Fail> {
-    let (transitions, types, rule) = far_offset()?;
-    let rule = Some(TransitionRule::Alternate(rule));
-    let zone = TimeZoneRef::new(&transitions, &types, &[], &rule)?;
-    let start = 2_145_916_800;
-    expect_all(
-        &rt,
-        rt.alloc(),
-        zone,
-        &[
-            ((2038, 2, 1, 0, 0, 0), &[(start + 2_674_800, 3600, 3600)]),
-            (
-                (2038, 3, 31, 0, 30, 0),
-                &[(start + 7_687_800, 3600, 3600), (start + 7_691_400, 0, 0)],
-            ),
-            ((2038, 6, 1, 0, 0, 0), &[(start + 13_046_400, 0, 0)]),
-            ((2038, 10, 27, 0, 30, 0), &[(start + 25_833_600, 0, 3600)]),
-            ((2038, 11, 1, 0, 0, 0), &[(start + 26_262_000, 3600, 3600)]),
-        ],
-    )?;
+    expect_found_by_far_offset(&rt, rt.alloc(), &AFTER_FAR_JUMP)?;
     Ok(())
 }
 
