@@ -103,25 +103,35 @@ fn a_jump_at_a_negative_leap_second(rt: HostRuntime) -> Result<(), Fail> {
 
 const NEW_YEAR_2000: &str = "N 946684800 2000-01-01T00:00:00.000000007Z -;";
 
-#[test]
-fn transitions_at_the_ends_of_64_bits(rt: HostRuntime) -> Result<(), Fail> {
+/// The searches of the new year of 2000 find this by a clock of UTC with these transitions and leap seconds.
+fn expect_new_year(
+    rt: &impl Abort,
+    alloc: Global,
+    transitions: &[Transition],
+    leap_seconds: &[LeapSecond],
+    expected: &str,
+) -> Result<(), TzError> {
     let types = [LocalTimeType::utc()];
     let rule = None;
+    let zone = TimeZoneRef::new(transitions, &types, leap_seconds, &rule)?;
+    expect_texts(rt, alloc, zone, &[((2000, 1, 1, 0, 0, 0), expected)])
+}
+
+#[test]
+fn transitions_at_the_ends_of_64_bits(rt: HostRuntime) -> Result<(), Fail> {
+    let alloc = rt.alloc();
     let first = Transition::new(i64::MIN, 0);
     let last = Transition::new(i64::MAX, 0);
+    expect_new_year(&rt, alloc, &[first, last], &[], NEW_YEAR_2000)?;
+    expect_new_year(&rt, alloc, &[first], &[], "")?;
     let leap_seconds = [LeapSecond::new(0, 1)];
-    let both = [first, last];
-    let zone = TimeZoneRef::new(&both, &types, &[], &rule)?;
-    let new_year = (2000, 1, 1, 0, 0, 0);
-    expect_texts(&rt, rt.alloc(), zone, &[(new_year, NEW_YEAR_2000)])?;
+    expect_new_year(&rt, alloc, &[last], &leap_seconds, NEW_YEAR_2000)?;
+    let types = [LocalTimeType::utc()];
+    let rule = None;
     let only_first = [first];
     let over = TimeZoneRef::new(&only_first, &types, &[], &rule)?;
-    expect_texts(&rt, rt.alloc(), over, &[(new_year, "")])?;
     let refused = over.find_local_time_type(0).err();
     assert!(rt; matches!(refused, Some(TzError::NoAvailableLocalTimeType)));
-    let only_last = [last];
-    let late = TimeZoneRef::new(&only_last, &types, &leap_seconds, &rule)?;
-    expect_texts(&rt, rt.alloc(), late, &[(new_year, NEW_YEAR_2000)])?;
     Ok(())
 }
 
@@ -212,6 +222,19 @@ fn expect_out_of_range(
     Ok(())
 }
 
+/// Both searches of a reading are refused as out of range where the clock has one offset alone.
+fn expect_out_of_range_at_offset(
+    rt: &impl Abort,
+    alloc: Global,
+    ut_offset: i32,
+    reading: Reading,
+) -> Result<(), TzError> {
+    let types = [LocalTimeType::with_ut_offset(ut_offset)?];
+    let rule = None;
+    let zone = TimeZoneRef::new(&[], &types, &[], &rule)?;
+    expect_out_of_range(rt, alloc, zone, &[reading])
+}
+
 /// An instant, or a side of a jump, that lies outside the years of 32 bits can't be listed.
 #[test]
 fn date_times_past_the_ends_are_out_of_range(rt: HostRuntime) -> Result<(), Fail> {
@@ -223,15 +246,8 @@ fn date_times_past_the_ends_are_out_of_range(rt: HostRuntime) -> Result<(), Fail
         TimeZoneRef::utc(),
         &[(i32::MAX, 12, 31, 23, 59, 60)],
     )?;
-    let ahead = LocalTimeType::with_ut_offset(3600)?;
-    let behind = LocalTimeType::with_ut_offset(-3600)?;
-    let rule = None;
-    let types_ahead = [ahead];
-    let zone = TimeZoneRef::new(&[], &types_ahead, &[], &rule)?;
-    expect_out_of_range(&rt, alloc, zone, &[(i32::MIN, 1, 1, 0, 30, 0)])?;
-    let types_behind = [behind];
-    let zone = TimeZoneRef::new(&[], &types_behind, &[], &rule)?;
-    expect_out_of_range(&rt, alloc, zone, &[last_hour])?;
+    expect_out_of_range_at_offset(&rt, alloc, 3600, (i32::MIN, 1, 1, 0, 30, 0))?;
+    expect_out_of_range_at_offset(&rt, alloc, -3600, last_hour)?;
     // From 23:00 to 01:00 of the next year.
     let types = [LocalTimeType::utc(), LocalTimeType::with_ut_offset(7200)?];
     let transitions = [Transition::new(67_767_976_233_529_200, 1)];
