@@ -189,6 +189,11 @@ fn a_rule_s_own_years_take_looks_at_the_last_transitions_alone(
     Ok(())
 }
 
+/// The text of the error, if there is one.
+fn text_of_error(alloc: Global, error: Option<TzError>) -> Result<Option<String>, AllocError> {
+    error.map(|error| format!(in alloc; "{error}")).transpose()
+}
+
 /// The counted search is refused as `find_n` is, and leaves the slots as they were.
 #[test]
 fn refused_fields_and_years_are_refused_alike(rt: HostRuntime) -> Result<(), Fail> {
@@ -230,14 +235,8 @@ fn refused_fields_and_years_are_refused_alike(rt: HostRuntime) -> Result<(), Fai
         )
         .err();
         assert!(rt; refused.is_some());
-        let (refused, refused_counted) = (
-            refused
-                .map(|error| format!(in rt.alloc(); "{error}"))
-                .transpose()?,
-            refused_counted
-                .map(|error| format!(in rt.alloc(); "{error}"))
-                .transpose()?,
-        );
+        let refused = text_of_error(rt.alloc(), refused)?;
+        let refused_counted = text_of_error(rt.alloc(), refused_counted)?;
         expect_eq(&rt, &refused, &refused_counted);
         assert!(rt; are_written(&counted, &[]));
     }
