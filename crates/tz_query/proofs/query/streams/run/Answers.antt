@@ -16,11 +16,11 @@ written_front written now answers bytes are same wrote = (answers, are, subst (�
 
 answers_of : (g : _) (c : goal.After-drop-queries-2 g) → AreAnswersOf (zone_of c.args.zone) (g.R.Read.remaining c.args.input.now) (g.R.Read.remaining c.read_to_end.new.input) c.in-Ok.answers.items
 answers_of g c = record {
-      queries = c.in_ok-queries.queries.items;
-      read = c.in_ok-queries.ensures.ok.0;
-      at_end = c.in_ok-queries.ensures.ok.1;
-      answered = subst (λ bs. AreAnswers (zone_of c.args.zone) bs c.in-Ok.answers.items) c.deref.ensures.value c.in-Ok.ensures.ok
-    }
+  queries = c.in_ok-queries.queries.items;
+  read = c.in_ok-queries.ensures.ok.0;
+  at_end = c.in_ok-queries.ensures.ok.1;
+  answered = subst (λ bs. AreAnswers (zone_of c.args.zone) bs c.in-Ok.answers.items) c.deref.ensures.value c.in-Ok.ensures.ok;
+}
 
 pub returns-clause-ok : goal.returns-clause-ok
 returns-clause-ok g c = on_ok_weaker c.write_all.result (written_all (g.W.Write.contents c.args.out.now) (g.W.Write.contents c.write_all.new.out) c.in-Ok.answers.items _ (answers_of g c) c.deref-2.ensures.value) c.write_all.ensures.all
