@@ -95,7 +95,7 @@ fn agrees(fields: Fields, day: i64, year_day: u16) -> bool {
 }
 
 /// The first and the last day of each month: year, month, length, number of the first day.
-const MONTHS: [(i32, u8, u8, i64); 96] = [
+static MONTHS: [(i32, u8, u8, i64); 96] = [
     (-2147483648, 1, 31, -784353015833),
     (-2147483648, 2, 29, -784353015802),
     (-2147483648, 3, 31, -784353015773),
@@ -195,7 +195,7 @@ const MONTHS: [(i32, u8, u8, i64); 96] = [
 ];
 
 /// Instants on days of all kinds of centuries, each at 12:01:06.
-const INSTANTS: [(i64, i32, u8, u8); 14] = [
+static INSTANTS: [(i64, i32, u8, u8); 14] = [
     (-93750523134, -1001, 3, 1),
     (-11670955134, 1600, 2, 29),
     (-11670868734, 1600, 3, 1),
@@ -239,7 +239,7 @@ fn months_begin_and_end(rt: HostRuntime) {
 
 #[test]
 fn instants_have_their_days(rt: HostRuntime) {
-    for (instant, year, month, month_day) in INSTANTS {
+    for &(instant, year, month, month_day) in INSTANTS.iter() {
         let fields = Fields {
             hour: 12,
             minute: 1,
@@ -278,50 +278,67 @@ fn readings_end_with_the_years(rt: HostRuntime) {
     );
 }
 
+/// A year, a month, a day of the month, hour, minute and second, and nanoseconds.
+type Parts = (i32, u8, u8, (u8, u8, u8), u32);
+
+fn fields_of(parts: Parts) -> Fields {
+    let (year, month, month_day, (hour, minute, second), nanoseconds) = parts;
+    Fields {
+        year,
+        month,
+        month_day,
+        hour,
+        minute,
+        second,
+        nanoseconds,
+    }
+}
+
 #[test]
 fn the_first_fault_is_named(rt: HostRuntime) {
-    let month = Fields {
-        year: 2001,
-        month: 13,
-        month_day: 32,
-        hour: 24,
-        minute: 60,
-        second: 61,
-        nanoseconds: 1_000_000_000,
-    };
-    let month_day = Fields { month: 2, ..month };
-    let hour = Fields {
-        month_day: 29,
-        ..month_day
-    };
-    let minute = Fields { hour: 23, ..hour };
-    let second = Fields {
-        minute: 59,
-        ..minute
-    };
-    let nanoseconds = Fields {
-        second: 60,
-        ..second
-    };
-    let end = Fields {
-        nanoseconds: 999_999_999,
-        ..nanoseconds
-    };
-    for (fields, fault) in [
-        (month, DateTimeError::InvalidMonth),
-        (month_day, DateTimeError::InvalidMonthDay),
-        (hour, DateTimeError::InvalidHour),
-        (minute, DateTimeError::InvalidMinute),
-        (second, DateTimeError::InvalidSecond),
-        (nanoseconds, DateTimeError::InvalidNanoseconds),
-        (end, DateTimeError::InvalidMonthDay),
-        (midnight(2000, 0, 1), DateTimeError::InvalidMonth),
-        (midnight(2000, 1, 0), DateTimeError::InvalidMonthDay),
-        (midnight(1900, 2, 29), DateTimeError::InvalidMonthDay),
-    ] {
-        expect_eq(&rt, &fields.check(), &Err(fault));
+    static CHECKED: [(Parts, Result<(), DateTimeError>); 11] = [
+        (
+            (2001, 13, 32, (24, 60, 61), 1_000_000_000),
+            Err(DateTimeError::InvalidMonth),
+        ),
+        (
+            (2001, 2, 32, (24, 60, 61), 1_000_000_000),
+            Err(DateTimeError::InvalidMonthDay),
+        ),
+        (
+            (2001, 2, 29, (24, 60, 61), 1_000_000_000),
+            Err(DateTimeError::InvalidHour),
+        ),
+        (
+            (2001, 2, 29, (23, 60, 61), 1_000_000_000),
+            Err(DateTimeError::InvalidMinute),
+        ),
+        (
+            (2001, 2, 29, (23, 59, 61), 1_000_000_000),
+            Err(DateTimeError::InvalidSecond),
+        ),
+        (
+            (2001, 2, 29, (23, 59, 60), 1_000_000_000),
+            Err(DateTimeError::InvalidNanoseconds),
+        ),
+        (
+            (2001, 2, 29, (23, 59, 60), 999_999_999),
+            Err(DateTimeError::InvalidMonthDay),
+        ),
+        ((2000, 0, 1, (0, 0, 0), 0), Err(DateTimeError::InvalidMonth)),
+        (
+            (2000, 1, 0, (0, 0, 0), 0),
+            Err(DateTimeError::InvalidMonthDay),
+        ),
+        (
+            (1900, 2, 29, (0, 0, 0), 0),
+            Err(DateTimeError::InvalidMonthDay),
+        ),
+        ((2000, 2, 29, (0, 0, 0), 0), Ok(())),
+    ];
+    for (parts, checked) in &CHECKED {
+        expect_eq(&rt, &fields_of(*parts).check(), checked);
     }
-    expect_eq(&rt, &midnight(2000, 2, 29).check(), &Ok(()));
 }
 
 /// Whether each day of the year is the one that is counted from the year's first day, to which days are added.
@@ -368,27 +385,29 @@ fn days_at_both_ends(rt: HostRuntime) {
 
 #[test]
 fn totals_go_both_ways(rt: HostRuntime) {
-    for (seconds, nanoseconds, total) in [
+    static BOTH_WAYS: [(i64, u32, i128); 3] = [
         (-1, 999_999_999, -1),
         (i64::MAX, 999_999_999, 9_223_372_036_854_775_807_999_999_999),
         (i64::MIN, 0, -9_223_372_036_854_775_808_000_000_000),
-    ] {
+    ];
+    for &(seconds, nanoseconds, total) in BOTH_WAYS.iter() {
         expect_eq(&rt, &total_nanoseconds(seconds, nanoseconds), &total);
         expect_eq(&rt, &timespec(total), &Some((seconds, nanoseconds)));
     }
-    for total in [
+    static OUT_OF_RANGE: [i128; 4] = [
         i128::MIN,
         -9_223_372_036_854_775_808_000_000_001,
         9_223_372_036_854_775_808_000_000_000,
         i128::MAX,
-    ] {
-        expect_eq(&rt, &timespec(total), &None);
+    ];
+    for total in &OUT_OF_RANGE {
+        expect_eq(&rt, &timespec(*total), &None);
     }
 }
 
 #[test]
 fn fields_are_compared_from_the_year_on(rt: HostRuntime) {
-    let fields = Fields {
+    const FIELDS: Fields = Fields {
         year: 0,
         month: 2,
         month_day: 2,
@@ -397,45 +416,45 @@ fn fields_are_compared_from_the_year_on(rt: HostRuntime) {
         second: 2,
         nanoseconds: 2,
     };
-    let rising = [
+    static RISING: [Fields; 8] = [
         Fields {
             year: -1,
             month: 3,
-            ..fields
+            ..FIELDS
         },
         Fields {
             month: 1,
             month_day: 3,
-            ..fields
+            ..FIELDS
         },
         Fields {
             month_day: 1,
             hour: 3,
-            ..fields
+            ..FIELDS
         },
         Fields {
             hour: 1,
             minute: 3,
-            ..fields
+            ..FIELDS
         },
         Fields {
             minute: 1,
             second: 3,
-            ..fields
+            ..FIELDS
         },
         Fields {
             second: 1,
             nanoseconds: 3,
-            ..fields
+            ..FIELDS
         },
         Fields {
             nanoseconds: 1,
-            ..fields
+            ..FIELDS
         },
-        fields,
+        FIELDS,
     ];
-    for (earlier, later) in rising.iter().zip(rising.iter().skip(1)) {
+    for (earlier, later) in RISING.iter().zip(RISING.iter().skip(1)) {
         assert!(rt; earlier < later);
     }
-    expect_eq(&rt, &fields, &rising[7]);
+    expect_eq(&rt, &FIELDS, &RISING[7]);
 }

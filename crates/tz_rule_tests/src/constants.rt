@@ -6,7 +6,7 @@ use tz_base::constants::*;
 
 #[test]
 fn units_are_made_of_smaller_ones(rt: HostRuntime) {
-    for (unit, number, smaller) in [
+    static UNITS: [(i64, i64, i64); 6] = [
         (SECONDS_PER_HOUR, MINUTES_PER_HOUR, SECONDS_PER_MINUTE),
         (SECONDS_PER_DAY, HOURS_PER_DAY, SECONDS_PER_HOUR),
         (SECONDS_PER_WEEK, DAYS_PER_WEEK, SECONDS_PER_DAY),
@@ -17,8 +17,9 @@ fn units_are_made_of_smaller_ones(rt: HostRuntime) {
             SECONDS_PER_DAY,
         ),
         (SECONDS_PER_LEAP_YEAR, 366, SECONDS_PER_DAY),
-    ] {
-        expect_eq(&rt, &unit, &number.wrapping_mul(smaller));
+    ];
+    for (unit, number, smaller) in &UNITS {
+        expect_eq(&rt, unit, &number.wrapping_mul(*smaller));
     }
     expect_eq(&rt, &SECONDS_PER_MINUTE, &60);
     expect_eq(&rt, &NANOSECONDS_PER_SECOND, &1_000_000_000);
@@ -26,15 +27,16 @@ fn units_are_made_of_smaller_ones(rt: HostRuntime) {
 
 #[test]
 fn cycles_have_the_days_of_their_years(rt: HostRuntime) {
-    let first = calendar::first_day_of_year(2001);
-    for (years, days) in [
+    static CYCLES: [(i32, i64); 4] = [
         (1, DAYS_PER_NORMAL_YEAR),
         (4, DAYS_PER_4_YEARS),
         (100, DAYS_PER_100_YEARS),
         (400, DAYS_PER_400_YEARS),
-    ] {
-        let next = calendar::first_day_of_year(2001 + years);
-        expect_eq_at(&rt, &years, &next.wrapping_sub(first), &days);
+    ];
+    let first = calendar::first_day_of_year(2001);
+    for (years, days) in &CYCLES {
+        let next = calendar::first_day_of_year(years.wrapping_add(2001));
+        expect_eq_at(&rt, years, &next.wrapping_sub(first), days);
     }
 }
 

@@ -75,97 +75,85 @@ fn expect_data_text(
 
 #[test]
 fn part_errors_have_their_texts(rt: HostRuntime) -> Result<(), Fail> {
+    static DATE_TIME_TEXTS: [(DateTimeError, &str); 6] = [
+        (DateTimeError::InvalidMonth, "invalid month"),
+        (DateTimeError::InvalidMonthDay, "invalid month day"),
+        (DateTimeError::InvalidHour, "invalid hour"),
+        (DateTimeError::InvalidMinute, "invalid minute"),
+        (DateTimeError::InvalidSecond, "invalid second"),
+        (DateTimeError::InvalidNanoseconds, "invalid nanoseconds"),
+    ];
+    static TYPE_TEXTS: [(LocalTimeTypeError, &str); 3] = [
+        (
+            LocalTimeTypeError::InvalidTimeZoneDesignationLength,
+            "time zone designation must have between 3 and 7 characters",
+        ),
+        (
+            LocalTimeTypeError::InvalidTimeZoneDesignationChar,
+            "invalid characters in time zone designation",
+        ),
+        (LocalTimeTypeError::InvalidUtcOffset, "invalid UTC offset"),
+    ];
+    static RULE_TEXTS: [(TransitionRuleError, &str); 8] = [
+        (
+            TransitionRuleError::InvalidRuleDayJulianDay,
+            "invalid rule day julian day",
+        ),
+        (
+            TransitionRuleError::InvalidRuleDayMonth,
+            "invalid rule day month",
+        ),
+        (
+            TransitionRuleError::InvalidRuleDayWeek,
+            "invalid rule day week",
+        ),
+        (
+            TransitionRuleError::InvalidRuleDayWeekDay,
+            "invalid rule day week day",
+        ),
+        (
+            TransitionRuleError::InvalidStdUtcOffset,
+            "invalid standard time UTC offset",
+        ),
+        (
+            TransitionRuleError::InvalidDstUtcOffset,
+            "invalid Daylight Saving Time UTC offset",
+        ),
+        (
+            TransitionRuleError::InvalidDstStartEndTime,
+            "invalid DST start or end time",
+        ),
+        (
+            TransitionRuleError::InconsistentRule,
+            "DST transition rules are not consistent from one year to another",
+        ),
+    ];
+    static ZONE_TEXTS: [(TimeZoneError, &str); 5] = [
+        (
+            TimeZoneError::NoLocalTimeType,
+            "list of local time types must not be empty",
+        ),
+        (
+            TimeZoneError::InvalidLocalTimeTypeIndex,
+            "invalid local time type index",
+        ),
+        (TimeZoneError::InvalidTransition, "invalid transition"),
+        (TimeZoneError::InvalidLeapSecond, "invalid leap second"),
+        (
+            TimeZoneError::InconsistentExtraRule,
+            "extra transition rule is inconsistent with the last transition",
+        ),
+    ];
     let alloc = rt.alloc();
-    expect_texts(
-        &rt,
-        alloc,
-        &[
-            (DateTimeError::InvalidMonth, "invalid month"),
-            (DateTimeError::InvalidMonthDay, "invalid month day"),
-            (DateTimeError::InvalidHour, "invalid hour"),
-            (DateTimeError::InvalidMinute, "invalid minute"),
-            (DateTimeError::InvalidSecond, "invalid second"),
-            (DateTimeError::InvalidNanoseconds, "invalid nanoseconds"),
-        ],
-    )?;
-    expect_texts(
-        &rt,
-        alloc,
-        &[
-            (
-                LocalTimeTypeError::InvalidTimeZoneDesignationLength,
-                "time zone designation must have between 3 and 7 characters",
-            ),
-            (
-                LocalTimeTypeError::InvalidTimeZoneDesignationChar,
-                "invalid characters in time zone designation",
-            ),
-            (LocalTimeTypeError::InvalidUtcOffset, "invalid UTC offset"),
-        ],
-    )?;
-    expect_texts(
-        &rt,
-        alloc,
-        &[
-            (
-                TransitionRuleError::InvalidRuleDayJulianDay,
-                "invalid rule day julian day",
-            ),
-            (
-                TransitionRuleError::InvalidRuleDayMonth,
-                "invalid rule day month",
-            ),
-            (
-                TransitionRuleError::InvalidRuleDayWeek,
-                "invalid rule day week",
-            ),
-            (
-                TransitionRuleError::InvalidRuleDayWeekDay,
-                "invalid rule day week day",
-            ),
-            (
-                TransitionRuleError::InvalidStdUtcOffset,
-                "invalid standard time UTC offset",
-            ),
-            (
-                TransitionRuleError::InvalidDstUtcOffset,
-                "invalid Daylight Saving Time UTC offset",
-            ),
-            (
-                TransitionRuleError::InvalidDstStartEndTime,
-                "invalid DST start or end time",
-            ),
-            (
-                TransitionRuleError::InconsistentRule,
-                "DST transition rules are not consistent from one year to another",
-            ),
-        ],
-    )?;
-    expect_texts(
-        &rt,
-        alloc,
-        &[
-            (
-                TimeZoneError::NoLocalTimeType,
-                "list of local time types must not be empty",
-            ),
-            (
-                TimeZoneError::InvalidLocalTimeTypeIndex,
-                "invalid local time type index",
-            ),
-            (TimeZoneError::InvalidTransition, "invalid transition"),
-            (TimeZoneError::InvalidLeapSecond, "invalid leap second"),
-            (
-                TimeZoneError::InconsistentExtraRule,
-                "extra transition rule is inconsistent with the last transition",
-            ),
-        ],
-    )?;
+    expect_texts(&rt, alloc, &DATE_TIME_TEXTS)?;
+    expect_texts(&rt, alloc, &TYPE_TEXTS)?;
+    expect_texts(&rt, alloc, &RULE_TEXTS)?;
+    expect_texts(&rt, alloc, &ZONE_TEXTS)?;
     Ok(())
 }
 
 /// The errors of strings that are not made of others, and their texts.
-const STRING_TEXTS: [(TzStringError, &str); 9] = [
+static STRING_TEXTS: [(TzStringError, &str); 9] = [
     (TzStringError::InvalidOffsetHour, "invalid offset hour"),
     (TzStringError::InvalidOffsetMinute, "invalid offset minute"),
     (TzStringError::InvalidOffsetSecond, "invalid offset second"),
@@ -190,7 +178,7 @@ const STRING_TEXTS: [(TzStringError, &str); 9] = [
 ];
 
 /// The errors of files that are not made of others, and their texts.
-const FILE_TEXTS: [(TzFileError, &str); 8] = [
+static FILE_TEXTS: [(TzFileError, &str); 8] = [
     (TzFileError::InvalidMagicNumber, "invalid magic number"),
     (
         TzFileError::UnsupportedTzFileVersion,

@@ -6,6 +6,11 @@ use std::test::Fail;
 use tz_base::error::timezone::LocalTimeTypeError;
 use tz_rule::timezone::LocalTimeType;
 
+/// What a name of no length that is allowed, and a byte that no name has, are refused by.
+const LENGTH: LocalTimeTypeError = LocalTimeTypeError::InvalidTimeZoneDesignationLength;
+
+const CHAR: LocalTimeTypeError = LocalTimeTypeError::InvalidTimeZoneDesignationChar;
+
 /// The refusal of a type with this name, if it is refused.
 fn fault_of_name(name: &[u8]) -> Option<LocalTimeTypeError> {
     LocalTimeType::new(0, false, Some(name)).err()
@@ -13,19 +18,18 @@ fn fault_of_name(name: &[u8]) -> Option<LocalTimeTypeError> {
 
 #[test]
 fn names_have_one_to_seven_bytes(rt: HostRuntime) {
-    let length = LocalTimeTypeError::InvalidTimeZoneDesignationLength;
-    let char = LocalTimeTypeError::InvalidTimeZoneDesignationChar;
-    for (name, fault) in [
-        (b"".as_slice(), Some(length)),
-        (b"1".as_slice(), None),
-        (b"-03".as_slice(), None),
-        (b"1234567".as_slice(), None),
-        (b"12345678".as_slice(), Some(length)),
-        (b"1234567\0".as_slice(), Some(length)),
-        (b"123\0\0\0".as_slice(), Some(char)),
-        (b"\0".as_slice(), Some(char)),
-        (b"AB CD".as_slice(), Some(char)),
-    ] {
+    static NAMES: [(&[u8], Option<LocalTimeTypeError>); 9] = [
+        (b"", Some(LENGTH)),
+        (b"1", None),
+        (b"-03", None),
+        (b"1234567", None),
+        (b"12345678", Some(LENGTH)),
+        (b"1234567\0", Some(LENGTH)),
+        (b"123\0\0\0", Some(CHAR)),
+        (b"\0", Some(CHAR)),
+        (b"AB CD", Some(CHAR)),
+    ];
+    for &(name, fault) in NAMES.iter() {
         expect_eq(&rt, &(name, fault_of_name(name)), &(name, fault));
     }
 }
@@ -45,16 +49,22 @@ fn names_have_letters_digits_and_signs(rt: HostRuntime) {
 
 #[test]
 fn the_first_fault_is_named(rt: HostRuntime) {
-    let offset = LocalTimeTypeError::InvalidUtcOffset;
-    let length = LocalTimeTypeError::InvalidTimeZoneDesignationLength;
-    let char = LocalTimeTypeError::InvalidTimeZoneDesignationChar;
-    for (ut_offset, name, fault) in [
-        (i32::MIN, Some(b"12345 78".as_slice()), offset),
-        (i32::MIN, Some(b"12 4".as_slice()), offset),
-        (i32::MIN, None, offset),
-        (i32::MIN + 1, Some(b"12345 78".as_slice()), length),
-        (i32::MIN + 1, Some(b"12 4".as_slice()), char),
-    ] {
+    static REFUSED: [(i32, Option<&[u8]>, LocalTimeTypeError); 5] = [
+        (
+            i32::MIN,
+            Some(b"12345 78"),
+            LocalTimeTypeError::InvalidUtcOffset,
+        ),
+        (
+            i32::MIN,
+            Some(b"12 4"),
+            LocalTimeTypeError::InvalidUtcOffset,
+        ),
+        (i32::MIN, None, LocalTimeTypeError::InvalidUtcOffset),
+        (i32::MIN + 1, Some(b"12345 78"), LENGTH),
+        (i32::MIN + 1, Some(b"12 4"), CHAR),
+    ];
+    for &(ut_offset, name, fault) in REFUSED.iter() {
         expect_eq(&rt, &LocalTimeType::new(ut_offset, true, name), &Err(fault));
     }
 }
@@ -74,13 +84,14 @@ fn expect_parts(
 
 #[test]
 fn a_type_has_its_parts(rt: HostRuntime) -> Result<(), LocalTimeTypeError> {
-    for (ut_offset, is_dst, name, text) in [
-        (-37886, false, Some(b"LMT".as_slice()), "LMT"),
-        (50400, true, Some(b"+14".as_slice()), "+14"),
-        (i32::MAX, true, Some(b"aZ09+-x".as_slice()), "aZ09+-x"),
-        (i32::MIN + 1, false, Some(b"Z".as_slice()), "Z"),
+    static PARTS: [(i32, bool, Option<&[u8]>, &str); 5] = [
+        (-37886, false, Some(b"LMT"), "LMT"),
+        (50400, true, Some(b"+14"), "+14"),
+        (i32::MAX, true, Some(b"aZ09+-x"), "aZ09+-x"),
+        (i32::MIN + 1, false, Some(b"Z"), "Z"),
         (3600, true, None, ""),
-    ] {
+    ];
+    for &(ut_offset, is_dst, name, text) in PARTS.iter() {
         let local_time_type = LocalTimeType::new(ut_offset, is_dst, name)?;
         expect_parts(&rt, &local_time_type, ut_offset, is_dst, text);
     }
@@ -89,7 +100,8 @@ fn a_type_has_its_parts(rt: HostRuntime) -> Result<(), LocalTimeTypeError> {
 
 #[test]
 fn plain_types_have_an_offset_alone(rt: HostRuntime) -> Result<(), LocalTimeTypeError> {
-    for ut_offset in [i32::MIN + 1, -1, 0, 3600, i32::MAX] {
+    static OFFSETS: [i32; 5] = [i32::MIN + 1, -1, 0, 3600, i32::MAX];
+    for &ut_offset in OFFSETS.iter() {
         let plain = LocalTimeType::with_ut_offset(ut_offset)?;
         expect_eq(&rt, &plain, &LocalTimeType::new(ut_offset, false, None)?);
         expect_parts(&rt, &plain, ut_offset, false, "");
@@ -102,7 +114,7 @@ fn plain_types_have_an_offset_alone(rt: HostRuntime) -> Result<(), LocalTimeType
 }
 
 /// Parts of types of which each differs from the others.
-const DIFFERENT: [(i32, bool, Option<&[u8]>); 7] = [
+static DIFFERENT: [(i32, bool, Option<&[u8]>); 7] = [
     (3600, false, Some(b"CET")),
     (3601, false, Some(b"CET")),
     (3600, true, Some(b"CET")),
@@ -117,9 +129,8 @@ fn expect_equal_at(
     rt: &impl Abort,
     place: usize,
     one: &LocalTimeType,
-    parts: &[(i32, bool, Option<&[u8]>)],
 ) -> Result<(), LocalTimeTypeError> {
-    for (i, (ut_offset, is_dst, name)) in parts.iter().enumerate() {
+    for (i, (ut_offset, is_dst, name)) in DIFFERENT.iter().enumerate() {
         let other = LocalTimeType::new(*ut_offset, *is_dst, *name)?;
         expect_eq_at(rt, &place, &(i, *one == other), &(i, i == place));
     }
@@ -128,10 +139,9 @@ fn expect_equal_at(
 
 #[test]
 fn equal_types_have_equal_parts(rt: HostRuntime) -> Result<(), LocalTimeTypeError> {
-    let parts = DIFFERENT.as_slice();
-    for (i, (ut_offset, is_dst, name)) in parts.iter().enumerate() {
+    for (i, (ut_offset, is_dst, name)) in DIFFERENT.iter().enumerate() {
         let one = LocalTimeType::new(*ut_offset, *is_dst, *name)?;
-        expect_equal_at(&rt, i, &one, parts)?;
+        expect_equal_at(&rt, i, &one)?;
     }
     Ok(())
 }

@@ -65,10 +65,11 @@ fn a_string_keeps_its_text(rt: HostRuntime) -> Result<(), Fail> {
 
 #[test]
 fn refuses_each_allocation_in_turn(rt: HostRuntime) {
+    static WORDS: [&str; 3] = ["no", "more", "room"];
     let mut refusals = 0u64;
     for left in 0..20u64 {
         let heap = Refusing::new(rt.alloc(), left);
-        match joined(&heap, &["no", "more", "room"]) {
+        match joined(&heap, &WORDS) {
             Ok(text) => expect_eq(&rt, &text.as_str(), &"nomoreroom"),
             Err(AllocError) => refusals = left + 1,
         }

@@ -5,7 +5,7 @@ mod stretches;
 mod years;
 
 use crate::expect::{expect_debug, expect_eq, expect_eq_at, expect_ne};
-use std::alloc::{AllocError, Global};
+use Day::{J, M, Z};
 use std::process::Abort;
 use std::test::Fail;
 use tz_base::error::TzError;
@@ -23,40 +23,39 @@ enum Refusal {
     Rule(TransitionRuleError),
 }
 
-/// A rule day and a day time in seconds.
+/// A rule day as it is written in a table.
 #[derive(Clone, Copy, Debug)]
-struct At {
-    day: RuleDay,
-    time: i32,
+enum Day {
+    J(u16),
+    Z(u16),
+    M(u8, u8, u8),
 }
 
-fn j(day: u16, time: i32) -> Result<At, TransitionRuleError> {
-    let day = RuleDay::Julian1WithoutLeap(Julian1WithoutLeap::new(day)?);
-    Ok(At { day, time })
+/// A rule day and a day time in seconds.
+type At = (Day, i32);
+
+/// The rule day of a table's day.
+fn rule_day(day: Day) -> Result<RuleDay, TransitionRuleError> {
+    match day {
+        Day::J(day) => Ok(RuleDay::Julian1WithoutLeap(Julian1WithoutLeap::new(day)?)),
+        Day::Z(day) => Ok(RuleDay::Julian0WithLeap(Julian0WithLeap::new(day)?)),
+        Day::M(month, week, week_day) => Ok(RuleDay::MonthWeekDay(MonthWeekDay::new(
+            month, week, week_day,
+        )?)),
+    }
 }
 
-fn z(day: u16, time: i32) -> Result<At, TransitionRuleError> {
-    let day = RuleDay::Julian0WithLeap(Julian0WithLeap::new(day)?);
-    Ok(At { day, time })
-}
-
-fn m(month: u8, week: u8, week_day: u8, time: i32) -> Result<At, TransitionRuleError> {
-    let day = RuleDay::MonthWeekDay(MonthWeekDay::new(month, week, week_day)?);
-    Ok(At { day, time })
-}
+/// The offsets of a rule, and its start and its end.
+type Parts = (i32, i32, At, At);
 
 /// The rule with these offsets, of which the second has the daylight flag.
-fn rule(
-    std: i32,
-    dst: i32,
-    start: Result<At, TransitionRuleError>,
-    end: Result<At, TransitionRuleError>,
-) -> Result<AlternateTime, Refusal> {
+fn rule(parts: Parts) -> Result<AlternateTime, Refusal> {
+    let (std, dst, start, end) = parts;
     let std = LocalTimeType::new(std, false, None).map_err(Refusal::Type)?;
     let dst = LocalTimeType::new(dst, true, None).map_err(Refusal::Type)?;
-    let start = start.map_err(Refusal::Rule)?;
-    let end = end.map_err(Refusal::Rule)?;
-    AlternateTime::new(std, dst, start.day, start.time, end.day, end.time).map_err(Refusal::Rule)
+    let start_day = rule_day(start.0).map_err(Refusal::Rule)?;
+    let end_day = rule_day(end.0).map_err(Refusal::Rule)?;
+    AlternateTime::new(std, dst, start_day, start.1, end_day, end.1).map_err(Refusal::Rule)
 }
 
 /// The rule, which is not refused.
@@ -89,41 +88,44 @@ fn expect_type_at(
 }
 
 /// The start in a year of a rule with offsets of 0 that ends in July.
-fn start_in(start: Result<At, TransitionRuleError>, year: i32) -> Option<i64> {
-    let rule = rule(0, 0, start, j(200, 0)).ok()?;
+fn start_in(start: At, year: i32) -> Option<i64> {
+    let rule = rule((0, 0, start, (J(200), 0))).ok()?;
     Some(inner::start(&rule, year))
 }
 
 /// Daylight saving time all year: each span ends where the next one starts.
-fn all_year() -> Result<AlternateTime, Refusal> {
-    rule(-18_000, -14_400, z(0, 0), j(365, 90_000))
-}
+static ALL_YEAR: Parts = (-18_000, -14_400, (Z(0), 0), (J(365), 90_000));
+
+/// Daylight saving time from spring to autumn of the south.
+static AUCKLAND: Parts = (43_200, 46_800, (M(10, 1, 0), 7200), (M(3, 3, 0), 7200));
 
 #[test]
 fn all_year_is_daylight(rt: HostRuntime) {
-    let first = all_year();
-    for unix_time in [946_701_000, 946_702_799, 946_702_800] {
-        expect_type_at(&rt, &first, unix_time, (-14_400, true));
+    static INSTANTS: [i64; 3] = [946_701_000, 946_702_799, 946_702_800];
+    static SECOND: Parts = (0, 3600, (J(1), 0), (J(365), 172_800));
+    let first = rule(ALL_YEAR);
+    for unix_time in &INSTANTS {
+        expect_type_at(&rt, &first, *unix_time, (-14_400, true));
     }
-    let second = rule(0, 3600, j(1, 0), j(365, 172_800));
+    let second = rule(SECOND);
     expect_eq(&rt, &type_at(&second, 978_305_400), &Some((3600, true)));
 }
 
 /// The rule has no type at the first instant and at the last one.
 fn expect_out_of_range(rt: &impl Abort, rule: AlternateTime) {
     let rule = TransitionRule::Alternate(rule);
-    for unix_time in [i64::MIN, i64::MAX] {
-        let found = inner::find_local_time_type(&rule, unix_time);
+    static ENDS: [i64; 2] = [i64::MIN, i64::MAX];
+    for unix_time in &ENDS {
+        let found = inner::find_local_time_type(&rule, *unix_time);
         assert!(rt; matches!(found, Err(TzError::OutOfRange)), "{unix_time}");
     }
 }
 
 #[test]
 fn out_of_range_at_the_ends(rt: HostRuntime) {
-    let all_year = expect_made(&rt, all_year());
+    let all_year = expect_made(&rt, rule(ALL_YEAR));
     expect_out_of_range(&rt, all_year);
-    let auckland = rule(43_200, 46_800, m(10, 1, 0, 7200), m(3, 3, 0, 7200));
-    let auckland = expect_made(&rt, auckland);
+    let auckland = expect_made(&rt, rule(AUCKLAND));
     expect_out_of_range(&rt, auckland);
 }
 
@@ -134,19 +136,25 @@ const PRINTED: &str = "AlternateTime { \
     dst_start: Julian1WithoutLeap(Julian1WithoutLeap(59)), dst_start_time: -1, \
     dst_end: Julian0WithLeap(Julian0WithLeap(0)), dst_end_time: 7200 }";
 
-/// The rule is printed as one of two kinds.
-fn expect_alternate(rt: &impl Abort, alloc: Global, made: AlternateTime) -> Result<(), AllocError> {
-    let text = format!(in alloc; "Alternate({made:?})")?;
-    expect_debug(rt, alloc, &TransitionRule::Alternate(made), text.as_str())
-}
+/// The same as one of two kinds of rules.
+const PRINTED_AS_ALTERNATE: &str = "Alternate(AlternateTime { \
+    std: LocalTimeType { ut_offset: 0, is_dst: false, time_zone_designation: None }, \
+    dst: LocalTimeType { ut_offset: 3600, is_dst: true, time_zone_designation: None }, \
+    dst_start: Julian1WithoutLeap(Julian1WithoutLeap(59)), dst_start_time: -1, \
+    dst_end: Julian0WithLeap(Julian0WithLeap(0)), dst_end_time: 7200 })";
 
 #[test]
 fn values_print_their_parts(rt: HostRuntime) -> Result<(), Fail> {
+    static SHOWN: Parts = (0, 3600, (J(59), -1), (Z(0), 7200));
     let alloc = rt.alloc();
-    let made = expect_made(&rt, rule(0, 3600, j(59, -1), z(0, 7200)));
+    let made = expect_made(&rt, rule(SHOWN));
     expect_debug(&rt, alloc, &made, PRINTED)?;
-
-    expect_alternate(&rt, alloc, made)?;
+    expect_debug(
+        &rt,
+        alloc,
+        &TransitionRule::Alternate(made),
+        PRINTED_AS_ALTERNATE,
+    )?;
     expect_debug(
         &rt,
         alloc,
@@ -164,39 +172,46 @@ fn values_print_their_parts(rt: HostRuntime) -> Result<(), Fail> {
 
 #[test]
 fn the_pairing_is_the_rules(rt: HostRuntime) {
-    let tie = rule(0, 0, j(60, 0), z(59, 0));
+    static TIE: Parts = (0, 0, (J(60), 0), (Z(59), 0));
+    let tie = rule(TIE);
     expect_eq(&rt, &type_at(&tie, 978_307_200), &Some((0, true)));
 
-    let tie_across_years = rule(0, 0, z(59, 0), j(60, 0));
-    for (unix_time, is_dst) in [
+    static TIE_ACROSS_YEARS: Parts = (0, 0, (Z(59), 0), (J(60), 0));
+    static ACROSS_YEARS: [(i64, bool); 3] = [
         (951_782_400, true),
         (951_868_800, false),
         (983_404_800, false),
-    ] {
+    ];
+    let tie_across_years = rule(TIE_ACROSS_YEARS);
+    for &(unix_time, is_dst) in ACROSS_YEARS.iter() {
         expect_type_at(&rt, &tie_across_years, unix_time, (0, is_dst));
     }
 }
 
 #[test]
 fn offsets_of_zones(rt: HostRuntime) {
-    let auckland = rule(43_200, 46_800, m(10, 1, 0, 7200), m(3, 3, 0, 7200));
-    for (unix_time, offset) in [
+    static IN_AUCKLAND: [(i64, i32); 4] = [
         (953_384_399, 46_800),
         (953_384_400, 43_200),
         (970_322_399, 43_200),
         (970_322_400, 46_800),
-    ] {
+    ];
+    let auckland = rule(AUCKLAND);
+    for &(unix_time, offset) in IN_AUCKLAND.iter() {
         expect_type_at(&rt, &auckland, unix_time, (offset, offset == 46_800));
     }
 
-    let dublin = rule(3600, 0, m(10, 5, 0, 7200), m(3, 5, 0, 3600));
-    let nuuk = rule(-10_800, -7200, m(3, 5, 0, -7200), m(10, 5, 0, -3600));
-    for (unix_time, in_dublin, in_nuuk) in [
+    static DUBLIN: Parts = (3600, 0, (M(10, 5, 0), 7200), (M(3, 5, 0), 3600));
+    static NUUK: Parts = (-10_800, -7200, (M(3, 5, 0), -7200), (M(10, 5, 0), -3600));
+    static IN_DUBLIN_AND_NUUK: [(i64, i32, i32); 4] = [
         (954_032_399, 0, -10_800),
         (954_032_400, 3600, -7200),
         (972_781_199, 3600, -7200),
         (972_781_200, 0, -10_800),
-    ] {
+    ];
+    let dublin = rule(DUBLIN);
+    let nuuk = rule(NUUK);
+    for &(unix_time, in_dublin, in_nuuk) in IN_DUBLIN_AND_NUUK.iter() {
         expect_type_at(&rt, &dublin, unix_time, (in_dublin, in_dublin == 0));
         expect_type_at(&rt, &nuuk, unix_time, (in_nuuk, in_nuuk == -7200));
     }
@@ -204,26 +219,31 @@ fn offsets_of_zones(rt: HostRuntime) {
 
 #[test]
 fn short_gaps_and_none(rt: HostRuntime) {
-    let gap = rule(0, 0, z(100, 0), z(101, -86_500));
-    for (unix_time, is_dst) in [
+    static GAP: Parts = (0, 0, (Z(100), 0), (Z(101), -86_500));
+    static IN_GAP: [(i64, bool); 4] = [
         (8_639_899, true),
         (8_639_900, false),
         (8_639_999, false),
         (8_640_000, true),
-    ] {
+    ];
+    let gap = rule(GAP);
+    for &(unix_time, is_dst) in IN_GAP.iter() {
         expect_type_at(&rt, &gap, unix_time, (0, is_dst));
     }
 
-    let never = rule(0, 3600, j(365, 89_999), z(0, 7198));
-    let always = rule(0, 0, z(0, 0), j(365, 89_999));
-    for unix_time in [
+    static NEVER: Parts = (0, 3600, (J(365), 89_999), (Z(0), 7198));
+    static ALWAYS: Parts = (0, 0, (Z(0), 0), (J(365), 89_999));
+    static NEAR_NEW_YEAR: [i64; 6] = [
         946_684_798,
         946_684_799,
         946_688_397,
         946_688_398,
         946_688_399,
         946_688_400,
-    ] {
+    ];
+    let never = rule(NEVER);
+    let always = rule(ALWAYS);
+    for &unix_time in NEAR_NEW_YEAR.iter() {
         expect_type_at(&rt, &never, unix_time, (0, false));
         expect_type_at(&rt, &always, unix_time, (0, true));
     }
@@ -231,64 +251,55 @@ fn short_gaps_and_none(rt: HostRuntime) {
 
 #[test]
 fn starts(rt: HostRuntime) {
-    expect_eq(&rt, &start_in(j(60, 43_200), 2000), &Some(951_912_000));
-    expect_eq(&rt, &start_in(z(59, 43_200), 2000), &Some(951_825_600));
-    expect_eq(&rt, &start_in(m(2, 5, 2, 43_200), 2000), &Some(951_825_600));
-    expect_eq(&rt, &start_in(m(2, 5, 2, 43_200), 2001), &Some(983_275_200));
-    expect_eq(&rt, &start_in(z(365, 0), 2000), &Some(978_220_800));
-    expect_eq(&rt, &start_in(z(365, 0), 1999), &Some(946_684_800));
+    static STARTS: [(At, i32, i64); 6] = [
+        ((J(60), 43_200), 2000, 951_912_000),
+        ((Z(59), 43_200), 2000, 951_825_600),
+        ((M(2, 5, 2), 43_200), 2000, 951_825_600),
+        ((M(2, 5, 2), 43_200), 2001, 983_275_200),
+        ((Z(365), 0), 2000, 978_220_800),
+        ((Z(365), 0), 1999, 946_684_800),
+    ];
+    for &(start, year, instant) in STARTS.iter() {
+        expect_eq(&rt, &start_in(start, year), &Some(instant));
+    }
 }
 
 /// The conflict of the parts, with offsets of 0.
-fn conflict(
-    start: Result<At, TransitionRuleError>,
-    end: Result<At, TransitionRuleError>,
-) -> Option<(i32, i32, i32)> {
+fn conflict(start: At, end: At) -> Option<(i32, i32, i32)> {
     let utc = LocalTimeType::utc();
-    let start = start.ok()?;
-    let end = end.ok()?;
-    AlternateTime::conflict(utc, utc, start.day, start.time, end.day, end.time)
+    let start_day = rule_day(start.0).ok()?;
+    let end_day = rule_day(end.0).ok()?;
+    AlternateTime::conflict(utc, utc, start_day, start.1, end_day, end.1)
 }
 
 #[test]
 fn near_days(rt: HostRuntime) {
-    let refused = Some(Refusal::Rule(TransitionRuleError::InconsistentRule));
-    for (time, week_days, days) in [(-1, refused, None), (0, None, None), (1, None, refused)] {
-        let found = rule(0, 0, m(2, 4, 2, time), m(2, 5, 3, -86_400));
-        expect_eq_at(&rt, &time, &found.err(), &week_days);
-        let found = rule(0, 0, j(59, time), j(60, -86_400));
-        expect_eq_at(&rt, &time, &found.err(), &days);
+    const REFUSED: Option<Refusal> = Some(Refusal::Rule(TransitionRuleError::InconsistentRule));
+    static REFUSALS: [(At, At, Option<Refusal>); 6] = [
+        ((M(2, 4, 2), -1), (M(2, 5, 3), -86_400), REFUSED),
+        ((M(2, 4, 2), 0), (M(2, 5, 3), -86_400), None),
+        ((M(2, 4, 2), 1), (M(2, 5, 3), -86_400), None),
+        ((J(59), -1), (J(60), -86_400), None),
+        ((J(59), 0), (J(60), -86_400), None),
+        ((J(59), 1), (J(60), -86_400), REFUSED),
+    ];
+    for &(start, end, refused) in REFUSALS.iter() {
+        let found = rule((0, 0, start, end)).err();
+        expect_eq_at(&rt, &start.1, &found, &refused);
     }
 
-    // In 1973, which is not leap, the start comes after the end, and in 1972 before it.
-    expect_eq(
-        &rt,
-        &conflict(j(59, 1), j(60, -86_400)),
-        &Some((1973, 1972, 0)),
-    );
-    expect_eq(&rt, &conflict(j(59, 0), j(60, -86_400)), &None);
-    expect_eq(&rt, &conflict(j(59, 604_800), j(60, -86_400)), &None);
+    static CONFLICTS: [(At, At, Option<(i32, i32, i32)>); 3] = [
+        // In 1973, which is not leap, the start comes after the end, and in 1972 before it.
+        ((J(59), 1), (J(60), -86_400), Some((1973, 1972, 0))),
+        ((J(59), 0), (J(60), -86_400), None),
+        ((J(59), 604_800), (J(60), -86_400), None),
+    ];
+    for &(start, end, years) in CONFLICTS.iter() {
+        expect_eq(&rt, &conflict(start, end), &years);
+    }
 }
 
-/// The rule is refused with this fault.
-fn expect_fault(
-    rt: &impl Abort,
-    found: Result<AlternateTime, Refusal>,
-    fault: TransitionRuleError,
-) {
-    expect_eq(rt, &found.err(), &Some(Refusal::Rule(fault)));
-}
-
-/// The rule with this start and offsets of 0 is refused with this fault.
-fn expect_fault_of_start(
-    rt: &impl Abort,
-    start: Result<At, TransitionRuleError>,
-    fault: TransitionRuleError,
-) {
-    expect_fault(rt, rule(0, 0, start, z(0, 0)), fault);
-}
-
-/// The parts of the rule of `all_year`.
+/// The parts of the rule `ALL_YEAR`.
 fn expect_parts_of_all_year(rt: &impl Abort, made: &AlternateTime) {
     expect_eq(rt, &made.std().ut_offset(), &(-18_000));
     expect_eq(rt, &made.dst().ut_offset(), &(-14_400));
@@ -299,56 +310,78 @@ fn expect_parts_of_all_year(rt: &impl Abort, made: &AlternateTime) {
 
 #[test]
 fn parts_and_faults(rt: HostRuntime) {
-    let made = expect_made(&rt, all_year());
-    let same = expect_made(&rt, all_year());
-    let other = expect_made(&rt, rule(-18_000, -14_400, z(0, 1), j(365, 90_000)));
+    static OTHER: Parts = (-18_000, -14_400, (Z(0), 1), (J(365), 90_000));
+    let made = expect_made(&rt, rule(ALL_YEAR));
+    let same = expect_made(&rt, rule(ALL_YEAR));
+    let other = expect_made(&rt, rule(OTHER));
     expect_eq(&rt, &made, &same);
     expect_ne(&rt, &made, &other);
     expect_parts_of_all_year(&rt, &made);
 
-    for (std, dst, fault) in [
-        (-90_000, 93_600, TransitionRuleError::InvalidStdUtcOffset),
-        (-89_999, 93_600, TransitionRuleError::InvalidDstUtcOffset),
-        (-89_999, 93_599, TransitionRuleError::InvalidDstStartEndTime),
-    ] {
-        expect_fault(&rt, rule(std, dst, z(0, 604_800), z(0, 0)), fault);
-    }
-    expect_fault(
-        &rt,
-        rule(0, 0, z(0, 0), z(0, -604_800)),
-        TransitionRuleError::InvalidDstStartEndTime,
-    );
-    for (start, fault) in [
-        (z(366, 0), TransitionRuleError::InvalidRuleDayJulianDay),
-        (j(0, 0), TransitionRuleError::InvalidRuleDayJulianDay),
-        (m(13, 0, 7, 0), TransitionRuleError::InvalidRuleDayMonth),
-        (m(12, 6, 7, 0), TransitionRuleError::InvalidRuleDayWeek),
-        (m(12, 5, 7, 0), TransitionRuleError::InvalidRuleDayWeekDay),
-    ] {
-        expect_fault_of_start(&rt, start, fault);
+    static FAULTS: [(Parts, TransitionRuleError); 9] = [
+        (
+            (-90_000, 93_600, (Z(0), 604_800), (Z(0), 0)),
+            TransitionRuleError::InvalidStdUtcOffset,
+        ),
+        (
+            (-89_999, 93_600, (Z(0), 604_800), (Z(0), 0)),
+            TransitionRuleError::InvalidDstUtcOffset,
+        ),
+        (
+            (-89_999, 93_599, (Z(0), 604_800), (Z(0), 0)),
+            TransitionRuleError::InvalidDstStartEndTime,
+        ),
+        (
+            (0, 0, (Z(0), 0), (Z(0), -604_800)),
+            TransitionRuleError::InvalidDstStartEndTime,
+        ),
+        (
+            (0, 0, (Z(366), 0), (Z(0), 0)),
+            TransitionRuleError::InvalidRuleDayJulianDay,
+        ),
+        (
+            (0, 0, (J(0), 0), (Z(0), 0)),
+            TransitionRuleError::InvalidRuleDayJulianDay,
+        ),
+        (
+            (0, 0, (M(13, 0, 7), 0), (Z(0), 0)),
+            TransitionRuleError::InvalidRuleDayMonth,
+        ),
+        (
+            (0, 0, (M(12, 6, 7), 0), (Z(0), 0)),
+            TransitionRuleError::InvalidRuleDayWeek,
+        ),
+        (
+            (0, 0, (M(12, 5, 7), 0), (Z(0), 0)),
+            TransitionRuleError::InvalidRuleDayWeekDay,
+        ),
+    ];
+    for &(parts, fault) in FAULTS.iter() {
+        expect_eq(&rt, &rule(parts).err(), &Some(Refusal::Rule(fault)));
     }
 }
 
 #[test]
 fn designations(rt: HostRuntime) {
-    let fault = |name: &[u8]| LocalTimeType::new(0, false, Some(name)).err();
-    expect_eq(
-        &rt,
-        &fault(b""),
-        &Some(LocalTimeTypeError::InvalidTimeZoneDesignationLength),
-    );
-    expect_eq(
-        &rt,
-        &fault(b"12345678"),
-        &Some(LocalTimeTypeError::InvalidTimeZoneDesignationLength),
-    );
-    expect_eq(
-        &rt,
-        &fault(b"123\0\0\0"),
-        &Some(LocalTimeTypeError::InvalidTimeZoneDesignationChar),
-    );
-    expect_eq(&rt, &fault(b"1"), &None);
-    expect_eq(&rt, &fault(b"1234567"), &None);
+    static NAMES: [(&[u8], Option<LocalTimeTypeError>); 5] = [
+        (
+            b"",
+            Some(LocalTimeTypeError::InvalidTimeZoneDesignationLength),
+        ),
+        (
+            b"12345678",
+            Some(LocalTimeTypeError::InvalidTimeZoneDesignationLength),
+        ),
+        (
+            b"123\0\0\0",
+            Some(LocalTimeTypeError::InvalidTimeZoneDesignationChar),
+        ),
+        (b"1", None),
+        (b"1234567", None),
+    ];
+    for &(name, fault) in NAMES.iter() {
+        expect_eq(&rt, &LocalTimeType::new(0, false, Some(name)).err(), &fault);
+    }
     let found = LocalTimeType::with_ut_offset(i32::MIN).err();
     expect_eq(&rt, &found, &Some(LocalTimeTypeError::InvalidUtcOffset));
 }
@@ -376,8 +409,7 @@ fn expect_ends_of_auckland(rt: &impl Abort, auckland: &AlternateTime) {
 #[test]
 fn days_ends_and_rules(rt: HostRuntime) {
     expect_days(&rt);
-    let found = rule(43_200, 46_800, m(10, 1, 0, 7200), m(3, 3, 0, 7200));
-    let auckland = expect_made(&rt, found);
+    let auckland = expect_made(&rt, rule(AUCKLAND));
     expect_ends_of_auckland(&rt, &auckland);
 
     let fixed = TransitionRule::Fixed(*auckland.std());

@@ -1,36 +1,16 @@
 //! Rules whose days are near each other: which are consistent, with one day's time a second earlier, as it is, and a second later.
 
+use super::{Day, rule_day};
 use crate::expect::expect_eq_at;
 use std::process::Abort;
 use tz_base::error::timezone::TransitionRuleError;
-use tz_rule::timezone::{
-    AlternateTime, Julian0WithLeap, Julian1WithoutLeap, LocalTimeType, MonthWeekDay, RuleDay,
-};
-
-/// A rule day as it is written in a table.
-#[derive(Clone, Copy, Debug)]
-enum Day {
-    J(u16),
-    Z(u16),
-    M(u8, u8, u8),
-}
+use tz_rule::timezone::{AlternateTime, LocalTimeType};
 
 /// A rule day and a day time in whole days.
 type At = (Day, i8);
 
-/// Which of the three times are accepted.
-type Answers = [Option<bool>; 3];
-
-/// The rule day of a table's day.
-fn rule_day(day: Day) -> Result<RuleDay, TransitionRuleError> {
-    match day {
-        Day::J(day) => Ok(RuleDay::Julian1WithoutLeap(Julian1WithoutLeap::new(day)?)),
-        Day::Z(day) => Ok(RuleDay::Julian0WithLeap(Julian0WithLeap::new(day)?)),
-        Day::M(month, week, week_day) => Ok(RuleDay::MonthWeekDay(MonthWeekDay::new(
-            month, week, week_day,
-        )?)),
-    }
-}
+/// Which of the three times are accepted. (A static's rows hold no arrays.)
+type Answers = (Option<bool>, Option<bool>, Option<bool>);
 
 /// Makes the rule with the first day's time moved by seconds; the first day is the start, or the end.
 fn rule(x: At, seconds: i8, y: At, is_start: bool) -> Result<AlternateTime, TransitionRuleError> {
@@ -57,22 +37,22 @@ fn is_accepted(x: At, seconds: i8, y: At, is_start: bool) -> Option<bool> {
 
 /// Which of the three times are accepted.
 fn accepted(x: At, y: At, is_start: bool) -> Answers {
-    [
+    (
         is_accepted(x, -1, y, is_start),
         is_accepted(x, 0, y, is_start),
         is_accepted(x, 1, y, is_start),
-    ]
+    )
 }
 
 /// Accepted at each of the three times, refused a second later, and refused a second earlier.
-const ALL: Answers = [Some(true), Some(true), Some(true)];
+const ALL: Answers = (Some(true), Some(true), Some(true));
 
-const NOT_LATER: Answers = [Some(true), Some(true), Some(false)];
+const NOT_LATER: Answers = (Some(true), Some(true), Some(false));
 
-const NOT_EARLIER: Answers = [Some(false), Some(true), Some(true)];
+const NOT_EARLIER: Answers = (Some(false), Some(true), Some(true));
 
 /// Refused where the first day comes a second later.
-const REFUSED_LATER: [(At, At); 28] = [
+static REFUSED_LATER: [(At, At); 28] = [
     ((Day::J(59), 0), (Day::J(60), -1)),
     ((Day::Z(364), 0), (Day::Z(0), -1)),
     ((Day::Z(365), 0), (Day::Z(0), 0)),
@@ -104,7 +84,7 @@ const REFUSED_LATER: [(At, At); 28] = [
 ];
 
 /// Accepted at each time.
-const NEVER_REFUSED: [(At, At); 7] = [
+static NEVER_REFUSED: [(At, At); 7] = [
     ((Day::J(365), 0), (Day::J(1), -1)),
     ((Day::Z(58), 0), (Day::Z(59), -1)),
     ((Day::J(365), 0), (Day::Z(0), 0)),
@@ -115,7 +95,7 @@ const NEVER_REFUSED: [(At, At); 7] = [
 ];
 
 /// Refused where the first day comes a second earlier.
-const REFUSED_EARLIER: [(At, At); 11] = [
+static REFUSED_EARLIER: [(At, At); 11] = [
     ((Day::M(12, 5, 0), 3), (Day::J(1), -4)),
     ((Day::M(12, 5, 0), 3), (Day::Z(0), -4)),
     ((Day::J(365), 3), (Day::M(1, 1, 0), -4)),
@@ -156,7 +136,7 @@ fn both_ways(x: At, y: At) -> [Answers; 2] {
 }
 
 /// Start and end of rules that are near each other, within a year or at its end, and which of their three times are accepted.
-const NEAR: [(At, At, Answers); 4] = [
+static NEAR: [(At, At, Answers); 4] = [
     ((Day::M(12, 5, 0), 3), (Day::J(1), -4), NOT_EARLIER),
     ((Day::M(4, 4, 2), 0), (Day::M(4, 5, 4), -2), ALL),
     ((Day::M(3, 5, 2), 0), (Day::M(3, 5, 3), -1), NOT_EARLIER),
@@ -170,61 +150,56 @@ fn near_rows(rt: HostRuntime) {
     }
 }
 
-/// A day of a month with a day time in whole days.
-fn day_of_month(month: u8, week: u8, week_day: u8, days: i8) -> At {
+/// A week and a week day of a month, with a day time in whole days.
+type Place = (u8, u8, i8);
+
+/// The day at a place of a month.
+fn day_of_month(month: u8, place: Place) -> At {
+    let (week, week_day, days) = place;
     (Day::M(month, week, week_day), days)
 }
 
-/// Two days have these answers in a row of the month, and have them with start and end exchanged.
-fn expect_both_ways(rt: &impl Abort, month: u8, x: At, y: At, answers: Answers) {
-    expect_eq_at(rt, &month, &both_ways(x, y), &[answers; 2]);
+/// The month that comes so many months later.
+fn month_later(month: u8, months: u8) -> u8 {
+    month.wrapping_add(months).wrapping_add(11) % 12 + 1
 }
 
-/// Two days are accepted in a row of the month as they are, and with start and end exchanged.
-fn expect_accepted(rt: &impl Abort, month: u8, x: At, y: At) {
-    let found = [is_accepted(x, 0, y, true), is_accepted(x, 0, y, false)];
-    expect_eq_at(rt, &month, &found, &[Some(true); 2]);
-}
+/// For each month but the last: a day of it, how many months later the other day lies, the other day, and which of the three times are accepted.
+static OF_MONTHS: [(Place, u8, Place, Answers); 9] = [
+    ((4, 0, 0), 0, (5, 0, 0), NOT_LATER),
+    ((4, 0, 4), 1, (1, 0, -3), NOT_LATER),
+    ((3, 2, 0), 0, (4, 3, -1), NOT_LATER),
+    ((5, 2, 0), 1, (1, 3, -1), NOT_LATER),
+    ((5, 0, 0), 0, (5, 0, 0), ALL),
+    ((5, 0, 4), 1, (1, 0, -3), ALL),
+    ((5, 0, 0), 1, (5, 0, 0), ALL),
+    ((5, 2, 0), 1, (5, 3, 0), ALL),
+    ((5, 2, 0), 0, (5, 3, -1), NOT_EARLIER),
+];
 
-/// The rows of a month that are refused where the first day comes a second later.
-fn expect_refused_later(rt: &impl Abort, month: u8, next: u8) {
-    for (x, y) in [
-        (day_of_month(month, 4, 0, 0), day_of_month(month, 5, 0, 0)),
-        (day_of_month(month, 4, 0, 4), day_of_month(next, 1, 0, -3)),
-        (day_of_month(month, 3, 2, 0), day_of_month(month, 4, 3, -1)),
-        (day_of_month(month, 5, 2, 0), day_of_month(next, 1, 3, -1)),
-    ] {
-        expect_both_ways(rt, month, x, y, NOT_LATER);
-    }
-}
-
-/// The rows of a month that are accepted at each time.
-fn expect_never_refused(rt: &impl Abort, month: u8, next: u8) {
-    for (x, y) in [
-        (day_of_month(month, 5, 0, 0), day_of_month(month, 5, 0, 0)),
-        (day_of_month(month, 5, 0, 4), day_of_month(next, 1, 0, -3)),
-        (day_of_month(month, 5, 0, 0), day_of_month(next, 5, 0, 0)),
-        (day_of_month(month, 5, 2, 0), day_of_month(next, 5, 3, 0)),
-    ] {
-        expect_both_ways(rt, month, x, y, ALL);
-    }
-}
+/// The same for days that are accepted as they are.
+static ACCEPTED_OF_MONTHS: [(Place, u8, Place); 2] = [
+    ((1, 0, 0), 2, (1, 0, 0)),
+    ((3, 0, 4), 0, (4, 0, -3)),
+];
 
 #[test]
 fn rows_of_months(rt: HostRuntime) {
     for month in 1..12u8 {
-        let next = month + 1;
-        let after_next = if month == 11 { 1 } else { month + 2 };
-        expect_refused_later(&rt, month, next);
-        expect_never_refused(&rt, month, next);
-        let (x, y) = (day_of_month(month, 5, 2, 0), day_of_month(month, 5, 3, -1));
-        expect_both_ways(&rt, month, x, y, NOT_EARLIER);
-        let (x, y) = (
-            day_of_month(month, 1, 0, 0),
-            day_of_month(after_next, 1, 0, 0),
-        );
-        expect_accepted(&rt, month, x, y);
-        let (x, y) = (day_of_month(month, 3, 0, 4), day_of_month(month, 4, 0, -3));
-        expect_accepted(&rt, month, x, y);
+        for &(x, months, y, answers) in OF_MONTHS.iter() {
+            let (x, y) = (
+                day_of_month(month, x),
+                day_of_month(month_later(month, months), y),
+            );
+            expect_eq_at(&rt, &month, &both_ways(x, y), &[answers; 2]);
+        }
+        for &(x, months, y) in ACCEPTED_OF_MONTHS.iter() {
+            let (x, y) = (
+                day_of_month(month, x),
+                day_of_month(month_later(month, months), y),
+            );
+            let found = [is_accepted(x, 0, y, true), is_accepted(x, 0, y, false)];
+            expect_eq_at(&rt, &month, &found, &[Some(true); 2]);
+        }
     }
 }

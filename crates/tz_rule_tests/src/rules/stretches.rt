@@ -1,6 +1,7 @@
 //! Stretches of rules beside the types at their instants.
 
-use super::{Refusal, expect_made, j, m, rule, start_in, z};
+use super::Day::{J, M, Z};
+use super::{ALL_YEAR, Parts, expect_made, rule, start_in};
 use crate::expect::expect_eq;
 use std::process::Abort;
 use tz_rule::inner::{self, Stretch};
@@ -41,12 +42,13 @@ fn is_right(rule: &AlternateTime, unix_time: i64, need_not_be_found: bool) -> bo
 
 /// Whether stretches are right near the start and the end of a year, and near its January 1st.
 fn are_right_in(rule: &AlternateTime, year: i32, need_not_be_found: bool) -> bool {
-    let Some(new_year) = start_in(z(0, 0), year) else {
+    let Some(new_year) = start_in((Z(0), 0), year) else {
         return false;
     };
+    static DISTANCES: [i64; 7] = [-1_728_000, -86_400, -1, 0, 1, 86_400, 1_728_000];
     for instant in [inner::start(rule, year), inner::end(rule, year), new_year] {
-        for distance in [-1_728_000i64, -86_400, -1, 0, 1, 86_400, 1_728_000] {
-            if !is_right(rule, instant.wrapping_add(distance), need_not_be_found) {
+        for distance in &DISTANCES {
+            if !is_right(rule, instant.wrapping_add(*distance), need_not_be_found) {
                 return false;
             }
         }
@@ -55,8 +57,8 @@ fn are_right_in(rule: &AlternateTime, year: i32, need_not_be_found: bool) -> boo
 }
 
 /// Whether stretches are right in near and far years.
-fn are_right(rule: Result<AlternateTime, Refusal>, need_not_be_found: bool) -> bool {
-    let Ok(rule) = rule else {
+fn are_right(parts: Parts, need_not_be_found: bool) -> bool {
+    let Ok(rule) = rule(parts) else {
         return false;
     };
     for year in 1899..2001i32 {
@@ -76,39 +78,43 @@ fn are_right(rule: Result<AlternateTime, Refusal>, need_not_be_found: bool) -> b
     true
 }
 
-/// The stretches of a rule are right in near and far years.
-fn expect_right(rt: &impl Abort, rule: Result<AlternateTime, Refusal>, need_not_be_found: bool) {
-    assert!(rt; are_right(rule, need_not_be_found));
+/// The stretches of each rule are right in near and far years.
+fn expect_right(rt: &impl Abort, rules: &[Parts], need_not_be_found: bool) {
+    for parts in rules {
+        assert!(rt; are_right(*parts, need_not_be_found), "{parts:?}");
+    }
 }
+
+/// Daylight saving time from the last Sunday of March to the last one of October.
+static PARIS: Parts = (3600, 7200, (M(3, 5, 0), 7200), (M(10, 5, 0), 10_800));
 
 #[test]
 fn stretches_lie_between_starts_and_ends(rt: HostRuntime) {
-    let paris = rule(3600, 7200, m(3, 5, 0, 7200), m(10, 5, 0, 10_800));
-    expect_right(&rt, paris, false);
-    let auckland = rule(43_200, 46_800, m(9, 5, 0, 7200), m(4, 1, 0, 10_800));
-    expect_right(&rt, auckland, false);
-    let dublin = rule(3600, 0, m(10, 5, 0, 7200), m(3, 5, 0, 3600));
-    expect_right(&rt, dublin, false);
-    let fiji = rule(43_200, 46_800, m(11, 2, 0, 0), m(1, 2, 3, 356_400));
-    expect_right(&rt, fiji, false);
-    let days = rule(0, 3600, j(60, 0), z(300, -86_400));
-    expect_right(&rt, days, false);
-    let short = rule(0, 0, z(100, 0), z(101, -86_500));
-    expect_right(&rt, short, false);
+    static RULES: [Parts; 6] = [
+        // Paris, Auckland, Dublin, Fiji.
+        (3600, 7200, (M(3, 5, 0), 7200), (M(10, 5, 0), 10_800)),
+        (43_200, 46_800, (M(9, 5, 0), 7200), (M(4, 1, 0), 10_800)),
+        (3600, 0, (M(10, 5, 0), 7200), (M(3, 5, 0), 3600)),
+        (43_200, 46_800, (M(11, 2, 0), 0), (M(1, 2, 3), 356_400)),
+        // Days without a month, and a short gap.
+        (0, 3600, (J(60), 0), (Z(300), -86_400)),
+        (0, 0, (Z(100), 0), (Z(101), -86_500)),
+    ];
+    expect_right(&rt, &RULES, false);
 }
 
 #[test]
 fn stretches_near_the_end_of_the_year_are_right_or_not_found(rt: HostRuntime) {
-    let from_new_year = rule(0, 3600, z(0, 0), j(200, 0));
-    expect_right(&rt, from_new_year, true);
-    let to_new_year = rule(0, 3600, j(200, 0), j(365, 90_000));
-    expect_right(&rt, to_new_year, true);
-    let over_new_year = rule(3600, -3600, z(365, 86_400), m(1, 2, 0, 0));
-    expect_right(&rt, over_new_year, true);
-    let in_december = rule(-7200, 3600, m(12, 4, 0, -500_000), m(6, 1, 0, 500_000));
-    expect_right(&rt, in_december, true);
-    let in_january = rule(-7200, 3600, m(6, 1, 0, 500_000), m(1, 2, 0, -500_000));
-    expect_right(&rt, in_january, true);
+    static RULES: [Parts; 5] = [
+        // From the new year, to it, and over it.
+        (0, 3600, (Z(0), 0), (J(200), 0)),
+        (0, 3600, (J(200), 0), (J(365), 90_000)),
+        (3600, -3600, (Z(365), 86_400), (M(1, 2, 0), 0)),
+        // In December, and in January.
+        (-7200, 3600, (M(12, 4, 0), -500_000), (M(6, 1, 0), 500_000)),
+        (-7200, 3600, (M(6, 1, 0), 500_000), (M(1, 2, 0), -500_000)),
+    ];
+    expect_right(&rt, &RULES, true);
 }
 
 /// No stretch is found at any of the instants.
@@ -120,12 +126,12 @@ fn expect_no_stretch(rt: &impl Abort, rule: &AlternateTime, unix_times: &[i64]) 
 
 #[test]
 fn no_stretches_without_standard_time_or_years(rt: HostRuntime) {
-    let all_year = expect_made(&rt, rule(-18_000, -14_400, z(0, 0), j(365, 90_000)));
-    expect_no_stretch(&rt, &all_year, &[0, 1_000_000_000, i64::MIN, i64::MAX]);
-    let paris = rule(3600, 7200, m(3, 5, 0, 7200), m(10, 5, 0, 10_800));
-    let paris = expect_made(&rt, paris);
-    let out_of_range = [i64::MIN, i64::MAX, -60_000_000_000_000_001];
-    expect_no_stretch(&rt, &paris, &out_of_range);
+    static ANY_INSTANTS: [i64; 4] = [0, 1_000_000_000, i64::MIN, i64::MAX];
+    let all_year = expect_made(&rt, rule(ALL_YEAR));
+    expect_no_stretch(&rt, &all_year, &ANY_INSTANTS);
+    static OUT_OF_RANGE: [i64; 3] = [i64::MIN, i64::MAX, -60_000_000_000_000_001];
+    let paris = expect_made(&rt, rule(PARIS));
+    expect_no_stretch(&rt, &paris, &OUT_OF_RANGE);
     // Daylight saving time of 2024.
     let found = inner::stretch(&paris, 1_720_000_000).map(|found| (
         found.from,

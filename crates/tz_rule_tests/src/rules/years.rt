@@ -37,8 +37,8 @@ fn agree(start: &RuleDay, start_time: i32, end: &RuleDay) -> bool {
 
 /// Whether they agree where the rule starts at 00:00 of the day before, the day itself or the day after, or a second beside.
 fn agree_near(start: &RuleDay, end: &RuleDay) -> bool {
-    let times = [-86_401, -86_400, -86_399, -1, 0, 1, 86_399, 86_400, 86_401];
-    times.iter().all(|time| agree(start, *time, end))
+    static TIMES: [i32; 9] = [-86_401, -86_400, -86_399, -1, 0, 1, 86_399, 86_400, 86_401];
+    TIMES.iter().all(|time| agree(start, *time, end))
 }
 
 /// How many days are tried as the start: every 31st, so that they lie in all months and weeks, and on all week days.
