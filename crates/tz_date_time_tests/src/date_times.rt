@@ -72,7 +72,7 @@ fn is_out_of_range<T: Drop>(answer: Result<T, TzError>) -> bool {
 }
 
 /// Unix times with the date of UTC at 12:01:06.
-const NOONS: [(i64, i32, u8, u8); 14] = [
+static NOONS: [(i64, i32, u8, u8); 14] = [
     (-93750523134, -1001, 3, 1),
     (-11670955134, 1600, 2, 29),
     (-11670868734, 1600, 3, 1),
@@ -111,7 +111,7 @@ fn utc_instant_of(parts: Parts) -> Option<(i64, i128)> {
 
 #[test]
 fn utc_date_times_have_the_parts_of_their_instant(rt: HostRuntime) {
-    for (nanoseconds, (unix_time, year, month, month_day)) in (10u32..).zip(NOONS) {
+    for (nanoseconds, &(unix_time, year, month, month_day)) in (10u32..).zip(NOONS.iter()) {
         let parts = (year, month, month_day, (12, 1, 6), nanoseconds);
         let total = i128::from(unix_time) * 1_000_000_000 + i128::from(nanoseconds);
         expect_eq(&rt, &utc_parts_at(unix_time, nanoseconds), &Some(parts));
@@ -178,8 +178,9 @@ fn is_shown(
 
 #[test]
 fn zones_of_one_type_show_its_offset(rt: HostRuntime) -> Result<(), Fail> {
-    for (ut_offset, hour) in [(0, 12), (3600, 13), (7200, 14)] {
-        for (nanoseconds, (unix_time, year, month, month_day)) in (10u32..).zip(NOONS) {
+    static HOURS: [(i32, u8); 3] = [(0, 12), (3600, 13), (7200, 14)];
+    for &(ut_offset, hour) in HOURS.iter() {
+        for (nanoseconds, &(unix_time, year, month, month_day)) in (10u32..).zip(NOONS.iter()) {
             let parts = (year, month, month_day, (hour, 1, 6), nanoseconds);
             assert!(rt; is_shown(unix_time, nanoseconds, ut_offset, parts)?);
         }
@@ -247,11 +248,13 @@ fn the_years_end(rt: HostRuntime) -> Result<(), Fail> {
 
 #[test]
 fn no_date_time_is_past_the_ends(rt: HostRuntime) {
-    for unix_time in [i64::MIN, FIRST - 1, LAST + 1, i64::MAX] {
+    static PAST_THE_ENDS: [i64; 4] = [i64::MIN, FIRST - 1, LAST + 1, i64::MAX];
+    for &unix_time in PAST_THE_ENDS.iter() {
         assert!(rt; is_out_of_range(UtcDateTime::from_timespec(unix_time, 0)));
         assert!(rt; is_out_of_range(UtcDateTime::from_timespec(unix_time, 999_999_999)));
     }
-    for unix_time in [i64::MIN, FIRST - 1, 0, LAST + 1, i64::MAX] {
+    static INSTANTS: [i64; 5] = [i64::MIN, FIRST - 1, 0, LAST + 1, i64::MAX];
+    for &unix_time in INSTANTS.iter() {
         expect_eq(
             &rt,
             &field_fault(UtcDateTime::from_timespec(unix_time, 1_000_000_000)),
@@ -271,7 +274,7 @@ fn the_first_fault_of_fields_is_named(rt: HostRuntime) {
         &Some(DateTimeError::InvalidNanoseconds),
     );
     assert!(rt; is_out_of_range(local_of((i32::MAX, 12, 31, (23, 59, 60), 0), 0)));
-    for (parts, fault) in [
+    static FAULTS: [(Parts, DateTimeError); 11] = [
         (
             (2001, 0, 0, (24, 60, 61), 1_000_000_000),
             DateTimeError::InvalidMonth,
@@ -307,7 +310,8 @@ fn the_first_fault_of_fields_is_named(rt: HostRuntime) {
         ),
         ((2001, 2, 29, (0, 0, 0), 0), DateTimeError::InvalidMonthDay),
         ((1900, 2, 29, (0, 0, 0), 0), DateTimeError::InvalidMonthDay),
-    ] {
+    ];
+    for &(parts, fault) in FAULTS.iter() {
         expect_eq(&rt, &field_fault(utc_of(parts)), &Some(fault));
         expect_eq(&rt, &field_fault(local_of(parts, 3600)), &Some(fault));
     }
@@ -385,21 +389,25 @@ fn parts_are_printed(rt: HostRuntime) -> Result<(), Fail> {
     Ok(())
 }
 
+/// The total of the first nanosecond, and of the last one.
+const FIRST_TOTAL: i128 = FIRST as i128 * 1_000_000_000;
+
+const LAST_TOTAL: i128 = LAST as i128 * 1_000_000_000 + 999_999_999;
+
 #[test]
 fn totals_end_with_the_years(rt: HostRuntime) {
-    let first = i128::from(FIRST) * 1_000_000_000;
-    let last = i128::from(LAST) * 1_000_000_000 + 999_999_999;
     expect_eq(
         &rt,
-        &utc_parts_of_total(first),
+        &utc_parts_of_total(FIRST_TOTAL),
         &Some((i32::MIN, 1, 1, (0, 0, 0), 0)),
     );
     expect_eq(
         &rt,
-        &utc_parts_of_total(last),
+        &utc_parts_of_total(LAST_TOTAL),
         &Some((i32::MAX, 12, 31, (23, 59, 59), 999_999_999)),
     );
-    for total in [i128::MIN, first - 1, last + 1, i128::MAX] {
+    static PAST_THE_ENDS: [i128; 4] = [i128::MIN, FIRST_TOTAL - 1, LAST_TOTAL + 1, i128::MAX];
+    for &total in PAST_THE_ENDS.iter() {
         let utc_type = LocalTimeType::utc();
         assert!(rt; is_out_of_range(UtcDateTime::from_total_nanoseconds(total)));
         assert!(rt; is_out_of_range(DateTime::from_total_nanoseconds(total, TimeZoneRef::utc())));
@@ -552,7 +560,7 @@ fn second_60_is_before_the_next_minute(rt: HostRuntime) -> Result<(), Fail> {
 
 #[test]
 fn offsets_are_printed(rt: HostRuntime) -> Result<(), Fail> {
-    for (ut_offset, text) in [
+    static OFFSETS: [(i32, &str); 7] = [
         (1, "1970-01-01T00:00:01.000000000+00:00:01"),
         (-1, "1969-12-31T23:59:59.000000000-00:00:01"),
         (3599, "1970-01-01T00:59:59.000000000+00:59:59"),
@@ -560,7 +568,8 @@ fn offsets_are_printed(rt: HostRuntime) -> Result<(), Fail> {
         (129_600_000, "1974-02-09T00:00:00.000000000+36000:00"),
         (i32::MAX, "2038-01-19T03:14:07.000000000+596523:14:07"),
         (i32::MIN + 1, "1901-12-13T20:45:53.000000000-596523:14:07"),
-    ] {
+    ];
+    for &(ut_offset, text) in OFFSETS.iter() {
         let local_time_type = LocalTimeType::with_ut_offset(ut_offset)?;
         let date_time = DateTime::from_timespec_and_local(0, 0, local_time_type)?;
         expect_text(&rt, rt.alloc(), &date_time, text)?;

@@ -13,14 +13,11 @@ fn printed(fields: Fields, ut_offset: i32) -> TextBuffer {
     line
 }
 
-fn fields(
-    year: i32,
-    month: u8,
-    month_day: u8,
-    second_of_day: (u8, u8, u8),
-    nanoseconds: u32,
-) -> Fields {
-    let (hour, minute, second) = second_of_day;
+/// A year, a month, a day of the month, hour, minute and second, and nanoseconds.
+type Parts = (i32, u8, u8, (u8, u8, u8), u32);
+
+fn fields(parts: Parts) -> Fields {
+    let (year, month, month_day, (hour, minute, second), nanoseconds) = parts;
     Fields {
         year,
         month,
@@ -34,93 +31,45 @@ fn fields(
 
 #[test]
 fn prints_years_of_every_length(rt: HostRuntime) -> Result<(), Fail> {
-    let noon = (12, 1, 6);
-    expect_eq(
-        &rt,
-        &printed(fields(-1001, 3, 1, noon, 10), 0).as_str(),
-        &"-1001-03-01T12:01:06.000000010Z",
-    );
-    expect_eq(
-        &rt,
-        &printed(fields(0, 1, 1, noon, 0), 0).as_str(),
-        &"0-01-01T12:01:06.000000000Z",
-    );
-    expect_eq(
-        &rt,
-        &printed(fields(7, 10, 31, noon, 0), 0).as_str(),
-        &"7-10-31T12:01:06.000000000Z",
-    );
-    expect_eq(
-        &rt,
-        &printed(fields(-42, 10, 31, noon, 0), 0).as_str(),
-        &"-42-10-31T12:01:06.000000000Z",
-    );
-    expect_eq(
-        &rt,
-        &printed(fields(999, 2, 28, noon, 0), 0).as_str(),
-        &"999-02-28T12:01:06.000000000Z",
-    );
-    expect_eq(
-        &rt,
-        &printed(fields(10000, 2, 29, noon, 0), 0).as_str(),
-        &"10000-02-29T12:01:06.000000000Z",
-    );
-    expect_eq(
-        &rt,
-        &printed(fields(i32::MAX, 12, 31, (23, 59, 60), 999_999_999), 0).as_str(),
-        &"2147483647-12-31T23:59:60.999999999Z",
-    );
-    expect_eq(
-        &rt,
-        &printed(fields(i32::MIN, 1, 1, (0, 0, 0), 0), 0).as_str(),
-        &"-2147483648-01-01T00:00:00.000000000Z",
-    );
+    const NOON: (u8, u8, u8) = (12, 1, 6);
+    static YEARS: [(Parts, &str); 8] = [
+        ((-1001, 3, 1, NOON, 10), "-1001-03-01T12:01:06.000000010Z"),
+        ((0, 1, 1, NOON, 0), "0-01-01T12:01:06.000000000Z"),
+        ((7, 10, 31, NOON, 0), "7-10-31T12:01:06.000000000Z"),
+        ((-42, 10, 31, NOON, 0), "-42-10-31T12:01:06.000000000Z"),
+        ((999, 2, 28, NOON, 0), "999-02-28T12:01:06.000000000Z"),
+        ((10000, 2, 29, NOON, 0), "10000-02-29T12:01:06.000000000Z"),
+        (
+            (i32::MAX, 12, 31, (23, 59, 60), 999_999_999),
+            "2147483647-12-31T23:59:60.999999999Z",
+        ),
+        (
+            (i32::MIN, 1, 1, (0, 0, 0), 0),
+            "-2147483648-01-01T00:00:00.000000000Z",
+        ),
+    ];
+    for (parts, text) in &YEARS {
+        expect_eq(&rt, &printed(fields(*parts), 0).as_str(), text);
+    }
     Ok(())
 }
 
 #[test]
 fn prints_offsets_of_every_length(rt: HostRuntime) -> Result<(), Fail> {
-    let last = fields(1999, 12, 31, (23, 0, 0), 123_456_789);
-    expect_eq(
-        &rt,
-        &printed(last, -3600).as_str(),
-        &"1999-12-31T23:00:00.123456789-01:00",
-    );
-    expect_eq(
-        &rt,
-        &printed(last, 1).as_str(),
-        &"1999-12-31T23:00:00.123456789+00:00:01",
-    );
-    expect_eq(
-        &rt,
-        &printed(last, -60).as_str(),
-        &"1999-12-31T23:00:00.123456789-00:01",
-    );
-    expect_eq(
-        &rt,
-        &printed(last, 20700).as_str(),
-        &"1999-12-31T23:00:00.123456789+05:45",
-    );
-    expect_eq(
-        &rt,
-        &printed(last, 359_999).as_str(),
-        &"1999-12-31T23:00:00.123456789+99:59:59",
-    );
-    expect_eq(
-        &rt,
-        &printed(last, 360_000).as_str(),
-        &"1999-12-31T23:00:00.123456789+100:00",
-    );
-    expect_eq(
-        &rt,
-        &printed(last, i32::MAX).as_str(),
-        &"1999-12-31T23:00:00.123456789+596523:14:07",
-    );
-    expect_eq(
-        &rt,
-        &printed(last, -i32::MAX).as_str(),
-        &"1999-12-31T23:00:00.123456789-596523:14:07",
-    );
+    static OFFSETS: [(i32, &str); 8] = [
+        (-3600, "1999-12-31T23:00:00.123456789-01:00"),
+        (1, "1999-12-31T23:00:00.123456789+00:00:01"),
+        (-60, "1999-12-31T23:00:00.123456789-00:01"),
+        (20700, "1999-12-31T23:00:00.123456789+05:45"),
+        (359_999, "1999-12-31T23:00:00.123456789+99:59:59"),
+        (360_000, "1999-12-31T23:00:00.123456789+100:00"),
+        (i32::MAX, "1999-12-31T23:00:00.123456789+596523:14:07"),
+        (-i32::MAX, "1999-12-31T23:00:00.123456789-596523:14:07"),
+    ];
+    let last = fields((1999, 12, 31, (23, 0, 0), 123_456_789));
+    for (ut_offset, text) in &OFFSETS {
+        expect_eq(&rt, &printed(last, *ut_offset).as_str(), text);
+    }
     Ok(())
 }
 

@@ -30,10 +30,11 @@ fn instants_are_shown(rt: HostRuntime) -> Result<(), Fail> {
         &behind.as_str(),
         &"2023-12-31T23:00:00.000000000-01:00",
     );
-    for (unix_time, shown) in [
+    static MOVED: [(i64, &str); 2] = [
         (946_684_799, "2000-01-01T00:59:59.000000000+01:00"),
         (946_684_800, "2000-01-01T02:00:00.000000000+02:00"),
-    ] {
+    ];
+    for &(unix_time, shown) in MOVED.iter() {
         let text = format!(in alloc; "{}", moved_ahead_in_2000(unix_time)?)?;
         expect_eq(&rt, &text.as_str(), &shown);
     }
@@ -57,19 +58,18 @@ fn the_machine_s_zone_is_found_or_its_file_is_missing(rt: HostRuntime) {
 
 #[test]
 fn alarms_ring_in_gaps_and_folds(rt: HostRuntime) -> Result<(), Fail> {
+    // Month, day, hour and minute in 2000, with the instant at which the alarm rings, and the number of meanings.
+    static ALARMS: [((u8, u8, u8, u8), i64, usize); 3] = [
+        // Clocks go forward from 2:00 to 3:00.
+        ((3, 26, 2, 30), 954_032_400, 1),
+        // Clocks go back from 3:00 to 2:00.
+        ((10, 29, 2, 30), 972_779_400, 2),
+        ((7, 1, 0, 0), 962_402_400, 1),
+    ];
     let alloc = rt.alloc();
     let zone = zone_of_setting(&rt, alloc, CENTRAL_EUROPE)?;
-    for (local, instant, meanings) in [
-        // Clocks go forward from 2:00 to 3:00.
-        (
-            UtcDateTime::new(2000, 3, 26, 2, 30, 0, 0)?,
-            954_032_400,
-            1usize,
-        ),
-        // Clocks go back from 3:00 to 2:00.
-        (UtcDateTime::new(2000, 10, 29, 2, 30, 0, 0)?, 972_779_400, 2),
-        (UtcDateTime::new(2000, 7, 1, 0, 0, 0, 0)?, 962_402_400, 1),
-    ] {
+    for &((month, month_day, hour, minute), instant, meanings) in ALARMS.iter() {
+        let local = UtcDateTime::new(2000, month, month_day, hour, minute, 0, 0)?;
         let rings = alarm(alloc, zone.as_ref(), local)?;
         expect_eq(&rt, &rings.map(|alarm| alarm.unix_time()), &Some(instant));
         expect_eq(&rt, &count_meanings(zone.as_ref(), local)?, &meanings);
@@ -83,21 +83,22 @@ fn meetings_keep_their_local_time(rt: HostRuntime) -> Result<(), Fail> {
     let zone = zone_of_setting(&rt, alloc, CENTRAL_EUROPE)?;
     let first = UtcDateTime::new(2000, 3, 19, 9, 0, 0, 0)?;
     let meetings = weekly_meetings(alloc, zone.as_ref(), first, 3)?;
-    let shown = [
+    static SHOWN: [&str; 3] = [
         "2000-03-19T09:00:00.000000000+01:00",
         "2000-03-26T09:00:00.000000000+02:00",
         "2000-04-02T09:00:00.000000000+02:00",
     ];
-    expect_eq(&rt, &meetings.len(), &shown.len());
-    for (meeting, shown) in meetings.iter().zip(shown) {
-        expect_eq(&rt, &format!(in alloc; "{meeting}")?.as_str(), &shown);
+    expect_eq(&rt, &meetings.len(), &SHOWN.len());
+    for (meeting, shown) in meetings.iter().zip(SHOWN.iter()) {
+        expect_eq(&rt, &format!(in alloc; "{meeting}")?.as_str(), shown);
     }
-    for (now, monday) in [
+    static MONDAYS: [(i64, i64); 3] = [
         // A Sunday; Monday at 9:00 itself; one second before it.
         (954_032_400, 954_140_400),
         (954_140_400, 954_745_200),
         (954_140_399, 954_140_400),
-    ] {
+    ];
+    for &(now, monday) in MONDAYS.iter() {
         let next = next_monday_at_nine(alloc, zone.as_ref(), now)?;
         expect_eq(&rt, &next.map(|next| next.unix_time()), &Some(monday));
     }
