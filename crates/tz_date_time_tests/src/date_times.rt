@@ -3,7 +3,7 @@
 use crate::expect::expect_eq;
 use std::alloc::{AllocError, Global};
 use std::cmp::Ordering;
-use std::fmt::Display;
+use std::fmt::{Debug, Display};
 use std::process::Abort;
 use std::test::Fail;
 use std::time::Duration;
@@ -26,8 +26,23 @@ fn expect_text(
     Ok(())
 }
 
+/// The value is shown to programmers as the text.
+fn expect_debug(
+    rt: &impl Abort,
+    alloc: Global,
+    value: &impl Debug,
+    text: &str,
+) -> Result<(), AllocError> {
+    let printed = format!(in alloc; "{value:?}")?;
+    expect_eq(rt, &printed.as_str(), &text);
+    Ok(())
+}
+
 /// A year, a month, a day of the month, hour, minute and second, and nanoseconds.
 type Parts = (i32, u8, u8, (u8, u8, u8), u32);
+
+/// The parts of a local date time, and the offset.
+type Local = (Parts, i32);
 
 fn parts_of_utc(d: UtcDateTime) -> Parts {
     let time = (d.hour(), d.minute(), d.second());
@@ -44,8 +59,8 @@ fn utc_of(parts: Parts) -> Result<UtcDateTime, TzError> {
     UtcDateTime::new(year, month, month_day, hour, minute, second, nanoseconds)
 }
 
-fn local_of(parts: Parts, ut_offset: i32) -> Result<DateTime, TzError> {
-    let (year, month, month_day, (hour, minute, second), nanoseconds) = parts;
+fn local_of(local: Local) -> Result<DateTime, TzError> {
+    let ((year, month, month_day, (hour, minute, second), nanoseconds), ut_offset) = local;
     let local_time_type = LocalTimeType::with_ut_offset(ut_offset)?;
     DateTime::new(
         year,
@@ -67,8 +82,15 @@ fn field_fault<T: Drop>(answer: Result<T, TzError>) -> Option<DateTimeError> {
     }
 }
 
-fn is_out_of_range<T: Drop>(answer: Result<T, TzError>) -> bool {
-    matches!(answer, Err(TzError::OutOfRange))
+/// The fields are refused with this fault.
+fn expect_field_fault<T: Drop>(rt: &impl Abort, answer: Result<T, TzError>, fault: DateTimeError) {
+    expect_eq(rt, &field_fault(answer), &Some(fault));
+}
+
+/// The answer is that there is no such date time.
+fn expect_out_of_range<T: Drop>(rt: &impl Abort, answer: Result<T, TzError>) {
+    let fault = answer.err();
+    assert!(rt; matches!(&fault, Some(TzError::OutOfRange)), "{fault:?}");
 }
 
 /// Unix times with the date of UTC at 12:01:06.
@@ -157,6 +179,16 @@ fn facts(date_time: DateTime) -> (Parts, i64, i32) {
     (parts_of_local(date_time), date_time.unix_time(), ut_offset)
 }
 
+/// Whether each of the date times has these parts, this Unix time and this offset.
+fn have_facts(date_times: &[DateTime], expected: (Parts, i64, i32)) -> bool {
+    for date_time in date_times {
+        if facts(*date_time) != expected {
+            return false;
+        }
+    }
+    true
+}
+
 /// Whether the type shows the fields at the instant, by all calls.
 fn is_shown(
     unix_time: i64,
@@ -170,9 +202,9 @@ fn is_shown(
     let by_clock = shown_by_clock(unix_time, nanoseconds, zone)?;
     let by_type = shown_by_type(unix_time, nanoseconds, types[0])?;
     Ok(
-        by_clock.iter().all(|d| facts(*d) == expected)
-            && by_type.iter().all(|d| facts(*d) == expected)
-            && facts(local_of(parts, ut_offset)?) == expected,
+        have_facts(&by_clock, expected)
+            && have_facts(&by_type, expected)
+            && facts(local_of((parts, ut_offset))?) == expected,
     )
 }
 
@@ -250,15 +282,15 @@ fn the_years_end(rt: HostRuntime) -> Result<(), Fail> {
 fn no_date_time_is_past_the_ends(rt: HostRuntime) {
     static PAST_THE_ENDS: [i64; 4] = [i64::MIN, FIRST - 1, LAST + 1, i64::MAX];
     for &unix_time in PAST_THE_ENDS.iter() {
-        assert!(rt; is_out_of_range(UtcDateTime::from_timespec(unix_time, 0)));
-        assert!(rt; is_out_of_range(UtcDateTime::from_timespec(unix_time, 999_999_999)));
+        expect_out_of_range(&rt, UtcDateTime::from_timespec(unix_time, 0));
+        expect_out_of_range(&rt, UtcDateTime::from_timespec(unix_time, 999_999_999));
     }
     static INSTANTS: [i64; 5] = [i64::MIN, FIRST - 1, 0, LAST + 1, i64::MAX];
     for &unix_time in INSTANTS.iter() {
-        expect_eq(
+        expect_field_fault(
             &rt,
-            &field_fault(UtcDateTime::from_timespec(unix_time, 1_000_000_000)),
-            &Some(DateTimeError::InvalidNanoseconds),
+            UtcDateTime::from_timespec(unix_time, 1_000_000_000),
+            DateTimeError::InvalidNanoseconds,
         );
     }
 }
@@ -266,14 +298,14 @@ fn no_date_time_is_past_the_ends(rt: HostRuntime) {
 #[test]
 fn the_first_fault_of_fields_is_named(rt: HostRuntime) {
     let past_the_end = (i32::MAX, 12, 31, (23, 59, 60), 1_000_000_000);
-    assert!(rt; is_out_of_range(utc_of(past_the_end)));
-    assert!(rt; is_out_of_range(utc_of((i32::MAX, 12, 31, (23, 59, 60), 0))));
-    expect_eq(
+    expect_out_of_range(&rt, utc_of(past_the_end));
+    expect_out_of_range(&rt, utc_of((i32::MAX, 12, 31, (23, 59, 60), 0)));
+    expect_field_fault(
         &rt,
-        &field_fault(local_of(past_the_end, 0)),
-        &Some(DateTimeError::InvalidNanoseconds),
+        local_of((past_the_end, 0)),
+        DateTimeError::InvalidNanoseconds,
     );
-    assert!(rt; is_out_of_range(local_of((i32::MAX, 12, 31, (23, 59, 60), 0), 0)));
+    expect_out_of_range(&rt, local_of(((i32::MAX, 12, 31, (23, 59, 60), 0), 0)));
     static FAULTS: [(Parts, DateTimeError); 11] = [
         (
             (2001, 0, 0, (24, 60, 61), 1_000_000_000),
@@ -312,15 +344,15 @@ fn the_first_fault_of_fields_is_named(rt: HostRuntime) {
         ((1900, 2, 29, (0, 0, 0), 0), DateTimeError::InvalidMonthDay),
     ];
     for &(parts, fault) in FAULTS.iter() {
-        expect_eq(&rt, &field_fault(utc_of(parts)), &Some(fault));
-        expect_eq(&rt, &field_fault(local_of(parts, 3600)), &Some(fault));
+        expect_field_fault(&rt, utc_of(parts), fault);
+        expect_field_fault(&rt, local_of((parts, 3600)), fault);
     }
     assert!(rt; utc_of((2000, 2, 29, (23, 59, 60), 999_999_999)).is_ok());
 }
 
 #[test]
 fn local_years_end_where_utc_does(rt: HostRuntime) -> Result<(), Fail> {
-    assert!(rt; is_out_of_range(local_of((i32::MAX, 12, 31, (23, 30, 0), 0), -3600)));
+    expect_out_of_range(&rt, local_of(((i32::MAX, 12, 31, (23, 30, 0), 0), -3600)));
     let west = LocalTimeType::with_ut_offset(-3600)?;
     let late = DateTime::from_timespec_and_local(67_767_976_233_532_800, 0, west)?;
     expect_eq(
@@ -328,16 +360,17 @@ fn local_years_end_where_utc_does(rt: HostRuntime) -> Result<(), Fail> {
         &parts_of_local(late),
         &(i32::MAX, 12, 31, (23, 0, 0), 0),
     );
-    assert!(rt; is_out_of_range(UtcDateTime::try_from(late)));
-    assert!(rt;
-        is_out_of_range(DateTime::from_timespec_and_local(-67_768_100_567_971_200, 0, west))
-    );
-    expect_eq(
+    expect_out_of_range(&rt, UtcDateTime::try_from(late));
+    expect_out_of_range(
         &rt,
-        &field_fault(DateTime::from_timespec_and_local(i64::MAX, 1_000_000_000, west)),
-        &Some(DateTimeError::InvalidNanoseconds),
+        DateTime::from_timespec_and_local(-67_768_100_567_971_200, 0, west),
     );
-    assert!(rt; is_out_of_range(DateTime::from_timespec_and_local(i64::MIN, 0, west)));
+    expect_field_fault(
+        &rt,
+        DateTime::from_timespec_and_local(i64::MAX, 1_000_000_000, west),
+        DateTimeError::InvalidNanoseconds,
+    );
+    expect_out_of_range(&rt, DateTime::from_timespec_and_local(i64::MIN, 0, west));
     let noon = DateTime::from_timespec_and_local(951_825_666, 7, west)?;
     expect_eq(
         &rt,
@@ -373,19 +406,22 @@ fn totals_are_rounded_down(rt: HostRuntime) -> Result<(), Fail> {
 fn parts_are_printed(rt: HostRuntime) -> Result<(), Fail> {
     let alloc = rt.alloc();
     let utc = UtcDateTime::new(2000, 1, 2, 3, 4, 5, 6)?;
-    let printed = format!(in alloc; "{utc:?}")?;
-    expect_eq(
+    expect_debug(
         &rt,
-        &printed.as_str(),
-        &"UtcDateTime { year: 2000, month: 1, month_day: 2, hour: 3, minute: 4, second: 5, nanoseconds: 6 }",
-    );
+        alloc,
+        &utc,
+        "UtcDateTime { year: 2000, month: 1, month_day: 2, hour: 3, minute: 4, second: 5, nanoseconds: 6 }",
+    )?;
     let cet = LocalTimeType::new(3600, false, Some(b"CET"))?;
     let local = DateTime::new(2000, 1, 2, 3, 4, 5, 6, cet)?;
-    let printed = format!(in alloc; "{local:?}")?;
-    let expected = format!(in alloc;
-        "DateTime {{ year: 2000, month: 1, month_day: 2, hour: 3, minute: 4, second: 5, local_time_type: {cet:?}, unix_time: 946778645, nanoseconds: 6 }}"
+    expect_debug(
+        &rt,
+        alloc,
+        &local,
+        "DateTime { year: 2000, month: 1, month_day: 2, hour: 3, minute: 4, second: 5, \
+            local_time_type: LocalTimeType { ut_offset: 3600, is_dst: false, time_zone_designation: Some(\"CET\") }, \
+            unix_time: 946778645, nanoseconds: 6 }",
     )?;
-    expect_eq(&rt, &printed.as_str(), &expected.as_str());
     Ok(())
 }
 
@@ -409,9 +445,15 @@ fn totals_end_with_the_years(rt: HostRuntime) {
     static PAST_THE_ENDS: [i128; 4] = [i128::MIN, FIRST_TOTAL - 1, LAST_TOTAL + 1, i128::MAX];
     for &total in PAST_THE_ENDS.iter() {
         let utc_type = LocalTimeType::utc();
-        assert!(rt; is_out_of_range(UtcDateTime::from_total_nanoseconds(total)));
-        assert!(rt; is_out_of_range(DateTime::from_total_nanoseconds(total, TimeZoneRef::utc())));
-        assert!(rt; is_out_of_range(DateTime::from_total_nanoseconds_and_local(total, utc_type)));
+        expect_out_of_range(&rt, UtcDateTime::from_total_nanoseconds(total));
+        expect_out_of_range(
+            &rt,
+            DateTime::from_total_nanoseconds(total, TimeZoneRef::utc()),
+        );
+        expect_out_of_range(
+            &rt,
+            DateTime::from_total_nanoseconds_and_local(total, utc_type),
+        );
     }
 }
 
@@ -433,27 +475,38 @@ fn the_lookup_is_refused_before_the_year(rt: HostRuntime) -> Result<(), Fail> {
             Err(TzError::NoAvailableLocalTimeType)
         )
     );
-    expect_eq(
+    expect_field_fault(
         &rt,
-        &field_fault(DateTime::from_timespec(0, 1_000_000_000, zone)),
-        &Some(DateTimeError::InvalidNanoseconds),
+        DateTime::from_timespec(0, 1_000_000_000, zone),
+        DateTimeError::InvalidNanoseconds,
     );
-    assert!(rt; is_out_of_range(DateTime::from_timespec(i64::MIN, 0, zone)));
+    expect_out_of_range(&rt, DateTime::from_timespec(i64::MIN, 0, zone));
     Ok(())
 }
 
 #[test]
-fn durations_go_both_ways(rt: HostRuntime) {
+fn durations_go_both_ways(rt: HostRuntime) -> Result<(), Fail> {
     let nanosecond = Duration::from_nanos(1);
     let [_, epoch, _] = constants();
-    let before = utc_of((1969, 12, 31, (23, 59, 59), 999_999_999)).ok();
-    expect_eq(&rt, &epoch.checked_sub(nanosecond), &before);
-    for before in before {
-        expect_eq(&rt, &epoch.duration_since(before), &Ok(nanosecond));
-        expect_eq(&rt, &before.duration_since(epoch), &Err(nanosecond));
-        expect_eq(&rt, &before.checked_add(nanosecond), &Some(epoch));
-    }
-    expect_eq(&rt, &epoch.duration_since(epoch), &Ok(Duration::ZERO));
+    let before = utc_of((1969, 12, 31, (23, 59, 59), 999_999_999))?;
+    expect_eq(
+        &rt,
+        &[
+            epoch.checked_sub(nanosecond),
+            before.checked_add(nanosecond),
+        ],
+        &[Some(before), Some(epoch)],
+    );
+    expect_eq(
+        &rt,
+        &[
+            epoch.duration_since(before),
+            before.duration_since(epoch),
+            epoch.duration_since(epoch),
+        ],
+        &[Ok(nanosecond), Err(nanosecond), Ok(Duration::ZERO)],
+    );
+    Ok(())
 }
 
 #[test]
@@ -461,15 +514,30 @@ fn durations_end_with_the_years(rt: HostRuntime) {
     let nanosecond = Duration::from_nanos(1);
     let all = Duration::new(135_536_076_801_503_999, 999_999_999);
     let [first, _, last] = constants();
-    expect_eq(&rt, &last.checked_add(nanosecond), &None);
-    expect_eq(&rt, &first.checked_sub(nanosecond), &None);
-    expect_eq(&rt, &last.checked_add(Duration::ZERO), &Some(last));
-    expect_eq(&rt, &first.checked_add(all), &Some(last));
-    expect_eq(&rt, &last.checked_sub(all), &Some(first));
-    expect_eq(&rt, &last.duration_since(first), &Ok(all));
-    expect_eq(&rt, &first.duration_since(last), &Err(all));
-    expect_eq(&rt, &first.checked_add(Duration::MAX), &None);
-    expect_eq(&rt, &last.checked_sub(Duration::MAX), &None);
+    expect_eq(
+        &rt,
+        &[
+            last.checked_add(nanosecond),
+            first.checked_sub(nanosecond),
+            first.checked_add(Duration::MAX),
+            last.checked_sub(Duration::MAX),
+        ],
+        &[None; 4],
+    );
+    expect_eq(
+        &rt,
+        &[
+            last.checked_add(Duration::ZERO),
+            first.checked_add(all),
+            last.checked_sub(all),
+        ],
+        &[Some(last), Some(last), Some(first)],
+    );
+    expect_eq(
+        &rt,
+        &[last.duration_since(first), first.duration_since(last)],
+        &[Ok(all), Err(all)],
+    );
 }
 
 #[test]
@@ -511,34 +579,42 @@ fn operators_move_date_times(rt: HostRuntime) -> Result<(), Fail> {
     Ok(())
 }
 
+/// The date times are in this order, by each way to compare them.
+fn expect_order(rt: &impl Abort, one: DateTime, other: DateTime, order: Ordering) {
+    expect_eq(rt, &one.cmp(&other), &order);
+    let found = (one == other, one != other, one < other);
+    let is_equal = order == Ordering::Equal;
+    expect_eq(rt, &found, &(is_equal, !is_equal, order == Ordering::Less));
+}
+
 #[test]
 fn local_date_times_are_compared_by_instant(rt: HostRuntime) -> Result<(), Fail> {
-    let east = local_of((2000, 1, 1, (1, 0, 0), 0), 3600)?;
-    let utc = local_of((2000, 1, 1, (0, 0, 0), 0), 0)?;
-    assert!(rt; east == utc);
-    expect_eq(&rt, &east.cmp(&utc), &Ordering::Equal);
-    expect_text(
-        &rt,
-        rt.alloc(),
-        &east,
-        "2000-01-01T01:00:00.000000000+01:00",
-    )?;
-    expect_text(&rt, rt.alloc(), &utc, "2000-01-01T00:00:00.000000000Z")?;
-    let later = local_of((2000, 1, 1, (0, 0, 0), 1), 0)?;
-    assert!(rt; east < later);
-    assert!(rt; east != later);
+    const EAST: Local = ((2000, 1, 1, (1, 0, 0), 0), 3600);
+    const UTC: Local = ((2000, 1, 1, (0, 0, 0), 0), 0);
+    const LATER: Local = ((2000, 1, 1, (0, 0, 0), 1), 0);
+    const WEST: Local = ((1999, 12, 31, (23, 0, 1), 0), -3600);
+    static ORDERS: [(Local, Local, Ordering); 3] = [
+        (EAST, UTC, Ordering::Equal),
+        (EAST, LATER, Ordering::Less),
+        (LATER, WEST, Ordering::Less),
+    ];
+    for &(one, other, order) in ORDERS.iter() {
+        expect_order(&rt, local_of(one)?, local_of(other)?, order);
+    }
+    static TEXTS: [(Local, &str); 2] = [
+        (EAST, "2000-01-01T01:00:00.000000000+01:00"),
+        (UTC, "2000-01-01T00:00:00.000000000Z"),
+    ];
+    for &(local, text) in TEXTS.iter() {
+        expect_text(&rt, rt.alloc(), &local_of(local)?, text)?;
+    }
+    let (east, later) = (local_of(EAST)?, local_of(LATER)?);
+    let nanosecond = Duration::from_nanos(1);
     expect_eq(
         &rt,
-        &later.duration_since(east),
-        &Ok(Duration::from_nanos(1)),
+        &[later.duration_since(east), east.duration_since(later)],
+        &[Ok(nanosecond), Err(nanosecond)],
     );
-    expect_eq(
-        &rt,
-        &east.duration_since(later),
-        &Err(Duration::from_nanos(1)),
-    );
-    let west = local_of((1999, 12, 31, (23, 0, 1), 0), -3600)?;
-    assert!(rt; later < west);
     Ok(())
 }
 
