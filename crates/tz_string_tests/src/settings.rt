@@ -58,33 +58,30 @@ impl Files<'_> {
     }
 }
 
-/// The text is refused so, after these were asked for.
-fn expect_fault(
-    rt: &impl Abort,
-    alloc: Global,
-    replies: &[(&str, Reply)],
-    text: &str,
-    fault: Fault,
-    asked: u64,
-) {
-    let files = Files {
-        alloc,
-        replies,
-        asked: Cell::new(0),
-    };
-    let settings = TimeZoneSettings::new(&["/a", "/b", "/c"], |path: &str| files.read(path));
-    let answer = settings.parse_posix_tz(alloc, text).err().map(named);
-    expect_eq_at(rt, &text, &answer, &Some(fault));
-    expect_eq_at(rt, &text, &files.asked.get(), &asked);
+/// What the settings answer.
+enum Answer {
+    /// The zone of one type of standard time, with this offset and name.
+    Type(i32, &'static str),
+    /// A refusal.
+    Fault(Fault),
 }
 
-/// The text has the zone of this one type, after these were asked for.
-fn expect_type(
+/// Files, a text, what is answered for it, and which files were asked for.
+type Row = (Replies, &'static str, Answer, u64);
+
+/// What stands at paths.
+type Replies = &'static [(&'static str, Reply)];
+
+/// The answer of a file that ends too early.
+const CUT: Fault = Fault::File(TzFileError::ParseData(ParseDataError::UnexpectedEof));
+
+/// The text is answered so, after these were asked for.
+fn expect_answer(
     rt: &impl Abort,
     alloc: Global,
     replies: &[(&str, Reply)],
     text: &str,
-    local_time_type: LocalTimeType,
+    expected: &Answer,
     asked: u64,
 ) -> Result<(), Fail> {
     let files = Files {
@@ -93,14 +90,32 @@ fn expect_type(
         asked: Cell::new(0),
     };
     let settings = TimeZoneSettings::new(&["/a", "/b", "/c"], |path: &str| files.read(path));
-    let zone = settings.parse_posix_tz(alloc, text)?;
-    expect_eq_at(
-        rt,
-        &text,
-        &zone.as_ref().local_time_types(),
-        &[local_time_type].as_slice(),
-    );
+    let answer = settings.parse_posix_tz(alloc, text);
+    match expected {
+        Answer::Type(ut_offset, name) => {
+            let local_time_type = LocalTimeType::new(*ut_offset, false, Some(name.as_bytes()))?;
+            let zone = answer?;
+            expect_eq_at(
+                rt,
+                &text,
+                &zone.as_ref().local_time_types(),
+                &[local_time_type].as_slice(),
+            );
+        }
+        Answer::Fault(fault) => {
+            let found = answer.err().map(named);
+            expect_eq_at(rt, &text, &found.as_ref(), &Some(fault));
+        }
+    }
     expect_eq_at(rt, &text, &files.asked.get(), &asked);
+    Ok(())
+}
+
+/// Each text is answered so, after these were asked for.
+fn expect_answers(rt: &impl Abort, alloc: Global, rows: &[Row]) -> Result<(), Fail> {
+    for (replies, text, expected, asked) in rows {
+        expect_answer(rt, alloc, replies, text, expected, *asked)?;
+    }
     Ok(())
 }
 
@@ -111,105 +126,98 @@ fn utc() -> Result<LocalTimeType, Fail> {
 
 #[test]
 fn directories_are_asked_in_turn(rt: HostRuntime) -> Result<(), Fail> {
-    let alloc = rt.alloc();
-    let second = [
+    const SECOND: Replies = &[
         ("/a/Z/x", Reply::NoFile),
         ("/b/Z/x", Reply::Utc),
         ("/c/Z/x", Reply::NoZone),
     ];
-    expect_type(&rt, alloc, &second, "Z/x", utc()?, 12)?;
-    expect_type(&rt, alloc, &second, ":Z/x", utc()?, 12)?;
-    let memory = [("/a/Z/x", Reply::NoMemory), ("/b/Z/x", Reply::Utc)];
-    expect_fault(&rt, alloc, &memory, "Z/x", Fault::Memory, 1);
-    expect_fault(&rt, alloc, &memory, ":Z/x", Fault::Memory, 1);
-    let none = [
+    const MEMORY: Replies = &[("/a/Z/x", Reply::NoMemory), ("/b/Z/x", Reply::Utc)];
+    const NONE: Replies = &[
         ("/a/Z/x", Reply::NoFile),
         ("/b/Z/x", Reply::NoFile),
         ("/c/Z/x", Reply::NoFile),
     ];
-    expect_fault(&rt, alloc, &none, ":Z/x", Fault::Io, 123);
-    let cut = [
+    const CUT_SECOND: Replies = &[
         ("/a/Z/x", Reply::NoFile),
         ("/b/Z/x", Reply::NoZone),
         ("/c/Z/x", Reply::Utc),
     ];
-    let is_cut = Fault::File(TzFileError::ParseData(ParseDataError::UnexpectedEof));
-    expect_fault(&rt, alloc, &cut, "Z/x", is_cut, 12);
-    Ok(())
+    static ROWS: [Row; 6] = [
+        (SECOND, "Z/x", Answer::Type(0, "UTC"), 12),
+        (SECOND, ":Z/x", Answer::Type(0, "UTC"), 12),
+        (MEMORY, "Z/x", Answer::Fault(Fault::Memory), 1),
+        (MEMORY, ":Z/x", Answer::Fault(Fault::Memory), 1),
+        (NONE, ":Z/x", Answer::Fault(Fault::Io), 123),
+        (CUT_SECOND, "Z/x", Answer::Fault(CUT), 12),
+    ];
+    expect_answers(&rt, rt.alloc(), &ROWS)
 }
 
 #[test]
 fn a_text_is_read_where_no_file_is_found(rt: HostRuntime) -> Result<(), Fail> {
-    let alloc = rt.alloc();
-    let files = [
+    const NONE: Replies = &[
         ("/a/A0", Reply::NoFile),
         ("/b/A0", Reply::NoFile),
         ("/c/A0", Reply::NoFile),
     ];
-    expect_type(
-        &rt,
-        alloc,
-        &files,
-        "A0",
-        LocalTimeType::new(0, false, Some(b"A"))?,
-        123,
-    )?;
-    let memory = [
+    const MEMORY: Replies = &[
         ("/a/A0", Reply::NoFile),
         ("/b/A0", Reply::NoMemory),
         ("/c/A0", Reply::Utc),
     ];
-    expect_fault(&rt, alloc, &memory, "A0", Fault::Memory, 12);
-    let hst = LocalTimeType::new(-36_000, false, Some(b"HST"))?;
-    expect_type(&rt, alloc, &[], "HST10", hst, 999)?;
-    expect_type(&rt, alloc, &[], " HST10\n", hst, 999)?;
-    expect_type(&rt, alloc, &[], "\t\r\x0cHST10 ", hst, 999)?;
-    expect_fault(
-        &rt,
-        alloc,
-        &[],
-        "EET-2EEST",
-        Fault::Text(TzStringError::MissingDstStartEndRules),
-        999,
-    );
-    expect_fault(
-        &rt,
-        alloc,
-        &[],
-        "EST5EDT,0/0,J365/25",
-        Fault::Text(TzStringError::InvalidDayTimeHour),
-        999,
-    );
-    expect_fault(&rt, alloc, &[], "", Fault::Text(TzStringError::Empty), 0);
-    Ok(())
+    static ROWS: [Row; 8] = [
+        (NONE, "A0", Answer::Type(0, "A"), 123),
+        (MEMORY, "A0", Answer::Fault(Fault::Memory), 12),
+        (&[], "HST10", Answer::Type(-36_000, "HST"), 999),
+        (&[], " HST10\n", Answer::Type(-36_000, "HST"), 999),
+        (&[], "\t\r\x0cHST10 ", Answer::Type(-36_000, "HST"), 999),
+        (
+            &[],
+            "EET-2EEST",
+            Answer::Fault(Fault::Text(TzStringError::MissingDstStartEndRules)),
+            999,
+        ),
+        (
+            &[],
+            "EST5EDT,0/0,J365/25",
+            Answer::Fault(Fault::Text(TzStringError::InvalidDayTimeHour)),
+            999,
+        ),
+        (&[], "", Answer::Fault(Fault::Text(TzStringError::Empty)), 0),
+    ];
+    expect_answers(&rt, rt.alloc(), &ROWS)
 }
 
 #[test]
 fn an_absolute_path_is_asked_alone(rt: HostRuntime) -> Result<(), Fail> {
-    let alloc = rt.alloc();
-    let utc_file = [("/x", Reply::Utc)];
-    expect_type(&rt, alloc, &utc_file, "/x", utc()?, 1)?;
-    expect_type(&rt, alloc, &utc_file, ":/x", utc()?, 1)?;
-    let no_file = [("/x", Reply::NoFile)];
-    expect_fault(&rt, alloc, &no_file, "/x", Fault::Number, 1);
-    expect_fault(&rt, alloc, &no_file, ":/x", Fault::Io, 1);
-    Ok(())
+    const UTC_FILE: Replies = &[("/x", Reply::Utc)];
+    const NO_FILE: Replies = &[("/x", Reply::NoFile)];
+    static ROWS: [Row; 4] = [
+        (UTC_FILE, "/x", Answer::Type(0, "UTC"), 1),
+        (UTC_FILE, ":/x", Answer::Type(0, "UTC"), 1),
+        (NO_FILE, "/x", Answer::Fault(Fault::Number), 1),
+        (NO_FILE, ":/x", Answer::Fault(Fault::Io), 1),
+    ];
+    expect_answers(&rt, rt.alloc(), &ROWS)
 }
 
 #[test]
 fn local_time_has_its_file(rt: HostRuntime) -> Result<(), Fail> {
+    const LOCAL: Replies = &[("/etc/localtime", Reply::Utc)];
+    const NO_FILE: Replies = &[("/etc/localtime", Reply::NoFile)];
+    const MEMORY: Replies = &[("/etc/localtime", Reply::NoMemory)];
+    static ROWS: [Row; 5] = [
+        (LOCAL, "localtime", Answer::Type(0, "UTC"), 1),
+        (LOCAL, "/etc/localtime", Answer::Type(0, "UTC"), 1),
+        (LOCAL, ":/etc/localtime", Answer::Type(0, "UTC"), 1),
+        (NO_FILE, "localtime", Answer::Fault(Fault::Io), 1),
+        (MEMORY, "localtime", Answer::Fault(Fault::Memory), 1),
+    ];
     let alloc = rt.alloc();
-    let local = [("/etc/localtime", Reply::Utc)];
-    expect_type(&rt, alloc, &local, "localtime", utc()?, 1)?;
-    expect_type(&rt, alloc, &local, "/etc/localtime", utc()?, 1)?;
-    expect_type(&rt, alloc, &local, ":/etc/localtime", utc()?, 1)?;
-    let no_file = [("/etc/localtime", Reply::NoFile)];
-    expect_fault(&rt, alloc, &no_file, "localtime", Fault::Io, 1);
-    let memory = [("/etc/localtime", Reply::NoMemory)];
-    expect_fault(&rt, alloc, &memory, "localtime", Fault::Memory, 1);
+    expect_answers(&rt, alloc, &ROWS)?;
     let files = Files {
         alloc,
-        replies: &local,
+        replies: LOCAL,
         asked: Cell::new(0),
     };
     let zone = TimeZone::local(alloc, |path: &str| files.read(path))?;
@@ -223,17 +231,18 @@ fn local_time_has_its_file(rt: HostRuntime) -> Result<(), Fail> {
 
 #[test]
 fn the_usual_directories_are_asked(rt: HostRuntime) -> Result<(), Fail> {
+    static REPLIES: [(&str, Reply); 3] = [
+        (
+            "/usr/share/zoneinfo/CET-1CEST,M3.5.0,M10.5.0/3",
+            Reply::NoFile,
+        ),
+        ("/share/zoneinfo/CET-1CEST,M3.5.0,M10.5.0/3", Reply::NoFile),
+        ("/etc/zoneinfo/CET-1CEST,M3.5.0,M10.5.0/3", Reply::NoFile),
+    ];
     let alloc = rt.alloc();
     let files = Files {
         alloc,
-        replies: &[
-            (
-                "/usr/share/zoneinfo/CET-1CEST,M3.5.0,M10.5.0/3",
-                Reply::NoFile,
-            ),
-            ("/share/zoneinfo/CET-1CEST,M3.5.0,M10.5.0/3", Reply::NoFile),
-            ("/etc/zoneinfo/CET-1CEST,M3.5.0,M10.5.0/3", Reply::NoFile),
-        ],
+        replies: &REPLIES,
         asked: Cell::new(0),
     };
     let zone = TimeZone::from_posix_tz(
@@ -259,6 +268,11 @@ fn the_usual_directories_are_asked(rt: HostRuntime) -> Result<(), Fail> {
 
 #[test]
 fn the_reader_s_fault_is_handed_on(rt: HostRuntime) -> Result<(), Fail> {
+    static ROWS: [(&str, &str); 3] = [
+        (":/x", "no file"),
+        ("localtime", "no file"),
+        (":x", "file was not found"),
+    ];
     let alloc = rt.alloc();
     let files = Files {
         alloc,
@@ -266,63 +280,62 @@ fn the_reader_s_fault_is_handed_on(rt: HostRuntime) -> Result<(), Fail> {
         asked: Cell::new(0),
     };
     let settings = TimeZoneSettings::new(&["/a"], |path: &str| files.read(path));
-    for (text, fault) in [
-        (":/x", "no file"),
-        ("localtime", "no file"),
-        (":x", "file was not found"),
-    ] {
+    for (text, fault) in &ROWS {
         let Err(error) = settings.parse_posix_tz(alloc, text) else {
             assert!(rt; false, "{text}");
             return Ok(());
         };
         let printed = format!(in alloc; "{error}")?;
-        assert_eq!(rt; printed.as_str(), fault, "{text}");
+        assert_eq!(rt; printed.as_str(), *fault, "{text}");
     }
     Ok(())
 }
 
 #[test]
-fn no_path_is_asked_once_one_has_answered(rt: HostRuntime) {
-    let alloc = rt.alloc();
-    let absolute = [("/x", Reply::NoMemory)];
-    expect_fault(&rt, alloc, &absolute, "/x", Fault::Memory, 1);
-    expect_fault(&rt, alloc, &absolute, ":/x", Fault::Memory, 1);
-    let third = [
+fn no_path_is_asked_once_one_has_answered(rt: HostRuntime) -> Result<(), Fail> {
+    const ABSOLUTE: Replies = &[("/x", Reply::NoMemory)];
+    const THIRD: Replies = &[
         ("/a/x", Reply::NoFile),
         ("/b/x", Reply::NoFile),
         ("/c/x", Reply::NoMemory),
     ];
-    expect_fault(&rt, alloc, &third, "x", Fault::Memory, 123);
-    expect_fault(&rt, alloc, &third, ":x", Fault::Memory, 123);
-    let is_cut = Fault::File(TzFileError::ParseData(ParseDataError::UnexpectedEof));
-    let first = [("/a/HST10", Reply::NoZone), ("/b/HST10", Reply::Utc)];
-    expect_fault(&rt, alloc, &first, "HST10", is_cut, 1);
+    const FIRST: Replies = &[("/a/HST10", Reply::NoZone), ("/b/HST10", Reply::Utc)];
+    static ROWS: [Row; 5] = [
+        (ABSOLUTE, "/x", Answer::Fault(Fault::Memory), 1),
+        (ABSOLUTE, ":/x", Answer::Fault(Fault::Memory), 1),
+        (THIRD, "x", Answer::Fault(Fault::Memory), 123),
+        (THIRD, ":x", Answer::Fault(Fault::Memory), 123),
+        (FIRST, "HST10", Answer::Fault(CUT), 1),
+    ];
+    expect_answers(&rt, rt.alloc(), &ROWS)
 }
 
 /// Only the bare name is that of the machine's local time, and a colon alone is a name without bytes.
 #[test]
-fn other_names_are_looked_for(rt: HostRuntime) {
-    let alloc = rt.alloc();
-    let local = [
+fn other_names_are_looked_for(rt: HostRuntime) -> Result<(), Fail> {
+    const LOCAL: Replies = &[
         ("/a/localtime", Reply::NoFile),
         ("/b/localtime", Reply::NoFile),
         ("/c/localtime", Reply::NoFile),
         ("/etc/localtime", Reply::Utc),
     ];
-    expect_fault(&rt, alloc, &local, ":localtime", Fault::Io, 123);
-    let spaced = [
+    const SPACED: Replies = &[
         ("/a/localtime ", Reply::NoFile),
         ("/b/localtime ", Reply::NoFile),
         ("/c/localtime ", Reply::NoFile),
         ("/etc/localtime", Reply::Utc),
     ];
-    expect_fault(&rt, alloc, &spaced, "localtime ", Fault::Number, 123);
-    let nameless = [
+    const NAMELESS: Replies = &[
         ("/a/", Reply::NoFile),
         ("/b/", Reply::NoFile),
         ("/c/", Reply::NoFile),
     ];
-    expect_fault(&rt, alloc, &nameless, ":", Fault::Io, 123);
+    static ROWS: [Row; 3] = [
+        (LOCAL, ":localtime", Answer::Fault(Fault::Io), 123),
+        (SPACED, "localtime ", Answer::Fault(Fault::Number), 123),
+        (NAMELESS, ":", Answer::Fault(Fault::Io), 123),
+    ];
+    expect_answers(&rt, rt.alloc(), &ROWS)
 }
 
 #[test]
@@ -354,7 +367,7 @@ fn expect_usual_fault(
     alloc: Global,
     replies: &[(&str, Reply)],
     text: &str,
-    fault: Option<Fault>,
+    fault: &Option<Fault>,
     asked: u64,
 ) {
     let files = Files {
@@ -363,50 +376,58 @@ fn expect_usual_fault(
         asked: Cell::new(0),
     };
     let answer = TimeZone::from_posix_tz(alloc, |path: &str| files.read(path), text);
-    expect_eq_at(rt, &text, &answer.err().map(named), &fault);
+    expect_eq_at(rt, &text, &answer.err().map(named), fault);
     expect_eq_at(rt, &text, &files.asked.get(), &asked);
 }
 
 #[test]
 fn the_usual_directories_are_asked_no_further(rt: HostRuntime) {
-    let alloc = rt.alloc();
-    let second = [
+    const SECOND: Replies = &[
         ("/usr/share/zoneinfo/Z/x", Reply::NoFile),
         ("/share/zoneinfo/Z/x", Reply::Utc),
         ("/etc/zoneinfo/Z/x", Reply::NoMemory),
     ];
-    expect_usual_fault(&rt, alloc, &second, "Z/x", None, 12);
-    expect_usual_fault(&rt, alloc, &second, ":Z/x", None, 12);
-    let memory = [
+    const MEMORY: Replies = &[
         ("/usr/share/zoneinfo/Z/x", Reply::NoFile),
         ("/share/zoneinfo/Z/x", Reply::NoMemory),
         ("/etc/zoneinfo/Z/x", Reply::Utc),
     ];
-    expect_usual_fault(&rt, alloc, &memory, "Z/x", Some(Fault::Memory), 12);
-    expect_usual_fault(&rt, alloc, &memory, ":Z/x", Some(Fault::Memory), 12);
-    let local = [("/etc/localtime", Reply::NoMemory)];
-    expect_usual_fault(&rt, alloc, &local, "localtime", Some(Fault::Memory), 1);
+    const LOCAL: Replies = &[("/etc/localtime", Reply::NoMemory)];
+    static ROWS: [(Replies, &str, Option<Fault>, u64); 5] = [
+        (SECOND, "Z/x", None, 12),
+        (SECOND, ":Z/x", None, 12),
+        (MEMORY, "Z/x", Some(Fault::Memory), 12),
+        (MEMORY, ":Z/x", Some(Fault::Memory), 12),
+        (LOCAL, "localtime", Some(Fault::Memory), 1),
+    ];
+    for (replies, text, fault, asked) in &ROWS {
+        expect_usual_fault(&rt, rt.alloc(), replies, text, fault, *asked);
+    }
 }
 
 /// The local time zone is refused so, after its file alone was asked for.
-fn expect_local_fault(rt: &impl Abort, alloc: Global, reply: Reply, fault: Fault) {
+fn expect_local_fault(rt: &impl Abort, alloc: Global, reply: Reply, fault: &Fault) {
     let files = Files {
         alloc,
         replies: &[("/etc/localtime", reply)],
         asked: Cell::new(0),
     };
     let answer = TimeZone::local(alloc, |path: &str| files.read(path));
-    expect_eq(rt, &answer.err().map(named), &Some(fault));
+    let found = answer.err().map(named);
+    expect_eq(rt, &found.as_ref(), &Some(fault));
     expect_eq(rt, &files.asked.get(), &1);
 }
 
 #[test]
 fn local_time_is_refused(rt: HostRuntime) {
-    let alloc = rt.alloc();
-    let is_cut = Fault::File(TzFileError::ParseData(ParseDataError::UnexpectedEof));
-    expect_local_fault(&rt, alloc, Reply::NoZone, is_cut);
-    expect_local_fault(&rt, alloc, Reply::NoMemory, Fault::Memory);
-    expect_local_fault(&rt, alloc, Reply::NoFile, Fault::Io);
+    static ROWS: [(Reply, Fault); 3] = [
+        (Reply::NoZone, CUT),
+        (Reply::NoMemory, Fault::Memory),
+        (Reply::NoFile, Fault::Io),
+    ];
+    for (reply, fault) in &ROWS {
+        expect_local_fault(&rt, rt.alloc(), *reply, fault);
+    }
 }
 
 /// Calls whose growths are refused in turn.

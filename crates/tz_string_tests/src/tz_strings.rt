@@ -25,14 +25,25 @@ fn rule_of(alloc: Global, text: &str, extended: bool) -> Result<Option<Transitio
     }
 }
 
-/// The ordinary text is refused so.
-fn expect_fault(rt: &impl Abort, alloc: Global, text: &str, fault: Fault) {
-    expect_eq_at(
-        rt,
-        &text,
-        &ordinary_rule(alloc, text).err().map(named_by_settings),
-        &Some(fault),
-    );
+/// Each ordinary text is refused so.
+fn expect_faults(rt: &impl Abort, alloc: Global, rows: &[(&str, Fault)]) {
+    for (text, fault) in rows {
+        let found = ordinary_rule(alloc, text).err().map(named_by_settings);
+        expect_eq_at(rt, text, &found.as_ref(), &Some(fault));
+    }
+}
+
+/// What refuses a text, and ordinary texts that are refused so.
+type Refusals = (Fault, &'static [&'static str]);
+
+/// All these ordinary texts are refused so.
+fn expect_refused(rt: &impl Abort, alloc: Global, rows: &[Refusals]) {
+    for (fault, texts) in rows {
+        for text in *texts {
+            let found = ordinary_rule(alloc, text).err().map(named_by_settings);
+            expect_eq_at(rt, text, &found.as_ref(), &Some(fault));
+        }
+    }
 }
 
 /// The text denotes the rule.
@@ -52,24 +63,64 @@ fn local_type(name: &str, ut_offset: i32, is_dst: bool) -> Result<LocalTimeType,
     Ok(LocalTimeType::new(ut_offset, is_dst, Some(name.as_bytes()))?)
 }
 
-/// The n-th day but February 29th.
-fn julian_1(n: u16) -> Result<RuleDay, Fail> {
-    Ok(RuleDay::Julian1WithoutLeap(Julian1WithoutLeap::new(n)?))
+/// A day on which time changes.
+#[derive(Clone, Copy)]
+enum Day {
+    /// The n-th day but February 29th.
+    Julian1(u16),
+    /// n days after January 1st.
+    Julian0(u16),
+    /// A week day of a month: the month, the week and the day.
+    Month(u8, u8, u8),
 }
 
-/// n days after January 1st.
-fn julian_0(n: u16) -> Result<RuleDay, Fail> {
-    Ok(RuleDay::Julian0WithLeap(Julian0WithLeap::new(n)?))
+impl Day {
+    /// The day of a rule.
+    fn rule_day(self) -> Result<RuleDay, Fail> {
+        Ok(match self {
+            Day::Julian1(n) => RuleDay::Julian1WithoutLeap(Julian1WithoutLeap::new(n)?),
+            Day::Julian0(n) => RuleDay::Julian0WithLeap(Julian0WithLeap::new(n)?),
+            Day::Month(month, week, week_day) => {
+                RuleDay::MonthWeekDay(MonthWeekDay::new(month, week, week_day)?)
+            }
+        })
+    }
 }
 
-/// A week day of a month.
-fn month_week_day(month: u8, week: u8, week_day: u8) -> Result<RuleDay, Fail> {
-    Ok(RuleDay::MonthWeekDay(MonthWeekDay::new(month, week, week_day)?))
+/// A text, then the name and the offset of standard time and of daylight saving time, then the day and the time of day at which
+/// the latter starts and ends.
+type AlternateRow = (
+    &'static str,
+    (&'static str, i32),
+    (&'static str, i32),
+    (Day, i32),
+    (Day, i32),
+);
+
+/// Each text denotes this alternate rule.
+fn expect_alternate_rules(
+    rt: &impl Abort,
+    alloc: Global,
+    rows: &[AlternateRow],
+    extended: bool,
+) -> Result<(), Fail> {
+    for (text, (std, std_offset), (dst, dst_offset), (start, start_time), (end, end_time)) in rows {
+        let rule = AlternateTime::new(
+            local_type(std, *std_offset, false)?,
+            local_type(dst, *dst_offset, true)?,
+            start.rule_day()?,
+            *start_time,
+            end.rule_day()?,
+            *end_time,
+        )?;
+        expect_rule(rt, alloc, text, extended, TransitionRule::Alternate(rule))?;
+    }
+    Ok(())
 }
 
 #[test]
 fn a_name_and_an_offset_are_one_type(rt: HostRuntime) -> Result<(), Fail> {
-    for (text, name, ut_offset) in [
+    static ROWS: [(&str, &str, i32); 7] = [
         ("HST10", "HST", -36_000),
         ("<-03>3", "-03", -10_800),
         ("A0", "A", 0),
@@ -77,8 +128,9 @@ fn a_name_and_an_offset_are_one_type(rt: HostRuntime) -> Result<(), Fail> {
         ("<+0530>-5:30", "+0530", 19_800),
         ("X24:59:59", "X", -89_999),
         ("X-24:59:59", "X", 89_999),
-    ] {
-        let rule = TransitionRule::Fixed(local_type(name, ut_offset, false)?);
+    ];
+    for (text, name, ut_offset) in &ROWS {
+        let rule = TransitionRule::Fixed(local_type(name, *ut_offset, false)?);
         expect_rule(&rt, rt.alloc(), text, false, rule)?;
         expect_rule(&rt, rt.alloc(), text, true, rule)?;
     }
@@ -87,131 +139,87 @@ fn a_name_and_an_offset_are_one_type(rt: HostRuntime) -> Result<(), Fail> {
 
 #[test]
 fn two_names_and_two_rules_are_an_alternate_rule(rt: HostRuntime) -> Result<(), Fail> {
-    expect_rule(
-        &rt,
-        rt.alloc(),
-        "<-03>+3<+03>-3,J1,J365",
-        false,
-        TransitionRule::Alternate(AlternateTime::new(
-            local_type("-03", -10_800, false)?,
-            local_type("+03", 10_800, true)?,
-            julian_1(1)?,
-            7200,
-            julian_1(365)?,
-            7200,
-        )?),
-    )?;
-    expect_rule(
-        &rt,
-        rt.alloc(),
-        "NZST-12:00:00NZDT-13:00:00,M10.1.0/02:00:00,M3.3.0/02:00:00",
-        false,
-        TransitionRule::Alternate(AlternateTime::new(
-            local_type("NZST", 43_200, false)?,
-            local_type("NZDT", 46_800, true)?,
-            month_week_day(10, 1, 0)?,
-            7200,
-            month_week_day(3, 3, 0)?,
-            7200,
-        )?),
-    )?;
-    expect_rule(
-        &rt,
-        rt.alloc(),
-        "IST-1GMT0,M10.5.0,M3.5.0/1",
-        false,
-        TransitionRule::Alternate(AlternateTime::new(
-            local_type("IST", 3600, false)?,
-            local_type("GMT", 0, true)?,
-            month_week_day(10, 5, 0)?,
-            7200,
-            month_week_day(3, 5, 0)?,
-            3600,
-        )?),
-    )?;
-    expect_rule(
-        &rt,
-        rt.alloc(),
-        "EST5EDT,0/0,J365/24",
-        false,
-        TransitionRule::Alternate(AlternateTime::new(
-            local_type("EST", -18_000, false)?,
-            local_type("EDT", -14_400, true)?,
-            julian_0(0)?,
-            0,
-            julian_1(365)?,
-            86_400,
-        )?),
-    )
+    static ROWS: [AlternateRow; 4] = [
+        (
+            "<-03>+3<+03>-3,J1,J365",
+            ("-03", -10_800),
+            ("+03", 10_800),
+            (Day::Julian1(1), 7200),
+            (Day::Julian1(365), 7200),
+        ),
+        (
+            "NZST-12:00:00NZDT-13:00:00,M10.1.0/02:00:00,M3.3.0/02:00:00",
+            ("NZST", 43_200),
+            ("NZDT", 46_800),
+            (Day::Month(10, 1, 0), 7200),
+            (Day::Month(3, 3, 0), 7200),
+        ),
+        (
+            "IST-1GMT0,M10.5.0,M3.5.0/1",
+            ("IST", 3600),
+            ("GMT", 0),
+            (Day::Month(10, 5, 0), 7200),
+            (Day::Month(3, 5, 0), 3600),
+        ),
+        (
+            "EST5EDT,0/0,J365/24",
+            ("EST", -18_000),
+            ("EDT", -14_400),
+            (Day::Julian0(0), 0),
+            (Day::Julian1(365), 86_400),
+        ),
+    ];
+    expect_alternate_rules(&rt, rt.alloc(), &ROWS, false)
 }
 
 #[test]
 fn daylight_saving_time_is_an_hour_ahead_by_default(rt: HostRuntime) -> Result<(), Fail> {
-    for (text, std, dst) in [
-        ("STD24:59:59DST,J1,J365", -89_999, -86_399),
-        ("STD-24:59:59DST,J1,J365", 89_999, 93_599),
-    ] {
-        let rule = AlternateTime::new(
-            local_type("STD", std, false)?,
-            local_type("DST", dst, true)?,
-            julian_1(1)?,
-            7200,
-            julian_1(365)?,
-            7200,
-        )?;
-        expect_rule(
-            &rt,
-            rt.alloc(),
-            text,
-            false,
-            TransitionRule::Alternate(rule),
-        )?;
-    }
-    Ok(())
+    static ROWS: [AlternateRow; 2] = [
+        (
+            "STD24:59:59DST,J1,J365",
+            ("STD", -89_999),
+            ("DST", -86_399),
+            (Day::Julian1(1), 7200),
+            (Day::Julian1(365), 7200),
+        ),
+        (
+            "STD-24:59:59DST,J1,J365",
+            ("STD", 89_999),
+            ("DST", 93_599),
+            (Day::Julian1(1), 7200),
+            (Day::Julian1(365), 7200),
+        ),
+    ];
+    expect_alternate_rules(&rt, rt.alloc(), &ROWS, false)
 }
 
 #[test]
 fn extended_texts_have_wider_day_times(rt: HostRuntime) -> Result<(), Fail> {
-    expect_rule(
-        &rt,
-        rt.alloc(),
-        "<-03>3<-02>,M3.5.0/-2,M10.5.0/-1",
-        true,
-        TransitionRule::Alternate(AlternateTime::new(
-            local_type("-03", -10_800, false)?,
-            local_type("-02", -7200, true)?,
-            month_week_day(3, 5, 0)?,
-            -7200,
-            month_week_day(10, 5, 0)?,
-            -3600,
-        )?),
-    )?;
-    expect_rule(
-        &rt,
-        rt.alloc(),
-        "EST5EDT,0/0,J365/25",
-        true,
-        TransitionRule::Alternate(AlternateTime::new(
-            local_type("EST", -18_000, false)?,
-            local_type("EDT", -14_400, true)?,
-            julian_0(0)?,
-            0,
-            julian_1(365)?,
-            90_000,
-        )?),
-    )?;
-    expect_fault(
-        &rt,
-        rt.alloc(),
-        "<-03>3<-02>,M3.5.0/-2,M10.5.0/-1",
-        Fault::Number,
-    );
-    expect_fault(
-        &rt,
-        rt.alloc(),
-        "EST5EDT,0/0,J365/25",
-        Fault::Text(TzStringError::InvalidDayTimeHour),
-    );
+    static ROWS: [AlternateRow; 2] = [
+        (
+            "<-03>3<-02>,M3.5.0/-2,M10.5.0/-1",
+            ("-03", -10_800),
+            ("-02", -7200),
+            (Day::Month(3, 5, 0), -7200),
+            (Day::Month(10, 5, 0), -3600),
+        ),
+        (
+            "EST5EDT,0/0,J365/25",
+            ("EST", -18_000),
+            ("EDT", -14_400),
+            (Day::Julian0(0), 0),
+            (Day::Julian1(365), 90_000),
+        ),
+    ];
+    static FAULTS: [(&str, Fault); 2] = [
+        ("<-03>3<-02>,M3.5.0/-2,M10.5.0/-1", Fault::Number),
+        (
+            "EST5EDT,0/0,J365/25",
+            Fault::Text(TzStringError::InvalidDayTimeHour),
+        ),
+    ];
+    expect_alternate_rules(&rt, rt.alloc(), &ROWS, true)?;
+    expect_faults(&rt, rt.alloc(), &FAULTS);
     let inconsistent = extended_rule(rt.alloc(), "A0B0,J59/0:0:1,J60/-24");
     expect_eq(
         &rt,
@@ -223,167 +231,137 @@ fn extended_texts_have_wider_day_times(rt: HostRuntime) -> Result<(), Fail> {
 
 #[test]
 fn numbers_are_digits_that_fit(rt: HostRuntime) {
-    for text in [
-        " ",
-        "HST",
-        "HST+",
-        "HST:",
-        "HST1:",
-        "HST1:2:",
-        "HST 10",
-        "HST2147483648",
-        "<A>B1",
-        "A1B,",
-        "A1B,J",
-        "A1B,M",
-        "A1B,M1.",
-        "A1B,M1.1.,0",
-        "A1B,J65536,0",
-        "A1B,65536,0",
-        "A1B,M256.1.1,0",
-        "A1B,J1/,0",
-        "A1B,J1/+1,0",
-        "A1B,J1,",
-        "A1B,J1,x",
-    ] {
-        expect_fault(&rt, rt.alloc(), text, Fault::Number);
-    }
+    static ROWS: [Refusals; 1] = [(
+        Fault::Number,
+        &[
+            " ",
+            "HST",
+            "HST+",
+            "HST:",
+            "HST1:",
+            "HST1:2:",
+            "HST 10",
+            "HST2147483648",
+            "<A>B1",
+            "A1B,",
+            "A1B,J",
+            "A1B,M",
+            "A1B,M1.",
+            "A1B,M1.1.,0",
+            "A1B,J65536,0",
+            "A1B,65536,0",
+            "A1B,M256.1.1,0",
+            "A1B,J1/,0",
+            "A1B,J1/+1,0",
+            "A1B,J1,",
+            "A1B,J1,x",
+        ],
+    )];
+    expect_refused(&rt, rt.alloc(), &ROWS);
 }
 
 #[test]
 fn numbers_are_in_range(rt: HostRuntime) {
-    expect_fault(
-        &rt,
-        rt.alloc(),
-        "A25",
-        Fault::Text(TzStringError::InvalidOffsetHour),
-    );
-    expect_fault(
-        &rt,
-        rt.alloc(),
-        "A2147483647",
-        Fault::Text(TzStringError::InvalidOffsetHour),
-    );
-    expect_fault(
-        &rt,
-        rt.alloc(),
-        "A0:60",
-        Fault::Text(TzStringError::InvalidOffsetMinute),
-    );
-    expect_fault(
-        &rt,
-        rt.alloc(),
-        "A0:0:60",
-        Fault::Text(TzStringError::InvalidOffsetSecond),
-    );
-    expect_fault(
-        &rt,
-        rt.alloc(),
-        "A0B25,0,1",
-        Fault::Text(TzStringError::InvalidOffsetHour),
-    );
-    expect_fault(
-        &rt,
-        rt.alloc(),
-        "A0B,0/25,1",
-        Fault::Text(TzStringError::InvalidDayTimeHour),
-    );
-    expect_fault(
-        &rt,
-        rt.alloc(),
-        "A0B,0/0:60,1",
-        Fault::Text(TzStringError::InvalidDayTimeMinute),
-    );
-    expect_fault(
-        &rt,
-        rt.alloc(),
-        "A0B,0,1/0:0:60",
-        Fault::Text(TzStringError::InvalidDayTimeSecond),
-    );
-    for (text, fault) in [
-        ("A0B,J0,1", TransitionRuleError::InvalidRuleDayJulianDay),
-        ("A0B,J366,1", TransitionRuleError::InvalidRuleDayJulianDay),
-        ("A0B,366,1", TransitionRuleError::InvalidRuleDayJulianDay),
-        ("A0B,M0.1.0,1", TransitionRuleError::InvalidRuleDayMonth),
-        ("A0B,M13.1.0,1", TransitionRuleError::InvalidRuleDayMonth),
-        ("A0B,M1.0.0,1", TransitionRuleError::InvalidRuleDayWeek),
-        ("A0B,M1.6.0,1", TransitionRuleError::InvalidRuleDayWeek),
-        ("A0B,M1.1.7,1", TransitionRuleError::InvalidRuleDayWeekDay),
-    ] {
-        expect_fault(&rt, rt.alloc(), text, Fault::Rule(fault));
-    }
+    static ROWS: [(&str, Fault); 16] = [
+        ("A25", Fault::Text(TzStringError::InvalidOffsetHour)),
+        ("A2147483647", Fault::Text(TzStringError::InvalidOffsetHour)),
+        ("A0:60", Fault::Text(TzStringError::InvalidOffsetMinute)),
+        ("A0:0:60", Fault::Text(TzStringError::InvalidOffsetSecond)),
+        ("A0B25,0,1", Fault::Text(TzStringError::InvalidOffsetHour)),
+        ("A0B,0/25,1", Fault::Text(TzStringError::InvalidDayTimeHour)),
+        (
+            "A0B,0/0:60,1",
+            Fault::Text(TzStringError::InvalidDayTimeMinute),
+        ),
+        (
+            "A0B,0,1/0:0:60",
+            Fault::Text(TzStringError::InvalidDayTimeSecond),
+        ),
+        (
+            "A0B,J0,1",
+            Fault::Rule(TransitionRuleError::InvalidRuleDayJulianDay),
+        ),
+        (
+            "A0B,J366,1",
+            Fault::Rule(TransitionRuleError::InvalidRuleDayJulianDay),
+        ),
+        (
+            "A0B,366,1",
+            Fault::Rule(TransitionRuleError::InvalidRuleDayJulianDay),
+        ),
+        (
+            "A0B,M0.1.0,1",
+            Fault::Rule(TransitionRuleError::InvalidRuleDayMonth),
+        ),
+        (
+            "A0B,M13.1.0,1",
+            Fault::Rule(TransitionRuleError::InvalidRuleDayMonth),
+        ),
+        (
+            "A0B,M1.0.0,1",
+            Fault::Rule(TransitionRuleError::InvalidRuleDayWeek),
+        ),
+        (
+            "A0B,M1.6.0,1",
+            Fault::Rule(TransitionRuleError::InvalidRuleDayWeek),
+        ),
+        (
+            "A0B,M1.1.7,1",
+            Fault::Rule(TransitionRuleError::InvalidRuleDayWeekDay),
+        ),
+    ];
+    expect_faults(&rt, rt.alloc(), &ROWS);
 }
 
 #[test]
 fn names_are_designations(rt: HostRuntime) {
-    for (text, fault) in [
-        ("5", LocalTimeTypeError::InvalidTimeZoneDesignationLength),
-        ("<>5", LocalTimeTypeError::InvalidTimeZoneDesignationLength),
+    static ROWS: [Refusals; 2] = [
         (
-            "abcdefgh5",
-            LocalTimeTypeError::InvalidTimeZoneDesignationLength,
-        ),
-        ("<A_B>5", LocalTimeTypeError::InvalidTimeZoneDesignationChar),
-        (
-            "A5<B B>,0,1",
-            LocalTimeTypeError::InvalidTimeZoneDesignationChar,
+            Fault::Type(LocalTimeTypeError::InvalidTimeZoneDesignationLength),
+            &["5", "<>5", "abcdefgh5", "A5abcdefgh,0,1"],
         ),
         (
-            "A5abcdefgh,0,1",
-            LocalTimeTypeError::InvalidTimeZoneDesignationLength,
+            Fault::Type(LocalTimeTypeError::InvalidTimeZoneDesignationChar),
+            &["<A_B>5", "A5<B B>,0,1"],
         ),
-    ] {
-        expect_fault(&rt, rt.alloc(), text, Fault::Type(fault));
-    }
+    ];
+    expect_refused(&rt, rt.alloc(), &ROWS);
 }
 
 #[test]
 fn bytes_stand_where_they_have_to(rt: HostRuntime) {
-    for text in [
-        "<-03", "<", "A0<B", "A0B,M1", "A0B,M1.1", "A0B,J1", "A0B,J1/1",
-    ] {
-        expect_fault(
-            &rt,
-            rt.alloc(),
-            text,
+    static ROWS: [Refusals; 4] = [
+        (
             Fault::Text(TzStringError::ParseData(ParseDataError::UnexpectedEof)),
-        );
-    }
-    for text in [
-        "A0B1;",
-        "A0B1x",
-        "A0B,M1-1",
-        "A0B,M1.1,0",
-        "A0B,J1;",
-        "A0B,J1/1;",
-    ] {
-        expect_fault(
-            &rt,
-            rt.alloc(),
-            text,
+            &[
+                "<-03", "<", "A0<B", "A0B,M1", "A0B,M1.1", "A0B,J1", "A0B,J1/1",
+            ],
+        ),
+        (
             Fault::Text(TzStringError::ParseData(ParseDataError::InvalidData)),
-        );
-    }
-    for text in ["IST-1GMT0", "EET-2EEST", "A0<B>"] {
-        expect_fault(
-            &rt,
-            rt.alloc(),
-            text,
+            &[
+                "A0B1;",
+                "A0B1x",
+                "A0B,M1-1",
+                "A0B,M1.1,0",
+                "A0B,J1;",
+                "A0B,J1/1;",
+            ],
+        ),
+        (
             Fault::Text(TzStringError::MissingDstStartEndRules),
-        );
-    }
-    for text in [
-        "EST5EDT,M3.2.0,M11.1.0x",
-        "EST5EDT,0,J365,",
-        "EST5EDT,0,J365/1:2:3:4",
-    ] {
-        expect_fault(
-            &rt,
-            rt.alloc(),
-            text,
+            &["IST-1GMT0", "EET-2EEST", "A0<B>"],
+        ),
+        (
             Fault::Text(TzStringError::RemainingData),
-        );
-    }
+            &[
+                "EST5EDT,M3.2.0,M11.1.0x",
+                "EST5EDT,0,J365,",
+                "EST5EDT,0,J365/1:2:3:4",
+            ],
+        ),
+    ];
+    expect_refused(&rt, rt.alloc(), &ROWS);
 }
 
 /// The name of a type, and its offset from UTC in seconds.

@@ -10,7 +10,7 @@ use tz_file_tests::samples::extended_rule;
 use tz_zone::timezone::{TimeZone, TimeZoneRef, TimeZoneSettings, TransitionRule};
 
 /// Texts that are refused, and the refusal's text.
-const REFUSED: &[(&str, &str)] = &[
+static REFUSED: &[(&str, &str)] = &[
     ("", "invalid TZ string: empty TZ string"),
     (
         "IST-1GMT0",
@@ -66,7 +66,7 @@ fn expect_zone(rt: &impl Abort, zone: &TimeZone, rule: TransitionRule) -> Result
 
 #[test]
 fn texts_are_zones_of_their_rules(rt: HostRuntime) -> Result<(), Fail> {
-    for text in [
+    static TEXTS: [&str; 9] = [
         "HST10",
         "<-03>3",
         "A0",
@@ -76,7 +76,8 @@ fn texts_are_zones_of_their_rules(rt: HostRuntime) -> Result<(), Fail> {
         "STD24:59:59DST,J1,J365",
         "STD-24:59:59DST,J1,J365",
         "CET-1CEST,M3.5.0,M10.5.0/3",
-    ] {
+    ];
+    for text in &TEXTS {
         let rule = extended_rule(rt.alloc(), text)?.ok_or("no rule")?;
         expect_zone(&rt, &zone_of(rt.alloc(), text)?, rule)?;
         let spaced = format!(in rt.alloc(); " {text}\n")?;
@@ -87,16 +88,17 @@ fn texts_are_zones_of_their_rules(rt: HostRuntime) -> Result<(), Fail> {
 
 #[test]
 fn clocks_turn_when_the_text_says(rt: HostRuntime) -> Result<(), Fail> {
-    let text = "NZST-12:00:00NZDT-13:00:00,M10.1.0/02:00:00,M3.3.0/02:00:00";
-    let zone = zone_of(rt.alloc(), text)?;
-    for (unix_time, ut_offset) in [
+    static ROWS: [(i64, i32); 4] = [
         (953_384_399, 46_800),
         (953_384_400, 43_200),
         (970_322_399, 43_200),
         (970_322_400, 46_800),
-    ] {
-        let local_time_type = zone.find_local_time_type(unix_time)?;
-        expect_eq_at(&rt, &unix_time, &local_time_type.ut_offset(), &ut_offset);
+    ];
+    let text = "NZST-12:00:00NZDT-13:00:00,M10.1.0/02:00:00,M3.3.0/02:00:00";
+    let zone = zone_of(rt.alloc(), text)?;
+    for (unix_time, ut_offset) in &ROWS {
+        let local_time_type = zone.find_local_time_type(*unix_time)?;
+        expect_eq_at(&rt, unix_time, &local_time_type.ut_offset(), ut_offset);
     }
     Ok(())
 }

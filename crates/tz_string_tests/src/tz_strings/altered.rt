@@ -4,7 +4,7 @@ use super::*;
 use crate::expect::expect_eq_at;
 
 /// Ordinary texts, and what they denote: each type's name and offset from UTC, then each change's day and time of day, in seconds.
-const ORDINARY_READ: &[(&str, &str)] = &[
+static ORDINARY_READ: &[(&str, &str)] = &[
     ("HST1", "HST -3600"),
     ("HST10", "HST -36000"),
     ("<-03>3", "-03 -10800"),
@@ -91,7 +91,7 @@ const ORDINARY_READ: &[(&str, &str)] = &[
 ];
 
 /// What refuses a text, and ordinary texts that are refused so.
-const ORDINARY_REFUSED: &[(&str, &[&str])] = &[
+static ORDINARY_REFUSED: &[(&str, &[&str])] = &[
     (
         "invalid TZ string: cannot parse integer from empty string",
         &[
@@ -241,7 +241,7 @@ const ORDINARY_REFUSED: &[(&str, &[&str])] = &[
 ];
 
 /// Extended texts, and what they denote.
-const EXTENDED_READ: &[(&str, &str)] = &[
+static EXTENDED_READ: &[(&str, &str)] = &[
     (
         "<-03>3<-02>,M3.5.0/-2,M10.5.0",
         "-03 -10800, -02 -7200, M3.5.0 -7200, M10.5.0 7200",
@@ -287,7 +287,7 @@ const EXTENDED_READ: &[(&str, &str)] = &[
 ];
 
 /// What refuses a text, and extended texts that are refused so.
-const EXTENDED_REFUSED: &[(&str, &[&str])] = &[
+static EXTENDED_REFUSED: &[(&str, &[&str])] = &[
     (
         "invalid TZ string: cannot parse integer from empty string",
         &[

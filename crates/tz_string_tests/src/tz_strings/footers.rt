@@ -6,7 +6,7 @@ use tz_file_tests::samples::without_transitions;
 use tz_zone::timezone::TimeZone;
 
 /// Ordinary texts, and what they denote: each type's name and offset from UTC, then each change's day and time of day, in seconds.
-const ORDINARY: &[(&str, &str)] = &[
+static ORDINARY: &[(&str, &str)] = &[
     ("<+01>-1", "+01 3600"),
     ("<+02>-2", "+02 7200"),
     ("<+0330>-3:30", "+0330 12600"),
@@ -189,7 +189,7 @@ const ORDINARY: &[(&str, &str)] = &[
 ];
 
 /// Extended texts, and what they denote.
-const EXTENDED: &[(&str, &str)] = &[
+static EXTENDED: &[(&str, &str)] = &[
     (
         "<-02>2<-01>,M3.5.0/-1,M10.5.0/0",
         "-02 -7200, -01 -3600, M3.5.0 -3600, M10.5.0 0",
