@@ -8,6 +8,7 @@ use tz_zone::timezone::{LocalTimeType, TimeZone, TimeZoneRef};
 
 #[test]
 fn utc_has_one_type(rt: HostRuntime) -> Result<(), Fail> {
+    static UNIX_TIMES: [i64; 4] = [i64::MIN, -1, 0, i64::MAX];
     let zone = TimeZoneRef::utc();
     expect_eq(&rt, &zone.transitions().len(), &0);
     expect_eq(&rt, &zone.leap_seconds().len(), &0);
@@ -18,8 +19,8 @@ fn utc_has_one_type(rt: HostRuntime) -> Result<(), Fail> {
     assert!(rt; zone.extra_rule().is_none());
     let copied_rule = *zone.extra_rule();
     assert!(rt; copied_rule.is_none());
-    for unix_time in [i64::MIN, -1, 0, i64::MAX] {
-        let found = zone.find_local_time_type(unix_time)?;
+    for unix_time in &UNIX_TIMES {
+        let found = zone.find_local_time_type(*unix_time)?;
         expect_eq(&rt, found, &LocalTimeType::utc());
     }
     Ok(())

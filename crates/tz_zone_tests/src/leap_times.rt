@@ -2,13 +2,14 @@
 
 mod tables;
 
-use crate::expect::expect_eq;
+use crate::expect::{expect_eq, expect_eq_at};
+use std::process::Abort;
 use tz_base::error::TzError;
 use tz_zone::inner::{effect, leap};
 use tz_zone::timezone::{LeapSecond, LocalTimeType, TimeZoneRef};
 
 /// The leap times of the leap seconds from 1972 to 2016, each of one second more.
-const LEAP_TIMES: [i64; 27] = [
+static LEAP_TIMES: [i64; 27] = [
     78796800, 94694401, 126230402, 157766403, 189302404, 220924805, 252460806, 283996807,
     315532808, 362793609, 394329610, 425865611, 489024012, 567993613, 631152014, 662688015,
     709948816, 741484817, 773020818, 820454419, 867715220, 915148821, 1136073622, 1230768023,
@@ -43,51 +44,67 @@ fn is_out_of_range(time: Result<i64, TzError>) -> bool {
     matches!(time, Err(TzError::OutOfRange))
 }
 
-#[test]
-fn the_leap_second_of_2005(rt: HostRuntime) {
-    let leap_seconds = leap_seconds_to_2016();
-    for (unix_time, unix_leap_time) in [
-        (1136073599, 1136073621),
-        (1136073600, 1136073623),
-        (1136073601, 1136073624),
-    ] {
-        expect_eq(
-            &rt,
-            &leap_of(&leap_seconds, unix_time).ok(),
-            &Some(unix_leap_time),
-        );
+/// The leap times of instants are these, or out of range where there is none.
+fn expect_leap_times(rt: &impl Abort, leap_seconds: &[LeapSecond], rows: &[(i64, Option<i64>)]) {
+    for (unix_time, expected) in rows {
+        let found = leap_of(leap_seconds, *unix_time);
+        if expected.is_some() {
+            expect_eq_at(rt, unix_time, &found.ok(), expected);
+        } else {
+            assert!(rt; is_out_of_range(found), "{unix_time}");
+        }
     }
-    for (unix_leap_time, unix_time) in [
-        (1136073621, 1136073599),
-        (1136073622, 1136073600),
-        (1136073623, 1136073600),
-        (1136073624, 1136073601),
-    ] {
-        expect_eq(
-            &rt,
-            &effect_of(&leap_seconds, unix_leap_time).ok(),
-            &Some(unix_time),
-        );
+}
+
+/// Leap times take effect at these instants, or out of range where there is none.
+fn expect_effects(rt: &impl Abort, leap_seconds: &[LeapSecond], rows: &[(i64, Option<i64>)]) {
+    for (unix_leap_time, expected) in rows {
+        let found = effect_of(leap_seconds, *unix_leap_time);
+        if expected.is_some() {
+            expect_eq_at(rt, unix_leap_time, &found.ok(), expected);
+        } else {
+            assert!(rt; is_out_of_range(found), "{unix_leap_time}");
+        }
     }
 }
 
 #[test]
+fn the_leap_second_of_2005(rt: HostRuntime) {
+    static LEAPS: [(i64, Option<i64>); 3] = [
+        (1136073599, Some(1136073621)),
+        (1136073600, Some(1136073623)),
+        (1136073601, Some(1136073624)),
+    ];
+    static EFFECTS: [(i64, Option<i64>); 4] = [
+        (1136073621, Some(1136073599)),
+        (1136073622, Some(1136073600)),
+        (1136073623, Some(1136073600)),
+        (1136073624, Some(1136073601)),
+    ];
+    let leap_seconds = leap_seconds_to_2016();
+    expect_leap_times(&rt, &leap_seconds, &LEAPS);
+    expect_effects(&rt, &leap_seconds, &EFFECTS);
+}
+
+#[test]
 fn every_leap_second_to_2016(rt: HostRuntime) {
+    static LEAP_STEPS: [(i64, i64); 3] = [(-1, -1), (0, 1), (1, 2)];
+    static EFFECT_STEPS: [(i64, i64); 4] = [(-1, -1), (0, 0), (1, 0), (2, 1)];
     let leap_seconds = leap_seconds_to_2016();
     for (earlier, leap_time) in LEAP_TIMES.iter().enumerate() {
         let instant = leap_time.wrapping_sub(earlier as i64);
-        for (step, unix_leap_step) in [(-1, -1), (0, 1), (1, 2)] {
+        for (step, unix_leap_step) in &LEAP_STEPS {
             expect_eq(
                 &rt,
-                &leap_of(&leap_seconds, instant.wrapping_add(step)).ok(),
-                &Some(leap_time.wrapping_add(unix_leap_step)),
+                &leap_of(&leap_seconds, instant.wrapping_add(*step)).ok(),
+                &Some(leap_time.wrapping_add(*unix_leap_step)),
             );
         }
-        for (unix_leap_step, step) in [(-1, -1), (0, 0), (1, 0), (2, 1)] {
+        for (unix_leap_step, step) in &EFFECT_STEPS {
             expect_eq(
                 &rt,
-                &effect_of(&leap_seconds, leap_time.wrapping_add(unix_leap_step)).ok(),
-                &Some(instant.wrapping_add(step)),
+                &effect_of(&leap_seconds, leap_time.wrapping_add(*unix_leap_step)).ok(),
+                &Some(instant.wrapping_add(*step)),
             );
         }
     }
@@ -95,125 +112,106 @@ fn every_leap_second_to_2016(rt: HostRuntime) {
 
 #[test]
 fn a_leap_second_of_one_second_less(rt: HostRuntime) {
+    static LEAPS: [(i64, Option<i64>); 3] = [(99, Some(99)), (100, Some(99)), (101, Some(100))];
+    static EFFECTS: [(i64, Option<i64>); 4] = [
+        (98, Some(98)),
+        (99, Some(99)),
+        (100, Some(101)),
+        (101, Some(102)),
+    ];
     let leap_seconds = [LeapSecond::new(100, -1)];
-    for (unix_time, unix_leap_time) in [(99, 99), (100, 99), (101, 100)] {
-        expect_eq(
-            &rt,
-            &leap_of(&leap_seconds, unix_time).ok(),
-            &Some(unix_leap_time),
-        );
-    }
-    for (unix_leap_time, unix_time) in [(98, 98), (99, 99), (100, 101), (101, 102)] {
-        expect_eq(
-            &rt,
-            &effect_of(&leap_seconds, unix_leap_time).ok(),
-            &Some(unix_time),
-        );
-    }
+    expect_leap_times(&rt, &leap_seconds, &LEAPS);
+    expect_effects(&rt, &leap_seconds, &EFFECTS);
 }
 
 #[test]
 fn the_ends_without_leap_seconds(rt: HostRuntime) {
-    for unix_time in [i64::MIN + 1, -1, 0, i64::MAX] {
-        expect_eq(&rt, &leap_of(&[], unix_time).ok(), &Some(unix_time));
-        expect_eq(&rt, &effect_of(&[], unix_time).ok(), &Some(unix_time));
-    }
-    expect_eq(&rt, &leap_of(&[], i64::MIN).ok(), &Some(i64::MIN));
-    assert!(rt; is_out_of_range(effect_of(&[], i64::MIN)));
+    static LEAPS: [(i64, Option<i64>); 5] = [
+        (i64::MIN, Some(i64::MIN)),
+        (i64::MIN + 1, Some(i64::MIN + 1)),
+        (-1, Some(-1)),
+        (0, Some(0)),
+        (i64::MAX, Some(i64::MAX)),
+    ];
+    static EFFECTS: [(i64, Option<i64>); 5] = [
+        (i64::MIN, None),
+        (i64::MIN + 1, Some(i64::MIN + 1)),
+        (-1, Some(-1)),
+        (0, Some(0)),
+        (i64::MAX, Some(i64::MAX)),
+    ];
+    expect_leap_times(&rt, &[], &LEAPS);
+    expect_effects(&rt, &[], &EFFECTS);
 }
 
 #[test]
 fn the_ends_with_a_second_more(rt: HostRuntime) {
+    static LEAPS: [(i64, Option<i64>); 3] = [
+        (i64::MIN, Some(i64::MIN)),
+        (i64::MAX - 1, Some(i64::MAX)),
+        (i64::MAX, None),
+    ];
+    static EFFECTS: [(i64, Option<i64>); 3] = [
+        (i64::MIN, None),
+        (i64::MIN + 1, Some(i64::MIN + 1)),
+        (i64::MAX, Some(i64::MAX - 1)),
+    ];
     let leap_seconds = [LeapSecond::new(0, 1)];
-    expect_eq(&rt, &leap_of(&leap_seconds, i64::MIN).ok(), &Some(i64::MIN));
-    expect_eq(
-        &rt,
-        &leap_of(&leap_seconds, i64::MAX - 1).ok(),
-        &Some(i64::MAX),
-    );
-    assert!(rt; is_out_of_range(leap_of(&leap_seconds, i64::MAX)));
-    assert!(rt; is_out_of_range(effect_of(&leap_seconds, i64::MIN)));
-    expect_eq(
-        &rt,
-        &effect_of(&leap_seconds, i64::MIN + 1).ok(),
-        &Some(i64::MIN + 1),
-    );
-    expect_eq(
-        &rt,
-        &effect_of(&leap_seconds, i64::MAX).ok(),
-        &Some(i64::MAX - 1),
-    );
+    expect_leap_times(&rt, &leap_seconds, &LEAPS);
+    expect_effects(&rt, &leap_seconds, &EFFECTS);
 }
 
 #[test]
 fn the_ends_with_a_second_less(rt: HostRuntime) {
+    static LEAPS: [(i64, Option<i64>); 2] = [
+        (i64::MIN, Some(i64::MIN)),
+        (i64::MAX, Some(i64::MAX - 1)),
+    ];
+    static EFFECTS: [(i64, Option<i64>); 2] = [(i64::MAX - 1, Some(i64::MAX)), (i64::MAX, None)];
     let leap_seconds = [LeapSecond::new(0, -1)];
-    expect_eq(&rt, &leap_of(&leap_seconds, i64::MIN).ok(), &Some(i64::MIN));
-    expect_eq(
-        &rt,
-        &leap_of(&leap_seconds, i64::MAX).ok(),
-        &Some(i64::MAX - 1),
-    );
-    expect_eq(
-        &rt,
-        &effect_of(&leap_seconds, i64::MAX - 1).ok(),
-        &Some(i64::MAX),
-    );
-    assert!(rt; is_out_of_range(effect_of(&leap_seconds, i64::MAX)));
+    expect_leap_times(&rt, &leap_seconds, &LEAPS);
+    expect_effects(&rt, &leap_seconds, &EFFECTS);
 }
 
 /// A correction that is no longer in force is out of range all the same.
 #[test]
 fn the_ends_with_a_second_more_and_less(rt: HostRuntime) {
+    static LEAPS: [(i64, Option<i64>); 2] = [(i64::MAX - 1, Some(i64::MAX - 1)), (i64::MAX, None)];
+    static EFFECTS: [(i64, Option<i64>); 1] = [(i64::MAX, None)];
     let leap_seconds = [LeapSecond::new(0, 1), LeapSecond::new(2_419_199, 0)];
-    expect_eq(
-        &rt,
-        &leap_of(&leap_seconds, i64::MAX - 1).ok(),
-        &Some(i64::MAX - 1),
-    );
-    assert!(rt; is_out_of_range(leap_of(&leap_seconds, i64::MAX)));
-    assert!(rt; is_out_of_range(effect_of(&leap_seconds, i64::MAX)));
+    expect_leap_times(&rt, &leap_seconds, &LEAPS);
+    expect_effects(&rt, &leap_seconds, &EFFECTS);
 }
 
 /// Leap times rise from instant to instant but at a second less, and effects are least.
 #[test]
 fn leap_seconds_of_both_kinds(rt: HostRuntime) {
+    static LEAPS: [(i64, Option<i64>); 8] = [
+        (2, Some(2)),
+        (3, Some(2)),
+        (2_419_202, Some(2_419_201)),
+        (2_419_203, Some(2_419_203)),
+        (4_838_400, Some(4_838_400)),
+        (4_838_401, Some(4_838_402)),
+        (7_257_598, Some(7_257_599)),
+        (7_257_599, Some(7_257_599)),
+    ];
+    static EFFECTS: [(i64, Option<i64>); 8] = [
+        (2, Some(2)),
+        (3, Some(4)),
+        (2_419_201, Some(2_419_202)),
+        (2_419_202, Some(2_419_203)),
+        (2_419_203, Some(2_419_203)),
+        (4_838_401, Some(4_838_401)),
+        (7_257_599, Some(7_257_598)),
+        (7_257_600, Some(7_257_600)),
+    ];
     let leap_seconds = [
         LeapSecond::new(3, -1),
         LeapSecond::new(2_419_202, 0),
         LeapSecond::new(4_838_401, 1),
         LeapSecond::new(7_257_600, 0),
     ];
-    for (unix_time, unix_leap_time) in [
-        (2, 2),
-        (3, 2),
-        (2_419_202, 2_419_201),
-        (2_419_203, 2_419_203),
-        (4_838_400, 4_838_400),
-        (4_838_401, 4_838_402),
-        (7_257_598, 7_257_599),
-        (7_257_599, 7_257_599),
-    ] {
-        expect_eq(
-            &rt,
-            &leap_of(&leap_seconds, unix_time).ok(),
-            &Some(unix_leap_time),
-        );
-    }
-    for (unix_leap_time, unix_time) in [
-        (2, 2),
-        (3, 4),
-        (2_419_201, 2_419_202),
-        (2_419_202, 2_419_203),
-        (2_419_203, 2_419_203),
-        (4_838_401, 4_838_401),
-        (7_257_599, 7_257_598),
-        (7_257_600, 7_257_600),
-    ] {
-        expect_eq(
-            &rt,
-            &effect_of(&leap_seconds, unix_leap_time).ok(),
-            &Some(unix_time),
-        );
-    }
+    expect_leap_times(&rt, &leap_seconds, &LEAPS);
+    expect_effects(&rt, &leap_seconds, &EFFECTS);
 }

@@ -21,15 +21,12 @@ fn parts<A: Allocator + Copy>(
     ),
     TzError,
 > {
-    let mut transitions = Vec::new(alloc);
-    transitions.push(Transition::new(0, 1))?;
-    transitions.push(Transition::new(7200, 0))?;
-    let mut local_time_types = Vec::new(alloc);
-    local_time_types.push(LocalTimeType::utc())?;
-    local_time_types.push(LocalTimeType::new(3600, true, Some(b"BST"))?)?;
-    let mut leap_seconds = Vec::new(alloc);
-    leap_seconds.push(LeapSecond::new(100, 1))?;
-    Ok((transitions, local_time_types, leap_seconds))
+    let summer = LocalTimeType::new(3600, true, Some(b"BST"))?;
+    Ok((
+        Vec::from_slice(alloc, &[Transition::new(0, 1), Transition::new(7200, 0)])?,
+        Vec::from_slice(alloc, &[LocalTimeType::utc(), summer])?,
+        Vec::from_slice(alloc, &[LeapSecond::new(100, 1)])?,
+    ))
 }
 
 /// The zone of the two transitions, which goes on in UTC.
@@ -46,20 +43,22 @@ fn is_memory<T>(answer: &Result<T, TzError>) -> bool {
 
 #[test]
 fn zones_of_one_type(rt: HostRuntime) -> Result<(), Fail> {
+    static UT_OFFSETS: [i32; 4] = [i32::MIN + 1, -3600, 0, i32::MAX];
+    static UNIX_TIMES: [i64; 3] = [i64::MIN, 0, i64::MAX];
     let none = None;
-    for ut_offset in [i32::MIN + 1, -3600, 0, i32::MAX] {
-        let plain = LocalTimeType::with_ut_offset(ut_offset)?;
+    for ut_offset in &UT_OFFSETS {
+        let plain = LocalTimeType::with_ut_offset(*ut_offset)?;
         let types = [plain];
         let expected = TimeZoneRef::new(&[], &types, &[], &none)?;
-        let zone = TimeZone::fixed(rt.alloc(), ut_offset)?;
-        expect_eq_at(&rt, &ut_offset, &zone.as_ref(), &expected);
-        if ut_offset == 0 {
+        let zone = TimeZone::fixed(rt.alloc(), *ut_offset)?;
+        expect_eq_at(&rt, ut_offset, &zone.as_ref(), &expected);
+        if *ut_offset == 0 {
             let utc = TimeZone::utc(rt.alloc())?;
             expect_eq(&rt, &utc.as_ref(), &expected);
         }
-        for unix_time in [i64::MIN, 0, i64::MAX] {
-            expect_eq(&rt, zone.find_local_time_type(unix_time)?, &plain);
-            expect_eq(&rt, zone.find_current_local_time_type(unix_time)?, &plain);
+        for unix_time in &UNIX_TIMES {
+            expect_eq(&rt, zone.find_local_time_type(*unix_time)?, &plain);
+            expect_eq(&rt, zone.find_current_local_time_type(*unix_time)?, &plain);
         }
     }
     Ok(())
@@ -67,10 +66,11 @@ fn zones_of_one_type(rt: HostRuntime) -> Result<(), Fail> {
 
 #[test]
 fn the_current_type_is_that_of_the_moment_given(rt: HostRuntime) -> Result<(), Fail> {
+    static ROWS: [(i64, i32); 4] = [(-1, 0), (0, 3600), (7198, 3600), (7199, 0)];
     let zone = two_transitions(rt.alloc())?;
-    for (unix_time, ut_offset) in [(-1, 0), (0, 3600), (7198, 3600), (7199, 0)] {
-        let local_time_type = zone.find_current_local_time_type(unix_time)?;
-        expect_eq_at(&rt, &unix_time, &local_time_type.ut_offset(), &ut_offset);
+    for (unix_time, ut_offset) in &ROWS {
+        let local_time_type = zone.find_current_local_time_type(*unix_time)?;
+        expect_eq_at(&rt, unix_time, &local_time_type.ut_offset(), ut_offset);
     }
     let (transitions, local_time_types, leap_seconds) = parts(rt.alloc())?;
     let over = TimeZone::new(transitions, local_time_types, leap_seconds, None)?;

@@ -55,28 +55,44 @@ fn expect_segment(
     );
 }
 
+/// An instant, from where until where its segment goes, and the segment's number.
+type Row = (i64, i64, i64, usize);
+
+/// The segments around instants are these.
+fn expect_segments(rt: &impl Abort, zone: TimeZoneRef<'_>, rows: &[Row]) {
+    for (unix_time, from, until, number) in rows {
+        expect_segment(rt, zone, *unix_time, *from, *until, *number);
+    }
+}
+
 #[test]
 fn segments_of_a_rule_begin_at_the_seam(rt: HostRuntime) -> Result<(), TzError> {
+    // Summer of 2024 begins at 1711846800 and ends at 1729990800, and that of 2025 begins at 1743296400.
+    static AFTER_TRANSITIONS: [Row; 5] = [
+        (1_719_999_999, 1_000_000_000, 1_720_000_000, 0),
+        (1_720_000_000, 1_720_000_000, 1_729_990_800, 3),
+        (1_729_990_799, 1_720_000_000, 1_729_990_800, 3),
+        (1_729_990_800, 1_729_990_800, 1_743_296_400, 2),
+        (1_735_689_600, 1_729_990_800, 1_743_296_400, 2),
+    ];
+    static RULE_ALONE: [Row; 2] = [
+        (1_719_999_999, 1_711_846_800, 1_729_990_800, 3),
+        (1_735_689_599, 1_729_990_800, 1_743_296_400, 2),
+    ];
     let types = [
         LocalTimeType::new(3600, false, Some(b"CET"))?,
         LocalTimeType::new(7200, true, Some(b"CEST"))?,
     ];
     let rule = Some(TransitionRule::Alternate(central_europe()?));
-    // Summer of 2024 begins at 1711846800 and ends at 1729990800, and that of 2025 begins at 1743296400.
     let transitions = [
         Transition::new(1_000_000_000, 0),
         Transition::new(1_720_000_000, 1),
     ];
     let zone = TimeZoneRef::new(&transitions, &types, &[], &rule)?;
-    expect_segment(&rt, zone, 1_719_999_999, 1_000_000_000, 1_720_000_000, 0);
-    expect_segment(&rt, zone, 1_720_000_000, 1_720_000_000, 1_729_990_800, 3);
-    expect_segment(&rt, zone, 1_729_990_799, 1_720_000_000, 1_729_990_800, 3);
-    expect_segment(&rt, zone, 1_729_990_800, 1_729_990_800, 1_743_296_400, 2);
-    expect_segment(&rt, zone, 1_735_689_600, 1_729_990_800, 1_743_296_400, 2);
+    expect_segments(&rt, zone, &AFTER_TRANSITIONS);
 
     let zone = TimeZoneRef::new(&[], &types, &[], &rule)?;
-    expect_segment(&rt, zone, 1_719_999_999, 1_711_846_800, 1_729_990_800, 3);
-    expect_segment(&rt, zone, 1_735_689_599, 1_729_990_800, 1_743_296_400, 2);
+    expect_segments(&rt, zone, &RULE_ALONE);
     assert!(rt; segment_at(zone, i64::MAX).is_none());
     assert!(rt; segment_at(zone, i64::MIN).is_none());
     Ok(())
@@ -86,6 +102,10 @@ fn segments_of_a_rule_begin_at_the_seam(rt: HostRuntime) -> Result<(), TzError> 
 fn segments_of_a_rule_begin_at_the_effect_of_the_last_transition(
     rt: HostRuntime,
 ) -> Result<(), TzError> {
+    static ROWS: [Row; 2] = [
+        (1_725_000_000, 1_720_000_000, 1_729_990_800, 3),
+        (1_735_689_600, 1_729_990_800, 1_743_296_400, 2),
+    ];
     let types = [
         LocalTimeType::new(3600, false, Some(b"CET"))?,
         LocalTimeType::new(7200, true, Some(b"CEST"))?,
@@ -97,8 +117,7 @@ fn segments_of_a_rule_begin_at_the_effect_of_the_last_transition(
         LeapSecond::new(94_694_401, 2),
     ];
     let zone = TimeZoneRef::new(&transitions, &types, &leap_seconds, &rule)?;
-    expect_segment(&rt, zone, 1_725_000_000, 1_720_000_000, 1_729_990_800, 3);
-    expect_segment(&rt, zone, 1_735_689_600, 1_729_990_800, 1_743_296_400, 2);
+    expect_segments(&rt, zone, &ROWS);
     Ok(())
 }
 
@@ -106,11 +125,13 @@ fn segments_of_a_rule_begin_at_the_effect_of_the_last_transition(
 fn segments_of_a_rule_near_the_end_of_the_year_last_a_second(
     rt: HostRuntime,
 ) -> Result<(), TzError> {
+    static ROWS: [Row; 2] = [
+        (1_735_689_600, 1_735_689_600, 1_735_689_601, 2),
+        (1_720_000_000, 1_720_000_000, 1_720_000_001, 1),
+    ];
     let types = [LocalTimeType::new(3600, false, Some(b"CET"))?];
     let rule = Some(TransitionRule::Alternate(to_january()?));
     let zone = TimeZoneRef::new(&[], &types, &[], &rule)?;
-    for (unix_time, number) in [(1_735_689_600, 2), (1_720_000_000, 1)] {
-        expect_segment(&rt, zone, unix_time, unix_time, unix_time + 1, number);
-    }
+    expect_segments(&rt, zone, &ROWS);
     Ok(())
 }

@@ -38,54 +38,21 @@ fn named(error: TzError) -> Fault {
 
 /// What makes a zone, as numbers.
 #[derive(Clone, Copy)]
-struct Parts<'a> {
+struct Parts<'a>(
     /// Leap times, and the numbers of the types that hold from there on.
-    transitions: &'a [(i64, usize)],
+    &'a [(i64, usize)],
     /// The types' offsets.
-    ut_offsets: &'a [i32],
+    &'a [i32],
     /// Leap times and corrections.
-    leap_seconds: &'a [(i64, i32)],
+    &'a [(i64, i32)],
     /// The offset of a fixed rule.
-    rule_offset: Option<i32>,
-}
+    Option<i32>,
+);
 
-/// The type of UTC alone.
-const UTC: Parts<'static> = Parts {
-    transitions: &[],
-    ut_offsets: &[0],
-    leap_seconds: &[],
-    rule_offset: None,
-};
-
-impl<'a> Parts<'a> {
-    fn with_transitions(self, transitions: &'a [(i64, usize)]) -> Self {
-        Parts {
-            transitions,
-            ..self
-        }
-    }
-
-    fn with_types(self, ut_offsets: &'a [i32]) -> Self {
-        Parts { ut_offsets, ..self }
-    }
-
-    fn with_leap_seconds(self, leap_seconds: &'a [(i64, i32)]) -> Self {
-        Parts {
-            leap_seconds,
-            ..self
-        }
-    }
-
-    fn with_rule(self, ut_offset: i32) -> Self {
-        Parts {
-            rule_offset: Some(ut_offset),
-            ..self
-        }
-    }
-
+impl Parts<'_> {
     fn transitions<A: Allocator + Copy>(&self, alloc: A) -> Result<Vec<Transition, A>, TzError> {
         let mut transitions = Vec::new(alloc);
-        for (unix_leap_time, index) in self.transitions {
+        for (unix_leap_time, index) in self.0 {
             transitions.push(Transition::new(*unix_leap_time, *index))?;
         }
         Ok(transitions)
@@ -96,7 +63,7 @@ impl<'a> Parts<'a> {
         alloc: A,
     ) -> Result<Vec<LocalTimeType, A>, TzError> {
         let mut local_time_types = Vec::new(alloc);
-        for ut_offset in self.ut_offsets {
+        for ut_offset in self.1 {
             local_time_types.push(LocalTimeType::with_ut_offset(*ut_offset)?)?;
         }
         Ok(local_time_types)
@@ -104,14 +71,14 @@ impl<'a> Parts<'a> {
 
     fn leap_seconds<A: Allocator + Copy>(&self, alloc: A) -> Result<Vec<LeapSecond, A>, TzError> {
         let mut leap_seconds = Vec::new(alloc);
-        for (unix_leap_time, correction) in self.leap_seconds {
+        for (unix_leap_time, correction) in self.2 {
             leap_seconds.push(LeapSecond::new(*unix_leap_time, *correction))?;
         }
         Ok(leap_seconds)
     }
 
     fn extra_rule(&self) -> Result<Option<TransitionRule>, LocalTimeTypeError> {
-        match self.rule_offset {
+        match self.3 {
             Some(ut_offset) => Ok(Some(TransitionRule::Fixed(LocalTimeType::with_ut_offset(
                 ut_offset,
             )?))),
@@ -155,6 +122,23 @@ fn expect_offsets(rt: &impl Abort, zone: &TimeZone, lookups: &[(i64, Result<i32,
     }
 }
 
+/// What makes a zone, and what its clock has at instants.
+type Clock = (Parts<'static>, &'static [(i64, Result<i32, Fault>)]);
+
+/// An instant outside of the clock.
+const OUT_OF_RANGE: Result<i32, Fault> = Err(Fault::OutOfRange);
+
+/// An instant at which no type is known.
+const NO_TYPE: Result<i32, Fault> = Err(Fault::NoType);
+
+/// Each zone's clock has its offsets.
+fn expect_clocks(rt: &impl Abort, alloc: Global, clocks: &[Clock]) -> Result<(), TzError> {
+    for (parts, lookups) in clocks {
+        expect_offsets(rt, &parts.zone(alloc)?, lookups);
+    }
+    Ok(())
+}
+
 /// Both kinds of zone are refused so, or accepted.
 fn expect_fault(
     rt: &impl Abort,
@@ -169,93 +153,88 @@ fn expect_fault(
 
 #[test]
 fn zones_are_accepted(rt: HostRuntime) -> Result<(), Fail> {
-    for parts in [
-        UTC,
-        UTC.with_rule(3600),
-        UTC.with_transitions(&[(i64::MIN, 0), (i64::MAX, 0)]),
-        UTC.with_leap_seconds(&[(0, -1)]),
-        UTC.with_leap_seconds(&[(0, 0)]),
-        UTC.with_leap_seconds(&[(0, 2)]),
-        UTC.with_leap_seconds(&[(0, i32::MIN)]),
-        UTC.with_leap_seconds(&[(0, 2), (1, 2)]),
-        UTC.with_leap_seconds(&[(0, 2), (2_419_199, 3)]),
-        UTC.with_leap_seconds(&[(0, 1), (1, 1)]),
-        UTC.with_leap_seconds(&[(0, 1), (2_419_199, 1)]),
-        UTC.with_leap_seconds(&[(i64::MAX, 1)]),
-        UTC.with_leap_seconds(&[(0, 1), (2_419_199, 2)]),
-        UTC.with_leap_seconds(&[(0, 1), (2_419_199, 0)]),
-        UTC.with_transitions(&[(i64::MIN + 1, 0)]).with_rule(0),
-        UTC.with_transitions(&[(i64::MAX, 0)]).with_rule(0),
-        UTC.with_transitions(&[(i64::MAX, 0)])
-            .with_leap_seconds(&[(0, 1)])
-            .with_rule(0),
-        UTC.with_transitions(&[(i64::MAX, 0)])
-            .with_leap_seconds(&[(0, -1)]),
-        UTC.with_types(&[0, 3600])
-            .with_transitions(&[(0, 0), (1, 1)])
-            .with_rule(3600),
-    ] {
-        expect_fault(&rt, rt.alloc(), parts, None)?;
+    static ZONES: [Parts<'static>; 19] = [
+        Parts(&[], &[0], &[], None),
+        Parts(&[], &[0], &[], Some(3600)),
+        Parts(&[(i64::MIN, 0), (i64::MAX, 0)], &[0], &[], None),
+        Parts(&[], &[0], &[(0, -1)], None),
+        Parts(&[], &[0], &[(0, 0)], None),
+        Parts(&[], &[0], &[(0, 2)], None),
+        Parts(&[], &[0], &[(0, i32::MIN)], None),
+        Parts(&[], &[0], &[(0, 2), (1, 2)], None),
+        Parts(&[], &[0], &[(0, 2), (2_419_199, 3)], None),
+        Parts(&[], &[0], &[(0, 1), (1, 1)], None),
+        Parts(&[], &[0], &[(0, 1), (2_419_199, 1)], None),
+        Parts(&[], &[0], &[(i64::MAX, 1)], None),
+        Parts(&[], &[0], &[(0, 1), (2_419_199, 2)], None),
+        Parts(&[], &[0], &[(0, 1), (2_419_199, 0)], None),
+        Parts(&[(i64::MIN + 1, 0)], &[0], &[], Some(0)),
+        Parts(&[(i64::MAX, 0)], &[0], &[], Some(0)),
+        Parts(&[(i64::MAX, 0)], &[0], &[(0, 1)], Some(0)),
+        Parts(&[(i64::MAX, 0)], &[0], &[(0, -1)], None),
+        Parts(&[(0, 0), (1, 1)], &[0, 3600], &[], Some(3600)),
+    ];
+    for parts in &ZONES {
+        expect_fault(&rt, rt.alloc(), *parts, None)?;
     }
     Ok(())
 }
 
 #[test]
 fn zones_are_refused(rt: HostRuntime) -> Result<(), Fail> {
-    for (parts, expected) in [
-        (UTC.with_types(&[]), NoLocalTimeType),
-        (UTC.with_transitions(&[(0, 5)]), InvalidLocalTimeTypeIndex),
-        (UTC.with_transitions(&[(0, 1)]), InvalidLocalTimeTypeIndex),
-        (UTC.with_transitions(&[(5, 0), (5, 9)]), InvalidTransition),
-        (UTC.with_transitions(&[(5, 0), (4, 0)]), InvalidTransition),
+    static ROWS: [(Parts<'static>, TimeZoneError); 19] = [
+        (Parts(&[], &[], &[], None), NoLocalTimeType),
+        (Parts(&[(0, 5)], &[0], &[], None), InvalidLocalTimeTypeIndex),
+        (Parts(&[(0, 1)], &[0], &[], None), InvalidLocalTimeTypeIndex),
+        (Parts(&[(5, 0), (5, 9)], &[0], &[], None), InvalidTransition),
+        (Parts(&[(5, 0), (4, 0)], &[0], &[], None), InvalidTransition),
         (
-            UTC.with_transitions(&[(5, 9), (5, 0)]),
+            Parts(&[(5, 9), (5, 0)], &[0], &[], None),
             InvalidLocalTimeTypeIndex,
         ),
         (
-            UTC.with_transitions(&[(5, 0), (6, 9)]),
+            Parts(&[(5, 0), (6, 9)], &[0], &[], None),
             InvalidLocalTimeTypeIndex,
         ),
-        (UTC.with_leap_seconds(&[(-1, 1)]), InvalidLeapSecond),
-        (UTC.with_leap_seconds(&[(-1, 2)]), InvalidLeapSecond),
-        (UTC.with_leap_seconds(&[(0, 1), (0, 1)]), InvalidLeapSecond),
-        (UTC.with_leap_seconds(&[(1, 1), (0, 1)]), InvalidLeapSecond),
+        (Parts(&[], &[0], &[(-1, 1)], None), InvalidLeapSecond),
+        (Parts(&[], &[0], &[(-1, 2)], None), InvalidLeapSecond),
+        (Parts(&[], &[0], &[(0, 1), (0, 1)], None), InvalidLeapSecond),
+        (Parts(&[], &[0], &[(1, 1), (0, 1)], None), InvalidLeapSecond),
         (
-            UTC.with_leap_seconds(&[(0, 1), (2_419_199, 1), (5_000_000, 2)]),
+            Parts(&[], &[0], &[(0, 1), (2_419_199, 1), (5_000_000, 2)], None),
             InvalidLeapSecond,
         ),
         (
-            UTC.with_leap_seconds(&[(0, 2), (2_419_198, 3)]),
+            Parts(&[], &[0], &[(0, 2), (2_419_198, 3)], None),
             InvalidLeapSecond,
         ),
         (
-            UTC.with_leap_seconds(&[(0, 1), (2_419_198, 2)]),
+            Parts(&[], &[0], &[(0, 1), (2_419_198, 2)], None),
             InvalidLeapSecond,
         ),
         (
-            UTC.with_leap_seconds(&[(0, 1), (2_419_199, 3)]),
+            Parts(&[], &[0], &[(0, 1), (2_419_199, 3)], None),
             InvalidLeapSecond,
         ),
         (
-            UTC.with_leap_seconds(&[(0, 1), (2_419_199, i32::MIN)]),
+            Parts(&[], &[0], &[(0, 1), (2_419_199, i32::MIN)], None),
             InvalidLeapSecond,
         ),
         (
-            UTC.with_leap_seconds(&[(i64::MAX, 1), (0, 2)]),
+            Parts(&[], &[0], &[(i64::MAX, 1), (0, 2)], None),
             InvalidLeapSecond,
         ),
         (
-            UTC.with_transitions(&[(0, 0)]).with_rule(3600),
+            Parts(&[(0, 0)], &[0], &[], Some(3600)),
             InconsistentExtraRule,
         ),
         (
-            UTC.with_types(&[0, 3600])
-                .with_transitions(&[(0, 1), (1, 0)])
-                .with_rule(3600),
+            Parts(&[(0, 1), (1, 0)], &[0, 3600], &[], Some(3600)),
             InconsistentExtraRule,
         ),
-    ] {
-        expect_fault(&rt, rt.alloc(), parts, Some(Fault::Zone(expected)))?;
+    ];
+    for (parts, expected) in &ROWS {
+        expect_fault(&rt, rt.alloc(), *parts, Some(Fault::Zone(*expected)))?;
     }
     Ok(())
 }
@@ -263,16 +242,25 @@ fn zones_are_refused(rt: HostRuntime) -> Result<(), Fail> {
 /// The last transition never takes effect, so that the rule has no type there.
 #[test]
 fn zones_are_out_of_range(rt: HostRuntime) -> Result<(), Fail> {
-    for parts in [
-        UTC.with_transitions(&[(i64::MIN, 0)]),
-        UTC.with_transitions(&[(i64::MIN, 0)])
-            .with_leap_seconds(&[(0, 1)]),
-        UTC.with_transitions(&[(i64::MAX, 0)])
-            .with_leap_seconds(&[(0, -1)]),
-    ] {
-        expect_fault(&rt, rt.alloc(), parts, None)?;
-        let with_rule = parts.with_rule(0);
-        expect_fault(&rt, rt.alloc(), with_rule, Some(Fault::OutOfRange))?;
+    static ROWS: [(Parts<'static>, Option<Fault>); 6] = [
+        (Parts(&[(i64::MIN, 0)], &[0], &[], None), None),
+        (
+            Parts(&[(i64::MIN, 0)], &[0], &[], Some(0)),
+            Some(Fault::OutOfRange),
+        ),
+        (Parts(&[(i64::MIN, 0)], &[0], &[(0, 1)], None), None),
+        (
+            Parts(&[(i64::MIN, 0)], &[0], &[(0, 1)], Some(0)),
+            Some(Fault::OutOfRange),
+        ),
+        (Parts(&[(i64::MAX, 0)], &[0], &[(0, -1)], None), None),
+        (
+            Parts(&[(i64::MAX, 0)], &[0], &[(0, -1)], Some(0)),
+            Some(Fault::OutOfRange),
+        ),
+    ];
+    for (parts, expected) in &ROWS {
+        expect_fault(&rt, rt.alloc(), *parts, *expected)?;
     }
     Ok(())
 }
@@ -280,203 +268,203 @@ fn zones_are_out_of_range(rt: HostRuntime) -> Result<(), Fail> {
 /// Each zone has the fault that is expected, and all that are named after it.
 #[test]
 fn the_first_fault_of_a_zone_is_named(rt: HostRuntime) -> Result<(), Fail> {
-    let rule = UTC.with_rule(3600).with_transitions(&[(i64::MIN, 0)]);
-    let leap_second = rule.with_leap_seconds(&[(-1, 1)]);
-    let transition = leap_second.with_transitions(&[(i64::MIN, 0), (i64::MIN, 1)]);
-    let index = leap_second.with_transitions(&[(i64::MIN, 1), (i64::MIN, 0)]);
-    for (parts, expected) in [
-        (rule, Fault::OutOfRange),
-        (leap_second, Fault::Zone(InvalidLeapSecond)),
-        (transition, Fault::Zone(InvalidTransition)),
-        (index, Fault::Zone(InvalidLocalTimeTypeIndex)),
-        (index.with_types(&[]), Fault::Zone(NoLocalTimeType)),
-    ] {
-        expect_fault(&rt, rt.alloc(), parts, Some(expected))?;
+    static ROWS: [(Parts<'static>, Fault); 5] = [
+        (
+            Parts(&[(i64::MIN, 0)], &[0], &[], Some(3600)),
+            Fault::OutOfRange,
+        ),
+        (
+            Parts(&[(i64::MIN, 0)], &[0], &[(-1, 1)], Some(3600)),
+            Fault::Zone(InvalidLeapSecond),
+        ),
+        (
+            Parts(
+                &[(i64::MIN, 0), (i64::MIN, 1)],
+                &[0],
+                &[(-1, 1)],
+                Some(3600),
+            ),
+            Fault::Zone(InvalidTransition),
+        ),
+        (
+            Parts(
+                &[(i64::MIN, 1), (i64::MIN, 0)],
+                &[0],
+                &[(-1, 1)],
+                Some(3600),
+            ),
+            Fault::Zone(InvalidLocalTimeTypeIndex),
+        ),
+        (
+            Parts(&[(i64::MIN, 1), (i64::MIN, 0)], &[], &[(-1, 1)], Some(3600)),
+            Fault::Zone(NoLocalTimeType),
+        ),
+    ];
+    for (parts, expected) in &ROWS {
+        expect_fault(&rt, rt.alloc(), *parts, Some(*expected))?;
     }
     Ok(())
 }
 
 #[test]
 fn clocks_of_zones(rt: HostRuntime) -> Result<(), Fail> {
-    let no_type = Err(Fault::NoType);
-    let two_types = UTC.with_types(&[0, 3600]);
-    for (parts, offsets) in [
+    static CLOCKS: [Clock; 5] = [
         (
-            UTC,
-            [(i64::MIN, Ok(0)), (0, Ok(0)), (i64::MAX, Ok(0))].as_slice(),
+            Parts(&[], &[0], &[], None),
+            &[(i64::MIN, Ok(0)), (0, Ok(0)), (i64::MAX, Ok(0))],
         ),
         (
-            UTC.with_rule(3600),
-            [(i64::MIN, Ok(3600)), (0, Ok(3600)), (i64::MAX, Ok(3600))].as_slice(),
+            Parts(&[], &[0], &[], Some(3600)),
+            &[(i64::MIN, Ok(3600)), (0, Ok(3600)), (i64::MAX, Ok(3600))],
         ),
         (
-            two_types
-                .with_transitions(&[(-2147483648, 0), (0, 1)])
-                .with_rule(3600),
-            [(-1, Ok(0)), (0, Ok(3600))].as_slice(),
+            Parts(&[(-2147483648, 0), (0, 1)], &[0, 3600], &[], Some(3600)),
+            &[(-1, Ok(0)), (0, Ok(3600))],
         ),
         (
-            UTC.with_transitions(&[(0, 0)]),
-            [
+            Parts(&[(0, 0)], &[0], &[], None),
+            &[
                 (i64::MIN, Ok(0)),
                 (-1, Ok(0)),
-                (0, no_type),
-                (i64::MAX, no_type),
-            ]
-            .as_slice(),
+                (0, NO_TYPE),
+                (i64::MAX, NO_TYPE),
+            ],
         ),
         // before the first transition it is type number 0, whatever the transitions name
         (
-            UTC.with_types(&[1, 2, 3])
-                .with_transitions(&[(0, 1), (10, 2)]),
-            [
+            Parts(&[(0, 1), (10, 2)], &[1, 2, 3], &[], None),
+            &[
                 (i64::MIN, Ok(1)),
                 (-1, Ok(1)),
                 (0, Ok(2)),
                 (9, Ok(2)),
-                (10, no_type),
-            ]
-            .as_slice(),
+                (10, NO_TYPE),
+            ],
         ),
-    ] {
-        expect_offsets(&rt, &parts.zone(rt.alloc())?, offsets);
-    }
-    Ok(())
+    ];
+    Ok(expect_clocks(&rt, rt.alloc(), &CLOCKS)?)
 }
 
 /// Two transitions that a second more holds, or that stand beside it, take effect at one instant.
 #[test]
 fn clocks_around_a_leap_second(rt: HostRuntime) -> Result<(), Fail> {
-    let no_type = Err(Fault::NoType);
-    let two_types = UTC.with_types(&[0, 3600]).with_rule(3600);
-    let less = two_types.with_leap_seconds(&[(100, -1)]);
-    let more = two_types.with_leap_seconds(&[(100, 1)]);
-    for (parts, offsets) in [
+    static CLOCKS: [Clock; 7] = [
         (
-            less.with_transitions(&[(100, 1)]),
-            [(99, Ok(0)), (100, Ok(0)), (101, Ok(3600))].as_slice(),
+            Parts(&[(100, 1)], &[0, 3600], &[(100, -1)], Some(3600)),
+            &[(99, Ok(0)), (100, Ok(0)), (101, Ok(3600))],
         ),
         (
-            more.with_transitions(&[(99, 1)]),
-            [(98, Ok(0)), (99, Ok(3600))].as_slice(),
+            Parts(&[(99, 1)], &[0, 3600], &[(100, 1)], Some(3600)),
+            &[(98, Ok(0)), (99, Ok(3600))],
         ),
         (
-            more.with_transitions(&[(100, 1)]),
-            [(99, Ok(0)), (100, Ok(3600))].as_slice(),
+            Parts(&[(100, 1)], &[0, 3600], &[(100, 1)], Some(3600)),
+            &[(99, Ok(0)), (100, Ok(3600))],
         ),
         (
-            more.with_transitions(&[(101, 1)]),
-            [(99, Ok(0)), (100, Ok(3600))].as_slice(),
+            Parts(&[(101, 1)], &[0, 3600], &[(100, 1)], Some(3600)),
+            &[(99, Ok(0)), (100, Ok(3600))],
         ),
         (
-            more.with_transitions(&[(102, 1)]),
-            [(99, Ok(0)), (100, Ok(0)), (101, Ok(3600))].as_slice(),
+            Parts(&[(102, 1)], &[0, 3600], &[(100, 1)], Some(3600)),
+            &[(99, Ok(0)), (100, Ok(0)), (101, Ok(3600))],
         ),
         (
-            more.with_types(&[0, 3600, 7200])
-                .with_transitions(&[(100, 1), (101, 2)])
-                .with_rule(7200),
-            [(99, Ok(0)), (100, Ok(7200))].as_slice(),
+            Parts(
+                &[(100, 1), (101, 2)],
+                &[0, 3600, 7200],
+                &[(100, 1)],
+                Some(7200),
+            ),
+            &[(99, Ok(0)), (100, Ok(7200))],
         ),
         (
-            UTC.with_types(&[0, 1, 2, 3])
-                .with_transitions(&[
+            Parts(
+                &[
                     (100, 1),
                     (101, 2),
                     (2_419_299, 3),
                     (2_419_300, 0),
                     (2_419_302, 1),
-                ])
-                .with_leap_seconds(&[(100, 1), (2_419_299, 2)]),
-            [
+                ],
+                &[0, 1, 2, 3],
+                &[(100, 1), (2_419_299, 2)],
+                None,
+            ),
+            &[
                 (99, Ok(0)),
                 (100, Ok(2)),
                 (2_419_297, Ok(2)),
                 (2_419_298, Ok(0)),
                 (2_419_299, Ok(0)),
-                (2_419_300, no_type),
-            ]
-            .as_slice(),
+                (2_419_300, NO_TYPE),
+            ],
         ),
-    ] {
-        expect_offsets(&rt, &parts.zone(rt.alloc())?, offsets);
-    }
-    Ok(())
+    ];
+    Ok(expect_clocks(&rt, rt.alloc(), &CLOCKS)?)
 }
 
 /// Transitions and instants at both ends of 64 bits.
 #[test]
 fn clocks_at_both_ends(rt: HostRuntime) -> Result<(), Fail> {
-    let out_of_range = Err(Fault::OutOfRange);
-    let no_type = Err(Fault::NoType);
-    let ends = UTC
-        .with_types(&[0, 1, 2])
-        .with_transitions(&[(i64::MIN, 1), (i64::MAX, 2)]);
-    for (parts, offsets) in [
+    const ENDS: &[(i64, usize)] = &[(i64::MIN, 1), (i64::MAX, 2)];
+    static CLOCKS: [Clock; 6] = [
         (
-            ends,
-            [
+            Parts(ENDS, &[0, 1, 2], &[], None),
+            &[
                 (i64::MIN, Ok(1)),
                 (0, Ok(1)),
                 (i64::MAX - 1, Ok(1)),
-                (i64::MAX, no_type),
-            ]
-            .as_slice(),
+                (i64::MAX, NO_TYPE),
+            ],
         ),
         (
-            ends.with_rule(2),
-            [(i64::MIN, Ok(1)), (i64::MAX - 1, Ok(1)), (i64::MAX, Ok(2))].as_slice(),
+            Parts(ENDS, &[0, 1, 2], &[], Some(2)),
+            &[(i64::MIN, Ok(1)), (i64::MAX - 1, Ok(1)), (i64::MAX, Ok(2))],
         ),
         (
-            ends.with_leap_seconds(&[(0, 1)]).with_rule(2),
-            [
+            Parts(ENDS, &[0, 1, 2], &[(0, 1)], Some(2)),
+            &[
                 (i64::MIN, Ok(1)),
                 (i64::MAX - 2, Ok(1)),
                 (i64::MAX - 1, Ok(2)),
-                (i64::MAX, out_of_range),
-            ]
-            .as_slice(),
+                (i64::MAX, OUT_OF_RANGE),
+            ],
         ),
         (
-            ends.with_leap_seconds(&[(0, -1)]),
-            [(i64::MIN, Ok(1)), (i64::MAX, Ok(1))].as_slice(),
+            Parts(ENDS, &[0, 1, 2], &[(0, -1)], None),
+            &[(i64::MIN, Ok(1)), (i64::MAX, Ok(1))],
         ),
         (
-            UTC.with_transitions(&[(i64::MAX, 0)])
-                .with_leap_seconds(&[(0, 1)]),
-            [
+            Parts(&[(i64::MAX, 0)], &[0], &[(0, 1)], None),
+            &[
                 (i64::MAX - 2, Ok(0)),
-                (i64::MAX - 1, no_type),
-                (i64::MAX, out_of_range),
-            ]
-            .as_slice(),
+                (i64::MAX - 1, NO_TYPE),
+                (i64::MAX, OUT_OF_RANGE),
+            ],
         ),
         // without transitions leap seconds are not looked at
-        (
-            UTC.with_leap_seconds(&[(0, 1)]),
-            [(i64::MAX, Ok(0))].as_slice(),
-        ),
-    ] {
-        expect_offsets(&rt, &parts.zone(rt.alloc())?, offsets);
-    }
-    Ok(())
+        (Parts(&[], &[0], &[(0, 1)], None), &[(i64::MAX, Ok(0))]),
+    ];
+    Ok(expect_clocks(&rt, rt.alloc(), &CLOCKS)?)
 }
 
 /// Each of the three parts of a type counts where the extra rule is compared with the last transition.
 #[test]
 fn the_rule_has_the_last_type(rt: HostRuntime) -> Result<(), Fail> {
+    static ROWS: [(i32, bool, &[u8], Option<TimeZoneError>); 4] = [
+        (3600, true, b"CEST", None),
+        (3601, true, b"CEST", Some(InconsistentExtraRule)),
+        (3600, false, b"CEST", Some(InconsistentExtraRule)),
+        (3600, true, b"CET", Some(InconsistentExtraRule)),
+    ];
     let transitions = [Transition::new(0, 1)];
     let local_time_types = [
         LocalTimeType::utc(),
         LocalTimeType::new(3600, true, Some(b"CEST"))?,
     ];
-    for (ut_offset, is_dst, name, expected) in [
-        (3600, true, b"CEST".as_slice(), None),
-        (3601, true, b"CEST".as_slice(), Some(InconsistentExtraRule)),
-        (3600, false, b"CEST".as_slice(), Some(InconsistentExtraRule)),
-        (3600, true, b"CET".as_slice(), Some(InconsistentExtraRule)),
-    ] {
-        let fixed = LocalTimeType::new(ut_offset, is_dst, Some(name))?;
+    for (ut_offset, is_dst, name, expected) in &ROWS {
+        let fixed = LocalTimeType::new(*ut_offset, *is_dst, Some(name))?;
         let extra_rule = Some(TransitionRule::Fixed(fixed));
         let zone = TimeZoneRef::new(&transitions, &local_time_types, &[], &extra_rule);
         expect_eq(&rt, &zone.err().map(named), &expected.map(Fault::Zone));
@@ -492,7 +480,7 @@ fn ten_thousand_transitions(rt: HostRuntime) -> Result<(), Fail> {
     for i in 0..10_000u16 {
         transitions.push(Transition::new(i64::from(i) * 1000, usize::from(i % 3)))?;
     }
-    let local_time_types = UTC.with_types(&[0, 3600, 7200]).local_time_types(alloc)?;
+    let local_time_types = Parts(&[], &[0, 3600, 7200], &[], None).local_time_types(alloc)?;
     let zone = TimeZone::new(transitions, local_time_types, Vec::new(alloc), None)?;
     expect_eq(&rt, &offset_at(&zone, -1), &Ok(0));
     for i in 0..9_999u16 {

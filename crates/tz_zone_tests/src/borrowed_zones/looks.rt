@@ -21,6 +21,15 @@ fn transitions_in_turn<A: Allocator + Copy>(
     Ok(transitions)
 }
 
+/// Transitions at these leap times, to these types.
+fn transitions_of(alloc: Global, rows: &[(i64, usize)]) -> Result<Vec<Transition>, AllocError> {
+    let mut transitions = Vec::new(alloc);
+    for (unix_leap_time, index) in rows {
+        transitions.push(Transition::new(*unix_leap_time, *index))?;
+    }
+    Ok(transitions)
+}
+
 /// The types of offset 0 and of an hour.
 fn two_types() -> Result<[LocalTimeType; 2], TzError> {
     Ok([
@@ -82,13 +91,14 @@ fn a_thousand_transitions(rt: HostRuntime) -> Result<(), Fail> {
 
 #[test]
 fn no_transition_and_one(rt: HostRuntime) -> Result<(), Fail> {
+    static UNIX_TIMES: [i64; 5] = [i64::MIN, -1, 0, 1, i64::MAX];
     let types = two_types()?;
     let none = TimeZoneRef::new(&[], &types, &[], &None)?;
     let transitions = transitions_in_turn(rt.alloc(), 1)?;
     let one = TimeZoneRef::new(&transitions, &types, &[], &None)?;
-    for unix_time in [i64::MIN, -1, 0, 1, i64::MAX] {
-        expect_eq(&rt, &looks_at(&rt, &none, unix_time), &0);
-        expect_eq(&rt, &looks_at(&rt, &one, unix_time), &1);
+    for unix_time in &UNIX_TIMES {
+        expect_eq(&rt, &looks_at(&rt, &none, *unix_time), &0);
+        expect_eq(&rt, &looks_at(&rt, &one, *unix_time), &1);
     }
     Ok(())
 }
@@ -109,7 +119,7 @@ fn range_of_looks(rt: &impl Abort, zone: &TimeZoneRef<'_>) -> (u64, u64) {
 }
 
 /// Numbers of transitions around powers of two, and the greatest number of looks.
-const AROUND_POWERS: [(u32, u64); 18] = [
+static AROUND_POWERS: [(u32, u64); 18] = [
     (3, 4),
     (4, 4),
     (5, 5),
@@ -164,26 +174,28 @@ fn leap_seconds() -> [LeapSecond; 4] {
 
 #[test]
 fn at_leap_seconds(rt: HostRuntime) -> Result<(), Fail> {
-    let types = two_types()?;
-    let leap_seconds = leap_seconds();
-    let transitions = [
-        Transition::new(4_999_999, 1),
-        Transition::new(5_000_000, 0),
-        Transition::new(5_000_001, 1),
-        Transition::new(10_000_001, 0),
-        Transition::new(10_000_002, 1),
-        Transition::new(20_000_001, 0),
-        Transition::new(20_000_002, 1),
-        Transition::new(30_000_000, 0),
+    static TRANSITIONS: [(i64, usize); 8] = [
+        (4_999_999, 1),
+        (5_000_000, 0),
+        (5_000_001, 1),
+        (10_000_001, 0),
+        (10_000_002, 1),
+        (20_000_001, 0),
+        (20_000_002, 1),
+        (30_000_000, 0),
     ];
-    let zone = TimeZoneRef::new(&transitions, &types, &leap_seconds, &None)?;
-    for (first, last) in [
+    static SPANS: [(i64, i64); 4] = [
         (4_999_990, 5_000_010),
         (9_999_990, 10_000_010),
         (19_999_990, 20_000_010),
         (29_999_990, 30_000_010),
-    ] {
-        for unix_time in first..last {
+    ];
+    let types = two_types()?;
+    let leap_seconds = leap_seconds();
+    let transitions = transitions_of(rt.alloc(), &TRANSITIONS)?;
+    let zone = TimeZoneRef::new(&transitions, &types, &leap_seconds, &None)?;
+    for (first, last) in &SPANS {
+        for unix_time in *first..*last {
             let looks = looks_at(&rt, &zone, unix_time);
             expect_between(&rt, looks, 1, 6);
         }

@@ -133,21 +133,23 @@ fn expect_table(rt: &impl Abort, leap_seconds: &[LeapSecond]) {
 
 #[test]
 fn tables_of_all_kinds(rt: HostRuntime) -> Result<(), Fail> {
-    let mut state = 20;
-    let mut tables = 0u32;
-    for time in [
+    static TIMES: [i64; 6] = [
         0,
         1,
         1_483_228_826,
         i64::MAX - 2_419_205,
         i64::MAX - 3,
         i64::MAX,
-    ] {
-        for correction in [1, -1, 0, 2, -2, 27, i32::MIN, i32::MAX] {
+    ];
+    static CORRECTIONS: [i32; 8] = [1, -1, 0, 2, -2, 27, i32::MIN, i32::MAX];
+    let mut state = 20;
+    let mut tables = 0u32;
+    for time in &TIMES {
+        for correction in &CORRECTIONS {
             for _ in 0..6u8 {
                 let leap_seconds = table(
                     rt.alloc(),
-                    LeapSecond::new(time, correction),
+                    LeapSecond::new(*time, *correction),
                     &mut state,
                 )?;
                 let types = [LocalTimeType::utc()];
@@ -165,51 +167,40 @@ fn tables_of_all_kinds(rt: HostRuntime) -> Result<(), Fail> {
 /// The expiry is reached with the leap second before it.
 #[test]
 fn an_expiry_one_second_behind(rt: HostRuntime) {
+    static LEAPS: [(i64, Option<i64>); 3] = [(-1, Some(-1)), (0, Some(1)), (1, Some(2))];
+    static EFFECTS: [(i64, Option<i64>); 4] = [
+        (-1, Some(-1)),
+        (0, Some(0)),
+        (1, Some(0)),
+        (2, Some(1)),
+    ];
     let leap_seconds = [LeapSecond::new(0, 1), LeapSecond::new(1, 1)];
-    for (unix_time, unix_leap_time) in [(-1, -1), (0, 1), (1, 2)] {
-        expect_eq(
-            &rt,
-            &leap_of(&leap_seconds, unix_time).ok(),
-            &Some(unix_leap_time),
-        );
-    }
-    for (unix_leap_time, unix_time) in [(-1, -1), (0, 0), (1, 0), (2, 1)] {
-        expect_eq(
-            &rt,
-            &effect_of(&leap_seconds, unix_leap_time).ok(),
-            &Some(unix_time),
-        );
-    }
+    expect_leap_times(&rt, &leap_seconds, &LEAPS);
+    expect_effects(&rt, &leap_seconds, &EFFECTS);
 }
 
 /// Before the start of the table there is no leap time, and its first effect is at the start.
 #[test]
 fn a_table_that_begins_later(rt: HostRuntime) {
+    static LEAPS: [(i64, Option<i64>); 6] = [
+        (i64::MIN, None),
+        (0, None),
+        (1_483_228_798, None),
+        (1_483_228_799, Some(1_483_228_799 + 27)),
+        (1_483_228_800, Some(1_483_228_800 + 27)),
+        (1_700_000_000, Some(1_700_000_000 + 27)),
+    ];
+    static EFFECTS: [(i64, Option<i64>); 5] = [
+        (i64::MIN, None),
+        (i64::MIN + 1, Some(1_483_228_799)),
+        (0, Some(1_483_228_799)),
+        (1_483_228_826, Some(1_483_228_799)),
+        (1_483_228_827, Some(1_483_228_800)),
+    ];
     let leap_seconds = [
         LeapSecond::new(1_483_228_826, 27),
         LeapSecond::new(1_700_000_000, 27),
     ];
-    for unix_time in [i64::MIN, 0, 1_483_228_798] {
-        assert!(rt; is_out_of_range(leap_of(&leap_seconds, unix_time)));
-    }
-    for unix_time in [1_483_228_799, 1_483_228_800, 1_700_000_000] {
-        expect_eq(
-            &rt,
-            &leap_of(&leap_seconds, unix_time).ok(),
-            &Some(unix_time.wrapping_add(27)),
-        );
-    }
-    for unix_leap_time in [i64::MIN + 1, 0, 1_483_228_826] {
-        expect_eq(
-            &rt,
-            &effect_of(&leap_seconds, unix_leap_time).ok(),
-            &Some(1_483_228_799),
-        );
-    }
-    assert!(rt; is_out_of_range(effect_of(&leap_seconds, i64::MIN)));
-    expect_eq(
-        &rt,
-        &effect_of(&leap_seconds, 1_483_228_827).ok(),
-        &Some(1_483_228_800),
-    );
+    expect_leap_times(&rt, &leap_seconds, &LEAPS);
+    expect_effects(&rt, &leap_seconds, &EFFECTS);
 }

@@ -6,7 +6,7 @@ use super::*;
 const CENTRAL_EUROPE: &str = "CET-1CEST,M3.5.0,M10.5.0/3";
 
 /// A file of version 3 with one type, UTC, up to its footer.
-const BEFORE_FOOTER: &[u8] = b"TZif3\
+static BEFORE_FOOTER: &[u8] = b"TZif3\
     \0\0\0\0\0\0\0\0\0\0\0\0\0\0\0\
     \0\0\0\0\0\0\0\0\0\0\0\0\0\0\0\0\0\0\0\x01\0\0\0\x04\
     \0\0\0\0\0\0UTC\0\
@@ -37,8 +37,7 @@ fn found_at(
 
 #[test]
 fn the_zone_has_the_type_of_its_rule(rt: HostRuntime) -> Result<(), Fail> {
-    let types = [LocalTimeType::utc()];
-    for (text, unix_time, ut_offset, is_dst) in [
+    static ROWS: [(&str, i64, i32, bool); 20] = [
         ("STD0DST0,59/0,J60/0", 951_782_400, 0, true),
         ("STD0DST0,59/0,J60/0", 951_868_800, 0, false),
         ("STD0DST0,59/0,J60/0", 983_404_800, 0, false),
@@ -59,17 +58,20 @@ fn the_zone_has_the_type_of_its_rule(rt: HostRuntime) -> Result<(), Fail> {
         ("STD0DST0,100/0,101/-24:01:40", 8_639_900, 0, false),
         ("STD0DST0,100/0,101/-24:01:40", 8_639_999, 0, false),
         ("STD0DST0,100/0,101/-24:01:40", 8_640_000, 0, true),
-    ] {
-        let found = found_at(&types, &extended_rule(rt.alloc(), text)?, unix_time).ok();
-        assert_eq!(rt; found, Some((ut_offset, is_dst)), "{text} at {unix_time}");
+    ];
+    let types = [LocalTimeType::utc()];
+    for (text, unix_time, ut_offset, is_dst) in &ROWS {
+        let found = found_at(&types, &extended_rule(rt.alloc(), text)?, *unix_time).ok();
+        assert_eq!(rt; found, Some((*ut_offset, *is_dst)), "{text} at {unix_time}");
     }
     Ok(())
 }
 
 #[test]
 fn no_rule_of_two_types_answers_at_the_ends(rt: HostRuntime) -> Result<(), Fail> {
+    static TEXTS: [&str; 3] = [CENTRAL_EUROPE, "EST5EDT,0/0,J365/25", "STD0DST0,J60/0,59/0"];
     let types = [LocalTimeType::utc()];
-    for text in [CENTRAL_EUROPE, "EST5EDT,0/0,J365/25", "STD0DST0,J60/0,59/0"] {
+    for text in &TEXTS {
         let rule = extended_rule(rt.alloc(), text)?;
         for unix_time in [i64::MIN, i64::MAX] {
             let refused = found_at(&types, &rule, unix_time).map_err(named);
@@ -81,31 +83,32 @@ fn no_rule_of_two_types_answers_at_the_ends(rt: HostRuntime) -> Result<(), Fail>
 
 #[test]
 fn the_last_transition_agrees_with_the_rule(rt: HostRuntime) -> Result<(), Fail> {
+    const INCONSISTENT: Option<Fault> = Some(Fault::Zone(InconsistentExtraRule));
+    static ROWS: [(i64, usize, Option<Fault>); 10] = [
+        (954_032_399, 0, None),
+        (954_032_399, 1, INCONSISTENT),
+        (954_032_400, 0, INCONSISTENT),
+        (954_032_400, 1, None),
+        (954_032_400, 2, INCONSISTENT),
+        (972_781_199, 1, None),
+        (972_781_200, 0, None),
+        (972_781_200, 1, INCONSISTENT),
+        (i64::MAX, 0, Some(Fault::OutOfRange)),
+        (i64::MIN, 0, Some(Fault::OutOfRange)),
+    ];
     let rule = extended_rule(rt.alloc(), CENTRAL_EUROPE)?;
     let types = [
         LocalTimeType::new(3600, false, Some(b"CET")).map_err(|_| "no type")?,
         LocalTimeType::new(7200, true, Some(b"CEST")).map_err(|_| "no type")?,
         LocalTimeType::new(7200, false, Some(b"CEST")).map_err(|_| "no type")?,
     ];
-    let inconsistent = Some(Fault::Zone(InconsistentExtraRule));
-    for (unix_leap_time, index, expected) in [
-        (954_032_399, 0, None),
-        (954_032_399, 1, inconsistent),
-        (954_032_400, 0, inconsistent),
-        (954_032_400, 1, None),
-        (954_032_400, 2, inconsistent),
-        (972_781_199, 1, None),
-        (972_781_200, 0, None),
-        (972_781_200, 1, inconsistent),
-        (i64::MAX, 0, Some(Fault::OutOfRange)),
-        (i64::MIN, 0, Some(Fault::OutOfRange)),
-    ] {
-        let transitions = [Transition::new(unix_leap_time, index)];
+    for (unix_leap_time, index, expected) in &ROWS {
+        let transitions = [Transition::new(*unix_leap_time, *index)];
         let fault = match TimeZoneRef::new(&transitions, &types, &[], &rule) {
             Ok(_) => None,
             Err(error) => Some(named(error)),
         };
-        assert_eq!(rt; fault, expected, "type {index} at {unix_leap_time}");
+        assert_eq!(rt; fault, *expected, "type {index} at {unix_leap_time}");
     }
     Ok(())
 }
