@@ -4,6 +4,7 @@ use crate::expect::{expect_eq, expect_eq_at};
 use anyhow::anyhow;
 use std::alloc::{AllocError, Allocator, Global};
 use std::cell::Cell;
+use std::fmt::Debug;
 use std::process::Abort;
 use std::test::Fail;
 use tz_base::error::parse::{ParseDataError, TzFileError, TzStringError};
@@ -119,9 +120,12 @@ fn expect_answers(rt: &impl Abort, alloc: Global, rows: &[Row]) -> Result<(), Fa
     Ok(())
 }
 
-/// UTC with its name.
-fn utc() -> Result<LocalTimeType, Fail> {
-    Ok(LocalTimeType::new(0, false, Some(b"UTC"))?)
+/// The zone of UTC with its name.
+fn expect_utc(rt: &impl Abort, answer: Result<TimeZone, Error>) -> Result<(), Fail> {
+    let types = [LocalTimeType::new(0, false, Some(b"UTC"))?];
+    let zone = answer?;
+    expect_eq(rt, &zone.as_ref().local_time_types(), &types.as_slice());
+    Ok(())
 }
 
 #[test]
@@ -220,11 +224,9 @@ fn local_time_has_its_file(rt: HostRuntime) -> Result<(), Fail> {
         replies: LOCAL,
         asked: Cell::new(0),
     };
-    let zone = TimeZone::local(alloc, |path: &str| files.read(path))?;
-    expect_eq(&rt, &zone.as_ref().local_time_types(), &[utc()?].as_slice());
+    expect_utc(&rt, TimeZone::local(alloc, |path: &str| files.read(path)))?;
     let settings = TimeZoneSettings::new(DEFAULT_DIRECTORIES, |path: &str| files.read(path));
-    let zone = settings.parse_local(alloc)?;
-    expect_eq(&rt, &zone.as_ref().local_time_types(), &[utc()?].as_slice());
+    expect_utc(&rt, settings.parse_local(alloc))?;
     expect_eq(&rt, &files.asked.get(), &11);
     Ok(())
 }
@@ -355,8 +357,7 @@ fn without_directories_only_paths_are_asked(rt: HostRuntime) -> Result<(), Fail>
         &Some(Fault::Io),
     );
     expect_eq(&rt, &files.asked.get(), &0);
-    let zone = settings.parse_posix_tz(alloc, "/x")?;
-    expect_eq(&rt, &zone.as_ref().local_time_types(), &[utc()?].as_slice());
+    expect_utc(&rt, settings.parse_posix_tz(alloc, "/x"))?;
     expect_eq(&rt, &files.asked.get(), &1);
     Ok(())
 }
@@ -463,6 +464,22 @@ impl Call {
     }
 }
 
+/// This holds for the call, refused a growth after so many.
+fn expect_after(rt: &impl Abort, call: Call, left: u64, holds: bool) {
+    assert!(rt; holds, "{call:?} after {left}");
+}
+
+/// The values are equal for the call, refused a growth after so many.
+fn expect_eq_after<T: Debug + PartialEq>(
+    rt: &impl Abort,
+    call: Call,
+    left: u64,
+    found: &T,
+    wanted: &T,
+) {
+    assert_eq!(rt; *found, *wanted, "{call:?} after {left}");
+}
+
 /// Each growth is refused in turn: the answer is an allocation failure or the zone, and the zone once none is refused.
 fn expect_zone(rt: &impl Abort, alloc: Global, call: Call) -> Result<(), Fail> {
     let ample = call.answer(alloc, alloc)?;
@@ -470,14 +487,14 @@ fn expect_zone(rt: &impl Abort, alloc: Global, call: Call) -> Result<(), Fail> {
     for left in 0..20u64 {
         let heap = Refusing::new(alloc, left);
         match call.answer(alloc, &heap) {
-            Ok(zone) => assert!(rt; zone.as_ref() == ample.as_ref(), "{call:?} after {left}"),
+            Ok(zone) => expect_after(rt, call, left, zone.as_ref() == ample.as_ref()),
             Err(error) => {
-                assert_eq!(rt; named(error), Fault::Memory, "{call:?} after {left}");
-                assert!(rt; heap.refused() > 0, "{call:?} after {left}");
+                expect_eq_after(rt, call, left, &named(error), &Fault::Memory);
+                expect_after(rt, call, left, heap.refused() > 0);
                 refusals = refusals.saturating_add(1);
             }
         }
-        assert_eq!(rt; heap.held(), 0, "{call:?} after {left}");
+        expect_eq_after(rt, call, left, &heap.held(), &0);
     }
     assert!(rt; refusals > 0 && refusals < 20, "{call:?}");
     Ok(())
@@ -490,12 +507,12 @@ fn expect_refusal(rt: &impl Abort, alloc: Global, call: Call, fault: &Fault) {
         let heap = Refusing::new(alloc, left);
         let found = call.answer(alloc, &heap).err().map(named);
         if found == Some(Fault::Memory) {
-            assert!(rt; heap.refused() > 0, "{call:?} after {left}");
+            expect_after(rt, call, left, heap.refused() > 0);
             refusals = refusals.saturating_add(1);
         } else {
-            assert_eq!(rt; found.as_ref(), Some(fault), "{call:?} after {left}");
+            expect_eq_after(rt, call, left, &found.as_ref(), &Some(fault));
         }
-        assert_eq!(rt; heap.held(), 0, "{call:?} after {left}");
+        expect_eq_after(rt, call, left, &heap.held(), &0);
     }
     assert!(rt; refusals > 0 && refusals < 20, "{call:?}");
 }

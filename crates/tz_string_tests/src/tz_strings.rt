@@ -25,11 +25,16 @@ fn rule_of(alloc: Global, text: &str, extended: bool) -> Result<Option<Transitio
     }
 }
 
+/// The ordinary text is refused so.
+fn expect_fault(rt: &impl Abort, alloc: Global, text: &str, fault: &Fault) {
+    let found = ordinary_rule(alloc, text).err().map(named_by_settings);
+    expect_eq_at(rt, &text, &found.as_ref(), &Some(fault));
+}
+
 /// Each ordinary text is refused so.
 fn expect_faults(rt: &impl Abort, alloc: Global, rows: &[(&str, Fault)]) {
     for (text, fault) in rows {
-        let found = ordinary_rule(alloc, text).err().map(named_by_settings);
-        expect_eq_at(rt, text, &found.as_ref(), &Some(fault));
+        expect_fault(rt, alloc, text, fault);
     }
 }
 
@@ -40,8 +45,7 @@ type Refusals = (Fault, &'static [&'static str]);
 fn expect_refused(rt: &impl Abort, alloc: Global, rows: &[Refusals]) {
     for (fault, texts) in rows {
         for text in *texts {
-            let found = ordinary_rule(alloc, text).err().map(named_by_settings);
-            expect_eq_at(rt, text, &found.as_ref(), &Some(fault));
+            expect_fault(rt, alloc, text, fault);
         }
     }
 }

@@ -47,8 +47,14 @@ fn zone_of(alloc: Global, text: &str) -> Result<TimeZone, Error> {
     settings.parse_posix_tz(alloc, text)
 }
 
-/// The zone of a rule: its types, no tables and the rule.
-fn expect_zone(rt: &impl Abort, zone: &TimeZone, rule: TransitionRule) -> Result<(), Fail> {
+/// The text has the zone of the rule: its types, no tables and the rule.
+fn expect_zone(
+    rt: &impl Abort,
+    alloc: Global,
+    text: &str,
+    rule: TransitionRule,
+) -> Result<(), Fail> {
+    let zone = zone_of(alloc, text)?;
     let extra_rule = Some(rule);
     let is_same = match &rule {
         TransitionRule::Fixed(local_time_type) => {
@@ -79,9 +85,9 @@ fn texts_are_zones_of_their_rules(rt: HostRuntime) -> Result<(), Fail> {
     ];
     for text in &TEXTS {
         let rule = extended_rule(rt.alloc(), text)?.ok_or("no rule")?;
-        expect_zone(&rt, &zone_of(rt.alloc(), text)?, rule)?;
+        expect_zone(&rt, rt.alloc(), text, rule)?;
         let spaced = format!(in rt.alloc(); " {text}\n")?;
-        expect_zone(&rt, &zone_of(rt.alloc(), spaced.as_str())?, rule)?;
+        expect_zone(&rt, rt.alloc(), spaced.as_str(), rule)?;
     }
     Ok(())
 }
