@@ -1,7 +1,15 @@
 //! Comparisons of tests. The proof of a test walks through each `assert_eq!` where it is written out, and through a call of these much faster.
 
+use crate::samples::{
+    ExtraRule, ZoneRow, central_europe, leap_seconds_of, rule_of, transitions_of, type_of, types_of,
+};
+use std::alloc::Global;
 use std::fmt::{Debug, Display};
 use std::process::Abort;
+use std::test::Fail;
+use tz::TimeZoneRef;
+use tz::timezone::TransitionRule;
+use tz_query::query::answer;
 
 /// The values are equal.
 pub(crate) fn expect_eq<T: Debug + PartialEq>(rt: &impl Abort, found: &T, wanted: &T) {
@@ -16,4 +24,48 @@ pub(crate) fn expect_eq_at<T: Debug + PartialEq>(
     wanted: &T,
 ) {
     assert_eq!(rt; *found, *wanted, "{place}");
+}
+
+/// The queries have these answers.
+pub(crate) fn expect_answers(
+    rt: &impl Abort,
+    alloc: Global,
+    zone: TimeZoneRef<'_>,
+    queries: &str,
+    answers: &str,
+) -> Result<(), Fail> {
+    let found = answer(alloc, zone, queries.as_bytes())?;
+    expect_eq(rt, &found.as_slice(), &answers.as_bytes());
+    Ok(())
+}
+
+/// The queries have these answers over the zone of Central Europe.
+pub(crate) fn expect_answers_in_central_europe(
+    rt: &impl Abort,
+    alloc: Global,
+    queries: &str,
+    answers: &str,
+) -> Result<(), Fail> {
+    let zone = central_europe(alloc)?;
+    expect_answers(rt, alloc, zone.as_ref(), queries, answers)
+}
+
+/// The queries have these answers over the zone of these parts.
+pub(crate) fn expect_answers_by_parts(
+    rt: &impl Abort,
+    alloc: Global,
+    zone: &ZoneRow,
+    queries: &str,
+    answers: &str,
+) -> Result<(), Fail> {
+    let types = types_of(alloc, zone.types)?;
+    let transitions = transitions_of(alloc, zone.transitions)?;
+    let leap_seconds = leap_seconds_of(alloc, zone.leap_seconds)?;
+    let rule = match &zone.rule {
+        None => None,
+        Some(ExtraRule::Fixed(row)) => Some(TransitionRule::Fixed(type_of(row)?)),
+        Some(ExtraRule::Alternate(row)) => Some(TransitionRule::Alternate(rule_of(row)?)),
+    };
+    let zone = TimeZoneRef::new(&transitions, &types, &leap_seconds, &rule)?;
+    expect_answers(rt, alloc, zone, queries, answers)
 }

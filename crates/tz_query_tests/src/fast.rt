@@ -1,14 +1,14 @@
 //! The fast answers beside the plain ones.
 
 use crate::expect::expect_eq;
+use crate::samples::{
+    DayRow, RuleRow, TypeRow, leap_seconds_of, rule_of, transitions_of, types_of,
+};
 use std::alloc::Global;
 use std::process::Abort;
 use std::test::Fail;
 use tz::inner::{Fields, TextBuffer, is_reading};
-use tz::timezone::{
-    AlternateTime, Julian0WithLeap, Julian1WithoutLeap, LeapSecond, MonthWeekDay, RuleDay,
-    Transition, TransitionRule,
-};
+use tz::timezone::{Transition, TransitionRule};
 use tz::{LocalTimeType, TimeZoneRef, TzError};
 use tz_file_tests::samples::central_europe as central_europe_rule;
 use tz_query::inner::answer_line;
@@ -38,62 +38,73 @@ fn expect_alike(
     alloc: Global,
     zone: TimeZoneRef<'_>,
     queries: &[u8],
-) -> Result<(), TzError> {
+) -> Result<(), Fail> {
     let fast = answer(alloc, zone, queries)?;
     let plain = answered_plainly(alloc, zone, queries)?;
     expect_eq(rt, &fast.as_slice(), &plain.as_slice());
     Ok(())
 }
 
-/// Both halves answer alike over zones of each kind.
-fn expect_alike_over_zones(rt: &impl Abort, alloc: Global, queries: &[u8]) -> Result<(), TzError> {
-    let central = central_europe_rule()?;
-    let southern = AlternateTime::new(
-        LocalTimeType::new(-14_400, false, Some(b"-04"))?,
-        LocalTimeType::new(-10_800, true, Some(b"-03"))?,
-        RuleDay::MonthWeekDay(MonthWeekDay::new(9, 1, 0)?),
-        86_400,
-        RuleDay::MonthWeekDay(MonthWeekDay::new(4, 1, 0)?),
-        82_800,
-    )?;
-    let across_years = AlternateTime::new(
-        LocalTimeType::new(0, false, Some(b"Winter"))?,
-        LocalTimeType::new(3601, true, Some(b"Summer7"))?,
-        RuleDay::Julian0WithLeap(Julian0WithLeap::new(0)?),
-        -100_000,
-        RuleDay::Julian1WithoutLeap(Julian1WithoutLeap::new(200)?),
-        500_000,
-    )?;
-    let types = [
-        LocalTimeType::new(1234, false, Some(b"LMT"))?,
-        LocalTimeType::new(3600, false, Some(b"CET"))?,
-        LocalTimeType::new(7200, true, Some(b"CEST"))?,
-        LocalTimeType::with_ut_offset(-86_399)?,
-    ];
-    let transitions = [
-        Transition::new(-2_000_000_000, 1),
-        Transition::new(-1_000_000_000, 2),
-        Transition::new(-3, 3),
-        Transition::new(0, 1),
-        Transition::new(900_000_000, 2),
-        Transition::new(1_005_000_000, 1),
-    ];
-    let leap_seconds = [
-        LeapSecond::new(78_796_800, 1),
-        LeapSecond::new(94_694_401, 2),
-        LeapSecond::new(126_230_402, 1),
-    ];
-    let none = None;
-    let fixed = Some(TransitionRule::Fixed(*central.std()));
-    let alternate = Some(TransitionRule::Alternate(central));
-    expect_alike(rt, alloc, TimeZoneRef::utc(), queries)?;
+/// Both halves answer alike over zones with these types and transitions and each of these rules, without leap seconds and with some.
+fn expect_alike_by_parts(
+    rt: &impl Abort,
+    alloc: Global,
+    types: &[TypeRow],
+    transitions: &[(i64, usize)],
+    rules: &[Option<TransitionRule>],
+    queries: &[u8],
+) -> Result<(), Fail> {
+    static LEAP_SECONDS: [(i64, i32); 3] = [(78_796_800, 1), (94_694_401, 2), (126_230_402, 1)];
+    let types = types_of(alloc, types)?;
+    let transitions = transitions_of(alloc, transitions)?;
+    let leap_seconds = leap_seconds_of(alloc, &LEAP_SECONDS)?;
     for leap_seconds in [&leap_seconds[..0], &leap_seconds[..]] {
-        for rule in [&none, &fixed, &alternate] {
+        for rule in rules {
             let zone = TimeZoneRef::new(&transitions, &types, leap_seconds, rule)?;
             expect_alike(rt, alloc, zone, queries)?;
         }
     }
-    for rule in [central, southern, across_years] {
+    Ok(())
+}
+
+/// Both halves answer alike over zones of each kind.
+fn expect_alike_over_zones(rt: &impl Abort, alloc: Global, queries: &[u8]) -> Result<(), Fail> {
+    static SOUTHERN: RuleRow = RuleRow {
+        std: (-14_400, false, Some(b"-04")),
+        dst: (-10_800, true, Some(b"-03")),
+        start: (DayRow::MonthWeekDay(9, 1, 0), 86_400),
+        end: (DayRow::MonthWeekDay(4, 1, 0), 82_800),
+    };
+    static ACROSS_YEARS: RuleRow = RuleRow {
+        std: (0, false, Some(b"Winter")),
+        dst: (3601, true, Some(b"Summer7")),
+        start: (DayRow::Julian0WithLeap(0), -100_000),
+        end: (DayRow::Julian1WithoutLeap(200), 500_000),
+    };
+    static TYPES: [TypeRow; 4] = [
+        (1234, false, Some(b"LMT")),
+        (3600, false, Some(b"CET")),
+        (7200, true, Some(b"CEST")),
+        (-86_399, false, None),
+    ];
+    static TRANSITIONS: [(i64, usize); 6] = [
+        (-2_000_000_000, 1),
+        (-1_000_000_000, 2),
+        (-3, 3),
+        (0, 1),
+        (900_000_000, 2),
+        (1_005_000_000, 1),
+    ];
+    let central = central_europe_rule()?;
+    let rules = [
+        None,
+        Some(TransitionRule::Fixed(*central.std())),
+        Some(TransitionRule::Alternate(central)),
+    ];
+    expect_alike(rt, alloc, TimeZoneRef::utc(), queries)?;
+    expect_alike_by_parts(rt, alloc, &TYPES, &TRANSITIONS, &rules, queries)?;
+    let types = types_of(alloc, &TYPES)?;
+    for rule in [central, rule_of(&SOUTHERN)?, rule_of(&ACROSS_YEARS)?] {
         let rule = Some(TransitionRule::Alternate(rule));
         let zone = TimeZoneRef::new(&[], &types, &[], &rule)?;
         expect_alike(rt, alloc, zone, queries)?;
@@ -101,31 +112,50 @@ fn expect_alike_over_zones(rt: &impl Abort, alloc: Global, queries: &[u8]) -> Re
     Ok(())
 }
 
+/// The next state of a generator of numbers.
+fn next_state(state: u64) -> u64 {
+    let mut state = state;
+    state ^= state << 13;
+    state ^= state >> 7;
+    state ^= state << 17;
+    state
+}
+
+/// Appends a `T` and an `F` line of an instant of this size; a number gives the sign and the nanoseconds.
+fn push_lines_of_number(
+    alloc: Global,
+    queries: &mut Vec<u8, Global>,
+    number: u64,
+    size: u64,
+) -> Result<(), TzError> {
+    let size = i64::try_from(size).unwrap_or(0);
+    let unix_time = if number % 2 == 0 {
+        size
+    } else {
+        size.wrapping_neg()
+    };
+    let nanoseconds = number % 1_000_000_007;
+    let year = unix_time % 12_000;
+    let line = format!(in alloc;
+        "T {unix_time} {nanoseconds}\nF {year} 7 14 1 2 3 {nanoseconds}\n"
+    )?;
+    queries.extend_from_slice(line.as_bytes())?;
+    Ok(())
+}
+
+/// Appends `T` lines of the seconds around an instant.
+fn push_lines_near(alloc: Global, queries: &mut Vec<u8, Global>, near: i64) -> Result<(), TzError> {
+    for unix_time in near.wrapping_sub(4)..near.wrapping_add(4) {
+        let line = format!(in alloc; "T {unix_time} 5\n")?;
+        queries.extend_from_slice(line.as_bytes())?;
+    }
+    Ok(())
+}
+
 #[test]
 fn lines_of_many_instants_are_answered_alike(rt: HostRuntime) -> Result<(), Fail> {
-    let mut queries = Vec::new(rt.alloc());
-    let mut state = 88_172_645_463_325_252u64;
-    for shift in 2..44u32 {
-        for _ in 0..12u32 {
-            state ^= state << 13;
-            state ^= state >> 7;
-            state ^= state << 17;
-            let size = i64::try_from(state >> shift).unwrap_or(0);
-            let unix_time = if state % 2 == 0 {
-                size
-            } else {
-                size.wrapping_neg()
-            };
-            let nanoseconds = state % 1_000_000_007;
-            let year = unix_time % 12_000;
-            let line = format!(in rt.alloc();
-                "T {unix_time} {nanoseconds}\nF {year} 7 14 1 2 3 {nanoseconds}\n"
-            )?;
-            queries.extend_from_slice(line.as_bytes())?;
-        }
-    }
-    for near in [
-        -2_000_000_000i64,
+    static NEAR: [i64; 8] = [
+        -2_000_000_000,
         -1_000_000_000,
         -3,
         78_796_800,
@@ -133,39 +163,44 @@ fn lines_of_many_instants_are_answered_alike(rt: HostRuntime) -> Result<(), Fail
         126_230_400,
         900_000_000,
         1_005_000_000,
-    ] {
-        for unix_time in near - 4..near + 4 {
-            let line = format!(in rt.alloc(); "T {unix_time} 5\n")?;
-            queries.extend_from_slice(line.as_bytes())?;
+    ];
+    let mut queries = Vec::new(rt.alloc());
+    let mut state = 88_172_645_463_325_252u64;
+    for shift in 2..44u32 {
+        for _ in 0..12u32 {
+            state = next_state(state);
+            push_lines_of_number(rt.alloc(), &mut queries, state, state >> shift)?;
         }
     }
-    expect_alike_over_zones(&rt, rt.alloc(), &queries)?;
-    Ok(())
+    for near in &NEAR {
+        push_lines_near(rt.alloc(), &mut queries, *near)?;
+    }
+    expect_alike_over_zones(&rt, rt.alloc(), &queries)
 }
 
 #[test]
 fn numbers_of_each_length_are_answered_alike(rt: HostRuntime) -> Result<(), Fail> {
+    static LINES: [(&[u8], &[u8]); 3] = [
+        (b"T ", b" 1\n"),
+        (b"T 86399 ", b"\n"),
+        (b"F ", b" 2 29 0 0 0 0\n"),
+    ];
     let digits = b"98765432109876543210";
     let zeros = b"00000000000000000001";
     let mut queries = Vec::new(rt.alloc());
     for text in [digits, zeros] {
         for length in 0..=20usize {
             for sign in ["", "-"] {
-                queries.extend_from_slice(b"T ")?;
-                queries.extend_from_slice(sign.as_bytes())?;
-                queries.extend_from_slice(&text[20 - length..])?;
-                queries.extend_from_slice(b" 1\nT 86399 ")?;
-                queries.extend_from_slice(sign.as_bytes())?;
-                queries.extend_from_slice(&text[20 - length..])?;
-                queries.extend_from_slice(b"\nF ")?;
-                queries.extend_from_slice(sign.as_bytes())?;
-                queries.extend_from_slice(&text[20 - length..])?;
-                queries.extend_from_slice(b" 2 29 0 0 0 0\n")?;
+                for (before, after) in &LINES {
+                    queries.extend_from_slice(before)?;
+                    queries.extend_from_slice(sign.as_bytes())?;
+                    queries.extend_from_slice(&text[20 - length..])?;
+                    queries.extend_from_slice(after)?;
+                }
             }
         }
     }
-    expect_alike_over_zones(&rt, rt.alloc(), &queries)?;
-    Ok(())
+    expect_alike_over_zones(&rt, rt.alloc(), &queries)
 }
 
 #[test]
@@ -176,8 +211,7 @@ fn lines_cut_at_each_length_are_answered_alike(rt: HostRuntime) -> Result<(), Fa
         expect_alike(&rt, rt.alloc(), TimeZoneRef::utc(), &queries[..length])?;
         expect_alike(&rt, rt.alloc(), TimeZoneRef::utc(), &queries[length..])?;
     }
-    expect_alike_over_zones(&rt, rt.alloc(), queries.as_slice())?;
-    Ok(())
+    expect_alike_over_zones(&rt, rt.alloc(), queries.as_slice())
 }
 
 /// Appends `F` lines of readings around what clocks with these offsets show at an instant.
@@ -187,12 +221,12 @@ fn push_lines_around(
     unix_time: i64,
     offsets: &[i64],
 ) -> Result<(), TzError> {
+    static DISTANCES: [i64; 16] = [
+        -10_800, -7201, -3601, -1801, -901, -2, -1, 0, 1, 2, 899, 1799, 3599, 3600, 7199, 10_800,
+    ];
     for offset in offsets {
-        for distance in [
-            -10_800, -7201, -3601, -1801, -901, -2, -1, 0, 1, 2, 899, 1799, 3599, 3600, 7199,
-            10_800,
-        ] {
-            let reading = unix_time.wrapping_add(*offset).wrapping_add(distance);
+        for distance in &DISTANCES {
+            let reading = unix_time.wrapping_add(*offset).wrapping_add(*distance);
             if !is_reading(reading) {
                 continue;
             }
@@ -208,30 +242,36 @@ fn push_lines_around(
     Ok(())
 }
 
+/// `F` lines of readings around what clocks with these offsets show at these instants.
+fn lines_around(
+    alloc: Global,
+    instants: &[i64],
+    offsets: &[i64],
+) -> Result<Vec<u8, Global>, TzError> {
+    let mut queries = Vec::new(alloc);
+    for unix_time in instants {
+        push_lines_around(alloc, &mut queries, *unix_time, offsets)?;
+    }
+    Ok(queries)
+}
+
 #[test]
 fn lines_around_jumps_are_answered_alike(rt: HostRuntime) -> Result<(), Fail> {
-    let types = [
-        LocalTimeType::new(1234, false, Some(b"LMT"))?,
-        LocalTimeType::new(3600, false, Some(b"CET"))?,
-        LocalTimeType::new(7200, true, Some(b"CEST"))?,
-        LocalTimeType::new(3600, true, None)?,
+    static TYPES: [TypeRow; 4] = [
+        (1234, false, Some(b"LMT")),
+        (3600, false, Some(b"CET")),
+        (7200, true, Some(b"CEST")),
+        (3600, true, None),
     ];
-    let transitions = [
-        Transition::new(-30_000_000_000, 1),
-        Transition::new(-1_000_000_000, 2),
-        Transition::new(78_796_801, 3),
-        Transition::new(94_694_402, 1),
-        Transition::new(900_000_000, 2),
-        Transition::new(1_005_000_000, 1),
+    static TRANSITIONS: [(i64, usize); 6] = [
+        (-30_000_000_000, 1),
+        (-1_000_000_000, 2),
+        (78_796_801, 3),
+        (94_694_402, 1),
+        (900_000_000, 2),
+        (1_005_000_000, 1),
     ];
-    let leap_seconds = [
-        LeapSecond::new(78_796_800, 1),
-        LeapSecond::new(94_694_401, 2),
-        LeapSecond::new(126_230_402, 1),
-    ];
-    let central = central_europe_rule()?;
-    let mut queries = Vec::new(rt.alloc());
-    for unix_time in [
+    static INSTANTS: [i64; 8] = [
         -30_000_000_000,
         -1_000_000_000,
         78_796_800,
@@ -240,59 +280,62 @@ fn lines_around_jumps_are_answered_alike(rt: HostRuntime) -> Result<(), Fail> {
         1_005_000_000,
         1_711_846_800,
         1_729_990_800,
-    ] {
-        push_lines_around(rt.alloc(), &mut queries, unix_time, &[3600, 7200])?;
+    ];
+    let queries = lines_around(rt.alloc(), &INSTANTS, &[3600, 7200])?;
+    let rules = [
+        None,
+        Some(TransitionRule::Alternate(central_europe_rule()?)),
+    ];
+    expect_alike_by_parts(&rt, rt.alloc(), &TYPES, &TRANSITIONS, &rules, &queries)
+}
+
+/// Both halves answer alike around twelve jumps with as many seconds between one and the next.
+fn expect_alike_around_jumps_apart(
+    rt: &impl Abort,
+    alloc: Global,
+    types: &[LocalTimeType],
+    apart: i64,
+) -> Result<(), Fail> {
+    static PLACES: [i64; 6] = [0, 1, 2, 5, 10, 11];
+    let mut transitions = Vec::new(alloc);
+    for place in 0..12u8 {
+        let number = usize::from(place) % 3;
+        let unix_time = apart.wrapping_mul(i64::from(place)).wrapping_add(1_000_000);
+        transitions.push(Transition::new(unix_time, number))?;
     }
-    for leap_seconds in [&leap_seconds[..0], &leap_seconds[..]] {
-        for rule in [&None, &Some(TransitionRule::Alternate(central))] {
-            let zone = TimeZoneRef::new(&transitions, &types, leap_seconds, rule)?;
-            expect_alike(&rt, rt.alloc(), zone, &queries)?;
-        }
+    let mut instants = Vec::new(alloc);
+    for place in &PLACES {
+        instants.push(apart.wrapping_mul(*place).wrapping_add(1_000_000))?;
     }
-    Ok(())
+    let queries = lines_around(alloc, &instants, &[0, 1800])?;
+    let zone = TimeZoneRef::new(&transitions, types, &[], &None)?;
+    expect_alike(rt, alloc, zone, &queries)
 }
 
 #[test]
 fn lines_around_many_jumps_are_answered_alike(rt: HostRuntime) -> Result<(), Fail> {
-    let types = [
-        LocalTimeType::new(0, false, Some(b"Zero"))?,
-        LocalTimeType::new(1800, false, Some(b"Half"))?,
-        LocalTimeType::new(-900, false, Some(b"Back"))?,
+    static TYPES: [TypeRow; 3] = [
+        (0, false, Some(b"Zero")),
+        (1800, false, Some(b"Half")),
+        (-900, false, Some(b"Back")),
     ];
-    for apart in [600i64, 1799, 1800, 1801, 2699, 2700, 2701, 3000] {
-        let mut transitions = Vec::new(rt.alloc());
-        for place in 0..12u8 {
-            let number = usize::from(place) % 3;
-            let unix_time = apart.wrapping_mul(i64::from(place)).wrapping_add(1_000_000);
-            transitions.push(Transition::new(unix_time, number))?;
-        }
-        let zone = TimeZoneRef::new(&transitions, &types, &[], &None)?;
-        let mut queries = Vec::new(rt.alloc());
-        for place in [0, 1, 2, 5, 10, 11] {
-            push_lines_around(
-                rt.alloc(),
-                &mut queries,
-                apart.wrapping_mul(place).wrapping_add(1_000_000),
-                &[0, 1800],
-            )?;
-        }
-        expect_alike(&rt, rt.alloc(), zone, &queries)?;
+    static APART: [i64; 8] = [600, 1799, 1800, 1801, 2699, 2700, 2701, 3000];
+    let types = types_of(rt.alloc(), &TYPES)?;
+    for apart in &APART {
+        expect_alike_around_jumps_apart(&rt, rt.alloc(), &types, *apart)?;
     }
     Ok(())
 }
 
 #[test]
 fn lines_around_jumps_at_the_year_s_end_are_answered_alike(rt: HostRuntime) -> Result<(), Fail> {
-    let mut queries = Vec::new(rt.alloc());
-    for unix_time in [
+    static INSTANTS: [i64; 5] = [
         1_704_067_200,
         1_703_967_200,
         1_721_433_600,
         253_402_300_800,
         -30_610_224_000,
-    ] {
-        push_lines_around(rt.alloc(), &mut queries, unix_time, &[0, 3601])?;
-    }
-    expect_alike_over_zones(&rt, rt.alloc(), &queries)?;
-    Ok(())
+    ];
+    let queries = lines_around(rt.alloc(), &INSTANTS, &[0, 3601])?;
+    expect_alike_over_zones(&rt, rt.alloc(), &queries)
 }

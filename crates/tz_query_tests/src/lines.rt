@@ -1,11 +1,12 @@
 //! Query lines, by rows and by another program's answers.
 
-use crate::expect::expect_eq;
+use crate::expect::{expect_answers_by_parts, expect_eq};
 use crate::growths::{expect_answers_or_refusal, expect_growths};
+use crate::samples::ZoneRow;
 use std::alloc::{Allocator, Global};
 use std::process::Abort;
 use std::test::Fail;
-use tz::{LocalTimeType, TimeZone, TimeZoneRef, TzError};
+use tz::{TimeZone, TzError};
 use tz_base::refusing::Refusing;
 use tz_query::query::answer;
 
@@ -25,14 +26,14 @@ fn expect_answered(
     alloc: Global,
     queries: &[u8],
     answers: &[u8],
-) -> Result<(), TzError> {
+) -> Result<(), Fail> {
     let found = answered(alloc, 0, queries)?;
     expect_eq(rt, &found.as_slice(), &answers);
     Ok(())
 }
 
 /// Offsets with lines at the limits of their numbers, of years and of offsets, and what tz-rs answers to them.
-const LIMITS: [(i32, &str, &str); 11] = [
+static LIMITS: [(i32, &str, &str); 11] = [
     (
         0,
         "T 0 0\n\
@@ -208,18 +209,17 @@ fn refuses_by_name(rt: HostRuntime) -> Result<(), Fail> {
     let queries =
         b"T 0\nT 0 1000000000\nF 2001 300 1 0 0 0 0\nT 9223372036854775807 1000000000\nT 9223372036854775807 999999999\n";
     let answers = b"E Line\nE InvalidNanoseconds\nE Line\nE InvalidNanoseconds\nE OutOfRange\n";
-    expect_answered(&rt, rt.alloc(), queries, answers)?;
-    Ok(())
+    expect_answered(&rt, rt.alloc(), queries, answers)
 }
 
 /// Lines that are none of the grammar.
-const NO_LINES: [&str; 19] = [
+static NO_LINES: [&str; 19] = [
     "T +1 5", "T 1  5", "T 1 5 ", "", " T 1 5", "T  1 5", "T 1 5 6", "T 1", "T", "t 1 5",
     "T 1 5\r", "T -1 --5", "T - 5", "T 1 -", "T 1\t5", "T1 5", "T 1e3 5", "T 1 5x", "W 1 5",
 ];
 
 /// The line with an LF is refused.
-fn expect_no_line(rt: &impl Abort, alloc: Global, line: &str) -> Result<(), TzError> {
+fn expect_no_line(rt: &impl Abort, alloc: Global, line: &str) -> Result<(), Fail> {
     let mut queries = Vec::new(alloc);
     queries.extend_from_slice(line.as_bytes())?;
     queries.push(b'\n')?;
@@ -236,12 +236,11 @@ fn reads_only_the_grammar(rt: HostRuntime) -> Result<(), Fail> {
         rt.alloc(),
         b"T 1 \xFF\n\xC3\x28\nT 1 5\0\nT 00000000000000000000001 5",
         b"E Line\nE Line\nE Line\n1970-01-01T00:00:01.000000005Z -\n",
-    )?;
-    Ok(())
+    )
 }
 
 /// Queries with lines that end in an LF and in none, and their answers.
-const CUT_LINES: [(&[u8], &[u8]); 5] = [
+static CUT_LINES: [(&[u8], &[u8]); 5] = [
     (b"", b""),
     (b"\n", b"E Line\n"),
     (b"T 0 0", b"1970-01-01T00:00:00.000000000Z -\n"),
@@ -272,22 +271,19 @@ fn reads_a_million_digits(rt: HostRuntime) -> Result<(), Fail> {
         rt.alloc(),
         zeros.as_slice(),
         b"1970-01-01T00:00:07.000000005Z -\nE Line\n",
-    )?;
-    Ok(())
+    )
 }
 
 #[test]
 fn prints_the_name_of_the_type(rt: HostRuntime) -> Result<(), Fail> {
-    let types = [LocalTimeType::new(20700, false, Some(b"+0545"))?];
-    let rule = None;
-    let zone = TimeZoneRef::new(&[], &types, &[], &rule)?;
-    let found = answer(rt.alloc(), zone, b"T 0 0\n")?;
-    expect_eq(
-        &rt,
-        &found.as_slice(),
-        &b"1970-01-01T05:45:00.000000000+05:45 +0545\n".as_slice(),
-    );
-    Ok(())
+    static ZONE: ZoneRow = ZoneRow {
+        types: &[(20_700, false, Some(b"+0545"))],
+        transitions: &[],
+        leap_seconds: &[],
+        rule: None,
+    };
+    let answers = "1970-01-01T05:45:00.000000000+05:45 +0545\n";
+    expect_answers_by_parts(&rt, rt.alloc(), &ZONE, "T 0 0\n", answers)
 }
 
 #[test]

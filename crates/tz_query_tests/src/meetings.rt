@@ -1,8 +1,9 @@
 //! `W` lines over zones whose answers are known.
 
-use crate::expect::{expect_eq, expect_eq_at};
+use crate::expect::{expect_answers_in_central_europe, expect_eq, expect_eq_at};
 use crate::growths::expect_each_growth_can_be_refused;
 use crate::samples::central_europe;
+use std::alloc::Global;
 use std::test::Fail;
 use tz::{TimeZoneRef, UtcDateTime};
 use tz_query::query::answer;
@@ -20,14 +21,11 @@ const JUMPED: &str = "W 3\n\
 
 #[test]
 fn a_meeting_keeps_its_time_of_day_over_a_jump(rt: HostRuntime) -> Result<(), Fail> {
-    let zone = central_europe(rt.alloc())?;
-    let found = answer(rt.alloc(), zone.as_ref(), OVER_A_JUMP.as_bytes())?;
-    expect_eq(&rt, &found.as_slice(), &JUMPED.as_bytes());
-    Ok(())
+    expect_answers_in_central_europe(&rt, rt.alloc(), OVER_A_JUMP, JUMPED)
 }
 
 /// Lines over UTC, and their answers.
-const MEETINGS: [(&str, &str); 13] = [
+static MEETINGS: [(&str, &str); 13] = [
     (
         "W 2 2016 12 31 23 59 60 0",
         "W 2\nF 1\nN 2016-12-31T23:59:60.000000000Z -\nF 1\nN 2017-01-07T23:59:60.000000000Z -\n",
@@ -64,15 +62,20 @@ fn meetings_have_these_answers(rt: HostRuntime) -> Result<(), Fail> {
     Ok(())
 }
 
+/// The answers to the question for the date as many weeks after the thirty-first of October 1999.
+fn answers_of_week(alloc: Global, zone: TimeZoneRef<'_>, weeks: u8) -> Result<Vec<u8>, Fail> {
+    let date = UtcDateTime::from_timespec(941_328_000 + 604_800 * i64::from(weeks), 0)?;
+    let (year, month, day) = (date.year(), date.month(), date.month_day());
+    let line = format!(in alloc; "F {year} {month} {day} 2 30 0 0")?;
+    Ok(answer(alloc, zone, line.as_bytes())?)
+}
+
 #[test]
 fn the_longest_meeting_is_asked_for_week_by_week(rt: HostRuntime) -> Result<(), Fail> {
     let zone = central_europe(rt.alloc())?;
     let mut want = Vec::from_slice(rt.alloc(), b"W 255\n")?;
     for weeks in 0..255u8 {
-        let date = UtcDateTime::from_timespec(941_328_000 + 604_800 * i64::from(weeks), 0)?;
-        let (year, month, day) = (date.year(), date.month(), date.month_day());
-        let line = format!(in rt.alloc(); "F {year} {month} {day} 2 30 0 0")?;
-        let answers = answer(rt.alloc(), zone.as_ref(), line.as_bytes())?;
+        let answers = answers_of_week(rt.alloc(), zone.as_ref(), weeks)?;
         want.extend_from_slice(&answers)?;
     }
     let found = answer(rt.alloc(), zone.as_ref(), b"W 255 1999 10 31 2 30 0 0")?;

@@ -25,14 +25,21 @@ const UTC_V4: &[u8] = b"TZif4\
 
 /// The files: two of UTC, one cut short, and one for which there is no memory.
 fn file_at(alloc: Global, path: &str) -> Result<Vec<u8>, ReadFault> {
-    match path {
-        "/utc" => Ok(Vec::from_slice(alloc, UTC_V1)?),
-        "/utc_v4" => Ok(Vec::from_slice(alloc, UTC_V4)?),
-        "/usr/share/zoneinfo/Zone/UTC" => Ok(Vec::from_slice(alloc, UTC_V1)?),
-        "/cut" => Ok(Vec::from_slice(alloc, b"TZif")?),
-        "/large" => Err(ReadFault::Memory(AllocError)),
-        _ => Err(ReadFault::Failed(anyhow!("no such file"))),
+    static FILES: [(&str, &[u8]); 4] = [
+        ("/utc", UTC_V1),
+        ("/utc_v4", UTC_V4),
+        ("/usr/share/zoneinfo/Zone/UTC", UTC_V1),
+        ("/cut", b"TZif"),
+    ];
+    for (name, bytes) in &FILES {
+        if *name == path {
+            return Ok(Vec::from_slice(alloc, bytes)?);
+        }
     }
+    if path == "/large" {
+        return Err(ReadFault::Memory(AllocError));
+    }
+    Err(ReadFault::Failed(anyhow!("no such file")))
 }
 
 /// The status and the outputs of the program, each after `|`.
@@ -79,7 +86,7 @@ fn expect_outcome_around(
 }
 
 /// Options with their words, and the epoch in their zone.
-const ZONES: [(&str, &str, &str); 13] = [
+static ZONES: [(&str, &str, &str); 13] = [
     ("-o", "-3600", "1969-12-31T23:00:00.000000000-01:00 -"),
     ("-o", "-0000", "1970-01-01T00:00:00.000000000Z -"),
     ("-o", "86400", "1970-01-02T00:00:00.000000000+24:00 -"),
@@ -115,12 +122,11 @@ fn answers_over_the_zone_of_the_words(rt: HostRuntime) -> Result<(), Fail> {
         b"T 946684800 123456789\n",
         "0|1999-12-31T23:00:00.123456789-01:00 -\n|",
     )?;
-    expect_outcome(&rt, rt.alloc(), &["-z", "A0"], b"", "0||")?;
-    Ok(())
+    expect_outcome(&rt, rt.alloc(), &["-z", "A0"], b"", "0||")
 }
 
 /// Options with their words, and the error of their zone.
-const REFUSED_ZONES: [(&str, &str, &str); 5] = [
+static REFUSED_ZONES: [(&str, &str, &str); 5] = [
     (
         "-o",
         "-2147483648",
@@ -146,7 +152,7 @@ fn refuses_zones_by_their_error(rt: HostRuntime) -> Result<(), Fail> {
 }
 
 /// Options with their words, and why there are no bytes.
-const NO_FILES: [(&str, &str, &str); 10] = [
+static NO_FILES: [(&str, &str, &str); 10] = [
     ("-f", "/", "cannot read file"),
     ("-f", "", "cannot read file"),
     ("-f", "Zone/UTC", "cannot read file"),
@@ -168,7 +174,7 @@ fn names_files_that_give_no_bytes(rt: HostRuntime) -> Result<(), Fail> {
 }
 
 /// Arguments that are none of an option and its word.
-const BAD_ARGUMENTS: [&[&str]; 15] = [
+static BAD_ARGUMENTS: [&[&str]; 15] = [
     &[],
     &["-o"],
     &["-f"],
@@ -239,7 +245,7 @@ fn expect_outcome_of_failing(
 }
 
 /// After how many reads, writes and complaints the streams fail, and what the program does.
-const FAILING_STREAMS: [(u8, u8, u8, &str); 6] = [
+static FAILING_STREAMS: [(u8, u8, u8, &str); 6] = [
     (0, 9, 9, "1||tzq: cannot read queries\n"),
     (1, 9, 9, "1||tzq: cannot read queries\n"),
     (0, 9, 0, "1||"),
@@ -258,7 +264,7 @@ fn names_streams_that_fail(rt: HostRuntime) -> Result<(), Fail> {
 }
 
 /// Options with their words, and what the program does where no byte can be read.
-const FAULTS_OF_ZONES: [(&str, &str, &str); 5] = [
+static FAULTS_OF_ZONES: [(&str, &str, &str); 5] = [
     ("-x", "0", "1||tzq: bad arguments\n"),
     ("-o", "x", "1||tzq: bad arguments\n"),
     ("-f", "/none", "1||tzq: cannot read file\n"),
@@ -312,7 +318,7 @@ fn needed(alloc: Global, arguments: &[&str], answer: &str) -> Result<Option<u64>
 }
 
 /// Options with their words, the answer, and the least number of growths that it needs.
-const NEEDS: [(&str, &str, &str, u64); 5] = [
+static NEEDS: [(&str, &str, &str, u64); 5] = [
     ("-o", "0", "0|1970-01-01T00:00:00.000000000Z -\n|", 3),
     ("-f", "/utc", "0|1970-01-01T00:00:00.000000000Z UTC\n|", 3),
     ("-z", "/utc", "0|1970-01-01T00:00:00.000000000Z UTC\n|", 3),

@@ -1,79 +1,49 @@
 //! `F` lines over zones whose answers are known.
 
-use crate::expect::{expect_eq, expect_eq_at};
-use crate::growths::expect_each_growth_can_be_refused;
-use crate::samples::central_europe;
-use std::alloc::Global;
-use std::process::Abort;
-use std::test::Fail;
-use tz::timezone::{
-    AlternateTime, Julian0WithLeap, Julian1WithoutLeap, LeapSecond, RuleDay, Transition,
-    TransitionRule,
+use crate::expect::{
+    expect_answers, expect_answers_by_parts, expect_answers_in_central_europe, expect_eq_at,
 };
-use tz::{LocalTimeType, TimeZone, TimeZoneRef, TzError};
+use crate::growths::expect_each_growth_can_be_refused;
+use crate::samples::{DayRow, ExtraRule, RuleRow, ZoneRow};
+use std::test::Fail;
+use tz::{TimeZone, TimeZoneRef};
 use tz_file_tests::samples::JERUSALEM_V3;
 use tz_query::query::answer;
 
-/// The queries have these answers.
-fn expect_answers(
-    rt: &impl Abort,
-    alloc: Global,
-    zone: TimeZoneRef<'_>,
-    queries: &str,
-    answers: &str,
-) -> Result<(), TzError> {
-    let found = answer(alloc, zone, queries.as_bytes())?;
-    expect_eq(rt, &found.as_slice(), &answers.as_bytes());
-    Ok(())
-}
+/// The zone of `EST5EDT,0/0,J365/25`.
+static ALWAYS_EASTERN_DAYLIGHT: ZoneRow = ZoneRow {
+    types: &[
+        (-18_000, false, Some(b"EST")),
+        (-14_400, true, Some(b"EDT")),
+    ],
+    transitions: &[],
+    leap_seconds: &[],
+    rule: Some(ExtraRule::Alternate(RuleRow {
+        std: (-18_000, false, Some(b"EST")),
+        dst: (-14_400, true, Some(b"EDT")),
+        start: (DayRow::Julian0WithLeap(0), 0),
+        end: (DayRow::Julian1WithoutLeap(365), 90_000),
+    })),
+};
 
-/// The queries have these answers over the zone of one rule alone.
-fn expect_answers_by_rule(
-    rt: &impl Abort,
-    alloc: Global,
-    rule: AlternateTime,
-    queries: &str,
-    answers: &str,
-) -> Result<(), TzError> {
-    let types = [*rule.std(), *rule.dst()];
-    let rule = Some(TransitionRule::Alternate(rule));
-    let zone = TimeZoneRef::new(&[], &types, &[], &rule)?;
-    expect_answers(rt, alloc, zone, queries, answers)
-}
-
-/// The rule of `EST5EDT,0/0,J365/25`.
-fn always_eastern_daylight() -> Result<AlternateTime, TzError> {
-    let rule = AlternateTime::new(
-        LocalTimeType::new(-18_000, false, Some(b"EST"))?,
-        LocalTimeType::new(-14_400, true, Some(b"EDT"))?,
-        RuleDay::Julian0WithLeap(Julian0WithLeap::new(0)?),
-        0,
-        RuleDay::Julian1WithoutLeap(Julian1WithoutLeap::new(365)?),
-        90_000,
-    )?;
-    Ok(rule)
-}
-
-/// A rule whose daylight time goes on over the end of the year.
-fn overlapping_years() -> Result<AlternateTime, TzError> {
-    let rule = AlternateTime::new(
-        LocalTimeType::new(0, false, Some(b"A"))?,
-        LocalTimeType::new(3600, true, Some(b"B"))?,
-        RuleDay::Julian1WithoutLeap(Julian1WithoutLeap::new(1)?),
-        0,
-        RuleDay::Julian1WithoutLeap(Julian1WithoutLeap::new(365)?),
-        172_800,
-    )?;
-    Ok(rule)
-}
+/// A zone of a rule alone whose daylight time goes on over the end of the year.
+static OVERLAPPING_YEARS: ZoneRow = ZoneRow {
+    types: &[(0, false, Some(b"A")), (3600, true, Some(b"B"))],
+    transitions: &[],
+    leap_seconds: &[],
+    rule: Some(ExtraRule::Alternate(RuleRow {
+        std: (0, false, Some(b"A")),
+        dst: (3600, true, Some(b"B")),
+        start: (DayRow::Julian1WithoutLeap(1), 0),
+        end: (DayRow::Julian1WithoutLeap(365), 172_800),
+    })),
+};
 
 #[test]
 fn a_rule_skips_and_repeats_an_hour(rt: HostRuntime) -> Result<(), Fail> {
-    let zone = central_europe(rt.alloc())?;
-    expect_answers(
+    expect_answers_in_central_europe(
         &rt,
         rt.alloc(),
-        zone.as_ref(),
         "F 2000 3 26 2 30 0 0\n\
          F 2000 10 29 2 30 0 0\n\
          F 2000 7 1 12 0 0 5\n",
@@ -84,46 +54,39 @@ fn a_rule_skips_and_repeats_an_hour(rt: HostRuntime) -> Result<(), Fail> {
          N 2000-10-29T02:30:00.000000000+01:00 CET\n\
          F 1\n\
          N 2000-07-01T12:00:00.000000005+02:00 CEST\n",
-    )?;
-    Ok(())
+    )
 }
 
 #[test]
 fn a_rule_for_all_the_year_never_jumps(rt: HostRuntime) -> Result<(), Fail> {
-    expect_answers_by_rule(
+    expect_answers_by_parts(
         &rt,
         rt.alloc(),
-        always_eastern_daylight()?,
+        &ALWAYS_EASTERN_DAYLIGHT,
         "F 2000 1 1 0 30 0 0\n",
         "F 1\nN 2000-01-01T00:30:00.000000000-04:00 EDT\n",
     )?;
-    expect_answers_by_rule(
+    expect_answers_by_parts(
         &rt,
         rt.alloc(),
-        overlapping_years()?,
+        &OVERLAPPING_YEARS,
         "F 2001 1 1 0 30 0 0\n",
         "F 1\nN 2001-01-01T00:30:00.000000000+01:00 B\n",
-    )?;
-    Ok(())
+    )
 }
 
 #[test]
 fn transitions_of_a_day(rt: HostRuntime) -> Result<(), Fail> {
-    let types = [
-        LocalTimeType::new(0, false, Some(b"STD"))?,
-        LocalTimeType::new(3600, true, Some(b"DST"))?,
-    ];
-    let transitions = [
-        Transition::new(3600, 1),
-        Transition::new(86_400, 0),
-        Transition::new(i64::MAX, 0),
-    ];
-    let rule = None;
-    let zone = TimeZoneRef::new(&transitions, &types, &[], &rule)?;
-    expect_answers(
+    static ZONE: ZoneRow = ZoneRow {
+        types: &[(0, false, Some(b"STD")), (3600, true, Some(b"DST"))],
+        transitions: &[(3600, 1), (86_400, 0), (i64::MAX, 0)],
+        leap_seconds: &[],
+        rule: None,
+    };
+    expect_answers_by_parts(
         &rt,
         rt.alloc(),
-        zone,
+        &ZONE,
         "F 1970 1 2 0 30 0 0\n\
          F 1970 1 1 1 30 0 0\n",
         "F 2\n\
@@ -131,102 +94,87 @@ fn transitions_of_a_day(rt: HostRuntime) -> Result<(), Fail> {
          N 1970-01-02T00:30:00.000000000Z STD\n\
          F 1\n\
          S 1970-01-01T01:00:00.000000000Z STD 1970-01-01T02:00:00.000000000+01:00 DST\n",
-    )?;
-    Ok(())
+    )
 }
 
 #[test]
 fn jumps_that_cross(rt: HostRuntime) -> Result<(), Fail> {
-    let types = [
-        LocalTimeType::with_ut_offset(0)?,
-        LocalTimeType::with_ut_offset(3600)?,
-        LocalTimeType::with_ut_offset(-10_800)?,
-        LocalTimeType::with_ut_offset(-19_800)?,
-        LocalTimeType::with_ut_offset(-16_200)?,
-    ];
-    let transitions = [
-        Transition::new(0, 0),
-        Transition::new(7200, 1),
-        Transition::new(14_400, 2),
-        Transition::new(25_200, 3),
-        Transition::new(28_800, 4),
-        Transition::new(32_400, 0),
-    ];
-    let rule = None;
-    let zone = TimeZoneRef::new(&transitions, &types, &[], &rule)?;
-    expect_answers(
+    static ZONE: ZoneRow = ZoneRow {
+        types: &[
+            (0, false, None),
+            (3600, false, None),
+            (-10_800, false, None),
+            (-19_800, false, None),
+            (-16_200, false, None),
+        ],
+        transitions: &[
+            (0, 0),
+            (7200, 1),
+            (14_400, 2),
+            (25_200, 3),
+            (28_800, 4),
+            (32_400, 0),
+        ],
+        leap_seconds: &[],
+        rule: None,
+    };
+    expect_answers_by_parts(
         &rt,
         rt.alloc(),
-        zone,
+        &ZONE,
         "F 1970 1 1 2 30 0 0\nF 1970 1 1 5 0 0 0\n",
         "F 3\n\
          S 1970-01-01T02:00:00.000000000Z - 1970-01-01T03:00:00.000000000+01:00 -\n\
          N 1970-01-01T02:30:00.000000000-03:00 -\n\
          S 1970-01-01T02:30:00.000000000-05:30 - 1970-01-01T03:30:00.000000000-04:30 -\n\
          F 0\n",
-    )?;
-    Ok(())
+    )
 }
 
 #[test]
 fn transitions_that_take_effect_at_one_instant_make_one_jump(rt: HostRuntime) -> Result<(), Fail> {
-    let types = [
-        LocalTimeType::with_ut_offset(0)?,
-        LocalTimeType::with_ut_offset(3600)?,
-        LocalTimeType::with_ut_offset(7200)?,
-    ];
-    let transitions = [Transition::new(100, 1), Transition::new(101, 2)];
-    let leap_seconds = [LeapSecond::new(100, 1)];
-    let rule = Some(TransitionRule::Fixed(types[2]));
-    let zone = TimeZoneRef::new(&transitions, &types, &leap_seconds, &rule)?;
-    expect_answers(
+    static ZONE: ZoneRow = ZoneRow {
+        types: &[(0, false, None), (3600, false, None), (7200, false, None)],
+        transitions: &[(100, 1), (101, 2)],
+        leap_seconds: &[(100, 1)],
+        rule: Some(ExtraRule::Fixed((7200, false, None))),
+    };
+    expect_answers_by_parts(
         &rt,
         rt.alloc(),
-        zone,
+        &ZONE,
         "F 1970 1 1 1 8 20 0\n",
         "F 1\nS 1970-01-01T00:01:40.000000000Z - 1970-01-01T02:01:40.000000000+02:00 -\n",
-    )?;
-    Ok(())
-}
-
-/// The rule of the zone whose second type is many years ahead.
-fn far_rule() -> Result<AlternateTime, TzError> {
-    let rule = AlternateTime::new(
-        LocalTimeType::with_ut_offset(0)?,
-        LocalTimeType::with_ut_offset(3600)?,
-        RuleDay::Julian1WithoutLeap(Julian1WithoutLeap::new(300)?),
-        0,
-        RuleDay::Julian1WithoutLeap(Julian1WithoutLeap::new(90)?),
-        3600,
-    )?;
-    Ok(rule)
+    )
 }
 
 #[test]
 fn an_offset_of_many_years(rt: HostRuntime) -> Result<(), Fail> {
-    let types = [
-        LocalTimeType::with_ut_offset(0)?,
-        LocalTimeType::with_ut_offset(i32::MAX)?,
-        LocalTimeType::with_ut_offset(3600)?,
-    ];
-    let transitions = [
-        Transition::new(0, 0),
-        Transition::new(3600, 1),
-        Transition::new(7200, 0),
-        Transition::new(10_800, 2),
-    ];
-    let rule = Some(TransitionRule::Alternate(far_rule()?));
-    let zone = TimeZoneRef::new(&transitions, &types, &[], &rule)?;
-    expect_answers(
+    static ZONE: ZoneRow = ZoneRow {
+        types: &[
+            (0, false, None),
+            // Many years ahead.
+            (i32::MAX, false, None),
+            (3600, false, None),
+        ],
+        transitions: &[(0, 0), (3600, 1), (7200, 0), (10_800, 2)],
+        leap_seconds: &[],
+        rule: Some(ExtraRule::Alternate(RuleRow {
+            std: (0, false, None),
+            dst: (3600, false, None),
+            start: (DayRow::Julian1WithoutLeap(300), 0),
+            end: (DayRow::Julian1WithoutLeap(90), 3600),
+        })),
+    };
+    expect_answers_by_parts(
         &rt,
         rt.alloc(),
-        zone,
+        &ZONE,
         "F 1970 1 1 3 30 0 0\n",
         "F 2\n\
          S 1970-01-01T01:00:00.000000000Z - 2038-01-19T04:14:07.000000000+596523:14:07 -\n\
          S 1970-01-01T03:00:00.000000000Z - 1970-01-01T04:00:00.000000000+01:00 -\n",
-    )?;
-    Ok(())
+    )
 }
 
 #[test]
@@ -240,25 +188,22 @@ fn a_file_with_a_rule(rt: HostRuntime) -> Result<(), Fail> {
         "F 1\n\
          S 2040-03-23T02:00:00.000000000+02:00 IST 2040-03-23T03:00:00.000000000+03:00 IDT\n\
          2040-03-23T03:00:00.000000000+03:00 IDT\n",
-    )?;
-    Ok(())
+    )
 }
 
 /// A zone with transitions has no clock before its leap seconds begin.
 #[test]
 fn a_zone_whose_leap_seconds_begin_later(rt: HostRuntime) -> Result<(), Fail> {
-    let types = [
-        LocalTimeType::new(0, false, Some(b"A"))?,
-        LocalTimeType::new(3600, false, Some(b"B"))?,
-    ];
-    let transitions = [Transition::new(1_500_000_027, 1)];
-    let leap_seconds = [LeapSecond::new(1_483_228_826, 27)];
-    let rule = Some(TransitionRule::Fixed(types[1]));
-    let zone = TimeZoneRef::new(&transitions, &types, &leap_seconds, &rule)?;
-    expect_answers(
+    static ZONE: ZoneRow = ZoneRow {
+        types: &[(0, false, Some(b"A")), (3600, false, Some(b"B"))],
+        transitions: &[(1_500_000_027, 1)],
+        leap_seconds: &[(1_483_228_826, 27)],
+        rule: Some(ExtraRule::Fixed((3600, false, Some(b"B")))),
+    };
+    expect_answers_by_parts(
         &rt,
         rt.alloc(),
-        zone,
+        &ZONE,
         "T 1483228798 0\n\
          T 1483228799 0\n\
          T 1499999999 0\n\
@@ -275,8 +220,7 @@ fn a_zone_whose_leap_seconds_begin_later(rt: HostRuntime) -> Result<(), Fail> {
          N 2016-12-31T23:59:59.000000000Z A\n\
          F 1\n\
          S 2017-07-14T02:40:00.000000000Z A 2017-07-14T03:40:00.000000000+01:00 B\n",
-    )?;
-    Ok(())
+    )
 }
 
 #[test]
@@ -311,8 +255,7 @@ fn fields_are_kept_or_refused_by_name(rt: HostRuntime) -> Result<(), Fail> {
          E InvalidNanoseconds\n\
          F 1\n\
          N -2001-02-28T00:00:00.000000000Z -\n",
-    )?;
-    Ok(())
+    )
 }
 
 #[test]
@@ -331,12 +274,11 @@ fn years_of_32_bits_are_asked_for(rt: HostRuntime) -> Result<(), Fail> {
          N -2147483448-01-01T00:00:00.000000000Z -\n\
          E Line\n\
          E Line\n",
-    )?;
-    Ok(())
+    )
 }
 
 /// Lines that are none of the grammar.
-const NO_LINES: [&str; 16] = [
+static NO_LINES: [&str; 16] = [
     "F 2000 1 1 0 0 0",
     "F 2000 1 1 0 0 0 0 0",
     "F 2000 1 1 0 0 0 0 ",

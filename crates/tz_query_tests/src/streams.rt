@@ -49,10 +49,11 @@ fn outcome(alloc: Global, reads: u8, writes: u8, piece: usize) -> Result<String,
 
 #[test]
 fn all_answers_are_written_whatever_a_write_takes(rt: HostRuntime) -> Result<(), Fail> {
+    static PIECES: [usize; 5] = [1, 5, 10, 127, usize::MAX];
     let want = format!(in rt.alloc(); "Ok|{ANSWERS}")?;
-    for piece in [1, 5, 10, 127, usize::MAX] {
-        let found = outcome(rt.alloc(), 2, u8::MAX, piece)?;
-        expect_eq_at(&rt, &piece, &found.as_str(), &want.as_str());
+    for piece in &PIECES {
+        let found = outcome(rt.alloc(), 2, u8::MAX, *piece)?;
+        expect_eq_at(&rt, piece, &found.as_str(), &want.as_str());
     }
     Ok(())
 }
@@ -82,8 +83,15 @@ fn expect_front(
 
 #[test]
 fn a_failed_write_leaves_a_front(rt: HostRuntime) -> Result<(), Fail> {
-    for (writes, piece, length) in [(0, usize::MAX, 0), (1, 10, 10), (3, 10, 30), (9, 0, 0)] {
-        expect_front(&rt, rt.alloc(), writes, piece, length)?;
+    /// After how many writes of what piece the writer fails, and the length of the front.
+    static ROWS: [(u8, usize, usize); 4] = [
+        (0, usize::MAX, 0),
+        (1, 10, 10),
+        (3, 10, 30),
+        (9, 0, 0),
+    ];
+    for (writes, piece, length) in &ROWS {
+        expect_front(&rt, rt.alloc(), *writes, *piece, *length)?;
     }
     Ok(())
 }
@@ -124,12 +132,13 @@ fn each_growth_can_be_refused(rt: HostRuntime) -> Result<(), Fail> {
 
 #[test]
 fn faults_have_the_program_s_words(rt: HostRuntime) -> Result<(), Fail> {
-    for (fault, text) in [
+    static ROWS: [(RunFault, &str); 3] = [
         (RunFault::Read, "cannot read queries"),
         (RunFault::Memory, "no memory"),
         (RunFault::Write, "cannot write answers"),
-    ] {
-        expect_eq(&rt, &format!(in rt.alloc(); "{fault}")?.as_str(), &text);
+    ];
+    for (fault, text) in &ROWS {
+        expect_eq(&rt, &format!(in rt.alloc(); "{fault}")?.as_str(), text);
     }
     Ok(())
 }

@@ -3,6 +3,7 @@
 use crate::expect::{expect_eq, expect_eq_at};
 use crate::growths::{expect_answers_or_refusal, expect_growths};
 use std::alloc::{AllocError, Global};
+use std::process::Abort;
 use std::test::Fail;
 use tz::TimeZone;
 use tz_base::refusing::Refusing;
@@ -17,6 +18,11 @@ fn answered(alloc: Global, tz_bytes: &[u8], queries: &str) -> Result<String, Fai
     })
 }
 
+/// The first bytes, as many as the length says.
+fn front(bytes: &[u8], length: usize) -> &[u8] {
+    &bytes[..length.min(bytes.len())]
+}
+
 /// The bytes with one of them changed.
 fn altered(alloc: Global, bytes: &[u8], place: usize, byte: u8) -> Result<Vec<u8>, AllocError> {
     let mut other = Vec::from_slice(alloc, bytes)?;
@@ -28,73 +34,90 @@ fn altered(alloc: Global, bytes: &[u8], place: usize, byte: u8) -> Result<Vec<u8
 
 #[test]
 fn a_file_s_zone_answers(rt: HostRuntime) -> Result<(), Fail> {
-    let alloc = rt.alloc();
-    expect_eq(&rt, &(UTC_V1.len(), JERUSALEM_V3.len()), &(54, 147));
-    for (file, queries, answers) in [
-        (UTC_V1, "T 0 0\n", "1970-01-01T00:00:00.000000000Z UTC\n"),
+    /// A file and its length up to a cut, queries, and their answers.
+    static ROWS: [(&[u8], usize, &str, &str); 5] = [
+        (
+            UTC_V1,
+            54,
+            "T 0 0\n",
+            "1970-01-01T00:00:00.000000000Z UTC\n",
+        ),
         (
             JERUSALEM_V3,
+            147,
             "T 2216073600 0\nT 2216073599 0",
             "2040-03-23T03:00:00.000000000+03:00 IDT\n2040-03-23T01:59:59.000000000+02:00 IST\n",
         ),
-        (JERUSALEM_V3, "T 0\n", "E Line\n"),
-        (JERUSALEM_V3, "", ""),
+        (JERUSALEM_V3, 147, "T 0\n", "E Line\n"),
+        (JERUSALEM_V3, 147, "", ""),
         // A file without a rule has no clock from its last transition on.
         (
-            &JERUSALEM_V3[..120],
+            JERUSALEM_V3,
+            120,
             "T 2145916799 0\nT 2145916800 0\n",
             "2038-01-01T01:59:59.000000000+02:00 IST\nE NoAvailableLocalTimeType\n",
         ),
-    ] {
-        let given = answered(alloc, file, queries)?;
-        expect_eq_at(&rt, &queries, &given.as_str(), &answers);
+    ];
+    let alloc = rt.alloc();
+    expect_eq(&rt, &(UTC_V1.len(), JERUSALEM_V3.len()), &(54, 147));
+    for (file, length, queries, answers) in &ROWS {
+        let given = answered(alloc, front(file, *length), queries)?;
+        expect_eq_at(&rt, queries, &given.as_str(), answers);
     }
+    Ok(())
+}
+
+/// The file is refused with this text.
+fn expect_refused(rt: &impl Abort, alloc: Global, file: &[u8], refusal: &str) -> Result<(), Fail> {
+    let given = answered(alloc, file, "T 0 0\n")?;
+    assert_eq!(rt; given.as_str(), refusal, "of {} bytes", file.len());
     Ok(())
 }
 
 #[test]
 fn a_cut_file_is_refused(rt: HostRuntime) -> Result<(), Fail> {
+    /// A file, its length up to a cut, and the refusal.
+    static ROWS: [(&[u8], usize, &str); 5] = [
+        (
+            JERUSALEM_V3,
+            146,
+            "refused: invalid TZ file: invalid footer",
+        ),
+        (
+            JERUSALEM_V3,
+            119,
+            "refused: invalid TZ file: invalid footer",
+        ),
+        (
+            JERUSALEM_V3,
+            118,
+            "refused: invalid TZ file: unexpected end of data",
+        ),
+        (
+            JERUSALEM_V3,
+            0,
+            "refused: invalid TZ file: unexpected end of data",
+        ),
+        (
+            UTC_V1,
+            53,
+            "refused: invalid TZ file: unexpected end of data",
+        ),
+    ];
     let alloc = rt.alloc();
-    for (file, refusal) in [
-        (
-            &JERUSALEM_V3[..146],
-            "refused: invalid TZ file: invalid footer",
-        ),
-        (
-            &JERUSALEM_V3[..119],
-            "refused: invalid TZ file: invalid footer",
-        ),
-        (
-            &JERUSALEM_V3[..118],
-            "refused: invalid TZ file: unexpected end of data",
-        ),
-        (
-            &JERUSALEM_V3[..0],
-            "refused: invalid TZ file: unexpected end of data",
-        ),
-        (
-            &UTC_V1[..53],
-            "refused: invalid TZ file: unexpected end of data",
-        ),
-    ] {
-        let given = answered(alloc, file, "T 0 0\n")?;
-        assert_eq!(rt; given.as_str(), refusal, "of {} bytes", file.len());
+    for (file, length, refusal) in &ROWS {
+        expect_refused(&rt, alloc, front(file, *length), refusal)?;
     }
     let mut longer = Vec::from_slice(alloc, UTC_V1)?;
     longer.push(0)?;
-    let given = answered(alloc, &longer, "T 0 0\n")?;
-    expect_eq(
-        &rt,
-        &given.as_str(),
-        &"refused: invalid TZ file: remaining data after the end of a TZif v1 data block",
-    );
-    Ok(())
+    let refusal = "refused: invalid TZ file: remaining data after the end of a TZif v1 data block";
+    expect_refused(&rt, alloc, &longer, refusal)
 }
 
 #[test]
 fn an_altered_file_answers_or_is_refused(rt: HostRuntime) -> Result<(), Fail> {
-    let alloc = rt.alloc();
-    for (place, byte, answer) in [
+    /// A place, the byte that stands there, and the answer.
+    static ROWS: [(usize, u8, &str); 3] = [
         (4, b'2', "2040-03-23T03:00:00.000000000+03:00 IDT\n"),
         (
             58,
@@ -102,10 +125,12 @@ fn an_altered_file_answers_or_is_refused(rt: HostRuntime) -> Result<(), Fail> {
             "refused: invalid TZ string: invalid day time hour",
         ),
         (2, b'j', "refused: invalid TZ file: invalid magic number"),
-    ] {
-        let file = altered(alloc, JERUSALEM_V3, place, byte)?;
+    ];
+    let alloc = rt.alloc();
+    for (place, byte, answer) in &ROWS {
+        let file = altered(alloc, JERUSALEM_V3, *place, *byte)?;
         let given = answered(alloc, &file, "T 2216073600 0\n")?;
-        expect_eq_at(&rt, &place, &given.as_str(), &answer);
+        expect_eq_at(&rt, place, &given.as_str(), answer);
     }
     Ok(())
 }
