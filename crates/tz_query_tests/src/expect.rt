@@ -1,14 +1,13 @@
 //! Comparisons of tests. The proof of a test walks through each `assert_eq!` where it is written out, and through a call of these much faster.
 
 use crate::samples::{
-    ExtraRule, ZoneRow, central_europe, leap_seconds_of, rule_of, transitions_of, type_of, types_of,
+    ZoneRow, central_europe, extra_rule_of, leap_seconds_of, transitions_of, types_of,
 };
 use std::alloc::Global;
 use std::fmt::{Debug, Display};
 use std::process::Abort;
 use std::test::Fail;
 use tz::TimeZoneRef;
-use tz::timezone::TransitionRule;
 use tz_query::query::answer;
 
 /// The values are equal.
@@ -61,11 +60,7 @@ pub(crate) fn expect_answers_by_parts(
     let types = types_of(alloc, zone.types)?;
     let transitions = transitions_of(alloc, zone.transitions)?;
     let leap_seconds = leap_seconds_of(alloc, zone.leap_seconds)?;
-    let rule = match &zone.rule {
-        None => None,
-        Some(ExtraRule::Fixed(row)) => Some(TransitionRule::Fixed(type_of(row)?)),
-        Some(ExtraRule::Alternate(row)) => Some(TransitionRule::Alternate(rule_of(row)?)),
-    };
+    let rule = extra_rule_of(&zone.rule)?;
     let zone = TimeZoneRef::new(&transitions, &types, &leap_seconds, &rule)?;
     expect_answers(rt, alloc, zone, queries, answers)
 }

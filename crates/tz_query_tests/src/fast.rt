@@ -4,11 +4,11 @@ use crate::expect::expect_eq;
 use crate::samples::{
     DayRow, RuleRow, TypeRow, leap_seconds_of, rule_of, transitions_of, types_of,
 };
-use std::alloc::Global;
+use std::alloc::{AllocError, Global};
 use std::process::Abort;
 use std::test::Fail;
 use tz::inner::{Fields, TextBuffer, is_reading};
-use tz::timezone::{Transition, TransitionRule};
+use tz::timezone::{LeapSecond, Transition, TransitionRule};
 use tz::{LocalTimeType, TimeZoneRef, TzError};
 use tz_file_tests::samples::central_europe as central_europe_rule;
 use tz_query::inner::answer_line;
@@ -45,6 +45,23 @@ fn expect_alike(
     Ok(())
 }
 
+/// Both halves answer alike over zones with these parts and each of these rules.
+fn expect_alike_by_rules(
+    rt: &impl Abort,
+    alloc: Global,
+    types: &[LocalTimeType],
+    transitions: &[Transition],
+    leap_seconds: &[LeapSecond],
+    rules: &[Option<TransitionRule>],
+    queries: &[u8],
+) -> Result<(), Fail> {
+    for rule in rules {
+        let zone = TimeZoneRef::new(transitions, types, leap_seconds, rule)?;
+        expect_alike(rt, alloc, zone, queries)?;
+    }
+    Ok(())
+}
+
 /// Both halves answer alike over zones with these types and transitions and each of these rules, without leap seconds and with some.
 fn expect_alike_by_parts(
     rt: &impl Abort,
@@ -58,13 +75,16 @@ fn expect_alike_by_parts(
     let types = types_of(alloc, types)?;
     let transitions = transitions_of(alloc, transitions)?;
     let leap_seconds = leap_seconds_of(alloc, &LEAP_SECONDS)?;
-    for leap_seconds in [&leap_seconds[..0], &leap_seconds[..]] {
-        for rule in rules {
-            let zone = TimeZoneRef::new(&transitions, &types, leap_seconds, rule)?;
-            expect_alike(rt, alloc, zone, queries)?;
-        }
-    }
-    Ok(())
+    expect_alike_by_rules(rt, alloc, &types, &transitions, &[], rules, queries)?;
+    expect_alike_by_rules(
+        rt,
+        alloc,
+        &types,
+        &transitions,
+        &leap_seconds,
+        rules,
+        queries,
+    )
 }
 
 /// Both halves answer alike over zones of each kind.
@@ -104,12 +124,12 @@ fn expect_alike_over_zones(rt: &impl Abort, alloc: Global, queries: &[u8]) -> Re
     expect_alike(rt, alloc, TimeZoneRef::utc(), queries)?;
     expect_alike_by_parts(rt, alloc, &TYPES, &TRANSITIONS, &rules, queries)?;
     let types = types_of(alloc, &TYPES)?;
-    for rule in [central, rule_of(&SOUTHERN)?, rule_of(&ACROSS_YEARS)?] {
-        let rule = Some(TransitionRule::Alternate(rule));
-        let zone = TimeZoneRef::new(&[], &types, &[], &rule)?;
-        expect_alike(rt, alloc, zone, queries)?;
-    }
-    Ok(())
+    let rules = [
+        Some(TransitionRule::Alternate(central)),
+        Some(TransitionRule::Alternate(rule_of(&SOUTHERN)?)),
+        Some(TransitionRule::Alternate(rule_of(&ACROSS_YEARS)?)),
+    ];
+    expect_alike_by_rules(rt, alloc, &types, &[], &[], &rules, queries)
 }
 
 /// The next state of a generator of numbers.
@@ -178,25 +198,35 @@ fn lines_of_many_instants_are_answered_alike(rt: HostRuntime) -> Result<(), Fail
     expect_alike_over_zones(&rt, rt.alloc(), &queries)
 }
 
-#[test]
-fn numbers_of_each_length_are_answered_alike(rt: HostRuntime) -> Result<(), Fail> {
+/// Appends lines of each kind with a number of this sign and these digits.
+fn push_lines_with_digits(
+    queries: &mut Vec<u8, Global>,
+    sign: &str,
+    digits: &[u8],
+) -> Result<(), AllocError> {
     static LINES: [(&[u8], &[u8]); 3] = [
         (b"T ", b" 1\n"),
         (b"T 86399 ", b"\n"),
         (b"F ", b" 2 29 0 0 0 0\n"),
     ];
+    for (before, after) in &LINES {
+        queries.extend_from_slice(before)?;
+        queries.extend_from_slice(sign.as_bytes())?;
+        queries.extend_from_slice(digits)?;
+        queries.extend_from_slice(after)?;
+    }
+    Ok(())
+}
+
+#[test]
+fn numbers_of_each_length_are_answered_alike(rt: HostRuntime) -> Result<(), Fail> {
     let digits = b"98765432109876543210";
     let zeros = b"00000000000000000001";
     let mut queries = Vec::new(rt.alloc());
     for text in [digits, zeros] {
         for length in 0..=20usize {
             for sign in ["", "-"] {
-                for (before, after) in &LINES {
-                    queries.extend_from_slice(before)?;
-                    queries.extend_from_slice(sign.as_bytes())?;
-                    queries.extend_from_slice(&text[20 - length..])?;
-                    queries.extend_from_slice(after)?;
-                }
+                push_lines_with_digits(&mut queries, sign, &text[20 - length..])?;
             }
         }
     }
@@ -289,6 +319,31 @@ fn lines_around_jumps_are_answered_alike(rt: HostRuntime) -> Result<(), Fail> {
     expect_alike_by_parts(&rt, rt.alloc(), &TYPES, &TRANSITIONS, &rules, &queries)
 }
 
+/// The instant of a jump in a row of jumps with as many seconds between one and the next.
+fn instant_at(apart: i64, place: i64) -> i64 {
+    apart.wrapping_mul(place).wrapping_add(1_000_000)
+}
+
+/// Twelve transitions with as many seconds between one and the next.
+fn transitions_apart(alloc: Global, apart: i64) -> Result<Vec<Transition>, AllocError> {
+    let mut transitions = Vec::new(alloc);
+    for place in 0..12u8 {
+        let number = usize::from(place) % 3;
+        transitions.push(Transition::new(instant_at(apart, i64::from(place)), number))?;
+    }
+    Ok(transitions)
+}
+
+/// The instants of some of these transitions.
+fn instants_apart(alloc: Global, apart: i64) -> Result<Vec<i64>, AllocError> {
+    static PLACES: [i64; 6] = [0, 1, 2, 5, 10, 11];
+    let mut instants = Vec::new(alloc);
+    for place in &PLACES {
+        instants.push(instant_at(apart, *place))?;
+    }
+    Ok(instants)
+}
+
 /// Both halves answer alike around twelve jumps with as many seconds between one and the next.
 fn expect_alike_around_jumps_apart(
     rt: &impl Abort,
@@ -296,17 +351,8 @@ fn expect_alike_around_jumps_apart(
     types: &[LocalTimeType],
     apart: i64,
 ) -> Result<(), Fail> {
-    static PLACES: [i64; 6] = [0, 1, 2, 5, 10, 11];
-    let mut transitions = Vec::new(alloc);
-    for place in 0..12u8 {
-        let number = usize::from(place) % 3;
-        let unix_time = apart.wrapping_mul(i64::from(place)).wrapping_add(1_000_000);
-        transitions.push(Transition::new(unix_time, number))?;
-    }
-    let mut instants = Vec::new(alloc);
-    for place in &PLACES {
-        instants.push(apart.wrapping_mul(*place).wrapping_add(1_000_000))?;
-    }
+    let transitions = transitions_apart(alloc, apart)?;
+    let instants = instants_apart(alloc, apart)?;
     let queries = lines_around(alloc, &instants, &[0, 1800])?;
     let zone = TimeZoneRef::new(&transitions, types, &[], &None)?;
     expect_alike(rt, alloc, zone, &queries)

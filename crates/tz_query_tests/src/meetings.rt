@@ -70,14 +70,20 @@ fn answers_of_week(alloc: Global, zone: TimeZoneRef<'_>, weeks: u8) -> Result<Ve
     Ok(answer(alloc, zone, line.as_bytes())?)
 }
 
+/// The answers of all weeks that a line can ask for.
+fn answers_week_by_week(alloc: Global, zone: TimeZoneRef<'_>) -> Result<Vec<u8>, Fail> {
+    let mut answers = Vec::from_slice(alloc, b"W 255\n")?;
+    for weeks in 0..255u8 {
+        let of_week = answers_of_week(alloc, zone, weeks)?;
+        answers.extend_from_slice(&of_week)?;
+    }
+    Ok(answers)
+}
+
 #[test]
 fn the_longest_meeting_is_asked_for_week_by_week(rt: HostRuntime) -> Result<(), Fail> {
     let zone = central_europe(rt.alloc())?;
-    let mut want = Vec::from_slice(rt.alloc(), b"W 255\n")?;
-    for weeks in 0..255u8 {
-        let answers = answers_of_week(rt.alloc(), zone.as_ref(), weeks)?;
-        want.extend_from_slice(&answers)?;
-    }
+    let want = answers_week_by_week(rt.alloc(), zone.as_ref())?;
     let found = answer(rt.alloc(), zone.as_ref(), b"W 255 1999 10 31 2 30 0 0")?;
     expect_eq(&rt, &found.as_slice(), &want.as_slice());
     Ok(())

@@ -6,7 +6,7 @@ use std::alloc::{AllocError, Global};
 use tz::error::ReadFault;
 use tz::timezone::{
     AlternateTime, Julian0WithLeap, Julian1WithoutLeap, LeapSecond, MonthWeekDay, RuleDay,
-    Transition,
+    Transition, TransitionRule,
 };
 use tz::{LocalTimeType, TimeZone, TzError};
 
@@ -99,6 +99,15 @@ pub fn rule_of(row: &RuleRow) -> Result<AlternateTime, TzError> {
 pub enum ExtraRule {
     Fixed(TypeRow),
     Alternate(RuleRow),
+}
+
+/// The rule of a row, if there is one.
+pub fn extra_rule_of(row: &Option<ExtraRule>) -> Result<Option<TransitionRule>, TzError> {
+    Ok(match row {
+        None => None,
+        Some(ExtraRule::Fixed(row)) => Some(TransitionRule::Fixed(type_of(row)?)),
+        Some(ExtraRule::Alternate(row)) => Some(TransitionRule::Alternate(rule_of(row)?)),
+    })
 }
 
 /// The parts of a zone.
