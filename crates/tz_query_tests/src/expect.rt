@@ -25,6 +25,16 @@ pub(crate) fn expect_eq_at<T: Debug + PartialEq>(
     assert_eq!(rt; *found, *wanted, "{place}");
 }
 
+/// The values for a case are equal.
+pub(crate) fn expect_eq_for<T: Debug + PartialEq>(
+    rt: &impl Abort,
+    case: &impl Debug,
+    found: &T,
+    wanted: &T,
+) {
+    assert_eq!(rt; *found, *wanted, "{case:?}");
+}
+
 /// The queries have these answers.
 pub(crate) fn expect_answers(
     rt: &impl Abort,

@@ -1,6 +1,6 @@
 //! `W` lines over zones whose answers are known.
 
-use crate::expect::{expect_answers_in_central_europe, expect_eq, expect_eq_at};
+use crate::expect::{expect_answers_in_central_europe, expect_eq_at};
 use crate::growths::expect_each_growth_can_be_refused;
 use crate::samples::central_europe;
 use std::alloc::Global;
@@ -71,22 +71,21 @@ fn answers_of_week(alloc: Global, zone: TimeZoneRef<'_>, weeks: u8) -> Result<Ve
 }
 
 /// The answers of all weeks that a line can ask for.
-fn answers_week_by_week(alloc: Global, zone: TimeZoneRef<'_>) -> Result<Vec<u8>, Fail> {
+fn answers_week_by_week(alloc: Global) -> Result<String, Fail> {
+    let zone = central_europe(alloc)?;
     let mut answers = Vec::from_slice(alloc, b"W 255\n")?;
     for weeks in 0..255u8 {
-        let of_week = answers_of_week(alloc, zone, weeks)?;
+        let of_week = answers_of_week(alloc, zone.as_ref(), weeks)?;
         answers.extend_from_slice(&of_week)?;
     }
-    Ok(answers)
+    Ok(String::from_utf8(answers)?)
 }
 
 #[test]
 fn the_longest_meeting_is_asked_for_week_by_week(rt: HostRuntime) -> Result<(), Fail> {
-    let zone = central_europe(rt.alloc())?;
-    let want = answers_week_by_week(rt.alloc(), zone.as_ref())?;
-    let found = answer(rt.alloc(), zone.as_ref(), b"W 255 1999 10 31 2 30 0 0")?;
-    expect_eq(&rt, &found.as_slice(), &want.as_slice());
-    Ok(())
+    let line = "W 255 1999 10 31 2 30 0 0";
+    let want = answers_week_by_week(rt.alloc())?;
+    expect_answers_in_central_europe(&rt, rt.alloc(), line, want.as_str())
 }
 
 #[test]

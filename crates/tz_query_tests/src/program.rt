@@ -1,5 +1,6 @@
 //! The program's answers, and its faults with their lines and statuses, by rows.
 
+use crate::expect::expect_eq_for;
 use crate::failing::{FailingReader, FailingWriter};
 use anyhow::anyhow;
 use std::alloc::{AllocError, Global};
@@ -68,7 +69,7 @@ fn expect_outcome(
     want: &str,
 ) -> Result<(), Fail> {
     let found = outcome(alloc, arguments, queries)?;
-    assert_eq!(rt; found.as_str(), want, "{arguments:?}");
+    expect_eq_for(rt, &arguments, &found.as_str(), &want);
     Ok(())
 }
 
@@ -240,7 +241,7 @@ fn expect_outcome_of_failing(
 ) -> Result<(), Fail> {
     let (reads, writes, complaints) = calls;
     let found = outcome_of_failing(alloc, arguments, reads, writes, complaints)?;
-    assert_eq!(rt; found.as_str(), want, "{arguments:?} {calls:?}");
+    expect_eq_for(rt, &(arguments, calls), &found.as_str(), &want);
     Ok(())
 }
 
