@@ -22,7 +22,7 @@ mod zones;
 
 use crate::expect::expect_eq;
 use tz_file_tests::samples::central_europe;
-use zones::{crossing, far_offset};
+use zones::{After, CROSSING, Day, FAR_OFFSET, Parts, RuleRow, TypeRow, expect_all_in, rule_of};
 
 /// A Unix time, and the offsets before it and at it; those of a date time that is shown are the same.
 type Summary = (i64, i32, i32);
@@ -217,149 +217,167 @@ const FIRST_JUMP: Summary = (7200, 0, 3600);
 
 const SECOND_JUMP: Summary = (28_800, -19_800, -16_200);
 
-/// An hour and a minute of its day, and what is found.
-const CROSSED: [(u8, u8, &[Summary]); 17] = [
-    (0, 0, &[(0, 0, 0)]),
-    (1, 0, &[(3600, 0, 0), (14_400, -10_800, -10_800)]),
-    (1, 15, &[(4500, 0, 0), (15_300, -10_800, -10_800)]),
-    (
-        1,
-        30,
-        &[
-            (5400, 0, 0),
-            (16_200, -10_800, -10_800),
-            (25_200, -19_800, -19_800),
-        ],
-    ),
-    (
-        1,
-        45,
-        &[
-            (6300, 0, 0),
-            (17_100, -10_800, -10_800),
-            (26_100, -19_800, -19_800),
-        ],
-    ),
-    (
-        2,
-        0,
-        &[
-            FIRST_JUMP,
-            (18_000, -10_800, -10_800),
-            (27_000, -19_800, -19_800),
-        ],
-    ),
-    (
-        2,
-        15,
-        &[
-            FIRST_JUMP,
-            (18_900, -10_800, -10_800),
-            (27_900, -19_800, -19_800),
-        ],
-    ),
-    (
-        2,
-        45,
-        &[FIRST_JUMP, (20_700, -10_800, -10_800), SECOND_JUMP],
-    ),
-    (
-        3,
-        0,
-        &[(7200, 3600, 3600), (21_600, -10_800, -10_800), SECOND_JUMP],
-    ),
-    (
-        3,
-        15,
-        &[(8100, 3600, 3600), (22_500, -10_800, -10_800), SECOND_JUMP],
-    ),
-    (
-        3,
-        30,
-        &[
-            (9000, 3600, 3600),
-            (23_400, -10_800, -10_800),
-            (28_800, -16_200, -16_200),
-        ],
-    ),
-    (
-        3,
-        45,
-        &[
-            (9900, 3600, 3600),
-            (24_300, -10_800, -10_800),
-            (29_700, -16_200, -16_200),
-        ],
-    ),
-    (4, 0, &[(10_800, 3600, 3600), (30_600, -16_200, -16_200)]),
-    (4, 15, &[(11_700, 3600, 3600), (31_500, -16_200, -16_200)]),
-    (4, 30, &[(12_600, 3600, 3600)]),
-    (4, 45, &[(13_500, 3600, 3600)]),
-    (23, 59, &[]),
-];
-
 #[test]
 fn jumps_that_cross(rt: HostRuntime) -> Result<(), Fail> {
-    let (transitions, types) = crossing()?;
-    let rule = None;
-    let zone = TimeZoneRef::new(&transitions, &types, &[], &rule)?;
-    for (hour, minute, expected) in CROSSED {
-        expect_found(
-            &rt,
-            rt.alloc(),
-            zone,
-            (1970, 1, 1, hour, minute, 0),
-            expected,
-        )?;
-    }
+    static ROWS: [(Reading, &[Summary]); 17] = [
+        ((1970, 1, 1, 0, 0, 0), &[(0, 0, 0)]),
+        (
+            (1970, 1, 1, 1, 0, 0),
+            &[(3600, 0, 0), (14_400, -10_800, -10_800)],
+        ),
+        (
+            (1970, 1, 1, 1, 15, 0),
+            &[(4500, 0, 0), (15_300, -10_800, -10_800)],
+        ),
+        (
+            (1970, 1, 1, 1, 30, 0),
+            &[
+                (5400, 0, 0),
+                (16_200, -10_800, -10_800),
+                (25_200, -19_800, -19_800),
+            ],
+        ),
+        (
+            (1970, 1, 1, 1, 45, 0),
+            &[
+                (6300, 0, 0),
+                (17_100, -10_800, -10_800),
+                (26_100, -19_800, -19_800),
+            ],
+        ),
+        (
+            (1970, 1, 1, 2, 0, 0),
+            &[
+                FIRST_JUMP,
+                (18_000, -10_800, -10_800),
+                (27_000, -19_800, -19_800),
+            ],
+        ),
+        (
+            (1970, 1, 1, 2, 15, 0),
+            &[
+                FIRST_JUMP,
+                (18_900, -10_800, -10_800),
+                (27_900, -19_800, -19_800),
+            ],
+        ),
+        (
+            (1970, 1, 1, 2, 45, 0),
+            &[FIRST_JUMP, (20_700, -10_800, -10_800), SECOND_JUMP],
+        ),
+        (
+            (1970, 1, 1, 3, 0, 0),
+            &[(7200, 3600, 3600), (21_600, -10_800, -10_800), SECOND_JUMP],
+        ),
+        (
+            (1970, 1, 1, 3, 15, 0),
+            &[(8100, 3600, 3600), (22_500, -10_800, -10_800), SECOND_JUMP],
+        ),
+        (
+            (1970, 1, 1, 3, 30, 0),
+            &[
+                (9000, 3600, 3600),
+                (23_400, -10_800, -10_800),
+                (28_800, -16_200, -16_200),
+            ],
+        ),
+        (
+            (1970, 1, 1, 3, 45, 0),
+            &[
+                (9900, 3600, 3600),
+                (24_300, -10_800, -10_800),
+                (29_700, -16_200, -16_200),
+            ],
+        ),
+        (
+            (1970, 1, 1, 4, 0, 0),
+            &[(10_800, 3600, 3600), (30_600, -16_200, -16_200)],
+        ),
+        (
+            (1970, 1, 1, 4, 15, 0),
+            &[(11_700, 3600, 3600), (31_500, -16_200, -16_200)],
+        ),
+        ((1970, 1, 1, 4, 30, 0), &[(12_600, 3600, 3600)]),
+        ((1970, 1, 1, 4, 45, 0), &[(13_500, 3600, 3600)]),
+        ((1970, 1, 1, 23, 59, 0), &[]),
+    ];
+    expect_all_in(&rt, rt.alloc(), &CROSSING, &ROWS)?;
     Ok(())
 }
 
 #[test]
 fn a_rule_goes_on_after_the_last_transition(rt: HostRuntime) -> Result<(), Fail> {
-    let alloc = rt.alloc();
-    let types = [LocalTimeType::with_ut_offset(3600)?];
-    let no_rule = None;
-    let rule = Some(TransitionRule::Fixed(types[0]));
-    let transitions = [Transition::new(0, 0)];
-    for zone in [
-        TimeZoneRef::new(&[], &types, &[], &no_rule)?,
-        TimeZoneRef::new(&[], &types, &[], &rule)?,
-    ] {
-        expect_found(
-            &rt,
-            alloc,
-            zone,
-            (2000, 1, 1, 0, 0, 0),
-            &[(946_681_200, 3600, 3600)],
-        )?;
+    const HOUR_EAST: TypeRow = (3600, false, None);
+    static ROWS: [(Parts, &[(Reading, &[Summary])]); 4] = [
+        (
+            Parts {
+                types: &[HOUR_EAST],
+                transitions: &[],
+                leap_seconds: &[],
+                after: After::Nothing,
+            },
+            &[((2000, 1, 1, 0, 0, 0), &[(946_681_200, 3600, 3600)])],
+        ),
+        (
+            Parts {
+                types: &[HOUR_EAST],
+                transitions: &[],
+                leap_seconds: &[],
+                after: After::Fixed(HOUR_EAST),
+            },
+            &[((2000, 1, 1, 0, 0, 0), &[(946_681_200, 3600, 3600)])],
+        ),
+        (
+            Parts {
+                types: &[HOUR_EAST],
+                transitions: &[(0, 0)],
+                leap_seconds: &[],
+                after: After::Fixed(HOUR_EAST),
+            },
+            &[
+                ((1960, 1, 1, 0, 0, 0), &[(-315_622_800, 3600, 3600)]),
+                ((1980, 1, 1, 0, 0, 0), &[(315_529_200, 3600, 3600)]),
+            ],
+        ),
+        (
+            Parts {
+                types: &[HOUR_EAST],
+                transitions: &[(0, 0)],
+                leap_seconds: &[],
+                after: After::Nothing,
+            },
+            &[((1980, 1, 1, 0, 0, 0), &[])],
+        ),
+    ];
+    for (parts, rows) in &ROWS {
+        expect_all_in(&rt, rt.alloc(), parts, rows)?;
     }
-    let zone = TimeZoneRef::new(&transitions, &types, &[], &rule)?;
-    for (year, unix_time) in [(1960, -315_622_800), (1980, 315_529_200)] {
-        expect_found(
-            &rt,
-            alloc,
-            zone,
-            (year, 1, 1, 0, 0, 0),
-            &[(unix_time, 3600, 3600)],
-        )?;
-    }
-    let over = TimeZoneRef::new(&transitions, &types, &[], &no_rule)?;
-    expect_found(&rt, alloc, over, (1980, 1, 1, 0, 0, 0), &[])?;
     Ok(())
+}
+
+/// Whether the list is another than that of a reading by a clock of UTC.
+fn differs(alloc: Global, list: &FoundDateTimeList, reading: Reading) -> Result<bool, TzError> {
+    Ok(*list != find(alloc, TimeZoneRef::utc(), reading)?)
 }
 
 #[test]
 fn lists_are_compared_by_their_entries(rt: HostRuntime) -> Result<(), Fail> {
+    let alloc = rt.alloc();
     let utc = TimeZoneRef::utc();
-    let midnight = find(rt.alloc(), utc, (2000, 1, 1, 0, 0, 0))?;
-    let again = find(rt.alloc(), utc, (2000, 1, 1, 0, 0, 0))?;
-    let noon = find(rt.alloc(), utc, (2000, 1, 1, 12, 0, 0))?;
-    let empty = FoundDateTimeList::new_in(rt.alloc());
-    expect_eq(&rt, &midnight, &again);
-    assert!(rt; midnight != noon);
-    assert!(rt; midnight != empty);
+    let midnight = find(alloc, utc, (2000, 1, 1, 0, 0, 0))?;
+    expect_eq(&rt, &midnight, &find(alloc, utc, (2000, 1, 1, 0, 0, 0))?);
+    assert!(rt; differs(alloc, &midnight, (2000, 1, 1, 12, 0, 0))?);
+    assert!(rt; midnight != FoundDateTimeList::new_in(alloc));
     Ok(())
+}
+
+/// Whether the list is another than that of a reading by a clock of UTC in these slots.
+fn differs_in_slots(
+    list: &FoundDateTimeListRefMut<'_>,
+    buf: &mut [Option<FoundDateTimeKind>],
+    reading: Reading,
+) -> Result<bool, TzError> {
+    Ok(*list != find_n(buf, TimeZoneRef::utc(), reading)?)
 }
 
 /// A written slot, a slot past them and the count all tell.
@@ -367,14 +385,13 @@ fn lists_are_compared_by_their_entries(rt: HostRuntime) -> Result<(), Fail> {
 fn lists_in_buffers_are_compared_by_all_slots(rt: HostRuntime) -> Result<(), Fail> {
     let utc = TimeZoneRef::utc();
     let midnight = (2000, 1, 1, 0, 0, 0);
+    let held = Some(held()?);
     let mut buf = [None, None];
     let list = find_n(&mut buf, utc, midnight)?;
     let mut same_buf = [None, None];
     expect_eq(&rt, &list, &find_n(&mut same_buf, utc, midnight)?);
-    let mut other_buf = [None, None];
-    assert!(rt; list != find_n(&mut other_buf, utc, (2000, 1, 1, 12, 0, 0))?);
-    let mut held_buf = [None, Some(held()?)];
-    assert!(rt; list != find_n(&mut held_buf, utc, midnight)?);
+    assert!(rt; differs_in_slots(&list, &mut [None, None], (2000, 1, 1, 12, 0, 0))?);
+    assert!(rt; differs_in_slots(&list, &mut [None, held], midnight)?);
     assert!(rt; list != FoundDateTimeListRefMut::new(&mut same_buf));
     Ok(())
 }
@@ -422,11 +439,13 @@ fn holds(slots: &[Option<FoundDateTimeKind>], held: &Option<FoundDateTimeKind>) 
     matches!(slots, [first, None, third] if first == held && third == held)
 }
 
+/// Month, day of the month, hour, minute, second, nanoseconds.
+type YearFields = (u8, u8, u8, u8, u8, u32);
+
 /// Fields with one fault each, which `find_n` names; the slots hold what they held.
 #[test]
 fn refused_fields_write_nothing(rt: HostRuntime) -> Result<(), Fail> {
-    let held = Some(held()?);
-    for (fields, fault) in [
+    static ROWS: [(YearFields, DateTimeError); 6] = [
         ((13, 1, 0, 0, 0, 0), DateTimeError::InvalidMonth),
         ((2, 29, 0, 0, 0, 0), DateTimeError::InvalidMonthDay),
         ((1, 1, 24, 0, 0, 0), DateTimeError::InvalidHour),
@@ -436,8 +455,10 @@ fn refused_fields_write_nothing(rt: HostRuntime) -> Result<(), Fail> {
             (1, 1, 0, 0, 0, 1_000_000_000),
             DateTimeError::InvalidNanoseconds,
         ),
-    ] {
-        let (month, month_day, hour, minute, second, nanoseconds) = fields;
+    ];
+    let held = Some(held()?);
+    for (fields, fault) in &ROWS {
+        let (month, month_day, hour, minute, second, nanoseconds) = *fields;
         let mut buf = [held, None, held];
         let refused = DateTime::find_n(
             &mut buf,
@@ -451,7 +472,7 @@ fn refused_fields_write_nothing(rt: HostRuntime) -> Result<(), Fail> {
             TimeZoneRef::utc(),
         )
         .err();
-        assert!(rt; matches!(refused, Some(TzError::DateTime(named)) if named == fault));
+        assert!(rt; matches!(refused, Some(TzError::DateTime(named)) if named == *fault));
         assert!(rt; holds(&buf, &held));
     }
     Ok(())
@@ -490,162 +511,165 @@ fn expect_found_by_rule(
     expect_all(rt, alloc, zone, rows)
 }
 
+/// The first moments of these years.
+const MIDNIGHT_2000: i64 = 946_684_800;
+
+const MIDNIGHT_2010: i64 = 1_262_304_000;
+
+/// The jumps of the rule of one morning.
+const JUMP_2000: Summary = (MIDNIGHT_2000 + 7200, 0, 3600);
+
+const JUMP_2010: Summary = (MIDNIGHT_2010 + 7200, 0, 3600);
+
 #[test]
 fn a_rule_of_one_morning(rt: HostRuntime) -> Result<(), Fail> {
-    let day = RuleDay::Julian1WithoutLeap(Julian1WithoutLeap::new(1)?);
-    let rule = AlternateTime::new(
-        LocalTimeType::with_ut_offset(0)?,
-        LocalTimeType::with_ut_offset(3600)?,
-        day,
-        7200,
-        day,
-        12_600,
-    )?;
-    for (year, midnight) in [(2000, 946_684_800i64), (2010, 1_262_304_000)] {
-        let jump = (midnight + 7200, 0, 3600);
-        expect_found_by_rule(
-            &rt,
-            rt.alloc(),
-            rule,
+    static RULE: RuleRow = (
+        (0, false, None),
+        (3600, false, None),
+        (Day::FromOne(1), 7200),
+        (Day::FromOne(1), 12_600),
+    );
+    static ROWS: [(Reading, &[Summary]); 10] = [
+        ((2000, 1, 1, 1, 45, 0), &[(MIDNIGHT_2000 + 6300, 0, 0)]),
+        ((2000, 1, 1, 2, 15, 0), &[JUMP_2000]),
+        (
+            (2000, 1, 1, 2, 45, 0),
+            &[JUMP_2000, (MIDNIGHT_2000 + 9900, 0, 0)],
+        ),
+        (
+            (2000, 1, 1, 3, 15, 0),
             &[
-                ((year, 1, 1, 1, 45, 0), &[(midnight + 6300, 0, 0)]),
-                ((year, 1, 1, 2, 15, 0), &[jump]),
-                ((year, 1, 1, 2, 45, 0), &[jump, (midnight + 9900, 0, 0)]),
-                (
-                    (year, 1, 1, 3, 15, 0),
-                    &[(midnight + 8100, 3600, 3600), (midnight + 11_700, 0, 0)],
-                ),
-                ((year, 1, 1, 3, 45, 0), &[(midnight + 13_500, 0, 0)]),
+                (MIDNIGHT_2000 + 8100, 3600, 3600),
+                (MIDNIGHT_2000 + 11_700, 0, 0),
             ],
-        )?;
-    }
+        ),
+        ((2000, 1, 1, 3, 45, 0), &[(MIDNIGHT_2000 + 13_500, 0, 0)]),
+        ((2010, 1, 1, 1, 45, 0), &[(MIDNIGHT_2010 + 6300, 0, 0)]),
+        ((2010, 1, 1, 2, 15, 0), &[JUMP_2010]),
+        (
+            (2010, 1, 1, 2, 45, 0),
+            &[JUMP_2010, (MIDNIGHT_2010 + 9900, 0, 0)],
+        ),
+        (
+            (2010, 1, 1, 3, 15, 0),
+            &[
+                (MIDNIGHT_2010 + 8100, 3600, 3600),
+                (MIDNIGHT_2010 + 11_700, 0, 0),
+            ],
+        ),
+        ((2010, 1, 1, 3, 45, 0), &[(MIDNIGHT_2010 + 13_500, 0, 0)]),
+    ];
+    expect_found_by_rule(&rt, rt.alloc(), rule_of(&RULE)?, &ROWS)?;
     Ok(())
 }
 
 /// The jump over 68 years of the zone with a far offset.
 const FAR_JUMP: Summary = (3600, 0, 2_147_483_647);
 
-/// The zone with a far offset.
-fn expect_found_by_far_offset(
-    rt: &impl Abort,
-    alloc: Global,
-    rows: &[(Reading, &[Summary])],
-) -> Result<(), TzError> {
-    let (transitions, types, rule) = far_offset()?;
-    let rule = Some(TransitionRule::Alternate(rule));
-    let zone = TimeZoneRef::new(&transitions, &types, &[], &rule)?;
-    expect_all(rt, alloc, zone, rows)
-}
-
 /// The first hours, and a time to which the jump leads.
-const FAR_MORNING: [(Reading, &[Summary]); 5] = [
-    ((1970, 1, 1, 0, 30, 0), &[(1800, 0, 0)]),
-    ((1970, 1, 1, 1, 30, 0), &[FAR_JUMP]),
-    ((1970, 1, 1, 2, 30, 0), &[FAR_JUMP, (9000, 0, 0)]),
-    ((1970, 1, 1, 4, 30, 0), &[FAR_JUMP, (12_600, 3600, 3600)]),
-    (
-        (2038, 1, 19, 5, 0, 0),
-        &[
-            (6353, 2_147_483_647, 2_147_483_647),
-            (2_147_486_400, 3600, 3600),
-        ],
-    ),
-];
-
 #[test]
 fn the_morning_of_a_far_jump(rt: HostRuntime) -> Result<(), Fail> {
-    expect_found_by_far_offset(&rt, rt.alloc(), &FAR_MORNING)?;
+    static ROWS: [(Reading, &[Summary]); 5] = [
+        ((1970, 1, 1, 0, 30, 0), &[(1800, 0, 0)]),
+        ((1970, 1, 1, 1, 30, 0), &[FAR_JUMP]),
+        ((1970, 1, 1, 2, 30, 0), &[FAR_JUMP, (9000, 0, 0)]),
+        ((1970, 1, 1, 4, 30, 0), &[FAR_JUMP, (12_600, 3600, 3600)]),
+        (
+            (2038, 1, 19, 5, 0, 0),
+            &[
+                (6353, 2_147_483_647, 2_147_483_647),
+                (2_147_486_400, 3600, 3600),
+            ],
+        ),
+    ];
+    expect_all_in(&rt, rt.alloc(), &FAR_OFFSET, &ROWS)?;
     Ok(())
 }
 
 /// Days of years that the jump passes over.
-const UNDER_FAR_JUMP: [(Reading, &[Summary]); 15] = [
-    ((1970, 2, 1, 0, 0, 0), &[FAR_JUMP, (2_674_800, 3600, 3600)]),
-    (
-        (1970, 3, 31, 0, 30, 0),
-        &[FAR_JUMP, (7_687_800, 3600, 3600), (7_691_400, 0, 0)],
-    ),
-    ((1970, 6, 1, 0, 0, 0), &[FAR_JUMP, (13_046_400, 0, 0)]),
-    ((1970, 10, 27, 0, 30, 0), &[FAR_JUMP, (25_833_600, 0, 3600)]),
-    (
-        (1970, 11, 1, 0, 0, 0),
-        &[FAR_JUMP, (26_262_000, 3600, 3600)],
-    ),
-    (
-        (2000, 2, 1, 0, 0, 0),
-        &[FAR_JUMP, (949_359_600, 3600, 3600)],
-    ),
-    (
-        (2000, 3, 31, 0, 30, 0),
-        &[FAR_JUMP, (954_459_000, 3600, 3600), (954_462_600, 0, 0)],
-    ),
-    ((2000, 6, 1, 0, 0, 0), &[FAR_JUMP, (959_817_600, 0, 0)]),
-    (
-        (2000, 10, 27, 0, 30, 0),
-        &[FAR_JUMP, (972_604_800, 0, 3600)],
-    ),
-    (
-        (2000, 11, 1, 0, 0, 0),
-        &[FAR_JUMP, (973_033_200, 3600, 3600)],
-    ),
-    (
-        (2030, 2, 1, 0, 0, 0),
-        &[FAR_JUMP, (1_896_130_800, 3600, 3600)],
-    ),
-    (
-        (2030, 3, 31, 0, 30, 0),
-        &[FAR_JUMP, (1_901_143_800, 3600, 3600), (1_901_147_400, 0, 0)],
-    ),
-    ((2030, 6, 1, 0, 0, 0), &[FAR_JUMP, (1_906_502_400, 0, 0)]),
-    (
-        (2030, 10, 27, 0, 30, 0),
-        &[FAR_JUMP, (1_919_289_600, 0, 3600)],
-    ),
-    (
-        (2030, 11, 1, 0, 0, 0),
-        &[FAR_JUMP, (1_919_718_000, 3600, 3600)],
-    ),
-];
-
 #[test]
 fn a_rule_under_a_far_jump(rt: HostRuntime) -> Result<(), Fail> {
-    expect_found_by_far_offset(&rt, rt.alloc(), &UNDER_FAR_JUMP)?;
+    static ROWS: [(Reading, &[Summary]); 15] = [
+        ((1970, 2, 1, 0, 0, 0), &[FAR_JUMP, (2_674_800, 3600, 3600)]),
+        (
+            (1970, 3, 31, 0, 30, 0),
+            &[FAR_JUMP, (7_687_800, 3600, 3600), (7_691_400, 0, 0)],
+        ),
+        ((1970, 6, 1, 0, 0, 0), &[FAR_JUMP, (13_046_400, 0, 0)]),
+        ((1970, 10, 27, 0, 30, 0), &[FAR_JUMP, (25_833_600, 0, 3600)]),
+        (
+            (1970, 11, 1, 0, 0, 0),
+            &[FAR_JUMP, (26_262_000, 3600, 3600)],
+        ),
+        (
+            (2000, 2, 1, 0, 0, 0),
+            &[FAR_JUMP, (949_359_600, 3600, 3600)],
+        ),
+        (
+            (2000, 3, 31, 0, 30, 0),
+            &[FAR_JUMP, (954_459_000, 3600, 3600), (954_462_600, 0, 0)],
+        ),
+        ((2000, 6, 1, 0, 0, 0), &[FAR_JUMP, (959_817_600, 0, 0)]),
+        (
+            (2000, 10, 27, 0, 30, 0),
+            &[FAR_JUMP, (972_604_800, 0, 3600)],
+        ),
+        (
+            (2000, 11, 1, 0, 0, 0),
+            &[FAR_JUMP, (973_033_200, 3600, 3600)],
+        ),
+        (
+            (2030, 2, 1, 0, 0, 0),
+            &[FAR_JUMP, (1_896_130_800, 3600, 3600)],
+        ),
+        (
+            (2030, 3, 31, 0, 30, 0),
+            &[FAR_JUMP, (1_901_143_800, 3600, 3600), (1_901_147_400, 0, 0)],
+        ),
+        ((2030, 6, 1, 0, 0, 0), &[FAR_JUMP, (1_906_502_400, 0, 0)]),
+        (
+            (2030, 10, 27, 0, 30, 0),
+            &[FAR_JUMP, (1_919_289_600, 0, 3600)],
+        ),
+        (
+            (2030, 11, 1, 0, 0, 0),
+            &[FAR_JUMP, (1_919_718_000, 3600, 3600)],
+        ),
+    ];
+    expect_all_in(&rt, rt.alloc(), &FAR_OFFSET, &ROWS)?;
     Ok(())
 }
 
 /// Days of the year in which the jump ends.
-const AFTER_FAR_JUMP: [(Reading, &[Summary]); 5] = [
-    ((2038, 2, 1, 0, 0, 0), &[(2_148_591_600, 3600, 3600)]),
-    (
-        (2038, 3, 31, 0, 30, 0),
-        &[(2_153_604_600, 3600, 3600), (2_153_608_200, 0, 0)],
-    ),
-    ((2038, 6, 1, 0, 0, 0), &[(2_158_963_200, 0, 0)]),
-    ((2038, 10, 27, 0, 30, 0), &[(2_171_750_400, 0, 3600)]),
-    ((2038, 11, 1, 0, 0, 0), &[(2_172_178_800, 3600, 3600)]),
-];
-
 #[test]
 fn a_rule_after_a_far_jump(rt: HostRuntime) -> Result<(), Fail> {
-    expect_found_by_far_offset(&rt, rt.alloc(), &AFTER_FAR_JUMP)?;
+    static ROWS: [(Reading, &[Summary]); 5] = [
+        ((2038, 2, 1, 0, 0, 0), &[(2_148_591_600, 3600, 3600)]),
+        (
+            (2038, 3, 31, 0, 30, 0),
+            &[(2_153_604_600, 3600, 3600), (2_153_608_200, 0, 0)],
+        ),
+        ((2038, 6, 1, 0, 0, 0), &[(2_158_963_200, 0, 0)]),
+        ((2038, 10, 27, 0, 30, 0), &[(2_171_750_400, 0, 3600)]),
+        ((2038, 11, 1, 0, 0, 0), &[(2_172_178_800, 3600, 3600)]),
+    ];
+    expect_all_in(&rt, rt.alloc(), &FAR_OFFSET, &ROWS)?;
     Ok(())
 }
 
 #[test]
 fn nothing_is_found_after_the_last_transition_without_a_rule(rt: HostRuntime) -> Result<(), Fail> {
-    let types = [LocalTimeType::utc()];
-    let transitions = [Transition::new(0, 0)];
-    let rule = None;
-    let zone = TimeZoneRef::new(&transitions, &types, &[], &rule)?;
-    expect_all(
-        &rt,
-        rt.alloc(),
-        zone,
-        &[
-            ((1969, 12, 31, 23, 59, 59), &[(-1, 0, 0)]),
-            ((1969, 12, 31, 23, 59, 60), &[]),
-            ((1970, 1, 1, 0, 0, 0), &[]),
-        ],
-    )?;
+    static PARTS: Parts = Parts {
+        types: &[(0, false, None)],
+        transitions: &[(0, 0)],
+        leap_seconds: &[],
+        after: After::Nothing,
+    };
+    static ROWS: [(Reading, &[Summary]); 3] = [
+        ((1969, 12, 31, 23, 59, 59), &[(-1, 0, 0)]),
+        ((1969, 12, 31, 23, 59, 60), &[]),
+        ((1970, 1, 1, 0, 0, 0), &[]),
+    ];
+    expect_all_in(&rt, rt.alloc(), &PARTS, &ROWS)?;
     Ok(())
 }

@@ -2,6 +2,7 @@
 
 ghost use Rattle.std.specs.Prelude.{◌<◌};
 
+use super::zones::{WITHOUT_FAR_OFFSET, zone_of};
 use super::*;
 use crate::expect::expect_eq;
 use tz::datetime::UtcDateTime;
@@ -118,37 +119,31 @@ fn entries_by_both(
 
 #[test]
 fn jumps_that_cross(rt: HostRuntime) -> Result<(), Fail> {
-    let (transitions, types) = crossing()?;
-    let rule = None;
-    let zone = TimeZoneRef::new(&transitions, &types, &[], &rule)?;
-    let entries = entries_by_both(&rt, rt.alloc(), zone, -43_200, 100)?;
+    let zone = zone_of(rt.alloc(), &CROSSING)?;
+    let entries = entries_by_both(&rt, rt.alloc(), zone.as_ref(), -43_200, 100)?;
     expect_eq(&rt, &entries, &92);
     Ok(())
 }
 
 #[test]
 fn the_days_of_a_rule(rt: HostRuntime) -> Result<(), Fail> {
+    // 2000-03-26, with a jump, and 2000-10-29, with an hour twice.
+    static DAYS: [(i64, usize); 2] = [(954_028_800, 96), (972_777_600, 100)];
     let rule = central_europe()?;
     let types = [*rule.std(), *rule.dst()];
     let rule = Some(TransitionRule::Alternate(rule));
     let zone = TimeZoneRef::new(&[], &types, &[], &rule)?;
-    // 2000-03-26, with a jump, and 2000-10-29, with an hour twice.
-    let spring = entries_by_both(&rt, rt.alloc(), zone, 954_028_800, 96)?;
-    expect_eq(&rt, &spring, &96);
-    let autumn = entries_by_both(&rt, rt.alloc(), zone, 972_777_600, 96)?;
-    expect_eq(&rt, &autumn, &100);
+    for (first, wanted) in &DAYS {
+        let entries = entries_by_both(&rt, rt.alloc(), zone, *first, 96)?;
+        expect_eq(&rt, &entries, wanted);
+    }
     Ok(())
 }
 
 #[test]
 fn a_rule_after_transitions(rt: HostRuntime) -> Result<(), Fail> {
-    let (transitions, types, rule) = far_offset()?;
-    let rule = Some(TransitionRule::Alternate(rule));
-    // Without the hour of the far offset.
-    let [first, _, _, last] = transitions;
-    let transitions = [first, last];
-    let zone = TimeZoneRef::new(&transitions, &types, &[], &rule)?;
-    let entries = entries_by_both(&rt, rt.alloc(), zone, -43_200, 200)?;
+    let zone = zone_of(rt.alloc(), &WITHOUT_FAR_OFFSET)?;
+    let entries = entries_by_both(&rt, rt.alloc(), zone.as_ref(), -43_200, 200)?;
     expect_eq(&rt, &entries, &200);
     Ok(())
 }
@@ -253,6 +248,7 @@ fn transitions_near_the_ends(rt: HostRuntime) -> Result<(), Fail> {
 /// Around the first and the last instant at which a rule answers.
 #[test]
 fn rules_near_the_ends(rt: HostRuntime) -> Result<(), Fail> {
+    static BORDERS: [i64; 2] = [-67_768_100_504_812_800, 67_767_976_170_460_800];
     let mut random = Random(1970);
     let mut entries = 0usize;
     for _ in 0..30 {
@@ -262,7 +258,7 @@ fn rules_near_the_ends(rt: HostRuntime) -> Result<(), Fail> {
         let types = [*rule.std(), *rule.dst()];
         let rule = Some(TransitionRule::Alternate(rule));
         let zone = TimeZoneRef::new(&[], &types, &[], &rule)?;
-        for border in [-67_768_100_504_812_800i64, 67_767_976_170_460_800] {
+        for border in &BORDERS {
             let first = border.saturating_sub(96 * STEP);
             let found = entries_by_both(&rt, rt.alloc(), zone, first, 192)?;
             entries = entries.saturating_add(found);

@@ -1,5 +1,6 @@
 //! Counted looks of searches, beside bounds that are computed from all transitions.
 
+use super::zones::{ONE_EFFECT, zone_of};
 use super::*;
 use crate::expect::expect_eq;
 use tz::datetime::UtcDateTime;
@@ -49,6 +50,14 @@ fn digits(len: usize) -> u64 {
     u64::from(usize::BITS - len.leading_zeros())
 }
 
+/// The most looks that a search of a reading may take.
+fn most_looks(zone: TimeZoneRef<'_>, reading: i64) -> u64 {
+    digits(zone.transitions().len())
+        .wrapping_mul(2)
+        .wrapping_add(effects_around(zone, reading))
+        .wrapping_add(4)
+}
+
 /// The counted search finds what `find_n` finds, and its number is within the bounds.
 pub(super) fn expect_counted(
     rt: &impl Abort,
@@ -73,14 +82,8 @@ pub(super) fn expect_counted(
         second,
         nanoseconds: 0,
     };
-    let len = zone.transitions().len();
-    let effects = effects_around(zone, fields.reading());
-    let bound = digits(len)
-        .wrapping_mul(2)
-        .wrapping_add(effects)
-        .wrapping_add(4);
-    assert!(rt; looks <= bound);
-    expect_eq(rt, &(looks == 0), &(len == 0));
+    assert!(rt; looks <= most_looks(zone, fields.reading()));
+    expect_eq(rt, &(looks == 0), &zone.transitions().is_empty());
     Ok(looks)
 }
 
@@ -108,17 +111,23 @@ fn hour_apart() -> Result<[LocalTimeType; 2], TzError> {
 
 #[test]
 fn a_thousand_transitions(rt: HostRuntime) -> Result<(), Fail> {
+    // An hour that is shown twice, and one that is left out.
+    static ROWS: [(Reading, &[Summary]); 2] = [
+        (
+            (1985, 11, 5, 1, 23, 20),
+            &[(499_998_200, 3600, 3600), (500_001_800, 0, 0)],
+        ),
+        ((1985, 11, 16, 15, 0, 0), &[(501_000_000, 0, 3600)]),
+    ];
     let types = hour_apart()?;
     let transitions = alternating(rt.alloc(), 1024)?;
     let rule = None;
     let zone = TimeZoneRef::new(transitions.as_slice(), &types, &[], &rule)?;
     let held = Some(held()?);
-    let fold: &[Summary] = &[(499_998_200, 3600, 3600), (500_001_800, 0, 0)];
-    let looks = expect_counted(&rt, &mut [held, held], zone, (1985, 11, 5, 1, 23, 20), fold)?;
-    assert!(rt; 1 <= looks && looks <= 27);
-    let gap: &[Summary] = &[(501_000_000, 0, 3600)];
-    let looks = expect_counted(&rt, &mut [held, held], zone, (1985, 11, 16, 15, 0, 0), gap)?;
-    assert!(rt; 1 <= looks && looks <= 27);
+    for (reading, expected) in &ROWS {
+        let looks = expect_counted(&rt, &mut [held, held], zone, *reading, expected)?;
+        assert!(rt; 1 <= looks && looks <= 27);
+    }
     Ok(())
 }
 
@@ -130,6 +139,22 @@ fn reading_of(seconds: i64) -> Result<Reading, TzError> {
     Ok((year, month, month_day, hour, minute, second))
 }
 
+/// Searches around an instant of the table find what `find` finds.
+fn expect_around(
+    rt: &impl Abort,
+    alloc: Global,
+    zone: TimeZoneRef<'_>,
+    start: i64,
+) -> Result<(), TzError> {
+    static SHIFTS: [i64; 6] = [-1, 0, 1800, 3599, 3600, 3601];
+    for shift in &SHIFTS {
+        let reading = reading_of(start.wrapping_add(*shift))?;
+        let expected = summaries(alloc, find(alloc, zone, reading)?)?;
+        expect_counted(rt, &mut [None, None], zone, reading, expected.as_slice())?;
+    }
+    Ok(())
+}
+
 /// Searches near the front, in the middle and past the end of a table find what `find` finds.
 fn expect_ends(rt: &impl Abort, alloc: Global, len: usize) -> Result<(), TzError> {
     let types = hour_apart()?;
@@ -138,54 +163,46 @@ fn expect_ends(rt: &impl Abort, alloc: Global, len: usize) -> Result<(), TzError
     let zone = TimeZoneRef::new(transitions.as_slice(), &types, &[], &rule)?;
     let past = seconds_to(len);
     for start in [-1_000_000, 0, 500_000, past.wrapping_sub(1_000_000), past] {
-        for shift in [-1, 0, 1800, 3599, 3600, 3601] {
-            let reading = reading_of(start.wrapping_add(shift))?;
-            let expected = summaries(alloc, find(alloc, zone, reading)?)?;
-            expect_counted(rt, &mut [None, None], zone, reading, expected.as_slice())?;
-        }
+        expect_around(rt, alloc, zone, start)?;
     }
     Ok(())
 }
 
 #[test]
 fn tables_around_powers_of_two(rt: HostRuntime) -> Result<(), Fail> {
-    for len in [0, 1, 2, 3, 4, 5, 7, 8, 9, 31, 32, 33, 127, 128, 129] {
-        expect_ends(&rt, rt.alloc(), len)?;
+    static LENGTHS: [usize; 15] = [0, 1, 2, 3, 4, 5, 7, 8, 9, 31, 32, 33, 127, 128, 129];
+    for len in &LENGTHS {
+        expect_ends(&rt, rt.alloc(), *len)?;
     }
     Ok(())
 }
 
 #[test]
 fn transitions_of_one_effect_are_each_looked_at(rt: HostRuntime) -> Result<(), Fail> {
-    // The leap second puts both transitions at one instant.
-    let types = [
-        LocalTimeType::with_ut_offset(0)?,
-        LocalTimeType::with_ut_offset(3600)?,
-        LocalTimeType::with_ut_offset(7200)?,
-    ];
-    let transitions = [Transition::new(100, 1), Transition::new(101, 2)];
-    let leap_seconds = [LeapSecond::new(100, 1)];
-    let rule = Some(TransitionRule::Fixed(types[2]));
-    let zone = TimeZoneRef::new(&transitions, &types, &leap_seconds, &rule)?;
-    let jump: &[Summary] = &[(100, 0, 7200)];
-    let looks = expect_counted(&rt, &mut [None; 1], zone, (1970, 1, 1, 1, 8, 20), jump)?;
+    static JUMP: [Summary; 1] = [(100, 0, 7200)];
+    let zone = zone_of(rt.alloc(), &ONE_EFFECT)?;
+    let zone = zone.as_ref();
+    let looks = expect_counted(&rt, &mut [None; 1], zone, (1970, 1, 1, 1, 8, 20), &JUMP)?;
     assert!(rt; 2 <= looks);
     Ok(())
+}
+
+/// The counted search finds the hour that Central Europe's rule leaves out in 2400, after these transitions.
+fn expect_gap_of_2400(rt: &impl Abort, transitions: &[Transition]) -> Result<u64, TzError> {
+    static GAP: [Summary; 1] = [(13_576_813_200, 3600, 7200)];
+    let rule = central_europe()?;
+    let types = [*rule.std(), *rule.dst()];
+    let rule = Some(TransitionRule::Alternate(rule));
+    let zone = TimeZoneRef::new(transitions, &types, &[], &rule)?;
+    expect_counted(rt, &mut [None; 3], zone, (2400, 3, 26, 2, 30, 0), &GAP)
 }
 
 #[test]
 fn a_rule_s_own_years_take_looks_at_the_last_transitions_alone(
     rt: HostRuntime,
 ) -> Result<(), Fail> {
-    let transitions = [Transition::new(0, 0)];
-    let rule = central_europe()?;
-    let types = [*rule.std(), *rule.dst()];
-    let rule = Some(TransitionRule::Alternate(rule));
-    let gap: &[Summary] = &[(13_576_813_200, 3600, 7200)];
-    for transitions in [&transitions[..], &[]] {
-        let zone = TimeZoneRef::new(transitions, &types, &[], &rule)?;
-        expect_counted(&rt, &mut [None; 3], zone, (2400, 3, 26, 2, 30, 0), gap)?;
-    }
+    expect_gap_of_2400(&rt, &[Transition::new(0, 0)])?;
+    expect_gap_of_2400(&rt, &[])?;
     Ok(())
 }
 
@@ -197,8 +214,7 @@ fn text_of_error(alloc: Global, error: Option<TzError>) -> Result<Option<String>
 /// The counted search is refused as `find_n` is, and leaves the slots as they were.
 #[test]
 fn refused_fields_and_years_are_refused_alike(rt: HostRuntime) -> Result<(), Fail> {
-    let zone = TimeZoneRef::utc();
-    for (reading, nanoseconds) in [
+    static ROWS: [(Reading, u32); 7] = [
         ((2001, 13, 1, 0, 0, 0), 0),
         ((2001, 2, 29, 0, 0, 0), 0),
         ((2001, 1, 1, 24, 0, 0), 0),
@@ -206,8 +222,10 @@ fn refused_fields_and_years_are_refused_alike(rt: HostRuntime) -> Result<(), Fai
         ((2001, 1, 1, 0, 0, 61), 0),
         ((2001, 1, 1, 0, 0, 0), 1_000_000_000),
         ((i32::MAX, 12, 31, 23, 59, 60), 0),
-    ] {
-        let (year, month, month_day, hour, minute, second) = reading;
+    ];
+    let zone = TimeZoneRef::utc();
+    for (reading, nanoseconds) in &ROWS {
+        let (year, month, month_day, hour, minute, second) = *reading;
         let mut plain = [Some(held()?)];
         let mut counted = [Some(held()?)];
         let refused = DateTime::find_n(
@@ -218,7 +236,7 @@ fn refused_fields_and_years_are_refused_alike(rt: HostRuntime) -> Result<(), Fai
             hour,
             minute,
             second,
-            nanoseconds,
+            *nanoseconds,
             zone,
         )
         .err();
@@ -230,7 +248,7 @@ fn refused_fields_and_years_are_refused_alike(rt: HostRuntime) -> Result<(), Fai
             hour,
             minute,
             second,
-            nanoseconds,
+            *nanoseconds,
             zone,
         )
         .err();

@@ -1,8 +1,12 @@
 //! Searches and copies with each growth refused in turn.
 
+use super::zones::zone_of;
 use super::*;
 use crate::expect::expect_eq;
 use tz_base::refusing::Refusing;
+
+/// What is found of half past two in the zone with jumps that cross.
+static CROSSED: [Summary; 3] = [FIRST_JUMP, (19_800, -10_800, -10_800), SECOND_JUMP];
 
 /// Of this many allocations that are passed on, with how few a call is refused, if it is.
 const MOST: u64 = 12;
@@ -42,38 +46,49 @@ fn growths(
     Ok(growths)
 }
 
-#[test]
-fn an_hour_twice_with_each_growth_refused(rt: HostRuntime) -> Result<(), Fail> {
-    let rule = central_europe()?;
-    let types = [*rule.std(), *rule.dst()];
-    let rule = Some(TransitionRule::Alternate(rule));
-    let zone = TimeZoneRef::new(&[], &types, &[], &rule)?;
-    let found = &[(972_779_400, 7200, 7200), (972_783_000, 3600, 3600)];
-    let growths = growths(&rt, rt.alloc(), zone, (2000, 10, 29, 2, 30, 0), found)?;
+/// `find` takes memory, and finds these once all its growths are granted.
+fn expect_growths(
+    rt: &impl Abort,
+    alloc: Global,
+    zone: TimeZoneRef<'_>,
+    reading: Reading,
+    expected: &[Summary],
+) -> Result<(), TzError> {
+    let growths = growths(rt, alloc, zone, reading, expected)?;
     assert!(rt; growths > 0);
     assert!(rt; growths < MOST);
     Ok(())
 }
 
 #[test]
+fn an_hour_twice_with_each_growth_refused(rt: HostRuntime) -> Result<(), Fail> {
+    static FOUND: [Summary; 2] = [(972_779_400, 7200, 7200), (972_783_000, 3600, 3600)];
+    let rule = central_europe()?;
+    let types = [*rule.std(), *rule.dst()];
+    let rule = Some(TransitionRule::Alternate(rule));
+    let zone = TimeZoneRef::new(&[], &types, &[], &rule)?;
+    expect_growths(&rt, rt.alloc(), zone, (2000, 10, 29, 2, 30, 0), &FOUND)?;
+    Ok(())
+}
+
+#[test]
 fn jumps_that_cross_with_each_growth_refused(rt: HostRuntime) -> Result<(), Fail> {
-    let (transitions, types) = crossing()?;
-    let rule = None;
-    let zone = TimeZoneRef::new(&transitions, &types, &[], &rule)?;
-    let found = &[FIRST_JUMP, (19_800, -10_800, -10_800), SECOND_JUMP];
-    let growths = growths(&rt, rt.alloc(), zone, (1970, 1, 1, 2, 30, 0), found)?;
-    assert!(rt; growths > 0);
-    assert!(rt; growths < MOST);
+    let zone = zone_of(rt.alloc(), &CROSSING)?;
+    expect_growths(
+        &rt,
+        rt.alloc(),
+        zone.as_ref(),
+        (1970, 1, 1, 2, 30, 0),
+        &CROSSED,
+    )?;
     Ok(())
 }
 
 /// A list that is found empty takes no memory.
 #[test]
 fn nothing_is_found_without_memory(rt: HostRuntime) -> Result<(), Fail> {
-    let (transitions, types) = crossing()?;
-    let rule = None;
-    let zone = TimeZoneRef::new(&transitions, &types, &[], &rule)?;
-    let growths = growths(&rt, rt.alloc(), zone, (1970, 1, 1, 5, 0, 0), &[])?;
+    let zone = zone_of(rt.alloc(), &CROSSING)?;
+    let growths = growths(&rt, rt.alloc(), zone.as_ref(), (1970, 1, 1, 5, 0, 0), &[])?;
     expect_eq(&rt, &growths, &0);
     Ok(())
 }
@@ -103,18 +118,20 @@ enum Outcome {
     Copied,
 }
 
-/// The jumps that cross, found and copied where a number of allocations are passed on; and how many allocations were refused and not freed.
-fn copied_with(rt: &impl Abort, alloc: Global, left: u64) -> Result<(Outcome, u64, u64), TzError> {
-    let (transitions, types) = crossing()?;
-    let rule = None;
-    let zone = TimeZoneRef::new(&transitions, &types, &[], &rule)?;
-    let found = [FIRST_JUMP, (19_800, -10_800, -10_800), SECOND_JUMP];
+/// The jumps that cross, found in their zone and copied where a number of allocations are passed on; and how many allocations were refused
+/// and not freed.
+fn copied_with(
+    rt: &impl Abort,
+    alloc: Global,
+    zone: TimeZoneRef<'_>,
+    left: u64,
+) -> Result<(Outcome, u64, u64), TzError> {
     let heap = Refusing::new(alloc, left);
     let Ok(list) = find(&heap, zone, (1970, 1, 1, 2, 30, 0)) else {
         return Ok((Outcome::NotFound, heap.refused(), heap.held()));
     };
     let (kept, is_equal) = copied(alloc, list)?;
-    expect_eq(rt, &kept.as_slice(), &found.as_slice());
+    expect_eq(rt, &kept.as_slice(), &CROSSED.as_slice());
     assert!(rt; is_equal != Some(false));
     let outcome = if is_equal.is_some() {
         Outcome::Copied
@@ -124,20 +141,27 @@ fn copied_with(rt: &impl Abort, alloc: Global, left: u64) -> Result<(Outcome, u6
     Ok((outcome, heap.refused(), heap.held()))
 }
 
-#[test]
-fn a_copy_with_each_growth_refused(rt: HostRuntime) -> Result<(), Fail> {
+/// In the zone with jumps that cross.
+fn expect_copies(rt: &impl Abort, alloc: Global, zone: TimeZoneRef<'_>) -> Result<(), TzError> {
     let mut last = Outcome::NotFound;
     let mut refusals = 0u64;
     for left in 0..MOST {
-        let (outcome, refused, held) = copied_with(&rt, rt.alloc(), left)?;
-        expect_eq(&rt, &refused, &u64::from(outcome != Outcome::Copied));
-        expect_eq(&rt, &held, &0);
+        let (outcome, refused, held) = copied_with(rt, alloc, zone, left)?;
+        expect_eq(rt, &refused, &u64::from(outcome != Outcome::Copied));
+        expect_eq(rt, &held, &0);
         if outcome == Outcome::NotCopied {
             refusals = left + 1;
         }
         last = outcome;
     }
     assert!(rt; refusals > 1);
-    expect_eq(&rt, &last, &Outcome::Copied);
+    expect_eq(rt, &last, &Outcome::Copied);
+    Ok(())
+}
+
+#[test]
+fn a_copy_with_each_growth_refused(rt: HostRuntime) -> Result<(), Fail> {
+    let zone = zone_of(rt.alloc(), &CROSSING)?;
+    expect_copies(&rt, rt.alloc(), zone.as_ref())?;
     Ok(())
 }

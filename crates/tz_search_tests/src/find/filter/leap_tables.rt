@@ -41,7 +41,7 @@ fn entries_around(
 }
 
 /// Transitions before, at and behind the start, at leap times counted from it, and at the ends of 64 bits.
-const TRANSITIONS: [&[(i64, usize)]; 9] = [
+static TRANSITIONS: [&[(i64, usize)]; 9] = [
     &[],
     &[(-1, 1)],
     &[(0, 1)],
@@ -71,10 +71,11 @@ fn transitions_from_start(
     Ok(transitions)
 }
 
-/// The entries of zones with the table, with each list of transitions, and with each rule or none.
-fn entries_of_table(
+/// The entries of zones with the table and the transitions, with each rule or none.
+fn entries_of_rules(
     rt: &impl Abort,
     alloc: Global,
+    transitions: &[Transition],
     leap_seconds: &[LeapSecond],
     unix_time: i64,
 ) -> Result<usize, TzError> {
@@ -89,20 +90,34 @@ fn entries_of_table(
         Some(TransitionRule::Fixed(types[1])),
     ];
     let mut entries = 0usize;
-    for steps in TRANSITIONS {
-        let transitions = transitions_from_start(alloc, steps)?;
-        for rule in &rules {
-            if let Ok(zone) = TimeZoneRef::new(&transitions, &types, leap_seconds, rule) {
-                entries = entries.saturating_add(entries_around(rt, alloc, zone, unix_time)?);
-            }
+    for rule in &rules {
+        if let Ok(zone) = TimeZoneRef::new(transitions, &types, leap_seconds, rule) {
+            entries = entries.saturating_add(entries_around(rt, alloc, zone, unix_time)?);
         }
+    }
+    Ok(entries)
+}
+
+/// The entries of zones with the table, with each list of transitions, and with each rule or none.
+fn entries_of_table(
+    rt: &impl Abort,
+    alloc: Global,
+    leap_seconds: &[LeapSecond],
+    unix_time: i64,
+) -> Result<usize, TzError> {
+    let mut entries = 0usize;
+    for steps in &TRANSITIONS {
+        let transitions = transitions_from_start(alloc, steps)?;
+        let found = entries_of_rules(rt, alloc, &transitions, leap_seconds, unix_time)?;
+        entries = entries.saturating_add(found);
     }
     Ok(entries)
 }
 
 #[test]
 fn clocks_that_begin_with_a_table(rt: HostRuntime) -> Result<(), Fail> {
-    for correction in [27, 0, 2, -2, 1, -1] {
+    static CORRECTIONS: [i32; 6] = [27, 0, 2, -2, 1, -1];
+    for correction in CORRECTIONS.iter().copied() {
         let first = LeapSecond::new(START, correction);
         let unix_time = START.saturating_sub(i64::from(correction));
         let next = LeapSecond::new(START + 2_419_199, correction.saturating_add(1));
@@ -118,43 +133,46 @@ fn clocks_that_begin_with_a_table(rt: HostRuntime) -> Result<(), Fail> {
 /// The last second before the table begins is not found, and a jump behind it is.
 #[test]
 fn a_table_from_2016(rt: HostRuntime) -> Result<(), Fail> {
-    let types = [
-        LocalTimeType::new(0, false, Some(b"AAA"))?,
-        LocalTimeType::new(3600, false, Some(b"BBB"))?,
+    static PARTS: Parts = Parts {
+        types: &[(0, false, Some(b"AAA")), (3600, false, Some(b"BBB"))],
+        transitions: &[(1_500_000_027, 1)],
+        leap_seconds: &[(START, 27)],
+        after: After::Fixed((3600, false, Some(b"BBB"))),
+    };
+    static ROWS: [(Reading, &[Summary]); 3] = [
+        ((2016, 12, 31, 23, 59, 58), &[]),
+        ((2016, 12, 31, 23, 59, 59), &[(1_483_228_799, 0, 0)]),
+        ((2017, 7, 14, 2, 40, 0), &[(1_500_000_000, 0, 3600)]),
     ];
-    let transitions = [Transition::new(1_500_000_027, 1)];
-    let leap_seconds = [LeapSecond::new(START, 27)];
-    let rule = Some(TransitionRule::Fixed(types[1]));
-    let zone = TimeZoneRef::new(&transitions, &types, &leap_seconds, &rule)?;
-    expect_all(
-        &rt,
-        rt.alloc(),
-        zone,
-        &[
-            ((2016, 12, 31, 23, 59, 58), &[]),
-            ((2016, 12, 31, 23, 59, 59), &[(1_483_228_799, 0, 0)]),
-            ((2017, 7, 14, 2, 40, 0), &[(1_500_000_000, 0, 3600)]),
-        ],
-    )?;
+    expect_all_in(&rt, rt.alloc(), &PARTS, &ROWS)?;
     Ok(())
 }
 
 /// The table begins past all date times of the years of 32 bits.
 #[test]
 fn a_table_that_begins_too_late(rt: HostRuntime) -> Result<(), Fail> {
-    let types = [LocalTimeType::utc()];
-    let transitions = [Transition::new(0, 0)];
-    let leap_seconds = [LeapSecond::new(i64::MAX, 3)];
-    let rule = Some(TransitionRule::Fixed(types[0]));
-    let zone = TimeZoneRef::new(&transitions, &types, &leap_seconds, &rule)?;
-    expect_found(&rt, rt.alloc(), zone, (2000, 1, 1, 0, 0, 0), &[])?;
-    let zone = TimeZoneRef::new(&[], &types, &leap_seconds, &rule)?;
-    expect_found(
-        &rt,
-        rt.alloc(),
-        zone,
-        (2000, 1, 1, 0, 0, 0),
-        &[(946_684_800, 0, 0)],
-    )?;
+    static ROWS: [(Parts, &[(Reading, &[Summary])]); 2] = [
+        (
+            Parts {
+                types: &[(0, false, None)],
+                transitions: &[(0, 0)],
+                leap_seconds: &[(i64::MAX, 3)],
+                after: After::Fixed((0, false, None)),
+            },
+            &[((2000, 1, 1, 0, 0, 0), &[])],
+        ),
+        (
+            Parts {
+                types: &[(0, false, None)],
+                transitions: &[],
+                leap_seconds: &[(i64::MAX, 3)],
+                after: After::Fixed((0, false, None)),
+            },
+            &[((2000, 1, 1, 0, 0, 0), &[(946_684_800, 0, 0)])],
+        ),
+    ];
+    for (parts, rows) in &ROWS {
+        expect_all_in(&rt, rt.alloc(), parts, rows)?;
+    }
     Ok(())
 }
