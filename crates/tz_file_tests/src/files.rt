@@ -32,8 +32,9 @@ fn a_file_of_the_machine_is_read_whole(rt: HostRuntime) -> Result<(), Fail> {
 
 #[test]
 fn a_directory_or_no_file_is_a_fault(rt: HostRuntime) -> Result<(), Fail> {
+    static PATHS: [&str; 4] = ["/", "/no/such/file", "", "/etc\0/localtime"];
     let alloc = rt.alloc();
-    for path in ["/", "/no/such/file", "", "/etc\0/localtime"] {
+    for path in &PATHS {
         let read = read_file(&rt, alloc, path);
         assert!(rt; matches!(read, Err(ReadFault::Failed(_))), "{path}");
     }

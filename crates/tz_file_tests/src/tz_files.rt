@@ -19,13 +19,16 @@ fn fault_of(alloc: Global, bytes: &[u8]) -> Option<Fault> {
     TimeZone::from_tz_data(alloc, bytes).err().map(named)
 }
 
+/// Bytes are missing: a row of a table says so.
+const CUT: Option<Fault> = Some(Fault::File(TzFileError::ParseData(ParseDataError::UnexpectedEof)));
+
 /// Bytes are missing.
 fn is_cut() -> Option<Fault> {
-    Some(Fault::File(TzFileError::ParseData(ParseDataError::UnexpectedEof)))
+    CUT
 }
 
 /// The times of the 27 leap seconds up to 2017, each of one second more.
-const LEAP_TIMES: [i32; 27] = [
+static LEAP_TIMES: [i32; 27] = [
     78_796_800,
     94_694_401,
     126_230_402,
@@ -77,6 +80,23 @@ fn with_byte(alloc: Global, bytes: &[u8], place: usize, byte: u8) -> Result<Vec<
         other[place] = byte;
     }
     Ok(other)
+}
+
+/// A place, another byte there, and how the file is then refused.
+type Alteration = (usize, u8, Option<Fault>);
+
+/// The bytes are refused so with each of these alterations.
+fn expect_refusals(
+    rt: &impl Abort,
+    alloc: Global,
+    bytes: &[u8],
+    rows: &[Alteration],
+) -> Result<(), AllocError> {
+    for (place, byte, expected) in rows {
+        let other = with_byte(alloc, bytes, *place, *byte)?;
+        expect_eq_at(rt, place, &fault_of(alloc, &other), expected);
+    }
+    Ok(())
 }
 
 #[test]
@@ -164,7 +184,7 @@ fn jerusalem_v3(alloc: Global) -> Result<Vec<u8>, AllocError> {
 }
 
 /// The transitions of Honolulu's times.
-const HONOLULU: [(i64, u8); 7] = [
+static HONOLULU: [(i64, u8); 7] = [
     (-2_334_101_314, 1),
     (-1_157_283_000, 2),
     (-1_155_436_200, 1),
@@ -176,20 +196,21 @@ const HONOLULU: [(i64, u8); 7] = [
 
 /// The types, their names and their indicators.
 fn push_honolulu_types(bytes: &mut Vec<u8>) -> Result<(), AllocError> {
-    for (_, index) in &HONOLULU {
-        bytes.push(*index)?;
-    }
-    for (ut_offset, is_dst, name) in [
-        (-37_886i32, 0u8, 0u8),
+    static TYPES: [(i32, u8, u8); 6] = [
+        (-37_886, 0, 0),
         (-37_800, 0, 4),
         (-34_200, 1, 8),
         (-34_200, 1, 12),
         (-34_200, 1, 16),
         (-36_000, 0, 4),
-    ] {
+    ];
+    for (_, index) in &HONOLULU {
+        bytes.push(*index)?;
+    }
+    for (ut_offset, is_dst, name) in &TYPES {
         bytes.extend_from_slice(&ut_offset.to_be_bytes())?;
-        bytes.push(is_dst)?;
-        bytes.push(name)?;
+        bytes.push(*is_dst)?;
+        bytes.push(*name)?;
     }
     bytes.extend_from_slice(b"LMT\0HST\0HDT\0HWT\0HPT\0")?;
     bytes.extend_from_slice(b"\0\0\0\0\x01\0\0\0\0\0\x01\0")
@@ -197,9 +218,7 @@ fn push_honolulu_types(bytes: &mut Vec<u8>) -> Result<(), AllocError> {
 
 /// Honolulu from 1896 on.
 fn honolulu_v2(alloc: Global) -> Result<Vec<u8>, AllocError> {
-    let mut bytes = Vec::new(alloc);
-    push_header(&mut bytes, b'2', &[6, 6, 0, 7, 6, 20])?;
-    for time in [
+    static TIMES: [i32; 7] = [
         i32::MIN,
         -1_157_283_000,
         -1_155_436_200,
@@ -207,7 +226,10 @@ fn honolulu_v2(alloc: Global) -> Result<Vec<u8>, AllocError> {
         -769_395_600,
         -765_376_200,
         -712_150_200,
-    ] {
+    ];
+    let mut bytes = Vec::new(alloc);
+    push_header(&mut bytes, b'2', &[6, 6, 0, 7, 6, 20])?;
+    for time in &TIMES {
         bytes.extend_from_slice(&time.to_be_bytes())?;
     }
     push_honolulu_types(&mut bytes)?;
@@ -253,16 +275,14 @@ fn expect_jerusalem(rt: &impl Abort, alloc: Global, bytes: &[u8]) -> Result<(), 
 
 #[test]
 fn jerusalem_is_read(rt: HostRuntime) -> Result<(), Fail> {
+    // The first header's version and the first block's content make no difference, nor does a time of UT.
+    static ALTERED: [(usize, u8); 4] = [(4, b'2'), (48, 7), (58, b'4'), (118, 0)];
     let bytes = jerusalem_v3(rt.alloc())?;
     expect_eq(&rt, &bytes.len(), &147);
     expect_jerusalem(&rt, rt.alloc(), &bytes)?;
-    // The first header's version and the first block's content make no difference, nor does a time of UT.
-    for (place, byte) in [(4, b'2'), (48, 7), (58, b'4'), (118, 0)] {
-        expect_jerusalem(
-            &rt,
-            rt.alloc(),
-            &with_byte(rt.alloc(), &bytes, place, byte)?,
-        )?;
+    for (place, byte) in &ALTERED {
+        let altered = with_byte(rt.alloc(), &bytes, *place, *byte)?;
+        expect_jerusalem(&rt, rt.alloc(), &altered)?;
     }
     Ok(())
 }
@@ -295,14 +315,17 @@ fn honolulu_is_read(rt: HostRuntime) -> Result<(), Fail> {
 
 #[test]
 fn footers_are_read(rt: HostRuntime) -> Result<(), Fail> {
+    // Footers, and whether they are the rule of two hours.
+    static ROWS: [(&[u8], bool); 5] = [
+        (b"\n\n", false),
+        (b"\n \t\n", false),
+        (b"\nIST-2\n", true),
+        (b"\nIST-2\r\n", true),
+        (b"\n\x0c IST-2 \n", true),
+    ];
     let fixed = TransitionRule::Fixed(LocalTimeType::new(7200, false, Some(b"IST"))?);
-    for (footer, expected) in [
-        (b"\n\n".as_slice(), None),
-        (b"\n \t\n", None),
-        (b"\nIST-2\n", Some(fixed)),
-        (b"\nIST-2\r\n", Some(fixed)),
-        (b"\n\x0c IST-2 \n", Some(fixed)),
-    ] {
+    for (footer, has_rule) in &ROWS {
+        let expected = if *has_rule { Some(fixed) } else { None };
         let bytes = with_footer(rt.alloc(), b'3', footer)?;
         let zone = TimeZone::from_tz_data(rt.alloc(), &bytes)?;
         expect_eq(&rt, zone.as_ref().extra_rule(), &expected);
@@ -312,23 +335,27 @@ fn footers_are_read(rt: HostRuntime) -> Result<(), Fail> {
 
 #[test]
 fn footers_are_refused(rt: HostRuntime) -> Result<(), Fail> {
-    for (footer, expected) in [
-        (b"".as_slice(), Fault::File(TzFileError::InvalidFooter)),
-        (b"\nIST-2", Fault::File(TzFileError::InvalidFooter)),
-        (b"IST-2\n", Fault::File(TzFileError::InvalidFooter)),
-        (b"\n:x\n", Fault::File(TzFileError::InvalidFooter)),
-        (b"\nA\0\x30\n", Fault::File(TzFileError::InvalidFooter)),
+    static ROWS: [(&[u8], Option<Fault>); 7] = [
+        (b"", Some(Fault::File(TzFileError::InvalidFooter))),
+        (b"\nIST-2", Some(Fault::File(TzFileError::InvalidFooter))),
+        (b"IST-2\n", Some(Fault::File(TzFileError::InvalidFooter))),
+        (b"\n:x\n", Some(Fault::File(TzFileError::InvalidFooter))),
+        (
+            b"\nA\0\x30\n",
+            Some(Fault::File(TzFileError::InvalidFooter)),
+        ),
         (
             b"\nIST-3\n",
-            Fault::Zone(TimeZoneError::InconsistentExtraRule),
+            Some(Fault::Zone(TimeZoneError::InconsistentExtraRule)),
         ),
         (
             b"\nIST-2IDT,J1.J2\n",
-            Fault::Text(TzStringError::ParseData(ParseDataError::InvalidData)),
+            Some(Fault::Text(TzStringError::ParseData(ParseDataError::InvalidData))),
         ),
-    ] {
+    ];
+    for (footer, expected) in &ROWS {
         let bytes = with_footer(rt.alloc(), b'3', footer)?;
-        expect_eq(&rt, &fault_of(rt.alloc(), &bytes), &Some(expected));
+        expect_eq(&rt, &fault_of(rt.alloc(), &bytes), expected);
     }
     let bytes = with_footer(rt.alloc(), b'3', b"\n\xff\n")?;
     let refused = fault_of(rt.alloc(), &bytes);

@@ -39,20 +39,21 @@ fn named<A: Allocator>(alloc: Global, read: Result<Vec<u8, A>, ReadFault>) -> Re
 
 #[test]
 fn a_reader_is_read_to_its_end_or_fails(rt: HostRuntime) -> Result<(), Fail> {
-    let alloc = rt.alloc();
-    let text = "three and twenty bytes.";
-    for (calls_left, wanted) in [
+    const TEXT: &str = "three and twenty bytes.";
+    static ROWS: [(u64, &str); 4] = [
         (0, "failed: the disk is gone"),
         (1, "failed: the disk is gone"),
         (3, "failed: the disk is gone"),
-        (4, text),
-    ] {
+        (4, TEXT),
+    ];
+    let alloc = rt.alloc();
+    for (calls_left, wanted) in &ROWS {
         let mut input = Input {
-            rest: text.as_bytes(),
-            calls_left,
+            rest: TEXT.as_bytes(),
+            calls_left: *calls_left,
         };
         let read = named(alloc, read_to_end(alloc, &mut input))?;
-        expect_eq_at(&rt, &calls_left, &read.as_str(), &wanted);
+        expect_eq_at(&rt, calls_left, &read.as_str(), wanted);
     }
     Ok(())
 }

@@ -3,20 +3,41 @@
 use super::*;
 use crate::expect::{expect_eq, expect_eq_at};
 
+/// The bytes are refused where some are missing at their end, and where one too many is there.
+fn expect_cut(rt: &impl Abort, alloc: Global, bytes: &[u8]) -> Result<(), AllocError> {
+    for len in 0..bytes.len() {
+        expect_eq_at(rt, &len, &fault_of(alloc, &bytes[..len]), &is_cut());
+    }
+    let mut longer = Vec::from_slice(alloc, bytes)?;
+    longer.push(0)?;
+    expect_eq(
+        rt,
+        &fault_of(alloc, &longer),
+        &Some(Fault::File(TzFileError::RemainingDataV1)),
+    );
+    Ok(())
+}
+
 #[test]
 fn cut_files_are_refused(rt: HostRuntime) -> Result<(), Fail> {
-    for bytes in [utc_v1(rt.alloc())?, utc_v1_leap(rt.alloc())?] {
-        for len in 0..bytes.len() {
-            expect_eq_at(&rt, &len, &fault_of(rt.alloc(), &bytes[..len]), &is_cut());
-        }
-        let mut longer = bytes.clone()?;
-        longer.push(0)?;
-        expect_eq(
-            &rt,
-            &fault_of(rt.alloc(), &longer),
-            &Some(Fault::File(TzFileError::RemainingDataV1)),
-        );
-    }
+    expect_cut(&rt, rt.alloc(), &utc_v1(rt.alloc())?)?;
+    expect_cut(&rt, rt.alloc(), &utc_v1_leap(rt.alloc())?)?;
+    Ok(())
+}
+
+/// Israel's zone without a rule has a type up to its transition alone.
+fn expect_no_rule(rt: &impl Abort, zone: &TimeZone) -> Result<(), TzError> {
+    assert!(rt; zone.as_ref().extra_rule().is_none());
+    expect_eq(
+        rt,
+        &zone.find_local_time_type(2_145_916_799)?.ut_offset(),
+        &7200,
+    );
+    expect_eq(
+        rt,
+        &zone.find_local_time_type(2_145_916_800).err().map(named),
+        &Some(Fault::NoType),
+    );
     Ok(())
 }
 
@@ -33,97 +54,110 @@ fn cut_later_files_are_refused(rt: HostRuntime) -> Result<(), Fail> {
     }
     let cut = with_footer(rt.alloc(), b'3', b"\n")?;
     expect_eq(&rt, &cut.len(), &120);
-    let zone = TimeZone::from_tz_data(rt.alloc(), &cut)?;
-    assert!(rt; zone.as_ref().extra_rule().is_none());
-    expect_eq(
-        &rt,
-        &zone.find_local_time_type(2_145_916_799)?.ut_offset(),
-        &7200,
-    );
-    expect_eq(
-        &rt,
-        &zone.find_local_time_type(2_145_916_800).err().map(named),
-        &Some(Fault::NoType),
-    );
+    expect_no_rule(&rt, &TimeZone::from_tz_data(rt.alloc(), &cut)?)?;
     Ok(())
 }
 
 #[test]
 fn altered_bytes_are_refused(rt: HostRuntime) -> Result<(), Fail> {
-    let bytes = utc_v1(rt.alloc())?;
-    for (place, byte, expected) in [
-        (2, b'j', Fault::File(TzFileError::InvalidMagicNumber)),
-        (4, b'5', Fault::File(TzFileError::UnsupportedTzFileVersion)),
-        (23, 2, Fault::File(TzFileError::InvalidHeader)),
-        (27, 2, Fault::File(TzFileError::InvalidHeader)),
-        (39, 0, Fault::File(TzFileError::InvalidHeader)),
-        (43, 0, Fault::File(TzFileError::InvalidHeader)),
-        (43, 3, Fault::File(TzFileError::RemainingDataV1)),
-        (48, 2, Fault::File(TzFileError::InvalidDstIndicator)),
+    static ROWS: [Alteration; 13] = [
+        (2, b'j', Some(Fault::File(TzFileError::InvalidMagicNumber))),
+        (
+            4,
+            b'5',
+            Some(Fault::File(TzFileError::UnsupportedTzFileVersion)),
+        ),
+        (23, 2, Some(Fault::File(TzFileError::InvalidHeader))),
+        (27, 2, Some(Fault::File(TzFileError::InvalidHeader))),
+        (39, 0, Some(Fault::File(TzFileError::InvalidHeader))),
+        (43, 0, Some(Fault::File(TzFileError::InvalidHeader))),
+        (43, 3, Some(Fault::File(TzFileError::RemainingDataV1))),
+        (48, 2, Some(Fault::File(TzFileError::InvalidDstIndicator))),
         (
             49,
             4,
-            Fault::File(TzFileError::InvalidTimeZoneDesignationCharIndex),
+            Some(Fault::File(TzFileError::InvalidTimeZoneDesignationCharIndex)),
         ),
         (
             53,
             b'x',
-            Fault::File(TzFileError::InvalidTimeZoneDesignationCharIndex),
+            Some(Fault::File(TzFileError::InvalidTimeZoneDesignationCharIndex)),
         ),
         (
             50,
             b'_',
-            Fault::Type(LocalTimeTypeError::InvalidTimeZoneDesignationChar),
+            Some(Fault::Type(LocalTimeTypeError::InvalidTimeZoneDesignationChar)),
         ),
-        (44, 0x80, Fault::Type(LocalTimeTypeError::InvalidUtcOffset)),
-    ] {
-        let other = with_byte(rt.alloc(), &bytes, place, byte)?;
-        expect_eq_at(&rt, &place, &fault_of(rt.alloc(), &other), &Some(expected));
-    }
-    let other = with_byte(rt.alloc(), &bytes, 43, 5)?;
-    expect_eq(&rt, &fault_of(rt.alloc(), &other), &is_cut());
+        (
+            44,
+            0x80,
+            Some(Fault::Type(LocalTimeTypeError::InvalidUtcOffset)),
+        ),
+        (43, 5, CUT),
+    ];
+    let bytes = utc_v1(rt.alloc())?;
+    expect_refusals(&rt, rt.alloc(), &bytes, &ROWS)?;
     Ok(())
 }
 
 #[test]
 fn altered_leap_seconds_are_refused(rt: HostRuntime) -> Result<(), Fail> {
+    // The first time is negative, the first correction is 2, a time of UT goes with no standard time; one that goes with it is accepted.
+    static ROWS: [Alteration; 5] = [
+        (
+            54,
+            0x80,
+            Some(Fault::Zone(TimeZoneError::InvalidLeapSecond)),
+        ),
+        (61, 2, Some(Fault::Zone(TimeZoneError::InvalidLeapSecond))),
+        (
+            271,
+            1,
+            Some(Fault::File(TzFileError::InvalidStdWallUtLocal)),
+        ),
+        (
+            270,
+            2,
+            Some(Fault::File(TzFileError::InvalidStdWallUtLocal)),
+        ),
+        (270, 1, None),
+    ];
     let bytes = utc_v1_leap(rt.alloc())?;
-    // The first time is negative, the first correction is 2, a time of UT goes with no standard time.
-    for (place, byte, expected) in [
-        (54, 0x80, Fault::Zone(TimeZoneError::InvalidLeapSecond)),
-        (61, 2, Fault::Zone(TimeZoneError::InvalidLeapSecond)),
-        (271, 1, Fault::File(TzFileError::InvalidStdWallUtLocal)),
-        (270, 2, Fault::File(TzFileError::InvalidStdWallUtLocal)),
-    ] {
-        let other = with_byte(rt.alloc(), &bytes, place, byte)?;
-        expect_eq_at(&rt, &place, &fault_of(rt.alloc(), &other), &Some(expected));
-    }
-    let other = with_byte(rt.alloc(), &bytes, 270, 1)?;
-    expect_eq(&rt, &fault_of(rt.alloc(), &other), &None);
+    expect_refusals(&rt, rt.alloc(), &bytes, &ROWS)?;
     Ok(())
 }
 
 #[test]
 fn altered_later_files_are_refused(rt: HostRuntime) -> Result<(), Fail> {
-    let bytes = jerusalem_v3(rt.alloc())?;
-    for (place, byte, expected) in [
-        (2, b'j', Fault::File(TzFileError::InvalidMagicNumber)),
-        (4, 0, Fault::File(TzFileError::RemainingDataV1)),
-        (56, b'j', Fault::File(TzFileError::InvalidMagicNumber)),
-        (58, b'2', Fault::Text(TzStringError::InvalidDayTimeHour)),
-        (58, 0, Fault::Text(TzStringError::InvalidDayTimeHour)),
-        (58, b'5', Fault::File(TzFileError::UnsupportedTzFileVersion)),
+    static ROWS: [Alteration; 9] = [
+        (2, b'j', Some(Fault::File(TzFileError::InvalidMagicNumber))),
+        (4, 0, Some(Fault::File(TzFileError::RemainingDataV1))),
+        (56, b'j', Some(Fault::File(TzFileError::InvalidMagicNumber))),
+        (
+            58,
+            b'2',
+            Some(Fault::Text(TzStringError::InvalidDayTimeHour)),
+        ),
+        (58, 0, Some(Fault::Text(TzStringError::InvalidDayTimeHour))),
+        (
+            58,
+            b'5',
+            Some(Fault::File(TzFileError::UnsupportedTzFileVersion)),
+        ),
         (
             106,
             1,
-            Fault::Zone(TimeZoneError::InvalidLocalTimeTypeIndex),
+            Some(Fault::Zone(TimeZoneError::InvalidLocalTimeTypeIndex)),
         ),
-        (117, 0, Fault::File(TzFileError::InvalidStdWallUtLocal)),
-        (146, b' ', Fault::File(TzFileError::InvalidFooter)),
-    ] {
-        let other = with_byte(rt.alloc(), &bytes, place, byte)?;
-        expect_eq_at(&rt, &place, &fault_of(rt.alloc(), &other), &Some(expected));
-    }
+        (
+            117,
+            0,
+            Some(Fault::File(TzFileError::InvalidStdWallUtLocal)),
+        ),
+        (146, b' ', Some(Fault::File(TzFileError::InvalidFooter))),
+    ];
+    let bytes = jerusalem_v3(rt.alloc())?;
+    expect_refusals(&rt, rt.alloc(), &bytes, &ROWS)?;
     Ok(())
 }
 
@@ -142,21 +176,31 @@ fn a_name_may_be_empty(rt: HostRuntime) -> Result<(), Fail> {
 /// One list of indicators may stand without the other one, whose indicators then count as 0.
 #[test]
 fn one_list_of_indicators(rt: HostRuntime) -> Result<(), Fail> {
-    let refused = Some(Fault::File(TzFileError::InvalidStdWallUtLocal));
-    for (ut_locals, std_walls, indicator, expected) in [
+    static ROWS: [(u32, u32, u8, Option<Fault>); 5] = [
         (0, 1, 0, None),
         (0, 1, 1, None),
-        (0, 1, 2, refused.as_ref()),
+        (
+            0,
+            1,
+            2,
+            Some(Fault::File(TzFileError::InvalidStdWallUtLocal)),
+        ),
         (1, 0, 0, None),
-        (1, 0, 1, refused.as_ref()),
-    ] {
+        (
+            1,
+            0,
+            1,
+            Some(Fault::File(TzFileError::InvalidStdWallUtLocal)),
+        ),
+    ];
+    for (ut_locals, std_walls, indicator, expected) in &ROWS {
         let mut bytes = Vec::new(rt.alloc());
-        push_header(&mut bytes, 0, &[ut_locals, std_walls, 0, 0, 1, 4])?;
+        push_header(&mut bytes, 0, &[*ut_locals, *std_walls, 0, 0, 1, 4])?;
         bytes.extend_from_slice(b"\0\0\0\0\0\0UTC\0")?;
-        bytes.push(indicator)?;
+        bytes.push(*indicator)?;
         assert_eq!(rt;
-            fault_of(rt.alloc(), &bytes).as_ref(),
-            expected,
+            fault_of(rt.alloc(), &bytes),
+            *expected,
             "{ut_locals} {std_walls} {indicator}"
         );
     }

@@ -16,7 +16,7 @@ struct Unit<'a> {
 }
 
 /// Central Europe up to 1998, after a first type of local mean time.
-const FAT: Unit<'static> = Unit {
+static FAT: Unit<'static> = Unit {
     transitions: &[
         (-1_883_091_208, 1),
         (828_234_000, 2),
@@ -33,7 +33,7 @@ const FAT: Unit<'static> = Unit {
 };
 
 /// The first block of a slim file: one type and one name byte, since there have to be some.
-const NOTHING: Unit<'static> = Unit {
+static NOTHING: Unit<'static> = Unit {
     transitions: &[],
     types: &[(0, 0, 0)],
     names: b"\0",
@@ -42,7 +42,7 @@ const NOTHING: Unit<'static> = Unit {
 };
 
 /// The east of the United States, with the transitions alone that the rule does not have.
-const SLIM: Unit<'static> = Unit {
+static SLIM: Unit<'static> = Unit {
     transitions: &[
         (-2_717_650_800, 2),
         (1_143_961_200, 1),
@@ -56,7 +56,7 @@ const SLIM: Unit<'static> = Unit {
 };
 
 /// Great Britain from 1972 to 1974, with the leap seconds of these years and times that count them.
-const LEAPING: Unit<'static> = Unit {
+static LEAPING: Unit<'static> = Unit {
     transitions: &[
         (69_818_400, 1),
         (89_172_001, 0),
@@ -148,51 +148,89 @@ fn expect_offsets(rt: &impl Abort, zone: &TimeZone, offsets: &[(i64, i32)]) -> R
     Ok(())
 }
 
-/// The zone of the fat file, with a rule or none.
-fn fat_zone(alloc: Global, extra_rule: Option<TransitionRule>) -> Result<TimeZone, Fail> {
-    let transitions = [
-        Transition::new(-1_883_091_208, 1),
-        Transition::new(828_234_000, 2),
-        Transition::new(846_378_000, 1),
-        Transition::new(859_683_600, 2),
-        Transition::new(877_827_600, 1),
-        Transition::new(891_133_200, 2),
-        Transition::new(909_277_200, 1),
-    ];
-    let types = [
-        LocalTimeType::new(3208, false, Some(b"LMT"))?,
-        LocalTimeType::new(3600, false, Some(b"CET"))?,
-        LocalTimeType::new(7200, true, Some(b"CEST"))?,
-    ];
-    Ok(TimeZone::new(
-        Vec::from_array(alloc, transitions)?,
-        Vec::from_array(alloc, types)?,
-        Vec::new(alloc),
-        extra_rule,
-    )?)
+/// A type: its offset, whether it is daylight saving time, and its name.
+type TypeRow = (i32, bool, &'static [u8]);
+
+/// What a zone is made of, beside its rule: its transitions with their types, its types, and its leap seconds.
+struct Parts {
+    transitions: &'static [(i64, usize)],
+    types: &'static [TypeRow],
+    leap_seconds: &'static [(i64, i32)],
 }
+
+fn transitions_of(alloc: Global, rows: &[(i64, usize)]) -> Result<Vec<Transition>, AllocError> {
+    let mut transitions = Vec::new(alloc);
+    for (unix_leap_time, index) in rows {
+        transitions.push(Transition::new(*unix_leap_time, *index))?;
+    }
+    Ok(transitions)
+}
+
+fn types_of(alloc: Global, rows: &[TypeRow]) -> Result<Vec<LocalTimeType>, TzError> {
+    let mut types = Vec::new(alloc);
+    for (ut_offset, is_dst, name) in rows {
+        types.push(LocalTimeType::new(*ut_offset, *is_dst, Some(*name))?)?;
+    }
+    Ok(types)
+}
+
+fn leap_seconds_of(alloc: Global, rows: &[(i64, i32)]) -> Result<Vec<LeapSecond>, AllocError> {
+    let mut leap_seconds = Vec::new(alloc);
+    for (unix_leap_time, correction) in rows {
+        leap_seconds.push(LeapSecond::new(*unix_leap_time, *correction))?;
+    }
+    Ok(leap_seconds)
+}
+
+/// The zone of the parts, with a rule or none.
+fn zone_of(
+    alloc: Global,
+    parts: &Parts,
+    extra_rule: Option<TransitionRule>,
+) -> Result<TimeZone, TzError> {
+    let types = types_of(alloc, parts.types)?;
+    let leap_seconds = leap_seconds_of(alloc, parts.leap_seconds)?;
+    let transitions = transitions_of(alloc, parts.transitions)?;
+    TimeZone::new(transitions, types, leap_seconds, extra_rule)
+}
+
+/// The parts of the fat file's zone.
+static FAT_PARTS: Parts = Parts {
+    transitions: &[
+        (-1_883_091_208, 1),
+        (828_234_000, 2),
+        (846_378_000, 1),
+        (859_683_600, 2),
+        (877_827_600, 1),
+        (891_133_200, 2),
+        (909_277_200, 1),
+    ],
+    types: &[
+        (3208, false, b"LMT"),
+        (3600, false, b"CET"),
+        (7200, true, b"CEST"),
+    ],
+    leap_seconds: &[],
+};
 
 #[test]
 fn a_fat_file_is_read(rt: HostRuntime) -> Result<(), Fail> {
+    static OFFSETS: [(i64, i32); 8] = [
+        (-1_883_091_209, 3208),
+        (-1_883_091_208, 3600),
+        (846_377_999, 7200),
+        (846_378_000, 3600),
+        (909_277_199, 7200),
+        (909_277_200, 3600),
+        (1_711_846_799, 3600),
+        (1_711_846_800, 7200),
+    ];
     let bytes = file(rt.alloc(), &FAT, &FAT, b"\nCET-1CEST,M3.5.0,M10.5.0/3\n")?;
     expect_eq(&rt, &bytes.len(), &288);
     let zone = TimeZone::from_tz_data(rt.alloc(), &bytes)?;
     let rule = TransitionRule::Alternate(central_europe()?);
-    assert!(rt; zone == fat_zone(rt.alloc(), Some(rule))?);
-    expect_offsets(
-        &rt,
-        &zone,
-        &[
-            (-1_883_091_209, 3208),
-            (-1_883_091_208, 3600),
-            (846_377_999, 7200),
-            (846_378_000, 3600),
-            (909_277_199, 7200),
-            (909_277_200, 3600),
-            (1_711_846_799, 3600),
-            (1_711_846_800, 7200),
-        ],
-    )
+    assert!(rt; zone == zone_of(rt.alloc(), &FAT_PARTS, Some(rule))?);
+    expect_offsets(&rt, &zone, &OFFSETS)
 }
 
 /// The first block of a fat file is a file of version 1.
@@ -203,7 +241,7 @@ fn times_of_four_bytes_are_read(rt: HostRuntime) -> Result<(), Fail> {
     expect_eq(&rt, &bytes.len(), &116);
     let bytes = with_byte(rt.alloc(), &bytes, 4, 0)?;
     let zone = TimeZone::from_tz_data(rt.alloc(), &bytes)?;
-    assert!(rt; zone == fat_zone(rt.alloc(), None)?);
+    assert!(rt; zone == zone_of(rt.alloc(), &FAT_PARTS, None)?);
     expect_offsets(&rt, &zone, &[(-1_883_091_209, 3208), (909_277_199, 7200)])?;
     let after = zone.find_local_time_type(909_277_200).err().map(named);
     expect_eq(&rt, &after, &Some(Fault::NoType));
@@ -212,108 +250,90 @@ fn times_of_four_bytes_are_read(rt: HostRuntime) -> Result<(), Fail> {
 
 /// The zone of the slim file.
 fn slim_zone(alloc: Global) -> Result<TimeZone, Fail> {
-    let transitions = [
-        Transition::new(-2_717_650_800, 2),
-        Transition::new(1_143_961_200, 1),
-        Transition::new(1_162_101_600, 2),
-        Transition::new(1_173_596_400, 1),
-    ];
-    let daylight = LocalTimeType::new(-14_400, true, Some(b"EDT"))?;
-    let standard = LocalTimeType::new(-18_000, false, Some(b"EST"))?;
-    let types = [
-        LocalTimeType::new(-17_762, false, Some(b"LMT"))?,
-        daylight,
-        standard,
-    ];
+    static PARTS: Parts = Parts {
+        transitions: &[
+            (-2_717_650_800, 2),
+            (1_143_961_200, 1),
+            (1_162_101_600, 2),
+            (1_173_596_400, 1),
+        ],
+        types: &[
+            (-17_762, false, b"LMT"),
+            (-14_400, true, b"EDT"),
+            (-18_000, false, b"EST"),
+        ],
+        leap_seconds: &[],
+    };
     let rule = AlternateTime::new(
-        standard,
-        daylight,
+        LocalTimeType::new(-18_000, false, Some(b"EST"))?,
+        LocalTimeType::new(-14_400, true, Some(b"EDT"))?,
         sunday(3, 2)?,
         7200,
         sunday(11, 1)?,
         7200,
     )?;
-    Ok(TimeZone::new(
-        Vec::from_array(alloc, transitions)?,
-        Vec::from_array(alloc, types)?,
-        Vec::new(alloc),
-        Some(TransitionRule::Alternate(rule)),
-    )?)
+    Ok(zone_of(alloc, &PARTS, Some(TransitionRule::Alternate(rule)))?)
 }
 
 #[test]
 fn a_slim_file_is_read(rt: HostRuntime) -> Result<(), Fail> {
+    static OFFSETS: [(i64, i32); 6] = [
+        (-2_717_650_801, -17_762),
+        (-2_717_650_800, -18_000),
+        (1_173_596_399, -18_000),
+        (1_173_596_400, -14_400),
+        (1_194_155_999, -14_400),
+        (1_194_156_000, -18_000),
+    ];
     let bytes = file(rt.alloc(), &NOTHING, &SLIM, b"\nEST5EDT,M3.2.0,M11.1.0\n")?;
     expect_eq(&rt, &bytes.len(), &185);
     let zone = TimeZone::from_tz_data(rt.alloc(), &bytes)?;
     assert!(rt; zone == slim_zone(rt.alloc())?);
-    expect_offsets(
-        &rt,
-        &zone,
-        &[
-            (-2_717_650_801, -17_762),
-            (-2_717_650_800, -18_000),
-            (1_173_596_399, -18_000),
-            (1_173_596_400, -14_400),
-            (1_194_155_999, -14_400),
-            (1_194_156_000, -18_000),
-        ],
-    )
+    expect_offsets(&rt, &zone, &OFFSETS)
 }
 
 /// The zone of the file with leap seconds.
 fn leaping_zone(alloc: Global) -> Result<TimeZone, Fail> {
-    let transitions = [
-        Transition::new(69_818_400, 1),
-        Transition::new(89_172_001, 0),
-        Transition::new(101_268_002, 1),
-        Transition::new(120_621_602, 0),
-        Transition::new(132_717_603, 1),
-    ];
-    let standard = LocalTimeType::new(0, false, Some(b"GMT"))?;
-    let daylight = LocalTimeType::new(3600, true, Some(b"BST"))?;
-    let leap_seconds = [
-        LeapSecond::new(78_796_800, 1),
-        LeapSecond::new(94_694_401, 2),
-        LeapSecond::new(126_230_402, 3),
-    ];
+    static PARTS: Parts = Parts {
+        transitions: &[
+            (69_818_400, 1),
+            (89_172_001, 0),
+            (101_268_002, 1),
+            (120_621_602, 0),
+            (132_717_603, 1),
+        ],
+        types: &[(0, false, b"GMT"), (3600, true, b"BST")],
+        leap_seconds: &[(78_796_800, 1), (94_694_401, 2), (126_230_402, 3)],
+    };
     let rule = AlternateTime::new(
-        standard,
-        daylight,
+        LocalTimeType::new(0, false, Some(b"GMT"))?,
+        LocalTimeType::new(3600, true, Some(b"BST"))?,
         sunday(3, 3)?,
         7200,
         sunday(10, 5)?,
         10_800,
     )?;
-    Ok(TimeZone::new(
-        Vec::from_array(alloc, transitions)?,
-        Vec::from_array(alloc, [standard, daylight])?,
-        Vec::from_array(alloc, leap_seconds)?,
-        Some(TransitionRule::Alternate(rule)),
-    )?)
+    Ok(zone_of(alloc, &PARTS, Some(TransitionRule::Alternate(rule)))?)
 }
 
 #[test]
 fn a_file_with_leap_seconds_is_read(rt: HostRuntime) -> Result<(), Fail> {
+    // The transitions are at the full hour of UTC, without the leap seconds that their times count.
+    static OFFSETS: [(i64, i32); 10] = [
+        (69_818_399, 0),
+        (69_818_400, 3600),
+        (89_171_999, 3600),
+        (89_172_000, 0),
+        (101_267_999, 0),
+        (101_268_000, 3600),
+        (132_717_599, 0),
+        (132_717_600, 3600),
+        (152_071_199, 3600),
+        (152_071_200, 0),
+    ];
     let footer = b"\nGMT0BST,M3.3.0/2,M10.5.0/3\n";
     let bytes = file(rt.alloc(), &LEAPING, &LEAPING, footer)?;
     let zone = TimeZone::from_tz_data(rt.alloc(), &bytes)?;
     assert!(rt; zone == leaping_zone(rt.alloc())?);
-    // The transitions are at the full hour of UTC, without the leap seconds that their times count.
-    expect_offsets(
-        &rt,
-        &zone,
-        &[
-            (69_818_399, 0),
-            (69_818_400, 3600),
-            (89_171_999, 3600),
-            (89_172_000, 0),
-            (101_267_999, 0),
-            (101_268_000, 3600),
-            (132_717_599, 0),
-            (132_717_600, 3600),
-            (152_071_199, 3600),
-            (152_071_200, 0),
-        ],
-    )
+    expect_offsets(&rt, &zone, &OFFSETS)
 }

@@ -64,39 +64,79 @@ fn a_table_that_begins_later_and_expires(rt: HostRuntime) -> Result<(), Fail> {
 
 #[test]
 fn tables_that_are_refused(rt: HostRuntime) -> Result<(), Fail> {
+    static ROWS: [Alteration; 8] = [
+        (4, 0, Some(Fault::File(TzFileError::RemainingDataV1))),
+        (
+            4,
+            b'5',
+            Some(Fault::File(TzFileError::UnsupportedTzFileVersion)),
+        ),
+        (58, 0, Some(Fault::Zone(TimeZoneError::InvalidLeapSecond))),
+        (
+            58,
+            b'2',
+            Some(Fault::Zone(TimeZoneError::InvalidLeapSecond)),
+        ),
+        (
+            58,
+            b'3',
+            Some(Fault::Zone(TimeZoneError::InvalidLeapSecond)),
+        ),
+        (
+            58,
+            b'5',
+            Some(Fault::File(TzFileError::UnsupportedTzFileVersion)),
+        ),
+        (
+            131,
+            0x1d,
+            Some(Fault::Zone(TimeZoneError::InvalidLeapSecond)),
+        ),
+        (
+            108,
+            0x80,
+            Some(Fault::Zone(TimeZoneError::InvalidLeapSecond)),
+        ),
+    ];
     let bytes = utc_v4(rt.alloc())?;
-    for (place, byte, expected) in [
-        (4, 0, Fault::File(TzFileError::RemainingDataV1)),
-        (4, b'5', Fault::File(TzFileError::UnsupportedTzFileVersion)),
-        (58, 0, Fault::Zone(TimeZoneError::InvalidLeapSecond)),
-        (58, b'2', Fault::Zone(TimeZoneError::InvalidLeapSecond)),
-        (58, b'3', Fault::Zone(TimeZoneError::InvalidLeapSecond)),
-        (58, b'5', Fault::File(TzFileError::UnsupportedTzFileVersion)),
-        (131, 0x1d, Fault::Zone(TimeZoneError::InvalidLeapSecond)),
-        (108, 0x80, Fault::Zone(TimeZoneError::InvalidLeapSecond)),
-    ] {
-        let other = with_byte(rt.alloc(), &bytes, place, byte)?;
-        expect_eq_at(&rt, &place, &fault_of(rt.alloc(), &other), &Some(expected));
+    expect_refusals(&rt, rt.alloc(), &bytes, &ROWS)?;
+    Ok(())
+}
+
+/// The table is taken so before version 4, and accepted in version 4.
+fn expect_before_version_4(
+    rt: &impl Abort,
+    alloc: Global,
+    bytes: &[u8],
+    expected: &Option<Fault>,
+) -> Result<(), AllocError> {
+    static VERSIONS: [u8; 3] = [0, b'2', b'3'];
+    for version in &VERSIONS {
+        let other = with_byte(alloc, bytes, 58, *version)?;
+        expect_eq(rt, &fault_of(alloc, &other), expected);
     }
+    expect_eq(rt, &fault_of(alloc, bytes), &None);
     Ok(())
 }
 
 /// Before version 4 a table that begins later is refused without an expiry, and one that expires without such a start.
 #[test]
 fn earlier_versions_have_plain_tables(rt: HostRuntime) -> Result<(), Fail> {
+    // The first and the last correction: of a table that begins later, of one that expires, and of a plain one.
+    static ROWS: [(u8, u8, Option<Fault>); 3] = [
+        (
+            0x1b,
+            0x1c,
+            Some(Fault::Zone(TimeZoneError::InvalidLeapSecond)),
+        ),
+        (1, 1, Some(Fault::Zone(TimeZoneError::InvalidLeapSecond))),
+        (1, 2, None),
+    ];
     let bytes = utc_v4(rt.alloc())?;
-    let begins_later = with_byte(rt.alloc(), &bytes, 131, 0x1c)?;
-    let expires = with_byte(rt.alloc(), &with_byte(rt.alloc(), &bytes, 119, 1)?, 131, 1)?;
-    let plain = with_byte(rt.alloc(), &with_byte(rt.alloc(), &bytes, 119, 1)?, 131, 2)?;
-    let refused = Some(Fault::Zone(TimeZoneError::InvalidLeapSecond));
-    for version in [0, b'2', b'3'] {
-        for bytes in [&begins_later, &expires] {
-            let other = with_byte(rt.alloc(), bytes, 58, version)?;
-            expect_eq(&rt, &fault_of(rt.alloc(), &other), &refused);
-            expect_eq(&rt, &fault_of(rt.alloc(), bytes), &None);
-        }
-        let other = with_byte(rt.alloc(), &plain, 58, version)?;
-        expect_eq(&rt, &fault_of(rt.alloc(), &other), &None);
+    for (first, last, expected) in &ROWS {
+        let begun = with_byte(rt.alloc(), &bytes, 119, *first)?;
+        let table = with_byte(rt.alloc(), &begun, 131, *last)?;
+        expect_before_version_4(&rt, rt.alloc(), &table, expected)?;
     }
     Ok(())
 }
