@@ -122,3 +122,9 @@ pub fn central_europe() -> Result<AlternateTime, TzError> {
     )?;
     Ok(rule)
 }
+
+/// The zone of `CET-1CEST,M3.5.0,M10.5.0/3`.
+pub fn central_europe_zone(alloc: Global) -> Result<TimeZone, Error> {
+    let no_file = |_: &str| Err(ReadFault::Failed(anyhow!("no file")));
+    TimeZone::from_posix_tz(alloc, no_file, "CET-1CEST,M3.5.0,M10.5.0/3")
+}

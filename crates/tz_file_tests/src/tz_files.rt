@@ -2,7 +2,7 @@
 
 use crate::expect::{expect_eq, expect_eq_at};
 use crate::samples::{Fault, named, push_header, utc_v1, without_transitions};
-use std::alloc::{AllocError, Allocator, Global};
+use std::alloc::{AllocError, Global};
 use std::process::Abort;
 use std::test::Fail;
 use tz_base::error::TzError;

@@ -1,13 +1,12 @@
 //! Comparisons of tests. The proof of a test walks through each `assert_eq!` where it is written out, and through a call of these much faster.
 
-use crate::samples::{
-    ZoneRow, central_europe, extra_rule_of, leap_seconds_of, transitions_of, types_of,
-};
 use std::alloc::Global;
 use std::fmt::{Debug, Display};
 use std::process::Abort;
 use std::test::Fail;
 use tz::TimeZoneRef;
+use tz_file_tests::rows::{ZoneRow, zone_of};
+use tz_file_tests::samples::central_europe_zone;
 use tz_query::query::answer;
 
 /// The values are equal.
@@ -55,22 +54,18 @@ pub(crate) fn expect_answers_in_central_europe(
     queries: &str,
     answers: &str,
 ) -> Result<(), Fail> {
-    let zone = central_europe(alloc)?;
+    let zone = central_europe_zone(alloc)?;
     expect_answers(rt, alloc, zone.as_ref(), queries, answers)
 }
 
-/// The queries have these answers over the zone of these parts.
+/// The queries have these answers over the zone of a row.
 pub(crate) fn expect_answers_by_parts(
     rt: &impl Abort,
     alloc: Global,
-    zone: &ZoneRow,
+    row: &ZoneRow,
     queries: &str,
     answers: &str,
 ) -> Result<(), Fail> {
-    let types = types_of(alloc, zone.types)?;
-    let transitions = transitions_of(alloc, zone.transitions)?;
-    let leap_seconds = leap_seconds_of(alloc, zone.leap_seconds)?;
-    let rule = extra_rule_of(&zone.rule)?;
-    let zone = TimeZoneRef::new(&transitions, &types, &leap_seconds, &rule)?;
-    expect_answers(rt, alloc, zone, queries, answers)
+    let zone = zone_of(alloc, row)?;
+    expect_answers(rt, alloc, zone.as_ref(), queries, answers)
 }

@@ -1,16 +1,16 @@
 //! The fast answers beside the plain ones.
 
 use crate::expect::expect_eq;
-use crate::samples::{
-    DayRow, RuleRow, TypeRow, leap_seconds_of, rule_of, transitions_of, types_of,
-};
 use std::alloc::{AllocError, Global};
 use std::process::Abort;
 use std::test::Fail;
 use tz::inner::{Fields, TextBuffer, is_reading};
 use tz::timezone::{LeapSecond, Transition, TransitionRule};
 use tz::{LocalTimeType, TimeZoneRef, TzError};
-use tz_file_tests::samples::central_europe as central_europe_rule;
+use tz_file_tests::rows::{
+    Day, RuleRow, TypeRow, leap_seconds_of, rule_of, transitions_of, types_of,
+};
+use tz_file_tests::samples::central_europe;
 use tz_query::inner::answer_line;
 use tz_query::query::answer;
 
@@ -89,18 +89,18 @@ fn expect_alike_by_parts(
 
 /// Both halves answer alike over zones of each kind.
 fn expect_alike_over_zones(rt: &impl Abort, alloc: Global, queries: &[u8]) -> Result<(), Fail> {
-    static SOUTHERN: RuleRow = RuleRow {
-        std: (-14_400, false, Some(b"-04")),
-        dst: (-10_800, true, Some(b"-03")),
-        start: (DayRow::MonthWeekDay(9, 1, 0), 86_400),
-        end: (DayRow::MonthWeekDay(4, 1, 0), 82_800),
-    };
-    static ACROSS_YEARS: RuleRow = RuleRow {
-        std: (0, false, Some(b"Winter")),
-        dst: (3601, true, Some(b"Summer7")),
-        start: (DayRow::Julian0WithLeap(0), -100_000),
-        end: (DayRow::Julian1WithoutLeap(200), 500_000),
-    };
+    static SOUTHERN: RuleRow = (
+        (-14_400, false, Some(b"-04")),
+        (-10_800, true, Some(b"-03")),
+        (Day::Month(9, 1, 0), 86_400),
+        (Day::Month(4, 1, 0), 82_800),
+    );
+    static ACROSS_YEARS: RuleRow = (
+        (0, false, Some(b"Winter")),
+        (3601, true, Some(b"Summer7")),
+        (Day::Julian0(0), -100_000),
+        (Day::Julian1(200), 500_000),
+    );
     static TYPES: [TypeRow; 4] = [
         (1234, false, Some(b"LMT")),
         (3600, false, Some(b"CET")),
@@ -115,7 +115,7 @@ fn expect_alike_over_zones(rt: &impl Abort, alloc: Global, queries: &[u8]) -> Re
         (900_000_000, 2),
         (1_005_000_000, 1),
     ];
-    let central = central_europe_rule()?;
+    let central = central_europe()?;
     let rules = [
         None,
         Some(TransitionRule::Fixed(*central.std())),
@@ -312,10 +312,7 @@ fn lines_around_jumps_are_answered_alike(rt: HostRuntime) -> Result<(), Fail> {
         1_729_990_800,
     ];
     let queries = lines_around(rt.alloc(), &INSTANTS, &[3600, 7200])?;
-    let rules = [
-        None,
-        Some(TransitionRule::Alternate(central_europe_rule()?)),
-    ];
+    let rules = [None, Some(TransitionRule::Alternate(central_europe()?))];
     expect_alike_by_parts(&rt, rt.alloc(), &TYPES, &TRANSITIONS, &rules, &queries)
 }
 

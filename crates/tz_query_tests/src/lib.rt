@@ -16,8 +16,6 @@ mod meetings;
 #[cfg(test)]
 mod program;
 #[cfg(test)]
-mod samples;
-#[cfg(test)]
 mod search;
 #[cfg(test)]
 mod streams;

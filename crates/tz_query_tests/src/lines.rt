@@ -2,12 +2,12 @@
 
 use crate::expect::{expect_answers_by_parts, expect_eq};
 use crate::growths::{expect_answers_or_refusal, expect_growths};
-use crate::samples::ZoneRow;
 use std::alloc::{Allocator, Global};
 use std::process::Abort;
 use std::test::Fail;
 use tz::{TimeZone, TzError};
 use tz_base::refusing::Refusing;
+use tz_file_tests::rows::ZoneRow;
 use tz_query::query::answer;
 
 /// The answers over a fixed zone.
@@ -280,7 +280,7 @@ fn prints_the_name_of_the_type(rt: HostRuntime) -> Result<(), Fail> {
         types: &[(20_700, false, Some(b"+0545"))],
         transitions: &[],
         leap_seconds: &[],
-        rule: None,
+        extra_rule: None,
     };
     let answers = "1970-01-01T05:45:00.000000000+05:45 +0545\n";
     expect_answers_by_parts(&rt, rt.alloc(), &ZONE, "T 0 0\n", answers)

@@ -2,10 +2,10 @@
 
 use crate::expect::{expect_answers_in_central_europe, expect_eq_at};
 use crate::growths::expect_each_growth_can_be_refused;
-use crate::samples::central_europe;
 use std::alloc::Global;
 use std::test::Fail;
 use tz::{TimeZoneRef, UtcDateTime};
+use tz_file_tests::samples::central_europe_zone;
 use tz_query::query::answer;
 
 /// Three weeks over a jump of the clock of Central Europe, and their answer.
@@ -72,7 +72,7 @@ fn answers_of_week(alloc: Global, zone: TimeZoneRef<'_>, weeks: u8) -> Result<Ve
 
 /// The answers of all weeks that a line can ask for.
 fn answers_week_by_week(alloc: Global) -> Result<String, Fail> {
-    let zone = central_europe(alloc)?;
+    let zone = central_europe_zone(alloc)?;
     let mut answers = Vec::from_slice(alloc, b"W 255\n")?;
     for weeks in 0..255u8 {
         let of_week = answers_of_week(alloc, zone.as_ref(), weeks)?;
@@ -90,7 +90,7 @@ fn the_longest_meeting_is_asked_for_week_by_week(rt: HostRuntime) -> Result<(), 
 
 #[test]
 fn each_growth_of_a_meeting_can_be_refused(rt: HostRuntime) -> Result<(), Fail> {
-    let zone = central_europe(rt.alloc())?;
+    let zone = central_europe_zone(rt.alloc())?;
     expect_each_growth_can_be_refused(
         &rt,
         rt.alloc(),

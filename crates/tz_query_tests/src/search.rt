@@ -4,9 +4,9 @@ use crate::expect::{
     expect_answers, expect_answers_by_parts, expect_answers_in_central_europe, expect_eq_at,
 };
 use crate::growths::expect_each_growth_can_be_refused;
-use crate::samples::{DayRow, ExtraRule, RuleRow, ZoneRow};
 use std::test::Fail;
 use tz::{TimeZone, TimeZoneRef};
+use tz_file_tests::rows::{Day, ExtraRule, ZoneRow};
 use tz_file_tests::samples::JERUSALEM_V3;
 use tz_query::query::answer;
 
@@ -18,12 +18,12 @@ static ALWAYS_EASTERN_DAYLIGHT: ZoneRow = ZoneRow {
     ],
     transitions: &[],
     leap_seconds: &[],
-    rule: Some(ExtraRule::Alternate(RuleRow {
-        std: (-18_000, false, Some(b"EST")),
-        dst: (-14_400, true, Some(b"EDT")),
-        start: (DayRow::Julian0WithLeap(0), 0),
-        end: (DayRow::Julian1WithoutLeap(365), 90_000),
-    })),
+    extra_rule: Some(ExtraRule::Alternate((
+        (-18_000, false, Some(b"EST")),
+        (-14_400, true, Some(b"EDT")),
+        (Day::Julian0(0), 0),
+        (Day::Julian1(365), 90_000),
+    ))),
 };
 
 /// A zone of a rule alone whose daylight time goes on over the end of the year.
@@ -31,12 +31,12 @@ static OVERLAPPING_YEARS: ZoneRow = ZoneRow {
     types: &[(0, false, Some(b"A")), (3600, true, Some(b"B"))],
     transitions: &[],
     leap_seconds: &[],
-    rule: Some(ExtraRule::Alternate(RuleRow {
-        std: (0, false, Some(b"A")),
-        dst: (3600, true, Some(b"B")),
-        start: (DayRow::Julian1WithoutLeap(1), 0),
-        end: (DayRow::Julian1WithoutLeap(365), 172_800),
-    })),
+    extra_rule: Some(ExtraRule::Alternate((
+        (0, false, Some(b"A")),
+        (3600, true, Some(b"B")),
+        (Day::Julian1(1), 0),
+        (Day::Julian1(365), 172_800),
+    ))),
 };
 
 #[test]
@@ -81,7 +81,7 @@ fn transitions_of_a_day(rt: HostRuntime) -> Result<(), Fail> {
         types: &[(0, false, Some(b"STD")), (3600, true, Some(b"DST"))],
         transitions: &[(3600, 1), (86_400, 0), (i64::MAX, 0)],
         leap_seconds: &[],
-        rule: None,
+        extra_rule: None,
     };
     expect_answers_by_parts(
         &rt,
@@ -116,7 +116,7 @@ fn jumps_that_cross(rt: HostRuntime) -> Result<(), Fail> {
             (32_400, 0),
         ],
         leap_seconds: &[],
-        rule: None,
+        extra_rule: None,
     };
     expect_answers_by_parts(
         &rt,
@@ -137,7 +137,7 @@ fn transitions_that_take_effect_at_one_instant_make_one_jump(rt: HostRuntime) ->
         types: &[(0, false, None), (3600, false, None), (7200, false, None)],
         transitions: &[(100, 1), (101, 2)],
         leap_seconds: &[(100, 1)],
-        rule: Some(ExtraRule::Fixed((7200, false, None))),
+        extra_rule: Some(ExtraRule::Fixed((7200, false, None))),
     };
     expect_answers_by_parts(
         &rt,
@@ -159,12 +159,12 @@ fn an_offset_of_many_years(rt: HostRuntime) -> Result<(), Fail> {
         ],
         transitions: &[(0, 0), (3600, 1), (7200, 0), (10_800, 2)],
         leap_seconds: &[],
-        rule: Some(ExtraRule::Alternate(RuleRow {
-            std: (0, false, None),
-            dst: (3600, false, None),
-            start: (DayRow::Julian1WithoutLeap(300), 0),
-            end: (DayRow::Julian1WithoutLeap(90), 3600),
-        })),
+        extra_rule: Some(ExtraRule::Alternate((
+            (0, false, None),
+            (3600, false, None),
+            (Day::Julian1(300), 0),
+            (Day::Julian1(90), 3600),
+        ))),
     };
     expect_answers_by_parts(
         &rt,
@@ -198,7 +198,7 @@ fn a_zone_whose_leap_seconds_begin_later(rt: HostRuntime) -> Result<(), Fail> {
         types: &[(0, false, Some(b"A")), (3600, false, Some(b"B"))],
         transitions: &[(1_500_000_027, 1)],
         leap_seconds: &[(1_483_228_826, 27)],
-        rule: Some(ExtraRule::Fixed((3600, false, Some(b"B")))),
+        extra_rule: Some(ExtraRule::Fixed((3600, false, Some(b"B")))),
     };
     expect_answers_by_parts(
         &rt,

@@ -3,12 +3,12 @@
 use crate::expect::{expect_eq, expect_eq_at};
 use crate::failing::{FailingReader, FailingWriter};
 use crate::growths::{expect_growths, expect_refusal};
-use crate::samples::central_europe;
 use std::alloc::Global;
 use std::process::Abort;
 use std::test::Fail;
 use tz::TimeZoneRef;
 use tz_base::refusing::Refusing;
+use tz_file_tests::samples::central_europe_zone;
 use tz_query::query::{RunFault, run};
 
 /// Two lines, the second without an end.
@@ -32,7 +32,7 @@ fn name(answer: &Result<(), RunFault>) -> &'static str {
 
 /// What a run returns with a reader and a writer that fail after a number of calls, and what the writer holds then, after `|`.
 fn outcome(alloc: Global, reads: u8, writes: u8, piece: usize) -> Result<String, Fail> {
-    let zone = central_europe(alloc)?;
+    let zone = central_europe_zone(alloc)?;
     let mut input = FailingReader {
         bytes: QUERIES,
         calls: reads,
@@ -117,8 +117,8 @@ fn run_is_refused(rt: &impl Abort, alloc: Global, zone: TimeZoneRef<'_>, left: u
 
 #[test]
 fn each_growth_can_be_refused(rt: HostRuntime) -> Result<(), Fail> {
-    let zone = central_europe(rt.alloc())?;
-    let same = central_europe(rt.alloc())?;
+    let zone = central_europe_zone(rt.alloc())?;
+    let same = central_europe_zone(rt.alloc())?;
     let mut growths = 0u64;
     for left in 0..20u64 {
         if run_is_refused(&rt, rt.alloc(), zone.as_ref(), left) {

@@ -5,11 +5,12 @@ mod stretches;
 mod years;
 
 use crate::expect::{expect_debug, expect_eq, expect_eq_at, expect_ne};
-use Day::{J, M, Z};
 use std::process::Abort;
 use std::test::Fail;
 use tz_base::error::TzError;
 use tz_base::error::timezone::{LocalTimeTypeError, TransitionRuleError};
+use tz_file_tests::rows::Day::{self, Julian0 as Z, Julian1 as J, Month as M};
+use tz_file_tests::rows::day_of;
 use tz_rule::inner;
 use tz_rule::timezone::{
     AlternateTime, Julian0WithLeap, Julian1WithoutLeap, LocalTimeType, MonthWeekDay, RuleDay,
@@ -23,27 +24,8 @@ enum Refusal {
     Rule(TransitionRuleError),
 }
 
-/// A rule day as it is written in a table.
-#[derive(Clone, Copy, Debug)]
-enum Day {
-    J(u16),
-    Z(u16),
-    M(u8, u8, u8),
-}
-
 /// A rule day and a day time in seconds.
 type At = (Day, i32);
-
-/// The rule day of a table's day.
-fn rule_day(day: Day) -> Result<RuleDay, TransitionRuleError> {
-    match day {
-        Day::J(day) => Ok(RuleDay::Julian1WithoutLeap(Julian1WithoutLeap::new(day)?)),
-        Day::Z(day) => Ok(RuleDay::Julian0WithLeap(Julian0WithLeap::new(day)?)),
-        Day::M(month, week, week_day) => Ok(RuleDay::MonthWeekDay(MonthWeekDay::new(
-            month, week, week_day,
-        )?)),
-    }
-}
 
 /// The offsets of a rule, and its start and its end.
 type Parts = (i32, i32, At, At);
@@ -53,8 +35,8 @@ fn rule(parts: Parts) -> Result<AlternateTime, Refusal> {
     let (std, dst, start, end) = parts;
     let std = LocalTimeType::new(std, false, None).map_err(Refusal::Type)?;
     let dst = LocalTimeType::new(dst, true, None).map_err(Refusal::Type)?;
-    let start_day = rule_day(start.0).map_err(Refusal::Rule)?;
-    let end_day = rule_day(end.0).map_err(Refusal::Rule)?;
+    let start_day = day_of(start.0).map_err(Refusal::Rule)?;
+    let end_day = day_of(end.0).map_err(Refusal::Rule)?;
     AlternateTime::new(std, dst, start_day, start.1, end_day, end.1).map_err(Refusal::Rule)
 }
 
@@ -267,8 +249,8 @@ fn starts(rt: HostRuntime) {
 /// The conflict of the parts, with offsets of 0.
 fn conflict(start: At, end: At) -> Option<(i32, i32, i32)> {
     let utc = LocalTimeType::utc();
-    let start_day = rule_day(start.0).ok()?;
-    let end_day = rule_day(end.0).ok()?;
+    let start_day = day_of(start.0).ok()?;
+    let end_day = day_of(end.0).ok()?;
     AlternateTime::conflict(utc, utc, start_day, start.1, end_day, end.1)
 }
 

@@ -9,8 +9,8 @@ use tz::datetime::{DateTime, FoundDateTimeKind, FoundDateTimeList, FoundDateTime
 use tz_base::error::TzError;
 use tz_base::error::datetime::DateTimeError;
 use tz_zone::timezone::{
-    AlternateTime, Julian0WithLeap, Julian1WithoutLeap, LeapSecond, LocalTimeType, RuleDay,
-    TimeZoneRef, Transition, TransitionRule,
+    AlternateTime, Julian0WithLeap, LeapSecond, LocalTimeType, RuleDay, TimeZoneRef, Transition,
+    TransitionRule,
 };
 
 mod ends;
@@ -21,8 +21,9 @@ mod texts;
 mod zones;
 
 use crate::expect::expect_eq;
+use tz_file_tests::rows::{Day, ExtraRule, RuleRow, TypeRow, ZoneRow, rule_of, zone_of};
 use tz_file_tests::samples::central_europe;
-use zones::{After, CROSSING, Day, FAR_OFFSET, Parts, RuleRow, TypeRow, expect_all_in, rule_of};
+use zones::{CROSSING, FAR_OFFSET, expect_all_in};
 
 /// A Unix time, and the offsets before it and at it; those of a date time that is shown are the same.
 type Summary = (i64, i32, i32);
@@ -308,31 +309,31 @@ fn jumps_that_cross(rt: HostRuntime) -> Result<(), Fail> {
 #[test]
 fn a_rule_goes_on_after_the_last_transition(rt: HostRuntime) -> Result<(), Fail> {
     const HOUR_EAST: TypeRow = (3600, false, None);
-    static ROWS: [(Parts, &[(Reading, &[Summary])]); 4] = [
+    static ROWS: [(ZoneRow, &[(Reading, &[Summary])]); 4] = [
         (
-            Parts {
+            ZoneRow {
                 types: &[HOUR_EAST],
                 transitions: &[],
                 leap_seconds: &[],
-                after: After::Nothing,
+                extra_rule: None,
             },
             &[((2000, 1, 1, 0, 0, 0), &[(946_681_200, 3600, 3600)])],
         ),
         (
-            Parts {
+            ZoneRow {
                 types: &[HOUR_EAST],
                 transitions: &[],
                 leap_seconds: &[],
-                after: After::Fixed(HOUR_EAST),
+                extra_rule: Some(ExtraRule::Fixed(HOUR_EAST)),
             },
             &[((2000, 1, 1, 0, 0, 0), &[(946_681_200, 3600, 3600)])],
         ),
         (
-            Parts {
+            ZoneRow {
                 types: &[HOUR_EAST],
                 transitions: &[(0, 0)],
                 leap_seconds: &[],
-                after: After::Fixed(HOUR_EAST),
+                extra_rule: Some(ExtraRule::Fixed(HOUR_EAST)),
             },
             &[
                 ((1960, 1, 1, 0, 0, 0), &[(-315_622_800, 3600, 3600)]),
@@ -340,17 +341,17 @@ fn a_rule_goes_on_after_the_last_transition(rt: HostRuntime) -> Result<(), Fail>
             ],
         ),
         (
-            Parts {
+            ZoneRow {
                 types: &[HOUR_EAST],
                 transitions: &[(0, 0)],
                 leap_seconds: &[],
-                after: After::Nothing,
+                extra_rule: None,
             },
             &[((1980, 1, 1, 0, 0, 0), &[])],
         ),
     ];
-    for (parts, rows) in &ROWS {
-        expect_all_in(&rt, rt.alloc(), parts, rows)?;
+    for (zone, rows) in &ROWS {
+        expect_all_in(&rt, rt.alloc(), zone, rows)?;
     }
     Ok(())
 }
@@ -526,8 +527,8 @@ fn a_rule_of_one_morning(rt: HostRuntime) -> Result<(), Fail> {
     static RULE: RuleRow = (
         (0, false, None),
         (3600, false, None),
-        (Day::FromOne(1), 7200),
-        (Day::FromOne(1), 12_600),
+        (Day::Julian1(1), 7200),
+        (Day::Julian1(1), 12_600),
     );
     static ROWS: [(Reading, &[Summary]); 10] = [
         ((2000, 1, 1, 1, 45, 0), &[(MIDNIGHT_2000 + 6300, 0, 0)]),
@@ -659,17 +660,17 @@ fn a_rule_after_a_far_jump(rt: HostRuntime) -> Result<(), Fail> {
 
 #[test]
 fn nothing_is_found_after_the_last_transition_without_a_rule(rt: HostRuntime) -> Result<(), Fail> {
-    static PARTS: Parts = Parts {
+    static ZONE: ZoneRow = ZoneRow {
         types: &[(0, false, None)],
         transitions: &[(0, 0)],
         leap_seconds: &[],
-        after: After::Nothing,
+        extra_rule: None,
     };
     static ROWS: [(Reading, &[Summary]); 3] = [
         ((1969, 12, 31, 23, 59, 59), &[(-1, 0, 0)]),
         ((1969, 12, 31, 23, 59, 60), &[]),
         ((1970, 1, 1, 0, 0, 0), &[]),
     ];
-    expect_all_in(&rt, rt.alloc(), &PARTS, &ROWS)?;
+    expect_all_in(&rt, rt.alloc(), &ZONE, &ROWS)?;
     Ok(())
 }

@@ -10,6 +10,7 @@ use std::test::Fail;
 use tz_base::error::Error;
 use tz_base::error::parse::{ParseDataError, TzStringError};
 use tz_base::error::timezone::{LocalTimeTypeError, TransitionRuleError};
+use tz_file_tests::rows::{Day, day_of};
 use tz_file_tests::samples::{Fault, extended_rule, named, named_by_settings, ordinary_rule};
 use tz_zone::timezone::{
     AlternateTime, Julian0WithLeap, Julian1WithoutLeap, LocalTimeType, MonthWeekDay, RuleDay,
@@ -67,30 +68,6 @@ fn local_type(name: &str, ut_offset: i32, is_dst: bool) -> Result<LocalTimeType,
     Ok(LocalTimeType::new(ut_offset, is_dst, Some(name.as_bytes()))?)
 }
 
-/// A day on which time changes.
-#[derive(Clone, Copy)]
-enum Day {
-    /// The n-th day but February 29th.
-    Julian1(u16),
-    /// n days after January 1st.
-    Julian0(u16),
-    /// A week day of a month: the month, the week and the day.
-    Month(u8, u8, u8),
-}
-
-impl Day {
-    /// The day of a rule.
-    fn rule_day(self) -> Result<RuleDay, Fail> {
-        Ok(match self {
-            Day::Julian1(n) => RuleDay::Julian1WithoutLeap(Julian1WithoutLeap::new(n)?),
-            Day::Julian0(n) => RuleDay::Julian0WithLeap(Julian0WithLeap::new(n)?),
-            Day::Month(month, week, week_day) => {
-                RuleDay::MonthWeekDay(MonthWeekDay::new(month, week, week_day)?)
-            }
-        })
-    }
-}
-
 /// A text, then the name and the offset of standard time and of daylight saving time, then the day and the time of day at which
 /// the latter starts and ends.
 type AlternateRow = (
@@ -112,9 +89,9 @@ fn expect_alternate_rules(
         let rule = AlternateTime::new(
             local_type(std, *std_offset, false)?,
             local_type(dst, *dst_offset, true)?,
-            start.rule_day()?,
+            day_of(*start)?,
             *start_time,
-            end.rule_day()?,
+            day_of(*end)?,
             *end_time,
         )?;
         expect_rule(rt, alloc, text, extended, TransitionRule::Alternate(rule))?;

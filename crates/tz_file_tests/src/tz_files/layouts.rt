@@ -2,6 +2,7 @@
 
 use super::*;
 use crate::expect::{expect_eq, expect_eq_at};
+use crate::rows::{Day, ExtraRule, ZoneRow, zone_of, zone_with_rule};
 use crate::samples::central_europe;
 
 /// What a unit holds: transitions with their types, types with the places of their names, names, leap seconds, and both lists of
@@ -130,11 +131,6 @@ fn file(
     Ok(bytes)
 }
 
-/// The Sunday of a week of a month, or the last one for week 5.
-fn sunday(month: u8, week: u8) -> Result<RuleDay, Fail> {
-    Ok(RuleDay::MonthWeekDay(MonthWeekDay::new(month, week, 0)?))
-}
-
 /// The zone's clock shows these offsets from UTC at these instants.
 fn expect_offsets(rt: &impl Abort, zone: &TimeZone, offsets: &[(i64, i32)]) -> Result<(), Fail> {
     for (unix_time, ut_offset) in offsets {
@@ -148,54 +144,8 @@ fn expect_offsets(rt: &impl Abort, zone: &TimeZone, offsets: &[(i64, i32)]) -> R
     Ok(())
 }
 
-/// A type: its offset, whether it is daylight saving time, and its name.
-type TypeRow = (i32, bool, &'static [u8]);
-
-/// What a zone is made of, beside its rule: its transitions with their types, its types, and its leap seconds.
-struct Parts {
-    transitions: &'static [(i64, usize)],
-    types: &'static [TypeRow],
-    leap_seconds: &'static [(i64, i32)],
-}
-
-fn transitions_of(alloc: Global, rows: &[(i64, usize)]) -> Result<Vec<Transition>, AllocError> {
-    let mut transitions = Vec::new(alloc);
-    for (unix_leap_time, index) in rows {
-        transitions.push(Transition::new(*unix_leap_time, *index))?;
-    }
-    Ok(transitions)
-}
-
-fn types_of(alloc: Global, rows: &[TypeRow]) -> Result<Vec<LocalTimeType>, TzError> {
-    let mut types = Vec::new(alloc);
-    for (ut_offset, is_dst, name) in rows {
-        types.push(LocalTimeType::new(*ut_offset, *is_dst, Some(*name))?)?;
-    }
-    Ok(types)
-}
-
-fn leap_seconds_of(alloc: Global, rows: &[(i64, i32)]) -> Result<Vec<LeapSecond>, AllocError> {
-    let mut leap_seconds = Vec::new(alloc);
-    for (unix_leap_time, correction) in rows {
-        leap_seconds.push(LeapSecond::new(*unix_leap_time, *correction))?;
-    }
-    Ok(leap_seconds)
-}
-
-/// The zone of the parts, with a rule or none.
-fn zone_of(
-    alloc: Global,
-    parts: &Parts,
-    extra_rule: Option<TransitionRule>,
-) -> Result<TimeZone, TzError> {
-    let types = types_of(alloc, parts.types)?;
-    let leap_seconds = leap_seconds_of(alloc, parts.leap_seconds)?;
-    let transitions = transitions_of(alloc, parts.transitions)?;
-    TimeZone::new(transitions, types, leap_seconds, extra_rule)
-}
-
-/// The parts of the fat file's zone.
-static FAT_PARTS: Parts = Parts {
+/// The zone of the fat file, without its rule.
+static FAT_ZONE: ZoneRow = ZoneRow {
     transitions: &[
         (-1_883_091_208, 1),
         (828_234_000, 2),
@@ -206,11 +156,12 @@ static FAT_PARTS: Parts = Parts {
         (909_277_200, 1),
     ],
     types: &[
-        (3208, false, b"LMT"),
-        (3600, false, b"CET"),
-        (7200, true, b"CEST"),
+        (3208, false, Some(b"LMT")),
+        (3600, false, Some(b"CET")),
+        (7200, true, Some(b"CEST")),
     ],
     leap_seconds: &[],
+    extra_rule: None,
 };
 
 #[test]
@@ -229,7 +180,7 @@ fn a_fat_file_is_read(rt: HostRuntime) -> Result<(), Fail> {
     expect_eq(&rt, &bytes.len(), &288);
     let zone = TimeZone::from_tz_data(rt.alloc(), &bytes)?;
     let rule = TransitionRule::Alternate(central_europe()?);
-    assert!(rt; zone == zone_of(rt.alloc(), &FAT_PARTS, Some(rule))?);
+    assert!(rt; zone == zone_with_rule(rt.alloc(), &FAT_ZONE, Some(rule))?);
     expect_offsets(&rt, &zone, &OFFSETS)
 }
 
@@ -241,7 +192,7 @@ fn times_of_four_bytes_are_read(rt: HostRuntime) -> Result<(), Fail> {
     expect_eq(&rt, &bytes.len(), &116);
     let bytes = with_byte(rt.alloc(), &bytes, 4, 0)?;
     let zone = TimeZone::from_tz_data(rt.alloc(), &bytes)?;
-    assert!(rt; zone == zone_of(rt.alloc(), &FAT_PARTS, None)?);
+    assert!(rt; zone == zone_of(rt.alloc(), &FAT_ZONE)?);
     expect_offsets(&rt, &zone, &[(-1_883_091_209, 3208), (909_277_199, 7200)])?;
     let after = zone.find_local_time_type(909_277_200).err().map(named);
     expect_eq(&rt, &after, &Some(Fault::NoType));
@@ -250,7 +201,7 @@ fn times_of_four_bytes_are_read(rt: HostRuntime) -> Result<(), Fail> {
 
 /// The zone of the slim file.
 fn slim_zone(alloc: Global) -> Result<TimeZone, Fail> {
-    static PARTS: Parts = Parts {
+    static ZONE: ZoneRow = ZoneRow {
         transitions: &[
             (-2_717_650_800, 2),
             (1_143_961_200, 1),
@@ -258,21 +209,19 @@ fn slim_zone(alloc: Global) -> Result<TimeZone, Fail> {
             (1_173_596_400, 1),
         ],
         types: &[
-            (-17_762, false, b"LMT"),
-            (-14_400, true, b"EDT"),
-            (-18_000, false, b"EST"),
+            (-17_762, false, Some(b"LMT")),
+            (-14_400, true, Some(b"EDT")),
+            (-18_000, false, Some(b"EST")),
         ],
         leap_seconds: &[],
+        extra_rule: Some(ExtraRule::Alternate((
+            (-18_000, false, Some(b"EST")),
+            (-14_400, true, Some(b"EDT")),
+            (Day::Month(3, 2, 0), 7200),
+            (Day::Month(11, 1, 0), 7200),
+        ))),
     };
-    let rule = AlternateTime::new(
-        LocalTimeType::new(-18_000, false, Some(b"EST"))?,
-        LocalTimeType::new(-14_400, true, Some(b"EDT"))?,
-        sunday(3, 2)?,
-        7200,
-        sunday(11, 1)?,
-        7200,
-    )?;
-    Ok(zone_of(alloc, &PARTS, Some(TransitionRule::Alternate(rule)))?)
+    Ok(zone_of(alloc, &ZONE)?)
 }
 
 #[test]
@@ -294,7 +243,7 @@ fn a_slim_file_is_read(rt: HostRuntime) -> Result<(), Fail> {
 
 /// The zone of the file with leap seconds.
 fn leaping_zone(alloc: Global) -> Result<TimeZone, Fail> {
-    static PARTS: Parts = Parts {
+    static ZONE: ZoneRow = ZoneRow {
         transitions: &[
             (69_818_400, 1),
             (89_172_001, 0),
@@ -302,18 +251,16 @@ fn leaping_zone(alloc: Global) -> Result<TimeZone, Fail> {
             (120_621_602, 0),
             (132_717_603, 1),
         ],
-        types: &[(0, false, b"GMT"), (3600, true, b"BST")],
+        types: &[(0, false, Some(b"GMT")), (3600, true, Some(b"BST"))],
         leap_seconds: &[(78_796_800, 1), (94_694_401, 2), (126_230_402, 3)],
+        extra_rule: Some(ExtraRule::Alternate((
+            (0, false, Some(b"GMT")),
+            (3600, true, Some(b"BST")),
+            (Day::Month(3, 3, 0), 7200),
+            (Day::Month(10, 5, 0), 10_800),
+        ))),
     };
-    let rule = AlternateTime::new(
-        LocalTimeType::new(0, false, Some(b"GMT"))?,
-        LocalTimeType::new(3600, true, Some(b"BST"))?,
-        sunday(3, 3)?,
-        7200,
-        sunday(10, 5)?,
-        10_800,
-    )?;
-    Ok(zone_of(alloc, &PARTS, Some(TransitionRule::Alternate(rule)))?)
+    Ok(zone_of(alloc, &ZONE)?)
 }
 
 #[test]

@@ -1,9 +1,10 @@
 //! Rules whose days are near each other: which are consistent, with one day's time a second earlier, as it is, and a second later.
 
-use super::{Day, rule_day};
 use crate::expect::expect_eq_at;
 use std::process::Abort;
 use tz_base::error::timezone::TransitionRuleError;
+use tz_file_tests::rows::Day::{self, Julian0 as Z, Julian1 as J, Month as M};
+use tz_file_tests::rows::day_of;
 use tz_rule::timezone::{AlternateTime, LocalTimeType};
 
 /// A rule day and a day time in whole days.
@@ -15,8 +16,8 @@ type Answers = (Option<bool>, Option<bool>, Option<bool>);
 /// Makes the rule with the first day's time moved by seconds; the first day is the start, or the end.
 fn rule(x: At, seconds: i8, y: At, is_start: bool) -> Result<AlternateTime, TransitionRuleError> {
     let utc = LocalTimeType::utc();
-    let x_day = rule_day(x.0)?;
-    let y_day = rule_day(y.0)?;
+    let x_day = day_of(x.0)?;
+    let y_day = day_of(y.0)?;
     let x_time = i32::from(x.1) * 86_400 + i32::from(seconds);
     let y_time = i32::from(y.1) * 86_400;
     if is_start {
@@ -53,60 +54,60 @@ const NOT_EARLIER: Answers = (Some(false), Some(true), Some(true));
 
 /// Refused where the first day comes a second later.
 static REFUSED_LATER: [(At, At); 28] = [
-    ((Day::J(59), 0), (Day::J(60), -1)),
-    ((Day::Z(364), 0), (Day::Z(0), -1)),
-    ((Day::Z(365), 0), (Day::Z(0), 0)),
-    ((Day::J(90), 0), (Day::Z(90), 0)),
-    ((Day::Z(89), 0), (Day::J(90), 0)),
-    ((Day::Z(364), 0), (Day::J(1), -1)),
-    ((Day::Z(365), 0), (Day::J(1), 0)),
-    ((Day::M(1, 4, 0), 0), (Day::J(28), 0)),
-    ((Day::M(2, 5, 0), 0), (Day::J(60), -1)),
-    ((Day::M(12, 5, 0), 0), (Day::J(1), -1)),
-    ((Day::M(1, 4, 0), 0), (Day::Z(27), 0)),
-    ((Day::M(2, 5, 0), 0), (Day::Z(58), 1)),
-    ((Day::M(2, 4, 0), 0), (Day::Z(59), -1)),
-    ((Day::M(2, 5, 0), 0), (Day::Z(59), 0)),
-    ((Day::M(12, 5, 0), 0), (Day::Z(0), -1)),
-    ((Day::J(1), 0), (Day::M(1, 1, 0), 0)),
-    ((Day::J(53), 0), (Day::M(2, 5, 0), 0)),
-    ((Day::J(365), 0), (Day::M(1, 1, 0), -1)),
-    ((Day::Z(0), 0), (Day::M(1, 1, 0), 0)),
-    ((Day::Z(52), 0), (Day::M(2, 5, 0), 0)),
-    ((Day::Z(59), 0), (Day::M(3, 1, 0), 0)),
-    ((Day::Z(59), -3), (Day::M(2, 5, 0), 4)),
-    ((Day::Z(364), 0), (Day::M(1, 1, 0), -1)),
-    ((Day::Z(365), 0), (Day::M(1, 1, 0), 0)),
-    ((Day::M(3, 4, 2), 0), (Day::M(3, 5, 4), -2)),
-    ((Day::M(4, 4, 2), 0), (Day::M(4, 5, 3), -1)),
-    ((Day::M(3, 4, 2), 5), (Day::M(4, 1, 4), -4)),
-    ((Day::M(4, 4, 2), 5), (Day::M(5, 1, 3), -3)),
+    ((J(59), 0), (J(60), -1)),
+    ((Z(364), 0), (Z(0), -1)),
+    ((Z(365), 0), (Z(0), 0)),
+    ((J(90), 0), (Z(90), 0)),
+    ((Z(89), 0), (J(90), 0)),
+    ((Z(364), 0), (J(1), -1)),
+    ((Z(365), 0), (J(1), 0)),
+    ((M(1, 4, 0), 0), (J(28), 0)),
+    ((M(2, 5, 0), 0), (J(60), -1)),
+    ((M(12, 5, 0), 0), (J(1), -1)),
+    ((M(1, 4, 0), 0), (Z(27), 0)),
+    ((M(2, 5, 0), 0), (Z(58), 1)),
+    ((M(2, 4, 0), 0), (Z(59), -1)),
+    ((M(2, 5, 0), 0), (Z(59), 0)),
+    ((M(12, 5, 0), 0), (Z(0), -1)),
+    ((J(1), 0), (M(1, 1, 0), 0)),
+    ((J(53), 0), (M(2, 5, 0), 0)),
+    ((J(365), 0), (M(1, 1, 0), -1)),
+    ((Z(0), 0), (M(1, 1, 0), 0)),
+    ((Z(52), 0), (M(2, 5, 0), 0)),
+    ((Z(59), 0), (M(3, 1, 0), 0)),
+    ((Z(59), -3), (M(2, 5, 0), 4)),
+    ((Z(364), 0), (M(1, 1, 0), -1)),
+    ((Z(365), 0), (M(1, 1, 0), 0)),
+    ((M(3, 4, 2), 0), (M(3, 5, 4), -2)),
+    ((M(4, 4, 2), 0), (M(4, 5, 3), -1)),
+    ((M(3, 4, 2), 5), (M(4, 1, 4), -4)),
+    ((M(4, 4, 2), 5), (M(5, 1, 3), -3)),
 ];
 
 /// Accepted at each time.
 static NEVER_REFUSED: [(At, At); 7] = [
-    ((Day::J(365), 0), (Day::J(1), -1)),
-    ((Day::Z(58), 0), (Day::Z(59), -1)),
-    ((Day::J(365), 0), (Day::Z(0), 0)),
-    ((Day::M(3, 4, 2), 0), (Day::M(3, 5, 5), -3)),
-    ((Day::M(4, 4, 2), 0), (Day::M(4, 5, 4), -2)),
-    ((Day::M(3, 4, 2), 5), (Day::M(4, 1, 5), -5)),
-    ((Day::M(4, 4, 2), 5), (Day::M(5, 1, 4), -4)),
+    ((J(365), 0), (J(1), -1)),
+    ((Z(58), 0), (Z(59), -1)),
+    ((J(365), 0), (Z(0), 0)),
+    ((M(3, 4, 2), 0), (M(3, 5, 5), -3)),
+    ((M(4, 4, 2), 0), (M(4, 5, 4), -2)),
+    ((M(3, 4, 2), 5), (M(4, 1, 5), -5)),
+    ((M(4, 4, 2), 5), (M(5, 1, 4), -4)),
 ];
 
 /// Refused where the first day comes a second earlier.
 static REFUSED_EARLIER: [(At, At); 11] = [
-    ((Day::M(12, 5, 0), 3), (Day::J(1), -4)),
-    ((Day::M(12, 5, 0), 3), (Day::Z(0), -4)),
-    ((Day::J(365), 3), (Day::M(1, 1, 0), -4)),
-    ((Day::Z(364), 4), (Day::M(1, 1, 0), -4)),
-    ((Day::Z(365), 3), (Day::M(1, 1, 0), -4)),
-    ((Day::M(2, 4, 2), 0), (Day::M(2, 5, 3), -1)),
-    ((Day::M(3, 4, 2), 0), (Day::M(3, 5, 6), -4)),
-    ((Day::M(4, 4, 2), 0), (Day::M(4, 5, 5), -3)),
-    ((Day::M(2, 4, 2), 5), (Day::M(3, 1, 3), -3)),
-    ((Day::M(3, 4, 2), 5), (Day::M(4, 1, 6), -6)),
-    ((Day::M(4, 4, 2), 5), (Day::M(5, 1, 5), -5)),
+    ((M(12, 5, 0), 3), (J(1), -4)),
+    ((M(12, 5, 0), 3), (Z(0), -4)),
+    ((J(365), 3), (M(1, 1, 0), -4)),
+    ((Z(364), 4), (M(1, 1, 0), -4)),
+    ((Z(365), 3), (M(1, 1, 0), -4)),
+    ((M(2, 4, 2), 0), (M(2, 5, 3), -1)),
+    ((M(3, 4, 2), 0), (M(3, 5, 6), -4)),
+    ((M(4, 4, 2), 0), (M(4, 5, 5), -3)),
+    ((M(2, 4, 2), 5), (M(3, 1, 3), -3)),
+    ((M(3, 4, 2), 5), (M(4, 1, 6), -6)),
+    ((M(4, 4, 2), 5), (M(5, 1, 5), -5)),
 ];
 
 /// The rule with the first day as the start, or as the end, has these answers.
@@ -137,10 +138,10 @@ fn both_ways(x: At, y: At) -> [Answers; 2] {
 
 /// Start and end of rules that are near each other, within a year or at its end, and which of their three times are accepted.
 static NEAR: [(At, At, Answers); 4] = [
-    ((Day::M(12, 5, 0), 3), (Day::J(1), -4), NOT_EARLIER),
-    ((Day::M(4, 4, 2), 0), (Day::M(4, 5, 4), -2), ALL),
-    ((Day::M(3, 5, 2), 0), (Day::M(3, 5, 3), -1), NOT_EARLIER),
-    ((Day::Z(365), 0), (Day::Z(0), 0), NOT_LATER),
+    ((M(12, 5, 0), 3), (J(1), -4), NOT_EARLIER),
+    ((M(4, 4, 2), 0), (M(4, 5, 4), -2), ALL),
+    ((M(3, 5, 2), 0), (M(3, 5, 3), -1), NOT_EARLIER),
+    ((Z(365), 0), (Z(0), 0), NOT_LATER),
 ];
 
 #[test]
@@ -156,7 +157,7 @@ type Place = (u8, u8, i8);
 /// The day at a place of a month.
 fn day_of_month(month: u8, place: Place) -> At {
     let (week, week_day, days) = place;
-    (Day::M(month, week, week_day), days)
+    (M(month, week, week_day), days)
 }
 
 /// The month that comes so many months later.

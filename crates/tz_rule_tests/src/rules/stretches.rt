@@ -1,9 +1,9 @@
 //! Stretches of rules beside the types at their instants.
 
-use super::Day::{J, M, Z};
 use super::{ALL_YEAR, Parts, expect_made, rule, start_in};
 use crate::expect::expect_eq;
 use std::process::Abort;
+use tz_file_tests::rows::Day::{Julian0 as Z, Julian1 as J, Month as M};
 use tz_rule::inner::{self, Stretch};
 use tz_rule::timezone::{AlternateTime, TransitionRule};
 

@@ -1,7 +1,6 @@
 //! Searches at the bounds of offsets and leap seconds, and near the ends of the years of 32 bits.
 
 use super::texts::{expect_texts, expect_texts_by_rule, expect_texts_in};
-use super::zones::zone_of;
 use super::*;
 use crate::expect::expect_eq;
 
@@ -9,8 +8,8 @@ use crate::expect::expect_eq;
 static WIDEST: RuleRow = (
     (93_599, false, Some(b"A")),
     (-89_999, true, Some(b"B")),
-    (Day::FromOne(1), -604_799),
-    (Day::FromOne(180), 604_799),
+    (Day::Julian1(1), -604_799),
+    (Day::Julian1(180), 604_799),
 );
 
 #[test]
@@ -65,11 +64,11 @@ fn searches_by_the_widest_rule(rt: HostRuntime) -> Result<(), Fail> {
 /// The transition takes effect at the first instant at which its leap time is reached, which the leap second delays by a second.
 #[test]
 fn a_jump_at_a_negative_leap_second(rt: HostRuntime) -> Result<(), Fail> {
-    static PARTS: Parts = Parts {
+    static ZONE: ZoneRow = ZoneRow {
         types: &[(0, false, None), (3600, false, None)],
         transitions: &[(100, 1)],
         leap_seconds: &[(100, -1)],
-        after: After::Fixed((3600, false, None)),
+        extra_rule: Some(ExtraRule::Fixed((3600, false, None))),
     };
     static ROWS: [(Reading, &str); 2] = [
         (
@@ -81,7 +80,7 @@ fn a_jump_at_a_negative_leap_second(rt: HostRuntime) -> Result<(), Fail> {
             "S 101 1970-01-01T00:01:41.000000007Z - 1970-01-01T01:01:41.000000007+01:00 -;",
         ),
     ];
-    expect_texts_in(&rt, rt.alloc(), &PARTS, &ROWS)?;
+    expect_texts_in(&rt, rt.alloc(), &ZONE, &ROWS)?;
     Ok(())
 }
 
@@ -91,36 +90,36 @@ const UTC: &[TypeRow] = &[(0, false, None)];
 #[test]
 fn transitions_at_the_ends_of_64_bits(rt: HostRuntime) -> Result<(), Fail> {
     const NEW_YEAR_2000: &str = "N 946684800 2000-01-01T00:00:00.000000007Z -;";
-    const ONLY_FIRST: Parts = Parts {
+    const ONLY_FIRST: ZoneRow = ZoneRow {
         types: UTC,
         transitions: &[(i64::MIN, 0)],
         leap_seconds: &[],
-        after: After::Nothing,
+        extra_rule: None,
     };
-    static ROWS: [(Parts, &str); 3] = [
+    static ROWS: [(ZoneRow, &str); 3] = [
         (
-            Parts {
+            ZoneRow {
                 types: UTC,
                 transitions: &[(i64::MIN, 0), (i64::MAX, 0)],
                 leap_seconds: &[],
-                after: After::Nothing,
+                extra_rule: None,
             },
             NEW_YEAR_2000,
         ),
         (ONLY_FIRST, ""),
         (
-            Parts {
+            ZoneRow {
                 types: UTC,
                 transitions: &[(i64::MAX, 0)],
                 leap_seconds: &[(0, 1)],
-                after: After::Nothing,
+                extra_rule: None,
             },
             NEW_YEAR_2000,
         ),
     ];
-    for (parts, expected) in &ROWS {
+    for (zone, expected) in &ROWS {
         let rows = [((2000, 1, 1, 0, 0, 0), *expected)];
-        expect_texts_in(&rt, rt.alloc(), parts, &rows)?;
+        expect_texts_in(&rt, rt.alloc(), zone, &rows)?;
     }
     let over = zone_of(rt.alloc(), &ONLY_FIRST)?;
     let refused = over.as_ref().find_local_time_type(0).err();
@@ -174,8 +173,8 @@ fn a_year_without_an_answer_of_the_rule(rt: HostRuntime) -> Result<(), Fail> {
     static RULE: RuleRow = (
         (-18_000, false, Some(b"A")),
         (-14_400, true, Some(b"B")),
-        (Day::FromZero(0), 0),
-        (Day::FromOne(365), 82_800),
+        (Day::Julian0(0), 0),
+        (Day::Julian1(365), 82_800),
     );
     static ROWS: [(Reading, &str); 1] = [((i32::MAX - 2, 12, 31, 23, 59, 60), "")];
     expect_texts_by_rule(&rt, rt.alloc(), rule_of(&RULE)?, &ROWS)?;
@@ -198,28 +197,28 @@ fn expect_out_of_range(rt: &impl Abort, alloc: Global, zone: TimeZoneRef<'_>, re
 fn date_times_past_the_ends_are_out_of_range(rt: HostRuntime) -> Result<(), Fail> {
     const LAST_HOUR: Reading = (i32::MAX, 12, 31, 23, 30, 0);
     /// From 23:00 to 01:00 of the next year.
-    const LAST_JUMP: Parts = Parts {
+    const LAST_JUMP: ZoneRow = ZoneRow {
         types: &[(0, false, None), (7200, false, None)],
         transitions: &[(67_767_976_233_529_200, 1)],
         leap_seconds: &[],
-        after: After::Fixed((7200, false, None)),
+        extra_rule: Some(ExtraRule::Fixed((7200, false, None))),
     };
-    static REFUSED: [(Parts, Reading); 3] = [
+    static REFUSED: [(ZoneRow, Reading); 3] = [
         (
-            Parts {
+            ZoneRow {
                 types: &[(3600, false, None)],
                 transitions: &[],
                 leap_seconds: &[],
-                after: After::Nothing,
+                extra_rule: None,
             },
             (i32::MIN, 1, 1, 0, 30, 0),
         ),
         (
-            Parts {
+            ZoneRow {
                 types: &[(-3600, false, None)],
                 transitions: &[],
                 leap_seconds: &[],
-                after: After::Nothing,
+                extra_rule: None,
             },
             LAST_HOUR,
         ),
@@ -235,8 +234,8 @@ fn date_times_past_the_ends_are_out_of_range(rt: HostRuntime) -> Result<(), Fail
         TimeZoneRef::utc(),
         (i32::MAX, 12, 31, 23, 59, 60),
     );
-    for (parts, reading) in &REFUSED {
-        let zone = zone_of(rt.alloc(), parts)?;
+    for (row, reading) in &REFUSED {
+        let zone = zone_of(rt.alloc(), row)?;
         expect_out_of_range(&rt, rt.alloc(), zone.as_ref(), *reading);
     }
     expect_texts_in(&rt, rt.alloc(), &LAST_JUMP, &FOUND)?;

@@ -2,7 +2,7 @@
 
 ghost use Rattle.std.specs.Prelude.{◌<◌};
 
-use super::zones::{WITHOUT_FAR_OFFSET, zone_of};
+use super::zones::WITHOUT_FAR_OFFSET;
 use super::*;
 use crate::expect::expect_eq;
 use tz::datetime::UtcDateTime;

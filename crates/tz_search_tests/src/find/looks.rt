@@ -1,6 +1,6 @@
 //! Counted looks of searches, beside bounds that are computed from all transitions.
 
-use super::zones::{ONE_EFFECT, zone_of};
+use super::zones::ONE_EFFECT;
 use super::*;
 use crate::expect::expect_eq;
 use tz::datetime::UtcDateTime;

@@ -1,6 +1,5 @@
 //! Searches and copies with each growth refused in turn.
 
-use super::zones::zone_of;
 use super::*;
 use crate::expect::expect_eq;
 use tz_base::refusing::Refusing;

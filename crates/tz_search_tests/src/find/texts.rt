@@ -1,6 +1,6 @@
 //! Searches whose entries are compared as texts, with their fields and the names of their types.
 
-use super::zones::{ONE_EFFECT, zone_of};
+use super::zones::ONE_EFFECT;
 use super::*;
 use crate::expect::expect_eq;
 use tz_zone::timezone::TimeZone;
@@ -98,14 +98,14 @@ pub(super) fn expect_texts_by_rule(
     expect_texts(rt, alloc, zone, rows)
 }
 
-/// Both searches find these in the zone of the parts.
+/// Both searches find these in the zone of the row.
 pub(super) fn expect_texts_in(
     rt: &impl Abort,
     alloc: Global,
-    parts: &Parts,
+    row: &ZoneRow,
     rows: &[(Reading, &str)],
 ) -> Result<(), TzError> {
-    let zone = zone_of(alloc, parts)?;
+    let zone = zone_of(alloc, row)?;
     expect_texts(rt, alloc, zone.as_ref(), rows)
 }
 
@@ -131,11 +131,11 @@ fn an_hour_left_out_and_an_hour_twice(rt: HostRuntime) -> Result<(), Fail> {
 
 #[test]
 fn transitions_of_a_day(rt: HostRuntime) -> Result<(), Fail> {
-    static PARTS: Parts = Parts {
+    static ZONE: ZoneRow = ZoneRow {
         types: &[(0, false, Some(b"STD")), (3600, true, Some(b"DST"))],
         transitions: &[(3600, 1), (86_400, 0), (i64::MAX, 0)],
         leap_seconds: &[],
-        after: After::Nothing,
+        extra_rule: None,
     };
     static ROWS: [(Reading, &str); 2] = [
         (
@@ -147,7 +147,7 @@ fn transitions_of_a_day(rt: HostRuntime) -> Result<(), Fail> {
             "S 3600 1970-01-01T01:00:00.000000007Z STD 1970-01-01T02:00:00.000000007+01:00 DST;",
         ),
     ];
-    expect_texts_in(&rt, rt.alloc(), &PARTS, &ROWS)?;
+    expect_texts_in(&rt, rt.alloc(), &ZONE, &ROWS)?;
     Ok(())
 }
 
@@ -202,7 +202,7 @@ fn second_60_is_printed(rt: HostRuntime) -> Result<(), Fail> {
 fn types_of_one_offset(rt: HostRuntime) -> Result<(), Fail> {
     const STANDARD: TypeRow = (0, false, Some(b"STD2"));
     const DAYLIGHT: TypeRow = (0, true, Some(b"DST2"));
-    static PARTS: Parts = Parts {
+    static ZONE: ZoneRow = ZoneRow {
         types: &[
             (0, false, Some(b"STD1")),
             (0, true, Some(b"DST1")),
@@ -211,12 +211,12 @@ fn types_of_one_offset(rt: HostRuntime) -> Result<(), Fail> {
         ],
         transitions: &[(3600, 1), (7200, 2)],
         leap_seconds: &[],
-        after: After::Alternate((
+        extra_rule: Some(ExtraRule::Alternate((
             STANDARD,
             DAYLIGHT,
-            (Day::FromZero(0), 10_800),
-            (Day::FromZero(0), 14_400),
-        )),
+            (Day::Julian0(0), 10_800),
+            (Day::Julian0(0), 14_400),
+        ))),
     };
     static ROWS: [(Reading, &str); 5] = [
         (
@@ -240,7 +240,7 @@ fn types_of_one_offset(rt: HostRuntime) -> Result<(), Fail> {
             "N 16200 1970-01-01T04:30:00.000000007Z STD2;",
         ),
     ];
-    expect_texts_in(&rt, rt.alloc(), &PARTS, &ROWS)?;
+    expect_texts_in(&rt, rt.alloc(), &ZONE, &ROWS)?;
     Ok(())
 }
 
@@ -275,8 +275,8 @@ fn a_rule_for_all_the_year(rt: HostRuntime) -> Result<(), Fail> {
     static EASTERN: RuleRow = (
         (-18_000, false, Some(b"EST")),
         (-14_400, true, Some(b"EDT")),
-        (Day::FromZero(0), 0),
-        (Day::FromOne(365), 90_000),
+        (Day::Julian0(0), 0),
+        (Day::Julian1(365), 90_000),
     );
     static ROWS: [(Reading, &str); 1] = [(
         (2000, 1, 1, 0, 30, 0),
@@ -287,8 +287,8 @@ fn a_rule_for_all_the_year(rt: HostRuntime) -> Result<(), Fail> {
     static OVERLAPPING: RuleRow = (
         (0, false, Some(b"A")),
         (3600, true, Some(b"B")),
-        (Day::FromOne(1), 0),
-        (Day::FromOne(365), 172_800),
+        (Day::Julian1(1), 0),
+        (Day::Julian1(365), 172_800),
     );
     static OVERLAPPED: [(Reading, &str); 1] = [(
         (2001, 1, 1, 0, 30, 0),
@@ -304,8 +304,8 @@ fn a_rule_with_empty_spans(rt: HostRuntime) -> Result<(), Fail> {
     static RULE: RuleRow = (
         (0, false, Some(b"A")),
         (3600, true, Some(b"B")),
-        (Day::FromOne(365), 89_999),
-        (Day::FromZero(0), 7198),
+        (Day::Julian1(365), 89_999),
+        (Day::Julian0(0), 7198),
     );
     static ROWS: [(Reading, &str); 6] = [
         (
@@ -343,8 +343,8 @@ fn a_rule_with_overlapping_spans(rt: HostRuntime) -> Result<(), Fail> {
     static RULE: RuleRow = (
         (0, false, Some(b"A")),
         (0, true, Some(b"B")),
-        (Day::FromZero(0), 0),
-        (Day::FromOne(365), 89_999),
+        (Day::Julian0(0), 0),
+        (Day::Julian1(365), 89_999),
     );
     static ROWS: [(Reading, &str); 7] = [
         (
@@ -386,8 +386,8 @@ fn a_rule_with_a_tie(rt: HostRuntime) -> Result<(), Fail> {
     static RULE: RuleRow = (
         (0, false, Some(b"A")),
         (0, true, Some(b"B")),
-        (Day::FromOne(60), 0),
-        (Day::FromZero(59), 0),
+        (Day::Julian1(60), 0),
+        (Day::Julian0(59), 0),
     );
     static ROWS: [(Reading, &str); 3] = [
         (

@@ -1,0 +1,124 @@
+//! Zones and their parts as rows of tables.
+//!
+//! No proof walks through a static, which holds no type with a model, such as a transition. So tables of tests hold these rows, and functions make
+//! of them what they stand for.
+
+use std::alloc::{AllocError, Global};
+use tz_base::error::TzError;
+use tz_base::error::timezone::TransitionRuleError;
+use tz_zone::timezone::{
+    AlternateTime, Julian0WithLeap, Julian1WithoutLeap, LeapSecond, LocalTimeType, MonthWeekDay,
+    RuleDay, TimeZone, Transition, TransitionRule,
+};
+
+/// The offset of a local time type in seconds, whether it is daylight saving time, and its name.
+pub type TypeRow = (i32, bool, Option<&'static [u8]>);
+
+/// A day on which time changes.
+#[derive(Clone, Copy, Debug)]
+pub enum Day {
+    /// The n-th day of a year, where February 29th is not counted.
+    Julian1(u16),
+    /// n days after January 1st.
+    Julian0(u16),
+    /// A week day of a month: the month, the week and the day.
+    Month(u8, u8, u8),
+}
+
+/// The types of standard time and of daylight saving time, and the days and times of day in seconds at which the latter starts and ends.
+pub type RuleRow = (TypeRow, TypeRow, (Day, i32), (Day, i32));
+
+/// The rule after a zone's last transition.
+pub enum ExtraRule {
+    Fixed(TypeRow),
+    Alternate(RuleRow),
+}
+
+/// The parts of a zone.
+pub struct ZoneRow {
+    pub types: &'static [TypeRow],
+    /// Leap times, and the places of the types.
+    pub transitions: &'static [(i64, usize)],
+    /// Leap times, and corrections.
+    pub leap_seconds: &'static [(i64, i32)],
+    pub extra_rule: Option<ExtraRule>,
+}
+
+/// The local time type of a row.
+pub fn type_of(row: &TypeRow) -> Result<LocalTimeType, TzError> {
+    let (ut_offset, is_dst, name) = *row;
+    Ok(LocalTimeType::new(ut_offset, is_dst, name)?)
+}
+
+/// The local time types of rows.
+pub fn types_of(alloc: Global, rows: &[TypeRow]) -> Result<Vec<LocalTimeType>, TzError> {
+    let mut types = Vec::new(alloc);
+    for row in rows {
+        types.push(type_of(row)?)?;
+    }
+    Ok(types)
+}
+
+/// The transitions at these leap times, to the types at these places.
+pub fn transitions_of(alloc: Global, rows: &[(i64, usize)]) -> Result<Vec<Transition>, AllocError> {
+    let mut transitions = Vec::new(alloc);
+    for &(unix_leap_time, place) in rows {
+        transitions.push(Transition::new(unix_leap_time, place))?;
+    }
+    Ok(transitions)
+}
+
+/// The leap seconds with these leap times and corrections.
+pub fn leap_seconds_of(alloc: Global, rows: &[(i64, i32)]) -> Result<Vec<LeapSecond>, AllocError> {
+    let mut leap_seconds = Vec::new(alloc);
+    for &(unix_leap_time, correction) in rows {
+        leap_seconds.push(LeapSecond::new(unix_leap_time, correction))?;
+    }
+    Ok(leap_seconds)
+}
+
+/// The day of a rule.
+pub fn day_of(day: Day) -> Result<RuleDay, TransitionRuleError> {
+    Ok(match day {
+        Day::Julian1(day) => RuleDay::Julian1WithoutLeap(Julian1WithoutLeap::new(day)?),
+        Day::Julian0(day) => RuleDay::Julian0WithLeap(Julian0WithLeap::new(day)?),
+        Day::Month(month, week, week_day) => {
+            RuleDay::MonthWeekDay(MonthWeekDay::new(month, week, week_day)?)
+        }
+    })
+}
+
+/// The rule of a row.
+pub fn rule_of(row: &RuleRow) -> Result<AlternateTime, TzError> {
+    let (std, dst, (start, start_time), (end, end_time)) = row;
+    let (std, dst) = (type_of(std)?, type_of(dst)?);
+    let (start, end) = (day_of(*start)?, day_of(*end)?);
+    let rule = AlternateTime::new(std, dst, start, *start_time, end, *end_time)?;
+    Ok(rule)
+}
+
+/// The rule after the last transition, if there is one.
+pub fn extra_rule_of(row: &Option<ExtraRule>) -> Result<Option<TransitionRule>, TzError> {
+    Ok(match row {
+        None => None,
+        Some(ExtraRule::Fixed(row)) => Some(TransitionRule::Fixed(type_of(row)?)),
+        Some(ExtraRule::Alternate(row)) => Some(TransitionRule::Alternate(rule_of(row)?)),
+    })
+}
+
+/// The zone of a row, with this rule in the place of its own.
+pub fn zone_with_rule(
+    alloc: Global,
+    row: &ZoneRow,
+    extra_rule: Option<TransitionRule>,
+) -> Result<TimeZone, TzError> {
+    let types = types_of(alloc, row.types)?;
+    let leap_seconds = leap_seconds_of(alloc, row.leap_seconds)?;
+    let transitions = transitions_of(alloc, row.transitions)?;
+    TimeZone::new(transitions, types, leap_seconds, extra_rule)
+}
+
+/// The zone of a row.
+pub fn zone_of(alloc: Global, row: &ZoneRow) -> Result<TimeZone, TzError> {
+    zone_with_rule(alloc, row, extra_rule_of(&row.extra_rule)?)
+}
