@@ -10,6 +10,7 @@ use std::time::Duration;
 use tz::datetime::{DateTime, UtcDateTime};
 use tz_base::error::TzError;
 use tz_base::error::datetime::DateTimeError;
+use tz_file_tests::rows::{NOONS, Parts};
 use tz_zone::timezone::{LocalTimeType, TimeZone, TimeZoneRef, Transition};
 
 /// The date time prints as the text.
@@ -37,9 +38,6 @@ fn expect_debug(
     expect_eq(rt, &printed.as_str(), &text);
     Ok(())
 }
-
-/// A year, a month, a day of the month, hour, minute and second, and nanoseconds.
-type Parts = (i32, u8, u8, (u8, u8, u8), u32);
 
 /// The parts of a local date time, and the offset.
 type Local = (Parts, i32);
@@ -92,24 +90,6 @@ fn expect_out_of_range<T: Drop>(rt: &impl Abort, answer: Result<T, TzError>) {
     let fault = answer.err();
     assert!(rt; matches!(&fault, Some(TzError::OutOfRange)), "{fault:?}");
 }
-
-/// Unix times with the date of UTC at 12:01:06.
-static NOONS: [(i64, i32, u8, u8); 14] = [
-    (-93750523134, -1001, 3, 1),
-    (-11670955134, 1600, 2, 29),
-    (-11670868734, 1600, 3, 1),
-    (-8515195134, 1700, 3, 1),
-    (-8483659134, 1701, 3, 1),
-    (-8389051134, 1704, 2, 29),
-    (-8388964734, 1704, 3, 1),
-    (951825666, 2000, 2, 29),
-    (951912066, 2000, 3, 1),
-    (983448066, 2001, 3, 1),
-    (1078056066, 2004, 2, 29),
-    (1078142466, 2004, 3, 1),
-    (4107585666, 2100, 3, 1),
-    (32540356866, 3001, 3, 1),
-];
 
 /// The parts of the UTC date time of an instant, and of a total.
 fn utc_parts_at(unix_time: i64, nanoseconds: u32) -> Option<Parts> {

@@ -3,6 +3,7 @@
 use crate::expect::expect_eq;
 use std::test::Fail;
 use tz::inner::{Fields, TextBuffer};
+use tz_file_tests::rows::{Parts, fields_of};
 
 /// Prints fields and an offset.
 fn printed(fields: Fields, ut_offset: i32) -> TextBuffer {
@@ -11,22 +12,6 @@ fn printed(fields: Fields, ut_offset: i32) -> TextBuffer {
         line.push_date_time(&fields, ut_offset);
     }
     line
-}
-
-/// A year, a month, a day of the month, hour, minute and second, and nanoseconds.
-type Parts = (i32, u8, u8, (u8, u8, u8), u32);
-
-fn fields(parts: Parts) -> Fields {
-    let (year, month, month_day, (hour, minute, second), nanoseconds) = parts;
-    Fields {
-        year,
-        month,
-        month_day,
-        hour,
-        minute,
-        second,
-        nanoseconds,
-    }
 }
 
 #[test]
@@ -49,7 +34,7 @@ fn prints_years_of_every_length(rt: HostRuntime) -> Result<(), Fail> {
         ),
     ];
     for (parts, text) in &YEARS {
-        expect_eq(&rt, &printed(fields(*parts), 0).as_str(), text);
+        expect_eq(&rt, &printed(fields_of(*parts), 0).as_str(), text);
     }
     Ok(())
 }
@@ -66,7 +51,7 @@ fn prints_offsets_of_every_length(rt: HostRuntime) -> Result<(), Fail> {
         (i32::MAX, "1999-12-31T23:00:00.123456789+596523:14:07"),
         (-i32::MAX, "1999-12-31T23:00:00.123456789-596523:14:07"),
     ];
-    let last = fields((1999, 12, 31, (23, 0, 0), 123_456_789));
+    let last = fields_of((1999, 12, 31, (23, 0, 0), 123_456_789));
     for (ut_offset, text) in &OFFSETS {
         expect_eq(&rt, &printed(last, *ut_offset).as_str(), text);
     }

@@ -1,9 +1,10 @@
-//! Zones and their parts as rows of tables.
+//! Zones, their parts and date times as rows of tables.
 //!
 //! No proof walks through a static, which holds no type with a model, such as a transition. So tables of tests hold these rows, and functions make
 //! of them what they stand for.
 
 use std::alloc::{AllocError, Global};
+use tz_base::calendar::Fields;
 use tz_base::error::TzError;
 use tz_base::error::timezone::TransitionRuleError;
 use tz_zone::timezone::{
@@ -43,6 +44,62 @@ pub struct ZoneRow {
     pub leap_seconds: &'static [(i64, i32)],
     pub extra_rule: Option<ExtraRule>,
 }
+
+/// A year, a month, a day of the month, hour, minute and second, and nanoseconds.
+pub type Parts = (i32, u8, u8, (u8, u8, u8), u32);
+
+/// The fields of parts.
+pub fn fields_of(parts: Parts) -> Fields {
+    let (year, month, month_day, (hour, minute, second), nanoseconds) = parts;
+    Fields {
+        year,
+        month,
+        month_day,
+        hour,
+        minute,
+        second,
+        nanoseconds,
+    }
+}
+
+/// Unix times with the date of UTC at 12:01:06.
+pub static NOONS: [(i64, i32, u8, u8); 14] = [
+    (-93750523134, -1001, 3, 1),
+    (-11670955134, 1600, 2, 29),
+    (-11670868734, 1600, 3, 1),
+    (-8515195134, 1700, 3, 1),
+    (-8483659134, 1701, 3, 1),
+    (-8389051134, 1704, 2, 29),
+    (-8388964734, 1704, 3, 1),
+    (951825666, 2000, 2, 29),
+    (951912066, 2000, 3, 1),
+    (983448066, 2001, 3, 1),
+    (1078056066, 2004, 2, 29),
+    (1078142466, 2004, 3, 1),
+    (4107585666, 2100, 3, 1),
+    (32540356866, 3001, 3, 1),
+];
+
+/// A zone with jumps over the same hour.
+pub static CROSSING: ZoneRow = ZoneRow {
+    types: &[
+        (0, false, None),
+        (3600, false, None),
+        (-10_800, false, None),
+        (-19_800, false, None),
+        (-16_200, false, None),
+    ],
+    transitions: &[
+        (0, 0),
+        (7200, 1),
+        (14_400, 2),
+        (25_200, 3),
+        (28_800, 4),
+        (32_400, 0),
+    ],
+    leap_seconds: &[],
+    extra_rule: None,
+};
 
 /// The local time type of a row.
 pub fn type_of(row: &TypeRow) -> Result<LocalTimeType, TzError> {

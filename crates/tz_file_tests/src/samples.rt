@@ -95,10 +95,15 @@ pub fn without_transitions(
     Ok(bytes)
 }
 
-/// The rule that the settings read in an ordinary text, where no file can be read.
-pub fn ordinary_rule(alloc: Global, text: &str) -> Result<Option<TransitionRule>, Error> {
+/// The zone that the settings read in an ordinary text, where no file can be read.
+fn ordinary_zone(alloc: Global, text: &str) -> Result<TimeZone, Error> {
     let no_file = |_: &str| Err(ReadFault::Failed(anyhow!("no file")));
-    let zone = TimeZone::from_posix_tz(alloc, no_file, text)?;
+    TimeZone::from_posix_tz(alloc, no_file, text)
+}
+
+/// The rule of an ordinary text.
+pub fn ordinary_rule(alloc: Global, text: &str) -> Result<Option<TransitionRule>, Error> {
+    let zone = ordinary_zone(alloc, text)?;
     Ok(*zone.as_ref().extra_rule())
 }
 
@@ -125,6 +130,5 @@ pub fn central_europe() -> Result<AlternateTime, TzError> {
 
 /// The zone of `CET-1CEST,M3.5.0,M10.5.0/3`.
 pub fn central_europe_zone(alloc: Global) -> Result<TimeZone, Error> {
-    let no_file = |_: &str| Err(ReadFault::Failed(anyhow!("no file")));
-    TimeZone::from_posix_tz(alloc, no_file, "CET-1CEST,M3.5.0,M10.5.0/3")
+    ordinary_zone(alloc, "CET-1CEST,M3.5.0,M10.5.0/3")
 }

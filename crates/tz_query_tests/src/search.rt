@@ -6,7 +6,7 @@ use crate::expect::{
 use crate::growths::expect_each_growth_can_be_refused;
 use std::test::Fail;
 use tz::{TimeZone, TimeZoneRef};
-use tz_file_tests::rows::{Day, ExtraRule, ZoneRow};
+use tz_file_tests::rows::{CROSSING, Day, ExtraRule, ZoneRow};
 use tz_file_tests::samples::JERUSALEM_V3;
 use tz_query::query::answer;
 
@@ -99,29 +99,10 @@ fn transitions_of_a_day(rt: HostRuntime) -> Result<(), Fail> {
 
 #[test]
 fn jumps_that_cross(rt: HostRuntime) -> Result<(), Fail> {
-    static ZONE: ZoneRow = ZoneRow {
-        types: &[
-            (0, false, None),
-            (3600, false, None),
-            (-10_800, false, None),
-            (-19_800, false, None),
-            (-16_200, false, None),
-        ],
-        transitions: &[
-            (0, 0),
-            (7200, 1),
-            (14_400, 2),
-            (25_200, 3),
-            (28_800, 4),
-            (32_400, 0),
-        ],
-        leap_seconds: &[],
-        extra_rule: None,
-    };
     expect_answers_by_parts(
         &rt,
         rt.alloc(),
-        &ZONE,
+        &CROSSING,
         "F 1970 1 1 2 30 0 0\nF 1970 1 1 5 0 0 0\n",
         "F 3\n\
          S 1970-01-01T02:00:00.000000000Z - 1970-01-01T03:00:00.000000000+01:00 -\n\

@@ -8,6 +8,7 @@ use std::process::Abort;
 use tz_base::calendar::{Fields, days_in_month, is_leap_year, timespec, total_nanoseconds};
 use tz_base::constants::NANOSECONDS_PER_SECOND;
 use tz_base::error::datetime::DateTimeError;
+use tz_file_tests::rows::{NOONS, Parts, fields_of};
 
 /// The days of the year.
 #[tactic(auto, unfolding(tz_base::specs::Days::year_length))]
@@ -194,24 +195,6 @@ static MONTHS: [(i32, u8, u8, i64); 96] = [
     (2147483647, 12, 31, 784351576746),
 ];
 
-/// Instants on days of all kinds of centuries, each at 12:01:06.
-static INSTANTS: [(i64, i32, u8, u8); 14] = [
-    (-93750523134, -1001, 3, 1),
-    (-11670955134, 1600, 2, 29),
-    (-11670868734, 1600, 3, 1),
-    (-8515195134, 1700, 3, 1),
-    (-8483659134, 1701, 3, 1),
-    (-8389051134, 1704, 2, 29),
-    (-8388964734, 1704, 3, 1),
-    (951825666, 2000, 2, 29),
-    (951912066, 2000, 3, 1),
-    (983448066, 2001, 3, 1),
-    (1078056066, 2004, 2, 29),
-    (1078142466, 2004, 3, 1),
-    (4107585666, 2100, 3, 1),
-    (32540356866, 3001, 3, 1),
-];
-
 /// The calendar finds the day by its number, and the number by the day.
 fn expect_agrees(rt: &impl Abort, fields: Fields, day: i64, year_day: u16) {
     let (year, month) = (fields.year, fields.month);
@@ -239,7 +222,7 @@ fn months_begin_and_end(rt: HostRuntime) {
 
 #[test]
 fn instants_have_their_days(rt: HostRuntime) {
-    for &(instant, year, month, month_day) in INSTANTS.iter() {
+    for &(instant, year, month, month_day) in NOONS.iter() {
         let fields = Fields {
             hour: 12,
             minute: 1,
@@ -276,22 +259,6 @@ fn readings_end_with_the_years(rt: HostRuntime) {
         &facts(leap_second),
         &Some((67_767_976_233_532_800, 2, 364)),
     );
-}
-
-/// A year, a month, a day of the month, hour, minute and second, and nanoseconds.
-type Parts = (i32, u8, u8, (u8, u8, u8), u32);
-
-fn fields_of(parts: Parts) -> Fields {
-    let (year, month, month_day, (hour, minute, second), nanoseconds) = parts;
-    Fields {
-        year,
-        month,
-        month_day,
-        hour,
-        minute,
-        second,
-        nanoseconds,
-    }
 }
 
 #[test]

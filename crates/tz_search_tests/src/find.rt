@@ -21,9 +21,9 @@ mod texts;
 mod zones;
 
 use crate::expect::expect_eq;
-use tz_file_tests::rows::{Day, ExtraRule, RuleRow, TypeRow, ZoneRow, rule_of, zone_of};
+use tz_file_tests::rows::{CROSSING, Day, ExtraRule, RuleRow, TypeRow, ZoneRow, rule_of, zone_of};
 use tz_file_tests::samples::central_europe;
-use zones::{CROSSING, FAR_OFFSET, expect_all_in};
+use zones::{FAR_OFFSET, expect_all_in};
 
 /// A Unix time, and the offsets before it and at it; those of a date time that is shown are the same.
 type Summary = (i64, i32, i32);

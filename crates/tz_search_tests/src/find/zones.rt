@@ -2,27 +2,6 @@
 
 use super::*;
 
-/// A zone with jumps over the same hour.
-pub(super) static CROSSING: ZoneRow = ZoneRow {
-    types: &[
-        (0, false, None),
-        (3600, false, None),
-        (-10_800, false, None),
-        (-19_800, false, None),
-        (-16_200, false, None),
-    ],
-    transitions: &[
-        (0, 0),
-        (7200, 1),
-        (14_400, 2),
-        (25_200, 3),
-        (28_800, 4),
-        (32_400, 0),
-    ],
-    leap_seconds: &[],
-    extra_rule: None,
-};
-
 /// The types of the zone with a far offset.
 const FAR_TYPES: &[TypeRow] = &[
     (0, false, None),
