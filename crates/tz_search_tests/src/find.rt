@@ -3,6 +3,7 @@
 ghost use Rattle.std.specs.Prelude.{◌≡◌};
 
 use std::alloc::{AllocError, Allocator, Global};
+use std::fmt::Debug;
 use std::process::Abort;
 use std::test::Fail;
 use tz::datetime::{DateTime, FoundDateTimeKind, FoundDateTimeList, FoundDateTimeListRefMut};
@@ -413,25 +414,40 @@ fn an_empty_list_leaves_the_slots(rt: HostRuntime) -> Result<(), Fail> {
     Ok(())
 }
 
+/// The value is shown to programmers as the text.
+fn expect_debug(
+    rt: &impl Abort,
+    alloc: Global,
+    value: &impl Debug,
+    text: &str,
+) -> Result<(), AllocError> {
+    let printed = format!(in alloc; "{value:?}")?;
+    expect_eq(rt, &printed.as_str(), &text);
+    Ok(())
+}
+
 /// Lists are printed with what they hold alone.
 #[test]
 fn lists_are_printed(rt: HostRuntime) -> Result<(), Fail> {
     let alloc = rt.alloc();
     let utc = TimeZoneRef::utc();
-    let list = find(alloc, utc, (2000, 1, 1, 0, 0, 0))?;
-    let Some(date_time) = list.unique() else {
-        panic!(rt; "no date time");
-    };
-    let printed = format!(in alloc; "{list:?}")?;
-    let expected = format!(in alloc; "FoundDateTimeList([Normal({date_time:?})])")?;
-    expect_eq(&rt, &printed.as_str(), &expected.as_str());
-    let mut buf = [None, None];
-    let slots = find_n(&mut buf, utc, (2000, 1, 1, 0, 0, 0))?;
-    let printed = format!(in alloc; "{slots:?}")?;
-    let expected = format!(in alloc;
-        "FoundDateTimeListRefMut {{ buf: [Some(Normal({date_time:?})), None], current_index: 1, count: 1 }}"
+    let midnight = (2000, 1, 1, 0, 0, 0);
+    expect_debug(
+        &rt,
+        alloc,
+        &find(alloc, utc, midnight)?,
+        "FoundDateTimeList([Normal(DateTime { year: 2000, month: 1, month_day: 1, hour: 0, minute: 0, second: 0, \
+            local_time_type: LocalTimeType { ut_offset: 0, is_dst: false, time_zone_designation: None }, \
+            unix_time: 946684800, nanoseconds: 0 })])",
     )?;
-    expect_eq(&rt, &printed.as_str(), &expected.as_str());
+    expect_debug(
+        &rt,
+        alloc,
+        &find_n(&mut [None, None], utc, midnight)?,
+        "FoundDateTimeListRefMut { buf: [Some(Normal(DateTime { year: 2000, month: 1, month_day: 1, hour: 0, minute: 0, second: 0, \
+            local_time_type: LocalTimeType { ut_offset: 0, is_dst: false, time_zone_designation: None }, \
+            unix_time: 946684800, nanoseconds: 0 })), None], current_index: 1, count: 1 }",
+    )?;
     Ok(())
 }
 
@@ -482,20 +498,41 @@ fn refused_fields_write_nothing(rt: HostRuntime) -> Result<(), Fail> {
 /// A zone that is set back an hour after each hour, so that it shows half past midnight seven times.
 #[test]
 fn more_are_found_than_a_list_begins_with(rt: HostRuntime) -> Result<(), Fail> {
-    let alloc = rt.alloc();
-    let mut types = Vec::new(alloc);
-    let mut transitions = Vec::new(alloc);
-    let mut expected = Vec::new(alloc);
-    for hours in 0..7i32 {
-        let back = hours.saturating_mul(-3600);
-        let hour = i64::from(hours).saturating_mul(3600);
-        types.push(LocalTimeType::with_ut_offset(back)?)?;
-        transitions.push(Transition::new(hour, usize::try_from(hours)?))?;
-        expected.push((hour.saturating_add(1800), back, back))?;
-    }
-    let rule = Some(TransitionRule::Fixed(LocalTimeType::with_ut_offset(-21_600)?));
-    let zone = TimeZoneRef::new(&transitions, &types, &[], &rule)?;
-    expect_found(&rt, alloc, zone, (1970, 1, 1, 0, 30, 0), &expected)?;
+    static ZONE: ZoneRow = ZoneRow {
+        types: &[
+            (0, false, None),
+            (-3600, false, None),
+            (-7200, false, None),
+            (-10_800, false, None),
+            (-14_400, false, None),
+            (-18_000, false, None),
+            (-21_600, false, None),
+        ],
+        transitions: &[
+            (0, 0),
+            (3600, 1),
+            (7200, 2),
+            (10_800, 3),
+            (14_400, 4),
+            (18_000, 5),
+            (21_600, 6),
+        ],
+        leap_seconds: &[],
+        extra_rule: Some(ExtraRule::Fixed((-21_600, false, None))),
+    };
+    static ROWS: [(Reading, &[Summary]); 1] = [(
+        (1970, 1, 1, 0, 30, 0),
+        &[
+            (1800, 0, 0),
+            (5400, -3600, -3600),
+            (9000, -7200, -7200),
+            (12_600, -10_800, -10_800),
+            (16_200, -14_400, -14_400),
+            (19_800, -18_000, -18_000),
+            (23_400, -21_600, -21_600),
+        ],
+    )];
+    expect_all_in(&rt, rt.alloc(), &ZONE, &ROWS)?;
     Ok(())
 }
 
