@@ -16,15 +16,10 @@ type Answers = (Option<bool>, Option<bool>, Option<bool>);
 /// Makes the rule with the first day's time moved by seconds; the first day is the start, or the end.
 fn rule(x: At, seconds: i8, y: At, is_start: bool) -> Result<AlternateTime, TransitionRuleError> {
     let utc = LocalTimeType::utc();
-    let x_day = day_of(x.0)?;
-    let y_day = day_of(y.0)?;
-    let x_time = i32::from(x.1) * 86_400 + i32::from(seconds);
-    let y_time = i32::from(y.1) * 86_400;
-    if is_start {
-        AlternateTime::new(utc, utc, x_day, x_time, y_day, y_time)
-    } else {
-        AlternateTime::new(utc, utc, y_day, y_time, x_day, x_time)
-    }
+    let x = (x.0, i32::from(x.1) * 86_400 + i32::from(seconds));
+    let y = (y.0, i32::from(y.1) * 86_400);
+    let (start, end) = if is_start { (x, y) } else { (y, x) };
+    AlternateTime::new(utc, utc, day_of(start.0)?, start.1, day_of(end.0)?, end.1)
 }
 
 /// Whether the rule is accepted, where no other fault than inconsistency comes.
@@ -113,7 +108,7 @@ static REFUSED_EARLIER: [(At, At); 11] = [
 /// The rule with the first day as the start, or as the end, has these answers.
 fn expect_answers(rt: &impl Abort, x: &At, y: &At, is_start: bool, answers: &Answers) {
     let (start, end) = if is_start { (x, y) } else { (y, x) };
-    assert_eq!(rt; accepted(*x, *y, is_start), *answers, "{start:?} / {end:?}");
+    expect_eq_at(rt, &(start, end), &accepted(*x, *y, is_start), answers);
 }
 
 /// Each row has these answers, and has them with start and end exchanged.
