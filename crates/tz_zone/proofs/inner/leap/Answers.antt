@@ -1,5 +1,5 @@
 -- The correction of the last leap second reached gives the leap time.
-use Rattle.std.proofs.Common.{◌≡◌, arith, ◌+ℤ◌}
+use Rattle.std.proofs.Common.{◌≡◌, refl, arith, ◌+ℤ◌}
 use Rattle.std.proofs.lemmas.Int.{ints, to_z-of_z}
 use mir.Syntax.{w64}
 use mir.Val.{to_z, of_z}
@@ -33,3 +33,12 @@ returns-clause-ok c =
     let correction = c.correction_before-correction.ensures in
     let same : to_z w64 (of_z w64 (to_z w64 (of_z w64 c.args.unix_time) +ℤ to_z w64 (of_z w64 c.from.result))) ≡ c.args.unix_time +ℤ correction_before leaps k = omega (arith, ints) in
     rw same (IsLeapTime-from_count leaps c.requires c.args.unix_time k count answered)
+
+pub has_leap_time-requires-clause-reached : goal.has_leap_time-requires-clause-reached
+has_leap_time-requires-clause-reached c = c.leap_seconds_reached-reached.ensures.reached
+
+pub has_leap_time-requires-clause-beyond : goal.has_leap_time-requires-clause-beyond
+has_leap_time-requires-clause-beyond c = c.leap_seconds_reached-reached.ensures.beyond
+
+pub returns-then-not-has_leap_time-clause-err : goal.returns-then-not-has_leap_time-clause-err
+returns-then-not-has_leap_time-clause-err c = (refl, rw (to_z-of_z w64 c.args.unix_time c.ranges.unix_time) at c.if-not-has_leap_time.ensures)
