@@ -1,9 +1,17 @@
 -- The clock by how many transitions are reached.
-use Rattle.std.proofs.Common.{◌≡◌, ◌≢◌, ◌<◌, ◌∙◌, ℕ, refl, sym, ap, arith, length, None, is_some, not}
+use Rattle.std.proofs.Common.{◌≡◌, ◌≢◌, ◌<◌, ◌≤◌, ◌∙◌, ℕ, ℤ, List, [], ◌∷◌, inl, inr, refl, sym, ap, subst, arith, length, get_or, Option, Some, None, is_some, false, not}
 use Rattle.std.proofs.lemmas.Bool.{false≢true}
 use Rattle.std.proofs.lemmas.Int.{to_z-of_z}
+use Rattle.std.proofs.lemmas.List.{nil_from_length}
+use Rattle.std.proofs.lemmas.Option.{slice_get-get_or}
 use mir.Syntax.{w64}
+use Rattle.tz_rule.specs.LocalTimeType.{LocalTimeType}
+use Rattle.tz_rule.specs.declared.timezone.rule.TransitionRule.{TransitionRule}
+use Rattle.tz_zone.specs.Table.{Zone}
+use Rattle.tz_zone.specs.Clock.{IsTypeAt, IsClock, IsTypeWithout}
 use Rattle.tz_zone.specs.ZoneSeen.{zone_seen}
+use Rattle.tz_zone.proofs.Clocks.{some_from_last}
+use Rattle.tz.specs.Reached.{HoldsAfter}
 use Rattle.tz.proofs.TypesAfterTransitions.{holds_before_last, holds_from_last, holds_from_rule}
 use Rattle.tz.proofs.datetime.search.type_from.Goals as goal
 use Rattle.tz.proofs.datetime.search.type_from.Goals.{else-reached-eq0-via-then-reached-eq0+else-is_none, else-reached-eq0-via-else-reached-eq0}
@@ -45,3 +53,36 @@ returns-clause-same g c = refl
 
 pub returns-clause-none : goal.returns-clause-none
 returns-clause-none g c = λ empty. refl
+
+le_self : (n : ℕ) → n ≤ n
+le_self n = omega arith
+
+some_types : {X : Type 0} (xs : List X) → xs ≢ [] → 0 < length xs
+some_types [] some = absurd (some refl)
+some_types (x ∷ xs) some = omega arith
+
+none_of : {X : Type 0} (x : Option X) → is_some x ≡ false → x ≡ None
+none_of None e = refl
+none_of (Some x) e = absurd (false≢true (sym e))
+
+-- without transitions and without a rule it is type number 0
+first_type : (z : Zone) (k : ℕ) (d : LocalTimeType) → z.types ≢ [] → length z.transitions ≤ k → k ≡ 0 → z.extra_rule ≡ None → (from : ℤ) → HoldsAfter z k from (Some (get_or z.types 0 d))
+first_type z k d typed few zero none from u counted any t = (to, λ e. inl (empty, subst (λ (r : Option TransitionRule). IsTypeWithout z r u t) (sym none) (at ∙ e)))
+  where
+    empty : z.transitions ≡ []
+    empty = nil_from_length z.transitions (omega (arith, few, zero))
+
+    at : IsTypeAt z 0 (get_or z.types 0 d)
+    at = slice_get-get_or z.types 0 d (some_types z.types typed)
+
+    to : IsClock z u t → Some (get_or z.types 0 d) ≡ Some t
+    to (inl (none', type)) = sym at ∙ subst (λ (r : Option TransitionRule). IsTypeWithout z r u t) none type
+    to (inr (last, is_last, with)) = absurd (some_from_last z.transitions last is_last empty)
+
+pub returns-then-is_none-clause-value : goal.returns-then-is_none-clause-value
+returns-then-is_none-clause-value g c =
+    let z = zone_seen (g.V.Transitions.list c.args.view.now) c.args.parts in
+    first_type z c.args.reached c.index-parts-0.result c.requires.sound.has_types (omega (arith, c.len.ensures, c.if-reached-len.false)) c.if-reached-eq0.true (none_of c.args.parts.extra_rule.now c.if-is_none.ensures) c.args.from
+
+pub returns-clause-kept : goal.returns-clause-kept
+returns-clause-kept g c = le_self _

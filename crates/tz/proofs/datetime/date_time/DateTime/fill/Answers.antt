@@ -1,5 +1,5 @@
 -- The slots hold what is found.
-use Rattle.std.proofs.Common.{◌∙◌, inr, sym, [], arith}
+use Rattle.std.proofs.Common.{◌∙◌, inl, inr, refl, sym, [], arith}
 use Rattle.std.proofs.lemmas.Result.{err_from_is_err_and}
 use Rattle.std.proofs.lemmas.Grind.{common_steps}
 use Rattle.tz_zone.specs.ZoneSeen.{zone_seen}
@@ -30,3 +30,30 @@ returns-clause-some g c = c.in_ok-search.ensures.some
 
 pub returns-clause-none : goal.returns-clause-none
 returns-clause-none g c = c.in_ok-search.ensures.none
+
+pub returns-in_err-check-clause-promised : goal.returns-in_err-check-clause-promised
+returns-in_err-check-clause-promised g c =
+    let z = zone_seen (g.V.Transitions.list c.args.view.now) c.args.parts in
+    let p = err_from_is_err_and c.from_residual.result c.from_residual.ensures.1 in
+    λ promised. rw (p.1, p.2) (not_out_of_range ⊥ z c.args.fields.now promised _ (inl (c.in_err-check.field-0.0, refl, c.in_err-check.ensures.err)))
+
+pub returns-in_err-check-clause-err : goal.returns-in_err-check-clause-err
+returns-in_err-check-clause-err g c =
+    let p = err_from_is_err_and c.from_residual.result c.from_residual.ensures.1 in
+    rw (p.1, p.2) (inl (c.in_err-check.field-0.0, refl, c.in_err-check.ensures.err))
+
+pub returns-in_err-check-clause-untouched : goal.returns-in_err-check-clause-untouched
+returns-in_err-check-clause-untouched g c = inr refl
+
+pub returns-in_err-search-clause-ok : goal.returns-in_err-search-clause-ok
+returns-in_err-search-clause-ok g c =
+    let p = err_from_is_err_and c.from_residual-in_err-search.result c.from_residual-in_err-search.ensures.1 in
+    rw p.1 tt
+
+pub returns-in_err-search-clause-err : goal.returns-in_err-search-clause-err
+returns-in_err-search-clause-err g c =
+    let p = err_from_is_err_and c.from_residual-in_err-search.result c.from_residual-in_err-search.ensures.1 in
+    rw (p.1, p.2) (inr (c.in_ok-check.ensures.ok, c.in_err-search.ensures.err))
+
+pub returns-clause-untouched : goal.returns-clause-untouched
+returns-clause-untouched g c = inl c.in_ok-check.ensures.ok
