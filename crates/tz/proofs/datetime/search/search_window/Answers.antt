@@ -188,3 +188,21 @@ returns g c =
       some = on_ok_weaker c.step.result (λ rest some. some_looks _ _ _ (front.some some) past.kept) c.step.ensures.ok;
       none = on_ok_weaker c.step.result (λ rest empty. no_looks l l' _ _ _ front.same past.none front.none empty) c.step.ensures.ok;
     }
+
+end_fits : (high : ℤ) → SFits w64 high → IsWithinReach high → SFits w64 (to_z w64 (of_z w64 high) +ℤ pos 1)
+end_fits high fits reach = omega (arith, ints)
+
+pub overflow_add-end : goal.overflow_add-end
+overflow_add-end g c = end_fits c.args.high c.ranges.high c.requires.high
+
+pub walk_from-walk-requires-clause-reach : goal.walk_from-walk-requires-clause-reach
+walk_from-walk-requires-clause-reach g c = subst IsWithinReach (sym (to_z-of_z w64 c.args.low c.ranges.low)) c.requires.low
+
+pub walk_from-walk-requires-clause-begun : goal.walk_from-walk-requires-clause-begun
+walk_from-walk-requires-clause-begun g c = rw (to_z-of_z w64 c.args.low c.ranges.low) c.requires.begun
+
+pub search_rule-requires-clause-high : goal.search_rule-requires-clause-high
+search_rule-requires-clause-high g c = subst IsWithinReach (sym (to_z-of_z w64 c.args.high c.ranges.high)) c.requires.high
+
+pub search_rule-requires-clause-rule : goal.search_rule-requires-clause-rule
+search_rule-requires-clause-rule g c = c.in-Some.ensures.some.1

@@ -1,10 +1,15 @@
 -- The reading less an offset tells where a type shows it.
-use Rattle.std.proofs.Common.{◌≡◌, ◌<◌, ℤ, pos, negsuc, ◌+ℤ◌, ◌-ℤ◌, ◌≤ℤ◌, ◌<ℤ◌, true, false, refl, arith, rules}
+use Rattle.std.proofs.Common.{◌≡◌, ◌<◌, ◌∙◌, ℤ, pos, negsuc, ◌+ℤ◌, ◌-ℤ◌, ◌≤ℤ◌, ◌<ℤ◌, Some, None, true, false, refl, sym, ap, arith, rules}
 use Rattle.std.proofs.lemmas.Int.{ints, to_z-of_z}
+use Rattle.std.proofs.lemmas.Option.{none-some, same_Some}
 use lib.Signed.{mag, le_z, lt_z}
 use mir.Syntax.{w32, w64}
 use mir.Val.{to_z, of_z, SFits}
-use Rattle.tz.specs.Walks.{IsNear, IsSmall}
+use Rattle.tz_rule.specs.LocalTimeType.{LocalTimeType}
+use Rattle.tz.specs.Walks.{IsEntryOf, IsNear, IsSmall}
+use Rattle.tz.specs.declared.datetime.walk.Entry.{Entry}
+use Rattle.tz.specs.declared.datetime.walk.Entry.TheVariants.{Shown, Jump}
+use Rattle.tz.specs.declared.datetime.walk.Walk.{Walk}
 use Rattle.tz.proofs.WalkLemmas.{no_entry_before, no_entry_after}
 use Rattle.tz.proofs.datetime.walk.Walk.entry.Goals as goal
 
@@ -117,3 +122,26 @@ returns-else-self-passed_at-clause-none c =
     let shown = shown_of w.reading w.since c.args.until t.ut_offset c.ut_offset.result c.from.result c.requires fits c.ranges.until c.ut_offset.type_inv c.ut_offset.ensures c.from.ensures in
     let passed = shown_of w.reading w.since c.args.until b.ut_offset c.ut_offset-2.result c.from-2.result c.requires fits c.ranges.until c.ut_offset-2.type_inv c.ut_offset-2.ensures c.from-2.ensures in
     no_entry_after w c.args.until t b c.in_ok-local_time_type.was c.in_ok-before.was (shown.before_since c.if-shown_at-self.false) (passed.before_since c.if-self-passed_at.false)
+
+-- a piece without a type has no entry
+no_entry_without : (w : Walk) (until : ℤ) → w.local_time_type ≡ None → (entry : Entry) → ¬ IsEntryOf w until entry
+no_entry_without w until none (Shown u s) (type_is, within, shown) = none-some s (sym none ∙ type_is)
+no_entry_without w until none (Jump u a b) (at, before, type_is, low, high) = none-some b (sym none ∙ type_is)
+
+-- nor has the first one, if it begins after its type has shown the reading
+no_entry_first : (w : Walk) (until : ℤ) (t : LocalTimeType) → w.local_time_type ≡ Some t → w.before ≡ None → (w.reading -ℤ t.ut_offset) <ℤ w.since → (entry : Entry) → ¬ IsEntryOf w until entry
+no_entry_first w until t is none late (Shown u s) (type_is, within, shown) =
+    let offset = ap (λ (x : LocalTimeType). x.ut_offset) (same_Some t s (sym is ∙ type_is)) in
+    absurd (omega (arith, ints, offset, shown, within.0, late))
+no_entry_first w until t is none late (Jump u a b) (at, before, type_is, low, high) = none-some a (sym none ∙ before)
+
+pub returns-in_err-local_time_type-clause-none : goal.returns-in_err-local_time_type-clause-none
+returns-in_err-local_time_type-clause-none c = rw c.from_residual.ensures (no_entry_without c.args.self.now c.args.until c.in_err-local_time_type.was)
+
+pub returns-in_err-before-clause-none : goal.returns-in_err-before-clause-none
+returns-in_err-before-clause-none c =
+    let w = c.args.self.now in
+    let t = c.in_ok-local_time_type.local_time_type in
+    let fits : SFits w64 w.since = search rules in
+    let shown = shown_of w.reading w.since c.args.until t.ut_offset c.ut_offset.result c.from.result c.requires fits c.ranges.until c.ut_offset.type_inv c.ut_offset.ensures c.from.ensures in
+    rw c.from_residual-in_err-before.ensures (no_entry_first w c.args.until t c.in_ok-local_time_type.was c.in_err-before.was (shown.before_since c.if-shown_at-self.false))
