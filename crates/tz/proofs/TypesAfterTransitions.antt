@@ -1,5 +1,6 @@
 -- The type of a clock after this many transitions.
-use Rattle.std.proofs.Common.{◌≡◌, ◌≢◌, ℕ, ◌-◌, ◌<◌, ◌⊎◌, ◌∙◌, inl, inr, refl, sym, ap, subst, arith, ℤ, pos, ◌≤ℤ◌, ◌<ℤ◌, List, [], ◌∷◌, length, get_or, Option, Some, None}
+use Rattle.std.proofs.Common.{◌≡◌, ◌≢◌, ℕ, ◌-◌, ◌<◌, ◌⊎◌, ◌∙◌, inl, inr, refl, sym, ap, subst, arith, ℤ, pos, ◌≤ℤ◌, ◌<ℤ◌, [], length, get_or, Option, Some, None}
+use Rattle.std.proofs.lemmas.List.{nil_from_length}
 use Rattle.std.proofs.lemmas.Int.{ints}
 use Rattle.std.proofs.lemmas.Bool.{cases_lt}
 use Rattle.std.proofs.lemmas.Option.{same_Some, none-some, slice_get-get_or}
@@ -18,10 +19,6 @@ use Rattle.tz.specs.Reached.{IsReachedAt, IsSteadyAfter, HoldsAfter, AreOffsetsO
 
 abbrev pub no_change : Transition
 no_change = record { unix_leap_time = pos 0; type_index = 0 }
-
-nil_from_length : {X : Type 0} (xs : List X) → length xs ≡ 0 → xs ≡ []
-nil_from_length [] e = refl
-nil_from_length (x ∷ xs) e = absurd (omega (arith, e))
 
 -- a rule that is no alternate one has one type at all instants
 one_type_everywhere : (rule : TransitionRule) → ((r : AlternateTime) → rule ≢ Alternate r) → (v : ℤ) (type : Option LocalTimeType) → HoldsAt (IsRuleType rule) v type → (u : ℤ) → HoldsAt (IsRuleType rule) u type

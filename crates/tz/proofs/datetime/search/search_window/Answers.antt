@@ -1,5 +1,6 @@
 -- From one transition to the next, and to the end of the window.
 use Rattle.std.proofs.Common.{◌≡◌, ◌≢◌, ℕ, ◌+◌, ◌<◌, ◌≤◌, ◌++◌, ◌∙◌, [], inl, inr, refl, sym, ap, subst, arith, length, Some, ℤ, pos, ◌+ℤ◌, ◌≤ℤ◌, List}
+use Rattle.std.proofs.Math.Nat.{le_refl}
 use Rattle.std.proofs.lemmas.Int.{ints, to_z-of_z}
 use Rattle.std.proofs.lemmas.Result.{IfErr-weaker, err_from_is_err_and, on_ok_weaker}
 use mir.Syntax.{w64}
@@ -50,9 +51,6 @@ end_is high fits reach = omega (arith, ints)
 
 few_looks : (before front past b w : ℕ) → front ≤ before + (b + 1) → past ≤ front + (w + 1) → past ≤ before + (b + w + 2)
 few_looks before front past b w to_front to_past = omega arith
-
-le_self : (n : ℕ) → n ≤ n
-le_self n = omega arith
 
 some_looks : (least front past : ℕ) → least ≤ front → front ≤ past → least ≤ past
 some_looks least front past to_front kept = omega arith
@@ -175,14 +173,14 @@ returns g c =
     let end = end_is high c.ranges.high c.requires.high in
     record {
       ok = on_ok_weaker c.step.result (λ more.
-          let inside = found_in_window z c.requires.sound low high f c.requires.high.1 place walk found way place at_high steady (le_self place) _ c.step.new.self more.0 more.2 end in
+          let inside = found_in_window z c.requires.sound low high f c.requires.high.1 place walk found way place at_high steady (le_refl place) _ c.step.new.self more.0 more.2 end in
           let all = found_from_window z c.requires.sound low high f c.requires.window (found ++ more.0) inside in (
             found ++ more.0,
             g.met.L.DateTimeList.more c.args.list.now c.walk_transitions.new.list c.step.new.list found more.0 past.ok.1 more.1,
             all,
             few_found z low high f (found ++ more.0) c.requires.window c.requires.width all,
           )) c.step.ensures.ok;
-      err = IfErr-weaker c.step.result _ _ (λ e fault. fault_in_window z c.requires.sound low high f c.requires.high.1 place walk found way place at_high steady (le_self place) _ _ e fault end) c.step.ensures.err;
+      err = IfErr-weaker c.step.result _ _ (λ e fault. fault_in_window z c.requires.sound low high f c.requires.high.1 place walk found way place at_high steady (le_refl place) _ _ e fault end) c.step.ensures.err;
       few = on_ok_weaker c.step.result (λ rest b w bits most.
           few_looks _ _ _ b w (front.few b bits) (past.few w (window_as (λ y l h g. AtMostTakeEffectIn y l h w) z z' low start.since high _ f f (sym z_is) (sym low_is) (sym high_is) refl most))) c.step.ensures.ok;
       some = on_ok_weaker c.step.result (λ rest some. some_looks _ _ _ (front.some some) past.kept) c.step.ensures.ok;

@@ -1,5 +1,6 @@
 -- The clock by how many transitions are reached.
 use Rattle.std.proofs.Common.{◌≡◌, ◌≢◌, ◌<◌, ◌≤◌, ◌∙◌, ℕ, ℤ, List, [], ◌∷◌, inl, inr, refl, sym, ap, subst, arith, length, get_or, Option, Some, None, is_some, false, not}
+use Rattle.std.proofs.Math.Nat.{le_refl}
 use Rattle.std.proofs.lemmas.Bool.{false≢true}
 use Rattle.std.proofs.lemmas.Int.{to_z-of_z}
 use Rattle.std.proofs.lemmas.List.{nil_from_length}
@@ -54,9 +55,6 @@ returns-clause-same g c = refl
 pub returns-clause-none : goal.returns-clause-none
 returns-clause-none g c = λ empty. refl
 
-le_self : (n : ℕ) → n ≤ n
-le_self n = omega arith
-
 some_types : {X : Type 0} (xs : List X) → xs ≢ [] → 0 < length xs
 some_types [] some = absurd (some refl)
 some_types (x ∷ xs) some = omega arith
@@ -85,4 +83,4 @@ returns-then-is_none-clause-value g c =
     first_type z c.args.reached c.index-parts-0.result c.requires.sound.has_types (omega (arith, c.len.ensures, c.if-reached-len.false)) c.if-reached-eq0.true (none_of c.args.parts.extra_rule.now c.if-is_none.ensures) c.args.from
 
 pub returns-clause-kept : goal.returns-clause-kept
-returns-clause-kept g c = le_self _
+returns-clause-kept g c = le_refl _

@@ -1,8 +1,9 @@
 -- What a write took stands behind what was written before.
-use Rattle.std.proofs.Common.{◌≡◌, ◌-◌, ◌++◌, [], ◌∷◌, List, ℕ, Option, length, take, drop, true, eqb, eqb-true, arith, refl, sym, ap, ◌∙◌, subst, append-nil, append_assoc, take-append-drop}
+use Rattle.std.proofs.Common.{◌≡◌, ◌-◌, ◌++◌, [], List, ℕ, Option, length, take, drop, arith, refl, sym, ap, ◌∙◌, subst, append-nil, append_assoc, take-append-drop}
 use Rattle.std.specs.Io.KnownBytes.{Appends}
 use Rattle.std.proofs.KnownBytes.{Appends-nil, Appends-trans, Appends-kept}
 use Rattle.std.proofs.lemmas.List.{take_rest, length-drop}
+use Rattle.tz_zone.proofs.TextEnds.{is_over}
 use Rattle.tz_query.specs.Streams.{WritesFront}
 use Rattle.tz_query.proofs.query.streams.write_all.Goals as goal
 
@@ -14,10 +15,6 @@ front_and_more bytes done rest count a b c whole wrote more = (
   rw (append_assoc, take-append-drop count rest) whole,
   Appends-trans a b c done (take count rest) wrote more,
 )
-
-is_over : (xs : List ℕ) → true ≡ eqb (length xs) 0 → xs ≡ []
-is_over [] e = refl
-is_over (x ∷ xs) e = let none = eqb-true (length (x ∷ xs)) 0 (sym e) in absurd (omega arith)
 
 pub loop-rest-init : goal.loop-rest-init
 loop-rest-init g c = ([], refl, Appends-nil (g.W.Write.contents c.args.out.now))

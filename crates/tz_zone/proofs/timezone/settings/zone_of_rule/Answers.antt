@@ -1,12 +1,10 @@
--- The zone of a rule has its types and no tables, which is no fault.
-use Rattle.std.proofs.Common.{◌≡◌, [], Some, refl, ◌∙◌, inl, inr}
-use Rattle.std.proofs.lemmas.Result.{IfOk-weaker, IfErr-weaker}
-use Rattle.tz_base.specs.declared.error.TzError.{TzError}
+-- The zone of a rule has its types and no tables.
+use Rattle.std.proofs.Common.{◌≡◌, [], Some, refl, ◌∙◌}
+use Rattle.std.proofs.lemmas.Result.{IfOk-weaker}
 use Rattle.tz_rule.specs.declared.timezone.rule.TransitionRule.{TransitionRule}
 use Rattle.tz_rule.specs.declared.timezone.rule.TransitionRule.TheVariants.{Fixed, Alternate}
 use Rattle.tz_zone.specs.Settings.{rule_zone}
 use Rattle.tz_zone.specs.Table.{zone_with}
-use Rattle.tz_zone.specs.ValidZone.{IsFirstZoneFault}
 use Rattle.tz_zone.specs.ZoneRef.{own_zone_of}
 use Rattle.tz_zone.proofs.timezone.settings.zone_of_rule.Goals as goal
 

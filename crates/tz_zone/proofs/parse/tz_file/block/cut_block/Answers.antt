@@ -1,5 +1,5 @@
 -- The slices at the places of the layout are the parts of the block.
-use Rattle.std.proofs.Common.{◌≡◌, ℕ, List, ap}
+use Rattle.std.proofs.Common.{ℕ, List, ap}
 use Rattle.std.specs.List.{slice_range}
 use Rattle.tz_zone.specs.TzFile.{Block, block_with, header_len}
 use Rattle.tz_zone.specs.declared.parse.tz_file.block.Layout.{Layout}
