@@ -10,7 +10,7 @@ use std::time::Duration;
 use tz::datetime::{DateTime, UtcDateTime};
 use tz_base::error::TzError;
 use tz_base::error::datetime::DateTimeError;
-use tz_file_tests::rows::{NOONS, Parts};
+use tz_rule_tests::rows::{NOONS, Parts};
 use tz_zone::timezone::{LocalTimeType, TimeZone, TimeZoneRef, Transition};
 
 /// The date time prints as the text.

@@ -3,7 +3,7 @@
 use crate::expect::expect_eq;
 use std::test::Fail;
 use tz::inner::{Fields, TextBuffer};
-use tz_file_tests::rows::{Parts, fields_of};
+use tz_rule_tests::rows::{Parts, fields_of};
 
 /// Prints fields and an offset.
 fn printed(fields: Fields, ut_offset: i32) -> TextBuffer {

@@ -7,12 +7,11 @@ use std::test::Fail;
 use tz::inner::{Fields, TextBuffer, is_reading};
 use tz::timezone::{LeapSecond, Transition, TransitionRule};
 use tz::{LocalTimeType, TimeZoneRef, TzError};
-use tz_file_tests::rows::{
-    Day, RuleRow, TypeRow, leap_seconds_of, rule_of, transitions_of, types_of,
-};
+use tz_file_tests::rows::{leap_seconds_of, transitions_of, types_of};
 use tz_file_tests::samples::central_europe;
 use tz_query::inner::answer_line;
 use tz_query::query::answer;
+use tz_rule_tests::rows::{Day, RuleRow, TypeRow, rule_of};
 
 /// The answers of the plain half alone.
 fn answered_plainly(

@@ -6,9 +6,10 @@ use crate::expect::{
 use crate::growths::expect_each_growth_can_be_refused;
 use std::test::Fail;
 use tz::{TimeZone, TimeZoneRef};
-use tz_file_tests::rows::{CROSSING, Day, ExtraRule, ZoneRow};
+use tz_file_tests::rows::{CROSSING, ExtraRule, ZoneRow};
 use tz_file_tests::samples::JERUSALEM_V3;
 use tz_query::query::answer;
+use tz_rule_tests::rows::Day;
 
 /// The zone of `EST5EDT,0/0,J365/25`.
 static ALWAYS_EASTERN_DAYLIGHT: ZoneRow = ZoneRow {

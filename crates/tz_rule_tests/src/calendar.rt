@@ -4,11 +4,11 @@ ghost use Rattle.std.specs.Prelude.{◌≡◌, ◌≤◌, negsuc, ◌≤ℤ◌, 
 ghost use Rattle.tz_base.specs.Days.{is_leap, year_length, years_length_from_1970, years_length_before_1970, first_day};
 
 use crate::expect::expect_eq;
+use crate::rows::{NOONS, Parts, fields_of};
 use std::process::Abort;
 use tz_base::calendar::{Fields, days_in_month, is_leap_year, timespec, total_nanoseconds};
 use tz_base::constants::NANOSECONDS_PER_SECOND;
 use tz_base::error::datetime::DateTimeError;
-use tz_file_tests::rows::{NOONS, Parts, fields_of};
 
 /// The days of the year.
 #[tactic(auto, unfolding(tz_base::specs::Days::year_length))]

@@ -1,4 +1,4 @@
-//! Tests of the calendar, of errors and of rules.
+//! Tests of the calendar, of errors and of rules, and rows for the tests of all that has date times or rules.
 #![tactic(auto)]
 
 #[cfg(test)]
@@ -13,5 +13,6 @@ mod expect;
 mod local_time_types;
 #[cfg(test)]
 mod refusing;
+pub mod rows;
 #[cfg(test)]
 mod rules;

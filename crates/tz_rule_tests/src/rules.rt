@@ -5,12 +5,12 @@ mod stretches;
 mod years;
 
 use crate::expect::{expect_debug, expect_eq, expect_eq_at, expect_ne};
+use crate::rows::Day::{self, Julian0 as Z, Julian1 as J, Month as M};
+use crate::rows::day_of;
 use std::process::Abort;
 use std::test::Fail;
 use tz_base::error::TzError;
 use tz_base::error::timezone::{LocalTimeTypeError, TransitionRuleError};
-use tz_file_tests::rows::Day::{self, Julian0 as Z, Julian1 as J, Month as M};
-use tz_file_tests::rows::day_of;
 use tz_rule::inner;
 use tz_rule::timezone::{
     AlternateTime, Julian0WithLeap, Julian1WithoutLeap, LocalTimeType, MonthWeekDay, RuleDay,

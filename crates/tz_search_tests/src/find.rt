@@ -22,8 +22,9 @@ mod texts;
 mod zones;
 
 use crate::expect::expect_eq;
-use tz_file_tests::rows::{CROSSING, Day, ExtraRule, RuleRow, TypeRow, ZoneRow, rule_of, zone_of};
+use tz_file_tests::rows::{CROSSING, ExtraRule, ZoneRow, zone_of};
 use tz_file_tests::samples::central_europe;
+use tz_rule_tests::rows::{Day, RuleRow, TypeRow, rule_of};
 use zones::{FAR_OFFSET, expect_all_in};
 
 /// A Unix time, and the offsets before it and at it; those of a date time that is shown are the same.

@@ -10,8 +10,8 @@ use std::test::Fail;
 use tz_base::error::Error;
 use tz_base::error::parse::{ParseDataError, TzStringError};
 use tz_base::error::timezone::{LocalTimeTypeError, TransitionRuleError};
-use tz_file_tests::rows::{Day, day_of};
 use tz_file_tests::samples::{Fault, extended_rule, named, named_by_settings, ordinary_rule};
+use tz_rule_tests::rows::{Day, day_of};
 use tz_zone::timezone::{
     AlternateTime, Julian0WithLeap, Julian1WithoutLeap, LocalTimeType, MonthWeekDay, RuleDay,
     TransitionRule,

@@ -2,8 +2,9 @@
 
 use super::*;
 use crate::expect::{expect_eq, expect_eq_at};
-use crate::rows::{Day, ExtraRule, ZoneRow, zone_of, zone_with_rule};
+use crate::rows::{ExtraRule, ZoneRow, zone_of, zone_with_rule};
 use crate::samples::central_europe;
+use tz_rule_tests::rows::Day;
 
 /// What a unit holds: transitions with their types, types with the places of their names, names, leap seconds, and both lists of
 /// indicators, which are alike.

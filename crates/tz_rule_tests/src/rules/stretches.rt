@@ -2,8 +2,8 @@
 
 use super::{ALL_YEAR, Parts, expect_made, rule, start_in};
 use crate::expect::expect_eq;
+use crate::rows::Day::{Julian0 as Z, Julian1 as J, Month as M};
 use std::process::Abort;
-use tz_file_tests::rows::Day::{Julian0 as Z, Julian1 as J, Month as M};
 use tz_rule::inner::{self, Stretch};
 use tz_rule::timezone::{AlternateTime, TransitionRule};
 
