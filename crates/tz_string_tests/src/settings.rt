@@ -57,6 +57,31 @@ impl Files<'_> {
         self.note(9);
         Err(ReadFault::Failed(anyhow!("no file")))
     }
+
+    /// What settings with these directories answer for a text.
+    fn ask(&self, directories: &[&str], text: &str) -> Result<TimeZone, Error> {
+        let settings = TimeZoneSettings::new(directories, |path: &str| self.read(path));
+        settings.parse_posix_tz(self.alloc, text)
+    }
+
+    /// What is answered for a text where the directories are the usual ones.
+    fn ask_usual(&self, text: &str) -> Result<TimeZone, Error> {
+        TimeZone::from_posix_tz(self.alloc, |path: &str| self.read(path), text)
+    }
+
+    /// What is answered for the machine's local time.
+    fn ask_local(&self) -> Result<TimeZone, Error> {
+        TimeZone::local(self.alloc, |path: &str| self.read(path))
+    }
+}
+
+/// Files in memory, of which none was asked for.
+fn files_of<'a>(alloc: Global, replies: &'a [(&'a str, Reply)]) -> Files<'a> {
+    Files {
+        alloc,
+        replies,
+        asked: Cell::new(0),
+    }
 }
 
 /// What the settings answer.
@@ -85,13 +110,8 @@ fn expect_answer(
     expected: &Answer,
     asked: u64,
 ) -> Result<(), Fail> {
-    let files = Files {
-        alloc,
-        replies,
-        asked: Cell::new(0),
-    };
-    let settings = TimeZoneSettings::new(&["/a", "/b", "/c"], |path: &str| files.read(path));
-    let answer = settings.parse_posix_tz(alloc, text);
+    let files = files_of(alloc, replies);
+    let answer = files.ask(&["/a", "/b", "/c"], text);
     match expected {
         Answer::Type(ut_offset, name) => {
             let local_time_type = LocalTimeType::new(*ut_offset, false, Some(name.as_bytes()))?;
@@ -120,9 +140,14 @@ fn expect_answers(rt: &impl Abort, alloc: Global, rows: &[Row]) -> Result<(), Fa
     Ok(())
 }
 
-/// The zone of UTC with its name.
-fn expect_utc(rt: &impl Abort, answer: Result<TimeZone, Error>) -> Result<(), Fail> {
-    let types = [LocalTimeType::new(0, false, Some(b"UTC"))?];
+/// The zone of one type of standard time, with this offset and name.
+fn expect_type(
+    rt: &impl Abort,
+    answer: Result<TimeZone, Error>,
+    ut_offset: i32,
+    name: &[u8],
+) -> Result<(), Error> {
+    let types = [LocalTimeType::new(ut_offset, false, Some(name))?];
     let zone = answer?;
     expect_eq(rt, &zone.as_ref().local_time_types(), &types.as_slice());
     Ok(())
@@ -219,14 +244,10 @@ fn local_time_has_its_file(rt: HostRuntime) -> Result<(), Fail> {
     ];
     let alloc = rt.alloc();
     expect_answers(&rt, alloc, &ROWS)?;
-    let files = Files {
-        alloc,
-        replies: LOCAL,
-        asked: Cell::new(0),
-    };
-    expect_utc(&rt, TimeZone::local(alloc, |path: &str| files.read(path)))?;
+    let files = files_of(alloc, LOCAL);
+    expect_type(&rt, files.ask_local(), 0, b"UTC")?;
     let settings = TimeZoneSettings::new(DEFAULT_DIRECTORIES, |path: &str| files.read(path));
-    expect_utc(&rt, settings.parse_local(alloc))?;
+    expect_type(&rt, settings.parse_local(alloc), 0, b"UTC")?;
     expect_eq(&rt, &files.asked.get(), &11);
     Ok(())
 }
@@ -241,22 +262,13 @@ fn the_usual_directories_are_asked(rt: HostRuntime) -> Result<(), Fail> {
         ("/share/zoneinfo/CET-1CEST,M3.5.0,M10.5.0/3", Reply::NoFile),
         ("/etc/zoneinfo/CET-1CEST,M3.5.0,M10.5.0/3", Reply::NoFile),
     ];
-    let alloc = rt.alloc();
-    let files = Files {
-        alloc,
-        replies: &REPLIES,
-        asked: Cell::new(0),
-    };
-    let zone = TimeZone::from_posix_tz(
-        alloc,
-        |path: &str| files.read(path),
-        "CET-1CEST,M3.5.0,M10.5.0/3",
-    )?;
-    expect_eq(&rt, &files.asked.get(), &123);
+    let files = files_of(rt.alloc(), &REPLIES);
     let types = [
         LocalTimeType::new(3600, false, Some(b"CET"))?,
         LocalTimeType::new(7200, true, Some(b"CEST"))?,
     ];
+    let zone = files.ask_usual("CET-1CEST,M3.5.0,M10.5.0/3")?;
+    expect_eq(&rt, &files.asked.get(), &123);
     expect_eq(&rt, &zone.as_ref().local_time_types(), &types.as_slice());
     assert!(rt; zone.as_ref().transitions().is_empty());
     assert!(rt;
@@ -276,14 +288,9 @@ fn the_reader_s_fault_is_handed_on(rt: HostRuntime) -> Result<(), Fail> {
         (":x", "file was not found"),
     ];
     let alloc = rt.alloc();
-    let files = Files {
-        alloc,
-        replies: &[],
-        asked: Cell::new(0),
-    };
-    let settings = TimeZoneSettings::new(&["/a"], |path: &str| files.read(path));
+    let files = files_of(alloc, &[]);
     for (text, fault) in &ROWS {
-        let Err(error) = settings.parse_posix_tz(alloc, text) else {
+        let Err(error) = files.ask(&["/a"], text) else {
             assert!(rt; false, "{text}");
             return Ok(());
         };
@@ -342,22 +349,13 @@ fn other_names_are_looked_for(rt: HostRuntime) -> Result<(), Fail> {
 
 #[test]
 fn without_directories_only_paths_are_asked(rt: HostRuntime) -> Result<(), Fail> {
-    let alloc = rt.alloc();
-    let files = Files {
-        alloc,
-        replies: &[("/x", Reply::Utc)],
-        asked: Cell::new(0),
-    };
-    let settings = TimeZoneSettings::new(&[], |path: &str| files.read(path));
-    let zone = settings.parse_posix_tz(alloc, "HST10")?;
-    expect_eq(&rt, &zone.find_local_time_type(0)?.ut_offset(), &(-36_000));
-    expect_eq(
-        &rt,
-        &settings.parse_posix_tz(alloc, ":x").err().map(named),
-        &Some(Fault::Io),
-    );
+    static REPLIES: [(&str, Reply); 1] = [("/x", Reply::Utc)];
+    let files = files_of(rt.alloc(), &REPLIES);
+    expect_type(&rt, files.ask(&[], "HST10"), -36_000, b"HST")?;
+    let refused = files.ask(&[], ":x").err().map(named);
+    expect_eq(&rt, &refused, &Some(Fault::Io));
     expect_eq(&rt, &files.asked.get(), &0);
-    expect_utc(&rt, settings.parse_posix_tz(alloc, "/x"))?;
+    expect_type(&rt, files.ask(&[], "/x"), 0, b"UTC")?;
     expect_eq(&rt, &files.asked.get(), &1);
     Ok(())
 }
@@ -371,13 +369,9 @@ fn expect_usual_fault(
     fault: &Option<Fault>,
     asked: u64,
 ) {
-    let files = Files {
-        alloc,
-        replies,
-        asked: Cell::new(0),
-    };
-    let answer = TimeZone::from_posix_tz(alloc, |path: &str| files.read(path), text);
-    expect_eq_at(rt, &text, &answer.err().map(named), fault);
+    let files = files_of(alloc, replies);
+    let refused = files.ask_usual(text).err().map(named);
+    expect_eq_at(rt, &text, &refused, fault);
     expect_eq_at(rt, &text, &files.asked.get(), &asked);
 }
 
@@ -408,13 +402,9 @@ fn the_usual_directories_are_asked_no_further(rt: HostRuntime) {
 
 /// The local time zone is refused so, after its file alone was asked for.
 fn expect_local_fault(rt: &impl Abort, alloc: Global, reply: Reply, fault: &Fault) {
-    let files = Files {
-        alloc,
-        replies: &[("/etc/localtime", reply)],
-        asked: Cell::new(0),
-    };
-    let answer = TimeZone::local(alloc, |path: &str| files.read(path));
-    let found = answer.err().map(named);
+    let replies = [("/etc/localtime", reply)];
+    let files = files_of(alloc, &replies);
+    let found = files.ask_local().err().map(named);
     expect_eq(rt, &found.as_ref(), &Some(fault));
     expect_eq(rt, &files.asked.get(), &1);
 }

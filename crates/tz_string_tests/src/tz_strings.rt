@@ -4,7 +4,7 @@ mod altered;
 mod footers;
 
 use crate::expect::{expect_eq, expect_eq_at};
-use std::alloc::Global;
+use std::alloc::{AllocError, Global};
 use std::process::Abort;
 use std::test::Fail;
 use tz_base::error::Error;
@@ -346,24 +346,24 @@ fn bytes_stand_where_they_have_to(rt: HostRuntime) {
 }
 
 /// The name of a type, and its offset from UTC in seconds.
-fn type_text(alloc: Global, local_time_type: &LocalTimeType) -> Result<String, Fail> {
+fn type_text(alloc: Global, local_time_type: &LocalTimeType) -> Result<String, AllocError> {
     let name = local_time_type.time_zone_designation();
-    Ok(format!(in alloc; "{name} {}", local_time_type.ut_offset())?)
+    format!(in alloc; "{name} {}", local_time_type.ut_offset())
 }
 
 /// A day as a TZ string has it, and a time of that day in seconds.
-fn change_text(alloc: Global, day: &RuleDay, time: i32) -> Result<String, Fail> {
-    Ok(match day {
-        RuleDay::Julian1WithoutLeap(day) => format!(in alloc; "J{} {time}", day.get())?,
-        RuleDay::Julian0WithLeap(day) => format!(in alloc; "{} {time}", day.get())?,
+fn change_text(alloc: Global, day: &RuleDay, time: i32) -> Result<String, AllocError> {
+    match day {
+        RuleDay::Julian1WithoutLeap(day) => format!(in alloc; "J{} {time}", day.get()),
+        RuleDay::Julian0WithLeap(day) => format!(in alloc; "{} {time}", day.get()),
         RuleDay::MonthWeekDay(day) => {
-            format!(in alloc; "M{}.{}.{} {time}", day.month(), day.week(), day.week_day())?
+            format!(in alloc; "M{}.{}.{} {time}", day.month(), day.week(), day.week_day())
         }
-    })
+    }
 }
 
 /// The types and the changes of a rule.
-fn rule_text(alloc: Global, rule: &TransitionRule) -> Result<String, Fail> {
+fn rule_text(alloc: Global, rule: &TransitionRule) -> Result<String, AllocError> {
     match rule {
         TransitionRule::Fixed(local_time_type) => type_text(alloc, local_time_type),
         TransitionRule::Alternate(rule) => {
@@ -371,7 +371,7 @@ fn rule_text(alloc: Global, rule: &TransitionRule) -> Result<String, Fail> {
             let dst = type_text(alloc, rule.dst())?;
             let start = change_text(alloc, rule.dst_start(), rule.dst_start_time())?;
             let end = change_text(alloc, rule.dst_end(), rule.dst_end_time())?;
-            Ok(format!(in alloc; "{std}, {dst}, {start}, {end}")?)
+            format!(in alloc; "{std}, {dst}, {start}, {end}")
         }
     }
 }

@@ -5,9 +5,9 @@ use anyhow::anyhow;
 use std::alloc::Global;
 use std::process::Abort;
 use std::test::Fail;
-use tz_base::error::{Error, ReadFault};
+use tz_base::error::{Error, ReadFault, TzError};
 use tz_file_tests::samples::extended_rule;
-use tz_zone::timezone::{TimeZone, TimeZoneRef, TimeZoneSettings, TransitionRule};
+use tz_zone::timezone::{LocalTimeType, TimeZone, TimeZoneRef, TimeZoneSettings, TransitionRule};
 
 /// Texts that are refused, and the refusal's text.
 static REFUSED: &[(&str, &str)] = &[
@@ -47,26 +47,33 @@ fn zone_of(alloc: Global, text: &str) -> Result<TimeZone, Error> {
     settings.parse_posix_tz(alloc, text)
 }
 
-/// The text has the zone of the rule: its types, no tables and the rule.
+/// The zone has these types, no tables and the rule.
+fn expect_parts(
+    rt: &impl Abort,
+    zone: TimeZoneRef<'_>,
+    types: &[LocalTimeType],
+    rule: TransitionRule,
+) -> Result<(), TzError> {
+    let extra_rule = Some(rule);
+    let expected = TimeZoneRef::new(&[], types, &[], &extra_rule)?;
+    assert!(rt; zone == expected);
+    Ok(())
+}
+
+/// The text has the zone of the rule.
 fn expect_zone(
     rt: &impl Abort,
     alloc: Global,
     text: &str,
     rule: TransitionRule,
-) -> Result<(), Fail> {
+) -> Result<(), Error> {
     let zone = zone_of(alloc, text)?;
-    let extra_rule = Some(rule);
-    let is_same = match &rule {
-        TransitionRule::Fixed(local_time_type) => {
-            let types = [*local_time_type];
-            zone.as_ref() == TimeZoneRef::new(&[], &types, &[], &extra_rule)?
+    match &rule {
+        TransitionRule::Fixed(single) => expect_parts(rt, zone.as_ref(), &[*single], rule)?,
+        TransitionRule::Alternate(both) => {
+            expect_parts(rt, zone.as_ref(), &[*both.std(), *both.dst()], rule)?;
         }
-        TransitionRule::Alternate(rule) => {
-            let types = [*rule.std(), *rule.dst()];
-            zone.as_ref() == TimeZoneRef::new(&[], &types, &[], &extra_rule)?
-        }
-    };
-    assert!(rt; is_same);
+    }
     Ok(())
 }
 

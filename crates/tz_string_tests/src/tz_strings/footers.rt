@@ -204,17 +204,24 @@ static EXTENDED: &[(&str, &str)] = &[
     ),
 ];
 
+/// Whether a file of version 2 with the text in its footer is refused.
+fn is_refused_by_version_2(alloc: Global, text: &str) -> Result<bool, AllocError> {
+    let footer = format!(in alloc; "\n{text}\n")?;
+    let bytes = without_transitions(alloc, b'2', footer.as_bytes())?;
+    Ok(TimeZone::from_tz_data(alloc, &bytes).is_err())
+}
+
 #[test]
 fn footers_are_read(rt: HostRuntime) -> Result<(), Fail> {
     expect_rules(&rt, rt.alloc(), ORDINARY, false)?;
     expect_rules(&rt, rt.alloc(), ORDINARY, true)?;
     expect_rules(&rt, rt.alloc(), EXTENDED, true)?;
     for (text, _) in EXTENDED {
-        let footer = format!(in rt.alloc(); "\n{text}\n")?;
-        let bytes = without_transitions(rt.alloc(), b'2', footer.as_bytes())?;
-        assert!(rt;
-            TimeZone::from_tz_data(rt.alloc(), &bytes).is_err(),
-            "{text}"
+        expect_eq_at(
+            &rt,
+            text,
+            &is_refused_by_version_2(rt.alloc(), text)?,
+            &true,
         );
     }
     Ok(())
