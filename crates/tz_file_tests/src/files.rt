@@ -3,17 +3,14 @@
 mod failing;
 
 use crate::expect::expect_eq;
+use std::alloc::{AllocError, Global};
 use std::test::Fail;
 use std::{env, fs, process};
 use tz_base::error::{Error, ReadFault};
 use tz_zone::timezone::{LocalTimeType, TimeZoneSettings, read_file};
 
 /// Some MiB, of which the last piece of 2000 bytes is not whole.
-#[test]
-fn a_file_of_the_machine_is_read_whole(rt: HostRuntime) -> Result<(), Fail> {
-    let alloc = rt.alloc();
-    let name = format!(in alloc; "tz-read-file-{}", process::id(rt.process()))?;
-    let path = env::temp_dir(&rt)?.join(alloc, name.as_str())?;
+fn many_bytes(alloc: Global) -> Result<Vec<u8>, AllocError> {
     let mut row = Vec::new(alloc);
     for byte in 0..251u8 {
         row.push(byte)?;
@@ -22,7 +19,16 @@ fn a_file_of_the_machine_is_read_whole(rt: HostRuntime) -> Result<(), Fail> {
     for _ in 0..12_001 {
         bytes.extend_from_slice(&row)?;
     }
+    Ok(bytes)
+}
+
+#[test]
+fn a_file_of_the_machine_is_read_whole(rt: HostRuntime) -> Result<(), Fail> {
+    let alloc = rt.alloc();
+    let bytes = many_bytes(alloc)?;
     assert!(rt; bytes.len() % 2000 != 0);
+    let name = format!(in alloc; "tz-read-file-{}", process::id(rt.process()))?;
+    let path = env::temp_dir(&rt)?.join(alloc, name.as_str())?;
     fs::write(&rt, path.as_str(), bytes.as_slice())?;
     let read = read_file(&rt, alloc, path.as_str());
     fs::remove_file(&rt, path.as_str())?;
@@ -45,11 +51,11 @@ fn a_directory_or_no_file_is_a_fault(rt: HostRuntime) -> Result<(), Fail> {
 #[test]
 fn the_settings_take_it(rt: HostRuntime) -> Result<(), Fail> {
     let alloc = rt.alloc();
-    let settings = TimeZoneSettings::new(&["/no/such"], |path: &str| read_file(&rt, alloc, path));
-    let zone = settings.parse_posix_tz(alloc, "HST10")?;
     let types = [LocalTimeType::new(-36_000, false, Some(b"HST"))?];
-    expect_eq(&rt, &zone.as_ref().local_time_types(), &types.as_slice());
+    let settings = TimeZoneSettings::new(&["/no/such"], |path: &str| read_file(&rt, alloc, path));
     let directory = settings.parse_posix_tz(alloc, ":/");
     assert!(rt; matches!(directory, Err(Error::Io(_))));
+    let zone = settings.parse_posix_tz(alloc, "HST10")?;
+    expect_eq(&rt, &zone.as_ref().local_time_types(), &types.as_slice());
     Ok(())
 }

@@ -5,9 +5,8 @@ use std::alloc::{AllocError, Global};
 use tz_base::error::parse::{TzFileError, TzStringError};
 use tz_base::error::timezone::{LocalTimeTypeError, TimeZoneError, TransitionRuleError};
 use tz_base::error::{Error, ReadFault, TzError};
-use tz_zone::timezone::{
-    AlternateTime, LocalTimeType, MonthWeekDay, RuleDay, TimeZone, TransitionRule,
-};
+use tz_rule_tests::rows::{Day, RuleRow, rule_of};
+use tz_zone::timezone::{AlternateTime, TimeZone, TransitionRule};
 
 /// A file of version 1 with one type, UTC.
 pub const UTC_V1: &[u8] = b"TZif\0\
@@ -66,9 +65,10 @@ pub fn named_by_settings(error: Error) -> Fault {
 
 /// Writes a header: the counts of UT/local and standard/wall indicators, leap seconds, transitions, types and name bytes.
 pub fn push_header(bytes: &mut Vec<u8>, version: u8, counts: &[u32]) -> Result<(), AllocError> {
+    static UNUSED: [u8; 15] = [0; 15];
     bytes.extend_from_slice(b"TZif")?;
     bytes.push(version)?;
-    bytes.extend_from_slice(&[0; 15])?;
+    bytes.extend_from_slice(&UNUSED)?;
     for count in counts {
         bytes.extend_from_slice(&count.to_be_bytes())?;
     }
@@ -116,16 +116,16 @@ pub fn extended_rule(alloc: Global, text: &str) -> Result<Option<TransitionRule>
 }
 
 /// The rule of `CET-1CEST,M3.5.0,M10.5.0/3`.
+static CENTRAL_EUROPE: RuleRow = (
+    (3600, false, Some(b"CET")),
+    (7200, true, Some(b"CEST")),
+    (Day::Month(3, 5, 0), 7200),
+    (Day::Month(10, 5, 0), 10_800),
+);
+
+/// The rule of `CET-1CEST,M3.5.0,M10.5.0/3`.
 pub fn central_europe() -> Result<AlternateTime, TzError> {
-    let rule = AlternateTime::new(
-        LocalTimeType::new(3600, false, Some(b"CET"))?,
-        LocalTimeType::new(7200, true, Some(b"CEST"))?,
-        RuleDay::MonthWeekDay(MonthWeekDay::new(3, 5, 0)?),
-        7200,
-        RuleDay::MonthWeekDay(MonthWeekDay::new(10, 5, 0)?),
-        10_800,
-    )?;
-    Ok(rule)
+    rule_of(&CENTRAL_EUROPE)
 }
 
 /// The zone of `CET-1CEST,M3.5.0,M10.5.0/3`.

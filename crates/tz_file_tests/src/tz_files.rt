@@ -9,9 +9,9 @@ use tz_base::error::TzError;
 use tz_base::error::parse::{ParseDataError, TzFileError, TzStringError};
 use tz_base::error::timezone::{LocalTimeTypeError, TimeZoneError};
 use tz_base::refusing::Refusing;
+use tz_rule_tests::rows::{Day, RuleRow, rule_of};
 use tz_zone::timezone::{
-    AlternateTime, Julian0WithLeap, Julian1WithoutLeap, LeapSecond, LocalTimeType, MonthWeekDay,
-    RuleDay, TimeZone, TimeZoneRef, Transition, TransitionRule,
+    LeapSecond, LocalTimeType, TimeZone, TimeZoneRef, Transition, TransitionRule,
 };
 
 /// How the bytes are refused.
@@ -101,43 +101,42 @@ fn expect_refusals(
 
 #[test]
 fn utc_is_read(rt: HostRuntime) -> Result<(), Fail> {
+    let types = [LocalTimeType::new(0, false, Some(b"UTC"))?];
     let bytes = utc_v1(rt.alloc())?;
     expect_eq(&rt, &bytes.len(), &54);
     let zone = TimeZone::from_tz_data(rt.alloc(), &bytes)?;
     let zone = zone.as_ref();
-    expect_eq(
-        &rt,
-        &zone.local_time_types(),
-        &[LocalTimeType::new(0, false, Some(b"UTC"))?].as_slice(),
-    );
+    expect_eq(&rt, &zone.local_time_types(), &types.as_slice());
     assert!(rt; zone.transitions().is_empty());
     assert!(rt; zone.leap_seconds().is_empty());
     assert!(rt; zone.extra_rule().is_none());
     Ok(())
 }
 
-#[test]
-fn leap_seconds_are_read(rt: HostRuntime) -> Result<(), Fail> {
-    let bytes = utc_v1_leap(rt.alloc())?;
-    expect_eq(&rt, &bytes.len(), &272);
-    let zone = TimeZone::from_tz_data(rt.alloc(), &bytes)?;
-    expect_eq(
-        &rt,
-        &zone.as_ref().local_time_types(),
-        &[LocalTimeType::new(0, false, Some(b"UTC"))?].as_slice(),
-    );
-    assert!(rt; zone.as_ref().extra_rule().is_none());
-    let leap_seconds = zone.as_ref().leap_seconds();
-    expect_eq(&rt, &leap_seconds.len(), &27);
+/// The leap seconds are those up to 2017.
+fn expect_leap_seconds(rt: &impl Abort, leap_seconds: &[LeapSecond]) {
+    expect_eq(rt, &leap_seconds.len(), &27);
     let mut correction = 0i32;
     for (leap_second, time) in leap_seconds.iter().zip(&LEAP_TIMES) {
         correction = correction.saturating_add(1);
         expect_eq(
-            &rt,
+            rt,
             leap_second,
             &LeapSecond::new(i64::from(*time), correction),
         );
     }
+}
+
+#[test]
+fn leap_seconds_are_read(rt: HostRuntime) -> Result<(), Fail> {
+    let types = [LocalTimeType::new(0, false, Some(b"UTC"))?];
+    let bytes = utc_v1_leap(rt.alloc())?;
+    expect_eq(&rt, &bytes.len(), &272);
+    let zone = TimeZone::from_tz_data(rt.alloc(), &bytes)?;
+    let zone = zone.as_ref();
+    expect_eq(&rt, &zone.local_time_types(), &types.as_slice());
+    assert!(rt; zone.extra_rule().is_none());
+    expect_leap_seconds(&rt, zone.leap_seconds());
     Ok(())
 }
 
@@ -149,12 +148,19 @@ fn expect_memory(rt: &impl Abort, alloc: Global, bytes: &[u8]) -> Result<(), Fai
         let heap = Refusing::new(alloc, left);
         let answer = TimeZone::from_tz_data(&heap, bytes);
         expect_eq_at(rt, &left, &bytes, &lent.as_slice());
+        let refused = match answer {
+            Ok(zone) => {
+                assert!(rt; zone.as_ref() == ample.as_ref());
+                None
+            }
+            Err(error) => Some(named(error)),
+        };
+        expect_eq_at(rt, &left, &heap.held(), &0);
         if heap.refused() == 0 {
-            assert!(rt; answer.is_ok_and(|zone| zone.as_ref() == ample.as_ref()));
+            expect_eq_at(rt, &left, &refused, &None);
             return Ok(());
         }
-        expect_eq_at(rt, &left, &answer.err().map(named), &Some(Fault::Memory));
-        expect_eq(rt, &heap.held(), &0);
+        expect_eq_at(rt, &left, &refused, &Some(Fault::Memory));
     }
     assert!(rt; false, "growths without end");
     Ok(())
@@ -243,19 +249,17 @@ fn honolulu_v2(alloc: Global) -> Result<Vec<u8>, AllocError> {
 }
 
 /// The rule of Israel.
-fn jerusalem_rule() -> Result<TransitionRule, TzError> {
-    Ok(TransitionRule::Alternate(AlternateTime::new(
-        LocalTimeType::new(7200, false, Some(b"IST"))?,
-        LocalTimeType::new(10_800, true, Some(b"IDT"))?,
-        RuleDay::MonthWeekDay(MonthWeekDay::new(3, 4, 4)?),
-        93_600,
-        RuleDay::MonthWeekDay(MonthWeekDay::new(10, 5, 0)?),
-        7200,
-    )?))
-}
+static JERUSALEM: RuleRow = (
+    (7200, false, Some(b"IST")),
+    (10_800, true, Some(b"IDT")),
+    (Day::Month(3, 4, 4), 93_600),
+    (Day::Month(10, 5, 0), 7200),
+);
 
 /// The bytes are Israel's zone.
 fn expect_jerusalem(rt: &impl Abort, alloc: Global, bytes: &[u8]) -> Result<(), TzError> {
+    let types = [LocalTimeType::new(7200, false, Some(b"IST"))?];
+    let rule = Some(TransitionRule::Alternate(rule_of(&JERUSALEM)?));
     let zone = TimeZone::from_tz_data(alloc, bytes)?;
     let zone = zone.as_ref();
     expect_eq(
@@ -263,13 +267,9 @@ fn expect_jerusalem(rt: &impl Abort, alloc: Global, bytes: &[u8]) -> Result<(), 
         &zone.transitions(),
         &[Transition::new(2_145_916_800, 0)].as_slice(),
     );
-    expect_eq(
-        rt,
-        &zone.local_time_types(),
-        &[LocalTimeType::new(7200, false, Some(b"IST"))?].as_slice(),
-    );
+    expect_eq(rt, &zone.local_time_types(), &types.as_slice());
     assert!(rt; zone.leap_seconds().is_empty());
-    expect_eq(rt, zone.extra_rule(), &Some(jerusalem_rule()?));
+    expect_eq(rt, zone.extra_rule(), &rule);
     Ok(())
 }
 
@@ -288,7 +288,7 @@ fn jerusalem_is_read(rt: HostRuntime) -> Result<(), Fail> {
 }
 
 /// Holds a zone to the transitions, the types and the rule of Honolulu.
-fn expect_honolulu(rt: &impl Abort, zone: TimeZoneRef<'_>) -> Result<(), Fail> {
+fn expect_honolulu(rt: &impl Abort, zone: TimeZoneRef<'_>) -> Result<(), TzError> {
     let transitions = zone.transitions();
     expect_eq(rt, &transitions.len(), &7);
     for (transition, (time, index)) in transitions.iter().zip(&HONOLULU) {
@@ -310,7 +310,8 @@ fn expect_honolulu(rt: &impl Abort, zone: TimeZoneRef<'_>) -> Result<(), Fail> {
 fn honolulu_is_read(rt: HostRuntime) -> Result<(), Fail> {
     let bytes = honolulu_v2(rt.alloc())?;
     let zone = TimeZone::from_tz_data(rt.alloc(), &bytes)?;
-    expect_honolulu(&rt, zone.as_ref())
+    expect_honolulu(&rt, zone.as_ref())?;
+    Ok(())
 }
 
 #[test]
@@ -369,43 +370,37 @@ fn expect_extended(
     alloc: Global,
     footer: &[u8],
     fault: Fault,
-    rule: AlternateTime,
-) -> Result<(), Fail> {
+    rule: &RuleRow,
+) -> Result<(), TzError> {
+    let rule = Some(TransitionRule::Alternate(rule_of(rule)?));
     let bytes = without_transitions(alloc, b'2', footer)?;
     expect_eq(rt, &fault_of(alloc, &bytes), &Some(fault));
     let bytes = without_transitions(alloc, b'3', footer)?;
     let zone = TimeZone::from_tz_data(alloc, &bytes)?;
-    expect_eq(
-        rt,
-        zone.as_ref().extra_rule(),
-        &Some(TransitionRule::Alternate(rule)),
-    );
+    expect_eq(rt, zone.as_ref().extra_rule(), &rule);
     Ok(())
 }
 
 #[test]
 fn the_second_header_extends_texts(rt: HostRuntime) -> Result<(), Fail> {
-    let signed = AlternateTime::new(
-        LocalTimeType::new(-10_800, false, Some(b"-03"))?,
-        LocalTimeType::new(-7200, true, Some(b"-02"))?,
-        RuleDay::MonthWeekDay(MonthWeekDay::new(3, 5, 0)?),
-        -7200,
-        RuleDay::MonthWeekDay(MonthWeekDay::new(10, 5, 0)?),
-        -3600,
-    )?;
+    static SIGNED: RuleRow = (
+        (-10_800, false, Some(b"-03")),
+        (-7200, true, Some(b"-02")),
+        (Day::Month(3, 5, 0), -7200),
+        (Day::Month(10, 5, 0), -3600),
+    );
+    static ALL_YEAR: RuleRow = (
+        (-18_000, false, Some(b"EST")),
+        (-14_400, true, Some(b"EDT")),
+        (Day::Julian0(0), 0),
+        (Day::Julian1(365), 90_000),
+    );
     let footer = b"\n<-03>3<-02>,M3.5.0/-2,M10.5.0/-1\n";
-    expect_extended(&rt, rt.alloc(), footer, Fault::Number, signed)?;
-    let all_year = AlternateTime::new(
-        LocalTimeType::new(-18_000, false, Some(b"EST"))?,
-        LocalTimeType::new(-14_400, true, Some(b"EDT"))?,
-        RuleDay::Julian0WithLeap(Julian0WithLeap::new(0)?),
-        0,
-        RuleDay::Julian1WithoutLeap(Julian1WithoutLeap::new(365)?),
-        90_000,
-    )?;
+    expect_extended(&rt, rt.alloc(), footer, Fault::Number, &SIGNED)?;
     let footer = b"\nEST5EDT,0/0,J365/25\n";
     let is_late = Fault::Text(TzStringError::InvalidDayTimeHour);
-    expect_extended(&rt, rt.alloc(), footer, is_late, all_year)
+    expect_extended(&rt, rt.alloc(), footer, is_late, &ALL_YEAR)?;
+    Ok(())
 }
 
 #[test]

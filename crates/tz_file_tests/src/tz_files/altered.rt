@@ -41,17 +41,21 @@ fn expect_no_rule(rt: &impl Abort, zone: &TimeZone) -> Result<(), TzError> {
     Ok(())
 }
 
-#[test]
-fn cut_later_files_are_refused(rt: HostRuntime) -> Result<(), Fail> {
-    let bytes = jerusalem_v3(rt.alloc())?;
+/// Israel's file is refused where it ends in its blocks, where it ends in its footer's text, and not where it has an empty footer.
+fn expect_cut_footer(rt: &impl Abort, alloc: Global, bytes: &[u8]) {
     for len in 0..bytes.len() {
         let expected = match len {
             0..=118 => is_cut(),
             120 => None,
             _ => Some(Fault::File(TzFileError::InvalidFooter)),
         };
-        expect_eq_at(&rt, &len, &fault_of(rt.alloc(), &bytes[..len]), &expected);
+        expect_eq_at(rt, &len, &fault_of(alloc, &bytes[..len]), &expected);
     }
+}
+
+#[test]
+fn cut_later_files_are_refused(rt: HostRuntime) -> Result<(), Fail> {
+    expect_cut_footer(&rt, rt.alloc(), &jerusalem_v3(rt.alloc())?);
     let cut = with_footer(rt.alloc(), b'3', b"\n")?;
     expect_eq(&rt, &cut.len(), &120);
     expect_no_rule(&rt, &TimeZone::from_tz_data(rt.alloc(), &cut)?)?;
@@ -173,6 +177,20 @@ fn a_name_may_be_empty(rt: HostRuntime) -> Result<(), Fail> {
     Ok(())
 }
 
+/// UTC with this many indicators of UT and of standard time, and one byte for them.
+fn utc_with_indicator(
+    alloc: Global,
+    ut_locals: u32,
+    std_walls: u32,
+    indicator: u8,
+) -> Result<Vec<u8>, AllocError> {
+    let mut bytes = Vec::new(alloc);
+    push_header(&mut bytes, 0, &[ut_locals, std_walls, 0, 0, 1, 4])?;
+    bytes.extend_from_slice(b"\0\0\0\0\0\0UTC\0")?;
+    bytes.push(indicator)?;
+    Ok(bytes)
+}
+
 /// One list of indicators may stand without the other one, whose indicators then count as 0.
 #[test]
 fn one_list_of_indicators(rt: HostRuntime) -> Result<(), Fail> {
@@ -194,10 +212,7 @@ fn one_list_of_indicators(rt: HostRuntime) -> Result<(), Fail> {
         ),
     ];
     for (ut_locals, std_walls, indicator, expected) in &ROWS {
-        let mut bytes = Vec::new(rt.alloc());
-        push_header(&mut bytes, 0, &[*ut_locals, *std_walls, 0, 0, 1, 4])?;
-        bytes.extend_from_slice(b"\0\0\0\0\0\0UTC\0")?;
-        bytes.push(*indicator)?;
+        let bytes = utc_with_indicator(rt.alloc(), *ut_locals, *std_walls, *indicator)?;
         assert_eq!(rt;
             fault_of(rt.alloc(), &bytes),
             *expected,

@@ -4,7 +4,7 @@ use super::*;
 use crate::expect::{expect_eq, expect_eq_at};
 use crate::rows::{ExtraRule, ZoneRow, zone_of, zone_with_rule};
 use crate::samples::central_europe;
-use tz_rule_tests::rows::Day;
+use std::num::TryFromIntError;
 
 /// What a unit holds: transitions with their types, types with the places of their names, names, leap seconds, and both lists of
 /// indicators, which are alike.
@@ -82,11 +82,8 @@ fn push_time(bytes: &mut Vec<u8>, is_long: bool, time: i64) -> Result<(), Fail> 
     Ok(())
 }
 
-/// Writes a block with times of eight bytes, or else of four.
-fn push_block(bytes: &mut Vec<u8>, is_long: bool, unit: &Unit<'_>) -> Result<(), Fail> {
-    for (time, _) in unit.transitions {
-        push_time(bytes, is_long, *time)?;
-    }
+/// Writes the types of the transitions, and all types with their names.
+fn push_types(bytes: &mut Vec<u8>, unit: &Unit<'_>) -> Result<(), AllocError> {
     for (_, index) in unit.transitions {
         bytes.push(*index)?;
     }
@@ -94,7 +91,15 @@ fn push_block(bytes: &mut Vec<u8>, is_long: bool, unit: &Unit<'_>) -> Result<(),
         bytes.extend_from_slice(&ut_offset.to_be_bytes())?;
         bytes.extend_from_slice(&[*is_dst, *name])?;
     }
-    bytes.extend_from_slice(unit.names)?;
+    bytes.extend_from_slice(unit.names)
+}
+
+/// Writes a block with times of eight bytes, or else of four.
+fn push_block(bytes: &mut Vec<u8>, is_long: bool, unit: &Unit<'_>) -> Result<(), Fail> {
+    for (time, _) in unit.transitions {
+        push_time(bytes, is_long, *time)?;
+    }
+    push_types(bytes, unit)?;
     for (time, correction) in unit.leap_seconds {
         push_time(bytes, is_long, *time)?;
         bytes.extend_from_slice(&correction.to_be_bytes())?;
@@ -104,17 +109,22 @@ fn push_block(bytes: &mut Vec<u8>, is_long: bool, unit: &Unit<'_>) -> Result<(),
     Ok(())
 }
 
-/// Writes a header of version 2 and a block.
-fn push_unit(bytes: &mut Vec<u8>, is_long: bool, unit: &Unit<'_>) -> Result<(), Fail> {
-    let counts = [
-        u32::try_from(unit.indicators.len())?,
-        u32::try_from(unit.indicators.len())?,
+/// The counts of a header.
+fn counts_of(unit: &Unit<'_>) -> Result<[u32; 6], TryFromIntError> {
+    let indicators = u32::try_from(unit.indicators.len())?;
+    Ok([
+        indicators,
+        indicators,
         u32::try_from(unit.leap_seconds.len())?,
         u32::try_from(unit.transitions.len())?,
         u32::try_from(unit.types.len())?,
         u32::try_from(unit.names.len())?,
-    ];
-    push_header(bytes, b'2', &counts)?;
+    ])
+}
+
+/// Writes a header of version 2 and a block.
+fn push_unit(bytes: &mut Vec<u8>, is_long: bool, unit: &Unit<'_>) -> Result<(), Fail> {
+    push_header(bytes, b'2', &counts_of(unit)?)?;
     push_block(bytes, is_long, unit)
 }
 

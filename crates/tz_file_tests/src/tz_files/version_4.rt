@@ -24,14 +24,11 @@ fn expect_utc(
     correction: i32,
     expiry: Option<i64>,
 ) -> Result<(), TzError> {
+    let types = [LocalTimeType::new(0, false, Some(b"UTC"))?];
     let zone = TimeZone::from_tz_data(alloc, bytes)?;
     let zone = zone.as_ref();
     assert!(rt; zone.transitions().is_empty());
-    expect_eq(
-        rt,
-        &zone.local_time_types(),
-        &[LocalTimeType::new(0, false, Some(b"UTC"))?].as_slice(),
-    );
+    expect_eq(rt, &zone.local_time_types(), &types.as_slice());
     expect_eq(
         rt,
         &zone.leap_seconds(),
