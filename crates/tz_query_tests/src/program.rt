@@ -44,9 +44,9 @@ fn file_at(alloc: Global, path: &str) -> Result<Vec<u8>, ReadFault> {
 }
 
 /// The status and the outputs of the program, each after `|`.
-fn written(alloc: Global, status: u8, out: Vec<u8>, err: Vec<u8>) -> Result<String, Fail> {
-    let out = String::from_utf8(out)?;
-    let err = String::from_utf8(err)?;
+fn written(alloc: Global, status: u8, out: &[u8], err: &[u8]) -> Result<String, Fail> {
+    let out = std::str::from_utf8(out)?;
+    let err = std::str::from_utf8(err)?;
     Ok(format!(in alloc; "{status}|{out}|{err}")?)
 }
 
@@ -57,7 +57,7 @@ fn outcome(alloc: Global, arguments: &[&str], queries: &[u8]) -> Result<String, 
     let mut err = Vec::new(alloc);
     let reader = |path: &str| file_at(alloc, path);
     let status = tool(alloc, arguments, reader, &mut input, &mut out, &mut err);
-    written(alloc, status, out, err)
+    written(alloc, status, &out, &err)
 }
 
 /// The program does this.
@@ -228,7 +228,7 @@ fn outcome_of_failing(
     let mut err = failing_after(alloc, complaints);
     let reader = |path: &str| file_at(alloc, path);
     let status = tool(alloc, arguments, reader, &mut input, &mut out, &mut err);
-    written(alloc, status, out.bytes, err.bytes)
+    written(alloc, status, &out.bytes, &err.bytes)
 }
 
 /// The program does this with streams that fail after these numbers of reads, writes and complaints.
@@ -297,7 +297,7 @@ fn outcome_of_refusing(
     let mut err = Vec::new(alloc);
     let reader = |path: &str| file_at(alloc, path);
     let status = tool(&heap, arguments, reader, &mut input, &mut out, &mut err);
-    Ok((written(alloc, status, out, err)?, heap.refused()))
+    Ok((written(alloc, status, &out, &err)?, heap.refused()))
 }
 
 /// How many growths the program needs to give the answer, where with each lesser number it has no memory; none if it says otherwise.

@@ -196,10 +196,11 @@ fn expect_found(
 ) -> Result<(), TzError> {
     expect_list(rt, alloc, zone, reading, expected)?;
     let held = Some(held()?);
-    expect_written(rt, &mut [], zone, reading, expected)?;
-    expect_written(rt, &mut [held], zone, reading, expected)?;
-    expect_written(rt, &mut [held, held], zone, reading, expected)?;
-    expect_written(rt, &mut [held, held, held], zone, reading, expected)
+    for slots in 0..=3usize {
+        let mut buf = [held, held, held];
+        expect_written(rt, &mut buf[..slots], zone, reading, expected)?;
+    }
+    Ok(())
 }
 
 /// Both searches find these of each reading.

@@ -2,6 +2,7 @@
 
 use crate::expect::{expect_eq, expect_eq_at};
 use std::alloc::{AllocError, Allocator};
+use std::process::Abort;
 use std::test::Fail;
 use tz_base::error::TzError;
 use tz_base::error::timezone::{LocalTimeTypeError, TimeZoneError};
@@ -41,10 +42,27 @@ fn is_memory<T>(answer: &Result<T, TzError>) -> bool {
     matches!(answer, Err(TzError::Memory(AllocError)))
 }
 
+/// The zone has the type at each instant.
+fn expect_at_all_times(
+    rt: &impl Abort,
+    zone: &TimeZone,
+    local_time_type: &LocalTimeType,
+) -> Result<(), TzError> {
+    static UNIX_TIMES: [i64; 3] = [i64::MIN, 0, i64::MAX];
+    for unix_time in &UNIX_TIMES {
+        expect_eq(rt, zone.find_local_time_type(*unix_time)?, local_time_type);
+        expect_eq(
+            rt,
+            zone.find_current_local_time_type(*unix_time)?,
+            local_time_type,
+        );
+    }
+    Ok(())
+}
+
 #[test]
 fn zones_of_one_type(rt: HostRuntime) -> Result<(), Fail> {
     static UT_OFFSETS: [i32; 4] = [i32::MIN + 1, -3600, 0, i32::MAX];
-    static UNIX_TIMES: [i64; 3] = [i64::MIN, 0, i64::MAX];
     let none = None;
     for ut_offset in &UT_OFFSETS {
         let plain = LocalTimeType::with_ut_offset(*ut_offset)?;
@@ -56,10 +74,7 @@ fn zones_of_one_type(rt: HostRuntime) -> Result<(), Fail> {
             let utc = TimeZone::utc(rt.alloc())?;
             expect_eq(&rt, &utc.as_ref(), &expected);
         }
-        for unix_time in &UNIX_TIMES {
-            expect_eq(&rt, zone.find_local_time_type(*unix_time)?, &plain);
-            expect_eq(&rt, zone.find_current_local_time_type(*unix_time)?, &plain);
-        }
+        expect_at_all_times(&rt, &zone, &plain)?;
     }
     Ok(())
 }

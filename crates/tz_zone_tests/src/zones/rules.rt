@@ -1,28 +1,10 @@
 //! Zones whose rule has two types: what the zone's own lookup finds, and which last transitions such a rule agrees with.
 
 use super::*;
+use tz_file_tests::samples::extended_rule;
 
 /// Central European Time, and other rules whose starts and ends are at given times.
 const CENTRAL_EUROPE: &str = "CET-1CEST,M3.5.0,M10.5.0/3";
-
-/// A file of version 3 with one type, UTC, up to its footer.
-static BEFORE_FOOTER: &[u8] = b"TZif3\
-    \0\0\0\0\0\0\0\0\0\0\0\0\0\0\0\
-    \0\0\0\0\0\0\0\0\0\0\0\0\0\0\0\0\0\0\0\x01\0\0\0\x04\
-    \0\0\0\0\0\0UTC\0\
-    TZif3\
-    \0\0\0\0\0\0\0\0\0\0\0\0\0\0\0\
-    \0\0\0\0\0\0\0\0\0\0\0\0\0\0\0\0\0\0\0\x01\0\0\0\x04\
-    \0\0\0\0\0\0UTC\0";
-
-/// The rule that such a file has in its footer, where day times are of up to a week.
-fn extended_rule(alloc: Global, text: &str) -> Result<Option<TransitionRule>, TzError> {
-    let footer = format!(in alloc; "\n{text}\n")?;
-    let mut file = Vec::from_slice(alloc, BEFORE_FOOTER)?;
-    file.extend_from_slice(footer.as_bytes())?;
-    let zone = TimeZone::from_tz_data(alloc, &file)?;
-    Ok(*zone.as_ref().extra_rule())
-}
 
 /// The offset and the daylight flag that a zone without transitions has at an instant.
 fn found_at(
