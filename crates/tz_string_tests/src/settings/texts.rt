@@ -10,7 +10,7 @@ use tz_file_tests::samples::extended_rule;
 use tz_zone::timezone::{LocalTimeType, TimeZone, TimeZoneRef, TimeZoneSettings, TransitionRule};
 
 /// Texts that are refused, and the refusal's text.
-static REFUSED: &[(&str, &str)] = &[
+static REFUSED: [(&str, &str); 8] = [
     ("", "invalid TZ string: empty TZ string"),
     (
         "IST-1GMT0",
@@ -119,7 +119,7 @@ fn clocks_turn_when_the_text_says(rt: HostRuntime) -> Result<(), Fail> {
 #[test]
 fn refusals_say_why(rt: HostRuntime) -> Result<(), Fail> {
     let alloc = rt.alloc();
-    for (text, refusal) in REFUSED {
+    for (text, refusal) in &REFUSED {
         let error = zone_of(alloc, text).err().ok_or("accepted")?;
         let printed = format!(in alloc; "{error}")?;
         expect_eq_at(&rt, &text, &printed.as_str(), refusal);

@@ -4,7 +4,7 @@ use super::*;
 use crate::expect::expect_eq_at;
 
 /// Ordinary texts, and what they denote: each type's name and offset from UTC, then each change's day and time of day, in seconds.
-static ORDINARY_READ: &[(&str, &str)] = &[
+static ORDINARY_READ: [(&str, &str); 26] = [
     ("HST1", "HST -3600"),
     ("HST10", "HST -36000"),
     ("<-03>3", "-03 -10800"),
@@ -91,7 +91,7 @@ static ORDINARY_READ: &[(&str, &str)] = &[
 ];
 
 /// What refuses a text, and ordinary texts that are refused so.
-static ORDINARY_REFUSED: &[(&str, &[&str])] = &[
+static ORDINARY_REFUSED: [(&str, &[&str]); 13] = [
     (
         "invalid TZ string: cannot parse integer from empty string",
         &[
@@ -241,7 +241,7 @@ static ORDINARY_REFUSED: &[(&str, &[&str])] = &[
 ];
 
 /// Extended texts, and what they denote.
-static EXTENDED_READ: &[(&str, &str)] = &[
+static EXTENDED_READ: [(&str, &str); 12] = [
     (
         "<-03>3<-02>,M3.5.0/-2,M10.5.0",
         "-03 -10800, -02 -7200, M3.5.0 -7200, M10.5.0 7200",
@@ -287,7 +287,7 @@ static EXTENDED_READ: &[(&str, &str)] = &[
 ];
 
 /// What refuses a text, and extended texts that are refused so.
-static EXTENDED_REFUSED: &[(&str, &[&str])] = &[
+static EXTENDED_REFUSED: [(&str, &[&str]); 6] = [
     (
         "invalid TZ string: cannot parse integer from empty string",
         &[
@@ -379,12 +379,12 @@ fn expect_refusals(
 
 #[test]
 fn texts_near_ordinary_ones(rt: HostRuntime) -> Result<(), Fail> {
-    expect_rules(&rt, rt.alloc(), ORDINARY_READ, false)?;
-    expect_refusals(&rt, rt.alloc(), ORDINARY_REFUSED, false)
+    expect_rules(&rt, rt.alloc(), &ORDINARY_READ, false)?;
+    expect_refusals(&rt, rt.alloc(), &ORDINARY_REFUSED, false)
 }
 
 #[test]
 fn texts_near_extended_ones(rt: HostRuntime) -> Result<(), Fail> {
-    expect_rules(&rt, rt.alloc(), EXTENDED_READ, true)?;
-    expect_refusals(&rt, rt.alloc(), EXTENDED_REFUSED, true)
+    expect_rules(&rt, rt.alloc(), &EXTENDED_READ, true)?;
+    expect_refusals(&rt, rt.alloc(), &EXTENDED_REFUSED, true)
 }
