@@ -65,10 +65,9 @@ pub fn named_by_settings(error: Error) -> Fault {
 
 /// Writes a header: the counts of UT/local and standard/wall indicators, leap seconds, transitions, types and name bytes.
 pub fn push_header(bytes: &mut Vec<u8>, version: u8, counts: &[u32]) -> Result<(), AllocError> {
-    static UNUSED: [u8; 15] = [0; 15];
     bytes.extend_from_slice(b"TZif")?;
     bytes.push(version)?;
-    bytes.extend_from_slice(&UNUSED)?;
+    bytes.extend_from_slice(&[0; 15])?;
     for count in counts {
         bytes.extend_from_slice(&count.to_be_bytes())?;
     }
@@ -115,7 +114,7 @@ pub fn extended_rule(alloc: Global, text: &str) -> Result<Option<TransitionRule>
     Ok(*zone.as_ref().extra_rule())
 }
 
-/// The rule of `CET-1CEST,M3.5.0,M10.5.0/3`.
+/// The standard and the daylight type of Central Europe, and the days and times of day at which the latter starts and ends.
 static CENTRAL_EUROPE: RuleRow = (
     (3600, false, Some(b"CET")),
     (7200, true, Some(b"CEST")),

@@ -140,7 +140,7 @@ fn expect_answers(rt: &impl Abort, alloc: Global, rows: &[Row]) -> Result<(), Fa
     Ok(())
 }
 
-/// The zone of one type of standard time, with this offset and name.
+/// The answer is the zone of one type of standard time, with this offset and name.
 fn expect_type(
     rt: &impl Abort,
     answer: Result<TimeZone, Error>,
