@@ -376,17 +376,18 @@ fn rule_text(alloc: Global, rule: &TransitionRule) -> Result<String, AllocError>
     }
 }
 
-/// Each text denotes this rule.
-fn expect_rules(
-    rt: &impl Abort,
-    alloc: Global,
-    rows: &[(&str, &str)],
-    extended: bool,
-) -> Result<(), Fail> {
-    for (text, expected) in rows {
+/// The text of a row, and what it denotes.
+fn parts_of(row: &str) -> Result<(&str, &str), Fail> {
+    Ok(row.split_once(" | ").ok_or("no ` | ` in a row")?)
+}
+
+/// The text of each line denotes the rule behind ` | `.
+fn expect_rules(rt: &impl Abort, alloc: Global, rows: &str, extended: bool) -> Result<(), Fail> {
+    for row in rows.lines() {
+        let (text, expected) = parts_of(row)?;
         let rule = rule_of(alloc, text, extended)?.ok_or("no rule")?;
         let found = rule_text(alloc, &rule)?;
-        expect_eq_at(rt, &text, &found.as_str(), expected);
+        expect_eq_at(rt, &text, &found.as_str(), &expected);
     }
     Ok(())
 }

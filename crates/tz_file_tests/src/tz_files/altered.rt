@@ -41,7 +41,7 @@ fn expect_no_rule(rt: &impl Abort, zone: &TimeZone) -> Result<(), TzError> {
     Ok(())
 }
 
-/// Israel's file is refused where it ends in its blocks, where it ends in its footer's text, and not where it has an empty footer.
+/// Israel's file is refused where it ends in its blocks, where it ends in its footer's text, and not where one line feed of its footer is left.
 fn expect_cut_footer(rt: &impl Abort, alloc: Global, bytes: &[u8]) {
     for len in 0..bytes.len() {
         let expected = match len {
