@@ -86,36 +86,60 @@ fn expect_outcome_around(
     expect_outcome(rt, alloc, arguments, b"T 0 0\n", want.as_str())
 }
 
-/// Options with their words, and the epoch in their zone.
-static ZONES: [(&str, &str, &str); 13] = [
-    ("-o", "-3600", "1969-12-31T23:00:00.000000000-01:00 -"),
-    ("-o", "-0000", "1970-01-01T00:00:00.000000000Z -"),
-    ("-o", "86400", "1970-01-02T00:00:00.000000000+24:00 -"),
-    ("-o", "100000", "1970-01-02T03:46:40.000000000+27:46:40 -"),
-    (
-        "-o",
-        "2147483647",
-        "2038-01-19T03:14:07.000000000+596523:14:07 -",
-    ),
-    ("-f", "/utc", "1970-01-01T00:00:00.000000000Z UTC"),
-    ("-f", "/utc_v4", "1970-01-01T00:00:00.000000000Z UTC"),
-    ("-z", "HST10", "1969-12-31T14:00:00.000000000-10:00 HST"),
-    ("-z", " HST10\n", "1969-12-31T14:00:00.000000000-10:00 HST"),
-    (
-        "-z",
-        "CET-1CEST,M3.5.0,M10.5.0/3",
-        "1970-01-01T01:00:00.000000000+01:00 CET",
-    ),
-    ("-z", "/utc", "1970-01-01T00:00:00.000000000Z UTC"),
-    ("-z", ":/utc", "1970-01-01T00:00:00.000000000Z UTC"),
-    ("-z", "Zone/UTC", "1970-01-01T00:00:00.000000000Z UTC"),
-];
+/// The program does what stands behind ` | ` in a row, between two texts, where its arguments are the option and the value before it.
+fn expect_row_around(
+    rt: &impl Abort,
+    alloc: Global,
+    before: &str,
+    row: &str,
+    after: &str,
+) -> Result<(), Fail> {
+    let (arguments, text) = row.split_once(" | ").ok_or("no ` | ` in a row")?;
+    let (option, value) = arguments.split_once(' ').ok_or("no value in a row")?;
+    expect_outcome_around(rt, alloc, &[option, value], before, text, after)
+}
+
+/// The program does what each line says, between two texts.
+fn expect_outcomes_around(
+    rt: &impl Abort,
+    alloc: Global,
+    before: &str,
+    rows: &str,
+    after: &str,
+) -> Result<(), Fail> {
+    for row in rows.lines() {
+        expect_row_around(rt, alloc, before, row, after)?;
+    }
+    Ok(())
+}
+
+/// Options with their values, and the epoch in their zone.
+static ZONES: &str = "\
+-o -3600 | 1969-12-31T23:00:00.000000000-01:00 -
+-o -0000 | 1970-01-01T00:00:00.000000000Z -
+-o 86400 | 1970-01-02T00:00:00.000000000+24:00 -
+-o 100000 | 1970-01-02T03:46:40.000000000+27:46:40 -
+-o 2147483647 | 2038-01-19T03:14:07.000000000+596523:14:07 -
+-f /utc | 1970-01-01T00:00:00.000000000Z UTC
+-f /utc_v4 | 1970-01-01T00:00:00.000000000Z UTC
+-z HST10 | 1969-12-31T14:00:00.000000000-10:00 HST
+-z CET-1CEST,M3.5.0,M10.5.0/3 | 1970-01-01T01:00:00.000000000+01:00 CET
+-z /utc | 1970-01-01T00:00:00.000000000Z UTC
+-z :/utc | 1970-01-01T00:00:00.000000000Z UTC
+-z Zone/UTC | 1970-01-01T00:00:00.000000000Z UTC
+";
 
 #[test]
-fn answers_over_the_zone_of_the_words(rt: HostRuntime) -> Result<(), Fail> {
-    for (option, word, answer) in &ZONES {
-        expect_outcome_around(&rt, rt.alloc(), &[option, word], "0|", answer, "\n|")?;
-    }
+fn answers_over_the_zone_of_the_arguments(rt: HostRuntime) -> Result<(), Fail> {
+    expect_outcomes_around(&rt, rt.alloc(), "0|", ZONES, "\n|")?;
+    expect_outcome_around(
+        &rt,
+        rt.alloc(),
+        &["-z", " HST10\n"],
+        "0|",
+        "1969-12-31T14:00:00.000000000-10:00 HST",
+        "\n|",
+    )?;
     expect_outcome(
         &rt,
         rt.alloc(),
@@ -126,55 +150,41 @@ fn answers_over_the_zone_of_the_words(rt: HostRuntime) -> Result<(), Fail> {
     expect_outcome(&rt, rt.alloc(), &["-z", "A0"], b"", "0||")
 }
 
-/// Options with their words, and the error of their zone.
-static REFUSED_ZONES: [(&str, &str, &str); 5] = [
-    (
-        "-o",
-        "-2147483648",
-        "invalid local time type: invalid UTC offset",
-    ),
-    ("-f", "/cut", "invalid TZ file: unexpected end of data"),
-    ("-z", "/cut", "invalid TZ file: unexpected end of data"),
-    (
-        "-z",
-        "EET-2EEST",
-        "invalid TZ string: missing DST start and end rules",
-    ),
-    ("-z", "", "invalid TZ string: empty TZ string"),
-];
+/// Options with their values, and the error of their zone.
+static REFUSED_ZONES: &str = "\
+-o -2147483648 | invalid local time type: invalid UTC offset
+-f /cut | invalid TZ file: unexpected end of data
+-z /cut | invalid TZ file: unexpected end of data
+-z EET-2EEST | invalid TZ string: missing DST start and end rules
+-z  | invalid TZ string: empty TZ string
+";
 
 #[test]
 fn refuses_zones_by_their_error(rt: HostRuntime) -> Result<(), Fail> {
-    for (option, word, error) in &REFUSED_ZONES {
-        let before = "2||tzq: zone refused: ";
-        expect_outcome_around(&rt, rt.alloc(), &[option, word], before, error, "\n")?;
-    }
-    Ok(())
+    let before = "2||tzq: zone refused: ";
+    expect_outcomes_around(&rt, rt.alloc(), before, REFUSED_ZONES, "\n")
 }
 
-/// Options with their words, and why there are no bytes.
-static NO_FILES: [(&str, &str, &str); 10] = [
-    ("-f", "/", "cannot read file"),
-    ("-f", "", "cannot read file"),
-    ("-f", "Zone/UTC", "cannot read file"),
-    ("-f", "HST10", "cannot read file"),
-    ("-f", "/large", "no memory"),
-    ("-z", ":/none", "cannot read file"),
-    ("-z", ":HST10", "cannot read file"),
-    ("-z", "localtime", "cannot read file"),
-    ("-z", "/large", "no memory"),
-    ("-z", ":/large", "no memory"),
-];
+/// Options with their values, and why there are no bytes.
+static NO_FILES: &str = "\
+-f / | cannot read file
+-f  | cannot read file
+-f Zone/UTC | cannot read file
+-f HST10 | cannot read file
+-f /large | no memory
+-z :/none | cannot read file
+-z :HST10 | cannot read file
+-z localtime | cannot read file
+-z /large | no memory
+-z :/large | no memory
+";
 
 #[test]
 fn names_files_that_give_no_bytes(rt: HostRuntime) -> Result<(), Fail> {
-    for (option, word, fault) in &NO_FILES {
-        expect_outcome_around(&rt, rt.alloc(), &[option, word], "1||tzq: ", fault, "\n")?;
-    }
-    Ok(())
+    expect_outcomes_around(&rt, rt.alloc(), "1||tzq: ", NO_FILES, "\n")
 }
 
-/// Arguments that are none of an option and its word.
+/// Arguments that are none of an option and its value.
 static BAD_ARGUMENTS: [&[&str]; 15] = [
     &[],
     &["-o"],
@@ -194,7 +204,7 @@ static BAD_ARGUMENTS: [&[&str]; 15] = [
 ];
 
 #[test]
-fn takes_an_option_and_its_word_alone(rt: HostRuntime) -> Result<(), Fail> {
+fn takes_an_option_and_its_value_alone(rt: HostRuntime) -> Result<(), Fail> {
     for arguments in &BAD_ARGUMENTS {
         let want = "1||tzq: bad arguments\n";
         expect_outcome(&rt, rt.alloc(), arguments, b"T 0 0\n", want)?;
@@ -264,7 +274,7 @@ fn names_streams_that_fail(rt: HostRuntime) -> Result<(), Fail> {
     Ok(())
 }
 
-/// Options with their words, and what the program does where no byte can be read.
+/// Options with their values, and what the program does where no byte can be read.
 static FAULTS_OF_ZONES: [(&str, &str, &str); 5] = [
     ("-x", "0", "1||tzq: bad arguments\n"),
     ("-o", "x", "1||tzq: bad arguments\n"),
@@ -279,8 +289,8 @@ static FAULTS_OF_ZONES: [(&str, &str, &str); 5] = [
 
 #[test]
 fn the_zone_is_made_before_a_byte_is_read(rt: HostRuntime) -> Result<(), Fail> {
-    for (option, word, want) in &FAULTS_OF_ZONES {
-        expect_outcome_of_failing(&rt, rt.alloc(), &[option, word], (0, 9, 9), want)?;
+    for (option, value, want) in &FAULTS_OF_ZONES {
+        expect_outcome_of_failing(&rt, rt.alloc(), &[option, value], (0, 9, 9), want)?;
     }
     Ok(())
 }
@@ -318,7 +328,7 @@ fn needed(alloc: Global, arguments: &[&str], answer: &str) -> Result<Option<u64>
     Ok(None)
 }
 
-/// Options with their words, the answer, and the least number of growths that it needs.
+/// Options with their values, the answer, and the least number of growths that it needs.
 static NEEDS: [(&str, &str, &str, u64); 5] = [
     ("-o", "0", "0|1970-01-01T00:00:00.000000000Z -\n|", 3),
     ("-f", "/utc", "0|1970-01-01T00:00:00.000000000Z UTC\n|", 3),
@@ -338,15 +348,15 @@ static NEEDS: [(&str, &str, &str, u64); 5] = [
 ];
 
 /// The program needs at least this many growths.
-fn expect_at_least(rt: &impl Abort, word: &str, growths: Option<u64>, least: u64) {
-    assert!(rt; growths.is_some_and(|growths| growths >= least), "{word}");
+fn expect_at_least(rt: &impl Abort, value: &str, growths: Option<u64>, least: u64) {
+    assert!(rt; growths.is_some_and(|growths| growths >= least), "{value}");
 }
 
 #[test]
 fn without_memory_it_writes_nothing(rt: HostRuntime) -> Result<(), Fail> {
-    for (option, word, answer, least) in &NEEDS {
-        let growths = needed(rt.alloc(), &[option, word], answer)?;
-        expect_at_least(&rt, word, growths, *least);
+    for (option, value, answer, least) in &NEEDS {
+        let growths = needed(rt.alloc(), &[option, value], answer)?;
+        expect_at_least(&rt, value, growths, *least);
     }
     Ok(())
 }

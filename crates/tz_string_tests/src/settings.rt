@@ -101,6 +101,25 @@ type Replies = &'static [(&'static str, Reply)];
 /// The answer of a file that ends too early.
 const CUT: Fault = Fault::File(TzFileError::ParseData(ParseDataError::UnexpectedEof));
 
+/// The text is answered by the zone of one type of standard time, with this offset and name.
+fn expect_type(
+    rt: &impl Abort,
+    text: &str,
+    answer: Result<TimeZone, Error>,
+    ut_offset: i32,
+    name: &[u8],
+) -> Result<(), Error> {
+    let types = [LocalTimeType::new(ut_offset, false, Some(name))?];
+    let zone = answer?;
+    expect_eq_at(
+        rt,
+        &text,
+        &zone.as_ref().local_time_types(),
+        &types.as_slice(),
+    );
+    Ok(())
+}
+
 /// The text is answered so, after these were asked for.
 fn expect_answer(
     rt: &impl Abort,
@@ -114,14 +133,7 @@ fn expect_answer(
     let answer = files.ask(&["/a", "/b", "/c"], text);
     match expected {
         Answer::Type(ut_offset, name) => {
-            let local_time_type = LocalTimeType::new(*ut_offset, false, Some(name.as_bytes()))?;
-            let zone = answer?;
-            expect_eq_at(
-                rt,
-                &text,
-                &zone.as_ref().local_time_types(),
-                &[local_time_type].as_slice(),
-            );
+            expect_type(rt, text, answer, *ut_offset, name.as_bytes())?;
         }
         Answer::Fault(fault) => {
             let found = answer.err().map(named);
@@ -137,19 +149,6 @@ fn expect_answers(rt: &impl Abort, alloc: Global, rows: &[Row]) -> Result<(), Fa
     for (replies, text, expected, asked) in rows {
         expect_answer(rt, alloc, replies, text, expected, *asked)?;
     }
-    Ok(())
-}
-
-/// The answer is the zone of one type of standard time, with this offset and name.
-fn expect_type(
-    rt: &impl Abort,
-    answer: Result<TimeZone, Error>,
-    ut_offset: i32,
-    name: &[u8],
-) -> Result<(), Error> {
-    let types = [LocalTimeType::new(ut_offset, false, Some(name))?];
-    let zone = answer?;
-    expect_eq(rt, &zone.as_ref().local_time_types(), &types.as_slice());
     Ok(())
 }
 
@@ -245,9 +244,9 @@ fn local_time_has_its_file(rt: HostRuntime) -> Result<(), Fail> {
     let alloc = rt.alloc();
     expect_answers(&rt, alloc, &ROWS)?;
     let files = files_of(alloc, LOCAL);
-    expect_type(&rt, files.ask_local(), 0, b"UTC")?;
+    expect_type(&rt, "localtime", files.ask_local(), 0, b"UTC")?;
     let settings = TimeZoneSettings::new(DEFAULT_DIRECTORIES, |path: &str| files.read(path));
-    expect_type(&rt, settings.parse_local(alloc), 0, b"UTC")?;
+    expect_type(&rt, "localtime", settings.parse_local(alloc), 0, b"UTC")?;
     expect_eq(&rt, &files.asked.get(), &11);
     Ok(())
 }
@@ -280,24 +279,25 @@ fn the_usual_directories_are_asked(rt: HostRuntime) -> Result<(), Fail> {
     Ok(())
 }
 
+/// The error of a text prints so, where no file is found.
+fn expect_text_of_fault(
+    rt: &impl Abort,
+    alloc: Global,
+    text: &str,
+    fault: &str,
+) -> Result<(), Fail> {
+    let files = files_of(alloc, &[]);
+    let error = files.ask(&["/a"], text).err().ok_or("accepted")?;
+    let printed = format!(in alloc; "{error}")?;
+    expect_eq_at(rt, &text, &printed.as_str(), &fault);
+    Ok(())
+}
+
 #[test]
 fn the_reader_s_fault_is_handed_on(rt: HostRuntime) -> Result<(), Fail> {
-    static ROWS: [(&str, &str); 3] = [
-        (":/x", "no file"),
-        ("localtime", "no file"),
-        (":x", "file was not found"),
-    ];
-    let alloc = rt.alloc();
-    let files = files_of(alloc, &[]);
-    for (text, fault) in &ROWS {
-        let Err(error) = files.ask(&["/a"], text) else {
-            assert!(rt; false, "{text}");
-            return Ok(());
-        };
-        let printed = format!(in alloc; "{error}")?;
-        assert_eq!(rt; printed.as_str(), *fault, "{text}");
-    }
-    Ok(())
+    expect_text_of_fault(&rt, rt.alloc(), ":/x", "no file")?;
+    expect_text_of_fault(&rt, rt.alloc(), "localtime", "no file")?;
+    expect_text_of_fault(&rt, rt.alloc(), ":x", "file was not found")
 }
 
 #[test]
@@ -351,11 +351,11 @@ fn other_names_are_looked_for(rt: HostRuntime) -> Result<(), Fail> {
 fn without_directories_only_paths_are_asked(rt: HostRuntime) -> Result<(), Fail> {
     static REPLIES: [(&str, Reply); 1] = [("/x", Reply::Utc)];
     let files = files_of(rt.alloc(), &REPLIES);
-    expect_type(&rt, files.ask(&[], "HST10"), -36_000, b"HST")?;
+    expect_type(&rt, "HST10", files.ask(&[], "HST10"), -36_000, b"HST")?;
     let refused = files.ask(&[], ":x").err().map(named);
     expect_eq(&rt, &refused, &Some(Fault::Io));
     expect_eq(&rt, &files.asked.get(), &0);
-    expect_type(&rt, files.ask(&[], "/x"), 0, b"UTC")?;
+    expect_type(&rt, "/x", files.ask(&[], "/x"), 0, b"UTC")?;
     expect_eq(&rt, &files.asked.get(), &1);
     Ok(())
 }

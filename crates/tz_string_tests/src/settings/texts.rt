@@ -77,24 +77,30 @@ fn expect_zone(
     Ok(())
 }
 
+/// The text has the zone of its rule, and has it with spaces around it.
+fn expect_zone_of_rule(rt: &impl Abort, alloc: Global, text: &str) -> Result<(), Fail> {
+    let rule = extended_rule(alloc, text)?.ok_or("no rule")?;
+    expect_zone(rt, alloc, text, rule)?;
+    let spaced = format!(in alloc; " {text}\n")?;
+    expect_zone(rt, alloc, spaced.as_str(), rule)?;
+    Ok(())
+}
+
 #[test]
 fn texts_are_zones_of_their_rules(rt: HostRuntime) -> Result<(), Fail> {
-    static TEXTS: [&str; 9] = [
-        "HST10",
-        "<-03>3",
-        "A0",
-        "<-03>+3<+03>-3,J1,J365",
-        "NZST-12:00:00NZDT-13:00:00,M10.1.0/02:00:00,M3.3.0/02:00:00",
-        "IST-1GMT0,M10.5.0,M3.5.0/1",
-        "STD24:59:59DST,J1,J365",
-        "STD-24:59:59DST,J1,J365",
-        "CET-1CEST,M3.5.0,M10.5.0/3",
-    ];
-    for text in &TEXTS {
-        let rule = extended_rule(rt.alloc(), text)?.ok_or("no rule")?;
-        expect_zone(&rt, rt.alloc(), text, rule)?;
-        let spaced = format!(in rt.alloc(); " {text}\n")?;
-        expect_zone(&rt, rt.alloc(), spaced.as_str(), rule)?;
+    static TEXTS: &str = "\
+HST10
+<-03>3
+A0
+<-03>+3<+03>-3,J1,J365
+NZST-12:00:00NZDT-13:00:00,M10.1.0/02:00:00,M3.3.0/02:00:00
+IST-1GMT0,M10.5.0,M3.5.0/1
+STD24:59:59DST,J1,J365
+STD-24:59:59DST,J1,J365
+CET-1CEST,M3.5.0,M10.5.0/3
+";
+    for text in TEXTS.lines() {
+        expect_zone_of_rule(&rt, rt.alloc(), text)?;
     }
     Ok(())
 }
