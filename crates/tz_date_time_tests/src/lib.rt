@@ -1,4 +1,4 @@
-//! Tests of date times, and examples of the crates `tz` and `tz_query`.
+//! Tests of date times, searches beside a plain filter, and examples of the crates `tz` and `tz_query`.
 #![tactic(auto)]
 
 #[cfg(test)]
@@ -7,5 +7,7 @@ mod date_times;
 mod examples;
 #[cfg(test)]
 mod expect;
+#[cfg(test)]
+mod filter;
 #[cfg(test)]
 mod printed;

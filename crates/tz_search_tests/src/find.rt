@@ -15,23 +15,17 @@ use tz_zone::timezone::{
 };
 
 mod ends;
-mod filter;
+mod leap_tables;
 mod looks;
 mod memory;
 mod texts;
-mod zones;
 
 use crate::expect::expect_eq;
+use crate::searches::{Reading, Summary, find, summaries, summary};
+use crate::zones::FAR_OFFSET;
 use tz_file_tests::rows::{CROSSING, ExtraRule, ZoneRow, zone_of};
 use tz_file_tests::samples::central_europe;
 use tz_rule_tests::rows::{Day, RuleRow, TypeRow, rule_of};
-use zones::{FAR_OFFSET, expect_all_in};
-
-/// A Unix time, and the offsets before it and at it; those of a date time that is shown are the same.
-type Summary = (i64, i32, i32);
-
-/// Year, month, day of the month, hour, minute, second.
-type Reading = (i32, u8, u8, u8, u8, u8);
 
 /// A Unix time and an offset.
 type Moment = (i64, i32);
@@ -41,32 +35,6 @@ type Choice = (Option<Moment>, Option<Moment>, Option<Moment>);
 
 /// The count of a list, whether there was a slot for each, and how many slots were written; and its choice.
 type Facts = ((usize, bool, usize), Choice);
-
-fn summary(found: &FoundDateTimeKind) -> Summary {
-    match found {
-        FoundDateTimeKind::Normal(date_time) => {
-            let offset = date_time.local_time_type().ut_offset();
-            (date_time.unix_time(), offset, offset)
-        }
-        FoundDateTimeKind::Skipped {
-            before_transition,
-            after_transition,
-        } => (
-            after_transition.unix_time(),
-            before_transition.local_time_type().ut_offset(),
-            after_transition.local_time_type().ut_offset(),
-        ),
-    }
-}
-
-fn find<A: Allocator + Copy>(
-    alloc: A,
-    zone: TimeZoneRef<'_>,
-    reading: Reading,
-) -> Result<FoundDateTimeList<A>, TzError> {
-    let (year, month, month_day, hour, minute, second) = reading;
-    DateTime::find(alloc, year, month, month_day, hour, minute, second, 0, zone)
-}
 
 fn find_n<'a>(
     buf: &'a mut [Option<FoundDateTimeKind>],
@@ -120,18 +88,6 @@ fn facts(list: &FoundDateTimeListRefMut<'_>) -> Facts {
             list.latest().map(moment),
         ),
     )
-}
-
-/// What `find` finds.
-fn summaries<A: Allocator + Copy>(
-    alloc: Global,
-    list: FoundDateTimeList<A>,
-) -> Result<Vec<Summary>, AllocError> {
-    let mut found = Vec::new(alloc);
-    for kind in &list.into_inner() {
-        found.push(summary(kind))?;
-    }
-    Ok(found)
 }
 
 /// The list of `find` holds these.
@@ -214,6 +170,17 @@ fn expect_all(
         expect_found(rt, alloc, zone, *reading, expected)?;
     }
     Ok(())
+}
+
+/// Both searches find these of each reading in the zone of the row.
+fn expect_all_in(
+    rt: &impl Abort,
+    alloc: Global,
+    row: &ZoneRow,
+    rows: &[(Reading, &[Summary])],
+) -> Result<(), TzError> {
+    let zone = zone_of(alloc, row)?;
+    expect_all(rt, alloc, zone.as_ref(), rows)
 }
 
 /// The jumps of the zone with jumps that cross.

@@ -1,7 +1,9 @@
-//! Tests of searches.
+//! Tests of searches, and what other tests of searches share.
 #![tactic(auto)]
 
 #[cfg(test)]
 mod expect;
 #[cfg(test)]
 mod find;
+pub mod searches;
+pub mod zones;

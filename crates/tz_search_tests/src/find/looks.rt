@@ -1,8 +1,8 @@
 //! Counted looks of searches, beside bounds that are computed from all transitions.
 
-use super::zones::ONE_EFFECT;
 use super::*;
 use crate::expect::expect_eq;
+use crate::zones::ONE_EFFECT;
 use tz::datetime::UtcDateTime;
 use tz_base::calendar::Fields;
 use tz_zone::inner::effect;

@@ -1,8 +1,8 @@
 //! Searches whose entries are compared as texts, with their fields and the names of their types.
 
-use super::zones::ONE_EFFECT;
 use super::*;
 use crate::expect::expect_eq;
+use crate::zones::ONE_EFFECT;
 use tz_zone::timezone::TimeZone;
 
 /// The name of the date time's type, or `-`.

@@ -2,11 +2,21 @@
 
 ghost use Rattle.std.specs.Prelude.{◌<◌};
 
-use super::zones::WITHOUT_FAR_OFFSET;
-use super::*;
 use crate::expect::expect_eq;
+use std::alloc::{AllocError, Global};
+use std::process::Abort;
+use std::test::Fail;
 use tz::datetime::UtcDateTime;
+use tz_base::error::TzError;
 use tz_base::error::timezone::LocalTimeTypeError;
+use tz_file_tests::rows::{CROSSING, zone_of};
+use tz_file_tests::samples::central_europe;
+use tz_search_tests::searches::{Summary, find, summaries};
+use tz_search_tests::zones::WITHOUT_FAR_OFFSET;
+use tz_zone::timezone::{
+    AlternateTime, Julian0WithLeap, LeapSecond, LocalTimeType, RuleDay, TimeZoneRef, Transition,
+    TransitionRule,
+};
 
 /// Instants and readings a quarter of an hour apart: no clock of these tests changes between them, so no entry lies there.
 const STEP: i64 = 900;

@@ -1,6 +1,7 @@
 //! Zones that several tests search in.
 
-use super::*;
+use tz_file_tests::rows::{ExtraRule, ZoneRow};
+use tz_rule_tests::rows::{Day, RuleRow, TypeRow};
 
 /// The types of the zone with a far offset.
 const FAR_TYPES: &[TypeRow] = &[
@@ -18,7 +19,7 @@ const FAR_RULE: RuleRow = (
 );
 
 /// A zone with an hour at an offset of 68 years, and a rule.
-pub(super) static FAR_OFFSET: ZoneRow = ZoneRow {
+pub static FAR_OFFSET: ZoneRow = ZoneRow {
     types: FAR_TYPES,
     transitions: &[(0, 0), (3600, 1), (7200, 0), (10_800, 2)],
     leap_seconds: &[],
@@ -26,7 +27,7 @@ pub(super) static FAR_OFFSET: ZoneRow = ZoneRow {
 };
 
 /// The same zone without the hour of the far offset.
-pub(super) static WITHOUT_FAR_OFFSET: ZoneRow = ZoneRow {
+pub static WITHOUT_FAR_OFFSET: ZoneRow = ZoneRow {
     types: FAR_TYPES,
     transitions: &[(0, 0), (10_800, 2)],
     leap_seconds: &[],
@@ -34,20 +35,9 @@ pub(super) static WITHOUT_FAR_OFFSET: ZoneRow = ZoneRow {
 };
 
 /// A zone with two transitions that the leap second puts at one instant.
-pub(super) static ONE_EFFECT: ZoneRow = ZoneRow {
+pub static ONE_EFFECT: ZoneRow = ZoneRow {
     types: &[(0, false, None), (3600, false, None), (7200, false, None)],
     transitions: &[(100, 1), (101, 2)],
     leap_seconds: &[(100, 1)],
     extra_rule: Some(ExtraRule::Fixed((7200, false, None))),
 };
-
-/// Both searches find these of each reading in the zone of the row.
-pub(super) fn expect_all_in(
-    rt: &impl Abort,
-    alloc: Global,
-    row: &ZoneRow,
-    rows: &[(Reading, &[Summary])],
-) -> Result<(), TzError> {
-    let zone = zone_of(alloc, row)?;
-    expect_all(rt, alloc, zone.as_ref(), rows)
-}
