@@ -1,10 +1,10 @@
 -- Where valid fields of a year of 32 bits read: all but the very last second 60 read in such a year.
-use Rattle.std.proofs.Common.{◌≡◌, ℕ, ◌+◌, ◌*◌, ◌<◌, ◌≤◌, ◌⊎◌, inl, inr, arith, rules, ℤ, pos, negsuc, ◌+ℤ◌, ◌≤ℤ◌, ◌<ℤ◌}
+use Rattle.std.proofs.Common.{◌≡◌, ◌+◌, ◌*◌, ◌⊎◌, inl, inr, arith, rules, pos, negsuc, ◌≤ℤ◌}
 use Rattle.std.proofs.lemmas.Int.{ints, by_lt_z}
 use Rattle.std.proofs.lemmas.Bool.{cases_lt}
 use mir.Syntax.{w32}
 use mir.Val.{SFits}
-use Rattle.tz_base.specs.Days.{day_number, is_leap, month_length, IsDay, IsEarlierDate}
+use Rattle.tz_base.specs.Days.{month_length, IsDay, IsEarlierDate}
 use Rattle.tz_base.specs.Fields.{IsValid, IsReading, reading, day_of}
 use Rattle.tz_base.specs.declared.calendar.Fields.{Fields}
 use Rattle.tz_base.proofs.DayLemmas.{day_in_year, first_day_bounds}
