@@ -1,3 +1,4 @@
+pub mod Below
 pub mod Weeks
 pub mod DayPlaces
 pub mod YearPlaces

@@ -1,21 +1,13 @@
 -- What the loops over a table give: facts at all places, from facts at the places so far.
-use Rattle.std.proofs.Common.{◌≡◌, ℕ, ◌+◌, ◌<◌, ◌≤◌, refl, sym, arith, ◌∙◌, List, length, get_or, Some, inl, inr, Bool, true, false, MatchBool, ℤ, ◌<ℤ◌}
+use Rattle.std.proofs.Common.{◌≡◌, ℕ, ◌+◌, ◌<◌, ◌≤◌, refl, sym, arith, ◌∙◌, List, length, get_or, Some, Bool, true, false, MatchBool, ℤ, ◌<ℤ◌}
 use Rattle.std.specs.Prelude.{slice_get}
 use Rattle.std.specs.Int.Signed.{lt_z}
-use Rattle.std.proofs.lemmas.Bool.{cases_lt}
 use Rattle.std.proofs.lemmas.Int.{to_z-of_z}
 use Rattle.std.proofs.lemmas.Option.{slice_get_read, slice_get_within, same_Some}
 use mir.Syntax.{w64}
 use mir.Val.{SFits, to_z, of_z}
 use Rattle.tz_zone.specs.Table.{Transition, LeapSecond}
 use Rattle.tz_zone.specs.ValidZone.{MayBeFirst, FollowsAt, AreLeapSeconds, HasTypeAtPlace, RisesAtPlace}
-
--- one place more
-pub below_next : (P : ℕ → Type 0) (n : ℕ) → ((place : ℕ) → place < n → P place) → P n → (place : ℕ) → place < n + 1 → P place
-below_next P n so_far next place h = elim (cases_lt place n) [
-  | inl below ↦ so_far place below
-  | inr past ↦ let same : n ≡ place = omega (arith, h, past) in rw (sym same) next
-]
 
 -- what is read at a place is its item
 pub item_read : {X : Type 0} (xs : List X) (i : ℕ) (x y : X) → i < length xs → x ≡ get_or xs i x → slice_get xs i ≡ Some y → x ≡ y

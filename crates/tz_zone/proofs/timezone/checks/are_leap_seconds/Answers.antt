@@ -1,7 +1,8 @@
 -- The leap seconds are a table when the first may come first and each next one may follow.
 use Rattle.std.proofs.Common.{arith}
 use Rattle.tz_zone.specs.ValidZone.{FollowsAt}
-use Rattle.tz_zone.proofs.TableChecks.{below_next, are_from_loop}
+use Rattle.tz_rule.proofs.Below.{below_next}
+use Rattle.tz_zone.proofs.TableChecks.{are_from_loop}
 use Rattle.tz_zone.proofs.timezone.checks.are_leap_seconds.Goals as goal
 
 pub loop-i-preserved : goal.loop-i-preserved

@@ -1,5 +1,6 @@
 -- Each transition so far names a type and rises.
-use Rattle.tz_zone.proofs.TableChecks.{below_next, transitions_from_loop}
+use Rattle.tz_rule.proofs.Below.{below_next}
+use Rattle.tz_zone.proofs.TableChecks.{transitions_from_loop}
 use Rattle.tz_zone.specs.ValidZone.{HasTypeAtPlace, RisesAtPlace}
 use Rattle.tz_zone.proofs.timezone.checks.check_transitions.Goals as goal
 
