@@ -1,5 +1,5 @@
 -- What is kept obeys the rules of its making.
-use Rattle.std.proofs.Common.{refl, inr}
+use Rattle.std.proofs.Common.{refl, inr, rules}
 use Rattle.std.proofs.lemmas.Int.{to_z-of_z}
 use mir.Syntax.{w32}
 use Rattle.tz_rule.specs.YearTables.{ChangesOrder}
@@ -30,3 +30,6 @@ returns-then-changes_order-clause-err c =
     let range = rw (start_time, end_time) at c.in_ok-check_range.ensures.ok in
     let changes : ChangesOrder c.start_table-starts.result.0 c.end_table-ends.result.0 = c.if-changes_order.ensures in
     inr (refl, range, rule_is_inconsistent _ (record { start_is = c.start_table-starts.ensures.day; end_is = c.end_table-ends.ensures.day }) _ _ starts ends changes)
+
+pub returns-clause-value : goal.returns-clause-value
+returns-clause-value c = search rules

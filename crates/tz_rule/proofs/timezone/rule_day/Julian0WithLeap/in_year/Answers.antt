@@ -9,3 +9,6 @@ pub returns-clause-value : goal.returns-clause-value
 returns-clause-value c =
     let first = rw (to_z-of_z w32 c.args.year c.ranges.year) at c.first_day_of_year.ensures.value in
     rw (rule_day-zero_based c.args.self.now c.args.year) (omega (arith, ints))
+
+pub returns-clause-bound : goal.returns-clause-bound
+returns-clause-bound c = (omega (arith, ints), omega (arith, ints))

@@ -6,3 +6,6 @@ use Rattle.tz_rule.proofs.timezone.year_table.YearTable.comes_first.Goals as goa
 
 pub loop-kind-preserved : goal.loop-kind-preserved
 loop-kind-preserved c = below_next (λ kind. entry c.args.other.now.0 kind ≤ℤ entry c.args.self.now.0 kind) c.loop-kind.kind c.loop-kind.invariant (search rules)
+
+pub returns-then-entry : goal.returns-then-entry
+returns-then-entry c = search rules
