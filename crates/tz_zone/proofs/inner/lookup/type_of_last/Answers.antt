@@ -1,7 +1,14 @@
 -- The number in a transition is that of a type.
-use Rattle.std.proofs.Common.{◌<◌, ◌-◌, length, arith, rules, inr}
+use Rattle.std.proofs.Common.{◌<◌, ◌-◌, length, arith, rules, inl, inr}
+use Rattle.std.proofs.lemmas.Grind.{common_steps}
 use Rattle.std.proofs.lemmas.Option.{slice_get-get_or}
 use Rattle.tz_zone.proofs.inner.lookup.type_of_last.Goals as goal
+
+pub returns-then-count-eq0-clause-value : goal.returns-then-count-eq0-clause-value
+returns-then-count-eq0-clause-value g c =
+    let types = c.args.parts.local_time_types.now in
+    let some : 0 < length types = grind (arith, common_steps) in
+    inl (c.if-count-eq0.true, slice_get-get_or types 0 c.index-parts-0.result some)
 
 pub offset_bounds-parts-local_time_type_index : goal.offset_bounds-parts-local_time_type_index
 offset_bounds-parts-local_time_type_index g c =

@@ -1,5 +1,5 @@
 -- The zone of a rule has its types and no tables.
-use Rattle.std.proofs.Common.{◌≡◌, [], Some, refl, ◌∙◌}
+use Rattle.std.proofs.Common.{◌≡◌, [], Some, refl, ◌∙◌, rules}
 use Rattle.std.proofs.lemmas.Result.{IfOk-weaker}
 use Rattle.tz_rule.specs.declared.timezone.rule.TransitionRule.{TransitionRule}
 use Rattle.tz_rule.specs.declared.timezone.rule.TransitionRule.TheVariants.{Fixed, Alternate}
@@ -17,3 +17,6 @@ returns-clause-ok g c =
     let rule = c.args.rule in
     let parts = rw (c.new.ensures.items, c.in_ok-types.ensures.ok, c.new-2.ensures.items) at c.new-3.ensures.parts in
     IfOk-weaker c.new-3.result (λ zone. own_zone_of zone ≡ zone_with [] (rule_zone rule).types [] (Some rule)) (λ zone. own_zone_of zone ≡ rule_zone rule) (λ zone is. is ∙ made rule) parts
+
+pub returns-clause-err : goal.returns-clause-err
+returns-clause-err g c = search rules
