@@ -58,3 +58,21 @@ returns-clause-err g c =
     let way = rw (to_z-of_z w64 c.args.start c.ranges.start, to_z-of_z w64 c.args.last c.ranges.last) at c.loop-from.invariant in
     IfErr-weaker c.step-2.result _ _ (λ e fault z low seam f found ruled past.
     fault_past_change z low seam c.args.start c.args.last f _ c.loop-from.walk (found ++ way.0) (way.4 z low seam f found ruled past) _ _ e fault (omega (arith, ints, c.loop-from-test.false))) c.step-2.ensures.err
+
+pub loop-from-smaller : goal.loop-from-smaller
+loop-from-smaller g c = search rules
+
+pub next_change-from-requires-clause-last : goal.next_change-from-requires-clause-last
+next_change-from-requires-clause-last g c = search rules
+
+pub next_change-from-requires-clause-order : goal.next_change-from-requires-clause-order
+next_change-from-requires-clause-order g c = search rules
+
+pub overflow_add-end : goal.overflow_add-end
+overflow_add-end g c = search rules
+
+pub step-requires : goal.step-requires
+step-requires g c = search rules
+
+pub step-requires-2 : goal.step-requires-2
+step-requires-2 g c = search rules

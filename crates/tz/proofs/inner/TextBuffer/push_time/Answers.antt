@@ -24,3 +24,6 @@ returns-clause-text c =
       append_assoc,
     )
     refl
+
+pub returns-clause-len : goal.returns-clause-len
+returns-clause-len c = omega (arith, c.push_ascii.ensures.len, c.push_nine_digits.ensures.len)

@@ -1,5 +1,6 @@
 -- Valid fields that are not past the end make a UTC date time.
-use Rattle.std.proofs.Common.{rules}
+use Rattle.std.proofs.Common.{inr, refl, rules}
+use Rattle.std.proofs.lemmas.Result.{err_from_is_err_and}
 use mir.Syntax.{w32}
 use mir.Val.{SFits}
 use Rattle.tz_base.specs.Fields.{IsValid}
@@ -19,3 +20,9 @@ invariant_of-result c = utc_fields c
 
 pub returns-clause-ok : goal.returns-clause-ok
 returns-clause-ok c = utc_fields c
+
+pub returns-in_err-check-clause-err : goal.returns-in_err-check-clause-err
+returns-in_err-check-clause-err c =
+    let before : IsPastTheEnd c.args.fields → ⊥ = search rules in
+    let p = err_from_is_err_and c.from_residual.result c.from_residual.ensures.1 in
+    rw (p.1, p.2) (inr (c.in_err-check.field-0.0, refl, before, c.in_err-check.ensures.err))

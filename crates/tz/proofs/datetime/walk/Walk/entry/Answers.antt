@@ -113,6 +113,9 @@ returns-then-self-passed_at-clause-near c =
     let jump = jump_of w.reading w.since c.args.until t.ut_offset b.ut_offset _ _ fits shown passed (shown.before_since c.if-shown_at-self.false) (passed.from_since c.if-self-passed_at.true) in
     (jump.1, jump.2)
 
+pub returns-then-self-passed_at-clause-none : goal.returns-then-self-passed_at-clause-none
+returns-then-self-passed_at-clause-none c = tt
+
 pub returns-else-self-passed_at-clause-none : goal.returns-else-self-passed_at-clause-none
 returns-else-self-passed_at-clause-none c =
     let w = c.args.self.now in
