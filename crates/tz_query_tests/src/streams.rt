@@ -96,7 +96,7 @@ fn a_failed_write_leaves_a_front(rt: HostRuntime) -> Result<(), Fail> {
     Ok(())
 }
 
-/// A run where a number of growths are granted and each later one is refused writes all answers, or none for want of memory. Says
+/// A run where a number of growths are granted and each later one is refused writes all answers, or is out of memory and writes none. Says
 /// whether a growth was refused.
 fn run_is_refused(rt: &impl Abort, alloc: Global, zone: TimeZoneRef<'_>, left: u64) -> bool {
     let heap = Refusing::new(alloc, left);

@@ -118,7 +118,7 @@ const PRINTED: &str = "AlternateTime { \
     dst_start: Julian1WithoutLeap(Julian1WithoutLeap(59)), dst_start_time: -1, \
     dst_end: Julian0WithLeap(Julian0WithLeap(0)), dst_end_time: 7200 }";
 
-/// The same as one of two kinds of rules.
+/// What is printed for that rule as one of the two kinds of rules.
 const PRINTED_AS_ALTERNATE: &str = "Alternate(AlternateTime { \
     std: LocalTimeType { ut_offset: 0, is_dst: false, time_zone_designation: None }, \
     dst: LocalTimeType { ut_offset: 3600, is_dst: true, time_zone_designation: None }, \

@@ -26,7 +26,7 @@ pub static FAR_OFFSET: ZoneRow = ZoneRow {
     extra_rule: Some(ExtraRule::Alternate(FAR_RULE)),
 };
 
-/// The same zone without the hour of the far offset.
+/// A zone with that rule, but without the hour of the far offset.
 pub static WITHOUT_FAR_OFFSET: ZoneRow = ZoneRow {
     types: FAR_TYPES,
     transitions: &[(0, 0), (10_800, 2)],

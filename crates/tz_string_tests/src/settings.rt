@@ -454,12 +454,12 @@ impl Call {
     }
 }
 
-/// This holds for the call, refused a growth after so many.
+/// This holds for the call, refused a growth after this many.
 fn expect_after(rt: &impl Abort, call: Call, left: u64, holds: bool) {
     assert!(rt; holds, "{call:?} after {left}");
 }
 
-/// The values are equal for the call, refused a growth after so many.
+/// The values are equal for the call, refused a growth after this many.
 fn expect_eq_after<T: Debug + PartialEq>(
     rt: &impl Abort,
     call: Call,

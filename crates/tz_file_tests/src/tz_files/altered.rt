@@ -249,8 +249,8 @@ fn expect_same_zone(rt: &impl Abort, zone: TimeZoneRef<'_>) {
     assert!(rt; again.is_ok_and(|again| again == zone));
 }
 
-/// Sets each byte to each other value, and answers how many of these files are accepted. The others are refused by a name that is not want
-/// of memory; of an accepted one the parts that its zone lends make an equal zone.
+/// Sets each byte to each other value, and returns how many of these files are accepted. The others are refused, and never as out of memory;
+/// of an accepted one the parts that its zone lends make an equal zone.
 pub(super) fn accepted_alterations(rt: &impl Abort, alloc: Global, bytes: &mut Vec<u8>) -> u32 {
     let mut accepted = 0u32;
     for place in 0..bytes.len() {

@@ -155,7 +155,7 @@ fn day_of_month(month: u8, place: Place) -> At {
     (M(month, week, week_day), days)
 }
 
-/// The month that comes so many months later.
+/// The month that comes this many months later.
 fn month_later(month: u8, months: u8) -> u8 {
     month.wrapping_add(months).wrapping_add(11) % 12 + 1
 }
@@ -173,7 +173,7 @@ static OF_MONTHS: [(Place, u8, Place, Answers); 9] = [
     ((5, 2, 0), 0, (5, 3, -1), NOT_EARLIER),
 ];
 
-/// The same for days that are accepted as they are.
+/// For each month but the last: a day of it, how many months later the other day lies, and the other day; they are accepted without a second more or less.
 static ACCEPTED_OF_MONTHS: [(Place, u8, Place); 2] = [
     ((1, 0, 0), 2, (1, 0, 0)),
     ((3, 0, 4), 0, (4, 0, -3)),
