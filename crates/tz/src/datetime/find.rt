@@ -58,13 +58,12 @@ impl DateTime {
     /// 60 and the nanoseconds below a second. The first field out of range is named, in this order, and after them
     /// `InvalidMonthDay` where the month has no such day.
     ///
-    /// A date time keeps the fields as they are passed, second 60 included. `OutOfRange` tells that a date time of the list lies
-    /// outside the years of an `i32`. It is never returned for a year that is 200 years or more from both ends of these, nor, where
-    /// all offsets of the zone are above -25 and below 26 hours, for one that is three years or more from them. `Memory` tells that
-    /// an allocation for the list failed.
+    /// A date time keeps the fields as they are passed, second 60 included. `OutOfRange` tells that an instant at which the clock shows
+    /// the fields lies, in UTC, outside the years of an `i32`, or that the local time before or after a jump over them does. It is never
+    /// returned for a year that is 200 years or more from both ends of these, nor, where all offsets of the zone are above -25 and below
+    /// 26 hours, for one that is three years or more from them. `Memory` tells that an allocation for the list failed.
     ///
-    /// When an alarm rings that is set to a local time: at the first instant at which clocks show it, or, where they are set forward
-    /// over it, right after that.
+    /// When an alarm rings that is set to a local time: at the first instant at which clocks show it or are set forward over it.
     ///
     /// ```rust
     /// pub fn alarm(
@@ -131,9 +130,10 @@ impl DateTime {
     /// 60 and the nanoseconds below a second. The first field out of range is named, in this order, and after them
     /// `InvalidMonthDay` where the month has no such day; nothing is written then.
     ///
-    /// A date time keeps the fields as they are passed, second 60 included. `OutOfRange` tells that a date time of the list lies
-    /// outside the years of an `i32`. It is never returned for a year that is 200 years or more from both ends of these, nor, where
-    /// all offsets of the zone are above -25 and below 26 hours, for one that is three years or more from them. No memory is taken.
+    /// A date time keeps the fields as they are passed, second 60 included. `OutOfRange` tells that an instant at which the clock shows
+    /// the fields lies, in UTC, outside the years of an `i32`, or that the local time before or after a jump over them does. It is never
+    /// returned for a year that is 200 years or more from both ends of these, nor, where all offsets of the zone are above -25 and below
+    /// 26 hours, for one that is three years or more from them. No memory is taken.
     ///
     /// How many instants and jumps a local time has, found without memory: 1 nearly always, 2 where clocks show it twice.
     ///
