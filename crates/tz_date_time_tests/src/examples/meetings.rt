@@ -5,8 +5,8 @@ use std::time::Duration;
 use tz::datetime::FoundDateTimeKind;
 use tz::{DateTime, TimeZoneRef, TzError, UtcDateTime};
 
-/// When an alarm rings that is set to a local time: at the first instant at which clocks show it, or, where they are set forward over
-/// it, right after that. There is no such instant only where the zone has no clock then.
+/// When an alarm rings that is set to a local time: at the first instant at which clocks show it or are set forward over it. There is
+/// none where the zone has no clock then.
 pub fn alarm(
     alloc: Global,
     zone: TimeZoneRef<'_>,
