@@ -1,7 +1,8 @@
 //! A weekly meeting: the same time of day by a zone's clock, on the same day of each week.
 //!
 //! The date of each week comes from the calendar, and is looked up by the clock anew. Seconds of weeks, added to the first instant, would
-//! move the meeting wherever the clock is set forward or back. All this stands on the public calls of `tz` and their contracts alone.
+//! move the meeting wherever the clock is set forward or back. All this stands on public calls of `tz` and their contracts; of `tz::inner` it
+//! names the struct of seven fields alone.
 
 ghost use Rattle.std.specs.Prelude.{◌≡◌, ◌+◌, ◌*◌, pos, ◌+ℤ◌, IfOk, IfErr, IfSome, IfNone, OnOk};
 ghost use Rattle.tz_base.specs.Fields.{IsCivil, IsFirstFault, IsReading, IsValid, day_of, reading};
