@@ -20,7 +20,7 @@ use super::time_lines::keep;
 use tz::TimeZoneRef;
 use tz::inner::{Fields, Segment};
 
-/// The fields that the first line asks for, if it is an `F` line of usual numbers, and the bytes after it. Its nanoseconds are copied,
+/// The fields of the first line, if it is an `F` line of usual numbers, and the bytes after it. Its nanoseconds are copied,
 /// and are 0 in the fields.
 #[inline(always)]
 fn read_line<'a>(queries: &'a [u8], nine: &mut [u8; 9]) -> Option<(Fields, &'a [u8])>

@@ -17,7 +17,7 @@ use super::tail::Tail;
 use tz::TimeZoneRef;
 use tz::inner::{Fields, Segment, is_reading, segment_at};
 
-/// The instant that the first line asks for, if it is a `T` line of usual numbers, and the bytes after it. Its nanoseconds are copied.
+/// The instant of the first line, if it is a `T` line of usual numbers, and the bytes after it. Its nanoseconds are copied.
 ///
 /// Lines that end in the last bytes of the queries are none: so no read tests where the bytes end.
 #[inline(always)]
