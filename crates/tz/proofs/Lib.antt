@@ -16,3 +16,4 @@ pub mod FieldOrder
 pub mod TotalLemmas
 pub mod FoundOnce
 pub mod FoundAtJump
+pub mod EntriesTaken

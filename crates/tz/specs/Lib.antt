@@ -15,3 +15,5 @@ pub mod UtcConstants
 pub mod Lists
 pub mod SlotEquality
 pub mod Jumps
+pub mod Meanings
+pub mod Choices

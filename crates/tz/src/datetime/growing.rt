@@ -1,6 +1,7 @@
 //! Lists that grow by what a search finds.
 
 use super::FoundDateTimeKind;
+use super::choice::Choice;
 use super::found_list::FoundDateTimeList;
 use super::slot_writer::SlotWriter;
 use std::alloc::{AllocError, Allocator};
@@ -60,6 +61,23 @@ impl DateTimeList for SlotWriter<'_> {
 
     fn push(&mut self, found: FoundDateTimeKind) -> Result<(), AllocError> {
         self.write(found);
+        Ok(())
+    }
+}
+
+impl DateTimeList for Choice {
+    ghost use Rattle.tz.specs.Choices.{ChoosesMore, chooses_none, chooses_more};
+
+    ghost gains = { ChoosesMore };
+
+    ghost takes_memory = { ⊥ };
+
+    ghost none = { chooses_none };
+
+    ghost more = { chooses_more };
+
+    fn push(&mut self, found: FoundDateTimeKind) -> Result<(), AllocError> {
+        self.add(found);
         Ok(())
     }
 }

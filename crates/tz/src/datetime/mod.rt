@@ -1,11 +1,14 @@
 //! Date times.
 
+mod choice;
 mod date_time;
+mod disambiguation;
 pub(crate) mod find;
 mod found;
 mod found_list;
 mod found_list_ref;
 mod growing;
+mod local_time;
 pub(crate) mod search;
 mod slot_writer;
 mod totals;
@@ -13,6 +16,7 @@ mod utc_date_time;
 mod walk;
 
 pub use date_time::DateTime;
+pub use disambiguation::Disambiguation;
 pub use found::FoundDateTimeKind;
 pub use found_list::FoundDateTimeList;
 pub use found_list_ref::FoundDateTimeListRefMut;

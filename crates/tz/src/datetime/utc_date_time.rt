@@ -216,6 +216,13 @@ impl UtcDateTime {
         UtcDateTime::from_timespec(unix_time, nanoseconds)
     }
 
+    /// The fields.
+    pub(crate) fn fields(&self) -> &Fields
+        ensures { result.now ≡ self.now }
+    {
+        &self.fields
+    }
+
     /// Seconds from [`UtcDateTime::UNIX_EPOCH`] on. Second 60 counts as the next minute's second 0.
     pub fn unix_time(&self) -> i64
         ensures { result ≡ reading self.now }

@@ -1,0 +1,130 @@
+//! The one date time that a local time means.
+
+ghost use Rattle.std.specs.Prelude.{◌≡◌, ◌-ℤ◌, IfOk, IfErr, OnOk};
+ghost use Rattle.tz_base.specs.Fields.{IsValid};
+ghost use Rattle.tz_zone.specs.ZoneRef.{zone_of};
+ghost use Rattle.tz.specs.Meanings.{IsMeaning, IsMeaningFault, IsMeantBy, IsMeantFault, instant_meant};
+ghost use Rattle.tz_base.specs.Fields.{reading as reading_of};
+
+use super::choice::Choice;
+use super::search::search;
+use super::{DateTime, Disambiguation, FoundDateTimeKind, UtcDateTime};
+use tz_base::calendar::Fields;
+use tz_base::error::TzError;
+use tz_zone::inner::{Uncounted, other_parts};
+use tz_zone::timezone::TimeZoneRef;
+
+/// The one date time that fields mean, if there is one.
+fn meant(
+    fields: &Fields,
+    disambiguation: Disambiguation,
+    time_zone_ref: TimeZoneRef<'_>,
+) -> Result<Option<DateTime>, TzError>
+    ensures ok { IfOk result (IsMeaning (zone_of time_zone_ref.entry) disambiguation fields.now) }
+    ensures valid { OnOk result (IsValid fields.now) }
+    ensures err { IfErr result (IsMeaningFault (zone_of time_zone_ref.entry) disambiguation fields.now) }
+{
+    fields.check()?;
+    let mut choice = Choice::new();
+    let mut view = Uncounted::new(time_zone_ref.transitions());
+    search(&mut choice, fields, &mut view, other_parts(&time_zone_ref))?;
+    let Some(entry) = choice.entry(disambiguation) else {
+        return Ok(None);
+    };
+    Ok(Some(date_time_of(&entry, fields, disambiguation, time_zone_ref)?))
+}
+
+/// The date time that is meant by an entry.
+fn date_time_of(
+    entry: &FoundDateTimeKind,
+    fields: &Fields,
+    disambiguation: Disambiguation,
+    time_zone_ref: TimeZoneRef<'_>,
+) -> Result<DateTime, TzError>
+    requires { IsValid fields.now }
+    ensures ok { IfOk result (IsMeantBy (zone_of time_zone_ref.entry) disambiguation fields.now entry.now) }
+    ensures err { IfErr result (IsMeantFault (zone_of time_zone_ref.entry) disambiguation fields.now entry.now) }
+{
+    match entry {
+        FoundDateTimeKind::Normal(date_time) => Ok(*date_time),
+        FoundDateTimeKind::Skipped {
+            before_transition,
+            after_transition,
+        } => {
+            let unix_time = instant(fields, disambiguation, before_transition, after_transition);
+            DateTime::from_timespec(unix_time, fields.nanoseconds, time_zone_ref)
+        }
+    }
+}
+
+/// The instant that is meant where clocks are set forward over the fields.
+fn instant(
+    fields: &Fields,
+    disambiguation: Disambiguation,
+    before: &DateTime,
+    after: &DateTime,
+) -> i64
+    requires { IsValid fields.now }
+    ensures { result ≡ instant_meant disambiguation (reading_of fields.now) before.now after.now }
+{
+    let side = match disambiguation {
+        Disambiguation::Earlier => after,
+        _ => before,
+    };
+    fields.reading() - i64::from(side.local_time_type().ut_offset())
+}
+
+impl DateTime {
+    ghost use Rattle.std.specs.Prelude.{IfOk, IfErr, OnOk};
+    ghost use Rattle.tz_base.specs.Fields.{IsValid};
+    ghost use Rattle.tz_zone.specs.ZoneRef.{zone_of};
+    ghost use Rattle.tz.specs.DateTimes.{fields_of};
+    ghost use Rattle.tz.specs.Meanings.{IsMeaning, IsMeaningFault};
+
+    /// The one date time that a local time means, or none where the zone's clock neither shows it nor is set forward over it, or where
+    /// the choice rejects what there is.
+    ///
+    /// The fields are those of [`DateTime::find`], refused as there. Of a local time that clocks are set forward over, the date time
+    /// is what the clock shows at another instant, as by [`DateTime::from_timespec`], refused as there. No memory is taken.
+    pub fn find_one(
+        year: i32,
+        month: u8,
+        month_day: u8,
+        hour: u8,
+        minute: u8,
+        second: u8,
+        nanoseconds: u32,
+        disambiguation: Disambiguation,
+        time_zone_ref: TimeZoneRef<'_>,
+    ) -> Result<Option<Self>, TzError>
+        ensures ok { IfOk result (IsMeaning (zone_of time_zone_ref.entry) disambiguation (fields_of year month month_day hour minute second nanoseconds)) }
+        ensures valid { OnOk result (IsValid (fields_of year month month_day hour minute second nanoseconds)) }
+        ensures err { IfErr result (IsMeaningFault (zone_of time_zone_ref.entry) disambiguation (fields_of year month month_day hour minute second nanoseconds)) }
+    {
+        let fields = Fields {
+            year,
+            month,
+            month_day,
+            hour,
+            minute,
+            second,
+            nanoseconds,
+        };
+        meant(&fields, disambiguation, time_zone_ref)
+    }
+
+    /// The one date time that a local time means, which is passed as a date time of UTC with its fields: a calendar date and a time of
+    /// day without a zone, to which durations can be added.
+    ///
+    /// It answers as [`DateTime::find_one`] does for these fields, which are valid.
+    pub fn from_local(
+        local: UtcDateTime,
+        disambiguation: Disambiguation,
+        time_zone_ref: TimeZoneRef<'_>,
+    ) -> Result<Option<Self>, TzError>
+        ensures ok { IfOk result (IsMeaning (zone_of time_zone_ref.entry) disambiguation local) }
+        ensures err { IfErr result (IsMeaningFault (zone_of time_zone_ref.entry) disambiguation local) }
+    {
+        meant(local.fields(), disambiguation, time_zone_ref)
+    }
+}
