@@ -5,5 +5,7 @@
 mod expect;
 #[cfg(test)]
 mod find;
+#[cfg(test)]
+mod meanings;
 pub mod searches;
 pub mod zones;

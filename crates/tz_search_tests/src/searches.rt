@@ -11,6 +11,12 @@ pub type Summary = (i64, i32, i32);
 /// Year, month, day of the month, hour, minute, second.
 pub type Reading = (i32, u8, u8, u8, u8, u8);
 
+/// The name of the date time's type, or `-`.
+pub fn name(date_time: &DateTime) -> &str {
+    let name = date_time.local_time_type().time_zone_designation();
+    if name.is_empty() { "-" } else { name }
+}
+
 /// The summary of an entry.
 pub fn summary(found: &FoundDateTimeKind) -> Summary {
     match found {

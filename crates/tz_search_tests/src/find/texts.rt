@@ -2,14 +2,9 @@
 
 use super::*;
 use crate::expect::expect_eq;
+use crate::searches::name;
 use crate::zones::ONE_EFFECT;
 use tz_zone::timezone::TimeZone;
-
-/// The name of the date time's type, or `-`.
-fn name(date_time: &DateTime) -> &str {
-    let name = date_time.local_time_type().time_zone_designation();
-    if name.is_empty() { "-" } else { name }
-}
 
 /// An entry: its Unix time, and the text and the name of each side.
 fn text_of(alloc: Global, kind: &FoundDateTimeKind) -> Result<String, AllocError> {
