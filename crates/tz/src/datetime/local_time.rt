@@ -116,7 +116,32 @@ impl DateTime {
     /// The one date time that a local time means, which is passed as a date time of UTC with its fields: a calendar date and a time of
     /// day without a zone, to which durations can be added.
     ///
-    /// It answers as [`DateTime::find_one`] does for these fields, which are valid.
+    /// The answer is that of [`DateTime::find_one`] to these fields, which are valid.
+    ///
+    /// When a job of every day at a local time runs next after an instant:
+    ///
+    /// ```rust
+    /// pub fn next_daily_run(
+    ///     zone: TimeZoneRef<'_>,
+    ///     hour: u8,
+    ///     minute: u8,
+    ///     now: i64,
+    /// ) -> Result<Option<DateTime>, TzError> {
+    ///     let today = DateTime::from_timespec(now, 0, zone)?;
+    ///     let (year, month, month_day) = (today.year(), today.month(), today.month_day());
+    ///     let local = UtcDateTime::new(year, month, month_day, hour, minute, 0, 0)?;
+    ///     let day = Duration::from_secs(86_400);
+    ///     // Yesterday's run is still to come where clocks have just been set forward over midnight.
+    ///     for local in [local.checked_sub(day), Some(local), local.checked_add(day)] {
+    ///         let local = local.ok_or(TzError::OutOfRange)?;
+    ///         match DateTime::from_local(local, Disambiguation::Compatible, zone)? {
+    ///             Some(run) if now < run.unix_time() => return Ok(Some(run)),
+    ///             _ => {}
+    ///         }
+    ///     }
+    ///     Ok(None)
+    /// }
+    /// ```
     pub fn from_local(
         local: UtcDateTime,
         disambiguation: Disambiguation,

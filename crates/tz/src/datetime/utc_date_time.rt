@@ -281,14 +281,10 @@ impl UtcDateTime {
 
     /// The week day, from Sunday = 0 to 6.
     ///
-    /// The next Monday at 9:00 in a zone, by the `alarm` of [`DateTime::find`]:
+    /// The next Monday at 9:00 in a zone:
     ///
     /// ```rust
-    /// pub fn next_monday_at_nine(
-    ///     alloc: Global,
-    ///     zone: TimeZoneRef<'_>,
-    ///     now: i64,
-    /// ) -> Result<Option<DateTime>, TzError> {
+    /// pub fn next_monday_at_nine(zone: TimeZoneRef<'_>, now: i64) -> Result<Option<DateTime>, TzError> {
     ///     let today = DateTime::from_timespec(now, 0, zone)?;
     ///     let nine = UtcDateTime::new(today.year(), today.month(), today.month_day(), 9, 0, 0, 0)?;
     ///     for days in 0..8u64 {
@@ -296,7 +292,7 @@ impl UtcDateTime {
     ///             .checked_add(Duration::from_secs(86_400 * days))
     ///             .ok_or(TzError::OutOfRange)?;
     ///         if local.week_day() == 1 {
-    ///             match alarm(alloc, zone, local)? {
+    ///             match DateTime::from_local(local, Disambiguation::Compatible, zone)? {
     ///                 Some(monday) if now < monday.unix_time() => return Ok(Some(monday)),
     ///                 _ => {}
     ///             }
@@ -345,8 +341,8 @@ impl UtcDateTime {
 
     /// The date time later by a duration, or `None` where that is past [`UtcDateTime::MAX`].
     ///
-    /// A meeting at one local time each week, by the `alarm` of [`DateTime::find`]. Weeks are added to the local time, not to the first
-    /// instant: an hour may be lost or gained between.
+    /// A meeting at one local time each week. Weeks are added to the local time, not to the first instant: an hour may be lost or
+    /// gained between.
     ///
     /// ```rust
     /// pub fn weekly_meetings(
@@ -359,7 +355,7 @@ impl UtcDateTime {
     ///     for week in 0..weeks {
     ///         let after_first = Duration::from_secs(604_800 * u64::from(week));
     ///         let local = first.checked_add(after_first).ok_or(TzError::OutOfRange)?;
-    ///         if let Some(meeting) = alarm(alloc, zone, local)? {
+    ///         if let Some(meeting) = DateTime::from_local(local, Disambiguation::Compatible, zone)? {
     ///             meetings.push(meeting)?;
     ///         }
     ///     }

@@ -2,8 +2,31 @@
 
 use std::alloc::Global;
 use std::time::Duration;
-use tz::datetime::FoundDateTimeKind;
+use tz::datetime::{Disambiguation, FoundDateTimeKind};
 use tz::{DateTime, TimeZoneRef, TzError, UtcDateTime};
+
+/// When a job of every day at a local time runs next after an instant. On the day on which clocks are set forward over that time it
+/// runs as much later as they are set forward; on the day on which they show it twice, once, the first time.
+pub fn next_daily_run(
+    zone: TimeZoneRef<'_>,
+    hour: u8,
+    minute: u8,
+    now: i64,
+) -> Result<Option<DateTime>, TzError> {
+    let today = DateTime::from_timespec(now, 0, zone)?;
+    let (year, month, month_day) = (today.year(), today.month(), today.month_day());
+    let local = UtcDateTime::new(year, month, month_day, hour, minute, 0, 0)?;
+    let day = Duration::from_secs(86_400);
+    // Yesterday's run is still to come where clocks have just been set forward over midnight.
+    for local in [local.checked_sub(day), Some(local), local.checked_add(day)] {
+        let local = local.ok_or(TzError::OutOfRange)?;
+        match DateTime::from_local(local, Disambiguation::Compatible, zone)? {
+            Some(run) if now < run.unix_time() => return Ok(Some(run)),
+            _ => {}
+        }
+    }
+    Ok(None)
+}
 
 /// When an alarm rings that is set to a local time: at the first instant at which clocks show it or are set forward over it. There is
 /// none where the zone has no clock then.
@@ -65,7 +88,7 @@ pub fn weekly_meetings(
     for week in 0..weeks {
         let after_first = Duration::from_secs(604_800 * u64::from(week));
         let local = first.checked_add(after_first).ok_or(TzError::OutOfRange)?;
-        if let Some(meeting) = alarm(alloc, zone, local)? {
+        if let Some(meeting) = DateTime::from_local(local, Disambiguation::Compatible, zone)? {
             meetings.push(meeting)?;
         }
     }
@@ -73,11 +96,7 @@ pub fn weekly_meetings(
 }
 
 /// The next Monday at 9:00 in a zone.
-pub fn next_monday_at_nine(
-    alloc: Global,
-    zone: TimeZoneRef<'_>,
-    now: i64,
-) -> Result<Option<DateTime>, TzError> {
+pub fn next_monday_at_nine(zone: TimeZoneRef<'_>, now: i64) -> Result<Option<DateTime>, TzError> {
     let today = DateTime::from_timespec(now, 0, zone)?;
     let nine = UtcDateTime::new(today.year(), today.month(), today.month_day(), 9, 0, 0, 0)?;
     for days in 0..8u64 {
@@ -85,7 +104,7 @@ pub fn next_monday_at_nine(
             .checked_add(Duration::from_secs(86_400 * days))
             .ok_or(TzError::OutOfRange)?;
         if local.week_day() == 1 {
-            match alarm(alloc, zone, local)? {
+            match DateTime::from_local(local, Disambiguation::Compatible, zone)? {
                 Some(monday) if now < monday.unix_time() => return Ok(Some(monday)),
                 _ => {}
             }

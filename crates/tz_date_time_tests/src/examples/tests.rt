@@ -1,7 +1,9 @@
 //! One test for each example.
 
 use super::clocks::{new_year_an_hour_behind, print_instant, show_now};
-use super::meetings::{alarm, count_meanings, next_monday_at_nine, weekly_meetings};
+use super::meetings::{
+    alarm, count_meanings, next_daily_run, next_monday_at_nine, weekly_meetings,
+};
 use super::queries::answer_lines;
 use super::zones::{local_time, local_zone, moved_ahead_in_2000, zone_of_setting};
 use crate::expect::expect_eq;
@@ -107,6 +109,48 @@ fn alarms_ring_in_gaps_and_folds(rt: HostRuntime) -> Result<(), Fail> {
     Ok(())
 }
 
+/// Jobs of every day at half past these hours run next at the texts after the instants.
+fn expect_runs(
+    rt: &impl Abort,
+    alloc: Global,
+    zone: TimeZoneRef<'_>,
+    rows: &[(u8, i64, &str)],
+) -> Result<(), TzError> {
+    for &(hour, now, text) in rows.iter() {
+        let run = next_daily_run(zone, hour, 30, now)?;
+        assert!(rt; run.is_some());
+        for run in run.iter() {
+            expect_shown(rt, alloc, run, text)?;
+        }
+    }
+    Ok(())
+}
+
+#[test]
+fn daily_jobs_run_once_in_gaps_and_folds(rt: HostRuntime) -> Result<(), Fail> {
+    static NEW_YORK: [(u8, i64, &str); 6] = [
+        // Noon of March 7th; clocks go forward from 2:00 to 3:00 in the night that follows.
+        (2, 1_772_902_800, "2026-03-08T03:30:00.000000000-04:00"),
+        (2, 1_772_954_999, "2026-03-08T03:30:00.000000000-04:00"),
+        (2, 1_772_955_000, "2026-03-09T02:30:00.000000000-04:00"),
+        // Noon of October 31st; clocks go back from 2:00 to 1:00 in the night that follows, so that 1:30 is shown twice.
+        (1, 1_793_462_400, "2026-11-01T01:30:00.000000000-04:00"),
+        (1, 1_793_511_000, "2026-11-02T01:30:00.000000000-05:00"),
+        (1, 1_793_514_600, "2026-11-02T01:30:00.000000000-05:00"),
+    ];
+    // Clocks go forward from 23:00 to midnight, as in Scoresbysund, and midnight itself is the first instant.
+    static OVER_MIDNIGHT: [(u8, i64, &str); 2] = [
+        (23, 1_743_296_400, "2025-03-30T00:30:00.000000000-01:00"),
+        (23, 1_743_298_200, "2025-03-30T23:30:00.000000000-01:00"),
+    ];
+    let alloc = rt.alloc();
+    let zone = zone_of_setting(&rt, alloc, "EST5EDT,M3.2.0,M11.1.0")?;
+    expect_runs(&rt, alloc, zone.as_ref(), &NEW_YORK)?;
+    let zone = zone_of_setting(&rt, alloc, "<-02>2<-01>,M3.5.6/23,M10.5.0/0")?;
+    expect_runs(&rt, alloc, zone.as_ref(), &OVER_MIDNIGHT)?;
+    Ok(())
+}
+
 /// Meetings at 9:00 in central Europe stay there where clocks go forward.
 fn expect_meetings(rt: &impl Abort, alloc: Global, zone: TimeZoneRef<'_>) -> Result<(), TzError> {
     static SHOWN: [&str; 3] = [
@@ -124,7 +168,7 @@ fn expect_meetings(rt: &impl Abort, alloc: Global, zone: TimeZoneRef<'_>) -> Res
 }
 
 /// The next Monday at 9:00 in central Europe is found.
-fn expect_mondays(rt: &impl Abort, alloc: Global, zone: TimeZoneRef<'_>) -> Result<(), TzError> {
+fn expect_mondays(rt: &impl Abort, zone: TimeZoneRef<'_>) -> Result<(), TzError> {
     static MONDAYS: [(i64, i64); 3] = [
         // A Sunday; Monday at 9:00 itself; one second before it.
         (954_032_400, 954_140_400),
@@ -132,7 +176,7 @@ fn expect_mondays(rt: &impl Abort, alloc: Global, zone: TimeZoneRef<'_>) -> Resu
         (954_140_399, 954_140_400),
     ];
     for &(now, monday) in MONDAYS.iter() {
-        let next = next_monday_at_nine(alloc, zone, now)?;
+        let next = next_monday_at_nine(zone, now)?;
         expect_eq(rt, &next.map(|next| next.unix_time()), &Some(monday));
     }
     Ok(())
@@ -143,6 +187,6 @@ fn meetings_keep_their_local_time(rt: HostRuntime) -> Result<(), Fail> {
     let alloc = rt.alloc();
     let zone = zone_of_setting(&rt, alloc, CENTRAL_EUROPE)?;
     expect_meetings(&rt, alloc, zone.as_ref())?;
-    expect_mondays(&rt, alloc, zone.as_ref())?;
+    expect_mondays(&rt, zone.as_ref())?;
     Ok(())
 }
