@@ -405,6 +405,80 @@ fn parts_are_printed(rt: HostRuntime) -> Result<(), Fail> {
     Ok(())
 }
 
+/// The days from one date to the next that has the week day of another one. By the ranges that the calls promise
+/// nothing wraps here and below, without a proof of the caller's own.
+fn days_to_week_day(from: &UtcDateTime, to: &UtcDateTime) -> u8 {
+    (7 + to.week_day() - from.week_day()) % 7
+}
+
+fn local_days_to_week_day(from: &DateTime, to: &DateTime) -> u8 {
+    (7 + to.week_day() - from.week_day()) % 7
+}
+
+/// The days of a leap year that are left after a date of it.
+fn days_left_of_leap_year(date: &UtcDateTime) -> u16 {
+    365 - date.year_day()
+}
+
+fn local_days_left_of_leap_year(date: &DateTime) -> u16 {
+    365 - date.year_day()
+}
+
+/// The seconds that are added to what the date time shows for UTC.
+fn seconds_to_utc(date_time: &DateTime) -> i32 {
+    -date_time.local_time_type().ut_offset()
+}
+
+/// From a Saturday to a Thursday, and back.
+#[test]
+fn callers_count_by_week_days(rt: HostRuntime) -> Result<(), Fail> {
+    let new_year = utc_of((2000, 1, 1, (0, 0, 0), 0))?;
+    let leap_day = utc_of((2024, 2, 29, (0, 0, 0), 0))?;
+    expect_eq(&rt, &days_to_week_day(&new_year, &leap_day), &5);
+    expect_eq(&rt, &days_to_week_day(&leap_day, &new_year), &2);
+    expect_eq(&rt, &days_to_week_day(&new_year, &new_year), &0);
+    let local_new_year = local_of(((2000, 1, 1, (0, 0, 0), 0), 3600))?;
+    let local_leap_day = local_of(((2024, 2, 29, (0, 0, 0), 0), 3600))?;
+    expect_eq(
+        &rt,
+        &local_days_to_week_day(&local_new_year, &local_leap_day),
+        &5,
+    );
+    expect_eq(
+        &rt,
+        &local_days_to_week_day(&local_leap_day, &local_new_year),
+        &2,
+    );
+    Ok(())
+}
+
+#[test]
+fn callers_count_down_to_the_end_of_the_year(rt: HostRuntime) -> Result<(), Fail> {
+    static DATES: [(u8, u8, u16); 3] = [(1, 1, 365), (2, 29, 306), (12, 31, 0)];
+    for &(month, month_day, left) in DATES.iter() {
+        let parts = (2024, month, month_day, (23, 59, 59), 0);
+        expect_eq(&rt, &days_left_of_leap_year(&utc_of(parts)?), &left);
+        let local = local_of((parts, -3600))?;
+        expect_eq(&rt, &local_days_left_of_leap_year(&local), &left);
+    }
+    Ok(())
+}
+
+#[test]
+fn callers_turn_offsets(rt: HostRuntime) -> Result<(), Fail> {
+    static OFFSETS: [(i32, i32); 4] = [
+        (i32::MIN + 1, i32::MAX),
+        (-3600, 3600),
+        (0, 0),
+        (i32::MAX, i32::MIN + 1),
+    ];
+    for &(ut_offset, turned) in OFFSETS.iter() {
+        let date_time = local_of(((2000, 1, 1, (0, 0, 0), 0), ut_offset))?;
+        expect_eq(&rt, &seconds_to_utc(&date_time), &turned);
+    }
+    Ok(())
+}
+
 /// The total of the first nanosecond, and of the last one.
 const FIRST_TOTAL: i128 = FIRST as i128 * 1_000_000_000;
 

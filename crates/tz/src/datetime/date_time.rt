@@ -368,14 +368,16 @@ impl DateTime {
 
     /// The week day, from Sunday = 0 to 6.
     pub fn week_day(&self) -> u8
-        ensures { pos result ≡ week_day_of (day_of self.now.fields) }
+        ensures value { pos result ≡ week_day_of (day_of self.now.fields) }
+        ensures bound { result < 7 }
     {
         self.fields.week_day()
     }
 
     /// Days since January 1st, from 0 to 365.
     pub fn year_day(&self) -> u16
-        ensures { pos result ≡ day_of self.now.fields -ℤ first_day self.now.fields.year }
+        ensures value { pos result ≡ day_of self.now.fields -ℤ first_day self.now.fields.year }
+        ensures bound { result < 366 }
     {
         self.fields.year_day()
     }

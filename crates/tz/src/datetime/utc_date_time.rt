@@ -302,14 +302,16 @@ impl UtcDateTime {
     /// }
     /// ```
     pub fn week_day(&self) -> u8
-        ensures { pos result ≡ week_day_of (day_of self.now) }
+        ensures value { pos result ≡ week_day_of (day_of self.now) }
+        ensures bound { result < 7 }
     {
         self.fields.week_day()
     }
 
     /// Days since January 1st, from 0 to 365.
     pub fn year_day(&self) -> u16
-        ensures { pos result ≡ day_of self.now -ℤ first_day self.now.year }
+        ensures value { pos result ≡ day_of self.now -ℤ first_day self.now.year }
+        ensures bound { result < 366 }
     {
         self.fields.year_day()
     }

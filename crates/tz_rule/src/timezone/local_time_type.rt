@@ -164,9 +164,10 @@ impl LocalTimeType {
         LocalTimeType::new(ut_offset, false, None)
     }
 
-    /// Seconds that are added to UTC.
+    /// Seconds that are added to UTC, never `i32::MIN`.
     pub fn ut_offset(&self) -> i32
-        ensures { result ≡ self.now.ut_offset }
+        ensures value { result ≡ self.now.ut_offset }
+        ensures range { IsOffset result }
     {
         self.ut_offset
     }

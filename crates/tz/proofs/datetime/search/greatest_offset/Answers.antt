@@ -17,7 +17,7 @@ loop-local_time_type-init c =
     let at : slice_get types 0 ≡ Some item = slice_get-get_or types 0 item c.requires ∙ ap Some (sym c.index-local_time_types-0.is) in
     let fits : SFits w32 c.ut_offset-greatest.result = search rules in
     rw (to_z-of_z w32 c.ut_offset-greatest.result fits) (record {
-      of_type = (0, item, at, c.ut_offset-greatest.ensures);
+      of_type = (0, item, at, c.ut_offset-greatest.ensures.value);
       greatest = λ i t before at_i. absurd (omega (arith, before));
     })
 
@@ -35,14 +35,14 @@ loop-local_time_type-preserved c =
     rw (to_z-of_z w32 c.max-greatest.result fits) (record {
       of_type = elim (int_max_either bits c.ut_offset.result) [
         | inl is ↦ (so_far.of_type.0, so_far.of_type.1, so_far.of_type.2, max.value ∙ is ∙ so_far.of_type.3)
-        | inr is ↦ (k, item, at, max.value ∙ is ∙ c.ut_offset.ensures)
+        | inr is ↦ (k, item, at, max.value ∙ is ∙ c.ut_offset.ensures.value)
       ];
       greatest = λ i t until at_i. elim (cases_lt i k) [
         | inl before ↦ omega (arith, ints, so_far.greatest i t before at_i, max.self_bound)
         | inr not_before ↦
             let place : i ≡ k = omega (arith, until, not_before) in
             let same : item ≡ t = same_Some item t (sym at ∙ ap (slice_get types) (sym place) ∙ at_i) in
-            omega (arith, ints, ap (λ (x : LocalTimeType). x.ut_offset) same, c.ut_offset.ensures, max.other_bound)
+            omega (arith, ints, ap (λ (x : LocalTimeType). x.ut_offset) same, c.ut_offset.ensures.value, max.other_bound)
       ];
     })
 

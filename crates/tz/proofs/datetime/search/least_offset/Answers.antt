@@ -17,7 +17,7 @@ loop-local_time_type-init c =
     let at : slice_get types 0 ≡ Some item = slice_get-get_or types 0 item c.requires ∙ ap Some (sym c.index-local_time_types-0.is) in
     let fits : SFits w32 c.ut_offset-least.result = search rules in
     rw (to_z-of_z w32 c.ut_offset-least.result fits) (record {
-      of_type = (0, item, at, c.ut_offset-least.ensures);
+      of_type = (0, item, at, c.ut_offset-least.ensures.value);
       least = λ i t before at_i. absurd (omega (arith, before));
     })
 
@@ -35,14 +35,14 @@ loop-local_time_type-preserved c =
     rw (to_z-of_z w32 c.min-least.result fits) (record {
       of_type = elim (int_min_either bits c.ut_offset.result) [
         | inl is ↦ (so_far.of_type.0, so_far.of_type.1, so_far.of_type.2, min.value ∙ is ∙ so_far.of_type.3)
-        | inr is ↦ (k, item, at, min.value ∙ is ∙ c.ut_offset.ensures)
+        | inr is ↦ (k, item, at, min.value ∙ is ∙ c.ut_offset.ensures.value)
       ];
       least = λ i t until at_i. elim (cases_lt i k) [
         | inl before ↦ omega (arith, ints, so_far.least i t before at_i, min.self_bound)
         | inr not_before ↦
             let place : i ≡ k = omega (arith, until, not_before) in
             let same : item ≡ t = same_Some item t (sym at ∙ ap (slice_get types) (sym place) ∙ at_i) in
-            omega (arith, ints, ap (λ (x : LocalTimeType). x.ut_offset) same, c.ut_offset.ensures, min.other_bound)
+            omega (arith, ints, ap (λ (x : LocalTimeType). x.ut_offset) same, c.ut_offset.ensures.value, min.other_bound)
       ];
     })
 

@@ -35,17 +35,17 @@ reading-requires c = c.in_ok-check.ensures.ok
 
 pub overflow_sub-unix_time : goal.overflow_sub-unix_time
 overflow_sub-unix_time c =
-    instant_fits c.reading.result _ c.ut_offset.result _ c.from.result c.reading.ensures.bound c.reading.ensures.value c.ut_offset.type_inv c.ut_offset.ensures c.from.ensures
+    instant_fits c.reading.result _ c.ut_offset.result _ c.from.result c.reading.ensures.bound c.reading.ensures.value c.ut_offset.type_inv c.ut_offset.ensures.value c.from.ensures
 
 pub from_valid_fields-requires : goal.from_valid_fields-requires
 from_valid_fields-requires c =
-    let instant = instant_is c.reading.result _ c.ut_offset.result _ c.from.result c.reading.ensures.bound c.reading.ensures.value c.ut_offset.type_inv c.ut_offset.ensures c.from.ensures in
+    let instant = instant_is c.reading.result _ c.ut_offset.result _ c.from.result c.reading.ensures.bound c.reading.ensures.value c.ut_offset.type_inv c.ut_offset.ensures.value c.from.ensures in
     record { valid = c.in_ok-check.ensures.ok; instant = instant }
 
 pub returns : goal.returns
 returns c =
     let made = c.from_valid_fields.ensures in
-    let instant = instant_is c.reading.result _ c.ut_offset.result _ c.from.result c.reading.ensures.bound c.reading.ensures.value c.ut_offset.type_inv c.ut_offset.ensures c.from.ensures in
+    let instant = instant_is c.reading.result _ c.ut_offset.result _ c.from.result c.reading.ensures.bound c.reading.ensures.value c.ut_offset.type_inv c.ut_offset.ensures.value c.from.ensures in
     let valid = c.in_ok-check.ensures.ok in
     record {
       value = value_as c.from_valid_fields.result c.args.fields c.args.local_time_type _ _ instant made.value;

@@ -67,7 +67,7 @@ returns-then-shown_at-until-clause-some c =
     let w = c.args.self.now in
     let t = c.in_ok-local_time_type.local_time_type in
     let fits : SFits w64 w.since = search rules in
-    let shown = shown_of w.reading w.since c.args.until t.ut_offset c.ut_offset.result c.from.result c.requires fits c.ranges.until c.ut_offset.type_inv c.ut_offset.ensures c.from.ensures in
+    let shown = shown_of w.reading w.since c.args.until t.ut_offset c.ut_offset.result c.from.result c.requires fits c.ranges.until c.ut_offset.type_inv c.ut_offset.ensures.value c.from.ensures in
     let from = shown.from_since c.if-shown_at-self.true in
     let before = shown.before_until c.if-shown_at-until.true in
     rw shown.is (c.in_ok-local_time_type.was, (from, before), omega (arith, ints))
@@ -77,7 +77,7 @@ returns-then-shown_at-until-clause-near c =
     let w = c.args.self.now in
     let t = c.in_ok-local_time_type.local_time_type in
     let fits : SFits w64 w.since = search rules in
-    let shown = shown_of w.reading w.since c.args.until t.ut_offset c.ut_offset.result c.from.result c.requires fits c.ranges.until c.ut_offset.type_inv c.ut_offset.ensures c.from.ensures in
+    let shown = shown_of w.reading w.since c.args.until t.ut_offset c.ut_offset.result c.from.result c.requires fits c.ranges.until c.ut_offset.type_inv c.ut_offset.ensures.value c.from.ensures in
     rw shown.is (refl, shown.near)
 
 pub returns-else-shown_at-until-clause-none : goal.returns-else-shown_at-until-clause-none
@@ -85,7 +85,7 @@ returns-else-shown_at-until-clause-none c =
     let w = c.args.self.now in
     let t = c.in_ok-local_time_type.local_time_type in
     let fits : SFits w64 w.since = search rules in
-    let shown = shown_of w.reading w.since c.args.until t.ut_offset c.ut_offset.result c.from.result c.requires fits c.ranges.until c.ut_offset.type_inv c.ut_offset.ensures c.from.ensures in
+    let shown = shown_of w.reading w.since c.args.until t.ut_offset c.ut_offset.result c.from.result c.requires fits c.ranges.until c.ut_offset.type_inv c.ut_offset.ensures.value c.from.ensures in
     no_entry_before w c.args.until t c.in_ok-local_time_type.was (shown.from_since c.if-shown_at-self.true) (shown.from_until c.if-shown_at-until.false)
 
 pub overflow_sub-passed_at : goal.overflow_sub-passed_at
@@ -97,8 +97,8 @@ returns-then-self-passed_at-clause-some c =
     let t = c.in_ok-local_time_type.local_time_type in
     let fits : SFits w64 w.since = search rules in
     let b = c.in_ok-before.before in
-    let shown = shown_of w.reading w.since c.args.until t.ut_offset c.ut_offset.result c.from.result c.requires fits c.ranges.until c.ut_offset.type_inv c.ut_offset.ensures c.from.ensures in
-    let passed = shown_of w.reading w.since c.args.until b.ut_offset c.ut_offset-2.result c.from-2.result c.requires fits c.ranges.until c.ut_offset-2.type_inv c.ut_offset-2.ensures c.from-2.ensures in
+    let shown = shown_of w.reading w.since c.args.until t.ut_offset c.ut_offset.result c.from.result c.requires fits c.ranges.until c.ut_offset.type_inv c.ut_offset.ensures.value c.from.ensures in
+    let passed = shown_of w.reading w.since c.args.until b.ut_offset c.ut_offset-2.result c.from-2.result c.requires fits c.ranges.until c.ut_offset-2.type_inv c.ut_offset-2.ensures.value c.from-2.ensures in
     let jump = jump_of w.reading w.since c.args.until t.ut_offset b.ut_offset _ _ fits shown passed (shown.before_since c.if-shown_at-self.false) (passed.from_since c.if-self-passed_at.true) in
     (to_z-of_z w64 w.since fits, c.in_ok-before.was, c.in_ok-local_time_type.was, jump.0.0, jump.0.1)
 
@@ -108,8 +108,8 @@ returns-then-self-passed_at-clause-near c =
     let t = c.in_ok-local_time_type.local_time_type in
     let fits : SFits w64 w.since = search rules in
     let b = c.in_ok-before.before in
-    let shown = shown_of w.reading w.since c.args.until t.ut_offset c.ut_offset.result c.from.result c.requires fits c.ranges.until c.ut_offset.type_inv c.ut_offset.ensures c.from.ensures in
-    let passed = shown_of w.reading w.since c.args.until b.ut_offset c.ut_offset-2.result c.from-2.result c.requires fits c.ranges.until c.ut_offset-2.type_inv c.ut_offset-2.ensures c.from-2.ensures in
+    let shown = shown_of w.reading w.since c.args.until t.ut_offset c.ut_offset.result c.from.result c.requires fits c.ranges.until c.ut_offset.type_inv c.ut_offset.ensures.value c.from.ensures in
+    let passed = shown_of w.reading w.since c.args.until b.ut_offset c.ut_offset-2.result c.from-2.result c.requires fits c.ranges.until c.ut_offset-2.type_inv c.ut_offset-2.ensures.value c.from-2.ensures in
     let jump = jump_of w.reading w.since c.args.until t.ut_offset b.ut_offset _ _ fits shown passed (shown.before_since c.if-shown_at-self.false) (passed.from_since c.if-self-passed_at.true) in
     (jump.1, jump.2)
 
@@ -122,8 +122,8 @@ returns-else-self-passed_at-clause-none c =
     let t = c.in_ok-local_time_type.local_time_type in
     let fits : SFits w64 w.since = search rules in
     let b = c.in_ok-before.before in
-    let shown = shown_of w.reading w.since c.args.until t.ut_offset c.ut_offset.result c.from.result c.requires fits c.ranges.until c.ut_offset.type_inv c.ut_offset.ensures c.from.ensures in
-    let passed = shown_of w.reading w.since c.args.until b.ut_offset c.ut_offset-2.result c.from-2.result c.requires fits c.ranges.until c.ut_offset-2.type_inv c.ut_offset-2.ensures c.from-2.ensures in
+    let shown = shown_of w.reading w.since c.args.until t.ut_offset c.ut_offset.result c.from.result c.requires fits c.ranges.until c.ut_offset.type_inv c.ut_offset.ensures.value c.from.ensures in
+    let passed = shown_of w.reading w.since c.args.until b.ut_offset c.ut_offset-2.result c.from-2.result c.requires fits c.ranges.until c.ut_offset-2.type_inv c.ut_offset-2.ensures.value c.from-2.ensures in
     no_entry_after w c.args.until t b c.in_ok-local_time_type.was c.in_ok-before.was (shown.before_since c.if-shown_at-self.false) (passed.before_since c.if-self-passed_at.false)
 
 -- a piece without a type has no entry
@@ -146,5 +146,5 @@ returns-in_err-before-clause-none c =
     let w = c.args.self.now in
     let t = c.in_ok-local_time_type.local_time_type in
     let fits : SFits w64 w.since = search rules in
-    let shown = shown_of w.reading w.since c.args.until t.ut_offset c.ut_offset.result c.from.result c.requires fits c.ranges.until c.ut_offset.type_inv c.ut_offset.ensures c.from.ensures in
+    let shown = shown_of w.reading w.since c.args.until t.ut_offset c.ut_offset.result c.from.result c.requires fits c.ranges.until c.ut_offset.type_inv c.ut_offset.ensures.value c.from.ensures in
     rw c.from_residual-in_err-before.ensures (no_entry_first w c.args.until t c.in_ok-local_time_type.was c.in_err-before.was (shown.before_since c.if-shown_at-self.false))
