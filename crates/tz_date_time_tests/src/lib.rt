@@ -10,4 +10,6 @@ mod expect;
 #[cfg(test)]
 mod filter;
 #[cfg(test)]
+mod memory;
+#[cfg(test)]
 mod printed;

@@ -127,6 +127,22 @@ impl From<TzFileError> for Error {
     }
 }
 
+impl From<AllocError> for Error {
+    ghost from_gives = { λ e r. r ≡ any.Tz (tz.Memory e) };
+
+    fn from(error: AllocError) -> Self {
+        Error::Tz(TzError::Memory(error))
+    }
+}
+
+impl<T: Drop> From<AllocFailed<T>> for Error {
+    ghost from_gives = { λ _ r. r ≡ any.Tz (tz.Memory alloc_error) };
+
+    fn from(error: AllocFailed<T>) -> Self {
+        Error::Tz(TzError::Memory(AllocError::from(error)))
+    }
+}
+
 impl From<TzError> for Error {
     ghost from_gives = { λ e r. r ≡ any.Tz e };
 
