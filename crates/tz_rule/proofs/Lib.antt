@@ -6,6 +6,9 @@ pub mod YearKinds
 pub mod YearlyInstants
 pub mod PairKinds
 pub mod OrderByTables
+pub mod PairTables
+pub mod ApartBounds
+pub mod TablesOfDays
 pub mod WeakerClauses
 pub mod RulesAcrossYears
 pub mod UtcYears

@@ -8,11 +8,15 @@ use Rattle.tz_rule.specs.declared.timezone.rule_day.RuleDay.TheVariants.{Julian1
 unfoldable pub julian_place : Bool → ℕ → ℕ
 julian_place leap n = if leap && nat_lt 59 n then n else n - 1
 
--- how many days after its first day a month of this many days has the week day for the w-th or the last time
-unfoldable pub week_day_place : ℕ → ℕ → ℕ → ℕ → ℕ
-week_day_place first days week week_day =
-    let place = (week_day + 7 - first) % 7 + 7 * (week - 1) in
+-- how many days after its first day a month of this many days has a week day for the w-th or the last time, by how many for the first time
+abbrev pub nth_place : ℕ → ℕ → ℕ → ℕ
+nth_place first days week =
+    let place = first + 7 * (week - 1) in
     if nat_lt place days then place else place - 7
+
+-- the same, by the week day of the month's first day
+unfoldable pub week_day_place : ℕ → ℕ → ℕ → ℕ → ℕ
+week_day_place first days week week_day = nth_place ((week_day + 7 - first) % 7) days week
 
 -- how many days after January 1st of its year a rule day lies, where the year is leap or not and its January 1st has the week day
 unfoldable pub place_in_year : RuleDay → Bool → ℕ → ℕ

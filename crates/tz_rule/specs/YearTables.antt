@@ -1,5 +1,5 @@
 -- Tables of the fourteen kinds of years: for each kind, how many seconds after 00:00 UTC of January 1st an instant of the year lies.
-use Rattle.std.specs.Prelude.{◌≡◌, ◌⊎◌, ℕ, ◌*◌, ◌<◌, ℤ, pos, ◌+ℤ◌, ◌-ℤ◌, ◌*ℤ◌, ◌<ℤ◌, List, length, map, slice_index_or}
+use Rattle.std.specs.Prelude.{◌≡◌, ◌⊎◌, ℕ, ◌*◌, ◌<◌, ℤ, pos, ◌+ℤ◌, ◌-ℤ◌, ◌*ℤ◌, ◌≤ℤ◌, ◌<ℤ◌, List, length, map, slice_index_or}
 use Rattle.std.specs.List.{range_with_len}
 use Rattle.tz_base.specs.Days.{first_day}
 use Rattle.tz_rule.specs.Alternate.{AlternateTime}
@@ -29,6 +29,10 @@ start_table r = day_table r.dst_start (r.dst_start_time -ℤ r.std.ut_offset)
 
 unfoldable pub end_table : AlternateTime → List ℤ
 end_table r = day_table r.dst_end (r.dst_end_time -ℤ r.dst.ut_offset)
+
+-- no kind's seconds lie below the one number or above the other
+abbrev pub AreBounds : List ℤ → ℤ → ℤ → Type 0
+AreBounds table least greatest = (kind : ℕ) → kind < 14 → (least ≤ℤ entry table kind) × (entry table kind ≤ℤ greatest)
 
 -- in the years of some kind the first instant comes before the second
 abbrev pub ComesFirst : List ℤ → List ℤ → Type 0

@@ -74,10 +74,9 @@ impl AlternateTime {
         parts.check_range()?;
         let starts = parts.start_table();
         let ends = parts.end_table();
-        if starts.changes_order(&ends) {
+        let Some(ends_next_year) = starts.order(&ends) else {
             return Err(TransitionRuleError::InconsistentRule);
-        }
-        let ends_next_year = ends.comes_first(&starts);
+        };
         Ok(AlternateTime {
             parts,
             ends_next_year,

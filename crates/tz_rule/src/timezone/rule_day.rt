@@ -1,10 +1,10 @@
 //! The days of a year that a rule can name.
 
-ghost use Rattle.std.specs.Prelude.{◌≡◌, ◌<◌, ◌≤◌, pos, negsuc, ◌≤ℤ◌, IfOk, IfErr, OnOk};
+ghost use Rattle.std.specs.Prelude.{◌≡◌, ℕ, ◌<◌, ◌≤◌, pos, negsuc, ◌≤ℤ◌, get_or, IfOk, IfErr, OnOk};
 ghost use Rattle.tz_base.specs.declared.error.timezone.TransitionRuleError.TheVariants as faults;
 ghost use Rattle.tz_rule.specs.JulianDay.{IsJulianDay, IsZeroBasedDay};
 ghost use Rattle.tz_rule.specs.MonthWeek.{MonthWeek, IsMonthWeek, IsFirstMonthWeekFault, IsRuleWeek, IsRuleWeekDay, month_week};
-ghost use Rattle.tz_rule.specs.Places.{julian_place as julian_place_of, week_day_place as week_day_place_of, place_in_year};
+ghost use Rattle.tz_rule.specs.Places.{julian_place as julian_place_of, nth_place as nth_place_of, week_day_place as week_day_place_of, place_in_year};
 
 use std::marker::Model;
 use tz_base::calendar;
@@ -20,6 +20,20 @@ fn julian_place(leap: bool, day: u16) -> u16
     if leap && day > 59 { day } else { day - 1 }
 }
 
+/// How many days after its first day a month of this length has a week day for the w-th time, and for the fifth week for the last time, where
+/// it has the week day for the first time this many days after its first day.
+#[inline(always)]
+fn nth_place(first: u8, days: u8, week: u8) -> u8
+    requires first { first < 7 }
+    requires days { (28 ≤ days) × (days ≤ 31) }
+    requires week { IsRuleWeek week }
+    ensures value { result ≡ nth_place_of first days week }
+    ensures bound { result < days }
+{
+    let place = first + 7 * (week - 1);
+    if place < days { place } else { place - 7 }
+}
+
 /// How many days after its first day a month of this length has a week day for the w-th time, and for the fifth week for the last time.
 #[tactic(auto, unfolding(crate::specs::Places::week_day_place))]
 fn week_day_place(first_week_day: u8, days: u8, week: u8, week_day: u8) -> u8
@@ -30,8 +44,7 @@ fn week_day_place(first_week_day: u8, days: u8, week: u8, week_day: u8) -> u8
     ensures value { result ≡ week_day_place_of first_week_day days week week_day }
     ensures bound { result < days }
 {
-    let place = (week_day + 7 - first_week_day) % 7 + 7 * (week - 1);
-    if place < days { place } else { place - 7 }
+    nth_place((week_day + 7 - first_week_day) % 7, days, week)
 }
 
 /// The n-th of a year's days that are not February 29th, from 1 to 365. (POSIX.1-2017, 8.3: `Jn`.)
@@ -234,22 +247,23 @@ impl MonthWeekDay {
         first_day + i64::from(place)
     }
 
-    /// How many days after January 1st the day lies, in a leap year or another one whose January 1st has a week day.
-    #[tactic(auto, unfolding(crate::specs::Places::place_in_year))]
-    fn place(&self, leap: bool, first_week_day: u8) -> u16
-        requires { first_week_day < 7 }
-        ensures value { result ≡ place_in_year (TheDays.MonthWeekDay self.now) leap first_week_day }
-        ensures bound { result ≤ 365 }
+    /// How many days after January 1st the day lies in leap years or in the others, for each week day of January 1st.
+    ///
+    /// One week day is counted. A year whose January 1st has the next week day has the day's first week day one day earlier in its month.
+    fn places(&self, leap: bool) -> [u16; 7]
+        ensures value { (w : ℕ) → w < 7 → get_or result w 0 ≡ place_in_year (TheDays.MonthWeekDay self.now) leap w }
+        ensures bound { (w : ℕ) → w < 7 → get_or result w 0 ≤ 365 }
         ensures range { IsMonthWeek self.now }
     {
         let before = calendar::days_before_month(leap, self.month);
-        let place = week_day_place(
-            ((u16::from(first_week_day) + before) % 7) as u8,
-            calendar::days_of_month(leap, self.month),
-            self.week,
-            self.week_day,
-        );
-        before + u16::from(place)
+        let days = calendar::days_of_month(leap, self.month);
+        let mut first = (self.week_day + 7 - (before % 7) as u8) % 7;
+        let mut places = [0; 7];
+        for week_day in 0..7 {
+            places[week_day] = before + u16::from(nth_place(first, days, self.week));
+            first = if first == 0 { 6 } else { first - 1 };
+        }
+        places
     }
 }
 
@@ -306,18 +320,16 @@ impl RuleDay {
         }
     }
 
-    /// How many days after January 1st the day lies, in a leap year or another one whose January 1st has a week day.
-    #[tactic(auto, unfolding(crate::specs::Places::place_in_year))]
-    pub(super) fn place(&self, leap: bool, first_week_day: u8) -> u16
-        requires { first_week_day < 7 }
-        ensures value { result ≡ place_in_year self.now leap first_week_day }
-        ensures bound { result ≤ 365 }
+    /// How many days after January 1st the day lies in leap years or in the others, for each week day of January 1st.
+    pub(super) fn places(&self, leap: bool) -> [u16; 7]
+        ensures value { (w : ℕ) → w < 7 → get_or result w 0 ≡ place_in_year self.now leap w }
+        ensures bound { (w : ℕ) → w < 7 → get_or result w 0 ≤ 365 }
         ensures range { IsRuleDay self.now }
     {
         match self {
-            RuleDay::Julian1WithoutLeap(day) => day.place(leap),
-            RuleDay::Julian0WithLeap(day) => day.get(),
-            RuleDay::MonthWeekDay(day) => day.place(leap, first_week_day),
+            RuleDay::Julian1WithoutLeap(day) => [day.place(leap); 7],
+            RuleDay::Julian0WithLeap(day) => [day.get(); 7],
+            RuleDay::MonthWeekDay(day) => day.places(leap),
         }
     }
 }

@@ -13,6 +13,16 @@ pub(super) const KINDS: usize = 14;
 /// How many kinds there are of two years that follow one another.
 pub(super) const PAIR_KINDS: usize = 21;
 
+/// The kind of the first year of each pair kind.
+static FIRST_KINDS: [u8; PAIR_KINDS] = [
+    0, 1, 2, 3, 4, 5, 6, 0, 1, 2, 3, 4, 5, 6, 7, 8, 9, 10, 11, 12, 13,
+];
+
+/// The kind of the second year of each pair kind.
+static SECOND_KINDS: [u8; PAIR_KINDS] = [
+    1, 2, 3, 4, 5, 6, 0, 8, 9, 10, 11, 12, 13, 7, 2, 3, 4, 5, 6, 0, 1,
+];
+
 /// Years that are added to make every year of 32 bits positive: 5368710 cycles of 400 years.
 const ADDED_YEARS: i64 = 2_147_484_000;
 
@@ -102,32 +112,27 @@ pub(super) fn year_start(year: i32) -> (i64, usize)
 }
 
 /// The kind of the first year of a pair kind.
-#[tactic(auto, unfolding(crate::specs::Kinds::first_kind))]
+#[inline(always)]
 pub(super) fn first_kind(pair: usize) -> usize
     requires { pair < 21 }
     ensures value { result ≡ first_kind_of pair }
     ensures below { result < 14 }
 {
-    if pair < 14 { pair % 7 } else { 7 + pair % 7 }
+    usize::from(FIRST_KINDS[pair])
 }
 
 /// The kind of the second year of a pair kind.
-#[tactic(auto, unfolding(crate::specs::Kinds::second_kind))]
+#[inline(always)]
 pub(super) fn second_kind(pair: usize) -> usize
     requires { pair < 21 }
     ensures value { result ≡ second_kind_of pair }
     ensures below { result < 14 }
 {
-    if pair < 7 {
-        (pair + 1) % 7
-    } else if pair < 14 {
-        7 + (pair + 1) % 7
-    } else {
-        (pair + 2) % 7
-    }
+    usize::from(SECOND_KINDS[pair])
 }
 
 /// The days of the first year of a pair kind.
+#[inline(always)]
 #[tactic(auto, unfolding(crate::specs::Kinds::first_days))]
 pub(super) fn first_days(pair: usize) -> u16
     ensures value { result ≡ first_days_of pair }

@@ -1,8 +1,8 @@
 //! Tables of an instant of each year, and the order of two such instants over all years, without a year.
 
-ghost use Rattle.std.specs.Prelude.{◌≡◌, ◌<◌, pos, negsuc, ◌≤ℤ◌, MatchBool};
+ghost use Rattle.std.specs.Prelude.{◌≡◌, ℕ, ◌<◌, ◌≤◌, ◌*◌, pos, negsuc, ◌+ℤ◌, ◌≤ℤ◌, IfSome, IfNone, MatchBool};
 ghost use Rattle.tz_rule.specs.Day.{IsRuleDay};
-ghost use Rattle.tz_rule.specs.YearTables.{entry, next_entry, seconds_in_kind, day_table, ComesFirst, ComesBeforeNext, ComesAfterNext, ChangesInYear, ChangesAcrossYears, ChangesOrder};
+ghost use Rattle.tz_rule.specs.YearTables.{entry, next_entry, day_table, AreBounds, ComesFirst, ComesBeforeNext, ComesAfterNext, ChangesInYear, ChangesAcrossYears, ChangesOrder};
 
 use super::RuleDay;
 use super::year_kind::{self, KINDS, PAIR_KINDS};
@@ -11,14 +11,16 @@ use super::year_kind::{self, KINDS, PAIR_KINDS};
 #[derive(Clone, Copy)]
 pub(super) struct YearTable([i32; KINDS]);
 
-/// The seconds from 00:00 UTC of January 1st to a time after 00:00 UTC of a rule day, in the years of a kind.
-fn seconds_to_day(day: &RuleDay, seconds: i32, kind: usize) -> i32
+/// The seconds of the shortest year.
+const SHORTEST_YEAR: i64 = 31_536_000;
+
+/// The seconds from 00:00 UTC of January 1st to a time after 00:00 UTC of the day at a place of the year.
+#[inline(always)]
+fn seconds_to(place: u16, seconds: i32) -> i32
+    requires place { place ≤ 365 }
     requires seconds { (negsuc 999999 ≤ℤ seconds) × (seconds ≤ℤ pos 999999) }
-    requires kind { kind < 14 }
-    ensures value { result ≡ seconds_in_kind day.now seconds kind }
-    ensures day { IsRuleDay day.now }
+    ensures { result ≡ pos (86400 * place) +ℤ seconds }
 {
-    let place = day.place(kind >= 7, (kind % 7) as u8);
     86_400 * i32::from(place) + seconds
 }
 
@@ -29,9 +31,12 @@ impl YearTable {
         ensures table { result.0 ≡ day_table day.now seconds }
         ensures day { IsRuleDay day.now }
     {
+        let normal = day.places(false);
+        let leap = day.places(true);
         let mut entries = [0; KINDS];
-        for kind in 0..KINDS {
-            entries[kind] = seconds_to_day(day, seconds, kind);
+        for week_day in 0..7 {
+            entries[week_day] = seconds_to(normal[week_day], seconds);
+            entries[7 + week_day] = seconds_to(leap[week_day], seconds);
         }
         YearTable(entries)
     }
@@ -105,8 +110,57 @@ impl YearTable {
         self.comes_before_next(other) && self.comes_after_next(other)
     }
 
+    /// The least and the greatest seconds of all kinds.
+    fn bounds(&self) -> (i32, i32)
+        ensures { AreBounds self.now.0 result.0 result.1 }
+    {
+        let (mut least, mut greatest) = (i32::MAX, i32::MIN);
+        for kind in 0..KINDS {
+            least = least.min(self.0[kind]);
+            greatest = greatest.max(self.0[kind]);
+        }
+        (least, greatest)
+    }
+
+    /// Whether ends come before starts, of which this is the table, where the bounds of both lie apart and so no order changes.
+    fn order_of_bounds(&self, ends: &YearTable) -> Option<bool>
+        ensures { IfSome result (λ first. (¬ ChangesOrder self.now.0 ends.now.0)
+            × MatchBool first (ComesFirst ends.now.0 self.now.0) (¬ ComesFirst ends.now.0 self.now.0)) }
+    {
+        let (first_start, last_start) = self.bounds();
+        let (first_end, last_end) = ends.bounds();
+        if i64::from(last_start) > i64::from(first_end) + SHORTEST_YEAR {
+            return None;
+        }
+        if i64::from(last_end) > i64::from(first_start) + SHORTEST_YEAR {
+            return None;
+        }
+        if last_start <= first_end {
+            return Some(false);
+        }
+        if last_end < first_start {
+            return Some(true);
+        }
+        None
+    }
+
+    /// Whether the end of some year comes before its start. `None` where starts, of which this is the table, and ends change their order.
+    pub(super) fn order(&self, ends: &YearTable) -> Option<bool>
+        ensures some { IfSome result (λ first. (¬ ChangesOrder self.now.0 ends.now.0)
+            × MatchBool first (ComesFirst ends.now.0 self.now.0) (¬ ComesFirst ends.now.0 self.now.0)) }
+        ensures none { IfNone result (ChangesOrder self.now.0 ends.now.0) }
+    {
+        if let Some(first) = self.order_of_bounds(ends) {
+            return Some(first);
+        }
+        if self.changes_order(ends) {
+            return None;
+        }
+        Some(ends.comes_first(self))
+    }
+
     /// Whether starts, of which this is the table, and ends change their order at some distance in years.
-    pub(super) fn changes_order(&self, ends: &YearTable) -> bool
+    fn changes_order(&self, ends: &YearTable) -> bool
         ensures { MatchBool result (ChangesOrder self.now.0 ends.now.0) (¬ ChangesOrder self.now.0 ends.now.0) }
     {
         if self.changes_in_year(ends) {

@@ -1,12 +1,11 @@
--- The entries so far are those of their kinds, and the day is a rule day.
-use Rattle.std.proofs.Common.{◌≡◌, ℕ, ◌<◌, length}
-use Rattle.tz_rule.specs.Day.{IsRuleDay}
-use Rattle.tz_rule.specs.YearTables.{entry, seconds_in_kind}
+-- The entries so far are those of their kinds.
+use Rattle.std.proofs.Common.{◌≡◌, ℕ, ◌+◌, ◌*◌, ◌<◌, length, get_or, pos, ◌+ℤ◌}
+use Rattle.tz_rule.specs.YearTables.{entry}
 use Rattle.tz_rule.proofs.timezone.year_table.YearTable.of_day.Given as goal
 
-abbrev pub invariant-loop-kind : goal.invariant-loop-kind
-invariant-loop-kind l = record {
+abbrev pub invariant-loop-week_day : goal.invariant-loop-week_day
+invariant-loop-week_day l = record {
   size : length l.entries ≡ 14;
-  made : (k : ℕ) → k < l.kind → entry l.entries k ≡ seconds_in_kind l.day l.seconds k;
-  day : 0 < l.kind → IsRuleDay l.day;
+  normal_made : (k : ℕ) → k < l.week_day → entry l.entries k ≡ pos (86400 * get_or l.normal k 0) +ℤ l.seconds;
+  leap_made : (k : ℕ) → k < l.week_day → entry l.entries (7 + k) ≡ pos (86400 * get_or l.leap k 0) +ℤ l.seconds;
 }
