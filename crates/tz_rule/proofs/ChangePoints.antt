@@ -21,6 +21,10 @@ pub alternate_type_unchanged : (r : AlternateTime) (u v : ℤ) (t : LocalTimeTyp
 alternate_type_unchanged r u v t up none (inl (day, e)) = inl (daylight_stays (start_of r) (end_of r) u v up none.no_end day, e)
 alternate_type_unchanged r u v t up none (inr (day, e)) = inr (λ later. day (daylight_was (start_of r) (end_of r) u v up none.no_start later), e)
 
+pub alternate_type_was : (r : AlternateTime) (u v : ℤ) (t : LocalTimeType) → u ≤ℤ v → IsUnchanged r u v → IsAlternateType r v t → IsAlternateType r u t
+alternate_type_was r u v t up none (inl (day, e)) = inl (daylight_was (start_of r) (end_of r) u v up none.no_start day, e)
+alternate_type_was r u v t up none (inr (day, e)) = inr (λ earlier. day (daylight_stays (start_of r) (end_of r) u v up none.no_end earlier), e)
+
 module _ (f g : ℤ → ℤ) (yf : IsYearly f) (yg : IsYearly g) (u : ℤ) where
   pub daylight_repeats : IsDaylight f g u → IsDaylight f g (u +ℤ pos 12622780800)
   daylight_repeats (y, end, pair, from, to) = (y +ℤ pos 400, end +ℤ pos 12622780800, paired pair, omega (arith, ints, yf.period y), omega (arith, ints))

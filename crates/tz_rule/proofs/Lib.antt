@@ -17,5 +17,6 @@ pub mod MidYear
 pub mod ChangePoints
 pub mod RuleTypes
 pub mod StretchLemmas
+pub mod RuleSegments
 pub mod SameLemmas
 pub mod Casts

@@ -14,9 +14,9 @@ type_by r is_daylight = if is_daylight then r.dst else r.std
 abbrev pub IsStretchOf : AlternateTime → Stretch → Type 0
 IsStretchOf r s = (v : ℤ) → s.from ≤ℤ v → v <ℤ s.until → IsRuleType (Alternate r) v (type_by r s.is_daylight)
 
--- years whose neighbours are rule years too
+-- years whose neighbours are rule years too, and the neighbours of those
 abbrev pub IsStretchYear : ℤ → Type 0
-IsStretchYear year = (negsuc 2147483644 ≤ℤ year) × (year ≤ℤ pos 2147483644)
+IsStretchYear year = (negsuc 2147483643 ≤ℤ year) × (year ≤ℤ pos 2147483643)
 
 -- the year that stands 5368710 cycles of 400 years later
 abbrev pub moved_back : ℕ → ℤ

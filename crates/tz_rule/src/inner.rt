@@ -1,11 +1,13 @@
 //! For the crates above, not part of the public surface: the type of a rule at an instant and around it, its starts and ends, and the parts of UTC's zone.
 
-ghost use Rattle.std.specs.Prelude.{◌≡◌, IfOk, IfErr, IfSome};
+ghost use Rattle.std.specs.Prelude.{◌≡◌, ◌≢◌, ℤ, pos, negsuc, ◌+ℤ◌, ◌≤ℤ◌, IfOk, IfErr, IfSome, MatchOption};
 ghost use Rattle.tz_rule.specs.Alternate.{start_of, end_of, IsNearYear};
 ghost use Rattle.tz_rule.specs.LocalTimeType.{LocalTimeType};
 ghost use Rattle.tz_rule.specs.Rule.{IsRuleType};
+ghost use Rattle.tz_rule.specs.RuleSegments.{IsRuleChange};
 ghost use Rattle.tz_rule.specs.Stretches.{IsStretchOf};
 
+pub use crate::timezone::rule_segment::RuleSegment;
 pub use crate::timezone::stretch::Stretch;
 pub use crate::timezone::utc::{no_rule, utc_types};
 use crate::timezone::{AlternateTime, LocalTimeType, TransitionRule};
@@ -48,4 +50,24 @@ pub fn stretch(rule: &AlternateTime, unix_time: i64) -> Option<Stretch>
     ensures of { IfSome result (λ s. IsStretchOf rule.now s) }
 {
     rule.stretch(unix_time)
+}
+
+/// The segment of the rule around an instant: the first and the last instant through which it has one type, or none.
+#[tactic(auto, unfolding(crate::specs::Rule::IsRuleType))]
+#[inline(always)]
+pub fn segment_at(rule: &TransitionRule, unix_time: i64) -> RuleSegment<'_>
+    ensures within { (result.from ≤ℤ unix_time) × (unix_time ≤ℤ result.last) }
+    ensures holds { (v : ℤ) → result.from ≤ℤ v → v ≤ℤ result.last
+        → MatchOption result.local_time_type ((t : LocalTimeType) → ¬ IsRuleType rule.now v t) (λ t. IsRuleType rule.now v t.now) }
+    ensures from { (result.from ≢ negsuc 9223372036854775807) → IsRuleChange rule.now result.from }
+    ensures last { (result.last ≢ pos 9223372036854775807) → IsRuleChange rule.now (result.last +ℤ pos 1) }
+{
+    match rule {
+        TransitionRule::Fixed(local_time_type) => RuleSegment {
+            from: i64::MIN,
+            last: i64::MAX,
+            local_time_type: Some(local_time_type),
+        },
+        TransitionRule::Alternate(rule) => rule.segment(unix_time),
+    }
 }

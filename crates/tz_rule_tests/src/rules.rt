@@ -1,6 +1,7 @@
 //! Rules from outside: their starts, their types at instants, and which of them are refused.
 
 mod consistency;
+mod segments;
 mod stretches;
 mod years;
 

@@ -12,10 +12,10 @@ use super::year_kind::year_start;
 use tz_base::calendar::{self, Fields};
 
 /// The first year over which a rule is defined.
-const FIRST_YEAR: i32 = i32::MIN + 2;
+pub(super) const FIRST_YEAR: i32 = i32::MIN + 2;
 
 /// The last year over which a rule is defined.
-const LAST_YEAR: i32 = i32::MAX - 2;
+pub(super) const LAST_YEAR: i32 = i32::MAX - 2;
 
 /// From ten days after its beginning on, a year's previous starts and ends are over: they lie less than that outside their years.
 const MID_YEAR_START: i64 = 864_000;

@@ -6,6 +6,8 @@ mod daylight;
 mod local_time_type;
 mod rule;
 mod rule_day;
+pub(crate) mod rule_segment;
+mod segments;
 pub(crate) mod stretch;
 mod stretches;
 pub(crate) mod utc;

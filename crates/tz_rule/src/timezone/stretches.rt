@@ -10,28 +10,9 @@ ghost use Rattle.tz_rule.specs.Years.{EndsNextYear};
 
 use super::AlternateTime;
 use super::daylight::is_mid_second;
+use super::segments::likely_years;
 use super::stretch::Stretch;
 use super::year_kind::moved_year_start;
-
-/// How far from 1970 an instant may lie: the neighbours of its year are years in which a rule answers.
-const GREATEST_DISTANCE: i64 = 60_000_000_000_000_000;
-
-/// The seconds from January 1st of the year -2147484000 to 1970-01-01.
-const ADDED_SECONDS: i64 = 67_768_111_675_987_200;
-
-/// The seconds of a year, on the average of 400 years.
-const SECONDS_PER_YEAR: u64 = 31_556_952;
-
-/// The year of an instant in UTC, or the neighbour of that year whose end lies less than two days away, moved by cycles of 400 years.
-#[inline(always)]
-fn likely_years(unix_time: i64) -> Option<u64>
-    ensures { IfSome result (λ years. IsStretchYear (moved_back years)) }
-{
-    if unix_time < -GREATEST_DISTANCE || unix_time > GREATEST_DISTANCE {
-        return None;
-    }
-    Some((unix_time + ADDED_SECONDS) as u64 / SECONDS_PER_YEAR)
-}
 
 impl AlternateTime {
     /// The start in a moved year, if it lies ten days or more from the ends of the year.

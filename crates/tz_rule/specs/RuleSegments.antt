@@ -1,0 +1,39 @@
+-- Spans of time between two changes of a rule, through which it has one type or none. (POSIX.1-2017, Base Definitions, 8.3: the TZ variable.)
+use Rattle.std.specs.Prelude.{◌≡◌, ◌≢◌, ◌⊎◌, ℤ, pos, negsuc, ◌+ℤ◌, ◌*ℤ◌, ◌≤ℤ◌, ◌<ℤ◌, MatchOption}
+use Rattle.tz_base.specs.Days.{first_day}
+use Rattle.tz_rule.specs.LocalTimeType.{LocalTimeType}
+use Rattle.tz_rule.specs.Alternate.{AlternateTime, start_of, end_of}
+use Rattle.tz_rule.specs.Rule.{IsRuleType}
+use Rattle.tz_rule.specs.Stretches.{IsStretchOf}
+use Rattle.tz_rule.specs.declared.timezone.rule.TransitionRule.{TransitionRule}
+use Rattle.tz_rule.specs.declared.timezone.rule.TransitionRule.TheVariants.{Fixed, Alternate}
+use Rattle.tz_rule.specs.declared.timezone.rule_segment.RuleSegment.{RuleSegment}
+use Rattle.tz_rule.specs.declared.timezone.stretch.Stretch.{Stretch}
+
+-- some year's start or end
+abbrev pub IsTurn : AlternateTime → ℤ → Type 0
+IsTurn r u = (y : ℤ) × ((u ≡ start_of r y) ⊎ (u ≡ end_of r y))
+
+-- an instant at which a rule may change its type, begins to answer or ceases to answer
+abbrev pub IsRuleChange : TransitionRule → ℤ → Type 0
+IsRuleChange (Fixed fixed) u = ⊥
+IsRuleChange (Alternate r) u =
+    IsTurn r u ⊎ (u ≡ pos 86400 *ℤ first_day (negsuc 2147483645)) ⊎ (u ≡ pos 86400 *ℤ first_day (pos 2147483646))
+
+-- a segment holds the instant, lies between two changes of the rule or the ends of 64 bits, and the rule has its type, or none, at each of its instants
+pub record IsRuleSegment (rule : TransitionRule) (u : ℤ) (s : RuleSegment) : Type 0 where
+  pub within : (s.from ≤ℤ u) × (u ≤ℤ s.last)
+  pub holds : (v : ℤ) → s.from ≤ℤ v → v ≤ℤ s.last
+      → MatchOption s.local_time_type ((t : LocalTimeType) → ¬ IsRuleType rule v t) (λ t. IsRuleType rule v t.now)
+  pub from_is : s.from ≢ negsuc 9223372036854775807 → IsRuleChange rule s.from
+  pub last_is : s.last ≢ pos 9223372036854775807 → IsRuleChange rule (s.last +ℤ pos 1)
+
+-- the rule has the type throughout a span that lies between two of its changes
+pub record IsSpanOf (r : AlternateTime) (s : Stretch) : Type 0 where
+  pub from_is : IsRuleChange (Alternate r) s.from
+  pub until_is : IsRuleChange (Alternate r) s.until
+  pub one_type : IsStretchOf r s
+
+-- an instant that is no inner one of a span
+abbrev pub IsNotInside : Stretch → ℤ → Type 0
+IsNotInside s u = s.from <ℤ u → u <ℤ s.until → ⊥

@@ -1,0 +1,282 @@
+//! The segment of an alternate rule around an instant: from one start or end of daylight saving time up to the next.
+//!
+//! Mostly two or three starts and ends of the likely year and of its neighbours tell it. Where they do not, as near some New Years, those
+//! of five years do: the last one up to the instant can be that of two years before, and the next one that of two years after.
+
+ghost use Rattle.std.specs.Prelude.{◌≡◌, ◌≢◌, ◌⊎◌, ℤ, pos, negsuc, ◌+ℤ◌, ◌*ℤ◌, ◌≤ℤ◌, ◌<ℤ◌, IfSome, MatchOption};
+ghost use Rattle.tz_base.specs.Days.{first_day};
+ghost use Rattle.tz_rule.specs.Alternate.{start_of, end_of, IsUtcYear, IsRuleYear, IsInRuleYears};
+ghost use Rattle.tz_rule.specs.LocalTimeType.{LocalTimeType};
+ghost use Rattle.tz_rule.specs.Rule.{IsRuleType};
+ghost use Rattle.tz_rule.specs.RuleSegments.{IsRuleChange, IsRuleSegment, IsSpanOf, IsNotInside};
+ghost use Rattle.tz_rule.specs.Stretches.{type_by, IsStretchYear, moved_back};
+ghost use Rattle.tz_rule.specs.Years.{EndsNextYear};
+ghost use Rattle.tz_rule.specs.declared.timezone.rule.TransitionRule.TheVariants.{Alternate};
+
+use super::daylight::{FIRST_YEAR, LAST_YEAR, rule_year};
+use super::rule_segment::RuleSegment;
+use super::stretch::Stretch;
+use super::year_kind::{moved_year_start, year_start};
+use super::{AlternateTime, LocalTimeType};
+
+/// How far from 1970 an instant may lie: the two years before its year and the two after it are years in which a rule answers.
+const GREATEST_DISTANCE: i64 = 60_000_000_000_000_000;
+
+/// The seconds from January 1st of the year -2147484000 to 1970-01-01.
+const ADDED_SECONDS: i64 = 67_768_111_675_987_200;
+
+/// The seconds of a year, on the average of 400 years.
+const SECONDS_PER_YEAR: u64 = 31_556_952;
+
+/// How many years have the starts and ends that may be next to an instant: its own, two before it and two after it.
+const NEAR_YEARS: u8 = 5;
+
+/// The year of an instant in UTC, or the neighbour of that year whose end lies less than two days away, moved by cycles of 400 years.
+#[inline(always)]
+pub(super) fn likely_years(unix_time: i64) -> Option<u64>
+    ensures { IfSome result (λ years. IsStretchYear (moved_back years)) }
+{
+    if unix_time < -GREATEST_DISTANCE || unix_time > GREATEST_DISTANCE {
+        return None;
+    }
+    Some((unix_time + ADDED_SECONDS) as u64 / SECONDS_PER_YEAR)
+}
+
+/// The first instant at which rules answer.
+fn first_answered() -> i64
+    ensures value { result ≡ pos 86400 *ℤ first_day (negsuc 2147483645) }
+    ensures bound { negsuc 67768100567971199 ≤ℤ result }
+{
+    year_start(FIRST_YEAR).0
+}
+
+/// The first instant at which rules no longer answer.
+fn end_of_answers() -> i64
+    ensures value { result ≡ pos 86400 *ℤ first_day (pos 2147483646) }
+    ensures bound { negsuc 67768100567971199 ≤ℤ result }
+{
+    year_start(LAST_YEAR + 1).0
+}
+
+/// The segment around an instant at which rules do not answer.
+fn unanswered<'a>(unix_time: i64) -> RuleSegment<'a>
+    requires { ¬ IsInRuleYears unix_time }
+    ensures { (rule : AlternateTime) → IsRuleSegment (Alternate rule) unix_time result }
+{
+    let first = first_answered();
+    if unix_time < first {
+        return RuleSegment {
+            from: i64::MIN,
+            last: first - 1,
+            local_time_type: None,
+        };
+    }
+    RuleSegment {
+        from: end_of_answers(),
+        last: i64::MAX,
+        local_time_type: None,
+    }
+}
+
+/// The span around the instant, cut at a start or an end that lies inside it.
+fn cut(span: Stretch, unix_time: i64, turn: i64) -> Stretch
+    requires { (span.from ≤ℤ unix_time) × (unix_time <ℤ span.until) }
+    ensures within { (result.from ≤ℤ unix_time) × (unix_time <ℤ result.until) }
+    ensures from { (result.from ≡ span.from) ⊎ (result.from ≡ turn) }
+    ensures until { (result.until ≡ span.until) ⊎ (result.until ≡ turn) }
+    ensures inside { (span.from ≤ℤ result.from) × (result.until ≤ℤ span.until) }
+    ensures outside { IsNotInside result turn }
+    ensures is_daylight { result.is_daylight ≡ span.is_daylight }
+{
+    let (mut from, mut until) = (span.from, span.until);
+    if turn > unix_time {
+        until = until.min(turn);
+    } else {
+        from = from.max(turn);
+    }
+    Stretch {
+        from,
+        until,
+        is_daylight: span.is_daylight,
+    }
+}
+
+impl AlternateTime {
+    /// The instant at which daylight saving time starts in a moved year.
+    #[inline(always)]
+    fn start_in_moved(&self, years: u64) -> i64
+        requires { IsRuleYear (moved_back years) }
+        ensures { result ≡ start_of self.now (moved_back years) }
+    {
+        let (start_of_year, kind) = moved_year_start(years);
+        start_of_year + self.start_in_kind(kind)
+    }
+
+    /// The instant at which daylight saving time ends in a moved year.
+    #[inline(always)]
+    fn end_in_moved(&self, years: u64) -> i64
+        requires { IsRuleYear (moved_back years) }
+        ensures { result ≡ end_of self.now (moved_back years) }
+    {
+        let (start_of_year, kind) = moved_year_start(years);
+        start_of_year + self.end_in_kind(kind)
+    }
+
+    /// The span of the moved year or its neighbours that an instant near the year chooses, where each start has the end of its own year.
+    #[inline(always)]
+    fn span_in_order(&self, unix_time: i64, years: u64) -> Stretch
+        requires in_order { ¬ EndsNextYear (start_of self.now) (end_of self.now) }
+        requires year { IsStretchYear (moved_back years) }
+        ensures { IsSpanOf self.now result }
+    {
+        self.parts_are_sound();
+        let start = self.start_in_moved(years);
+        if unix_time < start {
+            return Stretch {
+                from: self.end_in_moved(years - 1),
+                until: start,
+                is_daylight: false,
+            };
+        }
+        let end = self.end_in_moved(years);
+        if unix_time < end {
+            return Stretch {
+                from: start,
+                until: end,
+                is_daylight: true,
+            };
+        }
+        Stretch {
+            from: end,
+            until: self.start_in_moved(years + 1),
+            is_daylight: false,
+        }
+    }
+
+    /// The span of the moved year or its neighbours that an instant near the year chooses, where each start has the end of the next year.
+    #[inline(always)]
+    fn span_across_years(&self, unix_time: i64, years: u64) -> Stretch
+        requires across { EndsNextYear (start_of self.now) (end_of self.now) }
+        requires year { IsStretchYear (moved_back years) }
+        ensures { IsSpanOf self.now result }
+    {
+        self.parts_are_sound();
+        let end = self.end_in_moved(years);
+        if unix_time < end {
+            return Stretch {
+                from: self.start_in_moved(years - 1),
+                until: end,
+                is_daylight: true,
+            };
+        }
+        let start = self.start_in_moved(years);
+        if unix_time < start {
+            return Stretch {
+                from: end,
+                until: start,
+                is_daylight: false,
+            };
+        }
+        Stretch {
+            from: start,
+            until: self.end_in_moved(years + 1),
+            is_daylight: true,
+        }
+    }
+
+    /// The span that an instant near the moved year chooses.
+    #[inline(always)]
+    fn span_of_years(&self, unix_time: i64, years: u64) -> Stretch
+        requires { IsStretchYear (moved_back years) }
+        ensures { IsSpanOf self.now result }
+    {
+        if self.ends_next_year() {
+            self.span_across_years(unix_time, years)
+        } else {
+            self.span_in_order(unix_time, years)
+        }
+    }
+
+    /// The span around an instant, where the likely year tells it.
+    #[inline(always)]
+    fn likely_span(&self, unix_time: i64) -> Option<Stretch>
+        ensures of { IfSome result (λ span. IsSpanOf self.now span) }
+        ensures within { IfSome result (λ span. (span.from ≤ℤ unix_time) × (unix_time <ℤ span.until)) }
+    {
+        let years = likely_years(unix_time)?;
+        let span = self.span_of_years(unix_time, years);
+        if unix_time < span.from || span.until <= unix_time {
+            return None;
+        }
+        Some(span)
+    }
+
+    /// The span around an instant of the year in UTC, by all starts and ends that may be next to it.
+    fn span_in_year(&self, unix_time: i64, year: i32) -> Stretch
+        requires { IsUtcYear unix_time year × IsRuleYear year }
+        ensures of { IsSpanOf self.now result }
+        ensures within { (result.from ≤ℤ unix_time) × (unix_time <ℤ result.until) }
+    {
+        self.parts_are_sound();
+        let mut span = Stretch {
+            from: first_answered(),
+            until: end_of_answers(),
+            is_daylight: self.is_daylight(unix_time, year),
+        };
+        for place in 0..NEAR_YEARS {
+            let near = year - 2 + i32::from(place);
+            span = cut(span, unix_time, self.start_in(near));
+            span = cut(span, unix_time, self.end_in(near));
+        }
+        span
+    }
+
+    /// The type of daylight saving time, or that of standard time.
+    #[inline(always)]
+    fn type_by(&self, is_daylight: bool) -> &LocalTimeType
+        ensures { result.now ≡ type_by self.now is_daylight }
+    {
+        if is_daylight { self.dst() } else { self.std() }
+    }
+
+    /// The segment that a span around the instant is.
+    #[inline(always)]
+    fn segment_of(&self, unix_time: i64, span: Stretch) -> RuleSegment<'_>
+        requires of { IsSpanOf self.now span }
+        requires within { (span.from ≤ℤ unix_time) × (unix_time <ℤ span.until) }
+        ensures { IsRuleSegment (Alternate self.now) unix_time result }
+    {
+        RuleSegment {
+            from: span.from,
+            last: span.until - 1,
+            local_time_type: Some(self.type_by(span.is_daylight)),
+        }
+    }
+
+    /// The segment around an instant that the likely year does not tell.
+    #[inline(never)]
+    fn unlikely_segment(&self, unix_time: i64) -> RuleSegment<'_>
+        ensures { IsRuleSegment (Alternate self.now) unix_time result }
+    {
+        match rule_year(unix_time) {
+            Some(year) => self.segment_of(unix_time, self.span_in_year(unix_time, year)),
+            None => unanswered(unix_time),
+        }
+    }
+
+    /// The segment around an instant: from one start or end of daylight saving time up to the next, or where rules do not answer.
+    #[inline(always)]
+    pub(crate) fn segment(&self, unix_time: i64) -> RuleSegment<'_>
+        ensures within { (result.from ≤ℤ unix_time) × (unix_time ≤ℤ result.last) }
+        ensures holds { (v : ℤ) → result.from ≤ℤ v → v ≤ℤ result.last
+            → MatchOption result.local_time_type ((t : LocalTimeType) → ¬ IsRuleType (Alternate self.now) v t)
+            (λ t. IsRuleType (Alternate self.now) v t.now) }
+        ensures from { (result.from ≢ negsuc 9223372036854775807) → IsRuleChange (Alternate self.now) result.from }
+        ensures last { (result.last ≢ pos 9223372036854775807) → IsRuleChange (Alternate self.now) (result.last +ℤ pos 1) }
+    {
+        match self.likely_span(unix_time) {
+            Some(span) => self.segment_of(unix_time, span),
+            None => self.unlikely_segment(unix_time),
+        }
+    }
+}
