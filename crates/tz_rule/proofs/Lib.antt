@@ -1,6 +1,7 @@
 pub mod Below
 pub mod Weeks
 pub mod DayPlaces
+pub mod WeekPlaces
 pub mod YearPlaces
 pub mod YearKinds
 pub mod YearlyInstants

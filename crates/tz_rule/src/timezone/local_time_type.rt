@@ -70,11 +70,15 @@ impl fmt::Debug for LocalTimeType {
     }
 }
 
+/// A bit for each byte: that of `0-9A-Za-z+-` is set.
+static NAME_BITS: [u32; 8] = [0, 0x03ff_2800, 0x07ff_fffe, 0x07ff_fffe, 0, 0, 0, 0];
+
 /// Whether a name may have the byte.
+#[inline(always)]
 fn is_designation_byte(byte: u8) -> bool
     ensures { IsTrue result ↔ IsDesignationByte byte }
 {
-    matches!(byte, b'0'..=b'9' | b'A'..=b'Z' | b'a'..=b'z' | b'+' | b'-')
+    NAME_BITS[usize::from(byte / 32)] >> (byte % 32) & 1 == 1
 }
 
 impl Designation {
@@ -84,6 +88,7 @@ impl Designation {
     ghost use Rattle.std.specs.Prelude.{All, IfOk, IfErr, OnOk, ◌⊎◌, ◌≡◌};
 
     /// Keeps a name.
+    #[inline(always)]
     fn new(name: &[u8]) -> Result<Designation, LocalTimeTypeError>
         ensures kept { IfOk result (λ d. IsKept d × (name_of d ≡ name.now)) }
         ensures err { IfErr result (λ e. ((e ≡ faults.InvalidTimeZoneDesignationLength) × ¬ IsDesignationLength name.now)
@@ -92,11 +97,13 @@ impl Designation {
         if name.is_empty() || name.len() > 7 {
             return Err(LocalTimeTypeError::InvalidTimeZoneDesignationLength);
         }
-        if !name.iter().all(|byte| is_designation_byte(*byte)) {
-            return Err(LocalTimeTypeError::InvalidTimeZoneDesignationChar);
-        }
         let mut bytes = [0; 7];
-        bytes[..name.len()].copy_from_slice(name);
+        for place in 0..name.len() {
+            if !is_designation_byte(name[place]) {
+                return Err(LocalTimeTypeError::InvalidTimeZoneDesignationChar);
+            }
+            bytes[place] = name[place];
+        }
         Ok(Designation {
             bytes,
             len: name.len() as u8,

@@ -1,6 +1,6 @@
 //! The days of a year that a rule can name.
 
-ghost use Rattle.std.specs.Prelude.{◌≡◌, ℕ, ◌<◌, ◌≤◌, pos, negsuc, ◌≤ℤ◌, get_or, IfOk, IfErr, OnOk};
+ghost use Rattle.std.specs.Prelude.{◌≡◌, ℕ, ◌+◌, ◌<◌, ◌≤◌, pos, negsuc, ◌≤ℤ◌, get_or, IfOk, IfErr, OnOk};
 ghost use Rattle.tz_base.specs.declared.error.timezone.TransitionRuleError.TheVariants as faults;
 ghost use Rattle.tz_rule.specs.JulianDay.{IsJulianDay, IsZeroBasedDay};
 ghost use Rattle.tz_rule.specs.MonthWeek.{MonthWeek, IsMonthWeek, IsFirstMonthWeekFault, IsRuleWeek, IsRuleWeekDay, month_week};
@@ -45,6 +45,17 @@ fn week_day_place(first_week_day: u8, days: u8, week: u8, week_day: u8) -> u8
     ensures bound { result < days }
 {
     nth_place((week_day + 7 - first_week_day) % 7, days, week)
+}
+
+/// The place of a week day in a year that begins with the next week day: a day earlier, and the last of the seven places for the first.
+#[inline(always)]
+fn place_before(place: u16, least: u16) -> u16
+    requires place { (least ≤ place) × (place ≤ least + 6) }
+    requires bound { least ≤ 366 }
+    ensures first { place ≡ least → result ≡ least + 6 }
+    ensures other { least < place → result + 1 ≡ place }
+{
+    if place == least { least + 6 } else { place - 1 }
 }
 
 /// The n-th of a year's days that are not February 29th, from 1 to 365. (POSIX.1-2017, 8.3: `Jn`.)
@@ -249,7 +260,7 @@ impl MonthWeekDay {
 
     /// How many days after January 1st the day lies in leap years or in the others, for each week day of January 1st.
     ///
-    /// One week day is counted. A year whose January 1st has the next week day has the day's first week day one day earlier in its month.
+    /// One week day is counted. Where January 1st has the next week day, the day lies one day earlier, within the seven days of its week.
     fn places(&self, leap: bool) -> [u16; 7]
         ensures value { (w : ℕ) → w < 7 → get_or result w 0 ≡ place_in_year (TheDays.MonthWeekDay self.now) leap w }
         ensures bound { (w : ℕ) → w < 7 → get_or result w 0 ≤ 365 }
@@ -257,11 +268,13 @@ impl MonthWeekDay {
     {
         let before = calendar::days_before_month(leap, self.month);
         let days = calendar::days_of_month(leap, self.month);
-        let mut first = (self.week_day + 7 - (before % 7) as u8) % 7;
+        let least = before + u16::from((7 * (self.week - 1)).min(days - 7));
+        let first = (self.week_day + 7 - (before % 7) as u8) % 7;
+        let mut place = before + u16::from(nth_place(first, days, self.week));
         let mut places = [0; 7];
         for week_day in 0..7 {
-            places[week_day] = before + u16::from(nth_place(first, days, self.week));
-            first = if first == 0 { 6 } else { first - 1 };
+            places[week_day] = place;
+            place = place_before(place, least);
         }
         places
     }
