@@ -3,7 +3,6 @@
 mod consistency;
 mod segments;
 mod stretches;
-mod years;
 
 use crate::expect::{expect_debug, expect_eq, expect_eq_at, expect_ne};
 use crate::rows::Day::{self, Julian0 as Z, Julian1 as J, Month as M};
