@@ -300,13 +300,21 @@ fn parts_and_faults(rt: HostRuntime) {
     expect_ne(&rt, &made, &other);
     expect_parts_of_all_year(&rt, &made);
 
-    static FAULTS: [(Parts, TransitionRuleError); 9] = [
+    static FAULTS: [(Parts, TransitionRuleError); 15] = [
         (
             (-90_000, 93_600, (Z(0), 604_800), (Z(0), 0)),
             TransitionRuleError::InvalidStdUtcOffset,
         ),
         (
+            (93_600, 0, (Z(0), 0), (J(200), 0)),
+            TransitionRuleError::InvalidStdUtcOffset,
+        ),
+        (
             (-89_999, 93_600, (Z(0), 604_800), (Z(0), 0)),
+            TransitionRuleError::InvalidDstUtcOffset,
+        ),
+        (
+            (0, -90_000, (Z(0), 0), (J(200), 0)),
             TransitionRuleError::InvalidDstUtcOffset,
         ),
         (
@@ -315,6 +323,22 @@ fn parts_and_faults(rt: HostRuntime) {
         ),
         (
             (0, 0, (Z(0), 0), (Z(0), -604_800)),
+            TransitionRuleError::InvalidDstStartEndTime,
+        ),
+        (
+            (0, 0, (Z(0), i32::MIN), (J(200), 0)),
+            TransitionRuleError::InvalidDstStartEndTime,
+        ),
+        (
+            (0, 0, (Z(0), i32::MAX), (J(200), 0)),
+            TransitionRuleError::InvalidDstStartEndTime,
+        ),
+        (
+            (0, 0, (Z(0), 0), (J(200), i32::MIN)),
+            TransitionRuleError::InvalidDstStartEndTime,
+        ),
+        (
+            (0, 0, (Z(0), 0), (J(200), i32::MAX)),
             TransitionRuleError::InvalidDstStartEndTime,
         ),
         (
