@@ -240,6 +240,48 @@ fn fields_are_kept_or_refused_by_name(rt: HostRuntime) -> Result<(), Fail> {
     )
 }
 
+/// A rule with the greatest and the least offset and the latest and the earliest times that a rule may have. No TZ string denotes it.
+static WIDEST: ZoneRow = ZoneRow {
+    types: &[(93_599, false, Some(b"A")), (-89_999, true, Some(b"B"))],
+    transitions: &[],
+    leap_seconds: &[],
+    extra_rule: Some(ExtraRule::Alternate((
+        (93_599, false, Some(b"A")),
+        (-89_999, true, Some(b"B")),
+        (Day::Julian1(1), -604_799),
+        (Day::Julian1(180), 604_799),
+    ))),
+};
+
+#[test]
+fn a_jump_by_the_widest_rule(rt: HostRuntime) -> Result<(), Fail> {
+    expect_answers_by_parts(
+        &rt,
+        rt.alloc(),
+        &WIDEST,
+        "F 1970 7 7 0 0 0 0\n",
+        "F 1\n\
+         S 1970-07-05T23:59:59.000000000-24:59:59 B 1970-07-08T02:59:57.000000000+25:59:59 A\n",
+    )
+}
+
+#[test]
+fn a_rule_in_far_years(rt: HostRuntime) -> Result<(), Fail> {
+    expect_answers_in_central_europe(
+        &rt,
+        rt.alloc(),
+        "F 2400 3 26 2 30 0 0\n\
+         F 2147483447 3 28 2 30 0 0\n\
+         F -2147483645 1 1 0 30 0 0\n",
+        "F 1\n\
+         S 2400-03-26T02:00:00.000000000+01:00 CET 2400-03-26T03:00:00.000000000+02:00 CEST\n\
+         F 1\n\
+         S 2147483447-03-28T02:00:00.000000000+01:00 CET 2147483447-03-28T03:00:00.000000000+02:00 CEST\n\
+         F 1\n\
+         N -2147483645-01-01T00:30:00.000000000+01:00 CET\n",
+    )
+}
+
 #[test]
 fn years_of_32_bits_are_asked_for(rt: HostRuntime) -> Result<(), Fail> {
     expect_answers(
@@ -248,12 +290,15 @@ fn years_of_32_bits_are_asked_for(rt: HostRuntime) -> Result<(), Fail> {
         TimeZoneRef::utc(),
         "F 2147483447 12 31 23 59 60 1\n\
          F -2147483448 1 1 0 0 0 0\n\
+         F 2147483644 12 31 23 59 59 0\n\
          F 2147483648 1 1 0 0 0 0\n\
          F -2147483649 1 1 0 0 0 0\n",
         "F 1\n\
          N 2147483447-12-31T23:59:60.000000001Z -\n\
          F 1\n\
          N -2147483448-01-01T00:00:00.000000000Z -\n\
+         F 1\n\
+         N 2147483644-12-31T23:59:59.000000000Z -\n\
          E Line\n\
          E Line\n",
     )
