@@ -1,4 +1,4 @@
-//! A reader and a writer over memory that fail at a call that the test chooses.
+//! Readers and a writer over memory that fail at calls that the test chooses.
 
 use std::io::{self, Read, Write};
 
@@ -46,5 +46,26 @@ impl Write for FailingWriter {
 
     fn flush(&mut self) -> io::Result<()> {
         Ok(())
+    }
+}
+
+/// Is interrupted at as many calls as it is told, and then reads bytes of memory.
+#[derive(Drop)]
+pub struct InterruptedReader<'a> {
+    pub bytes: &'a [u8],
+    pub interruptions: u8,
+}
+
+impl Read for InterruptedReader<'_> {
+    ghost use Rattle.std.specs.Prelude.{Some};
+
+    ghost remaining = { λ reader. Some reader.bytes.now };
+
+    fn read(&mut self, buf: &mut [u8]) -> io::Result<usize> {
+        if let Some(left) = self.interruptions.checked_sub(1) {
+            self.interruptions = left;
+            return Err(io::Error::from(io::ErrorKind::Interrupted));
+        }
+        self.bytes.read(buf)
     }
 }

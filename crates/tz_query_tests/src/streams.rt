@@ -1,7 +1,7 @@
 //! Runs over streams that fail and with memory that is refused, by rows.
 
 use crate::expect::{expect_eq, expect_eq_at};
-use crate::failing::{FailingReader, FailingWriter};
+use crate::failing::{FailingReader, FailingWriter, InterruptedReader};
 use crate::growths::{expect_growths, expect_refusal};
 use std::alloc::Global;
 use std::process::Abort;
@@ -64,6 +64,21 @@ fn a_failed_read_writes_nothing(rt: HostRuntime) -> Result<(), Fail> {
         let found = outcome(rt.alloc(), reads, u8::MAX, usize::MAX)?;
         expect_eq_at(&rt, &reads, &found.as_str(), &"Read|");
     }
+    Ok(())
+}
+
+/// A read that is interrupted has failed, though the next one would read.
+#[test]
+fn an_interrupted_read_writes_nothing(rt: HostRuntime) -> Result<(), Fail> {
+    let zone = central_europe_zone(rt.alloc())?;
+    let mut input = InterruptedReader {
+        bytes: QUERIES,
+        interruptions: 1,
+    };
+    let mut out = Vec::new(rt.alloc());
+    let answer = run(rt.alloc(), zone.as_ref(), &mut input, &mut out);
+    expect_eq(&rt, &name(&answer), &"Read");
+    assert!(rt; out.is_empty());
     Ok(())
 }
 

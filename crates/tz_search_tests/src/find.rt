@@ -428,9 +428,49 @@ fn holds(slots: &[Option<FoundDateTimeKind>], held: &Option<FoundDateTimeKind>) 
 /// Month, day of the month, hour, minute, second, nanoseconds.
 type YearFields = (u8, u8, u8, u8, u8, u32);
 
-/// Fields with one fault each, which `find_n` names; the slots hold what they held.
+/// Both searches into a buffer name the fault of these fields, and the slots hold what they held.
+fn expect_untouched(
+    rt: &impl Abort,
+    buf: &mut [Option<FoundDateTimeKind>],
+    fields: YearFields,
+    fault: DateTimeError,
+) {
+    let (month, month_day, hour, minute, second, nanoseconds) = fields;
+    let utc = TimeZoneRef::utc();
+    let refused = DateTime::find_n(
+        buf,
+        2001,
+        month,
+        month_day,
+        hour,
+        minute,
+        second,
+        nanoseconds,
+        utc,
+    )
+    .err();
+    assert!(rt; matches!(refused, Some(TzError::DateTime(named)) if named == fault));
+    assert!(rt; are_written(buf, &[]));
+    let refused = DateTime::find_n_counted(
+        buf,
+        2001,
+        month,
+        month_day,
+        hour,
+        minute,
+        second,
+        nanoseconds,
+        utc,
+    )
+    .err();
+    assert!(rt; matches!(refused, Some(TzError::DateTime(named)) if named == fault));
+    assert!(rt; are_written(buf, &[]));
+}
+
+/// Fields with one fault each.
 #[test]
 fn refused_fields_write_nothing(rt: HostRuntime) -> Result<(), Fail> {
+    static SLOTS: [usize; 5] = [0, 1, 2, 3, 5];
     static ROWS: [(YearFields, DateTimeError); 6] = [
         ((13, 1, 0, 0, 0, 0), DateTimeError::InvalidMonth),
         ((2, 29, 0, 0, 0, 0), DateTimeError::InvalidMonthDay),
@@ -443,23 +483,11 @@ fn refused_fields_write_nothing(rt: HostRuntime) -> Result<(), Fail> {
         ),
     ];
     let held = Some(held()?);
-    for (fields, fault) in &ROWS {
-        let (month, month_day, hour, minute, second, nanoseconds) = *fields;
-        let mut buf = [held, None, held];
-        let refused = DateTime::find_n(
-            &mut buf,
-            2001,
-            month,
-            month_day,
-            hour,
-            minute,
-            second,
-            nanoseconds,
-            TimeZoneRef::utc(),
-        )
-        .err();
-        assert!(rt; matches!(refused, Some(TzError::DateTime(named)) if named == *fault));
-        assert!(rt; holds(&buf, &held));
+    for slots in &SLOTS {
+        for (fields, fault) in &ROWS {
+            let mut buf = [held; 5];
+            expect_untouched(&rt, &mut buf[..*slots], *fields, *fault);
+        }
     }
     Ok(())
 }

@@ -83,6 +83,18 @@ fn jumps_that_cross_with_each_growth_refused(rt: HostRuntime) -> Result<(), Fail
     Ok(())
 }
 
+/// The zone is lent, and stays as it is whichever growth is refused.
+#[test]
+fn refused_growths_leave_the_zone(rt: HostRuntime) -> Result<(), Fail> {
+    let zone = zone_of(rt.alloc(), &CROSSING)?;
+    let same = zone_of(rt.alloc(), &CROSSING)?;
+    for left in 0..MOST {
+        found_with(rt.alloc(), left, zone.as_ref(), (1970, 1, 1, 2, 30, 0))?;
+        assert!(rt; zone == same, "after {left}");
+    }
+    Ok(())
+}
+
 /// A list that is found empty takes no memory.
 #[test]
 fn nothing_is_found_without_memory(rt: HostRuntime) -> Result<(), Fail> {
