@@ -345,6 +345,32 @@ fn bytes_stand_where_they_have_to(rt: HostRuntime) {
     expect_refused(&rt, rt.alloc(), &ROWS);
 }
 
+/// Texts with several faults: names are looked at once the whole text is read, and a number once its time of day is, from the hours on. The answers
+/// are those of tz-rs.
+#[test]
+fn the_first_fault_that_is_met_is_named(rt: HostRuntime) {
+    const CUT: Fault = Fault::Text(TzStringError::ParseData(ParseDataError::UnexpectedEof));
+    static ROWS: [(&str, Fault); 7] = [
+        ("<A_B>0C,0", CUT),
+        ("A_B0", Fault::Number),
+        ("A25:60:60", Fault::Text(TzStringError::InvalidOffsetHour)),
+        ("A0:60:60", Fault::Text(TzStringError::InvalidOffsetMinute)),
+        (
+            "A0B,0/25:0:60,1",
+            Fault::Text(TzStringError::InvalidDayTimeHour),
+        ),
+        (
+            "A0B,0/0:60:60,1",
+            Fault::Text(TzStringError::InvalidDayTimeMinute),
+        ),
+        (
+            "A0B,M13.6.7,1x",
+            Fault::Rule(TransitionRuleError::InvalidRuleDayMonth),
+        ),
+    ];
+    expect_faults(&rt, rt.alloc(), &ROWS);
+}
+
 /// The name of a type, and its offset from UTC in seconds.
 fn type_text(alloc: Global, local_time_type: &LocalTimeType) -> Result<String, AllocError> {
     let name = local_time_type.time_zone_designation();

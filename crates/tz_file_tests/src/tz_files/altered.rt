@@ -165,6 +165,46 @@ fn altered_later_files_are_refused(rt: HostRuntime) -> Result<(), Fail> {
     Ok(())
 }
 
+/// How the bytes are refused with two of them changed.
+fn fault_with_two(
+    alloc: Global,
+    bytes: &[u8],
+    first: (usize, u8),
+    second: (usize, u8),
+) -> Result<Option<Fault>, AllocError> {
+    let other = with_byte(alloc, bytes, first.0, first.1)?;
+    let other = with_byte(alloc, &other, second.0, second.1)?;
+    Ok(fault_of(alloc, &other))
+}
+
+/// A header that is cut short and has another magic number.
+fn is_cut_and_altered(alloc: Global) -> Result<Option<Fault>, AllocError> {
+    let mut bytes = with_byte(alloc, &utc_v1(alloc)?, 2, b'j')?;
+    bytes.truncate(20);
+    Ok(fault_of(alloc, &bytes))
+}
+
+/// Of several faults the one is named that is met first, as tz-rs does.
+#[test]
+fn the_first_fault_that_is_met_is_named(rt: HostRuntime) -> Result<(), Fail> {
+    let found = is_cut_and_altered(rt.alloc())?;
+    let is_no_file = Some(Fault::File(TzFileError::InvalidMagicNumber));
+    expect_eq(&rt, &found, &is_no_file);
+
+    let has_no_flag = Some(Fault::File(TzFileError::InvalidDstIndicator));
+    // A flag of 2, and a name at place 9, where there is none.
+    let found = fault_with_two(rt.alloc(), &utc_v1(rt.alloc())?, (48, 2), (49, 9))?;
+    expect_eq(&rt, &found, &has_no_flag);
+    // A flag of 2, and a time of UT that goes with no standard time.
+    let found = fault_with_two(rt.alloc(), &utc_v1_leap(rt.alloc())?, (48, 2), (271, 1))?;
+    expect_eq(&rt, &found, &has_no_flag);
+
+    let footer = with_footer(rt.alloc(), b'3', b"IST-2\xff")?;
+    let refused = fault_of(rt.alloc(), &footer);
+    assert!(rt; matches!(refused, Some(Fault::File(TzFileError::Utf8(_)))));
+    Ok(())
+}
+
 #[test]
 fn a_name_may_be_empty(rt: HostRuntime) -> Result<(), Fail> {
     let bytes = with_byte(rt.alloc(), &utc_v1(rt.alloc())?, 49, 3)?;
