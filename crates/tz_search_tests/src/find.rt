@@ -10,8 +10,8 @@ use tz::datetime::{DateTime, FoundDateTimeKind, FoundDateTimeList, FoundDateTime
 use tz_base::error::TzError;
 use tz_base::error::datetime::DateTimeError;
 use tz_zone::timezone::{
-    AlternateTime, Julian0WithLeap, LeapSecond, LocalTimeType, RuleDay, TimeZoneRef, Transition,
-    TransitionRule,
+    AlternateTime, Julian0WithLeap, LeapSecond, LocalTimeType, RuleDay, TimeZone, TimeZoneRef,
+    Transition, TransitionRule,
 };
 
 mod ends;
@@ -417,6 +417,12 @@ fn lists_are_printed(rt: HostRuntime) -> Result<(), Fail> {
             local_time_type: LocalTimeType { ut_offset: 0, is_dst: false, time_zone_designation: None }, \
             unix_time: 946684800, nanoseconds: 0 })), None], current_index: 1, count: 1 }",
     )?;
+    expect_debug(
+        &rt,
+        alloc,
+        &find_n(&mut [], utc, midnight)?,
+        "FoundDateTimeListRefMut { buf: [], current_index: 0, count: 1 }",
+    )?;
     Ok(())
 }
 
@@ -530,6 +536,41 @@ fn more_are_found_than_a_list_begins_with(rt: HostRuntime) -> Result<(), Fail> {
         ],
     )];
     expect_all_in(&rt, rt.alloc(), &ZONE, &ROWS)?;
+    Ok(())
+}
+
+/// A clock that is set back a minute after each minute, as many times, and then stays so: it shows the first minute after each of them.
+fn set_back(alloc: Global, times: u16) -> Result<TimeZone, TzError> {
+    let mut transitions = Vec::new(alloc);
+    let mut types = Vec::new(alloc);
+    for minute in 0..times {
+        transitions.push(Transition::new(60 * i64::from(minute), usize::from(minute)))?;
+        types.push(LocalTimeType::with_ut_offset(-60 * i32::from(minute))?)?;
+    }
+    let last = types.last().map(|last| TransitionRule::Fixed(*last));
+    TimeZone::new(transitions, types, Vec::new(alloc), last)
+}
+
+/// Half past each of the first minutes, by the clock that is set back.
+fn half_minutes(alloc: Global, times: u16) -> Result<Vec<Summary>, AllocError> {
+    let mut expected = Vec::new(alloc);
+    for minute in 0..times {
+        let ut_offset = -60 * i32::from(minute);
+        expected.push((60 * i64::from(minute) + 30, ut_offset, ut_offset))?;
+    }
+    Ok(expected)
+}
+
+/// A list grows as often as it has to.
+#[test]
+fn many_are_found(rt: HostRuntime) -> Result<(), Fail> {
+    static TIMES: [u16; 4] = [40, 41, 65, 1000];
+    for times in &TIMES {
+        let zone = set_back(rt.alloc(), *times)?;
+        let expected = half_minutes(rt.alloc(), *times)?;
+        let reading = (1970, 1, 1, 0, 0, 30);
+        expect_found(&rt, rt.alloc(), zone.as_ref(), reading, &expected)?;
+    }
     Ok(())
 }
 

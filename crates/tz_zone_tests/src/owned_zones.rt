@@ -1,7 +1,7 @@
 //! Zones that own their parts: with memory enough, and with each growth refused in turn.
 
 use crate::expect::{expect_eq, expect_eq_at};
-use std::alloc::{AllocError, Allocator};
+use std::alloc::{AllocError, Allocator, Global};
 use std::process::Abort;
 use std::test::Fail;
 use tz_base::error::TzError;
@@ -146,6 +146,28 @@ fn a_clone_with_each_growth_refused(rt: HostRuntime) -> Result<(), Fail> {
         expect_eq(&rt, &heap.held(), &0);
     }
     expect_eq(&rt, &blocks, &3);
+    Ok(())
+}
+
+/// A zone with this many transitions between two types.
+fn alternating(alloc: Global, len: u16) -> Result<TimeZone, TzError> {
+    let mut transitions = Vec::new(alloc);
+    for place in 0..len {
+        let unix_leap_time = 1000 * i64::from(place);
+        transitions.push(Transition::new(unix_leap_time, usize::from(place % 2)))?;
+    }
+    let summer = LocalTimeType::new(3600, true, Some(b"BST"))?;
+    let types = Vec::from_slice(alloc, &[LocalTimeType::utc(), summer])?;
+    TimeZone::new(transitions, types, Vec::new(alloc), None)
+}
+
+#[test]
+fn long_lists_are_cloned(rt: HostRuntime) -> Result<(), Fail> {
+    static LENGTHS: [u16; 4] = [1000, 1001, 1025, 10_000];
+    for len in &LENGTHS {
+        let zone = alternating(rt.alloc(), *len)?;
+        assert!(rt; zone.try_clone()? == zone, "{len} transitions");
+    }
     Ok(())
 }
 

@@ -4,7 +4,7 @@ use crate::expect::expect_eq_at;
 use std::process::Abort;
 use tz_base::error::TzError;
 use tz_file_tests::samples::central_europe;
-use tz_zone::inner::segment_at;
+use tz_zone::inner::{segment_at, segment_following};
 use tz_zone::timezone::{
     AlternateTime, LeapSecond, LocalTimeType, MonthWeekDay, RuleDay, TimeZoneRef, Transition,
     TransitionRule,
@@ -133,5 +133,47 @@ fn segments_of_a_rule_near_the_end_of_the_year_last_a_second(
     let rule = Some(TransitionRule::Alternate(to_january()?));
     let zone = TimeZoneRef::new(&[], &types, &[], &rule)?;
     expect_segments(&rt, zone, &ROWS);
+    Ok(())
+}
+
+/// From where until where a segment goes, and its number.
+type Chained = (i64, i64, usize);
+
+/// The segments that follow one another from an instant on are these.
+fn expect_chain(rt: &impl Abort, zone: TimeZoneRef<'_>, unix_time: i64, rows: &[Chained]) {
+    let mut segment = segment_at(zone, unix_time);
+    for (from, until, number) in rows {
+        let Some(found) = segment else {
+            panic!(rt; "no segment from {from} on");
+        };
+        expect_eq_at(rt, from, &found.from, from);
+        expect_eq_at(rt, from, &found.until, until);
+        expect_eq_at(rt, from, &found.number, number);
+        segment = segment_following(zone, &found);
+    }
+}
+
+#[test]
+fn segments_follow_one_another(rt: HostRuntime) -> Result<(), TzError> {
+    static ROWS: [Chained; 5] = [
+        (1_000_000_000, 1_100_000_000, 0),
+        (1_100_000_000, 1_200_000_000, 1),
+        (1_200_000_000, 1_720_000_000, 0),
+        (1_720_000_000, 1_729_990_800, 3),
+        (1_729_990_800, 1_743_296_400, 2),
+    ];
+    let types = [
+        LocalTimeType::new(3600, false, Some(b"CET"))?,
+        LocalTimeType::new(7200, true, Some(b"CEST"))?,
+    ];
+    let rule = Some(TransitionRule::Alternate(central_europe()?));
+    let transitions = [
+        Transition::new(1_000_000_000, 0),
+        Transition::new(1_100_000_000, 1),
+        Transition::new(1_200_000_000, 0),
+        Transition::new(1_720_000_000, 1),
+    ];
+    let zone = TimeZoneRef::new(&transitions, &types, &[], &rule)?;
+    expect_chain(&rt, zone, 1_050_000_000, &ROWS);
     Ok(())
 }

@@ -4,7 +4,6 @@ use super::*;
 use crate::expect::expect_eq;
 use crate::searches::name;
 use crate::zones::ONE_EFFECT;
-use tz_zone::timezone::TimeZone;
 
 /// An entry: its Unix time, and the text and the name of each side.
 fn text_of(alloc: Global, kind: &FoundDateTimeKind) -> Result<String, AllocError> {
