@@ -10,6 +10,7 @@ pub mod TableChecks
 pub mod RuleChecks
 pub mod Clocks
 pub mod SegmentLemmas
+pub mod ClockSegmentLemmas
 pub mod TzFileLaws
 pub mod TzNames
 pub mod TzTables

@@ -10,6 +10,7 @@ pub mod ValidZone
 pub mod ZoneRef
 pub mod ZoneSeen
 pub mod Segments
+pub mod ClockSegments
 pub mod SameZone
 pub mod Bytes
 pub mod TzFile

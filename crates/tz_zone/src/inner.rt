@@ -5,6 +5,10 @@ ghost use Rattle.tz_zone.specs.Table.{LeapSecond};
 ghost use Rattle.tz_zone.specs.LeapTime.{IsInstant, IsStart, correction_at_start as correction_of_start, correction_before as correction_at_place, IsReached, IsBeforeStart, IsFirstBegun, IsLeapTimeRefused, IsLeapTime, IsMomentOf, IsEffect, IsEffectRefused};
 ghost use Rattle.tz_zone.specs.ValidZone.{AreLeapSeconds, HasBegunAt, ExpiresAt, IsPlainTable};
 
+mod clock_segment;
+mod clock_segments;
+mod cursor;
+mod cursor_span;
 mod leap_spans;
 mod lookup;
 mod parts;
@@ -17,6 +21,9 @@ mod transitions;
 use crate::partition::{Places, partition_point};
 use crate::timezone::LeapSecond;
 pub use crate::timezone::file::read_to_end;
+pub use clock_segment::ClockSegment;
+pub use clock_segments::{clock_segment_after, clock_segment_at};
+pub use cursor::Cursor;
 pub use lookup::{find_local_time_type, other_parts, type_of_last};
 pub use parts::OtherParts;
 pub use reached::{transitions_reached, transitions_reached_between};
@@ -233,6 +240,19 @@ pub fn leap(leap_seconds: &[LeapSecond], unix_time: i64) -> Result<i64, TzError>
     }
     let correction = correction_before(leap_seconds, reached);
     Ok(unix_time + i64::from(correction))
+}
+
+/// The leap time of an instant. Mostly there are no leap seconds, and it is the instant itself.
+#[inline(always)]
+fn leap_time(leap_seconds: &[LeapSecond], unix_time: i64) -> Result<i64, TzError>
+    requires { AreLeapSeconds leap_seconds.now }
+    ensures ok { IfOk result (λ v. IsLeapTime leap_seconds.now unix_time v) }
+    ensures err { IfErr result (λ e. (e ≡ TzError.OutOfRange) × IsLeapTimeRefused leap_seconds.now unix_time) }
+{
+    if leap_seconds.is_empty() {
+        return Ok(unix_time);
+    }
+    leap(leap_seconds, unix_time)
 }
 
 /// How many leap seconds have a time that is not above a leap time.
