@@ -8,7 +8,7 @@ use Rattle.tz_rule.specs.LocalTimeType.{LocalTimeType}
 use Rattle.tz_rule.specs.declared.timezone.rule.TransitionRule.{TransitionRule}
 use Rattle.tz_zone.specs.Table.{Transition, LeapSecond, Zone}
 use Rattle.tz_zone.specs.LeapTime.{IsInstant, IsReached, IsBeforeStart, IsPastInstants, IsFirstBegun, IsLeapTimeRefused, IsLeapTime, IsTimeReached, IsEffect, IsMomentOf}
-use Rattle.tz_zone.specs.Clock.{AreReached, AreAhead, IsTypeAt, IsTypeOfLast, IsLast, IsTypeAfter, IsTypeWithout, IsClock, HasNoType}
+use Rattle.tz_zone.specs.Clock.{AreReached, AreAhead, IsTypeAt, IsTypeOfLast, IsLast, IsTransitionType, IsTypeAfter, IsTypeWithout, IsClock, HasNoType}
 use Rattle.tz_zone.specs.ValidZone.{AreLeapSeconds, IsRising, IsSoundTable}
 use Rattle.tz_zone.specs.ClockSegments.{from_start, IsReachedAt, IsCursor, IsBetween, IsAtCursor, IsSegmentAt, TakesEffectAt}
 use Rattle.tz_zone.specs.declared.inner.cursor.Cursor.{Cursor}
@@ -180,12 +180,16 @@ module _ (z : Zone) (sound : IsSoundTable z) (c : Cursor) (cursor : IsCursor z.t
       some_types [] some = absurd (some refl)
       some_types (t ∷ types) some = omega arith
 
+  -- at a leap time that lies at the cursor the transitions give it
+  pub transition_type_at : (l : ℤ) → IsBetween c l → (t : LocalTimeType) → IsTypeAt z c.before.type_index t → IsTransitionType z l t
+  transition_type_at l between t type = transition_type_of_last z l c.place t (reached_from_before l between.0) (ahead_before_next l between.1) (type_of_last t type)
+
   -- before the last transition the clock has that type
   pub clock_between : (next : Transition) → c.next ≡ Some next → (t : LocalTimeType) → IsTypeAt z c.before.type_index t → (v : ℤ) → IsAtCursor z.leap_seconds c v → IsClock z v t
   clock_between next is t type v (l, leap, between) =
       clock_before_last z are last is_last v l leap t
       (ahead (length z.transitions - 1) last (omega (arith, inside)) is_last)
-      (transition_type_of_last z l c.place t (reached_from_before l between.0) ahead (type_of_last t type))
+      (transition_type_at l between t type)
     where
       inside : c.place < length z.transitions
       inside = slice_get_within z.transitions c.place next (subst (λ (o : Option Transition). MatchOption o (c.place ≡ length z.transitions) (λ x. slice_get z.transitions c.place ≡ Some x)) is cursor.next)

@@ -1,4 +1,4 @@
--- Segments of a zone's clock: spans of time through which the clock has one type, or none. (RFC 8536, section 3.2: transition times and types; 3.3: the footer.)
+-- Segments of a zone's clock: spans of time through which it has one type, or none. (RFC 8536, section 3.2: transitions; 3.3: the footer.)
 use Rattle.std.specs.Prelude.{◌≡◌, ◌≢◌, ℕ, ◌-◌, ◌⊎◌, ℤ, pos, negsuc, ◌+ℤ◌, ◌≤ℤ◌, ◌<ℤ◌, List, [], length, Some, IfSome, IfNone, MatchOption, slice_get}
 use Rattle.tz_zone.specs.Table.{Transition, LeapSecond, Zone}
 use Rattle.tz_zone.specs.LeapTime.{IsBeforeStart, IsLeapTime, IsEffect}

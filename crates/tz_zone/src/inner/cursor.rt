@@ -13,9 +13,9 @@ use crate::timezone::Transition;
 pub struct Cursor {
     /// How many transitions come before the place.
     pub place: usize,
-    /// The last one of them. Before the first transition it is one from the least leap time on, to type number 0.
+    /// The last transition before the place. Where there is none, it is one from the least leap time on, to type number 0.
     pub before: Transition,
-    /// The first one after the place, if there is any.
+    /// The first transition from the place on, if there is any.
     pub next: Option<Transition>,
 }
 
@@ -29,7 +29,11 @@ fn from_start() -> Transition
 
 /// The cursor before the last transition, at the place at which a leap time is reached, by halving.
 #[inline(always)]
-fn cursor_before<V: Transitions>(view: &mut V, last: Transition, unix_leap_time: i64) -> Cursor
+pub(super) fn cursor_before<V: Transitions>(
+    view: &mut V,
+    last: Transition,
+    unix_leap_time: i64,
+) -> Cursor
     requires last { IsLast (V.list view.old) last }
     requires some { 0 < length (V.list view.old) }
     requires ahead { unix_leap_time <ℤ last.unix_leap_time }

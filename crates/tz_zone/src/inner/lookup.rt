@@ -1,14 +1,15 @@
 //! The clock's type at an instant, over a view of the transitions.
 
-ghost use Rattle.std.specs.Prelude.{◌≡◌, ◌≢◌, ℕ, ◌+◌, ◌-◌, ◌^◌, ◌<◌, ◌≤◌, [], length, IfOk, IfErr};
+ghost use Rattle.std.specs.Prelude.{◌≡◌, ◌≢◌, ℕ, ◌+◌, ◌^◌, ◌<◌, ◌≤◌, ◌<ℤ◌, [], length, IfOk, IfErr};
 ghost use Rattle.tz_rule.specs.LocalTimeType.{LocalTimeType};
-ghost use Rattle.tz_zone.specs.Clock.{AreAhead, IsTransitionType, IsTypeOfLast, IsTypeWithout, IsTypeAfter, IsFaultAfter, IsClock, IsLookupFault};
+ghost use Rattle.tz_zone.specs.Clock.{IsLast, IsTransitionType, IsTypeOfLast, IsTypeWithout, IsTypeAfter, IsFaultAfter, IsClock, IsLookupFault};
 ghost use Rattle.tz_zone.specs.ValidZone.{IsSoundTable};
 ghost use Rattle.tz_zone.specs.ZoneRef.{zone_of};
 ghost use Rattle.tz_zone.specs.ZoneSeen.{zone_seen};
 
-use super::{OtherParts, Transitions, leap, transitions_reached_between};
-use crate::timezone::{LocalTimeType, TimeZoneRef, TransitionRule};
+use super::cursor::cursor_before;
+use super::{OtherParts, Transitions, leap_time};
+use crate::timezone::{LocalTimeType, TimeZoneRef, Transition, TransitionRule};
 use tz_base::error::TzError;
 
 /// What a zone has beside its transitions.
@@ -44,9 +45,9 @@ pub fn find_local_time_type<'a, V: Transitions>(
         return type_without_transitions(parts, unix_time);
     }
     let last = view.look(count - 1);
-    let unix_leap_time = leap(parts.leap_seconds, unix_time)?;
+    let unix_leap_time = leap_time(parts.leap_seconds, unix_time)?;
     if unix_leap_time < last.unix_leap_time() {
-        Ok(type_before_last(view, parts, unix_leap_time))
+        Ok(type_before_last(view, parts, last, unix_leap_time))
     } else {
         type_after_transitions(parts.extra_rule, unix_time)
     }
@@ -82,21 +83,24 @@ fn type_after_transitions(
 }
 
 /// The type at a leap time before the last transition's.
+#[inline(always)]
 fn type_before_last<'a, V: Transitions>(
     view: &mut V,
     parts: OtherParts<'a>,
+    last: Transition,
     unix_leap_time: i64,
 ) -> &'a LocalTimeType
     requires sound { IsSoundTable (zone_seen (V.list view.old) parts) }
-    requires before { AreAhead (V.list view.old) unix_leap_time (length (V.list view.old) - 1) }
+    requires last { IsLast (V.list view.old) last }
+    requires some { 0 < length (V.list view.old) }
+    requires before { unix_leap_time <ℤ last.unix_leap_time }
     ensures same { V.list view.new ≡ V.list view.old }
     ensures value { IsTransitionType (zone_seen (V.list view.old) parts.entry) unix_leap_time result.now }
     ensures kept { V.looks view.old ≤ V.looks view.new }
-    ensures few { (b : ℕ) → length (V.list view.old) < 2 ^ b → V.looks view.new ≤ V.looks view.old + (b + 1) }
+    ensures few { (b : ℕ) → length (V.list view.old) < 2 ^ b → V.looks view.new ≤ V.looks view.old + b }
 {
-    let last = view.len().saturating_sub(1);
-    let reached = transitions_reached_between(view, 0, last, unix_leap_time);
-    type_of_last(view, parts, reached)
+    let cursor = cursor_before(view, last, unix_leap_time);
+    &parts.local_time_types[cursor.before.local_time_type_index()]
 }
 
 /// The type of the last of the first `count` transitions, or type number 0 where there are none.

@@ -22,9 +22,7 @@ type_before_last-requires-clause-before g c =
     let last = c.look-last.result in
     let time = c.unix_leap_time.ensures in
     let before : l <ℤ last.unix_leap_time = omega (arith, ints, c.if-unix_leap_time.true) in
-    let is_last = rw c.len-count.ensures at c.look-last.ensures.value in
-    let Seen : List Transition → Type 0 = λ transitions. AreAhead transitions l (length transitions - 1) in
-    rw (to_z-of_z w64 l fits) (subst Seen (sym c.look-last.ensures.same) (ahead_from (g.V.Transitions.list c.args.view.now) (λ i. (c.requires.transitions_are i).1) l _ last is_last before))
+    rw (to_z-of_z w64 l fits) before
 
 pub returns-then-unix_leap_time-clause-ok : goal.returns-then-unix_leap_time-clause-ok
 returns-then-unix_leap_time-clause-ok g c =

@@ -1,45 +1,36 @@
--- The count of transitions that are reached tells the type.
-use Rattle.std.proofs.Common.{List, subst, arith}
+-- The transition before the cursor has the type.
+use Rattle.std.proofs.Common.{◌≡◌, ℕ, ◌<◌, length, get_or, Some, subst, rules}
+use Rattle.std.specs.Prelude.{slice_get}
 use Rattle.std.proofs.lemmas.Int.{to_z-of_z}
+use Rattle.std.proofs.lemmas.Option.{slice_get-get_or}
 use mir.Syntax.{w64}
-use Rattle.tz_zone.specs.Table.{Transition}
-use Rattle.tz_zone.specs.Clock.{IsTypeOfLast}
 use Rattle.tz_zone.specs.ZoneSeen.{zone_seen}
-use Rattle.tz_zone.proofs.Clocks.{transition_type_of_last}
+use Rattle.tz_zone.proofs.ClockSegmentLemmas.{names_type, transition_type_at}
 use Rattle.tz_zone.proofs.inner.lookup.type_before_last.Goals as goal
 
-pub transitions_reached_between-reached-requires-clause-rising : goal.transitions_reached_between-reached-requires-clause-rising
-transitions_reached_between-reached-requires-clause-rising g c = λ i. (c.requires.sound.transitions_are i).1
+pub offset_bounds-parts-local_time_type_index : goal.offset_bounds-parts-local_time_type_index
+offset_bounds-parts-local_time_type_index g c =
+    let z = zone_seen (g.V.Transitions.list c.args.view.now) c.args.parts in
+    let within : c.cursor_before-cursor.result.before.type_index < length c.args.parts.local_time_types.now = names_type z c.requires.sound c.cursor_before-cursor.result c.cursor_before-cursor.ensures.cursor in
+    let index = c.local_time_type_index.ensures in
+    search rules
 
-pub transitions_reached_between-reached-requires-clause-inside : goal.transitions_reached_between-reached-requires-clause-inside
-transitions_reached_between-reached-requires-clause-inside g c = omega (arith, c.saturating_sub-last.ensures, c.len.ensures)
-
-pub transitions_reached_between-reached-requires-clause-ahead : goal.transitions_reached_between-reached-requires-clause-ahead
-transitions_reached_between-reached-requires-clause-ahead g c =
-    let fits = c.ranges.unix_leap_time in
-    let last = c.saturating_sub-last.ensures in
-    let count = c.len.ensures in
-    λ i change from at. rw (to_z-of_z w64 c.args.unix_leap_time fits) (c.requires.before i change (omega arith) at)
-
-pub type_of_last-requires-clause-within : goal.type_of_last-requires-clause-within
-type_of_last-requires-clause-within g c =
-    let between = c.transitions_reached_between-reached.ensures in
-    rw between.same (omega (arith, between.within, c.saturating_sub-last.ensures, c.len.ensures))
-
-pub type_of_last-requires-clause-sound : goal.type_of_last-requires-clause-sound
-type_of_last-requires-clause-sound g c = rw c.transitions_reached_between-reached.ensures.same c.requires.sound
-
-pub returns-clause-few : goal.returns-clause-few
-returns-clause-few g c =
-    let last = c.saturating_sub-last.ensures in
-    let count = c.len.ensures in
-    λ b below. omega (arith, c.type_of_last.ensures.few, c.transitions_reached_between-reached.ensures.few b (omega arith))
+pub bounds-parts-local_time_type_index : goal.bounds-parts-local_time_type_index
+bounds-parts-local_time_type_index g c =
+    let z = zone_seen (g.V.Transitions.list c.args.view.now) c.args.parts in
+    rw c.local_time_type_index.ensures (names_type z c.requires.sound c.cursor_before-cursor.result c.cursor_before-cursor.ensures.cursor)
 
 pub returns-clause-value : goal.returns-clause-value
 returns-clause-value g c =
-    let fits = c.ranges.unix_leap_time in
-    let count = c.transitions_reached_between-reached.result in
-    let between = c.transitions_reached_between-reached.ensures in
-    let Seen : List Transition → Type 0 = λ transitions. IsTypeOfLast (zone_seen transitions c.args.parts) count c.type_of_last.result.now in
-    let type = subst Seen between.same c.type_of_last.ensures.value in
-    transition_type_of_last (zone_seen (g.V.Transitions.list c.args.view.now) c.args.parts) c.args.unix_leap_time count c.type_of_last.result.now (simp to_z-of_z at between.reached) (simp to_z-of_z at between.ahead) type
+    let z = zone_seen (g.V.Transitions.list c.args.view.now) c.args.parts in
+    let l = c.args.unix_leap_time in
+    let cursor = c.cursor_before-cursor.result in
+    let is = c.cursor_before-cursor.ensures.cursor in
+    let types = c.args.parts.local_time_types.now in
+    let i = c.local_time_type_index.result in
+    let first = c.index-parts-local_time_type_index.result in
+    let type = get_or types i first in
+    let within = names_type z c.requires.sound cursor is in
+    let named = subst (λ (j : ℕ). slice_get types j ≡ Some type) c.local_time_type_index.ensures (slice_get-get_or types i first (rw c.local_time_type_index.ensures within)) in
+    let between = rw (to_z-of_z w64 l c.ranges.unix_leap_time) at c.cursor_before-cursor.ensures.between in
+    transition_type_at z c.requires.sound cursor is l between type named
