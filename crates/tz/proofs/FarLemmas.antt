@@ -22,7 +22,7 @@ use Rattle.tz.specs.Found.{Clock}
 use Rattle.tz.specs.Reached.{AreOffsetsOf}
 use Rattle.tz.specs.Walks.{IsOutside, HasOutside}
 use Rattle.tz.specs.FindFaults.{IsFindFault, IsFarFromEnds, IsInsideEnds, HasRuleOffsets, HasPlainOffsets, IsPromised}
-use Rattle.tz.proofs.TypesAfterTransitions.{fixed_type, alternate_type, offsets_from_types}
+use Rattle.tz.proofs.ClockTypes.{fixed_type, alternate_type, offsets_from_types}
 
 year_fits : (y : ℤ) → negsuc 2147483647 ≤ℤ y → y ≤ℤ pos 2147483647 → SFits w32 y
 year_fits (pos n) low high = record { sfits = omega (arith, ints) }

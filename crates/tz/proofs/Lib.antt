@@ -1,12 +1,9 @@
 pub mod SlotLemmas
 pub mod WalkLemmas
-pub mod EffectLemmas
-pub mod TypesAfterTransitions
+pub mod ClockTypes
 pub mod WindowLemmas
-pub mod ClockStarts
-pub mod SearchLemmas
-pub mod RuleYearLemmas
-pub mod RuleSearchLemmas
+pub mod SegmentWalks
+pub mod SegmentLooks
 pub mod FarLemmas
 pub mod FoundLemmas
 pub mod PairLemmas

@@ -14,7 +14,7 @@ use Rattle.tz_base.proofs.OrderLemmas.{civil_unique}
 use Rattle.tz_rule.specs.LocalTimeType.{LocalTimeType}
 use Rattle.tz.specs.DateTimes.{DateTime, ShowsInstant}
 use Rattle.tz.specs.Found.{Clock, Shows, PassesOver, IsFoundBy, IsEarlier, IsFound, instant_of}
-use Rattle.tz.specs.Walks.{IsOutside, HasOutside, IsSearchFault, moment_of, IsDateTimeOf, IsEntryOutside, IsFrom, HoldsFrom, IsEntryOf, IsGiven, IsStep, IsStepFault, IsWalk, IsFoundBefore, IsWalked}
+use Rattle.tz.specs.Walks.{IsOutside, HasOutside, IsSearchFault, moment_of, IsDateTimeOf, IsEntryOutside, IsFrom, HoldsFrom, IsEntryOf, IsGiven, IsGiveFault, IsStep, IsWalk, IsFoundBefore, IsWalked}
 use Rattle.tz.specs.declared.datetime.found.FoundDateTimeKind.{FoundDateTimeKind}
 use Rattle.tz.specs.declared.datetime.found.FoundDateTimeKind.TheVariants.{Normal, Skipped}
 use Rattle.tz.specs.declared.datetime.walk.Entry.{Entry}
@@ -125,10 +125,10 @@ module _ (clock : Clock) (f : Fields) (w : Walk) (found : List FoundDateTimeKind
   outside_from_entry (Jump u a b) some entry outside =
       inr (u, a, b, passed_by_piece u a b some entry, subst (λ (r : ℤ). IsOutside r (u +ℤ a.ut_offset) ⊎ IsOutside r (u +ℤ b.ut_offset)) walked.walk.reading_is outside)
 
-  -- why a step past the piece is refused is why the search is
-  pub search_fault_from_step : (takes_memory : Type 0) (e : TzError) → IsStepFault takes_memory w until e → IsSearchFault takes_memory clock (reading f) e
-  search_fault_from_step takes_memory e (some, inl memory) = inl memory
-  search_fault_from_step takes_memory e (some, inr (is, entry, of_piece, outside)) = inr (is, outside_from_entry entry some of_piece outside)
+  -- why the piece gives nothing is why the search is refused
+  pub search_fault_from_give : (takes_memory : Type 0) (e : TzError) → w.since <ℤ until → IsGiveFault takes_memory w until e → IsSearchFault takes_memory clock (reading f) e
+  search_fault_from_give takes_memory e some (inl memory) = inl memory
+  search_fault_from_give takes_memory e some (inr (is, entry, of_piece, outside)) = inr (is, outside_from_entry entry some of_piece outside)
 
   -- nothing in the piece
   found_before_none : w.since <ℤ until → ((entry : Entry) → ¬ IsEntryOf w until entry) → IsFoundBefore clock f until found
@@ -159,7 +159,7 @@ module _ (clock : Clock) (f : Fields) (w : Walk) (found : List FoundDateTimeKind
             subst (λ (x : FoundDateTimeKind). Contains (found ++ g ∷ []) x) same (Contains-push found g));
       }
 
-  found_before_given : (new : List FoundDateTimeKind) → w.since <ℤ until → IsGiven w until new → IsFoundBefore clock f until (found ++ new)
+  pub found_before_given : (new : List FoundDateTimeKind) → w.since <ℤ until → IsGiven w until new → IsFoundBefore clock f until (found ++ new)
   found_before_given new some (inl (is, none)) =
       subst (λ (es : List FoundDateTimeKind). IsFoundBefore clock f until es) (sym (ap (λ es. found ++ es) is ∙ append-nil found)) (found_before_none some none)
   found_before_given new some (inr (entry, g, is_entry, date_time, is)) =
@@ -168,12 +168,8 @@ module _ (clock : Clock) (f : Fields) (w : Walk) (found : List FoundDateTimeKind
 
 -- a step to a piece keeps that all is found
 pub walked_on : (clock : Clock) (f : Fields) (w : Walk) (found : List FoundDateTimeKind) (piece : Piece) (next : Walk) (new : List FoundDateTimeKind) →
-    IsWalked clock f w found → IsStep w piece next new → HoldsFrom clock w.since piece.from w.local_time_type → IsWalked clock f next (found ++ new)
-walked_on clock f w found piece next new walked (inl (early, is, none)) holds =
-    let same : IsWalked clock f (record w { local_time_type = piece.local_time_type }) found = record { walk = record { valid = walked.walk.valid; fields_are = walked.walk.fields_are; reading_is = walked.walk.reading_is; small = walked.walk.small }; so_far = walked.so_far; just_before = walked.just_before } in
-    let list : found ≡ found ++ new = sym (ap (λ es. found ++ es) none ∙ append-nil found) in
-    subst (λ (es : List FoundDateTimeKind). IsWalked clock f next es) list (subst (λ (x : Walk). IsWalked clock f x found) (sym is) same)
-walked_on clock f w found piece next new walked (inr (late, is, given)) holds =
+    IsWalked clock f w found → w.since <ℤ piece.from → IsStep w piece next new → HoldsFrom clock w.since piece.from w.local_time_type → IsWalked clock f next (found ++ new)
+walked_on clock f w found piece next new walked late (is, given) holds =
     let moved : IsWalked clock f (record w { before = w.local_time_type; since = piece.from; local_time_type = piece.local_time_type }) (found ++ new) = record {
       walk = record { valid = walked.walk.valid; fields_are = walked.walk.fields_are; reading_is = walked.walk.reading_is; small = walked.walk.small };
       so_far = found_before_given clock f w found walked piece.from holds new late given;
@@ -193,15 +189,15 @@ walked_from_start clock f w walk before none = record {
     no_entry (Normal d) (fields, shows) early = omega (arith, ints, none d.unix_time d.local_time_type shows.0, early)
     no_entry (Skipped x y) (u, a, b, passes, sx, sy) early = omega (arith, ints, none u b passes.1, sx.instant_is, early)
 
--- a walk ends where there is no clock any more
-pub found_from_end : (clock : Clock) (f : Fields) (w : Walk) (found : List FoundDateTimeKind) → IsWalked clock f w found → ((u : ℤ) (t : LocalTimeType) → clock u t → u <ℤ w.since) → IsFound clock f found
-found_from_end clock f w found walked none = record {
-  sound = All-weaker (λ e. IsFoundBy clock f e × (instant_of e <ℤ w.since)) (IsFoundBy clock f) (λ e h. h.0) found walked.so_far.sound;
-  in_order = walked.so_far.in_order;
-  complete = λ e by. walked.so_far.complete e by (before_end e by);
+-- what is found before an instant is all that is found, where there is no clock from it on
+pub found_before_end : (clock : Clock) (f : Fields) (until : ℤ) (found : List FoundDateTimeKind) → IsFoundBefore clock f until found → ((u : ℤ) (t : LocalTimeType) → clock u t → u <ℤ until) → IsFound clock f found
+found_before_end clock f until found so_far none = record {
+  sound = All-weaker (λ e. IsFoundBy clock f e × (instant_of e <ℤ until)) (IsFoundBy clock f) (λ e h. h.0) found so_far.sound;
+  in_order = so_far.in_order;
+  complete = λ e by. so_far.complete e by (before_end e by);
 }
   where
-    before_end : (e : FoundDateTimeKind) → IsFoundBy clock f e → instant_of e <ℤ w.since
+    before_end : (e : FoundDateTimeKind) → IsFoundBy clock f e → instant_of e <ℤ until
     before_end (Normal d) (fields, shows) = none d.unix_time d.local_time_type shows.0
     before_end (Skipped x y) (u, a, b, passes, sx, sy) = omega (arith, ints, none u b passes.1, sx.instant_is)
 
@@ -254,45 +250,6 @@ no_entry_after w until t s is was shown passed (Jump u a b) (at, before, type_is
     let offset = ap (λ (y : LocalTimeType). y.ut_offset) (same_Some s a (sym was ∙ before)) in
     absurd (omega (arith, ints, offset, at, low, passed))
 
--- what was found of one clock was found of another that agrees with it so far
-pub walked_same : (clock other : Clock) (f : Fields) (w : Walk) (found : List FoundDateTimeKind) → IsWalked clock f w found → ((u : ℤ) (t : LocalTimeType) → u <ℤ w.since → (clock u t → other u t) × (other u t → clock u t)) → IsWalked other f w found
-walked_same clock other f w found walked same = record {
-  walk = walked.walk;
-  so_far = record {
-    sound = All-weaker (λ e. IsFoundBy clock f e × (instant_of e <ℤ w.since)) (λ e. IsFoundBy other f e × (instant_of e <ℤ w.since)) (λ e h. (to e h.0 h.1, h.1)) found walked.so_far.sound;
-    in_order = walked.so_far.in_order;
-    complete = λ e by early. walked.so_far.complete e (back e by early) early;
-  };
-  just_before = λ u within t.
-      let agree = same u t within.1 in
-      let was = walked.just_before u within t in
-      ((λ at. was.0 (agree.1 at)), (λ is. agree.0 (was.1 is)));
-}
-  where
-    to : (e : FoundDateTimeKind) → IsFoundBy clock f e → instant_of e <ℤ w.since → IsFoundBy other f e
-    to (Normal d) (fields, shows) early = (fields, ((same d.unix_time d.local_time_type early).0 shows.0, shows.1))
-    to (Skipped x y) (u, a, b, passes, sx, sy) early =
-        let instant = sx.instant_is in
-        let here : u <ℤ w.since = omega (arith, ints, instant, early) in
-        let before : (u -ℤ pos 1) <ℤ w.since = omega (arith, ints, here) in
-        (u, a, b, ((same (u -ℤ pos 1) a before).0 passes.0, (same u b here).0 passes.1, passes.2, passes.3), sx, sy)
-
-    back : (e : FoundDateTimeKind) → IsFoundBy other f e → instant_of e <ℤ w.since → IsFoundBy clock f e
-    back (Normal d) (fields, shows) early = (fields, ((same d.unix_time d.local_time_type early).1 shows.0, shows.1))
-    back (Skipped x y) (u, a, b, passes, sx, sy) early =
-        let instant = sx.instant_is in
-        let here : u <ℤ w.since = omega (arith, ints, instant, early) in
-        let before : (u -ℤ pos 1) <ℤ w.since = omega (arith, ints, here) in
-        (u, a, b, ((same (u -ℤ pos 1) a before).1 passes.0, (same u b here).1 passes.1, passes.2, passes.3), sx, sy)
-
--- a step keeps what is looked for
-pub walk_steps : (f : Fields) (w : Walk) (piece : Piece) (next : Walk) (new : List FoundDateTimeKind) → IsWalk f w → IsStep w piece next new → IsWalk f next
-walk_steps f w piece next new walk (inl (early, is, none)) =
-    let same : IsWalk f (record w { local_time_type = piece.local_time_type }) = record { valid = walk.valid; fields_are = walk.fields_are; reading_is = walk.reading_is; small = walk.small } in
-    subst (λ (x : Walk). IsWalk f x) (sym is) same
-walk_steps f w piece next new walk (inr (late, is, given)) =
-    let same : IsWalk f (record w { before = w.local_time_type; since = piece.from; local_time_type = piece.local_time_type }) = record { valid = walk.valid; fields_are = walk.fields_are; reading_is = walk.reading_is; small = walk.small } in
-    subst (λ (x : Walk). IsWalk f x) (sym is) same
-
+-- a walk is one for its own fields
 pub own_walk : (f : Fields) (w : Walk) → IsWalk f w → IsWalk w.fields w
 own_walk f w walk = subst (λ (g : Fields). IsWalk g w) (sym walk.fields_are) walk

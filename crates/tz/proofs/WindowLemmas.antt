@@ -15,7 +15,7 @@ use Rattle.tz_rule.specs.declared.timezone.rule.TransitionRule.TheVariants.{Fixe
 use Rattle.tz_zone.specs.Table.{Zone}
 use Rattle.tz.specs.Reached.{AreOffsetsOf}
 use Rattle.tz.specs.Windows.{IsOffsetOfRule, IsOffset, IsLeastOffset, IsGreatestOffset, IsWindow, TakesEffectIn, AreRising, AtMostTakeEffectIn, AtMostTakeEffectAround}
-use Rattle.tz.proofs.TypesAfterTransitions.{fixed_type, alternate_type, offsets_from_types}
+use Rattle.tz.proofs.ClockTypes.{fixed_type, alternate_type, offsets_from_types}
 
 -- the offset of what a rule answers is one of its offsets
 offset_from_rule : (rule : TransitionRule) (u : ℤ) (t : LocalTimeType) → IsRuleType rule u t → IsOffsetOfRule rule t.ut_offset
@@ -43,8 +43,12 @@ clock_between z least greatest is_least is_greatest =
     between : (o : ℤ) → IsOffset z.types z.extra_rule o → (least ≤ℤ o) × (o ≤ℤ greatest)
     between o is = (is_least.1 o is, is_greatest.1 o is)
 
-pub clock_in_window : (z : Zone) (r low high : ℤ) → IsWindow z.types z.extra_rule r low high → AreOffsetsOf z (r -ℤ high) (r -ℤ low)
-clock_in_window z r low high window = clock_between z (r -ℤ high) (r -ℤ low) window.last window.first
+-- so they lie around a reading as the window does
+pub offsets_around : (z : Zone) (r low high least greatest : ℤ) → IsLeastOffset z.types z.extra_rule least → IsGreatestOffset z.types z.extra_rule greatest →
+    low ≡ r -ℤ greatest → high ≡ r -ℤ least → AreOffsetsOf z (r -ℤ high) (r -ℤ low)
+offsets_around z r low high least greatest is_least is_greatest low_is high_is u t clock =
+    let between = clock_between z least greatest is_least is_greatest u t clock in
+    (omega (arith, ints, high_is, between.0), omega (arith, ints, low_is, between.1))
 
 -- the least and the greatest offset are one each
 pub window_unique : (types : List LocalTimeType) (extra_rule : Option TransitionRule) (r low high low' high' : ℤ) →
@@ -73,11 +77,6 @@ pub most_in_window : (z : Zone) (r low high : ℤ) → IsWindow z.types z.extra_
 most_in_window z r low high window w around =
     let same = window_unique z.types z.extra_rule r around.0 around.1 low high around.2 window in
     subst (λ (v : ℤ). AtMostTakeEffectIn z low v w) same.1 (subst (λ (v : ℤ). AtMostTakeEffectIn z v around.1 w) same.0 around.3)
-
--- and no more of them take effect in a window that begins later
-pub most_from_later : (z : Zone) (from low high : ℤ) → from ≤ℤ low → (w : ℕ) → AtMostTakeEffectIn z from high w → AtMostTakeEffectIn z low high w
-most_from_later z from low high later w most places rise effects =
-    most places rise (All-weaker (TakesEffectIn z low high) (TakesEffectIn z from high) (λ i (transition, u, at, effect, low_is, high_is). (transition, u, at, effect, omega (arith, ints, later, low_is), high_is)) places effects)
 
 -- a rising list whose elements another rising list contains is no longer
 no_longer : (places others : List ℕ) → AreRising places → AreRising others → All (Contains places) others → length others ≤ length places

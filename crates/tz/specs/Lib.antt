@@ -7,7 +7,6 @@ pub mod Slots
 pub mod Buffers
 pub mod Walks
 pub mod Reached
-pub mod RuleSpans
 pub mod Windows
 pub mod FindFaults
 pub mod PrintedText

@@ -82,22 +82,16 @@ IsGiven w until found =
     ((found ≡ []) × ((entry : Entry) → ¬ IsEntryOf w until entry))
     ⊎ ((entry : Entry) × (e : FoundDateTimeKind) × IsEntryOf w until entry × IsDateTimeOf w.fields entry e × (found ≡ e ∷ []))
 
--- a step to a next piece: one that begins later ends the last one, and otherwise it takes its place
+-- a step to a next piece, which ends the last one
 abbrev pub IsStep : Walk → Piece → Walk → List FoundDateTimeKind → Type 0
 IsStep w piece next found =
-    ((piece.from ≤ℤ w.since) × (next ≡ record w { local_time_type = piece.local_time_type }) × (found ≡ []))
-    ⊎ ((w.since <ℤ piece.from) × (next ≡ record w { before = w.local_time_type; since = piece.from; local_time_type = piece.local_time_type })
-    × IsGiven w piece.from found)
+    (next ≡ record w { before = w.local_time_type; since = piece.from; local_time_type = piece.local_time_type }) × IsGiven w piece.from found
 
 -- why the last piece gives nothing, where it ends at an instant: memory, or its entry lies outside the years of 32 bits
 abbrev pub IsGiveFault : Type 0 → Walk → ℤ → TzError → Type 0
 IsGiveFault takes_memory w until e =
     ((e ≡ faults.Memory alloc_error) × takes_memory)
     ⊎ ((e ≡ faults.OutOfRange) × (entry : Entry) × IsEntryOf w until entry × IsEntryOutside w.reading entry)
-
--- why a step to a piece that begins at an instant is refused: it ends the last piece, which gives nothing
-abbrev pub IsStepFault : Type 0 → Walk → ℤ → TzError → Type 0
-IsStepFault takes_memory w from e = (w.since <ℤ from) × IsGiveFault takes_memory w from e
 
 -- a walk for valid fields
 pub record IsWalk (f : Fields) (w : Walk) : Type 0 where

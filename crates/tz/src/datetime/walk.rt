@@ -82,7 +82,7 @@ impl Entry {
 impl Walk {
     ghost use Rattle.std.specs.Prelude.{◌≡◌, List, None, OnOk, IfErr, IfSome, IfNone};
     ghost use Rattle.tz_base.specs.Fields.{IsValid};
-    ghost use Rattle.tz.specs.Walks.{IsSmall, IsWalk, IsEntryOf, IsEntryNear, IsGiven, IsStep, IsGiveFault, IsStepFault};
+    ghost use Rattle.tz.specs.Walks.{IsSmall, IsWalk, IsEntryOf, IsEntryNear, IsGiven, IsStep, IsGiveFault};
     ghost use Rattle.tz.specs.declared.datetime.walk.Entry.{Entry};
     ghost use Rattle.tz.specs.declared.datetime.found.FoundDateTimeKind.{FoundDateTimeKind};
 
@@ -101,27 +101,6 @@ impl Walk {
             since: first.from,
             local_time_type: first.local_time_type,
         }
-    }
-
-    /// Where the last piece begins.
-    pub(super) fn since(&self) -> i64
-        ensures { result ≡ self.now.since }
-    {
-        self.since
-    }
-
-    /// The reading that is looked for.
-    pub(super) fn reading(&self) -> i64
-        ensures { result ≡ self.now.reading }
-    {
-        self.reading
-    }
-
-    /// The year of the reading that is looked for.
-    pub(super) fn year(&self) -> i32
-        ensures { result ≡ self.now.fields.year }
-    {
-        self.fields.year
     }
 
     /// What the reading has in the last piece, if that ends at an instant.
@@ -150,7 +129,7 @@ impl Walk {
     }
 
     /// Adds to the list what the reading has in the last piece, if that ends at an instant.
-    fn give<L: DateTimeList>(&self, list: &mut L, until: i64) -> Result<(), TzError>
+    pub(super) fn give<L: DateTimeList>(&self, list: &mut L, until: i64) -> Result<(), TzError>
         requires { IsWalk self.now.fields self.now }
         ensures ok { OnOk result ((found : List FoundDateTimeKind) × L.gains list.old list.new found × IsGiven self.now until found) }
         ensures err { IfErr result (IsGiveFault L.takes_memory self.now until) }
@@ -173,12 +152,8 @@ impl Walk {
     ) -> Result<(), TzError>
         requires { IsWalk self.old.fields self.old }
         ensures ok { OnOk result ((found : List FoundDateTimeKind) × L.gains list.old list.new found × IsStep self.old piece self.new found) }
-        ensures err { IfErr result (IsStepFault L.takes_memory self.old piece.from) }
+        ensures err { IfErr result (IsGiveFault L.takes_memory self.old piece.from) }
     {
-        if piece.from <= self.since {
-            self.local_time_type = piece.local_time_type;
-            return Ok(());
-        }
         self.give(list, piece.from)?;
         self.before = self.local_time_type;
         self.since = piece.from;

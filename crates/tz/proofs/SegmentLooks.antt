@@ -1,0 +1,121 @@
+-- A walk past the segments of a zone looks at each transition that takes effect in the window, and halves twice at most.
+use Rattle.std.proofs.Common.{◌≡◌, ◌≢◌, ℕ, ◌+◌, ◌-◌, ◌^◌, ◌<◌, ◌≤◌, ◌⊎◌, ◌∙◌, inl, inr, refl, sym, ap, subst, arith, ℤ, pos, ◌≤ℤ◌, ◌<ℤ◌, List, [], ◌∷◌, length, Option, Some, None}
+use Rattle.std.specs.Prelude.{IfSome, IfNone}
+use Rattle.std.proofs.lemmas.Bool.{cases_lt}
+use Rattle.std.proofs.lemmas.Int.{ints}
+use Rattle.std.proofs.lemmas.List.{nil_from_length}
+use Rattle.tz_zone.specs.Table.{Transition, Zone}
+use Rattle.tz_zone.specs.ClockSegments.{TakesEffectAt}
+use Rattle.tz_zone.specs.declared.inner.cursor.Cursor.{Cursor}
+use Rattle.tz.specs.Windows.{TakesEffectIn, AtMostTakeEffectIn}
+use Rattle.tz.proofs.WindowLemmas.{as_many_as_passed}
+
+empty_or_some : (transitions : List Transition) → (transitions ≡ []) ⊎ (transitions ≢ [])
+empty_or_some transitions = elim (cases_lt 0 (length transitions)) [
+  | inl some ↦ inr (λ none. omega (arith, some, ap (length {A = Transition}) none))
+  | inr none ↦ inl (nil_from_length transitions (omega (arith, none)))
+]
+
+module _ (z : Zone) (low high : ℤ) (before : ℕ) where
+  -- no more looks than one halving takes, and one for each transition of the window
+  abbrev pub AreFew : ℕ → Type 0
+  AreFew looks = (b w : ℕ) → length z.transitions < 2 ^ b → AtMostTakeEffectIn z low high w → looks ≤ before + (b + w + 1)
+
+  -- at a place, with the place at which it began and the looks that it took to find that
+  pub record AreLooksTo (looks place : ℕ) : Type 0 where
+    pub first : ℕ
+    pub halving : ℕ
+    pub order : first ≤ place
+    pub passed : looks + first ≤ before + halving + place
+    pub few : (b : ℕ) → length z.transitions < 2 ^ b → halving ≤ b + 1
+    pub effects : (i : ℕ) → first ≤ i → i < place → TakesEffectIn z low high i
+
+  -- at the end of a segment: none yet where it has no cursor, unless it is the last of all
+  pub record AreLooks (looks : ℕ) (cursor : Option Cursor) (last : ℤ) : Type 0 where
+    pub kept : before ≤ looks
+    pub none : z.transitions ≡ [] → looks ≡ before
+    pub some : IfSome cursor (λ c. AreLooksTo looks c.place)
+    pub without : IfNone cursor ((looks ≡ before) ⊎ ((last ≡ pos 9223372036854775807) × AreFew looks))
+
+  pub looks_at_first : (cursor : Option Cursor) (last : ℤ) → AreLooks before cursor last
+  looks_at_first None last = record { kept = omega arith; none = λ empty. refl; some = tt; without = inl refl }
+  looks_at_first (Some c) last = record {
+    kept = omega arith;
+    none = λ empty. refl;
+    some = record { first = c.place; halving = 0; order = omega arith; passed = omega arith; few = λ b bits. omega arith; effects = λ i from until. absurd (omega (arith, from, until)) };
+    without = tt;
+  }
+
+  few_to : (looks place : ℕ) → AreLooksTo looks place → AreFew looks
+  few_to looks place to b w bits most =
+      omega (arith, to.passed, to.few b bits, as_many_as_passed z low high w most to.first place to.order to.effects)
+
+  pub few_at_end : (looks : ℕ) (cursor : Option Cursor) (last : ℤ) → AreLooks looks cursor last → AreFew looks
+  few_at_end looks None last are b w bits most = elim are.without [ inl same ↦ omega (arith, same) | inr end ↦ end.1 b w bits most ]
+  few_at_end looks (Some c) last are b w bits most = few_to looks c.place are.some b w bits most
+
+  -- on to the next segment, which begins in the window
+  pub looks_at_next : (looks next : ℕ) (cursor after : Option Cursor) (last from end : ℤ) → AreLooks looks cursor last → last <ℤ pos 9223372036854775807 → low ≤ℤ from → from ≤ℤ high →
+      looks ≤ next →
+      IfNone cursor ((b : ℕ) → length z.transitions < 2 ^ b → next ≤ looks + (b + 1)) →
+      IfSome cursor (λ c. IfSome after (λ d. next + c.place ≤ looks + d.place)) →
+      IfSome cursor (λ c. IfNone after (next ≡ looks)) →
+      IfSome cursor (λ c. IfSome after (λ d. (i : ℕ) → c.place ≤ i → i < d.place → TakesEffectAt z from i)) →
+      (z.transitions ≢ [] → IfNone after (end ≡ pos 9223372036854775807)) →
+      (z.transitions ≡ [] → next ≡ looks) →
+      AreLooks next after end
+  looks_at_next looks next (Some c) (Some d) last from end are more low_is high_is kept anew on same effects over empty = record {
+    kept = omega (arith, are.kept, kept);
+    none = λ none. empty none ∙ are.none none;
+    some = record {
+      first = are.some.first;
+      halving = are.some.halving;
+      order = omega (arith, are.some.order, on, kept);
+      passed = omega (arith, are.some.passed, on);
+      few = are.some.few;
+      effects = λ i since until. elim (cases_lt i c.place) [
+        | inl early ↦ are.some.effects i since early
+        | inr late ↦ let (change, at, effect) = effects i (omega (arith, late)) until in (change, from, at, effect, low_is, high_is)
+      ];
+    };
+    without = tt;
+  }
+  looks_at_next looks next (Some c) None last from end are more low_is high_is kept anew on same effects over empty = record {
+    kept = omega (arith, are.kept, kept);
+    none = λ none. empty none ∙ are.none none;
+    some = tt;
+    without = elim (empty_or_some z.transitions) [
+      | inl none ↦ inl (empty none ∙ are.none none)
+      | inr some ↦ inr (over some, subst AreFew (sym same) (few_to looks c.place are.some))
+    ];
+  }
+  looks_at_next looks next None (Some d) last from end are more low_is high_is kept anew on same effects over empty =
+      elim are.without [
+        | inl start ↦ record {
+          kept = omega (arith, are.kept, kept);
+          none = λ none. empty none ∙ are.none none;
+          some = record {
+            first = d.place;
+            halving = next - before;
+            order = omega arith;
+            passed = omega (arith, start, kept);
+            few = λ b bits. omega (arith, anew b bits, start);
+            effects = λ i since until. absurd (omega (arith, since, until));
+          };
+          without = tt;
+        }
+        | inr stop ↦ absurd (omega (arith, ints, more, stop.0))
+      ]
+  looks_at_next looks next None None last from end are more low_is high_is kept anew on same effects over empty =
+      elim are.without [
+        | inl start ↦ record {
+          kept = omega (arith, are.kept, kept);
+          none = λ none. empty none ∙ are.none none;
+          some = tt;
+          without = elim (empty_or_some z.transitions) [
+            | inl none ↦ inl (empty none ∙ are.none none)
+            | inr some ↦ inr (over some, λ b w bits most. omega (arith, anew b bits, start))
+          ];
+        }
+        | inr stop ↦ absurd (omega (arith, ints, more, stop.0))
+      ]
