@@ -19,6 +19,7 @@ mod leap_tables;
 mod looks;
 mod memory;
 mod texts;
+mod windows;
 
 use crate::expect::expect_eq;
 use crate::searches::{Reading, Summary, find, summaries, summary};
