@@ -1,6 +1,6 @@
 //! The search for a reading in the clock of a zone.
 
-ghost use Rattle.std.specs.Prelude.{◌≡◌, ◌+◌, ◌*◌, ◌^◌, ◌<◌, ◌≤◌, ◌⊎◌, ℕ, ℤ, pos, List, ◌-ℤ◌, ◌≤ℤ◌, Option, Some, OnOk, IfErr, length};
+ghost use Rattle.std.specs.Prelude.{◌≡◌, ◌+◌, ◌*◌, ◌^◌, ◌<◌, ◌≤◌, ◌⊎◌, ℕ, ℤ, pos, List, ◌-ℤ◌, ◌≤ℤ◌, Option, Some, OnOk, IfErr, length, alloc_error, [], ◌∷◌};
 ghost use Rattle.tz_base.specs.Fields.{IsValid, reading as reading_of};
 ghost use Rattle.tz_zone.specs.Table.{Zone};
 ghost use Rattle.tz_zone.specs.Clock.{IsClock};
@@ -8,13 +8,15 @@ ghost use Rattle.tz_zone.specs.ClockSegments.{IsSegmentAt};
 ghost use Rattle.tz_zone.specs.ValidZone.{AreLeapSeconds, IsSoundTable};
 ghost use Rattle.tz_zone.specs.ZoneSeen.{zone_seen};
 ghost use Rattle.tz.specs.Found.{IsFound};
-ghost use Rattle.tz.specs.Walks.{HoldsAt, IsSearchFault, IsSmall};
+ghost use Rattle.tz.specs.Walks.{HoldsAt, IsOutside, IsSearchFault, IsSmall, moment_of};
 ghost use Rattle.tz.specs.Reached.{AreOffsetsOf};
 ghost use Rattle.tz.specs.Windows.{IsOffsetOfTypes, IsOffsetOfRule, IsLeastOffset, IsGreatestOffset, AtMostTakeEffectIn, AtMostTakeEffectAround};
 ghost use Rattle.tz.specs.declared.datetime.found.FoundDateTimeKind.{FoundDateTimeKind};
+ghost use Rattle.tz.specs.declared.datetime.found.FoundDateTimeKind.TheVariants.{Normal};
 
 use super::growing::DateTimeList;
 use super::walk::{Piece, Walk};
+use super::{DateTime, FoundDateTimeKind};
 use tz_base::calendar::Fields;
 use tz_base::error::TzError;
 use tz_zone::inner::{
@@ -110,19 +112,40 @@ fn window(reading: i64, least: i32, greatest: i32) -> (i64, i64)
     (reading - i64::from(greatest), reading - i64::from(least))
 }
 
+/// Adds to the list the date time at which a clock shows valid fields with this reading, where it has one type throughout their window.
+fn give_once<L: DateTimeList>(
+    list: &mut L,
+    fields: &Fields,
+    reading: i64,
+    local_time_type: &LocalTimeType,
+) -> Result<(), TzError>
+    requires valid { IsValid fields.now }
+    requires reading { reading ≡ reading_of fields.now }
+    requires small { IsSmall reading }
+    ensures ok { OnOk result (L.gains list.old list.new
+        (Normal (moment_of fields.now local_time_type.now (reading_of fields.now -ℤ local_time_type.now.ut_offset)) ∷ [])) }
+    ensures err { IfErr result (λ e. ((e ≡ TzError.Memory alloc_error) × L.takes_memory)
+        ⊎ ((e ≡ TzError.OutOfRange) × IsOutside (reading_of fields.now) (reading_of fields.now -ℤ local_time_type.now.ut_offset))) }
+{
+    let unix_time = reading - i64::from(local_time_type.ut_offset());
+    let date_time = DateTime::from_valid_fields(fields, *local_time_type, unix_time)?;
+    list.push(FoundDateTimeKind::Normal(date_time))?;
+    Ok(())
+}
+
 /// Adds all that is found of valid fields in a window to the list, in order, from the segment in which the window begins.
 fn search_from<'a, L: DateTimeList, V: Transitions>(
     list: &mut L,
     fields: &Fields,
     view: &mut V,
     parts: OtherParts<'a>,
-    first: ClockSegment<'a>,
+    segment: &mut ClockSegment<'a>,
     low: i64,
     high: i64,
 ) -> Result<(), TzError>
     requires valid { IsValid fields.now }
     requires sound { IsSoundTable (zone_seen (V.list view.old) parts) }
-    requires first { IsSegmentAt (zone_seen (V.list view.old) parts) low first }
+    requires first { IsSegmentAt (zone_seen (V.list view.old) parts) low segment.old }
     requires order { low ≤ℤ high }
     requires reach { high ≤ℤ pos 80000000000000000 }
     requires offsets { AreOffsetsOf (zone_seen (V.list view.old) parts) (reading_of fields.now -ℤ high) (reading_of fields.now -ℤ low) }
@@ -136,17 +159,18 @@ fn search_from<'a, L: DateTimeList, V: Transitions>(
         → V.looks view.new ≤ V.looks view.old + (b + w + 1)) }
     ensures none { OnOk result (length (V.list view.old) ≡ 0 → V.looks view.new ≡ V.looks view.old) }
 {
-    let mut segment = first;
+    // This read tells the proof that the end is an instant of 64 bits.
+    let _last = segment.last;
     let start = Piece {
         from: low,
-        local_time_type: type_in(&segment),
+        local_time_type: type_in(segment),
     };
     let mut walk = Walk::new(fields, start);
     while segment.last < high {
-        segment = clock_segment_after(view, parts, &segment);
+        *segment = clock_segment_after(view, parts, segment);
         let piece = Piece {
             from: segment.from,
-            local_time_type: type_in(&segment),
+            local_time_type: type_in(segment),
         };
         walk.step(list, piece)?;
     }
@@ -172,7 +196,13 @@ pub(super) fn search<L: DateTimeList, V: Transitions>(
     ensures none { OnOk result (length (V.list view.old) ≡ 0 → V.looks view.new ≡ V.looks view.old) }
 {
     let (least, greatest) = offsets(parts.local_time_types, parts.extra_rule);
-    let (low, high) = window(fields.reading(), least, greatest);
-    let first = clock_segment_at(view, parts, low);
-    search_from(list, fields, view, parts, first, low, high)
+    let reading = fields.reading();
+    let (low, high) = window(reading, least, greatest);
+    let mut first = clock_segment_at(view, parts, low);
+    if high <= first.last {
+        if let Some(local_time_type) = first.local_time_type {
+            return give_once(list, fields, reading, local_time_type);
+        }
+    }
+    search_from(list, fields, view, parts, &mut first, low, high)
 }

@@ -34,7 +34,7 @@ itself u = omega (arith, ints)
 pub loop-segment-init : goal.loop-segment-init
 loop-segment-init g c =
     let z = zone_seen (g.V.Transitions.list c.args.view.now) c.args.parts in
-    let first = c.args.first in
+    let first = c.args.segment.now in
     let fits : SFits w64 first.last = search rules in
     let low_is = to_z-of_z w64 c.args.low c.ranges.low in
     let walk = c.new-walk.ensures in
@@ -62,8 +62,8 @@ loop-segment-preserved g c =
     let so_far = rw (low_is, high_is) at c.loop-segment.invariant in
     let way = so_far.found.2 in
     let here = c.loop-segment.segment in
-    let next = c.clock_segment_after-segment.result in
-    let after = rw c.loop-segment.invariant.same at c.clock_segment_after-segment.ensures in
+    let next = c.clock_segment_after.result in
+    let after = rw c.loop-segment.invariant.same at c.clock_segment_after.ensures in
     let fits : SFits w64 next.last = search rules in
     let fits_from : SFits w64 next.from = search rules in
     let type = c.type_in-in-loop-segment.result in
@@ -74,7 +74,7 @@ loop-segment-preserved g c =
     let step = c.in_ok-step.ensures.ok in
     let stepped = step_from c.loop-segment.walk c.step.new.self (same next.from) next.from type step.0 (to_z-of_z w64 next.from fits_from) step.2 in
     rw (low_is, high_is) (record {
-      same = c.clock_segment_after-segment.ensures.same ∙ so_far.same;
+      same = c.clock_segment_after.ensures.same ∙ so_far.same;
       segment = (here.last +ℤ pos 1, after.at);
       fits = fits;
       found = (
@@ -82,7 +82,7 @@ loop-segment-preserved g c =
         g.met.L.DateTimeList.more c.args.list.now c.loop-segment.list c.step.new.list so_far.found.0 step.0 so_far.found.1 step.1,
         walked_to_next (IsClock z) low high c.args.fields.now here.last c.loop-segment.walk so_far.found.0 way more next.last (piece_from next.from type) c.step.new.self step.0 after.from order holds stepped,
       );
-      looks = looks_at_next z low high (g.V.Transitions.looks c.args.view.now) (g.V.Transitions.looks c.loop-segment.view) (g.V.Transitions.looks c.clock_segment_after-segment.new.view) here.cursor next.cursor here.last next.from next.last
+      looks = looks_at_next z low high (g.V.Transitions.looks c.args.view.now) (g.V.Transitions.looks c.loop-segment.view) (g.V.Transitions.looks c.clock_segment_after.new.view) here.cursor next.cursor here.last next.from next.last
           so_far.looks (omega (arith, ints, more, c.requires.reach)) (omega (arith, ints, way.low_is, way.last_is, after.from)) (omega (arith, ints, more, after.from))
           after.kept after.anew after.on after.none after.effects after.end after.empty;
     })
@@ -92,9 +92,9 @@ loop-segment-smaller g c =
     let high = c.args.high in
     let high_is = to_z-of_z w64 high c.ranges.high in
     let here = c.loop-segment.segment in
-    let next = c.clock_segment_after-segment.result in
+    let next = c.clock_segment_after.result in
     let more : here.last <ℤ high = omega (arith, ints, c.loop-segment-test.true, to_z-of_z w64 here.last c.loop-segment.invariant.fits, high_is) in
-    rw high_is (room_less (high -ℤ here.last) (high -ℤ next.last) (omega (arith, ints, more)) (omega (arith, ints, c.clock_segment_after-segment.ensures.at.within.1)))
+    rw high_is (room_less (high -ℤ here.last) (high -ℤ next.last) (omega (arith, ints, more)) (omega (arith, ints, c.clock_segment_after.ensures.at.within.1)))
 
 pub returns-in_err-step-clause-err : goal.returns-in_err-step-clause-err
 returns-in_err-step-clause-err g c =
@@ -104,9 +104,9 @@ returns-in_err-step-clause-err g c =
     let so_far = rw (low_is, high_is) at c.loop-segment.invariant in
     let way = so_far.found.2 in
     let here = c.loop-segment.segment in
-    let next = c.clock_segment_after-segment.result in
+    let next = c.clock_segment_after.result in
     let fits_from : SFits w64 next.from = search rules in
-    let from_is : same next.from ≡ here.last +ℤ pos 1 = to_z-of_z w64 next.from fits_from ∙ c.clock_segment_after-segment.ensures.from in
+    let from_is : same next.from ≡ here.last +ℤ pos 1 = to_z-of_z w64 next.from fits_from ∙ c.clock_segment_after.ensures.from in
     let more : here.last <ℤ c.args.high = omega (arith, ints, c.loop-segment-test.true, to_z-of_z w64 here.last so_far.fits, high_is) in
     let p = err_from_is_err_and c.from_residual.result c.from_residual.ensures.1 in
     rw (p.1, p.2)
