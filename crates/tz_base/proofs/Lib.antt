@@ -4,6 +4,7 @@ pub mod MarchLemmas
 pub mod MonthLemmas
 pub mod DayLemmas
 pub mod DateLemmas
+pub mod MarchDays
 pub mod ReadingLemmas
 pub mod OrderLemmas
 pub mod EndLemmas

@@ -34,6 +34,40 @@ months_length-normal place h = told_place false normal_table place (passes_at (i
 pub months_length-leap : (place : ℕ) → place < 12 → (get_or leap_table place 0 ≡ months_length true place) × (get_or leap_table place 0 ≤ 335)
 months_length-leap place h = told_place true leap_table place (passes_at (is_right_place true leap_table) 12 place right_leap h)
 
+pub months_length-bound : (leap : Bool) (place : ℕ) → place < 12 → months_length leap place ≤ 335
+months_length-bound false place h =
+    let found = months_length-normal place h in
+    omega arith
+months_length-bound true place h =
+    let found = months_length-leap place h in
+    omega arith
+
+-- the table of days from March 1st, where January and February come last
+abbrev march_table : List ℕ
+march_table = 306 ∷ 337 ∷ 0 ∷ 31 ∷ 61 ∷ 92 ∷ 122 ∷ 153 ∷ 184 ∷ 214 ∷ 245 ∷ 275 ∷ []
+
+is_right_march_place : Bool → ℕ → Bool
+is_right_march_place leap place =
+    leb (get_or march_table place 0) 337
+    && eqb (months_length leap place + cond (ltb place 2) 306 0) (get_or march_table place 0 + cond (ltb place 2) 0 (cond leap 60 59))
+
+right_march : (leap : Bool) → all_below (is_right_march_place leap) 12 ≡ true
+unfolding all_below is_right_march_place month_length months_length
+right_march false = refl
+right_march true = refl
+
+-- how many days lie between March 1st and the first of the month at a place, counted from January
+pub record IsFromMarch (leap : Bool) (place days : ℕ) : Type 0 where
+  pub early : place < 2 → days ≡ 306 + months_length leap place
+  pub late : 2 ≤ place → days + cond leap 60 59 ≡ months_length leap place
+  pub bound : days ≤ 337
+
+pub days_from_march-is : (leap : Bool) (place : ℕ) → place < 12 → IsFromMarch leap place (get_or march_table place 0)
+unfolding is_right_march_place
+days_from_march-is leap place h =
+    let right = passes_at (is_right_march_place leap) 12 place (right_march leap) h in
+    record { early = λ small. grind (arith, nat_tests); late = λ large. grind (arith, nat_tests); bound = grind (arith, nat_tests) }
+
 -- a day before January lies in the month that is found, after the months before it
 is_right_before_january : Bool → ℕ → Bool
 is_right_before_january leap day =

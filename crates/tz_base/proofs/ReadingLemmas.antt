@@ -39,3 +39,7 @@ civil_from_parts x moved year month month_day nanoseconds e date part longest =
 pub month_length-le : (leap : Bool) (month : ℕ) → month_length leap month ≤ 31
 unfolding month_length
 month_length-le leap month = grind (arith, nat_tests)
+
+pub month_length-ge : (leap : Bool) (month : ℕ) → 28 ≤ month_length leap month
+unfolding month_length
+month_length-ge leap month = grind (arith, nat_tests)

@@ -2,9 +2,9 @@
 //!
 //! A reading counts the seconds from 1970-01-01 00:00:00 to the fields of a date time, whatever clock shows them.
 
-ghost use Rattle.std.specs.Prelude.{◌≡◌, ℕ, ◌+◌, ◌-◌, ◌*◌, ◌/◌, ◌^◌, ◌<◌, ◌≤◌, true, ℤ, pos, negsuc, ◌+ℤ◌, ◌-ℤ◌, ◌*ℤ◌, ◌≤ℤ◌, OnOk, IfErr, IfSome, IfNone, MatchBool, FitsSigned};
+ghost use Rattle.std.specs.Prelude.{◌≡◌, Bool, if◌then◌else◌, ℕ, ◌+◌, ◌-◌, ◌*◌, ◌/◌, ◌^◌, ◌<◌, ◌≤◌, true, ℤ, pos, negsuc, ◌+ℤ◌, ◌-ℤ◌, ◌*ℤ◌, ◌≤ℤ◌, OnOk, IfErr, IfSome, IfNone, MatchBool, FitsSigned};
 ghost use Rattle.std.specs.Int.{w64};
-ghost use Rattle.tz_base.specs.Cycles.{days_of_years as closed_days, days_of_march_years, march_month, march_month_day};
+ghost use Rattle.tz_base.specs.Cycles.{days_of_years as closed_days, days_of_march_years as closed_march_days, march_month, march_month_day};
 ghost use Rattle.tz_base.specs.Days.{is_leap, month_length, months_length, first_day, day_number, week_day_of, IsDateOf};
 ghost use Rattle.tz_base.specs.Fields.{IsMonth, IsValid, IsFirstFault, IsCivil, IsReading, day_of, reading as reading_of, total_nanoseconds_of, IsTimespec};
 
@@ -36,6 +36,9 @@ const ADDED_YEARS: i64 = 2_147_484_000;
 /// The days from January 1st of the year -2147484000 to 1970-01-01.
 const ADDED_DAYS: i64 = 784_353_144_398;
 
+/// The days from the day before March 1st of the year -2147484000 to 1970-01-01.
+const ADDED_MARCH_DAYS: i64 = 784_353_144_339;
+
 /// The seconds from January 1st of the year -2147484000 to 1970-01-01.
 const ADDED_SECONDS: i64 = 67_768_111_675_987_200;
 
@@ -50,6 +53,9 @@ const DAYS_BEFORE_MONTH_NORMAL: [u16; 12] = [0, 31, 59, 90, 120, 151, 181, 212, 
 
 /// Days before each month of a leap year.
 const DAYS_BEFORE_MONTH_LEAP: [u16; 12] = [0, 31, 60, 91, 121, 152, 182, 213, 244, 274, 305, 335];
+
+/// Days from March 1st to the first of each month: January and February come last.
+const DAYS_FROM_MARCH: [u16; 12] = [306, 337, 0, 31, 61, 92, 122, 153, 184, 214, 245, 275];
 
 /// Whether the year is leap.
 #[tactic(auto, unfolding(crate::specs::Days::is_leap))]
@@ -79,6 +85,17 @@ pub fn days_in_month(year: i32, month: u8) -> u8
     ensures { result ≡ month_length (is_leap year) month }
 {
     days_of_month(is_leap_year(year), month)
+}
+
+/// Whether the month of a year has the day; a day up to the 28th is not looked up.
+fn has_month_day(year: i32, month: u8, month_day: u8) -> bool
+    requires { IsMonth month }
+    ensures { MatchBool result (month_day ≤ month_length (is_leap year) month) (month_length (is_leap year) month < month_day) }
+{
+    if month_day <= 28 {
+        return true;
+    }
+    month_day <= days_in_month(year, month)
 }
 
 /// The days of a number of years, the first of which 400 divides.
@@ -121,16 +138,48 @@ pub fn days_before_month(leap: bool, month: u8) -> u16
     }
 }
 
+/// The days from March 1st to the first of a month.
+fn days_from_march(month: u8) -> u64
+    requires { IsMonth month }
+    ensures early { month < 3 → (leap : Bool) → result ≡ 306 + months_length leap (month - 1) }
+    ensures late { 3 ≤ month → (leap : Bool) → result + (if leap then 60 else 59) ≡ months_length leap (month - 1) }
+    ensures bound { result ≤ 337 }
+{
+    let place = usize::from(month) - 1;
+    u64::from(DAYS_FROM_MARCH[place])
+}
+
+/// The year, moved as by `moved_year`, on whose March 1st the year begins in which the month lies.
+fn moved_march_year(year: i32, month: u8) -> u64
+    ensures early { month < 3 → pos result +ℤ pos 1 ≡ year +ℤ pos 2147484000 }
+    ensures late { 3 ≤ month → pos result ≡ year +ℤ pos 2147484000 }
+    ensures bound { result ≤ 4294967647 }
+{
+    moved_year(year) - u64::from(month < 3)
+}
+
+/// The days of a number of years, the first of which begins on March 1st of a year that 400 divides.
+///
+/// A multiplication and a shift stand for a division by 100.
+#[tactic(auto, unfolding(crate::specs::Cycles::days_of_march_years))]
+fn days_of_march_years(years: u64) -> u64
+    requires { years ≤ 4294967647 }
+    ensures value { result ≡ closed_march_days years }
+    ensures bound { result < 2 ^ 42 }
+{
+    let centuries = 1_374_389_535 * years / 137_438_953_472;
+    1461 * years / 4 - centuries + centuries / 4
+}
+
 /// The number of the day, where 1970-01-01 has the number 0. A day past the end of its month counts on.
-#[tactic(auto, unfolding(crate::specs::Days::day_number))]
 pub fn days_since_unix_epoch(year: i32, month: u8, month_day: u8) -> i64
     requires month { IsMonth month }
     requires month_day { 1 ≤ month_day }
     ensures value { result ≡ day_number year month month_day }
     ensures bound { (negsuc 784353015832 ≤ℤ result) × (result ≤ℤ pos 784351577001) }
 {
-    let days_before = days_before_month(is_leap_year(year), month) + u16::from(month_day) - 1;
-    first_day_of_year(year) + i64::from(days_before)
+    let days_before = days_of_march_years(moved_march_year(year, month)) + days_from_march(month);
+    (days_before + u64::from(month_day)) as i64 - ADDED_MARCH_DAYS
 }
 
 /// The week day of a day by its number, from Sunday = 0.
@@ -146,7 +195,7 @@ pub fn week_day_of_day(day: i64) -> u8
 /// The year that begins on March 1st, and the day of it, from 0. Both are counted from March 1st of a year that 400 divides.
 fn march_year(day: u64) -> (u64, u64)
     requires { day < 2 ^ 42 }
-    ensures value { days_of_march_years result.0 + result.1 ≡ day }
+    ensures value { closed_march_days result.0 + result.1 ≡ day }
     ensures bound { (result.0 < 2 ^ 35) × (result.1 ≤ 365) }
     ensures leap { result.1 ≡ 365 → is_leap (pos (result.0 + 1)) ≡ true }
 {
@@ -232,7 +281,7 @@ impl Fields {
         if self.nanoseconds >= NANOSECONDS_PER_SECOND {
             return Err(DateTimeError::InvalidNanoseconds);
         }
-        if self.month_day > days_in_month(self.year, self.month) {
+        if !has_month_day(self.year, self.month, self.month_day) {
             return Err(DateTimeError::InvalidMonthDay);
         }
         Ok(())
