@@ -14,6 +14,7 @@ pub mod ClockSegmentLemmas
 pub mod TzFileLaws
 pub mod TzNames
 pub mod TzTables
+pub mod TzOrder
 pub mod TextRuns
 pub mod TextNumbers
 pub mod QuestionMarkExits

@@ -1,7 +1,7 @@
 -- A table of one more record is the table and that record.
-use Rattle.std.proofs.Common.{◌≡◌, ℕ, ◌+◌, List, [], ◌∷◌, ◌++◌, refl, zero-add}
+use Rattle.std.proofs.Common.{◌≡◌, ℕ, ◌+◌, List, [], ◌∷◌, ◌++◌, length, refl, zero-add}
 use Rattle.std.specs.Int.{Width}
-use Rattle.std.proofs.lemmas.List.FromFn.{map-range_with_len_more}
+use Rattle.std.proofs.lemmas.List.FromFn.{length-map-range_with_len, map-range_with_len_more}
 use Rattle.tz_zone.specs.TzFile.{Block, change_at, leap_at, type_at, transitions_of, leaps_of, types_of}
 
 pub transitions_none : (w : Width) (block : Block) → transitions_of w block 0 ≡ []
@@ -27,6 +27,10 @@ types_none block = refl
 pub types_more : (block : Block) (i : ℕ) → types_of block (i + 1) ≡ types_of block i ++ type_at block i ∷ []
 unfolding types_of
 types_more block i = map-range_with_len_more (type_at block) 0 i i (zero-add i)
+
+pub length-types_of : (block : Block) (count : ℕ) → length (types_of block count) ≡ count
+unfolding types_of
+length-types_of block count = length-map-range_with_len (type_at block) 0 count
 
 -- a table so far, and the record that is pushed to it
 pub pushed : {X : Type 0} (table : ℕ → List X) (i : ℕ) (items more : List X) (x y : X) → items ≡ table i → more ≡ items ++ x ∷ [] → x ≡ y → table (i + 1) ≡ table i ++ y ∷ [] → more ≡ table (i + 1)

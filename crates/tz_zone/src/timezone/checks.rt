@@ -1,6 +1,6 @@
 //! The checks of a zone's parts.
 
-ghost use Rattle.std.specs.Prelude.{◌≡◌, ◌≢◌, ℕ, pos, ◌+ℤ◌, ◌-ℤ◌, ◌≤ℤ◌, ◌+◌, ◌<◌, length, [], OnOk, IfOk, IfErr, MatchBool};
+ghost use Rattle.std.specs.Prelude.{◌≡◌, ◌≢◌, ℕ, pos, ◌+ℤ◌, ◌-ℤ◌, ◌≤ℤ◌, ◌+◌, ◌<◌, length, [], OnOk, IfOk, IfErr, IsTrue, MatchBool};
 ghost use Rattle.tz_rule.specs.LocalTimeType.{LocalTimeType};
 ghost use Rattle.tz_zone.specs.Table.{zone_with};
 ghost use Rattle.tz_zone.specs.LeapTime.{IsOneSecond};
@@ -44,6 +44,23 @@ fn check_transitions(transitions: &[Transition], types: usize) -> Result<(), Tim
         }
     }
     Ok(())
+}
+
+/// Checks the transitions, unless they are known to pass.
+#[inline(always)]
+fn check_unknown_transitions(
+    transitions: &[Transition],
+    types: usize,
+    are_in_order: bool,
+) -> Result<(), TimeZoneError>
+    requires { IsTrue are_in_order → (i : ℕ) → HasTypeAtPlace transitions.now types i × RisesAtPlace transitions.now i }
+    ensures ok { OnOk result ((i : ℕ) → HasTypeAtPlace transitions.now types i × RisesAtPlace transitions.now i) }
+    ensures err { IfErr result (IsFirstTransitionFault transitions.now types) }
+{
+    if are_in_order {
+        return Ok(());
+    }
+    check_transitions(transitions, types)
 }
 
 /// Whether a leap second may come first.
@@ -165,10 +182,31 @@ pub(crate) fn check_parts(
     ensures ok { OnOk result (IsValidZone (zone_with transitions.now local_time_types.now leap_seconds.now extra_rule.now)) }
     ensures err { IfErr result (IsFirstZoneFault (zone_with transitions.now local_time_types.now leap_seconds.now extra_rule.now)) }
 {
+    check_read_parts(
+        transitions,
+        local_time_types,
+        leap_seconds,
+        extra_rule,
+        false,
+    )
+}
+
+/// Checks the parts of a zone, in the order in which their faults are named, but for transitions that are known to pass.
+pub(crate) fn check_read_parts(
+    transitions: &[Transition],
+    local_time_types: &[LocalTimeType],
+    leap_seconds: &[LeapSecond],
+    extra_rule: &Option<TransitionRule>,
+    are_in_order: bool,
+) -> Result<(), TzError>
+    requires { IsTrue are_in_order → (i : ℕ) → HasTypeAtPlace transitions.now (length local_time_types.now) i × RisesAtPlace transitions.now i }
+    ensures ok { OnOk result (IsValidZone (zone_with transitions.now local_time_types.now leap_seconds.now extra_rule.now)) }
+    ensures err { IfErr result (IsFirstZoneFault (zone_with transitions.now local_time_types.now leap_seconds.now extra_rule.now)) }
+{
     if local_time_types.is_empty() {
         return Err(TzError::TimeZone(TimeZoneError::NoLocalTimeType));
     }
-    check_transitions(transitions, local_time_types.len())?;
+    check_unknown_transitions(transitions, local_time_types.len(), are_in_order)?;
     if !are_leap_seconds(leap_seconds) {
         return Err(TzError::TimeZone(TimeZoneError::InvalidLeapSecond));
     }

@@ -52,7 +52,8 @@ fn is_absolute(name: &str) -> bool
 fn join<A: Allocator + Copy>(alloc: A, directory: &str, name: &str) -> Result<String<A>, AllocError>
     ensures { IfOk result (λ path. string_bytes path ≡ path_in directory.now name.now) }
 {
-    let mut path = String::from_str(alloc, directory)?;
+    let mut path = String::with_capacity(alloc, directory.len() + 1 + name.len())?;
+    path.push_str(directory)?;
     path.push_str("/")?;
     path.push_str(name)?;
     Ok(path)

@@ -3,7 +3,7 @@
 ghost use Rattle.tz_zone.specs.Table.{zone_with};
 ghost use Rattle.tz_zone.specs.ValidZone.{IsSoundTable, IsSoundTable-prop, IsValidZone};
 
-use super::checks::check_parts;
+use super::checks::check_read_parts;
 use super::{LeapSecond, LocalTimeType, TimeZoneRef, Transition, TransitionRule};
 use crate::parse::tz_file::parse_tz_file;
 use std::alloc::{Allocator, Global};
@@ -46,14 +46,14 @@ impl<A: Allocator + Copy> Eq for TimeZone<A> {
 }
 
 impl<A: Allocator + Copy> TimeZone<A> {
-    ghost use Rattle.std.specs.Prelude.{◌≡◌, ◌⊎◌, pos, alloc_error, IfOk, IfErr, OnOk, MatchResult};
+    ghost use Rattle.std.specs.Prelude.{◌≡◌, ◌⊎◌, ℕ, pos, length, alloc_error, IfOk, IfErr, OnOk, IsTrue, MatchResult};
     ghost use Rattle.tz_base.specs.declared.error.timezone.LocalTimeTypeError.TheVariants as faults;
     ghost use Rattle.tz_rule.specs.LocalTimeType.{plain_type, IsOffset};
     ghost use Rattle.tz_zone.specs.Table.{Zone, zone_with, zone_of_type};
     ghost use Rattle.tz_zone.specs.Clock.{IsClock, IsLookupFault};
     ghost use Rattle.tz_zone.specs.TzFile.{IsTzFile};
     ghost use Rattle.tz_zone.specs.TzFileFault.{IsReadFault};
-    ghost use Rattle.tz_zone.specs.ValidZone.{IsValidZone, IsFirstZoneFault};
+    ghost use Rattle.tz_zone.specs.ValidZone.{HasTypeAtPlace, RisesAtPlace, IsValidZone, IsFirstZoneFault};
     ghost use Rattle.tz_zone.specs.ZoneRef.{zone_of, own_zone_of};
 
     /// The zone with these parts. (RFC 8536, section 3.2)
@@ -72,7 +72,35 @@ impl<A: Allocator + Copy> TimeZone<A> {
         ensures ok { OnOk result (IsValidZone (zone_with transitions.items local_time_types.items leap_seconds.items extra_rule)) }
         ensures err { IfErr result (IsFirstZoneFault (zone_with transitions.items local_time_types.items leap_seconds.items extra_rule)) }
     {
-        check_parts(&transitions, &local_time_types, &leap_seconds, &extra_rule)?;
+        TimeZone::from_read_parts(
+            transitions,
+            local_time_types,
+            leap_seconds,
+            extra_rule,
+            false,
+        )
+    }
+
+    /// The zone with these parts, whose transitions the caller may know to name types and to come in order.
+    pub(crate) fn from_read_parts(
+        transitions: Vec<Transition, A>,
+        local_time_types: Vec<LocalTimeType, A>,
+        leap_seconds: Vec<LeapSecond, A>,
+        extra_rule: Option<TransitionRule>,
+        are_in_order: bool,
+    ) -> Result<Self, TzError>
+        requires { IsTrue are_in_order → (i : ℕ) → HasTypeAtPlace transitions.items (length local_time_types.items) i × RisesAtPlace transitions.items i }
+        ensures parts { IfOk result (λ z. own_zone_of z ≡ zone_with transitions.items local_time_types.items leap_seconds.items extra_rule) }
+        ensures ok { OnOk result (IsValidZone (zone_with transitions.items local_time_types.items leap_seconds.items extra_rule)) }
+        ensures err { IfErr result (IsFirstZoneFault (zone_with transitions.items local_time_types.items leap_seconds.items extra_rule)) }
+    {
+        check_read_parts(
+            &transitions,
+            &local_time_types,
+            &leap_seconds,
+            &extra_rule,
+            are_in_order,
+        )?;
         Ok(TimeZone {
             transitions,
             local_time_types,

@@ -1,30 +1,43 @@
 //! The tables of a block. (RFC 8536, section 3.2)
 
-ghost use Rattle.std.specs.Prelude.{◌≡◌, ℕ, ◌+◌, ◌*◌, ◌<◌, ◌≤◌, ◌⊎◌, ◌==◌, length, alloc_error, option_copied, IfOk, IfErr, OnOk, MatchOption};
+ghost use Rattle.std.specs.Prelude.{◌≡◌, ℕ, ◌+◌, ◌*◌, ◌<◌, ◌≤◌, ◌⊎◌, ◌==◌, ◌<ℤ◌, length, alloc_error, option_copied, IfOk, IfErr, OnOk, IsTrue, MatchOption};
 ghost use Rattle.std.specs.List.{position_from};
 ghost use Rattle.tz_base.specs.declared.error.parse.TzFileError.TheVariants as file;
 ghost use Rattle.tz_zone.specs.TzFile.{change_at, leap_at, type_at, name_at as name_in, designation_of, transitions_of, types_of, leaps_of, IsFlag, HasName, IsTypeRecord};
 ghost use Rattle.tz_zone.specs.TzFileFault.{TypeFails, SomeTypeFails};
 ghost use Rattle.tz_zone.specs.TzParts.{width_of, block_view, IsSized};
+ghost use Rattle.tz_zone.specs.ValidZone.{HasTypeAtPlace, RisesAtPlace};
 
 use super::block::Part;
-use super::number::{signed_at, time_at};
+use super::number::{TimeSize, signed_at, time_at};
 use crate::timezone::{LeapSecond, LocalTimeType, Transition};
 use std::alloc::{AllocError, Allocator};
 use tz_base::error::TzError;
 use tz_base::error::parse::TzFileError;
 
-/// The transition of a record.
+/// The transition of a record, whose time has a size that the caller knows.
+#[inline(always)]
 #[tactic(auto, unfolding(crate::specs::TzFile::change_at))]
-fn transition_at(part: &Part<'_>, index: u32) -> Transition
+fn transition_at(size: TimeSize, part: &Part<'_>, index: u32) -> Transition
+    requires size { size ≡ part.now.size }
     requires sized { IsSized part.now }
     requires within { index < part.now.counts.transition }
     ensures { result ≡ change_at (width_of part.now.size) (block_view part.now.block) index }
 {
-    let at = part.size.times_len(index);
-    let unix_leap_time = time_at(part.size, part.block.times, at);
+    let at = size.times_len(index);
+    let unix_leap_time = time_at(size, part.block.times, at);
     let local_time_type_index = part.block.indexes[index as usize];
     Transition::new(unix_leap_time, usize::from(local_time_type_index))
+}
+
+/// Whether those before it are in order, and the transition comes after the last of them and names one of the types, whose number is given.
+#[inline(always)]
+fn is_in_order(are_in_order: bool, last: Transition, transition: Transition, types: usize) -> bool
+    ensures { IsTrue result → IsTrue are_in_order × (last.unix_leap_time <ℤ transition.unix_leap_time) × (transition.type_index < types) }
+{
+    are_in_order
+        && last.unix_leap_time() < transition.unix_leap_time()
+        && transition.local_time_type_index() < types
 }
 
 /// The leap second of a record.
@@ -100,20 +113,54 @@ fn read_type(part: &Part<'_>, index: u32) -> Result<LocalTimeType, TzError>
     Ok(local_time_type)
 }
 
+/// Transitions, and whether they are known to name types and to come in order.
+#[derive(Drop)]
+pub(super) struct Transitions<A: Allocator + Copy> {
+    pub(super) items: Vec<Transition, A>,
+    pub(super) are_in_order: bool,
+}
+
+/// The transitions, in their order, whose times have a size that the caller knows. Each is looked at once, while it is read.
+#[inline(always)]
+fn read_transitions_of<A: Allocator + Copy>(
+    alloc: A,
+    size: TimeSize,
+    part: &Part<'_>,
+) -> Result<Transitions<A>, AllocError>
+    requires size { size ≡ part.now.size }
+    requires sized { IsSized part.now }
+    ensures items { IfOk result (λ t. t.items.items ≡ transitions_of (width_of part.now.size) (block_view part.now.block) part.now.counts.transition) }
+    ensures order { IfOk result (λ t. IsTrue t.are_in_order → (i : ℕ) → HasTypeAtPlace t.items.items part.now.counts.local_type i × RisesAtPlace t.items.items i) }
+{
+    let mut items = Vec::with_capacity(alloc, part.counts.transition as usize)?;
+    let types = part.counts.local_type as usize;
+    let mut last = Transition::new(i64::MIN, 0);
+    let mut are_in_order = true;
+    for i in 0..part.counts.transition {
+        let transition = transition_at(size, part, i);
+        are_in_order = is_in_order(are_in_order, last, transition, types);
+        last = transition;
+        items.push_reserved(transition);
+    }
+    Ok(Transitions {
+        items,
+        are_in_order,
+    })
+}
+
 /// The transitions, in their order.
-#[tactic(auto, using(crate::proofs::TzTables::tables))]
 pub(super) fn read_transitions<A: Allocator + Copy>(
     alloc: A,
     part: &Part<'_>,
-) -> Result<Vec<Transition, A>, AllocError>
+) -> Result<Transitions<A>, AllocError>
     requires { IsSized part.now }
-    ensures { IfOk result (λ v. v.items ≡ transitions_of (width_of part.now.size) (block_view part.now.block) part.now.counts.transition) }
+    ensures items { IfOk result (λ t. t.items.items ≡ transitions_of (width_of part.now.size) (block_view part.now.block) part.now.counts.transition) }
+    ensures order { IfOk result (λ t. IsTrue t.are_in_order → (i : ℕ) → HasTypeAtPlace t.items.items part.now.counts.local_type i × RisesAtPlace t.items.items i) }
 {
-    let mut transitions = Vec::with_capacity(alloc, part.counts.transition as usize)?;
-    for i in 0..part.counts.transition {
-        transitions.push(transition_at(part, i))?;
+    match part.size {
+        TimeSize::Four => read_transitions_of(alloc, TimeSize::Four, part),
+        TimeSize::Eight => read_transitions_of(alloc, TimeSize::Eight, part),
     }
-    Ok(transitions)
 }
 
 /// The leap seconds, in their order.

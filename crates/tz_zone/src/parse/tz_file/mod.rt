@@ -1,9 +1,10 @@
 //! TZif files. (RFC 8536)
 
-ghost use Rattle.std.specs.Prelude.{◌≡◌, ◌⊎◌, alloc_error, option_copied, IfOk, OnOk, IfErr, MatchBool};
+ghost use Rattle.std.specs.Prelude.{◌≡◌, ◌⊎◌, ℕ, length, alloc_error, option_copied, IfOk, OnOk, IfErr, IsTrue, MatchBool};
 ghost use Rattle.tz_zone.specs.TzFile.{part_of, footer_of, IsFramed, IsContent, MayHold, IsTzFile};
 ghost use Rattle.tz_zone.specs.TzFileFault.{FrameFails, ContentFails, IsReadFault};
 ghost use Rattle.tz_zone.specs.TzParts.{block_view, part_view, IsSized, HasTables};
+ghost use Rattle.tz_zone.specs.ValidZone.{HasTypeAtPlace, RisesAtPlace};
 ghost use Rattle.tz_zone.specs.ZoneRef.{own_zone_of};
 
 mod block;
@@ -61,6 +62,7 @@ fn read_frame(bytes: &[u8]) -> Result<Frame<'_>, TzFileError>
 #[derive(Drop)]
 struct Tables<A: Allocator + Copy = Global> {
     transitions: Vec<Transition, A>,
+    are_in_order: bool,
     local_time_types: Vec<LocalTimeType, A>,
     leap_seconds: Vec<LeapSecond, A>,
 }
@@ -69,6 +71,7 @@ struct Tables<A: Allocator + Copy = Global> {
 fn read_tables<A: Allocator + Copy>(alloc: A, part: &Part<'_>) -> Result<Tables<A>, TzError>
     requires { IsSized part.now }
     ensures value { IfOk result (HasTables (part_view part.now)) }
+    ensures order { IfOk result (λ t. IsTrue t.are_in_order → (i : ℕ) → HasTypeAtPlace t.transitions.items (length t.local_time_types.items) i × RisesAtPlace t.transitions.items i) }
     ensures ok { OnOk result (IsContent (block_view part.now.block) part.now.counts.local_type) }
     ensures err { IfErr result (λ e. (e ≡ TzError.Memory alloc_error) ⊎ ContentFails (block_view part.now.block) part.now.counts.local_type e) }
 {
@@ -77,7 +80,8 @@ fn read_tables<A: Allocator + Copy>(alloc: A, part: &Part<'_>) -> Result<Tables<
     let leap_seconds = read_leap_seconds(alloc, part)?;
     check_indicators(part)?;
     Ok(Tables {
-        transitions,
+        transitions: transitions.items,
+        are_in_order: transitions.are_in_order,
         local_time_types,
         leap_seconds,
     })
@@ -104,10 +108,11 @@ pub(crate) fn parse_tz_file<A: Allocator + Copy>(
     if !may_hold(frame.part.version, &tables.leap_seconds) {
         return Err(TzError::TimeZone(TimeZoneError::InvalidLeapSecond));
     }
-    TimeZone::new(
+    TimeZone::from_read_parts(
         tables.transitions,
         tables.local_time_types,
         tables.leap_seconds,
         extra_rule,
+        tables.are_in_order,
     )
 }

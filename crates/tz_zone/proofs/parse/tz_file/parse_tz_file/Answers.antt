@@ -48,9 +48,9 @@ returns-clause-err g c =
     let holds = subst HoldsLeapSeconds same (holds_from_tables part tables c.in_ok-tables.ensures.value (rw c.deref.ensures.value at c.if-not-may_hold.ensures)) in
     let made : Zone = zone_with tables.transitions.items tables.local_time_types.items tables.leap_seconds.items rule in
     let zone : made ≡ zone_of_part (part_of bytes) rule = zone_of_tables part tables rule c.in_ok-tables.ensures.value ∙ ap (λ (p : Part). zone_of_part p rule) same in
-    IfErr-weaker c.new.result (IsFirstZoneFault made) (IsReadFault bytes)
+    IfErr-weaker c.from_read_parts.result (IsFirstZoneFault made) (IsReadFault bytes)
     (λ e fault. inr (inr (inr (inr (c.in_ok-frame.ensures.ok, content, rule, of_file, inr (holds, subst (λ (z : Zone). IsFirstZoneFault z e) zone fault))))))
-    c.new.ensures.err
+    c.from_read_parts.ensures.err
 
 pub returns-clause-ok : goal.returns-clause-ok
 returns-clause-ok g c =
@@ -65,7 +65,7 @@ returns-clause-ok g c =
     let holds = subst HoldsLeapSeconds same (holds_from_tables part tables c.in_ok-tables.ensures.value (rw c.deref.ensures.value at c.if-not-may_hold.ensures)) in
     let made : Zone = zone_with tables.transitions.items tables.local_time_types.items tables.leap_seconds.items rule in
     let zone : made ≡ zone_of_part (part_of bytes) rule = zone_of_tables part tables rule c.in_ok-tables.ensures.value ∙ ap (λ (p : Part). zone_of_part p rule) same in
-    made_is_file bytes rule made own_zone_of c.new.result c.in_ok-frame.ensures.ok content holds of_file zone c.new.ensures.parts c.new.ensures.ok
+    made_is_file bytes rule made own_zone_of c.from_read_parts.result c.in_ok-frame.ensures.ok content holds of_file zone c.from_read_parts.ensures.parts c.from_read_parts.ensures.ok
 
 pub returns-in_err-frame-clause-err : goal.returns-in_err-frame-clause-err
 returns-in_err-frame-clause-err g c =

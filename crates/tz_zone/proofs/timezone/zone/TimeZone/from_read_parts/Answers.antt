@@ -1,0 +1,15 @@
+-- A zone is made of its parts.
+use Rattle.std.proofs.Common.{refl}
+use Rattle.tz_zone.proofs.timezone.zone.TimeZone.from_read_parts.Goals as goal
+
+pub returns-clause-parts : goal.returns-clause-parts
+returns-clause-parts g c = refl
+
+pub invariant_of-result-clause-sound : goal.invariant_of-result-clause-sound
+invariant_of-result-clause-sound g c = rw (← c.deref.ensures.value, ← c.deref-2.ensures.value, ← c.deref-3.ensures.value) (c.in_ok-check_read_parts.ensures.ok).table
+
+pub invariant_of-result-clause-valid : goal.invariant_of-result-clause-valid
+invariant_of-result-clause-valid g c = rw (← c.deref.ensures.value, ← c.deref-2.ensures.value, ← c.deref-3.ensures.value) (∣ c.in_ok-check_read_parts.ensures.ok ∣₁)
+
+pub check_read_parts-requires : goal.check_read_parts-requires
+check_read_parts-requires g c = rw (c.deref.ensures.value, c.deref-2.ensures.value) c.requires
