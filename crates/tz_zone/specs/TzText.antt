@@ -16,6 +16,13 @@ use Rattle.tz_zone.specs.Bytes.{capital_j, capital_m, closing_bracket, colon, co
 use Rattle.tz_zone.specs.declared.parse.tz_string.day.DayAndTime.{DayAndTime}
 use Rattle.tz_zone.specs.declared.parse.tz_string.time.WrittenTime.{WrittenTime}
 
+-- a time as it is written, and a day with a time: the reader's own types, which the crates above name so
+abbrev pub TimeText : Type 0
+TimeText = WrittenTime
+
+abbrev pub TurnText : Type 0
+TurnText = DayAndTime
+
 -- the byte stands at the front
 abbrev pub Begins : ℕ → List ℕ → Type 0
 Begins byte text = (rest : List ℕ) × (text ≡ byte ∷ rest)
