@@ -1,12 +1,13 @@
 //! Totals of nanoseconds, and durations between them.
 
-ghost use Rattle.std.specs.Prelude.{◌≡◌, ◌↔◌, pos, ◌^◌, ◌≤ℤ◌, IfOk, IfErr, IsSome, IfSome};
+ghost use Rattle.std.specs.Prelude.{◌≡◌, ◌<◌, ◌↔◌, pos, negsuc, ◌^◌, ◌+ℤ◌, ◌-ℤ◌, ◌≤ℤ◌, IfOk, IfErr, IsSome, IfSome};
 ghost use Rattle.std.specs.Duration.{as_nanos};
-ghost use Rattle.tz_base.specs.Fields.{IsReading, IsTimespec};
+ghost use Rattle.tz_base.specs.Fields.{IsReading, IsTimespec, total_nanoseconds_of};
 ghost use Rattle.tz.specs.DateTimes.{IsUtcTotal, IsNearTotal, IsForwards, IsBackwards};
 
 use std::time::Duration;
 use tz_base::calendar;
+use tz_base::constants::NANOSECONDS_PER_SECOND;
 
 /// The seconds of the total, rounded down, and the nanoseconds that remain, if the seconds are those of a UTC date time.
 pub(super) fn utc_timespec(total: i128) -> Option<(i64, u32)>
@@ -21,12 +22,61 @@ pub(super) fn utc_timespec(total: i128) -> Option<(i64, u32)>
     }
 }
 
-/// The nanoseconds of a duration.
-pub(super) fn nanoseconds_of(duration: Duration) -> i128
-    ensures value { result ≡ pos (as_nanos duration) }
-    ensures bound { result ≤ℤ pos (2 ^ 94) }
+/// The seconds of all UTC date times.
+const ALL_SECONDS: u64 = 135_536_076_801_503_999;
+
+/// The seconds with the whole ones of the nanoseconds, and the nanoseconds that remain, if the seconds are those of a UTC date time.
+fn carried(seconds: i64, nanoseconds: u32) -> Option<(i64, u32)>
+    requires { (negsuc (2 ^ 62) ≤ℤ seconds) × (seconds ≤ℤ pos (2 ^ 62)) }
+    ensures some { IfSome result (λ t. IsReading t.0 × IsTimespec (total_nanoseconds_of seconds nanoseconds) t.0 t.1) }
+    ensures in_range { IsSome result ↔ IsUtcTotal (total_nanoseconds_of seconds nanoseconds) }
 {
-    duration.as_nanos() as i128
+    let whole = seconds + i64::from(nanoseconds / NANOSECONDS_PER_SECOND);
+    if calendar::is_reading(whole) {
+        Some((whole, nanoseconds % NANOSECONDS_PER_SECOND))
+    } else {
+        None
+    }
+}
+
+/// The seconds and nanoseconds that lie a duration after others, if the seconds are those of a UTC date time.
+pub(super) fn timespec_after(
+    seconds: i64,
+    nanoseconds: u32,
+    duration: Duration,
+) -> Option<(i64, u32)>
+    requires instant { IsReading seconds }
+    requires part { nanoseconds < 1000000000 }
+    ensures some { IfSome result (λ t. IsReading t.0 × IsTimespec (total_nanoseconds_of seconds nanoseconds +ℤ pos (as_nanos duration)) t.0 t.1) }
+    ensures in_range { IsSome result ↔ IsUtcTotal (total_nanoseconds_of seconds nanoseconds +ℤ pos (as_nanos duration)) }
+{
+    let added = duration.as_secs();
+    if added > ALL_SECONDS {
+        return None;
+    }
+    carried(
+        seconds + added as i64,
+        nanoseconds + duration.subsec_nanos(),
+    )
+}
+
+/// The seconds and nanoseconds that lie a duration before others, if the seconds are those of a UTC date time.
+pub(super) fn timespec_before(
+    seconds: i64,
+    nanoseconds: u32,
+    duration: Duration,
+) -> Option<(i64, u32)>
+    requires instant { IsReading seconds }
+    requires part { nanoseconds < 1000000000 }
+    ensures some { IfSome result (λ t. IsReading t.0 × IsTimespec (total_nanoseconds_of seconds nanoseconds -ℤ pos (as_nanos duration)) t.0 t.1) }
+    ensures in_range { IsSome result ↔ IsUtcTotal (total_nanoseconds_of seconds nanoseconds -ℤ pos (as_nanos duration)) }
+{
+    let taken = duration.as_secs();
+    if taken > ALL_SECONDS {
+        return None;
+    }
+    let borrowed = nanoseconds + NANOSECONDS_PER_SECOND - duration.subsec_nanos();
+    carried(seconds - taken as i64 - 1, borrowed)
 }
 
 /// The duration between two totals: `Ok` if the later one is not below the earlier one, and otherwise `Err` with the way back.

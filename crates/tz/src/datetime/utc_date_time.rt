@@ -4,7 +4,7 @@ ghost use Rattle.std.specs.Prelude.{MatchBool};
 ghost use Rattle.tz.specs.DateTimes.{IsPastTheEnd};
 
 use super::DateTime;
-use super::totals::{duration_between, nanoseconds_of, utc_timespec};
+use super::totals::{duration_between, timespec_after, timespec_before, utc_timespec};
 use crate::inner::TextBuffer;
 use std::fmt;
 use std::marker::Model;
@@ -368,7 +368,11 @@ impl UtcDateTime {
         ensures in_range { IsSome result ↔ IsUtcTotal (utc_total self.now +ℤ pos (as_nanos duration)) }
         ensures some { IfSome result (IsUtcAt (utc_total self.now +ℤ pos (as_nanos duration))) }
     {
-        UtcDateTime::at_total(self.total_nanoseconds() + nanoseconds_of(duration))
+        let moved = timespec_after(self.unix_time(), self.fields.nanoseconds, duration);
+        let (unix_time, nanoseconds) = moved?;
+        Some(UtcDateTime {
+            fields: Fields::from_reading(unix_time, nanoseconds),
+        })
     }
 
     /// The date time earlier by a duration, or `None` where that is before [`UtcDateTime::MIN`].
@@ -376,7 +380,11 @@ impl UtcDateTime {
         ensures in_range { IsSome result ↔ IsUtcTotal (utc_total self.now -ℤ pos (as_nanos duration)) }
         ensures some { IfSome result (IsUtcAt (utc_total self.now -ℤ pos (as_nanos duration))) }
     {
-        UtcDateTime::at_total(self.total_nanoseconds() - nanoseconds_of(duration))
+        let moved = timespec_before(self.unix_time(), self.fields.nanoseconds, duration);
+        let (unix_time, nanoseconds) = moved?;
+        Some(UtcDateTime {
+            fields: Fields::from_reading(unix_time, nanoseconds),
+        })
     }
 
     /// The duration from an earlier date time to this one, or `Err` with the way back where the other one is later.
