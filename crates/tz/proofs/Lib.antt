@@ -8,6 +8,10 @@ pub mod FarLemmas
 pub mod FoundLemmas
 pub mod PairLemmas
 pub mod PrintedLemmas
+pub mod TzStringTexts
+pub mod TzStringParts
+pub mod TzStringNames
+pub mod TzStringRules
 pub mod ComparisonsByParts
 pub mod FieldOrder
 pub mod TotalLemmas

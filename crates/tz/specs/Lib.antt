@@ -10,6 +10,7 @@ pub mod Reached
 pub mod Windows
 pub mod FindFaults
 pub mod PrintedText
+pub mod TzStrings
 pub mod UtcConstants
 pub mod Lists
 pub mod SlotEquality

@@ -140,7 +140,7 @@ impl TextBuffer {
 
     /// Appends a number below 100 as two digits.
     #[inline(always)]
-    fn push_two_digits(&mut self, number: u8)
+    pub(crate) fn push_two_digits(&mut self, number: u8)
         requires below { number < 100 }
         requires room { length self.old + 2 ≤ 128 }
         ensures text { self.new ≡ self.old ++ two_digits number }
@@ -179,7 +179,7 @@ impl TextBuffer {
 
     /// Appends the digits of a number.
     #[tactic(auto, using(crate::proofs::PrintedLemmas::length_of_digits))]
-    fn push_digits(&mut self, number: u64)
+    pub(crate) fn push_digits(&mut self, number: u64)
         requires { length self.old + length (decimal number) ≤ 128 }
         ensures text { self.new ≡ self.old ++ decimal number }
         ensures len { length self.new ≡ length self.old + length (decimal number) }
@@ -285,7 +285,7 @@ impl TextBuffer {
     }
 
     /// Appends :ss unless the seconds are zero.
-    fn push_seconds(&mut self, seconds: u8)
+    pub(crate) fn push_seconds(&mut self, seconds: u8)
         requires below { seconds < 60 }
         requires room { length self.old + 3 ≤ 128 }
         ensures text { self.new ≡ self.old ++ seconds_text seconds }

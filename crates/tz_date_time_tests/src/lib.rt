@@ -13,3 +13,5 @@ mod filter;
 mod memory;
 #[cfg(test)]
 mod printed;
+#[cfg(test)]
+mod tz_strings;

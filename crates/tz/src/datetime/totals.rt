@@ -47,7 +47,8 @@ pub(super) fn timespec_after(
 ) -> Option<(i64, u32)>
     requires instant { IsReading seconds }
     requires part { nanoseconds < 1000000000 }
-    ensures some { IfSome result (λ t. IsReading t.0 × IsTimespec (total_nanoseconds_of seconds nanoseconds +ℤ pos (as_nanos duration)) t.0 t.1) }
+    ensures some { IfSome result (λ t. IsReading t.0
+        × IsTimespec (total_nanoseconds_of seconds nanoseconds +ℤ pos (as_nanos duration)) t.0 t.1) }
     ensures in_range { IsSome result ↔ IsUtcTotal (total_nanoseconds_of seconds nanoseconds +ℤ pos (as_nanos duration)) }
 {
     let added = duration.as_secs();
@@ -68,7 +69,8 @@ pub(super) fn timespec_before(
 ) -> Option<(i64, u32)>
     requires instant { IsReading seconds }
     requires part { nanoseconds < 1000000000 }
-    ensures some { IfSome result (λ t. IsReading t.0 × IsTimespec (total_nanoseconds_of seconds nanoseconds -ℤ pos (as_nanos duration)) t.0 t.1) }
+    ensures some { IfSome result (λ t. IsReading t.0
+        × IsTimespec (total_nanoseconds_of seconds nanoseconds -ℤ pos (as_nanos duration)) t.0 t.1) }
     ensures in_range { IsSome result ↔ IsUtcTotal (total_nanoseconds_of seconds nanoseconds -ℤ pos (as_nanos duration)) }
 {
     let taken = duration.as_secs();
