@@ -192,6 +192,7 @@ pub(crate) fn check_parts(
 }
 
 /// Checks the parts of a zone, in the order in which their faults are named, but for transitions that are known to pass.
+#[inline(always)]
 pub(crate) fn check_read_parts(
     transitions: &[Transition],
     local_time_types: &[LocalTimeType],

@@ -48,15 +48,20 @@ fn is_absolute(name: &str) -> bool
     matches!(name.as_bytes(), [b'/', ..])
 }
 
-/// The path of a name in a directory.
-fn join<A: Allocator + Copy>(alloc: A, directory: &str, name: &str) -> Result<String<A>, AllocError>
-    ensures { IfOk result (λ path. string_bytes path ≡ path_in directory.now name.now) }
+/// Writes the path of a name in a directory over another path, whose room it takes.
+fn put_path<A: Allocator + Copy>(
+    path: &mut String<A>,
+    directory: &str,
+    name: &str,
+) -> Result<(), AllocError>
+    ensures { IfOk result (λ _. string_bytes path.new ≡ path_in directory.now name.now) }
 {
-    let mut path = String::with_capacity(alloc, directory.len() + 1 + name.len())?;
+    path.clear();
+    path.reserve(directory.len() + 1 + name.len())?;
     path.push_str(directory)?;
     path.push_str("/")?;
     path.push_str(name)?;
-    Ok(path)
+    Ok(())
 }
 
 /// The zone of the bytes of a file.
@@ -157,8 +162,9 @@ impl<'a, F: Fn(&str) -> Result<Vec<u8>, ReadFault>> TimeZoneSettings<'a, F> {
         requires { F.IsAlwaysCallable (reader_of self.now) }
         ensures { (result ≡ Err (Memory alloc_error)) ⊎ FindsIn (FnReturnsAt F.Fn (reader_of self.now)) (directories_of self.now) name.now result }
     {
+        let mut path = String::new(alloc);
         for directory in self.directories {
-            let path = join(alloc, directory, name)?;
+            put_path(&mut path, directory, name)?;
             match self.read(path.as_str()) {
                 Ok(bytes) => return Ok(bytes),
                 Err(ReadFault::Memory(error)) => return Err(ReadFault::Memory(error)),

@@ -82,6 +82,7 @@ impl<A: Allocator + Copy> TimeZone<A> {
     }
 
     /// The zone with these parts, whose transitions the caller may know to name types and to come in order.
+    #[inline(always)]
     pub(crate) fn from_read_parts(
         transitions: Vec<Transition, A>,
         local_time_types: Vec<LocalTimeType, A>,

@@ -85,6 +85,7 @@ impl Part<'_> {
 }
 
 /// Cuts the block behind the header into its parts.
+#[inline(always)]
 #[tactic(auto, unfolding(crate::specs::TzFile::block_with))]
 fn cut_block(size: TimeSize, counts: Counts, bytes: &[u8]) -> Block<'_>
     requires { end_at (width_of size) (counts_view counts) ≤ length bytes.now }
@@ -104,6 +105,7 @@ fn cut_block(size: TimeSize, counts: Counts, bytes: &[u8]) -> Block<'_>
 }
 
 /// Reads the header at the front, and cuts its block.
+#[inline(always)]
 #[tactic(auto, unfolding(crate::specs::TzFile::behind))]
 pub(super) fn read_unit(size: TimeSize, bytes: &[u8]) -> Result<Part<'_>, TzFileError>
     ensures value { IfOk result (λ part. part_view part ≡ part_with (width_of size) bytes.now) }

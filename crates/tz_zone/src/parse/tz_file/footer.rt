@@ -53,6 +53,7 @@ fn footer_text(footer: &[u8]) -> Result<&[u8], TzFileError>
 }
 
 /// The rule of a footer, if its text is not empty.
+#[inline(always)]
 fn read_footer(footer: &[u8], extended: bool) -> Result<Option<TransitionRule>, TzError>
     ensures ok { IfOk result (IsExtraRule extended (Some footer.now)) }
     ensures err { IfErr result (ExtraRuleFails extended (Some footer.now)) }
@@ -66,6 +67,7 @@ fn read_footer(footer: &[u8], extended: bool) -> Result<Option<TransitionRule>, 
 }
 
 /// The rule of a file that may have a footer.
+#[inline(always)]
 pub(super) fn read_extra_rule(
     footer: Option<&[u8]>,
     extended: bool,

@@ -34,6 +34,7 @@ struct Frame<'a> {
 }
 
 /// Cuts the file: all slices of it that are read.
+#[inline(always)]
 fn read_frame(bytes: &[u8]) -> Result<Frame<'_>, TzFileError>
     ensures part { IfOk result (λ frame. part_view frame.part ≡ part_of bytes.now) }
     ensures footer { IfOk result (λ frame. option_copied frame.footer ≡ footer_of bytes.now) }
@@ -68,6 +69,7 @@ struct Tables<A: Allocator + Copy = Global> {
 }
 
 /// Reads the tables.
+#[inline(always)]
 fn read_tables<A: Allocator + Copy>(alloc: A, part: &Part<'_>) -> Result<Tables<A>, TzError>
     requires { IsSized part.now }
     ensures value { IfOk result (HasTables (part_view part.now)) }
