@@ -14,10 +14,9 @@ pub mod WeakerClauses
 pub mod RulesAcrossYears
 pub mod UtcYears
 pub mod DaylightLemmas
-pub mod MidYear
+pub mod InnerTurns
 pub mod ChangePoints
 pub mod RuleTypes
-pub mod StretchLemmas
 pub mod RuleSegments
 pub mod SameLemmas
 pub mod Casts

@@ -1,8 +1,8 @@
 -- From one start or end up to the next a rule has one type. Starts and ends rise from year to year, so those of five years tell the nearest ones.
-use Rattle.std.proofs.Common.{◌≡◌, ◌⊎◌, inl, inr, ℕ, zero, suc, ◌+◌, ◌<◌, ◌≤◌, Bool, true, false, MatchBool, refl, ap, arith, ℤ, pos, negsuc, ◌+ℤ◌, ◌-ℤ◌, ◌≤ℤ◌, ◌<ℤ◌}
+use Rattle.std.proofs.Common.{◌≡◌, ◌⊎◌, inl, inr, ℕ, zero, suc, ◌+◌, ◌<◌, ◌≤◌, Bool, true, false, not, MatchBool, refl, ap, arith, ℤ, pos, negsuc, ◌+ℤ◌, ◌-ℤ◌, ◌≤ℤ◌, ◌<ℤ◌}
 use Rattle.std.proofs.lemmas.Int.{ints, by_lt_z}
 use Rattle.tz_base.proofs.OrderLemmas.{first_day-mono, gap_between}
-use Rattle.tz_rule.specs.Alternate.{AlternateTime, start_of, end_of, IsInRuleRange, AreRuleDays, IsUtcYear, IsInRuleYears, IsAlternateType, IsUnchanged}
+use Rattle.tz_rule.specs.Alternate.{AlternateTime, start_of, end_of, turn_of, IsInRuleRange, AreRuleDays, IsUtcYear, IsInRuleYears, IsAlternateType, IsUnchanged}
 use Rattle.tz_rule.specs.Day.{IsRuleDay}
 use Rattle.tz_rule.specs.Rule.{IsRuleType}
 use Rattle.tz_rule.specs.RuleSegments.{IsTurn, IsRuleChange, IsSpanOf, IsNotInside}
@@ -123,7 +123,7 @@ module _ (r : AlternateTime) (range : IsInRuleRange r) (days : AreRuleDays r) (l
 
   -- from an end to the next start the type is that of standard time
 
-  pub standard_in_order : u ≡ end_of r last → w ≡ start_of r next → ¬ EndsNextYear (start_of r) (end_of r) → next ≡ last +ℤ pos 1 → IsSpanOf r (record { from = u; until = w; is_daylight = false })
+  standard_in_order : u ≡ end_of r last → w ≡ start_of r next → ¬ EndsNextYear (start_of r) (end_of r) → next ≡ last +ℤ pos 1 → IsSpanOf r (record { from = u; until = w; is_daylight = false })
   unfolding IsRuleType
   standard_in_order u_is w_is in_order follows = record {
     from_is = inl (last, inr u_is);
@@ -134,7 +134,7 @@ module _ (r : AlternateTime) (range : IsInRuleRange r) (days : AreRuleDays r) (l
     );
   }
 
-  pub standard_across_years : u ≡ end_of r last → w ≡ start_of r next → EndsNextYear (start_of r) (end_of r) → next ≡ last → IsSpanOf r (record { from = u; until = w; is_daylight = false })
+  standard_across_years : u ≡ end_of r last → w ≡ start_of r next → EndsNextYear (start_of r) (end_of r) → next ≡ last → IsSpanOf r (record { from = u; until = w; is_daylight = false })
   unfolding IsRuleType
   standard_across_years u_is w_is across same = record {
     from_is = inl (last, inr u_is);
@@ -147,7 +147,7 @@ module _ (r : AlternateTime) (range : IsInRuleRange r) (days : AreRuleDays r) (l
 
   -- from a start to its end it is that of daylight saving time
 
-  pub daylight_in_order : u ≡ start_of r last → w ≡ end_of r next → ¬ EndsNextYear (start_of r) (end_of r) → next ≡ last → IsSpanOf r (record { from = u; until = w; is_daylight = true })
+  daylight_in_order : u ≡ start_of r last → w ≡ end_of r next → ¬ EndsNextYear (start_of r) (end_of r) → next ≡ last → IsSpanOf r (record { from = u; until = w; is_daylight = true })
   unfolding IsRuleType
   daylight_in_order u_is w_is in_order same = record {
     from_is = inl (last, inl u_is);
@@ -158,7 +158,7 @@ module _ (r : AlternateTime) (range : IsInRuleRange r) (days : AreRuleDays r) (l
     );
   }
 
-  pub daylight_across_years : u ≡ start_of r last → w ≡ end_of r next → EndsNextYear (start_of r) (end_of r) → next ≡ last +ℤ pos 1 → IsSpanOf r (record { from = u; until = w; is_daylight = true })
+  daylight_across_years : u ≡ start_of r last → w ≡ end_of r next → EndsNextYear (start_of r) (end_of r) → next ≡ last +ℤ pos 1 → IsSpanOf r (record { from = u; until = w; is_daylight = true })
   unfolding IsRuleType
   daylight_across_years u_is w_is across follows = record {
     from_is = inl (last, inl u_is);
@@ -168,6 +168,18 @@ module _ (r : AlternateTime) (range : IsInRuleRange r) (days : AreRuleDays r) (l
       inl ((last, end_of r next, inl (across, ap (end_of r) follows), rw u_is at from, rw w_is at to), refl),
     );
   }
+
+-- the same by the order of a year's turns, of which the end is the first where it belongs to the start of the year before
+module _ (r : AlternateTime) (range : IsInRuleRange r) (days : AreRuleDays r) where
+  pub span_between_years : (last next u w : ℤ) → IsInnerYear last → IsInnerYear next → (b : Bool) → MatchBool b (EndsNextYear (start_of r) (end_of r)) (¬ EndsNextYear (start_of r) (end_of r))
+      → u ≡ turn_of r (not b) last → w ≡ turn_of r b next → next ≡ last +ℤ pos 1 → IsSpanOf r (record { from = u; until = w; is_daylight = b })
+  span_between_years last next u w inner_last inner_next true across from to = daylight_across_years r range days last next u w inner_last inner_next from to across
+  span_between_years last next u w inner_last inner_next false in_order from to = standard_in_order r range days last next u w inner_last inner_next from to in_order
+
+  pub span_in_year : (year u w : ℤ) → IsInnerYear year → (b : Bool) → MatchBool b (EndsNextYear (start_of r) (end_of r)) (¬ EndsNextYear (start_of r) (end_of r))
+      → u ≡ turn_of r b year → w ≡ turn_of r (not b) year → IsSpanOf r (record { from = u; until = w; is_daylight = not b })
+  span_in_year year u w inner true across from to = standard_across_years r range days year year u w inner inner from to across refl
+  span_in_year year u w inner false in_order from to = daylight_in_order r range days year year u w inner inner from to in_order refl
 
 -- the neighbours of a year of stretches, and the year itself
 pub inner_years_around : (year : ℤ) → IsStretchYear year → IsInnerYear (year -ℤ pos 1) × IsInnerYear year × IsInnerYear (year +ℤ pos 1)

@@ -4,7 +4,7 @@ use Rattle.std.proofs.lemmas.Int.{ints}
 use Rattle.tz_base.specs.Days.{is_leap, year_length, first_day}
 use Rattle.tz_base.proofs.DayLemmas.{first_day-next, year_length-is}
 use Rattle.tz_base.proofs.OrderLemmas.{first_day-mono, first_day-period, is_leap-period}
-use Rattle.tz_rule.specs.Alternate.{AlternateTime, start_of, end_of, IsRuleOffset, IsRuleTime, IsInRuleRange, IsNearYear}
+use Rattle.tz_rule.specs.Alternate.{AlternateTime, start_of, end_of, turn_of, AreRuleDays, IsRuleOffset, IsRuleTime, IsInRuleRange, IsNearYear}
 use Rattle.tz_rule.specs.Day.{rule_day, IsRuleDay}
 use Rattle.tz_rule.specs.Distance.{years_of, start_year, end_year}
 use Rattle.tz_rule.specs.Kinds.{week_day_of_year}
@@ -61,6 +61,10 @@ IsYearly-start_of r range valid = IsYearly-local r.dst_start r.dst_start_time r.
 pub IsYearly-end_of : (r : AlternateTime) → IsInRuleRange r → IsRuleDay r.dst_end → IsYearly (end_of r)
 unfolding end_of
 IsYearly-end_of r range valid = IsYearly-local r.dst_end r.dst_end_time r.dst.ut_offset valid range.end_is range.dst_is
+
+pub IsYearly-turn_of : (r : AlternateTime) → IsInRuleRange r → AreRuleDays r → (is_end : Bool) → IsYearly (turn_of r is_end)
+IsYearly-turn_of r range days true = IsYearly-end_of r range days.end_is
+IsYearly-turn_of r range days false = IsYearly-start_of r range days.start_is
 
 -- the years after two that are alike begin on one week day, after as many days
 record IsAlikeNext (x y : ℤ) : Type 0 where

@@ -1,5 +1,5 @@
 -- What contracts see of an alternate rule, and which type it has at an instant. (POSIX.1-2017, Base Definitions, 8.3: the TZ variable.)
-use Rattle.std.specs.Prelude.{◌≡◌, ◌⊎◌, ℤ, pos, negsuc, ◌+ℤ◌, ◌-ℤ◌, ◌*ℤ◌, ◌≤ℤ◌, ◌<ℤ◌}
+use Rattle.std.specs.Prelude.{◌≡◌, ◌⊎◌, Bool, ℤ, pos, negsuc, ◌+ℤ◌, ◌-ℤ◌, ◌*ℤ◌, ◌≤ℤ◌, ◌<ℤ◌, if◌then◌else◌}
 use Rattle.tz_base.specs.Days.{first_day}
 use Rattle.tz_base.specs.declared.error.timezone.TransitionRuleError.{TransitionRuleError}
 use Rattle.tz_base.specs.declared.error.timezone.TransitionRuleError.TheVariants.{InvalidStdUtcOffset, InvalidDstUtcOffset, InvalidDstStartEndTime, InconsistentRule}
@@ -33,6 +33,10 @@ start_of r year = pos 86400 *ℤ rule_day r.dst_start year +ℤ r.dst_start_time
 -- the instant at which it ends: a local time by the daylight type
 unfoldable pub end_of : AlternateTime → ℤ → ℤ
 end_of r year = pos 86400 *ℤ rule_day r.dst_end year +ℤ r.dst_end_time -ℤ r.dst.ut_offset
+
+-- one of the two
+abbrev pub turn_of : AlternateTime → Bool → ℤ → ℤ
+turn_of r is_end year = if is_end then end_of r year else start_of r year
 
 -- above -25 and below 26 hours
 abbrev pub IsRuleOffset : ℤ → Type 0

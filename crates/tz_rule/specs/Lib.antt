@@ -16,6 +16,7 @@ pub mod Pairing
 pub mod Daylight
 pub mod Rule
 pub mod Stretches
+pub mod InnerTurns
 pub mod RuleSegments
 pub mod Same
 pub mod SameDay

@@ -1,5 +1,6 @@
 -- Tables of the fourteen kinds of years: for each kind, how many seconds after 00:00 UTC of January 1st an instant of the year lies.
-use Rattle.std.specs.Prelude.{◌≡◌, ◌⊎◌, ℕ, ◌*◌, ◌<◌, ℤ, pos, ◌+ℤ◌, ◌-ℤ◌, ◌*ℤ◌, ◌≤ℤ◌, ◌<ℤ◌, List, length, map, slice_index_or}
+use Rattle.std.specs.Prelude.{◌≡◌, ◌⊎◌, ℕ, zero, suc, ◌*◌, ◌<◌, Bool, ◌&&◌, ℤ, pos, negsuc, ◌+ℤ◌, ◌-ℤ◌, ◌*ℤ◌, ◌≤ℤ◌, ◌<ℤ◌, List, length, map, slice_index_or, int_le, int_lt}
+use Rattle.std.specs.Int.{int_min, int_max}
 use Rattle.std.specs.List.{range_with_len}
 use Rattle.tz_base.specs.Days.{first_day}
 use Rattle.tz_rule.specs.Alternate.{AlternateTime}
@@ -33,6 +34,19 @@ end_table r = day_table r.dst_end (r.dst_end_time -ℤ r.dst.ut_offset)
 -- no kind's seconds lie below the one number or above the other
 abbrev pub AreBounds : List ℤ → ℤ → ℤ → Type 0
 AreBounds table least greatest = (kind : ℕ) → kind < 14 → (least ≤ℤ entry table kind) × (entry table kind ≤ℤ greatest)
+
+-- the least and the greatest of the first kinds' seconds, within 32 bits
+unfoldable pub least_entry : List ℤ → ℕ → ℤ
+least_entry table zero = pos 2147483647
+least_entry table (suc kinds) = int_min (least_entry table kinds) (entry table kinds)
+
+unfoldable pub greatest_entry : List ℤ → ℕ → ℤ
+greatest_entry table zero = negsuc 2147483647
+greatest_entry table (suc kinds) = int_max (greatest_entry table kinds) (entry table kinds)
+
+-- in all years the instant lies ten days or more from the ends of the year, also where that has 365 days
+abbrev pub is_inner : List ℤ → Bool
+is_inner table = int_le (pos 864000) (least_entry table 14) && int_lt (greatest_entry table 14) (pos 30672000)
 
 -- in the years of some kind the first instant comes before the second
 abbrev pub ComesFirst : List ℤ → List ℤ → Type 0

@@ -15,6 +15,7 @@ use tz_base::error::TzError;
 
 /// The type of the rule at an instant. An alternate rule has one in the UTC years that are two or more from both ends of `i32`.
 #[tactic(auto, unfolding(crate::specs::Rule::IsRuleType))]
+#[inline(always)]
 pub fn find_local_time_type(
     rule: &TransitionRule,
     unix_time: i64,
@@ -33,7 +34,7 @@ pub fn start(rule: &AlternateTime, year: i32) -> i64
     ensures value { result ≡ start_of rule.now year }
     ensures bound { IsNearYear result year }
 {
-    rule.start_in(year)
+    rule.turn_in(false, year)
 }
 
 /// The instant at which daylight saving time ends in a year.
@@ -41,7 +42,7 @@ pub fn end(rule: &AlternateTime, year: i32) -> i64
     ensures value { result ≡ end_of rule.now year }
     ensures bound { IsNearYear result year }
 {
-    rule.end_in(year)
+    rule.turn_in(true, year)
 }
 
 /// A stretch in which the instant is expected to lie, which is for the caller to test. Some instants that have a type are given none.
@@ -49,7 +50,7 @@ pub fn end(rule: &AlternateTime, year: i32) -> i64
 pub fn stretch(rule: &AlternateTime, unix_time: i64) -> Option<Stretch>
     ensures of { IfSome result (λ s. IsStretchOf rule.now s) }
 {
-    rule.stretch(unix_time)
+    rule.likely_span(unix_time)
 }
 
 /// The segment of the rule around an instant: the first and the last instant through which it has one type, or none.

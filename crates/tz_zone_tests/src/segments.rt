@@ -122,12 +122,12 @@ fn segments_of_a_rule_begin_at_the_effect_of_the_last_transition(
 }
 
 #[test]
-fn segments_of_a_rule_near_the_end_of_the_year_last_a_second(
+fn segments_of_a_rule_near_the_end_of_the_year_end_at_its_changes(
     rt: HostRuntime,
 ) -> Result<(), TzError> {
     static ROWS: [Row; 2] = [
-        (1_735_689_600, 1_735_689_600, 1_735_689_601, 2),
-        (1_720_000_000, 1_720_000_000, 1_720_000_001, 1),
+        (1_735_689_600, 1_729_990_800, 1_736_038_800, 2),
+        (1_720_000_000, 1_704_589_200, 1_729_990_800, 1),
     ];
     let types = [LocalTimeType::new(3600, false, Some(b"CET"))?];
     let rule = Some(TransitionRule::Alternate(to_january()?));

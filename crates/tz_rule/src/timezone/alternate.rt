@@ -1,19 +1,19 @@
 //! Rules of standard time and daylight saving time.
 
 ghost use Rattle.std.specs.Prelude.{◌≡◌, ◌<◌, ℤ, pos, negsuc, ◌-ℤ◌, ◌*ℤ◌, ◌≤ℤ◌, OnOk, IfOk, IfErr, IfSome, IfNone, MatchBool};
+ghost use Rattle.std.specs.Bool.{OnTrue};
 ghost use Rattle.tz_base.specs.Days.{first_day};
 ghost use Rattle.tz_rule.specs.Kinds.{year_kind};
-ghost use Rattle.tz_rule.specs.Alternate.{start_of, end_of, alternate_of, IsInRuleRange, IsFirstRuleFault, IsConsistentRule, AreRuleDays, IsNearYear, IsInRuleYears, IsAlternateType};
+ghost use Rattle.tz_rule.specs.Alternate.{start_of, end_of, turn_of, alternate_of, IsInRuleRange, IsFirstRuleFault, IsConsistentRule, AreRuleDays, IsNearYear};
+ghost use Rattle.tz_rule.specs.InnerTurns.{HasInnerTurns};
 ghost use Rattle.tz_rule.specs.Years.{IsConflict, IsInconsistent, EndsNextYear};
 
 use super::check::Parts;
-use super::daylight::rule_year;
 use super::year_kind::year_start;
 use super::year_table::YearTable;
 use super::{LocalTimeType, RuleDay};
 use std::fmt;
 use std::marker::Model;
-use tz_base::error::TzError;
 use tz_base::error::timezone::TransitionRuleError;
 
 /// Standard time and daylight saving time, and when each begins in every year.
@@ -24,6 +24,7 @@ use tz_base::error::timezone::TransitionRuleError;
 pub struct AlternateTime {
     parts: Parts,
     ends_next_year: bool,
+    has_inner_turns: bool,
     starts: YearTable,
     ends: YearTable,
 }
@@ -80,6 +81,7 @@ impl AlternateTime {
         Ok(AlternateTime {
             parts,
             ends_next_year,
+            has_inner_turns: starts.is_inner() && ends.is_inner(),
             starts,
             ends,
         })
@@ -160,44 +162,28 @@ impl AlternateTime {
         self.parts.dst_end_time
     }
 
-    /// How long after 00:00 UTC of January 1st daylight saving time starts in the years of a kind.
+    /// How long after 00:00 UTC of January 1st daylight saving time starts, or ends, in the years of a kind.
     #[inline(always)]
-    pub(super) fn start_in_kind(&self, kind: usize) -> i64
+    pub(super) fn turn_in_kind(&self, is_end: bool, kind: usize) -> i64
         requires { kind < 14 }
-        ensures value { (year : ℤ) → year_kind year ≡ kind → result ≡ start_of self.now year -ℤ pos 86400 *ℤ first_day year }
+        ensures value { (year : ℤ) → year_kind year ≡ kind → result ≡ turn_of self.now is_end year -ℤ pos 86400 *ℤ first_day year }
         ensures bound { (negsuc 2147483647 ≤ℤ result) × (result ≤ℤ pos 2147483647) }
     {
-        self.starts.entry(kind)
+        if is_end {
+            self.ends.entry(kind)
+        } else {
+            self.starts.entry(kind)
+        }
     }
 
-    /// How long after 00:00 UTC of January 1st daylight saving time ends in the years of a kind.
-    #[inline(always)]
-    pub(super) fn end_in_kind(&self, kind: usize) -> i64
-        requires { kind < 14 }
-        ensures value { (year : ℤ) → year_kind year ≡ kind → result ≡ end_of self.now year -ℤ pos 86400 *ℤ first_day year }
-        ensures bound { (negsuc 2147483647 ≤ℤ result) × (result ≤ℤ pos 2147483647) }
-    {
-        self.ends.entry(kind)
-    }
-
-    /// The instant at which daylight saving time starts in a year.
-    pub(crate) fn start_in(&self, year: i32) -> i64
-        ensures value { result ≡ start_of self.now year }
+    /// The instant at which daylight saving time starts, or ends, in a year.
+    pub(crate) fn turn_in(&self, is_end: bool, year: i32) -> i64
+        ensures value { result ≡ turn_of self.now is_end year }
         ensures bound { IsNearYear result year }
     {
         self.parts_are_sound();
         let (start_of_year, kind) = year_start(year);
-        start_of_year + self.start_in_kind(kind)
-    }
-
-    /// The instant at which daylight saving time ends in a year.
-    pub(crate) fn end_in(&self, year: i32) -> i64
-        ensures value { result ≡ end_of self.now year }
-        ensures bound { IsNearYear result year }
-    {
-        self.parts_are_sound();
-        let (start_of_year, kind) = year_start(year);
-        start_of_year + self.end_in_kind(kind)
+        start_of_year + self.turn_in_kind(is_end, kind)
     }
 
     /// Whether each start has the end of the next year.
@@ -208,27 +194,20 @@ impl AlternateTime {
         self.ends_next_year
     }
 
+    /// Whether each start and each end lies ten days or more from the ends of its year.
+    #[inline(always)]
+    pub(super) fn has_inner_turns(&self) -> bool
+        ensures { OnTrue result (HasInnerTurns self.now) }
+    {
+        self.has_inner_turns
+    }
+
     /// The parts obey the rules of their making. This does nothing; its contract is what a value tells.
     pub(crate) fn parts_are_sound(&self)
         ensures rule { IsConsistentRule self.now }
         ensures days { AreRuleDays self.now }
     {
         let _ = &self.parts;
-    }
-
-    /// The type at an instant.
-    pub(crate) fn find_local_time_type(&self, unix_time: i64) -> Result<&LocalTimeType, TzError>
-        ensures ok { IfOk result (λ t. IsInRuleYears unix_time × IsAlternateType self.now unix_time t.now) }
-        ensures err { IfErr result (λ e. (e ≡ TzError.OutOfRange) × ¬ IsInRuleYears unix_time) }
-    {
-        let Some(year) = rule_year(unix_time) else {
-            return Err(TzError::OutOfRange);
-        };
-        if self.is_daylight(unix_time, year) {
-            Ok(&self.parts.dst)
-        } else {
-            Ok(&self.parts.std)
-        }
     }
 }
 

@@ -9,7 +9,6 @@ mod rule_day;
 pub(crate) mod rule_segment;
 mod segments;
 pub(crate) mod stretch;
-mod stretches;
 pub(crate) mod utc;
 mod year_kind;
 mod year_table;

@@ -1,16 +1,17 @@
-//! The segment of an alternate rule around an instant: from one start or end of daylight saving time up to the next.
+//! The segment of an alternate rule around an instant, from one start or end of daylight saving time up to the next, and the type there.
 //!
-//! Mostly two or three starts and ends of the likely year and of its neighbours tell it. Where they do not, as near some New Years, those
-//! of five years do: the last one up to the instant can be that of two years before, and the next one that of two years after.
+//! Two or three starts and ends of the likely year and of its neighbours tell both where all starts and ends lie ten days or more from the
+//! ends of their years, and mostly elsewhere. Where they do not, as near some New Years, those of five years do: the last one up to the
+//! instant can be that of two years before, and the next one that of two years after.
 
-ghost use Rattle.std.specs.Prelude.{◌≡◌, ◌≢◌, ◌⊎◌, ℤ, pos, negsuc, ◌+ℤ◌, ◌*ℤ◌, ◌≤ℤ◌, ◌<ℤ◌, IfSome, MatchOption};
+ghost use Rattle.std.specs.Prelude.{◌≡◌, ◌≢◌, ◌⊎◌, ℤ, pos, negsuc, ◌+ℤ◌, ◌*ℤ◌, ◌≤ℤ◌, ◌<ℤ◌, IfOk, IfErr, IfSome, MatchOption};
 ghost use Rattle.tz_base.specs.Days.{first_day};
-ghost use Rattle.tz_rule.specs.Alternate.{start_of, end_of, IsUtcYear, IsRuleYear, IsInRuleYears};
+ghost use Rattle.tz_rule.specs.Alternate.{turn_of, IsUtcYear, IsRuleYear, IsInRuleYears, IsAlternateType};
 ghost use Rattle.tz_rule.specs.LocalTimeType.{LocalTimeType};
 ghost use Rattle.tz_rule.specs.Rule.{IsRuleType};
 ghost use Rattle.tz_rule.specs.RuleSegments.{IsRuleChange, IsRuleSegment, IsSpanOf, IsNotInside};
+ghost use Rattle.tz_rule.specs.InnerTurns.{HasInnerTurns, IsLikelyYear};
 ghost use Rattle.tz_rule.specs.Stretches.{type_by, IsStretchYear, moved_back};
-ghost use Rattle.tz_rule.specs.Years.{EndsNextYear};
 ghost use Rattle.tz_rule.specs.declared.timezone.rule.TransitionRule.TheVariants.{Alternate};
 
 use super::daylight::{FIRST_YEAR, LAST_YEAR, rule_year};
@@ -18,6 +19,7 @@ use super::rule_segment::RuleSegment;
 use super::stretch::Stretch;
 use super::year_kind::{moved_year_start, year_start};
 use super::{AlternateTime, LocalTimeType};
+use tz_base::error::TzError;
 
 /// How far from 1970 an instant may lie: the two years before its year and the two after it are years in which a rule answers.
 const GREATEST_DISTANCE: i64 = 60_000_000_000_000_000;
@@ -33,8 +35,9 @@ const NEAR_YEARS: u8 = 5;
 
 /// The year of an instant in UTC, or the neighbour of that year whose end lies less than two days away, moved by cycles of 400 years.
 #[inline(always)]
-pub(super) fn likely_years(unix_time: i64) -> Option<u64>
-    ensures { IfSome result (λ years. IsStretchYear (moved_back years)) }
+fn likely_years(unix_time: i64) -> Option<u64>
+    ensures year { IfSome result (λ years. IsStretchYear (moved_back years)) }
+    ensures likely { IfSome result (λ years. IsLikelyYear unix_time (moved_back years)) }
 {
     if unix_time < -GREATEST_DISTANCE || unix_time > GREATEST_DISTANCE {
         return None;
@@ -102,104 +105,66 @@ fn cut(span: Stretch, unix_time: i64, turn: i64) -> Stretch
 }
 
 impl AlternateTime {
-    /// The instant at which daylight saving time starts in a moved year.
+    /// The instant at which daylight saving time starts, or ends, in a moved year.
     #[inline(always)]
-    fn start_in_moved(&self, years: u64) -> i64
+    fn turn_in_moved(&self, is_end: bool, years: u64) -> i64
         requires { IsRuleYear (moved_back years) }
-        ensures { result ≡ start_of self.now (moved_back years) }
+        ensures { result ≡ turn_of self.now is_end (moved_back years) }
     {
         let (start_of_year, kind) = moved_year_start(years);
-        start_of_year + self.start_in_kind(kind)
+        start_of_year + self.turn_in_kind(is_end, kind)
     }
 
-    /// The instant at which daylight saving time ends in a moved year.
-    #[inline(always)]
-    fn end_in_moved(&self, years: u64) -> i64
-        requires { IsRuleYear (moved_back years) }
-        ensures { result ≡ end_of self.now (moved_back years) }
-    {
-        let (start_of_year, kind) = moved_year_start(years);
-        start_of_year + self.end_in_kind(kind)
-    }
-
-    /// The span of the moved year or its neighbours that an instant near the year chooses, where each start has the end of its own year.
-    #[inline(always)]
-    fn span_in_order(&self, unix_time: i64, years: u64) -> Stretch
-        requires in_order { ¬ EndsNextYear (start_of self.now) (end_of self.now) }
-        requires year { IsStretchYear (moved_back years) }
-        ensures { IsSpanOf self.now result }
-    {
-        self.parts_are_sound();
-        let start = self.start_in_moved(years);
-        if unix_time < start {
-            return Stretch {
-                from: self.end_in_moved(years - 1),
-                until: start,
-                is_daylight: false,
-            };
-        }
-        let end = self.end_in_moved(years);
-        if unix_time < end {
-            return Stretch {
-                from: start,
-                until: end,
-                is_daylight: true,
-            };
-        }
-        Stretch {
-            from: end,
-            until: self.start_in_moved(years + 1),
-            is_daylight: false,
-        }
-    }
-
-    /// The span of the moved year or its neighbours that an instant near the year chooses, where each start has the end of the next year.
-    #[inline(always)]
-    fn span_across_years(&self, unix_time: i64, years: u64) -> Stretch
-        requires across { EndsNextYear (start_of self.now) (end_of self.now) }
-        requires year { IsStretchYear (moved_back years) }
-        ensures { IsSpanOf self.now result }
-    {
-        self.parts_are_sound();
-        let end = self.end_in_moved(years);
-        if unix_time < end {
-            return Stretch {
-                from: self.start_in_moved(years - 1),
-                until: end,
-                is_daylight: true,
-            };
-        }
-        let start = self.start_in_moved(years);
-        if unix_time < start {
-            return Stretch {
-                from: end,
-                until: start,
-                is_daylight: false,
-            };
-        }
-        Stretch {
-            from: start,
-            until: self.end_in_moved(years + 1),
-            is_daylight: true,
-        }
-    }
-
-    /// The span that an instant near the moved year chooses.
+    /// The span of the moved year or its neighbours that an instant near the year chooses.
+    ///
+    /// A year's start comes first, and its end second, or the other way round where each start has the end of the next year.
     #[inline(always)]
     fn span_of_years(&self, unix_time: i64, years: u64) -> Stretch
         requires { IsStretchYear (moved_back years) }
-        ensures { IsSpanOf self.now result }
+        ensures of { IsSpanOf self.now result }
+        ensures within { HasInnerTurns self.now → IsLikelyYear unix_time (moved_back years) → (result.from ≤ℤ unix_time) × (unix_time <ℤ result.until) }
     {
-        if self.ends_next_year() {
-            self.span_across_years(unix_time, years)
-        } else {
-            self.span_in_order(unix_time, years)
+        self.parts_are_sound();
+        let end_is_first = self.ends_next_year();
+        let first = self.turn_in_moved(end_is_first, years);
+        if unix_time < first {
+            return Stretch {
+                from: self.turn_in_moved(!end_is_first, years - 1),
+                until: first,
+                is_daylight: end_is_first,
+            };
         }
+        let second = self.turn_in_moved(!end_is_first, years);
+        if unix_time < second {
+            return Stretch {
+                from: first,
+                until: second,
+                is_daylight: !end_is_first,
+            };
+        }
+        Stretch {
+            from: second,
+            until: self.turn_in_moved(end_is_first, years + 1),
+            is_daylight: end_is_first,
+        }
+    }
+
+    /// The span around an instant, where the rule's turns lie so that the likely year always tells it.
+    #[inline(always)]
+    fn inner_span(&self, unix_time: i64) -> Option<Stretch>
+        ensures of { IfSome result (λ span. IsSpanOf self.now span) }
+        ensures within { IfSome result (λ span. (span.from ≤ℤ unix_time) × (unix_time <ℤ span.until)) }
+    {
+        if !self.has_inner_turns() {
+            return None;
+        }
+        let years = likely_years(unix_time)?;
+        Some(self.span_of_years(unix_time, years))
     }
 
     /// The span around an instant, where the likely year tells it.
     #[inline(always)]
-    fn likely_span(&self, unix_time: i64) -> Option<Stretch>
+    pub(crate) fn likely_span(&self, unix_time: i64) -> Option<Stretch>
         ensures of { IfSome result (λ span. IsSpanOf self.now span) }
         ensures within { IfSome result (λ span. (span.from ≤ℤ unix_time) × (unix_time <ℤ span.until)) }
     {
@@ -225,8 +190,8 @@ impl AlternateTime {
         };
         for place in 0..NEAR_YEARS {
             let near = year - 2 + i32::from(place);
-            span = cut(span, unix_time, self.start_in(near));
-            span = cut(span, unix_time, self.end_in(near));
+            span = cut(span, unix_time, self.turn_in(false, near));
+            span = cut(span, unix_time, self.turn_in(true, near));
         }
         span
     }
@@ -253,11 +218,14 @@ impl AlternateTime {
         }
     }
 
-    /// The segment around an instant that the likely year does not tell.
+    /// The segment around an instant that the likely year does not always tell.
     #[inline(never)]
-    fn unlikely_segment(&self, unix_time: i64) -> RuleSegment<'_>
+    fn outer_segment(&self, unix_time: i64) -> RuleSegment<'_>
         ensures { IsRuleSegment (Alternate self.now) unix_time result }
     {
+        if let Some(span) = self.likely_span(unix_time) {
+            return self.segment_of(unix_time, span);
+        }
         match rule_year(unix_time) {
             Some(year) => self.segment_of(unix_time, self.span_in_year(unix_time, year)),
             None => unanswered(unix_time),
@@ -274,9 +242,36 @@ impl AlternateTime {
         ensures from { (result.from ≢ negsuc 9223372036854775807) → IsRuleChange (Alternate self.now) result.from }
         ensures last { (result.last ≢ pos 9223372036854775807) → IsRuleChange (Alternate self.now) (result.last +ℤ pos 1) }
     {
-        match self.likely_span(unix_time) {
+        match self.inner_span(unix_time) {
             Some(span) => self.segment_of(unix_time, span),
-            None => self.unlikely_segment(unix_time),
+            None => self.outer_segment(unix_time),
+        }
+    }
+
+    /// The type at an instant that the likely year does not always tell.
+    #[inline(never)]
+    fn outer_type(&self, unix_time: i64) -> Result<&LocalTimeType, TzError>
+        ensures ok { IfOk result (λ t. IsInRuleYears unix_time × IsAlternateType self.now unix_time t.now) }
+        ensures err { IfErr result (λ e. (e ≡ TzError.OutOfRange) × ¬ IsInRuleYears unix_time) }
+    {
+        if let Some(span) = self.likely_span(unix_time) {
+            return Ok(self.type_by(span.is_daylight));
+        }
+        match rule_year(unix_time) {
+            Some(year) => Ok(self.type_by(self.is_daylight(unix_time, year))),
+            None => Err(TzError::OutOfRange),
+        }
+    }
+
+    /// The type at an instant.
+    #[inline(always)]
+    pub(crate) fn find_local_time_type(&self, unix_time: i64) -> Result<&LocalTimeType, TzError>
+        ensures ok { IfOk result (λ t. IsInRuleYears unix_time × IsAlternateType self.now unix_time t.now) }
+        ensures err { IfErr result (λ e. (e ≡ TzError.OutOfRange) × ¬ IsInRuleYears unix_time) }
+    {
+        match self.inner_span(unix_time) {
+            Some(span) => Ok(self.type_by(span.is_daylight)),
+            None => self.outer_type(unix_time),
         }
     }
 }

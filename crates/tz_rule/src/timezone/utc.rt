@@ -69,6 +69,7 @@ struct PartsFields {
 struct AlternateFields {
     parts: PartsFields,
     ends_next_year: bool,
+    has_inner_turns: bool,
     starts: YearTable,
     ends: YearTable,
 }

@@ -2,7 +2,7 @@
 
 ghost use Rattle.std.specs.Prelude.{◌≡◌, ℕ, ◌<◌, ◌≤◌, ◌*◌, pos, negsuc, ◌+ℤ◌, ◌≤ℤ◌, IfSome, IfNone, MatchBool};
 ghost use Rattle.tz_rule.specs.Day.{IsRuleDay};
-ghost use Rattle.tz_rule.specs.YearTables.{entry, next_entry, day_table, AreBounds, ComesFirst, ComesBeforeNext, ComesAfterNext, ChangesInYear, ChangesAcrossYears, ChangesOrder};
+ghost use Rattle.tz_rule.specs.YearTables.{entry, next_entry, day_table, AreBounds, least_entry, greatest_entry, is_inner, ComesFirst, ComesBeforeNext, ComesAfterNext, ChangesInYear, ChangesAcrossYears, ChangesOrder};
 
 use super::RuleDay;
 use super::year_kind::{self, KINDS, PAIR_KINDS};
@@ -10,6 +10,12 @@ use super::year_kind::{self, KINDS, PAIR_KINDS};
 /// How many seconds after 00:00 UTC of January 1st an instant of the year lies, for each kind of years.
 #[derive(Clone, Copy)]
 pub(super) struct YearTable([i32; KINDS]);
+
+/// Ten days after its beginning no start or end of the years before is yet to come: they lie less than that outside their years.
+const INNER_START: i32 = 864_000;
+
+/// Ten days before the end of the shortest year.
+const INNER_END: i32 = 30_672_000;
 
 /// The seconds of the shortest year.
 const SHORTEST_YEAR: i64 = 31_536_000;
@@ -112,7 +118,9 @@ impl YearTable {
 
     /// The least and the greatest seconds of all kinds.
     fn bounds(&self) -> (i32, i32)
-        ensures { AreBounds self.now.0 result.0 result.1 }
+        ensures bounds { AreBounds self.now.0 result.0 result.1 }
+        ensures least { result.0 ≡ least_entry self.now.0 14 }
+        ensures greatest { result.1 ≡ greatest_entry self.now.0 14 }
     {
         let (mut least, mut greatest) = (i32::MAX, i32::MIN);
         for kind in 0..KINDS {
@@ -120,6 +128,14 @@ impl YearTable {
             greatest = greatest.max(self.0[kind]);
         }
         (least, greatest)
+    }
+
+    /// Whether the instant of each year lies ten days or more from the ends of the year, also where that has 365 days.
+    pub(super) fn is_inner(&self) -> bool
+        ensures { result ≡ is_inner self.now.0 }
+    {
+        let (least, greatest) = self.bounds();
+        INNER_START <= least && greatest < INNER_END
     }
 
     /// Whether ends come before starts, of which this is the table, where the bounds of both lie apart and so no order changes.

@@ -1,4 +1,4 @@
-//! Segments of rules beside the types at their instants, and beside all starts and ends of the years around.
+//! Segments and types of rules beside all starts and ends of the years around.
 
 use super::{ALL_YEAR, AUCKLAND, Parts, expect_made, rule, start_in};
 use crate::expect::expect_eq;
@@ -30,6 +30,13 @@ fn segment(rule: &TransitionRule, unix_time: i64) -> Found {
     }
 }
 
+/// A rule, and how many years after a start the end lies that belongs to it.
+#[derive(Clone, Copy)]
+struct Plain {
+    rule: AlternateTime,
+    years: i32,
+}
+
 /// The last start or end up to an instant and the first one after it, of nine years around it.
 fn turns_around(rule: &AlternateTime, unix_time: i64, year: i32) -> (i64, i64) {
     let (mut from, mut until) = ANSWERED;
@@ -46,26 +53,54 @@ fn turns_around(rule: &AlternateTime, unix_time: i64, year: i32) -> (i64, i64) {
     (from, until)
 }
 
+/// Whether some year's end comes before its start, by years of each kind.
+fn ends_next_year(rule: &AlternateTime) -> bool {
+    for year in 1972..2000i32 {
+        if inner::end(rule, year) < inner::start(rule, year) {
+            return true;
+        }
+    }
+    false
+}
+
+/// Whether an instant of the year or near it lies from a start up to the end that belongs to it, where the rule answers, by nine years around.
+fn plain_daylight(plain: &Plain, unix_time: i64, year: i32) -> Option<bool> {
+    if unix_time < ANSWERED.0 || unix_time >= ANSWERED.1 {
+        return None;
+    }
+    for place in 0..9i32 {
+        let near = year.wrapping_sub(4).wrapping_add(place);
+        let end = inner::end(&plain.rule, near.wrapping_add(plain.years));
+        if inner::start(&plain.rule, near) <= unix_time && unix_time < end {
+            return Some(true);
+        }
+    }
+    Some(false)
+}
+
 /// The segment around an instant of the year or near it, by all starts and ends around.
-fn plain(rule: &AlternateTime, unix_time: i64, year: i32) -> Found {
-    let (from, until) = turns_around(rule, unix_time, year);
-    let is_daylight = is_daylight_at(&TransitionRule::Alternate(*rule), unix_time);
+fn plain_segment(plain: &Plain, unix_time: i64, year: i32) -> Found {
+    let (from, until) = turns_around(&plain.rule, unix_time, year);
+    let is_daylight = plain_daylight(plain, unix_time, year);
     (from, until.wrapping_sub(1), is_daylight)
 }
 
-/// Whether the segments around an instant, its own ends and the instants beside them are the plain ones.
-fn is_plain_at(alternate: &AlternateTime, unix_time: i64, year: i32) -> bool {
-    let rule = TransitionRule::Alternate(*alternate);
-    let found = segment(&rule, unix_time);
-    if found != plain(alternate, unix_time, year) {
-        return false;
-    }
-    let (from, last, _) = found;
+/// Whether the segment around an instant and the type there are the plain ones.
+fn is_plain_at(plain: &Plain, unix_time: i64, year: i32) -> bool {
+    let rule = TransitionRule::Alternate(plain.rule);
+    let wanted = plain_segment(plain, unix_time, year);
+    segment(&rule, unix_time) == wanted && is_daylight_at(&rule, unix_time) == wanted.2
+}
+
+/// Whether they are at an instant, at the ends of its segment and at the instants beside these.
+fn is_plain_around(plain: &Plain, unix_time: i64, year: i32) -> bool {
+    let (from, last, _) = segment(&TransitionRule::Alternate(plain.rule), unix_time);
     let (before, after) = (from.wrapping_sub(1), last.wrapping_add(1));
-    segment(&rule, from) == found
-        && segment(&rule, last) == found
-        && (from == ANSWERED.0 || segment(&rule, before) == plain(alternate, before, year))
-        && (after == ANSWERED.1 || segment(&rule, after) == plain(alternate, after, year))
+    is_plain_at(plain, unix_time, year)
+        && is_plain_at(plain, from, year)
+        && is_plain_at(plain, last, year)
+        && (from == ANSWERED.0 || is_plain_at(plain, before, year))
+        && (after == ANSWERED.1 || is_plain_at(plain, after, year))
 }
 
 /// Whether a start or an end of the years around is the instant, or an end of the years in which rules answer is.
@@ -88,19 +123,20 @@ fn is_one_type(rule: &TransitionRule, found: Found) -> bool {
 }
 
 /// Whether a segment holds the instant, lies between two changes and has one type.
-fn is_true_at(alternate: &AlternateTime, unix_time: i64, year: i32) -> bool {
-    let rule = TransitionRule::Alternate(*alternate);
+fn is_true_at(plain: &Plain, unix_time: i64, year: i32) -> bool {
+    let rule = TransitionRule::Alternate(plain.rule);
     let found = segment(&rule, unix_time);
     let (from, last, _) = found;
     from <= unix_time
         && unix_time <= last
-        && is_change(alternate, from, year)
-        && is_change(alternate, last.wrapping_add(1), year)
+        && is_daylight_at(&rule, unix_time) == plain_daylight(plain, unix_time, year)
+        && is_change(&plain.rule, from, year)
+        && is_change(&plain.rule, last.wrapping_add(1), year)
         && is_one_type(&rule, found)
 }
 
 /// Whether segments near the start and the end of a year, and near its January 1st, are true, and are the plain ones where they have to be.
-fn are_right_in(rule: &AlternateTime, year: i32, are_plain: bool) -> bool {
+fn are_right_in(plain: &Plain, year: i32, are_plain: bool) -> bool {
     let Some(new_year) = start_in((Z(0), 0), year) else {
         return false;
     };
@@ -108,13 +144,20 @@ fn are_right_in(rule: &AlternateTime, year: i32, are_plain: bool) -> bool {
         -1_728_000, -864_000, -604_800, -259_200, -86_400, -1, 0, 1, 86_400, 259_200, 604_800,
         864_000, 1_728_000,
     ];
-    for instant in [inner::start(rule, year), inner::end(rule, year), new_year] {
+    let (start, end) = (
+        inner::start(&plain.rule, year),
+        inner::end(&plain.rule, year),
+    );
+    for instant in [start, end, new_year] {
         for distance in &DISTANCES {
             let unix_time = instant.wrapping_add(*distance);
-            if !is_true_at(rule, unix_time, year) {
+            if unix_time < ANSWERED.0 || unix_time >= ANSWERED.1 {
+                continue;
+            }
+            if !is_true_at(plain, unix_time, year) {
                 return false;
             }
-            if are_plain && !is_plain_at(rule, unix_time, year) {
+            if are_plain && !is_plain_around(plain, unix_time, year) {
                 return false;
             }
         }
@@ -122,19 +165,39 @@ fn are_right_in(rule: &AlternateTime, year: i32, are_plain: bool) -> bool {
     true
 }
 
-/// Whether segments are right in near and far years.
+/// Whether segments are right in near and far years, and in those near which another way is taken.
 fn are_right(parts: Parts, are_plain: bool) -> bool {
     let Ok(rule) = rule(parts) else {
         return false;
     };
+    let years = i32::from(ends_next_year(&rule));
+    let plain = Plain { rule, years };
+    // Up to 60,000,000,000,000,000 seconds from 1970 on, and before it, the year is a quotient. The last are the first and the last years of answers.
+    static YEARS: [i32; 10] = [
+        1_901_326_279,
+        1_901_326_280,
+        1_901_326_281,
+        -1_901_322_342,
+        -1_901_322_341,
+        -1_901_322_340,
+        -2_147_483_646,
+        -2_147_483_645,
+        2_147_483_644,
+        2_147_483_645,
+    ];
+    for year in &YEARS {
+        if !are_right_in(&plain, *year, are_plain) {
+            return false;
+        }
+    }
     for year in 1965..1995i32 {
-        if !are_right_in(&rule, year, are_plain) {
+        if !are_right_in(&plain, year, are_plain) {
             return false;
         }
     }
     for step in 0..40i32 {
         let year = step.wrapping_sub(20).wrapping_mul(91_234_567);
-        if !are_right_in(&rule, year, are_plain) {
+        if !are_right_in(&plain, year, are_plain) {
             return false;
         }
     }
@@ -165,7 +228,7 @@ fn segments_lie_between_starts_and_ends(rt: HostRuntime) {
 
 #[test]
 fn segments_are_whole_near_the_end_of_the_year(rt: HostRuntime) {
-    static RULES: [Parts; 11] = [
+    static RULES: [Parts; 5] = [
         // From the new year, to it, and over it.
         (0, 3600, (Z(0), 0), (J(200), 0)),
         (0, 3600, (J(200), 0), (J(365), 90_000)),
@@ -173,6 +236,13 @@ fn segments_are_whole_near_the_end_of_the_year(rt: HostRuntime) {
         // In December, and in January.
         (-7200, 3600, (M(12, 4, 0), -500_000), (M(6, 1, 0), 500_000)),
         (-7200, 3600, (M(6, 1, 0), 500_000), (M(1, 2, 0), -500_000)),
+    ];
+    expect_right(&rt, &RULES, true);
+}
+
+#[test]
+fn segments_are_whole_where_both_turns_lie_near_new_year(rt: HostRuntime) {
+    static RULES: [Parts; 6] = [
         // Both in January of the next year: the last one before is that of two years before.
         (0, 3600, (J(365), 500_000), (J(365), 600_000)),
         (0, 3600, (J(365), 604_799), (J(365), 500_000)),
@@ -182,6 +252,24 @@ fn segments_are_whole_near_the_end_of_the_year(rt: HostRuntime) {
         (0, 3600, (Z(0), -500_000), (J(1), -604_799)),
         // No standard time, where each span ends where the next one starts.
         ALL_YEAR,
+    ];
+    expect_right(&rt, &RULES, true);
+}
+
+#[test]
+fn segments_of_turns_ten_days_from_new_year(rt: HostRuntime) {
+    static RULES: [Parts; 8] = [
+        // Ten days after it, and a second less.
+        (0, 3600, (Z(10), 0), (J(200), 0)),
+        (0, 3600, (Z(10), -1), (J(200), 0)),
+        (0, 3600, (Z(9), 0), (J(200), 0)),
+        // More than ten days before the end of 365 days, and ten.
+        (0, 0, (J(100), 0), (Z(355), -1)),
+        (0, 0, (J(100), 0), (Z(355), 0)),
+        (0, 0, (J(100), 0), (Z(356), 0)),
+        // The end belongs to the start of the year before.
+        (0, 0, (Z(355), -1), (Z(10), 0)),
+        (0, 0, (Z(355), 0), (Z(10), -1)),
     ];
     expect_right(&rt, &RULES, true);
 }

@@ -117,26 +117,28 @@ fn stretches_near_the_end_of_the_year_are_right_or_not_found(rt: HostRuntime) {
     expect_right(&rt, &RULES, true);
 }
 
-/// No stretch is found at any of the instants.
-fn expect_no_stretch(rt: &impl Abort, rule: &AlternateTime, unix_times: &[i64]) {
-    for unix_time in unix_times {
-        assert!(rt; inner::stretch(rule, *unix_time).is_none());
-    }
-}
-
-#[test]
-fn no_stretches_without_standard_time_or_years(rt: HostRuntime) {
-    static ANY_INSTANTS: [i64; 4] = [0, 1_000_000_000, i64::MIN, i64::MAX];
-    let all_year = expect_made(&rt, rule(ALL_YEAR));
-    expect_no_stretch(&rt, &all_year, &ANY_INSTANTS);
-    static OUT_OF_RANGE: [i64; 3] = [i64::MIN, i64::MAX, -60_000_000_000_000_001];
-    let paris = expect_made(&rt, rule(PARIS));
-    expect_no_stretch(&rt, &paris, &OUT_OF_RANGE);
-    // Daylight saving time of 2024.
-    let found = inner::stretch(&paris, 1_720_000_000).map(|found| (
+/// The stretch around an instant has these ends and this type.
+fn expect_stretch(rt: &impl Abort, rule: &AlternateTime, unix_time: i64, wanted: (i64, i64, bool)) {
+    let found = inner::stretch(rule, unix_time).map(|found| (
         found.from,
         found.until,
         found.is_daylight,
     ));
-    expect_eq(&rt, &found, &Some((1_711_846_800, 1_729_990_800, true)));
+    expect_eq(rt, &found, &Some(wanted));
+}
+
+#[test]
+fn stretches_of_a_summer_and_without_standard_time(rt: HostRuntime) {
+    let paris = expect_made(&rt, rule(PARIS));
+    static FAR: [i64; 3] = [i64::MIN, i64::MAX, -60_000_000_000_000_001];
+    for unix_time in &FAR {
+        assert!(rt; inner::stretch(&paris, *unix_time).is_none());
+    }
+    // Daylight saving time of 2024.
+    let summer = (1_711_846_800, 1_729_990_800, true);
+    expect_stretch(&rt, &paris, 1_720_000_000, summer);
+    // The span of 2001, where the next one starts when it ends.
+    let all_year = expect_made(&rt, rule(ALL_YEAR));
+    let span = (978_325_200, 1_009_861_200, true);
+    expect_stretch(&rt, &all_year, 1_000_000_000, span);
 }

@@ -7,10 +7,10 @@ use Rattle.tz_rule.proofs.inner.start.Goals as goal
 
 pub returns-clause-value : goal.returns-clause-value
 returns-clause-value c =
-    let fits : SFits w64 c.start_in.result = search rules in
-    rw (to_z-of_z w64 c.start_in.result fits) (rw (to_z-of_z w32 c.args.year c.ranges.year) at c.start_in.ensures.value)
+    let fits : SFits w64 c.turn_in.result = search rules in
+    rw (to_z-of_z w64 c.turn_in.result fits) (rw (to_z-of_z w32 c.args.year c.ranges.year) at c.turn_in.ensures.value)
 
 pub returns-clause-bound : goal.returns-clause-bound
 returns-clause-bound c =
-    let fits : SFits w64 c.start_in.result = search rules in
-    rw (to_z-of_z w64 c.start_in.result fits) (rw (to_z-of_z w32 c.args.year c.ranges.year) at c.start_in.ensures.bound)
+    let fits : SFits w64 c.turn_in.result = search rules in
+    rw (to_z-of_z w64 c.turn_in.result fits) (rw (to_z-of_z w32 c.args.year c.ranges.year) at c.turn_in.ensures.bound)

@@ -8,7 +8,7 @@ use Rattle.tz_rule.proofs.timezone.alternate.AlternateTime.new.Goals as goal
 
 pub invariant_of-result : goal.invariant_of-result
 invariant_of-result c =
-    kept_from _ c.in_ok-check_range.ensures.ok (record { start_is = c.start_table-starts.ensures.day; end_is = c.end_table-ends.ensures.day }) c.start_table-starts.ensures.table c.end_table-ends.ensures.table c.in-Some.ensures.some.0 c.in-Some.ensures.some.1
+    kept_from _ c.in_ok-check_range.ensures.ok (record { start_is = c.start_table-starts.ensures.day; end_is = c.end_table-ends.ensures.day }) c.start_table-starts.ensures.table c.end_table-ends.ensures.table c.in-Some.ensures.some.0 c.in-Some.ensures.some.1 (search rules)
 
 pub returns-clause-ok : goal.returns-clause-ok
 returns-clause-ok c =

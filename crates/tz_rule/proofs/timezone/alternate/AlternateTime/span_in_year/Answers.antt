@@ -46,10 +46,10 @@ loop-place-preserved c =
     let a = c.cut-span.ensures in
     let b = c.cut-span-in-loop-place.ensures in
     let near : to_z w32 (of_z w32 (to_z w32 (of_z w32 before) +ℤ to_z w32 (of_z w32 c.from.result))) ≡ before +ℤ pos k = omega (arith, ints, c.from.ensures, c.requires.1, c.loop-place-test.true) in
-    let start : to_z w64 (of_z w64 c.start_in.result) ≡ start_of r (before +ℤ pos k) = omega (arith, ints, rw near at c.start_in.ensures.value) in
-    let end : to_z w64 (of_z w64 c.end_in.result) ≡ end_of r (before +ℤ pos k) = omega (arith, ints, rw near at c.end_in.ensures.value) in
-    let first = cut_span r u (to_z w64 (of_z w64 c.start_in.result)) s c.cut-span.result i.span (before +ℤ pos k, inl start) a.within a.from a.until a.inside in
-    let second = cut_span r u (to_z w64 (of_z w64 c.end_in.result)) c.cut-span.result t first (before +ℤ pos k, inr end) b.within b.from b.until b.inside in
+    let start : to_z w64 (of_z w64 c.turn_in.result) ≡ start_of r (before +ℤ pos k) = omega (arith, ints, rw near at c.turn_in.ensures.value) in
+    let end : to_z w64 (of_z w64 c.turn_in-in-loop-place.result) ≡ end_of r (before +ℤ pos k) = omega (arith, ints, rw near at c.turn_in-in-loop-place.ensures.value) in
+    let first = cut_span r u (to_z w64 (of_z w64 c.turn_in.result)) s c.cut-span.result i.span (before +ℤ pos k, inl start) a.within a.from a.until a.inside in
+    let second = cut_span r u (to_z w64 (of_z w64 c.turn_in-in-loop-place.result)) c.cut-span.result t first (before +ℤ pos k, inr end) b.within b.from b.until b.inside in
     let smaller : (s.from ≤ℤ t.from) × (t.until ≤ℤ s.until) = (omega (arith, ints, a.inside.0, b.inside.0), omega (arith, ints, a.inside.1, b.inside.1)) in
     record {
       span = second;

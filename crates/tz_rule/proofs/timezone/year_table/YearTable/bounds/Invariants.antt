@@ -1,7 +1,11 @@
 -- The bounds so far are those of the kinds so far.
-use Rattle.std.proofs.Common.{ℕ, ◌<◌, ◌≤ℤ◌}
-use Rattle.tz_rule.specs.YearTables.{entry}
+use Rattle.std.proofs.Common.{◌≡◌, ℕ, ◌<◌, ◌≤ℤ◌}
+use Rattle.tz_rule.specs.YearTables.{entry, least_entry, greatest_entry}
 use Rattle.tz_rule.proofs.timezone.year_table.YearTable.bounds.Given as goal
 
 abbrev pub invariant-loop-kind : goal.invariant-loop-kind
-invariant-loop-kind l = (k : ℕ) → k < l.kind → (l.least ≤ℤ entry l.self.0 k) × (entry l.self.0 k ≤ℤ l.greatest)
+invariant-loop-kind l = record {
+  bounds : (k : ℕ) → k < l.kind → (l.least ≤ℤ entry l.self.0 k) × (entry l.self.0 k ≤ℤ l.greatest);
+  least : l.least ≡ least_entry l.self.0 l.kind;
+  greatest : l.greatest ≡ greatest_entry l.self.0 l.kind;
+}

@@ -17,8 +17,8 @@ returns-then-last_start-first_end c =
     let s_high : SFits w32 s.1 = search rules in
     let e_low : SFits w32 e.0 = search rules in
     let e_high : SFits w32 e.1 = search rules in
-    let never : ¬ ComesFirst ends starts = never_first ends starts e.0 e.1 s.0 s.1 c.bounds-first_end.ensures c.bounds-first_start.ensures (omega (arith, ints, c.if-last_start-first_end.true, s_high.sfits, e_low.sfits)) in (
-      no_order_changes starts ends s.0 s.1 e.0 e.1 c.bounds-first_start.ensures c.bounds-first_end.ensures
+    let never : ¬ ComesFirst ends starts = never_first ends starts e.0 e.1 s.0 s.1 c.bounds-first_end.ensures.bounds c.bounds-first_start.ensures.bounds (omega (arith, ints, c.if-last_start-first_end.true, s_high.sfits, e_low.sfits)) in (
+      no_order_changes starts ends s.0 s.1 e.0 e.1 c.bounds-first_start.ensures.bounds c.bounds-first_end.ensures.bounds
           (omega (arith, ints, c.if-from.false, c.from.ensures, c.from-2.ensures, s_high.sfits, e_low.sfits))
           (omega (arith, ints, c.if-from-2.false, c.from-3.ensures, c.from-4.ensures, s_low.sfits, e_high.sfits))
           (inr never),
@@ -35,9 +35,9 @@ returns-then-last_end-first_start c =
     let s_high : SFits w32 s.1 = search rules in
     let e_low : SFits w32 e.0 = search rules in
     let e_high : SFits w32 e.1 = search rules in (
-      no_order_changes starts ends s.0 s.1 e.0 e.1 c.bounds-first_start.ensures c.bounds-first_end.ensures
+      no_order_changes starts ends s.0 s.1 e.0 e.1 c.bounds-first_start.ensures.bounds c.bounds-first_end.ensures.bounds
           (omega (arith, ints, c.if-from.false, c.from.ensures, c.from-2.ensures, s_high.sfits, e_low.sfits))
           (omega (arith, ints, c.if-from-2.false, c.from-3.ensures, c.from-4.ensures, s_low.sfits, e_high.sfits))
-          (inl (never_first starts ends s.0 s.1 e.0 e.1 c.bounds-first_start.ensures c.bounds-first_end.ensures (omega (arith, ints, c.if-last_end-first_start.true, s_low.sfits, e_high.sfits)))),
-      comes_first ends starts e.0 e.1 s.0 s.1 c.bounds-first_end.ensures c.bounds-first_start.ensures (omega (arith, ints, c.if-last_end-first_start.true, s_low.sfits, e_high.sfits)),
+          (inl (never_first starts ends s.0 s.1 e.0 e.1 c.bounds-first_start.ensures.bounds c.bounds-first_end.ensures.bounds (omega (arith, ints, c.if-last_end-first_start.true, s_low.sfits, e_high.sfits)))),
+      comes_first ends starts e.0 e.1 s.0 s.1 c.bounds-first_end.ensures.bounds c.bounds-first_start.ensures.bounds (omega (arith, ints, c.if-last_end-first_start.true, s_low.sfits, e_high.sfits)),
     )
