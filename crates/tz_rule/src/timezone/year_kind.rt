@@ -1,6 +1,6 @@
 //! Kinds of years, by number: the week day of January 1st, and 7 more for a leap year. All years of a kind have the same calendar.
 
-ghost use Rattle.std.specs.Prelude.{◌≡◌, ◌*◌, ◌%◌, ◌^◌, ◌<◌, ◌≤◌, pos, negsuc, ◌+ℤ◌, ◌-ℤ◌, ◌*ℤ◌, ◌≤ℤ◌};
+ghost use Rattle.std.specs.Prelude.{◌≡◌, ◌+◌, ◌*◌, ◌/◌, ◌%◌, ◌^◌, ◌<◌, ◌≤◌, pos, negsuc, ◌+ℤ◌, ◌-ℤ◌, ◌*ℤ◌, ◌≤ℤ◌};
 ghost use Rattle.tz_base.specs.Cycles.{days_of_years};
 ghost use Rattle.tz_base.specs.Days.{is_leap, first_day};
 ghost use Rattle.tz_rule.specs.Kinds.{kind_of as kind_by, year_kind, first_kind as first_kind_of, second_kind as second_kind_of, first_days as first_days_of};
@@ -49,12 +49,22 @@ fn moved_year(year: i32) -> u64
     (i64::from(year) + ADDED_YEARS) as u64
 }
 
+/// The years before a moved year that 100 divides. A multiplication and a shift stand for the division.
+#[inline(always)]
+fn centuries_before(years: u64) -> u64
+    requires { years ≤ 4294967647 }
+    ensures { result ≡ (years + 99) / 100 }
+{
+    1_374_389_535 * (years + 99) / 137_438_953_472
+}
+
 /// Whether a moved year is leap.
 #[inline(always)]
 fn is_moved_year_leap(years: u64) -> bool
+    requires { years ≤ 4294967647 }
     ensures { result ≡ is_leap (pos years) }
 {
-    if years % 100 == 0 {
+    if 100 * centuries_before(years) == years {
         years % 16 == 0
     } else {
         years % 4 == 0
@@ -64,12 +74,11 @@ fn is_moved_year_leap(years: u64) -> bool
 /// The days before a moved year.
 #[inline(always)]
 fn days_before_moved_year(years: u64) -> u64
-    requires { years < 2 ^ 33 }
+    requires { years ≤ 4294967647 }
     ensures value { result ≡ days_of_years years }
     ensures bound { result < 2 ^ 42 }
 {
-    let centuries = (years + 99) / 100;
-    365 * years + (years + 3) / 4 - centuries + (centuries + 3) / 4
+    (1461 * years + 3) / 4 - 3 * centuries_before(years) / 4
 }
 
 /// A seventh of 2^64, rounded up.

@@ -5,4 +5,4 @@ use Rattle.tz_rule.proofs.timezone.year_kind.days_before_moved_year.Goals as goa
 
 pub returns-clause-value : goal.returns-clause-value
 unfolding days_of_years
-returns-clause-value c = omega arith
+returns-clause-value c = omega (arith, c.centuries_before.ensures)
