@@ -1,11 +1,11 @@
 -- Digits that are cut out of a text are text, and `parse` gives their number or tells that none of its type stands there.
-use Rattle.std.proofs.Common.{◌≡◌, ◌≢◌, ℕ, ◌^◌, ◌<◌, ◌&&◌, Bool, true, false, cond, List, [], ◌∷◌, length, Result, sym, ap, ◌∙◌, subst, refl, inl, inr, arith, ℤ, pos}
+use Rattle.std.proofs.Common.{◌≡◌, ◌≢◌, ℕ, leb, le-leb, ◌+◌, ◌*◌, ◌^◌, ◌<◌, ◌≤◌, ◌&&◌, Bool, true, false, cond, List, [], ◌∷◌, length, Result, sym, ap, ◌∙◌, subst, refl, inl, inr, arith, ℤ, pos}
 use Rattle.std.proofs.lemmas.Bool.{cases_lt}
 use Rattle.std.proofs.lemmas.List.{get_or_past}
 use Rattle.std.proofs.lemmas.List.Sums.{take_while-cons}
-use Rattle.std.proofs.lemmas.Str.{IsUtf8-from_ascii}
+use Rattle.std.proofs.lemmas.Str.{IsUtf8-from_ascii, digit_value_digit}
 use Rattle.std.proofs.lemmas.Str.Parse.{IsNumeralModel, numerals_by_value, tells_all_ascii_digits, digit_at, parse_digits, parse_signed_digits}
-use Rattle.std.specs.Char.{is_ascii_digit}
+use Rattle.std.specs.Char.{is_ascii_digit, digit_value}
 use Rattle.std.specs.Int.{w32}
 use Rattle.std.specs.List.{take_while}
 use Rattle.std.specs.Result.{OkIff}
@@ -63,3 +63,35 @@ unsigned_number bits text digits rest r run h = parse_digits own bits digits r h
 
 pub signed_number : {E : Type 0} (text digits rest : List ℕ) (r : Result ℤ E) → IsRun is_ascii_digit text digits rest → ParsesSigned w32 10 digits r → OkIff r ((0 < length digits) × (digits_value 10 digits < 2 ^ 31)) (pos (digits_value 10 digits))
 signed_number text digits rest r run h = parse_signed_digits own w32 digits r h (run_has_digits run)
+
+digit_passes : (d : ℕ) → d ≤ 9 → is_ascii_digit (d + 48) ≡ true
+digit_passes d small =
+    let low : leb 48 (d + 48) ≡ true = le-leb 48 (d + 48) (omega arith) in
+    let high : leb (d + 48) 57 ≡ true = le-leb (d + 48) 57 (omega (arith, small)) in
+    rw (low, high) refl
+
+digit_is : (d : ℕ) → d ≤ 9 → digit_value (d + 48) ≡ d
+digit_is d small = let told = digit_value_digit (d + 48) (omega arith, omega (arith, small)) in omega (arith, told)
+
+run_of_digit : (d : ℕ) (rest : List ℕ) → d ≤ 9 → take_while is_ascii_digit ((d + 48) ∷ rest) ≡ (d + 48) ∷ take_while is_ascii_digit rest
+run_of_digit d rest small = take_while-cons is_ascii_digit (d + 48) rest ∙ ap (λ passes. cond passes ((d + 48) ∷ take_while is_ascii_digit rest) []) (digit_passes d small)
+
+-- a number of one digit, and one of two
+pub one_digit : (text rest : List ℕ) (d : ℕ) → d ≤ 9 → text ≡ (d + 48) ∷ rest → take_while is_ascii_digit rest ≡ [] → IsNumber text d rest
+one_digit text rest d small front over = record {
+  digits = (d + 48) ∷ [];
+  run = record { longest = sym (ap (take_while is_ascii_digit) front ∙ run_of_digit d rest small ∙ ap (λ more. (d + 48) ∷ more) over); parts = front };
+  some = some_digits ((d + 48) ∷ []) (omega arith);
+  value = omega (arith, digit_is d small);
+}
+
+pub two_digits : (text rest behind : List ℕ) (d e : ℕ) → d ≤ 9 → e ≤ 9 → text ≡ (d + 48) ∷ rest → rest ≡ (e + 48) ∷ behind → take_while is_ascii_digit behind ≡ [] → IsNumber text (10 * d + e) behind
+two_digits text rest behind d e small small_too front next over = record {
+  digits = (d + 48) ∷ (e + 48) ∷ [];
+  run = record {
+    longest = sym (ap (take_while is_ascii_digit) front ∙ run_of_digit d rest small ∙ ap (λ more. (d + 48) ∷ more) (ap (take_while is_ascii_digit) next ∙ run_of_digit e behind small_too ∙ ap (λ more. (e + 48) ∷ more) over));
+    parts = front ∙ ap (λ more. (d + 48) ∷ more) next;
+  };
+  some = some_digits ((d + 48) ∷ (e + 48) ∷ []) (omega arith);
+  value = omega (arith, digit_is d small, digit_is e small_too);
+}

@@ -1,6 +1,6 @@
 //! Decimal numbers.
 
-ghost use Rattle.std.specs.Prelude.{◌≡◌, ◌^◌, ◌<◌, IfOk, MatchResult};
+ghost use Rattle.std.specs.Prelude.{◌≡◌, ◌∷◌, [], ◌+◌, ◌^◌, ◌<◌, ◌≤◌, take_while, IfOk, IfSome, MatchOption, MatchResult};
 ghost use Rattle.std.specs.Str.{IsAscii};
 ghost use Rattle.std.specs.Char.{is_ascii_digit};
 ghost use Rattle.tz_zone.specs.TzText.{IsNumber, IsRun};
@@ -10,6 +10,32 @@ use super::cursor::split_digits;
 use std::str;
 use tz_base::error::parse::TzStringError;
 
+/// The value of the digit at the front, and the bytes behind.
+#[inline(always)]
+fn after_digit(text: &[u8]) -> Option<(u8, &[u8])>
+    ensures { MatchOption result (take_while is_ascii_digit text.now ≡ []) (λ p. (text.now ≡ (p.0 + 48) ∷ p.1.now) × (p.0 ≤ 9)) }
+{
+    match text {
+        [first, rest @ ..] if first.is_ascii_digit() => Some((*first - b'0', rest)),
+        _ => None,
+    }
+}
+
+/// The number at the front, where it has one digit or two, as most numbers of a string have, and the bytes behind.
+#[inline(always)]
+fn read_two_digits(text: &[u8]) -> Option<(u8, &[u8])>
+    ensures { IfSome result (λ p. IsNumber text.now p.0 p.1.now) }
+{
+    let (first, rest) = after_digit(text)?;
+    let Some((second, behind)) = after_digit(rest) else {
+        return Some((first, rest));
+    };
+    match after_digit(behind) {
+        Some(_) => None,
+        None => Some((10 * first + second, behind)),
+    }
+}
+
 /// The longest run of digits at the front, and the bytes behind.
 fn read_digits(text: &[u8]) -> (&str, &[u8])
     ensures { IsRun is_ascii_digit text.now result.0.now result.1.now }
@@ -18,8 +44,8 @@ fn read_digits(text: &[u8]) -> (&str, &[u8])
     (unsafe { str::from_utf8_unchecked(digits) }, rest)
 }
 
-/// A number of hours, minutes or seconds, which fits 31 bits, and the bytes behind.
-pub(super) fn read_time_number(text: &[u8]) -> Result<(u32, &[u8]), TzStringError>
+/// A number of hours, minutes or seconds of any length, which fits 31 bits, and the bytes behind.
+fn read_long_time_number(text: &[u8]) -> Result<(u32, &[u8]), TzStringError>
     ensures { MatchResult result (λ p. IsNumber text.now p.0 p.1.now × (p.0 < 2 ^ 31)) (λ e. IsParseInt e × HasNoNumber 31 text.now) }
 {
     let (digits, rest) = read_digits(text);
@@ -27,18 +53,51 @@ pub(super) fn read_time_number(text: &[u8]) -> Result<(u32, &[u8]), TzStringErro
     Ok((number as u32, rest))
 }
 
-/// The number of a day of the year, and the bytes behind.
-pub(super) fn read_year_day(text: &[u8]) -> Result<(u16, &[u8]), TzStringError>
+/// The number of a day of the year of any length, and the bytes behind.
+fn read_long_year_day(text: &[u8]) -> Result<(u16, &[u8]), TzStringError>
     ensures { MatchResult result (λ p. IsNumber text.now p.0 p.1.now) (λ e. IsParseInt e × HasNoNumber 16 text.now) }
 {
     let (digits, rest) = read_digits(text);
     Ok((digits.parse::<u16>()?, rest))
 }
 
-/// The number of a month, a week or a week day, and the bytes behind.
-pub(super) fn read_short_number(text: &[u8]) -> Result<(u8, &[u8]), TzStringError>
+/// The number of a month, a week or a week day of any length, and the bytes behind.
+fn read_long_short_number(text: &[u8]) -> Result<(u8, &[u8]), TzStringError>
     ensures { MatchResult result (λ p. IsNumber text.now p.0 p.1.now) (λ e. IsParseInt e × HasNoNumber 8 text.now) }
 {
     let (digits, rest) = read_digits(text);
     Ok((digits.parse::<u8>()?, rest))
+}
+
+/// A number of hours, minutes or seconds, which fits 31 bits, and the bytes behind.
+#[inline(always)]
+pub(super) fn read_time_number(text: &[u8]) -> Result<(u32, &[u8]), TzStringError>
+    ensures { MatchResult result (λ p. IsNumber text.now p.0 p.1.now × (p.0 < 2 ^ 31)) (λ e. IsParseInt e × HasNoNumber 31 text.now) }
+{
+    match read_two_digits(text) {
+        Some((number, rest)) => Ok((u32::from(number), rest)),
+        None => read_long_time_number(text),
+    }
+}
+
+/// The number of a day of the year, and the bytes behind.
+#[inline(always)]
+pub(super) fn read_year_day(text: &[u8]) -> Result<(u16, &[u8]), TzStringError>
+    ensures { MatchResult result (λ p. IsNumber text.now p.0 p.1.now) (λ e. IsParseInt e × HasNoNumber 16 text.now) }
+{
+    match read_two_digits(text) {
+        Some((number, rest)) => Ok((u16::from(number), rest)),
+        None => read_long_year_day(text),
+    }
+}
+
+/// The number of a month, a week or a week day, and the bytes behind.
+#[inline(always)]
+pub(super) fn read_short_number(text: &[u8]) -> Result<(u8, &[u8]), TzStringError>
+    ensures { MatchResult result (λ p. IsNumber text.now p.0 p.1.now) (λ e. IsParseInt e × HasNoNumber 8 text.now) }
+{
+    match read_two_digits(text) {
+        Some((number, rest)) => Ok((number, rest)),
+        None => read_long_short_number(text),
+    }
 }

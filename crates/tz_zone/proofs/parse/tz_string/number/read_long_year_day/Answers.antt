@@ -2,7 +2,7 @@ use Rattle.tz_base.specs.declared.error.parse.TzStringError.TheVariants.{ParseIn
 use Rattle.std.proofs.Common.{refl, Err}
 use Rattle.tz_zone.proofs.QuestionMarkExits.{exit}
 use Rattle.tz_zone.proofs.TextNumbers.{number_is_none, unsigned_number}
-use Rattle.tz_zone.proofs.parse.tz_string.number.read_year_day.Goals as goal
+use Rattle.tz_zone.proofs.parse.tz_string.number.read_long_year_day.Goals as goal
 
 pub returns-in_err-parse : goal.returns-in_err-parse
 returns-in_err-parse c =
