@@ -9,6 +9,7 @@ ghost use Rattle.tz_zone.specs.TzTextFault.{IsMissingByte};
 use tz_base::error::parse::{ParseDataError, TzStringError};
 
 /// The bytes behind a byte, where it stands at the front.
+#[inline(always)]
 pub(super) fn after_byte(text: &[u8], byte: u8) -> Option<&[u8]>
     ensures { MatchOption result (¬ Begins byte text.now) (λ rest. text.now ≡ byte ∷ rest.now) }
 {
@@ -19,6 +20,7 @@ pub(super) fn after_byte(text: &[u8], byte: u8) -> Option<&[u8]>
 }
 
 /// The bytes behind a byte that has to stand at the front.
+#[inline(always)]
 pub(super) fn expect_byte(text: &[u8], byte: u8) -> Result<&[u8], TzStringError>
     ensures { MatchResult result (λ rest. text.now ≡ byte ∷ rest.now) (λ e. (f : ParseDataError) × (e ≡ TzStringError.ParseData f) × IsMissingByte byte text.now f) }
 {

@@ -24,6 +24,7 @@ pub(super) struct DayAndTime {
 }
 
 /// The number behind a `J`, and the bytes behind.
+#[inline(always)]
 fn read_julian_day(text: &[u8]) -> Result<(Julian1WithoutLeap, &[u8]), TzError>
     ensures { MatchResult result (λ p. IsNumber text.now p.0 p.1.now × IsJulianDay p.0) (IsDayNumberFault 16 IsJulianDay InvalidRuleDayJulianDay text.now) }
 {
@@ -32,6 +33,7 @@ fn read_julian_day(text: &[u8]) -> Result<(Julian1WithoutLeap, &[u8]), TzError>
 }
 
 /// A number of days from January 1st on, and the bytes behind.
+#[inline(always)]
 fn read_zero_based_day(text: &[u8]) -> Result<(Julian0WithLeap, &[u8]), TzError>
     ensures { MatchResult result (λ p. IsNumber text.now p.0 p.1.now × IsZeroBasedDay p.0) (IsDayNumberFault 16 IsZeroBasedDay InvalidRuleDayJulianDay text.now) }
 {
@@ -40,6 +42,7 @@ fn read_zero_based_day(text: &[u8]) -> Result<(Julian0WithLeap, &[u8]), TzError>
 }
 
 /// The month, the week and the week day behind an `M`, and the bytes behind.
+#[inline(always)]
 fn read_month_week_day(text: &[u8]) -> Result<(MonthWeekDay, &[u8]), TzError>
     ensures { MatchResult result (λ p. IsMonthWeekText text.now p.0 p.1.now × IsMonthWeek p.0) (IsMonthWeekDayFault text.now) }
 {
@@ -52,6 +55,7 @@ fn read_month_week_day(text: &[u8]) -> Result<(MonthWeekDay, &[u8]), TzError>
 }
 
 /// The day of a rule, and the bytes behind.
+#[inline(always)]
 fn read_rule_day(text: &[u8]) -> Result<(RuleDay, &[u8]), TzError>
     ensures { MatchResult result (λ p. IsDay text.now p.0 p.1.now × IsRuleDay p.0) (IsDayFault text.now) }
 {
@@ -74,6 +78,7 @@ fn read_rule_day(text: &[u8]) -> Result<(RuleDay, &[u8]), TzError>
 }
 
 /// The time behind a slash, or two o'clock where no slash stands, and the bytes behind.
+#[inline(always)]
 fn read_time_of_rule(text: &[u8], extended: bool) -> Result<(WrittenTime, &[u8]), TzStringError>
     ensures { MatchResult result
         (λ p. IsTimeOfRule extended text.now p.0 p.1.now × IsTimeUpTo (day_time_hours extended) p.0)
@@ -86,6 +91,7 @@ fn read_time_of_rule(text: &[u8], extended: bool) -> Result<(WrittenTime, &[u8])
 }
 
 /// A rule, and the bytes behind.
+#[inline(always)]
 pub(super) fn read_rule(text: &[u8], extended: bool) -> Result<(DayAndTime, &[u8]), TzError>
     ensures { MatchResult result (λ p. IsRuleText extended text.now p.0 p.1.now × IsRuleInRange extended p.0) (IsRuleTextFault extended text.now) }
 {

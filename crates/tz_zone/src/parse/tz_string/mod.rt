@@ -25,6 +25,7 @@ use tz_base::error::timezone::LocalTimeTypeError;
 use tz_rule::timezone::{AlternateTime, LocalTimeType, TransitionRule};
 
 /// The daylight offset, which is left out where a comma stands next, and the bytes behind.
+#[inline(always)]
 fn read_daylight_offset(text: &[u8]) -> Result<(Option<WrittenTime>, &[u8]), TzStringError>
     ensures { MatchResult result
         (λ p. IsDaylightOffset text.now p.0 p.1.now × IfSome p.0 (IsTimeUpTo offset_hours))
@@ -40,6 +41,7 @@ fn read_daylight_offset(text: &[u8]) -> Result<(Option<WrittenTime>, &[u8]), TzS
 }
 
 /// The daylight name, its offset, and the rules behind a comma.
+#[inline(always)]
 fn read_daylight(text: &[u8]) -> Result<(&[u8], Option<WrittenTime>, &[u8]), TzStringError>
     ensures { MatchResult result
         (λ p. ((after_name : List ℕ) × IsName text.now p.0.now after_name × IsDaylightOffset after_name p.1 (comma ∷ p.2.now)) × IfSome p.1 (IsTimeUpTo offset_hours))
@@ -58,6 +60,7 @@ fn read_daylight(text: &[u8]) -> Result<(&[u8], Option<WrittenTime>, &[u8]), TzS
 }
 
 /// The last rule, with nothing behind it.
+#[inline(always)]
 fn read_last_rule(text: &[u8], extended: bool) -> Result<DayAndTime, TzError>
     ensures { MatchResult result (λ rule. IsRuleText extended text.now rule [] × IsRuleInRange extended rule) (IsLastRuleFault extended text.now) }
 {
@@ -73,6 +76,7 @@ fn read_last_rule(text: &[u8], extended: bool) -> Result<DayAndTime, TzError>
 }
 
 /// The start and the end, with a comma between them and nothing behind.
+#[inline(always)]
 fn read_rules(text: &[u8], extended: bool) -> Result<(DayAndTime, DayAndTime), TzError>
     ensures { MatchResult result
         (λ p. ((end_text : List ℕ) × IsRuleText extended text.now p.0 (comma ∷ end_text) × IsRuleText extended end_text p.1 []) × IsRuleInRange extended p.0 × IsRuleInRange extended p.1)
@@ -89,6 +93,7 @@ fn read_rules(text: &[u8], extended: bool) -> Result<(DayAndTime, DayAndTime), T
 }
 
 /// The local time type with this name.
+#[inline(always)]
 fn named_type(
     name: &[u8],
     ut_offset: i32,
@@ -103,6 +108,7 @@ fn named_type(
 }
 
 /// What the string denotes.
+#[inline(always)]
 fn read_text(text: &[u8], extended: bool) -> Result<TransitionRule, TzError>
     ensures { MatchResult result (IsTzText extended text.now) (IsTzTextFault extended text.now) }
 {

@@ -10,6 +10,7 @@ use super::cursor::{after_byte, split_at_bracket, split_letters};
 use tz_base::error::parse::{ParseDataError, TzStringError};
 
 /// The name at the front, and the bytes behind.
+#[inline(always)]
 pub(super) fn read_name(text: &[u8]) -> Result<(&[u8], &[u8]), TzStringError>
     ensures { MatchResult result (λ p. IsName text.now p.0.now p.1.now) (λ e. (e ≡ ParseData UnexpectedEof) × IsUnclosed text.now) }
 {

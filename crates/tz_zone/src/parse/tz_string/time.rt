@@ -36,6 +36,7 @@ impl WrittenTime {
     ghost use Rattle.tz_zone.specs.TzText.{IsTimeUpTo, offset_hours, seconds_of, ut_offset_of, daylight_offset_of, plain_time};
 
     /// Two o'clock, the day time of a rule that has none.
+    #[inline(always)]
     pub(super) fn two_o_clock() -> WrittenTime
         ensures { result ≡ plain_time 2 0 0 }
     {
@@ -48,6 +49,7 @@ impl WrittenTime {
     }
 
     /// The time in seconds, at most a week.
+    #[inline(always)]
     pub(super) fn total_seconds(self) -> i32
         requires { IsTimeUpTo 167 self }
         ensures { result ≡ seconds_of self }
@@ -57,6 +59,7 @@ impl WrittenTime {
     }
 
     /// The seconds that an offset adds to UTC: a string has those that are subtracted.
+    #[inline(always)]
     pub(super) fn ut_offset(self) -> i32
         requires { IsTimeUpTo offset_hours self }
         ensures value { result ≡ ut_offset_of self }
@@ -66,6 +69,7 @@ impl WrittenTime {
     }
 
     /// The seconds that daylight saving time adds to UTC: an hour more than standard time, where the string has no offset.
+    #[inline(always)]
     pub(super) fn daylight_ut_offset(self, daylight: Option<WrittenTime>) -> i32
         requires std { IsTimeUpTo offset_hours self }
         requires dst { IfSome daylight (IsTimeUpTo offset_hours) }
@@ -80,6 +84,7 @@ impl WrittenTime {
 }
 
 /// A number behind a colon, or 0 where no colon stands, and the bytes behind.
+#[inline(always)]
 fn read_part(text: &[u8]) -> Result<(u32, &[u8]), TzStringError>
     ensures { MatchResult result (λ p. IsPart text.now p.0 p.1.now) (λ e. IsParseInt e × ((number : List ℕ) × (text.now ≡ colon ∷ number) × HasNoNumber 31 number)) }
 {
@@ -90,6 +95,7 @@ fn read_part(text: &[u8]) -> Result<(u32, &[u8]), TzStringError>
 }
 
 /// Hours, minutes and seconds after a sign that is read, and the bytes behind.
+#[inline(always)]
 fn read_hms(text: &[u8], minus: bool) -> Result<(WrittenTime, &[u8]), TzStringError>
     ensures { MatchResult result (λ p. IsHms text.now p.0 p.1.now × (p.0.minus ≡ minus)) (λ e. (limit : ℕ) (faults : TimeFaults) → IsHmsFault limit faults text.now e) }
 {
@@ -108,6 +114,7 @@ fn read_hms(text: &[u8], minus: bool) -> Result<(WrittenTime, &[u8]), TzStringEr
 }
 
 /// Whether a minus stands at the front, and the bytes behind it or behind a plus.
+#[inline(always)]
 fn read_sign(text: &[u8]) -> (bool, &[u8])
     ensures { IsSign text.now result.0 result.1.now }
 {
@@ -121,6 +128,7 @@ fn read_sign(text: &[u8]) -> (bool, &[u8])
 }
 
 /// The sign of a day time, which an ordinary string does not have.
+#[inline(always)]
 fn read_day_time_sign(text: &[u8], extended: bool) -> (bool, &[u8])
     ensures { IsDayTimeSign extended text.now result.0 result.1.now }
 {
@@ -131,6 +139,7 @@ fn read_day_time_sign(text: &[u8], extended: bool) -> (bool, &[u8])
 }
 
 /// The greatest hour of a day time.
+#[inline(always)]
 fn greatest_hour(extended: bool) -> u32
     ensures { result ≡ day_time_hours extended }
 {
@@ -138,6 +147,7 @@ fn greatest_hour(extended: bool) -> u32
 }
 
 /// The numbers of an offset are in range.
+#[inline(always)]
 fn check_offset(time: &WrittenTime) -> Result<(), TzStringError>
     ensures { MatchResult result (λ _. IsTimeUpTo offset_hours time.now) (IsTimeAbove offset_hours offset_faults time.now) }
 {
@@ -154,6 +164,7 @@ fn check_offset(time: &WrittenTime) -> Result<(), TzStringError>
 }
 
 /// The numbers of a day time are in range.
+#[inline(always)]
 fn check_day_time(time: &WrittenTime, extended: bool) -> Result<(), TzStringError>
     ensures { MatchResult result (λ _. IsTimeUpTo (day_time_hours extended) time.now) (IsTimeAbove (day_time_hours extended) day_time_faults time.now) }
 {
@@ -170,6 +181,7 @@ fn check_day_time(time: &WrittenTime, extended: bool) -> Result<(), TzStringErro
 }
 
 /// The offset at the front, and the bytes behind.
+#[inline(always)]
 pub(super) fn read_offset(text: &[u8]) -> Result<(WrittenTime, &[u8]), TzStringError>
     ensures { MatchResult result (λ p. IsSignedTime text.now p.0 p.1.now × IsTimeUpTo offset_hours p.0) (IsOffsetFault text.now) }
 {
@@ -180,6 +192,7 @@ pub(super) fn read_offset(text: &[u8]) -> Result<(WrittenTime, &[u8]), TzStringE
 }
 
 /// The day time at the front, and the bytes behind.
+#[inline(always)]
 pub(super) fn read_day_time(
     text: &[u8],
     extended: bool,
