@@ -1,5 +1,5 @@
 -- The directories from a place of the list on, and a text without a first byte.
-use Rattle.std.proofs.Common.{◌≡◌, ◌≢◌, ℕ, ◌+◌, ◌<◌, List, ◌∷◌, length, get_or, drop, sym, ap, ◌∙◌, add-one, Option, Some, None, Ok, Err, refl, subst, inl, inr}
+use Rattle.std.proofs.Common.{◌≡◌, ◌≢◌, ℕ, ◌+◌, ◌<◌, false, List, [], ◌∷◌, length, get_or, drop, sym, ap, ◌∙◌, add-one, Option, Some, None, Result, IfOk, Ok, Err, refl, subst, inl, inr}
 use Rattle.std.specs.Prelude.{Vec}
 use Rattle.std.specs.declared.alloc.Global.{Global}
 use Rattle.anyhow.specs.declared.error.Error.{Error as Fault}
@@ -7,7 +7,8 @@ use Rattle.tz_base.specs.declared.error.ReadFault.TheVariants.{Failed}
 use Rattle.std.proofs.Math.Seq.{drop-cons}
 use Rattle.std.specs.Borrow.{Bor}
 use Rattle.std.specs.Option.{MatchOption}
-use Rattle.tz_zone.specs.Settings.{Read, path_in, FindsIn, texts_of}
+use Rattle.tz_zone.specs.Bytes.{slash}
+use Rattle.tz_zone.specs.Settings.{Read, path_in, FindsIn, Finds, texts_of}
 use Rattle.tz_zone.specs.TzText.{Begins}
 
 pub bare_text : (b : ℕ) (text : List ℕ) (r : Option (Bor (List ℕ))) → MatchOption r ((rest : List ℕ) → text ≢ b ∷ rest) (λ x. text ≡ b ∷ x.now) → MatchOption r (¬ Begins b text) (λ x. text ≡ b ∷ x.now)
@@ -32,3 +33,19 @@ missed_here reads directories i d name path fault found within at read later =
     let P : List (List ℕ) → Type 0 = λ rest. FindsIn reads rest name found in
     let Q : List ℕ → Type 0 = λ p. reads p (Err (Failed fault)) in
     subst P (sym (first_of_rest directories i d within)) (inr (inr (fault, subst Q at read, later)))
+
+-- a fault that nobody sees has no text
+pub unseen_fault : Fault
+unseen_fault = record {
+  message = record { bytes = []; len = 0; is_truncated = false };
+  causes = record { bytes = []; len = 0; is_truncated = false };
+  left_out = 0;
+}
+
+-- what the directories have for a name that is no path
+pub found_for : {E : Type 0} (reads : List ℕ → Read → Type 0) (directories : List (List ℕ)) (name : List ℕ) (r : Result (Option (Vec ℕ Global)) E) → ¬ Begins slash name
+    → IfOk r (λ found. MatchOption found ((fault : Fault) → FindsIn reads directories name (Err (Failed fault))) (λ bytes. FindsIn reads directories name (Ok bytes)))
+    → IfOk r (λ found. MatchOption found ((fault : Fault) × Finds reads directories name (Err (Failed fault))) (λ bytes. Finds reads directories name (Ok bytes)))
+found_for reads directories name (Err e) bare h = h
+found_for reads directories name (Ok None) bare h = (unseen_fault, inr (bare, h unseen_fault))
+found_for reads directories name (Ok (Some bytes)) bare h = inr (bare, h)

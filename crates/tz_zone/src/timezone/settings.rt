@@ -130,7 +130,9 @@ pub struct TimeZoneSettings<'a, F> {
 }
 
 impl<'a, F: Fn(&str) -> Result<Vec<u8>, ReadFault>> TimeZoneSettings<'a, F> {
+    ghost use Rattle.anyhow.specs.declared.error.Error.{Error as Fault};
     ghost use Rattle.std.specs.Fn.{FnReturnsAt};
+    ghost use Rattle.tz_base.specs.declared.error.ReadFault.TheVariants.{Failed};
     ghost use Rattle.tz_zone.specs.Settings.{FindsIn, Finds, IsLocalAnswer, IsNamedOrTextAnswer, IsSettingsAnswer, texts_of};
     ghost use Rattle.tz_zone.specs.SettingsParts.{directories_of, reader_of};
 
@@ -153,25 +155,27 @@ impl<'a, F: Fn(&str) -> Result<Vec<u8>, ReadFault>> TimeZoneSettings<'a, F> {
         (self.reader)(path)
     }
 
-    /// The file with the name in the first of the directories that has it.
+    /// The file with the name in the first of the directories that has it, or `None` where none has it.
     fn find_in_directories<A: Allocator + Copy>(
         &self,
         alloc: A,
         name: &str,
-    ) -> Result<Vec<u8>, ReadFault>
+    ) -> Result<Option<Vec<u8>>, AllocError>
         requires { F.IsAlwaysCallable (reader_of self.now) }
-        ensures { (result ≡ Err (Memory alloc_error)) ⊎ FindsIn (FnReturnsAt F.Fn (reader_of self.now)) (directories_of self.now) name.now result }
+        ensures { IfOk result (λ found. MatchOption found
+            ((fault : Fault) → FindsIn (FnReturnsAt F.Fn (reader_of self.now)) (directories_of self.now) name.now (Err (Failed fault)))
+            (λ bytes. FindsIn (FnReturnsAt F.Fn (reader_of self.now)) (directories_of self.now) name.now (Ok bytes))) }
     {
         let mut path = String::new(alloc);
         for directory in self.directories {
             put_path(&mut path, directory, name)?;
             match self.read(path.as_str()) {
-                Ok(bytes) => return Ok(bytes),
-                Err(ReadFault::Memory(error)) => return Err(ReadFault::Memory(error)),
+                Ok(bytes) => return Ok(Some(bytes)),
+                Err(ReadFault::Memory(error)) => return Err(error),
                 Err(ReadFault::Failed(_)) => {}
             }
         }
-        Err(ReadFault::Failed(anyhow!("file was not found")))
+        Ok(None)
     }
 
     /// The file with the name.
@@ -182,7 +186,32 @@ impl<'a, F: Fn(&str) -> Result<Vec<u8>, ReadFault>> TimeZoneSettings<'a, F> {
         if is_absolute(name) {
             return self.read(name);
         }
-        self.find_in_directories(alloc, name)
+        let found = self.find_in_directories(alloc, name)?;
+        match found {
+            Some(bytes) => Ok(bytes),
+            None => Err(ReadFault::Failed(anyhow!("file was not found"))),
+        }
+    }
+
+    /// The file with the name, or `None` where it cannot be read: of a fault that nobody sees no text is made.
+    fn find_readable<A: Allocator + Copy>(
+        &self,
+        alloc: A,
+        name: &str,
+    ) -> Result<Option<Vec<u8>>, AllocError>
+        requires { F.IsAlwaysCallable (reader_of self.now) }
+        ensures { IfOk result (λ found. MatchOption found
+            ((fault : Fault) × Finds (FnReturnsAt F.Fn (reader_of self.now)) (directories_of self.now) name.now (Err (Failed fault)))
+            (λ bytes. Finds (FnReturnsAt F.Fn (reader_of self.now)) (directories_of self.now) name.now (Ok bytes))) }
+    {
+        if !is_absolute(name) {
+            return self.find_in_directories(alloc, name);
+        }
+        match self.read(name) {
+            Ok(bytes) => Ok(Some(bytes)),
+            Err(ReadFault::Memory(error)) => Err(error),
+            Err(ReadFault::Failed(_)) => Ok(None),
+        }
     }
 
     /// The machine's local time zone, from `/etc/localtime`.
@@ -236,10 +265,10 @@ impl<'a, F: Fn(&str) -> Result<Vec<u8>, ReadFault>> TimeZoneSettings<'a, F> {
             (λ zone. IsNamedOrTextAnswer (FnReturnsAt F.Fn (reader_of self.now)) (directories_of self.now) text.now (Ok (own_zone_of zone)))
             (λ e. (e ≡ Tz (NoMemory alloc_error)) ⊎ IsNamedOrTextAnswer (FnReturnsAt F.Fn (reader_of self.now)) (directories_of self.now) text.now (Err e)) }
     {
-        match self.find(alloc, text) {
-            Ok(bytes) => zone_of_bytes(alloc, &bytes),
-            Err(ReadFault::Memory(error)) => Err(Error::Tz(TzError::Memory(error))),
-            Err(ReadFault::Failed(_)) => zone_of_text(alloc, text),
+        let found = self.find_readable(alloc, text)?;
+        match found {
+            Some(bytes) => zone_of_bytes(alloc, &bytes),
+            None => zone_of_text(alloc, text),
         }
     }
 }
