@@ -12,7 +12,7 @@ use Rattle.tz_zone.specs.Table.{Transition, Zone}
 use Rattle.tz_zone.specs.LeapTime.{IsLeapTimeRefused, IsLeapTime}
 use Rattle.tz_zone.specs.Clock.{AreReached, AreAhead, IsTypeAt, IsTypeOfLast, IsLast, IsTransitionType, IsTypeAfter, IsTypeWithout, IsTypeWith, IsFaultAfter, IsClock, IsOver, IsLookupFault}
 use Rattle.tz_zone.specs.ValidZone.{AreLeapSeconds}
-use Rattle.tz_zone.proofs.LeapTimes.{leap_time_unique}
+use Rattle.tz_zone.proofs.LeapTimes.{leap_time_unique, one_leap_time}
 
 pub last_unique : (transitions : List Transition) (last last' : Transition) → IsLast transitions last → IsLast transitions last' → last ≡ last'
 last_unique transitions last last' at at' = same_Some last last' (sym at ∙ at')
@@ -97,9 +97,9 @@ type_without_unique : (z : Zone) (rule : Option TransitionRule) (u : ℤ) (t t' 
 type_without_unique z (Some rule) u t t' a b = rule_type_unique rule u t t' a b
 type_without_unique z None u t t' a b = type_at_unique z 0 t t' a b
 
-type_with_unique : (z : Zone) → AreLeapSeconds z.leap_seconds → (last : Transition) (u : ℤ) (t t' : LocalTimeType) → IsTypeWith z last u t → IsTypeWith z last u t' → t ≡ t'
-type_with_unique z are last u t t' (l, leap, side) (l', leap', side') =
-    let same : l' ≡ l = leap_time_unique z.leap_seconds are u l' l leap' leap in
+type_with_unique : (z : Zone) (last : Transition) (u : ℤ) (t t' : LocalTimeType) → IsTypeWith z last u t → IsTypeWith z last u t' → t ≡ t'
+type_with_unique z last u t t' (l, leap, side) (l', leap', side') =
+    let same : l' ≡ l = one_leap_time z.leap_seconds u l' l leap' leap in
     sides side (rw same at side')
   where
     sides : ((l <ℤ last.unix_leap_time) × IsTransitionType z l t) ⊎ ((last.unix_leap_time ≤ℤ l) × IsTypeAfter z.extra_rule u t)
@@ -109,9 +109,13 @@ type_with_unique z are last u t t' (l, leap, side) (l', leap', side') =
     sides (inr (from, type)) (inl (before, type')) = absurd (omega (arith, ints, before, from))
     sides (inr (from, type)) (inr (from', type')) = type_after_unique z.extra_rule u t t' type type'
 
+-- a clock has one type at an instant, whatever the zone
+pub one_type : (z : Zone) (u : ℤ) (t t' : LocalTimeType) → IsClock z u t → IsClock z u t' → t ≡ t'
+one_type z u t t' (inl (none, type)) (inl (none', type')) = type_without_unique z z.extra_rule u t t' type type'
+one_type z u t t' (inl (none, type)) (inr (last, is_last, type')) = absurd (some_from_last z.transitions last is_last none)
+one_type z u t t' (inr (last, is_last, type)) (inl (none, type')) = absurd (some_from_last z.transitions last is_last none)
+one_type z u t t' (inr (last, is_last, type)) (inr (last', is_last', type')) =
+    type_with_unique z last u t t' type (rw (last_unique z.transitions last' last is_last' is_last) at type')
+
 pub clock_unique : (z : Zone) (u : ℤ) (t t' : LocalTimeType) → AreLeapSeconds z.leap_seconds → IsClock z u t → IsClock z u t' → t ≡ t'
-clock_unique z u t t' are (inl (none, type)) (inl (none', type')) = type_without_unique z z.extra_rule u t t' type type'
-clock_unique z u t t' are (inl (none, type)) (inr (last, is_last, type')) = absurd (some_from_last z.transitions last is_last none)
-clock_unique z u t t' are (inr (last, is_last, type)) (inl (none, type')) = absurd (some_from_last z.transitions last is_last none)
-clock_unique z u t t' are (inr (last, is_last, type)) (inr (last', is_last', type')) =
-    type_with_unique z are last u t t' type (rw (last_unique z.transitions last' last is_last' is_last) at type')
+clock_unique z u t t' are type type' = one_type z u t t' type type'

@@ -1,9 +1,10 @@
 -- Leap times and effects of a list of leap seconds: values, refusals, order, and that each has one value.
-use Rattle.std.proofs.Common.{◌≡◌, ℕ, zero, suc, ◌+◌, ◌<◌, ◌⊎◌, inl, inr, refl, sym, ap, ◌∙◌, arith, ℤ, pos, negsuc, ◌+ℤ◌, ◌≤ℤ◌, ◌<ℤ◌, List, length}
+use Rattle.std.proofs.Common.{◌≡◌, ℕ, zero, suc, ◌+◌, ◌<◌, ◌⊎◌, inl, inr, refl, sym, ap, ◌∙◌, arith, ℤ, pos, negsuc, ◌+ℤ◌, ◌≤ℤ◌, ◌<ℤ◌, List, length, slice_get, ◌↔◌}
 use Rattle.std.proofs.lemmas.Int.{ints, by_lt_z}
-use Rattle.std.proofs.lemmas.Option.{slice_get_within}
+use Rattle.std.proofs.lemmas.Bool.{cases_lt}
+use Rattle.std.proofs.lemmas.Option.{slice_get_within, same_Some}
 use Rattle.tz_zone.specs.Table.{LeapSecond}
-use Rattle.tz_zone.specs.LeapTime.{IsInstant, IsStart, correction_before, IsReached, IsBeforeStart, IsPastInstants, IsLeapTimeRefused, IsLeapTime, IsTimeReached, IsEffect}
+use Rattle.tz_zone.specs.LeapTime.{IsInstant, IsStart, correction_before, IsReached, IsBeforeStart, IsPastInstants, IsLeapTimeRefused, IsCorrection, IsLeapTime, IsTimeReached, IsEffect}
 use Rattle.tz_zone.specs.ValidZone.{AreLeapSeconds, HasBegunAt}
 use Rattle.tz_zone.proofs.LeapSteps.{AreSteps, correction_bound, time_bound, leap_mono, leap_from_start, IsTimeCount, IsMoment, moment_reached, moment_least, reached_down}
 use Rattle.tz_zone.proofs.LeapLists.{time_at, time_at-is, correction_before-suc, correction_without_start, correction_at_truncated, IsReachedCount, AreSteps-from_leaps, IsReached-at, IsReached-below, IsCorrection-from_count, correction_from_count, count_exists}
@@ -21,6 +22,32 @@ instant_bounds (negsuc n) fits = (omega (arith, ints, fits.sfits), omega (arith,
 above_instants : (z : ℤ) → ¬ IsInstant z → negsuc 9223372036854775807 ≤ℤ z → pos 9223372036854775807 <ℤ z
 above_instants z outside low = by_lt_z (pos 9223372036854775807) z (λ h. h) (λ h. absurd (outside (IsInstant-from_bounds z low h)))
 
+-- an instant has one correction, whatever the list
+correction_unique : (leaps : List LeapSecond) (u c c' : ℤ) → IsCorrection leaps u c → IsCorrection leaps u c' → c ≡ c'
+correction_unique leaps u c c' (inl (is, none)) (inl (is', none')) = is ∙ sym is'
+correction_unique leaps u c c' (inl (is, none)) (inr (i, l, reached, is', later)) = absurd (none i l reached)
+correction_unique leaps u c c' (inr (i, l, reached, is, later)) (inl (is', none)) = absurd (none i l reached)
+correction_unique leaps u c c' (inr (i, l, reached, is, later)) (inr (i', l', reached', is', later')) =
+    elim (cases_lt i i') [
+      | inl below ↦ absurd (later i' l' below reached')
+      | inr above ↦ elim (cases_lt i' i) [
+        | inl below ↦ absurd (later' i l below reached)
+        | inr above' ↦
+            let place : i' ≡ i = omega arith in
+            let same : l ≡ l' = same_Some l l' (sym reached.0 ∙ sym (ap (slice_get leaps) place) ∙ reached'.0) in
+            is ∙ ap (λ x. x.correction) same ∙ sym is'
+      ]
+    ]
+
+-- so it has one leap time
+pub one_leap_time : (leaps : List LeapSecond) (u v v' : ℤ) → IsLeapTime leaps u v → IsLeapTime leaps u v' → v ≡ v'
+one_leap_time leaps u v v' a b =
+    a.value.2 ∙ ap (λ c. u +ℤ c) (correction_unique leaps u a.value.0 b.value.0 a.value.1 b.value.1) ∙ sym b.value.2
+
+-- and a leap time has one effect
+pub one_effect : (leaps : List LeapSecond) (v u u' : ℤ) → IsEffect leaps v u → IsEffect leaps v u' → u ≡ u'
+one_effect leaps v u u' a b = omega (arith, ints, a.least u' b.reached, b.least u a.reached)
+
 module _ (leaps : List LeapSecond) (are : AreLeapSeconds leaps) where
   steps : AreSteps (length leaps) (time_at leaps) (correction_before leaps)
   steps = AreSteps-from_leaps leaps are
@@ -34,9 +61,7 @@ module _ (leaps : List LeapSecond) (are : AreLeapSeconds leaps) where
 
   -- an instant has one leap time
   pub leap_time_unique : (u v v' : ℤ) → IsLeapTime leaps u v → IsLeapTime leaps u v' → v ≡ v'
-  leap_time_unique u v v' a b =
-      let count = count_exists leaps are u in
-      leap_time_from_count u v count.0 count.1 a ∙ sym (leap_time_from_count u v' count.0 count.1 b)
+  leap_time_unique u v v' a b = one_leap_time leaps u v v' a b
 
   -- leap times do not fall
   pub leap_time_mono : (u w v v' : ℤ) → u ≤ℤ w → IsLeapTime leaps u v → IsLeapTime leaps w v' → v ≤ℤ v'
@@ -170,4 +195,11 @@ module _ (leaps : List LeapSecond) (are : AreLeapSeconds leaps) where
 
   -- a leap time has one effect
   pub effect_unique : (v u u' : ℤ) → IsEffect leaps v u → IsEffect leaps v u' → u ≡ u'
-  effect_unique v u u' a b = omega (arith, ints, a.least u' b.reached, b.least u a.reached)
+  effect_unique v u u' a b = one_effect leaps v u u' a b
+
+  -- where an effect is reached its leap time is, and not before
+  pub effect_fits : (v u w l : ℤ) → IsEffect leaps v u → IsLeapTime leaps w l → (u ≤ℤ w) ↔ (v ≤ℤ l)
+  effect_fits v u w l effect leap = (
+    (λ from. omega (arith, ints, effect.reached.2, leap_time_mono u w effect.reached.0 l from effect.reached.1 leap)),
+    (λ reached. effect.least w (l, leap, reached)),
+  )

@@ -2,6 +2,7 @@ pub mod LeapSteps
 pub mod LeapLists
 pub mod LeapTimes
 pub mod LeapMoments
+pub mod Expiries
 pub mod LeapSpans
 pub mod RisingTimes
 pub mod Halving
