@@ -5,6 +5,8 @@ pub mod WindowLemmas
 pub mod SegmentWalks
 pub mod SegmentLooks
 pub mod FarLemmas
+pub mod CivilLemmas
+pub mod NoneLost
 pub mod FoundLemmas
 pub mod PairLemmas
 pub mod PrintedLemmas

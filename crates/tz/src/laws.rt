@@ -1,21 +1,22 @@
 //! Laws of date times. A function here does nothing, or one call that it speaks of; its contract is the law, in the words of the
 //! contracts of [`crate::UtcDateTime`] and [`crate::DateTime`].
 
-ghost use Rattle.std.specs.Prelude.{◌≡◌, ℕ, ◌<◌, true, pos, ℤ, ◌+ℤ◌, ◌↔◌, ◌≤◌, length, List, ⊤, alloc_error};
+ghost use Rattle.std.specs.Prelude.{◌≡◌, ◌≢◌, ℕ, ◌<◌, true, pos, ℤ, ◌+ℤ◌, ◌↔◌, ◌≤◌, ◌≤ℤ◌, length, List, [], ⊤, alloc_error};
 ghost use Rattle.std.specs.List.{Contains};
 ghost use Rattle.std.specs.Duration.{as_nanos};
 ghost use Rattle.std.specs.Ordering.{int_cmp};
 ghost use Rattle.std.specs.declared.cmp.Ordering.TheVariants.{Equal, Less};
 ghost use Rattle.std.specs.declared.time.Duration.{Duration};
-ghost use Rattle.tz_base.specs.Fields.{IsCivil, reading};
+ghost use Rattle.tz_base.specs.Fields.{IsCivil, IsValid, reading};
 ghost use Rattle.tz_base.specs.declared.calendar.Fields.{Fields};
 ghost use Rattle.tz_base.specs.declared.error.TzError.{TzError};
 ghost use Rattle.tz_base.specs.declared.error.TzError.TheVariants.{Memory};
+ghost use Rattle.tz_rule.specs.LocalTimeType.{LocalTimeType};
 ghost use Rattle.tz_zone.specs.Clock.{IsClock};
 ghost use Rattle.tz_zone.specs.Table.{Zone};
 ghost use Rattle.tz.specs.FindFaults.{IsPromised, IsFindFault};
 ghost use Rattle.tz.specs.Found.{IsFound};
-ghost use Rattle.tz.specs.Windows.{TakesEffectIn, AreRising, AtMostTakeEffectIn};
+ghost use Rattle.tz.specs.Windows.{IsWindow, TakesEffectIn, AreRising, AtMostTakeEffectIn};
 ghost use Rattle.tz.specs.declared.datetime.found.FoundDateTimeKind.{FoundDateTimeKind};
 ghost use Rattle.tz.specs.declared.datetime.found.FoundDateTimeKind.TheVariants.{Normal as normal};
 ghost use Rattle.tz.specs.contracts.datetime.utc_date_time.UtcDateTimeOrd.TheImpl as utc_order;
@@ -59,6 +60,12 @@ pub fn order_of_utc_date_times()
 /// What [`crate::DateTime::find`] finds of fields is one list, whatever the search.
 pub fn found_lists_are_unique()
     ensures { (z : Zone) (f : Fields) (found others : List FoundDateTimeKind) → IsFound (IsClock z) f found → IsFound (IsClock z) f others → found ≡ others }
+{}
+
+/// No local time is lost: where the clock has a type at each instant of a reading's window, it shows the reading there or is set forward over it.
+pub fn no_local_time_is_lost()
+    ensures { (z : Zone) (f : Fields) (low high : ℤ) (found : List FoundDateTimeKind) → IsValid f → IsWindow z.types z.extra_rule (reading f) low high
+        → ((u : ℤ) → low ≤ℤ u → u ≤ℤ high → (t : LocalTimeType) × IsClock z u t) → IsFound (IsClock z) f found → found ≢ [] }
 {}
 
 /// A projection keeps the Unix time and the nanoseconds.
