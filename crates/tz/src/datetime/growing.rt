@@ -42,7 +42,11 @@ impl<A: Allocator + Copy> DateTimeList for FoundDateTimeList<A> {
 
     ghost more = { Prim.search (rules, common_steps) };
 
+    /// The first one gets room for itself alone, since a reading is nearly always found once.
     fn push(&mut self, found: FoundDateTimeKind) -> Result<(), AllocError> {
+        if self.found.is_empty() {
+            self.found.reserve_exact(1)?;
+        }
         self.found.push(found)?;
         Ok(())
     }
