@@ -9,12 +9,15 @@ ghost use Rattle.tz_zone.specs.File.{IsFailed, IsReadOut};
 use anyhow::anyhow;
 use std::alloc::{Allocator, Global};
 use std::fs::File;
-use std::io::Read;
+use std::io::{self, Read};
 use std::rt::Files;
 use tz_base::error::ReadFault;
 
 /// How many bytes are read at once. A longer buffer takes longer to clear than a second read of the longest files of time zones.
 const PIECE: usize = 2_000;
+
+/// The number of the system's error `ENOENT`.
+const NO_SUCH_FILE: i32 = 2;
 
 /// Reads a piece into the front of the buffer.
 fn read_piece<I: Read>(input: &mut I, buffer: &mut [u8]) -> Result<usize, ReadFault>
@@ -53,13 +56,23 @@ pub fn read_to_end<A: Allocator, I: Read>(alloc: A, input: &mut I) -> Result<Vec
     Err(ReadFault::Failed(anyhow!("file has no end")))
 }
 
+/// Why a file could not be opened. Most paths of a search have no file, so the system's text of that fault is not looked up.
+fn open_fault(error: io::Error) -> ReadFault
+    ensures { IsFailed result }
+{
+    if error.raw_os_error() == Some(NO_SUCH_FILE) {
+        return ReadFault::Failed(anyhow!("No such file or directory (os error 2)"));
+    }
+    ReadFault::Failed(anyhow::Error::from(error))
+}
+
 /// Opens the file at the path.
 fn open<R: Files>(rt: &R, path: &str) -> Result<R::File, ReadFault>
     ensures err { IfErr result IsFailed }
 {
     match File::open(rt, path) {
         Ok(file) => Ok(file),
-        Err(error) => Err(ReadFault::Failed(anyhow::Error::from(error))),
+        Err(error) => Err(open_fault(error)),
     }
 }
 
