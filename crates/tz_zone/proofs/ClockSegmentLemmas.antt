@@ -68,6 +68,10 @@ module _ (leaps : List LeapSecond) (are : AreLeapSeconds leaps) where
   past_from u v begun (inl before) h = absurd (begun before)
   past_from u v begun (inr past) h = inr (past_later leaps are u v h past)
 
+  -- where one is refused that is not before a truncated start, it is a far one
+  pub past_is_far : (u : ℤ) → ¬ IsBeforeStart leaps u → IsLeapTimeRefused leaps u → pos 80000000000000000 <ℤ u
+  past_is_far u begun refused = by_lt_z (pos 80000000000000000) u (λ h. h) (λ h. absurd (not_refused_within leaps are u begun h refused))
+
   -- between two instants that are not refused none is
   pub answered_between : (u w v : ℤ) → ¬ IsLeapTimeRefused leaps u → ¬ IsLeapTimeRefused leaps w → u ≤ℤ v → v ≤ℤ w → ¬ IsLeapTimeRefused leaps v
   answered_between u w v answered there low high (inl before) = begun_later leaps are u v low (λ h. answered (inl h)) before

@@ -11,7 +11,7 @@ ghost use Rattle.tz_zone.specs.ZoneSeen.{zone_seen};
 
 use super::clock_segment::ClockSegment;
 use super::cursor::{Cursor, cursor_at, moved_on};
-use super::cursor_span::{CursorSpan, span_of};
+use super::cursor_span::{CursorSpan, first_past, span_of};
 use super::{OtherParts, Transitions, first_begun, has_begun, leap_time};
 use crate::timezone::{LeapSecond, TransitionRule};
 
@@ -65,7 +65,7 @@ fn refused_segment<'a>(leap_seconds: &[LeapSecond], unix_time: i64) -> ClockSegm
 {
     if has_begun(leap_seconds, unix_time) {
         return ClockSegment {
-            from: unix_time,
+            from: first_past(leap_seconds, unix_time),
             last: i64::MAX,
             local_time_type: None,
             cursor: None,

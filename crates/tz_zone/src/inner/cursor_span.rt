@@ -1,12 +1,12 @@
 //! The span of time whose leap times lie between the transitions on both sides of a cursor.
 
-ghost use Rattle.std.specs.Prelude.{ℤ, pos, ◌≤ℤ◌, ◌<ℤ◌, MatchBool};
-ghost use Rattle.tz_zone.specs.LeapTime.{IsLeapTimeRefused, IsTimeReached, IsMomentOf};
+ghost use Rattle.std.specs.Prelude.{ℤ, pos, ◌≤ℤ◌, ◌<ℤ◌, IsTrue, MatchBool};
+ghost use Rattle.tz_zone.specs.LeapTime.{IsBeforeStart, IsLeapTimeRefused, IsTimeReached, IsMomentOf};
 ghost use Rattle.tz_zone.specs.ValidZone.{AreLeapSeconds};
 ghost use Rattle.tz_zone.specs.ClockSegments.{IsBetween, IsAtCursor};
 
 use super::cursor::Cursor;
-use super::{SURELY_ANSWERED, has_leap_time, leap_seconds_reached, moment};
+use super::{SURELY_ANSWERED, has_begun, has_leap_time, leap_seconds_reached, moment};
 use crate::timezone::LeapSecond;
 
 /// A span of time.
@@ -59,6 +59,45 @@ fn last_answered(leap_seconds: &[LeapSecond], unix_time: i64) -> i64
         }
     }
     low
+}
+
+/// The middle of two instants, and not the last one of them.
+fn lower_middle(low: i64, high: i64) -> i64
+    requires { (pos 0 ≤ℤ low) × (low <ℤ high) }
+    ensures { (low ≤ℤ result) × (result <ℤ high) }
+{
+    low + (high - low) / 2
+}
+
+/// Whether an instant has no leap time although it is not before a truncated start.
+fn is_past(leap_seconds: &[LeapSecond], unix_time: i64) -> bool
+    requires { AreLeapSeconds leap_seconds.now }
+    ensures { IsTrue result → (¬ IsBeforeStart leap_seconds.now unix_time) × IsLeapTimeRefused leap_seconds.now unix_time }
+{
+    has_begun(leap_seconds, unix_time) && !is_answered(leap_seconds, unix_time)
+}
+
+/// An instant, up to one whose leap time would leave 64 bits, from which on none has one. It is the first such instant, so that no segments
+/// come before one another there second by second.
+pub(super) fn first_past(leap_seconds: &[LeapSecond], unix_time: i64) -> i64
+    requires leaps { AreLeapSeconds leap_seconds.now }
+    requires begun { ¬ IsBeforeStart leap_seconds.now unix_time }
+    requires refused { IsLeapTimeRefused leap_seconds.now unix_time }
+    ensures up_to { result ≤ℤ unix_time }
+    ensures far { pos 80000000000000000 <ℤ result }
+    ensures refused { (v : ℤ) → result ≤ℤ v → IsLeapTimeRefused leap_seconds.now v }
+{
+    let mut low = SURELY_ANSWERED;
+    let mut high = unix_time;
+    while low < high {
+        let middle = lower_middle(low, high);
+        if is_past(leap_seconds, middle) {
+            high = middle;
+        } else {
+            low = middle + 1;
+        }
+    }
+    high
 }
 
 /// The first instant at which a leap time is reached that is reached at another one.
