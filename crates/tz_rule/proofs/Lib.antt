@@ -17,6 +17,7 @@ pub mod DaylightLemmas
 pub mod InnerTurns
 pub mod ChangePoints
 pub mod RuleTypes
+pub mod RulePeriods
 pub mod RuleSegments
 pub mod SameLemmas
 pub mod Casts
