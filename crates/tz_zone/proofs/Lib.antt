@@ -12,6 +12,7 @@ pub mod RuleChecks
 pub mod Clocks
 pub mod SegmentLemmas
 pub mod ClockSegmentLemmas
+pub mod ChangeLemmas
 pub mod TzFileLaws
 pub mod TzNames
 pub mod TzTables

@@ -11,6 +11,8 @@ pub mod ZoneRef
 pub mod ZoneSeen
 pub mod Segments
 pub mod ClockSegments
+pub mod Changes
+pub mod Runs
 pub mod SameZone
 pub mod Bytes
 pub mod TzFile

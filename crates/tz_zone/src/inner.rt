@@ -5,6 +5,7 @@ ghost use Rattle.tz_zone.specs.Table.{LeapSecond};
 ghost use Rattle.tz_zone.specs.LeapTime.{IsInstant, IsStart, correction_at_start as correction_of_start, correction_before as correction_at_place, IsReached, IsBeforeStart, IsFirstBegun, IsLeapTimeRefused, IsLeapTime, IsMomentOf, IsEffect, IsEffectRefused};
 ghost use Rattle.tz_zone.specs.ValidZone.{AreLeapSeconds, HasBegunAt, ExpiresAt, IsPlainTable};
 
+mod changes;
 mod clock_segment;
 mod clock_segments;
 mod cursor;
@@ -21,6 +22,7 @@ mod transitions;
 use crate::partition::{Places, partition_point};
 use crate::timezone::LeapSecond;
 pub use crate::timezone::file::read_to_end;
+pub use changes::{following, preceding};
 pub use clock_segment::ClockSegment;
 pub use clock_segments::{clock_segment_after, clock_segment_at};
 pub use cursor::Cursor;
