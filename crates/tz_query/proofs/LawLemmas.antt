@@ -30,11 +30,12 @@ use Rattle.tz_query.specs.Queries.{time_letter, search_letter, meeting_letter, Q
 use Rattle.tz_query.specs.Weeks.{IsWeekOf}
 use Rattle.tz_query.specs.Answers.{moment_text, entry_text, field_fault_text, found_lines, meeting_lines, IsFaultText, IsTimeAnswer, IsSearchAnswer, IsWeekAnswer, AreWeekAnswers, IsMeetingAnswer, IsQueryAnswer, IsAnswer, AreAnswers, IsSearchGroup, IsGroup, HasOneAnswer, AreSearchesAlike, AreAlike}
 use Rattle.tz_query.proofs.AnswerLemmas.{no_lines}
+use Rattle.tz_query.proofs.AnswerTexts.{single_refusal, single_time_answer}
 use Rattle.tz.proofs.FoundLemmas.{found_unique}
 use Rattle.tz_query.proofs.NumberLemmas.{parts_in_front, parts_unique}
 
 -- a line has no LF
-no_end_within : (line front rest : List ℕ) → IsLine line → line ≡ front ++ line_feed ∷ rest → ⊥
+pub no_end_within : (line front rest : List ℕ) → IsLine line → line ≡ front ++ line_feed ∷ rest → ⊥
 no_end_within [] [] rest is e = cc
 no_end_within [] (x ∷ front) rest is e = cc
 no_end_within (b ∷ line) [] rest is e = let same : b ≡ line_feed = cc in All-head (λ x. x ≢ line_feed) b line is same
@@ -53,13 +54,13 @@ first_line_unique (b ∷ line) (x ∷ line') rest rest' is is' e =
     (cc, more.1)
 
 -- the first line ends at an LF, or it is all there is
-abbrev IsEnded : List ℕ → List ℕ → List (List ℕ) → Type 0
+abbrev pub IsEnded : List ℕ → List ℕ → List (List ℕ) → Type 0
 IsEnded bytes line lines = (rest : List ℕ) × (bytes ≡ line ++ line_feed ∷ rest) × IsCut rest lines
 
-abbrev IsLast : List ℕ → List ℕ → List (List ℕ) → Type 0
+abbrev pub IsLast : List ℕ → List ℕ → List (List ℕ) → Type 0
 IsLast bytes line lines = (lines ≡ []) × (bytes ≡ line)
 
-first_of_cut : (bytes line : List ℕ) (lines : List (List ℕ)) → IsCut bytes (line ∷ lines) → IsEnded bytes line lines ⊎ IsLast bytes line lines
+pub first_of_cut : (bytes line : List ℕ) (lines : List (List ℕ)) → IsCut bytes (line ∷ lines) → IsEnded bytes line lines ⊎ IsLast bytes line lines
 first_of_cut bytes line lines (inl is) = inl (ended lines, is, inl refl)
 first_of_cut bytes line lines (inr ([], last, split, full, is)) =
     let none : lines ≡ [] = cc in
@@ -70,7 +71,7 @@ first_of_cut bytes line lines (inr (x ∷ front, last, split, full, is)) =
     let behind : lines ≡ front ++ last ∷ [] = cc in
     inl (ended front ++ last, is ∙ append_assoc x (line_feed ∷ ended front) last ∙ ap (λ l. l ++ line_feed ∷ (ended front ++ last)) same, inr (front, last, behind, full, refl))
 
-nothing_of_cut : (bytes : List ℕ) → IsCut bytes [] → bytes ≡ []
+pub nothing_of_cut : (bytes : List ℕ) → IsCut bytes [] → bytes ≡ []
 nothing_of_cut bytes (inl is) = is
 nothing_of_cut bytes (inr ([], last, split, full, is)) = absurd cc
 nothing_of_cut bytes (inr (x ∷ front, last, split, full, is)) = absurd cc
@@ -101,11 +102,11 @@ lines_unique bytes (line ∷ lines) (other ∷ others) are are' = both (λ rest 
 search_group : (z : Zone) (f : Fields) (answer : List (List ℕ)) → IsSearchAnswer z f answer → IsSearchGroup answer
 search_group z f answer (inl (found, valid, list, same)) =
     inr (map entry_text found, same ∙ ap (λ count. (codes "F " ++ decimal count) ∷ map entry_text found) (sym (length-map found entry_text)))
-search_group z f answer (inr (e, text, fault, told, same)) = inl (codes "E " ++ text, same)
+search_group z f answer (inr (e, text, fault, told, same)) = inl (codes "E " ++ text, single_refusal text, same)
 
 week_group : (z : Zone) (f : Fields) (k : ℕ) (answer : List (List ℕ)) → IsWeekAnswer z f k answer → IsSearchGroup answer
 week_group z f k answer (inl (g, inside, is, told)) = search_group z g answer told
-week_group z f k answer (inr (outside, same)) = inl (codes "E OutOfRange", same)
+week_group z f k answer (inr (outside, same)) = inl (codes "E OutOfRange", single_refusal (codes "OutOfRange"), same)
 
 week_groups : (z : Zone) (f : Fields) (k : ℕ) (weeks : List (List (List ℕ))) → AreWeekAnswers z f k weeks → All IsSearchGroup weeks
 week_groups z f k [] are = All-nil IsSearchGroup
@@ -113,11 +114,11 @@ week_groups z f k (week ∷ weeks) are = All-cons IsSearchGroup week weeks (week
 
 -- the answer lines of a line are a group
 pub group_of_answer : (z : Zone) (line : List ℕ) (answer : List (List ℕ)) → IsAnswer z line answer → IsGroup answer
-group_of_answer z line answer (inl (Time u n, is, (text, told, same))) = inl (inl (text, same))
+group_of_answer z line answer (inl (Time u n, is, (text, told, same))) = inl (inl (text, single_time_answer z u n text told, same))
 group_of_answer z line answer (inl (Search f, is, told)) = inl (search_group z f answer told)
 group_of_answer z line answer (inl (Meeting count f, is, inl (valid, weeks, many, are, same))) = inr (weeks, week_groups z f 0 weeks are, same)
-group_of_answer z line answer (inl (Meeting count f, is, inr (fault, first, same))) = inl (inl (codes "E " ++ field_fault_text fault, same))
-group_of_answer z line answer (inr (none, same)) = inl (inl (codes "E Line", same))
+group_of_answer z line answer (inl (Meeting count f, is, inr (fault, first, same))) = inl (inl (codes "E " ++ field_fault_text fault, single_refusal (field_fault_text fault), same))
+group_of_answer z line answer (inr (none, same)) = inl (inl (codes "E Line", single_refusal (codes "Line"), same))
 
 -- and they come in the order of the lines
 pub answer_groups : (z : Zone) (queries bytes : List ℕ) (lines : List (List ℕ)) → AreAnswers z queries bytes → AreLines queries lines → (answers : List (List (List ℕ))) × AllZip (IsAnswer z) lines answers × (bytes ≡ flat_map ended answers)

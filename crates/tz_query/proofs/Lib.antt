@@ -1,7 +1,9 @@
 pub mod NumberLemmas
 pub mod LineLemmas
 pub mod AnswerLemmas
+pub mod AnswerTexts
 pub mod LawLemmas
+pub mod PieceLemmas
 pub mod FastNumbers
 pub mod PageLemmas
 pub mod WeekLemmas

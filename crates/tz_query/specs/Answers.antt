@@ -1,5 +1,5 @@
 -- The answers of query lines.
-use Rattle.std.specs.Prelude.{◌≡◌, ℕ, ◌+◌, ◌<◌, ⊤, ◌⊎◌, ℤ, List, [], ◌∷◌, ◌++◌, length, map, codes, unwrap_or}
+use Rattle.std.specs.Prelude.{◌≡◌, ◌≢◌, ℕ, ◌+◌, ◌<◌, ⊤, ◌⊎◌, ℤ, List, [], ◌∷◌, ◌++◌, length, map, codes, unwrap_or}
 use Rattle.std.specs.Fmt.{decimal}
 use Rattle.std.specs.List.{All, AllZip, flat_map}
 use Rattle.tz_base.specs.Fields.{IsFirstFault, IsValid, IsReading, reading}
@@ -108,10 +108,14 @@ pub record AreAnswers (z : Zone) (queries bytes : List ℕ) : Type 0 where
   pub each : AllZip (IsAnswer z) lines answers
   pub written : bytes ≡ flat_map ended answers
 
--- a group of the answer lines of an instant or of a search: one line, or `F` with the number of the lines after it
+-- a line that tells of no lines after it: neither `F` nor `W` begins it, with a space
+abbrev pub IsSingle : List ℕ → Type 0
+IsSingle text = ((rest : List ℕ) → text ≢ codes "F " ++ rest) × ((rest : List ℕ) → text ≢ codes "W " ++ rest)
+
+-- a group of the answer lines of an instant or of a search: such a line, or `F` with the number of the lines after it
 abbrev pub IsSearchGroup : List (List ℕ) → Type 0
 IsSearchGroup answer =
-    ((text : List ℕ) × (answer ≡ text ∷ []))
+    ((text : List ℕ) × IsSingle text × (answer ≡ text ∷ []))
     ⊎ ((entries : List (List ℕ)) × (answer ≡ (codes "F " ++ decimal (length entries)) ∷ entries))
 
 -- a group of answer lines: that, or `W` with the number of such groups after it

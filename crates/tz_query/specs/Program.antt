@@ -1,4 +1,4 @@
--- What a run of the program that ends without a fault has read and written.
+-- What a run of the program has read and written.
 -- What the reader of files can answer for a path is a relation, as it is for the settings.
 use Rattle.std.specs.Prelude.{◌≡◌, ℕ, ◌⊎◌, ℤ, List, [], ◌∷◌, Option, None, Ok, Vec, vec_items, map, codes, FitsSigned}
 use Rattle.std.specs.Borrow.{Bor}
@@ -9,7 +9,7 @@ use Rattle.tz_zone.specs.Settings.{Read, IsSettingsAnswer}
 use Rattle.tz_zone.specs.Table.{Zone, zone_with}
 use Rattle.tz_zone.specs.TzFile.{IsTzFile}
 use Rattle.tz_query.specs.Numbers.{IsNumber}
-use Rattle.tz_query.specs.Streams.{WritesAnswers}
+use Rattle.tz_query.specs.Streams.{WritesAnswers, WritesFrontOfAnswers}
 
 -- the texts that arguments lend
 abbrev pub texts_of : List (Bor (List ℕ)) → List (List ℕ)
@@ -51,3 +51,9 @@ pub record AnswersInput (reads : List ℕ → Read → Type 0) (arguments : List
   pub zone : Zone
   pub asked : NamesZone reads arguments zone
   pub wrote : WritesAnswers zone unread left written now
+
+-- the input is read to its end, and a front of its answers over the zone of the arguments is written
+pub record BeginsAnswers (reads : List ℕ → Read → Type 0) (arguments : List (List ℕ)) (unread left written now : Option (List ℕ)) : Type 0 where
+  pub zone : Zone
+  pub asked : NamesZone reads arguments zone
+  pub wrote : WritesFrontOfAnswers zone unread left written now

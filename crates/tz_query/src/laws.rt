@@ -1,11 +1,13 @@
 //! Laws of query lines and their answers. Each function does nothing; its contract is the law, in the words of the contract of
 //! [`crate::query::answer`].
 
-ghost use Rattle.std.specs.Prelude.{◌≡◌, ℕ, List, All};
+ghost use Rattle.std.specs.Prelude.{◌≡◌, ℕ, ℤ, List, [], ◌∷◌, ◌++◌, All};
 ghost use Rattle.std.specs.List.{AllZip, flat_map};
+ghost use Rattle.tz_rule.specs.LocalTimeType.{LocalTimeType, IsLocalTimeType};
+ghost use Rattle.tz_zone.specs.Clock.{IsClock};
 ghost use Rattle.tz_zone.specs.Table.{Zone};
 ghost use Rattle.tz_zone.specs.ValidZone.{AreLeapSeconds};
-ghost use Rattle.tz_query.specs.Lines.{AreLines, ended};
+ghost use Rattle.tz_query.specs.Lines.{line_feed, IsLine, AreLines, ended};
 ghost use Rattle.tz_query.specs.Answers.{AreAlike, AreAnswers, IsAnswer, IsGroup, HasOneAnswer};
 
 /// Bytes are cut into lines in one way.
@@ -14,11 +16,23 @@ pub fn lines_are_unique()
 {}
 
 /// The answer bytes are a group of lines for each query line, in their order, each ended by LF. A group is one line, `F` with a
-/// number and as many lines, or `W` with a number and as many such groups.
+/// number and as many lines, or `W` with a number and as many such groups. No line of a group alone begins with `F` or `W` and a space, and
+/// no answer line holds an LF. So whoever reads answers can cut them back into lines, and these into groups.
 pub fn each_line_has_a_group_of_answer_lines()
     ensures each { (z : Zone) (queries bytes : List ℕ) (lines : List (List ℕ)) → AreAnswers z queries bytes → AreLines queries lines
         → (answers : List (List (List ℕ))) × AllZip (IsAnswer z) lines answers × (bytes ≡ flat_map ended answers) }
     ensures group { (z : Zone) (line : List ℕ) (answer : List (List ℕ)) → IsAnswer z line answer → IsGroup answer }
+    ensures lines { (z : Zone) (line : List ℕ) (answer : List (List ℕ)) → ((u : ℤ) (t : LocalTimeType) → IsClock z u t → IsLocalTimeType t)
+        → IsAnswer z line answer → All IsLine answer }
+{}
+
+/// Query bytes may be answered in pieces, each but the last of which ends in LF: the answers of two pieces are those of both, one after the
+/// other, and the answers of both can be cut into these.
+pub fn pieces_are_answered_apart()
+    ensures joined { (z : Zone) (queries more bytes others : List ℕ) → AreAnswers z (queries ++ line_feed ∷ []) bytes → AreAnswers z more others
+        → AreAnswers z (queries ++ line_feed ∷ more) (bytes ++ others) }
+    ensures cut { (z : Zone) (queries more bytes : List ℕ) → AreAnswers z (queries ++ line_feed ∷ more) bytes
+        → (first : List ℕ) × (others : List ℕ) × (bytes ≡ first ++ others) × AreAnswers z (queries ++ line_feed ∷ []) first × AreAnswers z more others }
 {}
 
 /// What a line's answer is depends on that line and the zone alone, and so do all answers on the query bytes and the zone. Only a

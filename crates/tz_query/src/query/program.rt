@@ -1,10 +1,10 @@
 //! The program over arguments, a file reader, an input and outputs that are passed in.
 
-ghost use Rattle.std.specs.Prelude.{◌≡◌, ◌≤◌, ℕ, ℤ, List, IfSome, IfNone, IfOk, OnOk, FitsSigned};
+ghost use Rattle.std.specs.Prelude.{◌≡◌, ◌≤◌, ◌⊎◌, ℕ, ℤ, List, IfSome, IfNone, IfOk, OnOk, FitsSigned};
 ghost use Rattle.std.specs.Fn.{FnReturnsAt};
 ghost use Rattle.std.specs.Int.{w32};
 ghost use Rattle.tz_query.specs.Numbers.{IsNumber};
-ghost use Rattle.tz_query.specs.Program.{texts_of, IsZoneOfOffset, IsZoneOfFile, IsZoneOfText, IsZoneOfOption, NamesZone, AnswersInput};
+ghost use Rattle.tz_query.specs.Program.{texts_of, IsZoneOfOffset, IsZoneOfFile, IsZoneOfText, IsZoneOfOption, NamesZone, AnswersInput, BeginsAnswers};
 ghost use Rattle.tz_zone.specs.ZoneRef.{own_zone_of};
 
 use crate::query::numbers::read_number;
@@ -167,7 +167,9 @@ where
     R: Read,
     W: Write,
     requires { F.IsAlwaysCallable reader }
-    ensures { OnOk result (AnswersInput (FnReturnsAt F.Fn reader) (texts_of arguments.now) (R.remaining input.old) (R.remaining input.new) (W.contents out.old) (W.contents out.new)) }
+    ensures ok { OnOk result (AnswersInput (FnReturnsAt F.Fn reader) (texts_of arguments.now) (R.remaining input.old) (R.remaining input.new) (W.contents out.old) (W.contents out.new)) }
+    ensures written { (out.new ≡ out.old)
+        ⊎ BeginsAnswers (FnReturnsAt F.Fn reader) (texts_of arguments.now) (R.remaining input.old) (R.remaining input.new) (W.contents out.old) (W.contents out.new) }
 {
     let zone = zone_of_arguments(alloc, arguments, reader)?;
     run(alloc, zone.as_ref(), input, out).map_err(Fault::Run)
@@ -178,7 +180,7 @@ where
 /// `arguments` are an option and its value, which name a zone: `-o` that of an offset from UTC in seconds, `-f` that of the TZif
 /// file which the reader finds at a path, `-z` that of a string, as [`TimeZone::from_posix_tz`] returns it. The zone is made first, then the
 /// input is read to its end, and then the answers of its lines are written. A fault is one line on the error output, whether or not that
-/// line can be written: status 1, or 2 where the zone is refused.
+/// line can be written: status 1, or 2 where the zone is refused. Whatever the status, `out` has what it had, or that and a front of the answers.
 pub fn tool<A, F, R, W, E>(
     alloc: A,
     arguments: &[&str],
@@ -196,6 +198,8 @@ where
     requires { F.IsAlwaysCallable reader }
     ensures status { result ≤ 2 }
     ensures answered { result ≡ 0 → AnswersInput (FnReturnsAt F.Fn reader) (texts_of arguments.now) (R.remaining input.old) (R.remaining input.new) (W.contents out.old) (W.contents out.new) }
+    ensures written { (out.new ≡ out.old)
+        ⊎ BeginsAnswers (FnReturnsAt F.Fn reader) (texts_of arguments.now) (R.remaining input.old) (R.remaining input.new) (W.contents out.old) (W.contents out.new) }
 {
     match answer_input(alloc, arguments, reader, input, out) {
         Ok(()) => 0,

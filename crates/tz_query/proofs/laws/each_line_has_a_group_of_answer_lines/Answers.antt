@@ -1,4 +1,5 @@
--- Each line has a group of answer lines.
+-- Each line has a group of answer lines, without an LF.
+use Rattle.tz_query.proofs.AnswerTexts.{answer_lines}
 use Rattle.tz_query.proofs.LawLemmas.{answer_groups, group_of_answer}
 use Rattle.tz_query.proofs.laws.each_line_has_a_group_of_answer_lines.Goals as goal
 
@@ -7,3 +8,6 @@ returns-clause-each c = answer_groups
 
 pub returns-clause-group : goal.returns-clause-group
 returns-clause-group c = group_of_answer
+
+pub returns-clause-lines : goal.returns-clause-lines
+returns-clause-lines c = λ z line answer named. answer_lines z named line answer
