@@ -1,10 +1,8 @@
 -- The answer of an `F` line in whose window the clock has two types, with one jump between them.
-use Rattle.std.proofs.Common.{◌≡◌, ℕ, ◌+◌, ◌<◌, ◌≤◌, List, [], ◌∷◌, ◌++◌, length, take, drop, inl, refl, sym, ap, ◌∙◌, arith, append_assoc, length-append, ℤ, ◌+ℤ◌, ◌-ℤ◌, ◌≤ℤ◌, ◌<ℤ◌}
+use Rattle.std.proofs.Common.{◌≡◌, ℕ, ◌<◌, List, [], ◌∷◌, ◌++◌, inl, refl, sym, ap, ◌∙◌, arith, append_assoc, ℤ, ◌+ℤ◌, ◌-ℤ◌, ◌≤ℤ◌, ◌<ℤ◌}
 use Rattle.std.specs.Prelude.{codes}
 use Rattle.std.specs.Fmt.{decimal}
-use Rattle.std.proofs.Math.Seq.{take-append_seam}
 use Rattle.std.proofs.lemmas.Fmt.{decimal_digit}
-use Rattle.std.proofs.lemmas.List.{take-append-le, take-append-drop, length-take-le}
 use Rattle.tz_base.specs.declared.calendar.Fields.{Fields}
 use Rattle.tz_base.specs.Fields.{IsCivil, IsValid, reading}
 use Rattle.tz_rule.specs.LocalTimeType.{LocalTimeType}
@@ -25,19 +23,6 @@ use Rattle.tz_query.proofs.SearchLineLemmas.{valid_with, lines_of_one}
 -- a line of the fields
 abbrev line_of : Fields → ℕ → LocalTimeType → List ℕ
 line_of f n t = front_text f ++ (nine_digits n ++ end_text t)
-
--- a line that was written, without its end
-pub without_end : (page front line text : List ℕ) (end last : ℕ) → take end page ≡ front ++ line → line ≡ text ++ 10 ∷ [] → end ≤ length page → end ≡ last + 1 → take last page ≡ front ++ text
-without_end page front line text end last written is within size =
-    let whole : take end page ≡ (front ++ text) ++ 10 ∷ [] = written ∙ ap (λ bytes. front ++ bytes) is ∙ sym (append_assoc front text (10 ∷ [])) in
-    let long : end ≡ length (front ++ text) + 1 = sym (length-take-le end page within) ∙ ap length whole ∙ length-append (front ++ text) (10 ∷ []) in
-    let last_is : last ≡ length (front ++ text) = omega (arith, long, size) in
-    let inside : last ≤ length (take end page) = omega (arith, length-take-le end page within, size) in
-    ap (take last) (sym (take-append-drop end page))
-    ∙ take-append-le last (take end page) (drop end page) inside
-    ∙ ap (take last) whole
-    ∙ ap (λ k. take k ((front ++ text) ++ 10 ∷ [])) last_is
-    ∙ take-append_seam (front ++ text) (10 ∷ [])
 
 lines_of_two : (x y : List ℕ) → ended ((codes "F " ++ decimal 2) ∷ (codes "N " ++ x) ∷ (codes "N " ++ y) ∷ []) ≡ 70 ∷ 32 ∷ 50 ∷ 10 ∷ 78 ∷ 32 ∷ ((x ++ 10 ∷ []) ++ 78 ∷ 32 ∷ (y ++ 10 ∷ []))
 lines_of_two x y =

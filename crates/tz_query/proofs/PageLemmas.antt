@@ -1,8 +1,8 @@
 -- A line on a page is its front, its nanoseconds and its end, each copied whole.
 use Rattle.std.proofs.Common.{◌≡◌, ℕ, zero, suc, get_or, ◌+◌, ◌/◌, ◌%◌, ◌<◌, ◌≤◌, List, [], ◌∷◌, ◌++◌, length, take, drop, refl, sym, ap, ◌∙◌, subst, arith, append_assoc, length-append, ℤ, pos, ◌+ℤ◌, inl}
 use Rattle.std.specs.Prelude.{slice_get, Some}
-use Rattle.std.proofs.lemmas.List.{length-map, length-take-le, take-append-le}
-use Rattle.std.proofs.Math.Seq.{take-append-add}
+use Rattle.std.proofs.lemmas.List.{length-map, length-take-le, take-append-le, take-append-drop}
+use Rattle.std.proofs.Math.Seq.{take-append-add, take-append_seam}
 use Rattle.std.proofs.lemmas.Slice.{take-put_mid}
 use Rattle.tz_base.specs.declared.calendar.Fields.{Fields}
 use Rattle.tz_base.specs.Fields.{IsCivil, IsReading}
@@ -54,6 +54,18 @@ three_pieces page front nine tail at len room front_len nine_len tail_len few =
     ∙ ap (λ bytes. bytes ++ take len tail) (second_is ∙ ap (λ bytes. bytes ++ nine) first_is)
     ∙ append_assoc (take at page ++ front) nine (take len tail)
     ∙ append_assoc (take at page) front (nine ++ take len tail)
+
+-- what stands before the last byte
+pub without_last : (page text : List ℕ) (byte end last : ℕ) → take end page ≡ text ++ byte ∷ [] → end ≤ length page → end ≡ last + 1 → take last page ≡ text
+without_last page text byte end last written within size =
+    let long : end ≡ length text + 1 = sym (length-take-le end page within) ∙ ap length written ∙ length-append text (byte ∷ []) in
+    let last_is : last ≡ length text = omega (arith, long, size) in
+    let inside : last ≤ length (take end page) = omega (arith, length-take-le end page within, size) in
+    ap (take last) (sym (take-append-drop end page))
+    ∙ take-append-le last (take end page) (drop end page) inside
+    ∙ ap (take last) written
+    ∙ ap (λ k. take k (text ++ byte ∷ [])) last_is
+    ∙ take-append_seam text (byte ∷ [])
 
 -- the fields that are shown, with the nanoseconds put in
 pub civil_with : (x : ℤ) (n : ℕ) (f : Fields) → n < 1000000000 → IsCivil x 0 f → IsCivil x n (record f { nanoseconds = n })

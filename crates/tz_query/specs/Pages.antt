@@ -1,5 +1,5 @@
--- The parts of a printed line: up to the nanoseconds, and what follows them.
-use Rattle.std.specs.Prelude.{ℕ, List, [], ◌∷◌, ◌++◌}
+-- A page of answers, and the parts of a printed line: up to the nanoseconds, and what follows them.
+use Rattle.std.specs.Prelude.{ℕ, ◌≤◌, List, [], ◌∷◌, ◌++◌, length}
 use Rattle.tz_base.specs.declared.calendar.Fields.{Fields}
 use Rattle.tz_rule.specs.LocalTimeType.{LocalTimeType}
 use Rattle.tz.specs.PrintedText.{two_digits, date_text, offset_text}
@@ -12,3 +12,7 @@ front_text f = date_text f ++ (84 ∷ two_digits f.hour ++ (58 ∷ two_digits f.
 -- the offset, the name, and LF
 unfoldable pub end_text : LocalTimeType → List ℕ
 end_text t = offset_text t.ut_offset ++ (32 ∷ name_text t ++ 10 ∷ [])
+
+-- one more answer fits onto a page of 2040 bytes, since it has at most 130
+abbrev pub HasRoom : List ℕ → Type 0
+HasRoom page = length page ≤ 1910

@@ -1,6 +1,6 @@
 //! The answers of query lines.
 
-ghost use Rattle.std.specs.Prelude.{◌≡◌, ◌+◌, ◌<◌, ◌≤◌, ℕ, List, [], ◌∷◌, ◌++◌, length, take, map, codes, IfOk, IfErr, alloc_error, ◌≤ℤ◌};
+ghost use Rattle.std.specs.Prelude.{◌≡◌, ◌+◌, ◌<◌, ◌≤◌, ℕ, List, [], ◌∷◌, ◌++◌, length, map, codes, IfOk, IfErr, alloc_error, ◌≤ℤ◌};
 ghost use Rattle.std.specs.Fmt.{decimal};
 ghost use Rattle.tz_zone.specs.Segments.{IsSegmentOf, numbered_types};
 ghost use Rattle.tz_zone.specs.ZoneRef.{zone_of};
@@ -9,6 +9,7 @@ ghost use Rattle.tz.specs.Reached.{AreOffsetsOf};
 ghost use Rattle.tz_query.specs.Lines.{IsFirstLine, ended, line_feed};
 ghost use Rattle.tz_query.specs.Answers.{name_text, moment_text, entry_text, found_lines, field_fault_text, IsFaultText, IsTimeAnswer, IsSearchAnswer, IsAnswer, AreAnswers};
 ghost use Rattle.tz_query.specs.Numbers.{space};
+ghost use Rattle.tz_query.specs.Pages.{HasRoom};
 
 use crate::query::fast::search_lines::answer_search_line;
 use crate::query::fast::tail::Tail;
@@ -16,6 +17,7 @@ use crate::query::fast::tails::tails_of;
 use crate::query::fast::time_lines::answer_time_line;
 use crate::query::lines::{after_line, read_meeting_line, read_search_line, read_time_line};
 use crate::query::meetings::answer_meeting;
+use crate::query::page::Page;
 use std::alloc::{AllocError, Allocator};
 use tz::datetime::{DateTime, FoundDateTimeKind};
 use tz::error::datetime::DateTimeError;
@@ -274,69 +276,59 @@ pub fn answer_line<'a, A: Allocator + Copy>(
     Ok(after_line(queries))
 }
 
-/// Appends what is on the page to the answers.
-fn flush<A: Allocator>(
-    answers: &mut Vec<u8, A>,
-    page: &[u8; 2040],
-    at: usize,
-) -> Result<(), AllocError>
-    requires { at ≤ 2040 }
-    ensures { IfOk result (λ _. answers.new.items ≡ answers.old.items ++ take at page.now) }
+/// Appends what is on the page to the answers, and clears it.
+fn flush<A: Allocator>(answers: &mut Vec<u8, A>, page: &mut Page) -> Result<(), AllocError>
+    ensures text { IfOk result (λ _. answers.new.items ≡ answers.old.items ++ page.old) }
+    ensures clear { IfOk result (λ _. page.new ≡ []) }
 {
-    answers.extend_from_slice(&page[..at])
+    answers.extend_from_slice(page.as_bytes())?;
+    page.clear();
+    Ok(())
 }
 
-/// Appends what is on the page where it is nearly full, and returns how much of it is used then.
+/// Appends what is on the page to the answers, where it has no room for one more.
 #[inline(always)]
-fn make_room<A: Allocator>(
-    answers: &mut Vec<u8, A>,
-    page: &[u8; 2040],
-    at: usize,
-) -> Result<usize, AllocError>
-    requires { at ≤ 2040 }
-    ensures end { IfOk result (λ end. end ≤ 1900) }
-    ensures text { IfOk result (λ end. (answers.new.items ++ take end page.now) ≡ (answers.old.items ++ take at page.now)) }
+fn make_room<A: Allocator>(answers: &mut Vec<u8, A>, page: &mut Page) -> Result<(), AllocError>
+    ensures room { IfOk result (λ _. HasRoom page.new) }
+    ensures text { IfOk result (λ _. (answers.new.items ++ page.new) ≡ (answers.old.items ++ page.old)) }
 {
-    if at <= 1900 {
-        return Ok(at);
+    if page.has_room() {
+        return Ok(());
     }
-    flush(answers, page, at)?;
-    Ok(0)
+    flush(answers, page)?;
+    Ok(())
 }
 
-/// Answers the first line, on the page where that is quick, and returns how much of the page is used and the bytes after that line.
+/// Answers the first line, on the page where that is quick, and returns the bytes after that line.
 #[inline(always)]
 fn answer_next<'a, A: Allocator + Copy>(
     alloc: A,
     answers: &mut Vec<u8, A>,
     line: &mut TextBuffer,
-    page: &mut [u8; 2040],
-    at: usize,
+    page: &mut Page,
     kept: &mut Segment,
     tails: &[Tail],
     offsets: (i32, i32),
     zone: TimeZoneRef<'_>,
     queries: &'a [u8],
-) -> Result<(usize, &'a [u8]), AllocError>
-    requires room { at ≤ 1900 }
+) -> Result<&'a [u8], AllocError>
+    requires room { HasRoom page.old }
     requires kept { IsSegmentOf (zone_of zone) kept.old }
     requires tails { types_of tails.now ≡ numbered_types (zone_of zone) }
     requires offsets { AreOffsetsOf (zone_of zone) offsets.0 offsets.1 }
     requires order { offsets.0 ≤ℤ offsets.1 }
-    ensures end { IfOk result (λ r. r.0 ≤ at + 130) }
-    ensures answer { IfOk result (λ r. (text : List ℕ) × (answer : List (List ℕ)) × IsFirstLine queries.now text r.1.now
-        × IsAnswer (zone_of zone.entry) text answer × ((answers.new.items ++ take r.0 page.new) ≡ (answers.old.items ++ take at page.old) ++ ended answer)) }
+    ensures answer { IfOk result (λ rest. (text : List ℕ) × (answer : List (List ℕ)) × IsFirstLine queries.now text rest.now
+        × IsAnswer (zone_of zone.entry) text answer × ((answers.new.items ++ page.new) ≡ (answers.old.items ++ page.old) ++ ended answer)) }
     ensures kept { IsSegmentOf (zone_of zone.entry) kept.new }
 {
-    if let Some(answered) = answer_time_line(page, at, kept, zone, tails, queries) {
-        return Ok(answered);
+    if let Some(rest) = answer_time_line(page, kept, zone, tails, queries) {
+        return Ok(rest);
     }
-    if let Some(answered) = answer_search_line(page, at, kept, zone, tails, offsets, queries) {
-        return Ok(answered);
+    if let Some(rest) = answer_search_line(page, kept, zone, tails, offsets, queries) {
+        return Ok(rest);
     }
-    flush(answers, page, at)?;
-    let rest = answer_line(alloc, answers, line, zone, queries)?;
-    Ok((0, rest))
+    flush(answers, page)?;
+    answer_line(alloc, answers, line, zone, queries)
 }
 
 /// Answers query bytes over a zone.
@@ -359,8 +351,7 @@ pub fn answer<A: Allocator + Copy>(
     let tails = tails_of(alloc, zone)?;
     let offsets = inner::offsets(zone);
     let mut line = TextBuffer::new();
-    let mut page = [0; 2040];
-    let mut at = 0;
+    let mut page = Page::new();
     let mut kept = Segment {
         from: 1,
         until: 0,
@@ -369,13 +360,12 @@ pub fn answer<A: Allocator + Copy>(
     };
     let mut rest = queries;
     while !rest.is_empty() {
-        let room = make_room(&mut answers, &page, at)?;
-        (at, rest) = answer_next(
+        make_room(&mut answers, &mut page)?;
+        rest = answer_next(
             alloc,
             &mut answers,
             &mut line,
             &mut page,
-            room,
             &mut kept,
             &tails,
             offsets,
@@ -383,6 +373,6 @@ pub fn answer<A: Allocator + Copy>(
             rest,
         )?;
     }
-    flush(&mut answers, &page, at)?;
+    flush(&mut answers, &mut page)?;
     Ok(answers)
 }

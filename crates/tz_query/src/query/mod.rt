@@ -5,6 +5,7 @@ mod fast;
 mod lines;
 mod meetings;
 mod numbers;
+mod page;
 mod program;
 mod streams;
 mod tzif;

@@ -1,6 +1,6 @@
 //! `F` lines in whose window the clock has two types, with one jump between them.
 
-ghost use Rattle.std.specs.Prelude.{◌≡◌, ◌+◌, ◌<◌, ◌≤◌, ℕ, pos, negsuc, ◌-ℤ◌, ◌≤ℤ◌, ◌<ℤ◌, List, ◌++◌, take, IfSome, IfNone, MatchBool};
+ghost use Rattle.std.specs.Prelude.{◌≡◌, ◌<◌, ℕ, pos, negsuc, ◌-ℤ◌, ◌≤ℤ◌, ◌<ℤ◌, List, ◌++◌, IfSome, IfNone, MatchBool};
 ghost use Rattle.tz_base.specs.Fields.{IsValid, reading as reading_of};
 ghost use Rattle.tz_zone.specs.ZoneRef.{zone_of};
 ghost use Rattle.tz_zone.specs.Segments.{IsSegmentOf, IsStretch, numbered_types};
@@ -9,12 +9,14 @@ ghost use Rattle.tz.specs.Jumps.{HasOneJump};
 ghost use Rattle.tz.specs.Reached.{AreOffsetsOf};
 ghost use Rattle.tz_query.specs.Answers.{IsSearchAnswer};
 ghost use Rattle.tz_query.specs.Lines.{ended};
+ghost use Rattle.tz_query.specs.Pages.{HasRoom};
 ghost use Rattle.tz_query.specs.Tails.{types_of};
 
 use super::entries::{push_once, push_skipped, push_twice};
-use super::page::front_of;
+use super::front::front_of;
 use super::tail::Tail;
 use super::time_lines::shown_fields;
+use crate::query::page::Page;
 use tz::TimeZoneRef;
 use tz::inner::{Fields, Segment, segment_following};
 
@@ -28,46 +30,43 @@ fn is_before(reading: i64, tail: &Tail, unix_time: i64) -> bool
     reading - i64::from(tail.ut_offset()) < unix_time
 }
 
-/// Answers fields over which the clock jumps on the page, and gives the end of the answer, if the years of both sides have four digits.
+/// Answers fields over which the clock jumps on the page, if the years of both sides have four digits.
 fn push_passed_fields(
-    page: &mut [u8; 2040],
-    at: usize,
+    page: &mut Page,
     zone: TimeZoneRef<'_>,
     fields: &Fields,
     nine: &[u8; 9],
     jump: i64,
     before: &Tail,
     after: &Tail,
-) -> Option<usize>
-    requires room { at ≤ 1910 }
+) -> Option<()>
+    requires room { HasRoom page.old }
     requires valid { IsValid fields.now }
     requires near { (negsuc 100000000000000000 ≤ℤ jump) × (jump ≤ℤ pos 100000000000000000) }
     requires window { HasOneJump (zone_of zone) (reading_of fields.now) jump before.now.local_time_type after.now.local_time_type }
     requires before { jump ≤ℤ (reading_of fields.now -ℤ before.now.local_time_type.ut_offset) }
     requires after { (reading_of fields.now -ℤ after.now.local_time_type.ut_offset) <ℤ jump }
     ensures some { (n : ℕ) → n < 1000000000 → nine.now ≡ nine_digits n
-        → IfSome result (λ end. (answer : List (List ℕ)) × IsSearchAnswer (zone_of zone.entry) (record fields.now { nanoseconds = n }) answer
-        × (take end page.new ≡ take at page.old ++ ended answer)) }
-    ensures end { IfSome result (λ end. end ≤ at + 130) }
+        → IfSome result (λ _. (answer : List (List ℕ)) × IsSearchAnswer (zone_of zone.entry) (record fields.now { nanoseconds = n }) answer
+        × (page.new ≡ page.old ++ ended answer)) }
     ensures none { IfNone result (page.new ≡ page.old) }
 {
     let first = shown_fields(jump, before.ut_offset())?;
     let second = shown_fields(jump, after.ut_offset())?;
-    Some(push_skipped(
+    push_skipped(
         page,
-        at,
         &front_of(&first),
         &front_of(&second),
         nine,
         before,
         after,
-    ))
+    );
+    Some(())
 }
 
-/// Answers fields in whose window the clock has two types on the page, and gives the end of the answer, if years have four digits.
+/// Answers fields in whose window the clock has two types on the page, if years have four digits.
 fn push_around_jump(
-    page: &mut [u8; 2040],
-    at: usize,
+    page: &mut Page,
     zone: TimeZoneRef<'_>,
     fields: &Fields,
     reading: i64,
@@ -75,30 +74,32 @@ fn push_around_jump(
     jump: i64,
     before: &Tail,
     after: &Tail,
-) -> Option<usize>
-    requires room { at ≤ 1910 }
+) -> Option<()>
+    requires room { HasRoom page.old }
     requires valid { IsValid fields.now }
     requires reading { reading ≡ reading_of fields.now }
     requires bound { (negsuc 67768100567971199 ≤ℤ reading) × (reading ≤ℤ pos 67767976233532800) }
     requires year { (pos 1000 ≤ℤ fields.now.year) × (fields.now.year ≤ℤ pos 9999) }
     requires window { HasOneJump (zone_of zone) (reading_of fields.now) jump before.now.local_time_type after.now.local_time_type }
     ensures some { (n : ℕ) → n < 1000000000 → nine.now ≡ nine_digits n
-        → IfSome result (λ end. (answer : List (List ℕ)) × IsSearchAnswer (zone_of zone.entry) (record fields.now { nanoseconds = n }) answer
-        × (take end page.new ≡ take at page.old ++ ended answer)) }
-    ensures end { IfSome result (λ end. end ≤ at + 130) }
+        → IfSome result (λ _. (answer : List (List ℕ)) × IsSearchAnswer (zone_of zone.entry) (record fields.now { nanoseconds = n }) answer
+        × (page.new ≡ page.old ++ ended answer)) }
     ensures none { IfNone result (page.new ≡ page.old) }
 {
     if is_before(reading, before, jump) {
         let front = front_of(fields);
         if is_before(reading, after, jump) {
-            return Some(push_once(page, at, &front, nine, before));
+            push_once(page, &front, nine, before);
+            return Some(());
         }
-        return Some(push_twice(page, at, &front, nine, before, after));
+        push_twice(page, &front, nine, before, after);
+        return Some(());
     }
     if is_before(reading, after, jump) {
-        return push_passed_fields(page, at, zone, fields, nine, jump, before, after);
+        return push_passed_fields(page, zone, fields, nine, jump, before, after);
     }
-    Some(push_once(page, at, &front_of(fields), nine, after))
+    push_once(page, &front_of(fields), nine, after);
+    Some(())
 }
 
 /// The end of lines of a segment.
@@ -111,12 +112,10 @@ fn tail_of<'a>(zone: TimeZoneRef<'_>, tails: &'a [Tail], segment: &Segment) -> &
     &tails[segment.number]
 }
 
-/// Answers fields in whose window the clock has two types on the page, if the kept segment and the next one hold it, and gives the
-/// end of the answer.
+/// Answers fields in whose window the clock has two types on the page, if the kept segment and the next one hold it.
 #[inline(never)]
 pub fn answer_across_jump(
-    page: &mut [u8; 2040],
-    at: usize,
+    page: &mut Page,
     kept: &Segment,
     zone: TimeZoneRef<'_>,
     tails: &[Tail],
@@ -125,8 +124,8 @@ pub fn answer_across_jump(
     nine: &[u8; 9],
     low: i64,
     high: i64,
-) -> Option<usize>
-    requires room { at ≤ 1910 }
+) -> Option<()>
+    requires room { HasRoom page.old }
     requires kept { IsSegmentOf (zone_of zone) kept.now }
     requires tails { types_of tails.now ≡ numbered_types (zone_of zone) }
     requires valid { IsValid fields.now }
@@ -135,9 +134,8 @@ pub fn answer_across_jump(
     requires year { (pos 1000 ≤ℤ fields.now.year) × (fields.now.year ≤ℤ pos 9999) }
     requires offsets { AreOffsetsOf (zone_of zone) (reading_of fields.now -ℤ high) (reading_of fields.now -ℤ low) }
     ensures some { (n : ℕ) → n < 1000000000 → nine.now ≡ nine_digits n
-        → IfSome result (λ end. (answer : List (List ℕ)) × IsSearchAnswer (zone_of zone.entry) (record fields.now { nanoseconds = n }) answer
-        × (take end page.new ≡ take at page.old ++ ended answer)) }
-    ensures end { IfSome result (λ end. end ≤ at + 130) }
+        → IfSome result (λ _. (answer : List (List ℕ)) × IsSearchAnswer (zone_of zone.entry) (record fields.now { nanoseconds = n }) answer
+        × (page.new ≡ page.old ++ ended answer)) }
     ensures none { IfNone result (page.new ≡ page.old) }
 {
     if low < kept.from || low >= kept.until {
@@ -149,7 +147,5 @@ pub fn answer_across_jump(
     }
     let before = tail_of(zone, tails, kept);
     let after = tail_of(zone, tails, &next);
-    push_around_jump(
-        page, at, zone, fields, reading, nine, kept.until, before, after,
-    )
+    push_around_jump(page, zone, fields, reading, nine, kept.until, before, after)
 }

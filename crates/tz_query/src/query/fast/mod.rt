@@ -3,9 +3,9 @@
 //! What is here answers a line or says no, and then the line is answered plainly.
 
 pub mod entries;
+pub mod front;
 pub mod jump_lines;
 pub mod numbers;
-pub mod page;
 pub mod search_lines;
 pub mod tail;
 pub mod tails;

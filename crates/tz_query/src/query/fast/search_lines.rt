@@ -1,6 +1,6 @@
 //! `F` lines that are found once, answered from a segment of the zone that holds all their window.
 
-ghost use Rattle.std.specs.Prelude.{◌≡◌, ◌+◌, ◌<◌, ◌≤◌, ℕ, pos, negsuc, ◌-ℤ◌, ◌≤ℤ◌, ◌<ℤ◌, List, ◌++◌, take, IfSome, IfNone};
+ghost use Rattle.std.specs.Prelude.{◌≡◌, ◌<◌, ℕ, pos, negsuc, ◌-ℤ◌, ◌≤ℤ◌, ◌<ℤ◌, List, ◌++◌, IfSome, IfNone};
 ghost use Rattle.tz_base.specs.declared.calendar.Fields.{Fields};
 ghost use Rattle.tz_zone.specs.ZoneRef.{zone_of};
 ghost use Rattle.tz_zone.specs.Segments.{IsSegmentOf, IsStretch, numbered_types};
@@ -8,15 +8,17 @@ ghost use Rattle.tz.specs.PrintedText.{nine_digits};
 ghost use Rattle.tz.specs.Reached.{AreOffsetsOf};
 ghost use Rattle.tz_query.specs.Answers.{IsAnswer};
 ghost use Rattle.tz_query.specs.Lines.{IsFirstLine, ended};
+ghost use Rattle.tz_query.specs.Pages.{HasRoom};
 ghost use Rattle.tz_query.specs.Queries.{IsSearchLineFront};
 ghost use Rattle.tz_query.specs.Tails.{types_of};
 
 use super::entries::push_once;
+use super::front::front_of;
 use super::jump_lines::answer_across_jump;
 use super::numbers::{read_nanoseconds, read_small, read_year};
-use super::page::front_of;
 use super::tail::Tail;
 use super::time_lines::keep;
+use crate::query::page::Page;
 use tz::TimeZoneRef;
 use tz::inner::{Fields, Segment};
 
@@ -87,26 +89,25 @@ fn window_of(reading: i64, offsets: (i32, i32)) -> (i64, i64)
     (reading - i64::from(greatest), reading - i64::from(least))
 }
 
-/// Answers the first line on the page, if it is an `F` line of usual numbers in whose window known segments lie, and gives the end of its
-/// answer and the bytes after it.
+/// Answers the first line on the page, if it is an `F` line of usual numbers in whose window known segments lie, and gives the bytes
+/// after it.
 #[inline(always)]
 pub fn answer_search_line<'a>(
-    page: &mut [u8; 2040],
-    at: usize,
+    page: &mut Page,
     kept: &mut Segment,
     zone: TimeZoneRef<'_>,
     tails: &[Tail],
     offsets: (i32, i32),
     queries: &'a [u8],
-) -> Option<(usize, &'a [u8])>
-    requires room { at ≤ 1910 }
+) -> Option<&'a [u8]>
+    requires room { HasRoom page.old }
     requires kept { IsSegmentOf (zone_of zone) kept.old }
     requires tails { types_of tails.now ≡ numbered_types (zone_of zone) }
     requires offsets { AreOffsetsOf (zone_of zone) offsets.0 offsets.1 }
     requires order { offsets.0 ≤ℤ offsets.1 }
-    ensures some { IfSome result (λ r. (r.0 ≤ at + 130) × ((text : List ℕ) × (answer : List (List ℕ)) × IsFirstLine queries.now text r.1.now
-        × IsAnswer (zone_of zone.entry) text answer × (take r.0 page.new ≡ take at page.old ++ ended answer))) }
-    ensures none { IfNone result (take at page.new ≡ take at page.old) }
+    ensures some { IfSome result (λ rest. (text : List ℕ) × (answer : List (List ℕ)) × IsFirstLine queries.now text rest.now
+        × IsAnswer (zone_of zone.entry) text answer × (page.new ≡ page.old ++ ended answer)) }
+    ensures none { IfNone result (page.new ≡ page.old) }
     ensures kept { IsSegmentOf (zone_of zone.entry) kept.new }
 {
     let mut nine = [0; 9];
@@ -120,11 +121,9 @@ pub fn answer_search_line<'a>(
     let reading = fields.reading();
     let (low, high) = window_of(reading, offsets);
     if let Some(tail) = tail_through(kept, zone, tails, low, high) {
-        let end = push_once(page, at, &front_of(&fields), &nine, tail);
-        return Some((end, rest));
+        push_once(page, &front_of(&fields), &nine, tail);
+        return Some(rest);
     }
-    let end = answer_across_jump(
-        page, at, kept, zone, tails, &fields, reading, &nine, low, high,
-    )?;
-    Some((end, rest))
+    answer_across_jump(page, kept, zone, tails, &fields, reading, &nine, low, high)?;
+    Some(rest)
 }

@@ -1,19 +1,21 @@
 //! `T` lines, answered from a segment of the zone that is kept from one line to the next.
 
-ghost use Rattle.std.specs.Prelude.{◌≡◌, ◌+◌, ◌<◌, ◌≤◌, ℕ, ℤ, ◌+ℤ◌, List, ◌++◌, pos, negsuc, ◌≤ℤ◌, ◌<ℤ◌, take, IsTrue, IfSome, IfNone};
+ghost use Rattle.std.specs.Prelude.{◌≡◌, ◌<◌, ℕ, ◌+ℤ◌, List, ◌++◌, pos, negsuc, ◌≤ℤ◌, ◌<ℤ◌, IsTrue, IfSome, IfNone};
 ghost use Rattle.tz_base.specs.Fields.{IsCivil, IsReading};
 ghost use Rattle.tz_zone.specs.Clock.{IsClock};
 ghost use Rattle.tz_zone.specs.ZoneRef.{zone_of};
 ghost use Rattle.tz_zone.specs.Segments.{IsSegmentOf, numbered_types};
 ghost use Rattle.tz_query.specs.Answers.{IsAnswer};
 ghost use Rattle.tz_query.specs.Lines.{IsFirstLine, ended};
+ghost use Rattle.tz_query.specs.Pages.{HasRoom};
 ghost use Rattle.tz_query.specs.Queries.{IsTimeLineFront};
 ghost use Rattle.tz_query.specs.Tails.{types_of};
 ghost use Rattle.tz.specs.PrintedText.{nine_digits};
 
+use super::front::front_of;
 use super::numbers::{read_nanoseconds, read_seconds};
-use super::page::{front_of, push_line};
 use super::tail::Tail;
+use crate::query::page::Page;
 use tz::TimeZoneRef;
 use tz::inner::{Fields, Segment, is_reading, segment_at};
 
@@ -93,28 +95,27 @@ pub fn shown_fields(unix_time: i64, ut_offset: i32) -> Option<Fields>
     Some(fields)
 }
 
-/// Answers the first line on the page, if it is a `T` line of usual numbers, and gives the end of its answer and the bytes after it.
+/// Answers the first line on the page, if it is a `T` line of usual numbers, and gives the bytes after it.
 #[inline(always)]
 pub fn answer_time_line<'a>(
-    page: &mut [u8; 2040],
-    at: usize,
+    page: &mut Page,
     kept: &mut Segment,
     zone: TimeZoneRef<'_>,
     tails: &[Tail],
     queries: &'a [u8],
-) -> Option<(usize, &'a [u8])>
-    requires room { at ≤ 1979 }
+) -> Option<&'a [u8]>
+    requires room { HasRoom page.old }
     requires kept { IsSegmentOf (zone_of zone) kept.old }
     requires tails { types_of tails.now ≡ numbered_types (zone_of zone) }
-    ensures some { IfSome result (λ r. (r.0 ≤ at + 61) × ((text : List ℕ) × (answer : List (List ℕ)) × IsFirstLine queries.now text r.1.now
-        × IsAnswer (zone_of zone.entry) text answer × (take r.0 page.new ≡ take at page.old ++ ended answer))) }
-    ensures none { IfNone result (take at page.new ≡ take at page.old) }
+    ensures some { IfSome result (λ rest. (text : List ℕ) × (answer : List (List ℕ)) × IsFirstLine queries.now text rest.now
+        × IsAnswer (zone_of zone.entry) text answer × (page.new ≡ page.old ++ ended answer)) }
+    ensures none { IfNone result (page.new ≡ page.old) }
     ensures kept { IsSegmentOf (zone_of zone.entry) kept.new }
 {
     let mut nine = [0; 9];
     let (unix_time, rest) = read_line(queries, &mut nine)?;
     let tail = tail_at(kept, zone, tails, unix_time)?;
     let fields = shown_fields(unix_time, tail.ut_offset())?;
-    let end = push_line(page, at, &front_of(&fields), &nine, tail);
-    Some((end, rest))
+    page.push_line(&front_of(&fields), &nine, tail);
+    Some(rest)
 }

@@ -1,5 +1,5 @@
 -- Each line's answer stands behind those before it, and in the end no line is left.
-use Rattle.std.proofs.Common.{◌≡◌, ◌++◌, ◌<◌, [], length, take, sym, ap, ◌∙◌, subst, arith, rules, append_assoc, append-nil}
+use Rattle.std.proofs.Common.{◌≡◌, ◌++◌, ◌<◌, [], length, sym, ap, ◌∙◌, subst, arith, rules, append_assoc, append-nil}
 use Rattle.std.proofs.lemmas.Int.{ints}
 use Rattle.std.proofs.lemmas.Result.{IfOk-from_err}
 use Rattle.std.specs.Result.{IfErr, IsErrAnd}
@@ -19,50 +19,50 @@ if_err P (Err e) h = h
 pub loop-rest-init : goal.loop-rest-init
 loop-rest-init g c =
     let z = zone_of c.args.zone in
-    let first = type_exists z c.args.zone.sound in (
-      omega arith,
+    let first = type_exists z c.args.zone.sound in
+    let items = c.in_ok-answers.answers.items in
+    let none = ap (λ page. items ++ page) c.new-page.ensures ∙ append-nil items ∙ c.in_ok-answers.ensures.items in (
       (first.0, number_of_type z 0 first.0 first.1, (λ v after before. absurd (omega (arith, ints, after, before)))),
-      λ more are. subst (λ bytes. AreAnswers z c.args.queries.now ((bytes ++ []) ++ more)) (sym c.in_ok-answers.ensures.items) are,
+      λ more are. subst (λ bytes. AreAnswers z c.args.queries.now (bytes ++ more)) (sym none) are,
     )
 
 pub loop-rest-preserved : goal.loop-rest-preserved
 loop-rest-preserved g c =
     let z = zone_of c.args.zone in
-    let room = c.in_ok-room.ensures in
-    let next = c.in_ok-at.ensures in
+    let room = c.in_ok-make_room.ensures in
+    let next = c.in_ok-rest.ensures in
     let step = next.answer in
     let some : 0 < length c.loop-rest.rest.now = search some_left in (
-      omega (arith, room.end, next.end),
       next.kept,
       λ more are.
           subst (AreAnswers z c.args.queries.now)
-          (sym (append_assoc (c.loop-rest.answers.items ++ take c.loop-rest.at c.loop-rest.page) (ended step.1) more)
+          (sym (append_assoc (c.loop-rest.answers.items ++ c.loop-rest.page) (ended step.1) more)
           ∙ ap (λ bytes. bytes ++ more) (ap (λ bytes. bytes ++ ended step.1) (sym room.text) ∙ sym step.4))
-          (c.loop-rest.invariant.2 (ended step.1 ++ more) (AreAnswers-cons z _ step.0 _ more step.1 some step.2 step.3 are)),
+          (c.loop-rest.invariant.1 (ended step.1 ++ more) (AreAnswers-cons z _ step.0 _ more step.1 some step.2 step.3 are)),
     )
 
 pub returns-clause-ok : goal.returns-clause-ok
 returns-clause-ok g c =
     let z = zone_of c.args.zone in
     let none : length c.loop-rest.rest.now ≡ 0 = search rules in
-    let all = c.in_ok-flush.ensures in
-    subst (AreAnswers z c.args.queries.now) (append-nil (c.loop-rest.answers.items ++ take c.loop-rest.at c.loop-rest.page) ∙ sym all)
-    (c.loop-rest.invariant.2 [] (subst (λ rest. AreAnswers z rest []) (sym (none_from_length c.loop-rest.rest.now none)) (AreAnswers-nil z)))
+    let all = c.in_ok-flush.ensures.text in
+    subst (AreAnswers z c.args.queries.now) (append-nil (c.loop-rest.answers.items ++ c.loop-rest.page) ∙ sym all)
+    (c.loop-rest.invariant.1 [] (subst (λ rest. AreAnswers z rest []) (sym (none_from_length c.loop-rest.rest.now none)) (AreAnswers-nil z)))
 
 pub loop-rest-smaller : goal.loop-rest-smaller
 loop-rest-smaller g c =
-    let next = c.in_ok-at.ensures.answer in
+    let next = c.in_ok-rest.ensures.answer in
     let some : 0 < length c.loop-rest.rest.now = search some_left in
-    rest_is_shorter c.loop-rest.rest.now next.0 c.in_ok-at.field-0-1.now next.2 some
+    rest_is_shorter c.loop-rest.rest.now next.0 c.in_ok-rest.rest.now next.2 some
 
 pub answer_next-requires : goal.answer_next-requires
-answer_next-requires g c = record { room = c.in_ok-room.ensures.end; kept = c.loop-rest.invariant.1; tails = ap types_of c.deref.ensures.value ∙ c.in_ok-tails.ensures; offsets = c.offsets-offsets.ensures.between; order = c.offsets-offsets.ensures.order }
+answer_next-requires g c = record { room = c.in_ok-make_room.ensures.room; kept = c.loop-rest.invariant.0; tails = ap types_of c.deref.ensures.value ∙ c.in_ok-tails.ensures; offsets = c.offsets-offsets.ensures.between; order = c.offsets-offsets.ensures.order }
 
-pub returns-in_err-room : goal.returns-in_err-room
-returns-in_err-room g c = record { ok = IfOk-from_err c.from_residual-in_err-room.result _ c.from_residual-in_err-room.ensures.0; err = if_err _ c.from_residual-in_err-room.result c.from_residual-in_err-room.ensures.1 }
+pub returns-in_err-make_room : goal.returns-in_err-make_room
+returns-in_err-make_room g c = record { ok = IfOk-from_err c.from_residual-in_err-make_room.result _ c.from_residual-in_err-make_room.ensures.0; err = if_err _ c.from_residual-in_err-make_room.result c.from_residual-in_err-make_room.ensures.1 }
 
-pub returns-in_err-at : goal.returns-in_err-at
-returns-in_err-at g c = record { ok = IfOk-from_err c.from_residual-in_err-at.result _ c.from_residual-in_err-at.ensures.0; err = if_err _ c.from_residual-in_err-at.result c.from_residual-in_err-at.ensures.1 }
+pub returns-in_err-rest : goal.returns-in_err-rest
+returns-in_err-rest g c = record { ok = IfOk-from_err c.from_residual-in_err-rest.result _ c.from_residual-in_err-rest.ensures.0; err = if_err _ c.from_residual-in_err-rest.result c.from_residual-in_err-rest.ensures.1 }
 
 pub returns-in_err-flush : goal.returns-in_err-flush
 returns-in_err-flush g c = record { ok = IfOk-from_err c.from_residual-in_err-flush.result _ c.from_residual-in_err-flush.ensures.0; err = if_err _ c.from_residual-in_err-flush.result c.from_residual-in_err-flush.ensures.1 }

@@ -1,5 +1,5 @@
 -- The fields are shown before the jump, after it, on both sides or on neither.
-use Rattle.std.proofs.Common.{◌≡◌, ◌-ℤ◌, ◌≤ℤ◌, ◌<ℤ◌, ◌∷◌, ◌++◌, take, ap, ◌∙◌, arith}
+use Rattle.std.proofs.Common.{◌≡◌, ◌-ℤ◌, ◌≤ℤ◌, ◌<ℤ◌, ◌∷◌, ◌++◌, ap, ◌∙◌, arith}
 use Rattle.std.proofs.lemmas.Int.{ints, to_z-of_z}
 use mir.Syntax.{w64}
 use Rattle.tz_base.specs.Fields.{reading}
@@ -23,7 +23,7 @@ returns-then-is_before-2-clause-some c n part nine =
     let first : (reading f -ℤ a.ut_offset) <ℤ jump = rw (to_z-of_z w64 c.args.reading reading_fits, to_z-of_z w64 jump fits, c.requires.reading) at c.if-is_before.ensures.before in
     let second : (reading f -ℤ b.ut_offset) <ℤ jump = rw (to_z-of_z w64 c.args.reading reading_fits, to_z-of_z w64 jump fits, c.requires.reading) at c.if-is_before-2.ensures.before in
     let shown = shown_before z c.args.zone.sound.leap_seconds_are f n part c.requires.valid jump a b c.requires.window first second in
-    let text = written_once (take c.push_once.result c.push_once.new.page) (take c.args.at c.args.page.now) c.front_of-front.result c.args.nine.now (ended shown.0) f n a c.push_once.ensures.text c.front_of-front.ensures nine shown.2 in
+    let text = written_once c.push_once.new.page c.args.page.now c.front_of-front.result c.args.nine.now (ended shown.0) f n a c.push_once.ensures c.front_of-front.ensures nine shown.2 in
     (shown.0, shown.1, text)
 
 pub returns-then-is_before-clause-some : goal.returns-then-is_before-clause-some
@@ -33,14 +33,14 @@ returns-then-is_before-clause-some c n part nine =
     let jump = c.args.jump in
     let a = c.args.before.now.local_time_type in
     let b = c.args.after.now.local_time_type in
-    let page = take c.args.at c.args.page.now in
+    let page = c.args.page.now in
     let fits = c.ranges.jump in
     let reading_fits = c.ranges.reading in
     let first : (reading f -ℤ a.ut_offset) <ℤ jump = rw (to_z-of_z w64 c.args.reading reading_fits, to_z-of_z w64 jump fits, c.requires.reading) at c.if-is_before.ensures.before in
     let second : jump ≤ℤ (reading f -ℤ b.ut_offset) = rw (to_z-of_z w64 c.args.reading reading_fits, to_z-of_z w64 jump fits, c.requires.reading) at c.if-is_before-2.ensures.before in
     let shown = shown_twice z c.args.zone.sound.leap_seconds_are f n part c.requires.valid jump a b c.requires.window first second in
-    let text : take c.push_twice.result c.push_twice.new.page ≡ page ++ (70 ∷ 32 ∷ 50 ∷ 10 ∷ 78 ∷ 32 ∷ ((front_text f ++ (nine_digits n ++ end_text a)) ++ 78 ∷ 32 ∷ (front_text f ++ (nine_digits n ++ end_text b)))) =
-    c.push_twice.ensures.text
+    let text : c.push_twice.new.page ≡ page ++ (70 ∷ 32 ∷ 50 ∷ 10 ∷ 78 ∷ 32 ∷ ((front_text f ++ (nine_digits n ++ end_text a)) ++ 78 ∷ 32 ∷ (front_text f ++ (nine_digits n ++ end_text b)))) =
+    c.push_twice.ensures
     ∙ ap (λ bytes. page ++ (70 ∷ 32 ∷ 50 ∷ 10 ∷ 78 ∷ 32 ∷ ((bytes ++ (c.args.nine.now ++ end_text a)) ++ 78 ∷ 32 ∷ (bytes ++ (c.args.nine.now ++ end_text b))))) c.front_of-front.ensures
     ∙ ap (λ bytes. page ++ (70 ∷ 32 ∷ 50 ∷ 10 ∷ 78 ∷ 32 ∷ ((front_text f ++ (bytes ++ end_text a)) ++ 78 ∷ 32 ∷ (front_text f ++ (bytes ++ end_text b))))) nine in
     (shown.0, shown.1, text ∙ ap (λ bytes. page ++ bytes) shown.2)
@@ -66,7 +66,7 @@ returns-clause-some c n part nine =
     let first : jump ≤ℤ (reading f -ℤ a.ut_offset) = rw (to_z-of_z w64 c.args.reading reading_fits, to_z-of_z w64 jump fits, c.requires.reading) at c.if-is_before.ensures.before in
     let second : jump ≤ℤ (reading f -ℤ b.ut_offset) = rw (to_z-of_z w64 c.args.reading reading_fits, to_z-of_z w64 jump fits, c.requires.reading) at c.if-is_before-3.ensures.before in
     let shown = shown_after z c.args.zone.sound.leap_seconds_are f n part c.requires.valid jump a b c.requires.window first second in
-    let text = written_once (take c.push_once-2.result c.push_once-2.new.page) (take c.args.at c.args.page.now) c.front_of.result c.args.nine.now (ended shown.0) f n b c.push_once-2.ensures.text c.front_of.ensures nine shown.2 in
+    let text = written_once c.push_once-2.new.page c.args.page.now c.front_of.result c.args.nine.now (ended shown.0) f n b c.push_once-2.ensures c.front_of.ensures nine shown.2 in
     (shown.0, shown.1, text)
 
 pub is_before-requires : goal.is_before-requires

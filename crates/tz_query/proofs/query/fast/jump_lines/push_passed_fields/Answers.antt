@@ -1,5 +1,5 @@
 -- The clock passes over the fields.
-use Rattle.std.proofs.Common.{◌≡◌, ◌+ℤ◌, [], ◌∷◌, ◌++◌, take, ap, ◌∙◌, rules}
+use Rattle.std.proofs.Common.{◌≡◌, ◌+ℤ◌, [], ◌∷◌, ◌++◌, ap, ◌∙◌, rules}
 use Rattle.std.proofs.lemmas.Int.{to_z-of_z}
 use mir.Syntax.{w32, w64}
 use mir.Val.{SFits}
@@ -25,11 +25,11 @@ returns-clause-some c n part nine =
     let civil_a : IsCivil (jump +ℤ a.ut_offset) 0 first = rw (to_z-of_z w64 jump fits, to_z-of_z w32 c.ut_offset.result fits_a, c.ut_offset.ensures) at c.in_ok-first.ensures.fields in
     let civil_b : IsCivil (jump +ℤ b.ut_offset) 0 second = rw (to_z-of_z w64 jump fits, to_z-of_z w32 c.ut_offset-2.result fits_b, c.ut_offset-2.ensures) at c.in_ok-second.ensures.fields in
     let shown = shown_skipped z c.args.zone.sound.leap_seconds_are f n part c.requires.valid jump a b c.requires.window c.requires.before c.requires.after first second civil_a civil_b in
-    let page = take c.args.at c.args.page.now in
+    let page = c.args.page.now in
     let line : c.front_of.result ++ (c.args.nine.now ++ end_text a) ≡ shown.0 ++ 10 ∷ [] =
     ap (λ bytes. bytes ++ (c.args.nine.now ++ end_text a)) c.front_of.ensures ∙ ap (λ bytes. front_text first ++ (bytes ++ end_text a)) nine ∙ shown.1 in
-    let text : take c.push_skipped.result c.push_skipped.new.page ≡ page ++ (70 ∷ 32 ∷ 49 ∷ 10 ∷ 83 ∷ 32 ∷ (shown.0 ++ 32 ∷ (front_text second ++ (nine_digits n ++ end_text b)))) =
-    c.push_skipped.ensures.text shown.0 line
+    let text : c.push_skipped.new.page ≡ page ++ (70 ∷ 32 ∷ 49 ∷ 10 ∷ 83 ∷ 32 ∷ (shown.0 ++ 32 ∷ (front_text second ++ (nine_digits n ++ end_text b)))) =
+    c.push_skipped.ensures shown.0 line
     ∙ ap (λ bytes. page ++ (70 ∷ 32 ∷ 49 ∷ 10 ∷ 83 ∷ 32 ∷ (shown.0 ++ 32 ∷ (bytes ++ (c.args.nine.now ++ end_text b))))) c.front_of-2.ensures
     ∙ ap (λ bytes. page ++ (70 ∷ 32 ∷ 49 ∷ 10 ∷ 83 ∷ 32 ∷ (shown.0 ++ 32 ∷ (front_text second ++ (bytes ++ end_text b))))) nine in
     (shown.2.0, shown.2.1, text ∙ ap (λ bytes. page ++ bytes) shown.2.2)

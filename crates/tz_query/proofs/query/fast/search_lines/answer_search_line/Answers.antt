@@ -1,5 +1,5 @@
 -- The fields are found once, in the segment that holds their window, or as it is answered around a jump.
-use Rattle.std.proofs.Common.{◌≡◌, ◌-ℤ◌, ◌≤ℤ◌, ◌<ℤ◌, take, inl, refl, ap, arith, rules}
+use Rattle.std.proofs.Common.{◌≡◌, ◌-ℤ◌, ◌≤ℤ◌, ◌<ℤ◌, inl, refl, arith, rules}
 use Rattle.std.proofs.lemmas.Int.{ints, to_z-of_z}
 use mir.Syntax.{w64}
 use mir.Val.{SFits}
@@ -30,9 +30,9 @@ returns-in-Some c =
     let low : kept.from ≤ℤ (reading f -ℤ greatest) = rw (to_z-of_z w64 c.window_of-low.result.0 low_fits, c.window_of-low.ensures.low, to_z-of_z w64 c.reading-reading.result reading_fits, c.reading-reading.ensures.value) at within.0 in
     let high : (reading f -ℤ least) <ℤ kept.until = rw (to_z-of_z w64 c.window_of-low.result.1 high_fits, c.window_of-low.ensures.high, to_z-of_z w64 c.reading-reading.result reading_fits, c.reading-reading.ensures.value) at within.1 in
     let shown = shown_once z c.args.zone.sound.leap_seconds_are f n line.1 c.in-Ok.ensures.ok least greatest kept.from kept.until t c.requires.order c.requires.offsets c.in-Some.ensures.tail low high in
-    let text = written_once (take c.push_once-end.result c.push_once-end.new.page) (take c.args.at c.args.page.now) c.front_of.result c.read_line.new.nine (ended shown.0) f n t c.push_once-end.ensures.text c.front_of.ensures line.2 shown.2 in
+    let text = written_once c.push_once.new.page c.args.page.now c.front_of.result c.read_line.new.nine (ended shown.0) f n t c.push_once.ensures c.front_of.ensures line.2 shown.2 in
     record {
-      some = (omega (arith, c.push_once-end.ensures.end), (line.3.0, shown.0, line.3.1, inl (Search (record f { nanoseconds = n }), line.3.2, shown.1), text));
+      some = (line.3.0, shown.0, line.3.1, inl (Search (record f { nanoseconds = n }), line.3.2, shown.1), text);
       none = tt;
       kept = c.tail_through.ensures.kept;
     }
@@ -62,8 +62,8 @@ returns-clause-some c =
     let f = c.in_ok-fields.fields in
     let line = c.in_ok-fields.ensures in
     let n = line.0 in
-    let found = c.in_ok-end.ensures.some n line.1 line.2 in
-    (c.in_ok-end.ensures.end, (line.3.0, found.0, line.3.1, inl (Search (record f { nanoseconds = n }), line.3.2, found.1), found.2))
+    let found = c.in_ok-answer_across_jump.ensures.some n line.1 line.2 in
+    (line.3.0, found.0, line.3.1, inl (Search (record f { nanoseconds = n }), line.3.2, found.1), found.2)
 
 pub returns-in_err-fields : goal.returns-in_err-fields
 returns-in_err-fields c = rw c.from_residual.ensures (record { some = tt; none = refl; kept = c.requires.kept })
@@ -71,5 +71,6 @@ returns-in_err-fields c = rw c.from_residual.ensures (record { some = tt; none =
 pub window_of-low-requires : goal.window_of-low-requires
 window_of-low-requires c = rw (to_z-of_z w64 c.reading-reading.result (record { sfits = c.reading-reading.type_inv })) c.reading-reading.ensures.bound
 
-pub returns-in_err-end : goal.returns-in_err-end
-returns-in_err-end c = rw c.from_residual-in_err-end.ensures (record { some = tt; none = ap (take c.args.at) c.in_err-end.ensures.none; kept = c.tail_through.ensures.kept })
+pub returns-in_err-answer_across_jump : goal.returns-in_err-answer_across_jump
+returns-in_err-answer_across_jump c =
+    rw c.from_residual-in_err-answer_across_jump.ensures (record { some = tt; none = c.in_err-answer_across_jump.ensures.none; kept = c.tail_through.ensures.kept })

@@ -1,5 +1,5 @@
 -- The line asks for an instant, and the clock shows it.
-use Rattle.std.proofs.Common.{◌≡◌, ◌+ℤ◌, [], ◌∷◌, ◌++◌, take, inl, refl, ap, ◌∙◌, rules}
+use Rattle.std.proofs.Common.{◌≡◌, ◌+ℤ◌, [], ◌∷◌, ◌++◌, inl, refl, ap, ◌∙◌, rules}
 use Rattle.std.proofs.lemmas.Int.{to_z-of_z}
 use mir.Syntax.{w32, w64}
 use mir.Val.{SFits}
@@ -25,12 +25,12 @@ returns-clause-some c =
     let civil : IsCivil (u +ℤ t.ut_offset) 0 f = rw (to_z-of_z w64 u fits, to_z-of_z w32 c.ut_offset.result offset, c.ut_offset.ensures) at c.in_ok-fields.ensures.fields in
     let reads : IsReading (u +ℤ t.ut_offset) = rw (to_z-of_z w64 u fits, to_z-of_z w32 c.ut_offset.result offset, c.ut_offset.ensures) at c.in_ok-fields.ensures.reading in
     let shown = shown_with z u line.0 t f line.1 clock civil reads in
-    let page = take c.args.at c.args.page.now in
-    let text : take c.push_line-end.result c.push_line-end.new.page ≡ page ++ (front_text f ++ (nine_digits line.0 ++ end_text t)) =
-    c.push_line-end.ensures.text
+    let page = c.args.page.now in
+    let text : c.push_line.new.self ≡ page ++ (front_text f ++ (nine_digits line.0 ++ end_text t)) =
+    c.push_line.ensures.text
     ∙ ap (λ bytes. page ++ (bytes ++ (c.read_line.new.nine ++ end_text t))) c.front_of.ensures
     ∙ ap (λ bytes. page ++ (front_text f ++ (bytes ++ end_text t))) line.2 in
-    (c.push_line-end.ensures.end, (front.0, shown.0 ∷ [], front.1, inl (Time u line.0, front.2, (shown.0, shown.1, refl)), text ∙ ap (λ bytes. page ++ bytes) shown.2))
+    (front.0, shown.0 ∷ [], front.1, inl (Time u line.0, front.2, (shown.0, shown.1, refl)), text ∙ ap (λ bytes. page ++ bytes) shown.2)
 
 pub returns-in_err-unix_time : goal.returns-in_err-unix_time
 returns-in_err-unix_time c = rw c.from_residual.ensures (record { some = tt; none = refl; kept = c.requires.kept })

@@ -2,7 +2,7 @@
 use Rattle.std.proofs.Common.{◌≡◌, pos, sym, arith}
 use Rattle.std.proofs.lemmas.Int.{ints}
 use Rattle.tz_query.proofs.PageLemmas.{front_bytes}
-use Rattle.tz_query.proofs.query.fast.page.front_of.Goals as goal
+use Rattle.tz_query.proofs.query.fast.front.front_of.Goals as goal
 
 pub returns : goal.returns
 returns c =

@@ -1,10 +1,9 @@
-//! A page of answers, which is written in pieces of fixed length.
+//! The front of a line: the date and the time, up to the nanoseconds.
 
-ghost use Rattle.std.specs.Prelude.{◌≡◌, ◌+◌, ◌≤◌, pos, ◌≤ℤ◌, ◌++◌, take};
+ghost use Rattle.std.specs.Prelude.{◌≡◌, pos, ◌≤ℤ◌};
 ghost use Rattle.tz_base.specs.Fields.{IsValid};
-ghost use Rattle.tz_query.specs.Pages.{end_text, front_text};
+ghost use Rattle.tz_query.specs.Pages.{front_text};
 
-use super::tail::Tail;
 use tz::inner::{Fields, ones, tens};
 
 /// The date and the time of fields up to the point before the nanoseconds, in a year of four digits.
@@ -40,23 +39,4 @@ pub fn front_of(fields: &Fields) -> [u8; 20]
         ones(second),
         b'.',
     ]
-}
-
-/// Writes a line onto the page, and gives its end.
-#[inline(always)]
-pub fn push_line(
-    page: &mut [u8; 2040],
-    at: usize,
-    front: &[u8; 20],
-    nine: &[u8; 9],
-    tail: &Tail,
-) -> usize
-    requires { at ≤ 1979 }
-    ensures text { take result page.new ≡ take at page.old ++ (front.now ++ (nine.now ++ end_text tail.now.local_time_type)) }
-    ensures end { result ≤ at + 61 }
-{
-    page[at..at + 20].copy_from_slice(front);
-    page[at + 20..at + 29].copy_from_slice(nine);
-    page[at + 29..at + 61].copy_from_slice(&tail.bytes());
-    at + 29 + tail.len()
 }

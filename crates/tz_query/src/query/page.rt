@@ -1,0 +1,101 @@
+//! A page of answers, onto which they are written in pieces of fixed length.
+
+ghost use Rattle.std.specs.Prelude.{◌≡◌, ◌+◌, ◌<◌, ◌≤◌, ℕ, List, [], ◌∷◌, ◌++◌, length, MatchBool};
+ghost use Rattle.tz_query.specs.Pages.{end_text, HasRoom};
+
+use super::fast::tail::Tail;
+use std::marker::Model;
+
+/// How many bytes a page holds.
+const SIZE: usize = 2040;
+
+/// The most bytes that the answer of an instant, or of fields that a clock shows twice or jumps over, has.
+const LONGEST: usize = 130;
+
+/// Text of at most 2040 bytes, which is made without an allocation.
+#[derive(Drop)]
+pub struct Page {
+    bytes: [u8; SIZE],
+    len: usize,
+}
+
+impl Model for Page {
+    ghost use Rattle.std.specs.Prelude.{◌≤◌, ℕ, List, take};
+
+    ghost Value = { List ℕ };
+
+    ghost view = { λ page. take page.len page.bytes };
+
+    ghost invariant = { λ page. page.len ≤ 2040 };
+}
+
+impl Page {
+    /// An empty page.
+    pub fn new() -> Page
+        ensures { result ≡ [] }
+    {
+        Page {
+            bytes: [0; SIZE],
+            len: 0,
+        }
+    }
+
+    /// Whether one more answer fits onto the page.
+    #[inline(always)]
+    pub fn has_room(&self) -> bool
+        ensures { MatchBool result (HasRoom self.now) (¬ HasRoom self.now) }
+    {
+        self.len <= SIZE - LONGEST
+    }
+
+    /// Clears the page.
+    #[inline(always)]
+    pub fn clear(&mut self)
+        ensures { self.new ≡ [] }
+    {
+        self.len = 0;
+    }
+
+    /// What stands on the page.
+    #[inline(always)]
+    pub fn as_bytes(&self) -> &[u8]
+        ensures { result.now ≡ self.now }
+    {
+        &self.bytes[..self.len]
+    }
+
+    /// Appends bytes.
+    #[inline(always)]
+    pub fn push(&mut self, text: &[u8])
+        requires { length self.old + length text.now ≤ 2040 }
+        ensures text { self.new ≡ self.old ++ text.now }
+        ensures len { length self.new ≡ length self.old + length text.now }
+    {
+        let end = self.len + text.len();
+        self.bytes[self.len..end].copy_from_slice(text);
+        self.len = end;
+    }
+
+    /// Appends the line of a date and time, nanoseconds and the end of lines of a type.
+    #[inline(always)]
+    pub fn push_line(&mut self, front: &[u8; 20], nine: &[u8; 9], tail: &Tail)
+        requires { length self.old + 61 ≤ 2040 }
+        ensures text { self.new ≡ self.old ++ (front.now ++ (nine.now ++ end_text tail.now.local_time_type)) }
+        ensures len { length self.new ≤ length self.old + 61 }
+    {
+        let at = self.len;
+        self.bytes[at..at + 20].copy_from_slice(front);
+        self.bytes[at + 20..at + 29].copy_from_slice(nine);
+        self.bytes[at + 29..at + 61].copy_from_slice(&tail.bytes());
+        self.len = at + 29 + tail.len();
+    }
+
+    /// Takes the last byte away.
+    #[inline(always)]
+    pub fn pop(&mut self)
+        ensures text { (text : List ℕ) (byte : ℕ) → self.old ≡ text ++ byte ∷ [] → self.new ≡ text }
+        ensures len { length self.new ≤ length self.old }
+    {
+        self.len = self.len.saturating_sub(1);
+    }
+}
