@@ -55,6 +55,11 @@ def readings_at_jumps(rng, count, jumps, first=1950, last=2037):
     return lines
 
 
+def weekly_readings(count, first):
+    """A meeting at nine in each week, from the first year on."""
+    return [f'F {day.year} {day.month} {day.day} 9 0 0 7' for day in (datetime.date(first, 1, 2) + datetime.timedelta(weeks=n) for n in range(count))]
+
+
 def jumps_of_file(path):
     """The instants of the second block's transitions, each with the offsets before and after it."""
     with open(path, 'rb') as file:
@@ -69,6 +74,11 @@ def jumps_of_file(path):
     offsets = [struct.unpack('>i', data[at + 6 * n:at + 6 * n + 4])[0] for n in range(types)]
     after = [offsets[index] for index in indexes]
     return list(zip(instants, [offsets[0]] + after[:-1], after))
+
+
+def last_year_of_file(path):
+    """The year of the last transition."""
+    return (EPOCH + datetime.timedelta(seconds=jumps_of_file(path)[-1][0])).year
 
 
 def jumps_of_string(string, first, last):
@@ -87,16 +97,31 @@ def jumps_of_string(string, first, last):
     return sorted(jumps)
 
 
-def file_of_many_transitions(path, count=100000):
-    """A TZif file with a jump of half an hour every 3000 seconds from 2016 on."""
+def write_file(path, times, indexes, types, names, footer):
+    """Writes a TZif file of version 2 with an empty first block. A type is its offset, whether it is daylight saving time, and where its name begins."""
     def header(transitions, types, names):
         return b'TZif2' + bytes(15) + struct.pack('>6I', 0, 0, 0, transitions, types, names)
 
-    times = [year_start(2016) + 3000 * n for n in range(count)]
     with open(path, 'wb') as file:
         file.write(header(0, 1, 4) + struct.pack('>iBB', 0, 0, 0) + b'UTC\0')
-        file.write(header(count, 2, 8) + struct.pack(f'>{count}q', *times) + bytes((n + 1) % 2 for n in range(count)))
-        file.write(struct.pack('>iBB', 3600, 0, 0) + struct.pack('>iBB', 5400, 1, 4) + b'ONE\0TWO\0' + b'\nONE-1\n')
+        file.write(header(len(times), len(types), len(names)) + struct.pack(f'>{len(times)}q', *times) + bytes(indexes))
+        file.write(b''.join(struct.pack('>iBB', *kind) for kind in types) + names + b'\n' + footer.encode() + b'\n')
+
+
+def file_of_many_transitions(path, count=100000):
+    """A TZif file with a jump of half an hour every 3000 seconds from 2016 on."""
+    times = [year_start(2016) + 3000 * n for n in range(count)]
+    write_file(path, times, ((n + 1) % 2 for n in range(count)), ((3600, 0, 0), (5400, 1, 4)), b'ONE\0TWO\0', 'ONE-1')
+
+
+def file_of_string(path, string):
+    """A TZif file with the jumps of a TZ string from 1899 to 2037, and the string behind them: for programs that read no strings."""
+    jumps = jumps_of_string(string, 1899, 2037)
+    standard = min(jumps[0][1:])
+    standard_name, daylight_name = re.match(r'([A-Z]+)-?\d+([A-Z]+)', string).groups()
+    names = f'{standard_name}\0{daylight_name}\0'.encode()
+    types = (standard, 0, 0), (standard + 3600, 1, len(standard_name) + 1)
+    write_file(path, [jump[0] for jump in jumps], [int(jump[2] > standard) for jump in jumps], types, names, string)
 
 
 def generator(seed):

@@ -1,157 +1,120 @@
-//! Makes one call of tz-rs many times: `tz_calls CALL TIMES SETTING`. It is bench/tz_calls/main.rt.txt over tz-rs, and prints the same sums.
+//! A driver over tz-rs 0.7.3 for bench/peers: its calls many times, and query lines read and printed by hand.
 
-use std::env;
-use std::error::Error;
-use tz::{DateTime, TimeZone, TimeZoneRef, TzError, UtcDateTime};
+#[path = "../../../peers/loops.rs"]
+mod loops;
 
-/// The next of a sequence of numbers in no order.
-fn next(state: u64) -> u64 {
-    state.wrapping_mul(6_364_136_223_846_793_005).wrapping_add(1_442_695_040_888_963_407)
+use loops::{Entry, Local, Shown, Zone, refuse};
+use std::time::Duration;
+use tz::datetime::FoundDateTimeKind;
+use tz::timezone::TimeZoneSettings;
+use tz::{DateTime, TimeZone, UtcDateTime};
+
+struct Made(TimeZone);
+
+fn shown(date_time: &DateTime) -> Shown {
+    let local = Local {
+        year: date_time.year(),
+        month: date_time.month(),
+        day: date_time.month_day(),
+        hour: date_time.hour(),
+        minute: date_time.minute(),
+        second: date_time.second(),
+    };
+    Shown { local, offset: date_time.local_time_type().ut_offset() }
 }
 
-/// An instant of the years 1901 to 2038.
-fn instant_of(state: u64) -> i64 {
-    (state >> 32) as i64 - 2_147_483_648
+fn name_of(date_time: &DateTime) -> &str {
+    let name = date_time.local_time_type().time_zone_designation();
+    if name.is_empty() { "-" } else { name }
 }
 
-/// A local time of the years 1950 to 2037.
-#[derive(Clone, Copy)]
-struct Local {
-    year: i32,
-    month: u8,
-    month_day: u8,
-    hour: u8,
-    minute: u8,
-    second: u8,
-}
+impl Zone for Made {
+    type Held = DateTime;
+    type Moment = UtcDateTime;
 
-fn local_of(state: u64) -> Local {
-    let [_, _, second, minute, hour, month_day, month, year] = state.to_le_bytes();
-    Local {
-        year: 1950 + i32::from(year % 88),
-        month: 1 + month % 12,
-        month_day: 1 + month_day % 28,
-        hour: hour % 24,
-        minute: minute % 60,
-        second: second % 60,
+    fn new(option: &str, argument: &str) -> Self {
+        Made(match option {
+            "-o" => TimeZone::fixed(argument.parse().unwrap()).unwrap(),
+            "-f" => TimeZone::from_tz_data(&std::fs::read(argument).unwrap()).unwrap_or_else(|_| refuse("not this file")),
+            _ => TimeZone::from_posix_tz(argument).unwrap(),
+        })
+    }
+
+    fn shown(&self, instant: i64, nanoseconds: u32) -> Shown {
+        shown(&DateTime::from_timespec(instant, nanoseconds, self.0.as_ref()).unwrap())
+    }
+
+    fn named(&self, instant: i64, nanoseconds: u32, take: impl FnOnce(Option<(Shown, &str)>)) {
+        let date_time = DateTime::from_timespec(instant, nanoseconds, self.0.as_ref()).ok();
+        take(date_time.as_ref().map(|date_time| (shown(date_time), name_of(date_time))));
+    }
+
+    fn found(&self, local: Local, nanoseconds: u32, mut take: impl FnMut(usize, Option<Entry<'_>>)) {
+        let Local { year, month, day, hour, minute, second } = local;
+        let found = DateTime::find(year, month, day, hour, minute, second, nanoseconds, self.0.as_ref()).unwrap().into_inner();
+        take(found.len(), None);
+        for entry in &found {
+            let entry = match entry {
+                FoundDateTimeKind::Normal(date_time) => Entry::Shown(shown(date_time), name_of(date_time)),
+                FoundDateTimeKind::Skipped { before_transition: before, after_transition: after } => {
+                    Entry::Skipped(shown(before), name_of(before), shown(after), name_of(after))
+                }
+            };
+            take(found.len(), Some(entry));
+        }
+    }
+
+    fn first(&self, local: Local) -> i64 {
+        let Local { year, month, day, hour, minute, second } = local;
+        let found = DateTime::find(year, month, day, hour, minute, second, 7, self.0.as_ref()).unwrap();
+        found.earliest().map_or(1, |first| first.unix_time())
+    }
+
+    fn first_n(&self, local: Local) -> i64 {
+        let Local { year, month, day, hour, minute, second } = local;
+        let mut slots = [None; 2];
+        let found = DateTime::find_n(&mut slots, year, month, day, hour, minute, second, 7, self.0.as_ref()).unwrap();
+        found.earliest().map_or(1, |first| first.unix_time())
+    }
+
+    fn held(&self, instant: i64) -> DateTime {
+        DateTime::from_timespec(instant, 7, self.0.as_ref()).unwrap()
+    }
+
+    fn print(&self, held: &DateTime) -> String {
+        held.to_string()
+    }
+
+    fn utc(instant: i64) -> Local {
+        let shown = UtcDateTime::from_timespec(instant, 7).unwrap();
+        Local { year: shown.year(), month: shown.month(), day: shown.month_day(), hour: shown.hour(), minute: shown.minute(), second: shown.second() }
+    }
+
+    fn utc_of(local: Local) -> i64 {
+        UtcDateTime::new(local.year, local.month, local.day, local.hour, local.minute, local.second, 7).unwrap().unix_time()
+    }
+
+    fn moment(instant: i64) -> UtcDateTime {
+        UtcDateTime::from_timespec(instant, 7).unwrap()
+    }
+
+    fn add(moment: UtcDateTime, seconds: u64) -> i64 {
+        moment.checked_add(Duration::new(seconds, 7)).unwrap().unix_time()
+    }
+
+    fn read(bytes: &[u8]) -> bool {
+        TimeZone::from_tz_data(bytes).is_ok()
+    }
+
+    fn set(string: &str) -> bool {
+        TimeZone::from_posix_tz(string).is_ok()
+    }
+
+    fn parse(string: &str) -> bool {
+        TimeZoneSettings::new(&[], |path| Ok(std::fs::read(path)?)).parse_posix_tz(string).is_ok()
     }
 }
 
-/// Makes an instant, and no call.
-fn make_instant(state: u64) -> u64 {
-    instant_of(state).unsigned_abs()
-}
-
-/// Makes a local time, and no call.
-fn make_local(state: u64) -> u64 {
-    let local = local_of(state);
-    let small = u64::from(local.month) + u64::from(local.month_day) + u64::from(local.hour);
-    let whole = small + u64::from(local.minute) + u64::from(local.second);
-    whole.wrapping_add(u64::from(local.year.unsigned_abs()))
-}
-
-fn from_timespec(state: u64, zone: TimeZoneRef<'_>) -> Result<u64, TzError> {
-    let shown = DateTime::from_timespec(instant_of(state), 7, zone)?;
-    let small = u64::from(shown.month()) + u64::from(shown.month_day()) + u64::from(shown.hour());
-    let whole = small + u64::from(shown.minute()) + u64::from(shown.second());
-    Ok(whole.wrapping_add(u64::from(shown.year().unsigned_abs())))
-}
-
-fn utc_from_timespec(state: u64) -> Result<u64, TzError> {
-    let shown = UtcDateTime::from_timespec(instant_of(state), 7)?;
-    let small = u64::from(shown.month()) + u64::from(shown.month_day()) + u64::from(shown.hour());
-    let whole = small + u64::from(shown.minute()) + u64::from(shown.second());
-    Ok(whole.wrapping_add(u64::from(shown.year().unsigned_abs())))
-}
-
-/// The Unix time of what was found first.
-fn sum_of_found(first: Option<DateTime>) -> u64 {
-    first.map_or(1, |first| first.unix_time().unsigned_abs())
-}
-
-fn find(state: u64, zone: TimeZoneRef<'_>) -> Result<u64, TzError> {
-    let local = local_of(state);
-    let found = DateTime::find(local.year, local.month, local.month_day, local.hour, local.minute, local.second, 7, zone)?;
-    Ok(sum_of_found(found.earliest()))
-}
-
-fn find_n(state: u64, zone: TimeZoneRef<'_>) -> Result<u64, TzError> {
-    let local = local_of(state);
-    let mut slots = [None; 2];
-    let found = DateTime::find_n(&mut slots, local.year, local.month, local.month_day, local.hour, local.minute, local.second, 7, zone)?;
-    Ok(sum_of_found(found.earliest()))
-}
-
-/// The date times that are printed in turn, so that none is made anew for its text.
-fn date_times(zone: TimeZoneRef<'_>) -> Result<Vec<DateTime>, TzError> {
-    let mut date_times = Vec::new();
-    let mut state = 7;
-    for _ in 0..256 {
-        state = next(state);
-        date_times.push(DateTime::from_timespec(instant_of(state), 7, zone)?);
-    }
-    Ok(date_times)
-}
-
-fn display(state: u64, date_times: &[DateTime]) -> u64 {
-    let [.., last] = state.to_le_bytes();
-    match date_times.get(usize::from(last)) {
-        Some(date_time) => format!("{date_time}").len() as u64,
-        None => 0,
-    }
-}
-
-/// What the program makes.
-#[derive(Clone, Copy)]
-enum Call {
-    Instant,
-    Local,
-    FromTimespec,
-    UtcFromTimespec,
-    Find,
-    FindN,
-    Display,
-}
-
-fn call_of(name: &str) -> Option<Call> {
-    match name {
-        "instant" => Some(Call::Instant),
-        "local" => Some(Call::Local),
-        "from_timespec" => Some(Call::FromTimespec),
-        "utc_from_timespec" => Some(Call::UtcFromTimespec),
-        "find" => Some(Call::Find),
-        "find_n" => Some(Call::FindN),
-        "display" => Some(Call::Display),
-        _ => None,
-    }
-}
-
-/// Makes a call this many times, and adds up what it returned.
-fn sum_of_calls(call: Call, times: u64, zone: TimeZoneRef<'_>) -> Result<u64, TzError> {
-    let date_times = date_times(zone)?;
-    let (mut state, mut sum) = (7, 0u64);
-    for _ in 0..times {
-        state = next(state);
-        let more = match call {
-            Call::Instant => make_instant(state),
-            Call::Local => make_local(state),
-            Call::FromTimespec => from_timespec(state, zone)?,
-            Call::UtcFromTimespec => utc_from_timespec(state)?,
-            Call::Find => find(state, zone)?,
-            Call::FindN => find_n(state, zone)?,
-            Call::Display => display(state, &date_times),
-        };
-        sum = sum.wrapping_add(more);
-    }
-    Ok(sum)
-}
-
-fn main() -> Result<(), Box<dyn Error>> {
-    let arguments: Vec<String> = env::args().skip(1).collect();
-    let [name, times, setting] = arguments.as_slice() else { return Err("usage: tz_calls CALL TIMES SETTING".into()) };
-    let call = call_of(name).ok_or("no such call")?;
-    let times = times.parse()?;
-    let zone = TimeZone::from_posix_tz(setting)?;
-    println!("{name} {}", sum_of_calls(call, times, zone.as_ref())?);
-    Ok(())
+fn main() {
+    loops::main::<Made>();
 }

@@ -1,0 +1,48 @@
+"""Figures in a file: of each section's rows, by program."""
+import json
+import os
+
+# A count is the same at each run; a build of other compilers or another C library may differ by a few in a hundred.
+MOST = 1.1
+
+
+class Figures:
+    """The sections of a file, which may be none yet."""
+
+    def __init__(self, path):
+        self.path = path
+        self.sections = {}
+        if os.path.exists(path):
+            with open(path) as file:
+                self.sections = json.load(file)
+
+    def rows(self, section):
+        """A section's rows."""
+        return self.sections.get(section, {})
+
+    def put(self, section, row, program, figure):
+        """Sets a figure; none takes it away."""
+        rows = self.sections.setdefault(section, {})
+        figures = rows.setdefault(row, {})
+        figures[program] = figure
+        if figure is None:
+            del figures[program]
+        if not figures:
+            del rows[row]
+
+    def write(self):
+        """Writes the file, a line for each row."""
+        sections = []
+        for section, rows in self.sections.items():
+            lines = ',\n'.join(f'  {json.dumps(name)}: {json.dumps(figures)}' for name, figures in rows.items())
+            sections.append(f' {json.dumps(section)}: {{\n{lines}\n }}')
+        with open(self.path, 'w') as file:
+            file.write('{\n' + ',\n'.join(sections) + '\n}\n')
+
+    def against(self, section, row, figure):
+        """What is behind a figure of tz: the stored one and the ratio; and whether that is too much."""
+        stored = self.rows(section).get(row, {}).get('tz')
+        if stored is None:
+            return '   NONE STORED', True
+        is_above = figure > MOST * stored
+        return f'   stored {stored:6} x {figure / stored:.2f}' + ('   ABOVE' if is_above else ''), is_above

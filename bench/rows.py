@@ -1,0 +1,171 @@
+"""The rows of the benchmarks: query lines over a zone, and calls of the library over a zone, the same ones for each seed."""
+import calendar
+import os
+import re
+from typing import NamedTuple
+
+import lines
+
+ZONEINFO = '/usr/share/zoneinfo/'
+STRING = 'CET-1CEST,M3.5.0,M10.5.0/3'
+FIRST, LAST = 1950, 2037
+SEED = 7
+
+
+# The instructions that some calls are meant to take at most.
+GOALS = {
+    '`DateTime::from_timespec`, random, Paris': 180, '`DateTime::from_timespec`, random, TZ string': 185,
+    '`DateTime::find`, random, Paris': 405, '`DateTime::find`, random, TZ string': 385,
+    '`DateTime::find_n`, random, Paris': 225, '`DateTime::find_n`, random, TZ string': 205,
+}
+
+
+class Zone(NamedTuple):
+    """A zone: tzq's arguments, the TZif file for programs that read no TZ strings, the jumps of its clock, and the year before which its table ends."""
+    name: str
+    arguments: list
+    file: str
+    jumps: list
+    end: int = 9999
+
+
+class Lines(NamedTuple):
+    """A row of query lines."""
+    name: str
+    zone: Zone
+    queries: list
+
+
+class Calls(NamedTuple):
+    """A row of calls. Its words are instants in seconds, or local times as 20001029023000."""
+    name: str
+    call: str
+    zone: Zone
+    words: list
+    is_timed: bool
+    is_long: bool
+
+
+class Zones:
+    """The zones, the files of two of which are made in a folder."""
+
+    def __init__(self, folder):
+        many, string = os.path.join(folder, 'many_transitions'), os.path.join(folder, 'string')
+        lines.file_of_many_transitions(many)
+        lines.file_of_string(string, STRING)
+        paris, leaps = ZONEINFO + 'Europe/Paris', ZONEINFO + 'right/Europe/Paris'
+        rule = lines.jumps_of_string(STRING, LAST + 1, 3000)
+        self.fixed = Zone('fixed offset', ['-o', '3600'], '', [])
+        self.paris = Zone('Paris', ['-f', paris], paris, lines.jumps_of_file(paris) + rule, LAST)
+        self.string = Zone('TZ string', ['-z', STRING], string, lines.jumps_of_string(STRING, 1900, 3000))
+        self.many = Zone('100000 transitions', ['-f', many], many, lines.jumps_of_file(many))
+        self.leaps = Zone('leap seconds', ['-f', leaps], leaps, [], lines.last_year_of_file(leaps))
+
+
+def query_lines(zones, count, seed=SEED):
+    """The rows of lines."""
+    fixed, paris, text, many, leaps = zones.fixed, zones.paris, zones.string, zones.many, zones.leaps
+    rng = lines.generator(seed)
+    yield Lines('T, fixed offset', fixed, lines.log_instants(rng, count))
+    yield Lines('T, nearly sorted, Paris', paris, lines.log_instants(rng, count))
+    yield Lines('T, random, Paris', paris, lines.random_instants(rng, count))
+    yield Lines('T, past the table, Paris', paris, lines.random_instants(rng, count, 2100, 3000))
+    yield Lines('T, nearly sorted, TZ string', text, lines.log_instants(rng, count))
+    yield Lines('T, random, TZ string', text, lines.random_instants(rng, count))
+    yield Lines('T, random, 100000 transitions', many, lines.random_instants(rng, count, 2016, 2024))
+    yield Lines('T, random, leap seconds', leaps, lines.random_instants(rng, count))
+    yield Lines('F, fixed offset', fixed, lines.random_readings(rng, count))
+    yield Lines('F, random, Paris', paris, lines.random_readings(rng, count))
+    yield Lines('F, past the table, Paris', paris, lines.random_readings(rng, count, 2100, 3000))
+    yield Lines('F, at jumps, Paris', paris, lines.readings_at_jumps(rng, count, lines.jumps_of_file(paris.file)))
+    yield Lines('F, random, TZ string', text, lines.random_readings(rng, count))
+    yield Lines('F, at jumps, TZ string', text, lines.readings_at_jumps(rng, count, lines.jumps_of_string(STRING, FIRST, LAST)))
+    yield Lines('F, random, 100000 transitions', many, lines.random_readings(rng, count, 2016, 2024))
+    yield Lines('F, at jumps, 100000 transitions', many, lines.readings_at_jumps(rng, count, many.jumps, 2016, 2024))
+    yield Lines('F, random, leap seconds', leaps, lines.random_readings(rng, count))
+
+
+# The rows of lines that are timed too.
+TIMED_LINES = ('T, nearly sorted, Paris', 'T, random, Paris', 'F, random, Paris')
+STARTS = ('to start, fixed offset', 'fixed'), ('to start, Paris', 'paris'), ('to start, TZ string', 'string')
+
+
+def word_of(line):
+    """The instant of a T line, or the local time of an F line."""
+    parts = line.split()
+    return int(parts[1]) if parts[0] == 'T' else int(''.join(f'{int(part):02}' for part in parts[1:7]))
+
+
+def reading_of(word):
+    """The seconds from 1970 that a local time's clock shows."""
+    text = f'{word:014}'
+    return calendar.timegm((int(text[:-10]), *(int(text[at:at + 2]) for at in range(len(text) - 10, len(text), 2)), 0, 0, 0))
+
+
+def words(how, zone, count, seed):
+    """The words of a row: the same for two calls of the same kind over the same zone."""
+    rng = lines.generator(f'{seed} {how} {zone.name}')
+    # Within the tables, where these have no rule behind them.
+    within = {'100000 transitions': (2016, 2024), 'leap seconds': (FIRST, zone.end - 1)}.get(zone.name)
+    rows = {
+        'instants': lambda: lines.random_instants(rng, count, *(within or (1902, LAST))),
+        'instants of local years': lambda: lines.random_instants(rng, count, FIRST, LAST),
+        'sorted instants': lambda: lines.log_instants(rng, count),
+        'far instants': lambda: lines.random_instants(rng, count, 2100, 3000),
+        'local times': lambda: lines.random_readings(rng, count, *(within or (FIRST, LAST))),
+        'far local times': lambda: lines.random_readings(rng, count, 2100, 3000),
+        'local times at jumps': lambda: lines.readings_at_jumps(rng, count, zone.jumps, *(within or (FIRST, LAST))),
+        'weekly local times': lambda: lines.weekly_readings(count, FIRST),
+    }
+    return [word_of(line) for line in rows[how]()]
+
+
+def calls(zones, count, seed=SEED):
+    """The rows of calls."""
+    fixed, paris, text, many, leaps = zones.fixed, zones.paris, zones.string, zones.many, zones.leaps
+
+    def row(name, call, zone, how, timed=False, long=False):
+        return Calls(name, call, zone, words(how, zone, count, seed), timed, long)
+
+    yield row('`DateTime::from_timespec`, fixed offset', 'from_timespec', fixed, 'instants')
+    yield row('`DateTime::from_timespec`, random, Paris', 'from_timespec', paris, 'instants', timed=True)
+    yield row('`DateTime::from_timespec`, sorted, Paris', 'from_timespec', paris, 'sorted instants', timed=True)
+    yield row('`DateTime::from_timespec`, past the table, Paris', 'from_timespec', paris, 'far instants')
+    yield row('`DateTime::from_timespec`, random, TZ string', 'from_timespec', text, 'instants', timed=True)
+    yield row('`DateTime::from_timespec`, sorted, TZ string', 'from_timespec', text, 'sorted instants')
+    yield row('`DateTime::from_timespec`, 100000 transitions', 'from_timespec', many, 'instants')
+    yield row('`DateTime::from_timespec`, leap seconds', 'from_timespec', leaps, 'instants')
+    for call in ('find', 'find_n'):
+        shown = f'`DateTime::{call}`'
+        yield row(f'{shown}, fixed offset', call, fixed, 'local times')
+        yield row(f'{shown}, random, Paris', call, paris, 'local times', timed=True)
+        yield row(f'{shown}, at jumps, Paris', call, paris, 'local times at jumps', timed=call == 'find_n')
+        yield row(f'{shown}, past the table, Paris', call, paris, 'far local times')
+        yield row(f'{shown}, random, TZ string', call, text, 'local times', timed=call == 'find_n')
+        yield row(f'{shown}, at jumps, TZ string', call, text, 'local times at jumps')
+        yield row(f'{shown}, random, 100000 transitions', call, many, 'local times', timed=call == 'find_n')
+    yield row('`DateTime::find`, weekly, Paris', 'find', paris, 'weekly local times')
+    yield row('`DateTime::find`, at jumps, 100000 transitions', 'find', many, 'local times at jumps')
+    yield row('`DateTime::find`, leap seconds', 'find', leaps, 'local times')
+    yield row('`Display` into a new string, Paris', 'display', paris, 'instants of local years', timed=True)
+    yield row('`UtcDateTime::from_timespec`', 'utc_from_timespec', fixed, 'instants')
+    yield row('`UtcDateTime::new` and `unix_time`', 'utc_new', fixed, 'local times')
+    yield row('`UtcDateTime::checked_add` and `unix_time`', 'utc_add', fixed, 'instants')
+    yield row('`TimeZone::from_tz_data`, Paris', 'from_tz_data', paris, 'instants', long=True)
+    yield row('`TimeZone::from_posix_tz`, TZ string', 'from_posix_tz', text, 'instants', long=True)
+    yield row('`TimeZoneSettings` without directories, TZ string', 'parse_string', text, 'instants', long=True)
+
+
+def loop_of(call):
+    """The loop around a call, which is taken off its figure: it reads local times or instants."""
+    return 'local' if call in ('find', 'find_n', 'utc_new') else 'instant'
+
+
+def search_of(name):
+    """The row of `find` with the same local times as this one of `find_n`."""
+    return name.replace('`DateTime::find_n`', '`DateTime::find`')
+
+
+def is_wanted(name, only):
+    """Whether a row's name has all these words."""
+    return set(only.split()) <= set(re.findall(r'\w+', name))
