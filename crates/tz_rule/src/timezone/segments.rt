@@ -4,14 +4,15 @@
 //! ends of their years, and mostly elsewhere. Where they do not, as near some New Years, those of five years do: the last one up to the
 //! instant can be that of two years before, and the next one that of two years after.
 
-ghost use Rattle.std.specs.Prelude.{◌≡◌, ◌≢◌, ◌⊎◌, ℤ, pos, negsuc, ◌+ℤ◌, ◌*ℤ◌, ◌≤ℤ◌, ◌<ℤ◌, IfOk, IfErr, IfSome, MatchOption};
+ghost use Rattle.std.specs.Prelude.{◌≡◌, ◌≢◌, ◌⊎◌, ℤ, pos, negsuc, ◌+ℤ◌, ◌*ℤ◌, ◌≤ℤ◌, ◌<ℤ◌, IfOk, IfErr, IfSome, MatchBool, MatchOption};
 ghost use Rattle.tz_base.specs.Days.{first_day};
-ghost use Rattle.tz_rule.specs.Alternate.{turn_of, IsUtcYear, IsRuleYear, IsInRuleYears, IsAlternateType};
+ghost use Rattle.tz_rule.specs.Alternate.{start_of, end_of, turn_of, IsUtcYear, IsRuleYear, IsInRuleYears, IsAlternateType};
 ghost use Rattle.tz_rule.specs.LocalTimeType.{LocalTimeType};
 ghost use Rattle.tz_rule.specs.Rule.{IsRuleType};
 ghost use Rattle.tz_rule.specs.RuleSegments.{IsRuleChange, IsRuleSegment, IsSpanOf, IsNotInside};
 ghost use Rattle.tz_rule.specs.InnerTurns.{HasInnerTurns, IsLikelyYear};
 ghost use Rattle.tz_rule.specs.Stretches.{type_by, IsStretchYear, moved_back};
+ghost use Rattle.tz_rule.specs.Years.{EndsNextYear};
 ghost use Rattle.tz_rule.specs.declared.timezone.rule.TransitionRule.TheVariants.{Alternate};
 
 use super::daylight::{FIRST_YEAR, LAST_YEAR, rule_year};
@@ -115,17 +116,15 @@ impl AlternateTime {
         start_of_year + self.turn_in_kind(is_end, kind)
     }
 
-    /// The span of the moved year or its neighbours that an instant near the year chooses.
-    ///
-    /// A year's start comes first, and its end second, or the other way round where each start has the end of the next year.
+    /// The span of the moved year or its neighbours that an instant near the year chooses, where a year's end comes first, or its start.
     #[inline(always)]
-    fn span_of_years(&self, unix_time: i64, years: u64) -> Stretch
-        requires { IsStretchYear (moved_back years) }
+    fn span_by_order(&self, end_is_first: bool, unix_time: i64, years: u64) -> Stretch
+        requires order { MatchBool end_is_first (EndsNextYear (start_of self.now) (end_of self.now)) (¬ EndsNextYear (start_of self.now) (end_of self.now)) }
+        requires year { IsStretchYear (moved_back years) }
         ensures of { IsSpanOf self.now result }
         ensures within { HasInnerTurns self.now → IsLikelyYear unix_time (moved_back years) → (result.from ≤ℤ unix_time) × (unix_time <ℤ result.until) }
     {
         self.parts_are_sound();
-        let end_is_first = self.ends_next_year();
         let first = self.turn_in_moved(end_is_first, years);
         if unix_time < first {
             return Stretch {
@@ -146,6 +145,22 @@ impl AlternateTime {
             from: second,
             until: self.turn_in_moved(end_is_first, years + 1),
             is_daylight: end_is_first,
+        }
+    }
+
+    /// The span of the moved year or its neighbours that an instant near the year chooses.
+    ///
+    /// Each order has code of its own, which costs fewer steps than tables that are chosen by the order.
+    #[inline(always)]
+    fn span_of_years(&self, unix_time: i64, years: u64) -> Stretch
+        requires { IsStretchYear (moved_back years) }
+        ensures of { IsSpanOf self.now result }
+        ensures within { HasInnerTurns self.now → IsLikelyYear unix_time (moved_back years) → (result.from ≤ℤ unix_time) × (unix_time <ℤ result.until) }
+    {
+        if self.ends_next_year() {
+            self.span_by_order(true, unix_time, years)
+        } else {
+            self.span_by_order(false, unix_time, years)
         }
     }
 
