@@ -1,12 +1,10 @@
 -- The window of a reading holds all that the clock can show, and no more transitions take effect there than a rising list of them has.
-use Rattle.std.proofs.Common.{◌≡◌, ℕ, zero, suc, ◌+◌, ◌-◌, ◌<◌, ◌≤◌, ◌⊎◌, ◌∙◌, inl, inr, refl, sym, ap, subst, arith, ℤ, ◌-ℤ◌, ◌≤ℤ◌, true, false, cond, List, [], ◌∷◌, length, get_or, Option}
-use Rattle.std.specs.Prelude.{int_lt}
+use Rattle.std.proofs.Common.{◌≡◌, ℕ, zero, suc, ◌+◌, ◌-◌, ◌<◌, ◌≤◌, ◌∙◌, inl, inr, refl, sym, ap, subst, arith, ℤ, ◌-ℤ◌, ◌≤ℤ◌, List, [], ◌∷◌, length, get_or, Option}
 use Rattle.std.specs.Int.{int_min, int_max}
 use Rattle.std.specs.List.{All, Contains, range_with_len}
 use Rattle.std.proofs.lemmas.Int.{ints}
 use Rattle.std.proofs.lemmas.Bool.{cases_lt}
 use Rattle.std.proofs.lemmas.List.{get_or_default}
-use Rattle.std.proofs.lemmas.List.Elements.{All-weaker}
 use Rattle.std.proofs.lemmas.List.FromFn.{length-range_with_len, get_or-range_with_len}
 use Rattle.tz_rule.specs.LocalTimeType.{LocalTimeType}
 use Rattle.tz_rule.specs.Rule.{IsRuleType}
@@ -14,7 +12,9 @@ use Rattle.tz_rule.specs.declared.timezone.rule.TransitionRule.{TransitionRule}
 use Rattle.tz_rule.specs.declared.timezone.rule.TransitionRule.TheVariants.{Fixed, Alternate}
 use Rattle.tz_zone.specs.Table.{Zone}
 use Rattle.tz.specs.Reached.{AreOffsetsOf}
-use Rattle.tz.specs.Windows.{IsOffsetOfRule, IsOffset, IsLeastOffset, IsGreatestOffset, IsWindow, TakesEffectIn, AreRising, AtMostTakeEffectIn, AtMostTakeEffectAround}
+use Rattle.tz_zone.specs.Offsets.{IsOffsetOfRule, IsOffset, IsLeastOffset, IsGreatestOffset}
+use Rattle.tz_zone.proofs.OffsetLemmas.{int_min_either, int_max_either}
+use Rattle.tz.specs.Windows.{IsWindow, TakesEffectIn, AreRising, AtMostTakeEffectIn, AtMostTakeEffectAround}
 use Rattle.tz.proofs.ClockTypes.{fixed_type, alternate_type, offsets_from_types}
 
 -- the offset of what a rule answers is one of its offsets
@@ -57,13 +57,6 @@ window_unique types extra_rule r low high low' high' window window' = (
   omega (arith, ints, window.first.1 (r -ℤ low') window'.first.0, window'.first.1 (r -ℤ low) window.first.0),
   omega (arith, ints, window.last.1 (r -ℤ high') window'.last.0, window'.last.1 (r -ℤ high) window.last.0),
 )
-
--- the less of two numbers is one of them, and so is the greater
-pub int_min_either : (x y : ℤ) → (int_min x y ≡ x) ⊎ (int_min x y ≡ y)
-int_min_either x y = elim (int_lt y x) as (λ t. (cond t y x ≡ x) ⊎ (cond t y x ≡ y)) [ true ↦ inr refl | false ↦ inl refl ]
-
-pub int_max_either : (x y : ℤ) → (int_max x y ≡ x) ⊎ (int_max x y ≡ y)
-int_max_either x y = elim (int_lt y x) as (λ t. (cond t x y ≡ x) ⊎ (cond t x y ≡ y)) [ true ↦ inl refl | false ↦ inr refl ]
 
 -- what is above both is above the greater one, and what is below both is below the less
 pub least_above : (x y r u : ℤ) → r ≡ int_max x y → x ≤ℤ u → y ≤ℤ u → r ≤ℤ u

@@ -7,8 +7,8 @@ ghost use Rattle.tz_zone.specs.ZoneRef.{zone_of};
 ghost use Rattle.tz.specs.Reached.{AreOffsetsOf};
 ghost use Rattle.tz.specs.PrintedText.{two_digits, nine_digits, two_digits_or_more, date_text, time_text, seconds_text, duration_text, offset_text, printed_text};
 
+use crate::datetime::DateTime;
 pub use crate::datetime::find::find_fields;
-use crate::datetime::{DateTime, search};
 use std::marker::Model;
 use std::str;
 pub use tz_base::calendar::{Fields, is_reading};
@@ -20,7 +20,7 @@ pub fn offsets(zone: TimeZoneRef<'_>) -> (i32, i32)
     ensures order { result.0 ≤ℤ result.1 }
     ensures between { AreOffsetsOf (zone_of zone.entry) result.0 result.1 }
 {
-    search::offsets(zone.local_time_types(), zone.extra_rule())
+    tz_zone::inner::offsets(&zone)
 }
 
 /// Text of at most 128 bytes, which is made without an allocation.

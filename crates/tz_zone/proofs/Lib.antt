@@ -4,6 +4,7 @@ pub mod LeapTimes
 pub mod LeapMoments
 pub mod Expiries
 pub mod LeapSpans
+pub mod OffsetLemmas
 pub mod RisingTimes
 pub mod Halving
 pub mod LeapAnswers

@@ -7,6 +7,7 @@ pub mod LeapTime
 pub mod Looks
 pub mod Clock
 pub mod ValidZone
+pub mod Offsets
 pub mod ZoneRef
 pub mod ZoneSeen
 pub mod Segments

@@ -3,7 +3,9 @@
 ghost use Rattle.std.specs.Prelude.{◌≡◌, ℕ, ◌+◌, true, false, ◌<◌, ◌≤◌, ◌↔◌, ◌+ℤ◌, ◌≤ℤ◌, ◌<ℤ◌, length, slice_get, ℤ, IsTrue, IfOk, IfErr, IfSome, IfNone, MatchBool, MatchOption, Some, ◌-ℤ◌};
 ghost use Rattle.tz_zone.specs.Table.{LeapSecond};
 ghost use Rattle.tz_zone.specs.LeapTime.{IsInstant, IsStart, correction_at_start as correction_of_start, correction_before as correction_at_place, IsReached, IsBeforeStart, IsFirstBegun, IsLeapTimeRefused, IsLeapTime, IsMomentOf, IsEffect, IsEffectRefused};
+ghost use Rattle.tz_zone.specs.Offsets.{AreEndOffsets};
 ghost use Rattle.tz_zone.specs.ValidZone.{AreLeapSeconds, HasBegunAt, ExpiresAt, IsPlainTable};
+ghost use Rattle.tz_zone.specs.ZoneRef.{zone_of};
 
 mod changes;
 mod clock_segment;
@@ -20,8 +22,8 @@ mod span;
 mod transitions;
 
 use crate::partition::{Places, partition_point};
-use crate::timezone::LeapSecond;
 pub use crate::timezone::file::read_to_end;
+use crate::timezone::{LeapSecond, TimeZoneRef};
 pub use changes::{following, preceding};
 pub use clock_segment::ClockSegment;
 pub use clock_segments::{clock_segment_after, clock_segment_at};
@@ -33,6 +35,13 @@ pub use segment::Segment;
 pub use segments::{segment_at, segment_following};
 pub use transitions::{Counted, Transitions, Uncounted};
 use tz_base::error::TzError;
+
+/// The least and the greatest offset of a zone's types and of its rule.
+pub fn offsets(zone: &TimeZoneRef<'_>) -> (i32, i32)
+    ensures { AreEndOffsets (zone_of zone.entry.now) result.0 result.1 }
+{
+    zone.offsets()
+}
 
 /// From the start of the table up to this instant each one has a leap time, whatever the leap seconds.
 const SURELY_ANSWERED: i64 = 80_000_000_000_000_000;

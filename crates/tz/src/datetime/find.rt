@@ -16,7 +16,7 @@ use super::{DateTime, FoundDateTimeKind};
 use std::alloc::Allocator;
 use tz_base::calendar::Fields;
 use tz_base::error::TzError;
-use tz_zone::inner::{Counted, OtherParts, Transitions, Uncounted, other_parts};
+use tz_zone::inner::{Counted, OtherParts, Transitions, Uncounted, offsets, other_parts};
 use tz_zone::timezone::TimeZoneRef;
 
 /// What [`DateTime::find`] finds of the fields.
@@ -33,7 +33,9 @@ pub fn find_fields<A: Allocator + Copy>(
     fields.check()?;
     let mut list = FoundDateTimeList::new_in(alloc);
     let mut view = Uncounted::new(time_zone_ref.transitions());
-    search(&mut list, fields, &mut view, other_parts(&time_zone_ref))?;
+    let (least, greatest) = offsets(&time_zone_ref);
+    let parts = other_parts(&time_zone_ref);
+    search(&mut list, fields, &mut view, parts, least, greatest)?;
     Ok(list)
 }
 
@@ -41,6 +43,7 @@ impl DateTime {
     ghost use Rattle.std.specs.Prelude.{◌≡◌, ◌≢◌, ◌⊎◌, ◌+◌, ◌*◌, ◌^◌, ◌<◌, ◌≤◌, ℕ, List, length, ⊤, IfOk, IfErr, OnOk};
     ghost use Rattle.tz_base.specs.Fields.{IsValid, reading};
     ghost use Rattle.tz_zone.specs.Clock.{IsClock};
+    ghost use Rattle.tz_zone.specs.Offsets.{AreEndOffsets};
     ghost use Rattle.tz_zone.specs.ValidZone.{IsSoundTable};
     ghost use Rattle.tz_zone.specs.ZoneRef.{zone_of};
     ghost use Rattle.tz.specs.DateTimes.{fields_of};
@@ -183,7 +186,9 @@ impl DateTime {
             nanoseconds,
         };
         let mut view = Uncounted::new(time_zone_ref.transitions());
-        let count = DateTime::fill(buf, &fields, &mut view, other_parts(&time_zone_ref))?;
+        let (least, greatest) = offsets(&time_zone_ref);
+        let parts = other_parts(&time_zone_ref);
+        let count = DateTime::fill(buf, &fields, &mut view, parts, least, greatest)?;
         Ok(FoundDateTimeListRefMut::counted(buf, count))
     }
 
@@ -225,7 +230,9 @@ impl DateTime {
             nanoseconds,
         };
         let mut view = Counted::new(time_zone_ref.transitions());
-        let count = DateTime::fill(buf, &fields, &mut view, other_parts(&time_zone_ref))?;
+        let (least, greatest) = offsets(&time_zone_ref);
+        let parts = other_parts(&time_zone_ref);
+        let count = DateTime::fill(buf, &fields, &mut view, parts, least, greatest)?;
         Ok((FoundDateTimeListRefMut::counted(buf, count), view.looks()))
     }
 
@@ -235,8 +242,11 @@ impl DateTime {
         fields: &Fields,
         view: &mut V,
         parts: OtherParts<'_>,
+        least: i32,
+        greatest: i32,
     ) -> Result<usize, TzError>
-        requires { IsSoundTable (zone_seen (V.list view.old) parts) }
+        requires sound { IsSoundTable (zone_seen (V.list view.old) parts) }
+        requires offsets { AreEndOffsets (zone_seen (V.list view.old) parts) least greatest }
         ensures ok { IfOk result (λ count. (found : List FoundDateTimeKind)
             × IsFound (IsClock (zone_seen (V.list view.old) parts.entry)) fields.now found
             × (count ≡ length found) × (buf.new ≡ filled buf.old found)) }
@@ -252,7 +262,7 @@ impl DateTime {
     {
         Fields::check(fields)?;
         let mut writer = SlotWriter::new(buf);
-        search(&mut writer, fields, view, parts)?;
+        search(&mut writer, fields, view, parts, least, greatest)?;
         Ok(writer.count())
     }
 }

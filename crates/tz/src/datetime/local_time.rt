@@ -11,7 +11,7 @@ use super::search::search;
 use super::{DateTime, Disambiguation, FoundDateTimeKind, UtcDateTime};
 use tz_base::calendar::Fields;
 use tz_base::error::TzError;
-use tz_zone::inner::{Uncounted, other_parts};
+use tz_zone::inner::{Uncounted, offsets, other_parts};
 use tz_zone::timezone::TimeZoneRef;
 
 /// The one date time that fields mean, if there is one.
@@ -27,7 +27,9 @@ fn meant(
     fields.check()?;
     let mut choice = Choice::new();
     let mut view = Uncounted::new(time_zone_ref.transitions());
-    search(&mut choice, fields, &mut view, other_parts(&time_zone_ref))?;
+    let (least, greatest) = offsets(&time_zone_ref);
+    let parts = other_parts(&time_zone_ref);
+    search(&mut choice, fields, &mut view, parts, least, greatest)?;
     let Some(entry) = choice.entry(disambiguation) else {
         return Ok(None);
     };

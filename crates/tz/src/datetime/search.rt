@@ -5,12 +5,13 @@ ghost use Rattle.tz_base.specs.Fields.{IsValid, reading as reading_of};
 ghost use Rattle.tz_zone.specs.Table.{Zone};
 ghost use Rattle.tz_zone.specs.Clock.{IsClock};
 ghost use Rattle.tz_zone.specs.ClockSegments.{IsSegmentAt};
+ghost use Rattle.tz_zone.specs.Offsets.{AreEndOffsets};
 ghost use Rattle.tz_zone.specs.ValidZone.{AreLeapSeconds, IsSoundTable};
 ghost use Rattle.tz_zone.specs.ZoneSeen.{zone_seen};
 ghost use Rattle.tz.specs.Found.{IsFound};
 ghost use Rattle.tz.specs.Walks.{HoldsAt, IsOutside, IsSearchFault, IsSmall, moment_of};
 ghost use Rattle.tz.specs.Reached.{AreOffsetsOf};
-ghost use Rattle.tz.specs.Windows.{IsOffsetOfTypes, IsOffsetOfRule, IsLeastOffset, IsGreatestOffset, AtMostTakeEffectIn, AtMostTakeEffectAround};
+ghost use Rattle.tz.specs.Windows.{AtMostTakeEffectIn, AtMostTakeEffectAround};
 ghost use Rattle.tz.specs.declared.datetime.found.FoundDateTimeKind.{FoundDateTimeKind};
 ghost use Rattle.tz.specs.declared.datetime.found.FoundDateTimeKind.TheVariants.{Normal};
 
@@ -22,70 +23,7 @@ use tz_base::error::TzError;
 use tz_zone::inner::{
     ClockSegment, OtherParts, Transitions, clock_segment_after, clock_segment_at,
 };
-use tz_zone::timezone::{LocalTimeType, TransitionRule};
-
-/// The least offset of the types.
-fn least_offset(local_time_types: &[LocalTimeType]) -> i32
-    requires { 0 < length local_time_types.now }
-    ensures of_type { IsOffsetOfTypes local_time_types.now result }
-    ensures least { (o : ℤ) → IsOffsetOfTypes local_time_types.now o → result ≤ℤ o }
-{
-    let mut least = local_time_types[0].ut_offset();
-    for local_time_type in local_time_types {
-        least = least.min(local_time_type.ut_offset());
-    }
-    least
-}
-
-/// The greatest offset of the types.
-fn greatest_offset(local_time_types: &[LocalTimeType]) -> i32
-    requires { 0 < length local_time_types.now }
-    ensures of_type { IsOffsetOfTypes local_time_types.now result }
-    ensures greatest { (o : ℤ) → IsOffsetOfTypes local_time_types.now o → o ≤ℤ result }
-{
-    let mut greatest = local_time_types[0].ut_offset();
-    for local_time_type in local_time_types {
-        greatest = greatest.max(local_time_type.ut_offset());
-    }
-    greatest
-}
-
-/// Two offsets, moved apart until those of the rule lie between them, and no further.
-fn with_rule(rule: &TransitionRule, least: i32, greatest: i32) -> (i32, i32)
-    ensures least { result.0 ≤ℤ least }
-    ensures greatest { greatest ≤ℤ result.1 }
-    ensures between { (o : ℤ) → IsOffsetOfRule rule.now o → (result.0 ≤ℤ o) × (o ≤ℤ result.1) }
-    ensures exact { ((result.0 ≡ least) ⊎ IsOffsetOfRule rule.now result.0) × ((result.1 ≡ greatest) ⊎ IsOffsetOfRule rule.now result.1) }
-{
-    match rule {
-        TransitionRule::Fixed(local_time_type) => {
-            let offset = local_time_type.ut_offset();
-            (least.min(offset), greatest.max(offset))
-        }
-        TransitionRule::Alternate(rule) => {
-            let std = rule.std().ut_offset();
-            let dst = rule.dst().ut_offset();
-            (least.min(std).min(dst), greatest.max(std).max(dst))
-        }
-    }
-}
-
-/// The least and the greatest offset of the types and of the rule.
-pub(crate) fn offsets(
-    local_time_types: &[LocalTimeType],
-    extra_rule: &Option<TransitionRule>,
-) -> (i32, i32)
-    requires { 0 < length local_time_types.now }
-    ensures least { IsLeastOffset local_time_types.now extra_rule.now result.0 }
-    ensures greatest { IsGreatestOffset local_time_types.now extra_rule.now result.1 }
-{
-    let least = least_offset(local_time_types);
-    let greatest = greatest_offset(local_time_types);
-    match extra_rule {
-        Some(rule) => with_rule(rule, least, greatest),
-        None => (least, greatest),
-    }
-}
+use tz_zone::timezone::LocalTimeType;
 
 /// The type that the clock has throughout a segment, if any.
 fn type_in(segment: &ClockSegment<'_>) -> Option<LocalTimeType>
@@ -177,15 +115,18 @@ fn search_from<'a, L: DateTimeList, V: Transitions>(
     walk.give(list, high + 1)
 }
 
-/// Adds all that is found of valid fields to the list, in order.
+/// Adds all that is found of valid fields to the list, in order, by the least and the greatest offset of the zone.
 pub(super) fn search<L: DateTimeList, V: Transitions>(
     list: &mut L,
     fields: &Fields,
     view: &mut V,
     parts: OtherParts<'_>,
+    least: i32,
+    greatest: i32,
 ) -> Result<(), TzError>
     requires valid { IsValid fields.now }
     requires sound { IsSoundTable (zone_seen (V.list view.old) parts) }
+    requires offsets { AreEndOffsets (zone_seen (V.list view.old) parts) least greatest }
     ensures ok { OnOk result ((found : List FoundDateTimeKind) × L.gains list.old list.new found
         × IsFound (IsClock (zone_seen (V.list view.old) parts.entry)) fields.now found × (length found ≤ 2 ^ 33)) }
     ensures err { IfErr result (IsSearchFault L.takes_memory (IsClock (zone_seen (V.list view.old) parts.entry)) (reading_of fields.now)) }
@@ -195,7 +136,6 @@ pub(super) fn search<L: DateTimeList, V: Transitions>(
     ensures some { OnOk result (0 < length (V.list view.old) → V.next (V.looks view.old) ≤ V.looks view.new) }
     ensures none { OnOk result (length (V.list view.old) ≡ 0 → V.looks view.new ≡ V.looks view.old) }
 {
-    let (least, greatest) = offsets(parts.local_time_types, parts.extra_rule);
     let reading = fields.reading();
     let (low, high) = window(reading, least, greatest);
     let mut first = clock_segment_at(view, parts, low);

@@ -4,6 +4,7 @@ mod change;
 mod checks;
 pub(crate) mod file;
 mod leap_second;
+mod offsets;
 mod segment;
 mod settings;
 mod transition;

@@ -1,9 +1,11 @@
 //! Time zones that own their parts.
 
+ghost use Rattle.tz_zone.specs.Offsets.{AreEndOffsets};
 ghost use Rattle.tz_zone.specs.Table.{zone_with};
 ghost use Rattle.tz_zone.specs.ValidZone.{IsSoundTable, IsSoundTable-prop, IsValidZone};
 
 use super::checks::check_read_parts;
+use super::offsets::offsets;
 use super::{LeapSecond, LocalTimeType, TimeZoneRef, Transition, TransitionRule};
 use crate::parse::tz_file::parse_tz_file;
 use std::alloc::{Allocator, Global};
@@ -17,8 +19,11 @@ pub struct TimeZone<A: Allocator + Copy = Global> {
     local_time_types: Vec<LocalTimeType, A>,
     leap_seconds: Vec<LeapSecond, A>,
     extra_rule: Option<TransitionRule>,
+    least_offset: i32,
+    greatest_offset: i32,
     ghost sound: { IsSoundTable (zone_with transitions.items local_time_types.items leap_seconds.items extra_rule) } by { IsSoundTable-prop (zone_with transitions.items local_time_types.items leap_seconds.items extra_rule) },
     ghost valid: { ∥ IsValidZone (zone_with transitions.items local_time_types.items leap_seconds.items extra_rule) ∥₁ },
+    ghost offsets: { ∥ AreEndOffsets (zone_with transitions.items local_time_types.items leap_seconds.items extra_rule) least_offset greatest_offset ∥₁ },
 }
 
 impl<A: Allocator + Copy> PartialEq for TimeZone<A> {
@@ -102,11 +107,14 @@ impl<A: Allocator + Copy> TimeZone<A> {
             &extra_rule,
             are_in_order,
         )?;
+        let (least_offset, greatest_offset) = offsets(&local_time_types, &extra_rule);
         Ok(TimeZone {
             transitions,
             local_time_types,
             leap_seconds,
             extra_rule,
+            least_offset,
+            greatest_offset,
         })
     }
 
@@ -134,12 +142,15 @@ impl<A: Allocator + Copy> TimeZone<A> {
         ensures ok { IfOk result (λ z. own_zone_of z ≡ zone_of_type local_time_type) }
         ensures err { IfErr result (λ e. e ≡ TzError.Memory alloc_error) }
     {
+        let ut_offset = local_time_type.ut_offset();
         let local_time_types = Vec::from_array(alloc, [local_time_type])?;
         Ok(TimeZone {
             transitions: Vec::new(alloc),
             local_time_types,
             leap_seconds: Vec::new(alloc),
             extra_rule: None,
+            least_offset: ut_offset,
+            greatest_offset: ut_offset,
         })
     }
 
@@ -178,6 +189,8 @@ impl<A: Allocator + Copy> TimeZone<A> {
             local_time_types,
             leap_seconds,
             extra_rule: self.extra_rule,
+            least_offset: self.least_offset,
+            greatest_offset: self.greatest_offset,
         })
     }
 
@@ -190,6 +203,8 @@ impl<A: Allocator + Copy> TimeZone<A> {
             &self.local_time_types,
             &self.leap_seconds,
             &self.extra_rule,
+            self.least_offset,
+            self.greatest_offset,
         )
     }
 

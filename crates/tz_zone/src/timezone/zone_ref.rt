@@ -1,9 +1,12 @@
 //! Borrowed time zones.
 
+ghost use Rattle.std.specs.Prelude.{ℤ};
+ghost use Rattle.tz_zone.specs.Offsets.{AreEndOffsets};
 ghost use Rattle.tz_zone.specs.Table.{zone_with};
 ghost use Rattle.tz_zone.specs.ValidZone.{IsSoundTable, IsSoundTable-prop, IsValidZone};
 
 use super::checks::check_parts;
+use super::offsets::offsets;
 use super::{LeapSecond, LocalTimeType, Transition, TransitionRule};
 use crate::inner::{self, Counted, Uncounted};
 use tz_base::error::TzError;
@@ -17,8 +20,11 @@ pub struct TimeZoneRef<'a> {
     local_time_types: &'a [LocalTimeType],
     leap_seconds: &'a [LeapSecond],
     extra_rule: &'a Option<TransitionRule>,
+    least_offset: i32,
+    greatest_offset: i32,
     ghost sound: { IsSoundTable (zone_with transitions.now local_time_types.now leap_seconds.now extra_rule.now) } by { IsSoundTable-prop (zone_with transitions.now local_time_types.now leap_seconds.now extra_rule.now) },
     ghost valid: { ∥ IsValidZone (zone_with transitions.now local_time_types.now leap_seconds.now extra_rule.now) ∥₁ },
+    ghost offsets: { ∥ AreEndOffsets (zone_with transitions.now local_time_types.now leap_seconds.now extra_rule.now) least_offset greatest_offset ∥₁ },
 }
 
 impl<'a> PartialEq for TimeZoneRef<'a> {
@@ -53,6 +59,7 @@ impl<'a> TimeZoneRef<'a> {
     ghost use Rattle.tz_rule.specs.LocalTimeType.{plain_type};
     ghost use Rattle.tz_zone.specs.Table.{zone_with, zone_of_type};
     ghost use Rattle.tz_zone.specs.Clock.{IsClock, IsLookupFault};
+    ghost use Rattle.tz_zone.specs.Offsets.{AreEndOffsets};
     ghost use Rattle.tz_zone.specs.ValidZone.{ExpiresAt, IsSoundTable, IsValidZone, IsFirstZoneFault};
     ghost use Rattle.tz_zone.specs.ZoneRef.{zone_of};
 
@@ -87,23 +94,29 @@ impl<'a> TimeZoneRef<'a> {
         ensures err { IfErr result (IsFirstZoneFault (zone_with transitions.now local_time_types.now leap_seconds.now extra_rule.now)) }
     {
         check_parts(transitions, local_time_types, leap_seconds, extra_rule)?;
+        let (least_offset, greatest_offset) = offsets(local_time_types, extra_rule);
         Ok(TimeZoneRef {
             transitions,
             local_time_types,
             leap_seconds,
             extra_rule,
+            least_offset,
+            greatest_offset,
         })
     }
 
-    /// The zone with parts that are known to make one.
+    /// The zone with parts that are known to make one, and with its least and its greatest offset.
     pub(crate) fn from_valid_parts(
         transitions: &'a [Transition],
         local_time_types: &'a [LocalTimeType],
         leap_seconds: &'a [LeapSecond],
         extra_rule: &'a Option<TransitionRule>,
+        least_offset: i32,
+        greatest_offset: i32,
     ) -> Self
         requires sound { IsSoundTable (zone_with transitions.now local_time_types.now leap_seconds.now extra_rule.now) }
         requires valid { ∥ IsValidZone (zone_with transitions.now local_time_types.now leap_seconds.now extra_rule.now) ∥₁ }
+        requires offsets { ∥ AreEndOffsets (zone_with transitions.now local_time_types.now leap_seconds.now extra_rule.now) least_offset greatest_offset ∥₁ }
         ensures { zone_of result ≡ zone_with transitions.now local_time_types.now leap_seconds.now extra_rule.now }
     {
         TimeZoneRef {
@@ -111,6 +124,8 @@ impl<'a> TimeZoneRef<'a> {
             local_time_types,
             leap_seconds,
             extra_rule,
+            least_offset,
+            greatest_offset,
         }
     }
 
@@ -123,6 +138,8 @@ impl<'a> TimeZoneRef<'a> {
             local_time_types: tz_rule::inner::utc_types(),
             leap_seconds: &[],
             extra_rule: tz_rule::inner::no_rule(),
+            least_offset: 0,
+            greatest_offset: 0,
         }
     }
 
@@ -160,6 +177,13 @@ impl<'a> TimeZoneRef<'a> {
         ensures { result.now ≡ (zone_of self.now).extra_rule }
     {
         self.extra_rule
+    }
+
+    /// The least and the greatest offset of the types and of the rule.
+    pub(crate) fn offsets(&self) -> (i32, i32)
+        ensures { AreEndOffsets (zone_of self.now) result.0 result.1 }
+    {
+        (self.least_offset, self.greatest_offset)
     }
 
     /// The clock's type at an instant. (RFC 8536, section 3.2)

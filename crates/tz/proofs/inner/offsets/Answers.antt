@@ -4,7 +4,4 @@ use Rattle.tz.proofs.WindowLemmas.{clock_between}
 use Rattle.tz.proofs.inner.offsets.Goals as goal
 
 pub returns-clause-between : goal.returns-clause-between
-returns-clause-between c =
-    clock_between (zone_of c.args.zone) c.offsets.result.0 c.offsets.result.1
-    (rw (c.local_time_types.ensures, c.extra_rule.ensures) at c.offsets.ensures.least)
-    (rw (c.local_time_types.ensures, c.extra_rule.ensures) at c.offsets.ensures.greatest)
+returns-clause-between c = clock_between (zone_of c.args.zone) c.offsets.result.0 c.offsets.result.1 c.offsets.ensures.0 c.offsets.ensures.1

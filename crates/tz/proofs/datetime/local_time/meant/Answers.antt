@@ -1,10 +1,14 @@
 -- What is meant is taken from the list that the search finds.
-use Rattle.std.proofs.Common.{◌≡◌, ◌∙◌, inl, inr, sym, ap, subst, List, [], Option, Some, None}
+use Rattle.std.proofs.Common.{rules, ◌≡◌, ◌∙◌, inl, inr, sym, ap, subst, List, [], Option, Some, None}
+use Rattle.std.proofs.lemmas.Int.{to_z-of_z}
 use Rattle.std.proofs.lemmas.Result.{err_from_is_err_and}
+use mir.Syntax.{w32}
+use mir.Val.{SFits}
 use Rattle.tz_base.specs.declared.calendar.Fields.{Fields}
 use Rattle.tz_base.specs.Fields.{reading}
 use Rattle.tz_zone.specs.Clock.{IsClock}
 use Rattle.tz_zone.specs.Table.{Transition, Zone}
+use Rattle.tz_zone.specs.Offsets.{AreEndOffsets}
 use Rattle.tz_zone.specs.ValidZone.{IsSoundTable}
 use Rattle.tz_zone.specs.ZoneRef.{zone_of}
 use Rattle.tz_zone.specs.ZoneSeen.{zone_seen}
@@ -16,14 +20,23 @@ use Rattle.tz.proofs.datetime.local_time.meant.Goals as goal
 
 pub search-requires-clause-sound : goal.search-requires-clause-sound
 search-requires-clause-sound c =
-    let seen = zone_seen c.new-view.result.transitions.now c.other_parts.result in
-    let same : seen ≡ zone_of c.args.time_zone_ref = ap (λ (xs : List Transition). zone_seen xs c.other_parts.result) (c.new-view.ensures ∙ c.transitions.ensures) ∙ c.other_parts.ensures in
+    let seen = zone_seen c.new-view.result.transitions.now c.other_parts-parts.result in
+    let same : seen ≡ zone_of c.args.time_zone_ref = ap (λ (xs : List Transition). zone_seen xs c.other_parts-parts.result) (c.new-view.ensures ∙ c.transitions.ensures) ∙ c.other_parts-parts.ensures in
     subst IsSoundTable (sym same) c.args.time_zone_ref.sound
+
+pub search-requires-clause-offsets : goal.search-requires-clause-offsets
+search-requires-clause-offsets c =
+    let seen = zone_seen c.new-view.result.transitions.now c.other_parts-parts.result in
+    let same : seen ≡ zone_of c.args.time_zone_ref = ap (λ (xs : List Transition). zone_seen xs c.other_parts-parts.result) (c.new-view.ensures ∙ c.transitions.ensures) ∙ c.other_parts-parts.ensures in
+    let ends = c.offsets-least in
+    let fits_least : SFits w32 ends.result.0 = search rules in
+    let fits_greatest : SFits w32 ends.result.1 = search rules in
+    rw (to_z-of_z w32 ends.result.0 fits_least, to_z-of_z w32 ends.result.1 fits_greatest) (subst (λ (x : Zone). AreEndOffsets x ends.result.0 ends.result.1) (sym same) ends.ensures)
 
 pub returns-in_err-search-clause-err : goal.returns-in_err-search-clause-err
 returns-in_err-search-clause-err c =
-    let seen = zone_seen c.new-view.result.transitions.now c.other_parts.result in
-    let same : seen ≡ zone_of c.args.time_zone_ref = ap (λ (xs : List Transition). zone_seen xs c.other_parts.result) (c.new-view.ensures ∙ c.transitions.ensures) ∙ c.other_parts.ensures in
+    let seen = zone_seen c.new-view.result.transitions.now c.other_parts-parts.result in
+    let same : seen ≡ zone_of c.args.time_zone_ref = ap (λ (xs : List Transition). zone_seen xs c.other_parts-parts.result) (c.new-view.ensures ∙ c.transitions.ensures) ∙ c.other_parts-parts.ensures in
     let p = err_from_is_err_and c.from_residual-in_err-search.result c.from_residual-in_err-search.ensures.1 in
     let err = subst (λ (x : Zone). IsSearchFault ⊥ (IsClock x) (reading c.args.fields.now) c.in_err-search.field-0.0) same c.in_err-search.ensures.err in
     rw (p.1, p.2) (inl (inr (c.in_ok-check.ensures.ok, err)))
@@ -34,8 +47,8 @@ found_in z z' same f found is = subst (λ (x : Zone). IsFound (IsClock x) f foun
 
 pub returns-in_default-clause-ok : goal.returns-in_default-clause-ok
 returns-in_default-clause-ok c =
-    let seen = zone_seen c.new-view.result.transitions.now c.other_parts.result in
-    let same : seen ≡ zone_of c.args.time_zone_ref = ap (λ (xs : List Transition). zone_seen xs c.other_parts.result) (c.new-view.ensures ∙ c.transitions.ensures) ∙ c.other_parts.ensures in
+    let seen = zone_seen c.new-view.result.transitions.now c.other_parts-parts.result in
+    let same : seen ≡ zone_of c.args.time_zone_ref = ap (λ (xs : List Transition). zone_seen xs c.other_parts-parts.result) (c.new-view.ensures ∙ c.transitions.ensures) ∙ c.other_parts-parts.ensures in
     let ok = c.in_ok-search.ensures.ok in
     let entry = c.in_default.ensures ok.0 (ok.1 [] c.new-choice.ensures) in
     let none = subst (λ (x : Option FoundDateTimeKind). IsMeantIn (zone_of c.args.time_zone_ref) c.args.disambiguation c.args.fields.now x None) entry tt in
@@ -43,8 +56,8 @@ returns-in_default-clause-ok c =
 
 pub returns-clause-ok : goal.returns-clause-ok
 returns-clause-ok c =
-    let seen = zone_seen c.new-view.result.transitions.now c.other_parts.result in
-    let same : seen ≡ zone_of c.args.time_zone_ref = ap (λ (xs : List Transition). zone_seen xs c.other_parts.result) (c.new-view.ensures ∙ c.transitions.ensures) ∙ c.other_parts.ensures in
+    let seen = zone_seen c.new-view.result.transitions.now c.other_parts-parts.result in
+    let same : seen ≡ zone_of c.args.time_zone_ref = ap (λ (xs : List Transition). zone_seen xs c.other_parts-parts.result) (c.new-view.ensures ∙ c.transitions.ensures) ∙ c.other_parts-parts.ensures in
     let ok = c.in_ok-search.ensures.ok in
     let entry = sym c.in-Some.is ∙ c.entry.ensures ok.0 (ok.1 [] c.new-choice.ensures) in
     let some = subst (λ (x : Option FoundDateTimeKind). IsMeantIn (zone_of c.args.time_zone_ref) c.args.disambiguation c.args.fields.now x (Some c.in_ok-date_time_of.field-0)) entry c.in_ok-date_time_of.ensures.ok in
@@ -52,8 +65,8 @@ returns-clause-ok c =
 
 pub returns-in_err-date_time_of-clause-err : goal.returns-in_err-date_time_of-clause-err
 returns-in_err-date_time_of-clause-err c =
-    let seen = zone_seen c.new-view.result.transitions.now c.other_parts.result in
-    let same : seen ≡ zone_of c.args.time_zone_ref = ap (λ (xs : List Transition). zone_seen xs c.other_parts.result) (c.new-view.ensures ∙ c.transitions.ensures) ∙ c.other_parts.ensures in
+    let seen = zone_seen c.new-view.result.transitions.now c.other_parts-parts.result in
+    let same : seen ≡ zone_of c.args.time_zone_ref = ap (λ (xs : List Transition). zone_seen xs c.other_parts-parts.result) (c.new-view.ensures ∙ c.transitions.ensures) ∙ c.other_parts-parts.ensures in
     let ok = c.in_ok-search.ensures.ok in
     let entry = sym (c.entry.ensures ok.0 (ok.1 [] c.new-choice.ensures)) ∙ c.in-Some.is in
     let p = err_from_is_err_and c.from_residual-in_err-date_time_of.result c.from_residual-in_err-date_time_of.ensures.1 in

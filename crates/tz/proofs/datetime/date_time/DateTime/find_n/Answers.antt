@@ -1,12 +1,14 @@
 -- The zone that is seen is the zone.
-use Rattle.std.proofs.Common.{◌≡◌, ◌∙◌, sym, ap, subst, List}
+use Rattle.std.proofs.Common.{rules, ◌≡◌, ◌∙◌, sym, ap, subst, List}
 use Rattle.std.proofs.lemmas.Int.{to_z-of_z}
 use Rattle.std.proofs.lemmas.Result.{err_from_is_err_and}
 use mir.Syntax.{w32}
+use mir.Val.{SFits}
 use Rattle.tz_base.specs.declared.calendar.Fields.{Fields}
 use Rattle.tz_base.specs.declared.error.TzError.{TzError}
 use Rattle.tz_zone.specs.Clock.{IsClock}
 use Rattle.tz_zone.specs.Table.{Transition, Zone}
+use Rattle.tz_zone.specs.Offsets.{AreEndOffsets}
 use Rattle.tz_zone.specs.ValidZone.{IsSoundTable}
 use Rattle.tz_zone.specs.ZoneRef.{zone_of}
 use Rattle.tz_zone.specs.ZoneSeen.{zone_seen}
@@ -23,32 +25,41 @@ fault_in z z' f e same fault = subst (λ (x : Zone). IsFindFault ⊥ (IsClock x)
 found_in : (z z' : Zone) (f : Fields) (found : List FoundDateTimeKind) → z ≡ z' → IsFound (IsClock z) f found → IsFound (IsClock z') f found
 found_in z z' f found same is = subst (λ (x : Zone). IsFound (IsClock x) f found) same is
 
-pub fill-requires : goal.fill-requires
-fill-requires c =
-    let seen = zone_seen c.new-view.result.transitions.now c.other_parts.result in
-    let same : seen ≡ zone_of c.args.time_zone_ref = ap (λ (xs : List Transition). zone_seen xs c.other_parts.result) (c.new-view.ensures ∙ c.transitions.ensures) ∙ c.other_parts.ensures in
+pub fill-requires-clause-sound : goal.fill-requires-clause-sound
+fill-requires-clause-sound c =
+    let seen = zone_seen c.new-view.result.transitions.now c.other_parts-parts.result in
+    let same : seen ≡ zone_of c.args.time_zone_ref = ap (λ (xs : List Transition). zone_seen xs c.other_parts-parts.result) (c.new-view.ensures ∙ c.transitions.ensures) ∙ c.other_parts-parts.ensures in
     subst IsSoundTable (sym same) c.args.time_zone_ref.sound
+
+pub fill-requires-clause-offsets : goal.fill-requires-clause-offsets
+fill-requires-clause-offsets c =
+    let seen = zone_seen c.new-view.result.transitions.now c.other_parts-parts.result in
+    let same : seen ≡ zone_of c.args.time_zone_ref = ap (λ (xs : List Transition). zone_seen xs c.other_parts-parts.result) (c.new-view.ensures ∙ c.transitions.ensures) ∙ c.other_parts-parts.ensures in
+    let ends = c.offsets-least in
+    let fits_least : SFits w32 ends.result.0 = search rules in
+    let fits_greatest : SFits w32 ends.result.1 = search rules in
+    rw (to_z-of_z w32 ends.result.0 fits_least, to_z-of_z w32 ends.result.1 fits_greatest) (subst (λ (x : Zone). AreEndOffsets x ends.result.0 ends.result.1) (sym same) ends.ensures)
 
 pub returns-in_err-count-clause-promised : goal.returns-in_err-count-clause-promised
 returns-in_err-count-clause-promised c promised =
-    let seen = zone_seen c.new-view.result.transitions.now c.other_parts.result in
-    let same : seen ≡ zone_of c.args.time_zone_ref = ap (λ (xs : List Transition). zone_seen xs c.other_parts.result) (c.new-view.ensures ∙ c.transitions.ensures) ∙ c.other_parts.ensures in
+    let seen = zone_seen c.new-view.result.transitions.now c.other_parts-parts.result in
+    let same : seen ≡ zone_of c.args.time_zone_ref = ap (λ (xs : List Transition). zone_seen xs c.other_parts-parts.result) (c.new-view.ensures ∙ c.transitions.ensures) ∙ c.other_parts-parts.ensures in
     let p = err_from_is_err_and c.from_residual.result c.from_residual.ensures.1 in
     let fill = rw (to_z-of_z w32 c.args.year c.ranges.year) at c.in_err-count.ensures in
     rw (p.1, p.2) (fill.promised (subst (λ (x : Zone). IsPromised x c.args.year) (sym same) promised))
 
 pub returns-in_err-count-clause-err : goal.returns-in_err-count-clause-err
 returns-in_err-count-clause-err c =
-    let seen = zone_seen c.new-view.result.transitions.now c.other_parts.result in
-    let same : seen ≡ zone_of c.args.time_zone_ref = ap (λ (xs : List Transition). zone_seen xs c.other_parts.result) (c.new-view.ensures ∙ c.transitions.ensures) ∙ c.other_parts.ensures in
+    let seen = zone_seen c.new-view.result.transitions.now c.other_parts-parts.result in
+    let same : seen ≡ zone_of c.args.time_zone_ref = ap (λ (xs : List Transition). zone_seen xs c.other_parts-parts.result) (c.new-view.ensures ∙ c.transitions.ensures) ∙ c.other_parts-parts.ensures in
     let p = err_from_is_err_and c.from_residual.result c.from_residual.ensures.1 in
     let fill = rw (to_z-of_z w32 c.args.year c.ranges.year) at c.in_err-count.ensures in
     rw (p.1, p.2) (fault_in seen (zone_of c.args.time_zone_ref) _ _ same fill.err)
 
 pub returns-clause-ok : goal.returns-clause-ok
 returns-clause-ok c =
-    let seen = zone_seen c.new-view.result.transitions.now c.other_parts.result in
-    let same : seen ≡ zone_of c.args.time_zone_ref = ap (λ (xs : List Transition). zone_seen xs c.other_parts.result) (c.new-view.ensures ∙ c.transitions.ensures) ∙ c.other_parts.ensures in
+    let seen = zone_seen c.new-view.result.transitions.now c.other_parts-parts.result in
+    let same : seen ≡ zone_of c.args.time_zone_ref = ap (λ (xs : List Transition). zone_seen xs c.other_parts-parts.result) (c.new-view.ensures ∙ c.transitions.ensures) ∙ c.other_parts-parts.ensures in
     let fill = rw (to_z-of_z w32 c.args.year c.ranges.year) at c.in_ok-count.ensures in
     let list = c.counted.ensures in
     (fill.ok.0, found_in seen (zone_of c.args.time_zone_ref) _ fill.ok.0 same fill.ok.1, list.count ∙ fill.ok.2, list.slots ∙ fill.ok.3)

@@ -1,5 +1,8 @@
 -- A zone is made of its parts.
-use Rattle.std.proofs.Common.{refl}
+use Rattle.std.proofs.Common.{refl, rules}
+use Rattle.std.proofs.lemmas.Int.{to_z-of_z}
+use mir.Syntax.{w32}
+use mir.Val.{SFits}
 use Rattle.tz_zone.proofs.timezone.zone.TimeZone.from_read_parts.Goals as goal
 
 pub returns-clause-parts : goal.returns-clause-parts
@@ -13,3 +16,10 @@ invariant_of-result-clause-valid g c = rw (← c.deref.ensures.value, ← c.dere
 
 pub check_read_parts-requires : goal.check_read_parts-requires
 check_read_parts-requires g c = rw (c.deref.ensures.value, c.deref-2.ensures.value) c.requires
+
+pub invariant_of-result-clause-offsets : goal.invariant_of-result-clause-offsets
+invariant_of-result-clause-offsets g c =
+    let ends = c.offsets-least_offset in
+    let fits_least : SFits w32 ends.result.0 = search rules in
+    let fits_greatest : SFits w32 ends.result.1 = search rules in
+    rw (to_z-of_z w32 ends.result.0 fits_least, to_z-of_z w32 ends.result.1 fits_greatest, ← c.deref-4.ensures.value) (∣ (ends.ensures.least, ends.ensures.greatest) ∣₁)

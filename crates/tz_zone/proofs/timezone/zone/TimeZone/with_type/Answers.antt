@@ -1,8 +1,13 @@
 -- A zone of one type alone is valid.
+use Rattle.std.proofs.Common.{rules}
+use Rattle.std.proofs.lemmas.Int.{to_z-of_z}
 use Rattle.std.proofs.lemmas.Result.{err_from_is_err_and}
+use mir.Syntax.{w32}
+use mir.Val.{SFits}
 use Rattle.tz_rule.specs.LocalTimeType.{LocalTimeType}
 use Rattle.tz_zone.specs.Table.{zone_of_type}
 use Rattle.tz_zone.specs.ValidZone.{IsValidZone}
+use Rattle.tz_zone.proofs.OffsetLemmas.{ends_of_type}
 use Rattle.tz_zone.proofs.timezone.zone.TimeZone.with_type.Goals as goal
 
 is_valid : (t : LocalTimeType) → IsValidZone (zone_of_type t)
@@ -21,6 +26,11 @@ invariant_of-result-clause-sound g c = rw (c.new.ensures.items, c.in_ok-local_ti
 
 pub invariant_of-result-clause-valid : goal.invariant_of-result-clause-valid
 invariant_of-result-clause-valid g c = rw (c.new.ensures.items, c.in_ok-local_time_types.ensures.items, c.new-2.ensures.items) (∣ is_valid c.args.local_time_type ∣₁)
+
+pub invariant_of-result-clause-offsets : goal.invariant_of-result-clause-offsets
+invariant_of-result-clause-offsets g c =
+    let fits : SFits w32 c.ut_offset-ut_offset.result = search rules in
+    rw (c.in_ok-local_time_types.ensures.items, to_z-of_z w32 c.ut_offset-ut_offset.result fits, c.ut_offset-ut_offset.ensures.value) (∣ ends_of_type c.args.local_time_type ∣₁)
 
 pub returns-clause-ok : goal.returns-clause-ok
 returns-clause-ok g c = rw (c.new.ensures.items, c.in_ok-local_time_types.ensures.items, c.new-2.ensures.items)

@@ -2,8 +2,8 @@
 use Rattle.std.proofs.Common.{◌≡◌, ℕ, ◌<◌, ◌≤ℤ◌, Some}
 use Rattle.std.specs.Prelude.{slice_get}
 use Rattle.tz_rule.specs.LocalTimeType.{LocalTimeType}
-use Rattle.tz.specs.Windows.{IsOffsetOfTypes}
-use Rattle.tz.proofs.datetime.search.greatest_offset.Given as goal
+use Rattle.tz_zone.specs.Offsets.{IsOffsetOfTypes}
+use Rattle.tz_zone.proofs.timezone.offsets.greatest_offset.Given as goal
 
 abbrev pub invariant-loop-local_time_type : goal.invariant-loop-local_time_type
 invariant-loop-local_time_type l = record {

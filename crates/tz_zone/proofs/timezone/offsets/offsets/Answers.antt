@@ -5,8 +5,8 @@ use Rattle.std.proofs.lemmas.Option.{same_Some, none-some}
 use mir.Syntax.{w32}
 use mir.Val.{SFits}
 use Rattle.tz_rule.specs.declared.timezone.rule.TransitionRule.{TransitionRule}
-use Rattle.tz.specs.Windows.{IsOffsetOfRule}
-use Rattle.tz.proofs.datetime.search.offsets.Goals as goal
+use Rattle.tz_zone.specs.Offsets.{IsOffsetOfRule}
+use Rattle.tz_zone.proofs.timezone.offsets.offsets.Goals as goal
 
 pub returns-in-Some : goal.returns-in-Some
 returns-in-Some c =
