@@ -8,5 +8,6 @@ pub mod Answers
 pub mod Streams
 pub mod Pages
 pub mod Tails
+pub mod Caches
 pub mod Program
 pub mod FileAnswers

@@ -1,18 +1,16 @@
 //! The answers of query lines.
 
-ghost use Rattle.std.specs.Prelude.{◌≡◌, ◌+◌, ◌<◌, ◌≤◌, ℕ, List, [], ◌∷◌, ◌++◌, length, map, codes, IfOk, IfErr, alloc_error, ◌≤ℤ◌};
+ghost use Rattle.std.specs.Prelude.{◌≡◌, ◌+◌, ◌<◌, ◌≤◌, ℕ, List, [], ◌∷◌, ◌++◌, length, map, codes, IfOk, IfErr, alloc_error};
 ghost use Rattle.std.specs.Fmt.{decimal};
-ghost use Rattle.tz_zone.specs.Segments.{IsSegmentOf, numbered_types};
 ghost use Rattle.tz_zone.specs.ZoneRef.{zone_of};
-ghost use Rattle.tz_query.specs.Tails.{types_of};
-ghost use Rattle.tz.specs.Reached.{AreOffsetsOf};
 ghost use Rattle.tz_query.specs.Lines.{IsFirstLine, ended, line_feed};
 ghost use Rattle.tz_query.specs.Answers.{name_text, moment_text, entry_text, found_lines, field_fault_text, IsFaultText, IsTimeAnswer, IsSearchAnswer, IsAnswer, AreAnswers};
+ghost use Rattle.tz_query.specs.Caches.{IsCacheOf};
 ghost use Rattle.tz_query.specs.Numbers.{space};
 ghost use Rattle.tz_query.specs.Pages.{HasRoom};
 
+use crate::query::cache::Cache;
 use crate::query::fast::search_lines::answer_search_line;
-use crate::query::fast::tail::Tail;
 use crate::query::fast::tails::tails_of;
 use crate::query::fast::time_lines::answer_time_line;
 use crate::query::lines::{after_line, read_meeting_line, read_search_line, read_time_line};
@@ -21,7 +19,7 @@ use crate::query::page::Page;
 use std::alloc::{AllocError, Allocator};
 use tz::datetime::{DateTime, FoundDateTimeKind};
 use tz::error::datetime::DateTimeError;
-use tz::inner::{self, Fields, Segment, TextBuffer};
+use tz::inner::{self, Fields, TextBuffer};
 use tz::{LocalTimeType, TimeZoneRef, TzError};
 
 /// Appends the name of a type, or `-` where it has none.
@@ -306,25 +304,20 @@ fn answer_next<'a, A: Allocator + Copy>(
     answers: &mut Vec<u8, A>,
     line: &mut TextBuffer,
     page: &mut Page,
-    kept: &mut Segment,
-    tails: &[Tail],
-    offsets: (i32, i32),
+    cache: &mut Cache<'_>,
     zone: TimeZoneRef<'_>,
     queries: &'a [u8],
 ) -> Result<&'a [u8], AllocError>
     requires room { HasRoom page.old }
-    requires kept { IsSegmentOf (zone_of zone) kept.old }
-    requires tails { types_of tails.now ≡ numbered_types (zone_of zone) }
-    requires offsets { AreOffsetsOf (zone_of zone) offsets.0 offsets.1 }
-    requires order { offsets.0 ≤ℤ offsets.1 }
+    requires cached { IsCacheOf (zone_of zone) cache.old }
     ensures answer { IfOk result (λ rest. (text : List ℕ) × (answer : List (List ℕ)) × IsFirstLine queries.now text rest.now
         × IsAnswer (zone_of zone.entry) text answer × ((answers.new.items ++ page.new) ≡ (answers.old.items ++ page.old) ++ ended answer)) }
-    ensures kept { IsSegmentOf (zone_of zone.entry) kept.new }
+    ensures cached { IsCacheOf (zone_of zone.entry) cache.new }
 {
-    if let Some(rest) = answer_time_line(page, kept, zone, tails, queries) {
+    if let Some(rest) = answer_time_line(page, cache, zone, queries) {
         return Ok(rest);
     }
-    if let Some(rest) = answer_search_line(page, kept, zone, tails, offsets, queries) {
+    if let Some(rest) = answer_search_line(page, cache, zone, queries) {
         return Ok(rest);
     }
     flush(answers, page)?;
@@ -349,15 +342,9 @@ pub fn answer<A: Allocator + Copy>(
 {
     let mut answers = Vec::with_capacity(alloc, queries.len().saturating_mul(2))?;
     let tails = tails_of(alloc, zone)?;
-    let offsets = inner::offsets(zone);
     let mut line = TextBuffer::new();
     let mut page = Page::new();
-    let mut kept = Segment {
-        from: 1,
-        until: 0,
-        number: 0,
-        next_place: 0,
-    };
+    let mut cache = Cache::new(zone, &tails);
     let mut rest = queries;
     while !rest.is_empty() {
         make_room(&mut answers, &mut page)?;
@@ -366,9 +353,7 @@ pub fn answer<A: Allocator + Copy>(
             &mut answers,
             &mut line,
             &mut page,
-            &mut kept,
-            &tails,
-            offsets,
+            &mut cache,
             zone,
             rest,
         )?;

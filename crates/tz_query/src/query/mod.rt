@@ -1,6 +1,7 @@
 //! Queries, a line each, and their answers.
 
 pub(crate) mod answers;
+mod cache;
 mod fast;
 mod lines;
 mod meetings;

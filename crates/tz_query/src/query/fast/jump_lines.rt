@@ -3,22 +3,22 @@
 ghost use Rattle.std.specs.Prelude.{◌≡◌, ◌<◌, ℕ, pos, negsuc, ◌-ℤ◌, ◌≤ℤ◌, ◌<ℤ◌, List, ◌++◌, IfSome, IfNone, MatchBool};
 ghost use Rattle.tz_base.specs.Fields.{IsValid, reading as reading_of};
 ghost use Rattle.tz_zone.specs.ZoneRef.{zone_of};
-ghost use Rattle.tz_zone.specs.Segments.{IsSegmentOf, IsStretch, numbered_types};
 ghost use Rattle.tz.specs.PrintedText.{nine_digits};
 ghost use Rattle.tz.specs.Jumps.{HasOneJump};
 ghost use Rattle.tz.specs.Reached.{AreOffsetsOf};
 ghost use Rattle.tz_query.specs.Answers.{IsSearchAnswer};
+ghost use Rattle.tz_query.specs.Caches.{IsCacheOf};
 ghost use Rattle.tz_query.specs.Lines.{ended};
 ghost use Rattle.tz_query.specs.Pages.{HasRoom};
-ghost use Rattle.tz_query.specs.Tails.{types_of};
 
 use super::entries::{push_once, push_skipped, push_twice};
 use super::front::front_of;
 use super::tail::Tail;
 use super::time_lines::shown_fields;
+use crate::query::cache::Cache;
 use crate::query::page::Page;
 use tz::TimeZoneRef;
-use tz::inner::{Fields, Segment, segment_following};
+use tz::inner::{Fields, segment_following};
 
 /// Whether a reading, in this type, comes before an instant.
 #[inline(always)]
@@ -102,23 +102,12 @@ fn push_around_jump(
     Some(())
 }
 
-/// The end of lines of a segment.
-#[inline(always)]
-fn tail_of<'a>(zone: TimeZoneRef<'_>, tails: &'a [Tail], segment: &Segment) -> &'a Tail
-    requires segment { IsSegmentOf (zone_of zone) segment.now }
-    requires tails { types_of tails.now ≡ numbered_types (zone_of zone) }
-    ensures { IsStretch (zone_of zone.entry) segment.now.from segment.now.until result.now.local_time_type }
-{
-    &tails[segment.number]
-}
-
-/// Answers fields in whose window the clock has two types on the page, if the kept segment and the next one hold it.
+/// Answers fields in whose window the clock has two types on the page, if the next segment holds what the kept one does not.
 #[inline(never)]
 pub fn answer_across_jump(
     page: &mut Page,
-    kept: &Segment,
+    cache: &Cache<'_>,
     zone: TimeZoneRef<'_>,
-    tails: &[Tail],
     fields: &Fields,
     reading: i64,
     nine: &[u8; 9],
@@ -126,8 +115,8 @@ pub fn answer_across_jump(
     high: i64,
 ) -> Option<()>
     requires room { HasRoom page.old }
-    requires kept { IsSegmentOf (zone_of zone) kept.now }
-    requires tails { types_of tails.now ≡ numbered_types (zone_of zone) }
+    requires cached { IsCacheOf (zone_of zone) cache.now }
+    requires begins { (cache.now.segment.from ≤ℤ low) × (low <ℤ cache.now.segment.until) }
     requires valid { IsValid fields.now }
     requires reading { reading ≡ reading_of fields.now }
     requires bound { (negsuc 67768100567971199 ≤ℤ reading) × (reading ≤ℤ pos 67767976233532800) }
@@ -138,14 +127,12 @@ pub fn answer_across_jump(
         × (page.new ≡ page.old ++ ended answer)) }
     ensures none { IfNone result (page.new ≡ page.old) }
 {
-    if low < kept.from || low >= kept.until {
-        return None;
-    }
-    let next = segment_following(zone, kept)?;
+    let next = segment_following(zone, &cache.segment)?;
     if high >= next.until {
         return None;
     }
-    let before = tail_of(zone, tails, kept);
-    let after = tail_of(zone, tails, &next);
-    push_around_jump(page, zone, fields, reading, nine, kept.until, before, after)
+    let jump = cache.segment.until;
+    let before = cache.tail_of(zone, &cache.segment);
+    let after = cache.tail_of(zone, &next);
+    push_around_jump(page, zone, fields, reading, nine, jump, before, after)
 }

@@ -1,26 +1,23 @@
 //! `F` lines that are found once, answered from a segment of the zone that holds all their window.
 
-ghost use Rattle.std.specs.Prelude.{◌≡◌, ◌<◌, ℕ, pos, negsuc, ◌-ℤ◌, ◌≤ℤ◌, ◌<ℤ◌, List, ◌++◌, IfSome, IfNone};
+ghost use Rattle.std.specs.Prelude.{◌≡◌, ◌<◌, ℕ, pos, negsuc, ◌-ℤ◌, ◌≤ℤ◌, List, ◌++◌, IfSome, IfNone};
 ghost use Rattle.tz_base.specs.declared.calendar.Fields.{Fields};
 ghost use Rattle.tz_zone.specs.ZoneRef.{zone_of};
-ghost use Rattle.tz_zone.specs.Segments.{IsSegmentOf, IsStretch, numbered_types};
 ghost use Rattle.tz.specs.PrintedText.{nine_digits};
-ghost use Rattle.tz.specs.Reached.{AreOffsetsOf};
 ghost use Rattle.tz_query.specs.Answers.{IsAnswer};
+ghost use Rattle.tz_query.specs.Caches.{IsCacheOf};
 ghost use Rattle.tz_query.specs.Lines.{IsFirstLine, ended};
 ghost use Rattle.tz_query.specs.Pages.{HasRoom};
 ghost use Rattle.tz_query.specs.Queries.{IsSearchLineFront};
-ghost use Rattle.tz_query.specs.Tails.{types_of};
 
 use super::entries::push_once;
 use super::front::front_of;
 use super::jump_lines::answer_across_jump;
 use super::numbers::{read_nanoseconds, read_small, read_year};
-use super::tail::Tail;
-use super::time_lines::keep;
+use crate::query::cache::Cache;
 use crate::query::page::Page;
 use tz::TimeZoneRef;
-use tz::inner::{Fields, Segment};
+use tz::inner::Fields;
 
 /// The fields of the first line, if it is an `F` line of usual numbers, and the bytes after it. Its nanoseconds are copied,
 /// and are 0 in the fields.
@@ -54,30 +51,6 @@ fn read_line<'a>(queries: &'a [u8], nine: &mut [u8; 9]) -> Option<(Fields, &'a [
     Some((fields, &queries[line_end + 1..]))
 }
 
-/// The end of lines for all instants from the first one to the second, if one segment is known to hold them, which is kept then.
-#[inline(always)]
-fn tail_through<'a>(
-    kept: &mut Segment,
-    zone: TimeZoneRef<'_>,
-    tails: &'a [Tail],
-    low: i64,
-    high: i64,
-) -> Option<&'a Tail>
-    requires kept { IsSegmentOf (zone_of zone) kept.old }
-    requires tails { types_of tails.now ≡ numbered_types (zone_of zone) }
-    ensures tail { IfSome result (λ tail. IsStretch (zone_of zone.entry) kept.new.from kept.new.until tail.now.local_time_type) }
-    ensures within { IfSome result (λ tail. (kept.new.from ≤ℤ low) × (high <ℤ kept.new.until)) }
-    ensures kept { IsSegmentOf (zone_of zone.entry) kept.new }
-{
-    if !keep(kept, zone, low) {
-        return None;
-    }
-    if high >= kept.until {
-        return None;
-    }
-    Some(&tails[kept.number])
-}
-
 /// The first and the last instant at which a clock whose offsets lie between two shows a reading.
 #[inline(always)]
 fn window_of(reading: i64, offsets: (i32, i32)) -> (i64, i64)
@@ -94,21 +67,16 @@ fn window_of(reading: i64, offsets: (i32, i32)) -> (i64, i64)
 #[inline(always)]
 pub fn answer_search_line<'a>(
     page: &mut Page,
-    kept: &mut Segment,
+    cache: &mut Cache<'_>,
     zone: TimeZoneRef<'_>,
-    tails: &[Tail],
-    offsets: (i32, i32),
     queries: &'a [u8],
 ) -> Option<&'a [u8]>
     requires room { HasRoom page.old }
-    requires kept { IsSegmentOf (zone_of zone) kept.old }
-    requires tails { types_of tails.now ≡ numbered_types (zone_of zone) }
-    requires offsets { AreOffsetsOf (zone_of zone) offsets.0 offsets.1 }
-    requires order { offsets.0 ≤ℤ offsets.1 }
+    requires cached { IsCacheOf (zone_of zone) cache.old }
     ensures some { IfSome result (λ rest. (text : List ℕ) × (answer : List (List ℕ)) × IsFirstLine queries.now text rest.now
         × IsAnswer (zone_of zone.entry) text answer × (page.new ≡ page.old ++ ended answer)) }
     ensures none { IfNone result (page.new ≡ page.old) }
-    ensures kept { IsSegmentOf (zone_of zone.entry) kept.new }
+    ensures cached { IsCacheOf (zone_of zone.entry) cache.new }
 {
     let mut nine = [0; 9];
     let (fields, rest) = read_line(queries, &mut nine)?;
@@ -119,11 +87,15 @@ pub fn answer_search_line<'a>(
         return None;
     };
     let reading = fields.reading();
-    let (low, high) = window_of(reading, offsets);
-    if let Some(tail) = tail_through(kept, zone, tails, low, high) {
+    let (low, high) = window_of(reading, cache.offsets);
+    if !cache.keep(zone, low) {
+        return None;
+    }
+    if high < cache.segment.until {
+        let tail = cache.tail_of(zone, &cache.segment);
         push_once(page, &front_of(&fields), &nine, tail);
         return Some(rest);
     }
-    answer_across_jump(page, kept, zone, tails, &fields, reading, &nine, low, high)?;
+    answer_across_jump(page, cache, zone, &fields, reading, &nine, low, high)?;
     Some(rest)
 }

@@ -10,11 +10,11 @@ returns-in-Some g c =
     let found = c.in-Some.ensures.some in
     record {
       answer = (found.0, found.1, found.2, found.3, ap (λ bytes. items ++ bytes) found.4 ∙ sym (append_assoc items c.args.page.now (ended found.1)));
-      kept = c.in-Some.ensures.kept;
+      cached = c.in-Some.ensures.cached;
     }
 
 pub returns-in_err-flush : goal.returns-in_err-flush
-returns-in_err-flush g c = record { answer = IfOk-from_err c.from_residual.result _ c.from_residual.ensures.0; kept = c.answer_search_line.ensures.kept }
+returns-in_err-flush g c = record { answer = IfOk-from_err c.from_residual.result _ c.from_residual.ensures.0; cached = c.answer_search_line.ensures.cached }
 
 pub returns : goal.returns
 returns g c =
@@ -33,9 +33,9 @@ returns g c =
             ap (λ bytes. c.answer_line.new.answers.items ++ bytes) clear ∙ append-nil c.answer_line.new.answers.items ∙ found.4 ∙ ap (λ bytes. bytes ++ ended found.1) flushed,
           ))
           c.answer_line.ensures;
-      kept = c.answer_search_line.ensures.kept;
+      cached = c.answer_search_line.ensures.cached;
     }
 
 pub answer_search_line-requires : goal.answer_search_line-requires
 answer_search_line-requires g c =
-    record { room = rw c.in_default.ensures.none c.requires.room; kept = c.answer_time_line.ensures.kept; tails = c.requires.tails; offsets = c.requires.offsets; order = c.requires.order }
+    record { room = rw c.in_default.ensures.none c.requires.room; cached = c.answer_time_line.ensures.cached }

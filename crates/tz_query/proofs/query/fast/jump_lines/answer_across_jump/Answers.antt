@@ -8,17 +8,12 @@ use Rattle.tz_query.proofs.query.fast.jump_lines.answer_across_jump.Goals as goa
 pub push_around_jump-requires-clause-window : goal.push_around_jump-requires-clause-window
 push_around_jump-requires-clause-window c =
     let low = c.args.low in
-    let kept = c.args.kept.now in
+    let kept = c.args.cache.now.segment in
     let next = c.in_ok-next.next in
-    let low_fits : SFits w64 low = search rules in
     let high_fits : SFits w64 c.args.high = search rules in
     let jump_fits : SFits w64 kept.until = search rules in
     let until_fits : SFits w64 next.until = search rules in
-    let from_fits : SFits w64 kept.from = search rules in
-    let begun : to_z w64 (of_z w64 kept.from) ≤ℤ to_z w64 (of_z w64 low) = omega (arith, ints, c.if-low-kept.false) in
-    let lasts : to_z w64 (of_z w64 low) <ℤ to_z w64 (of_z w64 kept.until) = omega (arith, ints, c.if-low-kept-2.false) in
-    let from : kept.from ≤ℤ low = rw (to_z-of_z w64 kept.from from_fits, to_z-of_z w64 low low_fits) at begun in
-    let until : low <ℤ kept.until = rw (to_z-of_z w64 low low_fits, to_z-of_z w64 kept.until jump_fits) at lasts in
+    let (from, until) = c.requires.begins in
     let follows : (next.from ≤ℤ kept.until) × (kept.until <ℤ next.until) = c.in_ok-next.ensures.within in
     let stated : to_z w64 (of_z w64 c.args.high) <ℤ to_z w64 (of_z w64 next.until) = omega (arith, ints, c.if-high-next.false) in
     let ends : c.args.high <ℤ next.until = rw (to_z-of_z w64 c.args.high high_fits, to_z-of_z w64 next.until until_fits) at stated in

@@ -1,5 +1,5 @@
 -- The fields are found once, in the segment that holds their window, or as it is answered around a jump.
-use Rattle.std.proofs.Common.{◌≡◌, ◌-ℤ◌, ◌≤ℤ◌, ◌<ℤ◌, inl, refl, arith, rules}
+use Rattle.std.proofs.Common.{◌≡◌, ◌-ℤ◌, ◌≤ℤ◌, ◌<ℤ◌, to_z, of_z, inl, refl, arith, rules}
 use Rattle.std.proofs.lemmas.Int.{ints, to_z-of_z}
 use mir.Syntax.{w64}
 use mir.Val.{SFits}
@@ -13,29 +13,29 @@ use Rattle.tz_query.proofs.query.fast.search_lines.answer_search_line.Goals as g
 pub front_of-requires : goal.front_of-requires
 front_of-requires c = record { valid = c.in-Ok.ensures.ok; year = omega (arith, ints, c.if-fields-lt1000.false, c.if-fields-gt9999.false) }
 
-pub returns-in-Some : goal.returns-in-Some
-returns-in-Some c =
+pub returns-then-high-cache-clause-some : goal.returns-then-high-cache-clause-some
+returns-then-high-cache-clause-some c =
     let z = zone_of c.args.zone in
-    let t = c.in-Some.tail.now.local_time_type in
+    let t = c.tail_of-tail.result.now.local_time_type in
     let f = c.in_ok-fields.fields in
     let line = c.in_ok-fields.ensures in
     let n = line.0 in
-    let least = c.args.offsets.0 in
-    let greatest = c.args.offsets.1 in
-    let kept = c.tail_through.new.kept in
-    let within = c.in-Some.ensures.within in
+    let cached = c.requires.cached in
+    let kept = c.keep.new.self in
+    let least = c.args.cache.now.offsets.0 in
+    let greatest = c.args.cache.now.offsets.1 in
+    let within = c.keep.ensures.within c.if-not-keep.false in
     let low_fits : SFits w64 c.window_of-low.result.0 = search rules in
     let high_fits : SFits w64 c.window_of-low.result.1 = search rules in
     let reading_fits : SFits w64 c.reading-reading.result = record { sfits = c.reading-reading.type_inv } in
-    let low : kept.from ≤ℤ (reading f -ℤ greatest) = rw (to_z-of_z w64 c.window_of-low.result.0 low_fits, c.window_of-low.ensures.low, to_z-of_z w64 c.reading-reading.result reading_fits, c.reading-reading.ensures.value) at within.0 in
-    let high : (reading f -ℤ least) <ℤ kept.until = rw (to_z-of_z w64 c.window_of-low.result.1 high_fits, c.window_of-low.ensures.high, to_z-of_z w64 c.reading-reading.result reading_fits, c.reading-reading.ensures.value) at within.1 in
-    let shown = shown_once z c.args.zone.sound.leap_seconds_are f n line.1 c.in-Ok.ensures.ok least greatest kept.from kept.until t c.requires.order c.requires.offsets c.in-Some.ensures.tail low high in
+    let until_fits : SFits w64 kept.segment.until = search rules in
+    let stated : to_z w64 (of_z w64 c.window_of-low.result.1) <ℤ to_z w64 (of_z w64 kept.segment.until) = omega (arith, ints, c.if-high-cache.true) in
+    let ends : to_z w64 (of_z w64 c.window_of-low.result.1) <ℤ kept.segment.until = rw (to_z-of_z w64 kept.segment.until until_fits) at stated in
+    let low : kept.segment.from ≤ℤ (reading f -ℤ greatest) = rw (to_z-of_z w64 c.window_of-low.result.0 low_fits, c.window_of-low.ensures.low, to_z-of_z w64 c.reading-reading.result reading_fits, c.reading-reading.ensures.value) at within.0 in
+    let high : (reading f -ℤ least) <ℤ kept.segment.until = rw (to_z-of_z w64 c.window_of-low.result.1 high_fits, c.window_of-low.ensures.high, to_z-of_z w64 c.reading-reading.result reading_fits, c.reading-reading.ensures.value) at ends in
+    let shown = shown_once z c.args.zone.sound.leap_seconds_are f n line.1 c.in-Ok.ensures.ok least greatest kept.segment.from kept.segment.until t cached.order cached.offsets c.tail_of-tail.ensures low high in
     let text = written_once c.push_once.new.page c.args.page.now c.front_of.result c.read_line.new.nine (ended shown.0) f n t c.push_once.ensures c.front_of.ensures line.2 shown.2 in
-    record {
-      some = (line.3.0, shown.0, line.3.1, inl (Search (record f { nanoseconds = n }), line.3.2, shown.1), text);
-      none = tt;
-      kept = c.tail_through.ensures.kept;
-    }
+    (line.3.0, shown.0, line.3.1, inl (Search (record f { nanoseconds = n }), line.3.2, shown.1), text)
 
 pub answer_across_jump-requires : goal.answer_across_jump-requires
 answer_across_jump-requires c =
@@ -43,18 +43,18 @@ answer_across_jump-requires c =
     let low_fits : SFits w64 window.result.0 = search rules in
     let high_fits : SFits w64 window.result.1 = search rules in
     let read = to_z-of_z w64 c.reading-reading.result (record { sfits = c.reading-reading.type_inv }) in
-    let low : window.result.0 ≡ reading c.in_ok-fields.fields -ℤ c.args.offsets.1 = rw (read, c.reading-reading.ensures.value) at window.ensures.low in
-    let high : window.result.1 ≡ reading c.in_ok-fields.fields -ℤ c.args.offsets.0 = rw (read, c.reading-reading.ensures.value) at window.ensures.high in
+    let low : window.result.0 ≡ reading c.in_ok-fields.fields -ℤ c.args.cache.now.offsets.1 = rw (read, c.reading-reading.ensures.value) at window.ensures.low in
+    let high : window.result.1 ≡ reading c.in_ok-fields.fields -ℤ c.args.cache.now.offsets.0 = rw (read, c.reading-reading.ensures.value) at window.ensures.high in
     record {
       room = c.requires.room;
-      kept = c.tail_through.ensures.kept;
-      tails = c.requires.tails;
+      cached = c.keep.ensures.cached;
+      begins = c.keep.ensures.within c.if-not-keep.false;
       valid = c.in-Ok.ensures.ok;
       reading = rw read c.reading-reading.ensures.value;
       bound = rw read c.reading-reading.ensures.bound;
       year = omega (arith, ints, c.if-fields-lt1000.false, c.if-fields-gt9999.false);
       offsets = rw (to_z-of_z w64 window.result.0 low_fits, to_z-of_z w64 window.result.1 high_fits)
-          (λ u t clock. let between = c.requires.offsets u t clock in (omega (arith, ints, high, between.0), omega (arith, ints, low, between.1)));
+          (λ u t clock. let between = c.requires.cached.offsets u t clock in (omega (arith, ints, high, between.0), omega (arith, ints, low, between.1)));
     }
 
 pub returns-clause-some : goal.returns-clause-some
@@ -66,11 +66,11 @@ returns-clause-some c =
     (line.3.0, found.0, line.3.1, inl (Search (record f { nanoseconds = n }), line.3.2, found.1), found.2)
 
 pub returns-in_err-fields : goal.returns-in_err-fields
-returns-in_err-fields c = rw c.from_residual.ensures (record { some = tt; none = refl; kept = c.requires.kept })
+returns-in_err-fields c = rw c.from_residual.ensures (record { some = tt; none = refl; cached = c.requires.cached })
 
 pub window_of-low-requires : goal.window_of-low-requires
 window_of-low-requires c = rw (to_z-of_z w64 c.reading-reading.result (record { sfits = c.reading-reading.type_inv })) c.reading-reading.ensures.bound
 
 pub returns-in_err-answer_across_jump : goal.returns-in_err-answer_across_jump
 returns-in_err-answer_across_jump c =
-    rw c.from_residual-in_err-answer_across_jump.ensures (record { some = tt; none = c.in_err-answer_across_jump.ensures.none; kept = c.tail_through.ensures.kept })
+    rw c.from_residual-in_err-answer_across_jump.ensures (record { some = tt; none = c.in_err-answer_across_jump.ensures.none; cached = c.keep.ensures.cached })

@@ -15,13 +15,14 @@ pub returns-clause-some : goal.returns-clause-some
 returns-clause-some c =
     let z = zone_of c.args.zone in
     let u = c.in_ok-unix_time.unix_time in
-    let t = c.in_ok-tail.tail.now.local_time_type in
+    let t = c.tail_of-tail.result.now.local_time_type in
     let f = c.in_ok-fields.fields in
     let line = c.in_ok-unix_time.ensures.line in
     let fits : SFits w64 u = search rules in
     let offset : SFits w32 c.ut_offset.result = search rules in
     let front = line.3 in
-    let clock = rw (to_z-of_z w64 u fits) at c.in_ok-tail.ensures.tail in
+    let within = rw (to_z-of_z w64 u fits) at c.keep.ensures.within c.if-not-keep.false in
+    let clock = c.tail_of-tail.ensures u within.0 within.1 in
     let civil : IsCivil (u +ℤ t.ut_offset) 0 f = rw (to_z-of_z w64 u fits, to_z-of_z w32 c.ut_offset.result offset, c.ut_offset.ensures) at c.in_ok-fields.ensures.fields in
     let reads : IsReading (u +ℤ t.ut_offset) = rw (to_z-of_z w64 u fits, to_z-of_z w32 c.ut_offset.result offset, c.ut_offset.ensures) at c.in_ok-fields.ensures.reading in
     let shown = shown_with z u line.0 t f line.1 clock civil reads in
@@ -33,13 +34,10 @@ returns-clause-some c =
     (front.0, shown.0 ∷ [], front.1, inl (Time u line.0, front.2, (shown.0, shown.1, refl)), text ∙ ap (λ bytes. page ++ bytes) shown.2)
 
 pub returns-in_err-unix_time : goal.returns-in_err-unix_time
-returns-in_err-unix_time c = rw c.from_residual.ensures (record { some = tt; none = refl; kept = c.requires.kept })
-
-pub returns-in_err-tail : goal.returns-in_err-tail
-returns-in_err-tail c = rw c.from_residual-in_err-tail.ensures (record { some = tt; none = refl; kept = c.tail_at.ensures.kept })
+returns-in_err-unix_time c = rw c.from_residual.ensures (record { some = tt; none = refl; cached = c.requires.cached })
 
 pub returns-in_err-fields : goal.returns-in_err-fields
-returns-in_err-fields c = rw c.from_residual-in_err-fields.ensures (record { some = tt; none = refl; kept = c.tail_at.ensures.kept })
+returns-in_err-fields c = rw c.from_residual-in_err-fields.ensures (record { some = tt; none = refl; cached = c.keep.ensures.cached })
 
 pub shown_fields-requires : goal.shown_fields-requires
 shown_fields-requires c = let fits : SFits w64 c.in_ok-unix_time.unix_time = search rules in rw (to_z-of_z w64 c.in_ok-unix_time.unix_time fits) c.in_ok-unix_time.ensures.bound
@@ -49,6 +47,3 @@ front_of-requires-clause-valid c = c.in_ok-fields.ensures.fields.valid
 
 pub front_of-requires-clause-year : goal.front_of-requires-clause-year
 front_of-requires-clause-year c = c.in_ok-fields.ensures.year
-
-pub returns-clause-kept : goal.returns-clause-kept
-returns-clause-kept c = c.tail_at.ensures.kept
