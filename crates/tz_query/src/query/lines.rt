@@ -1,13 +1,17 @@
 //! The first line of bytes, and its query.
 
-ghost use Rattle.std.specs.Prelude.{◌≡◌, ℕ, ◌^◌, ◌<◌, [], ◌∷◌, List, ℤ, pos, length, IfSome, IfNone, FitsSigned};
+ghost use Rattle.std.specs.Prelude.{◌≡◌, ℕ, ◌^◌, ◌<◌, [], ◌∷◌, List, ℤ, pos, negsuc, ◌≤ℤ◌, length, IfSome, IfNone, FitsSigned};
 ghost use Rattle.std.specs.Int.{w64};
 ghost use Rattle.tz_base.specs.declared.calendar.Fields.{Fields};
+ghost use Rattle.tz.specs.PrintedText.{nine_digits};
 ghost use Rattle.tz_query.specs.Lines.{IsLineEnd, IsFirstLine};
 ghost use Rattle.tz_query.specs.Numbers.{ArePartsFront};
 ghost use Rattle.tz_query.specs.Queries.{AreFieldsOfBits, numbers_of, IsTimeLineFront, IsSearchLineFront, IsMeetingLineFront};
 
-use crate::query::numbers::{after_byte, read_i32, read_i64, read_u8, read_u32};
+use crate::query::numbers::{
+    after_byte, read_i32, read_i64, read_nanoseconds, read_seconds, read_small, read_u8, read_u32,
+    read_year,
+};
 use tz::inner::Fields;
 
 /// The bytes after the end of a line, if it ends here: after an LF, or none where there are none.
@@ -105,4 +109,58 @@ pub fn read_meeting_line(bytes: &[u8]) -> Option<(u8, Fields, &[u8])>
     let (fields, tail) = read_fields(after_count)?;
     let rest = after_line_end(tail)?;
     Some((count, fields, rest))
+}
+
+/// The instant of the first line, if it is a `T` line of usual numbers, and the bytes after it. Its nanoseconds are copied.
+///
+/// Lines that end in the last bytes of the queries are none: so no read tests where the bytes end.
+#[inline(always)]
+pub fn read_usual_time_line<'a>(queries: &'a [u8], nine: &mut [u8; 9]) -> Option<(i64, &'a [u8])>
+    ensures line { IfSome result (λ r. (n : ℕ) × (n < 1000000000) × (nine.new ≡ nine_digits n) × IsTimeLineFront queries.now r.0 n r.1.now) }
+    ensures bound { IfSome result (λ r. (negsuc 1000000000000000000 ≤ℤ r.0) × (r.0 ≤ℤ pos 1000000000000000000)) }
+{
+    if queries.len() < 48 || queries[0] != b'T' {
+        return None;
+    }
+    let (unix_time, after_seconds) = read_seconds(queries, 1)?;
+    let line_end = read_nanoseconds(queries, after_seconds, nine)?;
+    if queries[line_end] != b'\n' {
+        return None;
+    }
+    Some((unix_time, &queries[line_end + 1..]))
+}
+
+/// The fields of the first line, if it is an `F` line of usual numbers, and the bytes after it. Its nanoseconds are copied,
+/// and are 0 in the fields.
+#[inline(always)]
+pub fn read_usual_search_line<'a>(
+    queries: &'a [u8],
+    nine: &mut [u8; 9],
+) -> Option<(Fields, &'a [u8])>
+    ensures { IfSome result (λ r. (n : ℕ) × (n < 1000000000) × (nine.new ≡ nine_digits n)
+        × IsSearchLineFront queries.now (record r.0 { nanoseconds = n }) r.1.now) }
+{
+    if queries.len() < 64 || queries[0] != b'F' || queries[1] != b' ' {
+        return None;
+    }
+    let year = read_year(queries, 2)?;
+    let (month, after_month) = read_small(queries, 7)?;
+    let (month_day, after_day) = read_small(queries, after_month + 1)?;
+    let (hour, after_hour) = read_small(queries, after_day + 1)?;
+    let (minute, after_minute) = read_small(queries, after_hour + 1)?;
+    let (second, after_second) = read_small(queries, after_minute + 1)?;
+    let line_end = read_nanoseconds(queries, after_second, nine)?;
+    if queries[line_end] != b'\n' {
+        return None;
+    }
+    let fields = Fields {
+        year: i32::from(year),
+        month,
+        month_day,
+        hour,
+        minute,
+        second,
+        nanoseconds: 0,
+    };
+    Some((fields, &queries[line_end + 1..]))
 }

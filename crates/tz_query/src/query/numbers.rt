@@ -1,9 +1,13 @@
-//! Numbers in front of bytes.
+//! Numbers in front of bytes: of any length, and, read in few steps, those that lines mostly have.
 
-ghost use Rattle.std.specs.Prelude.{◌≡◌, ◌≢◌, ℕ, ◌+◌, ◌*◌, ◌^◌, ◌<◌, ◌≤◌, List, length, ◌∷◌, ◌⊎◌, ◌↔◌, ℤ, pos, IsTrue, IfSome, IfNone, FitsSigned};
+ghost use Rattle.std.specs.Prelude.{◌≡◌, ◌≢◌, ℕ, ◌+◌, ◌*◌, ◌^◌, ◌<◌, ◌≤◌, List, length, ◌∷◌, drop, ℤ, pos, negsuc, ◌≤ℤ◌, IfSome, IfNone, FitsSigned};
 ghost use Rattle.std.specs.Char.{digit_value};
 ghost use Rattle.std.specs.Int.{w32, w64};
+ghost use Rattle.std.specs.Str.Parse.{digits_value};
+ghost use Rattle.tz.specs.PrintedText.{nine_digits};
 ghost use Rattle.tz_query.specs.Numbers.{IsNumberFront, IsDigitsFront, IsCapped, IsPartFront, EndsDigits};
+
+use core::dec2flt;
 
 /// From here on one more digit makes a number that no type of 64 bits has.
 const LIMIT: u64 = 1_000_000_000_000_000_000;
@@ -24,7 +28,7 @@ fn with_digit(number: u64, digit: u8) -> u64
 
 /// The value of a digit, which is below 10; for every other byte it is 10 or more.
 #[inline(always)]
-pub fn value_of(byte: u8) -> u8
+fn value_of(byte: u8) -> u8
     ensures digit { result < 10 → (digit_value byte < 10) × (result ≡ digit_value byte) }
     ensures other { 10 ≤ result → ¬ (digit_value byte < 10) }
 {
@@ -138,4 +142,121 @@ pub fn read_u8(bytes: &[u8]) -> Option<(u8, &[u8])>
         Ok(number) => Some((number, rest)),
         Err(_) => None,
     }
+}
+
+/// The number of the digits at a place, if there are 1 to 18, and the place after them.
+///
+/// Eleven bytes hold the digits of the years up to 5138, and of a slice of this length eight are read at once, and then one at a time.
+#[inline(always)]
+fn read_few_digits(bytes: &[u8], place: usize) -> Option<(u64, usize)>
+    requires { place + 12 ≤ length bytes.now }
+    ensures number { IfSome result (λ r. (digits : List ℕ) × IsDigitsFront (drop place bytes.now) digits (drop r.1 bytes.now) × (0 < length digits)
+        × (r.0 ≡ digits_value 10 digits)) }
+    ensures bound { IfSome result (λ r. (r.0 < 1000000000000000000) × (r.1 ≤ place + 18) × (r.1 ≤ length bytes.now)) }
+{
+    let (count, number) = dec2flt::read_digits(&bytes[place..place + 11], 0, 0);
+    if count == 0 {
+        return None;
+    }
+    if bytes[place + count] == b' ' {
+        return Some((number, place + count));
+    }
+    let (end, number) = dec2flt::read_digits(bytes, place, 0);
+    if end == place || end > place + 18 {
+        return None;
+    }
+    Some((number, end))
+}
+
+/// The number of up to 18 digits after a space at a place, and the place after it.
+#[inline(always)]
+pub fn read_seconds(bytes: &[u8], place: usize) -> Option<(i64, usize)>
+    requires { place + 14 ≤ length bytes.now }
+    ensures number { IfSome result (λ r. IsPartFront (drop place bytes.now) r.0 (drop r.1 bytes.now)) }
+    ensures bound { IfSome result (λ r. (negsuc 1000000000000000000 ≤ℤ r.0) × (r.0 ≤ℤ pos 1000000000000000000)) }
+    ensures end { IfSome result (λ r. (r.1 ≤ place + 20) × (r.1 ≤ length bytes.now)) }
+{
+    if bytes[place] != b' ' {
+        return None;
+    }
+    if bytes[place + 1] == b'-' {
+        let (size, end) = read_few_digits(bytes, place + 2)?;
+        return Some((-(size as i64), end));
+    }
+    let (size, end) = read_few_digits(bytes, place + 1)?;
+    Some((size as i64, end))
+}
+
+/// Copies the number of up to nine digits after a space at a place, with zeros in front of it, and gives the place after it. Nine digits
+/// are taken where LF follows.
+#[inline(always)]
+pub fn read_nanoseconds(bytes: &[u8], place: usize, nine: &mut [u8; 9]) -> Option<usize>
+    requires { place + 11 ≤ length bytes.now }
+    ensures number { IfSome result (λ end. (n : ℕ) × (n < 1000000000) × (nine.new ≡ nine_digits n)
+        × IsPartFront (drop place bytes.now) (pos n) (drop end bytes.now)) }
+    ensures end { IfSome result (λ end. (end ≤ place + 10) × (end < length bytes.now)) }
+{
+    if bytes[place] != b' ' {
+        return None;
+    }
+    let start = place + 1;
+    let (count, _) = dec2flt::read_digits(&bytes[start..start + 9], 0, 0);
+    let end = start + count;
+    if count == 9 {
+        if bytes[end] != b'\n' {
+            return None;
+        }
+        nine.copy_from_slice(&bytes[start..start + 9]);
+        return Some(end);
+    }
+    if count == 0 || end < 9 {
+        return None;
+    }
+    nine.copy_from_slice(&bytes[end - 9..end]);
+    let zeros = 9 - count;
+    for index in 0..zeros {
+        nine[index] = b'0';
+    }
+    Some(end)
+}
+
+/// The number of one or two digits at a place, if a space follows it, and the place of that space.
+#[inline(always)]
+pub fn read_small(bytes: &[u8], place: usize) -> Option<(u8, usize)>
+    requires { place + 3 ≤ length bytes.now }
+    ensures number { IfSome result (λ r. IsNumberFront (drop place bytes.now) (pos r.0) (drop r.1 bytes.now)) }
+    ensures space { IfSome result (λ r. drop r.1 bytes.now ≡ 32 ∷ drop (r.1 + 1) bytes.now) }
+    ensures bound { IfSome result (λ r. (r.0 < 100) × (r.1 ≤ place + 2)) }
+{
+    let first = value_of(bytes[place]);
+    if first >= 10 {
+        return None;
+    }
+    if bytes[place + 1] == b' ' {
+        return Some((first, place + 1));
+    }
+    let second = value_of(bytes[place + 1]);
+    if second >= 10 || bytes[place + 2] != b' ' {
+        return None;
+    }
+    Some((first * 10 + second, place + 2))
+}
+
+/// The number of four digits at a place, if a space follows it.
+#[inline(always)]
+pub fn read_year(bytes: &[u8], place: usize) -> Option<u16>
+    requires { place + 5 ≤ length bytes.now }
+    ensures number { IfSome result (λ year. IsNumberFront (drop place bytes.now) (pos year) (drop (place + 4) bytes.now)) }
+    ensures space { IfSome result (λ year. drop (place + 4) bytes.now ≡ 32 ∷ drop (place + 5) bytes.now) }
+    ensures bound { IfSome result (λ year. year < 10000) }
+{
+    let first = value_of(bytes[place]);
+    let second = value_of(bytes[place + 1]);
+    let third = value_of(bytes[place + 2]);
+    let fourth = value_of(bytes[place + 3]);
+    if first >= 10 || second >= 10 || third >= 10 || fourth >= 10 || bytes[place + 4] != b' ' {
+        return None;
+    }
+    let century = u16::from(first * 10 + second);
+    Some(century * 100 + u16::from(third * 10 + fourth))
 }

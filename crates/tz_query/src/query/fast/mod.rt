@@ -5,7 +5,6 @@
 pub mod entries;
 pub mod front;
 pub mod jump_lines;
-pub mod numbers;
 pub mod search_lines;
 pub mod tail;
 pub mod tails;

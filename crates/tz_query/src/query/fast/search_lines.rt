@@ -1,55 +1,19 @@
 //! `F` lines that are found once, answered from a segment of the zone that holds all their window.
 
-ghost use Rattle.std.specs.Prelude.{◌≡◌, ◌<◌, ℕ, pos, negsuc, ◌-ℤ◌, ◌≤ℤ◌, List, ◌++◌, IfSome, IfNone};
-ghost use Rattle.tz_base.specs.declared.calendar.Fields.{Fields};
+ghost use Rattle.std.specs.Prelude.{◌≡◌, ℕ, pos, negsuc, ◌-ℤ◌, ◌≤ℤ◌, List, ◌++◌, IfSome, IfNone};
 ghost use Rattle.tz_zone.specs.ZoneRef.{zone_of};
-ghost use Rattle.tz.specs.PrintedText.{nine_digits};
 ghost use Rattle.tz_query.specs.Answers.{IsAnswer};
 ghost use Rattle.tz_query.specs.Caches.{IsCacheOf};
 ghost use Rattle.tz_query.specs.Lines.{IsFirstLine, ended};
 ghost use Rattle.tz_query.specs.Pages.{HasRoom};
-ghost use Rattle.tz_query.specs.Queries.{IsSearchLineFront};
 
 use super::entries::push_once;
 use super::front::front_of;
 use super::jump_lines::answer_across_jump;
-use super::numbers::{read_nanoseconds, read_small, read_year};
 use crate::query::cache::Cache;
+use crate::query::lines::read_usual_search_line;
 use crate::query::page::Page;
 use tz::TimeZoneRef;
-use tz::inner::Fields;
-
-/// The fields of the first line, if it is an `F` line of usual numbers, and the bytes after it. Its nanoseconds are copied,
-/// and are 0 in the fields.
-#[inline(always)]
-fn read_line<'a>(queries: &'a [u8], nine: &mut [u8; 9]) -> Option<(Fields, &'a [u8])>
-    ensures { IfSome result (λ r. (n : ℕ) × (n < 1000000000) × (nine.new ≡ nine_digits n)
-        × IsSearchLineFront queries.now (record r.0 { nanoseconds = n }) r.1.now) }
-{
-    if queries.len() < 64 || queries[0] != b'F' || queries[1] != b' ' {
-        return None;
-    }
-    let year = read_year(queries, 2)?;
-    let (month, after_month) = read_small(queries, 7)?;
-    let (month_day, after_day) = read_small(queries, after_month + 1)?;
-    let (hour, after_hour) = read_small(queries, after_day + 1)?;
-    let (minute, after_minute) = read_small(queries, after_hour + 1)?;
-    let (second, after_second) = read_small(queries, after_minute + 1)?;
-    let line_end = read_nanoseconds(queries, after_second, nine)?;
-    if queries[line_end] != b'\n' {
-        return None;
-    }
-    let fields = Fields {
-        year: i32::from(year),
-        month,
-        month_day,
-        hour,
-        minute,
-        second,
-        nanoseconds: 0,
-    };
-    Some((fields, &queries[line_end + 1..]))
-}
 
 /// The first and the last instant at which a clock whose offsets lie between two shows a reading.
 #[inline(always)]
@@ -79,7 +43,7 @@ pub fn answer_search_line<'a>(
     ensures cached { IsCacheOf (zone_of zone.entry) cache.new }
 {
     let mut nine = [0; 9];
-    let (fields, rest) = read_line(queries, &mut nine)?;
+    let (fields, rest) = read_usual_search_line(queries, &mut nine)?;
     if fields.year < 1000 || fields.year > 9999 {
         return None;
     }

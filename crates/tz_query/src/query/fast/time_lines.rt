@@ -1,40 +1,19 @@
 //! `T` lines, answered from a segment of the zone that is kept from one line to the next.
 
-ghost use Rattle.std.specs.Prelude.{◌≡◌, ◌<◌, ℕ, ◌+ℤ◌, List, ◌++◌, pos, negsuc, ◌≤ℤ◌, IfSome, IfNone};
+ghost use Rattle.std.specs.Prelude.{◌≡◌, ℕ, ◌+ℤ◌, List, ◌++◌, pos, negsuc, ◌≤ℤ◌, IfSome, IfNone};
 ghost use Rattle.tz_base.specs.Fields.{IsCivil, IsReading};
 ghost use Rattle.tz_zone.specs.ZoneRef.{zone_of};
 ghost use Rattle.tz_query.specs.Answers.{IsAnswer};
 ghost use Rattle.tz_query.specs.Caches.{IsCacheOf};
 ghost use Rattle.tz_query.specs.Lines.{IsFirstLine, ended};
 ghost use Rattle.tz_query.specs.Pages.{HasRoom};
-ghost use Rattle.tz_query.specs.Queries.{IsTimeLineFront};
-ghost use Rattle.tz.specs.PrintedText.{nine_digits};
 
 use super::front::front_of;
-use super::numbers::{read_nanoseconds, read_seconds};
 use crate::query::cache::Cache;
+use crate::query::lines::read_usual_time_line;
 use crate::query::page::Page;
 use tz::TimeZoneRef;
 use tz::inner::{Fields, is_reading};
-
-/// The instant of the first line, if it is a `T` line of usual numbers, and the bytes after it. Its nanoseconds are copied.
-///
-/// Lines that end in the last bytes of the queries are none: so no read tests where the bytes end.
-#[inline(always)]
-fn read_line<'a>(queries: &'a [u8], nine: &mut [u8; 9]) -> Option<(i64, &'a [u8])>
-    ensures line { IfSome result (λ r. (n : ℕ) × (n < 1000000000) × (nine.new ≡ nine_digits n) × IsTimeLineFront queries.now r.0 n r.1.now) }
-    ensures bound { IfSome result (λ r. (negsuc 1000000000000000000 ≤ℤ r.0) × (r.0 ≤ℤ pos 1000000000000000000)) }
-{
-    if queries.len() < 48 || queries[0] != b'T' {
-        return None;
-    }
-    let (unix_time, after_seconds) = read_seconds(queries, 1)?;
-    let line_end = read_nanoseconds(queries, after_seconds, nine)?;
-    if queries[line_end] != b'\n' {
-        return None;
-    }
-    Some((unix_time, &queries[line_end + 1..]))
-}
 
 /// What a clock with this offset from UTC shows at a Unix time, if its year has four digits.
 #[inline(always)]
@@ -71,7 +50,7 @@ pub fn answer_time_line<'a>(
     ensures cached { IsCacheOf (zone_of zone.entry) cache.new }
 {
     let mut nine = [0; 9];
-    let (unix_time, rest) = read_line(queries, &mut nine)?;
+    let (unix_time, rest) = read_usual_time_line(queries, &mut nine)?;
     if !cache.keep(zone, unix_time) {
         return None;
     }

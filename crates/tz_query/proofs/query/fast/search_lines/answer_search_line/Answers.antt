@@ -34,7 +34,7 @@ returns-then-high-cache-clause-some c =
     let low : kept.segment.from ≤ℤ (reading f -ℤ greatest) = rw (to_z-of_z w64 c.window_of-low.result.0 low_fits, c.window_of-low.ensures.low, to_z-of_z w64 c.reading-reading.result reading_fits, c.reading-reading.ensures.value) at within.0 in
     let high : (reading f -ℤ least) <ℤ kept.segment.until = rw (to_z-of_z w64 c.window_of-low.result.1 high_fits, c.window_of-low.ensures.high, to_z-of_z w64 c.reading-reading.result reading_fits, c.reading-reading.ensures.value) at ends in
     let shown = shown_once z c.args.zone.sound.leap_seconds_are f n line.1 c.in-Ok.ensures.ok least greatest kept.segment.from kept.segment.until t cached.order cached.offsets c.tail_of-tail.ensures low high in
-    let text = written_once c.push_once.new.page c.args.page.now c.front_of.result c.read_line.new.nine (ended shown.0) f n t c.push_once.ensures c.front_of.ensures line.2 shown.2 in
+    let text = written_once c.push_once.new.page c.args.page.now c.front_of.result c.read_usual_search_line.new.nine (ended shown.0) f n t c.push_once.ensures c.front_of.ensures line.2 shown.2 in
     (line.3.0, shown.0, line.3.1, inl (Search (record f { nanoseconds = n }), line.3.2, shown.1), text)
 
 pub answer_across_jump-requires : goal.answer_across_jump-requires

@@ -29,7 +29,7 @@ returns-clause-some c =
     let page = c.args.page.now in
     let text : c.push_line.new.self ≡ page ++ (front_text f ++ (nine_digits line.0 ++ end_text t)) =
     c.push_line.ensures.text
-    ∙ ap (λ bytes. page ++ (bytes ++ (c.read_line.new.nine ++ end_text t))) c.front_of.ensures
+    ∙ ap (λ bytes. page ++ (bytes ++ (c.read_usual_time_line.new.nine ++ end_text t))) c.front_of.ensures
     ∙ ap (λ bytes. page ++ (front_text f ++ (bytes ++ end_text t))) line.2 in
     (front.0, shown.0 ∷ [], front.1, inl (Time u line.0, front.2, (shown.0, shown.1, refl)), text ∙ ap (λ bytes. page ++ bytes) shown.2)
 

@@ -1,7 +1,7 @@
 -- Four digits stand before a space.
 use Rattle.std.proofs.Common.{◌≡◌, ◌+◌, [], ◌∷◌, drop, get_or, refl, ap, ◌∙◌, arith}
 use Rattle.tz_query.proofs.FastNumbers.{byte_at, front_before_space}
-use Rattle.tz_query.proofs.query.fast.numbers.read_year.Goals as goal
+use Rattle.tz_query.proofs.query.numbers.read_year.Goals as goal
 
 pub returns-clause-number : goal.returns-clause-number
 returns-clause-number c =

@@ -4,7 +4,7 @@ use Rattle.std.specs.Prelude.{slice_range}
 use Rattle.std.specs.Str.Parse.{digits_value}
 use Rattle.std.proofs.lemmas.List.{length-set}
 use Rattle.tz_query.proofs.FastNumbers.{front_at, length_at, byte_at, few_in_window, end_in_window, end_of_window, digits_of_nine, nine_digits_are, one_more_zero, plain_part}
-use Rattle.tz_query.proofs.query.fast.numbers.read_nanoseconds.Goals as goal
+use Rattle.tz_query.proofs.query.numbers.read_nanoseconds.Goals as goal
 
 pub loop-index-preserved : goal.loop-index-preserved
 loop-index-preserved c =

@@ -7,7 +7,7 @@ use mir.Val.{SFits}
 use Rattle.tz_query.specs.Queries.{IsTimeLineFront}
 use Rattle.tz_query.proofs.FastNumbers.{byte_at}
 use Rattle.tz_query.proofs.LineLemmas.{line_from_front}
-use Rattle.tz_query.proofs.query.fast.time_lines.read_line.Goals as goal
+use Rattle.tz_query.proofs.query.lines.read_usual_time_line.Goals as goal
 
 pub returns-clause-line : goal.returns-clause-line
 returns-clause-line c =

@@ -4,7 +4,7 @@ use Rattle.std.specs.Prelude.{slice_range}
 use Rattle.std.specs.Float.Numeral.{digits_len}
 use Rattle.std.proofs.lemmas.Bool.{cases_lt}
 use Rattle.tz_query.proofs.FastNumbers.{front_at, length_at, value_at, byte_at, few_in_window, end_in_window, end_of_window, value_in_window}
-use Rattle.tz_query.proofs.query.fast.numbers.read_few_digits.Goals as goal
+use Rattle.tz_query.proofs.query.numbers.read_few_digits.Goals as goal
 
 pub returns-then-bytes-place-eq32-clause-number : goal.returns-then-bytes-place-eq32-clause-number
 returns-then-bytes-place-eq32-clause-number c =
