@@ -19,4 +19,5 @@ pub mod FieldOrder
 pub mod TotalLemmas
 pub mod FoundOnce
 pub mod FoundAtJump
+pub mod ResolutionLemmas
 pub mod EntriesTaken

@@ -1,7 +1,8 @@
 -- A walk past the segments of a clock in a window, one after another, finds all.
 use Rattle.std.proofs.Common.{◌≡◌, ℕ, zero, suc, ◌<◌, ◌≤◌, sym, ap, subst, arith, ℤ, pos, negsuc, ◌+ℤ◌, ◌-ℤ◌, ◌≤ℤ◌, ◌<ℤ◌, List, [], ◌∷◌, ◌++◌, length, get_or, Option, None}
 use Rattle.std.proofs.lemmas.Int.{ints}
-use Rattle.std.proofs.lemmas.List.Elements.{All-weaker}
+use Rattle.std.specs.List.{Contains}
+use Rattle.std.proofs.lemmas.List.Elements.{All-nil, All-weaker}
 use Rattle.tz_base.specs.declared.calendar.Fields.{Fields}
 use Rattle.tz_base.specs.declared.error.TzError.{TzError}
 use Rattle.tz_base.specs.Fields.{reading}
@@ -104,6 +105,19 @@ module _ (clock : Clock) (low high : ℤ) (f : Fields) where
         (found_before_end Seen f until (found ++ new)
         (found_before_given Seen f w found way.walked until (holds_to until (omega (arith, ints, end, over)) (omega (arith, ints, end))) new (omega (arith, ints, end, way.high_is)) given)
         (λ u t seen. omega (arith, ints, end, seen.1.1)))
+
+-- where the clock has no type in a window, nothing is found
+pub found_nowhere : (clock : Clock) (low high : ℤ) (f : Fields) → AreOffsetsAround clock low high (reading f) → ((u : ℤ) → IsInWindow low high u → (t : LocalTimeType) → ¬ clock u t) → IsFound clock f []
+found_nowhere clock low high f offsets none =
+    record {
+      sound = All-nil (IsFoundBy clock f);
+      in_order = λ i j d less within. absurd (omega (arith, within));
+      complete = no_other;
+    }
+  where
+    no_other : (e : FoundDateTimeKind) → IsFoundBy clock f e → Contains [] e
+    no_other (Normal d) (fields, shows) = absurd (none d.unix_time (shown_in_window clock low high (reading f) offsets d.unix_time d.local_time_type shows) d.local_time_type shows.0)
+    no_other (Skipped x y) (u, a, b, passes, sx, sy) = absurd (none u (passed_in_window clock low high (reading f) offsets u a b passes).1 b passes.1)
 
 -- a list of rising instants in a window is no longer than the window
 pub few_found : (clock : Clock) (low high : ℤ) (f : Fields) (found : List FoundDateTimeKind) → AreOffsetsAround clock low high (reading f) → (high -ℤ low) ≤ℤ pos 4294967296 → IsFound clock f found →

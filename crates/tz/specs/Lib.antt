@@ -6,6 +6,7 @@ pub mod Found
 pub mod Slots
 pub mod Buffers
 pub mod Walks
+pub mod Resolutions
 pub mod Reached
 pub mod Windows
 pub mod FindFaults

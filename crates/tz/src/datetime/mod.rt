@@ -9,6 +9,7 @@ mod found_list;
 mod found_list_ref;
 mod growing;
 mod local_time;
+pub(crate) mod resolution;
 pub(crate) mod search;
 mod slot_writer;
 mod totals;

@@ -1,6 +1,6 @@
 //! The search for a reading in the clock of a zone.
 
-ghost use Rattle.std.specs.Prelude.{◌≡◌, ◌+◌, ◌*◌, ◌^◌, ◌<◌, ◌≤◌, ◌⊎◌, ℕ, ℤ, pos, List, ◌-ℤ◌, ◌≤ℤ◌, Option, Some, OnOk, IfErr, length, alloc_error, [], ◌∷◌};
+ghost use Rattle.std.specs.Prelude.{◌≡◌, ◌+◌, ◌*◌, ◌^◌, ◌<◌, ◌≤◌, ◌⊎◌, ℕ, ℤ, pos, List, ◌-ℤ◌, ◌≤ℤ◌, ◌<ℤ◌, Option, Some, OnOk, IfErr, length, alloc_error, [], ◌∷◌};
 ghost use Rattle.tz_base.specs.Fields.{IsValid, reading as reading_of};
 ghost use Rattle.tz_zone.specs.Table.{Zone};
 ghost use Rattle.tz_zone.specs.Clock.{IsClock};
@@ -16,6 +16,7 @@ ghost use Rattle.tz.specs.declared.datetime.found.FoundDateTimeKind.{FoundDateTi
 ghost use Rattle.tz.specs.declared.datetime.found.FoundDateTimeKind.TheVariants.{Normal};
 
 use super::growing::DateTimeList;
+use super::resolution::across;
 use super::walk::{Piece, Walk};
 use super::{DateTime, FoundDateTimeKind};
 use tz_base::calendar::Fields;
@@ -33,6 +34,18 @@ fn type_in(segment: &ClockSegment<'_>) -> Option<LocalTimeType>
     match segment.local_time_type {
         Some(local_time_type) => Some(*local_time_type),
         None => None,
+    }
+}
+
+/// A segment as a piece of a walk.
+fn piece_of(segment: &ClockSegment<'_>) -> Piece
+    ensures from { result.from ≡ segment.now.from }
+    ensures holds { (z : Zone) (at : ℤ) → AreLeapSeconds z.leap_seconds → IsSegmentAt z at segment.now
+        → (u : ℤ) → segment.now.from ≤ℤ u → u ≤ℤ segment.now.last → HoldsAt (IsClock z) u result.local_time_type }
+{
+    Piece {
+        from: segment.from,
+        local_time_type: type_in(segment),
     }
 }
 
@@ -71,10 +84,14 @@ fn give_once<L: DateTimeList>(
     Ok(())
 }
 
-/// Adds all that is found of valid fields in a window to the list, in order, from the segment in which the window begins.
-fn search_from<'a, L: DateTimeList, V: Transitions>(
+/// Adds all that is found of valid fields to the list, in order, where their window ends behind the segment in which it begins.
+///
+/// Where it ends in the next segment, two comparisons tell; else a walk goes on from there.
+#[inline(never)]
+fn search_on<'a, L: DateTimeList, V: Transitions>(
     list: &mut L,
     fields: &Fields,
+    reading: i64,
     view: &mut V,
     parts: OtherParts<'a>,
     segment: &mut ClockSegment<'a>,
@@ -82,8 +99,61 @@ fn search_from<'a, L: DateTimeList, V: Transitions>(
     high: i64,
 ) -> Result<(), TzError>
     requires valid { IsValid fields.now }
+    requires reading { reading ≡ reading_of fields.now }
+    requires small { IsSmall reading }
     requires sound { IsSoundTable (zone_seen (V.list view.old) parts) }
     requires first { IsSegmentAt (zone_seen (V.list view.old) parts) low segment.old }
+    requires more { segment.old.last <ℤ high }
+    requires reach { high ≤ℤ pos 80000000000000000 }
+    requires offsets { AreOffsetsOf (zone_seen (V.list view.old) parts) (reading_of fields.now -ℤ high) (reading_of fields.now -ℤ low) }
+    requires width { (high -ℤ low) ≤ℤ pos (2 ^ 32) }
+    ensures ok { OnOk result ((found : List FoundDateTimeKind) × L.gains list.old list.new found
+        × IsFound (IsClock (zone_seen (V.list view.old) parts.entry)) fields.now found × (length found ≤ 2 ^ 33)) }
+    ensures err { IfErr result (IsSearchFault L.takes_memory (IsClock (zone_seen (V.list view.old) parts.entry)) (reading_of fields.now)) }
+    ensures kept { V.looks view.old ≤ V.looks view.new }
+    ensures few { OnOk result ((b w : ℕ) → length (V.list view.old) < 2 ^ b
+        → AtMostTakeEffectIn (zone_seen (V.list view.old) parts.entry) low high w
+        → V.looks view.new ≤ V.looks view.old + (b + w + 1)) }
+    ensures none { OnOk result (length (V.list view.old) ≡ 0 → V.looks view.new ≡ V.looks view.old) }
+{
+    // These reads tell the proof that both ends are instants of 64 bits.
+    let (_from, _last) = (segment.from, segment.last);
+    let start = Piece {
+        from: low,
+        local_time_type: type_in(segment),
+    };
+    let mut walk = Walk::new(fields, start);
+    while segment.last < high {
+        let next = clock_segment_after(view, parts, segment);
+        if segment.from <= low {
+            if let Some(resolution) = across(reading, segment, &next, high) {
+                return resolution.give(list, fields);
+            }
+        }
+        *segment = next;
+        let piece = piece_of(segment);
+        walk.step(list, piece)?;
+    }
+    walk.give(list, high + 1)
+}
+
+/// Adds all that is found of valid fields to the list, in order, from the segment in which their window begins.
+#[inline(always)]
+fn search_from<'a, L: DateTimeList, V: Transitions>(
+    list: &mut L,
+    fields: &Fields,
+    reading: i64,
+    view: &mut V,
+    parts: OtherParts<'a>,
+    first: &mut ClockSegment<'a>,
+    low: i64,
+    high: i64,
+) -> Result<(), TzError>
+    requires valid { IsValid fields.now }
+    requires reading { reading ≡ reading_of fields.now }
+    requires small { IsSmall reading }
+    requires sound { IsSoundTable (zone_seen (V.list view.old) parts) }
+    requires first { IsSegmentAt (zone_seen (V.list view.old) parts) low first.old }
     requires order { low ≤ℤ high }
     requires reach { high ≤ℤ pos 80000000000000000 }
     requires offsets { AreOffsetsOf (zone_seen (V.list view.old) parts) (reading_of fields.now -ℤ high) (reading_of fields.now -ℤ low) }
@@ -97,22 +167,13 @@ fn search_from<'a, L: DateTimeList, V: Transitions>(
         → V.looks view.new ≤ V.looks view.old + (b + w + 1)) }
     ensures none { OnOk result (length (V.list view.old) ≡ 0 → V.looks view.new ≡ V.looks view.old) }
 {
-    // This read tells the proof that the end is an instant of 64 bits.
-    let _last = segment.last;
-    let start = Piece {
-        from: low,
-        local_time_type: type_in(segment),
-    };
-    let mut walk = Walk::new(fields, start);
-    while segment.last < high {
-        *segment = clock_segment_after(view, parts, segment);
-        let piece = Piece {
-            from: segment.from,
-            local_time_type: type_in(segment),
-        };
-        walk.step(list, piece)?;
+    if first.last < high {
+        return search_on(list, fields, reading, view, parts, first, low, high);
     }
-    walk.give(list, high + 1)
+    match first.local_time_type {
+        Some(local_time_type) => give_once(list, fields, reading, local_time_type),
+        None => Ok(()),
+    }
 }
 
 /// Adds all that is found of valid fields to the list, in order, by the least and the greatest offset of the zone.
@@ -139,10 +200,5 @@ pub(super) fn search<L: DateTimeList, V: Transitions>(
     let reading = fields.reading();
     let (low, high) = window(reading, least, greatest);
     let mut first = clock_segment_at(view, parts, low);
-    if high <= first.last {
-        if let Some(local_time_type) = first.local_time_type {
-            return give_once(list, fields, reading, local_time_type);
-        }
-    }
-    search_from(list, fields, view, parts, &mut first, low, high)
+    search_from(list, fields, reading, view, parts, &mut first, low, high)
 }

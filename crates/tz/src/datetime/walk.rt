@@ -36,10 +36,11 @@ pub(super) struct Walk {
 }
 
 impl Entry {
-    ghost use Rattle.std.specs.Prelude.{◌≡◌, ◌+ℤ◌, ◌-ℤ◌, IfOk, IfErr};
+    ghost use Rattle.std.specs.Prelude.{◌≡◌, ◌⊎◌, ◌+ℤ◌, ◌-ℤ◌, [], ◌∷◌, OnOk, IfOk, IfErr, alloc_error};
     ghost use Rattle.tz_base.specs.Fields.{IsValid, IsReading, reading as reading_of};
     ghost use Rattle.tz.specs.DateTimes.{ShowsInstant};
     ghost use Rattle.tz.specs.Walks.{moment_of, IsDateTimeOf, IsEntryNear, IsEntryOutside, IsNear, IsOutside};
+    ghost use Rattle.tz.specs.declared.datetime.found.FoundDateTimeKind.{FoundDateTimeKind};
 
     /// A side of a jump: its instant in a type.
     fn side(
@@ -53,6 +54,19 @@ impl Entry {
         ensures err { IfErr result (λ e. (e ≡ TzError.OutOfRange) × IsOutside (reading_of fields.now) (unix_time +ℤ local_time_type.ut_offset)) }
     {
         DateTime::from_timespec_and_local(unix_time, fields.nanoseconds, local_time_type)
+    }
+
+    /// Adds the entry to the list, as a found date time of the fields.
+    pub(super) fn give<L: DateTimeList>(&self, list: &mut L, fields: &Fields) -> Result<(), TzError>
+        requires valid { IsValid fields.now }
+        requires near { IsEntryNear (reading_of fields.now) self.now }
+        ensures ok { OnOk result ((found : FoundDateTimeKind) × L.gains list.old list.new (found ∷ []) × IsDateTimeOf fields.now self.now found) }
+        ensures err { IfErr result (λ e. ((e ≡ TzError.Memory alloc_error) × L.takes_memory)
+            ⊎ ((e ≡ TzError.OutOfRange) × IsEntryOutside (reading_of fields.now) self.now)) }
+    {
+        let found = self.date_time(fields)?;
+        list.push(found)?;
+        Ok(())
     }
 
     /// The entry as a found date time of the fields.
@@ -135,11 +149,7 @@ impl Walk {
         ensures err { IfErr result (IsGiveFault L.takes_memory self.now until) }
     {
         match self.entry(until) {
-            Some(entry) => {
-                let found = entry.date_time(&self.fields)?;
-                list.push(found)?;
-                Ok(())
-            }
+            Some(entry) => entry.give(list, &self.fields),
             None => Ok(()),
         }
     }

@@ -1,58 +1,18 @@
 -- The window is the reading less the greatest offset and less the least.
-use Rattle.std.proofs.Common.{◌≡◌, ◌∙◌, arith, rules, ℤ, pos, ◌+ℤ◌, ◌-ℤ◌, ◌≤ℤ◌, ◌<ℤ◌}
+use Rattle.std.proofs.Common.{◌≡◌, ◌∙◌, arith, rules, ℤ, ◌-ℤ◌}
 use Rattle.std.proofs.lemmas.Int.{ints, to_z-of_z}
 use Rattle.std.proofs.lemmas.List.{nil_from_length}
-use Rattle.std.proofs.lemmas.Result.{IfErr-weaker, on_ok_weaker}
+use Rattle.std.proofs.lemmas.Result.{on_ok_weaker}
 use mir.Syntax.{w32, w64}
 use mir.Val.{to_z, of_z, SFits}
 use Rattle.tz_base.specs.Fields.{reading}
-use Rattle.tz_zone.specs.Segments.{IsStretch}
 use Rattle.tz_zone.specs.ZoneSeen.{zone_seen}
-use Rattle.tz.proofs.FoundOnce.{fault_once, found_once}
 use Rattle.tz.proofs.WindowLemmas.{most_in_window, offsets_around, window_from_offsets}
 use Rattle.tz.proofs.datetime.search.search.Goals as goal
 
 -- an end of the window, as it is passed on
 end_is : (end r r' offset : ℤ) → SFits w64 r' → SFits w32 offset → end ≡ to_z w64 (of_z w64 r') -ℤ to_z w32 (of_z w32 offset) → r' ≡ r → end ≡ r -ℤ offset
 end_is end r r' offset fits tiny is same = omega (arith, ints, is, same, to_z-of_z w64 r' fits, to_z-of_z w32 offset tiny)
-
-pub returns-in-Some : goal.returns-in-Some
-returns-in-Some g c =
-    let z = zone_seen (g.V.Transitions.list c.args.view.now) c.args.parts in
-    let f = c.args.fields.now in
-    let r = reading f in
-    let low = c.window-low.result.0 in
-    let high = c.window-low.result.1 in
-    let least = c.args.least in
-    let greatest = c.args.greatest in
-    let first = c.clock_segment_at-first.result in
-    let segment = c.clock_segment_at-first.ensures in
-    let type = c.in-Some.local_time_type.now in
-    let fits_reading : SFits w64 c.reading-reading.result = search rules in
-    let fits_least = c.ranges.least in
-    let fits_greatest = c.ranges.greatest in
-    let fits_low : SFits w64 low = search rules in
-    let fits_high : SFits w64 high = search rules in
-    let fits_last : SFits w64 first.last = search rules in
-    let low_is = end_is low r c.reading-reading.result greatest fits_reading fits_greatest c.window-low.ensures.low c.reading-reading.ensures.value in
-    let high_is = end_is high r c.reading-reading.result least fits_reading fits_least c.window-low.ensures.high c.reading-reading.ensures.value in
-    let order : (r -ℤ high) ≤ℤ (r -ℤ low) = omega (arith, ints, c.window-low.ensures.order) in
-    let offsets = offsets_around z r low high least greatest c.requires.offsets.0 c.requires.offsets.1 low_is high_is in
-    let stretch : IsStretch z first.from (first.last +ℤ pos 1) type = λ v from until. rw c.in-Some.is at segment.at.holds v from (omega (arith, ints, until)) in
-    let from : first.from ≤ℤ (r -ℤ (r -ℤ low)) = omega (arith, ints, segment.at.within.0, to_z-of_z w64 low fits_low) in
-    let until : (r -ℤ (r -ℤ high)) <ℤ (first.last +ℤ pos 1) = omega (arith, ints, c.if-high-first.true, to_z-of_z w64 first.last fits_last, to_z-of_z w64 high fits_high) in
-    record {
-      ok = on_ok_weaker c.give_once.result (λ gains. (
-        _,
-        gains,
-        found_once z c.requires.sound.leap_seconds_are f (r -ℤ high) (r -ℤ low) first.from (first.last +ℤ pos 1) type order offsets stretch from until,
-        omega arith,
-      )) c.give_once.ensures.ok;
-      err = IfErr-weaker c.give_once.result _ _ (fault_once z c.requires.sound.leap_seconds_are f (r -ℤ high) (r -ℤ low) first.from (first.last +ℤ pos 1) type order offsets stretch from until g.L.DateTimeList.takes_memory) c.give_once.ensures.err;
-      few = on_ok_weaker c.give_once.result (λ gains b w bits around. omega (arith, segment.few b bits)) c.give_once.ensures.ok;
-      some = on_ok_weaker c.give_once.result (λ gains some. segment.some some) c.give_once.ensures.ok;
-      none = on_ok_weaker c.give_once.result (λ gains empty. segment.none (nil_from_length z.transitions empty)) c.give_once.ensures.ok;
-    }
 
 pub search_from-requires-clause-offsets : goal.search_from-requires-clause-offsets
 search_from-requires-clause-offsets g c =

@@ -1,160 +1,61 @@
--- From one segment to the next, and to the end of the window.
-use Rattle.std.proofs.Common.{◌≡◌, ◌+◌, ◌<◌, ◌∙◌, ◌++◌, [], refl, subst, arith, rules, ℕ, ℤ, pos, ◌+ℤ◌, ◌-ℤ◌, ◌≤ℤ◌, ◌<ℤ◌, List, Option}
+-- The window lies in the segment in which it begins, or ends behind it.
+use Rattle.std.proofs.Common.{[], refl, arith, rules, pos, ◌+ℤ◌, ◌-ℤ◌, ◌≤ℤ◌, ◌<ℤ◌}
 use Rattle.std.proofs.lemmas.Int.{ints, to_z-of_z}
-use Rattle.std.proofs.lemmas.List.{nil_from_length}
-use Rattle.std.proofs.lemmas.Result.{IfErr-weaker, err_from_is_err_and, on_ok_weaker}
+use Rattle.std.proofs.lemmas.Result.{IfErr-weaker, on_ok_weaker}
 use mir.Syntax.{w64}
-use mir.Val.{to_z, of_z, SFits}
-use Rattle.tz_rule.specs.LocalTimeType.{LocalTimeType}
+use mir.Val.{SFits}
+use Rattle.tz_base.specs.Fields.{reading}
 use Rattle.tz_zone.specs.Clock.{IsClock}
+use Rattle.tz_zone.specs.Segments.{IsStretch}
 use Rattle.tz_zone.specs.ZoneSeen.{zone_seen}
-use Rattle.tz.specs.Walks.{IsStep}
-use Rattle.tz.specs.declared.datetime.found.FoundDateTimeKind.{FoundDateTimeKind}
-use Rattle.tz.specs.declared.datetime.walk.Piece.{Piece}
-use Rattle.tz.specs.declared.datetime.walk.Walk.{Walk}
-use Rattle.tz.proofs.SegmentLooks.{few_at_end, looks_at_first, looks_at_next}
-use Rattle.tz.proofs.SegmentWalks.{fault_there, few_found, found_to_end, holds_later, room_less, walked_to_first, walked_to_next}
+use Rattle.tz.proofs.FoundOnce.{fault_once, found_once}
+use Rattle.tz.proofs.SegmentWalks.{found_nowhere}
 use Rattle.tz.proofs.datetime.search.search_from.Goals as goal
 
-abbrev same : ℤ → ℤ
-same u = to_z w64 (of_z w64 u)
+pub search_on-requires-clause-offsets : goal.search_on-requires-clause-offsets
+search_on-requires-clause-offsets g c = rw (to_z-of_z w64 c.args.low c.ranges.low, to_z-of_z w64 c.args.high c.ranges.high) c.requires.offsets
 
-abbrev piece_from : ℤ → Option LocalTimeType → Piece
-piece_from u type = record { from = u; local_time_type = type }
+pub returns-then-first-high-clause-few : goal.returns-then-first-high-clause-few
+returns-then-first-high-clause-few g c = rw (to_z-of_z w64 c.args.low c.ranges.low, to_z-of_z w64 c.args.high c.ranges.high) at c.search_on.ensures.few
 
-step_from : (w next : Walk) (u v : ℤ) (type : Option LocalTimeType) (new : List FoundDateTimeKind) → u ≡ v → IsStep w (piece_from u type) next new → IsStep w (piece_from v type) next new
-step_from w next u v type new is step = subst (λ (x : ℤ). IsStep w (piece_from x type) next new) is step
-
-end_is : (high : ℤ) → SFits w64 high → high ≤ℤ pos 80000000000000000 → same (same high +ℤ pos 1) ≡ high +ℤ pos 1
-end_is high fits reach = omega (arith, ints)
-
-itself : (u : ℤ) → u ≤ℤ u
-itself u = omega (arith, ints)
-
-pub loop-segment-init : goal.loop-segment-init
-loop-segment-init g c =
+pub returns-in-Some : goal.returns-in-Some
+returns-in-Some g c =
     let z = zone_seen (g.V.Transitions.list c.args.view.now) c.args.parts in
-    let first = c.args.segment.now in
-    let fits : SFits w64 first.last = search rules in
-    let low_is = to_z-of_z w64 c.args.low c.ranges.low in
-    let walk = c.new-walk.ensures in
-    let holds = holds_later (IsClock z) first.from first.last c.args.low c.type_in.result c.new-walk.result.local_time_type walk.local_time_type c.requires.first.within.0
-    (λ u from last. c.type_in.ensures z c.args.low c.requires.sound.leap_seconds_are c.requires.first u from last) in
-    rw (low_is, to_z-of_z w64 c.args.high c.ranges.high) (record {
-      same = refl;
-      segment = (c.args.low, c.requires.first);
-      fits = fits;
-      found = (
-        [],
-        g.met.L.DateTimeList.none c.args.list.now,
-        walked_to_first (IsClock z) c.args.low c.args.high c.args.fields.now first.last c.new-walk.result walk.walk walk.before (walk.since ∙ low_is) c.requires.order c.requires.first.within.1 holds,
-      );
-      looks = looks_at_first z c.args.low c.args.high (g.V.Transitions.looks c.args.view.now) first.cursor first.last;
-    })
-
-pub loop-segment-preserved : goal.loop-segment-preserved
-loop-segment-preserved g c =
-    let z = zone_seen (g.V.Transitions.list c.args.view.now) c.args.parts in
-    let low = c.args.low in
-    let high = c.args.high in
-    let low_is = to_z-of_z w64 low c.ranges.low in
-    let high_is = to_z-of_z w64 high c.ranges.high in
-    let so_far = rw (low_is, high_is) at c.loop-segment.invariant in
-    let way = so_far.found.2 in
-    let here = c.loop-segment.segment in
-    let next = c.clock_segment_after.result in
-    let after = rw c.loop-segment.invariant.same at c.clock_segment_after.ensures in
-    let fits : SFits w64 next.last = search rules in
-    let fits_from : SFits w64 next.from = search rules in
-    let type = c.type_in-in-loop-segment.result in
-    let more : here.last <ℤ high = omega (arith, ints, c.loop-segment-test.true, to_z-of_z w64 here.last so_far.fits, high_is) in
-    let order : next.from ≤ℤ next.last = omega (arith, ints, after.at.within.0, after.at.within.1) in
-    let holds = holds_later (IsClock z) next.from next.last next.from type type refl (itself next.from)
-    (λ u from last. c.type_in-in-loop-segment.ensures z (here.last +ℤ pos 1) c.requires.sound.leap_seconds_are after.at u from last) in
-    let step = c.in_ok-step.ensures.ok in
-    let stepped = step_from c.loop-segment.walk c.step.new.self (same next.from) next.from type step.0 (to_z-of_z w64 next.from fits_from) step.2 in
-    rw (low_is, high_is) (record {
-      same = c.clock_segment_after.ensures.same ∙ so_far.same;
-      segment = (here.last +ℤ pos 1, after.at);
-      fits = fits;
-      found = (
-        so_far.found.0 ++ step.0,
-        g.met.L.DateTimeList.more c.args.list.now c.loop-segment.list c.step.new.list so_far.found.0 step.0 so_far.found.1 step.1,
-        walked_to_next (IsClock z) low high c.args.fields.now here.last c.loop-segment.walk so_far.found.0 way more next.last (piece_from next.from type) c.step.new.self step.0 after.from order holds stepped,
-      );
-      looks = looks_at_next z low high (g.V.Transitions.looks c.args.view.now) (g.V.Transitions.looks c.loop-segment.view) (g.V.Transitions.looks c.clock_segment_after.new.view) here.cursor next.cursor here.last next.from next.last
-          so_far.looks (omega (arith, ints, more, c.requires.reach)) (omega (arith, ints, way.low_is, way.last_is, after.from)) (omega (arith, ints, more, after.from))
-          after.kept after.anew after.on after.none after.effects after.end after.empty;
-    })
-
-pub loop-segment-smaller : goal.loop-segment-smaller
-loop-segment-smaller g c =
-    let high = c.args.high in
-    let high_is = to_z-of_z w64 high c.ranges.high in
-    let here = c.loop-segment.segment in
-    let next = c.clock_segment_after.result in
-    let more : here.last <ℤ high = omega (arith, ints, c.loop-segment-test.true, to_z-of_z w64 here.last c.loop-segment.invariant.fits, high_is) in
-    rw high_is (room_less (high -ℤ here.last) (high -ℤ next.last) (omega (arith, ints, more)) (omega (arith, ints, c.clock_segment_after.ensures.at.within.1)))
-
-pub returns-in_err-step-clause-err : goal.returns-in_err-step-clause-err
-returns-in_err-step-clause-err g c =
-    let z = zone_seen (g.V.Transitions.list c.args.view.now) c.args.parts in
-    let low_is = to_z-of_z w64 c.args.low c.ranges.low in
-    let high_is = to_z-of_z w64 c.args.high c.ranges.high in
-    let so_far = rw (low_is, high_is) at c.loop-segment.invariant in
-    let way = so_far.found.2 in
-    let here = c.loop-segment.segment in
-    let next = c.clock_segment_after.result in
-    let fits_from : SFits w64 next.from = search rules in
-    let from_is : same next.from ≡ here.last +ℤ pos 1 = to_z-of_z w64 next.from fits_from ∙ c.clock_segment_after.ensures.from in
-    let more : here.last <ℤ c.args.high = omega (arith, ints, c.loop-segment-test.true, to_z-of_z w64 here.last so_far.fits, high_is) in
-    let p = err_from_is_err_and c.from_residual.result c.from_residual.ensures.1 in
-    rw (p.1, p.2)
-    (fault_there (IsClock z) c.args.low c.args.high c.args.fields.now here.last c.loop-segment.walk so_far.found.0 way (same next.from) (omega (arith, ints, from_is, way.last_is)) (omega (arith, ints, from_is)) (omega (arith, ints, from_is, more))
-    g.L.DateTimeList.takes_memory _ c.in_err-step.ensures.err)
-
-pub returns-clause-ok : goal.returns-clause-ok
-returns-clause-ok g c =
-    let z = zone_seen (g.V.Transitions.list c.args.view.now) c.args.parts in
-    let low = c.args.low in
-    let high = c.args.high in
     let f = c.args.fields.now in
-    let high_is = to_z-of_z w64 high c.ranges.high in
-    let so_far = rw (to_z-of_z w64 low c.ranges.low, high_is) at c.loop-segment.invariant in
-    let found = so_far.found.0 in
-    let here = c.loop-segment.segment in
-    let over : high ≤ℤ here.last = omega (arith, ints, c.loop-segment-test.false, to_z-of_z w64 here.last so_far.fits, high_is) in
-    on_ok_weaker c.give.result (λ more.
-    let all = found_to_end (IsClock z) low high f here.last c.loop-segment.walk found so_far.found.2 over c.requires.offsets (same (same high +ℤ pos 1)) more.0 (end_is high c.ranges.high c.requires.reach) more.2 in (
-      found ++ more.0,
-      g.met.L.DateTimeList.more c.args.list.now c.loop-segment.list c.give.new.list found more.0 so_far.found.1 more.1,
-      all,
-      few_found (IsClock z) low high f (found ++ more.0) c.requires.offsets c.requires.width all,
-    )) c.give.ensures.ok
-
-pub returns-clause-err : goal.returns-clause-err
-returns-clause-err g c =
-    let z = zone_seen (g.V.Transitions.list c.args.view.now) c.args.parts in
+    let r = reading f in
     let low = c.args.low in
     let high = c.args.high in
-    let high_is = to_z-of_z w64 high c.ranges.high in
-    let so_far = rw (to_z-of_z w64 low c.ranges.low, high_is) at c.loop-segment.invariant in
-    let way = so_far.found.2 in
-    let here = c.loop-segment.segment in
-    let over : high ≤ℤ here.last = omega (arith, ints, c.loop-segment-test.false, to_z-of_z w64 here.last so_far.fits, high_is) in
-    let until = end_is high c.ranges.high c.requires.reach in
-    IfErr-weaker c.give.result _ _ (λ e fault.
-    fault_there (IsClock z) low high c.args.fields.now here.last c.loop-segment.walk so_far.found.0 way (same (same high +ℤ pos 1)) (omega (arith, ints, until, way.high_is)) (omega (arith, ints, until, over)) (omega (arith, ints, until))
-    g.L.DateTimeList.takes_memory e fault) c.give.ensures.err
+    let first = c.args.first.now in
+    let type = c.in-Some.local_time_type.now in
+    let fits_last : SFits w64 first.last = search rules in
+    let over : high ≤ℤ first.last = omega (arith, ints, c.if-first-high.false, to_z-of_z w64 first.last fits_last, to_z-of_z w64 high c.ranges.high) in
+    let order : (r -ℤ high) ≤ℤ (r -ℤ low) = omega (arith, ints, c.requires.order) in
+    let stretch : IsStretch z first.from (first.last +ℤ pos 1) type = λ v from until. rw c.in-Some.is at c.requires.first.holds v from (omega (arith, ints, until)) in
+    let from : first.from ≤ℤ (r -ℤ (r -ℤ low)) = omega (arith, ints, c.requires.first.within.0) in
+    let until : (r -ℤ (r -ℤ high)) <ℤ (first.last +ℤ pos 1) = omega (arith, ints, over) in
+    record {
+      ok = on_ok_weaker c.give_once.result (λ gains. (
+        _,
+        gains,
+        found_once z c.requires.sound.leap_seconds_are f (r -ℤ high) (r -ℤ low) first.from (first.last +ℤ pos 1) type order c.requires.offsets stretch from until,
+        omega arith,
+      )) c.give_once.ensures.ok;
+      err = IfErr-weaker c.give_once.result _ _ (fault_once z c.requires.sound.leap_seconds_are f (r -ℤ high) (r -ℤ low) first.from (first.last +ℤ pos 1) type order c.requires.offsets stretch from until g.L.DateTimeList.takes_memory) c.give_once.ensures.err;
+      kept = omega arith;
+      few = on_ok_weaker c.give_once.result (λ gains b w bits most. omega arith) c.give_once.ensures.ok;
+      none = on_ok_weaker c.give_once.result (λ gains empty. refl) c.give_once.ensures.ok;
+    }
 
-pub returns-clause-few : goal.returns-clause-few
-returns-clause-few g c =
+pub returns-in-None-clause-ok : goal.returns-in-None-clause-ok
+returns-in-None-clause-ok g c =
     let z = zone_seen (g.V.Transitions.list c.args.view.now) c.args.parts in
-    let so_far = rw (to_z-of_z w64 c.args.low c.ranges.low, to_z-of_z w64 c.args.high c.ranges.high) at c.loop-segment.invariant in
-    let here = c.loop-segment.segment in
-    on_ok_weaker c.give.result (λ more.
-    few_at_end z c.args.low c.args.high (g.V.Transitions.looks c.args.view.now) (g.V.Transitions.looks c.loop-segment.view) here.cursor here.last so_far.looks) c.give.ensures.ok
-
-pub returns-clause-none : goal.returns-clause-none
-returns-clause-none g c =
-    on_ok_weaker c.give.result (λ more empty. c.loop-segment.invariant.looks.none (nil_from_length (g.V.Transitions.list c.args.view.now) empty)) c.give.ensures.ok
+    let first = c.args.first.now in
+    let high = c.args.high in
+    let fits_last : SFits w64 first.last = search rules in
+    let over : high ≤ℤ first.last = omega (arith, ints, c.if-first-high.false, to_z-of_z w64 first.last fits_last, to_z-of_z w64 high c.ranges.high) in (
+      [],
+      g.met.L.DateTimeList.none c.args.list.now,
+      found_nowhere (IsClock z) c.args.low high c.args.fields.now c.requires.offsets
+          (λ u within t clock. (rw c.in-None.is at c.requires.first.holds u (omega (arith, ints, c.requires.first.within.0, within.0)) (omega (arith, ints, within.1, over))) t clock),
+      omega arith,
+    )

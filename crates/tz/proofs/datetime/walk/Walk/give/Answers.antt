@@ -1,37 +1,36 @@
 -- An entry is given as it is found, and without one nothing is given.
-use Rattle.std.proofs.Common.{[], ◌∷◌, inl, inr, refl, sym, subst, ℤ}
+use Rattle.std.proofs.Common.{◌≡◌, ◌⊎◌, [], ◌∷◌, inl, inr, refl, sym, subst, ℤ}
+use Rattle.std.specs.Prelude.{alloc_error}
 use Rattle.std.proofs.lemmas.Int.{to_z-of_z}
-use Rattle.std.proofs.lemmas.Result.{err_from_is_err_and}
+use Rattle.std.proofs.lemmas.Result.{IfErr-weaker, on_ok_weaker}
 use mir.Syntax.{w64}
-use Rattle.tz.specs.Walks.{IsEntryNear, IsEntryOf, IsEntryOutside}
+use Rattle.tz_base.specs.declared.error.TzError.{TzError}
+use Rattle.tz_base.specs.declared.error.TzError.TheVariants as faults
+use Rattle.tz_base.specs.Fields.{reading}
+use Rattle.tz.specs.Walks.{IsEntryNear, IsEntryOf, IsEntryOutside, IsGiveFault}
+use Rattle.tz.specs.declared.datetime.walk.Entry.{Entry}
+use Rattle.tz.specs.declared.datetime.walk.Walk.{Walk}
 use Rattle.tz.proofs.datetime.walk.Walk.give.Goals as goal
+
+fault_given : (w : Walk) (until : ℤ) (entry : Entry) → w.reading ≡ reading w.fields → IsEntryOf w until entry → (takes_memory : Type 0) (e : TzError) →
+    ((e ≡ faults.Memory alloc_error) × takes_memory) ⊎ ((e ≡ faults.OutOfRange) × IsEntryOutside (reading w.fields) entry) → IsGiveFault takes_memory w until e
+fault_given w until entry same is takes_memory e (inl memory) = inl memory
+fault_given w until entry same is takes_memory e (inr (fault, outside)) = inr (fault, entry, is, subst (λ (r : ℤ). IsEntryOutside r entry) (sym same) outside)
 
 pub entry-requires : goal.entry-requires
 entry-requires g c = c.requires.small
 
-pub date_time-requires : goal.date_time-requires
-date_time-requires g c = record { valid = c.requires.valid; near = subst (λ (r : ℤ). IsEntryNear r c.in-Some.entry) c.requires.reading_is c.in-Some.ensures.near }
+pub give-requires : goal.give-requires
+give-requires g c = record { valid = c.requires.valid; near = subst (λ (r : ℤ). IsEntryNear r c.in-Some.entry) c.requires.reading_is c.in-Some.ensures.near }
 
-pub returns-in_err-found-in-Some : goal.returns-in_err-found-in-Some
-returns-in_err-found-in-Some g c =
+pub returns-in-Some : goal.returns-in-Some
+returns-in-Some g c =
     let entry = c.in-Some.entry in
     let is = subst (λ (u : ℤ). IsEntryOf c.args.self.now u entry) (to_z-of_z w64 c.args.until c.ranges.until) c.in-Some.ensures.some in
-    let fault = c.in_err-found-in-Some.ensures.err in
-    let outside = subst (λ (r : ℤ). IsEntryOutside r entry) (sym c.requires.reading_is) fault.1 in
-    let p = err_from_is_err_and c.from_residual.result c.from_residual.ensures.1 in
-    rw (p.1, p.2) (record { ok = tt; err = inr (fault.0, entry, is, outside) })
-
-pub returns-in_err-push-in-Some : goal.returns-in_err-push-in-Some
-returns-in_err-push-in-Some g c =
-    let p = err_from_is_err_and c.from_residual-in_err-push-in-Some.result c.from_residual-in_err-push-in-Some.ensures.1 in
-    rw (p.1, p.2) (record { ok = tt; err = inl (refl, c.in_err-push-in-Some.ensures.err.0) })
-
-pub returns-in_ok-push-in-Some : goal.returns-in_ok-push-in-Some
-returns-in_ok-push-in-Some g c =
-    let entry = c.in-Some.entry in
-    let found = c.in_ok-found-in-Some.found in
-    let is = subst (λ (u : ℤ). IsEntryOf c.args.self.now u entry) (to_z-of_z w64 c.args.until c.ranges.until) c.in-Some.ensures.some in
-    record { ok = (found ∷ [], c.in_ok-push-in-Some.ensures.ok, inr (entry, found, is, c.in_ok-found-in-Some.ensures.ok, refl)); err = tt }
+    record {
+      ok = on_ok_weaker c.give.result (λ given. (given.0 ∷ [], given.1, inr (entry, given.0, is, given.2, refl))) c.give.ensures.ok;
+      err = IfErr-weaker c.give.result _ _ (fault_given c.args.self.now c.args.until entry c.requires.reading_is is g.L.DateTimeList.takes_memory) c.give.ensures.err;
+    }
 
 pub returns-in-None-clause-ok : goal.returns-in-None-clause-ok
 returns-in-None-clause-ok g c =
