@@ -48,6 +48,24 @@ fn a_directory_or_no_file_is_a_fault(rt: HostRuntime) -> Result<(), Fail> {
     Ok(())
 }
 
+/// A path, and the system's text of why it is not read.
+static FAULTS: [(&str, &str); 3] = [
+    ("/no/such/file", "No such file or directory (os error 2)"),
+    ("/dev/null/file", "Not a directory (os error 20)"),
+    ("/", "Is a directory (os error 21)"),
+];
+
+#[test]
+fn a_fault_has_the_text_of_the_system(rt: HostRuntime) -> Result<(), Fail> {
+    let alloc = rt.alloc();
+    for (path, text) in &FAULTS {
+        let fault = read_file(&rt, alloc, path).err().ok_or("read")?;
+        let printed = format!(in alloc; "{fault}")?;
+        expect_eq(&rt, &printed.as_str(), text);
+    }
+    Ok(())
+}
+
 #[test]
 fn the_settings_take_it(rt: HostRuntime) -> Result<(), Fail> {
     let alloc = rt.alloc();
