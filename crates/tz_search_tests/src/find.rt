@@ -15,6 +15,7 @@ use tz_zone::timezone::{
 };
 
 mod ends;
+mod jumps;
 mod leap_tables;
 mod looks;
 mod memory;

@@ -4,7 +4,7 @@ use super::looks::expect_counted;
 use super::*;
 
 /// The searches find these of a reading, with no slot and with up to five.
-fn expect_in_slots(
+pub(super) fn expect_in_slots(
     rt: &impl Abort,
     zone: TimeZoneRef<'_>,
     reading: Reading,
