@@ -98,6 +98,25 @@ fn the_current_type_is_that_of_the_moment_given(rt: HostRuntime) -> Result<(), F
     Ok(())
 }
 
+/// What the zone of the two transitions prints behind the name of its type.
+const PARTS: &str = "{ transitions: [Transition { unix_leap_time: 0, local_time_type_index: 1 }, \
+    Transition { unix_leap_time: 7200, local_time_type_index: 0 }], \
+    local_time_types: [LocalTimeType { ut_offset: 0, is_dst: false, time_zone_designation: None }, \
+    LocalTimeType { ut_offset: 3600, is_dst: true, time_zone_designation: Some(\"BST\") }], \
+    leap_seconds: [LeapSecond { unix_leap_time: 100, correction: 1 }], \
+    extra_rule: Some(Fixed(LocalTimeType { ut_offset: 0, is_dst: false, time_zone_designation: None })) }";
+
+#[test]
+fn zones_print_their_four_parts(rt: HostRuntime) -> Result<(), Fail> {
+    let alloc = rt.alloc();
+    let zone = two_transitions(alloc)?;
+    let owned = format!(in alloc; "{zone:?}")?;
+    let borrowed = format!(in alloc; "{:?}", zone.as_ref())?;
+    expect_eq(&rt, &owned.strip_prefix("TimeZone "), &Some(PARTS));
+    expect_eq(&rt, &borrowed.strip_prefix("TimeZoneRef "), &Some(PARTS));
+    Ok(())
+}
+
 /// The offset is refused first, whether there is memory or not.
 #[test]
 fn one_type_with_each_growth_refused(rt: HostRuntime) {

@@ -9,11 +9,11 @@ use super::offsets::offsets;
 use super::{LeapSecond, LocalTimeType, TimeZoneRef, Transition, TransitionRule};
 use crate::parse::tz_file::parse_tz_file;
 use std::alloc::{Allocator, Global};
+use std::fmt;
 use tz_base::error::TzError;
 
 /// A time zone that owns its parts, on one allocator.
 #[derive(Drop)]
-#[derive_where(Debug)]
 pub struct TimeZone<A: Allocator + Copy = Global> {
     transitions: Vec<Transition, A>,
     local_time_types: Vec<LocalTimeType, A>,
@@ -225,5 +225,17 @@ impl<A: Allocator + Copy> TimeZone<A> {
         ensures err { IfErr result (IsLookupFault (own_zone_of self.now) unix_time) }
     {
         self.find_local_time_type(unix_time)
+    }
+}
+
+/// Prints the name of the type and the four parts.
+impl<A: Allocator + Copy> fmt::Debug for TimeZone<A> {
+    fn fmt<W: fmt::Write>(&self, f: &mut fmt::Formatter<W>) -> fmt::Result {
+        f.debug_struct("TimeZone")
+            .field("transitions", &self.transitions)
+            .field("local_time_types", &self.local_time_types)
+            .field("leap_seconds", &self.leap_seconds)
+            .field("extra_rule", &self.extra_rule)
+            .finish()
     }
 }

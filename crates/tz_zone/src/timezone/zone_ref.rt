@@ -9,12 +9,13 @@ use super::checks::check_parts;
 use super::offsets::offsets;
 use super::{LeapSecond, LocalTimeType, Transition, TransitionRule};
 use crate::inner::{self, Counted, Uncounted};
+use std::fmt;
 use tz_base::error::TzError;
 
 /// A borrowed time zone.
 ///
 /// Before its last transition the transitions tell its clock, and from there on the extra rule does.
-#[derive(Clone, Copy, Debug)]
+#[derive(Clone, Copy)]
 pub struct TimeZoneRef<'a> {
     transitions: &'a [Transition],
     local_time_types: &'a [LocalTimeType],
@@ -215,5 +216,17 @@ impl<'a> TimeZoneRef<'a> {
         let mut view = Counted::new(self.transitions);
         let answer = inner::find_local_time_type(&mut view, inner::other_parts(self), unix_time);
         (answer, view.looks())
+    }
+}
+
+/// Prints the name of the type and the four parts.
+impl fmt::Debug for TimeZoneRef<'_> {
+    fn fmt<W: fmt::Write>(&self, f: &mut fmt::Formatter<W>) -> fmt::Result {
+        f.debug_struct("TimeZoneRef")
+            .field("transitions", &self.transitions)
+            .field("local_time_types", &self.local_time_types)
+            .field("leap_seconds", &self.leap_seconds)
+            .field("extra_rule", &self.extra_rule)
+            .finish()
     }
 }
