@@ -1,5 +1,5 @@
 -- A look at the middle halves the places that are left.
-use Rattle.std.proofs.Common.{◌≡◌, ℕ, zero, suc, ◌+◌, ◌^◌, ◌<◌, ◌≤◌, ◌⊎◌, inl, inr, ap, arith}
+use Rattle.std.proofs.Common.{ℕ, zero, suc, ◌+◌, ◌^◌, ◌<◌, ◌≤◌, arith}
 use Rattle.std.proofs.Math.Nat.{pow-suc}
 
 -- of this many places some are left after this many looks: each bound of the looks at all of them leaves a bound of those at the rest
@@ -18,8 +18,3 @@ few_after_look before places looks left looks' left' halved some one few b size 
     by_bound : (m : ℕ) → left < 2 ^ m → looks + m ≤ before + b → (m' : ℕ) × (left' < 2 ^ m') × (looks' + m' ≤ before + b)
     by_bound zero size bound = absurd (omega (arith, size, some))
     by_bound (suc m) size bound = (m, half_below left' left m halved size, omega (arith, bound, one))
-
--- after a look there was one: it was the first, or there was one already
-pub some_after_look : (next : ℕ → ℕ) (no_less : (n : ℕ) → n ≤ next n) (before looks looks' : ℕ) (Ends : Type 0) → looks' ≡ next looks → ((looks ≡ before) × Ends) ⊎ (next before ≤ looks) → next before ≤ looks'
-some_after_look next no_less before looks looks' Ends counted (inl (none, ends)) = omega (arith, counted, ap next none)
-some_after_look next no_less before looks looks' Ends counted (inr some) = omega (arith, counted, some, no_less looks)

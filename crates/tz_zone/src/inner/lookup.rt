@@ -2,7 +2,7 @@
 
 ghost use Rattle.std.specs.Prelude.{◌≡◌, ◌≢◌, ℕ, ◌+◌, ◌^◌, ◌<◌, ◌≤◌, ◌<ℤ◌, [], length, IfOk, IfErr};
 ghost use Rattle.tz_rule.specs.LocalTimeType.{LocalTimeType};
-ghost use Rattle.tz_zone.specs.Clock.{IsLast, IsTransitionType, IsTypeOfLast, IsTypeWithout, IsTypeAfter, IsFaultAfter, IsClock, IsLookupFault};
+ghost use Rattle.tz_zone.specs.Clock.{IsLast, IsTransitionType, IsTypeWithout, IsTypeAfter, IsFaultAfter, IsClock, IsLookupFault};
 ghost use Rattle.tz_zone.specs.ValidZone.{IsSoundTable};
 ghost use Rattle.tz_zone.specs.ZoneRef.{zone_of};
 ghost use Rattle.tz_zone.specs.ZoneSeen.{zone_seen};
@@ -101,25 +101,4 @@ fn type_before_last<'a, V: Transitions>(
 {
     let cursor = cursor_before(view, last, unix_leap_time);
     &parts.local_time_types[cursor.before.local_time_type_index()]
-}
-
-/// The type of the last of the first `count` transitions, or type number 0 where there are none.
-pub fn type_of_last<'a, V: Transitions>(
-    view: &mut V,
-    parts: OtherParts<'a>,
-    count: usize,
-) -> &'a LocalTimeType
-    requires sound { IsSoundTable (zone_seen (V.list view.old) parts) }
-    requires within { count ≤ length (V.list view.old) }
-    ensures same { V.list view.new ≡ V.list view.old }
-    ensures value { IsTypeOfLast (zone_seen (V.list view.old) parts.entry) count result.now }
-    ensures kept { V.looks view.old ≤ V.looks view.new }
-    ensures few { V.looks view.new ≤ V.looks view.old + 1 }
-    ensures some { count ≢ 0 → V.next (V.looks view.old) ≤ V.looks view.new }
-{
-    if count == 0 {
-        return &parts.local_time_types[0];
-    }
-    let last = view.look(count - 1);
-    &parts.local_time_types[last.local_time_type_index()]
 }
