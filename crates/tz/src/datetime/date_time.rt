@@ -204,6 +204,7 @@ impl DateTime {
     }
 
     /// The date time that the type shows at a Unix time.
+    #[inline(always)]
     fn shown_by(
         unix_time: i64,
         nanoseconds: u32,
@@ -243,6 +244,7 @@ impl DateTime {
     ///     Ok(format!(in alloc; "{date_time} {name}")?)
     /// }
     /// ```
+    #[inline(always)]
     pub fn from_timespec(
         unix_time: i64,
         nanoseconds: u32,

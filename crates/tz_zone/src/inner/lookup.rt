@@ -8,7 +8,7 @@ ghost use Rattle.tz_zone.specs.ZoneRef.{zone_of};
 ghost use Rattle.tz_zone.specs.ZoneSeen.{zone_seen};
 
 use super::cursor::cursor_before;
-use super::{OtherParts, Transitions, leap_time};
+use super::{OtherParts, Transitions, leap};
 use crate::timezone::{LocalTimeType, TimeZoneRef, Transition, TransitionRule};
 use tz_base::error::TzError;
 
@@ -25,7 +25,9 @@ pub fn other_parts<'a>(zone: &TimeZoneRef<'a>) -> OtherParts<'a>
 
 /// The clock's type at an instant. (RFC 8536, section 3.2)
 ///
-/// The last transition is looked at first: from there on no other is, and the extra rule tells the type.
+/// The last transition is looked at first: from there on no other is, and the extra rule tells the type. The way of most lookups, before
+/// it in a zone without leap seconds, is short and stands in the caller; the others are calls.
+#[inline(always)]
 pub fn find_local_time_type<'a, V: Transitions>(
     view: &mut V,
     parts: OtherParts<'a>,
@@ -45,7 +47,34 @@ pub fn find_local_time_type<'a, V: Transitions>(
         return type_without_transitions(parts, unix_time);
     }
     let last = view.look(count - 1);
-    let unix_leap_time = leap_time(parts.leap_seconds, unix_time)?;
+    if !parts.leap_seconds.is_empty() {
+        return type_over_leap_seconds(view, parts, last, unix_time);
+    }
+    if unix_time < last.unix_leap_time() {
+        Ok(type_before_last(view, parts, last, unix_time))
+    } else {
+        type_after_transitions(parts.extra_rule, unix_time)
+    }
+}
+
+/// The clock's type by the leap time of an instant, where the last transition was looked at.
+#[inline(never)]
+fn type_over_leap_seconds<'a, V: Transitions>(
+    view: &mut V,
+    parts: OtherParts<'a>,
+    last: Transition,
+    unix_time: i64,
+) -> Result<&'a LocalTimeType, TzError>
+    requires sound { IsSoundTable (zone_seen (V.list view.old) parts) }
+    requires last { IsLast (V.list view.old) last }
+    requires some { 0 < length (V.list view.old) }
+    ensures same { V.list view.new ≡ V.list view.old }
+    ensures ok { IfOk result (λ t. IsClock (zone_seen (V.list view.old) parts.entry) unix_time t.now) }
+    ensures err { IfErr result (IsLookupFault (zone_seen (V.list view.old) parts.entry) unix_time) }
+    ensures kept { V.looks view.old ≤ V.looks view.new }
+    ensures few { (b : ℕ) → length (V.list view.old) < 2 ^ b → V.looks view.new ≤ V.looks view.old + b }
+{
+    let unix_leap_time = leap(parts.leap_seconds, unix_time)?;
     if unix_leap_time < last.unix_leap_time() {
         Ok(type_before_last(view, parts, last, unix_leap_time))
     } else {
@@ -54,6 +83,7 @@ pub fn find_local_time_type<'a, V: Transitions>(
 }
 
 /// The type of a zone without transitions.
+#[inline(never)]
 fn type_without_transitions<'a>(
     parts: OtherParts<'a>,
     unix_time: i64,
@@ -69,6 +99,7 @@ fn type_without_transitions<'a>(
 }
 
 /// The type from the last transition on, which the extra rule tells.
+#[inline(never)]
 fn type_after_transitions(
     extra_rule: &Option<TransitionRule>,
     unix_time: i64,

@@ -1,14 +1,13 @@
--- The leap time tells on which side of the last transition the instant lies.
-use Rattle.std.proofs.Common.{◌-◌, ◌<ℤ◌, ◌≤ℤ◌, List, [], length, inl, sym, ap, ◌≡◌, ◌∙◌, refl, ◌∷◌, subst, arith, rules}
+-- Without leap seconds the instant is its own leap time, and tells on which side of the last transition it lies.
+use Rattle.std.proofs.Common.{◌<ℤ◌, ◌≤ℤ◌, List, [], length, inl, sym, ap, ◌≡◌, ◌∙◌, refl, ◌∷◌, subst, arith}
 use Rattle.std.proofs.lemmas.Int.{ints, to_z-of_z}
-use Rattle.std.proofs.lemmas.Result.{IfOk-weaker, IfErr-weaker, err_from_is_err_and}
+use Rattle.std.proofs.lemmas.Result.{IfOk-weaker, IfErr-weaker}
 use mir.Syntax.{w64}
-use mir.Val.{SFits}
 use Rattle.tz_zone.specs.Table.{Transition}
-use Rattle.tz_zone.specs.Clock.{AreAhead, IsTransitionType}
+use Rattle.tz_zone.specs.Clock.{IsTransitionType}
 use Rattle.tz_zone.specs.ZoneSeen.{zone_seen}
-use Rattle.tz_zone.proofs.Clocks.{clock_before_last, clock_from_last, fault_from_last, fault_from_refused, fault_without}
-use Rattle.tz_zone.proofs.RisingTimes.{ahead_from}
+use Rattle.tz_zone.proofs.ClockSegmentLemmas.{none_if_empty, plain_leap}
+use Rattle.tz_zone.proofs.Clocks.{clock_before_last, clock_from_last, fault_from_last, fault_without}
 use Rattle.tz_zone.proofs.inner.lookup.find_local_time_type.Goals as goal
 
 length_zero : {X : Type 0} (xs : List X) → length xs ≡ 0 → xs ≡ []
@@ -17,64 +16,50 @@ length_zero (x ∷ xs) e = absurd (omega arith)
 
 pub type_before_last-requires-clause-before : goal.type_before_last-requires-clause-before
 type_before_last-requires-clause-before g c =
-    let l = c.in_ok-unix_leap_time.unix_leap_time in
-    let fits : SFits w64 l = search rules in
+    let u = c.args.unix_time in
     let last = c.look-last.result in
     let time = c.unix_leap_time.ensures in
-    let before : l <ℤ last.unix_leap_time = omega (arith, ints, c.if-unix_leap_time.true) in
-    rw (to_z-of_z w64 l fits) before
+    let before : u <ℤ last.unix_leap_time = omega (arith, ints, c.if-unix_time-unix_leap_time.true) in
+    rw (to_z-of_z w64 u c.ranges.unix_time) before
 
-pub returns-then-unix_leap_time-clause-ok : goal.returns-then-unix_leap_time-clause-ok
-returns-then-unix_leap_time-clause-ok g c =
+pub returns-then-unix_time-unix_leap_time-clause-ok : goal.returns-then-unix_time-unix_leap_time-clause-ok
+returns-then-unix_time-unix_leap_time-clause-ok g c =
     let z = zone_seen (g.V.Transitions.list c.args.view.now) c.args.parts in
     let u = c.args.unix_time in
-    let l = c.in_ok-unix_leap_time.unix_leap_time in
     let last = c.look-last.result in
-    let fits : SFits w64 l = search rules in
-    let leap = rw (to_z-of_z w64 u c.ranges.unix_time) at c.in_ok-unix_leap_time.ensures.ok in
-    let Seen : List Transition → Type 0 = λ transitions. IsTransitionType (zone_seen transitions c.args.parts) l c.type_before_last.result.now in
+    let leap = plain_leap z.leap_seconds (none_if_empty z.leap_seconds c.if-not-is_empty.ensures) u in
+    let Seen : List Transition → Type 0 = λ transitions. IsTransitionType (zone_seen transitions c.args.parts) u c.type_before_last.result.now in
     let is_last = rw c.len-count.ensures at c.look-last.ensures.value in
-    let type = subst Seen c.look-last.ensures.same (rw (to_z-of_z w64 l fits) at c.type_before_last.ensures.value) in
+    let type = subst Seen c.look-last.ensures.same (rw (to_z-of_z w64 u c.ranges.unix_time) at c.type_before_last.ensures.value) in
     let time = c.unix_leap_time.ensures in
-    let before : l <ℤ last.unix_leap_time = omega (arith, ints, c.if-unix_leap_time.true) in
-    clock_before_last z c.requires.leap_seconds_are last is_last u l leap c.type_before_last.result.now before type
+    let before : u <ℤ last.unix_leap_time = omega (arith, ints, c.if-unix_time-unix_leap_time.true) in
+    clock_before_last z c.requires.leap_seconds_are last is_last u u leap c.type_before_last.result.now before type
 
-pub returns-else-unix_leap_time-clause-ok : goal.returns-else-unix_leap_time-clause-ok
-returns-else-unix_leap_time-clause-ok g c =
+pub returns-else-unix_time-unix_leap_time-clause-ok : goal.returns-else-unix_time-unix_leap_time-clause-ok
+returns-else-unix_time-unix_leap_time-clause-ok g c =
     let z = zone_seen (g.V.Transitions.list c.args.view.now) c.args.parts in
     let u = c.args.unix_time in
-    let l = c.in_ok-unix_leap_time.unix_leap_time in
     let last = c.look-last.result in
-    let leap = rw (to_z-of_z w64 u c.ranges.unix_time) at c.in_ok-unix_leap_time.ensures.ok in
+    let leap = plain_leap z.leap_seconds (none_if_empty z.leap_seconds c.if-not-is_empty.ensures) u in
     let is_last = rw c.len-count.ensures at c.look-last.ensures.value in
     let time = c.unix_leap_time.ensures in
-    let from : last.unix_leap_time ≤ℤ l = omega (arith, ints, c.if-unix_leap_time.false) in
+    let from : last.unix_leap_time ≤ℤ u = omega (arith, ints, c.if-unix_time-unix_leap_time.false) in
     IfOk-weaker c.type_after_transitions.result _ _
-    (λ t type. clock_from_last z c.requires.leap_seconds_are last is_last u l leap t.now from (rw (to_z-of_z w64 u c.ranges.unix_time) at type))
+    (λ t type. clock_from_last z c.requires.leap_seconds_are last is_last u u leap t.now from (rw (to_z-of_z w64 u c.ranges.unix_time) at type))
     c.type_after_transitions.ensures.ok
 
-pub returns-else-unix_leap_time-clause-err : goal.returns-else-unix_leap_time-clause-err
-returns-else-unix_leap_time-clause-err g c =
+pub returns-else-unix_time-unix_leap_time-clause-err : goal.returns-else-unix_time-unix_leap_time-clause-err
+returns-else-unix_time-unix_leap_time-clause-err g c =
     let z = zone_seen (g.V.Transitions.list c.args.view.now) c.args.parts in
     let u = c.args.unix_time in
-    let l = c.in_ok-unix_leap_time.unix_leap_time in
     let last = c.look-last.result in
-    let leap = rw (to_z-of_z w64 u c.ranges.unix_time) at c.in_ok-unix_leap_time.ensures.ok in
+    let leap = plain_leap z.leap_seconds (none_if_empty z.leap_seconds c.if-not-is_empty.ensures) u in
     let is_last = rw c.len-count.ensures at c.look-last.ensures.value in
     let time = c.unix_leap_time.ensures in
-    let from : last.unix_leap_time ≤ℤ l = omega (arith, ints, c.if-unix_leap_time.false) in
+    let from : last.unix_leap_time ≤ℤ u = omega (arith, ints, c.if-unix_time-unix_leap_time.false) in
     IfErr-weaker c.type_after_transitions.result _ _
-    (λ e fault. fault_from_last z c.requires.leap_seconds_are last is_last u l leap e from (rw (to_z-of_z w64 u c.ranges.unix_time) at fault))
+    (λ e fault. fault_from_last z c.requires.leap_seconds_are last is_last u u leap e from (rw (to_z-of_z w64 u c.ranges.unix_time) at fault))
     c.type_after_transitions.ensures.err
-
-pub returns-in_err-unix_leap_time-clause-err : goal.returns-in_err-unix_leap_time-clause-err
-returns-in_err-unix_leap_time-clause-err g c =
-    let z = zone_seen (g.V.Transitions.list c.args.view.now) c.args.parts in
-    let u = c.args.unix_time in
-    let p = err_from_is_err_and c.from_residual.result c.from_residual.ensures.1 in
-    let is_last = rw c.len-count.ensures at c.look-last.ensures.value in
-    let refused = rw (to_z-of_z w64 u c.ranges.unix_time) at c.in_err-unix_leap_time.ensures.err in
-    rw (p.1, p.2) (fault_from_refused z c.look-last.result is_last u refused.1 c.in_err-unix_leap_time.field-0.0 refused.0)
 
 pub type_before_last-requires-clause-sound : goal.type_before_last-requires-clause-sound
 type_before_last-requires-clause-sound g c = rw c.look-last.ensures.same c.requires
@@ -91,39 +76,49 @@ returns-then-count-eq0-clause-err g c =
     (λ e fault. fault_without (zone_seen [] c.args.parts) refl c.args.unix_time e fault.0 (rw (to_z-of_z w64 c.args.unix_time c.ranges.unix_time) at fault.1))
     c.type_without_transitions.ensures.err)
 
-pub returns-then-unix_leap_time-clause-kept : goal.returns-then-unix_leap_time-clause-kept
-returns-then-unix_leap_time-clause-kept g c = omega (arith, c.type_before_last.ensures.kept, c.look-last.ensures.counted, g.met.V.Transitions.no_less (g.V.Transitions.looks c.args.view.now))
+pub returns-then-unix_time-unix_leap_time-clause-kept : goal.returns-then-unix_time-unix_leap_time-clause-kept
+returns-then-unix_time-unix_leap_time-clause-kept g c = omega (arith, c.type_before_last.ensures.kept, c.look-last.ensures.counted, g.met.V.Transitions.no_less (g.V.Transitions.looks c.args.view.now))
 
-pub returns-then-unix_leap_time-clause-few : goal.returns-then-unix_leap_time-clause-few
-returns-then-unix_leap_time-clause-few g c = λ b below.
+pub returns-then-unix_time-unix_leap_time-clause-few : goal.returns-then-unix_time-unix_leap_time-clause-few
+returns-then-unix_time-unix_leap_time-clause-few g c = λ b below.
     omega (arith, c.type_before_last.ensures.few b (rw c.look-last.ensures.same below), c.look-last.ensures.counted, g.met.V.Transitions.one_more (g.V.Transitions.looks c.args.view.now))
 
-pub returns-then-unix_leap_time-clause-some : goal.returns-then-unix_leap_time-clause-some
-returns-then-unix_leap_time-clause-some g c = λ some. omega (arith, c.type_before_last.ensures.kept, c.look-last.ensures.counted)
+pub returns-then-unix_time-unix_leap_time-clause-some : goal.returns-then-unix_time-unix_leap_time-clause-some
+returns-then-unix_time-unix_leap_time-clause-some g c = λ some. omega (arith, c.type_before_last.ensures.kept, c.look-last.ensures.counted)
 
-pub returns-then-unix_leap_time-clause-none : goal.returns-then-unix_leap_time-clause-none
-returns-then-unix_leap_time-clause-none g c = λ none. absurd (c.if-count-eq0.false (c.len-count.ensures ∙ ap length none))
+pub returns-then-unix_time-unix_leap_time-clause-none : goal.returns-then-unix_time-unix_leap_time-clause-none
+returns-then-unix_time-unix_leap_time-clause-none g c = λ none. absurd (c.if-count-eq0.false (c.len-count.ensures ∙ ap length none))
 
-pub returns-else-unix_leap_time-clause-kept : goal.returns-else-unix_leap_time-clause-kept
-returns-else-unix_leap_time-clause-kept g c = omega (arith, c.look-last.ensures.counted, g.met.V.Transitions.no_less (g.V.Transitions.looks c.args.view.now))
+pub returns-else-unix_time-unix_leap_time-clause-kept : goal.returns-else-unix_time-unix_leap_time-clause-kept
+returns-else-unix_time-unix_leap_time-clause-kept g c = omega (arith, c.look-last.ensures.counted, g.met.V.Transitions.no_less (g.V.Transitions.looks c.args.view.now))
 
-pub returns-else-unix_leap_time-clause-few : goal.returns-else-unix_leap_time-clause-few
-returns-else-unix_leap_time-clause-few g c = λ b below. omega (arith, c.look-last.ensures.counted, g.met.V.Transitions.one_more (g.V.Transitions.looks c.args.view.now))
+pub returns-else-unix_time-unix_leap_time-clause-few : goal.returns-else-unix_time-unix_leap_time-clause-few
+returns-else-unix_time-unix_leap_time-clause-few g c = λ b below. omega (arith, c.look-last.ensures.counted, g.met.V.Transitions.one_more (g.V.Transitions.looks c.args.view.now))
 
-pub returns-else-unix_leap_time-clause-some : goal.returns-else-unix_leap_time-clause-some
-returns-else-unix_leap_time-clause-some g c = λ some. omega (arith, c.look-last.ensures.counted)
+pub returns-else-unix_time-unix_leap_time-clause-some : goal.returns-else-unix_time-unix_leap_time-clause-some
+returns-else-unix_time-unix_leap_time-clause-some g c = λ some. omega (arith, c.look-last.ensures.counted)
 
-pub returns-else-unix_leap_time-clause-none : goal.returns-else-unix_leap_time-clause-none
-returns-else-unix_leap_time-clause-none g c = λ none. absurd (c.if-count-eq0.false (c.len-count.ensures ∙ ap length none))
+pub returns-else-unix_time-unix_leap_time-clause-none : goal.returns-else-unix_time-unix_leap_time-clause-none
+returns-else-unix_time-unix_leap_time-clause-none g c = λ none. absurd (c.if-count-eq0.false (c.len-count.ensures ∙ ap length none))
 
-pub returns-in_err-unix_leap_time-clause-kept : goal.returns-in_err-unix_leap_time-clause-kept
-returns-in_err-unix_leap_time-clause-kept g c = omega (arith, c.look-last.ensures.counted, g.met.V.Transitions.no_less (g.V.Transitions.looks c.args.view.now))
+pub type_over_leap_seconds-requires-clause-sound : goal.type_over_leap_seconds-requires-clause-sound
+type_over_leap_seconds-requires-clause-sound g c = rw c.look-last.ensures.same c.requires
 
-pub returns-in_err-unix_leap_time-clause-few : goal.returns-in_err-unix_leap_time-clause-few
-returns-in_err-unix_leap_time-clause-few g c = λ b below. omega (arith, c.look-last.ensures.counted, g.met.V.Transitions.one_more (g.V.Transitions.looks c.args.view.now))
+pub returns-then-not-is_empty-clause-ok : goal.returns-then-not-is_empty-clause-ok
+returns-then-not-is_empty-clause-ok g c = rw (c.look-last.ensures.same, to_z-of_z w64 c.args.unix_time c.ranges.unix_time) at c.type_over_leap_seconds.ensures.ok
 
-pub returns-in_err-unix_leap_time-clause-some : goal.returns-in_err-unix_leap_time-clause-some
-returns-in_err-unix_leap_time-clause-some g c = λ some. omega (arith, c.look-last.ensures.counted)
+pub returns-then-not-is_empty-clause-err : goal.returns-then-not-is_empty-clause-err
+returns-then-not-is_empty-clause-err g c = rw (c.look-last.ensures.same, to_z-of_z w64 c.args.unix_time c.ranges.unix_time) at c.type_over_leap_seconds.ensures.err
 
-pub returns-in_err-unix_leap_time-clause-none : goal.returns-in_err-unix_leap_time-clause-none
-returns-in_err-unix_leap_time-clause-none g c = λ none. absurd (c.if-count-eq0.false (c.len-count.ensures ∙ ap length none))
+pub returns-then-not-is_empty-clause-kept : goal.returns-then-not-is_empty-clause-kept
+returns-then-not-is_empty-clause-kept g c = omega (arith, c.type_over_leap_seconds.ensures.kept, c.look-last.ensures.counted, g.met.V.Transitions.no_less (g.V.Transitions.looks c.args.view.now))
+
+pub returns-then-not-is_empty-clause-few : goal.returns-then-not-is_empty-clause-few
+returns-then-not-is_empty-clause-few g c = λ b below.
+    omega (arith, c.type_over_leap_seconds.ensures.few b (rw c.look-last.ensures.same below), c.look-last.ensures.counted, g.met.V.Transitions.one_more (g.V.Transitions.looks c.args.view.now))
+
+pub returns-then-not-is_empty-clause-some : goal.returns-then-not-is_empty-clause-some
+returns-then-not-is_empty-clause-some g c = λ some. omega (arith, c.type_over_leap_seconds.ensures.kept, c.look-last.ensures.counted)
+
+pub returns-then-not-is_empty-clause-none : goal.returns-then-not-is_empty-clause-none
+returns-then-not-is_empty-clause-none g c = λ none. absurd (c.if-count-eq0.false (c.len-count.ensures ∙ ap length none))
