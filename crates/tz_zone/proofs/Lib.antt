@@ -13,6 +13,7 @@ pub mod RuleChecks
 pub mod Clocks
 pub mod SegmentLemmas
 pub mod ClockSegmentLemmas
+pub mod SegmentEnds
 pub mod ChangeLemmas
 pub mod TzFileLaws
 pub mod TzNames

@@ -12,6 +12,7 @@ pub mod ZoneRef
 pub mod ZoneSeen
 pub mod Segments
 pub mod ClockSegments
+pub mod TableChanges
 pub mod Changes
 pub mod Runs
 pub mod SameZone

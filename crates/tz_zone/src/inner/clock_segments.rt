@@ -6,6 +6,7 @@ ghost use Rattle.tz_zone.specs.Table.{Transition, Zone};
 ghost use Rattle.tz_zone.specs.LeapTime.{IsBeforeStart, IsLeapTimeRefused};
 ghost use Rattle.tz_zone.specs.Clock.{IsTypeAfter};
 ghost use Rattle.tz_zone.specs.ClockSegments.{IsCursor, IsAtCursor, IsReachedAt, IsSegmentAt, TakesEffectAt};
+ghost use Rattle.tz_zone.specs.TableChanges.{IsChangeByRule, IsTableStart, IsFar, HasTableEnds};
 ghost use Rattle.tz_zone.specs.ValidZone.{AreLeapSeconds, IsSoundTable};
 ghost use Rattle.tz_zone.specs.ZoneSeen.{zone_seen};
 
@@ -19,7 +20,8 @@ use crate::timezone::{LeapSecond, TransitionRule};
 #[inline(always)]
 fn segment_without_transitions<'a>(parts: OtherParts<'a>, unix_time: i64) -> ClockSegment<'a>
     requires { parts.local_time_types.now ≢ [] }
-    ensures { IsSegmentAt (zone_seen [] parts.entry) unix_time result }
+    ensures at { IsSegmentAt (zone_seen [] parts.entry) unix_time result }
+    ensures ends { HasTableEnds (zone_seen [] parts.entry) result.from result.last }
 {
     let Some(rule) = parts.extra_rule else {
         return ClockSegment {
@@ -60,6 +62,8 @@ fn refused_segment<'a>(leap_seconds: &[LeapSecond], unix_time: i64) -> ClockSegm
     ensures refused { (v : ℤ) → result.from ≤ℤ v → v ≤ℤ result.last → IsLeapTimeRefused leap_seconds.now v }
     ensures begun { result.last <ℤ pos 9223372036854775807 → ¬ IsBeforeStart leap_seconds.now (result.last +ℤ pos 1) }
     ensures end { ¬ IsBeforeStart leap_seconds.now unix_time → result.last ≡ pos 9223372036854775807 }
+    ensures from { result.from ≢ negsuc 9223372036854775807 → IsFar leap_seconds.now result.from }
+    ensures last { result.last ≢ pos 9223372036854775807 → IsTableStart leap_seconds.now (result.last +ℤ pos 1) }
     ensures local_time_type { result.local_time_type ≡ None }
     ensures cursor { result.cursor ≡ None }
 {
@@ -92,6 +96,8 @@ fn segment_after_transitions<'a>(
     ensures inside { (span.from ≤ℤ result.from) × (result.last ≤ℤ span.last) }
     ensures holds { (v : ℤ) → result.from ≤ℤ v → v ≤ℤ result.last
         → MatchOption result.local_time_type ((t : LocalTimeType) → ¬ IsTypeAfter extra_rule.entry.now v t) (λ t. IsTypeAfter extra_rule.entry.now v t.now) }
+    ensures from { result.from ≢ span.from → IsChangeByRule extra_rule.entry.now result.from }
+    ensures last { result.last ≢ span.last → IsChangeByRule extra_rule.entry.now (result.last +ℤ pos 1) }
     ensures cursor { result.cursor ≡ Some cursor }
 {
     let Some(rule) = extra_rule else {
@@ -119,6 +125,8 @@ fn segment_at_cursor<'a>(parts: OtherParts<'a>, cursor: Cursor, unix_time: i64) 
     requires named { cursor.before.type_index < length parts.local_time_types.now }
     ensures at { (transitions : List Transition) → IsSoundTable (zone_seen transitions parts.entry) → transitions ≢ [] → IsCursor transitions cursor
         → IsSegmentAt (zone_seen transitions parts.entry) unix_time result }
+    ensures ends { (transitions : List Transition) → IsSoundTable (zone_seen transitions parts.entry) → IsCursor transitions cursor
+        → HasTableEnds (zone_seen transitions parts.entry) result.from result.last }
     ensures cursor { result.cursor ≡ Some cursor }
 {
     let span = span_of(parts.leap_seconds, cursor, unix_time);
@@ -143,6 +151,7 @@ pub fn clock_segment_at<'a, V: Transitions>(
     requires { IsSoundTable (zone_seen (V.list view.old) parts) }
     ensures same { V.list view.new ≡ V.list view.old }
     ensures at { IsSegmentAt (zone_seen (V.list view.old) parts.entry) unix_time result }
+    ensures ends { HasTableEnds (zone_seen (V.list view.old) parts.entry) result.from result.last }
     ensures kept { V.looks view.old ≤ V.looks view.new }
     ensures few { (b : ℕ) → length (V.list view.old) < 2 ^ b → V.looks view.new ≤ V.looks view.old + (b + 1) }
     ensures some { 0 < length (V.list view.old) → V.next (V.looks view.old) ≤ V.looks view.new }

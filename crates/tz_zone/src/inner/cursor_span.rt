@@ -1,9 +1,10 @@
 //! The span of time whose leap times lie between the transitions on both sides of a cursor.
 
-ghost use Rattle.std.specs.Prelude.{ℤ, pos, ◌≤ℤ◌, ◌<ℤ◌, IsTrue, MatchBool};
+ghost use Rattle.std.specs.Prelude.{◌≡◌, ◌≢◌, ℤ, pos, ◌+ℤ◌, ◌≤ℤ◌, ◌<ℤ◌, [], IsTrue, MatchBool, MatchOption};
 ghost use Rattle.tz_zone.specs.LeapTime.{IsBeforeStart, IsLeapTimeRefused, IsTimeReached, IsMomentOf};
 ghost use Rattle.tz_zone.specs.ValidZone.{AreLeapSeconds};
 ghost use Rattle.tz_zone.specs.ClockSegments.{IsBetween, IsAtCursor};
+ghost use Rattle.tz_zone.specs.TableChanges.{IsSpanEnd};
 
 use super::cursor::Cursor;
 use super::{SURELY_ANSWERED, has_begun, has_leap_time, leap_seconds_reached, moment};
@@ -44,6 +45,7 @@ fn last_answered(leap_seconds: &[LeapSecond], unix_time: i64) -> i64
     ensures answered { (v : ℤ) → unix_time ≤ℤ v → v ≤ℤ result → ¬ IsLeapTimeRefused leap_seconds.now v }
     ensures last { pos 80000000000000000 <ℤ unix_time → (v : ℤ) → result <ℤ v → v ≤ℤ pos 9223372036854775807
         → IsLeapTimeRefused leap_seconds.now v }
+    ensures far { pos 80000000000000000 ≤ℤ result }
 {
     if unix_time <= SURELY_ANSWERED {
         return SURELY_ANSWERED;
@@ -119,6 +121,7 @@ fn last_before(leap_seconds: &[LeapSecond], unix_time: i64, unix_leap_time: i64,
     ensures from { unix_time ≤ℤ result }
     ensures last { result ≤ℤ last }
     ensures before { (v : ℤ) → v ≤ℤ result → ¬ IsTimeReached leap_seconds.now unix_leap_time v }
+    ensures end { result ≢ last → IsMomentOf leap_seconds.now unix_leap_time (result +ℤ pos 1) }
 {
     let reached = moment(leap_seconds, unix_leap_time);
     if reached <= i128::from(last) {
@@ -134,6 +137,8 @@ fn span_in_leap_time(leap_seconds: &[LeapSecond], cursor: Cursor, unix_time: i64
     requires at { IsAtCursor leap_seconds.now cursor unix_time }
     ensures within { (result.from ≤ℤ unix_time) × (unix_time ≤ℤ result.last) }
     ensures at { (v : ℤ) → result.from ≤ℤ v → v ≤ℤ result.last → IsAtCursor leap_seconds.now cursor v }
+    ensures from { IsMomentOf leap_seconds.now cursor.before.unix_leap_time result.from }
+    ensures last { leap_seconds.now ≢ [] → IsSpanEnd leap_seconds.now cursor result.last }
 {
     let from = first_reached(leap_seconds, unix_time, cursor.before.unix_leap_time());
     let answered = last_answered(leap_seconds, unix_time);
@@ -155,6 +160,8 @@ fn span_in_unix_time(cursor: Cursor, unix_time: i64) -> CursorSpan
     requires { IsBetween cursor unix_time }
     ensures within { (result.from ≤ℤ unix_time) × (unix_time ≤ℤ result.last) }
     ensures between { (v : ℤ) → result.from ≤ℤ v → v ≤ℤ result.last → IsBetween cursor v }
+    ensures from { result.from ≡ cursor.before.unix_leap_time }
+    ensures last { MatchOption cursor.next (result.last ≡ pos 9223372036854775807) (λ next. (result.last +ℤ pos 1) ≡ next.unix_leap_time) }
 {
     let last = match cursor.next {
         Some(next) => next.unix_leap_time() - 1,
@@ -173,6 +180,8 @@ pub(super) fn span_of(leap_seconds: &[LeapSecond], cursor: Cursor, unix_time: i6
     requires at { IsAtCursor leap_seconds.now cursor unix_time }
     ensures within { (result.from ≤ℤ unix_time) × (unix_time ≤ℤ result.last) }
     ensures at { (v : ℤ) → result.from ≤ℤ v → v ≤ℤ result.last → IsAtCursor leap_seconds.now cursor v }
+    ensures from { IsMomentOf leap_seconds.now cursor.before.unix_leap_time result.from }
+    ensures last { IsSpanEnd leap_seconds.now cursor result.last }
 {
     if leap_seconds.is_empty() {
         return span_in_unix_time(cursor, unix_time);

@@ -7,6 +7,7 @@ use std::alloc::Allocator;
 impl<'a> TimeZoneRef<'a> {
     ghost use Rattle.std.specs.Prelude.{◌≤ℤ◌, MatchOption};
     ghost use Rattle.tz_zone.specs.Changes.{segment_of, change_of, IsTrueSegment, IsFollowing, IsPreceding, HasNoFollowing, HasNoPreceding};
+    ghost use Rattle.tz_zone.specs.TableChanges.{HasTableEnds};
     ghost use Rattle.tz_zone.specs.ZoneRef.{zone_of};
 
     /// The segment around an instant, in Unix seconds. Takes no memory.
@@ -16,6 +17,7 @@ impl<'a> TimeZoneRef<'a> {
     pub fn segment_at(&self, unix_time: i64) -> Segment<'a>
         ensures within { ((segment_of result).from ≤ℤ unix_time) × (unix_time ≤ℤ (segment_of result).last) }
         ensures segment { IsTrueSegment (zone_of self.now) (segment_of result) }
+        ensures ends { HasTableEnds (zone_of self.now) (segment_of result).from (segment_of result).last }
     {
         let mut view = Uncounted::new(self.transitions());
         let segment = inner::clock_segment_at(&mut view, inner::other_parts(self), unix_time);
@@ -46,12 +48,14 @@ impl<'a> TimeZoneRef<'a> {
 impl<A: Allocator + Copy> TimeZone<A> {
     ghost use Rattle.std.specs.Prelude.{◌≤ℤ◌, MatchOption};
     ghost use Rattle.tz_zone.specs.Changes.{segment_of, change_of, IsTrueSegment, IsFollowing, IsPreceding, HasNoFollowing, HasNoPreceding};
+    ghost use Rattle.tz_zone.specs.TableChanges.{HasTableEnds};
     ghost use Rattle.tz_zone.specs.ZoneRef.{own_zone_of};
 
     /// The segment around an instant, as `TimeZoneRef::segment_at` has it.
     pub fn segment_at(&self, unix_time: i64) -> Segment<'_>
         ensures within { ((segment_of result).from ≤ℤ unix_time) × (unix_time ≤ℤ (segment_of result).last) }
         ensures segment { IsTrueSegment (own_zone_of self.now) (segment_of result) }
+        ensures ends { HasTableEnds (own_zone_of self.now) (segment_of result).from (segment_of result).last }
     {
         self.as_ref().segment_at(unix_time)
     }

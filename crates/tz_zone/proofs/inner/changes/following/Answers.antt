@@ -116,3 +116,6 @@ returns-clause-change g c =
     let last = c.loop-segment.segment.last in
     let end : pos 9223372036854775807 <ℤ (last +ℤ pos 1) = omega (arith, ints, c.loop-segment-test.false, to_z-of_z w64 last so_far.fits) in
     no_change_to_end z c.requires c.args.unix_time (last +ℤ pos 1) end so_far.none
+
+pub clock_segment_after-next-requires-clause-segment : goal.clock_segment_after-next-requires-clause-segment
+clock_segment_after-next-requires-clause-segment g c = rw c.loop-segment.invariant.same c.loop-segment.invariant.segment

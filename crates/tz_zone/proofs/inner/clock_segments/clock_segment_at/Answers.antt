@@ -1,8 +1,7 @@
 -- The cursor stands at the leap time, if there is one.
-use Rattle.std.proofs.Common.{◌≢◌, ◌∙◌, ap, List, [], length}
+use Rattle.std.proofs.Common.{◌≢◌, ◌∙◌, inl, inr, ap, [], length}
 use Rattle.std.proofs.lemmas.Int.{to_z-of_z}
 use mir.Syntax.{w64}
-use mir.Val.{SFits, to_z, of_z}
 use Rattle.tz_zone.specs.ZoneSeen.{zone_seen}
 use Rattle.tz_zone.proofs.ClockSegmentLemmas.{names_type, refused_segment_is}
 use Rattle.tz_zone.proofs.inner.clock_segments.clock_segment_at.Goals as goal
@@ -28,3 +27,15 @@ returns-clause-at g c =
     let some : list ≢ [] = λ none. c.if-count-eq0.false (c.len-count.ensures ∙ ap length none) in
     let cursor = rw c.look-last.ensures.same at c.cursor_at-cursor.ensures.cursor in
     rw (to_z-of_z w64 c.args.unix_time c.ranges.unix_time) at (c.segment_at_cursor.ensures.at list c.requires some cursor)
+
+pub returns-in_default-clause-ends : goal.returns-in_default-clause-ends
+returns-in_default-clause-ends g c = record {
+  from_is = λ not_least. inr (c.refused_segment.ensures.from not_least);
+  last_is = λ not_greatest. inl (inr (inr (c.refused_segment.ensures.last not_greatest)));
+}
+
+pub returns-clause-ends : goal.returns-clause-ends
+returns-clause-ends g c =
+    let list = g.V.Transitions.list c.args.view.now in
+    let cursor = rw c.look-last.ensures.same at c.cursor_at-cursor.ensures.cursor in
+    c.segment_at_cursor.ensures.ends list c.requires cursor

@@ -1,5 +1,5 @@
 -- The moment of what is not reached at an instant is later, and before it nothing is reached.
-use Rattle.std.proofs.Common.{◌≡◌, arith, ℤ, pos, ◌≤ℤ◌, ◌<ℤ◌, ◌-ℤ◌, rules}
+use Rattle.std.proofs.Common.{◌≡◌, arith, ℤ, pos, ◌≤ℤ◌, ◌<ℤ◌, ◌+ℤ◌, ◌-ℤ◌, rules}
 use Rattle.std.proofs.lemmas.Int.{ints, to_z-of_z}
 use mir.Syntax.{w64, w128}
 use mir.Val.{SFits, to_z, of_z}
@@ -77,3 +77,15 @@ returns-clause-before c =
     let moment = rw (to_z-of_z w64 c.args.unix_leap_time c.ranges.unix_leap_time) at c.moment-reached.ensures in
     let past : l <ℤ m = omega (arith, ints, c.from.ensures, c.if-reached-from.false) in
     λ v up reached. absurd (omega (arith, ints, up, past, moment.least v reached))
+
+pub returns-then-reached-from-clause-end : goal.returns-then-reached-from-clause-end
+returns-then-reached-from-clause-end c =
+    let u = c.args.unix_time in
+    let l = c.args.last in
+    let m = c.moment-reached.result in
+    let wide : SFits w128 m = search rules in
+    let moment = rw (to_z-of_z w64 c.args.unix_leap_time c.ranges.unix_leap_time) at c.moment-reached.ensures in
+    let low = moment_ahead c.args.leap_seconds.now c.requires.leaps u c.args.unix_leap_time m c.requires.answered c.requires.before moment in
+    let high = up_to l m c.from.result c.ranges.last wide c.from.ensures (omega (arith, ints, c.if-reached-from.true)) in
+    let next : m -ℤ pos 1 +ℤ pos 1 ≡ m = omega (arith, ints) in
+    rw (one_less u l m c.ranges.unix_time c.ranges.last wide low high, to_z-of_z w64 (m -ℤ pos 1) (one_less_fits u l m c.ranges.unix_time c.ranges.last low high), next) (λ other. moment)
