@@ -4,6 +4,8 @@
 #[cfg(test)]
 mod borrowed_zones;
 #[cfg(test)]
+mod changes;
+#[cfg(test)]
 mod clock_segments;
 #[cfg(test)]
 mod expect;

@@ -1,0 +1,351 @@
+//! Segments of clocks and their changes, by rows and beside a walk second by second.
+
+use crate::expect::{expect_eq, expect_eq_at};
+use std::process::Abort;
+use tz_base::error::TzError;
+use tz_file_tests::samples::central_europe;
+use tz_zone::timezone::{
+    AlternateTime, Change, Julian0WithLeap, Julian1WithoutLeap, LeapSecond, LocalTimeType, RuleDay,
+    TimeZoneRef, Transition, TransitionRule,
+};
+
+/// A change: its instant, and the offsets before it and from it on.
+type Row = (i64, i32, i32);
+
+/// Three types, which their offsets tell apart.
+fn three_types() -> Result<[LocalTimeType; 3], TzError> {
+    Ok([
+        LocalTimeType::new(0, false, Some(b"ZERO"))?,
+        LocalTimeType::new(3600, false, Some(b"CET"))?,
+        LocalTimeType::new(7200, true, Some(b"CEST"))?,
+    ])
+}
+
+/// The rule of `EST5EDT,0/0,J365/25`: daylight saving time all year.
+fn daylight_all_year() -> Result<TransitionRule, TzError> {
+    Ok(TransitionRule::Alternate(AlternateTime::new(
+        LocalTimeType::new(-18_000, false, Some(b"EST"))?,
+        LocalTimeType::new(-14_400, true, Some(b"EDT"))?,
+        RuleDay::Julian0WithLeap(Julian0WithLeap::new(0)?),
+        0,
+        RuleDay::Julian1WithoutLeap(Julian1WithoutLeap::new(365)?),
+        90_000,
+    )?))
+}
+
+/// What a change tells.
+fn row_of(change: Option<Change<'_>>) -> Option<Row> {
+    let change = change?;
+    Some((
+        change.unix_time(),
+        change.before().ut_offset(),
+        change.after().ut_offset(),
+    ))
+}
+
+/// From one instant on, and back from another, the changes are these.
+fn expect_changes(rt: &impl Abort, zone: &TimeZoneRef<'_>, low: i64, high: i64, rows: &[Row]) {
+    let mut from = low;
+    for row in rows {
+        expect_eq_at(rt, &from, &row_of(zone.following(from)), &Some(*row));
+        from = row.0;
+    }
+    let mut until = high;
+    for row in rows.iter().rev() {
+        expect_eq_at(rt, &until, &row_of(zone.preceding(until)), &Some(*row));
+        until = row.0;
+    }
+}
+
+/// There is no change up to an instant, and none behind another.
+fn expect_no_others(rt: &impl Abort, zone: &TimeZoneRef<'_>, first: i64, last: i64) {
+    expect_eq(rt, &row_of(zone.preceding(first)), &None);
+    expect_eq(rt, &row_of(zone.following(last)), &None);
+}
+
+/// The change at an instant, by two lookups.
+fn plain_change(zone: &TimeZoneRef<'_>, unix_time: i64) -> Option<Row> {
+    let before = zone.find_local_time_type(unix_time.saturating_sub(1)).ok()?;
+    let after = zone.find_local_time_type(unix_time).ok()?;
+    if before == after {
+        return None;
+    }
+    Some((unix_time, before.ut_offset(), after.ut_offset()))
+}
+
+/// Second by second through a span, both calls answer the nearest change that two lookups find.
+fn expect_plain(rt: &impl Abort, zone: &TimeZoneRef<'_>, low: i64, seconds: i64) {
+    let mut nearest = row_of(zone.preceding(low));
+    for distance in 0..seconds {
+        let time = low.saturating_add(distance);
+        expect_eq_at(rt, &time, &row_of(zone.preceding(time)), &nearest);
+        nearest = plain_change(zone, time).or(nearest);
+    }
+    let mut nearest = row_of(zone.following(low.saturating_add(seconds)));
+    for distance in (0..seconds).rev() {
+        let time = low.saturating_add(distance).saturating_add(1);
+        nearest = plain_change(zone, time).or(nearest);
+        expect_eq_at(
+            rt,
+            &time,
+            &row_of(zone.following(time.saturating_sub(1))),
+            &nearest,
+        );
+    }
+}
+
+#[test]
+fn changes_of_a_rule(rt: HostRuntime) -> Result<(), TzError> {
+    static PARIS: [Row; 6] = [
+        (1_711_846_800, 3600, 7200),
+        (1_729_990_800, 7200, 3600),
+        (1_743_296_400, 3600, 7200),
+        (1_761_440_400, 7200, 3600),
+        (1_774_746_000, 3600, 7200),
+        (1_792_890_000, 7200, 3600),
+    ];
+    static FIRST: [Row; 1] = [(-67_768_100_497_378_800, 3600, 7200)];
+    static LAST: [Row; 1] = [(67_767_976_164_934_800, 7200, 3600)];
+    let types = three_types()?;
+    let rule = Some(TransitionRule::Alternate(central_europe()?));
+    let zone = TimeZoneRef::new(&[], &types, &[], &rule)?;
+    expect_changes(&rt, &zone, 1_704_067_200, 1_798_761_600, &PARIS);
+    expect_changes(&rt, &zone, i64::MIN, -67_768_100_497_378_799, &FIRST);
+    expect_changes(&rt, &zone, 67_767_976_164_934_799, i64::MAX, &LAST);
+    expect_no_others(&rt, &zone, FIRST[0].0, LAST[0].0);
+
+    let types = three_types()?;
+    let transitions = [Transition::new(0, 1), Transition::new(1_700_000_000, 1)];
+    let zone = TimeZoneRef::new(&transitions, &types, &[], &rule)?;
+    expect_changes(&rt, &zone, 1_704_067_200, 1_798_761_600, &PARIS);
+    expect_changes(&rt, &zone, i64::MIN, 1_711_846_800, &[(0, 0, 3600)]);
+    expect_no_others(&rt, &zone, 0, LAST[0].0);
+    Ok(())
+}
+
+#[test]
+fn changes_that_are_none(rt: HostRuntime) -> Result<(), TzError> {
+    let types = three_types()?;
+    let all_year = Some(daylight_all_year()?);
+    let zone = TimeZoneRef::new(&[], &types, &[], &all_year)?;
+    expect_no_others(&rt, &zone, i64::MAX, i64::MIN);
+    expect_no_others(&rt, &zone, 1_720_000_000, 1_720_000_000);
+
+    // A transition to an equal type, and the seam.
+    let types = [
+        LocalTimeType::new(0, false, Some(b"ZERO"))?,
+        LocalTimeType::new(-14_400, true, Some(b"EDT"))?,
+        LocalTimeType::new(-14_400, true, Some(b"EDT"))?,
+    ];
+    let transitions = [
+        Transition::new(1000, 1),
+        Transition::new(2000, 2),
+        Transition::new(1_720_000_000, 1),
+    ];
+    let zone = TimeZoneRef::new(&transitions, &types, &[], &all_year)?;
+    expect_changes(&rt, &zone, i64::MIN, i64::MAX, &[(1000, 0, -14_400)]);
+    expect_no_others(&rt, &zone, 1000, 1000);
+
+    let types = three_types()?;
+    for extra_rule in [None, Some(TransitionRule::Fixed(types[1]))] {
+        let zone = TimeZoneRef::new(&[], &types, &[], &extra_rule)?;
+        expect_no_others(&rt, &zone, i64::MAX, i64::MIN);
+    }
+    Ok(())
+}
+
+#[test]
+fn changes_at_a_seam(rt: HostRuntime) -> Result<(), TzError> {
+    static ROWS: [Row; 3] = [
+        (1_711_846_800, 0, 7200),
+        (1_729_990_800, 7200, 3600),
+        (1_743_296_400, 3600, 7200),
+    ];
+    let types = three_types()?;
+    let rule = Some(TransitionRule::Alternate(central_europe()?));
+    // The last transition is where daylight saving time starts, or a day later, where the rule has its type already.
+    let transitions = [
+        Transition::new(1_711_846_800, 2),
+        Transition::new(1_711_933_200, 2),
+    ];
+    for count in 1..3usize {
+        let zone = TimeZoneRef::new(&transitions[..count], &types, &[], &rule)?;
+        expect_changes(&rt, &zone, i64::MIN, 1_743_296_401, &ROWS);
+        expect_eq(&rt, &row_of(zone.preceding(1_711_846_800)), &None);
+    }
+    Ok(())
+}
+
+#[test]
+fn changes_at_both_ends(rt: HostRuntime) -> Result<(), TzError> {
+    static ROWS: [Row; 2] = [(i64::MIN + 1, 3600, 7200), (i64::MAX, 7200, 3600)];
+    let types = three_types()?;
+    let transitions = [
+        Transition::new(i64::MIN, 1),
+        Transition::new(i64::MIN + 1, 2),
+        Transition::new(i64::MAX, 1),
+    ];
+    let zone = TimeZoneRef::new(&transitions, &types, &[], &None)?;
+    expect_changes(&rt, &zone, i64::MIN, i64::MAX, &ROWS[..1]);
+    expect_no_others(&rt, &zone, i64::MIN + 1, i64::MIN + 1);
+    let fixed = Some(TransitionRule::Fixed(types[1]));
+    let zone = TimeZoneRef::new(&transitions, &types, &[], &fixed)?;
+    expect_changes(&rt, &zone, i64::MIN, i64::MAX, &ROWS[..1]);
+    expect_eq(&rt, &row_of(zone.following(i64::MAX - 1)), &Some(ROWS[1]));
+    expect_no_others(&rt, &zone, i64::MIN, i64::MAX);
+    Ok(())
+}
+
+#[test]
+fn changes_over_leap_seconds(rt: HostRuntime) -> Result<(), TzError> {
+    let types = three_types()?;
+    let leap_seconds = [
+        LeapSecond::new(3, -1),
+        LeapSecond::new(2_419_202, 0),
+        LeapSecond::new(4_838_401, 1),
+        LeapSecond::new(7_257_600, 0),
+        LeapSecond::new(9_676_799, 0),
+    ];
+    for moved in 0..7i64 {
+        // Leap times are left out and come twice here, so that several transitions take effect at one instant.
+        let transitions = [
+            Transition::new(moved, 1),
+            Transition::new(2_419_199 + moved, 2),
+            Transition::new(2_419_200 + moved, 0),
+            Transition::new(4_838_398 + moved, 1),
+            Transition::new(4_838_399 + moved, 2),
+            Transition::new(7_257_597 + moved, 2),
+            Transition::new(9_676_796 + moved, 0),
+        ];
+        for extra_rule in [None, Some(TransitionRule::Fixed(types[0]))] {
+            let zone = TimeZoneRef::new(&transitions, &types, &leap_seconds, &extra_rule)?;
+            for instant in [0, 2_419_197, 4_838_396, 7_257_595, 9_676_794i64] {
+                expect_plain(&rt, &zone, instant, 10);
+            }
+        }
+    }
+    Ok(())
+}
+
+#[test]
+fn changes_with_a_truncated_start(rt: HostRuntime) -> Result<(), TzError> {
+    static ROWS: [Row; 1] = [(89_999_995, 7200, 3600)];
+    let types = three_types()?;
+    let leap_seconds = [
+        LeapSecond::new(78_796_800, 5),
+        LeapSecond::new(94_694_401, 6),
+    ];
+    let transitions = [
+        Transition::new(1000, 1),
+        Transition::new(78_796_799, 2),
+        Transition::new(90_000_000, 1),
+    ];
+    let rule = Some(TransitionRule::Fixed(types[1]));
+    let zone = TimeZoneRef::new(&transitions, &types, &leap_seconds, &rule)?;
+    expect_changes(&rt, &zone, i64::MIN, i64::MAX, &ROWS);
+    expect_no_others(&rt, &zone, 89_999_995, 89_999_995);
+    expect_plain(&rt, &zone, 78_796_790, 10);
+    Ok(())
+}
+
+#[test]
+fn changes_before_instants_without_leap_time(rt: HostRuntime) -> Result<(), TzError> {
+    static LAST: [Row; 1] = [(67_767_976_164_934_800, 7200, 3600)];
+    let types = three_types()?;
+    let rule = Some(TransitionRule::Alternate(central_europe()?));
+    let transitions = [Transition::new(1_711_846_800, 2)];
+    for correction in [1, i32::MAX] {
+        let leap_seconds = [LeapSecond::new(0, correction)];
+        let zone = TimeZoneRef::new(&[], &types, &leap_seconds, &rule)?;
+        expect_changes(&rt, &zone, LAST[0].0 - 1, i64::MAX, &LAST);
+        let fixed = Some(TransitionRule::Fixed(types[2]));
+        let zone = TimeZoneRef::new(&transitions, &types, &leap_seconds, &fixed)?;
+        let effect = 1_711_846_800 - i64::from(correction);
+        expect_changes(&rt, &zone, i64::MIN, i64::MAX, &[(effect, 0, 7200)]);
+        expect_no_others(&rt, &zone, effect, effect);
+    }
+    Ok(())
+}
+
+/// The first and the last instant of a segment, and the offset through it.
+type Stretch = (i64, i64, Option<i32>);
+
+/// The offset at an instant, by a lookup.
+fn offset_at(zone: &TimeZoneRef<'_>, unix_time: i64) -> Option<i32> {
+    Some(zone.find_local_time_type(unix_time).ok()?.ut_offset())
+}
+
+/// Whether lookups at the three seconds from each end of a span inwards answer this offset.
+fn has_offset(zone: &TimeZoneRef<'_>, from: i64, last: i64, offset: Option<i32>) -> bool {
+    for distance in 0..3i64 {
+        let (early, late) = (from.saturating_add(distance), last.saturating_sub(distance));
+        if offset_at(zone, early) != offset || offset_at(zone, late) != offset {
+            return false;
+        }
+    }
+    true
+}
+
+/// Around an instant, and around each end of its segment, the segment is this, and would not be one with a second more at an end.
+fn expect_segment(rt: &impl Abort, zone: &TimeZoneRef<'_>, unix_time: i64, wanted: &Stretch) {
+    let (from, last, offset) = *wanted;
+    for time in [unix_time, from, last] {
+        let segment = zone.segment_at(time);
+        let found = segment.local_time_type().map(LocalTimeType::ut_offset);
+        expect_eq_at(rt, &time, &(segment.from(), segment.last(), found), wanted);
+        expect_eq_at(rt, &time, &segment.contains(from), &true);
+        expect_eq_at(rt, &time, &segment.contains(last), &true);
+        if from > i64::MIN {
+            expect_eq_at(rt, &from, &segment.contains(from - 1), &false);
+        }
+        if last < i64::MAX {
+            expect_eq_at(rt, &last, &segment.contains(last + 1), &false);
+        }
+    }
+    expect_eq_at(rt, &unix_time, &has_offset(zone, from, last, offset), &true);
+    if from > i64::MIN {
+        expect_eq_at(rt, &from, &has_offset(zone, from - 1, last, offset), &false);
+    }
+    if last < i64::MAX {
+        expect_eq_at(rt, &last, &has_offset(zone, from, last + 1, offset), &false);
+    }
+}
+
+#[test]
+fn segments_are_no_second_too_long(rt: HostRuntime) -> Result<(), TzError> {
+    static BY_RULE: [Stretch; 4] = [
+        (i64::MIN, 999_999, Some(0)),
+        (1_000_000, 1_711_846_799, Some(3600)),
+        (1_711_846_800, 1_729_990_799, Some(7200)),
+        (1_729_990_800, 1_743_296_399, Some(3600)),
+    ];
+    static BY_TABLE: [Stretch; 2] = [
+        (i64::MIN, 78_796_794, None),
+        (78_796_795, 89_999_994, Some(7200)),
+    ];
+    let types = three_types()?;
+    let rule = Some(TransitionRule::Alternate(central_europe()?));
+    let transitions = [
+        Transition::new(1_000_000, 1),
+        Transition::new(1_711_846_800, 2),
+    ];
+    let zone = TimeZoneRef::new(&transitions, &types, &[], &rule)?;
+    for stretch in &BY_RULE {
+        expect_segment(&rt, &zone, stretch.0.midpoint(stretch.1), stretch);
+    }
+    let leap_seconds = [
+        LeapSecond::new(78_796_800, 5),
+        LeapSecond::new(94_694_401, 6),
+    ];
+    let transitions = [
+        Transition::new(1000, 1),
+        Transition::new(78_796_799, 2),
+        Transition::new(90_000_000, 1),
+    ];
+    let rule = Some(TransitionRule::Fixed(types[1]));
+    let zone = TimeZoneRef::new(&transitions, &types, &leap_seconds, &rule)?;
+    for stretch in &BY_TABLE {
+        expect_segment(&rt, &zone, stretch.0, stretch);
+    }
+    Ok(())
+}
