@@ -1,5 +1,6 @@
 //! One test for each example.
 
+use super::changes::{changes_around, next_change, show_entry};
 use super::clocks::{new_year_an_hour_behind, print_instant, show_now};
 use super::meetings::{
     alarm, count_meanings, next_daily_run, next_monday_at_nine, weekly_meetings,
@@ -188,5 +189,69 @@ fn meetings_keep_their_local_time(rt: HostRuntime) -> Result<(), Fail> {
     let zone = zone_of_setting(&rt, alloc, CENTRAL_EUROPE)?;
     expect_meetings(&rt, alloc, zone.as_ref())?;
     expect_mondays(&rt, zone.as_ref())?;
+    Ok(())
+}
+
+/// Clocks of central Europe are set next so, with the seconds by which they go forward.
+fn expect_next_changes(
+    rt: &impl Abort,
+    alloc: Global,
+    zone: TimeZoneRef<'_>,
+) -> Result<(), TzError> {
+    static CHANGES: [(i64, &str, i64); 2] = [
+        (954_032_399, "2000-03-26T03:00:00.000000000+02:00", 3600),
+        (954_032_400, "2000-10-29T02:00:00.000000000+01:00", -3600),
+    ];
+    for &(now, text, seconds) in CHANGES.iter() {
+        let found = next_change(zone, now)?;
+        assert!(rt; found.is_some());
+        for (shown, forward) in found.iter() {
+            expect_shown(rt, alloc, shown, text)?;
+            expect_eq(rt, forward, &seconds);
+        }
+    }
+    Ok(())
+}
+
+/// The changes around one of the year 2000 begin in 1980, and go on until 2001.
+fn expect_changes_around(
+    rt: &impl Abort,
+    alloc: Global,
+    zone: TimeZoneRef<'_>,
+) -> Result<(), TzError> {
+    let changes = changes_around(alloc, zone, 954_032_400)?;
+    expect_eq(rt, &changes.len(), &43);
+    let first = changes.first().map(|change| change.unix_time());
+    expect_eq(rt, &first, &Some(323_226_000));
+    let last = changes.last().map(|change| change.unix_time());
+    expect_eq(rt, &last, &Some(985_482_000));
+    Ok(())
+}
+
+/// The entries of a log are shown as lookups show them.
+fn expect_entries(rt: &impl Abort, alloc: Global, zone: TimeZoneRef<'_>) -> Result<(), TzError> {
+    static ENTRIES: [(i64, &str); 4] = [
+        (954_032_398, "2000-03-26T01:59:58.000000000+01:00"),
+        (954_032_399, "2000-03-26T01:59:59.000000000+01:00"),
+        (954_032_400, "2000-03-26T03:00:00.000000000+02:00"),
+        (954_032_399, "2000-03-26T01:59:59.000000000+01:00"),
+    ];
+    let mut segment = zone.segment_at(0);
+    for &(unix_time, text) in ENTRIES.iter() {
+        let shown = show_entry(zone, &mut segment, unix_time)?;
+        expect_shown(rt, alloc, &shown, text)?;
+    }
+    Ok(())
+}
+
+#[test]
+fn changes_are_found(rt: HostRuntime) -> Result<(), Fail> {
+    let alloc = rt.alloc();
+    let zone = zone_of_setting(&rt, alloc, CENTRAL_EUROPE)?;
+    expect_next_changes(&rt, alloc, zone.as_ref())?;
+    expect_changes_around(&rt, alloc, zone.as_ref())?;
+    expect_entries(&rt, alloc, zone.as_ref())?;
+    let zone = zone_of_setting(&rt, alloc, "UTC0")?;
+    expect_eq(&rt, &next_change(zone.as_ref(), 0)?.is_none(), &true);
     Ok(())
 }

@@ -5,6 +5,35 @@ ghost use Rattle.std.specs.Prelude.{◌≡◌};
 use super::LocalTimeType;
 
 /// A change of the clock of a zone, from one type to another.
+///
+/// The changes of a zone in the 20 years before an instant and at it, and the next two after it:
+///
+/// ```rust
+/// pub fn changes_around(
+///     alloc: Global,
+///     zone: TimeZoneRef<'_>,
+///     now: i64,
+/// ) -> Result<Vec<Change<'_>>, TzError> {
+///     let mut changes = Vec::new(alloc);
+///     // 20 years of 365.2425 days.
+///     let mut place = now.saturating_sub(20 * 31_556_952);
+///     let mut to_come = 2u8;
+///     for _ in 0..u64::MAX {
+///         let Some(change) = zone.following(place) else {
+///             break;
+///         };
+///         place = change.unix_time();
+///         changes.push(change)?;
+///         if now < place {
+///             to_come = to_come.saturating_sub(1);
+///         }
+///         if to_come == 0 {
+///             break;
+///         }
+///     }
+///     Ok(changes)
+/// }
+/// ```
 #[derive(Clone, Copy, Debug, PartialEq, Eq)]
 pub struct Change<'a> {
     unix_time: i64,

@@ -14,6 +14,24 @@ impl<'a> TimeZoneRef<'a> {
     ///
     /// Two segments that follow one another may have one type, as at a transition to an equal type. The next segment is the one around the
     /// second behind `last`.
+    ///
+    /// What clocks show at a Unix time of a log, whose entries keep a segment for the next ones:
+    ///
+    /// ```rust
+    /// pub fn show_entry<'a>(
+    ///     zone: TimeZoneRef<'a>,
+    ///     segment: &mut Segment<'a>,
+    ///     unix_time: i64,
+    /// ) -> Result<DateTime, TzError> {
+    ///     if !segment.contains(unix_time) {
+    ///         *segment = zone.segment_at(unix_time);
+    ///     }
+    ///     let local_time_type = segment
+    ///         .local_time_type()
+    ///         .ok_or(TzError::NoAvailableLocalTimeType)?;
+    ///     DateTime::from_timespec_and_local(unix_time, 0, *local_time_type)
+    /// }
+    /// ```
     pub fn segment_at(&self, unix_time: i64) -> Segment<'a>
         ensures within { ((segment_of result).from ≤ℤ unix_time) × (unix_time ≤ℤ (segment_of result).last) }
         ensures segment { IsTrueSegment (zone_of self.now) (segment_of result) }
@@ -27,6 +45,19 @@ impl<'a> TimeZoneRef<'a> {
     /// The first change after an instant, in Unix seconds, or `None` where the clock changes no more. Takes no memory.
     ///
     /// A change to an equal type is none, and neither is one from or to where the clock has no type.
+    ///
+    /// When clocks are set next, and by how many seconds forward:
+    ///
+    /// ```rust
+    /// pub fn next_change(zone: TimeZoneRef<'_>, now: i64) -> Result<Option<(DateTime, i64)>, TzError> {
+    ///     let Some(change) = zone.following(now) else {
+    ///         return Ok(None);
+    ///     };
+    ///     let shown = DateTime::from_timespec(change.unix_time(), 0, zone)?;
+    ///     let seconds = i64::from(change.after().ut_offset()) - i64::from(change.before().ut_offset());
+    ///     Ok(Some((shown, seconds)))
+    /// }
+    /// ```
     pub fn following(&self, unix_time: i64) -> Option<Change<'a>>
         ensures { MatchOption result (HasNoFollowing (zone_of self.now) unix_time) (λ c. IsFollowing (zone_of self.now) unix_time (change_of c)) }
     {
