@@ -51,7 +51,9 @@ mod tz_string;
 
 pub use crate::datetime::{DateTime, UtcDateTime};
 pub use crate::error::{Error, TzError};
-pub use crate::timezone::{Change, LocalTimeType, Segment, TimeZone, TimeZoneRef, TimeZoneSettings};
+pub use crate::timezone::{
+    Change, LocalTimeType, Segment, TimeZone, TimeZoneRef, TimeZoneSettings,
+};
 pub use crate::tz_string::TzString;
 pub use tz_base::{constants, error};
 pub use tz_zone::timezone;

@@ -33,11 +33,13 @@ returns-clause-change c = λ z sound low before after.
     let at : c.new.result.unix_time ≡ u = ap (λ (x : Change). x.unix_time) c.new.ensures ∙ to_z-of_z w64 u c.ranges.unix_time in
     let before_is : c.new.result.before.now ≡ a.now = ap (λ (x : Change). x.before) c.new.ensures in
     let after_is : c.new.result.after.now ≡ b.now = ap (λ (x : Change). x.after) c.new.ensures in
-    let bounds = instant_bounds u c.ranges.unix_time in
-    (at, rw (at, before_is, after_is) (record {
-      not_least = low;
-      up_to = bounds.1;
-      before_is = match_some c.args.before a _ _ c.in_ok-before.was before;
-      after_is = match_some c.args.after b _ _ c.in_ok-after.was after;
-      differ = λ same. absurd (false≢true (sym c.if-eq.false ∙ c.eq.ensures ∙ (Decides-same_type a.now b.now).1 same));
-    }))
+    let bounds = instant_bounds u c.ranges.unix_time in (
+      at,
+      rw (at, before_is, after_is) (record {
+        not_least = low;
+        up_to = bounds.1;
+        before_is = match_some c.args.before a _ _ c.in_ok-before.was before;
+        after_is = match_some c.args.after b _ _ c.in_ok-after.was after;
+        differ = λ same. absurd (false≢true (sym c.if-eq.false ∙ c.eq.ensures ∙ (Decides-same_type a.now b.now).1 same));
+      }),
+    )

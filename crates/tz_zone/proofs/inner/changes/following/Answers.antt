@@ -41,8 +41,8 @@ returns-then-is_some-clause-change g c =
     let segment = so_far.segment.1 in
     let not_least : negsuc 9223372036854775807 <ℤ next.from = omega (arith, ints, from_is, so_far.behind, (instant_bounds u c.ranges.unix_time).0) in
     let at = at_from z c.requires not_least
-        (segment.holds (next.from -ℤ pos 1) (omega (arith, ints, from_is, segment.within.0, segment.within.1)) (omega (arith, ints, from_is)))
-        (after.at.holds next.from (omega (arith, ints)) (omega (arith, ints, from_is, after.at.within.1))) in
+    (segment.holds (next.from -ℤ pos 1) (omega (arith, ints, from_is, segment.within.0, segment.within.1)) (omega (arith, ints, from_is)))
+    (after.at.holds next.from (omega (arith, ints)) (omega (arith, ints, from_is, after.at.within.1))) in
     match_if_some c.change_at-change.result _ _ _ _ (sym c.is_some.ensures ∙ c.if-is_some.true) at
     (λ x found. following_found z c.requires u here.last next.from (change_of x) so_far.behind so_far.none from_is found.0 found.1)
 
@@ -60,8 +60,8 @@ returns-then-is_some-2-clause-change g c =
     let segment = so_far.segment.1 in
     let not_least : negsuc 9223372036854775807 <ℤ next.from = omega (arith, ints, from_is, so_far.behind, (instant_bounds u c.ranges.unix_time).0) in
     let at = at_from z c.requires not_least
-        (segment.holds (next.from -ℤ pos 1) (omega (arith, ints, from_is, segment.within.0, segment.within.1)) (omega (arith, ints, from_is)))
-        (after.at.holds next.from (omega (arith, ints)) (omega (arith, ints, from_is, after.at.within.1))) in
+    (segment.holds (next.from -ℤ pos 1) (omega (arith, ints, from_is, segment.within.0, segment.within.1)) (omega (arith, ints, from_is)))
+    (after.at.holds next.from (omega (arith, ints)) (omega (arith, ints, from_is, after.at.within.1))) in
     let no_change = sym c.is_some.ensures ∙ c.if-is_some.false in
     let same = match_if_none c.change_at-change.result _ _ no_change c.change_at-change.ensures.same in
     let none_at = match_if_none c.change_at-change.result _ _ no_change at in
@@ -88,8 +88,8 @@ loop-segment-preserved g c =
     let segment = so_far.segment.1 in
     let not_least : negsuc 9223372036854775807 <ℤ next.from = omega (arith, ints, from_is, so_far.behind, (instant_bounds u c.ranges.unix_time).0) in
     let at = at_from z c.requires not_least
-        (segment.holds (next.from -ℤ pos 1) (omega (arith, ints, from_is, segment.within.0, segment.within.1)) (omega (arith, ints, from_is)))
-        (after.at.holds next.from (omega (arith, ints)) (omega (arith, ints, from_is, after.at.within.1))) in
+    (segment.holds (next.from -ℤ pos 1) (omega (arith, ints, from_is, segment.within.0, segment.within.1)) (omega (arith, ints, from_is)))
+    (after.at.holds next.from (omega (arith, ints)) (omega (arith, ints, from_is, after.at.within.1))) in
     let no_change = sym c.is_some.ensures ∙ c.if-is_some.false in
     let same = match_if_none c.change_at-change.result _ _ no_change c.change_at-change.ensures.same in
     let none_at = match_if_none c.change_at-change.result _ _ no_change at in

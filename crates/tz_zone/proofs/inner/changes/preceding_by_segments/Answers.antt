@@ -39,8 +39,8 @@ returns-then-is_some-clause-change g c =
     let at_from = rw from_is at c.change_at-change.ensures.change in
     let segment = so_far.segment.1 in
     let at = at_from z c.requires.sound start
-        (before.at.holds (here.from -ℤ pos 1) before.at.within.0 before.at.within.1)
-        (segment.holds here.from (omega (arith, ints)) (omega (arith, ints, segment.within.0, segment.within.1))) in
+    (before.at.holds (here.from -ℤ pos 1) before.at.within.0 before.at.within.1)
+    (segment.holds here.from (omega (arith, ints)) (omega (arith, ints, segment.within.0, segment.within.1))) in
     match_if_some c.change_at-change.result _ _ _ _ (sym c.is_some.ensures ∙ c.if-is_some.true) at
     (λ x found. preceding_found z c.requires.sound u here.from (change_of x) so_far.before so_far.none found.0 found.1)
 
@@ -57,8 +57,8 @@ loop-segment-preserved g c =
     let at_from = rw from_is at c.change_at-change.ensures.change in
     let segment = so_far.segment.1 in
     let at = at_from z c.requires.sound start
-        (before.at.holds (here.from -ℤ pos 1) before.at.within.0 before.at.within.1)
-        (segment.holds here.from (omega (arith, ints)) (omega (arith, ints, segment.within.0, segment.within.1))) in
+    (before.at.holds (here.from -ℤ pos 1) before.at.within.0 before.at.within.1)
+    (segment.holds here.from (omega (arith, ints)) (omega (arith, ints, segment.within.0, segment.within.1))) in
     let no_change = sym c.is_some.ensures ∙ c.if-is_some.false in
     let none_at = match_if_none c.change_at-change.result _ _ no_change at in
     let next : here.from ≡ here.from -ℤ pos 1 +ℤ pos 1 = omega (arith, ints) in
