@@ -6,10 +6,10 @@ use mir.Syntax.{w32}
 use mir.Val.{SFits}
 use Rattle.tz_base.specs.Cycles.{days_of_march_years}
 use Rattle.tz_base.specs.Days.{is_leap, year_length, months_length, day_number}
-use Rattle.tz_base.proofs.YearLemmas.{is_leap-moved, first_day-moved}
-use Rattle.tz_base.proofs.MarchLemmas.{days_of_years-next, days_of_years-same}
-use Rattle.tz_base.proofs.MonthLemmas.{months_length-bound}
-use Rattle.tz_base.proofs.DayLemmas.{day_number-is, year_length-is, first_day-next, first_day_bounds}
+use Rattle.tz_base.proofs.YearStarts.{is_leap-moved, first_day-moved}
+use Rattle.tz_base.proofs.MarchYears.{days_of_years-next, days_of_years-same}
+use Rattle.tz_base.proofs.MonthsFromMarch.{months_length-bound}
+use Rattle.tz_base.proofs.DaysOfYears.{day_number-is, year_length-is, first_day-next, first_day_bounds}
 
 -- January and February end a year that began in March
 day_in_early : (year : ℤ) (n month month_day days : ℕ) → year +ℤ pos 2147484000 ≡ pos (n + 1) → days ≡ 306 + months_length (is_leap year) (month - 1)

@@ -2,14 +2,21 @@
 //!
 //! A reading counts the seconds from 1970-01-01 00:00:00 to the fields of a date time, whatever clock shows them.
 
-ghost use Rattle.std.specs.Prelude.{◌≡◌, Bool, if◌then◌else◌, ℕ, ◌+◌, ◌-◌, ◌*◌, ◌/◌, ◌^◌, ◌<◌, ◌≤◌, true, ℤ, pos, negsuc, ◌+ℤ◌, ◌-ℤ◌, ◌*ℤ◌, ◌≤ℤ◌, OnOk, IfErr, IfSome, IfNone, MatchBool, FitsSigned};
+ghost use Rattle.std.specs.Prelude.{◌≡◌, Bool, if◌then◌else◌, ℕ, ◌+◌, ◌-◌, ◌*◌, ◌^◌, ◌<◌, ◌≤◌, true, ℤ, pos, negsuc, ◌+ℤ◌, ◌-ℤ◌, ◌*ℤ◌, ◌≤ℤ◌, OnOk, IfErr, IfSome, IfNone, MatchBool, FitsSigned};
 ghost use Rattle.std.specs.Int.{w64};
-ghost use Rattle.tz_base.specs.Cycles.{days_of_years as closed_days, days_of_march_years as closed_march_days, march_month, march_month_day};
+ghost use Rattle.tz_base.specs.Cycles.{days_of_march_years as closed_march_days, march_month, march_month_day};
 ghost use Rattle.tz_base.specs.Days.{is_leap, month_length, months_length, first_day, day_number, week_day_of, IsDateOf};
 ghost use Rattle.tz_base.specs.Fields.{IsMonth, IsValid, IsFirstFault, IsCivil, IsReading, day_of, reading as reading_of, total_nanoseconds_of, IsTimespec};
 
-use crate::constants::{NANOSECONDS_PER_SECOND, SECONDS_PER_DAY};
+use crate::constants::{
+    CUMUL_DAYS_IN_MONTHS_LEAP_YEAR, CUMUL_DAYS_IN_MONTHS_NORMAL_YEAR, NANOSECONDS_PER_SECOND,
+    SECONDS_PER_DAY,
+};
 use crate::error::datetime::DateTimeError;
+use crate::year::{
+    ADDED_DAYS, days_before_moved_year, is_moved_year_leap, moved_seconds, moved_year,
+    year_of_moved,
+};
 
 /// The seven fields of a date time, in the order in which they are compared.
 #[derive(Clone, Copy, Debug, PartialEq, Eq, PartialOrd, Ord)]
@@ -30,17 +37,8 @@ pub struct Fields {
     pub nanoseconds: u32,
 }
 
-/// Years that are added to make every year of 32 bits positive: 5368710 cycles of 400 years.
-const ADDED_YEARS: i64 = 2_147_484_000;
-
-/// The days from January 1st of the year -2147484000 to 1970-01-01.
-const ADDED_DAYS: i64 = 784_353_144_398;
-
 /// The days from the day before March 1st of the year -2147484000 to 1970-01-01.
 const ADDED_MARCH_DAYS: i64 = 784_353_144_339;
-
-/// The seconds from January 1st of the year -2147484000 to 1970-01-01.
-const ADDED_SECONDS: i64 = 67_768_111_675_987_200;
 
 /// The reading of the first second of the years of 32 bits.
 const FIRST_READING: i64 = -67_768_100_567_971_200;
@@ -48,22 +46,14 @@ const FIRST_READING: i64 = -67_768_100_567_971_200;
 /// The reading of their last second.
 const LAST_READING: i64 = 67_767_976_233_532_799;
 
-/// Days before each month of a year that is not leap.
-const DAYS_BEFORE_MONTH_NORMAL: [u16; 12] = [0, 31, 59, 90, 120, 151, 181, 212, 243, 273, 304, 334];
-
-/// Days before each month of a leap year.
-const DAYS_BEFORE_MONTH_LEAP: [u16; 12] = [0, 31, 60, 91, 121, 152, 182, 213, 244, 274, 305, 335];
-
 /// Days from March 1st to the first of each month: January and February come last.
 const DAYS_FROM_MARCH: [u16; 12] = [306, 337, 0, 31, 61, 92, 122, 153, 184, 214, 245, 275];
 
 /// Whether the year is leap.
-#[tactic(auto, unfolding(crate::specs::Days::is_leap))]
 pub fn is_leap_year(year: i32) -> bool
     ensures { result ≡ is_leap year }
 {
-    let years = year.unsigned_abs();
-    years % 400 == 0 || (years % 4 == 0 && years % 100 != 0)
+    is_moved_year_leap(moved_year(year))
 }
 
 /// How many days a month of a leap year or of another one has.
@@ -98,30 +88,12 @@ fn has_month_day(year: i32, month: u8, month_day: u8) -> bool
     month_day <= days_in_month(year, month)
 }
 
-/// The days of a number of years, the first of which 400 divides.
-#[tactic(auto, unfolding(crate::specs::Cycles::days_of_years))]
-fn days_of_years(years: u64) -> u64
-    requires { years < 2 ^ 33 }
-    ensures value { result ≡ closed_days years }
-    ensures bound { result < 2 ^ 42 }
-{
-    365 * years + (years + 3) / 4 - (years + 99) / 100 + (years + 399) / 400
-}
-
-/// The year, moved by cycles of 400 years until no year of 32 bits is negative.
-fn moved_year(year: i32) -> u64
-    ensures value { pos result ≡ year +ℤ pos 2147484000 }
-    ensures bound { result < 2 ^ 33 }
-{
-    (i64::from(year) + ADDED_YEARS) as u64
-}
-
 /// The number of January 1st of the year, where 1970-01-01 has the number 0.
 pub fn first_day_of_year(year: i32) -> i64
     ensures value { result ≡ first_day year }
     ensures bound { (negsuc 784353015832 ≤ℤ result) × (result ≤ℤ pos 784351576412) }
 {
-    days_of_years(moved_year(year)) as i64 - ADDED_DAYS
+    days_before_moved_year(moved_year(year)) as i64 - ADDED_DAYS
 }
 
 /// The days of a leap year or of another one before a month of it.
@@ -130,11 +102,11 @@ pub fn days_before_month(leap: bool, month: u8) -> u16
     ensures value { result ≡ months_length leap (month - 1) }
     ensures bound { result ≤ 335 }
 {
-    let place = usize::from(month) - 1;
+    let index = usize::from(month) - 1;
     if leap {
-        DAYS_BEFORE_MONTH_LEAP[place]
+        CUMUL_DAYS_IN_MONTHS_LEAP_YEAR[index] as u16
     } else {
-        DAYS_BEFORE_MONTH_NORMAL[place]
+        CUMUL_DAYS_IN_MONTHS_NORMAL_YEAR[index] as u16
     }
 }
 
@@ -145,8 +117,8 @@ fn days_from_march(month: u8) -> u64
     ensures late { 3 ≤ month → (leap : Bool) → result + (if leap then 60 else 59) ≡ months_length leap (month - 1) }
     ensures bound { result ≤ 337 }
 {
-    let place = usize::from(month) - 1;
-    u64::from(DAYS_FROM_MARCH[place])
+    let index = usize::from(month) - 1;
+    u64::from(DAYS_FROM_MARCH[index])
 }
 
 /// The year, moved as by `moved_year`, on whose March 1st the year begins in which the month lies.
@@ -220,14 +192,6 @@ fn month_of_march_day(day: u32) -> (u8, u8)
     ((parts / 65_536) as u8, (parts % 65_536 / 2141) as u8)
 }
 
-/// The year of 32 bits that a moved year stands for.
-fn year_of_moved(moved: u64) -> i32
-    requires { (352 ≤ moved) × (moved ≤ 4294967647) }
-    ensures { result +ℤ pos 2147484000 ≡ pos moved }
-{
-    (moved as i64 - ADDED_YEARS) as i32
-}
-
 /// The year, the month and the day of the month of a day that is counted from January 1st of the year -2147484000.
 fn date_of_day(day: u64) -> (i32, u8, u8)
     requires { (128565 ≤ day) × (day ≤ 1568704721174) }
@@ -247,14 +211,6 @@ pub fn is_reading(reading: i64) -> bool
     ensures { MatchBool result (IsReading reading) (¬ IsReading reading) }
 {
     (FIRST_READING..=LAST_READING).contains(&reading)
-}
-
-/// The reading, counted from January 1st of the year -2147484000.
-fn moved_reading(reading: i64) -> u64
-    requires { IsReading reading }
-    ensures { pos result ≡ reading +ℤ pos 67768111675987200 }
-{
-    (reading + ADDED_SECONDS) as u64
 }
 
 impl Fields {
@@ -314,7 +270,7 @@ impl Fields {
         requires part { nanoseconds < 1000000000 }
         ensures { IsCivil reading nanoseconds result }
     {
-        let seconds = moved_reading(reading);
+        let seconds = moved_seconds(reading);
         let (year, month, month_day) = date_of_day(seconds / 86_400);
         let second_of_day = (seconds % 86_400) as u32;
         Fields {

@@ -5,4 +5,4 @@ pub mod calendar;
 pub mod constants;
 pub mod error;
 pub mod laws;
-pub mod refusing;
+pub mod year;

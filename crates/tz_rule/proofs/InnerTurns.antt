@@ -5,8 +5,8 @@ use Rattle.std.specs.Int.{int_min, int_max}
 use Rattle.std.proofs.lemmas.Bool.{cases_lt}
 use Rattle.std.proofs.lemmas.Int.{ints, int_min_is, int_max_is}
 use Rattle.tz_base.specs.Cycles.{days_of_years}
-use Rattle.tz_base.proofs.OrderLemmas.{first_day-mono}
-use Rattle.tz_base.proofs.YearLemmas.{first_day-moved}
+use Rattle.tz_base.proofs.DateOrder.{first_day-mono}
+use Rattle.tz_base.proofs.YearStarts.{first_day-moved}
 use Rattle.tz_rule.specs.Alternate.{AlternateTime, start_of, end_of, turn_of, AreRuleDays}
 use Rattle.tz_rule.specs.InnerTurns.{IsInnerTurn, HasInnerTurns, IsLikelyYear}
 use Rattle.tz_rule.specs.Kinds.{year_kind}

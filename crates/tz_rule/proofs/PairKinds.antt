@@ -4,7 +4,7 @@ use Rattle.std.proofs.lemmas.Bool.Decides.{nat_tests, Decides-eqb, Decides-and}
 use Rattle.std.proofs.lemmas.Int.{ints}
 use Rattle.tz_base.specs.Cycles.{days_of_years}
 use Rattle.tz_base.specs.Days.{is_leap, year_length}
-use Rattle.tz_base.proofs.DayLemmas.{year_length-is}
+use Rattle.tz_base.proofs.DaysOfYears.{year_length-is}
 use Rattle.tz_base.proofs.TestsBelow.{all_below, passes_at}
 use Rattle.tz_rule.specs.Kinds.{week_day_of_year, kind_of, year_kind, is_leap_kind, week_day_of_kind, first_kind, second_kind, first_days, IsPairOf}
 use Rattle.tz_rule.proofs.Weeks.{week_day_of_year-is, week_day_of_year-next, week_day_of_year-moved}

@@ -1,18 +1,19 @@
 -- From one start or end up to the next a rule has one type. Starts and ends rise from year to year, so those of five years tell the nearest ones.
 use Rattle.std.proofs.Common.{◌≡◌, ◌⊎◌, inl, inr, ℕ, zero, suc, ◌+◌, ◌<◌, ◌≤◌, Bool, true, false, not, MatchBool, refl, ap, arith, ℤ, pos, negsuc, ◌+ℤ◌, ◌-ℤ◌, ◌≤ℤ◌, ◌<ℤ◌}
+use Rattle.std.specs.Prelude.{Some, if◌then◌else◌, slice_get}
 use Rattle.std.proofs.lemmas.Int.{ints, by_lt_z}
-use Rattle.tz_base.proofs.OrderLemmas.{first_day-mono, gap_between}
+use Rattle.tz_base.proofs.DateOrder.{first_day-mono, gap_between}
 use Rattle.tz_rule.specs.Alternate.{AlternateTime, start_of, end_of, turn_of, IsInRuleRange, AreRuleDays, IsUtcYear, IsInRuleYears, IsAlternateType, IsUnchanged}
 use Rattle.tz_rule.specs.Day.{IsRuleDay}
-use Rattle.tz_rule.specs.Rule.{IsRuleType}
-use Rattle.tz_rule.specs.RuleSegments.{IsTurn, IsRuleChange, IsSpanOf, IsNotInside}
-use Rattle.tz_rule.specs.Stretches.{type_by, IsStretchYear}
+use Rattle.tz_rule.specs.Rule.{IsRuleType, types_of}
+use Rattle.tz_rule.specs.RuleSegments.{IsTurn, IsRuleChange, IsWholeSegment, IsNotInside}
+use Rattle.tz_rule.specs.AlternateSegments.{type_by, IsTriedYear}
 use Rattle.tz_rule.specs.Years.{EndsNextYear, IsDaylight}
 use Rattle.tz_rule.specs.declared.timezone.rule.TransitionRule.TheVariants.{Alternate}
 use Rattle.tz_rule.specs.declared.timezone.rule_day.RuleDay.{RuleDay}
-use Rattle.tz_rule.specs.declared.timezone.stretch.Stretch.{Stretch}
+use Rattle.tz_rule.specs.declared.timezone.alternate_segment.AlternateSegment.{AlternateSegment}
 use Rattle.tz_rule.proofs.ChangePoints.{alternate_type_unchanged, alternate_type_was}
-use Rattle.tz_rule.proofs.DaylightLemmas.{over, to_come}
+use Rattle.tz_rule.proofs.DaylightSpans.{over, to_come}
 use Rattle.tz_rule.proofs.YearlyInstants.{IsYearly, year_start, local_instant, local_instant-is, IsYearly-start_of, IsYearly-end_of, near_year}
 
 -- later years' instants are not earlier
@@ -123,7 +124,7 @@ module _ (r : AlternateTime) (range : IsInRuleRange r) (days : AreRuleDays r) (l
 
   -- from an end to the next start the type is that of standard time
 
-  standard_in_order : u ≡ end_of r last → w ≡ start_of r next → ¬ EndsNextYear (start_of r) (end_of r) → next ≡ last +ℤ pos 1 → IsSpanOf r (record { from = u; until = w; is_daylight = false })
+  standard_in_order : u ≡ end_of r last → w ≡ start_of r next → ¬ EndsNextYear (start_of r) (end_of r) → next ≡ last +ℤ pos 1 → IsWholeSegment r (record { from = u; until = w; is_daylight = false })
   unfolding IsRuleType
   standard_in_order u_is w_is in_order follows = record {
     from_is = inl (last, inr u_is);
@@ -134,7 +135,7 @@ module _ (r : AlternateTime) (range : IsInRuleRange r) (days : AreRuleDays r) (l
     );
   }
 
-  standard_across_years : u ≡ end_of r last → w ≡ start_of r next → EndsNextYear (start_of r) (end_of r) → next ≡ last → IsSpanOf r (record { from = u; until = w; is_daylight = false })
+  standard_across_years : u ≡ end_of r last → w ≡ start_of r next → EndsNextYear (start_of r) (end_of r) → next ≡ last → IsWholeSegment r (record { from = u; until = w; is_daylight = false })
   unfolding IsRuleType
   standard_across_years u_is w_is across same = record {
     from_is = inl (last, inr u_is);
@@ -147,7 +148,7 @@ module _ (r : AlternateTime) (range : IsInRuleRange r) (days : AreRuleDays r) (l
 
   -- from a start to its end it is that of daylight saving time
 
-  daylight_in_order : u ≡ start_of r last → w ≡ end_of r next → ¬ EndsNextYear (start_of r) (end_of r) → next ≡ last → IsSpanOf r (record { from = u; until = w; is_daylight = true })
+  daylight_in_order : u ≡ start_of r last → w ≡ end_of r next → ¬ EndsNextYear (start_of r) (end_of r) → next ≡ last → IsWholeSegment r (record { from = u; until = w; is_daylight = true })
   unfolding IsRuleType
   daylight_in_order u_is w_is in_order same = record {
     from_is = inl (last, inl u_is);
@@ -158,7 +159,7 @@ module _ (r : AlternateTime) (range : IsInRuleRange r) (days : AreRuleDays r) (l
     );
   }
 
-  daylight_across_years : u ≡ start_of r last → w ≡ end_of r next → EndsNextYear (start_of r) (end_of r) → next ≡ last +ℤ pos 1 → IsSpanOf r (record { from = u; until = w; is_daylight = true })
+  daylight_across_years : u ≡ start_of r last → w ≡ end_of r next → EndsNextYear (start_of r) (end_of r) → next ≡ last +ℤ pos 1 → IsWholeSegment r (record { from = u; until = w; is_daylight = true })
   unfolding IsRuleType
   daylight_across_years u_is w_is across follows = record {
     from_is = inl (last, inl u_is);
@@ -171,23 +172,23 @@ module _ (r : AlternateTime) (range : IsInRuleRange r) (days : AreRuleDays r) (l
 
 -- the same by the order of a year's turns, of which the end is the first where it belongs to the start of the year before
 module _ (r : AlternateTime) (range : IsInRuleRange r) (days : AreRuleDays r) where
-  pub span_between_years : (last next u w : ℤ) → IsInnerYear last → IsInnerYear next → (b : Bool) → MatchBool b (EndsNextYear (start_of r) (end_of r)) (¬ EndsNextYear (start_of r) (end_of r))
-      → u ≡ turn_of r (not b) last → w ≡ turn_of r b next → next ≡ last +ℤ pos 1 → IsSpanOf r (record { from = u; until = w; is_daylight = b })
-  span_between_years last next u w inner_last inner_next true across from to = daylight_across_years r range days last next u w inner_last inner_next from to across
-  span_between_years last next u w inner_last inner_next false in_order from to = standard_in_order r range days last next u w inner_last inner_next from to in_order
+  pub segment_between_years : (last next u w : ℤ) → IsInnerYear last → IsInnerYear next → (b : Bool) → MatchBool b (EndsNextYear (start_of r) (end_of r)) (¬ EndsNextYear (start_of r) (end_of r))
+      → u ≡ turn_of r (not b) last → w ≡ turn_of r b next → next ≡ last +ℤ pos 1 → IsWholeSegment r (record { from = u; until = w; is_daylight = b })
+  segment_between_years last next u w inner_last inner_next true across from to = daylight_across_years r range days last next u w inner_last inner_next from to across
+  segment_between_years last next u w inner_last inner_next false in_order from to = standard_in_order r range days last next u w inner_last inner_next from to in_order
 
-  pub span_in_year : (year u w : ℤ) → IsInnerYear year → (b : Bool) → MatchBool b (EndsNextYear (start_of r) (end_of r)) (¬ EndsNextYear (start_of r) (end_of r))
-      → u ≡ turn_of r b year → w ≡ turn_of r (not b) year → IsSpanOf r (record { from = u; until = w; is_daylight = not b })
-  span_in_year year u w inner true across from to = standard_across_years r range days year year u w inner inner from to across refl
-  span_in_year year u w inner false in_order from to = daylight_in_order r range days year year u w inner inner from to in_order refl
+  pub segment_in_year : (year u w : ℤ) → IsInnerYear year → (b : Bool) → MatchBool b (EndsNextYear (start_of r) (end_of r)) (¬ EndsNextYear (start_of r) (end_of r))
+      → u ≡ turn_of r b year → w ≡ turn_of r (not b) year → IsWholeSegment r (record { from = u; until = w; is_daylight = not b })
+  segment_in_year year u w inner true across from to = standard_across_years r range days year year u w inner inner from to across refl
+  segment_in_year year u w inner false in_order from to = daylight_in_order r range days year year u w inner inner from to in_order refl
 
 -- the neighbours of a year of stretches, and the year itself
-pub inner_years_around : (year : ℤ) → IsStretchYear year → IsInnerYear (year -ℤ pos 1) × IsInnerYear year × IsInnerYear (year +ℤ pos 1)
+pub inner_years_around : (year : ℤ) → IsTriedYear year → IsInnerYear (year -ℤ pos 1) × IsInnerYear year × IsInnerYear (year +ℤ pos 1)
 inner_years_around year is =
     ((omega (arith, ints, is.0), omega (arith, ints, is.1)), (omega (arith, ints, is.0), omega (arith, ints, is.1)), (omega (arith, ints, is.0), omega (arith, ints, is.1)))
 
--- a span between two changes of the years in which rules answer that holds an instant
-pub record IsCutSpan (r : AlternateTime) (u : ℤ) (s : Stretch) : Type 0 where
+-- a segment between two changes of the years in which rules answer that holds an instant
+pub record IsCutSegment (r : AlternateTime) (u : ℤ) (s : AlternateSegment) : Type 0 where
   pub within : (s.from ≤ℤ u) × (u <ℤ s.until)
   pub from_is : IsRuleChange (Alternate r) s.from
   pub until_is : IsRuleChange (Alternate r) s.until
@@ -195,9 +196,9 @@ pub record IsCutSpan (r : AlternateTime) (u : ℤ) (s : Stretch) : Type 0 where
   pub end : s.until ≤ℤ year_start (pos 2147483646)
 
 -- it is one still where it is cut at a start or an end
-pub cut_span : (r : AlternateTime) (u turn : ℤ) (s t : Stretch) → IsCutSpan r u s → IsTurn r turn → (t.from ≤ℤ u) × (u <ℤ t.until)
-    → (t.from ≡ s.from) ⊎ (t.from ≡ turn) → (t.until ≡ s.until) ⊎ (t.until ≡ turn) → (s.from ≤ℤ t.from) × (t.until ≤ℤ s.until) → IsCutSpan r u t
-cut_span r u turn s t whole is within from until inside = record {
+pub cut_segment : (r : AlternateTime) (u turn : ℤ) (s t : AlternateSegment) → IsCutSegment r u s → IsTurn r turn → (t.from ≤ℤ u) × (u <ℤ t.until)
+    → (t.from ≡ s.from) ⊎ (t.from ≡ turn) → (t.until ≡ s.until) ⊎ (t.until ≡ turn) → (s.from ≤ℤ t.from) × (t.until ≤ℤ s.until) → IsCutSegment r u t
+cut_segment r u turn s t whole is within from until inside = record {
   within = within;
   from_is = change from whole.from_is;
   until_is = change until whole.until_is;
@@ -209,8 +210,8 @@ cut_span r u turn s t whole is within from until inside = record {
     change (inl e) h = rw e h
     change (inr e) h = rw e (inl is)
 
--- what is no inner instant of a span is none of a smaller one
-pub not_inside_smaller : (s t : Stretch) (x : ℤ) → (s.from ≤ℤ t.from) × (t.until ≤ℤ s.until) → IsNotInside s x → IsNotInside t x
+-- what is no inner instant of a segment is none of a smaller one
+pub not_inside_smaller : (s t : AlternateSegment) (x : ℤ) → (s.from ≤ℤ t.from) × (t.until ≤ℤ s.until) → IsNotInside s x → IsNotInside t x
 not_inside_smaller s t x inside none after before = none (omega (arith, ints, inside.0, after)) (omega (arith, ints, inside.1, before))
 
 -- five years, counted from the first one
@@ -222,8 +223,8 @@ in_five_years P year n enough all y low high = by_lt_z y (year -ℤ pos 1)
     at : (k : ℕ) → k < n → year -ℤ pos 2 +ℤ pos k ≡ y → P y
     at k below e = rw e at (all k below)
 
--- where none of five years' instants lies inside a span around an instant of the middle one, no year's does
-none_around : (f : ℤ → ℤ) → IsYearly f → IsInTurn f → (u year : ℤ) (s : Stretch) → IsUtcYear u year → (s.from ≤ℤ u) × (u <ℤ s.until) →
+-- where none of five years' instants lies inside a segment around an instant of the middle one, no year's does
+none_around : (f : ℤ → ℤ) → IsYearly f → IsInTurn f → (u year : ℤ) (s : AlternateSegment) → IsUtcYear u year → (s.from ≤ℤ u) × (u <ℤ s.until) →
     ((y : ℤ) → (year -ℤ pos 2) ≤ℤ y → y ≤ℤ (year +ℤ pos 2) → IsNotInside s (f y)) → (y : ℤ) → IsNotInside s (f y)
 none_around f yf turn u year s is within near y after before =
     by_lt_z y (year -ℤ pos 2)
@@ -242,28 +243,33 @@ type_by_daylight : (r : AlternateTime) (u : ℤ) (b : Bool) → MatchBool b (IsD
 type_by_daylight r u true day = inl (day, refl)
 type_by_daylight r u false day = inr (day, refl)
 
-module _ (r : AlternateTime) (range : IsInRuleRange r) (days : AreRuleDays r) (u year : ℤ) (is : IsUtcYear u year) (s : Stretch) (span : IsCutSpan r u s)
+module _ (r : AlternateTime) (range : IsInRuleRange r) (days : AreRuleDays r) (u year : ℤ) (is : IsUtcYear u year) (s : AlternateSegment) (segment : IsCutSegment r u s)
     (near_starts : (y : ℤ) → (year -ℤ pos 2) ≤ℤ y → y ≤ℤ (year +ℤ pos 2) → IsNotInside s (start_of r y))
     (near_ends : (y : ℤ) → (year -ℤ pos 2) ≤ℤ y → y ≤ℤ (year +ℤ pos 2) → IsNotInside s (end_of r y)) where
   unchanged_within : (v w : ℤ) → s.from ≤ℤ v → w <ℤ s.until → IsUnchanged r v w
   unchanged_within v w from to = record {
-    no_start = λ y after before. none_around (start_of r) (IsYearly-start_of r range days.start_is) (starts_in_turn r days) u year s is span.within near_starts y (omega (arith, ints, from, after)) (omega (arith, ints, to, before));
-    no_end = λ y after before. none_around (end_of r) (IsYearly-end_of r range days.end_is) (ends_in_turn r days) u year s is span.within near_ends y (omega (arith, ints, from, after)) (omega (arith, ints, to, before));
+    no_start = λ y after before. none_around (start_of r) (IsYearly-start_of r range days.start_is) (starts_in_turn r days) u year s is segment.within near_starts y (omega (arith, ints, from, after)) (omega (arith, ints, to, before));
+    no_end = λ y after before. none_around (end_of r) (IsYearly-end_of r range days.end_is) (ends_in_turn r days) u year s is segment.within near_ends y (omega (arith, ints, from, after)) (omega (arith, ints, to, before));
   }
 
-  -- then the type of the instant is that of all of the span
-  pub type_within : MatchBool s.is_daylight (IsDaylight (start_of r) (end_of r) u) (¬ IsDaylight (start_of r) (end_of r) u) → IsSpanOf r s
+  -- then the type of the instant is that of all of the segment
+  pub type_within : MatchBool s.is_daylight (IsDaylight (start_of r) (end_of r) u) (¬ IsDaylight (start_of r) (end_of r) u) → IsWholeSegment r s
   unfolding IsRuleType
   type_within day =
       let t = type_by r s.is_daylight in
       let here = type_by_daylight r u s.is_daylight day in
       record {
-        from_is = span.from_is;
-        until_is = span.until_is;
+        from_is = segment.from_is;
+        until_is = segment.until_is;
         one_type = λ v from to. (
-          answered_between v (omega (arith, ints, span.first, from)) (omega (arith, ints, span.end, to)),
+          answered_between v (omega (arith, ints, segment.first, from)) (omega (arith, ints, segment.end, to)),
           by_lt_z v u
-              (λ before. alternate_type_was r v u t (omega (arith, ints, before)) (unchanged_within v u from span.within.1) here)
-              (λ not_before. alternate_type_unchanged r u v t not_before (unchanged_within u v span.within.0 to) here),
+              (λ before. alternate_type_was r v u t (omega (arith, ints, before)) (unchanged_within v u from segment.within.1) here)
+              (λ not_before. alternate_type_unchanged r u v t not_before (unchanged_within u v segment.within.0 to) here),
         );
       }
+
+-- the type by a test is the one with that number
+pub type_at : (r : AlternateTime) (is_daylight : Bool) → slice_get (types_of (Alternate r)) (if is_daylight then 1 else 0) ≡ Some (type_by r is_daylight)
+type_at r true = refl
+type_at r false = refl

@@ -8,7 +8,7 @@ use Rattle.tz_rule.specs.Years.{EndsNextYear, IsDaylight}
 use Rattle.tz_rule.specs.declared.timezone.rule.TransitionRule.{TransitionRule}
 use Rattle.tz_rule.specs.declared.timezone.rule.TransitionRule.TheVariants.{Fixed, Alternate as Two}
 use Rattle.tz_rule.proofs.ChangePoints.{daylight_repeats, daylight_repeated}
-use Rattle.tz_rule.proofs.DaylightLemmas.{decide_in_order, decide_across_years}
+use Rattle.tz_rule.proofs.DaylightSpans.{decide_in_order, decide_across_years}
 use Rattle.tz_rule.proofs.RulesAcrossYears.{MatchBool-ends_come_first}
 use Rattle.tz_rule.proofs.YearlyInstants.{IsYearly-start_of, IsYearly-end_of}
 

@@ -5,8 +5,8 @@ use mir.Syntax.{w32}
 use mir.Val.{SFits}
 use Rattle.tz_base.specs.Fields.{IsCivil, IsReading}
 use Rattle.tz_base.specs.declared.calendar.Fields.{Fields}
-use Rattle.tz_base.proofs.DayLemmas.{day_in_year, first_day_bounds}
-use Rattle.tz_base.proofs.OrderLemmas.{first_day-mono, gap_between}
+use Rattle.tz_base.proofs.DaysOfYears.{day_in_year, first_day_bounds}
+use Rattle.tz_base.proofs.DateOrder.{first_day-mono, gap_between}
 use Rattle.tz_rule.specs.Alternate.{IsUtcYear, IsRuleYear}
 
 pub IsUtcYear-from_civil : (u : ℤ) (n : ℕ) (f : Fields) → IsCivil u n f → IsUtcYear u f.year

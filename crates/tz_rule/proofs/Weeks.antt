@@ -5,9 +5,9 @@ use Rattle.std.specs.Int.RustNames.{unsigned_abs}
 use Rattle.tz_base.specs.Cycles.{days_of_years}
 use Rattle.tz_base.specs.Days.{first_day, week_day_of, year_length}
 use Rattle.tz_rule.specs.Kinds.{week_day_of_year}
-use Rattle.tz_base.proofs.DayLemmas.{first_day-next}
-use Rattle.tz_base.proofs.OrderLemmas.{weeks_before, first_day-period, week_day_of-period}
-use Rattle.tz_base.proofs.YearLemmas.{first_day-moved}
+use Rattle.tz_base.proofs.DaysOfYears.{first_day-next}
+use Rattle.tz_base.proofs.DateOrder.{weeks_before, first_day-period, week_day_of-period}
+use Rattle.tz_base.proofs.YearStarts.{first_day-moved}
 
 remainder : (day : ℤ) → (m : ℕ) × (week_day_of day ≡ pos (m % 7)) × ((i : ℕ) → week_day_of (day +ℤ pos i) ≡ pos ((m + i) % 7))
 unfolding week_day_of

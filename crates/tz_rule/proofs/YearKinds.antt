@@ -6,7 +6,7 @@ use Rattle.std.proofs.lemmas.Int.{ints}
 use Rattle.tz_base.specs.Cycles.{days_of_years}
 use Rattle.tz_base.specs.Days.{is_leap}
 use Rattle.tz_base.proofs.TestsBelow.{all_below, passes_at}
-use Rattle.tz_base.proofs.YearLemmas.{is_leap-moved}
+use Rattle.tz_base.proofs.YearStarts.{is_leap-moved}
 use Rattle.tz_rule.specs.Same.{Decides-beq}
 use Rattle.tz_rule.specs.Kinds.{week_day_of_year}
 use Rattle.tz_rule.proofs.Weeks.{week_day_of_year-moved}

@@ -1,31 +1,26 @@
 -- What the starts and the ends of a rule have in common, and what follows for their order.
-use Rattle.std.proofs.Common.{◌≡◌, ℕ, zero, suc, ◌+◌, ◌*◌, ◌%◌, ◌<◌, ◌≤◌, Bool, true, false, cond, lit≤, refl, sym, ap, ◌∙◌, arith, ℤ, pos, negsuc, ◌+ℤ◌, ◌-ℤ◌, ◌*ℤ◌, ◌≤ℤ◌, ◌<ℤ◌}
+use Rattle.std.proofs.Common.{◌≡◌, ℕ, zero, suc, ◌+◌, ◌*◌, ◌≤◌, Bool, true, false, cond, lit≤, refl, ap, ◌∙◌, arith, ℤ, pos, negsuc, ◌+ℤ◌, ◌-ℤ◌, ◌*ℤ◌, ◌<ℤ◌}
 use Rattle.std.proofs.lemmas.Int.{ints}
-use Rattle.tz_base.specs.Days.{is_leap, year_length, first_day}
-use Rattle.tz_base.proofs.DayLemmas.{first_day-next, year_length-is}
-use Rattle.tz_base.proofs.OrderLemmas.{first_day-mono, first_day-period, is_leap-period}
+use Rattle.tz_base.specs.Days.{is_leap, first_day}
+use Rattle.tz_base.proofs.DaysOfYears.{first_day-next, year_length-is}
+use Rattle.tz_base.proofs.DateOrder.{first_day-mono, first_day-period, is_leap-period}
 use Rattle.tz_rule.specs.Alternate.{AlternateTime, start_of, end_of, turn_of, AreRuleDays, IsRuleOffset, IsRuleTime, IsInRuleRange, IsNearYear}
 use Rattle.tz_rule.specs.Day.{rule_day, IsRuleDay}
-use Rattle.tz_rule.specs.Distance.{years_of, start_year, end_year}
 use Rattle.tz_rule.specs.Kinds.{week_day_of_year}
 use Rattle.tz_rule.specs.Places.{place_in_year}
 use Rattle.tz_rule.specs.Years.{IsConflict, IsInconsistent}
-use Rattle.tz_rule.specs.declared.timezone.check.Distance.{Distance}
-use Rattle.tz_rule.specs.declared.timezone.check.Distance.TheVariants.{YearBefore, SameYear, YearAfter}
 use Rattle.tz_rule.specs.declared.timezone.rule_day.RuleDay.{RuleDay}
-use Rattle.tz_rule.proofs.Weeks.{week_day_of_year-next, week_day_of_year-period}
-use Rattle.tz_rule.proofs.YearKinds.{IsAlike, like_model}
+use Rattle.tz_rule.proofs.Weeks.{week_day_of_year-period}
 use Rattle.tz_rule.proofs.YearPlaces.{place_in_year-bound, rule_day-place}
 
 -- 00:00 UTC of January 1st
 abbrev pub year_start : ℤ → ℤ
 year_start year = pos 86400 *ℤ first_day year
 
--- an instant of each year that lies less than ten days outside it, and at one place in all years of one kind
+-- an instant of each year that lies less than ten days outside it, and as far from its beginning 400 years later
 pub record IsYearly (f : ℤ → ℤ) : Type 0 where
   pub low : (y : ℤ) → year_start y <ℤ (f y +ℤ pos 864000)
   pub high : (y : ℤ) → f y <ℤ (year_start y +ℤ pos 32400000)
-  pub place : (x y : ℤ) → is_leap x ≡ is_leap y → week_day_of_year x ≡ week_day_of_year y → f x -ℤ year_start x ≡ f y -ℤ year_start y
   pub period : (y : ℤ) → f (y +ℤ pos 400) ≡ f y +ℤ pos 12622780800
 
 -- a rule day's local time
@@ -50,7 +45,6 @@ IsYearly-local : (d : RuleDay) (time offset : ℤ) → IsRuleDay d → IsRuleTim
 IsYearly-local d time offset valid t o = record {
   low = λ y. let is = local_instant-is d time offset y valid in omega (arith, ints, is.0, is.1);
   high = λ y. let is = local_instant-is d time offset y valid in omega (arith, ints, is.0, is.1);
-  place = λ x y leap week_day. let at_x = local_instant-is d time offset x valid in let at_y = local_instant-is d time offset y valid in omega (arith, ints, at_x.0, at_y.0, place_of-alike d x y leap week_day);
   period = λ y. let here = local_instant-is d time offset y valid in let there = local_instant-is d time offset (y +ℤ pos 400) valid in omega (arith, ints, here.0, there.0, first_day-period y 1, place_of-alike d (y +ℤ pos 400) y (is_leap-period y 1) (week_day_of_year-period y));
 }
 
@@ -65,61 +59,6 @@ IsYearly-end_of r range valid = IsYearly-local r.dst_end r.dst_end_time r.dst.ut
 pub IsYearly-turn_of : (r : AlternateTime) → IsInRuleRange r → AreRuleDays r → (is_end : Bool) → IsYearly (turn_of r is_end)
 IsYearly-turn_of r range days true = IsYearly-end_of r range days.end_is
 IsYearly-turn_of r range days false = IsYearly-start_of r range days.start_is
-
--- the years after two that are alike begin on one week day, after as many days
-record IsAlikeNext (x y : ℤ) : Type 0 where
-  week_day : week_day_of_year (x +ℤ pos 1) ≡ week_day_of_year (y +ℤ pos 1)
-  days : first_day (x +ℤ pos 1) -ℤ first_day x ≡ first_day (y +ℤ pos 1) -ℤ first_day y
-
-year_length-alike : (x y : ℤ) → is_leap x ≡ is_leap y → year_length x ≡ year_length y
-year_length-alike x y leap = year_length-is x ∙ ap (λ b. cond b 366 365) leap ∙ sym (year_length-is y)
-
-alike_next : (x y : ℤ) → IsAlike x y → IsAlikeNext x y
-alike_next x y a =
-    let length = year_length-alike x y a.leap in
-    record {
-      week_day = week_day_of_year-next x ∙ ap (λ w. (w + year_length x) % 7) a.week_day ∙ ap (λ n. (week_day_of_year y + n) % 7) length ∙ sym (week_day_of_year-next y);
-      days = omega (arith, ints, first_day-next x, first_day-next y);
-    }
-
-place_next : (f : ℤ → ℤ) → IsYearly f → (x y : ℤ) → IsAlike x y → f (x +ℤ pos 1) -ℤ year_start x ≡ f (y +ℤ pos 1) -ℤ year_start y
-place_next f yearly x y a =
-    let next = alike_next x y a in
-    omega (arith, ints, yearly.place (x +ℤ pos 1) (y +ℤ pos 1) a.next_leap next.week_day, next.days)
-
--- the way from a start to an end is that of one of the years from 1972 on
-pub gap_like : (f g : ℤ → ℤ) → IsYearly f → IsYearly g → (d : Distance) (y : ℤ) → (m : ℕ) × (m < 28) × (g (y +ℤ years_of d) -ℤ f y ≡ g (pos (end_year d m)) -ℤ f (pos (start_year d m)))
-gap_like f g yf yg SameYear y =
-    let like = like_model y in
-    let here : y +ℤ pos 0 ≡ y = omega (arith, ints) in
-    (like.0, like.1, omega (arith, ints, ap g here, yf.place y (pos (1972 + like.0)) like.2.leap like.2.week_day, yg.place y (pos (1972 + like.0)) like.2.leap like.2.week_day))
-gap_like f g yf yg YearAfter y =
-    let like = like_model y in
-    let after : pos (1972 + like.0) +ℤ pos 1 ≡ pos (1973 + like.0) = omega (arith, ints) in
-    (like.0, like.1, omega (arith, ints, ap g after, yf.place y (pos (1972 + like.0)) like.2.leap like.2.week_day, place_next g yg y (pos (1972 + like.0)) like.2))
-gap_like f g yf yg YearBefore y =
-    let before = y +ℤ negsuc 0 in
-    let like = like_model before in
-    let after : pos (1972 + like.0) +ℤ pos 1 ≡ pos (1973 + like.0) = omega (arith, ints) in
-    let here : before +ℤ pos 1 ≡ y = omega (arith, ints) in
-    (like.0, like.1, omega (arith, ints, ap f after, ap f here, yg.place before (pos (1972 + like.0)) like.2.leap like.2.week_day, place_next f yf before (pos (1972 + like.0)) like.2))
-
--- an order in each of those years holds in all years
-pub start_later_always : (f g : ℤ → ℤ) → IsYearly f → IsYearly g → (d : Distance) → ((m : ℕ) → m < 28 → g (pos (end_year d m)) ≤ℤ f (pos (start_year d m))) → (y : ℤ) → g (y +ℤ years_of d) ≤ℤ f y
-start_later_always f g yf yg d each y =
-    let like = gap_like f g yf yg d y in
-    later (g (y +ℤ years_of d)) (f y) (g (pos (end_year d like.0))) (f (pos (start_year d like.0))) like.2 (each like.0 like.1)
-  where
-    later : (a b c e : ℤ) → a -ℤ b ≡ c -ℤ e → c ≤ℤ e → a ≤ℤ b
-    later a b c e same h = omega (arith, ints)
-
-pub end_later_always : (f g : ℤ → ℤ) → IsYearly f → IsYearly g → (d : Distance) → ((m : ℕ) → m < 28 → f (pos (start_year d m)) ≤ℤ g (pos (end_year d m))) → (y : ℤ) → f y ≤ℤ g (y +ℤ years_of d)
-end_later_always f g yf yg d each y =
-    let like = gap_like f g yf yg d y in
-    later (g (y +ℤ years_of d)) (f y) (g (pos (end_year d like.0))) (f (pos (start_year d like.0))) like.2 (each like.0 like.1)
-  where
-    later : (a b c e : ℤ) → a -ℤ b ≡ c -ℤ e → e ≤ℤ c → b ≤ℤ a
-    later a b c e same h = omega (arith, ints)
 
 -- two years later everything is later
 pub two_years_later : (f g : ℤ → ℤ) → IsYearly f → IsYearly g → (x y : ℤ) (n : ℕ) → x +ℤ pos n ≡ y → 2 ≤ n → f x <ℤ g y

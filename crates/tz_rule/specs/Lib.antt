@@ -9,13 +9,12 @@ pub mod Places
 pub mod Day
 pub mod Years
 pub mod Alternate
-pub mod Distance
 pub mod YearTables
 pub mod Parts
 pub mod Pairing
 pub mod Daylight
 pub mod Rule
-pub mod Stretches
+pub mod AlternateSegments
 pub mod InnerTurns
 pub mod RuleSegments
 pub mod Same

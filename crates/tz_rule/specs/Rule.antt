@@ -1,5 +1,5 @@
 -- Which type a rule has at an instant. (POSIX.1-2017, Base Definitions, 8.3: the TZ variable.)
-use Rattle.std.specs.Prelude.{◌≡◌, ℤ}
+use Rattle.std.specs.Prelude.{◌≡◌, ℤ, List, [], ◌∷◌}
 use Rattle.tz_rule.specs.LocalTimeType.{LocalTimeType}
 use Rattle.tz_rule.specs.Alternate.{IsInRuleYears, IsAlternateType, IsConsistentRule, AreRuleDays}
 use Rattle.tz_rule.specs.declared.timezone.rule.TransitionRule.{TransitionRule}
@@ -14,3 +14,8 @@ IsRuleType (Alternate r) u t = IsInRuleYears u × IsAlternateType r u t
 abbrev pub IsSoundRule : TransitionRule → Type 0
 IsSoundRule (Fixed fixed) = Unit {0}
 IsSoundRule (Alternate r) = IsConsistentRule r × AreRuleDays r
+
+-- the types of a rule: one, or those of standard time and of daylight saving time
+abbrev pub types_of : TransitionRule → List LocalTimeType
+types_of (Fixed fixed) = fixed ∷ []
+types_of (Alternate r) = r.std ∷ r.dst ∷ []

@@ -12,6 +12,14 @@ use Rattle.tz_rule.specs.declared.timezone.rule_day.RuleDay.{RuleDay}
 abbrev pub entry : List ℤ → ℕ → ℤ
 entry table kind = slice_index_or table kind (pos 0)
 
+-- the instant of a year by a table
+unfoldable pub instant_in : List ℤ → ℤ → ℤ
+instant_in table year = pos 86400 *ℤ first_day year +ℤ entry table (year_kind year)
+
+-- a distance in years at which the order of a start and an end can differ between years: the year before, the same year, the year after
+abbrev pub IsNear : ℤ → Type 0
+IsNear distance = (negsuc 0 ≤ℤ distance) × (distance ≤ℤ pos 1)
+
 -- the table tells for every whole year how long after 00:00 UTC of January 1st its instant lies
 pub record IsTableOf (instants : ℤ → ℤ) (table : List ℤ) : Type 0 where
   pub size : length table ≡ 14

@@ -1,4 +1,4 @@
-//! Why fields make no date time.
+//! Why fields do not make a date time.
 
 use thiserror::Error;
 
@@ -20,7 +20,7 @@ pub enum DateTimeError {
     /// The second is above 60.
     #[error("invalid second")]
     InvalidSecond,
-    /// The nanoseconds are a second or more.
+    /// The nanoseconds are 10^9 or more.
     #[error("invalid nanoseconds")]
     InvalidNanoseconds,
 }

@@ -1,4 +1,4 @@
-//! Why a call was refused.
+//! Errors.
 
 mod conversions;
 pub mod datetime;
@@ -11,28 +11,28 @@ use crate::error::timezone::{LocalTimeTypeError, TimeZoneError, TransitionRuleEr
 use std::alloc::AllocError;
 use thiserror::Error;
 
-/// Any refusal but that of a file that cannot be read.
+/// Any error but that of a file that cannot be read.
 #[derive(Debug, Drop, Error)]
 pub enum TzError {
-    /// The bytes are no TZif file.
+    /// The bytes are not a TZif file.
     #[error("invalid TZ file: {0}")]
     TzFile(TzFileError),
-    /// The string is no TZ string.
+    /// The string is not a TZ string.
     #[error("invalid TZ string: {0}")]
     TzString(TzStringError),
-    /// The parts make no local time type.
+    /// The parts do not make a local time type.
     #[error("invalid local time type: {0}")]
     LocalTimeType(LocalTimeTypeError),
-    /// The parts make no transition rule.
+    /// The parts do not make a transition rule.
     #[error("invalid transition rule: {0}")]
     TransitionRule(TransitionRuleError),
-    /// The parts make no time zone.
+    /// The parts do not make a time zone.
     #[error("invalid time zone: {0}")]
     TimeZone(TimeZoneError),
-    /// The fields make no date time.
+    /// The fields do not make a date time.
     #[error("invalid date time: {0}")]
     DateTime(DateTimeError),
-    /// A value lies outside the range that its type has.
+    /// A value lies outside the range of its type.
     #[error("out of range operation")]
     OutOfRange,
     /// The zone has no clock at the instant.
@@ -43,13 +43,13 @@ pub enum TzError {
     Memory(AllocError),
 }
 
-/// Any refusal.
+/// Any error.
 #[derive(Debug, Drop, Error)]
 pub enum Error {
     /// A file could not be read.
     #[error(transparent)]
     Io(anyhow::Error),
-    /// Every other refusal.
+    /// Every other error.
     #[error(transparent)]
     Tz(TzError),
 }

@@ -1,25 +1,25 @@
-//! Why bytes or a string make no time zone.
+//! Why bytes or a string do not make a time zone.
 
 use crate::error::timezone::{LocalTimeTypeError, TransitionRuleError};
 use std::num::ParseIntError;
 use std::str::Utf8Error;
 use thiserror::Error;
 
-/// Why the next bytes are not what they have to be.
+/// Why the next bytes are not what is expected.
 #[derive(Clone, Copy, Debug, PartialEq, Eq, Error)]
 pub enum ParseDataError {
     /// The bytes end too early.
     #[error("unexpected end of data")]
     UnexpectedEof,
-    /// Another byte stands where a certain one is needed.
+    /// There is another byte than the expected one.
     #[error("invalid data")]
     InvalidData,
 }
 
-/// Why a string is no TZ string.
+/// Why a string is not a TZ string.
 #[derive(Debug, Drop, PartialEq, Eq, Error)]
 pub enum TzStringError {
-    /// The bytes are no UTF-8. No call returns this, since only digits are converted.
+    /// The bytes are not UTF-8. No call returns this, since only digits are converted.
     #[error(transparent)]
     Utf8(Utf8Error),
     /// Digits are missing, or their number does not fit its type.
@@ -57,10 +57,10 @@ pub enum TzStringError {
     Empty,
 }
 
-/// Why bytes are no TZif file.
+/// Why bytes are not a TZif file.
 #[derive(Debug, Drop, PartialEq, Eq, Error)]
 pub enum TzFileError {
-    /// The footer is no UTF-8.
+    /// The footer is not UTF-8.
     #[error(transparent)]
     Utf8(Utf8Error),
     /// Bytes are missing.
@@ -69,19 +69,19 @@ pub enum TzFileError {
     /// The header does not begin with `TZif`.
     #[error("invalid magic number")]
     InvalidMagicNumber,
-    /// The version is none of those that are read.
+    /// The version is not supported.
     #[error("unsupported TZ file version")]
     UnsupportedTzFileVersion,
     /// The counts of the header do not fit together.
     #[error("invalid header")]
     InvalidHeader,
-    /// The footer does not lie between line feeds, or is no text.
+    /// The footer is not between line feeds, or not a text.
     #[error("invalid footer")]
     InvalidFooter,
     /// A daylight byte is neither 0 nor 1.
     #[error("invalid DST indicator")]
     InvalidDstIndicator,
-    /// A name does not lie in the name bytes.
+    /// A name is not in the name bytes.
     #[error("invalid time zone designation char index")]
     InvalidTimeZoneDesignationCharIndex,
     /// Indicators of a type do not fit together.

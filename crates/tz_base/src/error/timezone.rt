@@ -1,8 +1,8 @@
-//! Why parts make no local time type, transition rule or time zone.
+//! Why parts do not make a local time type, a transition rule or a time zone.
 
 use thiserror::Error;
 
-/// Why parts make no local time type.
+/// Why parts do not make a local time type.
 #[derive(Clone, Copy, Debug, PartialEq, Eq, Error)]
 pub enum LocalTimeTypeError {
     /// The designation does not have 1 to 7 bytes.
@@ -16,7 +16,7 @@ pub enum LocalTimeTypeError {
     InvalidUtcOffset,
 }
 
-/// Why parts make no transition rule.
+/// Why parts do not make a transition rule.
 #[derive(Clone, Copy, Debug, PartialEq, Eq, Error)]
 pub enum TransitionRuleError {
     /// The number of the day is outside its range.
@@ -40,24 +40,24 @@ pub enum TransitionRuleError {
     /// A day time is a week or more away from the day.
     #[error("invalid DST start or end time")]
     InvalidDstStartEndTime,
-    /// Start and end change their order from one year to another.
+    /// Start and end swap order from one year to another.
     #[error("DST transition rules are not consistent from one year to another")]
     InconsistentRule,
 }
 
-/// Why parts make no time zone.
+/// Why parts do not make a time zone.
 #[derive(Clone, Copy, Debug, PartialEq, Eq, Error)]
 pub enum TimeZoneError {
     /// There is no local time type.
     #[error("list of local time types must not be empty")]
     NoLocalTimeType,
-    /// A transition names a type that is not there.
+    /// A transition names a type that does not exist.
     #[error("invalid local time type index")]
     InvalidLocalTimeTypeIndex,
-    /// Transitions do not rise.
+    /// The times of transitions do not rise.
     #[error("invalid transition")]
     InvalidTransition,
-    /// The leap seconds are no table of leap seconds.
+    /// The leap seconds are not a valid table.
     #[error("invalid leap second")]
     InvalidLeapSecond,
     /// The extra rule has another type at the last transition.

@@ -1,15 +1,13 @@
 //! Rules of standard time and daylight saving time.
 
-ghost use Rattle.std.specs.Prelude.{◌≡◌, ◌<◌, ℤ, pos, negsuc, ◌-ℤ◌, ◌*ℤ◌, ◌≤ℤ◌, OnOk, IfOk, IfErr, IfSome, IfNone, MatchBool};
+ghost use Rattle.std.specs.Prelude.{◌≡◌, OnOk, IfOk, IfErr, IfSome, IfNone, MatchBool};
 ghost use Rattle.std.specs.Bool.{OnTrue};
-ghost use Rattle.tz_base.specs.Days.{first_day};
-ghost use Rattle.tz_rule.specs.Kinds.{year_kind};
 ghost use Rattle.tz_rule.specs.Alternate.{start_of, end_of, turn_of, alternate_of, IsInRuleRange, IsFirstRuleFault, IsConsistentRule, AreRuleDays, IsNearYear};
 ghost use Rattle.tz_rule.specs.InnerTurns.{HasInnerTurns};
+ghost use Rattle.tz_rule.specs.YearTables.{IsTableOf};
 ghost use Rattle.tz_rule.specs.Years.{IsConflict, IsInconsistent, EndsNextYear};
 
-use super::check::Parts;
-use super::year_kind::year_start;
+use super::parts::Parts;
 use super::year_table::YearTable;
 use super::{LocalTimeType, RuleDay};
 use std::fmt;
@@ -50,7 +48,7 @@ impl AlternateTime {
     /// The rule with these parts. Times are seconds from 00:00 of the local day; the start's is in standard time and the end's in daylight saving
     /// time. (POSIX.1-2017, Base Definitions, 8.3)
     ///
-    /// Offsets are above -25 and below 26 hours, and times less than a week either way. The first fault is named: `InvalidStdUtcOffset`,
+    /// Offsets are above -25 and below 26 hours, and times less than a week either way. The first error is returned: `InvalidStdUtcOffset`,
     /// `InvalidDstUtcOffset`, `InvalidDstStartEndTime`, and `InconsistentRule` where start and end change their order from one year to another.
     pub fn new(
         std: LocalTimeType,
@@ -73,8 +71,7 @@ impl AlternateTime {
             dst_end_time,
         };
         parts.check_range()?;
-        let starts = parts.start_table();
-        let ends = parts.end_table();
+        let (starts, ends) = parts.tables();
         let Some(ends_next_year) = starts.order(&ends) else {
             return Err(TransitionRuleError::InconsistentRule);
         };
@@ -114,10 +111,9 @@ impl AlternateTime {
             dst_end,
             dst_end_time,
         };
-        match parts.check_range() {
-            Ok(()) => parts.conflict(),
-            Err(_) => None,
-        }
+        parts.check_range().ok()?;
+        let (starts, ends) = parts.tables();
+        starts.conflict(&ends)
     }
 
     /// The type of standard time.
@@ -162,18 +158,12 @@ impl AlternateTime {
         self.parts.dst_end_time
     }
 
-    /// How long after 00:00 UTC of January 1st daylight saving time starts, or ends, in the years of a kind.
+    /// The table of the starts of daylight saving time, or of its ends.
     #[inline(always)]
-    pub(super) fn turn_in_kind(&self, is_end: bool, kind: usize) -> i64
-        requires { kind < 14 }
-        ensures value { (year : ℤ) → year_kind year ≡ kind → result ≡ turn_of self.now is_end year -ℤ pos 86400 *ℤ first_day year }
-        ensures bound { (negsuc 2147483647 ≤ℤ result) × (result ≤ℤ pos 2147483647) }
+    pub(super) fn turns(&self, is_end: bool) -> &YearTable
+        ensures { IsTableOf (turn_of self.now is_end) result.now.0 }
     {
-        if is_end {
-            self.ends.entry(kind)
-        } else {
-            self.starts.entry(kind)
-        }
+        if is_end { &self.ends } else { &self.starts }
     }
 
     /// The instant at which daylight saving time starts, or ends, in a year.
@@ -182,8 +172,7 @@ impl AlternateTime {
         ensures bound { IsNearYear result year }
     {
         self.parts_are_sound();
-        let (start_of_year, kind) = year_start(year);
-        start_of_year + self.turn_in_kind(is_end, kind)
+        self.turns(is_end).in_year(year)
     }
 
     /// Whether each start has the end of the next year.
@@ -202,7 +191,7 @@ impl AlternateTime {
         self.has_inner_turns
     }
 
-    /// The parts obey the rules of their making. This does nothing; its contract is what a value tells.
+    /// The parts are those of a valid rule. This does nothing; its contract is what holds of every value.
     pub(crate) fn parts_are_sound(&self)
         ensures rule { IsConsistentRule self.now }
         ensures days { AreRuleDays self.now }

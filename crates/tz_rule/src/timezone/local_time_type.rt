@@ -98,11 +98,11 @@ impl Designation {
             return Err(LocalTimeTypeError::InvalidTimeZoneDesignationLength);
         }
         let mut bytes = [0; 7];
-        for place in 0..name.len() {
-            if !is_designation_byte(name[place]) {
+        for index in 0..name.len() {
+            if !is_designation_byte(name[index]) {
                 return Err(LocalTimeTypeError::InvalidTimeZoneDesignationChar);
             }
-            bytes[place] = name[place];
+            bytes[index] = name[index];
         }
         Ok(Designation {
             bytes,
@@ -127,7 +127,7 @@ impl LocalTimeType {
 
     /// The type with this offset in seconds, this daylight flag and this name of 1 to 7 bytes of `0-9A-Za-z+-`. (RFC 8536, section 3.2)
     ///
-    /// The first fault is named: `InvalidUtcOffset` for `i32::MIN`, `InvalidTimeZoneDesignationLength`, `InvalidTimeZoneDesignationChar`.
+    /// The first error is returned: `InvalidUtcOffset` for `i32::MIN`, `InvalidTimeZoneDesignationLength`, `InvalidTimeZoneDesignationChar`.
     pub fn new(
         ut_offset: i32,
         is_dst: bool,

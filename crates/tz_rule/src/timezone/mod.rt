@@ -1,14 +1,15 @@
 //! Local time types, rule days and alternate rules.
 
 mod alternate;
-mod check;
+pub(crate) mod alternate_segment;
 mod daylight;
 mod local_time_type;
+mod parts;
 mod rule;
+pub(crate) mod rule_clock;
 mod rule_day;
 pub(crate) mod rule_segment;
 mod segments;
-pub(crate) mod stretch;
 pub(crate) mod utc;
 mod year_kind;
 mod year_table;

@@ -7,7 +7,7 @@ use super::{AlternateTime, LocalTimeType};
 pub enum TransitionRule {
     /// One type for all time.
     Fixed(LocalTimeType),
-    /// Two types that take turns.
+    /// Two types that alternate.
     Alternate(AlternateTime),
 }
 

@@ -1,24 +1,14 @@
 //! The days of a year that a rule can name.
 
-ghost use Rattle.std.specs.Prelude.{◌≡◌, ℕ, ◌+◌, ◌<◌, ◌≤◌, pos, negsuc, ◌≤ℤ◌, get_or, IfOk, IfErr, OnOk};
+ghost use Rattle.std.specs.Prelude.{◌≡◌, ℕ, ◌+◌, ◌<◌, ◌≤◌, get_or, IfOk, IfErr, OnOk};
 ghost use Rattle.tz_base.specs.declared.error.timezone.TransitionRuleError.TheVariants as faults;
 ghost use Rattle.tz_rule.specs.JulianDay.{IsJulianDay, IsZeroBasedDay};
-ghost use Rattle.tz_rule.specs.MonthWeek.{MonthWeek, IsMonthWeek, IsFirstMonthWeekFault, IsRuleWeek, IsRuleWeekDay, month_week};
-ghost use Rattle.tz_rule.specs.Places.{julian_place as julian_place_of, nth_place as nth_place_of, week_day_place as week_day_place_of, place_in_year};
+ghost use Rattle.tz_rule.specs.MonthWeek.{MonthWeek, IsMonthWeek, IsFirstMonthWeekFault, IsRuleWeek, month_week};
+ghost use Rattle.tz_rule.specs.Places.{julian_place, nth_place as nth_place_of, place_in_year};
 
 use std::marker::Model;
 use tz_base::calendar;
 use tz_base::error::timezone::TransitionRuleError;
-
-/// How many days after January 1st the n-th day lies that is not February 29th.
-#[tactic(auto, unfolding(crate::specs::Places::julian_place))]
-fn julian_place(leap: bool, day: u16) -> u16
-    requires { IsJulianDay day }
-    ensures value { result ≡ julian_place_of leap day }
-    ensures bound { result ≤ 365 }
-{
-    if leap && day > 59 { day } else { day - 1 }
-}
 
 /// How many days after its first day a month of this length has a week day for the w-th time, and for the fifth week for the last time, where
 /// it has the week day for the first time this many days after its first day.
@@ -32,19 +22,6 @@ fn nth_place(first: u8, days: u8, week: u8) -> u8
 {
     let place = first + 7 * (week - 1);
     if place < days { place } else { place - 7 }
-}
-
-/// How many days after its first day a month of this length has a week day for the w-th time, and for the fifth week for the last time.
-#[tactic(auto, unfolding(crate::specs::Places::week_day_place))]
-fn week_day_place(first_week_day: u8, days: u8, week: u8, week_day: u8) -> u8
-    requires first { first_week_day < 7 }
-    requires days { (28 ≤ days) × (days ≤ 31) }
-    requires week { IsRuleWeek week }
-    requires week_day { IsRuleWeekDay week_day }
-    ensures value { result ≡ week_day_place_of first_week_day days week week_day }
-    ensures bound { result < days }
-{
-    nth_place((week_day + 7 - first_week_day) % 7, days, week)
 }
 
 /// The place of a week day in a year that begins with the next week day: a day earlier, and the last of the seven places for the first.
@@ -76,9 +53,6 @@ impl Model for Julian1WithoutLeap {
 }
 
 impl Julian1WithoutLeap {
-    ghost use Rattle.tz_rule.specs.Day.{rule_day};
-    ghost use Rattle.tz_rule.specs.declared.timezone.rule_day.RuleDay.TheVariants as TheDays;
-
     /// The day with this number, from 1 to 365. Any other is `InvalidRuleDayJulianDay`.
     pub fn new(julian_day_1: u16) -> Result<Self, TransitionRuleError>
         ensures value { IfOk result (λ d. d ≡ julian_day_1) }
@@ -99,23 +73,15 @@ impl Julian1WithoutLeap {
         self.0
     }
 
-    /// The number of the day in a year.
-    fn in_year(&self, year: i32) -> i64
-        ensures value { result ≡ rule_day (TheDays.Julian1WithoutLeap self.now) year }
-        ensures bound { (negsuc 784353015832 ≤ℤ result) × (result ≤ℤ pos 784351577001) }
-        ensures range { IsJulianDay self.now }
-    {
-        let place = julian_place(calendar::is_leap_year(year), self.0);
-        calendar::first_day_of_year(year) + i64::from(place)
-    }
-
     /// How many days after January 1st the day lies, in a leap year or another one.
+    #[tactic(auto, unfolding(crate::specs::Places::julian_place))]
     fn place(&self, leap: bool) -> u16
-        ensures value { result ≡ julian_place_of leap self.now }
+        ensures value { result ≡ julian_place leap self.now }
         ensures bound { result ≤ 365 }
         ensures range { IsJulianDay self.now }
     {
-        julian_place(leap, self.0)
+        let day = self.0;
+        if leap && day > 59 { day } else { day - 1 }
     }
 }
 
@@ -137,9 +103,6 @@ impl Model for Julian0WithLeap {
 }
 
 impl Julian0WithLeap {
-    ghost use Rattle.tz_rule.specs.Day.{rule_day};
-    ghost use Rattle.tz_rule.specs.declared.timezone.rule_day.RuleDay.TheVariants as TheDays;
-
     /// The day with this number, from 0 to 365. Any other is `InvalidRuleDayJulianDay`.
     pub fn new(julian_day_0: u16) -> Result<Self, TransitionRuleError>
         ensures value { IfOk result (λ d. d ≡ julian_day_0) }
@@ -158,15 +121,6 @@ impl Julian0WithLeap {
         ensures range { IsZeroBasedDay self.now }
     {
         self.0
-    }
-
-    /// The number of the day in a year.
-    fn in_year(&self, year: i32) -> i64
-        ensures value { result ≡ rule_day (TheDays.Julian0WithLeap self.now) year }
-        ensures bound { (negsuc 784353015832 ≤ℤ result) × (result ≤ℤ pos 784351577001) }
-        ensures range { IsZeroBasedDay self.now }
-    {
-        calendar::first_day_of_year(year) + i64::from(self.0)
     }
 }
 
@@ -191,12 +145,11 @@ impl Model for MonthWeekDay {
 }
 
 impl MonthWeekDay {
-    ghost use Rattle.tz_rule.specs.Day.{rule_day};
     ghost use Rattle.tz_rule.specs.declared.timezone.rule_day.RuleDay.TheVariants as TheDays;
 
     /// The week day of a month: the month from 1 to 12, the week from 1 to 5, where 5 is the last, and the week day from 0 (Sunday) to 6.
     ///
-    /// The first number out of range is named: `InvalidRuleDayMonth`, `InvalidRuleDayWeek`, `InvalidRuleDayWeekDay`.
+    /// The first number out of range is reported: `InvalidRuleDayMonth`, `InvalidRuleDayWeek`, `InvalidRuleDayWeekDay`.
     pub fn new(month: u8, week: u8, week_day: u8) -> Result<Self, TransitionRuleError>
         ensures value { IfOk result (λ d. d ≡ month_week month week week_day) }
         ensures ok { OnOk result (IsMonthWeek (month_week month week week_day)) }
@@ -226,7 +179,7 @@ impl MonthWeekDay {
         self.month
     }
 
-    /// The week of the month, from 1 to 5, where 5 stands for the last.
+    /// The week of the month, from 1 to 5, where 5 means the last.
     pub fn week(&self) -> u8
         ensures value { result ≡ self.now.week }
         ensures range { IsMonthWeek self.now }
@@ -240,22 +193,6 @@ impl MonthWeekDay {
         ensures range { IsMonthWeek self.now }
     {
         self.week_day
-    }
-
-    /// The number of the day in a year.
-    fn in_year(&self, year: i32) -> i64
-        ensures value { result ≡ rule_day (TheDays.MonthWeekDay self.now) year }
-        ensures bound { (negsuc 784353015832 ≤ℤ result) × (result ≤ℤ pos 784351577100) }
-        ensures range { IsMonthWeek self.now }
-    {
-        let first_day = calendar::days_since_unix_epoch(year, self.month, 1);
-        let place = week_day_place(
-            calendar::week_day_of_day(first_day),
-            calendar::days_in_month(year, self.month),
-            self.week,
-            self.week_day,
-        );
-        first_day + i64::from(place)
     }
 
     /// How many days after January 1st the day lies in leap years or in the others, for each week day of January 1st.
@@ -318,20 +255,7 @@ impl Eq for RuleDay {
 }
 
 impl RuleDay {
-    ghost use Rattle.tz_rule.specs.Day.{rule_day, IsRuleDay};
-
-    /// The number of the day in a year, where 1970-01-01 has the number 0.
-    pub(super) fn in_year(&self, year: i32) -> i64
-        ensures value { result ≡ rule_day self.now year }
-        ensures bound { (negsuc 784353015832 ≤ℤ result) × (result ≤ℤ pos 784351577100) }
-        ensures range { IsRuleDay self.now }
-    {
-        match self {
-            RuleDay::Julian1WithoutLeap(day) => day.in_year(year),
-            RuleDay::Julian0WithLeap(day) => day.in_year(year),
-            RuleDay::MonthWeekDay(day) => day.in_year(year),
-        }
-    }
+    ghost use Rattle.tz_rule.specs.Day.{IsRuleDay};
 
     /// How many days after January 1st the day lies in leap years or in the others, for each week day of January 1st.
     pub(super) fn places(&self, leap: bool) -> [u16; 7]

@@ -1,4 +1,4 @@
-//! A span of time through which a rule has one type, or none.
+//! A segment of a rule.
 
 use super::LocalTimeType;
 
@@ -11,4 +11,6 @@ pub struct RuleSegment<'a> {
     pub last: i64,
     /// The type, where the rule answers.
     pub local_time_type: Option<&'a LocalTimeType>,
+    /// Whether that is the type of daylight saving time.
+    pub is_daylight: bool,
 }

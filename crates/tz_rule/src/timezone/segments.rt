@@ -9,24 +9,23 @@ ghost use Rattle.tz_base.specs.Days.{first_day};
 ghost use Rattle.tz_rule.specs.Alternate.{start_of, end_of, turn_of, IsUtcYear, IsRuleYear, IsInRuleYears, IsAlternateType};
 ghost use Rattle.tz_rule.specs.LocalTimeType.{LocalTimeType};
 ghost use Rattle.tz_rule.specs.Rule.{IsRuleType};
-ghost use Rattle.tz_rule.specs.RuleSegments.{IsRuleChange, IsRuleSegment, IsSpanOf, IsNotInside};
+ghost use Rattle.tz_rule.specs.RuleSegments.{HasTypeOf, IsRuleChange, IsRuleSegment, IsWholeSegment, IsNotInside};
 ghost use Rattle.tz_rule.specs.InnerTurns.{HasInnerTurns, IsLikelyYear};
-ghost use Rattle.tz_rule.specs.Stretches.{type_by, IsStretchYear, moved_back};
+ghost use Rattle.tz_rule.specs.AlternateSegments.{type_by, IsTriedYear, moved_back};
 ghost use Rattle.tz_rule.specs.Years.{EndsNextYear};
 ghost use Rattle.tz_rule.specs.declared.timezone.rule.TransitionRule.TheVariants.{Alternate};
 
+use super::alternate_segment::AlternateSegment;
 use super::daylight::{FIRST_YEAR, LAST_YEAR, rule_year};
 use super::rule_segment::RuleSegment;
-use super::stretch::Stretch;
-use super::year_kind::{moved_year_start, year_start};
 use super::{AlternateTime, LocalTimeType};
+use tz_base::calendar;
+use tz_base::constants::SECONDS_PER_DAY;
 use tz_base::error::TzError;
+use tz_base::year::moved_seconds;
 
 /// How far from 1970 an instant may lie: the two years before its year and the two after it are years in which a rule answers.
 const GREATEST_DISTANCE: i64 = 60_000_000_000_000_000;
-
-/// The seconds from January 1st of the year -2147484000 to 1970-01-01.
-const ADDED_SECONDS: i64 = 67_768_111_675_987_200;
 
 /// The seconds of a year, on the average of 400 years.
 const SECONDS_PER_YEAR: u64 = 31_556_952;
@@ -37,29 +36,21 @@ const NEAR_YEARS: u8 = 5;
 /// The year of an instant in UTC, or the neighbour of that year whose end lies less than two days away, moved by cycles of 400 years.
 #[inline(always)]
 fn likely_years(unix_time: i64) -> Option<u64>
-    ensures year { IfSome result (λ years. IsStretchYear (moved_back years)) }
+    ensures year { IfSome result (λ years. IsTriedYear (moved_back years)) }
     ensures likely { IfSome result (λ years. IsLikelyYear unix_time (moved_back years)) }
 {
     if unix_time < -GREATEST_DISTANCE || unix_time > GREATEST_DISTANCE {
         return None;
     }
-    Some((unix_time + ADDED_SECONDS) as u64 / SECONDS_PER_YEAR)
+    Some(moved_seconds(unix_time) / SECONDS_PER_YEAR)
 }
 
-/// The first instant at which rules answer.
-fn first_answered() -> i64
-    ensures value { result ≡ pos 86400 *ℤ first_day (negsuc 2147483645) }
-    ensures bound { negsuc 67768100567971199 ≤ℤ result }
+/// 00:00 UTC of a year's January 1st.
+fn new_year(year: i32) -> i64
+    ensures value { result ≡ pos 86400 *ℤ first_day year }
+    ensures bound { (negsuc 67768100567971199 ≤ℤ result) × (result ≤ℤ pos 67767976202016000) }
 {
-    year_start(FIRST_YEAR).0
-}
-
-/// The first instant at which rules no longer answer.
-fn end_of_answers() -> i64
-    ensures value { result ≡ pos 86400 *ℤ first_day (pos 2147483646) }
-    ensures bound { negsuc 67768100567971199 ≤ℤ result }
-{
-    year_start(LAST_YEAR + 1).0
+    SECONDS_PER_DAY * calendar::first_day_of_year(year)
 }
 
 /// The segment around an instant at which rules do not answer.
@@ -67,41 +58,43 @@ fn unanswered<'a>(unix_time: i64) -> RuleSegment<'a>
     requires { ¬ IsInRuleYears unix_time }
     ensures { (rule : AlternateTime) → IsRuleSegment (Alternate rule) unix_time result }
 {
-    let first = first_answered();
+    let first = new_year(FIRST_YEAR);
     if unix_time < first {
         return RuleSegment {
             from: i64::MIN,
             last: first - 1,
             local_time_type: None,
+            is_daylight: false,
         };
     }
     RuleSegment {
-        from: end_of_answers(),
+        from: new_year(LAST_YEAR + 1),
         last: i64::MAX,
         local_time_type: None,
+        is_daylight: false,
     }
 }
 
-/// The span around the instant, cut at a start or an end that lies inside it.
-fn cut(span: Stretch, unix_time: i64, turn: i64) -> Stretch
-    requires { (span.from ≤ℤ unix_time) × (unix_time <ℤ span.until) }
+/// The segment around the instant, cut at a start or an end that lies inside it.
+fn cut(segment: AlternateSegment, unix_time: i64, turn: i64) -> AlternateSegment
+    requires { (segment.from ≤ℤ unix_time) × (unix_time <ℤ segment.until) }
     ensures within { (result.from ≤ℤ unix_time) × (unix_time <ℤ result.until) }
-    ensures from { (result.from ≡ span.from) ⊎ (result.from ≡ turn) }
-    ensures until { (result.until ≡ span.until) ⊎ (result.until ≡ turn) }
-    ensures inside { (span.from ≤ℤ result.from) × (result.until ≤ℤ span.until) }
+    ensures from { (result.from ≡ segment.from) ⊎ (result.from ≡ turn) }
+    ensures until { (result.until ≡ segment.until) ⊎ (result.until ≡ turn) }
+    ensures inside { (segment.from ≤ℤ result.from) × (result.until ≤ℤ segment.until) }
     ensures outside { IsNotInside result turn }
-    ensures is_daylight { result.is_daylight ≡ span.is_daylight }
+    ensures is_daylight { result.is_daylight ≡ segment.is_daylight }
 {
-    let (mut from, mut until) = (span.from, span.until);
+    let (mut from, mut until) = (segment.from, segment.until);
     if turn > unix_time {
         until = until.min(turn);
     } else {
         from = from.max(turn);
     }
-    Stretch {
+    AlternateSegment {
         from,
         until,
-        is_daylight: span.is_daylight,
+        is_daylight: segment.is_daylight,
     }
 }
 
@@ -112,22 +105,21 @@ impl AlternateTime {
         requires { IsRuleYear (moved_back years) }
         ensures { result ≡ turn_of self.now is_end (moved_back years) }
     {
-        let (start_of_year, kind) = moved_year_start(years);
-        start_of_year + self.turn_in_kind(is_end, kind)
+        self.turns(is_end).in_moved_year(years)
     }
 
-    /// The span of the moved year or its neighbours that an instant near the year chooses, where a year's end comes first, or its start.
+    /// The segment of the moved year or its neighbours that an instant near the year chooses, where a year's end comes first, or its start.
     #[inline(always)]
-    fn span_by_order(&self, end_is_first: bool, unix_time: i64, years: u64) -> Stretch
+    fn segment_by_order(&self, end_is_first: bool, unix_time: i64, years: u64) -> AlternateSegment
         requires order { MatchBool end_is_first (EndsNextYear (start_of self.now) (end_of self.now)) (¬ EndsNextYear (start_of self.now) (end_of self.now)) }
-        requires year { IsStretchYear (moved_back years) }
-        ensures of { IsSpanOf self.now result }
+        requires year { IsTriedYear (moved_back years) }
+        ensures of { IsWholeSegment self.now result }
         ensures within { HasInnerTurns self.now → IsLikelyYear unix_time (moved_back years) → (result.from ≤ℤ unix_time) × (unix_time <ℤ result.until) }
     {
         self.parts_are_sound();
         let first = self.turn_in_moved(end_is_first, years);
         if unix_time < first {
-            return Stretch {
+            return AlternateSegment {
                 from: self.turn_in_moved(!end_is_first, years - 1),
                 until: first,
                 is_daylight: end_is_first,
@@ -135,80 +127,80 @@ impl AlternateTime {
         }
         let second = self.turn_in_moved(!end_is_first, years);
         if unix_time < second {
-            return Stretch {
+            return AlternateSegment {
                 from: first,
                 until: second,
                 is_daylight: !end_is_first,
             };
         }
-        Stretch {
+        AlternateSegment {
             from: second,
             until: self.turn_in_moved(end_is_first, years + 1),
             is_daylight: end_is_first,
         }
     }
 
-    /// The span of the moved year or its neighbours that an instant near the year chooses.
+    /// The segment of the moved year or its neighbours that an instant near the year chooses.
     ///
     /// Each order has code of its own, which costs fewer steps than tables that are chosen by the order.
     #[inline(always)]
-    fn span_of_years(&self, unix_time: i64, years: u64) -> Stretch
-        requires { IsStretchYear (moved_back years) }
-        ensures of { IsSpanOf self.now result }
+    fn segment_of_years(&self, unix_time: i64, years: u64) -> AlternateSegment
+        requires { IsTriedYear (moved_back years) }
+        ensures of { IsWholeSegment self.now result }
         ensures within { HasInnerTurns self.now → IsLikelyYear unix_time (moved_back years) → (result.from ≤ℤ unix_time) × (unix_time <ℤ result.until) }
     {
         if self.ends_next_year() {
-            self.span_by_order(true, unix_time, years)
+            self.segment_by_order(true, unix_time, years)
         } else {
-            self.span_by_order(false, unix_time, years)
+            self.segment_by_order(false, unix_time, years)
         }
     }
 
-    /// The span around an instant, where the rule's turns lie so that the likely year always tells it.
+    /// The segment around an instant, where the rule's turns lie so that the likely year always tells it.
     #[inline(always)]
-    fn inner_span(&self, unix_time: i64) -> Option<Stretch>
-        ensures of { IfSome result (λ span. IsSpanOf self.now span) }
-        ensures within { IfSome result (λ span. (span.from ≤ℤ unix_time) × (unix_time <ℤ span.until)) }
+    fn inner_segment(&self, unix_time: i64) -> Option<AlternateSegment>
+        ensures of { IfSome result (λ segment. IsWholeSegment self.now segment) }
+        ensures within { IfSome result (λ segment. (segment.from ≤ℤ unix_time) × (unix_time <ℤ segment.until)) }
     {
         if !self.has_inner_turns() {
             return None;
         }
         let years = likely_years(unix_time)?;
-        Some(self.span_of_years(unix_time, years))
+        Some(self.segment_of_years(unix_time, years))
     }
 
-    /// The span around an instant, where the likely year tells it.
+    /// The segment around an instant, where the likely year tells it.
     #[inline(always)]
-    pub(crate) fn likely_span(&self, unix_time: i64) -> Option<Stretch>
-        ensures of { IfSome result (λ span. IsSpanOf self.now span) }
-        ensures within { IfSome result (λ span. (span.from ≤ℤ unix_time) × (unix_time <ℤ span.until)) }
+    pub(crate) fn likely_segment(&self, unix_time: i64) -> Option<AlternateSegment>
+        ensures of { IfSome result (λ segment. IsWholeSegment self.now segment) }
+        ensures within { IfSome result (λ segment. (segment.from ≤ℤ unix_time) × (unix_time <ℤ segment.until)) }
     {
         let years = likely_years(unix_time)?;
-        let span = self.span_of_years(unix_time, years);
-        if unix_time < span.from || span.until <= unix_time {
+        let segment = self.segment_of_years(unix_time, years);
+        if unix_time < segment.from || segment.until <= unix_time {
             return None;
         }
-        Some(span)
+        Some(segment)
     }
 
-    /// The span around an instant of the year in UTC, by all starts and ends that may be next to it.
-    fn span_in_year(&self, unix_time: i64, year: i32) -> Stretch
+    /// The segment around an instant of the year in UTC, by all starts and ends that may be next to it.
+    fn segment_in_year(&self, unix_time: i64, year: i32) -> AlternateSegment
         requires { IsUtcYear unix_time year × IsRuleYear year }
-        ensures of { IsSpanOf self.now result }
+        ensures of { IsWholeSegment self.now result }
         ensures within { (result.from ≤ℤ unix_time) × (unix_time <ℤ result.until) }
     {
         self.parts_are_sound();
-        let mut span = Stretch {
-            from: first_answered(),
-            until: end_of_answers(),
+        let mut segment = AlternateSegment {
+            from: new_year(FIRST_YEAR),
+            until: new_year(LAST_YEAR + 1),
             is_daylight: self.is_daylight(unix_time, year),
         };
-        for place in 0..NEAR_YEARS {
-            let near = year - 2 + i32::from(place);
-            span = cut(span, unix_time, self.turn_in(false, near));
-            span = cut(span, unix_time, self.turn_in(true, near));
+        for index in 0..NEAR_YEARS {
+            let near = year - 2 + i32::from(index);
+            segment = cut(segment, unix_time, self.turn_in(false, near));
+            segment = cut(segment, unix_time, self.turn_in(true, near));
         }
-        span
+        segment
     }
 
     /// The type of daylight saving time, or that of standard time.
@@ -219,17 +211,18 @@ impl AlternateTime {
         if is_daylight { self.dst() } else { self.std() }
     }
 
-    /// The segment that a span around the instant is.
+    /// The rule's segment that one around the instant is.
     #[inline(always)]
-    fn segment_of(&self, unix_time: i64, span: Stretch) -> RuleSegment<'_>
-        requires of { IsSpanOf self.now span }
-        requires within { (span.from ≤ℤ unix_time) × (unix_time <ℤ span.until) }
+    fn rule_segment(&self, unix_time: i64, segment: AlternateSegment) -> RuleSegment<'_>
+        requires of { IsWholeSegment self.now segment }
+        requires within { (segment.from ≤ℤ unix_time) × (unix_time <ℤ segment.until) }
         ensures { IsRuleSegment (Alternate self.now) unix_time result }
     {
         RuleSegment {
-            from: span.from,
-            last: span.until - 1,
-            local_time_type: Some(self.type_by(span.is_daylight)),
+            from: segment.from,
+            last: segment.until - 1,
+            local_time_type: Some(self.type_by(segment.is_daylight)),
+            is_daylight: segment.is_daylight,
         }
     }
 
@@ -238,11 +231,11 @@ impl AlternateTime {
     fn outer_segment(&self, unix_time: i64) -> RuleSegment<'_>
         ensures { IsRuleSegment (Alternate self.now) unix_time result }
     {
-        if let Some(span) = self.likely_span(unix_time) {
-            return self.segment_of(unix_time, span);
+        if let Some(segment) = self.likely_segment(unix_time) {
+            return self.rule_segment(unix_time, segment);
         }
         match rule_year(unix_time) {
-            Some(year) => self.segment_of(unix_time, self.span_in_year(unix_time, year)),
+            Some(year) => self.rule_segment(unix_time, self.segment_in_year(unix_time, year)),
             None => unanswered(unix_time),
         }
     }
@@ -256,9 +249,10 @@ impl AlternateTime {
             (λ t. IsRuleType (Alternate self.now) v t.now) }
         ensures from { (result.from ≢ negsuc 9223372036854775807) → IsRuleChange (Alternate self.now) result.from }
         ensures last { (result.last ≢ pos 9223372036854775807) → IsRuleChange (Alternate self.now) (result.last +ℤ pos 1) }
+        ensures is_daylight { HasTypeOf (Alternate self.now) result }
     {
-        match self.inner_span(unix_time) {
-            Some(span) => self.segment_of(unix_time, span),
+        match self.inner_segment(unix_time) {
+            Some(segment) => self.rule_segment(unix_time, segment),
             None => self.outer_segment(unix_time),
         }
     }
@@ -269,8 +263,8 @@ impl AlternateTime {
         ensures ok { IfOk result (λ t. IsInRuleYears unix_time × IsAlternateType self.now unix_time t.now) }
         ensures err { IfErr result (λ e. (e ≡ TzError.OutOfRange) × ¬ IsInRuleYears unix_time) }
     {
-        if let Some(span) = self.likely_span(unix_time) {
-            return Ok(self.type_by(span.is_daylight));
+        if let Some(segment) = self.likely_segment(unix_time) {
+            return Ok(self.type_by(segment.is_daylight));
         }
         match rule_year(unix_time) {
             Some(year) => Ok(self.type_by(self.is_daylight(unix_time, year))),
@@ -284,8 +278,8 @@ impl AlternateTime {
         ensures ok { IfOk result (λ t. IsInRuleYears unix_time × IsAlternateType self.now unix_time t.now) }
         ensures err { IfErr result (λ e. (e ≡ TzError.OutOfRange) × ¬ IsInRuleYears unix_time) }
     {
-        match self.inner_span(unix_time) {
-            Some(span) => Ok(self.type_by(span.is_daylight)),
+        match self.inner_segment(unix_time) {
+            Some(segment) => Ok(self.type_by(segment.is_daylight)),
             None => self.outer_type(unix_time),
         }
     }

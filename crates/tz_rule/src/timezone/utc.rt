@@ -1,4 +1,4 @@
-//! The parts of UTC's zone, in memory of the program's own.
+//! The parts of UTC's zone, in statics.
 //!
 //! A static holds no type with a model. So the statics are of plain types whose fields lie as those of the types with a model do, and are lent as these.
 

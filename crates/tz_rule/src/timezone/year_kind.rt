@@ -1,11 +1,11 @@
 //! Kinds of years, by number: the week day of January 1st, and 7 more for a leap year. All years of a kind have the same calendar.
 
-ghost use Rattle.std.specs.Prelude.{◌≡◌, ◌+◌, ◌*◌, ◌/◌, ◌%◌, ◌^◌, ◌<◌, ◌≤◌, pos, negsuc, ◌+ℤ◌, ◌-ℤ◌, ◌*ℤ◌, ◌≤ℤ◌};
-ghost use Rattle.tz_base.specs.Cycles.{days_of_years};
-ghost use Rattle.tz_base.specs.Days.{is_leap, first_day};
+ghost use Rattle.std.specs.Prelude.{◌≡◌, ◌+◌, ◌*◌, ◌/◌, ◌%◌, ◌^◌, ◌<◌, ◌≤◌, pos, negsuc, ◌-ℤ◌, ◌*ℤ◌, ◌≤ℤ◌};
+ghost use Rattle.tz_base.specs.Days.{first_day};
 ghost use Rattle.tz_rule.specs.Kinds.{kind_of as kind_by, year_kind, first_kind as first_kind_of, second_kind as second_kind_of, first_days as first_days_of};
 
 use tz_base::constants::SECONDS_PER_DAY;
+use tz_base::year::{ADDED_DAYS, days_before_moved_year, is_moved_year_leap};
 
 /// How many kinds of years there are.
 pub(super) const KINDS: usize = 14;
@@ -23,12 +23,6 @@ static SECOND_KINDS: [u8; PAIR_KINDS] = [
     1, 2, 3, 4, 5, 6, 0, 8, 9, 10, 11, 12, 13, 7, 2, 3, 4, 5, 6, 0, 1,
 ];
 
-/// Years that are added to make every year of 32 bits positive: 5368710 cycles of 400 years.
-const ADDED_YEARS: i64 = 2_147_484_000;
-
-/// The days from January 1st of the year -2147484000 to 1970-01-01.
-const ADDED_DAYS: i64 = 784_353_144_398;
-
 /// The kind of the years that are leap, or are not, and whose January 1st has the week day.
 #[inline(always)]
 fn kind_of(leap: bool, first_week_day: u8) -> usize
@@ -38,47 +32,6 @@ fn kind_of(leap: bool, first_week_day: u8) -> usize
 {
     let week_day = usize::from(first_week_day);
     if leap { 7 + week_day } else { week_day }
-}
-
-/// The year, moved by cycles of 400 years until no year of 32 bits is negative.
-#[inline(always)]
-fn moved_year(year: i32) -> u64
-    ensures value { pos result ≡ year +ℤ pos 2147484000 }
-    ensures bound { result < 2 ^ 33 }
-{
-    (i64::from(year) + ADDED_YEARS) as u64
-}
-
-/// The years before a moved year that 100 divides. A multiplication and a shift stand for the division.
-#[inline(always)]
-fn centuries_before(years: u64) -> u64
-    requires { years ≤ 4294967647 }
-    ensures { result ≡ (years + 99) / 100 }
-{
-    1_374_389_535 * (years + 99) / 137_438_953_472
-}
-
-/// Whether a moved year is leap.
-#[inline(always)]
-fn is_moved_year_leap(years: u64) -> bool
-    requires { years ≤ 4294967647 }
-    ensures { result ≡ is_leap (pos years) }
-{
-    if 100 * centuries_before(years) == years {
-        years % 16 == 0
-    } else {
-        years % 4 == 0
-    }
-}
-
-/// The days before a moved year.
-#[inline(always)]
-fn days_before_moved_year(years: u64) -> u64
-    requires { years ≤ 4294967647 }
-    ensures value { result ≡ days_of_years years }
-    ensures bound { result < 2 ^ 42 }
-{
-    (1461 * years + 3) / 4 - 3 * centuries_before(years) / 4
 }
 
 /// A seventh of 2^64, rounded up.
@@ -107,17 +60,6 @@ pub(super) fn moved_year_start(years: u64) -> (i64, usize)
     let days = days_before_moved_year(years);
     let kind = kind_of(is_moved_year_leap(years), days_over_weeks(days + 6));
     (SECONDS_PER_DAY * (days as i64 - ADDED_DAYS), kind)
-}
-
-/// 00:00 UTC of a year's January 1st, and the kind of the year.
-#[inline(always)]
-pub(super) fn year_start(year: i32) -> (i64, usize)
-    ensures start { result.0 ≡ pos 86400 *ℤ first_day year }
-    ensures kind { result.1 ≡ year_kind year }
-    ensures bound { (negsuc 67768100567971199 ≤ℤ result.0) × (result.0 ≤ℤ pos 67767976202016000) }
-    ensures below { result.1 < 14 }
-{
-    moved_year_start(moved_year(year))
 }
 
 /// The kind of the first year of a pair kind.

@@ -1,11 +1,15 @@
 //! Tables of an instant of each year, and the order of two such instants over all years, without a year.
 
-ghost use Rattle.std.specs.Prelude.{◌≡◌, ℕ, ◌<◌, ◌≤◌, ◌*◌, pos, negsuc, ◌+ℤ◌, ◌≤ℤ◌, IfSome, IfNone, MatchBool};
+ghost use Rattle.std.specs.Prelude.{◌≡◌, ℕ, ◌<◌, ◌≤◌, ◌*◌, ℤ, pos, negsuc, ◌+ℤ◌, ◌≤ℤ◌, ◌<ℤ◌, IfSome, IfNone, MatchBool};
 ghost use Rattle.tz_rule.specs.Day.{IsRuleDay};
-ghost use Rattle.tz_rule.specs.YearTables.{entry, next_entry, day_table, AreBounds, least_entry, greatest_entry, is_inner, ComesFirst, ComesBeforeNext, ComesAfterNext, ChangesInYear, ChangesAcrossYears, ChangesOrder};
+ghost use Rattle.tz_rule.specs.AlternateSegments.{moved_back};
+ghost use Rattle.tz_rule.specs.Years.{IsConflict};
+ghost use Rattle.tz_rule.specs.YearTables.{instant_in, IsNear, entry, next_entry, day_table, AreBounds, least_entry, greatest_entry, is_inner, ComesFirst, ComesBeforeNext, ComesAfterNext, ChangesInYear, ChangesAcrossYears, ChangesOrder};
 
 use super::RuleDay;
-use super::year_kind::{self, KINDS, PAIR_KINDS};
+use super::year_kind::{self, KINDS, PAIR_KINDS, moved_year_start};
+use tz_base::constants::{SECONDS_PER_DAY, SECONDS_PER_NORMAL_YEAR};
+use tz_base::year::moved_year;
 
 /// How many seconds after 00:00 UTC of January 1st an instant of the year lies, for each kind of years.
 #[derive(Clone, Copy)]
@@ -17,8 +21,11 @@ const INNER_START: i32 = 864_000;
 /// Ten days before the end of the shortest year.
 const INNER_END: i32 = 30_672_000;
 
-/// The seconds of the shortest year.
-const SHORTEST_YEAR: i64 = 31_536_000;
+/// The first of the years that stand for all years.
+const FIRST_MODEL_YEAR: i32 = 1972;
+
+/// How many they are. Each year has the kind of one of 1972 to 1999, and so have two years that follow one another.
+const MODEL_YEARS: u8 = 29;
 
 /// The seconds from 00:00 UTC of January 1st to a time after 00:00 UTC of the day at a place of the year.
 #[inline(always)]
@@ -57,13 +64,31 @@ impl YearTable {
         i64::from(self.0[kind])
     }
 
+    /// The instant of a moved year.
+    #[inline(always)]
+    pub(super) fn in_moved_year(&self, years: u64) -> i64
+        requires { (352 ≤ years) × (years ≤ 4294967647) }
+        ensures { result ≡ instant_in self.now.0 (moved_back years) }
+    {
+        let (start_of_year, kind) = moved_year_start(years);
+        start_of_year + self.entry(kind)
+    }
+
+    /// The instant of a year.
+    #[inline(always)]
+    pub(super) fn in_year(&self, year: i32) -> i64
+        ensures { result ≡ instant_in self.now.0 year }
+    {
+        self.in_moved_year(moved_year(year))
+    }
+
     /// The seconds from 00:00 UTC of January 1st of the first year of a pair kind to the instant of the second.
     fn next_entry(&self, pair: usize) -> i64
         requires { pair < 21 }
         ensures { result ≡ next_entry self.now.0 pair }
     {
         let days = year_kind::first_days(pair);
-        self.entry(year_kind::second_kind(pair)) + 86_400 * i64::from(days)
+        self.entry(year_kind::second_kind(pair)) + SECONDS_PER_DAY * i64::from(days)
     }
 
     /// Whether the instant comes before the other one in some year.
@@ -145,10 +170,10 @@ impl YearTable {
     {
         let (first_start, last_start) = self.bounds();
         let (first_end, last_end) = ends.bounds();
-        if i64::from(last_start) > i64::from(first_end) + SHORTEST_YEAR {
+        if i64::from(last_start) > i64::from(first_end) + SECONDS_PER_NORMAL_YEAR {
             return None;
         }
-        if i64::from(last_end) > i64::from(first_start) + SHORTEST_YEAR {
+        if i64::from(last_end) > i64::from(first_start) + SECONDS_PER_NORMAL_YEAR {
             return None;
         }
         if last_start <= first_end {
@@ -186,5 +211,46 @@ impl YearTable {
             return true;
         }
         ends.changes_across_years(self)
+    }
+
+    /// A year in which the instant comes before the other one of the year that lies at the distance.
+    fn year_before(&self, other: &YearTable, distance: i32) -> Option<i32>
+        requires { IsNear distance }
+        ensures some { IfSome result (λ y. instant_in self.now.0 y <ℤ instant_in other.now.0 (y +ℤ distance)) }
+        ensures bound { IfSome result (λ y. (pos 1972 ≤ℤ y) × (y ≤ℤ pos 2000)) }
+        ensures none { IfNone result ((y : ℤ) → instant_in other.now.0 (y +ℤ distance) ≤ℤ instant_in self.now.0 y) }
+    {
+        for index in 0..MODEL_YEARS {
+            let year = FIRST_MODEL_YEAR + i32::from(index);
+            if self.in_year(year) < other.in_year(year + distance) {
+                return Some(year);
+            }
+        }
+        None
+    }
+
+    /// Two years of different order at a distance: the start, of which this is the table, is later in the first and earlier in the second.
+    fn conflict_at(&self, ends: &YearTable, distance: i32) -> Option<(i32, i32, i32)>
+        requires { IsNear distance }
+        ensures some { IfSome result (λ c. IsConflict (instant_in self.now.0) (instant_in ends.now.0) c.0 c.1 c.2) }
+        ensures none { IfNone result ((x y : ℤ) → ¬ IsConflict (instant_in self.now.0) (instant_in ends.now.0) x y distance) }
+    {
+        let end_year = ends.year_before(self, -distance)?;
+        let earlier = self.year_before(ends, distance)?;
+        Some((end_year - distance, earlier, distance))
+    }
+
+    /// Two years and a distance at which starts, of which this is the table, and ends change their order.
+    pub(super) fn conflict(&self, ends: &YearTable) -> Option<(i32, i32, i32)>
+        ensures some { IfSome result (λ c. IsConflict (instant_in self.now.0) (instant_in ends.now.0) c.0 c.1 c.2) }
+        ensures none { IfNone result ((k : ℤ) → IsNear k → (x y : ℤ) → ¬ IsConflict (instant_in self.now.0) (instant_in ends.now.0) x y k) }
+    {
+        if let Some(found) = self.conflict_at(ends, 0) {
+            return Some(found);
+        }
+        if let Some(found) = self.conflict_at(ends, 1) {
+            return Some(found);
+        }
+        self.conflict_at(ends, -1)
     }
 }

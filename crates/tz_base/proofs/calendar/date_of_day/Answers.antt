@@ -2,7 +2,7 @@
 use Rattle.std.proofs.Common.{arith, rules}
 use Rattle.std.proofs.lemmas.Int.{to_z-of_z}
 use mir.Syntax.{w32}
-use Rattle.tz_base.proofs.DateLemmas.{year_before_january, year_from_january, date_before_january, date_from_january}
+use Rattle.tz_base.proofs.DatesOfDays.{year_before_january, year_from_january, date_before_january, date_from_january}
 use Rattle.tz_base.proofs.calendar.date_of_day.Goals as goal
 
 pub year_of_moved-requires : goal.year_of_moved-requires

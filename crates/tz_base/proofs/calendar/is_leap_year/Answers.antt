@@ -1,8 +1,12 @@
--- The rest by 100 is that of the year without its sign.
-use Rattle.std.proofs.Common.{rules}
-use Rattle.tz_base.specs.Days.{is_leap}
+-- Leap years repeat after 400 years.
+use Rattle.std.proofs.Common.{sym, ◌∙◌}
+use Rattle.std.proofs.lemmas.Int.{to_z-of_z}
+use mir.Syntax.{w32}
+use Rattle.tz_base.proofs.YearStarts.{is_leap-moved}
 use Rattle.tz_base.proofs.calendar.is_leap_year.Goals as goal
 
-pub returns-then-years-eq0-2 : goal.returns-then-years-eq0-2
-unfolding is_leap
-returns-then-years-eq0-2 c = search rules
+pub returns : goal.returns
+returns c =
+    let same = to_z-of_z w32 c.args.year c.ranges.year in
+    let moved = rw same at c.moved_year.ensures.value in
+    c.is_moved_year_leap.ensures ∙ sym (is_leap-moved c.args.year c.moved_year.result 5368710 (sym moved))

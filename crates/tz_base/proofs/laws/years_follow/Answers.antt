@@ -1,5 +1,5 @@
 -- The closed form gains the year's length.
-use Rattle.tz_base.proofs.DayLemmas.{first_day-next}
+use Rattle.tz_base.proofs.DaysOfYears.{first_day-next}
 use Rattle.tz_base.proofs.laws.years_follow.Goals as goal
 
 pub returns : goal.returns

@@ -1,5 +1,5 @@
 -- The closed form has the period.
-use Rattle.tz_base.proofs.OrderLemmas.{is_leap-period, first_day-period, week_day_of-period}
+use Rattle.tz_base.proofs.DateOrder.{is_leap-period, first_day-period, week_day_of-period}
 use Rattle.tz_base.proofs.laws.years_repeat.Goals as goal
 
 pub returns : goal.returns

@@ -1,6 +1,6 @@
 -- Two years are more than twice ten days.
 use Rattle.tz_rule.specs.Alternate.{start_of, end_of}
-use Rattle.tz_rule.proofs.DaylightLemmas.{far_over, far_to_come}
+use Rattle.tz_rule.proofs.DaylightSpans.{far_over, far_to_come}
 use Rattle.tz_rule.proofs.YearlyInstants.{IsYearly-start_of, IsYearly-end_of}
 use Rattle.tz_rule.proofs.laws.far_starts_and_ends_are_over_or_to_come.Goals as goal
 

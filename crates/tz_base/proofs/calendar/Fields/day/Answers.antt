@@ -3,7 +3,7 @@ use Rattle.std.proofs.Common.{arith, rules}
 use Rattle.std.proofs.lemmas.Int.{ints, to_z-of_z}
 use mir.Syntax.{w32}
 use mir.Val.{SFits}
-use Rattle.tz_base.proofs.DayLemmas.{day_in_year, first_day_bounds}
+use Rattle.tz_base.proofs.DaysOfYears.{day_in_year, first_day_bounds}
 use Rattle.tz_base.proofs.calendar.Fields.day.Goals as goal
 
 pub returns-clause-bound : goal.returns-clause-bound

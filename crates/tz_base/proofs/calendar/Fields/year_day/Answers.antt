@@ -3,7 +3,7 @@ use Rattle.std.proofs.Common.{arith, rules}
 use Rattle.std.proofs.lemmas.Int.{ints, to_z-of_z}
 use mir.Syntax.{w32}
 use mir.Val.{SFits}
-use Rattle.tz_base.proofs.DayLemmas.{day_number-is}
+use Rattle.tz_base.proofs.DaysOfYears.{day_number-is}
 use Rattle.tz_base.proofs.calendar.Fields.year_day.Goals as goal
 
 pub returns-clause-value : goal.returns-clause-value

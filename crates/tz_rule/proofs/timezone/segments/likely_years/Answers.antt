@@ -5,4 +5,4 @@ use Rattle.tz_rule.proofs.InnerTurns.{IsLikelyYear-by_average}
 use Rattle.tz_rule.proofs.timezone.segments.likely_years.Goals as goal
 
 pub returns-clause-likely : goal.returns-clause-likely
-returns-clause-likely c = IsLikelyYear-by_average c.args.unix_time _ _ (omega (arith, ints, c.if-unix_time.false, c.if-unix_time-gt-GREATEST_DISTANCE.false)) refl
+returns-clause-likely c = IsLikelyYear-by_average c.args.unix_time _ _ (omega (arith, ints, c.moved_seconds.ensures, c.if-unix_time.false, c.if-unix_time-gt-GREATEST_DISTANCE.false)) refl

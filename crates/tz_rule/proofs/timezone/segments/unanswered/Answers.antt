@@ -10,29 +10,31 @@ pub returns-then-unix_time-first : goal.returns-then-unix_time-first
 unfolding IsRuleType
 returns-then-unix_time-first c =
     let u = c.args.unix_time in
-    let first = c.first_answered-first.ensures in
-    let last : to_z w64 (of_z w64 (to_z w64 (of_z w64 c.first_answered-first.result) -ℤ pos 1)) ≡ c.first_answered-first.result -ℤ pos 1 = omega (arith, ints, first.bound) in
+    let first = c.new_year-first.ensures in
+    let last : to_z w64 (of_z w64 (to_z w64 (of_z w64 c.new_year-first.result) -ℤ pos 1)) ≡ c.new_year-first.result -ℤ pos 1 = omega (arith, ints, first.bound) in
     let before = c.if-unix_time-first.true in
     λ rule. record {
       within = (omega (arith, ints), omega (arith, ints, last, before));
       holds = λ v from to t is. omega (arith, ints, first.value, last, to, (answered_from_years v is.0).0);
       from_is = λ later. absurd (later refl);
       last_is = λ _. inr (inl (omega (arith, ints, first.value, last)));
+      type_is = tt;
     }
 
 pub returns : goal.returns
 unfolding IsRuleType
 returns c =
     let u = c.args.unix_time in
-    let first = c.first_answered-first.ensures in
-    let end = c.end_of_answers.ensures in
-    let from : to_z w64 (of_z w64 c.end_of_answers.result) ≡ c.end_of_answers.result = omega (arith, ints, end.bound) in
+    let first = c.new_year-first.ensures in
+    let end = c.new_year.ensures in
+    let from : to_z w64 (of_z w64 c.new_year.result) ≡ c.new_year.result = omega (arith, ints, end.bound) in
     let begun = c.if-unix_time-first.false in
-    let over : c.end_of_answers.result ≤ℤ u = by_lt_z u c.end_of_answers.result
+    let over : c.new_year.result ≤ℤ u = by_lt_z u c.new_year.result
     (λ less. absurd (c.requires (answered_between u (omega (arith, ints, first.value, begun)) (omega (arith, ints, end.value, less))))) (λ h. h) in
     λ rule. record {
       within = (omega (arith, ints, from, over), omega (arith, ints));
       holds = λ v low high t is. omega (arith, ints, end.value, from, low, (answered_from_years v is.0).1);
       from_is = λ _. inr (inr (omega (arith, ints, end.value, from)));
       last_is = λ earlier. absurd (earlier refl);
+      type_is = tt;
     }

@@ -4,7 +4,7 @@ use Rattle.std.proofs.lemmas.Int.{ints}
 use mir.Syntax.{w32}
 use mir.Val.{SFits}
 use Rattle.tz_base.specs.Days.{is_leap}
-use Rattle.tz_base.proofs.YearLemmas.{first_day-moved, is_leap-moved, days_of_years_bounds}
+use Rattle.tz_base.proofs.YearStarts.{first_day-moved, is_leap-moved, days_of_years_bounds}
 use Rattle.tz_rule.specs.Kinds.{kind_of, year_kind}
 use Rattle.tz_rule.proofs.Weeks.{week_day_of_year-moved}
 use Rattle.tz_rule.proofs.timezone.year_kind.moved_year_start.Goals as goal

@@ -4,7 +4,7 @@ use Rattle.std.proofs.lemmas.Int.{ints, to_z-of_z}
 use mir.Syntax.{w32, w64}
 use Rattle.tz_rule.specs.Alternate.{start_of, end_of}
 use Rattle.tz_rule.proofs.YearlyInstants.{IsYearly-start_of, IsYearly-end_of}
-use Rattle.tz_rule.proofs.DaylightLemmas.{daylight_across_years, daylight_to_end, daylight_from_start, no_daylight_across_years}
+use Rattle.tz_rule.proofs.DaylightSpans.{daylight_across_years, daylight_to_end, daylight_from_start, no_daylight_across_years}
 use Rattle.tz_rule.proofs.WeakerClauses.{MatchBool-le_z}
 use Rattle.tz_rule.proofs.timezone.alternate.AlternateTime.is_daylight_across_years.Goals as goal
 

@@ -4,7 +4,7 @@ use Rattle.std.proofs.lemmas.Int.{ints, to_z-of_z}
 use mir.Syntax.{w32, w64}
 use Rattle.tz_rule.specs.Alternate.{start_of, end_of}
 use Rattle.tz_rule.proofs.YearlyInstants.{IsYearly-start_of, IsYearly-end_of}
-use Rattle.tz_rule.proofs.DaylightLemmas.{daylight_in_order, no_daylight_in_order}
+use Rattle.tz_rule.proofs.DaylightSpans.{daylight_in_order, no_daylight_in_order}
 use Rattle.tz_rule.proofs.WeakerClauses.{MatchBool-weaker}
 use Rattle.tz_rule.proofs.timezone.alternate.AlternateTime.is_daylight_in_order.Goals as goal
 

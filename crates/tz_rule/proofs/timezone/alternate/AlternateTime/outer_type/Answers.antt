@@ -1,4 +1,4 @@
--- The type of the span is that of the instant.
+-- The type of the segment is that of the instant.
 use Rattle.std.proofs.lemmas.Int.{to_z-of_z}
 use mir.Syntax.{w64}
 use Rattle.tz_rule.specs.Rule.{IsRuleType}

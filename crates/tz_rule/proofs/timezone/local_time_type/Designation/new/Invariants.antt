@@ -3,10 +3,10 @@ use Rattle.std.proofs.Common.{◌≡◌, ℕ, ◌<◌, ◌≤◌, length, get_or
 use Rattle.tz_rule.specs.LocalTimeType.{IsDesignationByte}
 use Rattle.tz_rule.proofs.timezone.local_time_type.Designation.new.Given as goal
 
-abbrev pub invariant-loop-place : goal.invariant-loop-place
-invariant-loop-place l = record {
+abbrev pub invariant-loop-index : goal.invariant-loop-index
+invariant-loop-index l = record {
   size : length l.bytes ≡ 7;
-  copied : (k : ℕ) → k < l.place → get_or l.bytes k 0 ≡ get_or l.name k 0;
-  zeros : (k : ℕ) → l.place ≤ k → get_or l.bytes k 0 ≡ 0;
-  are : (k : ℕ) → k < l.place → IsDesignationByte (get_or l.name k 0);
+  copied : (k : ℕ) → k < l.index → get_or l.bytes k 0 ≡ get_or l.name k 0;
+  zeros : (k : ℕ) → l.index ≤ k → get_or l.bytes k 0 ≡ 0;
+  are : (k : ℕ) → k < l.index → IsDesignationByte (get_or l.name k 0);
 }

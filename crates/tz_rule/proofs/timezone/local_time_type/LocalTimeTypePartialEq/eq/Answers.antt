@@ -5,7 +5,7 @@ use Rattle.std.proofs.lemmas.Int.{ints}
 use mir.Syntax.{w32}
 use mir.Val.{SFits}
 use Rattle.tz_rule.specs.Same.{Decides-beq}
-use Rattle.tz_rule.proofs.SameLemmas.{same_type-shown}
+use Rattle.tz_rule.proofs.KeptEquality.{same_type-shown}
 use Rattle.tz_rule.proofs.timezone.local_time_type.LocalTimeTypePartialEq.eq.Goals as goal
 use Rattle.tz_rule.proofs.timezone.local_time_type.LocalTimeTypePartialEq.eq.Goals.{then-self-other, else-self-other}
 

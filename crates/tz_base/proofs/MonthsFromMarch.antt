@@ -1,0 +1,131 @@
+-- The month and the day of each day of a year that begins on March 1st, by computing them all.
+use Rattle.std.proofs.Common.{◌≡◌, ℕ, ◌+◌, ◌-◌, ◌<◌, ◌≤◌, Bool, true, false, cond, eqb, ltb, leb, ◌&&◌, List, [], ◌∷◌, get_or, slice_index_or, refl, arith, ℤ, pos}
+use Rattle.std.specs.Ordering.{int_eq}
+use Rattle.std.proofs.lemmas.Bool.Decides.{nat_tests, Decides-int_eq}
+use Rattle.tz_base.proofs.TestsBelow.{all_below, passes_at}
+use Rattle.tz_base.specs.Cycles.{march_month, march_month_day}
+use Rattle.tz_base.specs.Days.{month_length, months_length}
+
+-- the months' tables
+is_right_entry : Bool → List ℤ → ℕ → Bool
+is_right_entry leap table index = int_eq (slice_index_or table index (pos 0)) (pos (months_length leap index)) && leb (months_length leap index) 335
+
+abbrev normal_table : List ℤ
+normal_table = pos 0 ∷ pos 31 ∷ pos 59 ∷ pos 90 ∷ pos 120 ∷ pos 151 ∷ pos 181 ∷ pos 212 ∷ pos 243 ∷ pos 273 ∷ pos 304 ∷ pos 334 ∷ []
+
+abbrev leap_table : List ℤ
+leap_table = pos 0 ∷ pos 31 ∷ pos 60 ∷ pos 91 ∷ pos 121 ∷ pos 152 ∷ pos 182 ∷ pos 213 ∷ pos 244 ∷ pos 274 ∷ pos 305 ∷ pos 335 ∷ []
+
+right_normal : all_below (is_right_entry false normal_table) 12 ≡ true
+unfolding all_below is_right_entry month_length months_length
+right_normal = refl
+
+right_leap : all_below (is_right_entry true leap_table) 12 ≡ true
+unfolding all_below is_right_entry month_length months_length
+right_leap = refl
+
+told_entry : (leap : Bool) (table : List ℤ) (index : ℕ) → is_right_entry leap table index ≡ true
+    → (slice_index_or table index (pos 0) ≡ pos (months_length leap index)) × (months_length leap index ≤ 335)
+unfolding is_right_entry
+told_entry leap table index h =
+    let entry = slice_index_or table index (pos 0) in
+    let same : int_eq entry (pos (months_length leap index)) ≡ true = grind (arith, nat_tests) in
+    ((Decides-int_eq entry (pos (months_length leap index))).0 same, grind (arith, nat_tests))
+
+pub months_length-normal : (index : ℕ) → index < 12 → (slice_index_or normal_table index (pos 0) ≡ pos (months_length false index)) × (months_length false index ≤ 335)
+months_length-normal index h = told_entry false normal_table index (passes_at (is_right_entry false normal_table) 12 index right_normal h)
+
+pub months_length-leap : (index : ℕ) → index < 12 → (slice_index_or leap_table index (pos 0) ≡ pos (months_length true index)) × (months_length true index ≤ 335)
+months_length-leap index h = told_entry true leap_table index (passes_at (is_right_entry true leap_table) 12 index right_leap h)
+
+pub months_length-bound : (leap : Bool) (index : ℕ) → index < 12 → months_length leap index ≤ 335
+months_length-bound false index h = (months_length-normal index h).1
+months_length-bound true index h = (months_length-leap index h).1
+
+-- the table of days from March 1st, where January and February come last
+abbrev march_table : List ℕ
+march_table = 306 ∷ 337 ∷ 0 ∷ 31 ∷ 61 ∷ 92 ∷ 122 ∷ 153 ∷ 184 ∷ 214 ∷ 245 ∷ 275 ∷ []
+
+is_right_march_place : Bool → ℕ → Bool
+is_right_march_place leap place =
+    leb (get_or march_table place 0) 337
+    && eqb (months_length leap place + cond (ltb place 2) 306 0) (get_or march_table place 0 + cond (ltb place 2) 0 (cond leap 60 59))
+
+right_march : (leap : Bool) → all_below (is_right_march_place leap) 12 ≡ true
+unfolding all_below is_right_march_place month_length months_length
+right_march false = refl
+right_march true = refl
+
+-- how many days lie between March 1st and the first of the month at a place, counted from January
+pub record IsFromMarch (leap : Bool) (place days : ℕ) : Type 0 where
+  pub early : place < 2 → days ≡ 306 + months_length leap place
+  pub late : 2 ≤ place → days + cond leap 60 59 ≡ months_length leap place
+  pub bound : days ≤ 337
+
+pub days_from_march-is : (leap : Bool) (place : ℕ) → place < 12 → IsFromMarch leap place (get_or march_table place 0)
+unfolding is_right_march_place
+days_from_march-is leap place h =
+    let right = passes_at (is_right_march_place leap) 12 place (right_march leap) h in
+    record { early = λ small. grind (arith, nat_tests); late = λ large. grind (arith, nat_tests); bound = grind (arith, nat_tests) }
+
+-- a day before January lies in the month that is found, after the months before it
+is_right_before_january : Bool → ℕ → Bool
+is_right_before_january leap day =
+    let m = march_month day in
+    let d = march_month_day day in
+    leb 3 m && leb m 12 && eqb (months_length leap (m - 1) + d) (cond leap 60 59 + day) && ltb d (month_length leap m)
+
+-- a day from January 1st on likewise; the last day is one of leap years alone
+is_right_from_january : Bool → ℕ → Bool
+is_right_from_january leap day =
+    let m = march_month (306 + day) in
+    let d = march_month_day (306 + day) in
+    leb 13 m && leb m 14 && eqb (months_length leap (m - 13) + d) day && (ltb d (month_length leap (m - 12)))
+
+before_january : (leap : Bool) → all_below (is_right_before_january leap) 306 ≡ true
+unfolding all_below is_right_before_january march_month march_month_day month_length months_length
+before_january false = refl
+before_january true = refl
+
+from_january_normal : all_below (is_right_from_january false) 59 ≡ true
+unfolding all_below is_right_from_january march_month march_month_day month_length months_length
+from_january_normal = refl
+
+from_january_leap : all_below (is_right_from_january true) 60 ≡ true
+unfolding all_below is_right_from_january march_month march_month_day month_length months_length
+from_january_leap = refl
+
+-- what the month and the day of a day are, before January
+pub record IsBeforeJanuary (leap : Bool) (day : ℕ) : Type 0 where
+  pub low : 3 ≤ march_month day
+  pub high : march_month day ≤ 12
+  pub place : months_length leap (march_month day - 1) + march_month_day day ≡ cond leap 60 59 + day
+  pub inside : march_month_day day < month_length leap (march_month day)
+
+-- and from January 1st on
+pub record IsFromJanuary (leap : Bool) (day : ℕ) : Type 0 where
+  pub low : 13 ≤ march_month day
+  pub high : march_month day ≤ 14
+  pub place : months_length leap (march_month day - 13) + march_month_day day + 306 ≡ day
+  pub inside : march_month_day day < month_length leap (march_month day - 12)
+
+pub month_before_january : (leap : Bool) (day : ℕ) → day < 306 → IsBeforeJanuary leap day
+unfolding is_right_before_january
+month_before_january leap day h =
+    let right = passes_at (is_right_before_january leap) 306 day (before_january leap) h in
+    grind (arith, nat_tests)
+
+from_january : (leap : Bool) (day : ℕ) → day < 60 → (day ≡ 59 → leap ≡ true) → is_right_from_january leap day ≡ true
+from_january true day h last = passes_at (is_right_from_january true) 60 day from_january_leap h
+from_january false day h last = passes_at (is_right_from_january false) 59 day from_january_normal (below day h last)
+  where
+    below : (day : ℕ) → day < 60 → (day ≡ 59 → false ≡ true) → day < 59
+    below day h last = grind arith
+
+told_from_january : (leap : Bool) (d day : ℕ) → 306 + d ≡ day → is_right_from_january leap d ≡ true → IsFromJanuary leap day
+unfolding is_right_from_january
+told_from_january leap d day same right = rw (← same) (grind (arith, nat_tests))
+
+pub month_from_january : (leap : Bool) (day : ℕ) → 306 ≤ day → day ≤ 365 → (day ≡ 365 → leap ≡ true) → IsFromJanuary leap day
+month_from_january leap day low high last =
+    told_from_january leap (day - 306) day (omega arith) (from_january leap (day - 306) (omega arith) (λ e. last (omega arith)))

@@ -1,0 +1,67 @@
+//! The parts of an alternate rule, their ranges, and the tables that they make.
+
+ghost use Rattle.std.specs.Prelude.{◌≡◌, OnOk, IfErr, MatchBool};
+ghost use Rattle.tz_rule.specs.Alternate.{IsRuleOffset, IsRuleTime, IsInRuleRange, IsRangeFault, AreRuleDays};
+
+use super::year_table::YearTable;
+use super::{LocalTimeType, RuleDay};
+use tz_base::error::timezone::TransitionRuleError;
+
+/// Whether the offset is above -25 and below 26 hours.
+fn is_rule_offset(offset: i32) -> bool
+    ensures { MatchBool result (IsRuleOffset offset) (¬ IsRuleOffset offset) }
+{
+    -90_000 < offset && offset < 93_600
+}
+
+/// Whether the time is less than a week either way.
+fn is_rule_time(time: i32) -> bool
+    ensures { MatchBool result (IsRuleTime time) (¬ IsRuleTime time) }
+{
+    -604_800 < time && time < 604_800
+}
+
+/// The six parts of an alternate rule.
+#[derive(Clone, Copy)]
+pub(super) struct Parts {
+    pub(super) std: LocalTimeType,
+    pub(super) dst: LocalTimeType,
+    pub(super) dst_start: RuleDay,
+    pub(super) dst_start_time: i32,
+    pub(super) dst_end: RuleDay,
+    pub(super) dst_end_time: i32,
+}
+
+impl Parts {
+    ghost use Rattle.tz_rule.specs.Parts.{rule_of};
+    ghost use Rattle.tz_rule.specs.YearTables.{start_table, end_table};
+
+    /// Checks the offsets and the times, in the order of their errors.
+    pub(super) fn check_range(&self) -> Result<(), TransitionRuleError>
+        ensures ok { OnOk result (IsInRuleRange (rule_of self.now)) }
+        ensures err { IfErr result (IsRangeFault (rule_of self.now)) }
+    {
+        if !is_rule_offset(self.std.ut_offset()) {
+            return Err(TransitionRuleError::InvalidStdUtcOffset);
+        }
+        if !is_rule_offset(self.dst.ut_offset()) {
+            return Err(TransitionRuleError::InvalidDstUtcOffset);
+        }
+        if !is_rule_time(self.dst_start_time) || !is_rule_time(self.dst_end_time) {
+            return Err(TransitionRuleError::InvalidDstStartEndTime);
+        }
+        Ok(())
+    }
+
+    /// How many seconds after 00:00 UTC of January 1st daylight saving time starts and ends, by the kind of the year.
+    pub(super) fn tables(&self) -> (YearTable, YearTable)
+        requires { IsInRuleRange (rule_of self.now) }
+        ensures starts { result.0.0 ≡ start_table (rule_of self.now) }
+        ensures ends { result.1.0 ≡ end_table (rule_of self.now) }
+        ensures days { AreRuleDays (rule_of self.now) }
+    {
+        let starts = YearTable::of_day(&self.dst_start, self.dst_start_time - self.std.ut_offset());
+        let ends = YearTable::of_day(&self.dst_end, self.dst_end_time - self.dst.ut_offset());
+        (starts, ends)
+    }
+}

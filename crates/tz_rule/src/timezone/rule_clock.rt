@@ -1,0 +1,75 @@
+//! The clock of a rule: its type at an instant and around it, and where daylight saving time starts and ends.
+
+ghost use Rattle.std.specs.Prelude.{◌≡◌, ◌≢◌, ◌+ℤ◌, ◌≤ℤ◌, ℤ, pos, negsuc, IfOk, IfErr, IfSome, MatchOption};
+ghost use Rattle.tz_rule.specs.Alternate.{start_of, end_of, IsNearYear};
+ghost use Rattle.tz_rule.specs.AlternateSegments.{IsAlternateSegment};
+ghost use Rattle.tz_rule.specs.LocalTimeType.{LocalTimeType};
+ghost use Rattle.tz_rule.specs.Rule.{IsRuleType};
+ghost use Rattle.tz_rule.specs.RuleSegments.{HasTypeOf, IsRuleChange};
+
+use super::alternate_segment::AlternateSegment;
+use super::rule_segment::RuleSegment;
+use super::{AlternateTime, LocalTimeType, TransitionRule};
+use tz_base::error::TzError;
+
+/// The type of the rule at an instant. An alternate rule has one in the UTC years that are two or more from both ends of `i32`.
+#[tactic(auto, unfolding(crate::specs::Rule::IsRuleType))]
+#[inline(always)]
+pub fn find_local_time_type(
+    rule: &TransitionRule,
+    unix_time: i64,
+) -> Result<&LocalTimeType, TzError>
+    ensures ok { IfOk result (λ t. IsRuleType rule.now unix_time t.now) }
+    ensures err { IfErr result (λ e. (e ≡ TzError.OutOfRange) × ((t : LocalTimeType) → ¬ IsRuleType rule.now unix_time t)) }
+{
+    match rule {
+        TransitionRule::Fixed(local_time_type) => Ok(local_time_type),
+        TransitionRule::Alternate(rule) => rule.find_local_time_type(unix_time),
+    }
+}
+
+/// The instant at which daylight saving time starts in a year.
+pub fn start(rule: &AlternateTime, year: i32) -> i64
+    ensures value { result ≡ start_of rule.now year }
+    ensures bound { IsNearYear result year }
+{
+    rule.turn_in(false, year)
+}
+
+/// The instant at which daylight saving time ends in a year.
+pub fn end(rule: &AlternateTime, year: i32) -> i64
+    ensures value { result ≡ end_of rule.now year }
+    ensures bound { IsNearYear result year }
+{
+    rule.turn_in(true, year)
+}
+
+/// A segment in which the instant is expected to lie, which is for the caller to test. Some instants that have a type are given none.
+#[inline(always)]
+pub fn likely_segment(rule: &AlternateTime, unix_time: i64) -> Option<AlternateSegment>
+    ensures of { IfSome result (λ s. IsAlternateSegment rule.now s) }
+{
+    rule.likely_segment(unix_time)
+}
+
+/// The segment of the rule around an instant: the first and the last instant through which it has one type, or none.
+#[tactic(auto, unfolding(crate::specs::Rule::IsRuleType))]
+#[inline(always)]
+pub fn segment_at(rule: &TransitionRule, unix_time: i64) -> RuleSegment<'_>
+    ensures within { (result.from ≤ℤ unix_time) × (unix_time ≤ℤ result.last) }
+    ensures holds { (v : ℤ) → result.from ≤ℤ v → v ≤ℤ result.last
+        → MatchOption result.local_time_type ((t : LocalTimeType) → ¬ IsRuleType rule.now v t) (λ t. IsRuleType rule.now v t.now) }
+    ensures from { (result.from ≢ negsuc 9223372036854775807) → IsRuleChange rule.now result.from }
+    ensures last { (result.last ≢ pos 9223372036854775807) → IsRuleChange rule.now (result.last +ℤ pos 1) }
+    ensures is_daylight { HasTypeOf rule.now result }
+{
+    match rule {
+        TransitionRule::Fixed(local_time_type) => RuleSegment {
+            from: i64::MIN,
+            last: i64::MAX,
+            local_time_type: Some(local_time_type),
+            is_daylight: false,
+        },
+        TransitionRule::Alternate(rule) => rule.segment(unix_time),
+    }
+}
