@@ -12,9 +12,9 @@ use Rattle.tz_zone.specs.LeapTime.{IsInstant, IsBeforeStart, IsLeapTimeRefused, 
 use Rattle.tz_zone.specs.ValidZone.{AreLeapSeconds, IsSoundTable}
 use Rattle.tz_zone.specs.ClockSegments.{IsReachedAt, IsCursor, IsAtCursor}
 use Rattle.tz_zone.specs.TableChanges.{IsChangeByRule, IsTableChange, IsFar, HasTableEnds, IsSpanEnd}
-use Rattle.tz_zone.specs.declared.inner.cursor.Cursor.{Cursor}
+use Rattle.tz_zone.specs.declared.clock.cursor.Cursor.{Cursor}
 use Rattle.tz_zone.proofs.LeapTimes.{one_leap_time, past_later, not_refused_within, IsInstant-from_bounds, instant_bounds}
-use Rattle.tz_zone.proofs.ClockSegmentLemmas.{plain_leap, leap_unless_refused, leap_time_low, moment_up_to, answered_from_moment, reached_at}
+use Rattle.tz_zone.proofs.TypesAtCursors.{plain_leap, leap_unless_refused, leap_time_low, moment_up_to, answered_from_moment, reached_at}
 
 -- an instant lies before a truncated start or it does not
 pub before_start_or_not : (leaps : List LeapSecond) (u : ℤ) → IsBeforeStart leaps u ⊎ ¬ IsBeforeStart leaps u

@@ -4,7 +4,7 @@ use Rattle.tz_rule.specs.LocalTimeType.{LocalTimeType}
 use Rattle.tz_zone.specs.Table.{Zone}
 use Rattle.tz_zone.specs.Clock.{IsClock, HasNoType}
 use Rattle.tz_zone.specs.declared.timezone.segment.Segment.{Segment as KeptSegment}
-use Rattle.tz_zone.specs.declared.timezone.change.Change.{Change as KeptChange}
+use Rattle.tz_zone.specs.declared.clock.change.Change.{Change as KeptChange}
 
 -- what contracts see of a segment: its first and its last instant, and its type, if it has one
 pub record Segment : Type 0 where

@@ -42,6 +42,12 @@ IsTypeOfLast z k t =
     ((k ≡ 0) × IsTypeAt z 0 t)
     ⊎ ((k ≢ 0) × (change : Transition) × (slice_get z.transitions (k - 1) ≡ Some change) × IsTypeAt z change.type_index t)
 
+-- the number that the transition before a place names, or 0 where there is none
+abbrev pub IsNumberBefore : List Transition → ℕ → ℕ → Type 0
+IsNumberBefore transitions k i =
+    ((k ≡ 0) × (i ≡ 0))
+    ⊎ ((k ≢ 0) × (change : Transition) × (slice_get transitions (k - 1) ≡ Some change) × (i ≡ change.type_index))
+
 -- the last transition
 abbrev pub IsLast : List Transition → Transition → Type 0
 IsLast transitions last = slice_get transitions (length transitions - 1) ≡ Some last

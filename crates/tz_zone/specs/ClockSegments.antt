@@ -3,8 +3,8 @@ use Rattle.std.specs.Prelude.{◌≡◌, ◌≢◌, ℕ, ◌-◌, ◌⊎◌, ℤ
 use Rattle.tz_zone.specs.Table.{Transition, LeapSecond, Zone}
 use Rattle.tz_zone.specs.LeapTime.{IsBeforeStart, IsLeapTime, IsEffect}
 use Rattle.tz_zone.specs.Clock.{AreReached, AreAhead, IsClock, HasNoType}
-use Rattle.tz_zone.specs.declared.inner.cursor.Cursor.{Cursor}
-use Rattle.tz_zone.specs.declared.inner.clock_segment.ClockSegment.{ClockSegment}
+use Rattle.tz_zone.specs.declared.clock.cursor.Cursor.{Cursor}
+use Rattle.tz_zone.specs.declared.clock.segment.ClockSegment.{ClockSegment}
 
 -- this many transitions are reached at an instant, and the others are ahead
 pub record IsReachedAt (z : Zone) (u : ℤ) (k : ℕ) : Type 0 where

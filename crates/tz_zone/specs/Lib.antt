@@ -12,8 +12,11 @@ pub mod ZoneRef
 pub mod ZoneSeen
 pub mod Segments
 pub mod ClockSegments
+pub mod WindowTypes
 pub mod TableChanges
 pub mod Changes
+pub mod ChangesInTurn
+pub mod NextChanges
 pub mod Runs
 pub mod SameZone
 pub mod Bytes

@@ -7,8 +7,8 @@ use Rattle.tz_rule.specs.declared.timezone.rule.TransitionRule.TheVariants.{Fixe
 use Rattle.tz_zone.specs.Table.{LeapSecond, Zone}
 use Rattle.tz_zone.specs.LeapTime.{IsLeapTime}
 use Rattle.tz_zone.specs.Clock.{IsClock}
-use Rattle.tz_zone.specs.declared.inner.segment.Segment.{Segment}
-use Rattle.tz_zone.specs.declared.inner.span.LeapSpan.{LeapSpan}
+use Rattle.tz_zone.specs.declared.numbered_segments.segment.Segment.{Segment}
+use Rattle.tz_zone.specs.declared.numbered_segments.leap_span.LeapSpan.{LeapSpan}
 
 -- the types of a rule
 abbrev pub rule_types : Option TransitionRule → List LocalTimeType

@@ -6,7 +6,7 @@ use Rattle.tz_rule.specs.declared.timezone.rule.TransitionRule.{TransitionRule}
 use Rattle.tz_zone.specs.Table.{LeapSecond, Zone}
 use Rattle.tz_zone.specs.LeapTime.{IsBeforeStart, IsMomentOf}
 use Rattle.tz_zone.specs.ClockSegments.{IsReachedAt, TakesEffectAt}
-use Rattle.tz_zone.specs.declared.inner.cursor.Cursor.{Cursor}
+use Rattle.tz_zone.specs.declared.clock.cursor.Cursor.{Cursor}
 
 -- all transitions are reached at an instant, so that the rule tells the type
 abbrev pub IsAfterTransitions : Zone → ℤ → Type 0

@@ -1,7 +1,7 @@
 -- A zone whose transitions are seen through a view.
 use Rattle.std.specs.Prelude.{List}
 use Rattle.tz_zone.specs.Table.{Transition, Zone, zone_with}
-use Rattle.tz_zone.specs.declared.inner.parts.OtherParts.{OtherParts}
+use Rattle.tz_zone.specs.declared.table.parts.OtherParts.{OtherParts}
 
 -- the zone of these transitions and of the parts beside them
 abbrev pub zone_seen : List Transition → OtherParts → Zone

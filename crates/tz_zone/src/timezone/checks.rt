@@ -7,7 +7,7 @@ ghost use Rattle.tz_zone.specs.LeapTime.{IsOneSecond};
 ghost use Rattle.tz_zone.specs.ValidZone.{IsRuleTypeAt, MayBeFirst, MayFollow, FollowsAt, AreLeapSeconds, HasTypeAtPlace, RisesAtPlace, IsFirstTransitionFault, IsSoundTable, IsRuleFault, RuleAnswers, RuleAgrees, IsValidZone, IsFirstZoneFault};
 
 use super::{LeapSecond, LocalTimeType, Transition, TransitionRule};
-use crate::inner;
+use crate::leap_time;
 use tz_base::error::TzError;
 use tz_base::error::timezone::TimeZoneError;
 
@@ -93,7 +93,7 @@ fn may_follow(leap_second: &LeapSecond, next: &LeapSecond) -> bool
         && is_one_second_apart(leap_second.correction(), next.correction())
 }
 
-/// Whether the record behind a place comes later and, unless it is the table's expiry, is a leap second that may follow.
+/// Whether the record after a place comes later and, unless it is the table's expiry, is a leap second that may follow.
 fn follows_at(leap_seconds: &[LeapSecond], place: usize) -> bool
     requires { place < length leap_seconds.now }
     ensures { MatchBool result (FollowsAt leap_seconds.now place) (¬ FollowsAt leap_seconds.now place) }
@@ -137,7 +137,7 @@ fn rule_type_at<'a>(
     ensures ok { IfOk result (λ t. IsRuleTypeAt leap_seconds.now rule.now unix_leap_time t.now) }
     ensures err { IfErr result (λ e. (e ≡ TzError.OutOfRange) × ((t : LocalTimeType) → ¬ IsRuleTypeAt leap_seconds.now rule.now unix_leap_time t)) }
 {
-    match inner::effect(leap_seconds, unix_leap_time) {
+    match leap_time::effect(leap_seconds, unix_leap_time) {
         Ok(unix_time) => tz_rule::inner::find_local_time_type(rule, unix_time),
         Err(error) => Err(error),
     }
@@ -162,7 +162,7 @@ fn check_extra_rule(
         return Ok(());
     };
     let last_time = last.unix_leap_time();
-    if !inner::has_begun_at(leap_seconds, last_time) {
+    if !leap_time::has_begun_at(leap_seconds, last_time) {
         return Ok(());
     }
     let rule_type = rule_type_at(rule, leap_seconds, last_time)?;
@@ -172,7 +172,7 @@ fn check_extra_rule(
     Ok(())
 }
 
-/// Checks the parts of a zone, in the order in which their faults are named.
+/// Checks the parts of a zone, in the order of their errors.
 pub(crate) fn check_parts(
     transitions: &[Transition],
     local_time_types: &[LocalTimeType],
@@ -191,7 +191,7 @@ pub(crate) fn check_parts(
     )
 }
 
-/// Checks the parts of a zone, in the order in which their faults are named, but for transitions that are known to pass.
+/// Checks the parts of a zone, in the order of their errors, but for transitions that are known to pass.
 #[inline(always)]
 pub(crate) fn check_read_parts(
     transitions: &[Transition],

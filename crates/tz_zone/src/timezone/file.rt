@@ -19,7 +19,7 @@ const PIECE: usize = 2_000;
 /// The number of the system's error `ENOENT`.
 const NO_SUCH_FILE: i32 = 2;
 
-/// Reads a piece into the front of the buffer.
+/// Reads a piece into the beginning of the buffer.
 fn read_piece<I: Read>(input: &mut I, buffer: &mut [u8]) -> Result<usize, ReadFault>
     ensures bound { ReadsAtMost result buffer.new }
     ensures bytes { ReadConsumes (I.remaining input.old) (I.remaining input.new) result buffer.new }
@@ -56,7 +56,7 @@ pub fn read_to_end<A: Allocator, I: Read>(alloc: A, input: &mut I) -> Result<Vec
     Err(ReadFault::Failed(anyhow!("file has no end")))
 }
 
-/// Why a file could not be opened. Most paths of a search have no file, so the system's text of that fault is not looked up.
+/// Why a file could not be opened. Most paths of a search have no file, so the system's text of that error is not looked up.
 fn open_fault(error: io::Error) -> ReadFault
     ensures { IsFailed result }
 {

@@ -1,23 +1,26 @@
 //! Transitions, leap seconds and time zones.
 
-mod change;
+mod changes_after;
+mod changes_before;
 mod checks;
 pub(crate) mod file;
-mod leap_second;
 mod offsets;
 mod segment;
 mod settings;
-mod transition;
 mod zone;
 mod zone_changes;
+mod zone_data;
+mod zone_lookup;
+pub(crate) mod zone_parts;
 mod zone_ref;
 
-pub use change::Change;
+pub use crate::clock::Change;
+pub use crate::table::{LeapSecond, Transition};
+pub use changes_after::ChangesAfter;
+pub use changes_before::ChangesBefore;
 pub use file::read_file;
-pub use leap_second::LeapSecond;
 pub use segment::Segment;
 pub use settings::{DEFAULT_DIRECTORIES, TimeZoneSettings};
-pub use transition::Transition;
 pub use tz_rule::timezone::{
     AlternateTime, Julian0WithLeap, Julian1WithoutLeap, LocalTimeType, MonthWeekDay, RuleDay,
     TransitionRule,

@@ -27,14 +27,14 @@ pub const DEFAULT_DIRECTORIES: &[&str] = &[
 /// The file of the machine's local time.
 const LOCAL_TIME_FILE: &str = "/etc/localtime";
 
-/// Whether the string stands for the machine's local time.
+/// Whether the string means the machine's local time.
 fn is_local_time(text: &str) -> bool
     ensures { IsTrue result ↔ (text.now ≡ local_time) }
 {
     text == "localtime"
 }
 
-/// The name behind a colon.
+/// The name after a colon.
 fn after_colon(text: &str) -> Option<&str>
     ensures { MatchOption result (¬ Begins colon text.now) (λ name. text.now ≡ colon ∷ name.now) }
 {
@@ -121,7 +121,7 @@ fn zone_of_text<A: Allocator + Copy>(alloc: A, text: &str) -> Result<TimeZone<A>
 
 /// How a time zone is found: the directories of files, and the function that reads one.
 ///
-/// The function returns the bytes of the file at a path. It is called with each path in turn, and no more once it has returned bytes or
+/// The function returns the bytes of the file at a path. It is called with each path in turn until it returns bytes or
 /// `ReadFault::Memory`.
 #[derive(Drop)]
 pub struct TimeZoneSettings<'a, F> {
@@ -193,7 +193,7 @@ impl<'a, F: Fn(&str) -> Result<Vec<u8>, ReadFault>> TimeZoneSettings<'a, F> {
         }
     }
 
-    /// The file with the name, or `None` where it cannot be read: of a fault that nobody sees no text is made.
+    /// The file with the name, or `None` if it cannot be read. No text is made for an error that nobody sees.
     fn find_readable<A: Allocator + Copy>(
         &self,
         alloc: A,
@@ -226,12 +226,11 @@ impl<'a, F: Fn(&str) -> Result<Vec<u8>, ReadFault>> TimeZoneSettings<'a, F> {
 
     /// The time zone of a string. (POSIX.1-2017, Base Definitions, 8.3)
     ///
-    /// `localtime` is the machine's local time. A string that begins with `:` names a file, below one of the directories or, with `/` at its
-    /// front, by its path. Any other string names a file, or is a TZ string where there is no such file.
+    /// `localtime` is the machine's local time. A string that begins with `:` names a file in one of the directories, or, if a `/` follows,
+    /// by its path. Any other string names a file, or is a TZ string if there is no such file.
     ///
-    /// Refused are the empty string and one that is no TZ string (`Tz(TzString)`, `Tz(LocalTimeType)`, `Tz(TransitionRule)`), a file that is
-    /// no TZif file (`Tz`), a file of `localtime` or of a name after `:` that cannot be read (`Io`), and an allocation that fails
-    /// (`Tz(Memory)`).
+    /// Fails if the string is empty or not a TZ string (`Tz(TzString)`, `Tz(LocalTimeType)`, `Tz(TransitionRule)`), if the file is not a TZif
+    /// file (`Tz`), if the file of `localtime` or of a name after `:` cannot be read (`Io`), or if an allocation fails (`Tz(Memory)`).
     pub fn parse_posix_tz<A: Allocator + Copy>(
         &self,
         alloc: A,
@@ -279,9 +278,9 @@ impl<A: Allocator + Copy> TimeZone<A> {
 
     /// The machine's local time zone: that of the TZif file at `/etc/localtime`, whose bytes the reader returns for this path.
     ///
-    /// Refused are a file that cannot be read (`Io`), one that is no TZif file (`Tz`), and an allocation that fails (`Tz(Memory)`).
+    /// Fails if the file cannot be read (`Io`) or is not a TZif file (`Tz`), or if an allocation fails (`Tz(Memory)`).
     ///
-    /// By the reader of the machine's files:
+    /// With the reader of the machine's files:
     ///
     /// ```rust
     /// pub fn local_zone<R: Files>(rt: &R, alloc: Global) -> Result<TimeZone, Error> {
@@ -304,8 +303,8 @@ impl<A: Allocator + Copy> TimeZone<A> {
     /// The time zone of a string, with the [usual directories](DEFAULT_DIRECTORIES) and this function that reads a file. (POSIX.1-2017, Base
     /// Definitions, 8.3)
     ///
-    /// `localtime` is the machine's local time. A string that begins with `:` names a file, below one of the directories or, with `/` at its
-    /// front, by its path. Any other string names a file, or is a TZ string where there is no such file. Strings are refused as by
+    /// `localtime` is the machine's local time. A string that begins with `:` names a file in one of the directories, or, if a `/` follows,
+    /// by its path. Any other string names a file, or is a TZ string if there is no such file. The errors are those of
     /// [`TimeZoneSettings::parse_posix_tz`].
     ///
     /// The zone of a name such as `Europe/Paris`, or of a TZ string such as `CET-1CEST,M3.5.0,M10.5.0/3`:

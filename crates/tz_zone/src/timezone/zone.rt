@@ -7,7 +7,6 @@ ghost use Rattle.tz_zone.specs.ValidZone.{IsSoundTable, IsSoundTable-prop, IsVal
 use super::checks::check_read_parts;
 use super::offsets::offsets;
 use super::{LeapSecond, LocalTimeType, TimeZoneRef, Transition, TransitionRule};
-use crate::parse::tz_file::parse_tz_file;
 use std::alloc::{Allocator, Global};
 use std::fmt;
 use tz_base::error::TzError;
@@ -51,22 +50,20 @@ impl<A: Allocator + Copy> Eq for TimeZone<A> {
 }
 
 impl<A: Allocator + Copy> TimeZone<A> {
-    ghost use Rattle.std.specs.Prelude.{◌≡◌, ◌⊎◌, ℕ, pos, length, alloc_error, IfOk, IfErr, OnOk, IsTrue, MatchResult};
+    ghost use Rattle.std.specs.Prelude.{◌≡◌, ◌⊎◌, ℕ, pos, length, alloc_error, IfOk, IfErr, OnOk, IsTrue};
     ghost use Rattle.tz_base.specs.declared.error.timezone.LocalTimeTypeError.TheVariants as faults;
     ghost use Rattle.tz_rule.specs.LocalTimeType.{plain_type, IsOffset};
-    ghost use Rattle.tz_zone.specs.Table.{Zone, zone_with, zone_of_type};
+    ghost use Rattle.tz_zone.specs.Table.{zone_with, zone_of_type};
     ghost use Rattle.tz_zone.specs.Clock.{IsClock, IsLookupFault};
-    ghost use Rattle.tz_zone.specs.TzFile.{IsTzFile};
-    ghost use Rattle.tz_zone.specs.TzFileFault.{IsReadFault};
     ghost use Rattle.tz_zone.specs.ValidZone.{HasTypeAtPlace, RisesAtPlace, IsValidZone, IsFirstZoneFault};
     ghost use Rattle.tz_zone.specs.ZoneRef.{zone_of, own_zone_of};
 
     /// The zone with these parts. (RFC 8536, section 3.2)
     ///
-    /// The first fault is named: `NoLocalTimeType`; for each transition in turn `InvalidLocalTimeTypeIndex` and `InvalidTransition`, whose
-    /// times must rise; `InvalidLeapSecond`; and where there are a rule and a transition, and the last one is not before the leap seconds
-    /// begin, `OutOfRange` where it never takes effect or the rule has no type there, and `InconsistentExtraRule` where its type there is
-    /// another than the transition's. Lists that make no zone are dropped.
+    /// The parts are checked in this order: `NoLocalTimeType`; for each transition in turn `InvalidLocalTimeTypeIndex` and
+    /// `InvalidTransition`, as times must rise; `InvalidLeapSecond`. If there are a rule and a transition, and the last transition is not
+    /// before the leap-second table begins, the rule must have that transition's type where it takes effect: `OutOfRange` if it never
+    /// does or the rule has no type there, `InconsistentExtraRule` if the types differ. On an error the lists are dropped.
     pub fn new(
         transitions: Vec<Transition, A>,
         local_time_types: Vec<LocalTimeType, A>,
@@ -128,7 +125,7 @@ impl<A: Allocator + Copy> TimeZone<A> {
 
     /// The zone that has one type alone, with this offset from UTC in seconds.
     ///
-    /// `InvalidUtcOffset` refuses `i32::MIN`, before memory is taken; `Memory` tells that an allocation failed.
+    /// `InvalidUtcOffset`: the offset is `i32::MIN`, which is checked before anything is allocated. `Memory`: an allocation failed.
     pub fn fixed(alloc: A, ut_offset: i32) -> Result<Self, TzError>
         ensures ok { IfOk result (λ z. IsOffset ut_offset × (own_zone_of z ≡ zone_of_type (plain_type ut_offset))) }
         ensures err { IfErr result (λ e. ((e ≡ TzError.LocalTimeType faults.InvalidUtcOffset) × ¬ IsOffset ut_offset) ⊎ ((e ≡ TzError.Memory alloc_error) × IsOffset ut_offset)) }
@@ -152,28 +149,6 @@ impl<A: Allocator + Copy> TimeZone<A> {
             least_offset: ut_offset,
             greatest_offset: ut_offset,
         })
-    }
-
-    /// The zone that the bytes of a TZif file denote. (RFC 8536)
-    ///
-    /// Refused are bytes that are no file of version 1 to 4 (`TzFile`, and `TzString` for the footer's string), parts that make no local time
-    /// type, rule or zone (`LocalTimeType`, `TransitionRule`, `TimeZone`, `OutOfRange`), and an allocation that fails (`Memory`). All parts of
-    /// the file are found before memory is taken, so that a count beyond the bytes takes none.
-    ///
-    /// What clocks show at a Unix time in the zone of a file whose bytes were read:
-    ///
-    /// ```rust
-    /// pub fn local_time(alloc: Global, file: &[u8], unix_time: i64) -> Result<DateTime, TzError> {
-    ///     let zone = TimeZone::from_tz_data(alloc, file)?;
-    ///     DateTime::from_timespec(unix_time, 0, zone.as_ref())
-    /// }
-    /// ```
-    pub fn from_tz_data(alloc: A, bytes: &[u8]) -> Result<Self, TzError>
-        ensures ok { IfOk result (λ zone. IsTzFile bytes.now (own_zone_of zone)) }
-        ensures only { (zone : Zone) → IsTzFile bytes.now zone → MatchResult result (λ made. own_zone_of made ≡ zone) (λ e. e ≡ TzError.Memory alloc_error) }
-        ensures err { IfErr result (IsReadFault bytes.now) }
-    {
-        parse_tz_file(alloc, bytes)
     }
 
     /// A copy of the zone, on the same allocator.
@@ -210,8 +185,8 @@ impl<A: Allocator + Copy> TimeZone<A> {
 
     /// The clock's type at an instant. (RFC 8536, section 3.2)
     ///
-    /// From the last transition on it is the extra rule's. Without a rule there is none: `NoAvailableLocalTimeType`.
-    /// `OutOfRange` tells that the instant has no leap time, or lies in a year over which the rule is not defined.
+    /// From the last transition on the extra rule determines it; without a rule there is none (`NoAvailableLocalTimeType`).
+    /// `OutOfRange`: the instant has no leap time, or lies in a year in which the rule is not defined.
     pub fn find_local_time_type(&self, unix_time: i64) -> Result<&LocalTimeType, TzError>
         ensures ok { IfOk result (λ t. IsClock (own_zone_of self.now) unix_time t.now) }
         ensures err { IfErr result (IsLookupFault (own_zone_of self.now) unix_time) }

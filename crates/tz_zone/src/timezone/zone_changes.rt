@@ -1,21 +1,23 @@
 //! The segments of a zone's clock, and where it changes.
 
-use super::{Change, Segment, TimeZone, TimeZoneRef};
-use crate::inner::{self, Uncounted};
+use super::zone_parts::other_parts;
+use super::{Change, ChangesAfter, ChangesBefore, Segment, TimeZone, TimeZoneRef};
+use crate::clock;
+use crate::table::Uncounted;
 use std::alloc::Allocator;
 
 impl<'a> TimeZoneRef<'a> {
-    ghost use Rattle.std.specs.Prelude.{◌≤ℤ◌, MatchOption};
+    ghost use Rattle.std.specs.Prelude.{◌≡◌, ◌≤ℤ◌, MatchOption};
     ghost use Rattle.tz_zone.specs.Changes.{segment_of, change_of, IsTrueSegment, IsFollowing, IsPreceding, HasNoFollowing, HasNoPreceding};
+    ghost use Rattle.tz_zone.specs.ChangesInTurn.{place_after, place_before};
     ghost use Rattle.tz_zone.specs.TableChanges.{HasTableEnds};
     ghost use Rattle.tz_zone.specs.ZoneRef.{zone_of};
 
-    /// The segment around an instant, in Unix seconds. Takes no memory.
+    /// The segment around an instant, in Unix seconds. Does not allocate.
     ///
-    /// Two segments that follow one another may have one type, as at a transition to an equal type. The next segment is the one around the
-    /// second behind `last`.
+    /// The next segment is the one around `last() + 1`. It may have the same type, if a transition to an equal type lies between.
     ///
-    /// What clocks show at a Unix time of a log, whose entries keep a segment for the next ones:
+    /// What clocks show at a Unix time of a log, with the segment cached for the next entry:
     ///
     /// ```rust
     /// pub fn show_entry<'a>(
@@ -38,13 +40,13 @@ impl<'a> TimeZoneRef<'a> {
         ensures ends { HasTableEnds (zone_of self.now) (segment_of result).from (segment_of result).last }
     {
         let mut view = Uncounted::new(self.transitions());
-        let segment = inner::clock_segment_at(&mut view, inner::other_parts(self), unix_time);
+        let segment = clock::clock_segment_at(&mut view, other_parts(self), unix_time);
         Segment::new(segment.from, segment.last, segment.local_time_type)
     }
 
-    /// The first change after an instant, in Unix seconds, or `None` where the clock changes no more. Takes no memory.
+    /// The first change after an instant, in Unix seconds, or `None` if the clock does not change any more. Does not allocate.
     ///
-    /// A change to an equal type is none, and neither is one from or to where the clock has no type.
+    /// A transition to an equal type is not a change, nor is the point where a clock begins or ceases to have a type.
     ///
     /// When clocks are set next, and by how many seconds forward:
     ///
@@ -61,28 +63,97 @@ impl<'a> TimeZoneRef<'a> {
     pub fn following(&self, unix_time: i64) -> Option<Change<'a>>
         ensures { MatchOption result (HasNoFollowing (zone_of self.now) unix_time) (λ c. IsFollowing (zone_of self.now) unix_time (change_of c)) }
     {
-        let mut view = Uncounted::new(self.transitions());
-        inner::following(&mut view, inner::other_parts(self), unix_time)
+        let (change, _) = self.following_from(unix_time, None)?;
+        Some(change)
     }
 
-    /// The last change before an instant, in Unix seconds, or `None` where the clock has not changed before. Takes no memory.
+    /// The first change after an instant, and a place among the transitions that is likely to be the one behind it.
+    #[inline(always)]
+    pub(crate) fn following_from(
+        &self,
+        unix_time: i64,
+        likely: Option<usize>,
+    ) -> Option<(Change<'a>, usize)>
+        ensures { MatchOption result (HasNoFollowing (zone_of self.now) unix_time)
+            (λ found. IsFollowing (zone_of self.now) unix_time (change_of found.0)) }
+    {
+        let mut view = Uncounted::new(self.transitions());
+        clock::following(&mut view, other_parts(self), unix_time, likely)
+    }
+
+    /// The last change before an instant, in Unix seconds, or `None` if the clock has not changed before. Does not allocate.
     ///
-    /// A change to an equal type is none, and neither is one from or to where the clock has no type.
+    /// A transition to an equal type is not a change, nor is the point where a clock begins or ceases to have a type.
     pub fn preceding(&self, unix_time: i64) -> Option<Change<'a>>
         ensures { MatchOption result (HasNoPreceding (zone_of self.now) unix_time) (λ c. IsPreceding (zone_of self.now) unix_time (change_of c)) }
     {
+        let (change, _) = self.preceding_from(unix_time, None)?;
+        Some(change)
+    }
+
+    /// The last change before an instant, and a place among the transitions that is likely to be the one in front of it.
+    #[inline(always)]
+    pub(crate) fn preceding_from(
+        &self,
+        unix_time: i64,
+        likely: Option<usize>,
+    ) -> Option<(Change<'a>, usize)>
+        ensures { MatchOption result (HasNoPreceding (zone_of self.now) unix_time)
+            (λ found. IsPreceding (zone_of self.now) unix_time (change_of found.0)) }
+    {
         let mut view = Uncounted::new(self.transitions());
-        inner::preceding(&mut view, inner::other_parts(self), unix_time)
+        clock::preceding(&mut view, other_parts(self), unix_time, likely)
+    }
+
+    /// The changes after an instant, in Unix seconds, in the order of time: the one that `following` answers, and so on from each. Takes no
+    /// memory.
+    ///
+    /// The changes of a zone in the 20 years before an instant and at it, and the next two after it:
+    ///
+    /// ```rust
+    /// pub fn changes_around(
+    ///     alloc: Global,
+    ///     zone: TimeZoneRef<'_>,
+    ///     now: i64,
+    /// ) -> Result<Vec<Change<'_>>, TzError> {
+    ///     // 20 years of 365.2425 days.
+    ///     let start = now.saturating_sub(20 * 31_556_952);
+    ///     let mut changes = Vec::new(alloc);
+    ///     for change in zone.changes_after(start) {
+    ///         if now < change.unix_time() {
+    ///             break;
+    ///         }
+    ///         changes.push(change)?;
+    ///     }
+    ///     for change in zone.changes_after(now).take(2) {
+    ///         changes.push(change)?;
+    ///     }
+    ///     Ok(changes)
+    /// }
+    /// ```
+    pub fn changes_after(&self, unix_time: i64) -> ChangesAfter<'a>
+        ensures { place_after result ≡ record { zone = zone_of self.now; unix_time = unix_time } }
+    {
+        ChangesAfter::new(*self, unix_time)
+    }
+
+    /// The changes before an instant, in Unix seconds, from the last one back: the one that `preceding` answers, and so on from each. Takes
+    /// no memory.
+    pub fn changes_before(&self, unix_time: i64) -> ChangesBefore<'a>
+        ensures { place_before result ≡ record { zone = zone_of self.now; unix_time = unix_time } }
+    {
+        ChangesBefore::new(*self, unix_time)
     }
 }
 
 impl<A: Allocator + Copy> TimeZone<A> {
-    ghost use Rattle.std.specs.Prelude.{◌≤ℤ◌, MatchOption};
+    ghost use Rattle.std.specs.Prelude.{◌≡◌, ◌≤ℤ◌, MatchOption};
     ghost use Rattle.tz_zone.specs.Changes.{segment_of, change_of, IsTrueSegment, IsFollowing, IsPreceding, HasNoFollowing, HasNoPreceding};
+    ghost use Rattle.tz_zone.specs.ChangesInTurn.{place_after, place_before};
     ghost use Rattle.tz_zone.specs.TableChanges.{HasTableEnds};
     ghost use Rattle.tz_zone.specs.ZoneRef.{own_zone_of};
 
-    /// The segment around an instant, as `TimeZoneRef::segment_at` has it.
+    /// The segment around an instant, as [`TimeZoneRef::segment_at`] returns it.
     pub fn segment_at(&self, unix_time: i64) -> Segment<'_>
         ensures within { ((segment_of result).from ≤ℤ unix_time) × (unix_time ≤ℤ (segment_of result).last) }
         ensures segment { IsTrueSegment (own_zone_of self.now) (segment_of result) }
@@ -91,17 +162,31 @@ impl<A: Allocator + Copy> TimeZone<A> {
         self.as_ref().segment_at(unix_time)
     }
 
-    /// The first change after an instant, as `TimeZoneRef::following` has it.
+    /// The first change after an instant, as [`TimeZoneRef::following`] returns it.
     pub fn following(&self, unix_time: i64) -> Option<Change<'_>>
         ensures { MatchOption result (HasNoFollowing (own_zone_of self.now) unix_time) (λ c. IsFollowing (own_zone_of self.now) unix_time (change_of c)) }
     {
         self.as_ref().following(unix_time)
     }
 
-    /// The last change before an instant, as `TimeZoneRef::preceding` has it.
+    /// The last change before an instant, as [`TimeZoneRef::preceding`] returns it.
     pub fn preceding(&self, unix_time: i64) -> Option<Change<'_>>
         ensures { MatchOption result (HasNoPreceding (own_zone_of self.now) unix_time) (λ c. IsPreceding (own_zone_of self.now) unix_time (change_of c)) }
     {
         self.as_ref().preceding(unix_time)
+    }
+
+    /// The changes after an instant, as `TimeZoneRef::changes_after` has them.
+    pub fn changes_after(&self, unix_time: i64) -> ChangesAfter<'_>
+        ensures { place_after result ≡ record { zone = own_zone_of self.now; unix_time = unix_time } }
+    {
+        self.as_ref().changes_after(unix_time)
+    }
+
+    /// The changes before an instant, as `TimeZoneRef::changes_before` has them.
+    pub fn changes_before(&self, unix_time: i64) -> ChangesBefore<'_>
+        ensures { place_before result ≡ record { zone = own_zone_of self.now; unix_time = unix_time } }
+    {
+        self.as_ref().changes_before(unix_time)
     }
 }

@@ -8,16 +8,16 @@ ghost use Rattle.tz_zone.specs.ValidZone.{IsSoundTable, IsSoundTable-prop, IsVal
 use super::checks::check_parts;
 use super::offsets::offsets;
 use super::{LeapSecond, LocalTimeType, Transition, TransitionRule};
-use crate::inner::{self, Counted, Uncounted};
+use crate::leap_time;
 use std::fmt;
 use tz_base::error::TzError;
 
 /// A borrowed time zone.
 ///
-/// Before its last transition the transitions tell its clock, and from there on the extra rule does.
+/// Before the last transition, the transitions determine its clock; from there on the extra rule does.
 #[derive(Clone, Copy)]
 pub struct TimeZoneRef<'a> {
-    transitions: &'a [Transition],
+    pub(super) transitions: &'a [Transition],
     local_time_types: &'a [LocalTimeType],
     leap_seconds: &'a [LeapSecond],
     extra_rule: &'a Option<TransitionRule>,
@@ -56,22 +56,21 @@ impl<'a> Eq for TimeZoneRef<'a> {
 }
 
 impl<'a> TimeZoneRef<'a> {
-    ghost use Rattle.std.specs.Prelude.{◌≡◌, ℕ, ◌+◌, ◌^◌, ◌<◌, ◌≤◌, [], ℤ, pos, length, IfOk, IfErr, OnOk, IfSome, IfNone};
+    ghost use Rattle.std.specs.Prelude.{◌≡◌, ℤ, pos, IfOk, IfErr, OnOk, IfSome, IfNone};
     ghost use Rattle.tz_rule.specs.LocalTimeType.{plain_type};
     ghost use Rattle.tz_zone.specs.Table.{zone_with, zone_of_type};
-    ghost use Rattle.tz_zone.specs.Clock.{IsClock, IsLookupFault};
     ghost use Rattle.tz_zone.specs.Offsets.{AreEndOffsets};
     ghost use Rattle.tz_zone.specs.ValidZone.{ExpiresAt, IsSoundTable, IsValidZone, IsFirstZoneFault};
     ghost use Rattle.tz_zone.specs.ZoneRef.{zone_of};
 
     /// The zone with these parts. (RFC 8536, section 3.2)
     ///
-    /// The first fault is named: `NoLocalTimeType`; for each transition in turn `InvalidLocalTimeTypeIndex` and `InvalidTransition`, whose
-    /// times must rise; `InvalidLeapSecond`; and where there are a rule and a transition, and the last one is not before the leap seconds
-    /// begin, `OutOfRange` where it never takes effect or the rule has no type there, and `InconsistentExtraRule` where its type there is
-    /// another than the transition's.
+    /// The parts are checked in this order: `NoLocalTimeType`; for each transition in turn `InvalidLocalTimeTypeIndex` and
+    /// `InvalidTransition`, as times must rise; `InvalidLeapSecond`. If there are a rule and a transition, and the last transition is not
+    /// before the leap-second table begins, the rule must have that transition's type where it takes effect: `OutOfRange` if it never
+    /// does or the rule has no type there, `InconsistentExtraRule` if the types differ.
     ///
-    /// A zone from parts, without memory: clocks were an hour ahead of UTC until the year 2000, and are two from then on.
+    /// A zone from parts, without allocating: clocks were an hour ahead of UTC until the year 2000, and are two hours ahead from then on.
     ///
     /// ```rust
     /// pub fn moved_ahead_in_2000(unix_time: i64) -> Result<DateTime, TzError> {
@@ -130,7 +129,7 @@ impl<'a> TimeZoneRef<'a> {
         }
     }
 
-    /// The zone that has UTC's type alone. Takes no memory.
+    /// The zone of UTC. Does not allocate.
     pub fn utc() -> TimeZoneRef<'static>
         ensures { zone_of result ≡ zone_of_type (plain_type (pos 0)) }
     {
@@ -165,12 +164,12 @@ impl<'a> TimeZoneRef<'a> {
         self.leap_seconds
     }
 
-    /// The leap time at which the leap seconds expire: that of a last record that leaves the correction as it is. Takes no memory.
+    /// The leap time at which the leap-second table expires: that of a last record that repeats the correction before it.
     pub fn leap_expiry(&self) -> Option<i64>
         ensures some { IfSome result (ExpiresAt (zone_of self.now).leap_seconds) }
         ensures none { IfNone result ((time : ℤ) → ¬ ExpiresAt (zone_of self.now).leap_seconds time) }
     {
-        inner::expiry(self.leap_seconds)
+        leap_time::expiry(self.leap_seconds)
     }
 
     /// The rule from the last transition on.
@@ -185,37 +184,6 @@ impl<'a> TimeZoneRef<'a> {
         ensures { AreEndOffsets (zone_of self.now) result.0 result.1 }
     {
         (self.least_offset, self.greatest_offset)
-    }
-
-    /// The clock's type at an instant. (RFC 8536, section 3.2)
-    ///
-    /// From the last transition on it is the extra rule's. Without a rule there is none: `NoAvailableLocalTimeType`.
-    /// `OutOfRange` tells that the instant has no leap time, or lies in a year over which the rule is not defined.
-    #[inline(always)]
-    pub fn find_local_time_type(&self, unix_time: i64) -> Result<&'a LocalTimeType, TzError>
-        ensures ok { IfOk result (λ t. IsClock (zone_of self.now) unix_time t.now) }
-        ensures err { IfErr result (IsLookupFault (zone_of self.now) unix_time) }
-    {
-        let mut view = Uncounted::new(self.transitions);
-        inner::find_local_time_type(&mut view, inner::other_parts(self), unix_time)
-    }
-
-    /// The clock's type at an instant, and how many looks at transitions that took.
-    ///
-    /// A look reads one transition. The count stays at `u64::MAX` once it is there.
-    pub fn find_local_time_type_counted(
-        &self,
-        unix_time: i64,
-    ) -> (Result<&'a LocalTimeType, TzError>, u64)
-        ensures ok { IfOk result.0 (λ t. IsClock (zone_of self.now) unix_time t.now) }
-        ensures err { IfErr result.0 (IsLookupFault (zone_of self.now) unix_time) }
-        ensures few { (b : ℕ) → length (zone_of self.now).transitions < 2 ^ b → result.1 ≤ b + 2 }
-        ensures some { 0 < length (zone_of self.now).transitions → 1 ≤ result.1 }
-        ensures none { (zone_of self.now).transitions ≡ [] → result.1 ≡ 0 }
-    {
-        let mut view = Counted::new(self.transitions);
-        let answer = inner::find_local_time_type(&mut view, inner::other_parts(self), unix_time);
-        (answer, view.looks())
     }
 }
 

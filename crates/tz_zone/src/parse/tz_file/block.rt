@@ -1,7 +1,7 @@
 //! The block behind a header. (RFC 8536, section 3.2)
 
 ghost use Rattle.std.specs.Prelude.{◌≡◌, ◌≤◌, length, IfOk, OnOk, IfErr};
-ghost use Rattle.tz_zone.specs.TzFile.{indexes_at, types_at, names_at, leaps_at, std_walls_at, ut_locals_at, end_at, block_with, part_with, is_extended, IsUnit};
+ghost use Rattle.tz_zone.specs.TzFile.{indexes_at, types_at, names_at, leaps_at, std_walls_at, ut_locals_at, end_at, block_with, part_with, IsUnit};
 ghost use Rattle.tz_zone.specs.TzFileFault.{UnitFails};
 ghost use Rattle.tz_zone.specs.TzParts.{width_of, counts_view, block_view, part_view, HasSizes, IsSized};
 
@@ -67,21 +67,12 @@ pub(super) struct Block<'a> {
 
 /// A header's counts, its block, and the bytes behind it.
 #[derive(Clone, Copy)]
-pub(super) struct Part<'a> {
+pub(crate) struct Part<'a> {
     pub(super) size: TimeSize,
-    pub(super) version: u8,
+    pub(crate) version: u8,
     pub(super) counts: Counts,
     pub(super) block: Block<'a>,
     pub(super) behind: &'a [u8],
-}
-
-impl Part<'_> {
-    /// Whether a TZ string behind the block is an extended one. (RFC 8536, section 3.3.1)
-    pub(super) fn is_extended(&self) -> bool
-        ensures { result ≡ is_extended (part_view self.now) }
-    {
-        self.version == b'3' || self.version == b'4'
-    }
 }
 
 /// Cuts the block behind the header into its parts.

@@ -10,10 +10,11 @@ ghost use Rattle.tz_zone.specs.ValidZone.{HasTypeAtPlace, RisesAtPlace};
 
 use super::block::Part;
 use super::number::{TimeSize, signed_at, time_at};
-use crate::timezone::{LeapSecond, LocalTimeType, Transition};
+use crate::table::{LeapSecond, Transition};
 use std::alloc::{AllocError, Allocator};
 use tz_base::error::TzError;
 use tz_base::error::parse::TzFileError;
+use tz_rule::timezone::LocalTimeType;
 
 /// The transition of a record, whose time has a size that the caller knows.
 #[inline(always)]

@@ -5,10 +5,10 @@ ghost use Rattle.tz_zone.specs.TzFile.{trimmed, IsBetweenLineFeeds, MayBeText, I
 ghost use Rattle.tz_zone.specs.TzFileFault.{FooterFails, ExtraRuleFails};
 
 use crate::parse::tz_string::parse_posix_tz;
-use crate::timezone::TransitionRule;
 use std::str;
 use tz_base::error::TzError;
 use tz_base::error::parse::TzFileError;
+use tz_rule::timezone::TransitionRule;
 
 /// Whether the first and the last byte are line feeds.
 fn is_between_line_feeds(footer: &[u8]) -> bool
@@ -68,7 +68,7 @@ fn read_footer(footer: &[u8], extended: bool) -> Result<Option<TransitionRule>, 
 
 /// The rule of a file that may have a footer.
 #[inline(always)]
-pub(super) fn read_extra_rule(
+pub(crate) fn read_extra_rule(
     footer: Option<&[u8]>,
     extended: bool,
 ) -> Result<Option<TransitionRule>, TzError>

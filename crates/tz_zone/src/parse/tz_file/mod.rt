@@ -1,41 +1,39 @@
 //! TZif files. (RFC 8536)
 
-ghost use Rattle.std.specs.Prelude.{◌≡◌, ◌⊎◌, ℕ, length, alloc_error, option_copied, IfOk, OnOk, IfErr, IsTrue, MatchBool};
-ghost use Rattle.tz_zone.specs.TzFile.{part_of, footer_of, IsFramed, IsContent, MayHold, IsTzFile};
-ghost use Rattle.tz_zone.specs.TzFileFault.{FrameFails, ContentFails, IsReadFault};
+ghost use Rattle.std.specs.Prelude.{◌≡◌, ◌⊎◌, ℕ, length, alloc_error, option_copied, IfOk, OnOk, IfErr, IsTrue};
+ghost use Rattle.tz_zone.specs.TzFile.{part_of, footer_of, IsFramed, IsContent};
+ghost use Rattle.tz_zone.specs.TzFileFault.{FrameFails, ContentFails};
 ghost use Rattle.tz_zone.specs.TzParts.{block_view, part_view, IsSized, HasTables};
 ghost use Rattle.tz_zone.specs.ValidZone.{HasTypeAtPlace, RisesAtPlace};
-ghost use Rattle.tz_zone.specs.ZoneRef.{own_zone_of};
 
 mod block;
 mod content;
-mod footer;
+pub(crate) mod footer;
 mod header;
 mod indicators;
 mod number;
+pub(crate) mod version;
 
-use crate::inner;
-use crate::timezone::{LeapSecond, LocalTimeType, TimeZone, Transition};
+use crate::table::{LeapSecond, Transition};
 use block::{Part, read_unit};
 use content::{read_leap_seconds, read_transitions, read_types};
-use footer::read_extra_rule;
 use indicators::check_indicators;
 use number::TimeSize;
 use std::alloc::{Allocator, Global};
 use tz_base::error::TzError;
 use tz_base::error::parse::TzFileError;
-use tz_base::error::timezone::TimeZoneError;
+use tz_rule::timezone::LocalTimeType;
 
 /// What is read of a file.
 #[derive(Clone, Copy)]
-struct Frame<'a> {
-    part: Part<'a>,
-    footer: Option<&'a [u8]>,
+pub(crate) struct Frame<'a> {
+    pub(crate) part: Part<'a>,
+    pub(crate) footer: Option<&'a [u8]>,
 }
 
 /// Cuts the file: all slices of it that are read.
 #[inline(always)]
-fn read_frame(bytes: &[u8]) -> Result<Frame<'_>, TzFileError>
+pub(crate) fn read_frame(bytes: &[u8]) -> Result<Frame<'_>, TzFileError>
     ensures part { IfOk result (λ frame. part_view frame.part ≡ part_of bytes.now) }
     ensures footer { IfOk result (λ frame. option_copied frame.footer ≡ footer_of bytes.now) }
     ensures sizes { IfOk result (λ frame. IsSized frame.part) }
@@ -61,16 +59,19 @@ fn read_frame(bytes: &[u8]) -> Result<Frame<'_>, TzFileError>
 
 /// The tables of a file.
 #[derive(Drop)]
-struct Tables<A: Allocator + Copy = Global> {
-    transitions: Vec<Transition, A>,
-    are_in_order: bool,
-    local_time_types: Vec<LocalTimeType, A>,
-    leap_seconds: Vec<LeapSecond, A>,
+pub(crate) struct Tables<A: Allocator + Copy = Global> {
+    pub(crate) transitions: Vec<Transition, A>,
+    pub(crate) are_in_order: bool,
+    pub(crate) local_time_types: Vec<LocalTimeType, A>,
+    pub(crate) leap_seconds: Vec<LeapSecond, A>,
 }
 
 /// Reads the tables.
 #[inline(always)]
-fn read_tables<A: Allocator + Copy>(alloc: A, part: &Part<'_>) -> Result<Tables<A>, TzError>
+pub(crate) fn read_tables<A: Allocator + Copy>(
+    alloc: A,
+    part: &Part<'_>,
+) -> Result<Tables<A>, TzError>
     requires { IsSized part.now }
     ensures value { IfOk result (HasTables (part_view part.now)) }
     ensures order { IfOk result (λ t. IsTrue t.are_in_order → (i : ℕ) → HasTypeAtPlace t.transitions.items (length t.local_time_types.items) i × RisesAtPlace t.transitions.items i) }
@@ -87,34 +88,4 @@ fn read_tables<A: Allocator + Copy>(alloc: A, part: &Part<'_>) -> Result<Tables<
         local_time_types,
         leap_seconds,
     })
-}
-
-/// Whether a block of this version may hold these leap seconds: before version 4 their table neither begins later nor expires.
-fn may_hold(version: u8, leap_seconds: &[LeapSecond]) -> bool
-    ensures { MatchBool result (MayHold version leap_seconds.now) (¬ MayHold version leap_seconds.now) }
-{
-    version == b'4' || inner::is_plain_table(leap_seconds)
-}
-
-/// Reads a zone from the bytes of a file.
-pub(crate) fn parse_tz_file<A: Allocator + Copy>(
-    alloc: A,
-    bytes: &[u8],
-) -> Result<TimeZone<A>, TzError>
-    ensures ok { IfOk result (λ zone. IsTzFile bytes.now (own_zone_of zone)) }
-    ensures err { IfErr result (IsReadFault bytes.now) }
-{
-    let frame = read_frame(bytes)?;
-    let tables = read_tables(alloc, &frame.part)?;
-    let extra_rule = read_extra_rule(frame.footer, frame.part.is_extended())?;
-    if !may_hold(frame.part.version, &tables.leap_seconds) {
-        return Err(TzError::TimeZone(TimeZoneError::InvalidLeapSecond));
-    }
-    TimeZone::from_read_parts(
-        tables.transitions,
-        tables.local_time_types,
-        tables.leap_seconds,
-        extra_rule,
-        tables.are_in_order,
-    )
 }

@@ -1,4 +1,4 @@
-//! The front of a string.
+//! The beginning of a string.
 
 ghost use Rattle.std.specs.Prelude.{◌≡◌, ◌∷◌, MatchOption, MatchResult};
 ghost use Rattle.std.specs.Char.{is_ascii_digit, is_ascii_alphabetic};
@@ -8,7 +8,7 @@ ghost use Rattle.tz_zone.specs.TzTextFault.{IsMissingByte};
 
 use tz_base::error::parse::{ParseDataError, TzStringError};
 
-/// The bytes behind a byte, where it stands at the front.
+/// The bytes after a byte, if they begin with it.
 #[inline(always)]
 pub(super) fn after_byte(text: &[u8], byte: u8) -> Option<&[u8]>
     ensures { MatchOption result (¬ Begins byte text.now) (λ rest. text.now ≡ byte ∷ rest.now) }
@@ -19,7 +19,7 @@ pub(super) fn after_byte(text: &[u8], byte: u8) -> Option<&[u8]>
     }
 }
 
-/// The bytes behind a byte that has to stand at the front.
+/// The bytes after a byte, which must come first.
 #[inline(always)]
 pub(super) fn expect_byte(text: &[u8], byte: u8) -> Result<&[u8], TzStringError>
     ensures { MatchResult result (λ rest. text.now ≡ byte ∷ rest.now) (λ e. (f : ParseDataError) × (e ≡ TzStringError.ParseData f) × IsMissingByte byte text.now f) }
@@ -33,7 +33,7 @@ pub(super) fn expect_byte(text: &[u8], byte: u8) -> Result<&[u8], TzStringError>
     }
 }
 
-/// The longest run of digits at the front, and the bytes behind.
+/// The longest run of digits at the beginning, and the rest of the bytes.
 pub(super) fn split_digits(text: &[u8]) -> (&[u8], &[u8])
     ensures { IsRun is_ascii_digit text.now result.0.now result.1.now }
 {
@@ -41,7 +41,7 @@ pub(super) fn split_digits(text: &[u8]) -> (&[u8], &[u8])
     text.split_at(len)
 }
 
-/// The longest run of ASCII letters at the front, and the bytes behind.
+/// The longest run of ASCII letters at the beginning, and the rest of the bytes.
 pub(super) fn split_letters(text: &[u8]) -> (&[u8], &[u8])
     ensures { IsRun is_ascii_alphabetic text.now result.0.now result.1.now }
 {

@@ -23,7 +23,7 @@ pub(super) struct DayAndTime {
     pub(super) time: WrittenTime,
 }
 
-/// The number behind a `J`, and the bytes behind.
+/// The number after a `J`, and the rest of the bytes.
 #[inline(always)]
 fn read_julian_day(text: &[u8]) -> Result<(Julian1WithoutLeap, &[u8]), TzError>
     ensures { MatchResult result (λ p. IsNumber text.now p.0 p.1.now × IsJulianDay p.0) (IsDayNumberFault 16 IsJulianDay InvalidRuleDayJulianDay text.now) }
@@ -32,7 +32,7 @@ fn read_julian_day(text: &[u8]) -> Result<(Julian1WithoutLeap, &[u8]), TzError>
     Ok((Julian1WithoutLeap::new(number)?, rest))
 }
 
-/// A number of days from January 1st on, and the bytes behind.
+/// A number of days from January 1st on, and the rest of the bytes.
 #[inline(always)]
 fn read_zero_based_day(text: &[u8]) -> Result<(Julian0WithLeap, &[u8]), TzError>
     ensures { MatchResult result (λ p. IsNumber text.now p.0 p.1.now × IsZeroBasedDay p.0) (IsDayNumberFault 16 IsZeroBasedDay InvalidRuleDayJulianDay text.now) }
@@ -41,7 +41,7 @@ fn read_zero_based_day(text: &[u8]) -> Result<(Julian0WithLeap, &[u8]), TzError>
     Ok((Julian0WithLeap::new(number)?, rest))
 }
 
-/// The month, the week and the week day behind an `M`, and the bytes behind.
+/// The month, the week and the week day after an `M`, and the rest of the bytes.
 #[inline(always)]
 fn read_month_week_day(text: &[u8]) -> Result<(MonthWeekDay, &[u8]), TzError>
     ensures { MatchResult result (λ p. IsMonthWeekText text.now p.0 p.1.now × IsMonthWeek p.0) (IsMonthWeekDayFault text.now) }
@@ -54,7 +54,7 @@ fn read_month_week_day(text: &[u8]) -> Result<(MonthWeekDay, &[u8]), TzError>
     Ok((MonthWeekDay::new(month, week, week_day)?, rest))
 }
 
-/// The day of a rule, and the bytes behind.
+/// The day of a rule, and the rest of the bytes.
 #[inline(always)]
 fn read_rule_day(text: &[u8]) -> Result<(RuleDay, &[u8]), TzError>
     ensures { MatchResult result (λ p. IsDay text.now p.0 p.1.now × IsRuleDay p.0) (IsDayFault text.now) }
@@ -77,7 +77,7 @@ fn read_rule_day(text: &[u8]) -> Result<(RuleDay, &[u8]), TzError>
     }
 }
 
-/// The time behind a slash, or two o'clock where no slash stands, and the bytes behind.
+/// The time after a slash, or two o'clock if there is no slash, and the rest of the bytes.
 #[inline(always)]
 fn read_time_of_rule(text: &[u8], extended: bool) -> Result<(WrittenTime, &[u8]), TzStringError>
     ensures { MatchResult result
@@ -90,7 +90,7 @@ fn read_time_of_rule(text: &[u8], extended: bool) -> Result<(WrittenTime, &[u8])
     }
 }
 
-/// A rule, and the bytes behind.
+/// A rule, and the rest of the bytes.
 #[inline(always)]
 pub(super) fn read_rule(text: &[u8], extended: bool) -> Result<(DayAndTime, &[u8]), TzError>
     ensures { MatchResult result (λ p. IsRuleText extended text.now p.0 p.1.now × IsRuleInRange extended p.0) (IsRuleTextFault extended text.now) }

@@ -24,7 +24,7 @@ use tz_base::error::parse::TzStringError;
 use tz_base::error::timezone::LocalTimeTypeError;
 use tz_rule::timezone::{AlternateTime, LocalTimeType, TransitionRule};
 
-/// The daylight offset, which is left out where a comma stands next, and the bytes behind.
+/// The daylight offset, which may be omitted before a comma, and the rest of the bytes.
 #[inline(always)]
 fn read_daylight_offset(text: &[u8]) -> Result<(Option<WrittenTime>, &[u8]), TzStringError>
     ensures { MatchResult result
@@ -40,7 +40,7 @@ fn read_daylight_offset(text: &[u8]) -> Result<(Option<WrittenTime>, &[u8]), TzS
     }
 }
 
-/// The daylight name, its offset, and the rules behind a comma.
+/// The daylight name, its offset, and the rules after a comma.
 #[inline(always)]
 fn read_daylight(text: &[u8]) -> Result<(&[u8], Option<WrittenTime>, &[u8]), TzStringError>
     ensures { MatchResult result
@@ -59,7 +59,7 @@ fn read_daylight(text: &[u8]) -> Result<(&[u8], Option<WrittenTime>, &[u8]), TzS
     Ok((name, offset, rules))
 }
 
-/// The last rule, with nothing behind it.
+/// The last rule, with nothing after it.
 #[inline(always)]
 fn read_last_rule(text: &[u8], extended: bool) -> Result<DayAndTime, TzError>
     ensures { MatchResult result (λ rule. IsRuleText extended text.now rule [] × IsRuleInRange extended rule) (IsLastRuleFault extended text.now) }
@@ -75,7 +75,7 @@ fn read_last_rule(text: &[u8], extended: bool) -> Result<DayAndTime, TzError>
     }
 }
 
-/// The start and the end, with a comma between them and nothing behind.
+/// The start and the end, with a comma between them and nothing after them.
 #[inline(always)]
 fn read_rules(text: &[u8], extended: bool) -> Result<(DayAndTime, DayAndTime), TzError>
     ensures { MatchResult result

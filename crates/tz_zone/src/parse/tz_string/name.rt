@@ -9,7 +9,7 @@ ghost use Rattle.tz_zone.specs.TzTextFault.{IsUnclosed};
 use super::cursor::{after_byte, split_at_bracket, split_letters};
 use tz_base::error::parse::{ParseDataError, TzStringError};
 
-/// The name at the front, and the bytes behind.
+/// The name at the beginning, and the rest of the bytes.
 #[inline(always)]
 pub(super) fn read_name(text: &[u8]) -> Result<(&[u8], &[u8]), TzStringError>
     ensures { MatchResult result (λ p. IsName text.now p.0.now p.1.now) (λ e. (e ≡ ParseData UnexpectedEof) × IsUnclosed text.now) }

@@ -10,7 +10,7 @@ use super::cursor::split_digits;
 use std::str;
 use tz_base::error::parse::TzStringError;
 
-/// The value of the digit at the front, and the bytes behind.
+/// The value of the first byte, if it is a digit, and the rest of the bytes.
 #[inline(always)]
 fn after_digit(text: &[u8]) -> Option<(u8, &[u8])>
     ensures { MatchOption result (take_while is_ascii_digit text.now ≡ []) (λ p. (text.now ≡ (p.0 + 48) ∷ p.1.now) × (p.0 ≤ 9)) }
@@ -21,7 +21,7 @@ fn after_digit(text: &[u8]) -> Option<(u8, &[u8])>
     }
 }
 
-/// The number at the front, where it has one digit or two, as most numbers of a string have, and the bytes behind.
+/// The number at the beginning, where it has one digit or two, as most numbers of a string have, and the rest of the bytes.
 #[inline(always)]
 fn read_two_digits(text: &[u8]) -> Option<(u8, &[u8])>
     ensures { IfSome result (λ p. IsNumber text.now p.0 p.1.now) }
@@ -36,7 +36,7 @@ fn read_two_digits(text: &[u8]) -> Option<(u8, &[u8])>
     }
 }
 
-/// The longest run of digits at the front, and the bytes behind.
+/// The longest run of digits at the beginning, and the rest of the bytes.
 fn read_digits(text: &[u8]) -> (&str, &[u8])
     ensures { IsRun is_ascii_digit text.now result.0.now result.1.now }
 {
@@ -44,7 +44,7 @@ fn read_digits(text: &[u8]) -> (&str, &[u8])
     (unsafe { str::from_utf8_unchecked(digits) }, rest)
 }
 
-/// A number of hours, minutes or seconds of any length, which fits 31 bits, and the bytes behind.
+/// A number of hours, minutes or seconds of any length, which fits 31 bits, and the rest of the bytes.
 fn read_long_time_number(text: &[u8]) -> Result<(u32, &[u8]), TzStringError>
     ensures { MatchResult result (λ p. IsNumber text.now p.0 p.1.now × (p.0 < 2 ^ 31)) (λ e. IsParseInt e × HasNoNumber 31 text.now) }
 {
@@ -53,7 +53,7 @@ fn read_long_time_number(text: &[u8]) -> Result<(u32, &[u8]), TzStringError>
     Ok((number as u32, rest))
 }
 
-/// The number of a day of the year of any length, and the bytes behind.
+/// The number of a day of the year of any length, and the rest of the bytes.
 fn read_long_year_day(text: &[u8]) -> Result<(u16, &[u8]), TzStringError>
     ensures { MatchResult result (λ p. IsNumber text.now p.0 p.1.now) (λ e. IsParseInt e × HasNoNumber 16 text.now) }
 {
@@ -61,7 +61,7 @@ fn read_long_year_day(text: &[u8]) -> Result<(u16, &[u8]), TzStringError>
     Ok((digits.parse::<u16>()?, rest))
 }
 
-/// The number of a month, a week or a week day of any length, and the bytes behind.
+/// The number of a month, a week or a week day of any length, and the rest of the bytes.
 fn read_long_short_number(text: &[u8]) -> Result<(u8, &[u8]), TzStringError>
     ensures { MatchResult result (λ p. IsNumber text.now p.0 p.1.now) (λ e. IsParseInt e × HasNoNumber 8 text.now) }
 {
@@ -69,7 +69,7 @@ fn read_long_short_number(text: &[u8]) -> Result<(u8, &[u8]), TzStringError>
     Ok((digits.parse::<u8>()?, rest))
 }
 
-/// A number of hours, minutes or seconds, which fits 31 bits, and the bytes behind.
+/// A number of hours, minutes or seconds, which fits 31 bits, and the rest of the bytes.
 #[inline(always)]
 pub(super) fn read_time_number(text: &[u8]) -> Result<(u32, &[u8]), TzStringError>
     ensures { MatchResult result (λ p. IsNumber text.now p.0 p.1.now × (p.0 < 2 ^ 31)) (λ e. IsParseInt e × HasNoNumber 31 text.now) }
@@ -80,7 +80,7 @@ pub(super) fn read_time_number(text: &[u8]) -> Result<(u32, &[u8]), TzStringErro
     }
 }
 
-/// The number of a day of the year, and the bytes behind.
+/// The number of a day of the year, and the rest of the bytes.
 #[inline(always)]
 pub(super) fn read_year_day(text: &[u8]) -> Result<(u16, &[u8]), TzStringError>
     ensures { MatchResult result (λ p. IsNumber text.now p.0 p.1.now) (λ e. IsParseInt e × HasNoNumber 16 text.now) }
@@ -91,7 +91,7 @@ pub(super) fn read_year_day(text: &[u8]) -> Result<(u16, &[u8]), TzStringError>
     }
 }
 
-/// The number of a month, a week or a week day, and the bytes behind.
+/// The number of a month, a week or a week day, and the rest of the bytes.
 #[inline(always)]
 pub(super) fn read_short_number(text: &[u8]) -> Result<(u8, &[u8]), TzStringError>
     ensures { MatchResult result (λ p. IsNumber text.now p.0 p.1.now) (λ e. IsParseInt e × HasNoNumber 8 text.now) }

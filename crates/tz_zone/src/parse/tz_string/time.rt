@@ -83,7 +83,7 @@ impl WrittenTime {
     }
 }
 
-/// A number behind a colon, or 0 where no colon stands, and the bytes behind.
+/// The number after a colon, or 0 if there is no colon, and the rest of the bytes.
 #[inline(always)]
 fn read_part(text: &[u8]) -> Result<(u32, &[u8]), TzStringError>
     ensures { MatchResult result (λ p. IsPart text.now p.0 p.1.now) (λ e. IsParseInt e × ((number : List ℕ) × (text.now ≡ colon ∷ number) × HasNoNumber 31 number)) }
@@ -94,7 +94,7 @@ fn read_part(text: &[u8]) -> Result<(u32, &[u8]), TzStringError>
     }
 }
 
-/// Hours, minutes and seconds after a sign that is read, and the bytes behind.
+/// Hours, minutes and seconds after a sign that is read, and the rest of the bytes.
 #[inline(always)]
 fn read_hms(text: &[u8], minus: bool) -> Result<(WrittenTime, &[u8]), TzStringError>
     ensures { MatchResult result (λ p. IsHms text.now p.0 p.1.now × (p.0.minus ≡ minus)) (λ e. (limit : ℕ) (faults : TimeFaults) → IsHmsFault limit faults text.now e) }
@@ -113,7 +113,7 @@ fn read_hms(text: &[u8], minus: bool) -> Result<(WrittenTime, &[u8]), TzStringEr
     ))
 }
 
-/// Whether a minus stands at the front, and the bytes behind it or behind a plus.
+/// Whether a minus comes first, and the bytes after it or after a plus.
 #[inline(always)]
 fn read_sign(text: &[u8]) -> (bool, &[u8])
     ensures { IsSign text.now result.0 result.1.now }
@@ -180,7 +180,7 @@ fn check_day_time(time: &WrittenTime, extended: bool) -> Result<(), TzStringErro
     Ok(())
 }
 
-/// The offset at the front, and the bytes behind.
+/// The offset at the beginning, and the rest of the bytes.
 #[inline(always)]
 pub(super) fn read_offset(text: &[u8]) -> Result<(WrittenTime, &[u8]), TzStringError>
     ensures { MatchResult result (λ p. IsSignedTime text.now p.0 p.1.now × IsTimeUpTo offset_hours p.0) (IsOffsetFault text.now) }
@@ -191,7 +191,7 @@ pub(super) fn read_offset(text: &[u8]) -> Result<(WrittenTime, &[u8]), TzStringE
     Ok((offset, rest))
 }
 
-/// The day time at the front, and the bytes behind.
+/// The day time at the beginning, and the rest of the bytes.
 #[inline(always)]
 pub(super) fn read_day_time(
     text: &[u8],

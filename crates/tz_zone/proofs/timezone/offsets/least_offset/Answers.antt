@@ -7,7 +7,7 @@ use Rattle.std.proofs.lemmas.Option.{same_Some, slice_get_within, slice_get-get_
 use mir.Syntax.{w32}
 use mir.Val.{SFits, to_z}
 use Rattle.tz_rule.specs.LocalTimeType.{LocalTimeType}
-use Rattle.tz_zone.proofs.OffsetLemmas.{int_min_either}
+use Rattle.tz_zone.proofs.OffsetBounds.{int_min_either}
 use Rattle.tz_zone.proofs.timezone.offsets.least_offset.Goals as goal
 
 pub loop-local_time_type-init : goal.loop-local_time_type-init

@@ -4,7 +4,7 @@ use Rattle.std.proofs.lemmas.Int.{ints, to_z-of_z}
 use mir.Syntax.{w32}
 use mir.Val.{SFits}
 use Rattle.tz_rule.specs.LocalTimeType.{LocalTimeType}
-use Rattle.tz_zone.proofs.OffsetLemmas.{int_min_either, int_max_either}
+use Rattle.tz_zone.proofs.OffsetBounds.{int_min_either, int_max_either}
 use Rattle.tz_zone.proofs.timezone.offsets.with_rule.Goals as goal
 
 pub returns-in-Fixed : goal.returns-in-Fixed

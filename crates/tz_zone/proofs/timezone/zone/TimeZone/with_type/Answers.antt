@@ -7,7 +7,7 @@ use mir.Val.{SFits}
 use Rattle.tz_rule.specs.LocalTimeType.{LocalTimeType}
 use Rattle.tz_zone.specs.Table.{zone_of_type}
 use Rattle.tz_zone.specs.ValidZone.{IsValidZone}
-use Rattle.tz_zone.proofs.OffsetLemmas.{ends_of_type}
+use Rattle.tz_zone.proofs.OffsetBounds.{ends_of_type}
 use Rattle.tz_zone.proofs.timezone.zone.TimeZone.with_type.Goals as goal
 
 is_valid : (t : LocalTimeType) → IsValidZone (zone_of_type t)

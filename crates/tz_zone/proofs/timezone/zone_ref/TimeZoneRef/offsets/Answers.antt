@@ -4,7 +4,7 @@ use Rattle.std.proofs.lemmas.Int.{to_z-of_z}
 use mir.Syntax.{w32}
 use mir.Val.{SFits}
 use Rattle.tz_zone.specs.ZoneRef.{zone_of}
-use Rattle.tz_zone.proofs.OffsetLemmas.{found_end_offsets}
+use Rattle.tz_zone.proofs.OffsetBounds.{found_end_offsets}
 use Rattle.tz_zone.proofs.timezone.zone_ref.TimeZoneRef.offsets.Goals as goal
 
 pub returns : goal.returns

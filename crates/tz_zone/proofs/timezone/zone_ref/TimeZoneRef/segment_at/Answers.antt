@@ -9,7 +9,7 @@ use Rattle.tz_zone.specs.Table.{Zone}
 use Rattle.tz_zone.specs.TableChanges.{HasTableEnds}
 use Rattle.tz_zone.specs.ZoneRef.{zone_of}
 use Rattle.tz_zone.specs.ZoneSeen.{zone_seen}
-use Rattle.tz_zone.proofs.ChangeLemmas.{true_segment}
+use Rattle.tz_zone.proofs.SegmentTypes.{true_segment}
 use Rattle.tz_zone.proofs.timezone.zone_ref.TimeZoneRef.segment_at.Goals as goal
 
 pub returns-clause-segment : goal.returns-clause-segment

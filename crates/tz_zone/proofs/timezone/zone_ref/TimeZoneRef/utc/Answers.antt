@@ -1,7 +1,7 @@
 -- The least and the greatest offset are that of the one type.
 use Rattle.std.specs.Prelude.{pos}
 use Rattle.tz_rule.specs.LocalTimeType.{plain_type}
-use Rattle.tz_zone.proofs.OffsetLemmas.{ends_of_type}
+use Rattle.tz_zone.proofs.OffsetBounds.{ends_of_type}
 use Rattle.tz_zone.proofs.timezone.zone_ref.TimeZoneRef.utc.Goals as goal
 
 pub invariant_of-result-clause-offsets : goal.invariant_of-result-clause-offsets

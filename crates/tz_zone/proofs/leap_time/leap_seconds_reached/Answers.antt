@@ -1,0 +1,20 @@
+-- The partition point is the count.
+use Rattle.std.proofs.lemmas.Int.{to_z-of_z}
+use Rattle.tz_zone.proofs.LeapLists.{IsReached-below, IsReached-from_count, IsReachedCount-from_point}
+use Rattle.tz_zone.proofs.leap_time.leap_seconds_reached.Goals as goal
+
+pub returns-clause-reached : goal.returns-clause-reached
+returns-clause-reached c =
+    let leaps = c.args.leap_seconds.now in
+    let fits = c.ranges.unix_time in
+    let point = c.partition_point.ensures in
+    let count = IsReachedCount-from_point leaps c.requires c.args.unix_time c.partition_point.result point.within (simp to_z-of_z at point.before) (simp to_z-of_z at point.after) in
+    λ i l h at. IsReached-from_count leaps c.args.unix_time c.partition_point.result i l count h at
+
+pub returns-clause-beyond : goal.returns-clause-beyond
+returns-clause-beyond c =
+    let leaps = c.args.leap_seconds.now in
+    let fits = c.ranges.unix_time in
+    let point = c.partition_point.ensures in
+    let count = IsReachedCount-from_point leaps c.requires c.args.unix_time c.partition_point.result point.within (simp to_z-of_z at point.before) (simp to_z-of_z at point.after) in
+    λ i l r. IsReached-below leaps c.args.unix_time c.partition_point.result i l count r

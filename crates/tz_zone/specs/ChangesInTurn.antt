@@ -1,0 +1,35 @@
+-- The changes of a clock one after the other, upwards from an instant and downwards from one.
+use Rattle.std.specs.Prelude.{◌≡◌, ℤ, Option, MatchOption}
+use Rattle.tz_zone.specs.Table.{Zone}
+use Rattle.tz_zone.specs.ZoneRef.{zone_of}
+use Rattle.tz_zone.specs.Changes.{change_of, IsFollowing, IsPreceding, HasNoFollowing, HasNoPreceding}
+use Rattle.tz_zone.specs.declared.clock.change.Change.{Change as KeptChange}
+use Rattle.tz_zone.specs.declared.timezone.changes_after.ChangesAfter.{ChangesAfter}
+use Rattle.tz_zone.specs.declared.timezone.changes_before.ChangesBefore.{ChangesBefore}
+
+-- what contracts see of changes one after the other: the zone, and the instant behind or before which the next one is looked for
+pub record Place : Type 0 where
+  pub zone : Zone
+  pub unix_time : ℤ
+
+abbrev pub place_after : ChangesAfter → Place
+place_after s = record { zone = zone_of s.zone; unix_time = s.unix_time }
+
+abbrev pub place_before : ChangesBefore → Place
+place_before s = record { zone = zone_of s.zone; unix_time = s.unix_time }
+
+-- the place at an instant of the same zone
+abbrev pub moved_to : ℤ → Place → Place
+moved_to u p = record { zone = p.zone; unix_time = u }
+
+-- a call gives the change that follows the place, which moves there, or there is none and it stays
+abbrev pub GivesFollowing : ChangesAfter → Option KeptChange → ChangesAfter → Type 0
+GivesFollowing s r t = MatchOption r
+    (HasNoFollowing (zone_of s.zone) s.unix_time × (place_after t ≡ place_after s))
+    (λ c. IsFollowing (zone_of s.zone) s.unix_time (change_of c) × (place_after t ≡ moved_to (change_of c).unix_time (place_after s)))
+
+-- a call gives the change that precedes the place, which moves there, or there is none and it stays
+abbrev pub GivesPreceding : ChangesBefore → Option KeptChange → ChangesBefore → Type 0
+GivesPreceding s r t = MatchOption r
+    (HasNoPreceding (zone_of s.zone) s.unix_time × (place_before t ≡ place_before s))
+    (λ c. IsPreceding (zone_of s.zone) s.unix_time (change_of c) × (place_before t ≡ moved_to (change_of c).unix_time (place_before s)))

@@ -1,0 +1,18 @@
+//! A span of time through which the clock of a zone has one type, or none.
+
+use super::cursor::Cursor;
+use tz_rule::timezone::LocalTimeType;
+
+/// A span of time through which the clock of a zone has one type, or none.
+#[derive(Clone, Copy)]
+pub struct ClockSegment<'a> {
+    /// The first instant.
+    pub from: i64,
+    /// The last instant.
+    pub last: i64,
+    /// The type, where the clock has one.
+    pub local_time_type: Option<&'a LocalTimeType>,
+    /// The place among the transitions, from which on the next segment is found. There is none without transitions, and where
+    /// instants have no leap time.
+    pub cursor: Option<Cursor>,
+}

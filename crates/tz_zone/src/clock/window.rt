@@ -1,0 +1,213 @@
+//! The types that the clock has in a window of instants, where these are one or two.
+
+ghost use Rattle.std.specs.Prelude.{◌≡◌, ◌≢◌, ℕ, ℤ, ◌+◌, ◌-◌, ◌^◌, ◌<◌, ◌≤◌, ◌⊎◌, ◌≤ℤ◌, ◌<ℤ◌, [], length, IfSome, IfNone};
+ghost use Rattle.tz_rule.specs.Rule.{IsRuleType};
+ghost use Rattle.tz_zone.specs.Clock.{AreAhead, IsClock, IsLast, IsTypeAfter};
+ghost use Rattle.tz_zone.specs.LeapTime.{IsBeforeStart};
+ghost use Rattle.tz_zone.specs.ValidZone.{IsSoundTable};
+ghost use Rattle.tz_zone.specs.WindowTypes.{AreTypesIn, IfMore, IsTypeBeforeLast};
+ghost use Rattle.tz_zone.specs.ZoneSeen.{zone_seen};
+
+use super::place::{place_before, type_at_place};
+use crate::leap_time::leap;
+use crate::table::{OtherParts, Transition, Transitions};
+use tz_rule::timezone::{LocalTimeType, TransitionRule};
+
+/// The types that a clock has in a window of instants.
+#[derive(Clone, Copy)]
+pub enum WindowTypes<'a> {
+    /// One type throughout.
+    One(&'a LocalTimeType),
+    /// One type up to a jump, and another from there on.
+    Two {
+        /// The instant from which on the clock has the second type.
+        unix_time: i64,
+        /// The type before that.
+        before: &'a LocalTimeType,
+        /// The type from there on.
+        after: &'a LocalTimeType,
+    },
+    /// Perhaps more, or none at some instant.
+    More,
+}
+
+/// The types of a rule from a segment that ends in the window on.
+#[inline(always)]
+fn types_across<'a>(
+    rule: &'a TransitionRule,
+    before: &'a LocalTimeType,
+    unix_time: i64,
+    high: i64,
+) -> WindowTypes<'a>
+    requires { unix_time ≤ℤ high }
+    ensures { (low : ℤ) → low <ℤ unix_time → ((v : ℤ) → low ≤ℤ v → v <ℤ unix_time → IsRuleType rule.entry.now v before.entry.now)
+        → AreTypesIn (IsRuleType rule.entry.now) low high result }
+{
+    let next = tz_rule::inner::segment_at(rule, unix_time);
+    if next.last < high {
+        return WindowTypes::More;
+    }
+    match next.local_time_type {
+        Some(after) => WindowTypes::Two {
+            unix_time,
+            before,
+            after,
+        },
+        None => WindowTypes::More,
+    }
+}
+
+/// The types of a rule in a window.
+#[inline(always)]
+fn types_by_rule(rule: &TransitionRule, low: i64, high: i64) -> WindowTypes<'_>
+    ensures { AreTypesIn (IsRuleType rule.now) low high result }
+{
+    let first = tz_rule::inner::segment_at(rule, low);
+    match first.local_time_type {
+        Some(local_time_type) => {
+            if high <= first.last {
+                return WindowTypes::One(local_time_type);
+            }
+            types_across(rule, local_time_type, first.last + 1, high)
+        }
+        None => WindowTypes::More,
+    }
+}
+
+/// The types of a zone without transitions in a window.
+#[inline(always)]
+fn types_without_transitions(parts: OtherParts<'_>, low: i64, high: i64) -> WindowTypes<'_>
+    requires { parts.local_time_types.now ≢ [] }
+    ensures { AreTypesIn (IsClock (zone_seen [] parts.entry)) low high result }
+{
+    match parts.extra_rule {
+        Some(rule) => types_by_rule(rule, low, high),
+        None => WindowTypes::One(&parts.local_time_types[0]),
+    }
+}
+
+/// The types from the last transition on in a window.
+#[inline(always)]
+fn types_after_transitions(
+    extra_rule: &Option<TransitionRule>,
+    low: i64,
+    high: i64,
+) -> WindowTypes<'_>
+    ensures { AreTypesIn (IsTypeAfter extra_rule.now) low high result }
+{
+    match extra_rule {
+        Some(rule) => types_by_rule(rule, low, high),
+        None => WindowTypes::More,
+    }
+}
+
+/// The types in a window of leap times that begins before the last transition.
+#[inline(always)]
+fn types_before_last<'a, V: Transitions>(
+    view: &mut V,
+    parts: OtherParts<'a>,
+    low: i64,
+    high: i64,
+) -> WindowTypes<'a>
+    requires sound { IsSoundTable (zone_seen (V.list view.old) parts) }
+    requires at_least_one { 0 < length (V.list view.old) }
+    requires ahead { AreAhead (V.list view.old) low (length (V.list view.old) - 1) }
+    ensures same { V.list view.new ≡ V.list view.old }
+    ensures types { AreTypesIn (IsTypeBeforeLast (zone_seen (V.list view.old) parts.entry)) low high result }
+    ensures kept { V.looks view.old ≤ V.looks view.new }
+    ensures at_most { (b : ℕ) → length (V.list view.old) < 2 ^ b → V.looks view.new ≤ V.looks view.old + (b + 3) }
+    ensures more { IfMore result ((b : ℕ) → length (V.list view.old) < 2 ^ b → V.looks view.new ≤ V.looks view.old + (b + 2)) }
+{
+    let count = view.len();
+    let place = place_before(view, low);
+    let next = view.look(place);
+    if high < next.unix_leap_time() {
+        return WindowTypes::One(type_at_place(view, parts, place));
+    }
+    if place + 1 == count {
+        return WindowTypes::More;
+    }
+    let later = view.look(place + 1);
+    if later.unix_leap_time() <= high {
+        return WindowTypes::More;
+    }
+    WindowTypes::Two {
+        unix_time: next.unix_leap_time(),
+        before: type_at_place(view, parts, place),
+        after: &parts.local_time_types[next.local_time_type_index()],
+    }
+}
+
+/// The type that the clock has throughout a window by its leap times, if that is one of those before the last transition.
+#[inline(never)]
+fn type_over_leap_seconds<'a, V: Transitions>(
+    view: &mut V,
+    parts: OtherParts<'a>,
+    last: Transition,
+    low: i64,
+    high: i64,
+) -> Option<&'a LocalTimeType>
+    requires sound { IsSoundTable (zone_seen (V.list view.old) parts) }
+    requires last { IsLast (V.list view.old) last }
+    requires at_least_one { 0 < length (V.list view.old) }
+    ensures same { V.list view.new ≡ V.list view.old }
+    ensures local_time_type { IfSome result (λ t. (v : ℤ) → low ≤ℤ v → v ≤ℤ high → IsClock (zone_seen (V.list view.old) parts.entry) v t.now) }
+    ensures kept { V.looks view.old ≤ V.looks view.new }
+    ensures at_most { (b : ℕ) → length (V.list view.old) < 2 ^ b → V.looks view.new ≤ V.looks view.old + (b + 2) }
+    ensures none { IfNone result ((V.looks view.new ≡ V.looks view.old) ⊎ ¬ IsBeforeStart parts.entry.leap_seconds.now low) }
+{
+    let Ok(first_time) = leap(parts.leap_seconds, low) else {
+        return None;
+    };
+    let Ok(last_time) = leap(parts.leap_seconds, high) else {
+        return None;
+    };
+    if last.unix_leap_time() <= first_time {
+        return None;
+    }
+    let place = place_before(view, first_time);
+    let next = view.look(place);
+    if next.unix_leap_time() <= last_time {
+        return None;
+    }
+    Some(type_at_place(view, parts, place))
+}
+
+/// The types of the clock in a window.
+///
+/// They are told where they are one or two: by the transition at which the first instant lies, and the one or two that come next, or by the
+/// rule. Over leap seconds two are not told, and neither are they where the last transition lies in the window.
+#[inline(always)]
+pub fn window_types<'a, V: Transitions>(
+    view: &mut V,
+    parts: OtherParts<'a>,
+    low: i64,
+    high: i64,
+) -> WindowTypes<'a>
+    requires { IsSoundTable (zone_seen (V.list view.old) parts) }
+    ensures same { V.list view.new ≡ V.list view.old }
+    ensures types { AreTypesIn (IsClock (zone_seen (V.list view.old) parts.entry)) low high result }
+    ensures kept { V.looks view.old ≤ V.looks view.new }
+    ensures at_most { (b : ℕ) → length (V.list view.old) < 2 ^ b → V.looks view.new ≤ V.looks view.old + (b + 4) }
+    ensures more { IfMore result ((V.looks view.new ≤ V.looks view.old + 1)
+        ⊎ (¬ IsBeforeStart parts.entry.leap_seconds.now low
+        × ((b : ℕ) → length (V.list view.old) < 2 ^ b → V.looks view.new ≤ V.looks view.old + (b + 3)))) }
+    ensures at_least_one { 0 < length (V.list view.old) → V.next (V.looks view.old) ≤ V.looks view.new }
+    ensures none { V.list view.old ≡ [] → V.looks view.new ≡ V.looks view.old }
+{
+    let count = view.len();
+    if count == 0 {
+        return types_without_transitions(parts, low, high);
+    }
+    let last = view.look(count - 1);
+    if !parts.leap_seconds.is_empty() {
+        return match type_over_leap_seconds(view, parts, last, low, high) {
+            Some(local_time_type) => WindowTypes::One(local_time_type),
+            None => WindowTypes::More,
+        };
+    }
+    if low < last.unix_leap_time() {
+        return types_before_last(view, parts, low, high);
+    }
+    types_after_transitions(parts.extra_rule, low, high)
+}

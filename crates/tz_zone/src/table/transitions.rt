@@ -1,0 +1,127 @@
+//! A zone's transitions as a body may read them: one at a time, each reading a look that may be counted.
+
+ghost use Rattle.std.specs.Prelude.{◌≡◌, ℕ, ◌+◌, ◌<◌, ◌≤◌, length, slice_get, Some, refl};
+
+use super::transition::Transition;
+
+/// A view of transitions.
+///
+/// A body that is generic over its view can take looks and nothing else: it has no slice, and can neither copy the view nor set
+/// its count back.
+pub trait Transitions {
+    ghost use Rattle.std.specs.Prelude.{List};
+    ghost use Rattle.tz_zone.specs.Table.{Transition};
+
+    /// The transitions, in order.
+    ghost list: { Self → List Transition };
+
+    /// The number of looks so far.
+    ghost looks: { Self → ℕ };
+
+    /// The number of looks after one more.
+    ghost next: { ℕ → ℕ };
+
+    /// The number of transitions.
+    fn len(&self) -> usize
+        ensures { result ≡ length (list self.now) };
+
+    /// A look: the transition at a place.
+    fn look(&mut self, place: usize) -> Transition
+        requires { place < length (list self.old) }
+        ensures value { slice_get (list self.old) place ≡ Some result }
+        ensures same { list self.new ≡ list self.old }
+        ensures counted { looks self.new ≡ next (looks self.old) };
+
+    /// A look takes none back.
+    ghost no_less: { (n : ℕ) → n ≤ next n };
+
+    /// A look counts once at most.
+    ghost one_more: { (n : ℕ) → next n ≤ n + 1 };
+}
+
+/// Transitions whose looks are counted. The count stays at `u64::MAX` once it is there.
+#[derive(Drop)]
+pub struct Counted<'a> {
+    transitions: &'a [Transition],
+    looks: u64,
+}
+
+impl<'a> Counted<'a> {
+    /// The view of these transitions, at which no look has been taken.
+    pub fn new(transitions: &'a [Transition]) -> Self
+        ensures list { ⟦<Counted<'a> as Transitions>⟧.list result ≡ transitions.now }
+        ensures looks { ⟦<Counted<'a> as Transitions>⟧.looks result ≡ 0 }
+    {
+        Counted {
+            transitions,
+            looks: 0,
+        }
+    }
+
+    /// The number of looks so far.
+    pub fn looks(&self) -> u64
+        ensures { result ≡ ⟦<Counted<'a> as Transitions>⟧.looks self.now }
+    {
+        self.looks
+    }
+}
+
+impl Transitions for Counted<'_> {
+    ghost use Rattle.tz_zone.specs.Looks.{one_look_more, one_look_more-no_less, one_look_more-one_more};
+
+    ghost list = { λ view. view.transitions.now };
+
+    ghost looks = { λ view. view.looks };
+
+    ghost next = { one_look_more };
+
+    fn len(&self) -> usize {
+        self.transitions.len()
+    }
+
+    fn look(&mut self, place: usize) -> Transition {
+        self.looks = self.looks.saturating_add(1);
+        self.transitions[place]
+    }
+
+    ghost no_less = { one_look_more-no_less };
+
+    ghost one_more = { one_look_more-one_more };
+}
+
+/// Transitions whose looks are not counted.
+#[derive(Drop)]
+pub struct Uncounted<'a> {
+    transitions: &'a [Transition],
+}
+
+impl<'a> Uncounted<'a> {
+    /// The view of these transitions.
+    pub fn new(transitions: &'a [Transition]) -> Self
+        ensures { ⟦<Uncounted<'a> as Transitions>⟧.list result ≡ transitions.now }
+    {
+        Uncounted { transitions }
+    }
+}
+
+impl Transitions for Uncounted<'_> {
+    ghost use Rattle.tz_zone.specs.Looks.{same_looks-no_less, same_looks-one_more};
+
+    ghost list = { λ view. view.transitions.now };
+
+    ghost looks = { λ view. 0 };
+
+    ghost next = { λ n. n };
+
+    fn len(&self) -> usize {
+        self.transitions.len()
+    }
+
+    fn look(&mut self, place: usize) -> Transition {
+        self.transitions[place]
+    }
+
+    ghost no_less = { same_looks-no_less };
+
+    ghost one_more = { same_looks-one_more };
+}

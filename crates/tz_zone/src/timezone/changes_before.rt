@@ -1,0 +1,52 @@
+//! The changes of a zone's clock before an instant, one after the other.
+
+use super::{Change, TimeZoneRef};
+use std::iter::FusedIterator;
+
+/// The changes of a clock before an instant, each one before the one that came before it. Takes no memory.
+///
+/// After `None` each call answers `None`.
+#[derive(Clone, Debug, Drop)]
+pub struct ChangesBefore<'a> {
+    zone: TimeZoneRef<'a>,
+    unix_time: i64,
+    place: usize,
+}
+
+impl<'a> ChangesBefore<'a> {
+    ghost use Rattle.std.specs.Prelude.{◌≡◌};
+    ghost use Rattle.tz_zone.specs.ChangesInTurn.{place_before};
+    ghost use Rattle.tz_zone.specs.ZoneRef.{zone_of};
+
+    /// The changes of a zone's clock before an instant.
+    pub(crate) fn new(zone: TimeZoneRef<'a>, unix_time: i64) -> Self
+        ensures { place_before result ≡ record { zone = zone_of zone.entry; unix_time = unix_time } }
+    {
+        ChangesBefore {
+            zone,
+            unix_time,
+            place: 0,
+        }
+    }
+}
+
+impl<'a> Iterator for ChangesBefore<'a> {
+    ghost use Rattle.std.specs.Prelude.{negsuc, ◌-ℤ◌, unsigned_abs};
+    ghost use Rattle.std.specs.Iterator.{at_most};
+    ghost use Rattle.tz_zone.specs.ChangesInTurn.{GivesPreceding};
+
+    type Item = Change<'a>;
+
+    ghost next_gives = { GivesPreceding };
+
+    ghost remaining = { λ s. at_most (unsigned_abs (s.unix_time -ℤ negsuc 9223372036854775807)) };
+
+    fn next(&mut self) -> Option<Change<'a>> {
+        let (change, place) = self.zone.preceding_from(self.unix_time, Some(self.place))?;
+        self.unix_time = change.unix_time();
+        self.place = place;
+        Some(change)
+    }
+}
+
+impl FusedIterator for ChangesBefore<'_> {}

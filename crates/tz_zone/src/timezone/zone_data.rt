@@ -1,0 +1,59 @@
+//! Zones from the bytes of TZif files.
+
+ghost use Rattle.std.specs.Prelude.{◌≡◌, IfOk, IfErr, alloc_error, MatchResult};
+ghost use Rattle.tz_zone.specs.TzFile.{IsTzFile};
+ghost use Rattle.tz_zone.specs.TzFileFault.{IsReadFault};
+ghost use Rattle.tz_zone.specs.ZoneRef.{own_zone_of};
+ghost use Rattle.tz_zone.specs.Table.{Zone};
+
+use super::TimeZone;
+use crate::parse::tz_file::footer::read_extra_rule;
+use crate::parse::tz_file::version::may_hold;
+use crate::parse::tz_file::{read_frame, read_tables};
+use std::alloc::Allocator;
+use tz_base::error::TzError;
+use tz_base::error::timezone::TimeZoneError;
+
+impl<A: Allocator + Copy> TimeZone<A> {
+    /// The zone that the bytes of a TZif file denote. (RFC 8536)
+    ///
+    /// Fails if the bytes are not a file of version 1 to 4 (`TzFile`, or `TzString` for the string in the footer), if parts do not make a
+    /// local time type, rule or zone (`LocalTimeType`, `TransitionRule`, `TimeZone`, `OutOfRange`), or if an allocation fails (`Memory`).
+    /// All parts of the file are located before anything is allocated, so a count that exceeds the file allocates nothing.
+    ///
+    /// What clocks show at a Unix time in the zone of a file whose bytes were read:
+    ///
+    /// ```rust
+    /// pub fn local_time(alloc: Global, file: &[u8], unix_time: i64) -> Result<DateTime, TzError> {
+    ///     let zone = TimeZone::from_tz_data(alloc, file)?;
+    ///     DateTime::from_timespec(unix_time, 0, zone.as_ref())
+    /// }
+    /// ```
+    pub fn from_tz_data(alloc: A, bytes: &[u8]) -> Result<Self, TzError>
+        ensures ok { IfOk result (λ zone. IsTzFile bytes.now (own_zone_of zone)) }
+        ensures only { (zone : Zone) → IsTzFile bytes.now zone → MatchResult result (λ made. own_zone_of made ≡ zone) (λ e. e ≡ TzError.Memory alloc_error) }
+        ensures err { IfErr result (IsReadFault bytes.now) }
+    {
+        parse_tz_file(alloc, bytes)
+    }
+}
+
+/// Reads a zone from the bytes of a file.
+fn parse_tz_file<A: Allocator + Copy>(alloc: A, bytes: &[u8]) -> Result<TimeZone<A>, TzError>
+    ensures ok { IfOk result (λ zone. IsTzFile bytes.now (own_zone_of zone)) }
+    ensures err { IfErr result (IsReadFault bytes.now) }
+{
+    let frame = read_frame(bytes)?;
+    let tables = read_tables(alloc, &frame.part)?;
+    let extra_rule = read_extra_rule(frame.footer, frame.part.is_extended())?;
+    if !may_hold(frame.part.version, &tables.leap_seconds) {
+        return Err(TzError::TimeZone(TimeZoneError::InvalidLeapSecond));
+    }
+    TimeZone::from_read_parts(
+        tables.transitions,
+        tables.local_time_types,
+        tables.leap_seconds,
+        extra_rule,
+        tables.are_in_order,
+    )
+}
