@@ -16,7 +16,7 @@ use Rattle.tz.specs.Jumps.{HasOneJump}
 use Rattle.tz.specs.Walks.{moment_of}
 use Rattle.tz.specs.declared.datetime.found.FoundDateTimeKind.{FoundDateTimeKind}
 use Rattle.tz.specs.declared.datetime.found.FoundDateTimeKind.TheVariants.{Normal, Skipped}
-use Rattle.tz.proofs.WalkLemmas.{side_unique}
+use Rattle.tz.proofs.WalkSteps.{side_unique}
 
 module _ (z : Zone) (are : AreLeapSeconds z.leap_seconds) (f : Fields) (jump : ℤ) (a b : LocalTimeType) (has : HasOneJump z (reading f) jump a b) where
   -- the date time in each type

@@ -1,12 +1,9 @@
 -- Where the clock has one type in all the window of a reading, the reading is found once.
-use Rattle.std.proofs.Common.{◌≡◌, ◌⊎◌, inl, inr, refl, sym, ap, ◌∙◌, arith, ℤ, pos, ◌-ℤ◌, ◌≤ℤ◌, ◌<ℤ◌, [], ◌∷◌}
+use Rattle.std.proofs.Common.{◌≡◌, refl, sym, ap, ◌∙◌, arith, ℤ, pos, ◌-ℤ◌, ◌≤ℤ◌, ◌<ℤ◌, [], ◌∷◌}
 use Rattle.std.specs.List.{Contains}
-use Rattle.std.specs.Prelude.{alloc_error}
 use Rattle.std.proofs.lemmas.Int.{ints}
 use Rattle.std.proofs.lemmas.List.Elements.{All-nil, All-cons}
 use Rattle.tz_base.specs.declared.calendar.Fields.{Fields}
-use Rattle.tz_base.specs.declared.error.TzError.{TzError}
-use Rattle.tz_base.specs.declared.error.TzError.TheVariants as faults
 use Rattle.tz_base.specs.Fields.{reading}
 use Rattle.tz_rule.specs.LocalTimeType.{LocalTimeType}
 use Rattle.tz_zone.specs.Table.{Zone}
@@ -15,11 +12,11 @@ use Rattle.tz_zone.specs.Segments.{IsStretch}
 use Rattle.tz_zone.specs.ValidZone.{AreLeapSeconds}
 use Rattle.tz_zone.proofs.Clocks.{clock_unique}
 use Rattle.tz.specs.DateTimes.{DateTime}
-use Rattle.tz.specs.Found.{IsFound, IsFoundBy}
+use Rattle.tz.specs.Found.{IsFound, IsFoundBy, CanBeMade, EachCanBeMade}
 use Rattle.tz.specs.Reached.{AreOffsetsOf}
-use Rattle.tz.specs.Walks.{IsOutside, IsSearchFault}
 use Rattle.tz.specs.declared.datetime.found.FoundDateTimeKind.{FoundDateTimeKind}
 use Rattle.tz.specs.declared.datetime.found.FoundDateTimeKind.TheVariants.{Normal, Skipped}
+use Rattle.tz.proofs.UniqueLists.{each_from_list}
 
 abbrev moment_of : Fields → LocalTimeType → ℤ → DateTime
 moment_of f t u = record { fields = f; local_time_type = t; unix_time = u }
@@ -67,8 +64,6 @@ module _ (z : Zone) (are : AreLeapSeconds z.leap_seconds) (f : Fields) (least gr
         complete = no_other;
       }
 
-  -- and where that date time lies outside the years of 32 bits, the search is refused
-  pub fault_once : (takes_memory : Type 0) (e : TzError) → ((e ≡ faults.Memory alloc_error) × takes_memory) ⊎ ((e ≡ faults.OutOfRange) × IsOutside (reading f) (reading f -ℤ t.ut_offset)) →
-      IsSearchFault takes_memory (IsClock z) (reading f) e
-  fault_once takes_memory e (inl memory) = inl memory
-  fault_once takes_memory e (inr (is, outside)) = inr (is, inl (reading f -ℤ t.ut_offset, t, is_found.1, outside))
+  -- which can be made
+  pub made_once : EachCanBeMade (IsClock z) f
+  made_once = each_from_list (IsClock z) f (Normal the_one ∷ []) found_once (All-cons CanBeMade (Normal the_one) [] tt (All-nil CanBeMade))

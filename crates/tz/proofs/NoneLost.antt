@@ -1,10 +1,10 @@
 -- Where a clock has a type all through the window of a reading, it shows the reading there or passes over it.
-use Rattle.std.proofs.Common.{◌≡◌, ◌≢◌, ℕ, zero, suc, ◌+◌, ◌<◌, ◌⊎◌, inl, inr, refl, subst, arith, ℤ, pos, ◌+ℤ◌, ◌-ℤ◌, ◌≤ℤ◌, List, []}
+use Rattle.std.proofs.Common.{◌≡◌, ◌≢◌, ℕ, zero, suc, ◌+◌, ◌⊎◌, inl, inr, refl, subst, arith, ℤ, pos, ◌+ℤ◌, ◌-ℤ◌, ◌≤ℤ◌, List, []}
 use Rattle.std.specs.List.{Contains}
 use Rattle.std.proofs.lemmas.Int.{ints, by_lt_z}
 use Rattle.tz_base.specs.Fields.{IsValid, reading}
 use Rattle.tz_base.specs.declared.calendar.Fields.{Fields}
-use Rattle.tz_base.proofs.OrderLemmas.{gap_between}
+use Rattle.tz_base.proofs.DateOrder.{gap_between}
 use Rattle.tz_rule.specs.LocalTimeType.{LocalTimeType}
 use Rattle.tz_zone.specs.Table.{Zone}
 use Rattle.tz_zone.specs.Clock.{IsClock}
@@ -12,8 +12,8 @@ use Rattle.tz.specs.Found.{Clock, Shows, PassesOver, IsFoundBy, IsFound}
 use Rattle.tz.specs.Windows.{IsWindow}
 use Rattle.tz.specs.declared.datetime.found.FoundDateTimeKind.{FoundDateTimeKind}
 use Rattle.tz.specs.declared.datetime.found.FoundDateTimeKind.TheVariants.{Normal, Skipped}
-use Rattle.tz.proofs.CivilLemmas.{civil_exists}
-use Rattle.tz.proofs.WindowLemmas.{clock_between}
+use Rattle.tz.proofs.WalkSteps.{side_exists}
+use Rattle.tz.proofs.ReadingWindows.{clock_between}
 
 -- the clock shows the reading at some instant, or passes over it
 abbrev IsMet : Clock → ℤ → Type 0
@@ -42,18 +42,9 @@ module _ (clock : Clock) (r low high : ℤ) (has : (u : ℤ) → low ≤ℤ u �
 entry_of : (clock : Clock) (f : Fields) → IsValid f → IsMet clock (reading f) → (e : FoundDateTimeKind) × IsFoundBy clock f e
 entry_of clock f valid (inl (u, t, shows)) = (Normal (record { fields = f; local_time_type = t; unix_time = u }), (refl, shows))
 entry_of clock f valid (inr (u, a, b, passes)) =
-    let before = civil_exists (u +ℤ a.ut_offset) f.nanoseconds valid.in_range.nanoseconds in
-    let after = civil_exists (u +ℤ b.ut_offset) f.nanoseconds valid.in_range.nanoseconds in (
-      Skipped (record { fields = before.0; local_time_type = a; unix_time = u }) (record { fields = after.0; local_time_type = b; unix_time = u }),
-      (
-        u,
-        a,
-        b,
-        passes,
-        record { civil = before.1; type_is = refl; instant_is = refl },
-        record { civil = after.1; type_is = refl; instant_is = refl },
-      ),
-    )
+    let before = side_exists u f.nanoseconds a valid.in_range.nanoseconds in
+    let after = side_exists u f.nanoseconds b valid.in_range.nanoseconds in
+    (Skipped before.0 after.0, (u, a, b, passes, before.1, after.1))
 
 some_between : (low high : ℤ) → low ≤ℤ high → (n : ℕ) × ((low +ℤ pos n) ≡ high)
 some_between low high order =

@@ -1,4 +1,4 @@
--- A walk past the segments of a zone looks at each transition that takes effect in the window, and halves twice at most.
+-- A walk past the segments of a zone looks at each transition that takes effect in the window, and halves once at most: only if it begins without a cursor.
 use Rattle.std.proofs.Common.{◌≡◌, ◌≢◌, ℕ, ◌+◌, ◌-◌, ◌^◌, ◌<◌, ◌≤◌, ◌⊎◌, ◌∙◌, inl, inr, refl, sym, ap, subst, arith, ℤ, pos, ◌≤ℤ◌, ◌<ℤ◌, List, [], ◌∷◌, length, Option, Some, None}
 use Rattle.std.specs.Prelude.{IfSome, IfNone}
 use Rattle.std.proofs.lemmas.Bool.{cases_lt}
@@ -6,20 +6,20 @@ use Rattle.std.proofs.lemmas.Int.{ints}
 use Rattle.std.proofs.lemmas.List.{nil_from_length}
 use Rattle.tz_zone.specs.Table.{Transition, Zone}
 use Rattle.tz_zone.specs.ClockSegments.{TakesEffectAt}
-use Rattle.tz_zone.specs.declared.inner.cursor.Cursor.{Cursor}
-use Rattle.tz.specs.Windows.{TakesEffectIn, AtMostTakeEffectIn}
-use Rattle.tz.proofs.WindowLemmas.{as_many_as_passed}
+use Rattle.tz_zone.specs.declared.clock.cursor.Cursor.{Cursor}
+use Rattle.tz.specs.Windows.{TakesEffectIn, AtMostTakeEffectIn, halvings}
+use Rattle.tz.proofs.ReadingWindows.{as_many_as_passed}
 
-empty_or_some : (transitions : List Transition) → (transitions ≡ []) ⊎ (transitions ≢ [])
+pub empty_or_some : (transitions : List Transition) → (transitions ≡ []) ⊎ (transitions ≢ [])
 empty_or_some transitions = elim (cases_lt 0 (length transitions)) [
   | inl some ↦ inr (λ none. omega (arith, some, ap (length {A = Transition}) none))
   | inr none ↦ inl (nil_from_length transitions (omega (arith, none)))
 ]
 
-module _ (z : Zone) (low high : ℤ) (before : ℕ) where
-  -- no more looks than one halving takes, and one for each transition of the window
+module _ (z : Zone) (low high : ℤ) (start : Option Cursor) (before : ℕ) where
+  -- no more looks than the halving takes, if there is one, and one for each transition of the window
   abbrev pub AreFew : ℕ → Type 0
-  AreFew looks = (b w : ℕ) → length z.transitions < 2 ^ b → AtMostTakeEffectIn z low high w → looks ≤ before + (b + w + 1)
+  AreFew looks = (b w : ℕ) → length z.transitions < 2 ^ b → AtMostTakeEffectIn z low high w → looks ≤ before + (halvings start b + w)
 
   -- at a place, with the place at which it began and the looks that it took to find that
   pub record AreLooksTo (looks place : ℕ) : Type 0 where
@@ -27,7 +27,7 @@ module _ (z : Zone) (low high : ℤ) (before : ℕ) where
     pub halving : ℕ
     pub order : first ≤ place
     pub passed : looks + first ≤ before + halving + place
-    pub few : (b : ℕ) → length z.transitions < 2 ^ b → halving ≤ b + 1
+    pub few : (b : ℕ) → length z.transitions < 2 ^ b → halving ≤ halvings start b
     pub effects : (i : ℕ) → first ≤ i → i < place → TakesEffectIn z low high i
 
   -- at the end of a segment: none yet where it has no cursor, unless it is the last of all
@@ -35,11 +35,11 @@ module _ (z : Zone) (low high : ℤ) (before : ℕ) where
     pub kept : before ≤ looks
     pub none : z.transitions ≡ [] → looks ≡ before
     pub some : IfSome cursor (λ c. AreLooksTo looks c.place)
-    pub without : IfNone cursor ((looks ≡ before) ⊎ ((last ≡ pos 9223372036854775807) × AreFew looks))
+    pub without : IfNone cursor ((z.transitions ≡ []) ⊎ ((looks ≡ before) × (start ≡ None)) ⊎ ((last ≡ pos 9223372036854775807) × AreFew looks))
 
-  pub looks_at_first : (cursor : Option Cursor) (last : ℤ) → AreLooks before cursor last
-  looks_at_first None last = record { kept = omega arith; none = λ empty. refl; some = tt; without = inl refl }
-  looks_at_first (Some c) last = record {
+  pub looks_at_first : (cursor : Option Cursor) (last : ℤ) → start ≡ cursor → AreLooks before cursor last
+  looks_at_first None last same = record { kept = omega arith; none = λ empty. refl; some = tt; without = inr (inl (refl, same)) }
+  looks_at_first (Some c) last same = record {
     kept = omega arith;
     none = λ empty. refl;
     some = record { first = c.place; halving = 0; order = omega arith; passed = omega arith; few = λ b bits. omega arith; effects = λ i from until. absurd (omega (arith, from, until)) };
@@ -50,8 +50,17 @@ module _ (z : Zone) (low high : ℤ) (before : ℕ) where
   few_to looks place to b w bits most =
       omega (arith, to.passed, to.few b bits, as_many_as_passed z low high w most to.first place to.order to.effects)
 
+  -- the one halving of a walk that begins without a cursor
+  few_anew : (looks : ℕ) → start ≡ None → ((b : ℕ) → length z.transitions < 2 ^ b → looks ≤ before + (b + 1)) → AreFew looks
+  few_anew looks same anew b w bits most = subst (λ (s : Option Cursor). looks ≤ before + (halvings s b + w)) (sym same) (omega (arith, anew b bits))
+
   pub few_at_end : (looks : ℕ) (cursor : Option Cursor) (last : ℤ) → AreLooks looks cursor last → AreFew looks
-  few_at_end looks None last are b w bits most = elim are.without [ inl same ↦ omega (arith, same) | inr end ↦ end.1 b w bits most ]
+  few_at_end looks None last are b w bits most =
+      elim are.without [
+        | inl empty ↦ omega (arith, are.none empty)
+        | inr (inl same) ↦ omega (arith, same.0)
+        | inr (inr end) ↦ end.1 b w bits most
+      ]
   few_at_end looks (Some c) last are b w bits most = few_to looks c.place are.some b w bits most
 
   -- on to the next segment, which begins in the window
@@ -85,37 +94,62 @@ module _ (z : Zone) (low high : ℤ) (before : ℕ) where
     none = λ none. empty none ∙ are.none none;
     some = tt;
     without = elim (empty_or_some z.transitions) [
-      | inl none ↦ inl (empty none ∙ are.none none)
-      | inr some ↦ inr (over some, subst AreFew (sym same) (few_to looks c.place are.some))
+      | inl none ↦ inl none
+      | inr some ↦ inr (inr (over some, subst AreFew (sym same) (few_to looks c.place are.some)))
     ];
   }
   looks_at_next looks next None (Some d) last from end are more low_is high_is kept anew on same effects over empty =
       elim are.without [
-        | inl start ↦ record {
+        | inl none ↦ record {
+          kept = omega (arith, are.kept, kept);
+          none = λ none. empty none ∙ are.none none;
+          some = record {
+            first = d.place;
+            halving = 0;
+            order = omega arith;
+            passed = omega (arith, empty none, are.none none);
+            few = λ b bits. omega arith;
+            effects = λ i since until. absurd (omega (arith, since, until));
+          };
+          without = tt;
+        }
+        | inr (inl first) ↦ record {
           kept = omega (arith, are.kept, kept);
           none = λ none. empty none ∙ are.none none;
           some = record {
             first = d.place;
             halving = next - before;
             order = omega arith;
-            passed = omega (arith, start, kept);
-            few = λ b bits. omega (arith, anew b bits, start);
+            passed = omega (arith, first.0, kept);
+            few = λ b bits. subst (λ (s : Option Cursor). (next - before) ≤ halvings s b) (sym first.1) (omega (arith, anew b bits, first.0));
             effects = λ i since until. absurd (omega (arith, since, until));
           };
           without = tt;
         }
-        | inr stop ↦ absurd (omega (arith, ints, more, stop.0))
+        | inr (inr stop) ↦ absurd (omega (arith, ints, more, stop.0))
       ]
   looks_at_next looks next None None last from end are more low_is high_is kept anew on same effects over empty =
       elim are.without [
-        | inl start ↦ record {
+        | inl none ↦ record { kept = omega (arith, are.kept, kept); none = λ none. empty none ∙ are.none none; some = tt; without = inl none }
+        | inr (inl first) ↦ record {
           kept = omega (arith, are.kept, kept);
           none = λ none. empty none ∙ are.none none;
           some = tt;
           without = elim (empty_or_some z.transitions) [
-            | inl none ↦ inl (empty none ∙ are.none none)
-            | inr some ↦ inr (over some, λ b w bits most. omega (arith, anew b bits, start))
+            | inl none ↦ inl none
+            | inr some ↦ inr (inr (over some, few_anew next first.1 (λ b bits. omega (arith, anew b bits, first.0))))
           ];
         }
-        | inr stop ↦ absurd (omega (arith, ints, more, stop.0))
+        | inr (inr stop) ↦ absurd (omega (arith, ints, more, stop.0))
       ]
+
+-- the looks of a walk that begins in a segment which has a cursor, or after which none follows
+pub looks_of_walk : (cursor : Option Cursor) (last high : ℤ) (before looks b w : ℕ) → IfNone cursor (last ≡ pos 9223372036854775807) → high ≤ℤ pos 80000000000000000 →
+    (high ≤ℤ last → looks ≡ before) → looks ≤ before + (halvings cursor b + w) → looks ≤ before + w
+looks_of_walk None last high before looks b w end reach still few = omega (arith, still (omega (arith, ints, end, reach)))
+looks_of_walk (Some c) last high before looks b w end reach still few = omega (arith, few)
+
+-- and of any walk
+pub looks_of_long_walk : (cursor : Option Cursor) (before looks b w : ℕ) → looks ≤ before + (halvings cursor b + w) → looks ≤ before + (b + w + 1)
+looks_of_long_walk None before looks b w few = omega (arith, few)
+looks_of_long_walk (Some c) before looks b w few = omega (arith, few)

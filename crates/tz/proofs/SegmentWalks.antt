@@ -1,19 +1,20 @@
 -- A walk past the segments of a clock in a window, one after another, finds all.
 use Rattle.std.proofs.Common.{◌≡◌, ℕ, zero, suc, ◌<◌, ◌≤◌, sym, ap, subst, arith, ℤ, pos, negsuc, ◌+ℤ◌, ◌-ℤ◌, ◌≤ℤ◌, ◌<ℤ◌, List, [], ◌∷◌, ◌++◌, length, get_or, Option, None}
 use Rattle.std.proofs.lemmas.Int.{ints}
-use Rattle.std.specs.List.{Contains}
+use Rattle.std.specs.List.{All, Contains}
 use Rattle.std.proofs.lemmas.List.Elements.{All-nil, All-weaker}
 use Rattle.tz_base.specs.declared.calendar.Fields.{Fields}
 use Rattle.tz_base.specs.declared.error.TzError.{TzError}
 use Rattle.tz_base.specs.Fields.{reading}
 use Rattle.tz_rule.specs.LocalTimeType.{LocalTimeType}
-use Rattle.tz.specs.Found.{Clock, Shows, PassesOver, IsFoundBy, IsFound, instant_of}
-use Rattle.tz.specs.Walks.{HoldsAt, HoldsFrom, IsGiveFault, IsGiven, IsSearchFault, IsStep, IsWalk, IsWalked}
+use Rattle.tz.specs.FindFaults.{IsSearchFault}
+use Rattle.tz.specs.Found.{Clock, Shows, PassesOver, IsFoundBy, IsFound, CanBeMade, instant_of}
+use Rattle.tz.specs.Walks.{HoldsAt, HoldsFrom, IsGiveFault, IsGiven, IsStep, IsWalk, IsWalked}
 use Rattle.tz.specs.declared.datetime.found.FoundDateTimeKind.{FoundDateTimeKind}
 use Rattle.tz.specs.declared.datetime.found.FoundDateTimeKind.TheVariants.{Normal, Skipped}
 use Rattle.tz.specs.declared.datetime.walk.Piece.{Piece}
 use Rattle.tz.specs.declared.datetime.walk.Walk.{Walk}
-use Rattle.tz.proofs.WalkLemmas.{SeenClock, found_before_end, found_before_given, found_from_seen, search_fault_from_give, search_fault_from_seen, walked_from_start, walked_on}
+use Rattle.tz.proofs.WalkSteps.{SeenClock, found_before_end, found_before_given, found_from_seen, search_fault_from_give, search_fault_from_seen, walked_from_start, walked_on}
 
 -- the instants of a window, both ends counted
 abbrev pub IsInWindow : ℤ → ℤ → ℤ → Type 0
@@ -91,20 +92,20 @@ module _ (clock : Clock) (low high : ℤ) (f : Fields) where
 
     -- where the last piece is refused, so is the search
     pub fault_there : (until : ℤ) → w.since <ℤ until → until ≤ℤ (last +ℤ pos 1) → until ≤ℤ (high +ℤ pos 1) → (takes_memory : Type 0) (e : TzError) → IsGiveFault takes_memory w until e →
-        IsSearchFault takes_memory clock (reading f) e
+        IsSearchFault takes_memory clock f e
     fault_there until some to_last to_high takes_memory e fault =
-        search_fault_from_seen clock (IsInWindow low high) takes_memory (reading f) e
+        search_fault_from_seen clock (IsInWindow low high) takes_memory f e
         (search_fault_from_give Seen f w found way.walked until (holds_to until to_last to_high) takes_memory e some fault)
 
-    -- the piece with which the window ends is the last one
-    pub found_to_end : high ≤ℤ last → AreOffsetsAround clock low high (reading f) → (until : ℤ) (new : List FoundDateTimeKind) → until ≡ high +ℤ pos 1 → IsGiven w until new → IsFound clock f (found ++ new)
+    -- the piece with which the window ends is the last one, and what is found can be made
+    pub found_to_end : high ≤ℤ last → AreOffsetsAround clock low high (reading f) → (until : ℤ) (new : List FoundDateTimeKind) → until ≡ high +ℤ pos 1 → IsGiven w until new → IsFound clock f (found ++ new) × All CanBeMade (found ++ new)
     found_to_end over offsets until new end given =
-        found_from_seen clock (IsInWindow low high) f (found ++ new)
+        let given = found_before_given Seen f w found way.walked until (holds_to until (omega (arith, ints, end, over)) (omega (arith, ints, end))) new (omega (arith, ints, end, way.high_is)) given in
+        let all = found_from_seen clock (IsInWindow low high) f (found ++ new)
         (λ u t shows. shown_in_window clock low high (reading f) offsets u t shows)
         (λ u a b passes. passed_in_window clock low high (reading f) offsets u a b passes)
-        (found_before_end Seen f until (found ++ new)
-        (found_before_given Seen f w found way.walked until (holds_to until (omega (arith, ints, end, over)) (omega (arith, ints, end))) new (omega (arith, ints, end, way.high_is)) given)
-        (λ u t seen. omega (arith, ints, end, seen.1.1)))
+        (found_before_end Seen f until (found ++ new) given (λ u t seen. omega (arith, ints, end, seen.1.1))) in
+        (all, given.made)
 
 -- where the clock has no type in a window, nothing is found
 pub found_nowhere : (clock : Clock) (low high : ℤ) (f : Fields) → AreOffsetsAround clock low high (reading f) → ((u : ℤ) → IsInWindow low high u → (t : LocalTimeType) → ¬ clock u t) → IsFound clock f []

@@ -17,7 +17,7 @@ use Rattle.tz_zone.specs.TzText.{Begins, IsRun, IsNumber, IsPart, IsHms, IsSigne
 use Rattle.tz_zone.proofs.TextReadings.{no_digit}
 use Rattle.tz.specs.PrintedText.{two_digits, seconds_text}
 use Rattle.tz.specs.TzStrings.{minutes_text, plain_time_text, signed_time_text}
-use Rattle.tz.proofs.PrintedLemmas.{two_digits-below, decimal-two_digits}
+use Rattle.tz.proofs.PrintedDigits.{two_digits-below, decimal-two_digits}
 
 -- the text is over, or its first byte does not pass the test
 abbrev pub Stops : (ℕ → Bool) → List ℕ → Type 0

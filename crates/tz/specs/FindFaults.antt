@@ -1,26 +1,30 @@
--- Why a search for fields is refused, and where it is not for its range.
-use Rattle.std.specs.Prelude.{◌≡◌, ◌⊎◌, ℕ, ℤ, negsuc, pos, ◌≤ℤ◌, Option, Some, None, ⊤}
+-- Why a search for fields is refused, and where it is never out of range.
+use Rattle.std.specs.Prelude.{◌≡◌, ◌⊎◌, ℕ, ℤ, negsuc, pos, ◌≤ℤ◌, Option, Some, None, ⊤, alloc_error}
 use Rattle.tz_base.specs.declared.calendar.Fields.{Fields}
 use Rattle.tz_base.specs.declared.error.TzError.{TzError}
 use Rattle.tz_base.specs.declared.error.TzError.TheVariants as faults
 use Rattle.tz_base.specs.declared.error.datetime.DateTimeError.{DateTimeError}
-use Rattle.tz_base.specs.Fields.{IsFirstFault, IsValid, reading}
+use Rattle.tz_base.specs.Fields.{IsFirstFault, IsValid}
 use Rattle.tz_rule.specs.LocalTimeType.{LocalTimeType}
 use Rattle.tz_rule.specs.Alternate.{IsRuleOffset}
 use Rattle.tz_rule.specs.declared.timezone.rule.TransitionRule.{TransitionRule}
 use Rattle.tz_rule.specs.declared.timezone.rule.TransitionRule.TheVariants.{Fixed, Alternate}
 use Rattle.tz_zone.specs.Table.{Zone}
 use Rattle.tz_zone.specs.Clock.{IsTypeAt}
-use Rattle.tz.specs.Found.{Clock}
-use Rattle.tz.specs.Walks.{IsSearchFault}
+use Rattle.tz.specs.Found.{Clock, OneCannotBeMade}
 
 -- the first fault of the fields
 abbrev pub IsFieldFault : Fields → TzError → Type 0
 IsFieldFault f e = (fault : DateTimeError) × (e ≡ faults.DateTime fault) × IsFirstFault f fault
 
--- that, or the search for valid fields is refused
+-- why a search for valid fields is refused: memory, if it takes any, or an entry cannot be made
+abbrev pub IsSearchFault : Type 0 → Clock → Fields → TzError → Type 0
+IsSearchFault takes_memory clock f e =
+    ((e ≡ faults.Memory alloc_error) × takes_memory) ⊎ ((e ≡ faults.OutOfRange) × OneCannotBeMade clock f)
+
+-- the fields have a fault, or they are valid and the search is refused
 abbrev pub IsFindFault : Type 0 → Clock → Fields → TzError → Type 0
-IsFindFault takes_memory clock f e = IsFieldFault f e ⊎ (IsValid f × IsSearchFault takes_memory clock (reading f) e)
+IsFindFault takes_memory clock f e = IsFieldFault f e ⊎ (IsValid f × IsSearchFault takes_memory clock f e)
 
 -- a year that is 200 years or more from both ends of 32 bits
 abbrev pub IsFarFromEnds : ℤ → Type 0

@@ -1,8 +1,8 @@
 -- What a search finds: instants at which a clock shows a reading, and forward jumps of a clock over it.
-use Rattle.std.specs.Prelude.{◌≡◌, ◌-◌, ℤ, pos, ◌+ℤ◌, ◌-ℤ◌, ◌≤ℤ◌, ◌<ℤ◌, List, [], ◌∷◌, Option, Some, None, length, slice_get}
+use Rattle.std.specs.Prelude.{◌≡◌, ◌-◌, ℤ, pos, ◌+ℤ◌, ◌-ℤ◌, ◌≤ℤ◌, ◌<ℤ◌, List, [], ◌∷◌, Option, Some, None, length, slice_get, ⊤}
 use Rattle.std.specs.List.{All, AllPairs, Contains}
 use Rattle.tz_base.specs.declared.calendar.Fields.{Fields}
-use Rattle.tz_base.specs.Fields.{reading}
+use Rattle.tz_base.specs.Fields.{IsReading, reading}
 use Rattle.tz_rule.specs.LocalTimeType.{LocalTimeType}
 use Rattle.tz.specs.DateTimes.{DateTime, ShowsInstant}
 use Rattle.tz.specs.declared.datetime.found.FoundDateTimeKind.{FoundDateTimeKind}
@@ -50,6 +50,18 @@ pub record IsFound (clock : Clock) (f : Fields) (found : List FoundDateTimeKind)
   pub sound : All (IsFoundBy clock f) found
   pub in_order : AllPairs IsEarlier found
   pub complete : (e : FoundDateTimeKind) → IsFoundBy clock f e → Contains found e
+
+-- an entry can be made: what is shown has the fields that were searched for, and both sides of a jump need years of 32 bits
+abbrev pub CanBeMade : FoundDateTimeKind → Type 0
+CanBeMade (Normal d) = ⊤
+CanBeMade (Skipped before after) = IsReading (reading before.fields) × IsReading (reading after.fields)
+
+-- each entry that the fields have can be made, or one of them cannot
+abbrev pub EachCanBeMade : Clock → Fields → Type 0
+EachCanBeMade clock f = (e : FoundDateTimeKind) → IsFoundBy clock f e → CanBeMade e
+
+abbrev pub OneCannotBeMade : Clock → Fields → Type 0
+OneCannotBeMade clock f = (e : FoundDateTimeKind) × IsFoundBy clock f e × ¬ CanBeMade e
 
 -- the one date time of a list of one
 abbrev pub unique_of : List FoundDateTimeKind → Option DateTime

@@ -1,10 +1,10 @@
 -- What a reading means to a clock that has one type in its window, or two with one jump between them.
-use Rattle.std.specs.Prelude.{◌≡◌, ◌⊎◌, ℤ, List, [], ◌∷◌}
+use Rattle.std.specs.Prelude.{◌≡◌, ℤ, List, [], ◌∷◌, ⊤}
 use Rattle.tz_base.specs.declared.calendar.Fields.{Fields}
 use Rattle.tz_base.specs.Fields.{reading}
 use Rattle.tz.specs.DateTimes.{DateTime, ShowsInstant}
 use Rattle.tz.specs.Found.{Clock, Shows, PassesOver, IsFound}
-use Rattle.tz.specs.Walks.{moment_of, IsEntryNear, IsEntryOutside}
+use Rattle.tz.specs.Walks.{moment_of, IsEntryAt, IsEntryOutside}
 use Rattle.tz.specs.declared.datetime.found.FoundDateTimeKind.{FoundDateTimeKind}
 use Rattle.tz.specs.declared.datetime.found.FoundDateTimeKind.TheVariants.{Normal}
 use Rattle.tz.specs.declared.datetime.found.FoundDateTimeKind.TheVariants as kinds
@@ -30,14 +30,14 @@ pub record IsResolution (clock : Clock) (r : ℤ) (resolution : Resolution) : Ty
   pub there : IsThere clock r resolution
   pub all : (f : Fields) → reading f ≡ r → (found : List FoundDateTimeKind) → AreEntriesOf f resolution found → IsFound clock f found
 
--- its date times lie near the reading
-abbrev pub IsResolutionNear : ℤ → Resolution → Type 0
-IsResolutionNear r (Once u t) = IsEntryNear r (Shown u t.now)
-IsResolutionNear r (Twice u a v b) = IsEntryNear r (Shown u a.now) × IsEntryNear r (Shown v b.now)
-IsResolutionNear r (Skipped u a b) = IsEntryNear r (Jump u a.now b.now)
+-- the instants at which the reading is shown are the reading less the offsets of their types
+abbrev pub IsResolutionAt : ℤ → Resolution → Type 0
+IsResolutionAt r (Once u t) = IsEntryAt r (Shown u t.now)
+IsResolutionAt r (Twice u a v b) = IsEntryAt r (Shown u a.now) × IsEntryAt r (Shown v b.now)
+IsResolutionAt r (Skipped u a b) = ⊤
 
--- one of them lies outside the years of 32 bits
-abbrev pub IsResolutionOutside : ℤ → Resolution → Type 0
-IsResolutionOutside r (Once u t) = IsEntryOutside r (Shown u t.now)
-IsResolutionOutside r (Twice u a v b) = IsEntryOutside r (Shown u a.now) ⊎ IsEntryOutside r (Shown v b.now)
-IsResolutionOutside r (Skipped u a b) = IsEntryOutside r (Jump u a.now b.now)
+-- a side of the jump lies outside the years of 32 bits
+abbrev pub IsResolutionOutside : Resolution → Type 0
+IsResolutionOutside (Once u t) = ⊥
+IsResolutionOutside (Twice u a v b) = ⊥
+IsResolutionOutside (Skipped u a b) = IsEntryOutside (Jump u a.now b.now)

@@ -6,7 +6,7 @@ use mir.Val.{SFits}
 use Rattle.tz_base.specs.Days.{month_length}
 use Rattle.tz_base.specs.Fields.{IsValid}
 use Rattle.tz_base.specs.declared.calendar.Fields.{Fields}
-use Rattle.tz_base.proofs.EndLemmas.{valid_reading}
+use Rattle.tz_base.proofs.LastSeconds.{valid_reading}
 use Rattle.tz.specs.DateTimes.{IsUtc}
 
 -- midnight of January 1st of the year, and the last nanosecond of it

@@ -1,5 +1,5 @@
 -- How far a search has come: what was found of a clock before an instant, and what the clock shows from there on.
-use Rattle.std.specs.Prelude.{◌≡◌, ◌⊎◌, ℤ, pos, negsuc, ◌+ℤ◌, ◌-ℤ◌, ◌≤ℤ◌, ◌<ℤ◌, List, [], ◌∷◌, Option, Some, alloc_error}
+use Rattle.std.specs.Prelude.{◌≡◌, ◌⊎◌, ℤ, pos, negsuc, ◌+ℤ◌, ◌-ℤ◌, ◌≤ℤ◌, ◌<ℤ◌, List, [], ◌∷◌, Option, Some, ⊤, alloc_error}
 use Rattle.std.specs.List.{All, AllPairs, Contains}
 use Rattle.tz_base.specs.declared.calendar.Fields.{Fields}
 use Rattle.tz_base.specs.declared.error.TzError.{TzError}
@@ -7,7 +7,7 @@ use Rattle.tz_base.specs.declared.error.TzError.TheVariants as faults
 use Rattle.tz_base.specs.Fields.{reading, IsValid, IsReading}
 use Rattle.tz_rule.specs.LocalTimeType.{LocalTimeType}
 use Rattle.tz.specs.DateTimes.{DateTime, ShowsInstant}
-use Rattle.tz.specs.Found.{Clock, Shows, PassesOver, IsFoundBy, IsEarlier, instant_of}
+use Rattle.tz.specs.Found.{Clock, IsFoundBy, IsEarlier, CanBeMade, instant_of}
 use Rattle.tz.specs.declared.datetime.found.FoundDateTimeKind.{FoundDateTimeKind}
 use Rattle.tz.specs.declared.datetime.found.FoundDateTimeKind.TheVariants.{Normal, Skipped}
 use Rattle.tz.specs.declared.datetime.walk.Entry.{Entry}
@@ -19,25 +19,6 @@ use Rattle.tz.specs.declared.datetime.walk.Walk.{Walk}
 abbrev pub IsSmall : ℤ → Type 0
 IsSmall x = (negsuc 70000000000000000 ≤ℤ x) × (x ≤ℤ pos 70000000000000000)
 
--- less than 2^32 seconds, which are 136.1 years, from a reading
-abbrev pub IsNear : ℤ → ℤ → Type 0
-IsNear r x = ((r -ℤ pos 4294967296) <ℤ x) × (x <ℤ (r +ℤ pos 4294967296))
-
--- a moment near the reading that lies outside the years of 32 bits
-abbrev pub IsOutside : ℤ → ℤ → Type 0
-IsOutside r x = IsNear r x × ¬ IsReading x
-
--- a date time that is to be found lies outside those years: the clock shows the reading at such an instant, or is set forward over it
--- from such a moment or to one
-abbrev pub HasOutside : Clock → ℤ → Type 0
-HasOutside clock r =
-    ((u : ℤ) × (t : LocalTimeType) × Shows clock r u t × IsOutside r u)
-    ⊎ ((u : ℤ) × (a : LocalTimeType) × (b : LocalTimeType) × PassesOver clock r u a b × (IsOutside r (u +ℤ a.ut_offset) ⊎ IsOutside r (u +ℤ b.ut_offset)))
-
--- why a search is refused: memory, if it takes any, or a date time that is to be found lies outside the years of 32 bits
-abbrev pub IsSearchFault : Type 0 → Clock → ℤ → TzError → Type 0
-IsSearchFault takes_memory clock r e = ((e ≡ faults.Memory alloc_error) × takes_memory) ⊎ ((e ≡ faults.OutOfRange) × HasOutside clock r)
-
 -- the date time with these parts
 abbrev pub moment_of : Fields → LocalTimeType → ℤ → DateTime
 moment_of f t u = record { fields = f; local_time_type = t; unix_time = u }
@@ -48,15 +29,15 @@ IsDateTimeOf f (Shown u t) found = found ≡ Normal (moment_of f t u)
 IsDateTimeOf f (Jump u a b) found =
     (before : DateTime) × (after : DateTime) × (found ≡ Skipped before after) × ShowsInstant u f.nanoseconds a before × ShowsInstant u f.nanoseconds b after
 
--- the date times of the entry lie near the reading
-abbrev pub IsEntryNear : ℤ → Entry → Type 0
-IsEntryNear r (Shown u t) = (u ≡ r -ℤ t.ut_offset) × IsNear r u
-IsEntryNear r (Jump u a b) = IsNear r (u +ℤ a.ut_offset) × IsNear r (u +ℤ b.ut_offset)
+-- the entry's instant, if it is shown, is the reading less the offset of its type
+abbrev pub IsEntryAt : ℤ → Entry → Type 0
+IsEntryAt r (Shown u t) = u ≡ r -ℤ t.ut_offset
+IsEntryAt r (Jump u a b) = ⊤
 
--- a date time of the entry lies outside the years of 32 bits
-abbrev pub IsEntryOutside : ℤ → Entry → Type 0
-IsEntryOutside r (Shown u t) = IsOutside r (r -ℤ t.ut_offset)
-IsEntryOutside r (Jump u a b) = IsOutside r (u +ℤ a.ut_offset) ⊎ IsOutside r (u +ℤ b.ut_offset)
+-- a side of the entry lies outside the years of 32 bits
+abbrev pub IsEntryOutside : Entry → Type 0
+IsEntryOutside (Shown u t) = ⊥
+IsEntryOutside (Jump u a b) = ¬ IsReading (u +ℤ a.ut_offset) ⊎ ¬ IsReading (u +ℤ b.ut_offset)
 
 -- the instants from one up to another, not counting that
 abbrev pub IsFrom : ℤ → ℤ → ℤ → Type 0
@@ -80,18 +61,18 @@ IsEntryOf w until (Jump u a b) =
 abbrev pub IsGiven : Walk → ℤ → List FoundDateTimeKind → Type 0
 IsGiven w until found =
     ((found ≡ []) × ((entry : Entry) → ¬ IsEntryOf w until entry))
-    ⊎ ((entry : Entry) × (e : FoundDateTimeKind) × IsEntryOf w until entry × IsDateTimeOf w.fields entry e × (found ≡ e ∷ []))
+    ⊎ ((entry : Entry) × (e : FoundDateTimeKind) × IsEntryOf w until entry × IsDateTimeOf w.fields entry e × CanBeMade e × (found ≡ e ∷ []))
 
 -- a step to a next piece, which ends the last one
 abbrev pub IsStep : Walk → Piece → Walk → List FoundDateTimeKind → Type 0
 IsStep w piece next found =
     (next ≡ record w { before = w.local_time_type; since = piece.from; local_time_type = piece.local_time_type }) × IsGiven w piece.from found
 
--- why the last piece gives nothing, where it ends at an instant: memory, or its entry lies outside the years of 32 bits
+-- why the last piece gives nothing, where it ends at an instant: memory, or a side of its entry lies outside the years of 32 bits
 abbrev pub IsGiveFault : Type 0 → Walk → ℤ → TzError → Type 0
 IsGiveFault takes_memory w until e =
     ((e ≡ faults.Memory alloc_error) × takes_memory)
-    ⊎ ((e ≡ faults.OutOfRange) × (entry : Entry) × IsEntryOf w until entry × IsEntryOutside w.reading entry)
+    ⊎ ((e ≡ faults.OutOfRange) × (entry : Entry) × IsEntryOf w until entry × IsEntryOutside entry)
 
 -- a walk for valid fields
 pub record IsWalk (f : Fields) (w : Walk) : Type 0 where
@@ -100,11 +81,12 @@ pub record IsWalk (f : Fields) (w : Walk) : Type 0 where
   pub reading_is : w.reading ≡ reading f
   pub small : IsSmall w.reading
 
--- all that is found of a clock before an instant
+-- all that is found of a clock before an instant, which can be made
 pub record IsFoundBefore (clock : Clock) (f : Fields) (until : ℤ) (found : List FoundDateTimeKind) : Type 0 where
   pub sound : All (λ e. IsFoundBy clock f e × (instant_of e <ℤ until)) found
   pub in_order : AllPairs IsEarlier found
   pub complete : (e : FoundDateTimeKind) → IsFoundBy clock f e → instant_of e <ℤ until → Contains found e
+  pub made : All CanBeMade found
 
 -- a walk past a clock that has come to its last piece
 pub record IsWalked (clock : Clock) (f : Fields) (w : Walk) (found : List FoundDateTimeKind) : Type 0 where

@@ -1,10 +1,11 @@
 -- The window in which a clock can show a reading, by the offsets that a zone has, and the transitions that take effect there.
-use Rattle.std.specs.Prelude.{◌≡◌, ℕ, ◌<◌, ◌≤◌, ℤ, ◌-ℤ◌, ◌≤ℤ◌, List, Option, Some, length, slice_get}
+use Rattle.std.specs.Prelude.{◌≡◌, ℕ, ◌+◌, ◌<◌, ◌≤◌, ℤ, ◌-ℤ◌, ◌≤ℤ◌, List, Option, Some, None, length, slice_get}
 use Rattle.std.specs.List.{All, AllPairs}
 use Rattle.tz_rule.specs.LocalTimeType.{LocalTimeType}
 use Rattle.tz_rule.specs.declared.timezone.rule.TransitionRule.{TransitionRule}
 use Rattle.tz_zone.specs.Table.{Transition, Zone}
 use Rattle.tz_zone.specs.LeapTime.{IsEffect}
+use Rattle.tz_zone.specs.declared.clock.cursor.Cursor.{Cursor}
 use Rattle.tz_zone.specs.Offsets.{IsLeastOffset, IsGreatestOffset}
 
 -- the first and the last instant of a reading's window: the reading less the greatest offset, and less the least
@@ -29,3 +30,8 @@ AtMostTakeEffectIn z low high w = (places : List ℕ) → AreRising places → A
 -- no more than this many take effect in the window of a reading
 abbrev pub AtMostTakeEffectAround : Zone → ℤ → ℕ → Type 0
 AtMostTakeEffectAround z r w = (low : ℤ) × (high : ℤ) × IsWindow z.types z.extra_rule r low high × AtMostTakeEffectIn z low high w
+
+-- the looks that a walk takes to find its place, by the bits of the number of transitions: none from a cursor on
+abbrev pub halvings : Option Cursor → ℕ → ℕ
+halvings None b = b + 1
+halvings (Some c) b = 0

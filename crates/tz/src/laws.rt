@@ -1,9 +1,10 @@
-//! Laws of date times. A function here does nothing, or one call that it speaks of; its contract is the law, in the words of the
+//! Laws of date times. A function here does nothing, or makes one call that the law is about. Its contract is the law, stated like the
 //! contracts of [`crate::UtcDateTime`] and [`crate::DateTime`].
 
-ghost use Rattle.std.specs.Prelude.{◌≡◌, ◌≢◌, ℕ, ◌<◌, true, pos, ℤ, ◌+ℤ◌, ◌↔◌, ◌≤◌, ◌≤ℤ◌, length, List, [], ⊤, alloc_error};
+ghost use Rattle.std.specs.Prelude.{◌≡◌, ◌≢◌, ℕ, ◌<◌, true, pos, ℤ, ◌+ℤ◌, ◌↔◌, ◌≤◌, ◌≤ℤ◌, length, List, [], ⊤, alloc_error, FitsSigned};
 ghost use Rattle.std.specs.List.{Contains};
 ghost use Rattle.std.specs.Duration.{as_nanos};
+ghost use Rattle.std.specs.Int.{w32};
 ghost use Rattle.std.specs.Ordering.{int_cmp};
 ghost use Rattle.std.specs.declared.cmp.Ordering.TheVariants.{Equal, Less};
 ghost use Rattle.std.specs.declared.time.Duration.{Duration};
@@ -15,7 +16,7 @@ ghost use Rattle.tz_rule.specs.LocalTimeType.{LocalTimeType};
 ghost use Rattle.tz_zone.specs.Clock.{IsClock};
 ghost use Rattle.tz_zone.specs.Table.{Zone};
 ghost use Rattle.tz.specs.FindFaults.{IsPromised, IsFindFault};
-ghost use Rattle.tz.specs.Found.{IsFound};
+ghost use Rattle.tz.specs.Found.{EachCanBeMade, IsFound};
 ghost use Rattle.tz.specs.Windows.{IsWindow, TakesEffectIn, AreRising, AtMostTakeEffectIn};
 ghost use Rattle.tz.specs.declared.datetime.found.FoundDateTimeKind.{FoundDateTimeKind};
 ghost use Rattle.tz.specs.declared.datetime.found.FoundDateTimeKind.TheVariants.{Normal as normal};
@@ -73,13 +74,15 @@ pub fn projections_keep_the_instant()
     ensures { (z : Zone) (u : ℤ) (nanoseconds : ℕ) (d : DateTime) → ShowsByClock z u nanoseconds d → (d.unix_time ≡ u) × (d.fields.nanoseconds ≡ nanoseconds) }
 {}
 
-/// What [`crate::DateTime::from_timespec`] shows, [`crate::DateTime::find`] of its fields lists, wherever the list is promised and
-/// no allocation fails.
+/// What [`crate::DateTime::from_timespec`] shows, [`crate::DateTime::find`] of its fields lists, in every year: wherever each entry of
+/// the list can be made and no allocation fails. Where the list is promised each entry can be made, for offsets of 32 bits.
 pub fn shown_date_times_are_found()
     ensures found { (z : Zone) (u : ℤ) (n : ℕ) (d : DateTime) (found : List FoundDateTimeKind) → ShowsByClock z u n d → IsFound (IsClock z) d.fields found
         → Contains found (normal d) }
-    ensures refused { (z : Zone) (u : ℤ) (n : ℕ) (d : DateTime) (e : TzError) → ShowsByClock z u n d → IsPromised z d.fields.year
+    ensures refused { (z : Zone) (u : ℤ) (n : ℕ) (d : DateTime) (e : TzError) → ShowsByClock z u n d → EachCanBeMade (IsClock z) d.fields
         → IsFindFault ⊤ (IsClock z) d.fields e → e ≡ Memory alloc_error }
+    ensures promised { (z : Zone) (f : Fields) → ((u : ℤ) (t : LocalTimeType) → IsClock z u t → FitsSigned w32 t.ut_offset) → IsValid f → IsPromised z f.year
+        → EachCanBeMade (IsClock z) f }
 {}
 
 /// The number of transitions that take effect in a window is the length of a rising list that holds just these: at most w take effect

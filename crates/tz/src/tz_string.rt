@@ -10,7 +10,7 @@ ghost use Rattle.tz_zone.specs.Bytes.{comma};
 ghost use Rattle.tz_zone.specs.TzText.{IsTzText};
 ghost use Rattle.tz.specs.TzStrings.{minutes_text, plain_time_text, signed_time_text, offset_of_text, is_bare, name_text, day_text, time_of_day_text, turn_text, daylight_offset_text, name_and_offset_text, daylight_text, tz_text, IsShortOffset, IsStandardText, IsDaylightText, IsWritable, AreNamed, is_extended};
 
-use crate::inner::TextBuffer;
+use crate::text::TextBuffer;
 use std::fmt;
 use std::marker::Model;
 use tz_rule::laws::rule_parts_are_sound;
@@ -33,7 +33,7 @@ impl Model for TzString {
 /// Seconds of an hour.
 const HOUR: u32 = 3600;
 
-/// Two o'clock, the time of day of a turn for which a TZ string has none.
+/// Two o'clock, the default time of day of a start or an end in a TZ string.
 const DEFAULT_TIME: i32 = 7200;
 
 /// How far daylight saving time is ahead of standard time, in seconds, where a TZ string does not say.
@@ -221,7 +221,7 @@ fn push_daylight_offset(buffer: &mut TextBuffer, std: i32, dst: i32)
     }
 }
 
-/// Appends the daylight name, its offset and the two turns.
+/// Appends the daylight name, its offset, the start and the end.
 fn push_daylight(buffer: &mut TextBuffer, rule: &AlternateTime)
     requires std { IsShortOffset rule.now.std.ut_offset }
     requires dst { rule.now.dst.ut_offset ≢ rule.now.std.ut_offset +ℤ pos 3600 → IsShortOffset rule.now.dst.ut_offset }
@@ -261,7 +261,7 @@ fn is_standard(local_time_type: &LocalTimeType) -> bool
         && is_short_offset(local_time_type.ut_offset())
 }
 
-/// Whether the type can stand behind standard time of the offset.
+/// Whether the type can follow standard time with this offset.
 fn is_daylight(std: i32, local_time_type: &LocalTimeType) -> bool
     requires { IsShortOffset std }
     ensures { MatchBool result
@@ -287,12 +287,12 @@ fn is_writable(rule: &TransitionRule) -> bool
 }
 
 impl TzString {
-    /// The TZ string of the rule, or none where no TZ string denotes it: a type has no name, its daylight flag is not that of its place,
-    /// or its offset is 25 hours or more either way and not the default one.
+    /// The TZ string of the rule, or `None` if no TZ string denotes it: a type has no name, its daylight flag does not match its role, or
+    /// its offset is 25 hours or more in either direction and not the default.
     ///
-    /// The string is an extended one only where the rule has a time of day below 0:00 or above 24:59:59. Names of three letters or more stand
-    /// bare, and others in angle brackets. Left out are minutes and seconds that are zero, the time of day 2:00, and a daylight offset of an
-    /// hour more than the standard one. (POSIX.1-2017, Base Definitions, 8.3; RFC 8536, section 3.3.1)
+    /// The string is extended only if the rule has a time of day below 0:00 or above 24:59:59. Names of three letters or more are written
+    /// without angle brackets. Minutes and seconds that are zero, the time of day 2:00, and a daylight offset of an hour more than the
+    /// standard one are omitted. (POSIX.1-2017, Base Definitions, 8.3; RFC 8536, section 3.3.1)
     pub fn from_rule(rule: &TransitionRule) -> Option<TzString>
         ensures text { IfSome result (λ text. text ≡ tz_text rule.now) }
         ensures denotes { IfSome result (λ text. IsTzText (is_extended rule.now) text rule.now) }

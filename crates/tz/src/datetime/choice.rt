@@ -5,7 +5,7 @@ ghost use Rattle.tz.specs.Choices.{shown_entry_of};
 
 use super::{Disambiguation, FoundDateTimeKind};
 
-/// What is kept of the entries of a search: the first, the last, the first that is shown, and whether there are several.
+/// The entries of a search from which one is chosen: the first, the last, the first that is shown, and whether there are several.
 #[derive(Drop)]
 pub(crate) struct Choice {
     first: Option<FoundDateTimeKind>,

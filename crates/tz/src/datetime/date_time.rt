@@ -4,7 +4,7 @@ ghost use Rattle.std.specs.Prelude.{◌≡◌, ◌+ℤ◌, IfSome, IfNone};
 ghost use Rattle.tz_base.specs.Fields.{IsReading};
 
 use super::totals::duration_between;
-use crate::inner::TextBuffer;
+use crate::text::TextBuffer;
 use std::cmp::Ordering;
 use std::fmt;
 use std::marker::Model;
@@ -20,7 +20,8 @@ fn local_reading(unix_time: i64, ut_offset: i32) -> Option<i64>
     ensures some { IfSome result (λ x. (x ≡ unix_time +ℤ ut_offset) × IsReading x) }
     ensures none { IfNone result (¬ IsReading (unix_time +ℤ ut_offset)) }
 {
-    let reading = unix_time.checked_add(i64::from(ut_offset))?;
+    // A sum that wraps is no reading, as the true one is none.
+    let reading = unix_time.wrapping_add(i64::from(ut_offset));
     if calendar::is_reading(reading) {
         Some(reading)
     } else {
@@ -117,10 +118,10 @@ impl DateTime {
     ghost use Rattle.tz.specs.DateTimes.{fields_of, DateTime, IsDateTime, ShowsInstant, IsShowFault, IsLocalFault, total_of, IsNearTotal, IsForwards, IsBackwards, ShowsByClock, IsClockFault, IsTotalFault, IsTotalClockFault, ShowsTotal, ShowsTotalByClock};
 
     /// The date time with these fields, which the type shows: the month from 1 to 12, the day of the month from 1, the hour from 0
-    /// to 23, the minute from 0 to 59, the second from 0 to 60 and the nanoseconds below a second.
+    /// to 23, the minute from 0 to 59, the second from 0 to 60 and the nanoseconds below 10^9.
     ///
-    /// The first field out of range is named, in this order, and after them `InvalidMonthDay` where the month has no such day. Then
-    /// `OutOfRange` tells that the Unix time of the date time is that of no UTC date time.
+    /// The fields are checked in this order, and then that the month has the day (`InvalidMonthDay`). `OutOfRange`: the year in UTC does
+    /// not fit an `i32`.
     pub fn new(
         year: i32,
         month: u8,
@@ -161,40 +162,40 @@ impl DateTime {
     {
         fields.check()?;
         let unix_time = fields.reading() - i64::from(local_time_type.ut_offset());
-        DateTime::from_valid_fields(&fields, local_time_type, unix_time)
+        if !calendar::is_reading(unix_time) {
+            return Err(TzError::OutOfRange);
+        }
+        Ok(DateTime::from_valid_fields(&fields, local_time_type, unix_time))
     }
 
-    /// The date time with valid fields, which the type shows at a Unix time. `OutOfRange` tells that this is that of no UTC date time.
+    /// The date time with valid fields, which the type shows at a Unix time.
+    #[inline(always)]
     pub(super) fn from_valid_fields(
         fields: &Fields,
         local_time_type: LocalTimeType,
         unix_time: i64,
-    ) -> Result<Self, TzError>
+    ) -> Self
         requires valid { IsValid fields.now }
         requires instant { unix_time ≡ reading fields.now -ℤ local_time_type.ut_offset }
-        ensures value { IfOk result (λ d. d ≡ record { fields = fields.now; local_time_type = local_time_type; unix_time = unix_time }) }
-        ensures ok { OnOk result (IsReading unix_time) }
-        ensures err { IfErr result (λ e. (e ≡ TzError.OutOfRange) × ¬ IsReading unix_time) }
+        ensures { result ≡ record { fields = fields.now; local_time_type = local_time_type; unix_time = unix_time } }
     {
-        if !calendar::is_reading(unix_time) {
-            return Err(TzError::OutOfRange);
-        }
-        Ok(DateTime {
+        DateTime {
             fields: *fields,
             local_time_type,
             unix_time,
-        })
+        }
     }
 
-    /// The date time that the type shows at a Unix time, with nanoseconds below a second.
+    /// The date time that the type shows at a Unix time, with nanoseconds below 10^9.
     ///
-    /// `OutOfRange` tells that what it shows lies outside the years of 32 bits.
+    /// `OutOfRange`: the year that it shows does not fit an `i32`.
     pub fn from_timespec_and_local(
         unix_time: i64,
         nanoseconds: u32,
         local_time_type: LocalTimeType,
     ) -> Result<Self, TzError>
         ensures ok { IfOk result (ShowsInstant unix_time nanoseconds local_time_type) }
+        ensures reads { IfOk result (λ d. IsReading (reading d.fields)) }
         ensures err { IfErr result (IsShowFault (unix_time +ℤ local_time_type.ut_offset) nanoseconds) }
     {
         if nanoseconds >= NANOSECONDS_PER_SECOND {
@@ -225,11 +226,10 @@ impl DateTime {
         })
     }
 
-    /// The date time that the zone's clock shows at a Unix time, with nanoseconds below a second.
+    /// The date time that the zone's clock shows at a Unix time, with nanoseconds below 10^9.
     ///
-    /// Refused are a second of nanoseconds or more (`InvalidNanoseconds`), then an instant at which the zone's clock has no type, as by
-    /// [`TimeZoneRef::find_local_time_type`] (`NoAvailableLocalTimeType`, `OutOfRange`), and then a year that does not fit `i32`
-    /// (`OutOfRange`).
+    /// The errors are, in this order: `InvalidNanoseconds`; those of [`TimeZoneRef::find_local_time_type`] if the zone's clock has no
+    /// type at the instant (`NoAvailableLocalTimeType`, `OutOfRange`); and `OutOfRange` if the year does not fit an `i32`.
     ///
     /// What clocks of a zone show at a Unix time, and the name of their time:
     ///
@@ -406,7 +406,7 @@ impl DateTime {
         calendar::total_nanoseconds(self.unix_time, self.fields.nanoseconds)
     }
 
-    /// The duration from an earlier date time to this one, or `Err` with the way back where the other one is later.
+    /// The duration from an earlier date time to this one, or `Err` with the duration in the other direction if that one is later.
     pub fn duration_since(&self, earlier: Self) -> Result<Duration, Duration>
         ensures ok { IfOk result (IsForwards (total_of earlier) (total_of self.now)) }
         ensures err { IfErr result (IsBackwards (total_of earlier) (total_of self.now)) }
@@ -423,7 +423,7 @@ impl DateTime {
         &self.fields
     }
 
-    /// The fields are valid and shown. This does nothing; its contract is what a value tells.
+    /// The fields are valid and shown. This does nothing; its contract is what holds of every value.
     pub(crate) fn parts_are_sound(&self)
         ensures { IsDateTime self.now }
     {
@@ -462,5 +462,20 @@ impl fmt::Display for DateTime {
         let mut line = TextBuffer::new();
         line.push_date_time(&self.fields, self.local_time_type.ut_offset());
         f.write_str(line.as_str())
+    }
+}
+
+impl TextBuffer {
+    ghost use Rattle.std.specs.Prelude.{◌≡◌, ◌+◌, ◌≤◌, ◌++◌, length};
+    ghost use Rattle.tz.specs.PrintedText.{printed_text};
+
+    /// Appends a date time as its `Display` prints it.
+    #[inline(always)]
+    pub fn push_local_date_time(&mut self, date_time: &DateTime)
+        requires { length self.old + 53 ≤ 128 }
+        ensures text { self.new ≡ self.old ++ printed_text date_time.now.fields date_time.now.local_time_type.ut_offset }
+        ensures len { length self.new ≤ length self.old + 53 }
+    {
+        self.push_date_time(date_time.fields(), date_time.local_time_type().ut_offset());
     }
 }

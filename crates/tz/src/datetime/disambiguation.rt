@@ -1,17 +1,17 @@
 //! Choices between the date times of a local time.
 
-/// Which one date time a local time means, where clocks are set forward over it or show it more than once.
+/// Which date time a local time means if clocks are set forward over it or show it more than once.
 ///
-/// Where clocks show a local time exactly once and are not set forward over it, each choice means that.
+/// If clocks show a local time exactly once and are not set forward over it, all choices mean that.
 #[derive(Clone, Copy, Debug, PartialEq, Eq)]
 pub enum Disambiguation {
-    /// The first time that clocks show it, or, where they only are set forward over it, as much later as they are set forward; what
+    /// The first instant at which clocks show it. If they are only set forward over it, as much later as they are set forward: what
     /// calendars do. (RFC 5545, 3.3.5)
     Compatible,
-    /// What comes first: a time that clocks show it, or, where they are set forward over it, as much earlier as they are set forward.
+    /// The first entry: an instant at which clocks show it, or, in a gap, as much earlier as clocks are set forward.
     Earlier,
-    /// What comes last: a time that clocks show it, or, where they are set forward over it, as much later as they are set forward.
+    /// The last entry: an instant at which clocks show it, or, in a gap, as much later as clocks are set forward.
     Later,
-    /// The one time that clocks show it, if they are not set forward over it as well, and else none.
+    /// The only instant at which clocks show it, or none if there are several or if clocks are also set forward over it.
     Reject,
 }

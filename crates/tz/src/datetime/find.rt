@@ -4,7 +4,7 @@ ghost use Rattle.std.specs.Prelude.{◌≡◌, ◌≢◌, ⊤, IfOk, IfErr, OnOk
 ghost use Rattle.tz_base.specs.Fields.{IsValid};
 ghost use Rattle.tz_zone.specs.Clock.{IsClock};
 ghost use Rattle.tz_zone.specs.ZoneRef.{zone_of};
-ghost use Rattle.tz.specs.Found.{IsFound};
+ghost use Rattle.tz.specs.Found.{EachCanBeMade, IsFound};
 ghost use Rattle.tz.specs.Lists.{found_of};
 ghost use Rattle.tz.specs.FindFaults.{IsFindFault, IsPromised};
 
@@ -27,6 +27,7 @@ pub fn find_fields<A: Allocator + Copy>(
 ) -> Result<FoundDateTimeList<A>, TzError>
     ensures ok { IfOk result (λ list. IsFound (IsClock (zone_of time_zone_ref.entry)) fields.now (found_of list)) }
     ensures valid { OnOk result (IsValid fields.now) }
+    ensures made { OnOk result (EachCanBeMade (IsClock (zone_of time_zone_ref.entry)) fields.now) }
     ensures promised { IsPromised (zone_of time_zone_ref.entry) fields.now.year → IfErr result (λ e. e ≢ TzError.OutOfRange) }
     ensures err { IfErr result (IsFindFault ⊤ (IsClock (zone_of time_zone_ref.entry)) fields.now) }
 {
@@ -49,24 +50,22 @@ impl DateTime {
     ghost use Rattle.tz.specs.DateTimes.{fields_of};
     ghost use Rattle.tz_zone.specs.ZoneSeen.{zone_seen};
     ghost use Rattle.tz.specs.Windows.{AtMostTakeEffectAround};
-    ghost use Rattle.tz.specs.Found.{IsFound};
+    ghost use Rattle.tz.specs.Found.{EachCanBeMade, IsFound};
     ghost use Rattle.tz.specs.Lists.{found_of, slots_of, count_of, reference_of};
     ghost use Rattle.tz.specs.FindFaults.{IsFindFault, IsPromised};
     ghost use Rattle.tz.specs.Slots.{filled};
     ghost use Rattle.tz.specs.declared.datetime.found.FoundDateTimeKind.{FoundDateTimeKind};
 
-    /// All date times at which the zone's clock shows the fields, and the jumps forward over them, by rising Unix time.
+    /// All date times at which the zone's clock shows the fields, and the forward jumps over them, in order of Unix time.
     ///
     /// The month is from 1 to 12, the day of the month from 1, the hour from 0 to 23, the minute from 0 to 59, the second from 0 to
-    /// 60 and the nanoseconds below a second. The first field out of range is named, in this order, and after them
-    /// `InvalidMonthDay` where the month has no such day.
+    /// 60 and the nanoseconds below 10^9. They are checked in this order, and then that the month has the day (`InvalidMonthDay`).
     ///
-    /// A date time keeps the fields as they are passed, second 60 included. `OutOfRange` tells that an instant at which the clock shows
-    /// the fields lies, in UTC, outside the years of an `i32`, or that the local time before or after a jump over them does. It is never
-    /// returned for a year that is 200 years or more from both ends of these, nor, where all offsets of the zone are above -25 and below
-    /// 26 hours, for one that is three years or more from them. `Memory` tells that an allocation for the list failed.
+    /// A date time keeps the fields that were passed, second 60 included. `OutOfRange`: an entry lies outside the years of an `i32`, as
+    /// only the local time before or after a jump can. This cannot happen 200 years or more from both ends of these years, nor three
+    /// years or more from them if all offsets of the zone are above -25 and below 26 hours. `Memory`: an allocation for the list failed.
     ///
-    /// When an alarm rings that is set to a local time: at the first instant at which clocks show it or are set forward over it.
+    /// When an alarm that is set to a local time rings: at the first instant at which clocks show that time or are set forward over it.
     ///
     /// ```rust
     /// pub fn alarm(
@@ -111,6 +110,7 @@ impl DateTime {
     ) -> Result<FoundDateTimeList<A>, TzError>
         ensures ok { IfOk result (λ list. IsFound (IsClock (zone_of time_zone_ref.entry)) (fields_of year month month_day hour minute second nanoseconds) (found_of list)) }
         ensures valid { OnOk result (IsValid (fields_of year month month_day hour minute second nanoseconds)) }
+        ensures made { OnOk result (EachCanBeMade (IsClock (zone_of time_zone_ref.entry)) (fields_of year month month_day hour minute second nanoseconds)) }
         ensures promised { IsPromised (zone_of time_zone_ref.entry) year → IfErr result (λ e. e ≢ TzError.OutOfRange) }
         ensures err { IfErr result (IsFindFault ⊤ (IsClock (zone_of time_zone_ref.entry)) (fields_of year month month_day hour minute second nanoseconds)) }
     {
@@ -126,19 +126,18 @@ impl DateTime {
         find_fields(alloc, &fields, time_zone_ref)
     }
 
-    /// Writes all date times at which the zone's clock shows the fields, and the jumps forward over them, to the slots of a buffer,
-    /// by rising Unix time and as far as the slots go; the other slots stay as they are, and all that is found is counted.
+    /// Writes what [`DateTime::find`] returns to the slots of a buffer, as far as they go, and counts all entries. The other slots stay
+    /// as they are.
     ///
     /// The month is from 1 to 12, the day of the month from 1, the hour from 0 to 23, the minute from 0 to 59, the second from 0 to
-    /// 60 and the nanoseconds below a second. The first field out of range is named, in this order, and after them
-    /// `InvalidMonthDay` where the month has no such day; nothing is written then.
+    /// 60 and the nanoseconds below 10^9. They are checked in this order, and then that the month has the day (`InvalidMonthDay`). If one
+    /// is invalid, nothing is written.
     ///
-    /// A date time keeps the fields as they are passed, second 60 included. `OutOfRange` tells that an instant at which the clock shows
-    /// the fields lies, in UTC, outside the years of an `i32`, or that the local time before or after a jump over them does. It is never
-    /// returned for a year that is 200 years or more from both ends of these, nor, where all offsets of the zone are above -25 and below
-    /// 26 hours, for one that is three years or more from them. No memory is taken.
+    /// A date time keeps the fields that were passed, second 60 included. `OutOfRange`: an entry lies outside the years of an `i32`, as
+    /// only the local time before or after a jump can. This cannot happen 200 years or more from both ends of these years, nor three
+    /// years or more from them if all offsets of the zone are above -25 and below 26 hours. This call does not allocate.
     ///
-    /// How many instants and jumps a local time has, found without memory: 1 nearly always, 2 where clocks show it twice.
+    /// How many instants and jumps a local time has, without allocating: almost always 1, and 2 if clocks show it twice.
     ///
     /// ```rust
     /// pub fn count_meanings(zone: TimeZoneRef<'_>, local: UtcDateTime) -> Result<usize, TzError> {
@@ -173,6 +172,7 @@ impl DateTime {
             × IsFound (IsClock (zone_of time_zone_ref.entry)) (fields_of year month month_day hour minute second nanoseconds) found
             × (count_of list ≡ length found) × (slots_of list ≡ filled buf.old found)) }
         ensures valid { OnOk result (IsValid (fields_of year month month_day hour minute second nanoseconds)) }
+        ensures made { OnOk result (EachCanBeMade (IsClock (zone_of time_zone_ref.entry)) (fields_of year month month_day hour minute second nanoseconds)) }
         ensures promised { IsPromised (zone_of time_zone_ref.entry) year → IfErr result (λ e. e ≢ TzError.OutOfRange) }
         ensures err { IfErr result (IsFindFault ⊥ (IsClock (zone_of time_zone_ref.entry)) (fields_of year month month_day hour minute second nanoseconds)) }
     {
@@ -192,10 +192,10 @@ impl DateTime {
         Ok(FoundDateTimeListRefMut::counted(buf, count))
     }
 
-    /// What [`DateTime::find_n`] finds, and the number of looks that this took: of readings of single transitions.
+    /// What [`DateTime::find_n`] returns, and how many transitions were read.
     ///
-    /// Of n transitions, of which w take effect in the window of the reading, a search looks at 2 b + w + 4 at most, where b is the number of
-    /// binary digits of n. The count stays at `u64::MAX` if it gets there.
+    /// If a zone has n transitions, of which w take effect in the window of the local time, a search reads at most 2 b + w + 4, where b is
+    /// the number of binary digits of n. The count saturates at `u64::MAX`.
     pub fn find_n_counted<'a>(
         buf: &'a mut [Option<FoundDateTimeKind>],
         year: i32,
@@ -212,12 +212,13 @@ impl DateTime {
             × IsFound (IsClock (zone_of time_zone_ref.entry)) (fields_of year month month_day hour minute second nanoseconds) found
             × (count_of counted.0 ≡ length found) × (slots_of counted.0 ≡ filled buf.old found)) }
         ensures valid { OnOk result (IsValid (fields_of year month month_day hour minute second nanoseconds)) }
+        ensures made { OnOk result (EachCanBeMade (IsClock (zone_of time_zone_ref.entry)) (fields_of year month month_day hour minute second nanoseconds)) }
         ensures promised { IsPromised (zone_of time_zone_ref.entry) year → IfErr result (λ e. e ≢ TzError.OutOfRange) }
         ensures err { IfErr result (IsFindFault ⊥ (IsClock (zone_of time_zone_ref.entry)) (fields_of year month month_day hour minute second nanoseconds)) }
-        ensures few { IfOk result (λ counted. (b w : ℕ) → length (zone_of time_zone_ref.entry).transitions < 2 ^ b
+        ensures at_most { IfOk result (λ counted. (b w : ℕ) → length (zone_of time_zone_ref.entry).transitions < 2 ^ b
             → AtMostTakeEffectAround (zone_of time_zone_ref.entry) (reading (fields_of year month month_day hour minute second nanoseconds)) w
             → counted.1 ≤ 2 * b + w + 4) }
-        ensures some { IfOk result (λ counted. 0 < length (zone_of time_zone_ref.entry).transitions → 1 ≤ counted.1) }
+        ensures at_least_one { IfOk result (λ counted. 0 < length (zone_of time_zone_ref.entry).transitions → 1 ≤ counted.1) }
         ensures none { IfOk result (λ counted. length (zone_of time_zone_ref.entry).transitions ≡ 0 → counted.1 ≡ 0) }
     {
         let fields = Fields {
@@ -236,7 +237,7 @@ impl DateTime {
         Ok((FoundDateTimeListRefMut::counted(buf, count), view.looks()))
     }
 
-    /// Writes what is found of the fields to the slots, as far as they go, and counts it.
+    /// Writes what is found of the fields to the slots, as far as they go, and counts all entries.
     fn fill<V: Transitions>(
         buf: &mut [Option<FoundDateTimeKind>],
         fields: &Fields,
@@ -251,13 +252,14 @@ impl DateTime {
             × IsFound (IsClock (zone_seen (V.list view.old) parts.entry)) fields.now found
             × (count ≡ length found) × (buf.new ≡ filled buf.old found)) }
         ensures valid { OnOk result (IsValid fields.now) }
+        ensures made { OnOk result (EachCanBeMade (IsClock (zone_seen (V.list view.old) parts.entry)) fields.now) }
         ensures untouched { IsValid fields.now ⊎ (buf.new ≡ buf.old) }
         ensures promised { IsPromised (zone_seen (V.list view.old) parts.entry) fields.now.year → IfErr result (λ e. e ≢ TzError.OutOfRange) }
         ensures err { IfErr result (IsFindFault ⊥ (IsClock (zone_seen (V.list view.old) parts.entry)) fields.now) }
-        ensures few { OnOk result ((b w : ℕ) → length (V.list view.old) < 2 ^ b
+        ensures at_most { OnOk result ((b w : ℕ) → length (V.list view.old) < 2 ^ b
             → AtMostTakeEffectAround (zone_seen (V.list view.old) parts.entry) (reading fields.now) w
             → V.looks view.new ≤ V.looks view.old + (2 * b + w + 4)) }
-        ensures some { OnOk result (0 < length (V.list view.old) → V.next (V.looks view.old) ≤ V.looks view.new) }
+        ensures at_least_one { OnOk result (0 < length (V.list view.old) → V.next (V.looks view.old) ≤ V.looks view.new) }
         ensures none { OnOk result (length (V.list view.old) ≡ 0 → V.looks view.new ≡ V.looks view.old) }
     {
         Fields::check(fields)?;

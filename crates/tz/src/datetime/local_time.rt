@@ -2,7 +2,9 @@
 
 ghost use Rattle.std.specs.Prelude.{◌≡◌, ◌-ℤ◌, IfOk, IfErr, OnOk};
 ghost use Rattle.tz_base.specs.Fields.{IsValid};
+ghost use Rattle.tz_zone.specs.Clock.{IsClock};
 ghost use Rattle.tz_zone.specs.ZoneRef.{zone_of};
+ghost use Rattle.tz.specs.Found.{EachCanBeMade};
 ghost use Rattle.tz.specs.Meanings.{IsMeaning, IsMeaningFault, IsMeantBy, IsMeantFault, instant_meant};
 ghost use Rattle.tz_base.specs.Fields.{reading as reading_of};
 
@@ -22,6 +24,7 @@ fn meant(
 ) -> Result<Option<DateTime>, TzError>
     ensures ok { IfOk result (IsMeaning (zone_of time_zone_ref.entry) disambiguation fields.now) }
     ensures valid { OnOk result (IsValid fields.now) }
+    ensures made { OnOk result (EachCanBeMade (IsClock (zone_of time_zone_ref.entry)) fields.now) }
     ensures err { IfErr result (IsMeaningFault (zone_of time_zone_ref.entry) disambiguation fields.now) }
 {
     fields.check()?;
@@ -79,15 +82,17 @@ fn instant(
 impl DateTime {
     ghost use Rattle.std.specs.Prelude.{IfOk, IfErr, OnOk};
     ghost use Rattle.tz_base.specs.Fields.{IsValid};
+    ghost use Rattle.tz_zone.specs.Clock.{IsClock};
     ghost use Rattle.tz_zone.specs.ZoneRef.{zone_of};
     ghost use Rattle.tz.specs.DateTimes.{fields_of};
+    ghost use Rattle.tz.specs.Found.{EachCanBeMade};
     ghost use Rattle.tz.specs.Meanings.{IsMeaning, IsMeaningFault};
 
-    /// The one date time that a local time means, or none where the zone's clock neither shows it nor is set forward over it, or where
-    /// the choice rejects what there is.
+    /// The one date time that a local time means, or `None` if the zone's clock neither shows it nor is set forward over it, or if
+    /// `Reject` rejects it.
     ///
-    /// The fields are those of [`DateTime::find`], refused as there. Of a local time that clocks are set forward over, the date time
-    /// is what the clock shows at another instant, as by [`DateTime::from_timespec`], refused as there. No memory is taken.
+    /// The fields are checked as by [`DateTime::find`]. If clocks are set forward over the local time, the result is what the clock shows
+    /// at another instant, with the errors of [`DateTime::from_timespec`]. This call does not allocate.
     pub fn find_one(
         year: i32,
         month: u8,
@@ -101,6 +106,7 @@ impl DateTime {
     ) -> Result<Option<Self>, TzError>
         ensures ok { IfOk result (IsMeaning (zone_of time_zone_ref.entry) disambiguation (fields_of year month month_day hour minute second nanoseconds)) }
         ensures valid { OnOk result (IsValid (fields_of year month month_day hour minute second nanoseconds)) }
+        ensures made { OnOk result (EachCanBeMade (IsClock (zone_of time_zone_ref.entry)) (fields_of year month month_day hour minute second nanoseconds)) }
         ensures err { IfErr result (IsMeaningFault (zone_of time_zone_ref.entry) disambiguation (fields_of year month month_day hour minute second nanoseconds)) }
     {
         let fields = Fields {
@@ -115,12 +121,12 @@ impl DateTime {
         meant(&fields, disambiguation, time_zone_ref)
     }
 
-    /// The one date time that a local time means, which is passed as a date time of UTC with its fields: a calendar date and a time of
-    /// day without a zone, to which durations can be added.
+    /// The one date time that a local time means. The local time is passed as a [`UtcDateTime`] with its fields, which serves here as a
+    /// date and a time of day without a zone.
     ///
-    /// The answer is that of [`DateTime::find_one`] to these fields, which are valid.
+    /// The result is that of [`DateTime::find_one`] for these fields, which are valid.
     ///
-    /// When a job of every day at a local time runs next after an instant:
+    /// When a daily job at a local time runs next after an instant:
     ///
     /// ```rust
     /// pub fn next_daily_run(
@@ -150,6 +156,7 @@ impl DateTime {
         time_zone_ref: TimeZoneRef<'_>,
     ) -> Result<Option<Self>, TzError>
         ensures ok { IfOk result (IsMeaning (zone_of time_zone_ref.entry) disambiguation local) }
+        ensures made { OnOk result (EachCanBeMade (IsClock (zone_of time_zone_ref.entry)) local) }
         ensures err { IfErr result (IsMeaningFault (zone_of time_zone_ref.entry) disambiguation local) }
     {
         meant(local.fields(), disambiguation, time_zone_ref)

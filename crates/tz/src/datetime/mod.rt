@@ -2,13 +2,14 @@
 
 mod choice;
 mod date_time;
+mod date_time_list;
 mod disambiguation;
 pub(crate) mod find;
 mod found;
 mod found_list;
 mod found_list_ref;
-mod growing;
 mod local_time;
+pub(crate) mod offsets;
 pub(crate) mod resolution;
 pub(crate) mod search;
 mod slot_writer;

@@ -7,10 +7,10 @@ ghost use Rattle.tz_zone.specs.ClockSegments.{IsSegmentAt};
 ghost use Rattle.tz_zone.specs.ValidZone.{AreLeapSeconds};
 ghost use Rattle.tz.specs.Jumps.{HasOneJump};
 ghost use Rattle.tz.specs.Reached.{AreOffsetsOf};
-ghost use Rattle.tz.specs.Resolutions.{IsResolution, IsResolutionNear};
+ghost use Rattle.tz.specs.Resolutions.{IsResolution, IsResolutionAt};
 ghost use Rattle.tz.specs.Walks.{IsSmall};
 
-use super::growing::DateTimeList;
+use super::date_time_list::DateTimeList;
 use super::walk::Entry;
 use tz_base::calendar::Fields;
 use tz_base::error::TzError;
@@ -36,7 +36,8 @@ pub enum Resolution<'a> {
 }
 
 /// What a reading means to a clock that has the first type up to a jump and the second one from there on.
-fn around_jump<'a>(
+#[inline(always)]
+pub(super) fn around_jump<'a>(
     reading: i64,
     jump: i64,
     before: &'a LocalTimeType,
@@ -45,7 +46,7 @@ fn around_jump<'a>(
     requires small { IsSmall reading }
     ensures resolves { (z : Zone) → AreLeapSeconds z.leap_seconds → HasOneJump z reading jump before.entry.now after.entry.now
         → IsResolution (IsClock z) reading result }
-    ensures near { IsResolutionNear reading result }
+    ensures at { IsResolutionAt reading result }
 {
     let first = reading - i64::from(before.ut_offset());
     let second = reading - i64::from(after.ut_offset());
@@ -77,7 +78,7 @@ pub(super) fn across<'a>(
     ensures resolves { IfSome result (λ resolution. (z : Zone) (low : ℤ) → AreLeapSeconds z.leap_seconds
         → IsSegmentAt z low first.now → IsSegmentAt z (first.now.last +ℤ pos 1) next.now → next.now.from ≡ first.now.last +ℤ pos 1
         → first.now.last <ℤ high → AreOffsetsOf z (reading -ℤ high) (reading -ℤ low) → IsResolution (IsClock z) reading resolution) }
-    ensures near { IfSome result (IsResolutionNear reading) }
+    ensures at { IfSome result (IsResolutionAt reading) }
 {
     if next.last < high {
         return None;
@@ -90,16 +91,19 @@ pub(super) fn across<'a>(
 impl Resolution<'_> {
     ghost use Rattle.std.specs.Prelude.{◌≡◌, ◌⊎◌, List, OnOk, IfErr, alloc_error};
     ghost use Rattle.tz_base.specs.Fields.{IsValid, reading as reading_of};
-    ghost use Rattle.tz.specs.Resolutions.{AreEntriesOf, IsResolutionNear, IsResolutionOutside};
+    ghost use Rattle.std.specs.List.{All};
+    ghost use Rattle.tz.specs.Found.{CanBeMade};
+    ghost use Rattle.tz.specs.Resolutions.{AreEntriesOf, IsResolutionAt, IsResolutionOutside};
     ghost use Rattle.tz.specs.declared.datetime.found.FoundDateTimeKind.{FoundDateTimeKind};
 
     /// Adds to the list what valid fields with the reading mean.
+    #[inline(always)]
     pub(super) fn give<L: DateTimeList>(&self, list: &mut L, fields: &Fields) -> Result<(), TzError>
         requires valid { IsValid fields.now }
-        requires near { IsResolutionNear (reading_of fields.now) self.now }
-        ensures ok { OnOk result ((found : List FoundDateTimeKind) × L.gains list.old list.new found × AreEntriesOf fields.now self.now found) }
+        requires at { IsResolutionAt (reading_of fields.now) self.now }
+        ensures ok { OnOk result ((found : List FoundDateTimeKind) × L.gains list.old list.new found × AreEntriesOf fields.now self.now found × All CanBeMade found) }
         ensures err { IfErr result (λ e. ((e ≡ TzError.Memory alloc_error) × L.takes_memory)
-            ⊎ ((e ≡ TzError.OutOfRange) × IsResolutionOutside (reading_of fields.now) self.now)) }
+            ⊎ ((e ≡ TzError.OutOfRange) × IsResolutionOutside self.now)) }
     {
         match *self {
             Resolution::Once(unix_time, local_time_type) => {

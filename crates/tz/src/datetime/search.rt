@@ -1,28 +1,31 @@
 //! The search for a reading in the clock of a zone.
 
-ghost use Rattle.std.specs.Prelude.{◌≡◌, ◌+◌, ◌*◌, ◌^◌, ◌<◌, ◌≤◌, ◌⊎◌, ℕ, ℤ, pos, List, ◌-ℤ◌, ◌≤ℤ◌, ◌<ℤ◌, Option, Some, OnOk, IfErr, length, alloc_error, [], ◌∷◌};
+ghost use Rattle.std.specs.Prelude.{◌≡◌, ◌+◌, ◌*◌, ◌^◌, ◌<◌, ◌≤◌, ℕ, ℤ, pos, List, ◌-ℤ◌, ◌≤ℤ◌, ◌<ℤ◌, Option, Some, OnOk, IfErr, length, alloc_error, [], ◌∷◌};
 ghost use Rattle.tz_base.specs.Fields.{IsValid, reading as reading_of};
 ghost use Rattle.tz_zone.specs.Table.{Zone};
 ghost use Rattle.tz_zone.specs.Clock.{IsClock};
+ghost use Rattle.tz_zone.specs.LeapTime.{IsBeforeStart};
 ghost use Rattle.tz_zone.specs.ClockSegments.{IsSegmentAt};
 ghost use Rattle.tz_zone.specs.Offsets.{AreEndOffsets};
 ghost use Rattle.tz_zone.specs.ValidZone.{AreLeapSeconds, IsSoundTable};
 ghost use Rattle.tz_zone.specs.ZoneSeen.{zone_seen};
-ghost use Rattle.tz.specs.Found.{IsFound};
-ghost use Rattle.tz.specs.Walks.{HoldsAt, IsOutside, IsSearchFault, IsSmall, moment_of};
+ghost use Rattle.tz.specs.FindFaults.{IsSearchFault};
+ghost use Rattle.tz.specs.Found.{EachCanBeMade, IsFound};
+ghost use Rattle.tz.specs.Walks.{HoldsAt, IsSmall, moment_of};
 ghost use Rattle.tz.specs.Reached.{AreOffsetsOf};
-ghost use Rattle.tz.specs.Windows.{AtMostTakeEffectIn, AtMostTakeEffectAround};
+ghost use Rattle.tz.specs.Windows.{AtMostTakeEffectIn, AtMostTakeEffectAround, halvings};
 ghost use Rattle.tz.specs.declared.datetime.found.FoundDateTimeKind.{FoundDateTimeKind};
 ghost use Rattle.tz.specs.declared.datetime.found.FoundDateTimeKind.TheVariants.{Normal};
 
-use super::growing::DateTimeList;
-use super::resolution::across;
+use super::date_time_list::DateTimeList;
+use super::resolution::{across, around_jump};
 use super::walk::{Piece, Walk};
 use super::{DateTime, FoundDateTimeKind};
 use tz_base::calendar::Fields;
 use tz_base::error::TzError;
 use tz_zone::inner::{
-    ClockSegment, OtherParts, Transitions, clock_segment_after, clock_segment_at,
+    ClockSegment, OtherParts, Transitions, WindowTypes, clock_segment_after, clock_segment_at,
+    window_types,
 };
 use tz_zone::timezone::LocalTimeType;
 
@@ -64,6 +67,7 @@ fn window(reading: i64, least: i32, greatest: i32) -> (i64, i64)
 }
 
 /// Adds to the list the date time at which a clock shows valid fields with this reading, where it has one type throughout their window.
+#[inline(always)]
 fn give_once<L: DateTimeList>(
     list: &mut L,
     fields: &Fields,
@@ -75,16 +79,15 @@ fn give_once<L: DateTimeList>(
     requires small { IsSmall reading }
     ensures ok { OnOk result (L.gains list.old list.new
         (Normal (moment_of fields.now local_time_type.now (reading_of fields.now -ℤ local_time_type.now.ut_offset)) ∷ [])) }
-    ensures err { IfErr result (λ e. ((e ≡ TzError.Memory alloc_error) × L.takes_memory)
-        ⊎ ((e ≡ TzError.OutOfRange) × IsOutside (reading_of fields.now) (reading_of fields.now -ℤ local_time_type.now.ut_offset))) }
+    ensures err { IfErr result (λ e. (e ≡ TzError.Memory alloc_error) × L.takes_memory) }
 {
     let unix_time = reading - i64::from(local_time_type.ut_offset());
-    let date_time = DateTime::from_valid_fields(fields, *local_time_type, unix_time)?;
+    let date_time = DateTime::from_valid_fields(fields, *local_time_type, unix_time);
     list.push(FoundDateTimeKind::Normal(date_time))?;
     Ok(())
 }
 
-/// Adds all that is found of valid fields to the list, in order, where their window ends behind the segment in which it begins.
+/// Adds all that is found of valid fields to the list, in order, if their window ends after the segment in which it begins.
 ///
 /// Where it ends in the next segment, two comparisons tell; else a walk goes on from there.
 #[inline(never)]
@@ -109,11 +112,12 @@ fn search_on<'a, L: DateTimeList, V: Transitions>(
     requires width { (high -ℤ low) ≤ℤ pos (2 ^ 32) }
     ensures ok { OnOk result ((found : List FoundDateTimeKind) × L.gains list.old list.new found
         × IsFound (IsClock (zone_seen (V.list view.old) parts.entry)) fields.now found × (length found ≤ 2 ^ 33)) }
-    ensures err { IfErr result (IsSearchFault L.takes_memory (IsClock (zone_seen (V.list view.old) parts.entry)) (reading_of fields.now)) }
+    ensures made { OnOk result (EachCanBeMade (IsClock (zone_seen (V.list view.old) parts.entry)) fields.now) }
+    ensures err { IfErr result (IsSearchFault L.takes_memory (IsClock (zone_seen (V.list view.old) parts.entry)) fields.now) }
     ensures kept { V.looks view.old ≤ V.looks view.new }
-    ensures few { OnOk result ((b w : ℕ) → length (V.list view.old) < 2 ^ b
+    ensures at_most { OnOk result ((b w : ℕ) → length (V.list view.old) < 2 ^ b
         → AtMostTakeEffectIn (zone_seen (V.list view.old) parts.entry) low high w
-        → V.looks view.new ≤ V.looks view.old + (b + w + 1)) }
+        → V.looks view.new ≤ V.looks view.old + (halvings segment.old.cursor b + w)) }
     ensures none { OnOk result (length (V.list view.old) ≡ 0 → V.looks view.new ≡ V.looks view.old) }
 {
     // These reads tell the proof that both ends are instants of 64 bits.
@@ -160,11 +164,13 @@ fn search_from<'a, L: DateTimeList, V: Transitions>(
     requires width { (high -ℤ low) ≤ℤ pos (2 ^ 32) }
     ensures ok { OnOk result ((found : List FoundDateTimeKind) × L.gains list.old list.new found
         × IsFound (IsClock (zone_seen (V.list view.old) parts.entry)) fields.now found × (length found ≤ 2 ^ 33)) }
-    ensures err { IfErr result (IsSearchFault L.takes_memory (IsClock (zone_seen (V.list view.old) parts.entry)) (reading_of fields.now)) }
+    ensures made { OnOk result (EachCanBeMade (IsClock (zone_seen (V.list view.old) parts.entry)) fields.now) }
+    ensures err { IfErr result (IsSearchFault L.takes_memory (IsClock (zone_seen (V.list view.old) parts.entry)) fields.now) }
     ensures kept { V.looks view.old ≤ V.looks view.new }
-    ensures few { OnOk result ((b w : ℕ) → length (V.list view.old) < 2 ^ b
+    ensures at_most { OnOk result ((b w : ℕ) → length (V.list view.old) < 2 ^ b
         → AtMostTakeEffectIn (zone_seen (V.list view.old) parts.entry) low high w
-        → V.looks view.new ≤ V.looks view.old + (b + w + 1)) }
+        → V.looks view.new ≤ V.looks view.old + (halvings first.old.cursor b + w)) }
+    ensures still { high ≤ℤ first.old.last → V.looks view.new ≡ V.looks view.old }
     ensures none { OnOk result (length (V.list view.old) ≡ 0 → V.looks view.new ≡ V.looks view.old) }
 {
     if first.last < high {
@@ -173,6 +179,82 @@ fn search_from<'a, L: DateTimeList, V: Transitions>(
     match first.local_time_type {
         Some(local_time_type) => give_once(list, fields, reading, local_time_type),
         None => Ok(()),
+    }
+}
+
+/// Adds all that is found of valid fields to the list, in order, by the segments of their window.
+#[inline(never)]
+fn search_segments<L: DateTimeList, V: Transitions>(
+    list: &mut L,
+    fields: &Fields,
+    reading: i64,
+    view: &mut V,
+    parts: OtherParts<'_>,
+    low: i64,
+    high: i64,
+) -> Result<(), TzError>
+    requires valid { IsValid fields.now }
+    requires reading { reading ≡ reading_of fields.now }
+    requires small { IsSmall reading }
+    requires sound { IsSoundTable (zone_seen (V.list view.old) parts) }
+    requires order { low ≤ℤ high }
+    requires reach { high ≤ℤ pos 80000000000000000 }
+    requires offsets { AreOffsetsOf (zone_seen (V.list view.old) parts) (reading_of fields.now -ℤ high) (reading_of fields.now -ℤ low) }
+    requires width { (high -ℤ low) ≤ℤ pos (2 ^ 32) }
+    ensures ok { OnOk result ((found : List FoundDateTimeKind) × L.gains list.old list.new found
+        × IsFound (IsClock (zone_seen (V.list view.old) parts.entry)) fields.now found × (length found ≤ 2 ^ 33)) }
+    ensures made { OnOk result (EachCanBeMade (IsClock (zone_seen (V.list view.old) parts.entry)) fields.now) }
+    ensures err { IfErr result (IsSearchFault L.takes_memory (IsClock (zone_seen (V.list view.old) parts.entry)) fields.now) }
+    ensures kept { V.looks view.old ≤ V.looks view.new }
+    ensures at_most { OnOk result ((b w : ℕ) → length (V.list view.old) < 2 ^ b
+        → AtMostTakeEffectIn (zone_seen (V.list view.old) parts.entry) low high w
+        → V.looks view.new ≤ V.looks view.old + (2 * b + w + 2)) }
+    ensures at_most_begun { ¬ IsBeforeStart parts.entry.leap_seconds.now low → OnOk result ((b w : ℕ) → length (V.list view.old) < 2 ^ b
+        → AtMostTakeEffectIn (zone_seen (V.list view.old) parts.entry) low high w
+        → V.looks view.new ≤ V.looks view.old + (b + w + 1)) }
+    ensures none { OnOk result (length (V.list view.old) ≡ 0 → V.looks view.new ≡ V.looks view.old) }
+{
+    let mut first = clock_segment_at(view, parts, low);
+    search_from(list, fields, reading, view, parts, &mut first, low, high)
+}
+
+/// Adds all that is found of valid fields to the list, in order, by the types that the clock has in their window.
+#[inline(always)]
+fn search_window<L: DateTimeList, V: Transitions>(
+    list: &mut L,
+    fields: &Fields,
+    reading: i64,
+    view: &mut V,
+    parts: OtherParts<'_>,
+    low: i64,
+    high: i64,
+) -> Result<(), TzError>
+    requires valid { IsValid fields.now }
+    requires reading { reading ≡ reading_of fields.now }
+    requires small { IsSmall reading }
+    requires sound { IsSoundTable (zone_seen (V.list view.old) parts) }
+    requires order { low ≤ℤ high }
+    requires reach { high ≤ℤ pos 80000000000000000 }
+    requires offsets { AreOffsetsOf (zone_seen (V.list view.old) parts) (reading_of fields.now -ℤ high) (reading_of fields.now -ℤ low) }
+    requires width { (high -ℤ low) ≤ℤ pos (2 ^ 32) }
+    ensures ok { OnOk result ((found : List FoundDateTimeKind) × L.gains list.old list.new found
+        × IsFound (IsClock (zone_seen (V.list view.old) parts.entry)) fields.now found × (length found ≤ 2 ^ 33)) }
+    ensures made { OnOk result (EachCanBeMade (IsClock (zone_seen (V.list view.old) parts.entry)) fields.now) }
+    ensures err { IfErr result (IsSearchFault L.takes_memory (IsClock (zone_seen (V.list view.old) parts.entry)) fields.now) }
+    ensures at_most { OnOk result ((b w : ℕ) → length (V.list view.old) < 2 ^ b
+        → AtMostTakeEffectIn (zone_seen (V.list view.old) parts.entry) low high w
+        → V.looks view.new ≤ V.looks view.old + (2 * b + w + 4)) }
+    ensures at_least_one { OnOk result (0 < length (V.list view.old) → V.next (V.looks view.old) ≤ V.looks view.new) }
+    ensures none { OnOk result (length (V.list view.old) ≡ 0 → V.looks view.new ≡ V.looks view.old) }
+{
+    match window_types(view, parts, low, high) {
+        WindowTypes::One(local_time_type) => give_once(list, fields, reading, local_time_type),
+        WindowTypes::Two {
+            unix_time,
+            before,
+            after,
+        } => around_jump(reading, unix_time, before, after).give(list, fields),
+        WindowTypes::More => search_segments(list, fields, reading, view, parts, low, high),
     }
 }
 
@@ -190,15 +272,15 @@ pub(super) fn search<L: DateTimeList, V: Transitions>(
     requires offsets { AreEndOffsets (zone_seen (V.list view.old) parts) least greatest }
     ensures ok { OnOk result ((found : List FoundDateTimeKind) × L.gains list.old list.new found
         × IsFound (IsClock (zone_seen (V.list view.old) parts.entry)) fields.now found × (length found ≤ 2 ^ 33)) }
-    ensures err { IfErr result (IsSearchFault L.takes_memory (IsClock (zone_seen (V.list view.old) parts.entry)) (reading_of fields.now)) }
-    ensures few { OnOk result ((b w : ℕ) → length (V.list view.old) < 2 ^ b
+    ensures made { OnOk result (EachCanBeMade (IsClock (zone_seen (V.list view.old) parts.entry)) fields.now) }
+    ensures err { IfErr result (IsSearchFault L.takes_memory (IsClock (zone_seen (V.list view.old) parts.entry)) fields.now) }
+    ensures at_most { OnOk result ((b w : ℕ) → length (V.list view.old) < 2 ^ b
         → AtMostTakeEffectAround (zone_seen (V.list view.old) parts.entry) (reading_of fields.now) w
         → V.looks view.new ≤ V.looks view.old + (2 * b + w + 4)) }
-    ensures some { OnOk result (0 < length (V.list view.old) → V.next (V.looks view.old) ≤ V.looks view.new) }
+    ensures at_least_one { OnOk result (0 < length (V.list view.old) → V.next (V.looks view.old) ≤ V.looks view.new) }
     ensures none { OnOk result (length (V.list view.old) ≡ 0 → V.looks view.new ≡ V.looks view.old) }
 {
     let reading = fields.reading();
     let (low, high) = window(reading, least, greatest);
-    let mut first = clock_segment_at(view, parts, low);
-    search_from(list, fields, reading, view, parts, &mut first, low, high)
+    search_window(list, fields, reading, view, parts, low, high)
 }

@@ -5,7 +5,7 @@ ghost use Rattle.tz.specs.DateTimes.{IsPastTheEnd};
 
 use super::DateTime;
 use super::totals::{duration_between, timespec_after, timespec_before, utc_timespec};
-use crate::inner::TextBuffer;
+use crate::text::TextBuffer;
 use std::fmt;
 use std::marker::Model;
 use std::ops::{Add, AddAssign, Sub, SubAssign};
@@ -172,7 +172,7 @@ impl UtcDateTime {
 
     /// The date time of a Unix time and nanoseconds below a second.
     ///
-    /// `InvalidNanoseconds` refuses a second or more of them, and then `OutOfRange` a year that does not fit `i32`.
+    /// `InvalidNanoseconds`: 10^9 or more. Then `OutOfRange`: the year does not fit an `i32`.
     pub fn from_timespec(unix_time: i64, nanoseconds: u32) -> Result<Self, TzError>
         ensures ok { IfOk result (IsCivil unix_time nanoseconds) }
         ensures instant { OnOk result (IsReading unix_time) }
@@ -387,7 +387,7 @@ impl UtcDateTime {
         })
     }
 
-    /// The duration from an earlier date time to this one, or `Err` with the way back where the other one is later.
+    /// The duration from an earlier date time to this one, or `Err` with the duration in the other direction if that one is later.
     pub fn duration_since(&self, earlier: Self) -> Result<Duration, Duration>
         ensures ok { IfOk result (IsForwards (utc_total earlier) (utc_total self.now)) }
         ensures err { IfErr result (IsBackwards (utc_total earlier) (utc_total self.now)) }

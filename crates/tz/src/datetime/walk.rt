@@ -1,6 +1,6 @@
 //! A walk past the pieces of a clock, in search of a reading.
 
-use super::growing::DateTimeList;
+use super::date_time_list::DateTimeList;
 use super::{DateTime, FoundDateTimeKind};
 use tz_base::calendar::Fields;
 use tz_base::error::TzError;
@@ -36,10 +36,11 @@ pub(super) struct Walk {
 }
 
 impl Entry {
-    ghost use Rattle.std.specs.Prelude.{◌≡◌, ◌⊎◌, ◌+ℤ◌, ◌-ℤ◌, [], ◌∷◌, OnOk, IfOk, IfErr, alloc_error};
+    ghost use Rattle.std.specs.Prelude.{◌≡◌, ◌⊎◌, ◌+ℤ◌, [], ◌∷◌, OnOk, IfOk, IfErr, alloc_error};
     ghost use Rattle.tz_base.specs.Fields.{IsValid, IsReading, reading as reading_of};
     ghost use Rattle.tz.specs.DateTimes.{ShowsInstant};
-    ghost use Rattle.tz.specs.Walks.{moment_of, IsDateTimeOf, IsEntryNear, IsEntryOutside, IsNear, IsOutside};
+    ghost use Rattle.tz.specs.Found.{CanBeMade};
+    ghost use Rattle.tz.specs.Walks.{IsDateTimeOf, IsEntryAt, IsEntryOutside};
     ghost use Rattle.tz.specs.declared.datetime.found.FoundDateTimeKind.{FoundDateTimeKind};
 
     /// A side of a jump: its instant in a type.
@@ -48,21 +49,22 @@ impl Entry {
         unix_time: i64,
         local_time_type: LocalTimeType,
     ) -> Result<DateTime, TzError>
-        requires valid { IsValid fields.now }
-        requires near { IsNear (reading_of fields.now) (unix_time +ℤ local_time_type.ut_offset) }
+        requires { IsValid fields.now }
         ensures ok { IfOk result (ShowsInstant unix_time fields.now.nanoseconds local_time_type) }
-        ensures err { IfErr result (λ e. (e ≡ TzError.OutOfRange) × IsOutside (reading_of fields.now) (unix_time +ℤ local_time_type.ut_offset)) }
+        ensures reads { IfOk result (λ d. IsReading (reading_of d.fields)) }
+        ensures err { IfErr result (λ e. (e ≡ TzError.OutOfRange) × ¬ IsReading (unix_time +ℤ local_time_type.ut_offset)) }
     {
         DateTime::from_timespec_and_local(unix_time, fields.nanoseconds, local_time_type)
     }
 
     /// Adds the entry to the list, as a found date time of the fields.
+    #[inline(always)]
     pub(super) fn give<L: DateTimeList>(&self, list: &mut L, fields: &Fields) -> Result<(), TzError>
         requires valid { IsValid fields.now }
-        requires near { IsEntryNear (reading_of fields.now) self.now }
-        ensures ok { OnOk result ((found : FoundDateTimeKind) × L.gains list.old list.new (found ∷ []) × IsDateTimeOf fields.now self.now found) }
+        requires at { IsEntryAt (reading_of fields.now) self.now }
+        ensures ok { OnOk result ((found : FoundDateTimeKind) × L.gains list.old list.new (found ∷ []) × IsDateTimeOf fields.now self.now found × CanBeMade found) }
         ensures err { IfErr result (λ e. ((e ≡ TzError.Memory alloc_error) × L.takes_memory)
-            ⊎ ((e ≡ TzError.OutOfRange) × IsEntryOutside (reading_of fields.now) self.now)) }
+            ⊎ ((e ≡ TzError.OutOfRange) × IsEntryOutside self.now)) }
     {
         let found = self.date_time(fields)?;
         list.push(found)?;
@@ -70,15 +72,17 @@ impl Entry {
     }
 
     /// The entry as a found date time of the fields.
+    #[inline(always)]
     fn date_time(&self, fields: &Fields) -> Result<FoundDateTimeKind, TzError>
         requires valid { IsValid fields.now }
-        requires near { IsEntryNear (reading_of fields.now) self.now }
+        requires at { IsEntryAt (reading_of fields.now) self.now }
         ensures ok { IfOk result (IsDateTimeOf fields.now self.now) }
-        ensures err { IfErr result (λ e. (e ≡ TzError.OutOfRange) × IsEntryOutside (reading_of fields.now) self.now) }
+        ensures made { IfOk result CanBeMade }
+        ensures err { IfErr result (λ e. (e ≡ TzError.OutOfRange) × IsEntryOutside self.now) }
     {
         match *self {
             Entry::Shown(unix_time, local_time_type) => {
-                let date_time = DateTime::from_valid_fields(fields, local_time_type, unix_time)?;
+                let date_time = DateTime::from_valid_fields(fields, local_time_type, unix_time);
                 Ok(FoundDateTimeKind::Normal(date_time))
             }
             Entry::Jump(unix_time, before, after) => {
@@ -96,7 +100,7 @@ impl Entry {
 impl Walk {
     ghost use Rattle.std.specs.Prelude.{◌≡◌, List, None, OnOk, IfErr, IfSome, IfNone};
     ghost use Rattle.tz_base.specs.Fields.{IsValid};
-    ghost use Rattle.tz.specs.Walks.{IsSmall, IsWalk, IsEntryOf, IsEntryNear, IsGiven, IsStep, IsGiveFault};
+    ghost use Rattle.tz.specs.Walks.{IsSmall, IsWalk, IsEntryOf, IsEntryAt, IsGiven, IsStep, IsGiveFault};
     ghost use Rattle.tz.specs.declared.datetime.walk.Entry.{Entry};
     ghost use Rattle.tz.specs.declared.datetime.found.FoundDateTimeKind.{FoundDateTimeKind};
 
@@ -121,7 +125,7 @@ impl Walk {
     fn entry(&self, until: i64) -> Option<Entry>
         requires { IsSmall self.now.reading }
         ensures some { IfSome result (IsEntryOf self.now until) }
-        ensures near { IfSome result (IsEntryNear self.now.reading) }
+        ensures at { IfSome result (IsEntryAt self.now.reading) }
         ensures none { IfNone result ((entry : Entry) → ¬ IsEntryOf self.now until entry) }
     {
         let local_time_type = self.local_time_type?;

@@ -1,6 +1,6 @@
 -- Rising lists of the same entries are the same.
 use Rattle.tz_zone.specs.Clock.{IsClock}
-use Rattle.tz.proofs.FoundLemmas.{found_unique}
+use Rattle.tz.proofs.UniqueLists.{found_unique}
 use Rattle.tz.proofs.laws.found_lists_are_unique.Goals as goal
 
 pub returns : goal.returns

@@ -1,10 +1,11 @@
 -- A date time that the clock shows is one that a search finds.
-use Rattle.std.proofs.Common.{◌∙◌, refl, sym, ap, subst, ℤ, ◌+ℤ◌}
+use Rattle.std.proofs.Common.{◌∙◌, refl, sym, ap, subst, arith, ℤ, pos, negsuc, ◌+ℤ◌}
+use Rattle.std.proofs.lemmas.Int.{ints}
 use Rattle.std.specs.Prelude.{⊤}
 use Rattle.tz_rule.specs.LocalTimeType.{LocalTimeType}
 use Rattle.tz_zone.specs.Clock.{IsClock}
 use Rattle.tz.specs.declared.datetime.found.FoundDateTimeKind.TheVariants.{Normal}
-use Rattle.tz.proofs.FarLemmas.{not_out_of_range, only_memory_is_refused}
+use Rattle.tz.proofs.PromisedLists.{each_can_be_made, not_out_of_range, only_memory_is_refused}
 use Rattle.tz.proofs.laws.shown_date_times_are_found.Goals as goal
 
 pub returns-clause-found : goal.returns-clause-found
@@ -15,4 +16,8 @@ returns-clause-found c z u n d found (t, clock, shows) is =
     is.complete (Normal d) (refl, (here, at ∙ sym reads ∙ sym shows.civil.reads))
 
 pub returns-clause-refused : goal.returns-clause-refused
-returns-clause-refused c z u n d e (t, clock, shows) promised fault = only_memory_is_refused (IsClock z) d.fields shows.civil.valid e fault (not_out_of_range ⊤ z d.fields promised e fault)
+returns-clause-refused c z u n d e (t, clock, shows) made fault = only_memory_is_refused (IsClock z) d.fields shows.civil.valid e fault (not_out_of_range ⊤ (IsClock z) d.fields (λ valid. made) e fault)
+
+pub returns-clause-promised : goal.returns-clause-promised
+returns-clause-promised c z f fits valid promised =
+    each_can_be_made z (negsuc 2147483647) (pos 2147483647) (λ u t clock. let offset = fits u t clock in (omega (arith, ints), omega (arith, ints))) (omega (arith, ints)) f valid promised

@@ -5,16 +5,15 @@ use Rattle.std.proofs.lemmas.Result.{err_from_is_err_and}
 use mir.Syntax.{w32}
 use mir.Val.{SFits}
 use Rattle.tz_base.specs.declared.calendar.Fields.{Fields}
-use Rattle.tz_base.specs.Fields.{reading}
 use Rattle.tz_zone.specs.Clock.{IsClock}
 use Rattle.tz_zone.specs.Table.{Transition, Zone}
 use Rattle.tz_zone.specs.Offsets.{AreEndOffsets}
 use Rattle.tz_zone.specs.ValidZone.{IsSoundTable}
 use Rattle.tz_zone.specs.ZoneRef.{zone_of}
 use Rattle.tz_zone.specs.ZoneSeen.{zone_seen}
-use Rattle.tz.specs.Found.{IsFound}
+use Rattle.tz.specs.FindFaults.{IsSearchFault}
+use Rattle.tz.specs.Found.{EachCanBeMade, IsFound}
 use Rattle.tz.specs.Meanings.{IsMeantIn}
-use Rattle.tz.specs.Walks.{IsSearchFault}
 use Rattle.tz.specs.declared.datetime.found.FoundDateTimeKind.{FoundDateTimeKind}
 use Rattle.tz.proofs.datetime.local_time.meant.Goals as goal
 
@@ -38,12 +37,28 @@ returns-in_err-search-clause-err c =
     let seen = zone_seen c.new-view.result.transitions.now c.other_parts-parts.result in
     let same : seen ≡ zone_of c.args.time_zone_ref = ap (λ (xs : List Transition). zone_seen xs c.other_parts-parts.result) (c.new-view.ensures ∙ c.transitions.ensures) ∙ c.other_parts-parts.ensures in
     let p = err_from_is_err_and c.from_residual-in_err-search.result c.from_residual-in_err-search.ensures.1 in
-    let err = subst (λ (x : Zone). IsSearchFault ⊥ (IsClock x) (reading c.args.fields.now) c.in_err-search.field-0.0) same c.in_err-search.ensures.err in
+    let err = subst (λ (x : Zone). IsSearchFault ⊥ (IsClock x) c.args.fields.now c.in_err-search.field-0.0) same c.in_err-search.ensures.err in
     rw (p.1, p.2) (inl (inr (c.in_ok-check.ensures.ok, err)))
 
 -- the list that is found in the zone, with the entry that is meant
 found_in : (z z' : Zone) → z ≡ z' → (f : Fields) (found : List FoundDateTimeKind) → IsFound (IsClock z) f found → IsFound (IsClock z') f found
 found_in z z' same f found is = subst (λ (x : Zone). IsFound (IsClock x) f found) same is
+
+-- what can be made in the zone
+made_in : (z z' : Zone) → z ≡ z' → (f : Fields) → EachCanBeMade (IsClock z) f → EachCanBeMade (IsClock z') f
+made_in z z' same f made = subst (λ (x : Zone). EachCanBeMade (IsClock x) f) same made
+
+pub returns-in_default-clause-made : goal.returns-in_default-clause-made
+returns-in_default-clause-made c =
+    let seen = zone_seen c.new-view.result.transitions.now c.other_parts-parts.result in
+    let same : seen ≡ zone_of c.args.time_zone_ref = ap (λ (xs : List Transition). zone_seen xs c.other_parts-parts.result) (c.new-view.ensures ∙ c.transitions.ensures) ∙ c.other_parts-parts.ensures in
+    made_in seen (zone_of c.args.time_zone_ref) same c.args.fields.now c.in_ok-search.ensures.made
+
+pub returns-clause-made : goal.returns-clause-made
+returns-clause-made c =
+    let seen = zone_seen c.new-view.result.transitions.now c.other_parts-parts.result in
+    let same : seen ≡ zone_of c.args.time_zone_ref = ap (λ (xs : List Transition). zone_seen xs c.other_parts-parts.result) (c.new-view.ensures ∙ c.transitions.ensures) ∙ c.other_parts-parts.ensures in
+    made_in seen (zone_of c.args.time_zone_ref) same c.args.fields.now c.in_ok-search.ensures.made
 
 pub returns-in_default-clause-ok : goal.returns-in_default-clause-ok
 returns-in_default-clause-ok c =

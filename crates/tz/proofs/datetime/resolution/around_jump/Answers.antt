@@ -2,7 +2,7 @@
 use Rattle.std.proofs.Common.{◌≡◌, arith, ◌-ℤ◌, ◌≤ℤ◌, ◌<ℤ◌}
 use Rattle.std.proofs.lemmas.Int.{ints, to_z-of_z}
 use mir.Syntax.{w64}
-use Rattle.tz.proofs.ResolutionLemmas.{instant_is, jump_near, once_after, once_before, passes_over, same, shown_near, shows_after, shows_before, skipped, twice}
+use Rattle.tz.proofs.JumpResolutions.{instant_is, once_after, once_before, passes_over, same, shows_after, shows_before, skipped, twice}
 use Rattle.tz.proofs.datetime.resolution.around_jump.Goals as goal
 
 pub returns-then-second-jump : goal.returns-then-second-jump
@@ -20,7 +20,7 @@ returns-then-second-jump c =
     let second : v <ℤ jump = omega (arith, ints, c.if-second-jump.true, v_is, jump_is) in
     record {
       resolves = λ z leaps has. record { there = shows_before z leaps r jump a b has u u_is first; all = λ f is found. once_before z leaps r jump a b has u v u_is v_is f is found first second };
-      near = shown_near r u c.ut_offset.result a u_is c.ut_offset.ensures.value c.ut_offset.type_inv;
+      at = u_is;
     }
 
 pub returns-then-first-jump : goal.returns-then-first-jump
@@ -38,7 +38,7 @@ returns-then-first-jump c =
     let second : jump ≤ℤ v = omega (arith, ints, c.if-second-jump.false, v_is, jump_is) in
     record {
       resolves = λ z leaps has. record { there = (shows_before z leaps r jump a b has u u_is first, shows_after z leaps r jump a b has v v_is second); all = λ f is found. twice z leaps r jump a b has u v u_is v_is f is found first second };
-      near = (shown_near r u c.ut_offset.result a u_is c.ut_offset.ensures.value c.ut_offset.type_inv, shown_near r v c.ut_offset-2.result b v_is c.ut_offset-2.ensures.value c.ut_offset-2.type_inv);
+      at = (u_is, v_is);
     }
 
 pub returns-then-second-jump-2 : goal.returns-then-second-jump-2
@@ -56,7 +56,7 @@ returns-then-second-jump-2 c =
     let second : v <ℤ jump = omega (arith, ints, c.if-second-jump-2.true, v_is, jump_is) in
     record {
       resolves = λ z leaps has. rw jump_is (record { there = passes_over z leaps r jump a b has u v u_is v_is first second; all = λ f is found. skipped z leaps r jump a b has u v u_is v_is f is found first second });
-      near = rw jump_is (jump_near r jump c.ut_offset.result c.ut_offset-2.result a b c.ut_offset.ensures.value c.ut_offset-2.ensures.value c.ut_offset.type_inv c.ut_offset-2.type_inv (omega (arith, ints, first, u_is)) (omega (arith, ints, second, v_is)));
+      at = tt;
     }
 
 pub returns : goal.returns
@@ -74,5 +74,5 @@ returns c =
     let second : jump ≤ℤ v = omega (arith, ints, c.if-second-jump-2.false, v_is, jump_is) in
     record {
       resolves = λ z leaps has. record { there = shows_after z leaps r jump a b has v v_is second; all = λ f is found. once_after z leaps r jump a b has u v u_is v_is f is found first second };
-      near = shown_near r v c.ut_offset-2.result b v_is c.ut_offset-2.ensures.value c.ut_offset-2.type_inv;
+      at = v_is;
     }

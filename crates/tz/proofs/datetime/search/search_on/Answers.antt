@@ -10,7 +10,8 @@ use Rattle.tz_zone.specs.Clock.{IsClock}
 use Rattle.tz_zone.specs.ClockSegments.{IsSegmentAt}
 use Rattle.tz_zone.specs.ZoneSeen.{zone_seen}
 use Rattle.tz.specs.declared.datetime.found.FoundDateTimeKind.{FoundDateTimeKind}
-use Rattle.tz.proofs.ResolutionLemmas.{fault_of, few_entries}
+use Rattle.tz.proofs.UniqueLists.{each_from_list}
+use Rattle.tz.proofs.JumpResolutions.{fault_of, few_entries}
 use Rattle.tz.proofs.SegmentLooks.{few_at_end, looks_at_first, looks_at_next}
 use Rattle.tz.proofs.SegmentWalks.{fault_there, few_found, found_to_end, holds_later, room_less, walked_to_first, walked_to_next}
 use Rattle.tz.proofs.datetime.search.search_on.Goals as goal
@@ -42,13 +43,13 @@ loop-segment-init g c =
         walked_to_first (IsClock z) c.args.low c.args.high c.args.fields.now first.last c.new-walk.result walk.walk walk.before (walk.since ∙ low_is) (omega (arith, ints, c.requires.first.within.1, c.requires.more)) c.requires.first.within.1 holds,
         λ early. refl,
       );
-      looks = looks_at_first z c.args.low c.args.high (g.V.Transitions.looks c.args.view.now) first.cursor first.last;
+      looks = looks_at_first z c.args.low c.args.high first.cursor (g.V.Transitions.looks c.args.view.now) first.cursor first.last refl;
     })
 
-pub give-requires-clause-near : goal.give-requires-clause-near
-give-requires-clause-near g c =
+pub give-requires-clause-at : goal.give-requires-clause-at
+give-requires-clause-at g c =
     let reading_is : same c.args.reading ≡ reading c.args.fields.now = to_z-of_z w64 c.args.reading c.ranges.reading ∙ c.requires.reading in
-    rw reading_is at c.in-Some.ensures.near
+    rw reading_is at c.in-Some.ensures.at
 
 pub returns-in-Some : goal.returns-in-Some
 returns-in-Some g c =
@@ -72,7 +73,7 @@ returns-in-Some g c =
     let at_low : IsSegmentAt z low here = record { within = (early, omega (arith, ints, way.low_is, way.last_is)); holds = seen.holds; cursor_is = seen.cursor_is; fresh = seen.fresh } in
     let resolves = rw (reading_is, high_is) at c.in-Some.ensures.resolves in
     let is = resolves z low c.requires.sound.leap_seconds_are at_low after.at after.from more c.requires.offsets in
-    let looks = looks_at_next z low high (g.V.Transitions.looks c.args.view.now) (g.V.Transitions.looks c.loop-segment.view) (g.V.Transitions.looks c.clock_segment_after-next.new.view) here.cursor next.cursor here.last next.from next.last
+    let looks = looks_at_next z low high c.args.segment.now.cursor (g.V.Transitions.looks c.args.view.now) (g.V.Transitions.looks c.loop-segment.view) (g.V.Transitions.looks c.clock_segment_after-next.new.view) here.cursor next.cursor here.last next.from next.last
     so_far.looks (omega (arith, ints, more, c.requires.reach)) (omega (arith, ints, way.low_is, way.last_is, after.from)) (omega (arith, ints, more, after.from))
     after.kept after.anew after.on after.none after.effects after.end after.empty in
     record {
@@ -82,9 +83,10 @@ returns-in-Some g c =
         is.all f refl given.0 given.2,
         omega (arith, few_entries f resolution given.0 given.2),
       )) c.give.ensures.ok;
-      err = IfErr-weaker c.give.result _ _ (fault_of (IsClock z) (reading f) resolution is.there g.L.DateTimeList.takes_memory) c.give.ensures.err;
+      made = on_ok_weaker c.give.result (λ given. each_from_list (IsClock z) f given.0 (is.all f refl given.0 given.2) given.3) c.give.ensures.ok;
+      err = IfErr-weaker c.give.result _ _ (fault_of (IsClock z) f resolution c.requires.valid is.there g.L.DateTimeList.takes_memory) c.give.ensures.err;
       kept = looks.kept;
-      few = on_ok_weaker c.give.result (λ given. few_at_end z low high (g.V.Transitions.looks c.args.view.now) (g.V.Transitions.looks c.clock_segment_after-next.new.view) next.cursor next.last looks) c.give.ensures.ok;
+      at_most = on_ok_weaker c.give.result (λ given. few_at_end z low high c.args.segment.now.cursor (g.V.Transitions.looks c.args.view.now) (g.V.Transitions.looks c.clock_segment_after-next.new.view) next.cursor next.last looks) c.give.ensures.ok;
       none = on_ok_weaker c.give.result (λ given empty. looks.none (nil_from_length (g.V.Transitions.list c.args.view.now) empty)) c.give.ensures.ok;
     }
 
@@ -121,7 +123,7 @@ loop-segment-preserved g c =
         walked_to_next (IsClock z) low high c.args.fields.now here.last c.loop-segment.walk so_far.found.0 way more next.last piece c.step.new.self step.0 from order holds step.2,
         λ early. absurd (omega (arith, ints, early, after.from, after.at.within.0, way.low_is, way.last_is)),
       );
-      looks = looks_at_next z low high (g.V.Transitions.looks c.args.view.now) (g.V.Transitions.looks c.loop-segment.view) (g.V.Transitions.looks c.clock_segment_after-next.new.view) here.cursor next.cursor here.last next.from next.last
+      looks = looks_at_next z low high c.args.segment.now.cursor (g.V.Transitions.looks c.args.view.now) (g.V.Transitions.looks c.loop-segment.view) (g.V.Transitions.looks c.clock_segment_after-next.new.view) here.cursor next.cursor here.last next.from next.last
           so_far.looks (omega (arith, ints, more, c.requires.reach)) (omega (arith, ints, way.low_is, way.last_is, after.from)) (omega (arith, ints, more, after.from))
           after.kept after.anew after.on after.none after.effects after.end after.empty;
     })
@@ -166,9 +168,24 @@ returns-clause-ok g c =
     let all = found_to_end (IsClock z) low high f here.last c.loop-segment.walk found so_far.found.2 over c.requires.offsets (same (same high +ℤ pos 1)) more.0 (end_is high c.ranges.high c.requires.reach) more.2 in (
       found ++ more.0,
       g.met.L.DateTimeList.more c.args.list.now c.loop-segment.list c.give-2.new.list found more.0 so_far.found.1 more.1,
-      all,
-      few_found (IsClock z) low high f (found ++ more.0) c.requires.offsets c.requires.width all,
+      all.0,
+      few_found (IsClock z) low high f (found ++ more.0) c.requires.offsets c.requires.width all.0,
     )) c.give-2.ensures.ok
+
+pub returns-clause-made : goal.returns-clause-made
+returns-clause-made g c =
+    let z = zone_seen (g.V.Transitions.list c.args.view.now) c.args.parts in
+    let low = c.args.low in
+    let high = c.args.high in
+    let f = c.args.fields.now in
+    let high_is = to_z-of_z w64 high c.ranges.high in
+    let so_far = rw (to_z-of_z w64 low c.ranges.low, high_is) at c.loop-segment.invariant in
+    let found = so_far.found.0 in
+    let here = c.loop-segment.segment in
+    let over : high ≤ℤ here.last = omega (arith, ints, c.loop-segment-test.false, to_z-of_z w64 here.last so_far.fits, high_is) in
+    on_ok_weaker c.give-2.result (λ more.
+    let all = found_to_end (IsClock z) low high f here.last c.loop-segment.walk found so_far.found.2 over c.requires.offsets (same (same high +ℤ pos 1)) more.0 (end_is high c.ranges.high c.requires.reach) more.2 in
+    each_from_list (IsClock z) f (found ++ more.0) all.0 all.1) c.give-2.ensures.ok
 
 pub returns-clause-err : goal.returns-clause-err
 returns-clause-err g c =
@@ -185,13 +202,13 @@ returns-clause-err g c =
     fault_there (IsClock z) low high c.args.fields.now here.last c.loop-segment.walk so_far.found.0 way (same (same high +ℤ pos 1)) (omega (arith, ints, until, way.high_is)) (omega (arith, ints, until, over)) (omega (arith, ints, until))
     g.L.DateTimeList.takes_memory e fault) c.give-2.ensures.err
 
-pub returns-clause-few : goal.returns-clause-few
-returns-clause-few g c =
+pub returns-clause-at_most : goal.returns-clause-at_most
+returns-clause-at_most g c =
     let z = zone_seen (g.V.Transitions.list c.args.view.now) c.args.parts in
     let so_far = rw (to_z-of_z w64 c.args.low c.ranges.low, to_z-of_z w64 c.args.high c.ranges.high) at c.loop-segment.invariant in
     let here = c.loop-segment.segment in
     on_ok_weaker c.give-2.result (λ more.
-    few_at_end z c.args.low c.args.high (g.V.Transitions.looks c.args.view.now) (g.V.Transitions.looks c.loop-segment.view) here.cursor here.last so_far.looks) c.give-2.ensures.ok
+    few_at_end z c.args.low c.args.high c.args.segment.now.cursor (g.V.Transitions.looks c.args.view.now) (g.V.Transitions.looks c.loop-segment.view) here.cursor here.last so_far.looks) c.give-2.ensures.ok
 
 pub returns-clause-none : goal.returns-clause-none
 returns-clause-none g c =

@@ -18,7 +18,7 @@ invariant-loop-segment g l = record {
   fits_from : SFits w64 l.segment.from;
   found : (found : List FoundDateTimeKind) × g.L.DateTimeList.gains l.initial.list l.list found
       × IsWalkedTo (IsClock (zone_seen (g.V.Transitions.list l.initial.view) l.parts)) l.low l.high l.fields l.segment.last l.walk found × (l.segment.from ≤ℤ l.low → found ≡ []);
-  looks : AreLooks (zone_seen (g.V.Transitions.list l.initial.view) l.parts) l.low l.high (g.V.Transitions.looks l.initial.view) (g.V.Transitions.looks l.view) l.segment.cursor l.segment.last;
+  looks : AreLooks (zone_seen (g.V.Transitions.list l.initial.view) l.parts) l.low l.high l.initial.segment.cursor (g.V.Transitions.looks l.initial.view) (g.V.Transitions.looks l.view) l.segment.cursor l.segment.last;
 }
 
 abbrev pub decreases-loop-segment : goal.decreases-loop-segment

@@ -2,7 +2,7 @@
 use Rattle.std.proofs.Common.{arith}
 use Rattle.std.proofs.lemmas.Int.{ints}
 use Rattle.std.specs.Duration.{as_nanos}
-use Rattle.tz.proofs.TotalLemmas.{timespec_later, range_later, below_a_second}
+use Rattle.tz.proofs.TimespecTotals.{timespec_later, range_later, below_a_second}
 use Rattle.tz.proofs.datetime.totals.timespec_after.Goals as goal
 
 pub returns-clause-some : goal.returns-clause-some

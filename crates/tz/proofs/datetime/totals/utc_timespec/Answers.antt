@@ -4,7 +4,7 @@ use Rattle.std.proofs.lemmas.Int.{ints, to_z-of_z}
 use mir.Syntax.{w64, w128}
 use mir.Val.{SFits}
 use Rattle.tz_zone.proofs.LeapTimes.{IsInstant-from_bounds}
-use Rattle.tz.proofs.TotalLemmas.{timespec_exists}
+use Rattle.tz.proofs.TimespecTotals.{timespec_exists}
 use Rattle.tz.proofs.datetime.totals.utc_timespec.Goals as goal
 
 pub returns-in_err-seconds-clause-in_range : goal.returns-in_err-seconds-clause-in_range

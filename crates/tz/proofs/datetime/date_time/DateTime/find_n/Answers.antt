@@ -13,13 +13,17 @@ use Rattle.tz_zone.specs.ValidZone.{IsSoundTable}
 use Rattle.tz_zone.specs.ZoneRef.{zone_of}
 use Rattle.tz_zone.specs.ZoneSeen.{zone_seen}
 use Rattle.tz.specs.FindFaults.{IsFindFault, IsPromised}
-use Rattle.tz.specs.Found.{IsFound}
+use Rattle.tz.specs.Found.{EachCanBeMade, IsFound}
 use Rattle.tz.specs.declared.datetime.found.FoundDateTimeKind.{FoundDateTimeKind}
 use Rattle.tz.proofs.datetime.date_time.DateTime.find_n.Goals as goal
 
 -- the fault of the same zone
 fault_in : (z z' : Zone) (f : Fields) (e : TzError) → z ≡ z' → IsFindFault ⊥ (IsClock z) f e → IsFindFault ⊥ (IsClock z') f e
 fault_in z z' f e same fault = subst (λ (x : Zone). IsFindFault ⊥ (IsClock x) f e) same fault
+
+-- what can be made in the same zone
+made_in : (z z' : Zone) (f : Fields) → z ≡ z' → EachCanBeMade (IsClock z) f → EachCanBeMade (IsClock z') f
+made_in z z' f same made = subst (λ (x : Zone). EachCanBeMade (IsClock x) f) same made
 
 -- what is found of the same zone
 found_in : (z z' : Zone) (f : Fields) (found : List FoundDateTimeKind) → z ≡ z' → IsFound (IsClock z) f found → IsFound (IsClock z') f found
@@ -55,6 +59,13 @@ returns-in_err-count-clause-err c =
     let p = err_from_is_err_and c.from_residual.result c.from_residual.ensures.1 in
     let fill = rw (to_z-of_z w32 c.args.year c.ranges.year) at c.in_err-count.ensures in
     rw (p.1, p.2) (fault_in seen (zone_of c.args.time_zone_ref) _ _ same fill.err)
+
+pub returns-clause-made : goal.returns-clause-made
+returns-clause-made c =
+    let seen = zone_seen c.new-view.result.transitions.now c.other_parts-parts.result in
+    let same : seen ≡ zone_of c.args.time_zone_ref = ap (λ (xs : List Transition). zone_seen xs c.other_parts-parts.result) (c.new-view.ensures ∙ c.transitions.ensures) ∙ c.other_parts-parts.ensures in
+    let fill = rw (to_z-of_z w32 c.args.year c.ranges.year) at c.in_ok-count.ensures in
+    made_in seen (zone_of c.args.time_zone_ref) _ same fill.made
 
 pub returns-clause-ok : goal.returns-clause-ok
 returns-clause-ok c =

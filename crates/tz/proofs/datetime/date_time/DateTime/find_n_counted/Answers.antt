@@ -13,7 +13,7 @@ use Rattle.tz_zone.specs.ValidZone.{IsSoundTable}
 use Rattle.tz_zone.specs.ZoneRef.{zone_of}
 use Rattle.tz_zone.specs.ZoneSeen.{zone_seen}
 use Rattle.tz.specs.FindFaults.{IsFindFault, IsPromised}
-use Rattle.tz.specs.Found.{IsFound}
+use Rattle.tz.specs.Found.{EachCanBeMade, IsFound}
 use Rattle.tz.specs.Windows.{AtMostTakeEffectAround}
 use Rattle.tz.specs.declared.datetime.found.FoundDateTimeKind.{FoundDateTimeKind}
 use Rattle.tz.proofs.datetime.date_time.DateTime.find_n_counted.Goals as goal
@@ -25,6 +25,10 @@ fault_in z z' f e same fault = subst (λ (x : Zone). IsFindFault ⊥ (IsClock x)
 -- as many take effect in the same zone
 most_in : (z z' : Zone) (r : ℤ) (w : ℕ) → z ≡ z' → AtMostTakeEffectAround z r w → AtMostTakeEffectAround z' r w
 most_in z z' r w same most = subst (λ (x : Zone). AtMostTakeEffectAround x r w) same most
+
+-- what can be made in the same zone
+made_in : (z z' : Zone) (f : Fields) → z ≡ z' → EachCanBeMade (IsClock z) f → EachCanBeMade (IsClock z') f
+made_in z z' f same made = subst (λ (x : Zone). EachCanBeMade (IsClock x) f) same made
 
 -- what is found of the same zone
 found_in : (z z' : Zone) (f : Fields) (found : List FoundDateTimeKind) → z ≡ z' → IsFound (IsClock z) f found → IsFound (IsClock z') f found
@@ -61,6 +65,13 @@ returns-in_err-count-clause-err c =
     let fill = rw (to_z-of_z w32 c.args.year c.ranges.year) at c.in_err-count.ensures in
     rw (p.1, p.2) (fault_in seen (zone_of c.args.time_zone_ref) _ _ same fill.err)
 
+pub returns-clause-made : goal.returns-clause-made
+returns-clause-made c =
+    let seen = zone_seen c.new-view.result.transitions.now c.other_parts-parts.result in
+    let same : seen ≡ zone_of c.args.time_zone_ref = ap (λ (xs : List Transition). zone_seen xs c.other_parts-parts.result) (c.new-view.ensures.list ∙ c.transitions.ensures) ∙ c.other_parts-parts.ensures in
+    let fill = rw (to_z-of_z w32 c.args.year c.ranges.year) at c.in_ok-count.ensures in
+    made_in seen (zone_of c.args.time_zone_ref) _ same fill.made
+
 pub returns-clause-ok : goal.returns-clause-ok
 returns-clause-ok c =
     let seen = zone_seen c.new-view.result.transitions.now c.other_parts-parts.result in
@@ -69,19 +80,19 @@ returns-clause-ok c =
     let list = c.counted.ensures in
     (fill.ok.0, found_in seen (zone_of c.args.time_zone_ref) _ fill.ok.0 same fill.ok.1, list.count ∙ fill.ok.2, list.slots ∙ fill.ok.3)
 
-pub returns-clause-few : goal.returns-clause-few
-returns-clause-few c b w bits around =
+pub returns-clause-at_most : goal.returns-clause-at_most
+returns-clause-at_most c b w bits around =
     let seen = zone_seen c.new-view.result.transitions.now c.other_parts-parts.result in
     let same : seen ≡ zone_of c.args.time_zone_ref = ap (λ (xs : List Transition). zone_seen xs c.other_parts-parts.result) (c.new-view.ensures.list ∙ c.transitions.ensures) ∙ c.other_parts-parts.ensures in
     let fill = rw (to_z-of_z w32 c.args.year c.ranges.year) at c.in_ok-count.ensures in
-    let bound = fill.few b w (subst (λ (x : Zone). length x.transitions < 2 ^ b) (sym same) bits) (most_in (zone_of c.args.time_zone_ref) seen _ w (sym same) around) in
+    let bound = fill.at_most b w (subst (λ (x : Zone). length x.transitions < 2 ^ b) (sym same) bits) (most_in (zone_of c.args.time_zone_ref) seen _ w (sym same) around) in
     omega (arith, bound, c.new-view.ensures.looks, c.looks.ensures)
 
-pub returns-clause-some : goal.returns-clause-some
-returns-clause-some c some =
+pub returns-clause-at_least_one : goal.returns-clause-at_least_one
+returns-clause-at_least_one c some =
     let seen = zone_seen c.new-view.result.transitions.now c.other_parts-parts.result in
     let same : seen ≡ zone_of c.args.time_zone_ref = ap (λ (xs : List Transition). zone_seen xs c.other_parts-parts.result) (c.new-view.ensures.list ∙ c.transitions.ensures) ∙ c.other_parts-parts.ensures in
-    let least = rw c.new-view.ensures.looks at (c.in_ok-count.ensures.some (subst (λ (x : Zone). 0 < length x.transitions) (sym same) some)) in
+    let least = rw c.new-view.ensures.looks at (c.in_ok-count.ensures.at_least_one (subst (λ (x : Zone). 0 < length x.transitions) (sym same) some)) in
     omega (arith, least, c.looks.ensures)
 
 pub returns-clause-none : goal.returns-clause-none

@@ -1,16 +1,11 @@
 -- Checked fields are refused for their instant alone.
-use Rattle.std.proofs.Common.{◌≡◌, ◌<◌, inl, inr, refl, sym, subst, arith, ℤ, pos, negsuc, ◌-ℤ◌, ◌≤ℤ◌}
-use Rattle.std.specs.Prelude.{IfOk, Result}
+use Rattle.std.proofs.Common.{◌≡◌, ◌<◌, ◌∙◌, inl, inr, refl, sym, ap, subst, arith, ℤ, pos, negsuc, ◌-ℤ◌, ◌≤ℤ◌}
 use Rattle.std.proofs.lemmas.Int.{ints}
-use Rattle.std.proofs.lemmas.Result.{err_from_is_err_and, on_ok_weaker, IfErr-weaker}
+use Rattle.std.proofs.lemmas.Result.{err_from_is_err_and}
 use lib.Signed.{mag}
 use mir.Syntax.{w32, w64}
 use mir.Val.{to_z, of_z, SFits}
-use Rattle.tz_base.specs.declared.calendar.Fields.{Fields}
-use Rattle.tz_base.specs.declared.error.TzError.{TzError}
 use Rattle.tz_base.specs.Fields.{IsReading}
-use Rattle.tz_rule.specs.LocalTimeType.{LocalTimeType}
-use Rattle.tz.specs.DateTimes.{DateTime}
 use Rattle.tz.specs.Walks.{moment_of}
 use Rattle.tz.proofs.datetime.date_time.DateTime.from_fields.Goals as goal
 
@@ -21,9 +16,6 @@ module _ (read reading at offset wide : ℤ) (bound : (negsuc 67768100567971199 
 
   instant_is : to_z w64 (of_z w64 (to_z w64 (of_z w64 read) -ℤ to_z w64 (of_z w64 wide))) ≡ reading -ℤ offset
   instant_is = omega (arith, ints)
-
-value_as : (r : Result DateTime TzError) (f : Fields) (t : LocalTimeType) (u u' : ℤ) → u ≡ u' → IfOk r (λ d. d ≡ moment_of f t u) → IfOk r (λ d. d ≡ moment_of f t u')
-value_as r f t u u' is value = subst (λ (v : ℤ). IfOk r (λ d. d ≡ moment_of f t v)) is value
 
 pub returns-in_err-check : goal.returns-in_err-check
 returns-in_err-check c =
@@ -42,14 +34,17 @@ from_valid_fields-requires c =
     let instant = instant_is c.reading.result _ c.ut_offset.result _ c.from.result c.reading.ensures.bound c.reading.ensures.value c.ut_offset.type_inv c.ut_offset.ensures.value c.from.ensures in
     record { valid = c.in_ok-check.ensures.ok; instant = instant }
 
+pub returns-then-not-is_reading : goal.returns-then-not-is_reading
+returns-then-not-is_reading c =
+    let instant = instant_is c.reading.result _ c.ut_offset.result _ c.from.result c.reading.ensures.bound c.reading.ensures.value c.ut_offset.type_inv c.ut_offset.ensures.value c.from.ensures in
+    record { value = tt; ok = tt; instant = tt; err = inr (refl, c.in_ok-check.ensures.ok, λ reads. c.if-not-is_reading.ensures (subst IsReading (sym instant) reads)) }
+
 pub returns : goal.returns
 returns c =
-    let made = c.from_valid_fields.ensures in
     let instant = instant_is c.reading.result _ c.ut_offset.result _ c.from.result c.reading.ensures.bound c.reading.ensures.value c.ut_offset.type_inv c.ut_offset.ensures.value c.from.ensures in
-    let valid = c.in_ok-check.ensures.ok in
     record {
-      value = value_as c.from_valid_fields.result c.args.fields c.args.local_time_type _ _ instant made.value;
-      ok = on_ok_weaker c.from_valid_fields.result (λ reads. valid) made.ok;
-      instant = on_ok_weaker c.from_valid_fields.result (λ reads. subst IsReading instant reads) made.ok;
-      err = IfErr-weaker c.from_valid_fields.result _ _ (λ e h. inr (h.0, valid, λ reads. h.1 (subst IsReading (sym instant) reads))) made.err;
+      value = c.from_valid_fields.ensures ∙ ap (moment_of c.args.fields c.args.local_time_type) instant;
+      ok = c.in_ok-check.ensures.ok;
+      instant = subst IsReading instant c.if-not-is_reading.ensures;
+      err = tt;
     }

@@ -4,7 +4,7 @@ use Rattle.std.proofs.lemmas.Result.{err_from_is_err_and}
 use mir.Syntax.{w32}
 use mir.Val.{SFits}
 use Rattle.tz_base.specs.Fields.{IsValid}
-use Rattle.tz_base.proofs.EndLemmas.{valid_reading}
+use Rattle.tz_base.proofs.LastSeconds.{valid_reading}
 use Rattle.tz.specs.DateTimes.{IsUtc, IsPastTheEnd}
 use Rattle.tz.proofs.datetime.utc_date_time.UtcDateTime.from_fields.Goals as goal
 

@@ -1,4 +1,4 @@
--- A jump has its sides in the years of 32 bits, or a near one outside.
+-- A jump has its sides in the years of 32 bits, or one outside.
 use Rattle.std.proofs.Common.{rules}
 use Rattle.tz.proofs.datetime.walk.Entry.side.Goals as goal
 

@@ -1,16 +1,16 @@
 -- The reading less an offset tells where a type shows it.
-use Rattle.std.proofs.Common.{◌≡◌, ◌<◌, ◌∙◌, ℤ, pos, negsuc, ◌+ℤ◌, ◌-ℤ◌, ◌≤ℤ◌, ◌<ℤ◌, Some, None, true, false, refl, sym, ap, arith, rules}
+use Rattle.std.proofs.Common.{◌≡◌, ◌<◌, ◌∙◌, ℤ, pos, negsuc, ◌+ℤ◌, ◌-ℤ◌, ◌≤ℤ◌, ◌<ℤ◌, Some, None, true, false, sym, ap, arith, rules}
 use Rattle.std.proofs.lemmas.Int.{ints, to_z-of_z}
 use Rattle.std.proofs.lemmas.Option.{none-some, same_Some}
 use lib.Signed.{mag, le_z, lt_z}
 use mir.Syntax.{w32, w64}
 use mir.Val.{to_z, of_z, SFits}
 use Rattle.tz_rule.specs.LocalTimeType.{LocalTimeType}
-use Rattle.tz.specs.Walks.{IsEntryOf, IsNear, IsSmall}
+use Rattle.tz.specs.Walks.{IsEntryOf, IsSmall}
 use Rattle.tz.specs.declared.datetime.walk.Entry.{Entry}
 use Rattle.tz.specs.declared.datetime.walk.Entry.TheVariants.{Shown, Jump}
 use Rattle.tz.specs.declared.datetime.walk.Walk.{Walk}
-use Rattle.tz.proofs.WalkLemmas.{no_entry_before, no_entry_after}
+use Rattle.tz.proofs.WalkSteps.{no_entry_before, no_entry_after}
 use Rattle.tz.proofs.datetime.walk.Walk.entry.Goals as goal
 
 abbrev same : ℤ → ℤ
@@ -23,7 +23,6 @@ less reading wide = same reading -ℤ same wide
 record IsShown (reading since until offset shown : ℤ) : Type 0 where
   is : shown ≡ reading -ℤ offset
   small : (negsuc 2147483647 ≤ℤ offset) × (offset ≤ℤ pos 2147483647)
-  near : IsNear reading (reading -ℤ offset)
   from_since : le_z (same since) shown ≡ true → since ≤ℤ (reading -ℤ offset)
   before_since : le_z (same since) shown ≡ false → (reading -ℤ offset) <ℤ since
   before_until : lt_z shown (same until) ≡ true → (reading -ℤ offset) <ℤ until
@@ -45,7 +44,6 @@ shown_of reading since until offset at wide small fits ends tiny offset_is wide_
     shown_by shown is small = record {
       is = is;
       small = small;
-      near = (omega (arith, ints, small.1), omega (arith, ints, small.0));
       from_since = λ test. omega (arith, ints, to_z-of_z w64 since fits, is, test);
       before_since = λ test. omega (arith, ints, to_z-of_z w64 since fits, is, test);
       before_until = λ test. omega (arith, ints, to_z-of_z w64 until ends, is, test);
@@ -54,10 +52,10 @@ shown_of reading since until offset at wide small fits ends tiny offset_is wide_
 
 -- a piece that begins after its type has shown the reading, and before or when the type before has
 jump_of : (reading since until offset before shown passed : ℤ) → SFits w64 since → IsShown reading since until offset shown → IsShown reading since until before passed → (reading -ℤ offset) <ℤ since → since ≤ℤ (reading -ℤ before) →
-    (((same since +ℤ before) ≤ℤ reading) × (reading <ℤ (same since +ℤ offset))) × IsNear reading (same since +ℤ before) × IsNear reading (same since +ℤ offset)
+    ((same since +ℤ before) ≤ℤ reading) × (reading <ℤ (same since +ℤ offset))
 jump_of reading since until offset before shown passed fits x y late early =
     let is = to_z-of_z w64 since fits in
-    rw is ((omega (arith, ints, early), omega (arith, ints, late)), (omega (arith, ints, late, x.small.1, y.small.0), omega (arith, ints, early)), (omega (arith, ints, late), omega (arith, ints, early, x.small.1, y.small.0)))
+    rw is (omega (arith, ints, early), omega (arith, ints, late))
 
 pub overflow_sub-shown_at : goal.overflow_sub-shown_at
 overflow_sub-shown_at c = shown_fits c.args.self.now.reading c.ut_offset.result c.from.result c.requires c.ut_offset.type_inv c.from.ensures
@@ -72,13 +70,13 @@ returns-then-shown_at-until-clause-some c =
     let before = shown.before_until c.if-shown_at-until.true in
     rw shown.is (c.in_ok-local_time_type.was, (from, before), omega (arith, ints))
 
-pub returns-then-shown_at-until-clause-near : goal.returns-then-shown_at-until-clause-near
-returns-then-shown_at-until-clause-near c =
+pub returns-then-shown_at-until-clause-at : goal.returns-then-shown_at-until-clause-at
+returns-then-shown_at-until-clause-at c =
     let w = c.args.self.now in
     let t = c.in_ok-local_time_type.local_time_type in
     let fits : SFits w64 w.since = search rules in
     let shown = shown_of w.reading w.since c.args.until t.ut_offset c.ut_offset.result c.from.result c.requires fits c.ranges.until c.ut_offset.type_inv c.ut_offset.ensures.value c.from.ensures in
-    rw shown.is (refl, shown.near)
+    shown.is
 
 pub returns-else-shown_at-until-clause-none : goal.returns-else-shown_at-until-clause-none
 returns-else-shown_at-until-clause-none c =
@@ -100,18 +98,10 @@ returns-then-self-passed_at-clause-some c =
     let shown = shown_of w.reading w.since c.args.until t.ut_offset c.ut_offset.result c.from.result c.requires fits c.ranges.until c.ut_offset.type_inv c.ut_offset.ensures.value c.from.ensures in
     let passed = shown_of w.reading w.since c.args.until b.ut_offset c.ut_offset-2.result c.from-2.result c.requires fits c.ranges.until c.ut_offset-2.type_inv c.ut_offset-2.ensures.value c.from-2.ensures in
     let jump = jump_of w.reading w.since c.args.until t.ut_offset b.ut_offset _ _ fits shown passed (shown.before_since c.if-shown_at-self.false) (passed.from_since c.if-self-passed_at.true) in
-    (to_z-of_z w64 w.since fits, c.in_ok-before.was, c.in_ok-local_time_type.was, jump.0.0, jump.0.1)
+    (to_z-of_z w64 w.since fits, c.in_ok-before.was, c.in_ok-local_time_type.was, jump.0, jump.1)
 
-pub returns-then-self-passed_at-clause-near : goal.returns-then-self-passed_at-clause-near
-returns-then-self-passed_at-clause-near c =
-    let w = c.args.self.now in
-    let t = c.in_ok-local_time_type.local_time_type in
-    let fits : SFits w64 w.since = search rules in
-    let b = c.in_ok-before.before in
-    let shown = shown_of w.reading w.since c.args.until t.ut_offset c.ut_offset.result c.from.result c.requires fits c.ranges.until c.ut_offset.type_inv c.ut_offset.ensures.value c.from.ensures in
-    let passed = shown_of w.reading w.since c.args.until b.ut_offset c.ut_offset-2.result c.from-2.result c.requires fits c.ranges.until c.ut_offset-2.type_inv c.ut_offset-2.ensures.value c.from-2.ensures in
-    let jump = jump_of w.reading w.since c.args.until t.ut_offset b.ut_offset _ _ fits shown passed (shown.before_since c.if-shown_at-self.false) (passed.from_since c.if-self-passed_at.true) in
-    (jump.1, jump.2)
+pub returns-then-self-passed_at-clause-at : goal.returns-then-self-passed_at-clause-at
+returns-then-self-passed_at-clause-at c = tt
 
 pub returns-then-self-passed_at-clause-none : goal.returns-then-self-passed_at-clause-none
 returns-then-self-passed_at-clause-none c = tt

@@ -1,0 +1,87 @@
+//! Lists that grow by what a search finds.
+
+use super::FoundDateTimeKind;
+use super::choice::Choice;
+use super::found_list::FoundDateTimeList;
+use super::slot_writer::SlotWriter;
+use std::alloc::{AllocError, Allocator};
+
+/// A list that a search writes to.
+pub(crate) trait DateTimeList {
+    ghost use Rattle.std.specs.Prelude.{List, [], ◌∷◌, ◌++◌, OnOk, OnErr};
+    ghost use Rattle.tz.specs.declared.datetime.found.FoundDateTimeKind.{FoundDateTimeKind};
+
+    /// The second list is the first with these at its end.
+    ghost gains: { Self → Self → List FoundDateTimeKind → Type 0 };
+
+    /// Whether the list allocates.
+    ghost takes_memory: { Type 0 };
+
+    /// Adds one at the end. If out of memory, it adds none.
+    fn push(&mut self, found: FoundDateTimeKind) -> Result<(), AllocError>
+        ensures ok { OnOk result (gains self.old self.new (found ∷ [])) }
+        ensures err { OnErr result (takes_memory × gains self.old self.new []) };
+
+    /// A list gains nothing where it stays as it is.
+    ghost none: { (list : Self) → gains list list [] };
+
+    /// One gain after another is a gain.
+    ghost more: { (list middle grown : Self) (es fs : List FoundDateTimeKind) → gains list middle es → gains middle grown fs → gains list grown (es ++ fs) };
+}
+
+impl<A: Allocator + Copy> DateTimeList for FoundDateTimeList<A> {
+    ghost use Rattle.std.specs.Prelude.{◌≡◌, ◌++◌, ⊤};
+    ghost use Rattle.std.proofs.Common.{rules};
+    ghost use Rattle.std.proofs.lemmas.Grind.{common_steps};
+
+    ghost gains = { λ list grown found. grown.found.items ≡ list.found.items ++ found };
+
+    ghost takes_memory = { ⊤ };
+
+    ghost none = { Prim.search (rules, common_steps) };
+
+    ghost more = { Prim.search (rules, common_steps) };
+
+    /// The first one gets room for itself alone, since a reading is nearly always found once.
+    fn push(&mut self, found: FoundDateTimeKind) -> Result<(), AllocError> {
+        if self.found.is_empty() {
+            self.found.reserve_exact(1)?;
+        }
+        self.found.push(found)?;
+        Ok(())
+    }
+}
+
+impl DateTimeList for SlotWriter<'_> {
+    ghost use Rattle.tz.specs.Buffers.{GrowsBy, grows_by_none, grows_by_more};
+
+    ghost gains = { GrowsBy };
+
+    ghost takes_memory = { ⊥ };
+
+    ghost none = { grows_by_none };
+
+    ghost more = { grows_by_more };
+
+    fn push(&mut self, found: FoundDateTimeKind) -> Result<(), AllocError> {
+        self.write(found);
+        Ok(())
+    }
+}
+
+impl DateTimeList for Choice {
+    ghost use Rattle.tz.specs.Choices.{ChoosesMore, chooses_none, chooses_more};
+
+    ghost gains = { ChoosesMore };
+
+    ghost takes_memory = { ⊥ };
+
+    ghost none = { chooses_none };
+
+    ghost more = { chooses_more };
+
+    fn push(&mut self, found: FoundDateTimeKind) -> Result<(), AllocError> {
+        self.add(found);
+        Ok(())
+    }
+}
