@@ -202,7 +202,7 @@ module _ (z : Zone) (named : (u : ℤ) (t : LocalTimeType) → IsClock z u t →
   entry_lines f found sound = All-map IsLine entry_text found (λ k d within. entry_line f (get_or found k d) (sound k d within))
 
   search_lines : (f : Fields) (answer : List (List ℕ)) → IsSearchAnswer z f answer → All IsLine answer
-  search_lines f answer (inl (found, valid, list, same)) =
+  search_lines f answer (inl (found, valid, list, made, same)) =
       subst (All IsLine) (sym same) (All-cons IsLine (codes "F " ++ decimal (length found)) (map entry_text found)
       (joined (codes "F ") (decimal (length found)) (line_by_test (codes "F ") refl) (decimal_line (length found))) (entry_lines f found list.sound))
   search_lines f answer (inr (e, text, fault, is, same)) = one_line (codes "E " ++ text) answer (refused_line text (fault_line e text is)) same

@@ -1,5 +1,5 @@
 -- The answers of query lines.
-use Rattle.std.specs.Prelude.{◌≡◌, ◌≢◌, ℕ, ◌+◌, ◌<◌, ⊤, ◌⊎◌, ℤ, List, [], ◌∷◌, ◌++◌, length, map, codes, unwrap_or}
+use Rattle.std.specs.Prelude.{◌≡◌, ◌≢◌, ℕ, ◌+◌, ⊤, ◌⊎◌, ℤ, List, [], ◌∷◌, ◌++◌, length, map, codes, unwrap_or}
 use Rattle.std.specs.Fmt.{decimal}
 use Rattle.std.specs.List.{All, AllZip, flat_map}
 use Rattle.tz_base.specs.Fields.{IsFirstFault, IsValid, IsReading, reading}
@@ -12,14 +12,14 @@ use Rattle.tz_rule.specs.LocalTimeType.{LocalTimeType}
 use Rattle.tz_zone.specs.Clock.{IsClock}
 use Rattle.tz_zone.specs.Table.{Zone}
 use Rattle.tz.specs.DateTimes.{DateTime, ShowsByClock, IsClockFault}
-use Rattle.tz.specs.FindFaults.{IsFindFault, IsPromised}
-use Rattle.tz.specs.Found.{IsFound}
+use Rattle.tz.specs.FindFaults.{IsFindFault}
+use Rattle.tz.specs.Found.{EachCanBeMade, IsFound}
 use Rattle.tz.specs.PrintedText.{printed_text}
 use Rattle.tz.specs.declared.datetime.found.FoundDateTimeKind.{FoundDateTimeKind}
 use Rattle.tz.specs.declared.datetime.found.FoundDateTimeKind.TheVariants.{Normal, Skipped}
 use Rattle.tz_query.specs.Lines.{AreLines, ended}
 use Rattle.tz_query.specs.Numbers.{hyphen, space}
-use Rattle.tz_query.specs.Queries.{Query, Time, Search, Meeting, IsSearchLine, IsMeetingLine, IsQueryLine}
+use Rattle.tz_query.specs.Queries.{Query, Time, Search, Meeting, IsQueryLine}
 use Rattle.tz_query.specs.Weeks.{IsInYears, IsWeekOf, day_after}
 
 -- the name of a type, or `-`
@@ -61,10 +61,11 @@ entry_text (Skipped before after) = codes "S " ++ (moment_text before ++ space �
 abbrev pub found_lines : List FoundDateTimeKind → List (List ℕ)
 found_lines found = (codes "F " ++ decimal (length found)) ∷ map entry_text found
 
--- the answer lines of fields: all that a search finds of the zone's clock, or why it is refused, which an allocation failure does not answer
+-- the answer lines of fields: all that a search finds of the zone's clock, if each entry can be made, or why it is refused, which an allocation
+-- failure does not answer
 abbrev pub IsSearchAnswer : Zone → Fields → List (List ℕ) → Type 0
 IsSearchAnswer z f answer =
-    ((found : List FoundDateTimeKind) × IsValid f × IsFound (IsClock z) f found × (answer ≡ found_lines found))
+    ((found : List FoundDateTimeKind) × IsValid f × IsFound (IsClock z) f found × EachCanBeMade (IsClock z) f × (answer ≡ found_lines found))
     ⊎ ((e : TzError) × (text : List ℕ) × IsFindFault ⊥ (IsClock z) f e × IsFaultText e text × (answer ≡ (codes "E " ++ text) ∷ []))
 
 -- the answer lines of a week of a meeting: those of its fields, or that no year of 32 bits has its day
@@ -121,19 +122,3 @@ IsSearchGroup answer =
 -- a group of answer lines: that, or `W` with the number of such groups after it
 abbrev pub IsGroup : List (List ℕ) → Type 0
 IsGroup answer = IsSearchGroup answer ⊎ ((weeks : List (List (List ℕ))) × All IsSearchGroup weeks × (answer ≡ meeting_lines weeks))
-
--- a line that has one answer: any but one that searches for valid fields where the list is not promised
-pub record HasOneAnswer (z : Zone) (line : List ℕ) : Type 0 where
-  pub search : (f : Fields) → IsSearchLine line f → IsValid f → IsPromised z f.year
-  pub weeks : (count : ℕ) (f : Fields) → IsMeetingLine line count f → IsValid f → (i : ℕ) (g : Fields) → i < count → IsWeekOf f i g → IsPromised z g.year
-
--- answers of one search that are the same, or one of which is that it is out of range
-abbrev pub AreSearchesAlike : List (List ℕ) → List (List ℕ) → Type 0
-AreSearchesAlike answer other = (answer ≡ other) ⊎ (answer ≡ codes "E OutOfRange" ∷ []) ⊎ (other ≡ codes "E OutOfRange" ∷ [])
-
--- such answers, or answers of one meeting that are such week by week
-abbrev pub AreAlike : List (List ℕ) → List (List ℕ) → Type 0
-AreAlike answer other =
-    AreSearchesAlike answer other
-    ⊎ ((weeks : List (List (List ℕ))) × (others : List (List (List ℕ))) × AllZip AreSearchesAlike weeks others × (answer ≡ meeting_lines weeks)
-    × (other ≡ meeting_lines others))

@@ -7,7 +7,7 @@ pub mod Weeks
 pub mod Answers
 pub mod Streams
 pub mod Pages
-pub mod Tails
+pub mod Suffixes
 pub mod Caches
 pub mod Program
 pub mod FileAnswers

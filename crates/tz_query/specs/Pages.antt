@@ -6,12 +6,12 @@ use Rattle.tz.specs.PrintedText.{two_digits, date_text, offset_text}
 use Rattle.tz_query.specs.Answers.{name_text}
 
 -- the date, `T`, and the time up to the point
-unfoldable pub front_text : Fields → List ℕ
-front_text f = date_text f ++ (84 ∷ two_digits f.hour ++ (58 ∷ two_digits f.minute ++ (58 ∷ two_digits f.second ++ 46 ∷ [])))
+unfoldable pub prefix_text : Fields → List ℕ
+prefix_text f = date_text f ++ (84 ∷ two_digits f.hour ++ (58 ∷ two_digits f.minute ++ (58 ∷ two_digits f.second ++ 46 ∷ [])))
 
 -- the offset, the name, and LF
-unfoldable pub end_text : LocalTimeType → List ℕ
-end_text t = offset_text t.ut_offset ++ (32 ∷ name_text t ++ 10 ∷ [])
+unfoldable pub suffix_text : LocalTimeType → List ℕ
+suffix_text t = offset_text t.ut_offset ++ (32 ∷ name_text t ++ 10 ∷ [])
 
 -- one more answer fits onto a page of 2040 bytes, since it has at most 130
 abbrev pub HasRoom : List ℕ → Type 0

@@ -6,9 +6,8 @@ ghost use Rattle.std.specs.List.{AllZip, flat_map};
 ghost use Rattle.tz_rule.specs.LocalTimeType.{LocalTimeType, IsLocalTimeType};
 ghost use Rattle.tz_zone.specs.Clock.{IsClock};
 ghost use Rattle.tz_zone.specs.Table.{Zone};
-ghost use Rattle.tz_zone.specs.ValidZone.{AreLeapSeconds};
 ghost use Rattle.tz_query.specs.Lines.{line_feed, IsLine, AreLines, ended};
-ghost use Rattle.tz_query.specs.Answers.{AreAlike, AreAnswers, IsAnswer, IsGroup, HasOneAnswer};
+ghost use Rattle.tz_query.specs.Answers.{AreAnswers, IsAnswer, IsGroup};
 
 /// Bytes are cut into lines in one way.
 pub fn lines_are_unique()
@@ -35,14 +34,9 @@ pub fn pieces_are_answered_apart()
         → (first : List ℕ) × (others : List ℕ) × (bytes ≡ first ++ others) × AreAnswers z (queries ++ line_feed ∷ []) first × AreAnswers z more others }
 {}
 
-/// What a line's answer is depends on that line and the zone alone, and so do all answers on the query bytes and the zone. Only a
-/// search whose list is not promised, near an end of the years of 32 bits, has two answers at most, and one of them is that it is
-/// out of range; so has each week of a meeting.
+/// A line has one answer, whatever the line, the year and the zone, and so have all query bytes: what is answered depends on these and the
+/// zone alone.
 pub fn answers_are_unique()
-    ensures line { (z : Zone) (line : List ℕ) (answer other : List (List ℕ)) → AreLeapSeconds z.leap_seconds → HasOneAnswer z line
-        → IsAnswer z line answer → IsAnswer z line other → answer ≡ other }
-    ensures two { (z : Zone) (line : List ℕ) (answer other : List (List ℕ)) → AreLeapSeconds z.leap_seconds → IsAnswer z line answer → IsAnswer z line other
-        → AreAlike answer other }
-    ensures all { (z : Zone) (queries bytes others : List ℕ) (lines : List (List ℕ)) → AreLeapSeconds z.leap_seconds → AreLines queries lines
-        → All (HasOneAnswer z) lines → AreAnswers z queries bytes → AreAnswers z queries others → bytes ≡ others }
+    ensures line { (z : Zone) (line : List ℕ) (answer other : List (List ℕ)) → IsAnswer z line answer → IsAnswer z line other → answer ≡ other }
+    ensures all { (z : Zone) (queries bytes others : List ℕ) → AreAnswers z queries bytes → AreAnswers z queries others → bytes ≡ others }
 {}

@@ -1,13 +1,13 @@
 //! What the lines over a zone share.
 
-use super::fast::tail::Tail;
+use super::suffix::Suffix;
 use tz::TimeZoneRef;
 use tz::inner::{self, Segment, segment_at};
 
-/// The ends of lines of a zone's types, two offsets between which those of the types lie, and the segment of the last line.
+/// The suffixes of a zone's types, two offsets between which those of the types lie, and the segment of the last line.
 #[derive(Drop)]
 pub struct Cache<'a> {
-    pub tails: &'a [Tail],
+    pub suffixes: &'a [Suffix],
     pub offsets: (i32, i32),
     pub segment: Segment,
 }
@@ -16,16 +16,16 @@ impl<'a> Cache<'a> {
     ghost use Rattle.std.specs.Prelude.{◌≡◌, ◌≤ℤ◌, ◌<ℤ◌, IsTrue};
     ghost use Rattle.tz_zone.specs.ZoneRef.{zone_of};
     ghost use Rattle.tz_zone.specs.Segments.{IsSegmentOf, IsStretch, numbered_types};
-    ghost use Rattle.tz_query.specs.Tails.{types_of};
+    ghost use Rattle.tz_query.specs.Suffixes.{types_of};
     ghost use Rattle.tz_query.specs.Caches.{IsCacheOf};
 
     /// What is known of a zone before the first line: a segment without instants, which is one of every zone.
-    pub fn new(zone: TimeZoneRef<'_>, tails: &'a [Tail]) -> Cache<'a>
-        requires { types_of tails.now ≡ numbered_types (zone_of zone) }
+    pub fn new(zone: TimeZoneRef<'_>, suffixes: &'a [Suffix]) -> Cache<'a>
+        requires { types_of suffixes.now ≡ numbered_types (zone_of zone) }
         ensures { IsCacheOf (zone_of zone.entry) result }
     {
         Cache {
-            tails,
+            suffixes,
             offsets: inner::offsets(zone),
             segment: Segment {
                 from: 1,
@@ -55,13 +55,13 @@ impl<'a> Cache<'a> {
         }
     }
 
-    /// The end of lines of a segment.
+    /// The suffix of lines of a segment.
     #[inline(always)]
-    pub fn tail_of(&self, zone: TimeZoneRef<'_>, segment: &Segment) -> &'a Tail
+    pub fn suffix_of(&self, zone: TimeZoneRef<'_>, segment: &Segment) -> &'a Suffix
         requires cached { IsCacheOf (zone_of zone) self.now }
         requires segment { IsSegmentOf (zone_of zone) segment.now }
         ensures { IsStretch (zone_of zone.entry) segment.now.from segment.now.until result.now.local_time_type }
     {
-        &self.tails[segment.number]
+        &self.suffixes[segment.number]
     }
 }

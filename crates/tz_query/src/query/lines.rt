@@ -38,7 +38,7 @@ pub fn after_line(bytes: &[u8]) -> &[u8]
     &[]
 }
 
-/// The instant and the nanoseconds in front of the bytes, if they are numbers of their types, each after a space, and the bytes after
+/// The instant and the nanoseconds at the beginning of the bytes, if they are numbers of their types, each after a space, and the bytes after
 /// them.
 #[inline(always)]
 fn read_time(bytes: &[u8]) -> Option<(i64, u32, &[u8])>
@@ -50,7 +50,7 @@ fn read_time(bytes: &[u8]) -> Option<(i64, u32, &[u8])>
     Some((unix_time, nanoseconds, rest))
 }
 
-/// The fields in front of the bytes, if they are numbers of their types, each after a space, and the bytes after them.
+/// The fields at the beginning of the bytes, if they are numbers of their types, each after a space, and the bytes after them.
 fn read_fields(bytes: &[u8]) -> Option<(Fields, &[u8])>
     ensures some { IfSome result (λ r. ArePartsFront bytes.now (numbers_of r.0) r.1.now × AreFieldsOfBits r.0) }
     ensures none { IfNone result ((f : Fields) (rest : List ℕ) → AreFieldsOfBits f → ¬ ArePartsFront bytes.now (numbers_of f) rest) }

@@ -9,7 +9,8 @@ ghost use Rattle.tz_query.specs.Lines.{ended};
 ghost use Rattle.tz_query.specs.Weeks.{midnight};
 ghost use Rattle.tz_query.specs.Answers.{AreWeekAnswers, IsMeetingAnswer, IsWeekAnswer};
 
-use crate::query::answers::{answer_search, append_count, append_fault, field_fault_name};
+use super::general::{answer_search, append_count, append_fault};
+use super::print::field_fault_name;
 use crate::query::weeks::{first_day_begins, week_of};
 use std::alloc::{AllocError, Allocator};
 use tz::TimeZoneRef;

@@ -3,12 +3,16 @@
 pub(crate) mod answers;
 mod cache;
 mod fast;
+mod general;
 mod lines;
 mod meetings;
 mod numbers;
 mod page;
+mod print;
 mod program;
 mod streams;
+mod suffix;
+mod suffixes;
 mod tzif;
 mod weeks;
 

@@ -1,4 +1,4 @@
-//! Numbers in front of bytes: of any length, and, read in few steps, those that lines mostly have.
+//! Numbers at the beginning of bytes: of any length, and, read in few steps, those that lines mostly have.
 
 ghost use Rattle.std.specs.Prelude.{◌≡◌, ◌≢◌, ℕ, ◌+◌, ◌*◌, ◌^◌, ◌<◌, ◌≤◌, List, length, ◌∷◌, drop, ℤ, pos, negsuc, ◌≤ℤ◌, IfSome, IfNone, FitsSigned};
 ghost use Rattle.std.specs.Char.{digit_value};
@@ -35,7 +35,7 @@ fn value_of(byte: u8) -> u8
     byte.wrapping_sub(b'0')
 }
 
-/// The number of the digits in front of the bytes, and the bytes after them.
+/// The number of the digits at the beginning of the bytes, and the bytes after them.
 #[inline(always)]
 fn read_digits(bytes: &[u8]) -> (u64, &[u8])
     ensures { (digits : List ℕ) × IsDigitsFront bytes.now digits result.1.now × IsCapped digits result.0 }
@@ -51,7 +51,7 @@ fn read_digits(bytes: &[u8]) -> (u64, &[u8])
     (number, &[])
 }
 
-/// The number of the digits in front of the bytes, if there are any, and the bytes after them.
+/// The number of the digits at the beginning of the bytes, if there are any, and the bytes after them.
 #[inline(always)]
 fn read_size(bytes: &[u8]) -> Option<(u64, &[u8])>
     ensures some { IfSome result (λ r. (digits : List ℕ) × IsDigitsFront bytes.now digits r.1.now × (0 < length digits) × IsCapped digits r.0) }
@@ -77,7 +77,7 @@ pub fn after_byte(bytes: &[u8], byte: u8) -> Option<&[u8]>
     }
 }
 
-/// The number in front of the bytes, if there is one of 64 bits, and the bytes after it.
+/// The number at the beginning of the bytes, if there is one of 64 bits, and the bytes after it.
 #[inline]
 pub fn read_number(bytes: &[u8]) -> Option<(i64, &[u8])>
     ensures some { IfSome result (λ r. IsNumberFront bytes.now r.0 r.1.now) }
@@ -97,7 +97,7 @@ pub fn read_number(bytes: &[u8]) -> Option<(i64, &[u8])>
     }
 }
 
-/// The number after a space in front of the bytes, if there is one of 64 bits, and the bytes after it.
+/// The number after a space at the beginning of the bytes, if there is one of 64 bits, and the bytes after it.
 #[inline(always)]
 pub fn read_i64(bytes: &[u8]) -> Option<(i64, &[u8])>
     ensures some { IfSome result (λ r. IsPartFront bytes.now r.0 r.1.now) }
@@ -107,7 +107,7 @@ pub fn read_i64(bytes: &[u8]) -> Option<(i64, &[u8])>
     read_number(number)
 }
 
-/// The number of 32 bits after a space in front of the bytes, if there is one, and the bytes after it.
+/// The number of 32 bits after a space at the beginning of the bytes, if there is one, and the bytes after it.
 pub fn read_i32(bytes: &[u8]) -> Option<(i32, &[u8])>
     ensures some { IfSome result (λ r. IsPartFront bytes.now r.0 r.1.now) }
     ensures none { IfNone result ((n : ℤ) (rest : List ℕ) → FitsSigned w32 n → ¬ IsPartFront bytes.now n rest) }
@@ -119,7 +119,7 @@ pub fn read_i32(bytes: &[u8]) -> Option<(i32, &[u8])>
     }
 }
 
-/// The number without a sign of 32 bits after a space in front of the bytes, if there is one, and the bytes after it.
+/// The number without a sign of 32 bits after a space at the beginning of the bytes, if there is one, and the bytes after it.
 #[inline(always)]
 pub fn read_u32(bytes: &[u8]) -> Option<(u32, &[u8])>
     ensures some { IfSome result (λ r. IsPartFront bytes.now (pos r.0) r.1.now) }
@@ -132,7 +132,7 @@ pub fn read_u32(bytes: &[u8]) -> Option<(u32, &[u8])>
     }
 }
 
-/// The number without a sign of 8 bits after a space in front of the bytes, if there is one, and the bytes after it.
+/// The number without a sign of 8 bits after a space at the beginning of the bytes, if there is one, and the bytes after it.
 pub fn read_u8(bytes: &[u8]) -> Option<(u8, &[u8])>
     ensures some { IfSome result (λ r. IsPartFront bytes.now (pos r.0) r.1.now) }
     ensures none { IfNone result ((n : ℕ) (rest : List ℕ) → n < 2 ^ 8 → ¬ IsPartFront bytes.now (pos n) rest) }
@@ -187,7 +187,7 @@ pub fn read_seconds(bytes: &[u8], place: usize) -> Option<(i64, usize)>
     Some((size as i64, end))
 }
 
-/// Copies the number of up to nine digits after a space at a place, with zeros in front of it, and gives the place after it. Nine digits
+/// Copies the number of up to nine digits after a space at a place, with zeros in front of it, and returns the index after it. Nine digits
 /// are taken where LF follows.
 #[inline(always)]
 pub fn read_nanoseconds(bytes: &[u8], place: usize, nine: &mut [u8; 9]) -> Option<usize>

@@ -1,9 +1,9 @@
 //! A page of answers, onto which they are written in pieces of fixed length.
 
 ghost use Rattle.std.specs.Prelude.{◌≡◌, ◌+◌, ◌<◌, ◌≤◌, ℕ, List, [], ◌∷◌, ◌++◌, length, MatchBool};
-ghost use Rattle.tz_query.specs.Pages.{end_text, HasRoom};
+ghost use Rattle.tz_query.specs.Pages.{suffix_text, HasRoom};
 
-use super::fast::tail::Tail;
+use super::suffix::Suffix;
 use std::marker::Model;
 
 /// How many bytes a page holds.
@@ -76,18 +76,18 @@ impl Page {
         self.len = end;
     }
 
-    /// Appends the line of a date and time, nanoseconds and the end of lines of a type.
+    /// Appends the line of a date and time, nanoseconds and the suffix of a type.
     #[inline(always)]
-    pub fn push_line(&mut self, front: &[u8; 20], nine: &[u8; 9], tail: &Tail)
+    pub fn push_line(&mut self, prefix: &[u8; 20], nine: &[u8; 9], suffix: &Suffix)
         requires { length self.old + 61 ≤ 2040 }
-        ensures text { self.new ≡ self.old ++ (front.now ++ (nine.now ++ end_text tail.now.local_time_type)) }
+        ensures text { self.new ≡ self.old ++ (prefix.now ++ (nine.now ++ suffix_text suffix.now.local_time_type)) }
         ensures len { length self.new ≤ length self.old + 61 }
     {
         let at = self.len;
-        self.bytes[at..at + 20].copy_from_slice(front);
+        self.bytes[at..at + 20].copy_from_slice(prefix);
         self.bytes[at + 20..at + 29].copy_from_slice(nine);
-        self.bytes[at + 29..at + 61].copy_from_slice(&tail.bytes());
-        self.len = at + 29 + tail.len();
+        self.bytes[at + 29..at + 61].copy_from_slice(&suffix.bytes());
+        self.len = at + 29 + suffix.len();
     }
 
     /// Takes the last byte away.

@@ -179,8 +179,8 @@ where
 ///
 /// `arguments` are an option and its value, which name a zone: `-o` that of an offset from UTC in seconds, `-f` that of the TZif
 /// file which the reader finds at a path, `-z` that of a string, as [`TimeZone::from_posix_tz`] returns it. The zone is made first, then the
-/// input is read to its end, and then the answers of its lines are written. A fault is one line on the error output, whether or not that
-/// line can be written: status 1, or 2 where the zone is refused. Whatever the status, `out` has what it had, or that and a front of the answers.
+/// input is read to its end, and then the answers of its lines are written. An error prints one line to `err`, if that can be written, and
+/// the status is 1, or 2 if the zone is invalid. Whatever the status, what was appended to `out` is empty or a prefix of the answers.
 pub fn tool<A, F, R, W, E>(
     alloc: A,
     arguments: &[&str],

@@ -20,12 +20,12 @@ pub enum RunFault {
     /// The queries or their answers ran out of memory.
     #[error("no memory")]
     Memory,
-    /// A write of the answers failed, or took no byte.
+    /// A write of the answers failed, or accepted no byte.
     #[error("cannot write answers")]
     Write,
 }
 
-/// How many bytes have room where input begins. Memory that is not written to costs little, and a growth may copy all that is held.
+/// The initial capacity for input. Memory that is not written to costs little, and a growth may copy everything.
 const FIRST_ROOM: usize = 262_144;
 
 /// Appends a piece of the input.
@@ -80,7 +80,7 @@ fn write_all<W: Write>(out: &mut W, bytes: &[u8]) -> Result<(), RunFault>
 
 /// Reads the input to its end, and then writes the answers of its lines over a zone, as [`answer`] makes them.
 ///
-/// A run that fails before it writes leaves the writer as it was; after [`RunFault::Write`] a front of the answers may have been written.
+/// A run that fails before it writes leaves the writer as it was; after [`RunFault::Write`] a prefix of the answers may have been written.
 pub fn run<A: Allocator + Copy, R: Read, W: Write>(
     alloc: A,
     zone: TimeZoneRef<'_>,

@@ -13,7 +13,7 @@ use tz::{TimeZone, TzError};
 
 /// Answers query bytes over the zone that the bytes of a TZif file denote, as [`answer`](super::answer) does. (RFC 8536)
 ///
-/// Bytes that are no such file are refused as by [`TimeZone::from_tz_data`], before a query is read.
+/// If the bytes are not such a file, it returns the error of [`TimeZone::from_tz_data`] before it reads a query.
 ///
 /// ```rust
 /// pub fn answer_lines(alloc: Global, file: &[u8], lines: &[u8]) -> Result<Vec<u8>, TzError> {

@@ -1,8 +1,8 @@
 //! A weekly meeting: the same time of day by a zone's clock, on the same day of each week.
 //!
 //! The date of each week comes from the calendar, and is looked up by the clock anew. Seconds of weeks, added to the first instant, would
-//! move the meeting wherever the clock is set forward or back. All this stands on public calls of `tz` and their contracts; of `tz::inner` it
-//! names the struct of seven fields alone.
+//! move the meeting wherever the clock is set forward or back. All this uses public calls of `tz` and their contracts; of `tz::inner` it
+//! only names the struct of seven fields.
 
 ghost use Rattle.std.specs.Prelude.{◌≡◌, ◌+◌, ◌*◌, pos, ◌+ℤ◌, IfOk, IfErr, IfSome, IfNone, OnOk};
 ghost use Rattle.tz_base.specs.Fields.{IsCivil, IsFirstFault, IsReading, IsValid, day_of, reading};
@@ -31,7 +31,7 @@ fn day_begins(date_time: UtcDateTime) -> i64
     date_time.unix_time() - i64::from(seconds)
 }
 
-/// The fields as a UTC date time of their day, or their first fault.
+/// The fields as a UTC date time of their day, or their first error.
 ///
 /// Second 60 belongs to the next minute, which may be of the next day, or of no year. Second 59 takes its place.
 fn date_time_of_day(fields: &Fields) -> Result<UtcDateTime, DateTimeError>
@@ -59,7 +59,7 @@ fn date_time_of_day(fields: &Fields) -> Result<UtcDateTime, DateTimeError>
     }
 }
 
-/// The Unix time at which the first day begins in UTC, or the first fault of the fields.
+/// The Unix time at which the first day begins in UTC, or the first error in the fields.
 pub fn first_day_begins(first: &Fields) -> Result<i64, DateTimeError>
     ensures ok { IfOk result (λ begins. (begins ≡ midnight (day_of first.now)) × IsSmall begins) }
     ensures valid { OnOk result (IsValid first.now) }

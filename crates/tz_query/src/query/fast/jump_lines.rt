@@ -12,22 +12,22 @@ ghost use Rattle.tz_query.specs.Lines.{ended};
 ghost use Rattle.tz_query.specs.Pages.{HasRoom};
 
 use super::entries::{push_once, push_skipped, push_twice};
-use super::front::front_of;
-use super::tail::Tail;
+use super::prefix::prefix_of;
 use super::time_lines::shown_fields;
 use crate::query::cache::Cache;
 use crate::query::page::Page;
+use crate::query::suffix::Suffix;
 use tz::TimeZoneRef;
 use tz::inner::{Fields, segment_following};
 
 /// Whether a reading, in this type, comes before an instant.
 #[inline(always)]
-fn is_before(reading: i64, tail: &Tail, unix_time: i64) -> bool
+fn is_before(reading: i64, suffix: &Suffix, unix_time: i64) -> bool
     requires { (negsuc 67768100567971199 ≤ℤ reading) × (reading ≤ℤ pos 67767976233532800) }
-    ensures before { MatchBool result ((reading -ℤ tail.now.local_time_type.ut_offset) <ℤ unix_time) (unix_time ≤ℤ (reading -ℤ tail.now.local_time_type.ut_offset)) }
-    ensures offset { (negsuc 2147483647 ≤ℤ tail.now.local_time_type.ut_offset) × (tail.now.local_time_type.ut_offset ≤ℤ pos 2147483647) }
+    ensures before { MatchBool result ((reading -ℤ suffix.now.local_time_type.ut_offset) <ℤ unix_time) (unix_time ≤ℤ (reading -ℤ suffix.now.local_time_type.ut_offset)) }
+    ensures offset { (negsuc 2147483647 ≤ℤ suffix.now.local_time_type.ut_offset) × (suffix.now.local_time_type.ut_offset ≤ℤ pos 2147483647) }
 {
-    reading - i64::from(tail.ut_offset()) < unix_time
+    reading - i64::from(suffix.ut_offset()) < unix_time
 }
 
 /// Answers fields over which the clock jumps on the page, if the years of both sides have four digits.
@@ -37,8 +37,8 @@ fn push_passed_fields(
     fields: &Fields,
     nine: &[u8; 9],
     jump: i64,
-    before: &Tail,
-    after: &Tail,
+    before: &Suffix,
+    after: &Suffix,
 ) -> Option<()>
     requires room { HasRoom page.old }
     requires valid { IsValid fields.now }
@@ -55,8 +55,8 @@ fn push_passed_fields(
     let second = shown_fields(jump, after.ut_offset())?;
     push_skipped(
         page,
-        &front_of(&first),
-        &front_of(&second),
+        &prefix_of(&first),
+        &prefix_of(&second),
         nine,
         before,
         after,
@@ -72,8 +72,8 @@ fn push_around_jump(
     reading: i64,
     nine: &[u8; 9],
     jump: i64,
-    before: &Tail,
-    after: &Tail,
+    before: &Suffix,
+    after: &Suffix,
 ) -> Option<()>
     requires room { HasRoom page.old }
     requires valid { IsValid fields.now }
@@ -87,22 +87,22 @@ fn push_around_jump(
     ensures none { IfNone result (page.new ≡ page.old) }
 {
     if is_before(reading, before, jump) {
-        let front = front_of(fields);
+        let prefix = prefix_of(fields);
         if is_before(reading, after, jump) {
-            push_once(page, &front, nine, before);
+            push_once(page, &prefix, nine, before);
             return Some(());
         }
-        push_twice(page, &front, nine, before, after);
+        push_twice(page, &prefix, nine, before, after);
         return Some(());
     }
     if is_before(reading, after, jump) {
         return push_passed_fields(page, zone, fields, nine, jump, before, after);
     }
-    push_once(page, &front_of(fields), nine, after);
+    push_once(page, &prefix_of(fields), nine, after);
     Some(())
 }
 
-/// Answers fields in whose window the clock has two types on the page, if the next segment holds what the kept one does not.
+/// Answers fields in whose window the clock has two types on the page, if the next segment holds what the cached one does not.
 #[inline(never)]
 pub fn answer_across_jump(
     page: &mut Page,
@@ -132,7 +132,7 @@ pub fn answer_across_jump(
         return None;
     }
     let jump = cache.segment.until;
-    let before = cache.tail_of(zone, &cache.segment);
-    let after = cache.tail_of(zone, &next);
+    let before = cache.suffix_of(zone, &cache.segment);
+    let after = cache.suffix_of(zone, &next);
     push_around_jump(page, zone, fields, reading, nine, jump, before, after)
 }

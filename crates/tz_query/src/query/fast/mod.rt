@@ -3,9 +3,7 @@
 //! What is here answers a line or says no, and then the line is answered plainly.
 
 pub mod entries;
-pub mod front;
 pub mod jump_lines;
+pub mod prefix;
 pub mod search_lines;
-pub mod tail;
-pub mod tails;
 pub mod time_lines;

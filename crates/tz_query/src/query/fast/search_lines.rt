@@ -8,8 +8,8 @@ ghost use Rattle.tz_query.specs.Lines.{IsFirstLine, ended};
 ghost use Rattle.tz_query.specs.Pages.{HasRoom};
 
 use super::entries::push_once;
-use super::front::front_of;
 use super::jump_lines::answer_across_jump;
+use super::prefix::prefix_of;
 use crate::query::cache::Cache;
 use crate::query::lines::read_usual_search_line;
 use crate::query::page::Page;
@@ -56,8 +56,8 @@ pub fn answer_search_line<'a>(
         return None;
     }
     if high < cache.segment.until {
-        let tail = cache.tail_of(zone, &cache.segment);
-        push_once(page, &front_of(&fields), &nine, tail);
+        let suffix = cache.suffix_of(zone, &cache.segment);
+        push_once(page, &prefix_of(&fields), &nine, suffix);
         return Some(rest);
     }
     answer_across_jump(page, cache, zone, &fields, reading, &nine, low, high)?;

@@ -1,4 +1,4 @@
-//! `T` lines, answered from a segment of the zone that is kept from one line to the next.
+//! `T` lines, answered from a segment of the zone that is cached from one line to the next.
 
 ghost use Rattle.std.specs.Prelude.{◌≡◌, ℕ, ◌+ℤ◌, List, ◌++◌, pos, negsuc, ◌≤ℤ◌, IfSome, IfNone};
 ghost use Rattle.tz_base.specs.Fields.{IsCivil, IsReading};
@@ -8,7 +8,7 @@ ghost use Rattle.tz_query.specs.Caches.{IsCacheOf};
 ghost use Rattle.tz_query.specs.Lines.{IsFirstLine, ended};
 ghost use Rattle.tz_query.specs.Pages.{HasRoom};
 
-use super::front::front_of;
+use super::prefix::prefix_of;
 use crate::query::cache::Cache;
 use crate::query::lines::read_usual_time_line;
 use crate::query::page::Page;
@@ -54,8 +54,8 @@ pub fn answer_time_line<'a>(
     if !cache.keep(zone, unix_time) {
         return None;
     }
-    let tail = cache.tail_of(zone, &cache.segment);
-    let fields = shown_fields(unix_time, tail.ut_offset())?;
-    page.push_line(&front_of(&fields), &nine, tail);
+    let suffix = cache.suffix_of(zone, &cache.segment);
+    let fields = shown_fields(unix_time, suffix.ut_offset())?;
+    page.push_line(&prefix_of(&fields), &nine, suffix);
     Some(rest)
 }

@@ -3,11 +3,11 @@ use Rattle.std.proofs.Common.{◌≡◌, ◌++◌, ◌<◌, [], length, sym, ap,
 use Rattle.std.proofs.lemmas.Result.{IfOk-from_err}
 use Rattle.std.specs.Result.{IfErr, IsErrAnd}
 use Rattle.std.specs.Prelude.{Result, Ok, Err}
-use Rattle.tz_query.specs.Tails.{types_of}
+use Rattle.tz_query.specs.Suffixes.{types_of}
 use Rattle.tz_zone.specs.ZoneRef.{zone_of}
 use Rattle.tz_query.specs.Lines.{ended}
 use Rattle.tz_query.specs.Answers.{AreAnswers}
-use Rattle.tz_query.proofs.AnswerLemmas.{AreAnswers-nil, AreAnswers-cons, rest_is_shorter, some_left, none_from_length}
+use Rattle.tz_query.proofs.AnswerLines.{AreAnswers-nil, AreAnswers-cons, rest_is_shorter, some_left, none_from_length}
 use Rattle.tz_query.proofs.query.answers.answer.Goals as goal
 
 if_err : {T E : Type 0} (P : E → Type 0) (r : Result T E) → IsErrAnd r P → IfErr r P
@@ -54,7 +54,7 @@ pub answer_next-requires : goal.answer_next-requires
 answer_next-requires g c = record { room = c.in_ok-make_room.ensures.room; cached = c.loop-cache.invariant.0 }
 
 pub new-cache-requires : goal.new-cache-requires
-new-cache-requires g c = ap types_of c.deref.ensures.value ∙ c.in_ok-tails.ensures
+new-cache-requires g c = ap types_of c.deref.ensures.value ∙ c.in_ok-suffixes.ensures
 
 pub returns-in_err-make_room : goal.returns-in_err-make_room
 returns-in_err-make_room g c = record { ok = IfOk-from_err c.from_residual-in_err-make_room.result _ c.from_residual-in_err-make_room.ensures.0; err = if_err _ c.from_residual-in_err-make_room.result c.from_residual-in_err-make_room.ensures.1 }

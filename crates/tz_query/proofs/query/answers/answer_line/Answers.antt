@@ -5,7 +5,7 @@ use Rattle.std.proofs.lemmas.Int.{to_z-of_z}
 use mir.Syntax.{w64}
 use mir.Val.{SFits}
 use Rattle.tz_query.specs.Queries.{Time, Search, Meeting}
-use Rattle.tz_query.proofs.LineLemmas.{no_query}
+use Rattle.tz_query.proofs.LineFronts.{no_query}
 use Rattle.tz_query.proofs.query.answers.answer_line.Goals as goal
 
 pub returns-in-Some : goal.returns-in-Some

@@ -2,7 +2,7 @@
 use Rattle.std.proofs.Common.{arith, ◌+◌, take, sym, subst}
 use Rattle.std.proofs.lemmas.List.{take_all, take_rest}
 use Rattle.tz_query.specs.Lines.{IsLine, IsFirstLine}
-use Rattle.tz_query.proofs.LineLemmas.{first_line_to_end, whole_line}
+use Rattle.tz_query.proofs.LineFronts.{first_line_to_end, whole_line}
 use Rattle.tz_query.proofs.query.lines.after_line.Goals as goal
 
 pub returns-then-byte-eq10 : goal.returns-then-byte-eq10

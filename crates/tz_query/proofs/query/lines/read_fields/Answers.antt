@@ -3,8 +3,8 @@ use Rattle.std.proofs.Common.{◌<◌, ◌^◌, ◌∷◌, [], refl, arith, rule
 use Rattle.std.proofs.lemmas.Int.{to_z-of_z}
 use mir.Syntax.{w32}
 use mir.Val.{SFits}
-use Rattle.tz_query.proofs.LineLemmas.{no_fields_after}
-use Rattle.tz_query.proofs.NumberLemmas.{IfNone-anyway}
+use Rattle.tz_query.proofs.LineFronts.{no_fields_after}
+use Rattle.tz_query.proofs.NumberFronts.{IfNone-anyway}
 use Rattle.tz_query.proofs.query.lines.read_fields.Goals as goal
 
 pub returns-in_err-year-clause-none : goal.returns-in_err-year-clause-none

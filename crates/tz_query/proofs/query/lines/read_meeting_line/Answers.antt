@@ -1,8 +1,8 @@
 -- After `W` stand the number of weeks and the fields.
 use Rattle.std.proofs.Common.{◌∷◌, ◌<◌, ◌^◌, pos, refl, arith, rules}
 use Rattle.tz_query.specs.Queries.{meeting_letter, numbers_of}
-use Rattle.tz_query.proofs.NumberLemmas.{IfNone-anyway}
-use Rattle.tz_query.proofs.LineLemmas.{NoMeetingLine, line_from_front, no_fields_after_count, no_line_without_numbers, no_line_without_end}
+use Rattle.tz_query.proofs.NumberFronts.{IfNone-anyway}
+use Rattle.tz_query.proofs.LineFronts.{NoMeetingLine, line_from_front, no_fields_after_count, no_line_without_numbers, no_line_without_end}
 use Rattle.tz_query.proofs.query.lines.read_meeting_line.Goals as goal
 
 pub returns-in_err-count-clause-none : goal.returns-in_err-count-clause-none

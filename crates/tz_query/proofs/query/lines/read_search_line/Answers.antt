@@ -1,8 +1,8 @@
 -- After `F` stands what is asked for.
 use Rattle.std.proofs.Common.{refl, arith}
 use Rattle.tz_query.specs.Queries.{numbers_of, search_letter}
-use Rattle.tz_query.proofs.NumberLemmas.{IfNone-anyway}
-use Rattle.tz_query.proofs.LineLemmas.{NoSearchLine, line_from_front, no_line_without_numbers, no_line_without_end}
+use Rattle.tz_query.proofs.NumberFronts.{IfNone-anyway}
+use Rattle.tz_query.proofs.LineFronts.{NoSearchLine, line_from_front, no_line_without_numbers, no_line_without_end}
 use Rattle.tz_query.proofs.query.lines.read_search_line.Goals as goal
 
 pub returns-in_err-fields-clause-none : goal.returns-in_err-fields-clause-none

@@ -1,7 +1,7 @@
 -- Where a part is missing or too great, the line does not ask for an instant.
 use Rattle.std.proofs.Common.{◌∷◌, [], refl, pos}
-use Rattle.tz_query.proofs.LineLemmas.{NoTime}
-use Rattle.tz_query.proofs.NumberLemmas.{IfNone-anyway, no_part_after}
+use Rattle.tz_query.proofs.LineFronts.{NoTime}
+use Rattle.tz_query.proofs.NumberFronts.{IfNone-anyway, no_part_after}
 use Rattle.tz_query.proofs.query.lines.read_time.Goals as goal
 
 pub returns-in_err-unix_time-clause-none : goal.returns-in_err-unix_time-clause-none

@@ -4,8 +4,8 @@ use Rattle.std.proofs.lemmas.Int.{to_z-of_z}
 use mir.Syntax.{w64}
 use mir.Val.{SFits}
 use Rattle.tz_query.specs.Queries.{time_letter}
-use Rattle.tz_query.proofs.NumberLemmas.{IfNone-anyway}
-use Rattle.tz_query.proofs.LineLemmas.{NoTimeLine, line_from_front, no_line_without_numbers, no_line_without_end}
+use Rattle.tz_query.proofs.NumberFronts.{IfNone-anyway}
+use Rattle.tz_query.proofs.LineFronts.{NoTimeLine, line_from_front, no_line_without_numbers, no_line_without_end}
 use Rattle.tz_query.proofs.query.lines.read_time_line.Goals as goal
 
 pub returns-in_err-unix_time-clause-none : goal.returns-in_err-unix_time-clause-none

@@ -7,7 +7,7 @@ use Rattle.tz_base.specs.declared.calendar.Fields.{Fields}
 use Rattle.tz_query.specs.Numbers.{ArePartsFront}
 use Rattle.tz_query.specs.Queries.{AreFieldsOfBits, numbers_of, IsSearchLineFront}
 use Rattle.tz_query.proofs.FastNumbers.{byte_at}
-use Rattle.tz_query.proofs.LineLemmas.{line_from_front}
+use Rattle.tz_query.proofs.LineFronts.{line_from_front}
 use Rattle.tz_query.proofs.query.lines.read_usual_search_line.Goals as goal
 
 pub returns : goal.returns

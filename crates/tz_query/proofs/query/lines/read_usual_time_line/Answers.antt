@@ -6,7 +6,7 @@ use mir.Syntax.{w64}
 use mir.Val.{SFits}
 use Rattle.tz_query.specs.Queries.{IsTimeLineFront}
 use Rattle.tz_query.proofs.FastNumbers.{byte_at}
-use Rattle.tz_query.proofs.LineLemmas.{line_from_front}
+use Rattle.tz_query.proofs.LineFronts.{line_from_front}
 use Rattle.tz_query.proofs.query.lines.read_usual_time_line.Goals as goal
 
 pub returns-clause-line : goal.returns-clause-line

@@ -5,7 +5,7 @@ use Rattle.std.specs.List.{flat_map}
 use Rattle.std.proofs.lemmas.Result.{IfOk-weaker}
 use Rattle.tz_query.specs.Lines.{ended}
 use Rattle.tz_query.specs.Answers.{field_fault_text, meeting_lines}
-use Rattle.tz_query.proofs.WeekLemmas.{meeting_written}
+use Rattle.tz_query.proofs.WeekAnswers.{meeting_written}
 use Rattle.tz_query.proofs.query.meetings.answer_meeting.Goals as goal
 
 pub returns-in_ok-append_count-in-Ok : goal.returns-in_ok-append_count-in-Ok

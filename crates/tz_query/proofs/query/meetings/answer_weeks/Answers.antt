@@ -4,7 +4,7 @@ use Rattle.std.proofs.lemmas.List.{flat_map_more}
 use Rattle.tz_zone.specs.ZoneRef.{zone_of}
 use Rattle.tz_query.specs.Lines.{ended}
 use Rattle.tz_query.specs.Answers.{IsWeekAnswer}
-use Rattle.tz_query.proofs.WeekLemmas.{weeks_more}
+use Rattle.tz_query.proofs.WeekAnswers.{weeks_more}
 use Rattle.tz_query.proofs.query.meetings.answer_weeks.Goals as goal
 
 pub loop-weeks-preserved : goal.loop-weeks-preserved

@@ -1,6 +1,6 @@
 -- Each digit is one more.
 use Rattle.std.proofs.Common.{◌+◌, ◌*◌, ◌∙◌, ap, arith}
-use Rattle.tz_query.proofs.NumberLemmas.{digits_more, capped_more}
+use Rattle.tz_query.proofs.NumberFronts.{digits_more, capped_more}
 use Rattle.tz_query.proofs.query.numbers.read_digits.Goals as goal
 
 pub loop-place-preserved : goal.loop-place-preserved

@@ -1,5 +1,5 @@
 -- Without a number after the space there is none.
-use Rattle.tz_query.proofs.NumberLemmas.{no_part_without_number, IfNone-weaker}
+use Rattle.tz_query.proofs.NumberFronts.{no_part_without_number, IfNone-weaker}
 use Rattle.tz_query.proofs.query.numbers.read_i64.Goals as goal
 
 pub returns-clause-none : goal.returns-clause-none

@@ -3,7 +3,7 @@ use Rattle.std.proofs.Common.{rules}
 use Rattle.std.proofs.lemmas.Int.{to_z-of_z}
 use mir.Syntax.{w64}
 use mir.Val.{SFits}
-use Rattle.tz_query.proofs.NumberLemmas.{number_from_minus, no_number_without_digits, no_number_after_minus, no_number_of_64_bits, no_negative_number_of_64_bits, IfNone-anyway}
+use Rattle.tz_query.proofs.NumberFronts.{number_from_minus, no_number_without_digits, no_number_after_minus, no_number_of_64_bits, no_negative_number_of_64_bits, IfNone-anyway}
 use Rattle.tz_query.proofs.query.numbers.read_number.Goals as goal
 
 pub returns-in_err-size-in-Some-clause-none : goal.returns-in_err-size-in-Some-clause-none

@@ -5,7 +5,7 @@ use Rattle.std.proofs.lemmas.Int.{ints, to_z-of_z}
 use mir.Syntax.{w64}
 use mir.Val.{SFits}
 use Rattle.tz_query.specs.Numbers.{IsPartFront}
-use Rattle.tz_query.proofs.NumberLemmas.{IfNone-anyway, no_other_part}
+use Rattle.tz_query.proofs.NumberFronts.{IfNone-anyway, no_other_part}
 use Rattle.tz_query.proofs.query.numbers.read_u32.Goals as goal
 
 pub returns-in_err-number-clause-none : goal.returns-in_err-number-clause-none

@@ -1,6 +1,6 @@
 -- A value that goes on after a number is none.
 use Rattle.std.proofs.Common.{◌<◌, length, rules}
-use Rattle.tz_query.proofs.NumberLemmas.{no_number_before_more}
+use Rattle.tz_query.proofs.NumberFronts.{no_number_before_more}
 use Rattle.tz_query.proofs.query.program.read_offset.Goals as goal
 
 pub returns-then-not-is_empty-clause-none : goal.returns-then-not-is_empty-clause-none

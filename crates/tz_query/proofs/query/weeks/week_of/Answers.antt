@@ -5,7 +5,7 @@ use mir.Syntax.{w32, w64}
 use mir.Val.{SFits}
 use Rattle.tz_base.specs.Fields.{IsCivil}
 use Rattle.tz_query.specs.Weeks.{day_after, midnight}
-use Rattle.tz_query.proofs.WeekLemmas.{date_of_day}
+use Rattle.tz_query.proofs.WeekAnswers.{date_of_day}
 use Rattle.tz_query.proofs.query.weeks.week_of.Goals as goal
 
 pub returns-clause-some : goal.returns-clause-some

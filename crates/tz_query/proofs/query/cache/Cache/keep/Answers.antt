@@ -6,4 +6,4 @@ pub returns-then-unix_time-self-2-clause-within : goal.returns-then-unix_time-se
 returns-then-unix_time-self-2-clause-within c = search rules
 
 pub returns-in-Some-clause-cached : goal.returns-in-Some-clause-cached
-returns-in-Some-clause-cached c = record { segment = c.in-Some.ensures.of; tails = c.requires.tails; offsets = c.requires.offsets; order = c.requires.order }
+returns-in-Some-clause-cached c = record { segment = c.in-Some.ensures.of; suffixes = c.requires.suffixes; offsets = c.requires.offsets; order = c.requires.order }

@@ -26,6 +26,6 @@ push_around_jump-requires-clause-window c =
       begins = until;
       ends = ends;
       goes_on = follows.1;
-      has_before = λ v after before. c.tail_of-before.ensures v (omega (arith, ints, from, after)) before;
-      has_after = λ v after before. c.tail_of-after.ensures v (omega (arith, ints, follows.0, after)) before;
+      has_before = λ v after before. c.suffix_of-before.ensures v (omega (arith, ints, from, after)) before;
+      has_after = λ v after before. c.suffix_of-after.ensures v (omega (arith, ints, follows.0, after)) before;
     }

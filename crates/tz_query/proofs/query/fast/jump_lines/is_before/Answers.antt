@@ -29,7 +29,7 @@ returns-clause-before c =
     let is = offset_is c.from.result c.ut_offset.result c.from.ensures c.ut_offset.type_inv in
     let fits = difference_fits c.args.reading c.ut_offset.result c.requires c.ut_offset.type_inv in
     rw (to_z-of_z w64 c.args.reading c.ranges.reading, to_z-of_z w64 c.args.unix_time c.ranges.unix_time, to_z-of_z w64 c.from.result (record { sfits = c.from.type_inv }), is, to_z-of_z w64 (c.args.reading -ℤ c.ut_offset.result) fits, c.ut_offset.ensures)
-    (less (lt_z (c.args.reading -ℤ c.args.tail.now.local_time_type.ut_offset) c.args.unix_time) (c.args.reading -ℤ c.args.tail.now.local_time_type.ut_offset) c.args.unix_time refl)
+    (less (lt_z (c.args.reading -ℤ c.args.suffix.now.local_time_type.ut_offset) c.args.unix_time) (c.args.reading -ℤ c.args.suffix.now.local_time_type.ut_offset) c.args.unix_time refl)
 
 pub returns-clause-offset : goal.returns-clause-offset
 returns-clause-offset c = omega (arith, ints, c.ut_offset.ensures, c.ut_offset.type_inv)

@@ -5,10 +5,10 @@ use mir.Syntax.{w64}
 use Rattle.tz_base.specs.Fields.{reading}
 use Rattle.tz_zone.specs.ZoneRef.{zone_of}
 use Rattle.tz.specs.PrintedText.{nine_digits}
-use Rattle.tz_query.specs.Pages.{front_text, end_text}
+use Rattle.tz_query.specs.Pages.{prefix_text, suffix_text}
 use Rattle.tz_query.specs.Lines.{ended}
-use Rattle.tz_query.proofs.SearchLineLemmas.{written_once}
-use Rattle.tz_query.proofs.JumpLineLemmas.{shown_before, shown_after, shown_twice}
+use Rattle.tz_query.proofs.SingleAnswers.{written_once}
+use Rattle.tz_query.proofs.JumpAnswers.{shown_before, shown_after, shown_twice}
 use Rattle.tz_query.proofs.query.fast.jump_lines.push_around_jump.Goals as goal
 
 pub returns-then-is_before-2-clause-some : goal.returns-then-is_before-2-clause-some
@@ -23,7 +23,7 @@ returns-then-is_before-2-clause-some c n part nine =
     let first : (reading f -ℤ a.ut_offset) <ℤ jump = rw (to_z-of_z w64 c.args.reading reading_fits, to_z-of_z w64 jump fits, c.requires.reading) at c.if-is_before.ensures.before in
     let second : (reading f -ℤ b.ut_offset) <ℤ jump = rw (to_z-of_z w64 c.args.reading reading_fits, to_z-of_z w64 jump fits, c.requires.reading) at c.if-is_before-2.ensures.before in
     let shown = shown_before z c.args.zone.sound.leap_seconds_are f n part c.requires.valid jump a b c.requires.window first second in
-    let text = written_once c.push_once.new.page c.args.page.now c.front_of-front.result c.args.nine.now (ended shown.0) f n a c.push_once.ensures c.front_of-front.ensures nine shown.2 in
+    let text = written_once c.push_once.new.page c.args.page.now c.prefix_of-prefix.result c.args.nine.now (ended shown.0) f n a c.push_once.ensures c.prefix_of-prefix.ensures nine shown.2 in
     (shown.0, shown.1, text)
 
 pub returns-then-is_before-clause-some : goal.returns-then-is_before-clause-some
@@ -39,10 +39,10 @@ returns-then-is_before-clause-some c n part nine =
     let first : (reading f -ℤ a.ut_offset) <ℤ jump = rw (to_z-of_z w64 c.args.reading reading_fits, to_z-of_z w64 jump fits, c.requires.reading) at c.if-is_before.ensures.before in
     let second : jump ≤ℤ (reading f -ℤ b.ut_offset) = rw (to_z-of_z w64 c.args.reading reading_fits, to_z-of_z w64 jump fits, c.requires.reading) at c.if-is_before-2.ensures.before in
     let shown = shown_twice z c.args.zone.sound.leap_seconds_are f n part c.requires.valid jump a b c.requires.window first second in
-    let text : c.push_twice.new.page ≡ page ++ (70 ∷ 32 ∷ 50 ∷ 10 ∷ 78 ∷ 32 ∷ ((front_text f ++ (nine_digits n ++ end_text a)) ++ 78 ∷ 32 ∷ (front_text f ++ (nine_digits n ++ end_text b)))) =
+    let text : c.push_twice.new.page ≡ page ++ (70 ∷ 32 ∷ 50 ∷ 10 ∷ 78 ∷ 32 ∷ ((prefix_text f ++ (nine_digits n ++ suffix_text a)) ++ 78 ∷ 32 ∷ (prefix_text f ++ (nine_digits n ++ suffix_text b)))) =
     c.push_twice.ensures
-    ∙ ap (λ bytes. page ++ (70 ∷ 32 ∷ 50 ∷ 10 ∷ 78 ∷ 32 ∷ ((bytes ++ (c.args.nine.now ++ end_text a)) ++ 78 ∷ 32 ∷ (bytes ++ (c.args.nine.now ++ end_text b))))) c.front_of-front.ensures
-    ∙ ap (λ bytes. page ++ (70 ∷ 32 ∷ 50 ∷ 10 ∷ 78 ∷ 32 ∷ ((front_text f ++ (bytes ++ end_text a)) ++ 78 ∷ 32 ∷ (front_text f ++ (bytes ++ end_text b))))) nine in
+    ∙ ap (λ bytes. page ++ (70 ∷ 32 ∷ 50 ∷ 10 ∷ 78 ∷ 32 ∷ ((bytes ++ (c.args.nine.now ++ suffix_text a)) ++ 78 ∷ 32 ∷ (bytes ++ (c.args.nine.now ++ suffix_text b))))) c.prefix_of-prefix.ensures
+    ∙ ap (λ bytes. page ++ (70 ∷ 32 ∷ 50 ∷ 10 ∷ 78 ∷ 32 ∷ ((prefix_text f ++ (bytes ++ suffix_text a)) ++ 78 ∷ 32 ∷ (prefix_text f ++ (bytes ++ suffix_text b))))) nine in
     (shown.0, shown.1, text ∙ ap (λ bytes. page ++ bytes) shown.2)
 
 pub push_passed_fields-requires-clause-near : goal.push_passed_fields-requires-clause-near
@@ -66,7 +66,7 @@ returns-clause-some c n part nine =
     let first : jump ≤ℤ (reading f -ℤ a.ut_offset) = rw (to_z-of_z w64 c.args.reading reading_fits, to_z-of_z w64 jump fits, c.requires.reading) at c.if-is_before.ensures.before in
     let second : jump ≤ℤ (reading f -ℤ b.ut_offset) = rw (to_z-of_z w64 c.args.reading reading_fits, to_z-of_z w64 jump fits, c.requires.reading) at c.if-is_before-3.ensures.before in
     let shown = shown_after z c.args.zone.sound.leap_seconds_are f n part c.requires.valid jump a b c.requires.window first second in
-    let text = written_once c.push_once-2.new.page c.args.page.now c.front_of.result c.args.nine.now (ended shown.0) f n b c.push_once-2.ensures c.front_of.ensures nine shown.2 in
+    let text = written_once c.push_once-2.new.page c.args.page.now c.prefix_of.result c.args.nine.now (ended shown.0) f n b c.push_once-2.ensures c.prefix_of.ensures nine shown.2 in
     (shown.0, shown.1, text)
 
 pub is_before-requires : goal.is_before-requires

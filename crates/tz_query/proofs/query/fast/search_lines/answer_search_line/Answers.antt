@@ -7,16 +7,16 @@ use Rattle.tz_base.specs.Fields.{reading}
 use Rattle.tz_zone.specs.ZoneRef.{zone_of}
 use Rattle.tz_query.specs.Lines.{ended}
 use Rattle.tz_query.specs.Queries.{Search}
-use Rattle.tz_query.proofs.SearchLineLemmas.{shown_once, written_once}
+use Rattle.tz_query.proofs.SingleAnswers.{shown_once, written_once}
 use Rattle.tz_query.proofs.query.fast.search_lines.answer_search_line.Goals as goal
 
-pub front_of-requires : goal.front_of-requires
-front_of-requires c = record { valid = c.in-Ok.ensures.ok; year = omega (arith, ints, c.if-fields-lt1000.false, c.if-fields-gt9999.false) }
+pub prefix_of-requires : goal.prefix_of-requires
+prefix_of-requires c = record { valid = c.in-Ok.ensures.ok; year = omega (arith, ints, c.if-fields-lt1000.false, c.if-fields-gt9999.false) }
 
 pub returns-then-high-cache-clause-some : goal.returns-then-high-cache-clause-some
 returns-then-high-cache-clause-some c =
     let z = zone_of c.args.zone in
-    let t = c.tail_of-tail.result.now.local_time_type in
+    let t = c.suffix_of-suffix.result.now.local_time_type in
     let f = c.in_ok-fields.fields in
     let line = c.in_ok-fields.ensures in
     let n = line.0 in
@@ -33,8 +33,8 @@ returns-then-high-cache-clause-some c =
     let ends : to_z w64 (of_z w64 c.window_of-low.result.1) <ℤ kept.segment.until = rw (to_z-of_z w64 kept.segment.until until_fits) at stated in
     let low : kept.segment.from ≤ℤ (reading f -ℤ greatest) = rw (to_z-of_z w64 c.window_of-low.result.0 low_fits, c.window_of-low.ensures.low, to_z-of_z w64 c.reading-reading.result reading_fits, c.reading-reading.ensures.value) at within.0 in
     let high : (reading f -ℤ least) <ℤ kept.segment.until = rw (to_z-of_z w64 c.window_of-low.result.1 high_fits, c.window_of-low.ensures.high, to_z-of_z w64 c.reading-reading.result reading_fits, c.reading-reading.ensures.value) at ends in
-    let shown = shown_once z c.args.zone.sound.leap_seconds_are f n line.1 c.in-Ok.ensures.ok least greatest kept.segment.from kept.segment.until t cached.order cached.offsets c.tail_of-tail.ensures low high in
-    let text = written_once c.push_once.new.page c.args.page.now c.front_of.result c.read_usual_search_line.new.nine (ended shown.0) f n t c.push_once.ensures c.front_of.ensures line.2 shown.2 in
+    let shown = shown_once z c.args.zone.sound.leap_seconds_are f n line.1 c.in-Ok.ensures.ok least greatest kept.segment.from kept.segment.until t cached.order cached.offsets c.suffix_of-suffix.ensures low high in
+    let text = written_once c.push_once.new.page c.args.page.now c.prefix_of.result c.read_usual_search_line.new.nine (ended shown.0) f n t c.push_once.ensures c.prefix_of.ensures line.2 shown.2 in
     (line.3.0, shown.0, line.3.1, inl (Search (record f { nanoseconds = n }), line.3.2, shown.1), text)
 
 pub answer_across_jump-requires : goal.answer_across_jump-requires

@@ -1,7 +1,7 @@
 -- The three pieces make the line.
 use Rattle.std.proofs.Common.{◌≡◌, ◌+◌, ◌-◌, ◌≤◌, ◌++◌, take, length, ap, ◌∙◌, arith, rules}
-use Rattle.tz_query.specs.Pages.{end_text}
-use Rattle.tz_query.proofs.PageLemmas.{three_pieces}
+use Rattle.tz_query.specs.Pages.{suffix_text}
+use Rattle.tz_query.proofs.PageLines.{three_pieces}
 use Rattle.tz_query.proofs.query.page.Page.push_line.Goals as goal
 
 pub returns-clause-text : goal.returns-clause-text
@@ -12,16 +12,16 @@ returns-clause-text c =
     let second : at + 29 - (at + 20) ≡ 9 = omega arith in
     let third : at + 61 - (at + 29) ≡ 32 = omega arith in
     let room : at + 61 ≤ length page = search rules in
-    let front_len : length c.copy_from_slice.new.self ≡ 20 = search rules in
+    let prefix_len : length c.copy_from_slice.new.self ≡ 20 = search rules in
     let nine_len : length c.copy_from_slice-2.new.self ≡ 9 = search rules in
-    let tail_len : length c.copy_from_slice-3.new.self ≡ 32 = search rules in
-    let written = three_pieces page c.copy_from_slice.new.self c.copy_from_slice-2.new.self c.copy_from_slice-3.new.self at c.len.result room front_len nine_len tail_len c.len.ensures.1 in
+    let suffix_len : length c.copy_from_slice-3.new.self ≡ 32 = search rules in
+    let written = three_pieces page c.copy_from_slice.new.self c.copy_from_slice-2.new.self c.copy_from_slice-3.new.self at c.len.result room prefix_len nine_len suffix_len c.len.ensures.1 in
     let was = c.args.self.now in
     let end = take c.len.result c.copy_from_slice-3.new.self in
-    let end_is : end ≡ end_text c.args.tail.now.local_time_type = ap (take c.len.result) c.copy_from_slice-3.ensures.after ∙ ap (λ n. take n c.bytes.result) c.len.ensures.0 ∙ c.bytes.ensures in
+    let end_is : end ≡ suffix_text c.args.suffix.now.local_time_type = ap (take c.len.result) c.copy_from_slice-3.ensures.after ∙ ap (λ n. take n c.bytes.result) c.len.ensures.0 ∙ c.bytes.ensures in
     rw (first, second, third)
     (written
     ∙ ap (λ bytes. bytes ++ (c.copy_from_slice.new.self ++ (c.copy_from_slice-2.new.self ++ end))) c.self.view_is
     ∙ ap (λ bytes. was ++ (bytes ++ (c.copy_from_slice-2.new.self ++ end))) c.copy_from_slice.ensures.after
-    ∙ ap (λ bytes. was ++ (c.args.front.now ++ (bytes ++ end))) c.copy_from_slice-2.ensures.after
-    ∙ ap (λ bytes. was ++ (c.args.front.now ++ (c.args.nine.now ++ bytes))) end_is)
+    ∙ ap (λ bytes. was ++ (c.args.prefix.now ++ (bytes ++ end))) c.copy_from_slice-2.ensures.after
+    ∙ ap (λ bytes. was ++ (c.args.prefix.now ++ (c.args.nine.now ++ bytes))) end_is)

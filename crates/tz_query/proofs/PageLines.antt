@@ -1,0 +1,108 @@
+-- A line on a page is its prefix, its nanoseconds and its end, each copied whole.
+use Rattle.std.proofs.Common.{◌≡◌, ℕ, zero, suc, get_or, ◌+◌, ◌/◌, ◌%◌, ◌<◌, ◌≤◌, List, [], ◌∷◌, ◌++◌, length, take, drop, refl, sym, ap, ◌∙◌, subst, arith, append_assoc, length-append, ℤ, pos, ◌+ℤ◌, inl}
+use Rattle.std.specs.Prelude.{slice_get, Some}
+use Rattle.std.proofs.lemmas.List.{length-map, length-take-le, take-append-le, take-append-drop}
+use Rattle.std.proofs.Math.Seq.{take-append-add, take-append_seam}
+use Rattle.std.proofs.lemmas.Slice.{take-put_mid}
+use Rattle.tz_base.specs.declared.calendar.Fields.{Fields}
+use Rattle.tz_base.specs.Fields.{IsCivil, IsReading}
+use Rattle.tz_rule.specs.LocalTimeType.{LocalTimeType}
+use Rattle.tz_zone.specs.Table.{Zone}
+use Rattle.tz_zone.specs.Clock.{IsClock}
+use Rattle.tz.specs.PrintedText.{two_digits, nine_digits, date_text, time_text, offset_text, printed_text}
+use Rattle.tz.specs.DateTimes.{DateTime}
+use Rattle.tz.proofs.PrintedDigits.{two_digits-below, decimal-four}
+use Rattle.tz_query.specs.Answers.{name_text, moment_text, IsTimeAnswer}
+use Rattle.tz_query.specs.Pages.{prefix_text, suffix_text}
+use Rattle.tz_query.specs.Suffixes.{types_of}
+use Rattle.tz_query.specs.declared.query.suffix.Suffix.{Suffix}
+use Rattle.std.proofs.lemmas.Option.{slice_get_within, same_Some}
+use borrow.Rule.Slice.PartMut.{put_mid}
+
+-- the prefix, the nanoseconds and the end make the line
+pub line_text : (f : Fields) (n : ℕ) (t : LocalTimeType) (u : ℤ) →
+    prefix_text f ++ (nine_digits n ++ suffix_text t) ≡ moment_text (record { fields = record f { nanoseconds = n }; local_time_type = t; unix_time = u }) ++ 10 ∷ []
+unfolding prefix_text suffix_text moment_text printed_text date_text time_text two_digits nine_digits
+line_text f n t u =
+    let date = date_text f in
+    let offset = offset_text t.ut_offset in
+    let time = time_text (record f { nanoseconds = n }) in
+    let name = 32 ∷ name_text t in
+    append_assoc date (84 ∷ two_digits f.hour ++ (58 ∷ two_digits f.minute ++ (58 ∷ two_digits f.second ++ 46 ∷ []))) (nine_digits n ++ suffix_text t)
+    ∙ sym (ap (λ line. line ++ 10 ∷ []) (append_assoc date (84 ∷ time ++ offset) name)
+    ∙ append_assoc date ((84 ∷ time ++ offset) ++ name) (10 ∷ [])
+    ∙ ap (λ line. date ++ (84 ∷ time ++ line)) (append_assoc offset name (10 ∷ [])))
+
+-- three pieces that are copied one behind the other
+pub three_pieces : (page prefix nine suffix : List ℕ) (at len : ℕ) → at + 61 ≤ length page → length prefix ≡ 20 → length nine ≡ 9 → length suffix ≡ 32 → len ≤ 32 →
+    take (at + 29 + len) (put_mid (at + 29) 32 (put_mid (at + 20) 9 (put_mid at 20 page prefix) nine) suffix) ≡ take at page ++ (prefix ++ (nine ++ take len suffix))
+three_pieces page prefix nine suffix at len room prefix_len nine_len suffix_len few =
+    let first = put_mid at 20 page prefix in
+    let second = put_mid (at + 20) 9 first nine in
+    let kept : length (take at page) ≡ at = length-take-le at page (omega (arith, room)) in
+    let first_size : length first ≡ length (take at page) + (length prefix + length (drop 20 (drop at page))) = length-append (take at page) (prefix ++ drop 20 (drop at page)) ∙ ap (λ n. length (take at page) + n) (length-append prefix (drop 20 (drop at page))) in
+    let first_is : take (at + 20) first ≡ take at page ++ prefix = take-put_mid at 20 page prefix (at + 20) (omega (arith, prefix_len)) (omega (arith, room)) in
+    let begun : length (take (at + 20) first) ≡ at + 20 = ap length first_is ∙ length-append (take at page) prefix ∙ omega (arith, kept, prefix_len) in
+    let second_size : length second ≡ length (take (at + 20) first) + (length nine + length (drop 9 (drop (at + 20) first))) = length-append (take (at + 20) first) (nine ++ drop 9 (drop (at + 20) first)) ∙ ap (λ n. length (take (at + 20) first) + n) (length-append nine (drop 9 (drop (at + 20) first))) in
+    let second_is : take (at + 29) second ≡ take (at + 20) first ++ nine = take-put_mid (at + 20) 9 first nine (at + 29) (omega (arith, nine_len)) (omega (arith, first_size, kept, prefix_len)) in
+    let written : length (take (at + 29) second) ≡ at + 29 = ap length second_is ∙ length-append (take (at + 20) first) nine ∙ omega (arith, begun, nine_len) in
+    let behind = drop 32 (drop (at + 29) second) in
+    let place : at + 29 + len ≡ length (take (at + 29) second) + len = omega (arith, written) in
+    ap (λ n. take n (take (at + 29) second ++ (suffix ++ behind))) place
+    ∙ take-append-add (take (at + 29) second) (suffix ++ behind) len
+    ∙ ap (λ bytes. take (at + 29) second ++ bytes) (take-append-le len suffix behind (omega (arith, few, suffix_len)))
+    ∙ ap (λ bytes. bytes ++ take len suffix) (second_is ∙ ap (λ bytes. bytes ++ nine) first_is)
+    ∙ append_assoc (take at page ++ prefix) nine (take len suffix)
+    ∙ append_assoc (take at page) prefix (nine ++ take len suffix)
+
+-- what stands before the last byte
+pub without_last : (page text : List ℕ) (byte end last : ℕ) → take end page ≡ text ++ byte ∷ [] → end ≤ length page → end ≡ last + 1 → take last page ≡ text
+without_last page text byte end last written within size =
+    let long : end ≡ length text + 1 = sym (length-take-le end page within) ∙ ap length written ∙ length-append text (byte ∷ []) in
+    let last_is : last ≡ length text = omega (arith, long, size) in
+    let inside : last ≤ length (take end page) = omega (arith, length-take-le end page within, size) in
+    ap (take last) (sym (take-append-drop end page))
+    ∙ take-append-le last (take end page) (drop end page) inside
+    ∙ ap (take last) written
+    ∙ ap (λ k. take k (text ++ byte ∷ [])) last_is
+    ∙ take-append_seam text (byte ∷ [])
+
+-- the fields that are shown, with the nanoseconds put in
+pub civil_with : (x : ℤ) (n : ℕ) (f : Fields) → n < 1000000000 → IsCivil x 0 f → IsCivil x n (record f { nanoseconds = n })
+civil_with x n f part civil =
+    let in_range = civil.valid.in_range in
+    record {
+      valid = record {
+        in_range = record { month = in_range.month; month_day = in_range.month_day; hour = in_range.hour; minute = in_range.minute; second = in_range.second; nanoseconds = part };
+        in_month = civil.valid.in_month;
+      };
+      below_60 = civil.below_60;
+      reads = civil.reads;
+      nanoseconds_are = refl;
+    }
+
+-- the date time that a clock shows at an instant has these fields, with the nanoseconds put in
+pub shown_with : (z : Zone) (u : ℤ) (n : ℕ) (t : LocalTimeType) (f : Fields) → n < 1000000000 → IsClock z u t → IsCivil (u +ℤ t.ut_offset) 0 f → IsReading (u +ℤ t.ut_offset) →
+    (text : List ℕ) × IsTimeAnswer z u n text × (prefix_text f ++ (nine_digits n ++ suffix_text t) ≡ text ++ 10 ∷ [])
+shown_with z u n t f part clock civil reads =
+    let d : DateTime = record { fields = record f { nanoseconds = n }; local_time_type = t; unix_time = u } in
+    (moment_text d, inl (d, (t, clock, record { civil = civil_with (u +ℤ t.ut_offset) n f part civil; type_is = refl; instant_is = refl }), subst IsReading (sym civil.reads) reads, refl), line_text f n t u)
+
+-- the twenty bytes of fields in a year of four digits
+pub prefix_bytes : (f : Fields) (year : ℕ) → f.year ≡ pos year → 1000 ≤ year → year < 10000 → f.month < 100 → f.month_day < 100 → f.hour < 100 → f.minute < 100 → f.second < 100 →
+    prefix_text f ≡ (48 + year / 100 / 10) ∷ (48 + year / 100 % 10) ∷ (48 + year % 100 / 10) ∷ (48 + year % 100 % 10)
+    ∷ 45 ∷ (48 + f.month / 10) ∷ (48 + f.month % 10) ∷ 45 ∷ (48 + f.month_day / 10) ∷ (48 + f.month_day % 10)
+    ∷ 84 ∷ (48 + f.hour / 10) ∷ (48 + f.hour % 10) ∷ 58 ∷ (48 + f.minute / 10) ∷ (48 + f.minute % 10) ∷ 58 ∷ (48 + f.second / 10) ∷ (48 + f.second % 10) ∷ 46 ∷ []
+unfolding prefix_text date_text
+prefix_bytes f year is from below month day hour minute second =
+    rw (is, decimal-four year from below, two_digits-below f.month month, two_digits-below f.month_day day, two_digits-below f.hour hour, two_digits-below f.minute minute, two_digits-below f.second second) refl
+
+-- a type with a number has a suffix
+pub tail_within : (suffixes : List Suffix) (types : List LocalTimeType) (i : ℕ) (t : LocalTimeType) → types_of suffixes ≡ types → slice_get types i ≡ Some t → i < length suffixes
+tail_within suffixes types i t are at = omega (arith, slice_get_within types i t at, ap length are, length-map suffixes (λ (suffix : Suffix). suffix.local_time_type))
+
+-- a suffix is that of the type with its number
+pub tail_type : (suffixes : List Suffix) (i : ℕ) (suffix : Suffix) (t : LocalTimeType) → slice_get (types_of suffixes) i ≡ Some t → suffix ≡ get_or suffixes i suffix → suffix.local_time_type ≡ t
+tail_type [] i suffix t at is = absurd (omega (arith, slice_get_within (types_of []) i t at))
+tail_type (first ∷ suffixes) zero suffix t at is = ap (λ (x : Suffix). x.local_time_type) is ∙ same_Some first.local_time_type t at
+tail_type (first ∷ suffixes) (suc i) suffix t at is = tail_type suffixes i suffix t at is
