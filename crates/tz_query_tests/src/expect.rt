@@ -5,9 +5,9 @@ use std::fmt::{Debug, Display};
 use std::process::Abort;
 use std::test::Fail;
 use tz::TimeZoneRef;
-use tz_file_tests::rows::{ZoneRow, zone_of};
-use tz_file_tests::samples::central_europe_zone;
 use tz_query::query::answer;
+use tz_samples::tz_strings::central_europe_zone;
+use tz_samples::zones::{ZoneRow, zone_of};
 
 /// The values are equal.
 pub(crate) fn expect_eq<T: Debug + PartialEq>(rt: &impl Abort, found: &T, wanted: &T) {

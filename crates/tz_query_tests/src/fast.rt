@@ -7,11 +7,10 @@ use std::test::Fail;
 use tz::inner::{Fields, TextBuffer, is_reading};
 use tz::timezone::{LeapSecond, Transition, TransitionRule};
 use tz::{LocalTimeType, TimeZoneRef, TzError};
-use tz_file_tests::rows::{leap_seconds_of, transitions_of, types_of};
-use tz_file_tests::samples::central_europe;
 use tz_query::inner::answer_line;
 use tz_query::query::answer;
-use tz_rule_tests::rows::{Day, RuleRow, TypeRow, rule_of};
+use tz_samples::rules::{Day, RuleRow, TypeRow, central_europe, rule_of};
+use tz_samples::zones::{leap_seconds_of, transitions_of, types_of};
 
 /// The answers of the plain half alone.
 fn answered_plainly(

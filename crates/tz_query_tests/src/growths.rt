@@ -5,8 +5,8 @@ use std::alloc::Global;
 use std::ops::Range;
 use std::process::Abort;
 use tz::{TimeZoneRef, TzError};
-use tz_base::refusing::Refusing;
 use tz_query::query::answer;
+use tz_samples::refusing::Refusing;
 
 /// The memory refused one growth or none, and holds nothing.
 pub(crate) fn expect_refusal(rt: &impl Abort, left: u64, heap: &Refusing<Global>, refused: bool) {

@@ -6,9 +6,9 @@ use std::alloc::{Allocator, Global};
 use std::process::Abort;
 use std::test::Fail;
 use tz::{TimeZone, TzError};
-use tz_base::refusing::Refusing;
-use tz_file_tests::rows::ZoneRow;
 use tz_query::query::answer;
+use tz_samples::refusing::Refusing;
+use tz_samples::zones::ZoneRow;
 
 /// The answers over a fixed zone.
 fn answered<A: Allocator + Copy>(

@@ -5,8 +5,8 @@ use crate::growths::expect_each_growth_can_be_refused;
 use std::alloc::Global;
 use std::test::Fail;
 use tz::{TimeZoneRef, UtcDateTime};
-use tz_file_tests::samples::central_europe_zone;
 use tz_query::query::answer;
+use tz_samples::tz_strings::central_europe_zone;
 
 /// Three weeks over a jump of the clock of Central Europe, and their answer.
 const OVER_A_JUMP: &str = "W 3 2000 3 19 2 30 0 0";
@@ -46,7 +46,10 @@ static MEETINGS: [(&str, &str); 13] = [
         "W 2 2147483647 12 31 0 0 0 0",
         "W 2\nF 1\nN 2147483647-12-31T00:00:00.000000000Z -\nE OutOfRange\n",
     ),
-    ("W 1 2147483647 12 31 23 59 60 0", "W 1\nE OutOfRange\n"),
+    (
+        "W 1 2147483647 12 31 23 59 60 0",
+        "W 1\nF 1\nN 2147483647-12-31T23:59:60.000000000Z -\n",
+    ),
     (
         "W 1 -2147483648 1 1 0 0 0 0",
         "W 1\nF 1\nN -2147483648-01-01T00:00:00.000000000Z -\n",

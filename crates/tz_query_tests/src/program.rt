@@ -7,9 +7,9 @@ use std::alloc::{AllocError, Global};
 use std::process::Abort;
 use std::test::Fail;
 use tz::error::ReadFault;
-use tz_base::refusing::Refusing;
-use tz_file_tests::samples::UTC_V1;
 use tz_query::query::tool;
+use tz_samples::files::UTC_V1;
+use tz_samples::refusing::Refusing;
 
 /// A file of version 4 with one type, UTC, and leap seconds from 2016 on that expire.
 const UTC_V4: &[u8] = b"TZif4\

@@ -6,10 +6,10 @@ use crate::expect::{
 use crate::growths::expect_each_growth_can_be_refused;
 use std::test::Fail;
 use tz::{TimeZone, TimeZoneRef};
-use tz_file_tests::rows::{CROSSING, ExtraRule, ZoneRow};
-use tz_file_tests::samples::JERUSALEM_V3;
 use tz_query::query::answer;
-use tz_rule_tests::rows::Day;
+use tz_samples::files::JERUSALEM_V3;
+use tz_samples::rules::Day;
+use tz_samples::zones::{CROSSING, ExtraRule, ZoneRow};
 
 /// The zone of `EST5EDT,0/0,J365/25`.
 static ALWAYS_EASTERN_DAYLIGHT: ZoneRow = ZoneRow {
@@ -301,6 +301,74 @@ fn years_of_32_bits_are_asked_for(rt: HostRuntime) -> Result<(), Fail> {
          N 2147483644-12-31T23:59:59.000000000Z -\n\
          E Line\n\
          E Line\n",
+    )
+}
+
+/// What a clock shows at an instant, a search finds, also where it is another year in UTC.
+#[test]
+fn what_is_shown_at_the_ends_is_found(rt: HostRuntime) -> Result<(), Fail> {
+    static ZONE: ZoneRow = ZoneRow {
+        types: &[(3600, false, Some(b"BST"))],
+        transitions: &[],
+        leap_seconds: &[],
+        extra_rule: None,
+    };
+    expect_answers_by_parts(
+        &rt,
+        rt.alloc(),
+        &ZONE,
+        "T -67768100567974800 0\n\
+         F -2147483648 1 1 0 0 0 0\n\
+         T 67767976233529199 0\n\
+         F 2147483647 12 31 23 59 59 0\n\
+         F 2147483647 12 31 23 59 60 0\n\
+         W 1 2147483647 12 31 23 59 60 0\n",
+        "-2147483648-01-01T00:00:00.000000000+01:00 BST\n\
+         F 1\n\
+         N -2147483648-01-01T00:00:00.000000000+01:00 BST\n\
+         2147483647-12-31T23:59:59.000000000+01:00 BST\n\
+         F 1\n\
+         N 2147483647-12-31T23:59:59.000000000+01:00 BST\n\
+         F 1\n\
+         N 2147483647-12-31T23:59:60.000000000+01:00 BST\n\
+         W 1\n\
+         F 1\n\
+         N 2147483647-12-31T23:59:60.000000000+01:00 BST\n",
+    )
+}
+
+/// A jump from the last day of all to the year behind it can't be listed, nor can one from the year before the first day.
+#[test]
+fn jumps_past_the_ends_are_out_of_range(rt: HostRuntime) -> Result<(), Fail> {
+    static ZONE: ZoneRow = ZoneRow {
+        types: &[
+            (-3600, false, Some(b"A")),
+            (0, false, Some(b"B")),
+            (7200, false, Some(b"C")),
+        ],
+        transitions: &[(-67_768_100_567_969_400, 1), (67_767_976_233_529_200, 2)],
+        leap_seconds: &[],
+        extra_rule: Some(ExtraRule::Fixed((7200, false, Some(b"C")))),
+    };
+    expect_answers_by_parts(
+        &rt,
+        rt.alloc(),
+        &ZONE,
+        "F -2147483648 1 1 0 0 0 0\n\
+         F -2147483648 1 1 0 30 0 0\n\
+         F 2147483647 12 31 22 59 59 0\n\
+         F 2147483647 12 31 23 0 0 0\n\
+         W 2 2147483647 12 24 23 0 0 0\n",
+        "E OutOfRange\n\
+         F 1\n\
+         N -2147483648-01-01T00:30:00.000000000Z B\n\
+         F 1\n\
+         N 2147483647-12-31T22:59:59.000000000Z B\n\
+         E OutOfRange\n\
+         W 2\n\
+         F 1\n\
+         N 2147483647-12-24T23:00:00.000000000Z B\n\
+         E OutOfRange\n",
     )
 }
 

@@ -7,9 +7,9 @@ use std::alloc::Global;
 use std::process::Abort;
 use std::test::Fail;
 use tz::TimeZoneRef;
-use tz_base::refusing::Refusing;
-use tz_file_tests::samples::central_europe_zone;
 use tz_query::query::{RunFault, run};
+use tz_samples::refusing::Refusing;
+use tz_samples::tz_strings::central_europe_zone;
 
 /// Two lines, the second without an end.
 const QUERIES: &[u8] = b"T 0 0\nF 2000 10 29 2 30 0 0";

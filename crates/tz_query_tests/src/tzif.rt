@@ -6,9 +6,9 @@ use std::alloc::{AllocError, Global};
 use std::process::Abort;
 use std::test::Fail;
 use tz::TimeZone;
-use tz_base::refusing::Refusing;
-use tz_file_tests::samples::{JERUSALEM_V3, UTC_V1};
 use tz_query::query::{answer, answer_tzif};
+use tz_samples::files::{JERUSALEM_V3, UTC_V1};
+use tz_samples::refusing::Refusing;
 
 /// The answers, or the text of the refusal.
 fn answered(alloc: Global, tz_bytes: &[u8], queries: &str) -> Result<String, Fail> {

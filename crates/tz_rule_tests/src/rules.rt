@@ -5,8 +5,6 @@ mod segments;
 mod stretches;
 
 use crate::expect::{expect_debug, expect_eq, expect_eq_at, expect_ne};
-use crate::rows::Day::{self, Julian0 as Z, Julian1 as J, Month as M};
-use crate::rows::day_of;
 use std::process::Abort;
 use std::test::Fail;
 use tz_base::error::TzError;
@@ -16,6 +14,8 @@ use tz_rule::timezone::{
     AlternateTime, Julian0WithLeap, Julian1WithoutLeap, LocalTimeType, MonthWeekDay, RuleDay,
     TransitionRule,
 };
+use tz_samples::rules::Day::{self, Julian0 as Z, Julian1 as J, Month as M};
+use tz_samples::rules::day_of;
 
 /// Why a rule of a test is not made.
 #[derive(Clone, Copy, Debug, PartialEq, Eq)]
@@ -402,12 +402,12 @@ fn expect_days(rt: &impl Abort) {
     expect_eq(rt, &found.ok(), &Some((12, 5, 6)));
 }
 
-/// The start and the end of a rule of the south, and the stretch between them.
+/// The start and the end of a rule of the south, and the segment between them.
 fn expect_ends_of_auckland(rt: &impl Abort, auckland: &AlternateTime) {
     expect_eq(rt, &inner::start(auckland, 2000), &970_322_400);
     expect_eq(rt, &inner::end(auckland, 2000), &953_384_400);
     // Daylight saving time that starts in 2000 ends in 2001.
-    let found = inner::stretch(auckland, 970_322_400).map(|found| (found.from, found.until));
+    let found = inner::likely_segment(auckland, 970_322_400).map(|found| (found.from, found.until));
     let wanted = (970_322_400, inner::end(auckland, 2001));
     expect_eq(rt, &found, &Some(wanted));
 }

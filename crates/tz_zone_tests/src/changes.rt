@@ -3,10 +3,10 @@
 use crate::expect::{expect_eq, expect_eq_at};
 use std::process::Abort;
 use tz_base::error::TzError;
-use tz_file_tests::samples::central_europe;
+use tz_samples::rules::central_europe;
 use tz_zone::timezone::{
     AlternateTime, Change, Julian0WithLeap, Julian1WithoutLeap, LeapSecond, LocalTimeType, RuleDay,
-    TimeZoneRef, Transition, TransitionRule,
+    TimeZone, TimeZoneRef, Transition, TransitionRule,
 };
 
 /// A change: its instant, and the offsets before it and from it on.
@@ -43,24 +43,34 @@ fn row_of(change: Option<Change<'_>>) -> Option<Row> {
     ))
 }
 
-/// From one instant on, and back from another, the changes are these.
+/// From one instant on, and back from another, the changes are these, whether each is asked for or they come in turn.
 fn expect_changes(rt: &impl Abort, zone: &TimeZoneRef<'_>, low: i64, high: i64, rows: &[Row]) {
     let mut from = low;
+    let mut after = zone.changes_after(low);
     for row in rows {
         expect_eq_at(rt, &from, &row_of(zone.following(from)), &Some(*row));
+        expect_eq_at(rt, &from, &row_of(after.next()), &Some(*row));
         from = row.0;
     }
     let mut until = high;
+    let mut before = zone.changes_before(high);
     for row in rows.iter().rev() {
         expect_eq_at(rt, &until, &row_of(zone.preceding(until)), &Some(*row));
+        expect_eq_at(rt, &until, &row_of(before.next()), &Some(*row));
         until = row.0;
     }
 }
 
-/// There is no change up to an instant, and none behind another.
+/// There is no change up to an instant, and none behind another, however often they are asked for.
 fn expect_no_others(rt: &impl Abort, zone: &TimeZoneRef<'_>, first: i64, last: i64) {
     expect_eq(rt, &row_of(zone.preceding(first)), &None);
     expect_eq(rt, &row_of(zone.following(last)), &None);
+    let mut before = zone.changes_before(first);
+    let mut after = zone.changes_after(last);
+    for _ in 0..2 {
+        expect_eq(rt, &row_of(before.next()), &None);
+        expect_eq(rt, &row_of(after.next()), &None);
+    }
 }
 
 /// The change at an instant, by two lookups.
@@ -91,6 +101,24 @@ fn expect_plain(rt: &impl Abort, zone: &TimeZoneRef<'_>, low: i64, seconds: i64)
             &row_of(zone.following(time.saturating_sub(1))),
             &nearest,
         );
+    }
+}
+
+/// Through a span, the changes in turn are those that two lookups find second by second.
+fn expect_plain_in_turn(rt: &impl Abort, zone: &TimeZoneRef<'_>, low: i64, seconds: i64) {
+    let mut after = zone.changes_after(low);
+    for distance in 0..seconds {
+        let change = plain_change(zone, low.saturating_add(distance).saturating_add(1));
+        if change.is_some() {
+            expect_eq_at(rt, &distance, &row_of(after.next()), &change);
+        }
+    }
+    let mut before = zone.changes_before(low.saturating_add(seconds).saturating_add(1));
+    for distance in (0..seconds).rev() {
+        let change = plain_change(zone, low.saturating_add(distance).saturating_add(1));
+        if change.is_some() {
+            expect_eq_at(rt, &distance, &row_of(before.next()), &change);
+        }
     }
 }
 
@@ -222,6 +250,7 @@ fn changes_over_leap_seconds(rt: HostRuntime) -> Result<(), TzError> {
             for instant in [0, 2_419_197, 4_838_396, 7_257_595, 9_676_794i64] {
                 expect_plain(&rt, &zone, instant, 10);
             }
+            expect_plain_in_turn(&rt, &zone, 0, 20);
         }
     }
     Ok(())
@@ -245,6 +274,7 @@ fn changes_with_a_truncated_start(rt: HostRuntime) -> Result<(), TzError> {
     expect_changes(&rt, &zone, i64::MIN, i64::MAX, &ROWS);
     expect_no_others(&rt, &zone, 89_999_995, 89_999_995);
     expect_plain(&rt, &zone, 78_796_790, 10);
+    expect_plain_in_turn(&rt, &zone, 78_796_790, 10);
     Ok(())
 }
 
@@ -264,6 +294,44 @@ fn changes_before_instants_without_leap_time(rt: HostRuntime) -> Result<(), TzEr
         expect_changes(&rt, &zone, i64::MIN, i64::MAX, &[(effect, 0, 7200)]);
         expect_no_others(&rt, &zone, effect, effect);
     }
+    Ok(())
+}
+
+/// What the first changes of an iterator tell are the rows.
+fn expect_rows<'a, I: Iterator<Item = Change<'a>> + Drop>(rt: &impl Abort, changes: I, rows: &[Row])
+    requires { I.can_next changes }
+{
+    for (change, row) in changes.zip(rows) {
+        expect_eq_at(rt, &row.0, &row_of(Some(change)), &Some(*row));
+    }
+}
+
+#[test]
+fn changes_of_owned_zones(rt: HostRuntime) -> Result<(), TzError> {
+    static FORTH: [Row; 3] = [(10, 0, 3600), (30, 3600, 0), (40, 0, 7200)];
+    static BACK: [Row; 3] = [(40, 0, 7200), (30, 3600, 0), (10, 0, 3600)];
+    let alloc = rt.alloc();
+    let transitions = [
+        Transition::new(10, 1),
+        Transition::new(20, 1),
+        Transition::new(30, 0),
+        Transition::new(40, 2),
+    ];
+    let types = three_types()?;
+    let zone = TimeZone::new(
+        Vec::from_slice(alloc, &transitions)?,
+        Vec::from_slice(alloc, &types)?,
+        Vec::new(alloc),
+        Some(TransitionRule::Fixed(types[2])),
+    )?;
+    expect_eq(&rt, &row_of(zone.following(10)), &Some(FORTH[1]));
+    expect_eq(&rt, &row_of(zone.preceding(10)), &None);
+    expect_eq(&rt, &zone.changes_after(i64::MIN).count(), &3);
+    expect_eq(&rt, &zone.changes_before(i64::MAX).count(), &3);
+    expect_rows(&rt, zone.changes_after(i64::MIN), &FORTH);
+    expect_rows(&rt, zone.changes_before(i64::MAX), &BACK);
+    expect_rows(&rt, zone.changes_after(10), &FORTH[1..]);
+    expect_rows(&rt, zone.changes_before(40), &BACK[1..]);
     Ok(())
 }
 

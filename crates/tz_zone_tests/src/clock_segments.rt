@@ -9,7 +9,7 @@ use std::alloc::Global;
 use std::process::Abort;
 use std::test::Fail;
 use tz_base::error::TzError;
-use tz_file_tests::samples::central_europe;
+use tz_samples::rules::central_europe;
 use tz_zone::inner::{ClockSegment, Counted, clock_segment_after, clock_segment_at, other_parts};
 use tz_zone::timezone::{
     AlternateTime, LeapSecond, LocalTimeType, MonthWeekDay, RuleDay, TimeZoneRef, Transition,

@@ -1,4 +1,4 @@
-//! Tests of zones: what is refused, lookups, leap times and segments.
+//! Tests of zones, from TZif files, TZ strings, settings and parts: what is refused, lookups, leap times, segments and changes.
 #![tactic(auto)]
 
 #[cfg(test)]
@@ -10,10 +10,18 @@ mod clock_segments;
 #[cfg(test)]
 mod expect;
 #[cfg(test)]
+mod files;
+#[cfg(test)]
 mod leap_times;
 #[cfg(test)]
 mod owned_zones;
 #[cfg(test)]
 mod segments;
+#[cfg(test)]
+mod settings;
+#[cfg(test)]
+mod tz_files;
+#[cfg(test)]
+mod tz_strings;
 #[cfg(test)]
 mod zones;

@@ -6,7 +6,7 @@ use std::process::Abort;
 use std::test::Fail;
 use tz_base::error::TzError;
 use tz_base::error::timezone::{LocalTimeTypeError, TimeZoneError};
-use tz_base::refusing::Refusing;
+use tz_samples::refusing::Refusing;
 use tz_zone::timezone::{
     LeapSecond, LocalTimeType, TimeZone, TimeZoneRef, Transition, TransitionRule,
 };

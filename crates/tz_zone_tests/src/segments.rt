@@ -3,7 +3,7 @@
 use crate::expect::expect_eq_at;
 use std::process::Abort;
 use tz_base::error::TzError;
-use tz_file_tests::samples::central_europe;
+use tz_samples::rules::central_europe;
 use tz_zone::inner::{segment_at, segment_following};
 use tz_zone::timezone::{
     AlternateTime, LeapSecond, LocalTimeType, MonthWeekDay, RuleDay, TimeZoneRef, Transition,

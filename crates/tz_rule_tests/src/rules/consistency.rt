@@ -1,11 +1,11 @@
 //! Rules whose days are near each other: which are consistent, with one day's time a second earlier, as it is, and a second later.
 
 use crate::expect::expect_eq_at;
-use crate::rows::Day::{self, Julian0 as Z, Julian1 as J, Month as M};
-use crate::rows::day_of;
 use std::process::Abort;
 use tz_base::error::timezone::TransitionRuleError;
 use tz_rule::timezone::{AlternateTime, LocalTimeType};
+use tz_samples::rules::Day::{self, Julian0 as Z, Julian1 as J, Month as M};
+use tz_samples::rules::day_of;
 
 /// A rule day and a day time in whole days.
 type At = (Day, i8);

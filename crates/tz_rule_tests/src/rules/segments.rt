@@ -2,10 +2,10 @@
 
 use super::{ALL_YEAR, AUCKLAND, Parts, expect_made, rule, start_in};
 use crate::expect::expect_eq;
-use crate::rows::Day::{Julian0 as Z, Julian1 as J, Month as M};
 use std::process::Abort;
 use tz_rule::inner;
 use tz_rule::timezone::{AlternateTime, LocalTimeType, TransitionRule};
+use tz_samples::rules::Day::{Julian0 as Z, Julian1 as J, Month as M};
 
 /// The first and the last instant of a segment, and whether it has daylight saving time.
 type Found = (i64, i64, Option<bool>);

@@ -1,11 +1,11 @@
-//! Stretches of rules beside the types at their instants.
+//! Segments of the likely year beside the types at their instants.
 
 use super::{ALL_YEAR, Parts, expect_made, rule, start_in};
 use crate::expect::expect_eq;
-use crate::rows::Day::{Julian0 as Z, Julian1 as J, Month as M};
 use std::process::Abort;
-use tz_rule::inner::{self, Stretch};
+use tz_rule::inner::{self, AlternateSegment};
 use tz_rule::timezone::{AlternateTime, TransitionRule};
+use tz_samples::rules::Day::{Julian0 as Z, Julian1 as J, Month as M};
 
 /// Whether a rule has daylight saving time at an instant.
 fn is_daylight_at(rule: &AlternateTime, unix_time: i64) -> Option<bool> {
@@ -16,31 +16,31 @@ fn is_daylight_at(rule: &AlternateTime, unix_time: i64) -> Option<bool> {
     }
 }
 
-/// Whether the rule has the stretch's type at its ends and at instants between them, and the other type before it and after it.
-fn is_one_span(rule: &AlternateTime, stretch: &Stretch) -> bool {
-    let step = stretch.until.wrapping_sub(stretch.from) / 8;
+/// Whether the rule has the segment's type at its ends and at instants between them, and the other type before it and after it.
+fn is_one_segment(rule: &AlternateTime, segment: &AlternateSegment) -> bool {
+    let step = segment.until.wrapping_sub(segment.from) / 8;
     for part in 0..8i64 {
-        let unix_time = stretch.from.wrapping_add(step.wrapping_mul(part));
-        if is_daylight_at(rule, unix_time) != Some(stretch.is_daylight) {
+        let unix_time = segment.from.wrapping_add(step.wrapping_mul(part));
+        if is_daylight_at(rule, unix_time) != Some(segment.is_daylight) {
             return false;
         }
     }
-    is_daylight_at(rule, stretch.until.wrapping_sub(1)) == Some(stretch.is_daylight)
-        && is_daylight_at(rule, stretch.from.wrapping_sub(1)) == Some(!stretch.is_daylight)
-        && is_daylight_at(rule, stretch.until) == Some(!stretch.is_daylight)
+    is_daylight_at(rule, segment.until.wrapping_sub(1)) == Some(segment.is_daylight)
+        && is_daylight_at(rule, segment.from.wrapping_sub(1)) == Some(!segment.is_daylight)
+        && is_daylight_at(rule, segment.until) == Some(!segment.is_daylight)
 }
 
-/// Whether the stretch around an instant has one type, where one is found or need not be.
+/// Whether the segment around an instant has one type, where one is found or need not be.
 fn is_right(rule: &AlternateTime, unix_time: i64, need_not_be_found: bool) -> bool {
-    match inner::stretch(rule, unix_time) {
-        Some(stretch) => {
-            stretch.from <= unix_time && unix_time < stretch.until && is_one_span(rule, &stretch)
+    match inner::likely_segment(rule, unix_time) {
+        Some(segment) => {
+            segment.from <= unix_time && unix_time < segment.until && is_one_segment(rule, &segment)
         }
         None => need_not_be_found,
     }
 }
 
-/// Whether stretches are right near the start and the end of a year, and near its January 1st.
+/// Whether segments are right near the start and the end of a year, and near its January 1st.
 fn are_right_in(rule: &AlternateTime, year: i32, need_not_be_found: bool) -> bool {
     let Some(new_year) = start_in((Z(0), 0), year) else {
         return false;
@@ -56,7 +56,7 @@ fn are_right_in(rule: &AlternateTime, year: i32, need_not_be_found: bool) -> boo
     true
 }
 
-/// Whether stretches are right in near and far years.
+/// Whether segments are right in near and far years.
 fn are_right(parts: Parts, need_not_be_found: bool) -> bool {
     let Ok(rule) = rule(parts) else {
         return false;
@@ -78,7 +78,7 @@ fn are_right(parts: Parts, need_not_be_found: bool) -> bool {
     true
 }
 
-/// The stretches of each rule are right in near and far years.
+/// The segments of each rule are right in near and far years.
 fn expect_right(rt: &impl Abort, rules: &[Parts], need_not_be_found: bool) {
     for parts in rules {
         assert!(rt; are_right(*parts, need_not_be_found), "{parts:?}");
@@ -89,7 +89,7 @@ fn expect_right(rt: &impl Abort, rules: &[Parts], need_not_be_found: bool) {
 static PARIS: Parts = (3600, 7200, (M(3, 5, 0), 7200), (M(10, 5, 0), 10_800));
 
 #[test]
-fn stretches_lie_between_starts_and_ends(rt: HostRuntime) {
+fn segments_lie_between_starts_and_ends(rt: HostRuntime) {
     static RULES: [Parts; 6] = [
         // Paris, Auckland, Dublin, Fiji.
         (3600, 7200, (M(3, 5, 0), 7200), (M(10, 5, 0), 10_800)),
@@ -104,7 +104,7 @@ fn stretches_lie_between_starts_and_ends(rt: HostRuntime) {
 }
 
 #[test]
-fn stretches_near_the_end_of_the_year_are_right_or_not_found(rt: HostRuntime) {
+fn segments_near_the_end_of_the_year_are_right_or_not_found(rt: HostRuntime) {
     static RULES: [Parts; 5] = [
         // From the new year, to it, and over it.
         (0, 3600, (Z(0), 0), (J(200), 0)),
@@ -117,9 +117,9 @@ fn stretches_near_the_end_of_the_year_are_right_or_not_found(rt: HostRuntime) {
     expect_right(&rt, &RULES, true);
 }
 
-/// The stretch around an instant has these ends and this type.
-fn expect_stretch(rt: &impl Abort, rule: &AlternateTime, unix_time: i64, wanted: (i64, i64, bool)) {
-    let found = inner::stretch(rule, unix_time).map(|found| (
+/// The segment around an instant has these ends and this type.
+fn expect_segment(rt: &impl Abort, rule: &AlternateTime, unix_time: i64, wanted: (i64, i64, bool)) {
+    let found = inner::likely_segment(rule, unix_time).map(|found| (
         found.from,
         found.until,
         found.is_daylight,
@@ -128,17 +128,17 @@ fn expect_stretch(rt: &impl Abort, rule: &AlternateTime, unix_time: i64, wanted:
 }
 
 #[test]
-fn stretches_of_a_summer_and_without_standard_time(rt: HostRuntime) {
+fn segments_of_a_summer_and_without_standard_time(rt: HostRuntime) {
     let paris = expect_made(&rt, rule(PARIS));
     static FAR: [i64; 3] = [i64::MIN, i64::MAX, -60_000_000_000_000_001];
     for unix_time in &FAR {
-        assert!(rt; inner::stretch(&paris, *unix_time).is_none());
+        assert!(rt; inner::likely_segment(&paris, *unix_time).is_none());
     }
     // Daylight saving time of 2024.
     let summer = (1_711_846_800, 1_729_990_800, true);
-    expect_stretch(&rt, &paris, 1_720_000_000, summer);
-    // The span of 2001, where the next one starts when it ends.
+    expect_segment(&rt, &paris, 1_720_000_000, summer);
+    // The segment of 2001, where the next one starts when it ends.
     let all_year = expect_made(&rt, rule(ALL_YEAR));
-    let span = (978_325_200, 1_009_861_200, true);
-    expect_stretch(&rt, &all_year, 1_000_000_000, span);
+    let year = (978_325_200, 1_009_861_200, true);
+    expect_segment(&rt, &all_year, 1_000_000_000, year);
 }

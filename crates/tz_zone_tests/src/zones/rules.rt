@@ -1,7 +1,7 @@
 //! Zones whose rule has two types: what the zone's own lookup finds, and which last transitions such a rule agrees with.
 
 use super::*;
-use tz_file_tests::samples::extended_rule;
+use tz_samples::tz_strings::extended_rule;
 
 /// Central European Time, and other rules whose starts and ends are at given times.
 const CENTRAL_EUROPE: &str = "CET-1CEST,M3.5.0,M10.5.0/3";

@@ -1,0 +1,103 @@
+//! The allocator that refuses, and what collections hold once it has refused.
+
+use crate::expect::{expect_eq, expect_eq_at};
+use std::alloc::{AllocError, Allocator};
+use std::test::Fail;
+use tz_samples::refusing::Refusing;
+
+/// The words, each in room of its own.
+fn strings<A: Allocator + Copy>(alloc: A, words: &[&str]) -> Result<Vec<String<A>, A>, AllocError> {
+    let mut parts = Vec::new(alloc);
+    for word in words {
+        parts.push(String::from_str(alloc, word)?)?;
+    }
+    Ok(parts)
+}
+
+fn joined<A: Allocator + Copy>(alloc: A, words: &[&str]) -> Result<String<A>, AllocError> {
+    let parts = strings(alloc, words)?;
+    let mut text = String::new(alloc);
+    for part in &parts {
+        text.push_str(part.as_str())?;
+    }
+    Ok(text)
+}
+
+#[test]
+fn passes_on_as_many_as_it_was_given(rt: HostRuntime) {
+    for left in 0..4u64 {
+        let heap = Refusing::new(rt.alloc(), left);
+        for asked in 0..6u64 {
+            let passed_on = Box::new(&heap, 7u8).is_ok();
+            expect_eq_at(&rt, &left, &(asked, passed_on), &(asked, asked < left));
+        }
+        expect_eq(&rt, &heap.refused(), &(6 - left));
+    }
+}
+
+/// A vector with room for two numbers and no more.
+fn one_and_two<A: Allocator>(alloc: A) -> Result<Vec<u8, A>, AllocError> {
+    let mut v = Vec::with_capacity(alloc, 2)?;
+    v.push(1)?;
+    v.push(2)?;
+    Ok(v)
+}
+
+#[test]
+fn a_vec_keeps_its_items(rt: HostRuntime) -> Result<(), Fail> {
+    let heap = Refusing::new(rt.alloc(), 1);
+    let mut v = one_and_two(&heap)?;
+    assert!(rt; v.push(3).is_err());
+    expect_eq(&rt, &v.as_slice(), &[1, 2].as_slice());
+    expect_eq(&rt, &heap.refused(), &1);
+    Ok(())
+}
+
+#[test]
+fn a_string_keeps_its_text(rt: HostRuntime) -> Result<(), Fail> {
+    let heap = Refusing::new(rt.alloc(), 1);
+    let mut s = String::from_str(&heap, "ab")?;
+    assert!(rt; s.push_str("a longer text than the first").is_err());
+    expect_eq(&rt, &s.as_str(), &"ab");
+    expect_eq(&rt, &heap.refused(), &1);
+    Ok(())
+}
+
+#[test]
+fn refuses_each_allocation_in_turn(rt: HostRuntime) {
+    static WORDS: [&str; 3] = ["no", "more", "room"];
+    let mut refusals = 0u64;
+    for left in 0..20u64 {
+        let heap = Refusing::new(rt.alloc(), left);
+        match joined(&heap, &WORDS) {
+            Ok(text) => expect_eq(&rt, &text.as_str(), &"nomoreroom"),
+            Err(AllocError) => refusals = left + 1,
+        }
+        expect_eq(&rt, &heap.refused(), &u64::from(left < refusals));
+        expect_eq(&rt, &heap.held(), &0);
+    }
+    assert!(rt; refusals > 3);
+    assert!(rt; refusals < 20);
+}
+
+/// The numbers below 100, in room that is asked for again and again.
+fn hundred<A: Allocator>(alloc: A) -> Result<Vec<u8, A>, AllocError> {
+    let mut v = Vec::with_capacity(alloc, 1)?;
+    for item in 0..100u8 {
+        v.push(item)?;
+    }
+    Ok(v)
+}
+
+#[test]
+fn frees_by_the_inner_allocator(rt: HostRuntime) -> Result<(), Fail> {
+    let inner = Refusing::new(rt.alloc(), 10);
+    let heap = Refusing::new(&inner, 10);
+    let v = hundred(&heap)?;
+    expect_eq(&rt, &v.len(), &100);
+    expect_eq(&rt, &v.last(), &Some(&99));
+    expect_eq(&rt, &(heap.held(), inner.held()), &(1, 1));
+    drop(v);
+    expect_eq(&rt, &(heap.held(), inner.held()), &(0, 0));
+    Ok(())
+}

@@ -1,0 +1,50 @@
+//! Where clocks of a zone change, and the segments between.
+
+use std::alloc::Global;
+use tz::{Change, DateTime, Segment, TimeZoneRef, TzError};
+
+/// When clocks of a zone are set next after an instant, and by how many seconds forward; where this is negative they are set back.
+pub fn next_change(zone: TimeZoneRef<'_>, now: i64) -> Result<Option<(DateTime, i64)>, TzError> {
+    let Some(change) = zone.following(now) else {
+        return Ok(None);
+    };
+    let shown = DateTime::from_timespec(change.unix_time(), 0, zone)?;
+    let seconds = i64::from(change.after().ut_offset()) - i64::from(change.before().ut_offset());
+    Ok(Some((shown, seconds)))
+}
+
+/// All changes of a zone in the 20 years before an instant and at it, and the next two after it.
+pub fn changes_around(
+    alloc: Global,
+    zone: TimeZoneRef<'_>,
+    now: i64,
+) -> Result<Vec<Change<'_>>, TzError> {
+    // 20 years of 365.2425 days.
+    let start = now.saturating_sub(20 * 31_556_952);
+    let mut changes = Vec::new(alloc);
+    for change in zone.changes_after(start) {
+        if now < change.unix_time() {
+            break;
+        }
+        changes.push(change)?;
+    }
+    for change in zone.changes_after(now).take(2) {
+        changes.push(change)?;
+    }
+    Ok(changes)
+}
+
+/// What clocks show at a Unix time of a log. The segment is kept from entry to entry: where the time lies in it, its type is known.
+pub fn show_entry<'a>(
+    zone: TimeZoneRef<'a>,
+    segment: &mut Segment<'a>,
+    unix_time: i64,
+) -> Result<DateTime, TzError> {
+    if !segment.contains(unix_time) {
+        *segment = zone.segment_at(unix_time);
+    }
+    let local_time_type = segment
+        .local_time_type()
+        .ok_or(TzError::NoAvailableLocalTimeType)?;
+    DateTime::from_timespec_and_local(unix_time, 0, *local_time_type)
+}

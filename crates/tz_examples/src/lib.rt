@@ -1,0 +1,17 @@
+//! Examples of the crates `tz` and `tz_query`, each a short function with a test. docs/GUIDE.md leads through them.
+#![tactic(auto)]
+
+#[cfg(test)]
+mod changes;
+#[cfg(test)]
+mod clocks;
+#[cfg(test)]
+mod expect;
+#[cfg(test)]
+mod meetings;
+#[cfg(test)]
+mod queries;
+#[cfg(test)]
+mod tests;
+#[cfg(test)]
+mod zones;

@@ -1,0 +1,257 @@
+//! One test for each example.
+
+use crate::changes::{changes_around, next_change, show_entry};
+use crate::clocks::{new_year_an_hour_behind, print_instant, show_now};
+use crate::expect::expect_eq;
+use crate::meetings::{
+    alarm, count_meanings, next_daily_run, next_monday_at_nine, weekly_meetings,
+};
+use crate::queries::answer_lines;
+use crate::zones::{local_time, local_zone, moved_ahead_in_2000, zone_of_setting};
+use std::alloc::{AllocError, Global};
+use std::fmt::Display;
+use std::process::Abort;
+use std::test::Fail;
+use tz::{Error, TimeZoneRef, TzError, UtcDateTime};
+use tz_samples::files::JERUSALEM_V3;
+
+/// The clocks of central Europe.
+const CENTRAL_EUROPE: &str = "CET-1CEST,M3.5.0,M10.5.0/3";
+
+/// The value prints as the text.
+fn expect_shown(
+    rt: &impl Abort,
+    alloc: Global,
+    value: &impl Display,
+    text: &str,
+) -> Result<(), AllocError> {
+    let shown = format!(in alloc; "{value}")?;
+    expect_eq(rt, &shown.as_str(), &text);
+    Ok(())
+}
+
+/// Clocks of the zone show the text at an instant.
+fn expect_instant(
+    rt: &impl Abort,
+    alloc: Global,
+    zone: TimeZoneRef<'_>,
+    unix_time: i64,
+    text: &str,
+) -> Result<(), TzError> {
+    let shown = print_instant(alloc, zone, unix_time)?;
+    expect_eq(rt, &shown.as_str(), &text);
+    Ok(())
+}
+
+#[test]
+fn instants_are_shown(rt: HostRuntime) -> Result<(), Fail> {
+    static MOVED: [(i64, &str); 2] = [
+        (946_684_799, "2000-01-01T00:59:59.000000000+01:00"),
+        (946_684_800, "2000-01-01T02:00:00.000000000+02:00"),
+    ];
+    let alloc = rt.alloc();
+    let local = local_time(alloc, JERUSALEM_V3, 2_216_073_600)?;
+    expect_shown(&rt, alloc, &local, "2040-03-23T03:00:00.000000000+03:00")?;
+    let behind = new_year_an_hour_behind(alloc)?;
+    expect_shown(&rt, alloc, &behind, "2023-12-31T23:00:00.000000000-01:00")?;
+    for &(unix_time, text) in MOVED.iter() {
+        expect_shown(&rt, alloc, &moved_ahead_in_2000(unix_time)?, text)?;
+    }
+    let zone = zone_of_setting(&rt, alloc, CENTRAL_EUROPE)?;
+    expect_instant(
+        &rt,
+        alloc,
+        zone.as_ref(),
+        954_032_400,
+        "2000-03-26T03:00:00.000000000+02:00 CEST",
+    )?;
+    assert!(rt; show_now(&rt, zone.as_ref())?.unix_time() > 1_700_000_000);
+    Ok(())
+}
+
+#[test]
+fn query_lines_are_answered(rt: HostRuntime) -> Result<(), Fail> {
+    let answers = answer_lines(rt.alloc(), JERUSALEM_V3, b"T 2216073600 0\nT\n")?;
+    let wanted = b"2040-03-23T03:00:00.000000000+03:00 IDT\nE Line\n";
+    expect_eq(&rt, &answers.as_slice(), &wanted.as_slice());
+    Ok(())
+}
+
+#[test]
+fn the_machine_s_zone_is_found_or_its_file_is_missing(rt: HostRuntime) {
+    let found = local_zone(&rt, rt.alloc());
+    assert!(rt; matches!(&found, Ok(_) | Err(Error::Io(_))));
+}
+
+/// Alarms of central Europe ring at their instants, and their local times have as many meanings as they should.
+fn expect_alarms(rt: &impl Abort, alloc: Global, zone: TimeZoneRef<'_>) -> Result<(), TzError> {
+    // Month, day, hour and minute in 2000, with the instant at which the alarm rings, and the number of meanings.
+    static ALARMS: [((u8, u8, u8, u8), i64, usize); 3] = [
+        // Clocks go forward from 2:00 to 3:00.
+        ((3, 26, 2, 30), 954_032_400, 1),
+        // Clocks go back from 3:00 to 2:00.
+        ((10, 29, 2, 30), 972_779_400, 2),
+        ((7, 1, 0, 0), 962_402_400, 1),
+    ];
+    for &((month, month_day, hour, minute), instant, meanings) in ALARMS.iter() {
+        let local = UtcDateTime::new(2000, month, month_day, hour, minute, 0, 0)?;
+        let rings = alarm(alloc, zone, local)?;
+        expect_eq(rt, &rings.map(|alarm| alarm.unix_time()), &Some(instant));
+        expect_eq(rt, &count_meanings(zone, local)?, &meanings);
+    }
+    Ok(())
+}
+
+#[test]
+fn alarms_ring_in_gaps_and_folds(rt: HostRuntime) -> Result<(), Fail> {
+    let alloc = rt.alloc();
+    let zone = zone_of_setting(&rt, alloc, CENTRAL_EUROPE)?;
+    expect_alarms(&rt, alloc, zone.as_ref())?;
+    Ok(())
+}
+
+/// Jobs of every day at half past these hours run next at the texts after the instants.
+fn expect_runs(
+    rt: &impl Abort,
+    alloc: Global,
+    zone: TimeZoneRef<'_>,
+    rows: &[(u8, i64, &str)],
+) -> Result<(), TzError> {
+    for &(hour, now, text) in rows.iter() {
+        let run = next_daily_run(zone, hour, 30, now)?;
+        assert!(rt; run.is_some());
+        for run in run.iter() {
+            expect_shown(rt, alloc, run, text)?;
+        }
+    }
+    Ok(())
+}
+
+#[test]
+fn daily_jobs_run_once_in_gaps_and_folds(rt: HostRuntime) -> Result<(), Fail> {
+    static NEW_YORK: [(u8, i64, &str); 6] = [
+        // Noon of March 7th; clocks go forward from 2:00 to 3:00 in the night that follows.
+        (2, 1_772_902_800, "2026-03-08T03:30:00.000000000-04:00"),
+        (2, 1_772_954_999, "2026-03-08T03:30:00.000000000-04:00"),
+        (2, 1_772_955_000, "2026-03-09T02:30:00.000000000-04:00"),
+        // Noon of October 31st; clocks go back from 2:00 to 1:00 in the night that follows, so that 1:30 is shown twice.
+        (1, 1_793_462_400, "2026-11-01T01:30:00.000000000-04:00"),
+        (1, 1_793_511_000, "2026-11-02T01:30:00.000000000-05:00"),
+        (1, 1_793_514_600, "2026-11-02T01:30:00.000000000-05:00"),
+    ];
+    // Clocks go forward from 23:00 to midnight, as in Scoresbysund, and midnight itself is the first instant.
+    static OVER_MIDNIGHT: [(u8, i64, &str); 2] = [
+        (23, 1_743_296_400, "2025-03-30T00:30:00.000000000-01:00"),
+        (23, 1_743_298_200, "2025-03-30T23:30:00.000000000-01:00"),
+    ];
+    let alloc = rt.alloc();
+    let zone = zone_of_setting(&rt, alloc, "EST5EDT,M3.2.0,M11.1.0")?;
+    expect_runs(&rt, alloc, zone.as_ref(), &NEW_YORK)?;
+    let zone = zone_of_setting(&rt, alloc, "<-02>2<-01>,M3.5.6/23,M10.5.0/0")?;
+    expect_runs(&rt, alloc, zone.as_ref(), &OVER_MIDNIGHT)?;
+    Ok(())
+}
+
+/// Meetings at 9:00 in central Europe stay there where clocks go forward.
+fn expect_meetings(rt: &impl Abort, alloc: Global, zone: TimeZoneRef<'_>) -> Result<(), TzError> {
+    static SHOWN: [&str; 3] = [
+        "2000-03-19T09:00:00.000000000+01:00",
+        "2000-03-26T09:00:00.000000000+02:00",
+        "2000-04-02T09:00:00.000000000+02:00",
+    ];
+    let first = UtcDateTime::new(2000, 3, 19, 9, 0, 0, 0)?;
+    let meetings = weekly_meetings(alloc, zone, first, 3)?;
+    expect_eq(rt, &meetings.len(), &SHOWN.len());
+    for (meeting, text) in meetings.iter().zip(SHOWN.iter()) {
+        expect_shown(rt, alloc, meeting, text)?;
+    }
+    Ok(())
+}
+
+/// The next Monday at 9:00 in central Europe is found.
+fn expect_mondays(rt: &impl Abort, zone: TimeZoneRef<'_>) -> Result<(), TzError> {
+    static MONDAYS: [(i64, i64); 3] = [
+        // A Sunday; Monday at 9:00 itself; one second before it.
+        (954_032_400, 954_140_400),
+        (954_140_400, 954_745_200),
+        (954_140_399, 954_140_400),
+    ];
+    for &(now, monday) in MONDAYS.iter() {
+        let next = next_monday_at_nine(zone, now)?;
+        expect_eq(rt, &next.map(|next| next.unix_time()), &Some(monday));
+    }
+    Ok(())
+}
+
+#[test]
+fn meetings_keep_their_local_time(rt: HostRuntime) -> Result<(), Fail> {
+    let alloc = rt.alloc();
+    let zone = zone_of_setting(&rt, alloc, CENTRAL_EUROPE)?;
+    expect_meetings(&rt, alloc, zone.as_ref())?;
+    expect_mondays(&rt, zone.as_ref())?;
+    Ok(())
+}
+
+/// Clocks of central Europe are set next so, with the seconds by which they go forward.
+fn expect_next_changes(
+    rt: &impl Abort,
+    alloc: Global,
+    zone: TimeZoneRef<'_>,
+) -> Result<(), TzError> {
+    static CHANGES: [(i64, &str, i64); 2] = [
+        (954_032_399, "2000-03-26T03:00:00.000000000+02:00", 3600),
+        (954_032_400, "2000-10-29T02:00:00.000000000+01:00", -3600),
+    ];
+    for &(now, text, seconds) in CHANGES.iter() {
+        let found = next_change(zone, now)?;
+        assert!(rt; found.is_some());
+        for (shown, forward) in found.iter() {
+            expect_shown(rt, alloc, shown, text)?;
+            expect_eq(rt, forward, &seconds);
+        }
+    }
+    Ok(())
+}
+
+/// The changes around one of the year 2000 begin in 1980, and go on until 2001.
+fn expect_changes_around(
+    rt: &impl Abort,
+    alloc: Global,
+    zone: TimeZoneRef<'_>,
+) -> Result<(), TzError> {
+    let changes = changes_around(alloc, zone, 954_032_400)?;
+    expect_eq(rt, &changes.len(), &43);
+    let first = changes.first().map(|change| change.unix_time());
+    expect_eq(rt, &first, &Some(323_226_000));
+    let last = changes.last().map(|change| change.unix_time());
+    expect_eq(rt, &last, &Some(985_482_000));
+    Ok(())
+}
+
+/// The entries of a log are shown as lookups show them.
+fn expect_entries(rt: &impl Abort, alloc: Global, zone: TimeZoneRef<'_>) -> Result<(), TzError> {
+    static ENTRIES: [(i64, &str); 4] = [
+        (954_032_398, "2000-03-26T01:59:58.000000000+01:00"),
+        (954_032_399, "2000-03-26T01:59:59.000000000+01:00"),
+        (954_032_400, "2000-03-26T03:00:00.000000000+02:00"),
+        (954_032_399, "2000-03-26T01:59:59.000000000+01:00"),
+    ];
+    let mut segment = zone.segment_at(0);
+    for &(unix_time, text) in ENTRIES.iter() {
+        let shown = show_entry(zone, &mut segment, unix_time)?;
+        expect_shown(rt, alloc, &shown, text)?;
+    }
+    Ok(())
+}
+
+#[test]
+fn changes_are_found(rt: HostRuntime) -> Result<(), Fail> {
+    let alloc = rt.alloc();
+    let zone = zone_of_setting(&rt, alloc, CENTRAL_EUROPE)?;
+    expect_next_changes(&rt, alloc, zone.as_ref())?;
+    expect_changes_around(&rt, alloc, zone.as_ref())?;
+    expect_entries(&rt, alloc, zone.as_ref())?;
+    let zone = zone_of_setting(&rt, alloc, "UTC0")?;
+    expect_eq(&rt, &next_change(zone.as_ref(), 0)?.is_none(), &true);
+    Ok(())
+}

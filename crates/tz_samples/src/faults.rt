@@ -1,0 +1,43 @@
+//! Refusals that can be compared.
+
+use tz_base::error::parse::{TzFileError, TzStringError};
+use tz_base::error::timezone::{LocalTimeTypeError, TimeZoneError, TransitionRuleError};
+use tz_base::error::{Error, TzError};
+
+/// A refusal that can be compared.
+#[derive(Debug, Drop, PartialEq, Eq)]
+pub enum Fault {
+    File(TzFileError),
+    Number,
+    Text(TzStringError),
+    Type(LocalTimeTypeError),
+    Rule(TransitionRuleError),
+    Zone(TimeZoneError),
+    NoType,
+    Memory,
+    Io,
+    Other,
+}
+
+/// The refusal, to be compared.
+pub fn named(error: TzError) -> Fault {
+    match error {
+        TzError::TzFile(part) => Fault::File(part),
+        TzError::TzString(TzStringError::ParseInt(_)) => Fault::Number,
+        TzError::TzString(part) => Fault::Text(part),
+        TzError::LocalTimeType(part) => Fault::Type(part),
+        TzError::TransitionRule(part) => Fault::Rule(part),
+        TzError::TimeZone(part) => Fault::Zone(part),
+        TzError::NoAvailableLocalTimeType => Fault::NoType,
+        TzError::Memory(_) => Fault::Memory,
+        _ => Fault::Other,
+    }
+}
+
+/// The refusal of the settings, to be compared.
+pub fn named_by_settings(error: Error) -> Fault {
+    match error {
+        Error::Io(_) => Fault::Io,
+        Error::Tz(error) => named(error),
+    }
+}

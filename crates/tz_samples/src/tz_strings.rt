@@ -1,0 +1,32 @@
+//! The zones and the rules that TZ strings denote.
+
+use crate::files::without_transitions;
+use anyhow::anyhow;
+use std::alloc::Global;
+use tz_base::error::{Error, ReadFault, TzError};
+use tz_zone::timezone::{TimeZone, TransitionRule};
+
+/// The zone that the settings read in an ordinary text, where no file can be read.
+fn ordinary_zone(alloc: Global, text: &str) -> Result<TimeZone, Error> {
+    let no_file = |_: &str| Err(ReadFault::Failed(anyhow!("no file")));
+    TimeZone::from_posix_tz(alloc, no_file, text)
+}
+
+/// The rule of an ordinary text.
+pub fn ordinary_rule(alloc: Global, text: &str) -> Result<Option<TransitionRule>, Error> {
+    let zone = ordinary_zone(alloc, text)?;
+    Ok(*zone.as_ref().extra_rule())
+}
+
+/// The rule that a file of version 3 has in its footer, where day times are of up to a week.
+pub fn extended_rule(alloc: Global, text: &str) -> Result<Option<TransitionRule>, TzError> {
+    let footer = format!(in alloc; "\n{text}\n")?;
+    let bytes = without_transitions(alloc, b'3', footer.as_bytes())?;
+    let zone = TimeZone::from_tz_data(alloc, &bytes)?;
+    Ok(*zone.as_ref().extra_rule())
+}
+
+/// The zone of `CET-1CEST,M3.5.0,M10.5.0/3`.
+pub fn central_europe_zone(alloc: Global) -> Result<TimeZone, Error> {
+    ordinary_zone(alloc, "CET-1CEST,M3.5.0,M10.5.0/3")
+}

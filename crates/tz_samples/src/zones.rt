@@ -1,0 +1,99 @@
+//! Zones and their parts as rows of tables, beside the rows of rules.
+//!
+//! No proof walks through a static, which holds no type with a model, such as a transition. So tables of tests hold these rows, and functions make
+//! of them what they stand for.
+
+use crate::rules::{RuleRow, TypeRow, rule_of, type_of};
+use std::alloc::{AllocError, Global};
+use tz_base::error::TzError;
+use tz_zone::timezone::{LeapSecond, LocalTimeType, TimeZone, Transition, TransitionRule};
+
+/// The rule after a zone's last transition.
+pub enum ExtraRule {
+    Fixed(TypeRow),
+    Alternate(RuleRow),
+}
+
+/// The parts of a zone.
+pub struct ZoneRow {
+    pub types: &'static [TypeRow],
+    /// Leap times, and the places of the types.
+    pub transitions: &'static [(i64, usize)],
+    /// Leap times, and corrections.
+    pub leap_seconds: &'static [(i64, i32)],
+    pub extra_rule: Option<ExtraRule>,
+}
+
+/// A zone with jumps over the same hour.
+pub static CROSSING: ZoneRow = ZoneRow {
+    types: &[
+        (0, false, None),
+        (3600, false, None),
+        (-10_800, false, None),
+        (-19_800, false, None),
+        (-16_200, false, None),
+    ],
+    transitions: &[
+        (0, 0),
+        (7200, 1),
+        (14_400, 2),
+        (25_200, 3),
+        (28_800, 4),
+        (32_400, 0),
+    ],
+    leap_seconds: &[],
+    extra_rule: None,
+};
+
+/// The local time types of rows.
+pub fn types_of(alloc: Global, rows: &[TypeRow]) -> Result<Vec<LocalTimeType>, TzError> {
+    let mut types = Vec::new(alloc);
+    for row in rows {
+        types.push(type_of(row)?)?;
+    }
+    Ok(types)
+}
+
+/// The transitions at these leap times, to the types at these places.
+pub fn transitions_of(alloc: Global, rows: &[(i64, usize)]) -> Result<Vec<Transition>, AllocError> {
+    let mut transitions = Vec::new(alloc);
+    for &(unix_leap_time, place) in rows {
+        transitions.push(Transition::new(unix_leap_time, place))?;
+    }
+    Ok(transitions)
+}
+
+/// The leap seconds with these leap times and corrections.
+pub fn leap_seconds_of(alloc: Global, rows: &[(i64, i32)]) -> Result<Vec<LeapSecond>, AllocError> {
+    let mut leap_seconds = Vec::new(alloc);
+    for &(unix_leap_time, correction) in rows {
+        leap_seconds.push(LeapSecond::new(unix_leap_time, correction))?;
+    }
+    Ok(leap_seconds)
+}
+
+/// The rule after the last transition, if there is one.
+pub fn extra_rule_of(row: &Option<ExtraRule>) -> Result<Option<TransitionRule>, TzError> {
+    Ok(match row {
+        None => None,
+        Some(ExtraRule::Fixed(row)) => Some(TransitionRule::Fixed(type_of(row)?)),
+        Some(ExtraRule::Alternate(row)) => Some(TransitionRule::Alternate(rule_of(row)?)),
+    })
+}
+
+/// The zone of a row, with this rule in the place of its own.
+pub fn zone_with_rule(
+    alloc: Global,
+    row: &ZoneRow,
+    extra_rule: Option<TransitionRule>,
+) -> Result<TimeZone, TzError> {
+    let types = types_of(alloc, row.types)?;
+    let leap_seconds = leap_seconds_of(alloc, row.leap_seconds)?;
+    let transitions = transitions_of(alloc, row.transitions)?;
+    TimeZone::new(transitions, types, leap_seconds, extra_rule)
+}
+
+/// The zone of a row.
+pub fn zone_of(alloc: Global, row: &ZoneRow) -> Result<TimeZone, TzError> {
+    zone_with_rule(alloc, row, extra_rule_of(&row.extra_rule)?)
+}

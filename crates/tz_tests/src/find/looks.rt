@@ -1,0 +1,261 @@
+//! Counted looks of searches, beside bounds that are computed from all transitions.
+
+use super::*;
+use crate::expect::expect_eq;
+use crate::zones::ONE_EFFECT;
+use tz::datetime::UtcDateTime;
+use tz_base::calendar::Fields;
+use tz_zone::inner::effect;
+
+/// The least and the greatest offset of the zone.
+fn offsets(zone: TimeZoneRef<'_>) -> (i32, i32) {
+    let (mut least, mut greatest) = (i32::MAX, i32::MIN);
+    for local_time_type in zone.local_time_types() {
+        least = least.min(local_time_type.ut_offset());
+        greatest = greatest.max(local_time_type.ut_offset());
+    }
+    match zone.extra_rule() {
+        Some(TransitionRule::Fixed(fixed)) => {
+            (
+                least.min(fixed.ut_offset()),
+                greatest.max(fixed.ut_offset()),
+            )
+        }
+        Some(TransitionRule::Alternate(rule)) => {
+            let (std, dst) = (rule.std().ut_offset(), rule.dst().ut_offset());
+            (least.min(std).min(dst), greatest.max(std).max(dst))
+        }
+        None => (least, greatest),
+    }
+}
+
+/// The number of transitions that take effect in the window of a reading.
+fn effects_around(zone: TimeZoneRef<'_>, reading: i64) -> u64 {
+    let (least, greatest) = offsets(zone);
+    let low = i128::from(reading) - i128::from(greatest);
+    let high = i128::from(reading) - i128::from(least);
+    let mut count = 0u64;
+    for transition in zone.transitions() {
+        if let Ok(unix_time) = effect(zone.leap_seconds(), transition.unix_leap_time()) {
+            if low <= i128::from(unix_time) && i128::from(unix_time) <= high {
+                count = count.wrapping_add(1);
+            }
+        }
+    }
+    count
+}
+
+/// The number of binary digits.
+fn digits(len: usize) -> u64 {
+    u64::from(usize::BITS - len.leading_zeros())
+}
+
+/// The most looks that a search of a reading may take.
+fn most_looks(zone: TimeZoneRef<'_>, reading: i64) -> u64 {
+    digits(zone.transitions().len())
+        .wrapping_mul(2)
+        .wrapping_add(effects_around(zone, reading))
+        .wrapping_add(4)
+}
+
+/// The counted search finds what `find_n` finds, and its number is within the bounds.
+pub(super) fn expect_counted(
+    rt: &impl Abort,
+    buf: &mut [Option<FoundDateTimeKind>],
+    zone: TimeZoneRef<'_>,
+    reading: Reading,
+    expected: &[Summary],
+) -> Result<u64, TzError> {
+    let slots = buf.len();
+    let (year, month, month_day, hour, minute, second) = reading;
+    let (list, looks) = DateTime::find_n_counted(
+        buf, year, month, month_day, hour, minute, second, 0, zone,
+    )?;
+    expect_eq(rt, &facts(&list), &facts_of(expected, slots));
+    assert!(rt; are_written(list.data(), expected));
+    let fields = Fields {
+        year,
+        month,
+        month_day,
+        hour,
+        minute,
+        second,
+        nanoseconds: 0,
+    };
+    assert!(rt; looks <= most_looks(zone, fields.reading()));
+    expect_eq(rt, &(looks == 0), &zone.transitions().is_empty());
+    Ok(looks)
+}
+
+/// When the transition at a place takes effect.
+fn seconds_to(place: usize) -> i64 {
+    i64::try_from(place).unwrap_or(0).wrapping_mul(1_000_000)
+}
+
+/// This many transitions, a million seconds apart, between two types that are an hour apart.
+fn alternating(alloc: Global, len: usize) -> Result<Vec<Transition>, AllocError> {
+    let mut transitions = Vec::new(alloc);
+    for place in 0..len {
+        let unix_leap_time = seconds_to(place);
+        transitions.push(Transition::new(unix_leap_time, place % 2))?;
+    }
+    Ok(transitions)
+}
+
+fn hour_apart() -> Result<[LocalTimeType; 2], TzError> {
+    Ok([
+        LocalTimeType::with_ut_offset(0)?,
+        LocalTimeType::with_ut_offset(3600)?,
+    ])
+}
+
+#[test]
+fn a_thousand_transitions(rt: HostRuntime) -> Result<(), Fail> {
+    // An hour that is shown twice, and one that is left out.
+    static ROWS: [(Reading, &[Summary]); 2] = [
+        (
+            (1985, 11, 5, 1, 23, 20),
+            &[(499_998_200, 3600, 3600), (500_001_800, 0, 0)],
+        ),
+        ((1985, 11, 16, 15, 0, 0), &[(501_000_000, 0, 3600)]),
+    ];
+    let types = hour_apart()?;
+    let transitions = alternating(rt.alloc(), 1024)?;
+    let rule = None;
+    let zone = TimeZoneRef::new(transitions.as_slice(), &types, &[], &rule)?;
+    let held = Some(held()?);
+    for (reading, expected) in &ROWS {
+        let looks = expect_counted(&rt, &mut [held, held], zone, *reading, expected)?;
+        assert!(rt; 1 <= looks && looks <= 27);
+    }
+    Ok(())
+}
+
+/// The fields that read a number of seconds after 1970.
+fn reading_of(seconds: i64) -> Result<Reading, TzError> {
+    let fields = UtcDateTime::from_timespec(seconds, 0)?;
+    let (hour, minute, second) = (fields.hour(), fields.minute(), fields.second());
+    let (year, month, month_day) = (fields.year(), fields.month(), fields.month_day());
+    Ok((year, month, month_day, hour, minute, second))
+}
+
+/// Searches around an instant of the table find what `find` finds.
+fn expect_around(
+    rt: &impl Abort,
+    alloc: Global,
+    zone: TimeZoneRef<'_>,
+    start: i64,
+) -> Result<(), TzError> {
+    static SHIFTS: [i64; 6] = [-1, 0, 1800, 3599, 3600, 3601];
+    for shift in &SHIFTS {
+        let reading = reading_of(start.wrapping_add(*shift))?;
+        let expected = summaries(alloc, find(alloc, zone, reading)?)?;
+        expect_counted(rt, &mut [None, None], zone, reading, expected.as_slice())?;
+    }
+    Ok(())
+}
+
+/// Searches near the front, in the middle and past the end of a table find what `find` finds.
+fn expect_ends(rt: &impl Abort, alloc: Global, len: usize) -> Result<(), TzError> {
+    let types = hour_apart()?;
+    let transitions = alternating(alloc, len)?;
+    let rule = None;
+    let zone = TimeZoneRef::new(transitions.as_slice(), &types, &[], &rule)?;
+    let past = seconds_to(len);
+    for start in [-1_000_000, 0, 500_000, past.wrapping_sub(1_000_000), past] {
+        expect_around(rt, alloc, zone, start)?;
+    }
+    Ok(())
+}
+
+#[test]
+fn tables_around_powers_of_two(rt: HostRuntime) -> Result<(), Fail> {
+    static LENGTHS: [usize; 15] = [0, 1, 2, 3, 4, 5, 7, 8, 9, 31, 32, 33, 127, 128, 129];
+    for len in &LENGTHS {
+        expect_ends(&rt, rt.alloc(), *len)?;
+    }
+    Ok(())
+}
+
+#[test]
+fn transitions_of_one_effect_are_each_looked_at(rt: HostRuntime) -> Result<(), Fail> {
+    static JUMP: [Summary; 1] = [(100, 0, 7200)];
+    let zone = zone_of(rt.alloc(), &ONE_EFFECT)?;
+    let zone = zone.as_ref();
+    let looks = expect_counted(&rt, &mut [None; 1], zone, (1970, 1, 1, 1, 8, 20), &JUMP)?;
+    assert!(rt; 2 <= looks);
+    Ok(())
+}
+
+/// The counted search finds the hour that Central Europe's rule leaves out in 2400, after these transitions.
+fn expect_gap_of_2400(rt: &impl Abort, transitions: &[Transition]) -> Result<u64, TzError> {
+    static GAP: [Summary; 1] = [(13_576_813_200, 3600, 7200)];
+    let rule = central_europe()?;
+    let types = [*rule.std(), *rule.dst()];
+    let rule = Some(TransitionRule::Alternate(rule));
+    let zone = TimeZoneRef::new(transitions, &types, &[], &rule)?;
+    expect_counted(rt, &mut [None; 3], zone, (2400, 3, 26, 2, 30, 0), &GAP)
+}
+
+#[test]
+fn a_rule_s_own_years_take_looks_at_the_last_transitions_alone(
+    rt: HostRuntime,
+) -> Result<(), Fail> {
+    expect_gap_of_2400(&rt, &[Transition::new(0, 0)])?;
+    expect_gap_of_2400(&rt, &[])?;
+    Ok(())
+}
+
+/// The text of the error, if there is one.
+fn text_of_error(alloc: Global, error: Option<TzError>) -> Result<Option<String>, AllocError> {
+    error.map(|error| format!(in alloc; "{error}")).transpose()
+}
+
+/// The counted search is refused as `find_n` is, and leaves the slots as they were.
+#[test]
+fn refused_fields_are_refused_alike(rt: HostRuntime) -> Result<(), Fail> {
+    static ROWS: [(Reading, u32); 6] = [
+        ((2001, 13, 1, 0, 0, 0), 0),
+        ((2001, 2, 29, 0, 0, 0), 0),
+        ((2001, 1, 1, 24, 0, 0), 0),
+        ((2001, 1, 1, 0, 60, 0), 0),
+        ((2001, 1, 1, 0, 0, 61), 0),
+        ((2001, 1, 1, 0, 0, 0), 1_000_000_000),
+    ];
+    let zone = TimeZoneRef::utc();
+    for (reading, nanoseconds) in &ROWS {
+        let (year, month, month_day, hour, minute, second) = *reading;
+        let mut plain = [Some(held()?)];
+        let mut counted = [Some(held()?)];
+        let refused = DateTime::find_n(
+            &mut plain,
+            year,
+            month,
+            month_day,
+            hour,
+            minute,
+            second,
+            *nanoseconds,
+            zone,
+        )
+        .err();
+        let refused_counted = DateTime::find_n_counted(
+            &mut counted,
+            year,
+            month,
+            month_day,
+            hour,
+            minute,
+            second,
+            *nanoseconds,
+            zone,
+        )
+        .err();
+        assert!(rt; refused.is_some());
+        let refused = text_of_error(rt.alloc(), refused)?;
+        let refused_counted = text_of_error(rt.alloc(), refused_counted)?;
+        expect_eq(&rt, &refused, &refused_counted);
+        assert!(rt; are_written(&counted, &[]));
+    }
+    Ok(())
+}

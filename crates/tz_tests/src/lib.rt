@@ -1,0 +1,23 @@
+//! Tests of date times, of printed text, and of searches by rows and beside a plain filter.
+#![tactic(auto)]
+
+#[cfg(test)]
+mod date_times;
+#[cfg(test)]
+mod expect;
+#[cfg(test)]
+mod filter;
+#[cfg(test)]
+mod find;
+#[cfg(test)]
+mod meanings;
+#[cfg(test)]
+mod memory;
+#[cfg(test)]
+mod printed;
+#[cfg(test)]
+mod searches;
+#[cfg(test)]
+mod tz_strings;
+#[cfg(test)]
+mod zones;

@@ -1,0 +1,87 @@
+//! The reader of files, over readers in memory that fail.
+
+use crate::expect::{expect_eq, expect_eq_at};
+use std::alloc::{Allocator, Global};
+use std::io::{self, Read};
+use std::test::Fail;
+use tz_base::error::ReadFault;
+use tz_samples::refusing::Refusing;
+use tz_zone::inner::read_to_end;
+
+/// A reader over bytes, which gives ten of them at most at once and fails when it was called a number of times.
+#[derive(Drop)]
+struct Input<'a> {
+    rest: &'a [u8],
+    calls_left: u64,
+}
+
+impl Read for Input<'_> {
+    fn read(&mut self, buf: &mut [u8]) -> io::Result<usize> {
+        let Some(left) = self.calls_left.checked_sub(1) else {
+            return Err(io::Error::other("the disk is gone"));
+        };
+        self.calls_left = left;
+        let count = self.rest.len().min(buf.len()).min(10);
+        buf[..count].copy_from_slice(&self.rest[..count]);
+        self.rest = &self.rest[count..];
+        Ok(count)
+    }
+}
+
+/// What was read, or the name of the fault.
+fn named<A: Allocator>(alloc: Global, read: Result<Vec<u8, A>, ReadFault>) -> Result<String, Fail> {
+    Ok(match read {
+        Ok(bytes) => String::from_str(alloc, std::str::from_utf8(&bytes)?)?,
+        Err(ReadFault::Memory(_)) => String::from_str(alloc, "no memory")?,
+        Err(ReadFault::Failed(fault)) => format!(in alloc; "failed: {fault}")?,
+    })
+}
+
+#[test]
+fn a_reader_is_read_to_its_end_or_fails(rt: HostRuntime) -> Result<(), Fail> {
+    const TEXT: &str = "three and twenty bytes.";
+    static ROWS: [(u64, &str); 4] = [
+        (0, "failed: the disk is gone"),
+        (1, "failed: the disk is gone"),
+        (3, "failed: the disk is gone"),
+        (4, TEXT),
+    ];
+    let alloc = rt.alloc();
+    for (calls_left, wanted) in &ROWS {
+        let mut input = Input {
+            rest: TEXT.as_bytes(),
+            calls_left: *calls_left,
+        };
+        let read = named(alloc, read_to_end(alloc, &mut input))?;
+        expect_eq_at(&rt, calls_left, &read.as_str(), wanted);
+    }
+    Ok(())
+}
+
+#[test]
+fn each_growth_can_be_refused(rt: HostRuntime) -> Result<(), Fail> {
+    let alloc = rt.alloc();
+    let text = [b'a'; 500];
+    let mut refusals = 0u64;
+    for left in 0..30u64 {
+        let heap = Refusing::new(alloc, left);
+        let mut input = Input {
+            rest: &text,
+            calls_left: 100,
+        };
+        match read_to_end(&heap, &mut input) {
+            Ok(bytes) => expect_eq(&rt, &bytes.as_slice(), &text.as_slice()),
+            Err(fault) => {
+                assert!(rt; matches!(fault, ReadFault::Memory(_)), "{left}");
+                refusals = left + 1;
+            }
+        }
+        expect_eq(
+            &rt,
+            &(heap.refused(), heap.held()),
+            &(u64::from(left < refusals), 0),
+        );
+    }
+    assert!(rt; (2..30).contains(&refusals));
+    Ok(())
+}

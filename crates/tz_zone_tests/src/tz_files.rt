@@ -1,0 +1,446 @@
+//! TZif files: vectors and the zones that they denote, footers, and refused memory.
+
+use crate::expect::{expect_eq, expect_eq_at};
+use std::alloc::{AllocError, Global};
+use std::process::Abort;
+use std::test::Fail;
+use tz_base::error::TzError;
+use tz_base::error::parse::{ParseDataError, TzFileError, TzStringError};
+use tz_base::error::timezone::{LocalTimeTypeError, TimeZoneError};
+use tz_samples::faults::{Fault, named};
+use tz_samples::files::{push_header, utc_v1, without_transitions};
+use tz_samples::refusing::Refusing;
+use tz_samples::rules::{Day, RuleRow, rule_of};
+use tz_zone::timezone::{
+    LeapSecond, LocalTimeType, TimeZone, TimeZoneRef, Transition, TransitionRule,
+};
+
+/// How the bytes are refused.
+fn fault_of(alloc: Global, bytes: &[u8]) -> Option<Fault> {
+    TimeZone::from_tz_data(alloc, bytes).err().map(named)
+}
+
+/// Bytes are missing: a row of a table says so.
+const CUT: Option<Fault> = Some(Fault::File(TzFileError::ParseData(ParseDataError::UnexpectedEof)));
+
+/// Bytes are missing.
+fn is_cut() -> Option<Fault> {
+    CUT
+}
+
+/// The times of the 27 leap seconds up to 2017, each of one second more.
+static LEAP_TIMES: [i32; 27] = [
+    78_796_800,
+    94_694_401,
+    126_230_402,
+    157_766_403,
+    189_302_404,
+    220_924_805,
+    252_460_806,
+    283_996_807,
+    315_532_808,
+    362_793_609,
+    394_329_610,
+    425_865_611,
+    489_024_012,
+    567_993_613,
+    631_152_014,
+    662_688_015,
+    709_948_816,
+    741_484_817,
+    773_020_818,
+    820_454_419,
+    867_715_220,
+    915_148_821,
+    1_136_073_622,
+    1_230_768_023,
+    1_341_100_824,
+    1_435_708_825,
+    1_483_228_826,
+];
+
+/// UTC with its leap seconds, and both indicators.
+fn utc_v1_leap(alloc: Global) -> Result<Vec<u8>, AllocError> {
+    let mut bytes = Vec::new(alloc);
+    push_header(&mut bytes, 0, &[1, 1, 27, 0, 1, 4])?;
+    bytes.extend_from_slice(b"\0\0\0\0\0\0UTC\0")?;
+    let mut correction = 0u32;
+    for time in &LEAP_TIMES {
+        correction = correction.saturating_add(1);
+        bytes.extend_from_slice(&time.to_be_bytes())?;
+        bytes.extend_from_slice(&correction.to_be_bytes())?;
+    }
+    bytes.extend_from_slice(&[0, 0])?;
+    Ok(bytes)
+}
+
+/// The bytes with one of them changed.
+fn with_byte(alloc: Global, bytes: &[u8], place: usize, byte: u8) -> Result<Vec<u8>, AllocError> {
+    let mut other = Vec::from_slice(alloc, bytes)?;
+    if place < other.len() {
+        other[place] = byte;
+    }
+    Ok(other)
+}
+
+/// A place, another byte there, and how the file is then refused.
+type Alteration = (usize, u8, Option<Fault>);
+
+/// The bytes are refused so with each of these alterations.
+fn expect_refusals(
+    rt: &impl Abort,
+    alloc: Global,
+    bytes: &[u8],
+    rows: &[Alteration],
+) -> Result<(), AllocError> {
+    for (place, byte, expected) in rows {
+        let other = with_byte(alloc, bytes, *place, *byte)?;
+        expect_eq_at(rt, place, &fault_of(alloc, &other), expected);
+    }
+    Ok(())
+}
+
+#[test]
+fn utc_is_read(rt: HostRuntime) -> Result<(), Fail> {
+    let types = [LocalTimeType::new(0, false, Some(b"UTC"))?];
+    let bytes = utc_v1(rt.alloc())?;
+    expect_eq(&rt, &bytes.len(), &54);
+    let zone = TimeZone::from_tz_data(rt.alloc(), &bytes)?;
+    let zone = zone.as_ref();
+    expect_eq(&rt, &zone.local_time_types(), &types.as_slice());
+    assert!(rt; zone.transitions().is_empty());
+    assert!(rt; zone.leap_seconds().is_empty());
+    assert!(rt; zone.extra_rule().is_none());
+    Ok(())
+}
+
+/// The leap seconds are those up to 2017.
+fn expect_leap_seconds(rt: &impl Abort, leap_seconds: &[LeapSecond]) {
+    expect_eq(rt, &leap_seconds.len(), &27);
+    let mut correction = 0i32;
+    for (leap_second, time) in leap_seconds.iter().zip(&LEAP_TIMES) {
+        correction = correction.saturating_add(1);
+        expect_eq(
+            rt,
+            leap_second,
+            &LeapSecond::new(i64::from(*time), correction),
+        );
+    }
+}
+
+#[test]
+fn leap_seconds_are_read(rt: HostRuntime) -> Result<(), Fail> {
+    let types = [LocalTimeType::new(0, false, Some(b"UTC"))?];
+    let bytes = utc_v1_leap(rt.alloc())?;
+    expect_eq(&rt, &bytes.len(), &272);
+    let zone = TimeZone::from_tz_data(rt.alloc(), &bytes)?;
+    let zone = zone.as_ref();
+    expect_eq(&rt, &zone.local_time_types(), &types.as_slice());
+    assert!(rt; zone.extra_rule().is_none());
+    expect_leap_seconds(&rt, zone.leap_seconds());
+    Ok(())
+}
+
+/// Each growth is refused in turn: the answer is an allocation failure, until none is refused and it is the zone. The bytes stay as they are.
+fn expect_memory(rt: &impl Abort, alloc: Global, bytes: &[u8]) -> Result<(), Fail> {
+    let lent = Vec::from_slice(alloc, bytes)?;
+    let ample = TimeZone::from_tz_data(alloc, bytes)?;
+    for left in 0..10u64 {
+        let heap = Refusing::new(alloc, left);
+        let answer = TimeZone::from_tz_data(&heap, bytes);
+        expect_eq_at(rt, &left, &bytes, &lent.as_slice());
+        let refused = match answer {
+            Ok(zone) => {
+                assert!(rt; zone.as_ref() == ample.as_ref());
+                None
+            }
+            Err(error) => Some(named(error)),
+        };
+        expect_eq_at(rt, &left, &heap.held(), &0);
+        if heap.refused() == 0 {
+            expect_eq_at(rt, &left, &refused, &None);
+            return Ok(());
+        }
+        expect_eq_at(rt, &left, &refused, &Some(Fault::Memory));
+    }
+    assert!(rt; false, "growths without end");
+    Ok(())
+}
+
+#[test]
+fn memory_is_refused(rt: HostRuntime) -> Result<(), Fail> {
+    expect_memory(&rt, rt.alloc(), &utc_v1(rt.alloc())?)?;
+    expect_memory(&rt, rt.alloc(), &utc_v1_leap(rt.alloc())?)
+}
+
+/// One type of two hours east in both blocks, a transition in the second one, and a footer behind it.
+fn with_footer(alloc: Global, version: u8, footer: &[u8]) -> Result<Vec<u8>, AllocError> {
+    let mut bytes = Vec::new(alloc);
+    push_header(&mut bytes, b'3', &[0, 0, 0, 0, 1, 4])?;
+    bytes.extend_from_slice(b"\0\0\x1c\x20\0\0IST\0")?;
+    push_header(&mut bytes, version, &[1, 1, 0, 1, 1, 4])?;
+    bytes.extend_from_slice(&2_145_916_800i64.to_be_bytes())?;
+    bytes.extend_from_slice(b"\0\0\0\x1c\x20\0\0IST\0\x01\x01")?;
+    bytes.extend_from_slice(footer)?;
+    Ok(bytes)
+}
+
+/// Israel from 2038 on.
+fn jerusalem_v3(alloc: Global) -> Result<Vec<u8>, AllocError> {
+    with_footer(alloc, b'3', b"\nIST-2IDT,M3.4.4/26,M10.5.0\n")
+}
+
+/// The transitions of Honolulu's times.
+static HONOLULU: [(i64, u8); 7] = [
+    (-2_334_101_314, 1),
+    (-1_157_283_000, 2),
+    (-1_155_436_200, 1),
+    (-880_198_200, 3),
+    (-769_395_600, 4),
+    (-765_376_200, 1),
+    (-712_150_200, 5),
+];
+
+/// The types, their names and their indicators.
+fn push_honolulu_types(bytes: &mut Vec<u8>) -> Result<(), AllocError> {
+    static TYPES: [(i32, u8, u8); 6] = [
+        (-37_886, 0, 0),
+        (-37_800, 0, 4),
+        (-34_200, 1, 8),
+        (-34_200, 1, 12),
+        (-34_200, 1, 16),
+        (-36_000, 0, 4),
+    ];
+    for (_, index) in &HONOLULU {
+        bytes.push(*index)?;
+    }
+    for (ut_offset, is_dst, name) in &TYPES {
+        bytes.extend_from_slice(&ut_offset.to_be_bytes())?;
+        bytes.push(*is_dst)?;
+        bytes.push(*name)?;
+    }
+    bytes.extend_from_slice(b"LMT\0HST\0HDT\0HWT\0HPT\0")?;
+    bytes.extend_from_slice(b"\0\0\0\0\x01\0\0\0\0\0\x01\0")
+}
+
+/// Honolulu from 1896 on.
+fn honolulu_v2(alloc: Global) -> Result<Vec<u8>, AllocError> {
+    static TIMES: [i32; 7] = [
+        i32::MIN,
+        -1_157_283_000,
+        -1_155_436_200,
+        -880_198_200,
+        -769_395_600,
+        -765_376_200,
+        -712_150_200,
+    ];
+    let mut bytes = Vec::new(alloc);
+    push_header(&mut bytes, b'2', &[6, 6, 0, 7, 6, 20])?;
+    for time in &TIMES {
+        bytes.extend_from_slice(&time.to_be_bytes())?;
+    }
+    push_honolulu_types(&mut bytes)?;
+    push_header(&mut bytes, b'2', &[6, 6, 0, 7, 6, 20])?;
+    for (time, _) in &HONOLULU {
+        bytes.extend_from_slice(&time.to_be_bytes())?;
+    }
+    push_honolulu_types(&mut bytes)?;
+    bytes.extend_from_slice(b"\nHST10\n")?;
+    Ok(bytes)
+}
+
+/// The rule of Israel.
+static JERUSALEM: RuleRow = (
+    (7200, false, Some(b"IST")),
+    (10_800, true, Some(b"IDT")),
+    (Day::Month(3, 4, 4), 93_600),
+    (Day::Month(10, 5, 0), 7200),
+);
+
+/// The bytes are Israel's zone.
+fn expect_jerusalem(rt: &impl Abort, alloc: Global, bytes: &[u8]) -> Result<(), TzError> {
+    let types = [LocalTimeType::new(7200, false, Some(b"IST"))?];
+    let rule = Some(TransitionRule::Alternate(rule_of(&JERUSALEM)?));
+    let zone = TimeZone::from_tz_data(alloc, bytes)?;
+    let zone = zone.as_ref();
+    expect_eq(
+        rt,
+        &zone.transitions(),
+        &[Transition::new(2_145_916_800, 0)].as_slice(),
+    );
+    expect_eq(rt, &zone.local_time_types(), &types.as_slice());
+    assert!(rt; zone.leap_seconds().is_empty());
+    expect_eq(rt, zone.extra_rule(), &rule);
+    Ok(())
+}
+
+#[test]
+fn jerusalem_is_read(rt: HostRuntime) -> Result<(), Fail> {
+    // The first header's version and the first block's content make no difference, nor does a time of UT.
+    static ALTERED: [(usize, u8); 4] = [(4, b'2'), (48, 7), (58, b'4'), (118, 0)];
+    let bytes = jerusalem_v3(rt.alloc())?;
+    expect_eq(&rt, &bytes.len(), &147);
+    expect_jerusalem(&rt, rt.alloc(), &bytes)?;
+    for (place, byte) in &ALTERED {
+        let altered = with_byte(rt.alloc(), &bytes, *place, *byte)?;
+        expect_jerusalem(&rt, rt.alloc(), &altered)?;
+    }
+    Ok(())
+}
+
+/// Holds a zone to the transitions, the types and the rule of Honolulu.
+fn expect_honolulu(rt: &impl Abort, zone: TimeZoneRef<'_>) -> Result<(), TzError> {
+    let transitions = zone.transitions();
+    expect_eq(rt, &transitions.len(), &7);
+    for (transition, (time, index)) in transitions.iter().zip(&HONOLULU) {
+        expect_eq(
+            rt,
+            transition,
+            &(Transition::new(*time, usize::from(*index))),
+        );
+    }
+    let summer = LocalTimeType::new(-34_200, true, Some(b"HDT"))?;
+    let now = LocalTimeType::new(-36_000, false, Some(b"HST"))?;
+    expect_eq(rt, zone.find_local_time_type(-1_156_939_200)?, &summer);
+    expect_eq(rt, zone.find_local_time_type(1_546_300_800)?, &now);
+    expect_eq(rt, zone.extra_rule(), &Some(TransitionRule::Fixed(now)));
+    Ok(())
+}
+
+#[test]
+fn honolulu_is_read(rt: HostRuntime) -> Result<(), Fail> {
+    let bytes = honolulu_v2(rt.alloc())?;
+    let zone = TimeZone::from_tz_data(rt.alloc(), &bytes)?;
+    expect_honolulu(&rt, zone.as_ref())?;
+    Ok(())
+}
+
+#[test]
+fn footers_are_read(rt: HostRuntime) -> Result<(), Fail> {
+    // Footers, and whether they are the rule of two hours.
+    static ROWS: [(&[u8], bool); 5] = [
+        (b"\n\n", false),
+        (b"\n \t\n", false),
+        (b"\nIST-2\n", true),
+        (b"\nIST-2\r\n", true),
+        (b"\n\x0c IST-2 \n", true),
+    ];
+    let fixed = TransitionRule::Fixed(LocalTimeType::new(7200, false, Some(b"IST"))?);
+    for (footer, has_rule) in &ROWS {
+        let expected = if *has_rule { Some(fixed) } else { None };
+        let bytes = with_footer(rt.alloc(), b'3', footer)?;
+        let zone = TimeZone::from_tz_data(rt.alloc(), &bytes)?;
+        expect_eq(&rt, zone.as_ref().extra_rule(), &expected);
+    }
+    Ok(())
+}
+
+#[test]
+fn footers_are_refused(rt: HostRuntime) -> Result<(), Fail> {
+    static ROWS: [(&[u8], Option<Fault>); 7] = [
+        (b"", Some(Fault::File(TzFileError::InvalidFooter))),
+        (b"\nIST-2", Some(Fault::File(TzFileError::InvalidFooter))),
+        (b"IST-2\n", Some(Fault::File(TzFileError::InvalidFooter))),
+        (b"\n:x\n", Some(Fault::File(TzFileError::InvalidFooter))),
+        (
+            b"\nA\0\x30\n",
+            Some(Fault::File(TzFileError::InvalidFooter)),
+        ),
+        (
+            b"\nIST-3\n",
+            Some(Fault::Zone(TimeZoneError::InconsistentExtraRule)),
+        ),
+        (
+            b"\nIST-2IDT,J1.J2\n",
+            Some(Fault::Text(TzStringError::ParseData(ParseDataError::InvalidData))),
+        ),
+    ];
+    for (footer, expected) in &ROWS {
+        let bytes = with_footer(rt.alloc(), b'3', footer)?;
+        expect_eq(&rt, &fault_of(rt.alloc(), &bytes), expected);
+    }
+    let bytes = with_footer(rt.alloc(), b'3', b"\n\xff\n")?;
+    let refused = fault_of(rt.alloc(), &bytes);
+    assert!(rt; matches!(refused, Some(Fault::File(TzFileError::Utf8(_)))));
+    Ok(())
+}
+
+/// The footer's text is refused so where the second header has version 2, and is the rule where it has version 3.
+fn expect_extended(
+    rt: &impl Abort,
+    alloc: Global,
+    footer: &[u8],
+    fault: Fault,
+    rule: &RuleRow,
+) -> Result<(), TzError> {
+    let rule = Some(TransitionRule::Alternate(rule_of(rule)?));
+    let bytes = without_transitions(alloc, b'2', footer)?;
+    expect_eq(rt, &fault_of(alloc, &bytes), &Some(fault));
+    let bytes = without_transitions(alloc, b'3', footer)?;
+    let zone = TimeZone::from_tz_data(alloc, &bytes)?;
+    expect_eq(rt, zone.as_ref().extra_rule(), &rule);
+    Ok(())
+}
+
+#[test]
+fn the_second_header_extends_texts(rt: HostRuntime) -> Result<(), Fail> {
+    static SIGNED: RuleRow = (
+        (-10_800, false, Some(b"-03")),
+        (-7200, true, Some(b"-02")),
+        (Day::Month(3, 5, 0), -7200),
+        (Day::Month(10, 5, 0), -3600),
+    );
+    static ALL_YEAR: RuleRow = (
+        (-18_000, false, Some(b"EST")),
+        (-14_400, true, Some(b"EDT")),
+        (Day::Julian0(0), 0),
+        (Day::Julian1(365), 90_000),
+    );
+    let footer = b"\n<-03>3<-02>,M3.5.0/-2,M10.5.0/-1\n";
+    expect_extended(&rt, rt.alloc(), footer, Fault::Number, &SIGNED)?;
+    let footer = b"\nEST5EDT,0/0,J365/25\n";
+    let is_late = Fault::Text(TzStringError::InvalidDayTimeHour);
+    expect_extended(&rt, rt.alloc(), footer, is_late, &ALL_YEAR)?;
+    Ok(())
+}
+
+#[test]
+fn memory_is_refused_in_later_files(rt: HostRuntime) -> Result<(), Fail> {
+    expect_memory(&rt, rt.alloc(), &jerusalem_v3(rt.alloc())?)?;
+    expect_memory(&rt, rt.alloc(), &honolulu_v2(rt.alloc())?)
+}
+
+/// UTC in the first block, and in the second one with its leap seconds.
+fn utc_v2_leap(alloc: Global) -> Result<Vec<u8>, AllocError> {
+    let mut bytes = Vec::new(alloc);
+    push_header(&mut bytes, b'2', &[0, 0, 0, 0, 1, 4])?;
+    bytes.extend_from_slice(b"\0\0\0\0\0\0UTC\0")?;
+    push_header(&mut bytes, b'2', &[0, 0, 27, 0, 1, 4])?;
+    bytes.extend_from_slice(b"\0\0\0\0\0\0UTC\0")?;
+    let mut correction = 0u32;
+    for time in &LEAP_TIMES {
+        correction = correction.saturating_add(1);
+        bytes.extend_from_slice(&i64::from(*time).to_be_bytes())?;
+        bytes.extend_from_slice(&correction.to_be_bytes())?;
+    }
+    bytes.extend_from_slice(b"\nUTC0\n")?;
+    Ok(bytes)
+}
+
+#[test]
+fn leap_seconds_of_later_files_are_read(rt: HostRuntime) -> Result<(), Fail> {
+    let bytes = utc_v2_leap(rt.alloc())?;
+    let zone = TimeZone::from_tz_data(rt.alloc(), &bytes)?;
+    let earlier = TimeZone::from_tz_data(rt.alloc(), &utc_v1_leap(rt.alloc())?)?;
+    expect_eq(
+        &rt,
+        &zone.as_ref().leap_seconds(),
+        &earlier.as_ref().leap_seconds(),
+    );
+    assert!(rt; zone.as_ref().extra_rule().is_some());
+    Ok(())
+}
+
+mod altered;
+mod layouts;
+mod version_4;
