@@ -20,21 +20,22 @@ class Figures:
         """A section's rows."""
         return self.sections.get(section, {})
 
+    def keep(self, section, row):
+        """A row's figures; a new row comes last."""
+        return self.sections.setdefault(section, {}).setdefault(row, {})
+
     def put(self, section, row, program, figure):
         """Sets a figure; none takes it away."""
-        rows = self.sections.setdefault(section, {})
-        figures = rows.setdefault(row, {})
+        figures = self.keep(section, row)
         figures[program] = figure
         if figure is None:
             del figures[program]
-        if not figures:
-            del rows[row]
 
     def write(self):
         """Writes the file, a line for each row."""
         sections = []
         for section, rows in self.sections.items():
-            lines = ',\n'.join(f'  {json.dumps(name)}: {json.dumps(figures)}' for name, figures in rows.items())
+            lines = ',\n'.join(f'  {json.dumps(name)}: {json.dumps(figures)}' for name, figures in rows.items() if figures)
             sections.append(f' {json.dumps(section)}: {{\n{lines}\n }}')
         with open(self.path, 'w') as file:
             file.write('{\n' + ',\n'.join(sections) + '\n}\n')

@@ -14,9 +14,19 @@ SEED = 7
 
 # The instructions that some calls are meant to take at most.
 GOALS = {
-    '`DateTime::from_timespec`, random, Paris': 180, '`DateTime::from_timespec`, random, TZ string': 185,
-    '`DateTime::find`, random, Paris': 405, '`DateTime::find`, random, TZ string': 385,
-    '`DateTime::find_n`, random, Paris': 225, '`DateTime::find_n`, random, TZ string': 205,
+    '`DateTime::from_timespec`, fixed offset': 110, '`DateTime::from_timespec`, random, Paris': 180,
+    '`DateTime::from_timespec`, sorted, Paris': 185, '`DateTime::from_timespec`, past the table, Paris': 190,
+    '`DateTime::from_timespec`, random, TZ string': 185, '`DateTime::from_timespec`, 100000 transitions': 250,
+    '`DateTime::from_timespec`, leap seconds': 400,
+    '`DateTime::find`, random, Paris': 405, '`DateTime::find`, at jumps, Paris': 490, '`DateTime::find`, past the table, Paris': 385,
+    '`DateTime::find`, random, TZ string': 385, '`DateTime::find`, at jumps, TZ string': 455,
+    '`DateTime::find`, random, 100000 transitions': 620, '`DateTime::find`, leap seconds': 1000,
+    '`DateTime::find_n`, fixed offset': 115, '`DateTime::find_n`, random, Paris': 225, '`DateTime::find_n`, at jumps, Paris': 310,
+    '`DateTime::find_n`, past the table, Paris': 205, '`DateTime::find_n`, random, TZ string': 205,
+    '`DateTime::find_n`, at jumps, TZ string': 275, '`DateTime::find_n`, random, 100000 transitions': 440,
+    '`TimeZoneRef::following`, random, Paris': 200, 'next of `changes_after`, 1900 to 2100, Paris': 120,
+    '`UtcDateTime::new` and `unix_time`': 60, '`UtcDateTime::checked_add` and `unix_time`': 100,
+    '`TimeZone::from_tz_data`, Paris': 8000,
 }
 
 
@@ -147,6 +157,9 @@ def calls(zones, count, seed=SEED):
     yield row('`DateTime::find`, weekly, Paris', 'find', paris, 'weekly local times')
     yield row('`DateTime::find`, at jumps, 100000 transitions', 'find', many, 'local times at jumps')
     yield row('`DateTime::find`, leap seconds', 'find', leaps, 'local times')
+    yield row('`TimeZoneRef::following`, random, Paris', 'following', paris, 'instants')
+    yield row('`TimeZoneRef::following`, random, TZ string', 'following', text, 'instants')
+    yield row('next of `changes_after`, 1900 to 2100, Paris', 'walk', paris, 'instants')
     yield row('`Display` into a new string, Paris', 'display', paris, 'instants of local years', timed=True)
     yield row('`UtcDateTime::from_timespec`', 'utc_from_timespec', fixed, 'instants')
     yield row('`UtcDateTime::new` and `unix_time`', 'utc_new', fixed, 'local times')

@@ -72,7 +72,7 @@ def of_sizes():
             crate = TOP / 'crates' / name
             sizes = [lines_of(crate.glob(found)) for found in ('src/**/*.rt', 'specs/**/*.antt', 'proofs/**/*.antt')]
             sizes.append(len(list(crate.glob('must-fail/*.edit'))))
-            shown = 'tests' if name.endswith('_tests') else f'`{name}`'
+            shown = 'tests' if name.endswith(('_tests', '_samples', '_examples')) else f'`{name}`'
             crates[shown] = [more + had for more, had in zip(sizes, crates.get(shown, [0] * 4))]
     return table(['crate', 'code', 'definitions', 'proofs', 'edits'], [[name, *sizes] for name, sizes in crates.items()])
 

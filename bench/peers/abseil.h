@@ -61,6 +61,14 @@ struct Zone {
         return absl::ToUnixSeconds(there.kind == absl::TimeZone::TimeInfo::SKIPPED ? there.trans : there.pre);
     }
 
+    // The next change is known by the civil times around it, of which one lies in the gap or the fold.
+    static constexpr bool knows_changes = true;
+    long following(long instant) {
+        absl::TimeZone::CivilTransition change;
+        if (!zone.NextTransition(absl::FromUnixSeconds(instant), &change)) return 0;
+        return absl::ToUnixSeconds(zone.At(change.from < change.to ? change.from : change.to).trans);
+    }
+
     Shown utc(long instant) { return of(absl::ToCivilSecond(absl::FromUnixSeconds(instant), absl::UTCTimeZone()), 0); }
     long utc_of(const Local &local) { return absl::ToUnixSeconds(absl::FromCivil(of(local), absl::UTCTimeZone())); }
 

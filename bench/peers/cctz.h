@@ -73,6 +73,14 @@ struct Zone {
         return instant.time_since_epoch().count();
     }
 
+    // The next change is known by the civil times around it, of which one lies in the gap or the fold.
+    static constexpr bool knows_changes = true;
+    long following(long instant) {
+        cctz::time_zone::civil_transition change;
+        if (!zone.next_transition(at(instant), &change)) return 0;
+        return zone.lookup(change.from < change.to ? change.from : change.to).trans.time_since_epoch().count();
+    }
+
     Shown utc(long instant) { return of(cctz::convert(at(instant), cctz::utc_time_zone()), 0); }
     long utc_of(const Local &local) { return cctz::convert(of(local), cctz::utc_time_zone()).time_since_epoch().count(); }
 

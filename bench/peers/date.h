@@ -93,6 +93,10 @@ struct Zone {
         return (of(local).time_since_epoch() - there.first.offset).count();
     }
 
+    // The end of what holds at an instant is the next change.
+    static constexpr bool knows_changes = true;
+    long following(long instant) { return is_fixed() ? 0 : info(at(instant)).end.time_since_epoch().count(); }
+
     Shown utc(long instant) { return of(date::local_seconds(std::chrono::seconds(instant)), 0); }
     long utc_of(const Local &local) { return of(local).time_since_epoch().count(); }
 

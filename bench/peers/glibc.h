@@ -58,6 +58,9 @@ struct Zone {
         return mktime(&parts);
     }
 
+    static constexpr bool knows_changes = false;
+    long following(long) { return 0; }
+
     Shown utc(time_t instant) {
         tm parts;
         gmtime_r(&instant, &parts);

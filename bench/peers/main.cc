@@ -157,6 +157,9 @@ void make_calls(Zone &zone, const std::string &call, const std::string &times) {
         run(call, times, words, [&](long word) { return sum_of(zone.shown(word, false)); });
     } else if (call == "find" || call == "find_n") {
         run(call, times, locals, [&](const Local &local) { return zone.first(local); });
+    } else if (call == "following") {
+        if (!Zone::knows_changes) refuse("no call for the next change");
+        run(call, times, words, [&](long word) { return zone.following(word); });
     } else if (call == "display") {
         const auto held = each<typename Zone::Held>(words, [&](long word) { return zone.held(word); });
         run(call, times, held, [&](const typename Zone::Held &held) { return zone.print(held).size(); });

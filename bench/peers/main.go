@@ -203,6 +203,14 @@ func makeCalls(option, argument, call, times string) {
 			}
 			return
 		})
+	case "following":
+		run(call, times, len(words), func(first, last int) (total uint64) {
+			for _, word := range words[first:last] {
+				_, end := time.Unix(word, 0).In(zone).ZoneBounds()
+				total += uint64(end.Unix())
+			}
+			return
+		})
 	case "display":
 		held := make([]time.Time, len(words))
 		for n, word := range words {
