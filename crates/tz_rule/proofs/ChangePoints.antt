@@ -3,7 +3,7 @@ use Rattle.std.proofs.Common.{◌≡◌, inl, inr, sym, ap, ◌∙◌, arith, �
 use Rattle.std.proofs.lemmas.Int.{ints, by_lt_z}
 use Rattle.tz_rule.specs.LocalTimeType.{LocalTimeType}
 use Rattle.tz_rule.specs.Alternate.{AlternateTime, start_of, end_of, IsAlternateType, IsUnchanged}
-use Rattle.tz_rule.specs.Years.{IsPairedEnd, IsDaylight}
+use Rattle.tz_rule.specs.Pairing.{IsPairedEnd, IsDaylight}
 use Rattle.tz_rule.proofs.YearlyInstants.{IsYearly}
 
 module _ (f g : ℤ → ℤ) (u v : ℤ) (up : u ≤ℤ v) where

@@ -4,7 +4,7 @@ use Rattle.std.proofs.lemmas.Int.{ints, by_lt_z}
 use Rattle.tz_base.proofs.DateOrder.{first_day-mono, gap_between}
 use Rattle.tz_rule.specs.Alternate.{IsUtcYear}
 use Rattle.tz_rule.specs.Daylight.{IsInSpan}
-use Rattle.tz_rule.specs.Years.{EndsNextYear, IsDaylight}
+use Rattle.tz_rule.specs.Pairing.{EndsNextYear, IsDaylight}
 use Rattle.tz_rule.proofs.YearlyInstants.{IsYearly}
 
 -- two years before the year of an instant everything is over

@@ -10,7 +10,7 @@ use Rattle.tz_base.proofs.YearStarts.{first_day-moved}
 use Rattle.tz_rule.specs.Alternate.{AlternateTime, start_of, end_of, turn_of, AreRuleDays}
 use Rattle.tz_rule.specs.InnerTurns.{IsInnerTurn, HasInnerTurns, IsLikelyYear}
 use Rattle.tz_rule.specs.Kinds.{year_kind}
-use Rattle.tz_rule.specs.Pairing.{turns_are_inner}
+use Rattle.tz_rule.specs.KeptRule.{turns_are_inner}
 use Rattle.tz_rule.specs.YearTables.{IsTableOf, entry, least_entry, greatest_entry, is_inner, start_table, end_table}
 use Rattle.tz_rule.proofs.OrderByTables.{IsTableOf-start_of, IsTableOf-end_of}
 use Rattle.tz_rule.proofs.PairKinds.{year_kind-below}

@@ -8,7 +8,7 @@ use Rattle.tz_rule.specs.Alternate.{AlternateTime, start_of, end_of, IsInRuleRan
 use Rattle.tz_rule.specs.Day.{IsRuleDay}
 use Rattle.tz_rule.specs.Kinds.{year_kind, is_leap_kind, week_day_of_kind, first_kind, IsPairOf}
 use Rattle.tz_rule.specs.Places.{place_in_year}
-use Rattle.tz_rule.specs.Years.{IsConflict, IsInconsistent}
+use Rattle.tz_rule.specs.Pairing.{IsConflict, IsInconsistent}
 use Rattle.tz_rule.specs.YearTables.{IsTableOf, entry, next_entry, seconds_in_kind, day_table, start_table, end_table, ComesFirst, ComesBeforeNext, ComesAfterNext, ChangesOrder}
 use Rattle.tz_rule.specs.declared.timezone.rule_day.RuleDay.{RuleDay}
 use Rattle.tz_rule.proofs.PairKinds.{year_kind-below, year_kind-leap, year_kind-week_day, pair_of, pair_occurs, kind_occurs}

@@ -8,7 +8,7 @@ use Rattle.tz_rule.specs.Day.{IsRuleDay}
 use Rattle.tz_rule.specs.Rule.{IsRuleType, types_of}
 use Rattle.tz_rule.specs.RuleSegments.{IsTurn, IsRuleChange, IsWholeSegment, IsNotInside}
 use Rattle.tz_rule.specs.AlternateSegments.{type_by, IsTriedYear}
-use Rattle.tz_rule.specs.Years.{EndsNextYear, IsDaylight}
+use Rattle.tz_rule.specs.Pairing.{EndsNextYear, IsDaylight}
 use Rattle.tz_rule.specs.declared.timezone.rule.TransitionRule.TheVariants.{Alternate}
 use Rattle.tz_rule.specs.declared.timezone.rule_day.RuleDay.{RuleDay}
 use Rattle.tz_rule.specs.declared.timezone.alternate_segment.AlternateSegment.{AlternateSegment}

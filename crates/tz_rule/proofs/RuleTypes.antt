@@ -2,9 +2,9 @@
 use Rattle.std.proofs.Common.{◌≡◌, ◌⊎◌, inl, inr, ◌∙◌, refl, sym, ℤ, pos, ◌+ℤ◌, Bool, true, false, MatchBool}
 use Rattle.tz_rule.specs.LocalTimeType.{LocalTimeType}
 use Rattle.tz_rule.specs.Alternate.{AlternateTime, start_of, end_of, IsInRuleRange, AreRuleDays, IsUtcYear, IsInRuleYears, IsAlternateType}
-use Rattle.tz_rule.specs.Pairing.{ends_come_first}
+use Rattle.tz_rule.specs.KeptRule.{ends_come_first}
 use Rattle.tz_rule.specs.Rule.{IsRuleType, IsSoundRule}
-use Rattle.tz_rule.specs.Years.{EndsNextYear, IsDaylight}
+use Rattle.tz_rule.specs.Pairing.{EndsNextYear, IsDaylight}
 use Rattle.tz_rule.specs.declared.timezone.rule.TransitionRule.{TransitionRule}
 use Rattle.tz_rule.specs.declared.timezone.rule.TransitionRule.TheVariants.{Fixed, Alternate as Two}
 use Rattle.tz_rule.proofs.ChangePoints.{daylight_repeats, daylight_repeated}

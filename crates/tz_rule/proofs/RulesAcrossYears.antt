@@ -5,9 +5,9 @@ use Rattle.std.proofs.lemmas.Bool.{false≢true}
 use Rattle.std.proofs.lemmas.Bool.Decides.{Decides-below_or}
 use Rattle.std.proofs.lemmas.Int.{ints}
 use Rattle.tz_rule.specs.Alternate.{AlternateTime, start_of, end_of, IsInRuleRange, AreRuleDays}
-use Rattle.tz_rule.specs.Pairing.{ends_first_in, ends_come_first, turns_are_inner, IsKeptRule}
+use Rattle.tz_rule.specs.KeptRule.{ends_first_in, ends_come_first, turns_are_inner, IsKeptRule}
 use Rattle.tz_rule.specs.Parts.{rule_of}
-use Rattle.tz_rule.specs.Years.{EndsNextYear}
+use Rattle.tz_rule.specs.Pairing.{EndsNextYear}
 use Rattle.tz_rule.specs.YearTables.{entry, is_inner, start_table, end_table, ComesFirst, ChangesOrder}
 use Rattle.tz_rule.specs.declared.timezone.alternate.AlternateTime.TheInside.{Inside}
 use Rattle.tz_rule.proofs.OrderByTables.{IsTableOf-start_of, IsTableOf-end_of, comes_first-year, comes_first-from, rule_is_consistent}

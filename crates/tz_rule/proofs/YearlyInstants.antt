@@ -8,7 +8,7 @@ use Rattle.tz_rule.specs.Alternate.{AlternateTime, start_of, end_of, turn_of, Ar
 use Rattle.tz_rule.specs.Day.{rule_day, IsRuleDay}
 use Rattle.tz_rule.specs.Kinds.{week_day_of_year}
 use Rattle.tz_rule.specs.Places.{place_in_year}
-use Rattle.tz_rule.specs.Years.{IsConflict, IsInconsistent}
+use Rattle.tz_rule.specs.Pairing.{IsConflict, IsInconsistent}
 use Rattle.tz_rule.specs.declared.timezone.rule_day.RuleDay.{RuleDay}
 use Rattle.tz_rule.proofs.Weeks.{week_day_of_year-period}
 use Rattle.tz_rule.proofs.YearPlaces.{place_in_year-bound, rule_day-place}

@@ -4,7 +4,7 @@ use Rattle.std.proofs.lemmas.Int.{ints}
 use Rattle.tz_base.specs.Days.{is_leap, year_length}
 use Rattle.tz_base.proofs.DaysOfYears.{first_day-next, year_length-is}
 use Rattle.tz_rule.specs.Kinds.{week_day_of_year, kind_of, year_kind}
-use Rattle.tz_rule.specs.Years.{IsConflict}
+use Rattle.tz_rule.specs.Pairing.{IsConflict}
 use Rattle.tz_rule.specs.YearTables.{IsTableOf, IsNear, instant_in, entry}
 use Rattle.tz_rule.proofs.Weeks.{week_day_of_year-next}
 use Rattle.tz_rule.proofs.YearKinds.{IsAlike, like_model}

@@ -7,11 +7,11 @@ pub mod MonthWeek
 pub mod Kinds
 pub mod Places
 pub mod Day
-pub mod Years
+pub mod Pairing
 pub mod Alternate
 pub mod YearTables
 pub mod Parts
-pub mod Pairing
+pub mod KeptRule
 pub mod Daylight
 pub mod Rule
 pub mod AlternateSegments

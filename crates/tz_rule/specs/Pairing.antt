@@ -1,50 +1,22 @@
--- How an alternate rule is kept: its parts, whether it ends in the next year, whether its starts and ends lie far inside their years, and the
--- tables of these.
-use Rattle.std.specs.Prelude.{◌≡◌, ℕ, zero, suc, ◌&&◌, ◌||◌, Bool, false}
-use Rattle.std.specs.Int.Signed.{lt_z}
-use Rattle.std.proofs.Common.{ap, sym, ◌∙◌}
-use Rattle.tz_rule.specs.Alternate.{AlternateTime, start_of, end_of, IsConsistentRule, AreRuleDays}
-use Rattle.tz_rule.specs.Parts.{rule_of}
-use Rattle.tz_rule.specs.YearTables.{IsTableOf, entry, is_inner, start_table, end_table}
-use Rattle.tz_rule.specs.declared.timezone.alternate.AlternateTime.TheInside.{Inside}
-use Rattle.tz_rule.specs.declared.timezone.parts.Parts.{Parts}
+-- Starts and ends of daylight saving time over all whole years, as two functions from years to instants.
+use Rattle.std.specs.Prelude.{◌≡◌, ◌⊎◌, ℤ, pos, ◌+ℤ◌, ◌≤ℤ◌, ◌<ℤ◌}
 
--- in the years of one of the first kinds the end comes before the start
-unfoldable pub ends_first_in : AlternateTime → ℕ → Bool
-ends_first_in r zero = false
-ends_first_in r (suc kinds) = lt_z (entry (end_table r) kinds) (entry (start_table r) kinds) || ends_first_in r kinds
+-- at a distance in years, start and end have one strict order in year y and the other one in year x
+abbrev pub IsConflict : (ℤ → ℤ) → (ℤ → ℤ) → ℤ → ℤ → ℤ → Type 0
+IsConflict starts ends x y k = (starts y <ℤ ends (y +ℤ k)) × (ends (x +ℤ k) <ℤ starts x)
 
--- the fourteen kinds tell whether some year's end comes before its start
-unfoldable pub ends_come_first : AlternateTime → Bool
-ends_come_first r = ends_first_in r 14
+-- some distance has a conflict
+abbrev pub IsInconsistent : (ℤ → ℤ) → (ℤ → ℤ) → Type 0
+IsInconsistent starts ends = (x : ℤ) × (y : ℤ) × (k : ℤ) × IsConflict starts ends x y k
 
--- the fourteen kinds tell whether all starts and ends lie ten days or more from the ends of their years
-unfoldable pub turns_are_inner : AlternateTime → Bool
-turns_are_inner r = is_inner (start_table r) && is_inner (end_table r)
+-- some year's end comes before its start
+abbrev pub EndsNextYear : (ℤ → ℤ) → (ℤ → ℤ) → Type 0
+EndsNextYear starts ends = (y : ℤ) × (ends y <ℤ starts y)
 
--- what keeps a rule
-pub record IsKeptRule (r : Inside) : Type 0 where
-  pub is_consistent : IsConsistentRule (rule_of r.parts)
-  pub are_days : AreRuleDays (rule_of r.parts)
-  pub pairing : r.ends_next_year ≡ ends_come_first (rule_of r.parts)
-  pub inner_turns : r.has_inner_turns ≡ turns_are_inner (rule_of r.parts)
-  pub starts_are : IsTableOf (start_of (rule_of r.parts)) r.starts.0
-  pub ends_are : IsTableOf (end_of (rule_of r.parts)) r.ends.0
-  pub starts_made : r.starts.0 ≡ start_table (rule_of r.parts)
-  pub ends_made : r.ends.0 ≡ end_table (rule_of r.parts)
+-- the end that belongs to the start of a year: the next year's if the rule ends in the next year, else the same year's
+abbrev pub IsPairedEnd : (ℤ → ℤ) → (ℤ → ℤ) → ℤ → ℤ → Type 0
+IsPairedEnd starts ends y end = (EndsNextYear starts ends × (end ≡ ends (y +ℤ pos 1))) ⊎ (¬ EndsNextYear starts ends × (end ≡ ends y))
 
-abbrev pub parts_of : AlternateTime → Parts
-parts_of r = record { std = r.std; dst = r.dst; dst_start = r.dst_start; dst_start_time = r.dst_start_time; dst_end = r.dst_end; dst_end_time = r.dst_end_time }
-
--- what is kept of a rule
-abbrev pub kept_of : AlternateTime → Inside
-kept_of r = record { parts = parts_of r; ends_next_year = ends_come_first r; has_inner_turns = turns_are_inner r; starts = record { 0 = start_table r }; ends = record { 0 = end_table r } }
-
-pub kept_rule : (r : Inside) → IsKeptRule r → kept_of (rule_of r.parts) ≡ r
-kept_rule r k =
-    let made_starts = start_table (rule_of r.parts) in
-    let made_ends = end_table (rule_of r.parts) in
-    ap (λ b. let kept : Inside = record (kept_of (rule_of r.parts)) { ends_next_year = b } in kept) (sym k.pairing)
-    ∙ ap (λ b. let kept : Inside = record r { has_inner_turns = b; starts = record { 0 = made_starts }; ends = record { 0 = made_ends } } in kept) (sym k.inner_turns)
-    ∙ ap (λ table. let kept : Inside = record r { starts = record { 0 = table }; ends = record { 0 = made_ends } } in kept) (sym k.starts_made)
-    ∙ ap (λ table. let kept : Inside = record r { ends = record { 0 = table } } in kept) (sym k.ends_made)
+-- an instant from some year's start up to, not including, its paired end
+abbrev pub IsDaylight : (ℤ → ℤ) → (ℤ → ℤ) → ℤ → Type 0
+IsDaylight starts ends u = (y : ℤ) × (end : ℤ) × IsPairedEnd starts ends y end × (starts y ≤ℤ u) × (u <ℤ end)

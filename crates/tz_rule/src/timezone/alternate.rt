@@ -5,7 +5,7 @@ ghost use Rattle.std.specs.Bool.{OnTrue};
 ghost use Rattle.tz_rule.specs.Alternate.{start_of, end_of, turn_of, alternate_of, IsInRuleRange, IsFirstRuleFault, IsConsistentRule, AreRuleDays, IsNearYear};
 ghost use Rattle.tz_rule.specs.InnerTurns.{HasInnerTurns};
 ghost use Rattle.tz_rule.specs.YearTables.{IsTableOf};
-ghost use Rattle.tz_rule.specs.Years.{IsConflict, IsInconsistent, EndsNextYear};
+ghost use Rattle.tz_rule.specs.Pairing.{IsConflict, IsInconsistent, EndsNextYear};
 
 use super::parts::Parts;
 use super::year_table::YearTable;
@@ -33,7 +33,7 @@ impl Model for AlternateTime {
     ghost Value = { AlternateTime };
 
     ghost use Rattle.tz_rule.specs.Parts.{rule_of};
-    ghost use Rattle.tz_rule.specs.Pairing.{IsKeptRule, parts_of, ends_come_first, kept_of, kept_rule};
+    ghost use Rattle.tz_rule.specs.KeptRule.{IsKeptRule, parts_of, ends_come_first, kept_of, kept_rule};
 
     ghost view = { λ r. rule_of r.parts };
 

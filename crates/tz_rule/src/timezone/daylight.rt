@@ -3,7 +3,7 @@
 ghost use Rattle.std.specs.Prelude.{IfSome, IfNone, MatchBool};
 ghost use Rattle.tz_rule.specs.Alternate.{start_of, end_of, IsUtcYear, IsRuleYear, IsInRuleYears};
 ghost use Rattle.tz_rule.specs.Daylight.{IsInSpan};
-ghost use Rattle.tz_rule.specs.Years.{EndsNextYear, IsDaylight};
+ghost use Rattle.tz_rule.specs.Pairing.{EndsNextYear, IsDaylight};
 
 use super::AlternateTime;
 use tz_base::calendar::{self, Fields};

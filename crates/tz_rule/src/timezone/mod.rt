@@ -2,8 +2,10 @@
 
 mod alternate;
 pub(crate) mod alternate_segment;
+mod conflict;
 mod daylight;
 mod local_time_type;
+mod pairing;
 mod parts;
 mod rule;
 pub(crate) mod rule_clock;

@@ -12,7 +12,7 @@ ghost use Rattle.tz_rule.specs.Rule.{IsRuleType};
 ghost use Rattle.tz_rule.specs.RuleSegments.{HasTypeOf, IsRuleChange, IsRuleSegment, IsWholeSegment, IsNotInside};
 ghost use Rattle.tz_rule.specs.InnerTurns.{HasInnerTurns, IsLikelyYear};
 ghost use Rattle.tz_rule.specs.AlternateSegments.{type_by, IsTriedYear, moved_back};
-ghost use Rattle.tz_rule.specs.Years.{EndsNextYear};
+ghost use Rattle.tz_rule.specs.Pairing.{EndsNextYear};
 ghost use Rattle.tz_rule.specs.declared.timezone.rule.TransitionRule.TheVariants.{Alternate};
 
 use super::alternate_segment::AlternateSegment;
