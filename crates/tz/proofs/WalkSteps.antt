@@ -18,8 +18,8 @@ use Rattle.tz.specs.Found.{Clock, Shows, PassesOver, IsFoundBy, IsEarlier, IsFou
 use Rattle.tz.specs.Walks.{moment_of, IsDateTimeOf, IsEntryOutside, IsFrom, HoldsFrom, IsEntryOf, IsGiven, IsGiveFault, IsStep, IsWalk, IsFoundBefore, IsWalked}
 use Rattle.tz.specs.declared.datetime.found.FoundDateTimeKind.{FoundDateTimeKind}
 use Rattle.tz.specs.declared.datetime.found.FoundDateTimeKind.TheVariants.{Normal, Skipped}
-use Rattle.tz.specs.declared.datetime.walk.Entry.{Entry}
-use Rattle.tz.specs.declared.datetime.walk.Entry.TheVariants.{Shown, Jump}
+use Rattle.tz.specs.declared.datetime.entry.Entry.{Entry}
+use Rattle.tz.specs.declared.datetime.entry.Entry.TheVariants.{Shown, Jump}
 use Rattle.tz.specs.declared.datetime.walk.Piece.{Piece}
 use Rattle.tz.specs.declared.datetime.walk.Walk.{Walk}
 use Rattle.tz.proofs.CivilFields.{civil_exists}

@@ -8,7 +8,7 @@ use Rattle.tz.specs.Walks.{moment_of, IsEntryAt, IsEntryOutside}
 use Rattle.tz.specs.declared.datetime.found.FoundDateTimeKind.{FoundDateTimeKind}
 use Rattle.tz.specs.declared.datetime.found.FoundDateTimeKind.TheVariants.{Normal}
 use Rattle.tz.specs.declared.datetime.found.FoundDateTimeKind.TheVariants as kinds
-use Rattle.tz.specs.declared.datetime.walk.Entry.TheVariants.{Shown, Jump}
+use Rattle.tz.specs.declared.datetime.entry.Entry.TheVariants.{Shown, Jump}
 use Rattle.tz.specs.declared.datetime.resolution.Resolution.{Resolution}
 use Rattle.tz.specs.declared.datetime.resolution.Resolution.TheVariants.{Once, Twice, Skipped}
 

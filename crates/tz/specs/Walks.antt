@@ -10,8 +10,8 @@ use Rattle.tz.specs.DateTimes.{DateTime, ShowsInstant}
 use Rattle.tz.specs.Found.{Clock, IsFoundBy, IsEarlier, CanBeMade, instant_of}
 use Rattle.tz.specs.declared.datetime.found.FoundDateTimeKind.{FoundDateTimeKind}
 use Rattle.tz.specs.declared.datetime.found.FoundDateTimeKind.TheVariants.{Normal, Skipped}
-use Rattle.tz.specs.declared.datetime.walk.Entry.{Entry}
-use Rattle.tz.specs.declared.datetime.walk.Entry.TheVariants.{Shown, Jump}
+use Rattle.tz.specs.declared.datetime.entry.Entry.{Entry}
+use Rattle.tz.specs.declared.datetime.entry.Entry.TheVariants.{Shown, Jump}
 use Rattle.tz.specs.declared.datetime.walk.Piece.{Piece}
 use Rattle.tz.specs.declared.datetime.walk.Walk.{Walk}
 

@@ -9,8 +9,8 @@ use Rattle.tz_zone.specs.LeapTime.{IsLeapTime}
 use Rattle.tz_zone.specs.Clock.{AreReached, AreAhead, IsClock, IsLast, IsTypeAt, IsTypeOfLast}
 use Rattle.tz_zone.specs.ValidZone.{IsRising, IsSoundTable}
 use Rattle.tz_zone.specs.WindowTypes.{AreTypesIn, IsTypeBeforeLast}
-use Rattle.tz_zone.specs.declared.clock.window.WindowTypes.{WindowTypes}
-use Rattle.tz_zone.specs.declared.clock.window.WindowTypes.TheVariants.{One, Two, More}
+use Rattle.tz_zone.specs.declared.clock.types_in_window.WindowTypes.{WindowTypes}
+use Rattle.tz_zone.specs.declared.clock.types_in_window.WindowTypes.TheVariants.{One, Two, More}
 use Rattle.tz_zone.proofs.TypesAtCursors.{answered_between, leap_unless_refused}
 use Rattle.tz_zone.proofs.Clocks.{clock_before_last, transition_type_of_last}
 use Rattle.tz_zone.proofs.LeapTimes.{leap_time_mono}

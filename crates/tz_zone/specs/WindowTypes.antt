@@ -3,8 +3,8 @@ use Rattle.std.specs.Prelude.{⊤, ◌-◌, ℤ, ◌≤ℤ◌, ◌<ℤ◌, lengt
 use Rattle.tz_rule.specs.LocalTimeType.{LocalTimeType}
 use Rattle.tz_zone.specs.Table.{Zone}
 use Rattle.tz_zone.specs.Clock.{AreAhead, IsTransitionType}
-use Rattle.tz_zone.specs.declared.clock.window.WindowTypes.{WindowTypes}
-use Rattle.tz_zone.specs.declared.clock.window.WindowTypes.TheVariants.{One, Two, More}
+use Rattle.tz_zone.specs.declared.clock.types_in_window.WindowTypes.{WindowTypes}
+use Rattle.tz_zone.specs.declared.clock.types_in_window.WindowTypes.TheVariants.{One, Two, More}
 
 -- at a leap time before the last transition's the transitions give the type
 abbrev pub IsTypeBeforeLast : Zone → ℤ → LocalTimeType → Type 0

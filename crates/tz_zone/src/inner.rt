@@ -4,7 +4,8 @@
 pub use crate::clock::{
     ClockSegment, WindowTypes, clock_segment_after, clock_segment_at, window_types,
 };
-pub use crate::leap_time::{effect, leap};
+pub use crate::effect::effect;
+pub use crate::leap_time::leap;
 pub use crate::numbered_segments::{Segment, segment_at, segment_following};
 pub use crate::table::{Counted, OtherParts, Transitions, Uncounted};
 pub use crate::timezone::file::read_to_end;

@@ -3,6 +3,7 @@
 
 mod bisect;
 mod clock;
+mod effect;
 pub mod inner;
 pub mod laws;
 mod leap_time;

@@ -4,6 +4,7 @@ mod choice;
 mod date_time;
 mod date_time_list;
 mod disambiguation;
+mod entry;
 pub(crate) mod find;
 mod found;
 mod found_list;
@@ -16,6 +17,7 @@ mod slot_writer;
 mod totals;
 mod utc_date_time;
 mod walk;
+mod window;
 
 pub use date_time::DateTime;
 pub use disambiguation::Disambiguation;

@@ -11,7 +11,7 @@ ghost use Rattle.tz.specs.Resolutions.{IsResolution, IsResolutionAt};
 ghost use Rattle.tz.specs.Walks.{IsSmall};
 
 use super::date_time_list::DateTimeList;
-use super::walk::Entry;
+use super::entry::Entry;
 use tz_base::calendar::Fields;
 use tz_base::error::TzError;
 use tz_zone::inner::ClockSegment;

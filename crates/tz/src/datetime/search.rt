@@ -20,6 +20,7 @@ ghost use Rattle.tz.specs.declared.datetime.found.FoundDateTimeKind.TheVariants.
 use super::date_time_list::DateTimeList;
 use super::resolution::{across, around_jump};
 use super::walk::{Piece, Walk};
+use super::window::window;
 use super::{DateTime, FoundDateTimeKind};
 use tz_base::calendar::Fields;
 use tz_base::error::TzError;
@@ -50,20 +51,6 @@ fn piece_of(segment: &ClockSegment<'_>) -> Piece
         from: segment.from,
         local_time_type: type_in(segment),
     }
-}
-
-/// The instants between which a clock with offsets from the least to the greatest one can show a reading, or be set forward over it,
-/// both counted.
-fn window(reading: i64, least: i32, greatest: i32) -> (i64, i64)
-    requires small { IsSmall reading }
-    requires order { least ≤ℤ greatest }
-    ensures low { result.0 ≡ reading -ℤ greatest }
-    ensures high { result.1 ≡ reading -ℤ least }
-    ensures order { result.0 ≤ℤ result.1 }
-    ensures width { (result.1 -ℤ result.0) ≤ℤ pos (2 ^ 32) }
-    ensures reach { result.1 ≤ℤ pos 80000000000000000 }
-{
-    (reading - i64::from(greatest), reading - i64::from(least))
 }
 
 /// Adds to the list the date time at which a clock shows valid fields with this reading, where it has one type throughout their window.

@@ -11,7 +11,7 @@ ghost use Rattle.tz_query.specs.Answers.{AreWeekAnswers, IsMeetingAnswer, IsWeek
 
 use super::general::{answer_search, append_count, append_fault};
 use super::print::field_fault_name;
-use crate::query::weeks::{first_day_begins, week_of};
+use crate::query::meeting_dates::{first_day_begins, week_of};
 use std::alloc::{AllocError, Allocator};
 use tz::TimeZoneRef;
 use tz::inner::{Fields, TextBuffer};

@@ -5,6 +5,7 @@ mod cache;
 mod fast;
 mod general;
 mod lines;
+mod meeting_dates;
 mod meetings;
 mod numbers;
 mod page;
@@ -14,7 +15,6 @@ mod streams;
 mod suffix;
 mod suffixes;
 mod tzif;
-mod weeks;
 
 pub use answers::answer;
 pub use program::tool;

@@ -14,7 +14,7 @@ use super::change::Change;
 use super::next_changes::{likely_following, likely_preceding};
 use super::segment::ClockSegment;
 use super::segments::{clock_segment_after, clock_segment_at};
-use crate::leap_time::moment;
+use crate::effect::moment;
 use crate::table::{LeapSecond, OtherParts, Transitions};
 use tz_rule::laws::rule_parts_are_sound;
 use tz_rule::timezone::LocalTimeType;

@@ -7,7 +7,8 @@ ghost use Rattle.tz_zone.specs.ClockSegments.{IsBetween, IsAtCursor};
 ghost use Rattle.tz_zone.specs.TableChanges.{IsSpanEnd};
 
 use super::cursor::Cursor;
-use crate::leap_time::{SURELY_ANSWERED, has_begun, has_leap_time, leap_seconds_reached, moment};
+use crate::effect::moment;
+use crate::leap_time::{SURELY_ANSWERED, has_begun, has_leap_time, leap_seconds_reached};
 use crate::table::LeapSecond;
 
 /// A span of time.

@@ -9,11 +9,11 @@ mod next_changes;
 mod place;
 mod segment;
 mod segments;
-mod window;
+mod types_in_window;
 
 pub use change::Change;
 pub use changes::{following, preceding};
 pub use lookup::find_local_time_type;
 pub use segment::ClockSegment;
 pub use segments::{clock_segment_after, clock_segment_at};
-pub use window::{WindowTypes, window_types};
+pub use types_in_window::{WindowTypes, window_types};

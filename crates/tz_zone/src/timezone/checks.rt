@@ -7,7 +7,7 @@ ghost use Rattle.tz_zone.specs.LeapTime.{IsOneSecond};
 ghost use Rattle.tz_zone.specs.ValidZone.{IsRuleTypeAt, MayBeFirst, MayFollow, FollowsAt, AreLeapSeconds, HasTypeAtPlace, RisesAtPlace, IsFirstTransitionFault, IsSoundTable, IsRuleFault, RuleAnswers, RuleAgrees, IsValidZone, IsFirstZoneFault};
 
 use super::{LeapSecond, LocalTimeType, Transition, TransitionRule};
-use crate::leap_time;
+use crate::{effect, leap_time};
 use tz_base::error::TzError;
 use tz_base::error::timezone::TimeZoneError;
 
@@ -137,7 +137,7 @@ fn rule_type_at<'a>(
     ensures ok { IfOk result (λ t. IsRuleTypeAt leap_seconds.now rule.now unix_leap_time t.now) }
     ensures err { IfErr result (λ e. (e ≡ TzError.OutOfRange) × ((t : LocalTimeType) → ¬ IsRuleTypeAt leap_seconds.now rule.now unix_leap_time t)) }
 {
-    match leap_time::effect(leap_seconds, unix_leap_time) {
+    match effect::effect(leap_seconds, unix_leap_time) {
         Ok(unix_time) => tz_rule::inner::find_local_time_type(rule, unix_time),
         Err(error) => Err(error),
     }

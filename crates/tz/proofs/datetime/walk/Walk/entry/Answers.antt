@@ -7,8 +7,8 @@ use mir.Syntax.{w32, w64}
 use mir.Val.{to_z, of_z, SFits}
 use Rattle.tz_rule.specs.LocalTimeType.{LocalTimeType}
 use Rattle.tz.specs.Walks.{IsEntryOf, IsSmall}
-use Rattle.tz.specs.declared.datetime.walk.Entry.{Entry}
-use Rattle.tz.specs.declared.datetime.walk.Entry.TheVariants.{Shown, Jump}
+use Rattle.tz.specs.declared.datetime.entry.Entry.{Entry}
+use Rattle.tz.specs.declared.datetime.entry.Entry.TheVariants.{Shown, Jump}
 use Rattle.tz.specs.declared.datetime.walk.Walk.{Walk}
 use Rattle.tz.proofs.WalkSteps.{no_entry_before, no_entry_after}
 use Rattle.tz.proofs.datetime.walk.Walk.entry.Goals as goal

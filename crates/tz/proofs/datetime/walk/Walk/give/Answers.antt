@@ -7,7 +7,7 @@ use mir.Syntax.{w64}
 use Rattle.tz_base.specs.declared.error.TzError.{TzError}
 use Rattle.tz_base.specs.declared.error.TzError.TheVariants as faults
 use Rattle.tz.specs.Walks.{IsEntryAt, IsEntryOf, IsEntryOutside, IsGiveFault}
-use Rattle.tz.specs.declared.datetime.walk.Entry.{Entry}
+use Rattle.tz.specs.declared.datetime.entry.Entry.{Entry}
 use Rattle.tz.specs.declared.datetime.walk.Walk.{Walk}
 use Rattle.tz.proofs.datetime.walk.Walk.give.Goals as goal
 
