@@ -1,5 +1,7 @@
 """A copy of the repository, for what is to leave it as it is."""
+import hashlib
 import os
+import pathlib
 import shutil
 import subprocess
 import sys
@@ -15,8 +17,38 @@ def copied(folder):
             shutil.copytree(f'{TOP}/crates/{crate}/out/rlib', f'{folder}/crates/{crate}/out/rlib')
 
 
+def libraries_of(uses):
+    """The crates of the repository that these words of crates.txt name, and those below them."""
+    found, left = set(), uses.split()
+    with open(f'{TOP}/crates.txt') as file:
+        below = dict(line.split(':') for line in file if ':' in line and not line.startswith('#'))
+    while left:
+        name = left.pop()
+        if name in below and name not in found:
+            found.add(name)
+            left += below[name].split()
+    return sorted(found)
+
+
+def checksum(name, uses, text, is_over_libraries):
+    """A checksum of all that a program is made of: its text, the libraries below it, and the kit."""
+    made_of = hashlib.sha256(f'{name} {uses} '.encode())
+    made_of.update(subprocess.run(['rt', 'version'], capture_output=True, check=True).stdout)
+    made_of.update(pathlib.Path(text).read_bytes())
+    for library in libraries_of(uses) if is_over_libraries else []:
+        for folder in ('src', 'specs', 'proofs'):
+            for path in sorted(path for path in pathlib.Path(f'{TOP}/crates/{library}/{folder}').rglob('*') if path.is_file()):
+                made_of.update(str(path.relative_to(TOP)).encode() + path.read_bytes())
+    return made_of.hexdigest()
+
+
 def built_program(folder, name, uses, text, is_over_libraries):
-    """Builds a Rattle program in this folder, over a copy of the repository's libraries or without: proves it, and gives its path, or none."""
+    """Builds a Rattle program in this folder, over a copy of the repository's libraries or without: proves it, and gives its path, or none. One that
+    an earlier run built there of the same sources stays."""
+    program, note = f'{folder}/{name}', f'{folder}/{name}.sum'
+    made_of = checksum(name, uses, text, is_over_libraries)
+    if os.path.exists(program) and os.path.exists(note) and pathlib.Path(note).read_text() == made_of:
+        return program
     shutil.rmtree(f'{folder}/copy', ignore_errors=True)
     crate = f'{folder}/copy/crates/{name}'
     if is_over_libraries:
@@ -29,6 +61,7 @@ def built_program(folder, name, uses, text, is_over_libraries):
     subprocess.run(['rt', 'run'], cwd=crate, stdin=subprocess.DEVNULL, stdout=sys.stderr)
     if not os.path.exists(f'{crate}/out/{name}'):
         return None
-    program = shutil.copy(f'{crate}/out/{name}', f'{folder}/{name}')
+    shutil.copy(f'{crate}/out/{name}', program)
+    pathlib.Path(note).write_text(made_of)
     shutil.rmtree(f'{folder}/copy')
     return program
