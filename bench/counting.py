@@ -14,6 +14,8 @@ MANY, FEW = 6000, 2000
 LONG_MANY, LONG_FEW = 600, 200
 SLOW = 100000
 SLOW_MANY, SLOW_FEW = 60, 20
+# Of long calls, which are the same each time.
+SLOW_LONG_MANY, SLOW_LONG_FEW = 6, 2
 
 
 # The same for all programs, since a longer one takes more instructions. Go's runtime sends itself signals, which valgrind does not always bear.
@@ -53,17 +55,17 @@ def processor_time(command, given):
     return after.ru_utime + after.ru_stime - before.ru_utime - before.ru_stime
 
 
-def is_slow(program, arguments, given, some):
-    """Whether 20 lines or calls take more than a slow program's each."""
-    return count(program, arguments + some[0], given[0])[0] - count(program, arguments + some[1], given[1])[0] > 20 * SLOW
+def is_slow(program, arguments, given, words, some=20):
+    """Whether this many lines or calls take more than a slow program's each."""
+    return count(program, arguments + words[0], given[0])[0] - count(program, arguments + words[1], given[1])[0] > some * SLOW
 
 
-def of_a_line(program, arguments, queries):
-    """The instructions of a line, start-up taken off."""
+def of_a_line(program, arguments, row):
+    """The instructions of a row's line, start-up taken off."""
     few, many = FEW, MANY
-    if is_slow(program, arguments, (input_of(queries[:20]), b''), ([], [])):
+    if row.zone.name == '100000 transitions' and is_slow(program, arguments, (input_of(row.queries[:20]), b''), ([], [])):
         few, many = SLOW_FEW, SLOW_MANY
-    counted = [count(program, arguments, input_of(queries[:lines]))[0] for lines in (few, many)]
+    counted = [count(program, arguments, input_of(row.queries[:lines]))[0] for lines in (few, many)]
     return round((counted[1] - counted[0]) / (many - few))
 
 
@@ -71,8 +73,9 @@ def of_calls(program, arguments, row):
     """The instructions of a row's call with its loop, how many calls were made, and the sum that it printed."""
     few, many = (LONG_FEW, LONG_MANY) if row.is_long else (FEW, MANY)
     given = input_of(row.words)
-    if row.zone.name == '100000 transitions' and is_slow(program, arguments, (given, given), ([row.call, '20'], [row.call, '0'])):
-        few, many = SLOW_FEW, SLOW_MANY
+    some = 2 if row.is_long else 20
+    if row.zone.name == '100000 transitions' and is_slow(program, arguments, (given, given), ([row.call, str(some)], [row.call, '0']), some):
+        few, many = (SLOW_LONG_FEW, SLOW_LONG_MANY) if row.is_long else (SLOW_FEW, SLOW_MANY)
     counted, sums = zip(*(count(program, [*arguments, row.call, str(times)], given) for times in (few, many)))
     return (counted[1] - counted[0]) / (many - few), many, int(sums[1].split()[1])
 

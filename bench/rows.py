@@ -8,6 +8,10 @@ import lines
 
 ZONEINFO = '/usr/share/zoneinfo/'
 STRING = 'CET-1CEST,M3.5.0,M10.5.0/3'
+# A rule with two types whose daylight saving time never ends, so that its clock never changes.
+CONSTANT = 'XXX3EDT4,0/0,J365/23'
+# A rule whose latest start lies after its earliest end, so that these have to be compared in each kind of year.
+MEETING = 'AAA0BBB,M3.2.0/24,M3.3.0/0'
 FIRST, LAST = 1950, 2037
 SEED = 7
 
@@ -26,7 +30,32 @@ GOALS = {
     '`DateTime::find_n`, at jumps, TZ string': 275, '`DateTime::find_n`, random, 100000 transitions': 440,
     '`TimeZoneRef::following`, random, Paris': 200, 'next of `changes_after`, 1900 to 2100, Paris': 120,
     '`UtcDateTime::new` and `unix_time`': 60, '`UtcDateTime::checked_add` and `unix_time`': 100,
-    '`TimeZone::from_tz_data`, Paris': 8000,
+    '`TimeZone::from_tz_data`, Paris': 8000, '`TimeZone::from_tz_data`, 100000 transitions': 2500000,
+    '`TimeZoneSettings` without directories, TZ string': 2600, '`AlternateTime::new`, TZ string': 1200, '`AlternateTime::new`, days that meet': 5000,
+}
+
+
+# Rows that README.md says nothing of: it speaks of zones with transitions or a rule, and of usual calls.
+APART = ('`DateTime::from_timespec`, fixed offset', '`DateTime::find_n`, fixed offset', '`TimeZoneRef::following`, rule without a change')
+
+
+# Why tz takes more than the best peer, and the rows in which it may: a row says so where it does.
+REASONS = {
+    'a': 'checks the fields, and makes date times, at jumps two, with fields, offset and name, where the others return seconds (date without a check);',
+    'b': 'allocates a list of them, and more room for a second one: `find_n` uses slots of the caller, and the peers return one or two values;',
+    'c': 'searches anew, where cctz first tries the transition that it found last;',
+    'd': 'adds to calendar fields, where jiff, Abseil and Go add to a number;',
+    'e': 'looks for a file of that name in three directories, as tz-rs does, by a call of the kit that clears 4096 bytes each time;',
+    'f': 'checks that start and end of the rule keep their order in all years, and makes a table of each.',
+}
+BEHIND = {
+    '`DateTime::find`, fixed offset': 'ab', '`DateTime::find`, random, Paris': 'b', '`DateTime::find`, at jumps, Paris': 'b',
+    '`DateTime::find`, at jumps, TZ string': 'b', '`DateTime::find`, random, 100000 transitions': 'b',
+    '`DateTime::find`, weekly, Paris': 'bc', '`DateTime::find_n`, fixed offset': 'a',
+    '`UtcDateTime::checked_add` and `unix_time`': 'd', '`TimeZone::from_posix_tz`, TZ string': 'e',
+    '`TimeZoneSettings` without directories, TZ string': 'f',
+    'time of `DateTime::find`, random, Paris': 'b', 'time of `DateTime::find_n`, random, Paris': 'a', 'time of `DateTime::find_n`, at jumps, Paris': 'a',
+    'time of `DateTime::find_n`, random, 100000 transitions': 'a',
 }
 
 
@@ -70,6 +99,8 @@ class Zones:
         self.string = Zone('TZ string', ['-z', STRING], string, lines.jumps_of_string(STRING, 1900, 3000))
         self.many = Zone('100000 transitions', ['-f', many], many, lines.jumps_of_file(many))
         self.leaps = Zone('leap seconds', ['-f', leaps], leaps, [], lines.last_year_of_file(leaps))
+        self.constant = Zone('rule without a change', ['-z', CONSTANT], '', [])
+        self.meeting = Zone('days that meet', ['-z', MEETING], '', [])
 
 
 def query_lines(zones, count, seed=SEED):
@@ -142,7 +173,6 @@ def calls(zones, count, seed=SEED):
     yield row('`DateTime::from_timespec`, sorted, Paris', 'from_timespec', paris, 'sorted instants', timed=True)
     yield row('`DateTime::from_timespec`, past the table, Paris', 'from_timespec', paris, 'far instants')
     yield row('`DateTime::from_timespec`, random, TZ string', 'from_timespec', text, 'instants', timed=True)
-    yield row('`DateTime::from_timespec`, sorted, TZ string', 'from_timespec', text, 'sorted instants')
     yield row('`DateTime::from_timespec`, 100000 transitions', 'from_timespec', many, 'instants')
     yield row('`DateTime::from_timespec`, leap seconds', 'from_timespec', leaps, 'instants')
     for call in ('find', 'find_n'):
@@ -155,18 +185,21 @@ def calls(zones, count, seed=SEED):
         yield row(f'{shown}, at jumps, TZ string', call, text, 'local times at jumps')
         yield row(f'{shown}, random, 100000 transitions', call, many, 'local times', timed=call == 'find_n')
     yield row('`DateTime::find`, weekly, Paris', 'find', paris, 'weekly local times')
-    yield row('`DateTime::find`, at jumps, 100000 transitions', 'find', many, 'local times at jumps')
     yield row('`DateTime::find`, leap seconds', 'find', leaps, 'local times')
     yield row('`TimeZoneRef::following`, random, Paris', 'following', paris, 'instants')
     yield row('`TimeZoneRef::following`, random, TZ string', 'following', text, 'instants')
+    yield row('`TimeZoneRef::following`, rule without a change', 'following', zones.constant, 'instants', long=True)
     yield row('next of `changes_after`, 1900 to 2100, Paris', 'walk', paris, 'instants')
     yield row('`Display` into a new string, Paris', 'display', paris, 'instants of local years', timed=True)
     yield row('`UtcDateTime::from_timespec`', 'utc_from_timespec', fixed, 'instants')
     yield row('`UtcDateTime::new` and `unix_time`', 'utc_new', fixed, 'local times')
     yield row('`UtcDateTime::checked_add` and `unix_time`', 'utc_add', fixed, 'instants')
     yield row('`TimeZone::from_tz_data`, Paris', 'from_tz_data', paris, 'instants', long=True)
+    yield row('`TimeZone::from_tz_data`, 100000 transitions', 'from_tz_data', many, 'instants', long=True)
     yield row('`TimeZone::from_posix_tz`, TZ string', 'from_posix_tz', text, 'instants', long=True)
     yield row('`TimeZoneSettings` without directories, TZ string', 'parse_string', text, 'instants', long=True)
+    yield row('`AlternateTime::new`, TZ string', 'rule', text, 'instants', long=True)
+    yield row('`AlternateTime::new`, days that meet', 'rule', zones.meeting, 'instants', long=True)
 
 
 def loop_of(call):

@@ -61,6 +61,10 @@ pub trait Zone: Sized {
     fn set(string: &str) -> bool;
     /// Makes a zone of a TZ string alone.
     fn parse(string: &str) -> bool;
+    /// Makes the zone's rule anew, of its parts.
+    fn made_rule(&self) -> bool {
+        refuse("no rule of parts")
+    }
 }
 
 fn number(at: &mut &[u8]) -> i64 {
@@ -225,6 +229,7 @@ fn make_calls<Z: Zone>(zone: &Z, argument: &str, call: &str, times: &str) {
         }
         "from_posix_tz" => run(call, times, &words, |_| u64::from(Z::set(argument))),
         "parse_string" => run(call, times, &words, |_| u64::from(Z::parse(argument))),
+        "rule" => run(call, times, &words, |_| u64::from(zone.made_rule())),
         _ => refuse("no such call"),
     }
 }

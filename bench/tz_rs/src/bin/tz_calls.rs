@@ -6,7 +6,7 @@ mod loops;
 use loops::{Entry, Local, Shown, Zone, refuse};
 use std::time::Duration;
 use tz::datetime::FoundDateTimeKind;
-use tz::timezone::TimeZoneSettings;
+use tz::timezone::{AlternateTime, TimeZoneSettings, TransitionRule};
 use tz::{DateTime, TimeZone, UtcDateTime};
 
 struct Made(TimeZone);
@@ -112,6 +112,13 @@ impl Zone for Made {
 
     fn parse(string: &str) -> bool {
         TimeZoneSettings::new(&[], |path| Ok(std::fs::read(path)?)).parse_posix_tz(string).is_ok()
+    }
+
+    fn made_rule(&self) -> bool {
+        let zone = self.0.as_ref();
+        let Some(TransitionRule::Alternate(rule)) = zone.extra_rule() else { refuse("no rule with two types") };
+        let (start, end) = (*rule.dst_start(), *rule.dst_end());
+        AlternateTime::new(*rule.std(), *rule.dst(), start, rule.dst_start_time(), end, rule.dst_end_time()).is_ok()
     }
 }
 
