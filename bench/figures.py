@@ -24,6 +24,11 @@ class Figures:
         """A row's figures; a new row comes last."""
         return self.sections.setdefault(section, {}).setdefault(row, {})
 
+    def arrange(self, section, names):
+        """Has a section's rows be these, in this order: a new one has no figures yet, and others go."""
+        kept = self.rows(section)
+        self.sections[section] = {name: kept.get(name, {}) for name in names}
+
     def put(self, section, row, program, figure):
         """Sets a figure; none takes it away."""
         figures = self.keep(section, row)

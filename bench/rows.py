@@ -46,14 +46,16 @@ REASONS = {
     'c': 'searches anew, where cctz first tries the transition that it found last;',
     'd': 'adds to calendar fields, where jiff, Abseil and Go add to a number;',
     'e': 'looks for a file of that name in three directories, as tz-rs does, by a call of the kit that clears 4096 bytes each time;',
-    'f': 'checks that start and end of the rule keep their order in all years, and makes a table of each.',
+    'f': 'makes tables of the starts and ends of a rule, which its lookups read; and jiff does not check that both keep their order in all years;',
+    'g': 'checks that the transitions of a file rise, which glibc does not.',
 }
 BEHIND = {
     '`DateTime::find`, fixed offset': 'ab', '`DateTime::find`, random, Paris': 'b', '`DateTime::find`, at jumps, Paris': 'b',
     '`DateTime::find`, at jumps, TZ string': 'b', '`DateTime::find`, random, 100000 transitions': 'b',
     '`DateTime::find`, weekly, Paris': 'bc', '`DateTime::find_n`, fixed offset': 'a',
     '`UtcDateTime::checked_add` and `unix_time`': 'd', '`TimeZone::from_posix_tz`, TZ string': 'e',
-    '`TimeZoneSettings` without directories, TZ string': 'f',
+    '`TimeZoneSettings` without directories, TZ string': 'f', '`AlternateTime::new`, TZ string': 'f', '`AlternateTime::new`, days that meet': 'f',
+    '`TimeZone::from_tz_data`, 100000 transitions': 'g',
     'time of `DateTime::find`, random, Paris': 'b', 'time of `DateTime::find_n`, random, Paris': 'a', 'time of `DateTime::find_n`, at jumps, Paris': 'a',
     'time of `DateTime::find_n`, random, 100000 transitions': 'a',
 }
