@@ -1,13 +1,16 @@
 #!/usr/bin/env python3
-"""Writes the tables of docs/BENCHMARKS.md and its pictures from bench/figures.json, which bench/peers/run makes, and from the repository's files.
+"""Writes the tables of docs/BENCHMARKS.md, its pictures, and what README.md says of them, from bench/figures.json, which bench/peers/run makes.
 
 usage: bench/tables.py
+
+The status is 1 where a row in which tz is behind has no reason in bench/rows.py, which it prints. Sizes are those of the repository's files.
 """
 import html
 import os
 import pathlib
 import re
 import sys
+import textwrap
 
 sys.path.insert(0, os.path.dirname(os.path.abspath(__file__)))
 import figures
@@ -15,6 +18,8 @@ import rows
 
 TOP = pathlib.Path(__file__).resolve().parent.parent
 PAGE = TOP / 'docs' / 'BENCHMARKS.md'
+README = TOP / 'README.md'
+COLUMNS = 150
 PEERS = ('tz-rs', 'glibc', 'Abseil', 'cctz', 'date', 'chrono-tz', 'Go', 'jiff')
 WIDTH, LEFT, BAR, HEAD, LONGEST = 900, 330, 11, 46, 4000
 STAR = r'\*'
@@ -31,31 +36,81 @@ def table(columns, lines):
     return '\n'.join(f'| {" | ".join(map(str, line))} |' for line in [columns, ['---'] * len(columns), *lines])
 
 
-def of_instructions(section, kept, peers, goals):
+class Reasons:
+    """Which reasons the rows gave in which tz is behind the best peer, and the rows that have none."""
+
+    def __init__(self):
+        self.given, self.missing = set(), []
+
+    def of(self, name, row):
+        """The letters behind a row's ratio."""
+        best = best_of(row)
+        if best is None or row.get('tz', 0) <= best:
+            return ''
+        letters = rows.BEHIND.get(name, '')
+        self.given |= set(letters)
+        if not letters:
+            self.missing.append(f'tz is behind without a reason: {name}')
+        return f' {", ".join(letters)}'
+
+    def shown(self):
+        """The reasons that were given, a line each."""
+        return '\n'.join(f'- {letter}: {reason}' for letter, reason in rows.REASONS.items() if letter in self.given)
+
+
+def of_instructions(section, kept, peers, goals, reasons):
     """Instructions beside the peers, and tz's over the least of them. A figure has a star where answers differ."""
     lines = []
     for name, row in kept.rows(section).items():
         best = best_of(row)
-        ratio = f'{row["tz"] / best:.2f}' if best and 'tz' in row else '–'
+        ratio = f'{row["tz"] / best:.2f}{reasons.of(name, row)}' if best and 'tz' in row else '–'
         differing = kept.rows(f'differing {section}').get(rows.search_of(name), {})
         cells = [f'{row[peer]}{STAR * (peer in differing)}' if peer in row else '–' for peer in peers]
         lines.append([name, row.get('tz', '–'), *([goals.get(name, '')] if goals else []), *cells, ratio])
     return table(['row', 'tz', *(['goal'] if goals else []), *peers, 'tz / best'], lines)
 
 
-def of_times(kept):
-    """Nanoseconds of tz, and of each peer how many times as many."""
+def of_times(kept, reasons):
+    """Nanoseconds of tz, of each peer how many times as many, and tz's over the least of them."""
     lines = []
     for section in ('times of lines', 'times of calls'):
         for name, row in kept.rows(section).items():
-            lines.append([name, f'{row["tz"]:.0f}', *(f'{row[peer] / row["tz"]:.2f}' if peer in row else '–' for peer in PEERS)])
-    return table(['row', 'tz, ns', *PEERS], lines)
+            if 'tz' in row and best_of(row):
+                ratio = f'{row["tz"] / best_of(row):.2f}{reasons.of(f"time of {name}", row)}'
+                lines.append([name, f'{row["tz"]:.0f}', *(f'{row[peer] / row["tz"]:.2f}' if peer in row else '–' for peer in PEERS), ratio])
+    return table(['row', 'tz, ns', *PEERS, 'tz / best'], lines)
+
+
+def of_versions(kept):
+    """What was measured, and when."""
+    version = {name: row['version'] for name, row in kept.rows('versions').items()}
+    days = [kept.rows('days').get(part, {}).get('day', 'no day') for part in ('lines', 'calls', 'times')]
+    shown = f'All was measured on {days[0]}.' if len(set(days)) == 1 else 'Lines were counted on {}, calls on {}, and times taken on {}.'.format(*days)
+    text = (f'The peers are tz-rs {version["tz-rs"]}, then glibc {version["glibc"]}, Abseil {version["Abseil"]}, cctz {version["cctz"]}, Hinnant\'s date '
+            f'{version["date"]}, chrono-tz {version["chrono-tz"]} and Go {version["Go"]} as packaged in Debian {version["Debian"]}, and the Rattle kit\'s port of jiff '
+            f'0.2.39. Zones are those of tzdata {version["tzdata"]}. {shown}')
+    return textwrap.fill(text, COLUMNS, break_on_hyphens=False)
+
+
+def span(kept, called):
+    """The least and the greatest figure of tz over the rows of a call, and by how much the best peer takes more."""
+    found = [row for name, row in kept.rows('calls').items() if name.startswith(f'`{called}`') and name not in rows.APART and 'tz' in row and best_of(row)]
+    figures_of, ratios = [row['tz'] for row in found], [best_of(row) / row['tz'] for row in found]
+    return min(figures_of), max(figures_of), f'{min(ratios):.1f}', f'{max(ratios):.1f}'
+
+
+def of_readme(kept):
+    """What README.md says of calls."""
+    lookup, search, following = (span(kept, name) for name in ('DateTime::from_timespec', 'DateTime::find_n', 'TimeZoneRef::following'))
+    return (f'In zones with transitions or a rule `DateTime::from_timespec` takes {lookup[0]} to {lookup[1]} instructions, and the best of eight other '
+            f'libraries {lookup[2]} to {lookup[3]} times as many. `find_n`, a search that does not allocate, takes {search[0]} to {search[1]}, and the best of them '
+            f'{search[2]} to {search[3]} times as many; `following` takes {following[0]} to {following[1]}, and the best {following[2]} to {following[3]} times as many')
 
 
 def of_scaling(kept):
     """The times of more and more lines."""
-    rows_of = [(int(name.split()[0]), row['tz']) for name, row in kept.rows('scaling').items()]
-    return table(['lines', *(count for count, _ in rows_of)], [['milliseconds', *(spent for _, spent in rows_of)]])
+    counts, spent = zip(*((name.split()[0], str(row['tz'])) for name, row in kept.rows('scaling').items()))
+    return f'Times are linear in the number of lines: {", ".join(counts)} random `T` lines over Paris take {", ".join(spent)} milliseconds.'
 
 
 def lines_of(files):
@@ -101,23 +156,46 @@ def picture(title, kept, section):
     return '\n'.join([*out, '</svg>', ''])
 
 
+def put_into_readme(kept):
+    """Writes what README.md says of calls, between its marks, and fills the lines of that item."""
+    text = README.read_text()
+    begin, end = '<!-- calls -->', '<!-- end -->'
+    first, last = text.rindex('\n', 0, text.index(begin)) + 1, re.compile(r'\n(?=\n|- )').search(text, text.index(end)).start()
+    item = re.sub(f'(?s){begin}.*?{end}', lambda _: f'{begin}{of_readme(kept)}{end}', text[first:last])
+    # A mark is one word here, and none begins a line.
+    marks = {begin: '<!--calls-->', end: '<!--end-->'}
+    for mark, word in marks.items():
+        item = item.replace(mark, word)
+    item = textwrap.fill(' '.join(item.split()), COLUMNS, subsequent_indent='  ', break_on_hyphens=False)
+    for mark, word in marks.items():
+        item = item.replace(word, mark)
+    README.write_text(text[:first] + item + text[last:])
+
+
 def write():
-    """Writes the tables into the page, between their marks, and the pictures beside it."""
+    """Writes the tables into the page, each from its mark to the next empty line, the pictures beside it, and README.md's item. Gives what is wrong."""
     kept = figures.Figures(TOP / 'bench' / 'figures.json')
+    reasons = Reasons()
     made = {
-        'lines': of_instructions('lines', kept, PEERS[:-1], {}),
-        'calls': of_instructions('calls', kept, PEERS, rows.GOALS),
-        'times': of_times(kept),
+        'versions': of_versions(kept),
+        'lines': of_instructions('lines', kept, PEERS[:-1], {}, reasons),
+        'calls': of_instructions('calls', kept, PEERS, rows.GOALS, reasons),
+        'times': of_times(kept, reasons),
         'scaling': of_scaling(kept),
         'sizes': of_sizes(),
     }
+    made['reasons'] = reasons.shown()
     page = PAGE.read_text()
     for name, text in made.items():
-        page = re.sub(rf'(<!-- {name} -->\n).*?(<!-- end -->)', lambda found: f'{found[1]}{text}\n{found[2]}', page, flags=re.DOTALL)
+        page = re.sub(rf'(<!-- {name} -->).*?(?=\n\n|\n?\Z)', lambda found: f'{found[1]}\n{text}'.rstrip(), page, flags=re.DOTALL)
     PAGE.write_text(page)
+    put_into_readme(kept)
     (TOP / 'docs' / 'instructions.svg').write_text(picture('Instructions for a query line', kept, 'lines'))
     (TOP / 'docs' / 'calls.svg').write_text(picture('Instructions for a call', kept, 'calls'))
+    return reasons.missing
 
 
 if __name__ == '__main__':
-    write()
+    wrong = write()
+    print(*wrong, sep='\n', end='\n' if wrong else '')
+    sys.exit(int(bool(wrong)))
