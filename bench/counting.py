@@ -21,6 +21,11 @@ SLOW_LONG_MANY, SLOW_LONG_FEW = 6, 2
 # The same for all programs, since a longer one takes more instructions. Go's runtime sends itself signals, which valgrind does not always bear.
 ENVIRONMENT = {'PATH': os.environ['PATH'], 'LC_ALL': 'C', 'GODEBUG': 'asyncpreemptoff=1'}
 TRIES = 5
+REFUSED = 3
+
+
+class Refused(Exception):
+    """A program has no such zone or no such call."""
 
 
 def run(command, given=b''):
@@ -38,6 +43,8 @@ def count(program, arguments, given=b''):
         found = re.search(rb'Collected : (\d+)', done.stderr)
         if found and not done.returncode:
             return int(found[1]), done.stdout.decode()
+        if done.returncode == REFUSED:
+            raise Refused
     sys.exit(f'{program} {" ".join(arguments)}: {(done.stdout + done.stderr).decode()[-2000:]}')
 
 
@@ -118,7 +125,7 @@ def command(doc, section, counted):
             elif given.json:
                 for (program, _), figure in zip(programs, counts):
                     stored.put(section, name, program, figure)
-            print(f'{name:56}' + ''.join(f'{figure:10}' for figure in counts) + behind, flush=True)
+            print(f'{name:56}' + ''.join(f'{"–" if figure is None else figure:>10}' for figure in counts) + behind, flush=True)
     if given.json:
         stored.write()
     sys.exit(is_above)
