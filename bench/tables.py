@@ -81,11 +81,19 @@ def of_times(kept, reasons):
     return table(['row', 'tz, ns', *PEERS, 'tz / best'], lines)
 
 
+def days_of(names, kept):
+    """The first of the days on which these libraries' lines were counted, their calls were, and their times were taken."""
+    made = [kept.rows('days').get(part, {}) for part in ('lines', 'calls', 'times')]
+    return [min((days[name] for name in names if name in days), default='no day') for days in made]
+
+
 def of_versions(kept):
     """What was measured, and when."""
     version = {name: row['version'] for name, row in kept.rows('versions').items()}
-    days = [kept.rows('days').get(part, {}).get('day', 'no day') for part in ('lines', 'calls', 'times')]
-    shown = f'All was measured on {days[0]}.' if len(set(days)) == 1 else 'Lines were counted on {}, calls on {}, and times taken on {}.'.format(*days)
+    days = days_of(['tz'], kept) + days_of(PEERS, kept)
+    shown = 'Lines were counted, calls were, and times were taken on {}, {} and {} for tz, and on {}, {} and {} for the others.'.format(*days)
+    if len(set(days)) == 1:
+        shown = f'All was measured on {days[0]}.'
     text = (f'The peers are tz-rs {version["tz-rs"]}, then glibc {version["glibc"]}, Abseil {version["Abseil"]}, cctz {version["cctz"]}, Hinnant\'s date '
             f'{version["date"]}, chrono-tz {version["chrono-tz"]} and Go {version["Go"]} as packaged in Debian {version["Debian"]}, and the Rattle kit\'s port of jiff '
             f'0.2.39. Zones are those of tzdata {version["tzdata"]}. {shown}')
