@@ -18,8 +18,9 @@ SLOW_MANY, SLOW_FEW = 60, 20
 SLOW_LONG_MANY, SLOW_LONG_FEW = 6, 2
 
 
-# The same for all programs and callers, since a longer one takes more instructions. Go's runtime sends itself signals, which valgrind does not always bear.
-ENVIRONMENT = {'PATH': '/usr/local/bin:/usr/bin:/bin', 'LC_ALL': 'C', 'GODEBUG': 'asyncpreemptoff=1'}
+# The same for all programs and callers, since a longer one takes more instructions. Go's runtime sends itself signals, which valgrind does not always bear,
+# and its counts vary less on one processor, and where it collects nothing.
+ENVIRONMENT = {'PATH': '/usr/local/bin:/usr/bin:/bin', 'LC_ALL': 'C', 'GODEBUG': 'asyncpreemptoff=1', 'GOMAXPROCS': '1', 'GOGC': 'off'}
 TRIES = 5
 REFUSED = 3
 
