@@ -1,16 +1,16 @@
 //! Rule days, and when in the day a rule comes.
 
-ghost use Rattle.std.specs.Prelude.{◌≡◌, ◌∷◌, ℕ, List, MatchResult};
+ghost use Rattle.std.specs.Prelude.{◌≡◌, ◌∷◌, ℕ, List, IfSome, MatchResult};
 ghost use Rattle.tz_base.specs.declared.error.timezone.TransitionRuleError.TheVariants.{InvalidRuleDayJulianDay};
 ghost use Rattle.tz_rule.specs.JulianDay.{IsJulianDay, IsZeroBasedDay};
-ghost use Rattle.tz_rule.specs.MonthWeek.{IsMonthWeek};
+ghost use Rattle.tz_rule.specs.MonthWeek.{IsMonthWeek, month_week};
 ghost use Rattle.tz_rule.specs.Day.{IsRuleDay};
 ghost use Rattle.tz_zone.specs.Bytes.{slash};
 ghost use Rattle.tz_zone.specs.TzText.{IsNumber, IsMonthWeekText, IsDay, IsTimeOfRule, IsTimeUpTo, day_time_hours, IsRuleText, IsRuleInRange};
 ghost use Rattle.tz_zone.specs.TzTextFault.{IsDayNumberFault, IsMonthWeekDayFault, IsDayFault, IsDayTimeFault, IsRuleTextFault};
 
 use super::cursor::{after_byte, expect_byte};
-use super::number::{read_short_number, read_year_day};
+use super::number::{read_short_number, read_two_digits, read_year_day};
 use super::time::{WrittenTime, read_day_time};
 use tz_base::error::TzError;
 use tz_base::error::parse::TzStringError;
@@ -41,9 +41,22 @@ fn read_zero_based_day(text: &[u8]) -> Result<(Julian0WithLeap, &[u8]), TzError>
     Ok((Julian0WithLeap::new(number)?, rest))
 }
 
-/// The month, the week and the week day after an `M`, and the rest of the bytes.
+/// The month, the week and the week day after an `M`, each of one digit or two, as strings usually have them, and the rest of the bytes.
 #[inline(always)]
-fn read_month_week_day(text: &[u8]) -> Result<(MonthWeekDay, &[u8]), TzError>
+fn read_usual_month_week_day(text: &[u8]) -> Option<(u8, u8, u8, &[u8])>
+    ensures { IfSome result (λ p. IsMonthWeekText text.now (month_week p.0 p.1 p.2) p.3.now) }
+{
+    let (month, rest) = read_two_digits(text)?;
+    let rest = after_byte(rest, b'.')?;
+    let (week, rest) = read_two_digits(rest)?;
+    let rest = after_byte(rest, b'.')?;
+    let (week_day, rest) = read_two_digits(rest)?;
+    Some((month, week, week_day, rest))
+}
+
+/// The month, the week and the week day after an `M`, of any length, and the rest of the bytes.
+#[inline(never)]
+fn read_long_month_week_day(text: &[u8]) -> Result<(MonthWeekDay, &[u8]), TzError>
     ensures { MatchResult result (λ p. IsMonthWeekText text.now p.0 p.1.now × IsMonthWeek p.0) (IsMonthWeekDayFault text.now) }
 {
     let (month, rest) = read_short_number(text)?;
@@ -52,6 +65,19 @@ fn read_month_week_day(text: &[u8]) -> Result<(MonthWeekDay, &[u8]), TzError>
     let rest = expect_byte(rest, b'.')?;
     let (week_day, rest) = read_short_number(rest)?;
     Ok((MonthWeekDay::new(month, week, week_day)?, rest))
+}
+
+/// The month, the week and the week day after an `M`, and the rest of the bytes.
+#[inline(always)]
+fn read_month_week_day(text: &[u8]) -> Result<(MonthWeekDay, &[u8]), TzError>
+    ensures { MatchResult result (λ p. IsMonthWeekText text.now p.0 p.1.now × IsMonthWeek p.0) (IsMonthWeekDayFault text.now) }
+{
+    match read_usual_month_week_day(text) {
+        Some((month, week, week_day, rest)) => {
+            Ok((MonthWeekDay::new(month, week, week_day)?, rest))
+        }
+        None => read_long_month_week_day(text),
+    }
 }
 
 /// The day of a rule, and the rest of the bytes.

@@ -23,7 +23,7 @@ fn after_digit(text: &[u8]) -> Option<(u8, &[u8])>
 
 /// The number at the beginning, where it has one digit or two, as most numbers of a string have, and the rest of the bytes.
 #[inline(always)]
-fn read_two_digits(text: &[u8]) -> Option<(u8, &[u8])>
+pub(super) fn read_two_digits(text: &[u8]) -> Option<(u8, &[u8])>
     ensures { IfSome result (λ p. IsNumber text.now p.0 p.1.now) }
 {
     let (first, rest) = after_digit(text)?;
