@@ -62,8 +62,10 @@ fn read_footer(footer: &[u8], extended: bool) -> Result<Option<TransitionRule>, 
     if text.is_empty() {
         return Ok(None);
     }
-    let rule = parse_posix_tz(text, extended)?;
-    Ok(Some(rule))
+    match parse_posix_tz(text, extended) {
+        Ok(rule) => Ok(Some(rule)),
+        Err(error) => Err(error),
+    }
 }
 
 /// The rule of a file that may have a footer.

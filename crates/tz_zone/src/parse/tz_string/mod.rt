@@ -108,7 +108,7 @@ fn named_type(
 }
 
 /// What the string denotes.
-#[inline(always)]
+#[inline(never)]
 fn read_text(text: &[u8], extended: bool) -> Result<TransitionRule, TzError>
     ensures { MatchResult result (IsTzText extended text.now) (IsTzTextFault extended text.now) }
 {
@@ -131,6 +131,7 @@ fn read_text(text: &[u8], extended: bool) -> Result<TransitionRule, TzError>
 /// The rule that a TZ string denotes. (POSIX.1-2017, Base Definitions, 8.3)
 ///
 /// An extended string may have day times from -167 to 167 hours. (RFC 8536, section 3.3.1)
+#[inline(always)]
 pub(crate) fn parse_posix_tz(text: &[u8], extended: bool) -> Result<TransitionRule, TzError>
     ensures ok { IfOk result (IsTzText extended text.now) }
     ensures err { IfErr result (IsTzTextFault extended text.now) }
