@@ -320,6 +320,66 @@ fn no_path_is_asked_once_one_has_answered(rt: HostRuntime) -> Result<(), Fail> {
     expect_answers(&rt, rt.alloc(), &ROWS)
 }
 
+/// Paths of 96 bytes, which need no memory, and those that are longer.
+#[test]
+fn long_names_are_asked_in_turn(rt: HostRuntime) -> Result<(), Fail> {
+    const USUAL: Replies = &[
+        (
+            "/a/Z/xxxxxxxxxxxxxxxxxxxxxxxxxxxxxxxxxxxxxxxxxxxxxxxxxxxxxxxxxxxxxxxxxxxxxxxxxxxxxxxxxxxxxxxxxxx",
+            Reply::NoFile,
+        ),
+        (
+            "/b/Z/xxxxxxxxxxxxxxxxxxxxxxxxxxxxxxxxxxxxxxxxxxxxxxxxxxxxxxxxxxxxxxxxxxxxxxxxxxxxxxxxxxxxxxxxxxx",
+            Reply::Utc,
+        ),
+        (
+            "/c/Z/xxxxxxxxxxxxxxxxxxxxxxxxxxxxxxxxxxxxxxxxxxxxxxxxxxxxxxxxxxxxxxxxxxxxxxxxxxxxxxxxxxxxxxxxxxx",
+            Reply::NoZone,
+        ),
+    ];
+    const LONGER: Replies = &[
+        (
+            "/a/Z/xxxxxxxxxxxxxxxxxxxxxxxxxxxxxxxxxxxxxxxxxxxxxxxxxxxxxxxxxxxxxxxxxxxxxxxxxxxxxxxxxxxxxxxxxxxx",
+            Reply::NoFile,
+        ),
+        (
+            "/b/Z/xxxxxxxxxxxxxxxxxxxxxxxxxxxxxxxxxxxxxxxxxxxxxxxxxxxxxxxxxxxxxxxxxxxxxxxxxxxxxxxxxxxxxxxxxxxx",
+            Reply::Utc,
+        ),
+        (
+            "/c/Z/xxxxxxxxxxxxxxxxxxxxxxxxxxxxxxxxxxxxxxxxxxxxxxxxxxxxxxxxxxxxxxxxxxxxxxxxxxxxxxxxxxxxxxxxxxxx",
+            Reply::NoZone,
+        ),
+    ];
+    static ROWS: [Row; 4] = [
+        (
+            USUAL,
+            "Z/xxxxxxxxxxxxxxxxxxxxxxxxxxxxxxxxxxxxxxxxxxxxxxxxxxxxxxxxxxxxxxxxxxxxxxxxxxxxxxxxxxxxxxxxxxx",
+            Answer::Type(0, "UTC"),
+            12,
+        ),
+        (
+            USUAL,
+            ":Z/xxxxxxxxxxxxxxxxxxxxxxxxxxxxxxxxxxxxxxxxxxxxxxxxxxxxxxxxxxxxxxxxxxxxxxxxxxxxxxxxxxxxxxxxxxx",
+            Answer::Type(0, "UTC"),
+            12,
+        ),
+        (
+            LONGER,
+            "Z/xxxxxxxxxxxxxxxxxxxxxxxxxxxxxxxxxxxxxxxxxxxxxxxxxxxxxxxxxxxxxxxxxxxxxxxxxxxxxxxxxxxxxxxxxxxx",
+            Answer::Type(0, "UTC"),
+            12,
+        ),
+        (
+            LONGER,
+            ":Z/xxxxxxxxxxxxxxxxxxxxxxxxxxxxxxxxxxxxxxxxxxxxxxxxxxxxxxxxxxxxxxxxxxxxxxxxxxxxxxxxxxxxxxxxxxxx",
+            Answer::Type(0, "UTC"),
+            12,
+        ),
+    ];
+    expect_answers(&rt, rt.alloc(), &ROWS)
+}
+
 /// Only the bare name is that of the machine's local time, and a colon alone is a name without bytes.
 #[test]
 fn other_names_are_looked_for(rt: HostRuntime) -> Result<(), Fail> {
@@ -422,14 +482,25 @@ fn local_time_is_refused(rt: HostRuntime) {
     }
 }
 
+/// Texts whose paths are longer than those that need no memory.
+const LONG_TEXT: &str =
+    "CET-1CEST,M3.5.0,M10.5.0/3                                                                                                    ";
+
+const LONG_BAD_TEXT: &str =
+    "EET-2EEST                                                                                                    ";
+
+const LONG_MISSING_FILE: &str =
+    ":Z/yyyyyyyyyyyyyyyyyyyyyyyyyyyyyyyyyyyyyyyyyyyyyyyyyyyyyyyyyyyyyyyyyyyyyyyyyyyyyyyyyyyyyyyyyyyyyyyyyyyy";
+
 /// Calls whose growths are refused in turn.
 #[derive(Clone, Copy, Debug)]
 enum Call {
     Local,
     Text,
     SecondDirectory,
-    BadText,
-    MissingFile,
+    LongText,
+    LongBadText,
+    LongMissingFile,
 }
 
 impl Call {
@@ -449,8 +520,9 @@ impl Call {
                 "CET-1CEST,M3.5.0,M10.5.0/3",
             ),
             Call::SecondDirectory => settings.parse_posix_tz(heap, "Z/x"),
-            Call::BadText => settings.parse_posix_tz(heap, "EET-2EEST"),
-            Call::MissingFile => settings.parse_posix_tz(heap, ":Z/y"),
+            Call::LongText => settings.parse_posix_tz(heap, LONG_TEXT),
+            Call::LongBadText => settings.parse_posix_tz(heap, LONG_BAD_TEXT),
+            Call::LongMissingFile => settings.parse_posix_tz(heap, LONG_MISSING_FILE),
         }
     }
 }
@@ -512,14 +584,15 @@ fn expect_refusal(rt: &impl Abort, alloc: Global, call: Call, fault: &Fault) {
 fn zones_with_each_growth_refused(rt: HostRuntime) -> Result<(), Fail> {
     expect_zone(&rt, rt.alloc(), Call::Local)?;
     expect_zone(&rt, rt.alloc(), Call::Text)?;
-    expect_zone(&rt, rt.alloc(), Call::SecondDirectory)
+    expect_zone(&rt, rt.alloc(), Call::SecondDirectory)?;
+    expect_zone(&rt, rt.alloc(), Call::LongText)
 }
 
 #[test]
 fn refusals_with_each_growth_refused(rt: HostRuntime) {
     let no_rules = Fault::Text(TzStringError::MissingDstStartEndRules);
-    expect_refusal(&rt, rt.alloc(), Call::BadText, &no_rules);
-    expect_refusal(&rt, rt.alloc(), Call::MissingFile, &Fault::Io);
+    expect_refusal(&rt, rt.alloc(), Call::LongBadText, &no_rules);
+    expect_refusal(&rt, rt.alloc(), Call::LongMissingFile, &Fault::Io);
 }
 
 mod texts;

@@ -1,6 +1,6 @@
 //! Settings by which the time zone of a string is found.
 
-ghost use Rattle.std.specs.Prelude.{◌≡◌, ◌⊎◌, ◌∷◌, map, Ok, Err, IfOk, IfErr, MatchOption, MatchResult, IsTrue, ◌↔◌, alloc_error};
+ghost use Rattle.std.specs.Prelude.{◌≡◌, ◌⊎◌, ◌∷◌, map, Ok, Err, IfOk, IfErr, IfSome, MatchOption, MatchResult, IsTrue, ◌↔◌, alloc_error};
 ghost use Rattle.std.specs.String.{string_bytes};
 ghost use Rattle.tz_base.specs.declared.error.Error.TheVariants.{Tz};
 ghost use Rattle.tz_base.specs.declared.error.ReadFault.TheVariants.{Memory};
@@ -13,6 +13,7 @@ ghost use Rattle.tz_zone.specs.ZoneRef.{own_zone_of};
 use super::{LocalTimeType, TimeZone, TransitionRule};
 use crate::parse::tz_string;
 use anyhow::anyhow;
+use arrayvec::ArrayString;
 use std::alloc::{AllocError, Allocator, Global};
 use tz_base::error::parse::TzStringError;
 use tz_base::error::{Error, ReadFault, TzError};
@@ -26,6 +27,9 @@ pub const DEFAULT_DIRECTORIES: &[&str] = &[
 
 /// The file of the machine's local time.
 const LOCAL_TIME_FILE: &str = "/etc/localtime";
+
+/// How long a path may be that needs no memory: those of the names of the time zone database are shorter.
+const USUAL_LEN: usize = 96;
 
 /// Whether the string means the machine's local time.
 fn is_local_time(text: &str) -> bool
@@ -48,20 +52,39 @@ fn is_absolute(name: &str) -> bool
     matches!(name.as_bytes(), [b'/', ..])
 }
 
-/// Writes the path of a name in a directory over another path, whose room it takes.
-fn put_path<A: Allocator + Copy>(
-    path: &mut String<A>,
+/// Writes the path of a name in a directory into the room of usual paths, and returns it, or `None` where the room is too short.
+#[inline(always)]
+fn usual_path<'p>(
+    room: &'p mut ArrayString<USUAL_LEN>,
     directory: &str,
     name: &str,
-) -> Result<(), AllocError>
-    ensures { IfOk result (λ _. string_bytes path.new ≡ path_in directory.now name.now) }
+) -> Option<&'p str>
+    ensures { IfSome result (λ path. path.now ≡ path_in directory.now name.now) }
 {
-    path.clear();
-    path.reserve(directory.len() + 1 + name.len())?;
+    room.clear();
+    if room.try_push_str(directory).is_err()
+        || room.try_push_str("/").is_err()
+        || room.try_push_str(name).is_err()
+    {
+        return None;
+    }
+    Some(room.as_str())
+}
+
+/// The path of a name in a directory, in memory.
+#[inline(never)]
+fn long_path<A: Allocator + Copy>(
+    alloc: A,
+    directory: &str,
+    name: &str,
+) -> Result<String<A>, AllocError>
+    ensures { IfOk result (λ path. string_bytes path ≡ path_in directory.now name.now) }
+{
+    let mut path = String::with_capacity(alloc, directory.len() + 1 + name.len())?;
     path.push_str(directory)?;
     path.push_str("/")?;
     path.push_str(name)?;
-    Ok(())
+    Ok(path)
 }
 
 /// The zone of the bytes of a file.
@@ -155,6 +178,25 @@ impl<'a, F: Fn(&str) -> Result<Vec<u8>, ReadFault>> TimeZoneSettings<'a, F> {
         (self.reader)(path)
     }
 
+    /// What the reader returns for the name in the directory.
+    #[inline(always)]
+    fn read_in_directory<A: Allocator + Copy>(
+        &self,
+        alloc: A,
+        room: &mut ArrayString<USUAL_LEN>,
+        directory: &str,
+        name: &str,
+    ) -> Result<Vec<u8>, ReadFault>
+        requires { F.IsAlwaysCallable (reader_of self.now) }
+        ensures { (result ≡ Err (Memory alloc_error)) ⊎ FnReturnsAt F.Fn (reader_of self.now) (path_in directory.now name.now) result }
+    {
+        if let Some(path) = usual_path(room, directory, name) {
+            return self.read(path);
+        }
+        let path = long_path(alloc, directory, name)?;
+        self.read(path.as_str())
+    }
+
     /// The file with the name in the first of the directories that has it, or `None` where none has it.
     fn find_in_directories<A: Allocator + Copy>(
         &self,
@@ -166,10 +208,9 @@ impl<'a, F: Fn(&str) -> Result<Vec<u8>, ReadFault>> TimeZoneSettings<'a, F> {
             ((fault : Fault) → FindsIn (FnReturnsAt F.Fn (reader_of self.now)) (directories_of self.now) name.now (Err (Failed fault)))
             (λ bytes. FindsIn (FnReturnsAt F.Fn (reader_of self.now)) (directories_of self.now) name.now (Ok bytes))) }
     {
-        let mut path = String::new(alloc);
+        let mut room = ArrayString::new();
         for directory in self.directories {
-            put_path(&mut path, directory, name)?;
-            match self.read(path.as_str()) {
+            match self.read_in_directory(alloc, &mut room, directory, name) {
                 Ok(bytes) => return Ok(Some(bytes)),
                 Err(ReadFault::Memory(error)) => return Err(error),
                 Err(ReadFault::Failed(_)) => {}
