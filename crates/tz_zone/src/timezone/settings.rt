@@ -88,6 +88,7 @@ fn long_path<A: Allocator + Copy>(
 }
 
 /// The zone of the bytes of a file.
+#[inline(never)]
 fn zone_of_bytes<A: Allocator + Copy>(alloc: A, bytes: &[u8]) -> Result<TimeZone<A>, Error>
     ensures { MatchResult result (λ zone. IsFileAnswer bytes.now (Ok (own_zone_of zone))) (λ e. (e ≡ Tz (NoMemory alloc_error)) ⊎ IsFileAnswer bytes.now (Err e)) }
 {
@@ -156,7 +157,7 @@ impl<'a, F: Fn(&str) -> Result<Vec<u8>, ReadFault>> TimeZoneSettings<'a, F> {
     ghost use Rattle.anyhow.specs.declared.error.Error.{Error as Fault};
     ghost use Rattle.std.specs.Fn.{FnReturnsAt};
     ghost use Rattle.tz_base.specs.declared.error.ReadFault.TheVariants.{Failed};
-    ghost use Rattle.tz_zone.specs.Settings.{FindsIn, Finds, IsLocalAnswer, IsNamedOrTextAnswer, IsSettingsAnswer, texts_of};
+    ghost use Rattle.tz_zone.specs.Settings.{FindsIn, Finds, IsLocalAnswer, IsNamedAnswer, IsNamedOrTextAnswer, IsSettingsAnswer, texts_of};
     ghost use Rattle.tz_zone.specs.SettingsParts.{directories_of, reader_of};
 
     /// The settings with these directories, and with this function that reads a file.
@@ -256,6 +257,7 @@ impl<'a, F: Fn(&str) -> Result<Vec<u8>, ReadFault>> TimeZoneSettings<'a, F> {
     }
 
     /// The machine's local time zone, from `/etc/localtime`.
+    #[inline(never)]
     pub fn parse_local<A: Allocator + Copy>(&self, alloc: A) -> Result<TimeZone<A>, Error>
         requires { F.IsAlwaysCallable (reader_of self.now) }
         ensures { MatchResult result
@@ -289,9 +291,20 @@ impl<'a, F: Fn(&str) -> Result<Vec<u8>, ReadFault>> TimeZoneSettings<'a, F> {
             return self.parse_local(alloc);
         }
         match after_colon(tz_string) {
-            Some(name) => zone_of_found(alloc, self.find(alloc, name)),
+            Some(name) => self.parse_name(alloc, name),
             None => self.parse_name_or_text(alloc, tz_string),
         }
+    }
+
+    /// The zone of the file with the name.
+    #[inline(never)]
+    fn parse_name<A: Allocator + Copy>(&self, alloc: A, name: &str) -> Result<TimeZone<A>, Error>
+        requires { F.IsAlwaysCallable (reader_of self.now) }
+        ensures { MatchResult result
+            (λ zone. IsNamedAnswer (FnReturnsAt F.Fn (reader_of self.now)) (directories_of self.now) name.now (Ok (own_zone_of zone)))
+            (λ e. (e ≡ Tz (NoMemory alloc_error)) ⊎ IsNamedAnswer (FnReturnsAt F.Fn (reader_of self.now)) (directories_of self.now) name.now (Err e)) }
+    {
+        zone_of_found(alloc, self.find(alloc, name))
     }
 
     /// The zone of the file with the name, or that of the TZ string where there is none.
