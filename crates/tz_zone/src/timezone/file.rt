@@ -66,16 +66,6 @@ fn open_fault(error: io::Error) -> ReadFault
     ReadFault::Failed(anyhow::Error::from(error))
 }
 
-/// Opens the file at the path.
-fn open<R: Files>(rt: &R, path: &str) -> Result<R::File, ReadFault>
-    ensures err { IfErr result IsFailed }
-{
-    match File::open(rt, path) {
-        Ok(file) => Ok(file),
-        Err(error) => Err(open_fault(error)),
-    }
-}
-
 /// The bytes of the file at the path, read to its end.
 ///
 /// A file that cannot be opened or read, such as a directory, is `Failed`; an allocation failure for its bytes is `Memory`. With the runtime
@@ -83,6 +73,8 @@ fn open<R: Files>(rt: &R, path: &str) -> Result<R::File, ReadFault>
 pub fn read_file<R: Files>(rt: &R, alloc: Global, path: &str) -> Result<Vec<u8>, ReadFault>
     ensures { IfOk result (λ bytes. IsReadOut R.File.remaining bytes.items) }
 {
-    let mut file = open(rt, path)?;
-    read_to_end(alloc, &mut file)
+    match File::open(rt, path) {
+        Ok(mut file) => read_to_end(alloc, &mut file),
+        Err(error) => Err(open_fault(error)),
+    }
 }
