@@ -1,9 +1,9 @@
 -- The directories from a place of the list on, and a text without a first byte.
 use Rattle.std.proofs.Common.{◌≡◌, ◌≢◌, ℕ, ◌+◌, ◌<◌, false, List, [], ◌∷◌, length, get_or, drop, sym, ap, ◌∙◌, add-one, Option, Some, None, Result, IfOk, Ok, Err, refl, subst, inl, inr}
-use Rattle.std.specs.Prelude.{◌⊎◌, Vec, alloc_error}
+use Rattle.std.specs.Prelude.{Vec}
 use Rattle.std.specs.declared.alloc.Global.{Global}
 use Rattle.anyhow.specs.declared.error.Error.{Error as Fault}
-use Rattle.tz_base.specs.declared.error.ReadFault.TheVariants.{Memory, Failed}
+use Rattle.tz_base.specs.declared.error.ReadFault.TheVariants.{Failed}
 use Rattle.std.proofs.Math.Seq.{drop-cons}
 use Rattle.std.specs.Borrow.{Bor}
 use Rattle.std.specs.Option.{MatchOption}
@@ -19,30 +19,18 @@ first_of_rest : (directories : List (Bor (List ℕ))) (i : ℕ) (d : Bor (List �
 first_of_rest directories i d within =
     ap texts_of (drop-cons directories i d within) ∙ ap (λ n. (get_or directories i d).now ∷ texts_of (drop n directories)) (sym (add-one i))
 
--- what a path gave, where an allocation failure may stand for it
-abbrev pub Came : (List ℕ → Read → Type 0) → List ℕ → Read → Type 0
-Came reads path r = (r ≡ Err (Memory alloc_error)) ⊎ reads path r
-
 -- bytes in the directory at a place, and a failure there
-pub found_here : (reads : List ℕ → Read → Type 0) (directories : List (Bor (List ℕ))) (i : ℕ) (d : Bor (List ℕ)) (name : List ℕ) (r : Read) (bytes : Vec ℕ Global) → i < length directories
-    → r ≡ Ok bytes → Came reads (path_in (get_or directories i d).now name) r → FindsIn reads (texts_of (drop i directories)) name (Ok bytes)
-found_here reads directories i d name r bytes within was came =
+pub found_here : (reads : List ℕ → Read → Type 0) (directories : List (Bor (List ℕ))) (i : ℕ) (d : Bor (List ℕ)) (name : List ℕ) (bytes : Vec ℕ Global) → i < length directories
+    → reads (path_in (get_or directories i d).now name) (Ok bytes) → FindsIn reads (texts_of (drop i directories)) name (Ok bytes)
+found_here reads directories i d name bytes within read =
     let P : List (List ℕ) → Type 0 = λ rest. FindsIn reads rest name (Ok bytes) in
-    let Q : Read → Type 0 = λ x. reads (path_in (get_or directories i d).now name) x in
-    elim came [
-      | inl memory ↦ (let clash : Ok bytes ≡ Err (Memory alloc_error) = sym was ∙ memory in cc)
-      | inr read ↦ subst P (sym (first_of_rest directories i d within)) (inl (bytes, refl, subst Q was read))
-    ]
+    subst P (sym (first_of_rest directories i d within)) (inl (bytes, refl, read))
 
-pub missed_here : (reads : List ℕ → Read → Type 0) (directories : List (Bor (List ℕ))) (i : ℕ) (d : Bor (List ℕ)) (name : List ℕ) (r : Read) (fault : Fault) (found : Read) → i < length directories
-    → r ≡ Err (Failed fault) → Came reads (path_in (get_or directories i d).now name) r → FindsIn reads (texts_of (drop (i + 1) directories)) name found → FindsIn reads (texts_of (drop i directories)) name found
-missed_here reads directories i d name r fault found within was came later =
+pub missed_here : (reads : List ℕ → Read → Type 0) (directories : List (Bor (List ℕ))) (i : ℕ) (d : Bor (List ℕ)) (name : List ℕ) (fault : Fault) (found : Read) → i < length directories
+    → reads (path_in (get_or directories i d).now name) (Err (Failed fault)) → FindsIn reads (texts_of (drop (i + 1) directories)) name found → FindsIn reads (texts_of (drop i directories)) name found
+missed_here reads directories i d name fault found within read later =
     let P : List (List ℕ) → Type 0 = λ rest. FindsIn reads rest name found in
-    let Q : Read → Type 0 = λ x. reads (path_in (get_or directories i d).now name) x in
-    elim came [
-      | inl memory ↦ (let clash : Err (Failed fault) ≡ Err (Memory alloc_error) = sym was ∙ memory in cc)
-      | inr read ↦ subst P (sym (first_of_rest directories i d within)) (inr (inr (fault, subst Q was read, later)))
-    ]
+    subst P (sym (first_of_rest directories i d within)) (inr (inr (fault, read, later)))
 
 -- a fault that nobody sees has no text
 pub unseen_fault : Fault
@@ -59,3 +47,11 @@ pub found_for : {E : Type 0} (reads : List ℕ → Read → Type 0) (directories
 found_for reads directories name (Err e) bare h = h
 found_for reads directories name (Ok None) bare h = (unseen_fault, inr (bare, h unseen_fault))
 found_for reads directories name (Ok (Some bytes)) bare h = inr (bare, h)
+
+-- and for one that is
+pub read_for : {E : Type 0} (reads : List ℕ → Read → Type 0) (directories : List (List ℕ)) (name : List ℕ) (r : Result (Option (Vec ℕ Global)) E) → Begins slash name
+    → IfOk r (λ found. MatchOption found ((fault : Fault) × reads name (Err (Failed fault))) (λ bytes. reads name (Ok bytes)))
+    → IfOk r (λ found. MatchOption found ((fault : Fault) × Finds reads directories name (Err (Failed fault))) (λ bytes. Finds reads directories name (Ok bytes)))
+read_for reads directories name (Err e) begins h = h
+read_for reads directories name (Ok None) begins h = (h.0, inl (begins, h.1))
+read_for reads directories name (Ok (Some bytes)) begins h = inl (begins, h)

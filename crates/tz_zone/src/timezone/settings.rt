@@ -179,23 +179,40 @@ impl<'a, F: Fn(&str) -> Result<Vec<u8>, ReadFault>> TimeZoneSettings<'a, F> {
         (self.reader)(path)
     }
 
-    /// What the reader returns for the name in the directory.
+    /// The file at the path, or `None` if it cannot be read. The reader's fault is dropped at once.
     #[inline(always)]
-    fn read_in_directory<A: Allocator + Copy>(
+    fn read_if_there(&self, path: &str) -> Result<Option<Vec<u8>>, AllocError>
+        requires { F.IsAlwaysCallable (reader_of self.now) }
+        ensures { IfOk result (λ found. MatchOption found
+            ((fault : Fault) × FnReturnsAt F.Fn (reader_of self.now) path.now (Err (Failed fault)))
+            (λ bytes. FnReturnsAt F.Fn (reader_of self.now) path.now (Ok bytes))) }
+    {
+        match self.read(path) {
+            Ok(bytes) => Ok(Some(bytes)),
+            Err(ReadFault::Memory(error)) => Err(error),
+            Err(ReadFault::Failed(_)) => Ok(None),
+        }
+    }
+
+    /// The file with the name in the directory, or `None` if it cannot be read.
+    #[inline(always)]
+    fn find_in_directory<A: Allocator + Copy>(
         &self,
         alloc: A,
         room: &mut ArrayString<USUAL_LEN>,
         directory: &str,
         name: &str,
-    ) -> Result<Vec<u8>, ReadFault>
+    ) -> Result<Option<Vec<u8>>, AllocError>
         requires { F.IsAlwaysCallable (reader_of self.now) }
-        ensures { (result ≡ Err (Memory alloc_error)) ⊎ FnReturnsAt F.Fn (reader_of self.now) (path_in directory.now name.now) result }
+        ensures { IfOk result (λ found. MatchOption found
+            ((fault : Fault) × FnReturnsAt F.Fn (reader_of self.now) (path_in directory.now name.now) (Err (Failed fault)))
+            (λ bytes. FnReturnsAt F.Fn (reader_of self.now) (path_in directory.now name.now) (Ok bytes))) }
     {
         if let Some(path) = usual_path(room, directory, name) {
-            return self.read(path);
+            return self.read_if_there(path);
         }
         let path = long_path(alloc, directory, name)?;
-        self.read(path.as_str())
+        self.read_if_there(path.as_str())
     }
 
     /// The file with the name in the first of the directories that has it, or `None` where none has it.
@@ -211,10 +228,9 @@ impl<'a, F: Fn(&str) -> Result<Vec<u8>, ReadFault>> TimeZoneSettings<'a, F> {
     {
         let mut room = ArrayString::new();
         for directory in self.directories {
-            match self.read_in_directory(alloc, &mut room, directory, name) {
-                Ok(bytes) => return Ok(Some(bytes)),
-                Err(ReadFault::Memory(error)) => return Err(error),
-                Err(ReadFault::Failed(_)) => {}
+            let found = self.find_in_directory(alloc, &mut room, directory, name)?;
+            if let Some(bytes) = found {
+                return Ok(Some(bytes));
             }
         }
         Ok(None)
@@ -249,11 +265,7 @@ impl<'a, F: Fn(&str) -> Result<Vec<u8>, ReadFault>> TimeZoneSettings<'a, F> {
         if !is_absolute(name) {
             return self.find_in_directories(alloc, name);
         }
-        match self.read(name) {
-            Ok(bytes) => Ok(Some(bytes)),
-            Err(ReadFault::Memory(error)) => Err(error),
-            Err(ReadFault::Failed(_)) => Ok(None),
-        }
+        self.read_if_there(name)
     }
 
     /// The machine's local time zone, from `/etc/localtime`.
