@@ -1,4 +1,5 @@
 pub mod FilledSlots
+pub mod LentSlots
 pub mod WalkSteps
 pub mod ClockTypes
 pub mod ReadingWindows

@@ -14,6 +14,7 @@ pub mod PrintedText
 pub mod TzStrings
 pub mod UtcConstants
 pub mod Lists
+pub mod LentSlots
 pub mod SlotEquality
 pub mod Jumps
 pub mod Meanings

@@ -19,6 +19,13 @@ use tz_base::error::TzError;
 use tz_zone::inner::{Counted, OtherParts, Transitions, Uncounted, offsets, other_parts};
 use tz_zone::timezone::TimeZoneRef;
 
+/// A search that failed, and the buffer as it left it.
+#[derive(Drop)]
+struct Refused<'a> {
+    buf: &'a mut [Option<FoundDateTimeKind>],
+    fault: TzError,
+}
+
 /// What [`DateTime::find`] finds of the fields.
 pub fn find_fields<A: Allocator + Copy>(
     alloc: A,
@@ -42,6 +49,7 @@ pub fn find_fields<A: Allocator + Copy>(
 
 impl DateTime {
     ghost use Rattle.std.specs.Prelude.{◌≡◌, ◌≢◌, ◌⊎◌, ◌+◌, ◌*◌, ◌^◌, ◌<◌, ◌≤◌, ℕ, List, length, ⊤, IfOk, IfErr, OnOk};
+    ghost use Rattle.std.specs.Borrow.{sem};
     ghost use Rattle.tz_base.specs.Fields.{IsValid, reading};
     ghost use Rattle.tz_zone.specs.Clock.{IsClock};
     ghost use Rattle.tz_zone.specs.Offsets.{AreEndOffsets};
@@ -54,6 +62,7 @@ impl DateTime {
     ghost use Rattle.tz.specs.Lists.{found_of, slots_of, count_of, reference_of};
     ghost use Rattle.tz.specs.FindFaults.{IsFindFault, IsPromised};
     ghost use Rattle.tz.specs.Slots.{filled};
+    ghost use Rattle.tz.specs.LentSlots.{RestsIfInvalid};
     ghost use Rattle.tz.specs.declared.datetime.found.FoundDateTimeKind.{FoundDateTimeKind};
 
     /// All date times at which the zone's clock shows the fields, and the forward jumps over them, in order of Unix time.
@@ -167,6 +176,7 @@ impl DateTime {
         nanoseconds: u32,
         time_zone_ref: TimeZoneRef<'_>,
     ) -> Result<FoundDateTimeListRefMut<'a>, TzError>
+        ensures* untouched { sem 𝓛 (RestsIfInvalid reference_of buf.entry (fields_of year month month_day hour minute second nanoseconds) result) }
         ensures same_reference { IfOk result (λ list. reference_of list ≡ buf.entry.ghost_name) }
         ensures ok { IfOk result (λ list. (found : List FoundDateTimeKind)
             × IsFound (IsClock (zone_of time_zone_ref.entry)) (fields_of year month month_day hour minute second nanoseconds) found
@@ -176,7 +186,9 @@ impl DateTime {
         ensures promised { IsPromised (zone_of time_zone_ref.entry) year → IfErr result (λ e. e ≢ TzError.OutOfRange) }
         ensures err { IfErr result (IsFindFault ⊥ (IsClock (zone_of time_zone_ref.entry)) (fields_of year month month_day hour minute second nanoseconds)) }
     {
-        let fields = Fields {
+        // A call and a match: the proof of `untouched` follows these statements.
+        match DateTime::listed(
+            buf,
             year,
             month,
             month_day,
@@ -184,12 +196,11 @@ impl DateTime {
             minute,
             second,
             nanoseconds,
-        };
-        let mut view = Uncounted::new(time_zone_ref.transitions());
-        let (least, greatest) = offsets(&time_zone_ref);
-        let parts = other_parts(&time_zone_ref);
-        let count = DateTime::fill(buf, &fields, &mut view, parts, least, greatest)?;
-        Ok(FoundDateTimeListRefMut::counted(buf, count))
+            time_zone_ref,
+        ) {
+            Ok(list) => Ok(list),
+            Err(refused) => Err(refused.fault),
+        }
     }
 
     /// What [`DateTime::find_n`] returns, and how many transitions were read.
@@ -207,6 +218,7 @@ impl DateTime {
         nanoseconds: u32,
         time_zone_ref: TimeZoneRef<'_>,
     ) -> Result<(FoundDateTimeListRefMut<'a>, u64), TzError>
+        ensures* untouched { sem 𝓛 (RestsIfInvalid (λ counted. reference_of counted.0) buf.entry (fields_of year month month_day hour minute second nanoseconds) result) }
         ensures same_reference { IfOk result (λ found. reference_of found.0 ≡ buf.entry.ghost_name) }
         ensures ok { IfOk result (λ counted. (found : List FoundDateTimeKind)
             × IsFound (IsClock (zone_of time_zone_ref.entry)) (fields_of year month month_day hour minute second nanoseconds) found
@@ -215,6 +227,92 @@ impl DateTime {
         ensures made { OnOk result (EachCanBeMade (IsClock (zone_of time_zone_ref.entry)) (fields_of year month month_day hour minute second nanoseconds)) }
         ensures promised { IsPromised (zone_of time_zone_ref.entry) year → IfErr result (λ e. e ≢ TzError.OutOfRange) }
         ensures err { IfErr result (IsFindFault ⊥ (IsClock (zone_of time_zone_ref.entry)) (fields_of year month month_day hour minute second nanoseconds)) }
+        ensures at_most { IfOk result (λ counted. (b w : ℕ) → length (zone_of time_zone_ref.entry).transitions < 2 ^ b
+            → AtMostTakeEffectAround (zone_of time_zone_ref.entry) (reading (fields_of year month month_day hour minute second nanoseconds)) w
+            → counted.1 ≤ 2 * b + w + 4) }
+        ensures at_least_one { IfOk result (λ counted. 0 < length (zone_of time_zone_ref.entry).transitions → 1 ≤ counted.1) }
+        ensures none { IfOk result (λ counted. length (zone_of time_zone_ref.entry).transitions ≡ 0 → counted.1 ≡ 0) }
+    {
+        // A call and a match: the proof of `untouched` follows these statements.
+        match DateTime::listed_counted(
+            buf,
+            year,
+            month,
+            month_day,
+            hour,
+            minute,
+            second,
+            nanoseconds,
+            time_zone_ref,
+        ) {
+            Ok(counted) => Ok(counted),
+            Err(refused) => Err(refused.fault),
+        }
+    }
+
+    /// What [`DateTime::find_n`] returns, or the buffer and the error.
+    fn listed<'a>(
+        buf: &'a mut [Option<FoundDateTimeKind>],
+        year: i32,
+        month: u8,
+        month_day: u8,
+        hour: u8,
+        minute: u8,
+        second: u8,
+        nanoseconds: u32,
+        time_zone_ref: TimeZoneRef<'_>,
+    ) -> Result<FoundDateTimeListRefMut<'a>, Refused<'a>>
+        ensures same_reference { IfOk result (λ list. reference_of list ≡ buf.entry.ghost_name) }
+        ensures ok { IfOk result (λ list. (found : List FoundDateTimeKind)
+            × IsFound (IsClock (zone_of time_zone_ref.entry)) (fields_of year month month_day hour minute second nanoseconds) found
+            × (count_of list ≡ length found) × (slots_of list ≡ filled buf.old found)) }
+        ensures valid { OnOk result (IsValid (fields_of year month month_day hour minute second nanoseconds)) }
+        ensures made { OnOk result (EachCanBeMade (IsClock (zone_of time_zone_ref.entry)) (fields_of year month month_day hour minute second nanoseconds)) }
+        ensures refused_reference { IfErr result (λ refused. refused.buf.ghost_name ≡ buf.entry.ghost_name) }
+        ensures untouched { IfErr result (λ refused. IsValid (fields_of year month month_day hour minute second nanoseconds) ⊎ (refused.buf.now ≡ buf.old)) }
+        ensures promised { IsPromised (zone_of time_zone_ref.entry) year → IfErr result (λ refused. refused.fault ≢ TzError.OutOfRange) }
+        ensures err { IfErr result (λ refused. IsFindFault ⊥ (IsClock (zone_of time_zone_ref.entry)) (fields_of year month month_day hour minute second nanoseconds) refused.fault) }
+    {
+        let fields = Fields {
+            year,
+            month,
+            month_day,
+            hour,
+            minute,
+            second,
+            nanoseconds,
+        };
+        let mut view = Uncounted::new(time_zone_ref.transitions());
+        let (least, greatest) = offsets(&time_zone_ref);
+        let parts = other_parts(&time_zone_ref);
+        match DateTime::fill(buf, &fields, &mut view, parts, least, greatest) {
+            Ok(count) => Ok(FoundDateTimeListRefMut::counted(buf, count)),
+            Err(fault) => Err(Refused { buf, fault }),
+        }
+    }
+
+    /// What [`DateTime::find_n_counted`] returns, or the buffer and the error.
+    fn listed_counted<'a>(
+        buf: &'a mut [Option<FoundDateTimeKind>],
+        year: i32,
+        month: u8,
+        month_day: u8,
+        hour: u8,
+        minute: u8,
+        second: u8,
+        nanoseconds: u32,
+        time_zone_ref: TimeZoneRef<'_>,
+    ) -> Result<(FoundDateTimeListRefMut<'a>, u64), Refused<'a>>
+        ensures same_reference { IfOk result (λ counted. reference_of counted.0 ≡ buf.entry.ghost_name) }
+        ensures ok { IfOk result (λ counted. (found : List FoundDateTimeKind)
+            × IsFound (IsClock (zone_of time_zone_ref.entry)) (fields_of year month month_day hour minute second nanoseconds) found
+            × (count_of counted.0 ≡ length found) × (slots_of counted.0 ≡ filled buf.old found)) }
+        ensures valid { OnOk result (IsValid (fields_of year month month_day hour minute second nanoseconds)) }
+        ensures made { OnOk result (EachCanBeMade (IsClock (zone_of time_zone_ref.entry)) (fields_of year month month_day hour minute second nanoseconds)) }
+        ensures refused_reference { IfErr result (λ refused. refused.buf.ghost_name ≡ buf.entry.ghost_name) }
+        ensures untouched { IfErr result (λ refused. IsValid (fields_of year month month_day hour minute second nanoseconds) ⊎ (refused.buf.now ≡ buf.old)) }
+        ensures promised { IsPromised (zone_of time_zone_ref.entry) year → IfErr result (λ refused. refused.fault ≢ TzError.OutOfRange) }
+        ensures err { IfErr result (λ refused. IsFindFault ⊥ (IsClock (zone_of time_zone_ref.entry)) (fields_of year month month_day hour minute second nanoseconds) refused.fault) }
         ensures at_most { IfOk result (λ counted. (b w : ℕ) → length (zone_of time_zone_ref.entry).transitions < 2 ^ b
             → AtMostTakeEffectAround (zone_of time_zone_ref.entry) (reading (fields_of year month month_day hour minute second nanoseconds)) w
             → counted.1 ≤ 2 * b + w + 4) }
@@ -233,8 +331,10 @@ impl DateTime {
         let mut view = Counted::new(time_zone_ref.transitions());
         let (least, greatest) = offsets(&time_zone_ref);
         let parts = other_parts(&time_zone_ref);
-        let count = DateTime::fill(buf, &fields, &mut view, parts, least, greatest)?;
-        Ok((FoundDateTimeListRefMut::counted(buf, count), view.looks()))
+        match DateTime::fill(buf, &fields, &mut view, parts, least, greatest) {
+            Ok(count) => Ok((FoundDateTimeListRefMut::counted(buf, count), view.looks())),
+            Err(fault) => Err(Refused { buf, fault }),
+        }
     }
 
     /// Writes what is found of the fields to the slots, as far as they go, and counts all entries.

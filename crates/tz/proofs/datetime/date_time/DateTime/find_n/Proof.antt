@@ -1,0 +1,147 @@
+-- A search returns the slots under their name, or they are let go with the fault and end as they were left.
+use Rattle.std.proofs.Common.{refl, [], ◌∷◌, lit<, w8, w32, Ok, Err}
+use Rattle.std.specs.Prelude.{Result}
+use Rattle.std.proofs.raw_atomic.Walks.{proved}
+use Rattle.std.proofs.ResultValues.{ok_of, err_of}
+use Rattle.std.proofs.VecSteps.Shapes.{arm_body}
+use mir.Syntax.{named}
+use mir.Val.{Val, of_list}
+use base.Logic.{SProp, id⊢}
+use base.Fml.{GName, fres}
+use prog.Wp.{Env, Wp, at_return, after_seq}
+use types.Kit.{Post, any_q, ‵, raw, ◌⊛◌, some, later, at_ret, ◌$◌, ◌∵◌, !, qed, by, move, drop, use0, use1, split, fsplit, fjoin, fpick, pick, await, rewrite, group, frame, suffices}
+use types.Run.{enter, of_opd, addr, from, fld, hop, stop, first, switches_on, exec, returns, no_more, and_then, lit}
+use types.Part.{whole, sub, agg}
+use types.Match.{live, vrt, in_variant}
+use types.ByLocal.{alloc_all, pass_all, free_all, look_at, look_in_at, get, get_in, get_tag, sets, sets_last, lands_as, env}
+use contract.Lifetimes.{Lfts}
+use contract.Running.{tables}
+use denote.Array.{Array}
+use denote.Builtin.{i32, u8, u32, SliceRefMutOf}
+use denote.Exit.{yes, no}
+use denote.Memory.{lone}
+use denote.Plain.{uint_vals, uint_Tells, uint_Lawful}
+use denote.RattleType.{RattleType}
+use denote.Signature.{Slot, plain, named_lft}
+use denote.Signed.{sint_vals, sint_Tells, sint_Lawful}
+use denote.Slice.{mut_slice_vals, mut_slice_Tells, mut_slice_Lawful}
+use denote.Steps.{heard, nothing}
+use denote.Triple.Call.{calls_at}
+use denote.Triple.Clauses.{Lasts, lasts, at_exit}
+use denote.Triple.Entry.{alive}
+use denote.Triple.Spec.{triple_of}
+use denote.Triple.Table.{framed}
+use denote.Triple.Walked.{Stays, stay_dropped, Goes, Goes-dropped, Goes-spent_slice, walk_of, ends_at}
+use Rattle.std.specs.contracts.result.Result as result
+use Rattle.tz_base.specs.contracts.error.TzError as fault
+use Rattle.tz_base.specs.declared.error.TzError.{TzError}
+use Rattle.tz_base.proofs.error.TzError.TheLaws as fault_laws
+use Rattle.tz_zone.specs.contracts.timezone.zone_ref.TimeZoneRef as zone
+use Rattle.tz_zone.proofs.timezone.zone_ref.TimeZoneRef.TheLaws as zone_laws
+use Rattle.tz.specs.DateTimes.{fields_of}
+use Rattle.tz.specs.LentSlots.{slot_row, RestsIfInvalid}
+use Rattle.tz.specs.Lists.{reference_of}
+use Rattle.tz.specs.declared.datetime.find.Refused.{Refused}
+use Rattle.tz.specs.declared.datetime.found_list_ref.FoundDateTimeListRefMut.{FoundDateTimeListRefMut}
+use Rattle.tz.specs.contracts.datetime.find.Refused as refused
+use Rattle.tz.specs.contracts.datetime.found_list_ref.FoundDateTimeListRefMut as list
+use Rattle.tz.specs.contracts.datetime.date_time.DateTime.find_n as f
+use Rattle.tz.specs.contracts.datetime.date_time.DateTime.listed as g
+use Rattle.tz.proofs.datetime.find.Refused.TheLaws as refused_laws
+use Rattle.tz.proofs.datetime.found_list_ref.FoundDateTimeListRefMut.TheLaws as list_laws
+use Rattle.tz.proofs.LentSlots.{by_result, if_ok_at, on_ok_at, if_err_at, slice_ends, ends_in, ends_as, variant_typed, heard_first, told, ok_taken, err_taken, fact_and, fact_last}
+use Rattle.tz.proofs.datetime.date_time.DateTime.listed.Met.{met}
+use Rattle.tz.proofs.datetime.date_time.DateTime.find_n.Statement.{statement}
+use Rattle.tz.proofs.datetime.date_time.DateTime.find_n.Code as code
+
+abbrev lent_slot : Slot 2
+lent_slot = SliceRefMutOf (0 ∷ []) tt (plain (λ _. slot_row)) (λ _. tt)
+
+abbrev zone_row : Lfts 2 → RattleType
+zone_row κs = zone.the_row (named_lft 2 1 tt κs)
+
+abbrev Found : Type 0
+Found = FoundDateTimeListRefMut
+
+abbrev found_row : Lfts 2 → RattleType
+found_row κs = list.the_row (named_lft 2 0 tt κs)
+
+abbrev refused_row : Lfts 2 → RattleType
+refused_row κs = refused.the_row (named_lft 2 0 tt κs)
+
+-- nothing is left of the parameters
+abbrev stayed : Stays f.ended.signature.params f.ended.kept
+stayed = (stay_dropped lent_slot no, (stay_dropped (plain (λ _. i32)) yes, (stay_dropped (plain (λ _. u8)) yes, (stay_dropped (plain (λ _. u8)) yes, (stay_dropped (plain (λ _. u8)) yes, (stay_dropped (plain (λ _. u8)) yes, (stay_dropped (plain (λ _. u8)) yes, (stay_dropped (plain (λ _. u32)) yes, (stay_dropped (plain zone_row) yes, tt)))))))))
+
+pub find_n_spec : {M : Type 1} → statement M
+find_n_spec 𝓤 𝓛 𝓜 𝓡 wired =
+    let c = f.clauses 𝓛 𝓜.mem 𝓡.returns in let W = walk_of 𝓛 f.ended stayed c in let 𝓣 = tables 𝓤 𝓛.H 𝓜 𝓡 𝓡.env in
+    let G = triple_of 𝓛 g.signature (g.spec 𝓛 𝓜.mem 𝓡.returns) in
+    let byte : Goes 𝓛 2 (plain (λ _. u8)) yes (stay_dropped (plain (λ _. u8)) yes) = Goes-dropped 𝓛 2 (plain (λ _. u8)) yes (λ κs x w. refl) in
+    proved 𝓛 f.ended stayed c 𝓜 𝓡
+    (Goes-spent_slice 𝓛 2 (0 ∷ []) tt (plain (λ _. slot_row)), (Goes-dropped 𝓛 2 (plain (λ _. i32)) yes (λ κs x w. refl), (byte, (byte, (byte, (byte, (byte, (Goes-dropped 𝓛 2 (plain (λ _. u32)) yes (λ κs x w. refl), (Goes-dropped 𝓛 2 (plain zone_row) yes (λ κs x w. refl), tt)))))))))
+    f.Key.name code.function (code.unfolded 𝓤 𝓛.H 𝓜 𝓡 wired)
+    (λ κs. (mut_slice_vals, (sint_vals w32, (uint_vals w8, (uint_vals w8, (uint_vals w8, (uint_vals w8, (uint_vals w8, (uint_vals w32, ((λ zone. zone_laws.lowered zone ∷ []), tt))))))))))
+    (λ κs. (mut_slice_Tells (named 0) κs.0 slot_row, (sint_Tells w32, (uint_Tells w8, (uint_Tells w8, (uint_Tells w8, (uint_Tells w8, (uint_Tells w8, (uint_Tells w32, ((zone_laws.lowers (named_lft 2 1 tt κs)).val_is, tt))))))))))
+    (λ κs qs bounds a _ are.
+    let fields = fields_of a.1.0 a.1.1.0 a.1.1.1.0 a.1.1.1.1.0 a.1.1.1.1.1.0 a.1.1.1.1.1.1.0 a.1.1.1.1.1.1.1.0 in
+    let z : G.Ghost = ((κs, qs, bounds, a, (mut_slice_vals a.0, (sint_vals w32 a.1.0, (uint_vals w8 a.1.1.0, (uint_vals w8 a.1.1.1.0, (uint_vals w8 a.1.1.1.1.0, (uint_vals w8 a.1.1.1.1.1.0, (uint_vals w8 a.1.1.1.1.1.1.0, (uint_vals w32 a.1.1.1.1.1.1.1.0, (zone_laws.lowered a.1.1.1.1.1.1.1.1.0 ∷ [], tt)))))))))), tt) in
+    let End : Val → SProp 𝓤 = W.post ((κs, qs, bounds, a, z.0.4), tt) in
+    let buf_typed = ((mut_slice_Lawful 𝓛 (named 0) κs.0 slot_row).typed a.0 _ are.0).0 in
+    let zone_typed = (((zone_laws.the_row_laws (named_lft 2 1 tt κs)).lawful 𝓛).typed a.1.1.1.1.1.1.1.1.0 _ are.1.1.1.1.1.1.1.1.0).0 in
+    qed 𝓛 (raw (G.pre z) ∷ []) ∵ enter ! _ _ _ _ _ $
+    alloc_all ! (λ l. pass_all ! refl (buf_typed, (((sint_Lawful 𝓛 w32).typed a.1.0 _ are.1.0).0, (((uint_Lawful 𝓛 w8).typed a.1.1.0 _ are.1.1.0).0, (((uint_Lawful 𝓛 w8).typed a.1.1.1.0 _ are.1.1.1.0).0, (((uint_Lawful 𝓛 w8).typed a.1.1.1.1.0 _ are.1.1.1.1.0).0, (((uint_Lawful 𝓛 w8).typed a.1.1.1.1.1.0 _ are.1.1.1.1.1.0).0, (((uint_Lawful 𝓛 w8).typed a.1.1.1.1.1.1.0 _ are.1.1.1.1.1.1.0).0, (((uint_Lawful 𝓛 w32).typed a.1.1.1.1.1.1.1.0 _ are.1.1.1.1.1.1.1.0).0, (zone_typed, tt))))))))) $
+    let En : Env 𝓤 𝓛.H = env (code.function).locals l in
+    let Then : Post 𝓤 𝓛.H = any_q (after_seq 𝓤 𝓛.H (Wp 𝓤 𝓛.H 𝓣.C 𝓣.Λ En code.Mir.t-6 (at_return 𝓤 𝓛.H En End)) (at_return 𝓤 𝓛.H En End)) in
+    -- the call, which takes all that there is
+    sets ! (addr ! (from ! (fld ! refl (hop ! (look_in_at ! 1 (sub ! 0 refl (whole !))) (stop !))))) refl (tt, tt) $
+    sets ! (agg ! (and_then ! (get ! refl) (and_then ! (get_in ! (fld ! refl (stop !)) (sub ! 1 refl (whole !))) (no_more !)))) refl buf_typed $
+    sets ! (of_opd ! (get ! refl)) refl zone_typed $
+    calls_at ! (framed 𝓤 𝓛.H 𝓜 (tables 𝓤 𝓛.H 𝓜 𝓡 𝓡.env)) G (met 𝓤 𝓛 𝓜 𝓡 (code.calls-tz::datetime::date_time::DateTime::listed 𝓡.env wired)) z
+    (and_then ! (get ! refl) (and_then ! (get ! refl) (and_then ! (get ! refl) (and_then ! (get ! refl) (and_then ! (get ! refl) (and_then ! (get ! refl) (and_then ! (get ! refl) (and_then ! (get ! refl) (and_then ! (get ! refl) (no_more !)))))))))) (λ v.
+    use1 𝓛 (later (some (λ (r : Result Found Refused). (raw (alive 𝓛 g.signature κs qs) ⊛ ‵ ((result.the_row (found_row κs) (refused_row κs)).own_val r (v ∷ []))) ⊛
+    some (λ (ws : Lasts g.ended κs a). ‵ (lasts g.ended κs a ws) ⊛ raw ((g.clauses 𝓛 𝓜.mem 𝓡.returns κs a).ensures tt r (at_exit g.ended κs a ws)))))) (id⊢ 𝓤 _) $
+    await ! tt $ pick ! (λ r. split ! $ move ! (1 ∷ []) $ pick ! (λ ws. split ! $ drop ! $
+    heard_first ! _ _ (λ same. heard_first ! _ _ (λ ok. heard_first ! _ _ (λ valid. heard_first ! _ _ (λ made. heard_first ! _ _ (λ same'. heard_first ! _ _ (λ untouched. heard_first ! _ _ (λ promised. heard ! _ (λ err.
+    split ! $ move ! (1 ∷ []) $ by_result r
+    -- [the list; the tokens]
+    (λ list e. rewrite ! 0 (λ (x : Result Found Refused). ‵ ((result.the_row (found_row κs) (refused_row κs)).own_val x (v ∷ []))) e refl $
+    ok_taken (found_row κs) (refused_row κs) ! list_laws.lowered (list_laws.lowers (named_lft 2 0 tt κs)).val_is list v (λ is owned.
+    let w : Val = list_laws.lowered list in let out : Result Found TzError = Ok list in
+    let typed = (((list_laws.the_row_laws (named_lft 2 0 tt κs)).lawful 𝓛).typed list _ owned).0 in let ok_typed = variant_typed (lone (found_row κs).mir) 0 w (lit< tt) typed in
+    lands_as ! is refl ok_typed $
+    first ! $ switches_on ! (get_tag ! (vrt ! refl (fld ! refl (stop !))) (whole !)) $ exec ! 𝓣.C 𝓣.Λ En (arm_body 0 code.Mir.s-5) Then $
+    sets ! (of_opd ! (get_in ! (vrt ! refl (fld ! refl (stop !))) (in_variant ! 0 0 refl refl (whole !)))) refl typed $
+    sets ! (of_opd ! (get ! refl)) refl typed $
+    sets_last ! (agg ! (and_then ! (lit ! tt) (and_then ! (get ! refl) (no_more !)))) refl ok_typed $
+    exec ! 𝓣.C 𝓣.Λ En code.Mir.t-6 (at_ret En End) $
+    sets ! (of_opd ! (get ! refl)) refl ok_typed $
+    returns ! (look_at ! 0 refl) $ free_all ! refl $
+    use1 𝓛 (‵ ((result.the_row (found_row κs) fault.the_row).own_val out (live 0 (of_list (w ∷ [])) ∷ []))) (ok_of 𝓛 (found_row κs) fault.the_row list w) $
+    use0 𝓛 (‵ (RestsIfInvalid reference_of a.0 fields out)) (ends_in 𝓛 (Array slot_row 0) _ _ _ _ (if_ok_at _ e same) (λ n. refl) [] tt) $
+    suffices ! _ (ends_at 𝓛 f.ended stayed c ((κs, qs, bounds, a, z.0.4), tt) (live 0 (of_list (w ∷ []))) out (tt, (tt, (tt, (tt, (tt, (tt, (tt, (tt, (tt, tt))))))))) (tt, (tt, (tt, (tt, (tt, (tt, (tt, (tt, (tt, tt)))))))))) $
+    nothing ! $ nothing ! $ fjoin ! $ nothing ! $ fjoin ! $ nothing ! $ fjoin ! $ nothing ! $ fjoin ! $ nothing ! $ fjoin ! $ nothing ! $ fjoin ! $ nothing ! $ fjoin ! $ nothing ! $ fjoin ! $ nothing ! $ fjoin ! $ move ! (3 ∷ 0 ∷ 2 ∷ []) $ group ! 3 $ frame ! $ frame ! $
+    by ! (fact_and 𝓤 (if_ok_at _ e same) (fact_and 𝓤 (if_ok_at _ e ok) (fact_and 𝓤 (on_ok_at _ e valid) (fact_and 𝓤 (on_ok_at _ e made) (fact_and 𝓤 (λ _. tt) (fact_last 𝓤 tt))))))))
+    (λ refused e. rewrite ! 0 (λ (x : Result Found Refused). ‵ ((result.the_row (found_row κs) (refused_row κs)).own_val x (v ∷ []))) e refl $
+    err_taken (found_row κs) (refused_row κs) ! (refused_laws.lowered (named_lft 2 0 tt κs)) (refused_laws.lowers (named_lft 2 0 tt κs)).val_is refused v (λ is owned.
+    let w : Val = refused_laws.lowered (named_lft 2 0 tt κs) refused in let u : Val = fault_laws.lowered refused.fault in let out : Result Found TzError = Err refused.fault in
+    let typed = (((refused_laws.the_row_laws (named_lft 2 0 tt κs)).lawful 𝓛).typed refused _ owned).0 in
+    lands_as ! is refl (variant_typed (lone (refused_row κs).mir) 1 w (lit< tt) typed) $
+    first ! $ switches_on ! (get_tag ! (vrt ! refl (fld ! refl (stop !))) (whole !)) $ exec ! 𝓣.C 𝓣.Λ En (arm_body 1 code.Mir.s-5) Then $
+    sets ! (of_opd ! (get_in ! (vrt ! refl (fld ! refl (stop !))) (in_variant ! 1 0 refl refl (whole !)))) refl typed $
+    -- [the fault; the slots; the tokens]
+    fpick ! (λ vss. fsplit ! $ drop ! $ fsplit ! $ move ! (1 ∷ []) $ fsplit ! $ move ! (1 ∷ []) $ drop ! $
+    told ! fault.the_row fault_laws.lowered fault_laws.lowers.val_is refused.fault vss.1.0 (λ is' owned'.
+    let fault_typed = ((fault_laws.the_row_laws.lawful 𝓛).typed refused.fault _ owned').0 in let err_typed = variant_typed (lone (fault.the_row).mir) 1 u (lit< tt) fault_typed in
+    sets ! (of_opd ! (get_in ! (fld ! refl (stop !)) (sub ! 1 refl (whole !)))) refl fault_typed $
+    sets_last ! (agg ! (and_then ! (lit ! tt) (and_then ! (get ! refl) (no_more !)))) refl err_typed $
+    exec ! 𝓣.C 𝓣.Λ En code.Mir.t-6 (at_ret En End) $
+    sets ! (of_opd ! (get ! refl)) refl err_typed $
+    returns ! (look_at ! 0 refl) $ free_all ! refl $
+    use1 𝓛 (‵ ((result.the_row (found_row κs) fault.the_row).own_val out (live 1 (of_list (u ∷ [])) ∷ []))) (err_of 𝓛 (found_row κs) fault.the_row refused.fault u) $
+    move ! (1 ∷ []) $ use1 𝓛 (‵ (fres refused.buf.ghost_name ((Array slot_row 0).coded.code refused.buf.now))) (slice_ends 𝓛 slot_row (named 0) κs.0 refused.buf vss.0) $
+    rewrite ! 0 (λ (γ : GName). ‵ (fres γ ((Array slot_row 0).coded.code refused.buf.now))) (if_err_at _ e same') refl $
+    use1 𝓛 (‵ (RestsIfInvalid reference_of a.0 fields out)) (ends_as 𝓛 (Array slot_row 0) _ _ _ refused.buf.now (λ w. tt) (if_err_at _ e untouched)) $
+    suffices ! _ (ends_at 𝓛 f.ended stayed c ((κs, qs, bounds, a, z.0.4), tt) (live 1 (of_list (u ∷ []))) out (tt, (tt, (tt, (tt, (tt, (tt, (tt, (tt, (tt, tt))))))))) (tt, (tt, (tt, (tt, (tt, (tt, (tt, (tt, (tt, tt)))))))))) $
+    nothing ! $ nothing ! $ fjoin ! $ nothing ! $ fjoin ! $ nothing ! $ fjoin ! $ nothing ! $ fjoin ! $ nothing ! $ fjoin ! $ nothing ! $ fjoin ! $ nothing ! $ fjoin ! $ nothing ! $ fjoin ! $ nothing ! $ fjoin ! $ move ! (3 ∷ 0 ∷ 2 ∷ []) $ group ! 3 $ frame ! $ frame ! $
+    by ! (fact_and 𝓤 tt (fact_and 𝓤 tt (fact_and 𝓤 tt (fact_and 𝓤 tt (fact_and 𝓤 (λ p. if_err_at _ e (promised p)) (fact_last 𝓤 (if_err_at _ e err))))))))))))))))))))))))
