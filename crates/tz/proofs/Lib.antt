@@ -1,5 +1,6 @@
 pub mod FilledSlots
 pub mod LentSlots
+pub mod SearchParameters
 pub mod WalkSteps
 pub mod ClockTypes
 pub mod ReadingWindows

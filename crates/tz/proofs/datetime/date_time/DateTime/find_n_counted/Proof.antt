@@ -1,6 +1,5 @@
 -- A search returns the slots under their name, or they are let go with the fault and end as they were left.
-use Prim.Native.Nat.{ℕ}
-use Rattle.std.proofs.Common.{refl, List, [], ◌∷◌, lit<, w8, w32, Ok, Err}
+use Rattle.std.proofs.Common.{refl, ℕ, List, [], ◌∷◌, lit<, Ok, Err}
 use Rattle.std.specs.Prelude.{Result}
 use Rattle.std.proofs.raw_atomic.Walks.{proved}
 use Rattle.std.proofs.ResultValues.{ok_of, err_of}
@@ -14,31 +13,26 @@ use types.Kit.{Post, any_q, ‵, raw, ◌⊛◌, some, later, at_ret, ◌$◌, �
 use types.Run.{enter, of_opd, addr, from, fld, hop, stop, first, switches_on, exec, returns, no_more, and_then, lit}
 use types.Part.{whole, sub, agg}
 use types.Match.{live, vrt, in_variant}
+use denote.Builtin.{u64}
 use types.ByLocal.{alloc_all, pass_all, free_all, look_at, look_in_at, get, get_in, get_tag, sets, sets_last, lands_as, env}
 use contract.Lifetimes.{Lfts}
 use contract.Running.{tables}
 use denote.Array.{Array}
-use denote.Builtin.{i32, u8, u32, u64, SliceRefMutOf}
-use denote.Exit.{yes, no}
 use denote.Memory.{lone}
-use denote.Plain.{uint_vals, uint_Tells, uint_Lawful}
 use denote.RattleType.{RattleType}
-use denote.Signature.{Slot, plain, named_lft}
-use denote.Signed.{sint_vals, sint_Tells, sint_Lawful}
-use denote.Slice.{mut_slice_vals, mut_slice_Tells, mut_slice_Lawful}
+use denote.Laws.{valss, all_Typed}
+use denote.Signature.{named_lft, types_at}
 use denote.Steps.{heard, nothing}
 use denote.Triple.Call.{calls_at}
 use denote.Triple.Clauses.{Lasts, lasts, at_exit}
 use denote.Triple.Entry.{alive}
 use denote.Triple.Spec.{triple_of}
 use denote.Triple.Table.{framed}
-use denote.Triple.Walked.{Stays, stay_dropped, Goes, Goes-dropped, Goes-spent_slice, walk_of, ends_at}
+use denote.Triple.Walked.{walk_of, ends_at}
 use Rattle.std.specs.contracts.result.Result as result
 use Rattle.tz_base.specs.contracts.error.TzError as fault
 use Rattle.tz_base.specs.declared.error.TzError.{TzError}
 use Rattle.tz_base.proofs.error.TzError.TheLaws as fault_laws
-use Rattle.tz_zone.specs.contracts.timezone.zone_ref.TimeZoneRef as zone
-use Rattle.tz_zone.proofs.timezone.zone_ref.TimeZoneRef.TheLaws as zone_laws
 use Rattle.tz.specs.DateTimes.{fields_of}
 use Rattle.tz.specs.LentSlots.{slot_row, RestsIfInvalid}
 use Rattle.tz.specs.Lists.{reference_of}
@@ -50,6 +44,7 @@ use Rattle.tz.specs.contracts.datetime.date_time.DateTime.find_n_counted as f
 use Rattle.tz.specs.contracts.datetime.date_time.DateTime.listed_counted as g
 use Rattle.tz.proofs.datetime.find.Refused.TheLaws as refused_laws
 use Rattle.tz.proofs.datetime.found_list_ref.FoundDateTimeListRefMut.TheLaws as list_laws
+use Rattle.tz.proofs.SearchParameters.{params, stayed, spelled, spelled_tells, gone, lawful}
 use Rattle.tz.proofs.LentSlots.{by_result, if_ok_at, on_ok_at, if_err_at, slice_ends, ends_in, ends_as, variant_typed, heard_first, told, ok_taken, err_taken, fact_and, fact_last}
 use Rattle.tz.proofs.datetime.date_time.DateTime.listed_counted.Met.{met}
 use Rattle.tz.proofs.datetime.date_time.DateTime.find_n_counted.Statement.{statement}
@@ -59,12 +54,6 @@ use denote.Param.Shared.{copy_shared}
 use denote.Struct.Field.{u64-field}
 use denote.Struct.Laws.{Lowered, u64-laws, u64-copy}
 use denote.Struct.Tuple.{AllLaws, Tuple, tuple_type, tuple_laws, tuple_lowers}
-
-abbrev lent_slot : Slot 2
-lent_slot = SliceRefMutOf (0 ∷ []) tt (plain (λ _. slot_row)) (λ _. tt)
-
-abbrev zone_row : Lfts 2 → RattleType
-zone_row κs = zone.the_row (named_lft 2 1 tt κs)
 
 abbrev found_rows : Lfts 2 → List RattleType
 found_rows κs = list.the_row (named_lft 2 0 tt κs) ∷ u64 ∷ []
@@ -84,28 +73,17 @@ found_lowers κs = tuple_lowers (found_rows κs) (found_laws κs) (record { val 
 abbrev refused_row : Lfts 2 → RattleType
 refused_row κs = refused.the_row (named_lft 2 0 tt κs)
 
--- nothing is left of the parameters
-abbrev stayed : Stays f.ended.signature.params f.ended.kept
-stayed = (stay_dropped lent_slot no, (stay_dropped (plain (λ _. i32)) yes, (stay_dropped (plain (λ _. u8)) yes, (stay_dropped (plain (λ _. u8)) yes, (stay_dropped (plain (λ _. u8)) yes, (stay_dropped (plain (λ _. u8)) yes, (stay_dropped (plain (λ _. u8)) yes, (stay_dropped (plain (λ _. u32)) yes, (stay_dropped (plain zone_row) yes, tt)))))))))
-
 pub find_n_counted_spec : {M : Type 1} → statement M
 find_n_counted_spec 𝓤 𝓛 𝓜 𝓡 wired =
     let c = f.clauses 𝓛 𝓜.mem 𝓡.returns in let W = walk_of 𝓛 f.ended stayed c in let 𝓣 = tables 𝓤 𝓛.H 𝓜 𝓡 𝓡.env in
     let G = triple_of 𝓛 g.signature (g.spec 𝓛 𝓜.mem 𝓡.returns) in
-    let byte : Goes 𝓛 2 (plain (λ _. u8)) yes (stay_dropped (plain (λ _. u8)) yes) = Goes-dropped 𝓛 2 (plain (λ _. u8)) yes (λ κs x w. refl) in
-    proved 𝓛 f.ended stayed c 𝓜 𝓡
-    (Goes-spent_slice 𝓛 2 (0 ∷ []) tt (plain (λ _. slot_row)), (Goes-dropped 𝓛 2 (plain (λ _. i32)) yes (λ κs x w. refl), (byte, (byte, (byte, (byte, (byte, (Goes-dropped 𝓛 2 (plain (λ _. u32)) yes (λ κs x w. refl), (Goes-dropped 𝓛 2 (plain zone_row) yes (λ κs x w. refl), tt)))))))))
-    f.Key.name code.function (code.unfolded 𝓤 𝓛.H 𝓜 𝓡 wired)
-    (λ κs. (mut_slice_vals, (sint_vals w32, (uint_vals w8, (uint_vals w8, (uint_vals w8, (uint_vals w8, (uint_vals w8, (uint_vals w32, ((λ zone. zone_laws.lowered zone ∷ []), tt))))))))))
-    (λ κs. (mut_slice_Tells (named 0) κs.0 slot_row, (sint_Tells w32, (uint_Tells w8, (uint_Tells w8, (uint_Tells w8, (uint_Tells w8, (uint_Tells w8, (uint_Tells w32, ((zone_laws.lowers (named_lft 2 1 tt κs)).val_is, tt))))))))))
-    (λ κs qs bounds a _ are.
+    proved 𝓛 f.ended stayed c 𝓜 𝓡 (gone 𝓛) f.Key.name code.function (code.unfolded 𝓤 𝓛.H 𝓜 𝓡 wired) spelled spelled_tells (λ κs qs bounds a _ are.
     let fields = fields_of a.1.0 a.1.1.0 a.1.1.1.0 a.1.1.1.1.0 a.1.1.1.1.1.0 a.1.1.1.1.1.1.0 a.1.1.1.1.1.1.1.0 in
-    let z : G.Ghost = ((κs, qs, bounds, a, (mut_slice_vals a.0, (sint_vals w32 a.1.0, (uint_vals w8 a.1.1.0, (uint_vals w8 a.1.1.1.0, (uint_vals w8 a.1.1.1.1.0, (uint_vals w8 a.1.1.1.1.1.0, (uint_vals w8 a.1.1.1.1.1.1.0, (uint_vals w32 a.1.1.1.1.1.1.1.0, (zone_laws.lowered a.1.1.1.1.1.1.1.1.0 ∷ [], tt)))))))))), tt) in
-    let End : Val → SProp 𝓤 = W.post ((κs, qs, bounds, a, z.0.4), tt) in
-    let buf_typed = ((mut_slice_Lawful 𝓛 (named 0) κs.0 slot_row).typed a.0 _ are.0).0 in
-    let zone_typed = (((zone_laws.the_row_laws (named_lft 2 1 tt κs)).lawful 𝓛).typed a.1.1.1.1.1.1.1.1.0 _ are.1.1.1.1.1.1.1.1.0).0 in
+    let words = valss (types_at params κs) (spelled κs) a in let z : G.Ghost = ((κs, qs, bounds, a, words), tt) in
+    let End : Val → SProp 𝓤 = W.post ((κs, qs, bounds, a, words), tt) in
+    let typed_all = all_Typed 𝓛 (types_at params κs) (lawful 𝓛 κs) a words are in let buf_typed = typed_all.0 in let zone_typed = typed_all.1.1.1.1.1.1.1.1.0 in
     qed 𝓛 (raw (G.pre z) ∷ []) ∵ enter ! _ _ _ _ _ $
-    alloc_all ! (λ l. pass_all ! refl (buf_typed, (((sint_Lawful 𝓛 w32).typed a.1.0 _ are.1.0).0, (((uint_Lawful 𝓛 w8).typed a.1.1.0 _ are.1.1.0).0, (((uint_Lawful 𝓛 w8).typed a.1.1.1.0 _ are.1.1.1.0).0, (((uint_Lawful 𝓛 w8).typed a.1.1.1.1.0 _ are.1.1.1.1.0).0, (((uint_Lawful 𝓛 w8).typed a.1.1.1.1.1.0 _ are.1.1.1.1.1.0).0, (((uint_Lawful 𝓛 w8).typed a.1.1.1.1.1.1.0 _ are.1.1.1.1.1.1.0).0, (((uint_Lawful 𝓛 w32).typed a.1.1.1.1.1.1.1.0 _ are.1.1.1.1.1.1.1.0).0, (zone_typed, tt))))))))) $
+    alloc_all ! (λ l. pass_all ! refl typed_all $
     let En : Env 𝓤 𝓛.H = env (code.function).locals l in
     let Then : Post 𝓤 𝓛.H = any_q (after_seq 𝓤 𝓛.H (Wp 𝓤 𝓛.H 𝓣.C 𝓣.Λ En code.Mir.t-6 (at_return 𝓤 𝓛.H En End)) (at_return 𝓤 𝓛.H En End)) in
     -- the call, which takes all that there is
@@ -134,7 +112,7 @@ find_n_counted_spec 𝓤 𝓛 𝓜 𝓡 wired =
     returns ! (look_at ! 0 refl) $ free_all ! refl $
     use1 𝓛 (‵ ((result.the_row (found_row κs) fault.the_row).own_val out (live 0 (of_list (w ∷ [])) ∷ []))) (ok_of 𝓛 (found_row κs) fault.the_row list w) $
     use0 𝓛 (‵ (RestsIfInvalid (λ counted. reference_of counted.0) a.0 fields out)) (ends_in 𝓛 (Array slot_row 0) _ _ _ _ (if_ok_at _ e same) (λ n. refl) [] tt) $
-    suffices ! _ (ends_at 𝓛 f.ended stayed c ((κs, qs, bounds, a, z.0.4), tt) (live 0 (of_list (w ∷ []))) out (tt, (tt, (tt, (tt, (tt, (tt, (tt, (tt, (tt, tt))))))))) (tt, (tt, (tt, (tt, (tt, (tt, (tt, (tt, (tt, tt)))))))))) $
+    suffices ! _ (ends_at 𝓛 f.ended stayed c ((κs, qs, bounds, a, words), tt) (live 0 (of_list (w ∷ []))) out (tt, (tt, (tt, (tt, (tt, (tt, (tt, (tt, (tt, tt))))))))) (tt, (tt, (tt, (tt, (tt, (tt, (tt, (tt, (tt, tt)))))))))) $
     nothing ! $ nothing ! $ fjoin ! $ nothing ! $ fjoin ! $ nothing ! $ fjoin ! $ nothing ! $ fjoin ! $ nothing ! $ fjoin ! $ nothing ! $ fjoin ! $ nothing ! $ fjoin ! $ nothing ! $ fjoin ! $ nothing ! $ fjoin ! $ move ! (3 ∷ 0 ∷ 2 ∷ []) $ group ! 3 $ frame ! $ frame ! $
     by ! (fact_and 𝓤 (if_ok_at _ e same) (fact_and 𝓤 (if_ok_at _ e ok) (fact_and 𝓤 (on_ok_at _ e valid) (fact_and 𝓤 (on_ok_at _ e made) (fact_and 𝓤 (λ _. tt) (fact_and 𝓤 tt (fact_and 𝓤 (if_ok_at _ e at_most) (fact_and 𝓤 (if_ok_at _ e at_least_one) (fact_last 𝓤 (if_ok_at _ e none))))))))))))
     (λ refused e. rewrite ! 0 (λ (x : Result Found Refused). ‵ ((result.the_row (found_row κs) (refused_row κs)).own_val x (v ∷ []))) e refl $
@@ -157,6 +135,6 @@ find_n_counted_spec 𝓤 𝓛 𝓜 𝓡 wired =
     move ! (1 ∷ []) $ use1 𝓛 (‵ (fres refused.buf.ghost_name ((Array slot_row 0).coded.code refused.buf.now))) (slice_ends 𝓛 slot_row (named 0) κs.0 refused.buf vss.0) $
     rewrite ! 0 (λ (γ : GName). ‵ (fres γ ((Array slot_row 0).coded.code refused.buf.now))) (if_err_at _ e same') refl $
     use1 𝓛 (‵ (RestsIfInvalid (λ counted. reference_of counted.0) a.0 fields out)) (ends_as 𝓛 (Array slot_row 0) _ _ _ refused.buf.now (λ w. tt) (if_err_at _ e untouched)) $
-    suffices ! _ (ends_at 𝓛 f.ended stayed c ((κs, qs, bounds, a, z.0.4), tt) (live 1 (of_list (u ∷ []))) out (tt, (tt, (tt, (tt, (tt, (tt, (tt, (tt, (tt, tt))))))))) (tt, (tt, (tt, (tt, (tt, (tt, (tt, (tt, (tt, tt)))))))))) $
+    suffices ! _ (ends_at 𝓛 f.ended stayed c ((κs, qs, bounds, a, words), tt) (live 1 (of_list (u ∷ []))) out (tt, (tt, (tt, (tt, (tt, (tt, (tt, (tt, (tt, tt))))))))) (tt, (tt, (tt, (tt, (tt, (tt, (tt, (tt, (tt, tt)))))))))) $
     nothing ! $ nothing ! $ fjoin ! $ nothing ! $ fjoin ! $ nothing ! $ fjoin ! $ nothing ! $ fjoin ! $ nothing ! $ fjoin ! $ nothing ! $ fjoin ! $ nothing ! $ fjoin ! $ nothing ! $ fjoin ! $ nothing ! $ fjoin ! $ move ! (3 ∷ 0 ∷ 2 ∷ []) $ group ! 3 $ frame ! $ frame ! $
     by ! (fact_and 𝓤 tt (fact_and 𝓤 tt (fact_and 𝓤 tt (fact_and 𝓤 tt (fact_and 𝓤 (λ p. if_err_at _ e (promised p)) (fact_and 𝓤 (if_err_at _ e err) (fact_and 𝓤 tt (fact_and 𝓤 tt (fact_last 𝓤 tt)))))))))))))))))))))))))))))

@@ -1,0 +1,87 @@
+-- The parameters of `find_n` and `find_n_counted`, for their proofs by hand: what is left of each, how the machine stores it, and that it is of its type.
+use Rattle.std.proofs.Common.{refl, List, [], ◌∷◌, w8, w32}
+use seplogic.Ra.Ura.{Ura}
+use mir.Syntax.{named}
+use contract.Lifetimes.{Lfts}
+use denote.Builtin.{i32, u8, u32, SliceRefMutOf}
+use denote.Exit.{yes, no}
+use denote.Laws.{Ises, Spells, Tellss, Lawfuls}
+use denote.Plain.{uint_vals, uint_Tells, uint_Lawful}
+use denote.Signature.{Slot, plain, named_lft, types_at}
+use denote.Signed.{sint_vals, sint_Tells, sint_Lawful}
+use denote.Slice.{mut_slice_vals, mut_slice_Tells, mut_slice_Lawful}
+use denote.Triple.End.{Kepts}
+use denote.Triple.Walked.{Stays, AllGo, Goes, stay_dropped, Goes-dropped, Goes-spent_slice}
+use types.Logic.{Logic}
+use Rattle.tz_zone.specs.contracts.timezone.zone_ref.TimeZoneRef as zone
+use Rattle.tz_zone.proofs.timezone.zone_ref.TimeZoneRef.TheLaws as zone_laws
+use Rattle.tz.specs.LentSlots.{slot_row}
+
+abbrev lent_slots : Slot 2
+lent_slots = SliceRefMutOf (0 ∷ []) tt (plain (λ _. slot_row)) (λ _. tt)
+
+abbrev year : Slot 2
+year = plain (λ _. i32)
+
+abbrev byte : Slot 2
+byte = plain (λ _. u8)
+
+abbrev nanoseconds : Slot 2
+nanoseconds = plain (λ _. u32)
+
+abbrev zone_slot : Slot 2
+zone_slot = plain (λ κs. zone.the_row (named_lft 2 1 tt κs))
+
+abbrev pub params : List (Slot 2)
+params = lent_slots ∷ year ∷ byte ∷ byte ∷ byte ∷ byte ∷ byte ∷ nanoseconds ∷ zone_slot ∷ []
+
+abbrev kept : Kepts params
+kept = (no, (yes, (yes, (yes, (yes, (yes, (yes, (yes, (yes, tt)))))))))
+
+-- nothing is left of them: the slots are passed on, and the rest is not needed
+abbrev pub stayed : Stays params kept
+stayed =
+    let b = stay_dropped byte yes in
+    (stay_dropped lent_slots no, (stay_dropped year yes, (b, (b, (b, (b, (b, (stay_dropped nanoseconds yes, (stay_dropped zone_slot yes, tt)))))))))
+
+-- each has one machine value, which its value tells
+abbrev pub spelled : (κs : Lfts 2) → Spells (types_at params κs)
+spelled κs =
+    let b = uint_vals w8 in
+    (mut_slice_vals, (sint_vals w32, (b, (b, (b, (b, (b, (uint_vals w32, ((λ x. zone_laws.lowered x ∷ []), tt)))))))))
+
+pub spelled_tells : (κs : Lfts 2) → Tellss (types_at params κs) (Ises (types_at params κs)) (spelled κs)
+spelled_tells κs =
+    let b = uint_Tells w8 in
+    (mut_slice_Tells (named 0) κs.0 slot_row, (sint_Tells w32, (b, (b, (b, (b, (b, (uint_Tells w32, ((zone_laws.lowers (named_lft 2 1 tt κs)).val_is, tt)))))))))
+
+module _ {M : Type 1} {𝓤 : Ura M} (𝓛 : Logic 𝓤) where
+  pub gone : AllGo 𝓛 2 params kept stayed
+  gone =
+      let b : Goes 𝓛 2 byte yes (stay_dropped byte yes) = Goes-dropped 𝓛 2 byte yes (λ κs x w. refl) in (
+        Goes-spent_slice 𝓛 2 (0 ∷ []) tt (plain (λ _. slot_row)),
+        (
+          Goes-dropped 𝓛 2 year yes (λ κs x w. refl),
+          (
+            b,
+            (
+              b,
+              (
+                b,
+                (
+                  b,
+                  (
+                    b,
+                    (Goes-dropped 𝓛 2 nanoseconds yes (λ κs x w. refl), (Goes-dropped 𝓛 2 zone_slot yes (λ κs x w. refl), tt)),
+                  ),
+                ),
+              ),
+            ),
+          ),
+        ),
+      )
+
+  pub lawful : (κs : Lfts 2) → Lawfuls 𝓛 (types_at params κs)
+  lawful κs =
+      let b = uint_Lawful 𝓛 w8 in
+      (mut_slice_Lawful 𝓛 (named 0) κs.0 slot_row, (sint_Lawful 𝓛 w32, (b, (b, (b, (b, (b, (uint_Lawful 𝓛 w32, ((zone_laws.the_row_laws (named_lft 2 1 tt κs)).lawful 𝓛, tt)))))))))
