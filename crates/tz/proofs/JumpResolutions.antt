@@ -103,6 +103,18 @@ two_entries f a b u v u' v' x y u_is v_is x_is y_is =
     ap (λ (e : FoundDateTimeKind). e ∷ y ∷ []) (x_is ∙ ap (λ (w : ℤ). Normal (moment_of f a w)) u_is)
     ∙ ap (λ (e : FoundDateTimeKind). Normal (moment_of f a u) ∷ e ∷ []) (y_is ∙ ap (λ (w : ℤ). Normal (moment_of f b w)) v_is)
 
+-- a jump is one entry
+pub jump_entries : (f : Fields) (a b : LocalTimeType) (u u' : ℤ) (x : FoundDateTimeKind) → u' ≡ u →
+    (before : DateTime) × (after : DateTime) × (x ≡ kinds.Skipped before after) × ShowsInstant u' f.nanoseconds a before × ShowsInstant u' f.nanoseconds b after →
+    (before : DateTime) × (after : DateTime) × (x ∷ [] ≡ kinds.Skipped before after ∷ []) × ShowsInstant u f.nanoseconds a before × ShowsInstant u f.nanoseconds b after
+jump_entries f a b u u' x u_is (before, after, is, shows_before, shows_after) = (
+  before,
+  after,
+  ap (λ (e : FoundDateTimeKind). e ∷ []) is,
+  subst (λ (v : ℤ). ShowsInstant v f.nanoseconds a before) u_is shows_before,
+  subst (λ (v : ℤ). ShowsInstant v f.nanoseconds b after) u_is shows_after,
+)
+
 -- no list of entries is longer than two
 pub few_entries : (f : Fields) (resolution : Resolution) (found : List FoundDateTimeKind) → AreEntriesOf f resolution found → length found ≤ 2
 few_entries f (Once u t) found entries = omega (arith, ap (length {A = FoundDateTimeKind}) entries)

@@ -42,10 +42,10 @@ impl<A: Allocator + Copy> DateTimeList for FoundDateTimeList<A> {
 
     ghost more = { Prim.search (rules, common_steps) };
 
-    /// The first one gets room for itself alone, since a reading is nearly always found once.
+    /// The first one gets room for two, since a reading is found once, or twice where clocks are set back.
     fn push(&mut self, found: FoundDateTimeKind) -> Result<(), AllocError> {
         if self.found.is_empty() {
-            self.found.reserve_exact(1)?;
+            self.found.reserve_exact(2)?;
         }
         self.found.push(found)?;
         Ok(())

@@ -11,7 +11,7 @@ ghost use Rattle.tz.specs.Resolutions.{IsResolution, IsResolutionAt};
 ghost use Rattle.tz.specs.Walks.{IsSmall};
 
 use super::date_time_list::DateTimeList;
-use super::entry::Entry;
+use super::entry::{shown, skipped};
 use tz_base::calendar::Fields;
 use tz_base::error::TzError;
 use tz_zone::inner::ClockSegment;
@@ -107,17 +107,21 @@ impl Resolution<'_> {
     {
         match *self {
             Resolution::Once(unix_time, local_time_type) => {
-                Entry::Shown(unix_time, *local_time_type).give(list, fields)
+                list.push(shown(fields, unix_time, *local_time_type))?;
             }
             Resolution::Twice(first, before, second, after) => {
-                Entry::Shown(first, *before).give(list, fields)?;
-                Entry::Shown(second, *after).give(list, fields)
+                list.push(shown(fields, first, *before))?;
+                list.push(shown(fields, second, *after))?;
             }
             Resolution::Skipped {
                 unix_time,
                 before,
                 after,
-            } => Entry::Jump(unix_time, *before, *after).give(list, fields),
+            } => {
+                let found = skipped(fields, unix_time, *before, *after)?;
+                list.push(found)?;
+            }
         }
+        Ok(())
     }
 }

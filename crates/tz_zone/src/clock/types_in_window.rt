@@ -32,7 +32,7 @@ pub enum WindowTypes<'a> {
 }
 
 /// The types of a rule from a segment that ends in the window on.
-#[inline(always)]
+#[inline(never)]
 fn types_across<'a>(
     rule: &'a TransitionRule,
     before: &'a LocalTimeType,

@@ -1,6 +1,6 @@
 -- A jump has its sides in the years of 32 bits, or one outside.
 use Rattle.std.proofs.Common.{rules}
-use Rattle.tz.proofs.datetime.entry.Entry.side.Goals as goal
+use Rattle.tz.proofs.datetime.entry.side.Goals as goal
 
 pub returns-clause-err : goal.returns-clause-err
 returns-clause-err c = search rules
