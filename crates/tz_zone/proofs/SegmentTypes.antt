@@ -1,5 +1,5 @@
 -- The clock has one type within a segment, and behind the seam that of the rule.
-use Rattle.std.proofs.Common.{◌≡◌, ◌∙◌, inl, inr, true, false, sym, subst, arith, ℤ, pos, negsuc, ◌+ℤ◌, ◌-ℤ◌, ◌≤ℤ◌, ◌<ℤ◌, List, [], Option, Some, None}
+use Rattle.std.proofs.Common.{◌≡◌, ◌∙◌, inl, inr, true, false, sym, subst, arith, ℤ, pos, negsuc, ◌+ℤ◌, ◌-ℤ◌, ◌≤ℤ◌, ◌<ℤ◌, List, Option, Some, None}
 use Rattle.std.specs.Prelude.{IfSome, MatchOption, is_some, option_copied}
 use Rattle.std.specs.Borrow.{Bor}
 use Rattle.std.proofs.lemmas.Int.{ints, by_lt_z}
@@ -10,8 +10,8 @@ use Rattle.tz_rule.specs.Rule.{IsRuleType, IsSoundRule}
 use Rattle.tz_rule.specs.declared.timezone.rule.TransitionRule.{TransitionRule}
 use Rattle.tz_rule.proofs.RulePeriods.{rule_type_of_a_period}
 use Rattle.tz_zone.specs.Table.{Transition, LeapSecond, Zone}
-use Rattle.tz_zone.specs.LeapTime.{IsLeapTimeRefused, IsLeapTime, IsMomentOf}
-use Rattle.tz_zone.specs.Clock.{IsLast, IsTypeAfter, IsTypeWithout, IsTypeWith, IsClock, HasNoType}
+use Rattle.tz_zone.specs.LeapTime.{IsLeapTimeRefused, IsLeapTime}
+use Rattle.tz_zone.specs.Clock.{IsTypeAfter, IsTypeWithout, IsClock, HasNoType}
 use Rattle.tz_zone.specs.ValidZone.{IsSoundTable}
 use Rattle.tz_zone.specs.ClockSegments.{IsSegmentAt}
 use Rattle.tz_zone.specs.Changes.{Change, HasTypeOrNone, IsTrueSegment, IsChange, HasNoChange, HasNoFollowing, HasNoPreceding, IsFollowing, IsPreceding}

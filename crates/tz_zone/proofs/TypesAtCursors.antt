@@ -5,9 +5,8 @@ use Rattle.std.proofs.lemmas.Int.{ints, by_lt_z}
 use Rattle.std.proofs.lemmas.List.{nil_from_length}
 use Rattle.std.proofs.lemmas.Option.{slice_get_within, slice_get-get_or, none-some}
 use Rattle.tz_rule.specs.LocalTimeType.{LocalTimeType}
-use Rattle.tz_rule.specs.declared.timezone.rule.TransitionRule.{TransitionRule}
 use Rattle.tz_zone.specs.Table.{Transition, LeapSecond, Zone}
-use Rattle.tz_zone.specs.LeapTime.{IsInstant, IsReached, IsBeforeStart, IsPastInstants, IsFirstBegun, IsLeapTimeRefused, IsLeapTime, IsTimeReached, IsEffect, IsMomentOf}
+use Rattle.tz_zone.specs.LeapTime.{IsInstant, IsReached, IsBeforeStart, IsFirstBegun, IsLeapTimeRefused, IsLeapTime, IsTimeReached, IsMomentOf}
 use Rattle.tz_zone.specs.Clock.{AreReached, AreAhead, IsTypeAt, IsTypeOfLast, IsLast, IsTransitionType, IsTypeAfter, IsTypeWithout, IsClock, HasNoType}
 use Rattle.tz_zone.specs.ValidZone.{AreLeapSeconds, IsRising, IsSoundTable}
 use Rattle.tz_zone.specs.ClockSegments.{from_start, IsReachedAt, IsCursor, IsBetween, IsAtCursor, IsSegmentAt, TakesEffectAt}

@@ -1,11 +1,11 @@
 //! The types that the clock has in a window of instants, where these are one or two.
 
-ghost use Rattle.std.specs.Prelude.{◌≡◌, ◌≢◌, ℕ, ℤ, ◌+◌, ◌-◌, ◌^◌, ◌<◌, ◌≤◌, ◌⊎◌, ◌≤ℤ◌, ◌<ℤ◌, [], length, IfSome, IfNone};
+ghost use Rattle.std.specs.Prelude.{◌≡◌, ◌≢◌, ℕ, ℤ, ◌+◌, ◌-◌, ◌^◌, ◌<◌, ◌≤◌, ◌⊎◌, ◌≤ℤ◌, ◌<ℤ◌, [], length, IfSome, IfNone, MatchBool};
 ghost use Rattle.tz_rule.specs.Rule.{IsRuleType};
 ghost use Rattle.tz_zone.specs.Clock.{AreAhead, IsClock, IsLast, IsTypeAfter};
 ghost use Rattle.tz_zone.specs.LeapTime.{IsBeforeStart};
 ghost use Rattle.tz_zone.specs.ValidZone.{IsSoundTable};
-ghost use Rattle.tz_zone.specs.WindowTypes.{AreTypesIn, IfMore, IsTypeBeforeLast};
+ghost use Rattle.tz_zone.specs.WindowTypes.{AreTypesIn, IfMore, IsBehindTable, IsTypeBeforeLast};
 ghost use Rattle.tz_zone.specs.ZoneSeen.{zone_seen};
 
 use super::place::{place_before, type_at_place};
@@ -32,7 +32,7 @@ pub enum WindowTypes<'a> {
 }
 
 /// The types of a rule from a segment that ends in the window on.
-#[inline(never)]
+#[inline(always)]
 fn types_across<'a>(
     rule: &'a TransitionRule,
     before: &'a LocalTimeType,
@@ -74,29 +74,20 @@ fn types_by_rule(rule: &TransitionRule, low: i64, high: i64) -> WindowTypes<'_>
     }
 }
 
-/// The types of a zone without transitions in a window.
+/// The types behind the last transition in a window, or in a zone that has none.
 #[inline(always)]
-fn types_without_transitions(parts: OtherParts<'_>, low: i64, high: i64) -> WindowTypes<'_>
+fn types_behind_table<'a>(
+    parts: OtherParts<'a>,
+    is_empty: bool,
+    low: i64,
+    high: i64,
+) -> WindowTypes<'a>
     requires { parts.local_time_types.now ≢ [] }
-    ensures { AreTypesIn (IsClock (zone_seen [] parts.entry)) low high result }
+    ensures { MatchBool is_empty (AreTypesIn (IsClock (zone_seen [] parts.entry)) low high result) (AreTypesIn (IsTypeAfter (zone_seen [] parts.entry).extra_rule) low high result) }
 {
     match parts.extra_rule {
         Some(rule) => types_by_rule(rule, low, high),
-        None => WindowTypes::One(&parts.local_time_types[0]),
-    }
-}
-
-/// The types from the last transition on in a window.
-#[inline(always)]
-fn types_after_transitions(
-    extra_rule: &Option<TransitionRule>,
-    low: i64,
-    high: i64,
-) -> WindowTypes<'_>
-    ensures { AreTypesIn (IsTypeAfter extra_rule.now) low high result }
-{
-    match extra_rule {
-        Some(rule) => types_by_rule(rule, low, high),
+        None if is_empty => WindowTypes::One(&parts.local_time_types[0]),
         None => WindowTypes::More,
     }
 }
@@ -173,6 +164,44 @@ fn type_over_leap_seconds<'a, V: Transitions>(
     Some(type_at_place(view, parts, place))
 }
 
+/// The types of the clock in a window that begins before the last transition, or whose transitions lie over leap seconds.
+#[inline(always)]
+fn types_in_table<'a, V: Transitions>(
+    view: &mut V,
+    parts: OtherParts<'a>,
+    low: i64,
+    high: i64,
+) -> Option<WindowTypes<'a>>
+    requires { IsSoundTable (zone_seen (V.list view.old) parts) }
+    ensures same { V.list view.new ≡ V.list view.old }
+    ensures types { IfSome result (AreTypesIn (IsClock (zone_seen (V.list view.old) parts.entry)) low high) }
+    ensures behind { IfNone result (IsBehindTable (zone_seen (V.list view.old) parts.entry) low) }
+    ensures kept { V.looks view.old ≤ V.looks view.new }
+    ensures at_most { (b : ℕ) → length (V.list view.old) < 2 ^ b → V.looks view.new ≤ V.looks view.old + (b + 4) }
+    ensures more { IfSome result (λ types. IfMore types ((V.looks view.new ≤ V.looks view.old + 1)
+        ⊎ (¬ IsBeforeStart parts.entry.leap_seconds.now low
+        × ((b : ℕ) → length (V.list view.old) < 2 ^ b → V.looks view.new ≤ V.looks view.old + (b + 3))))) }
+    ensures one_look { IfNone result (V.looks view.new ≤ V.looks view.old + 1) }
+    ensures at_least_one { 0 < length (V.list view.old) → V.next (V.looks view.old) ≤ V.looks view.new }
+    ensures none { V.list view.old ≡ [] → V.looks view.new ≡ V.looks view.old }
+{
+    let count = view.len();
+    if count == 0 {
+        return None;
+    }
+    let last = view.look(count - 1);
+    if !parts.leap_seconds.is_empty() {
+        return match type_over_leap_seconds(view, parts, last, low, high) {
+            Some(local_time_type) => Some(WindowTypes::One(local_time_type)),
+            None => Some(WindowTypes::More),
+        };
+    }
+    if low < last.unix_leap_time() {
+        return Some(types_before_last(view, parts, low, high));
+    }
+    None
+}
+
 /// The types of the clock in a window.
 ///
 /// They are told where they are one or two: by the transition at which the first instant lies, and the one or two that come next, or by the
@@ -195,19 +224,8 @@ pub fn window_types<'a, V: Transitions>(
     ensures at_least_one { 0 < length (V.list view.old) → V.next (V.looks view.old) ≤ V.looks view.new }
     ensures none { V.list view.old ≡ [] → V.looks view.new ≡ V.looks view.old }
 {
-    let count = view.len();
-    if count == 0 {
-        return types_without_transitions(parts, low, high);
+    match types_in_table(view, parts, low, high) {
+        Some(types) => types,
+        None => types_behind_table(parts, view.len() == 0, low, high),
     }
-    let last = view.look(count - 1);
-    if !parts.leap_seconds.is_empty() {
-        return match type_over_leap_seconds(view, parts, last, low, high) {
-            Some(local_time_type) => WindowTypes::One(local_time_type),
-            None => WindowTypes::More,
-        };
-    }
-    if low < last.unix_leap_time() {
-        return types_before_last(view, parts, low, high);
-    }
-    types_after_transitions(parts.extra_rule, low, high)
 }

@@ -1,5 +1,5 @@
 -- Segment for segment, to the last change, to the seam where there is none behind it, or to the least instant.
-use Rattle.std.proofs.Common.{◌≡◌, ◌∙◌, refl, sym, arith, rules, ℤ, pos, negsuc, ◌+ℤ◌, ◌-ℤ◌, ◌≤ℤ◌, ◌<ℤ◌, Option}
+use Rattle.std.proofs.Common.{◌≡◌, ◌∙◌, refl, sym, arith, rules, ℤ, pos, negsuc, ◌+ℤ◌, ◌-ℤ◌, ◌≤ℤ◌, ◌<ℤ◌}
 use Rattle.std.proofs.lemmas.Int.{ints, to_z-of_z}
 use mir.Syntax.{w64}
 use mir.Val.{SFits, to_z, of_z}

@@ -1,5 +1,5 @@
 -- The look at the middle tells on which side of it the place lies.
-use Rattle.std.proofs.Common.{◌≡◌, ◌≢◌, ◌+◌, ◌-◌, ◌∙◌, sym, ap, arith, ◌≤ℤ◌, ◌<ℤ◌, Some, inr}
+use Rattle.std.proofs.Common.{◌≡◌, ◌+◌, ◌-◌, ◌∙◌, sym, ap, arith, ◌≤ℤ◌, ◌<ℤ◌, Some, inr}
 use Rattle.std.specs.Prelude.{slice_get}
 use Rattle.std.proofs.lemmas.Int.{ints, to_z-of_z}
 use Rattle.tz_zone.proofs.Halving.{few_after_look}

@@ -1,8 +1,8 @@
 -- Behind an instant that has no leap time, and is not before a truncated start, none has one.
-use Rattle.std.proofs.Common.{◌≡◌, arith, ◌≤ℤ◌, ◌<ℤ◌, pos, ◌-ℤ◌, rules}
+use Rattle.std.proofs.Common.{arith, ◌≤ℤ◌, pos, rules}
 use Rattle.std.proofs.lemmas.Int.{ints, to_z-of_z}
 use mir.Syntax.{w64}
-use mir.Val.{SFits, to_z, of_z}
+use mir.Val.{SFits, to_z}
 use Rattle.tz_zone.proofs.TypesAtCursors.{past_from, past_is_far}
 use Rattle.tz_zone.proofs.clock.cursor_span.first_past.Goals as goal
 

@@ -1,5 +1,5 @@
 -- The upper end has no leap time, and is not before a truncated start.
-use Rattle.std.proofs.Common.{◌≡◌, ℤ, pos, ◌-ℤ◌, ◌≤ℤ◌, ◌<ℤ◌}
+use Rattle.std.proofs.Common.{pos, ◌-ℤ◌, ◌≤ℤ◌}
 use Rattle.std.specs.Prelude.{unsigned_abs}
 use Rattle.tz_zone.specs.LeapTime.{IsBeforeStart, IsLeapTimeRefused}
 use Rattle.tz_zone.proofs.clock.cursor_span.first_past.Given as goal

@@ -1,9 +1,8 @@
 -- The moment of what is reached at an instant is no later, so it is one of 64 bits.
-use Rattle.std.proofs.Common.{◌≡◌, ◌∙◌, ap, arith, ◌≤ℤ◌, negsuc, rules}
+use Rattle.std.proofs.Common.{arith, rules}
 use Rattle.std.proofs.lemmas.Int.{ints, to_z-of_z}
 use mir.Syntax.{w64, w128}
-use mir.Val.{SFits, to_z, of_z}
-use Rattle.tz_zone.specs.LeapTime.{IsInstant, IsMomentOf}
+use mir.Val.{SFits}
 use Rattle.tz_zone.proofs.LeapTimes.{IsInstant-from_bounds, instant_bounds}
 use Rattle.tz_zone.proofs.clock.cursor_span.first_reached.Goals as goal
 

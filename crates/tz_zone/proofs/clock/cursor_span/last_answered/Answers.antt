@@ -1,8 +1,8 @@
 -- What lies between two instants that have a leap time has one, and what lies above one that has none has none.
-use Rattle.std.proofs.Common.{◌≡◌, arith, ◌≤ℤ◌, ◌<ℤ◌, pos, ◌-ℤ◌, rules}
+use Rattle.std.proofs.Common.{arith, rules}
 use Rattle.std.proofs.lemmas.Int.{ints, to_z-of_z}
 use mir.Syntax.{w64}
-use mir.Val.{SFits, to_z, of_z}
+use mir.Val.{SFits, to_z}
 use Rattle.tz_zone.proofs.TypesAtCursors.{answered_within, answered_between, refused_from}
 use Rattle.tz_zone.proofs.clock.cursor_span.last_answered.Goals as goal
 

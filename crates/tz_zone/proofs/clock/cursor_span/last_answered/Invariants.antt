@@ -1,5 +1,5 @@
 -- The lower end has a leap time, and none above the upper end has one.
-use Rattle.std.proofs.Common.{◌≡◌, ℤ, pos, ◌-ℤ◌, ◌≤ℤ◌, ◌<ℤ◌}
+use Rattle.std.proofs.Common.{ℤ, pos, ◌-ℤ◌, ◌≤ℤ◌, ◌<ℤ◌}
 use Rattle.std.specs.Prelude.{unsigned_abs}
 use Rattle.tz_zone.specs.LeapTime.{IsLeapTimeRefused}
 use Rattle.tz_zone.proofs.clock.cursor_span.last_answered.Given as goal

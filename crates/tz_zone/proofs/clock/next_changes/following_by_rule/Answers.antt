@@ -1,5 +1,5 @@
 -- Up to the next start or end the rule has the type before.
-use Rattle.std.proofs.Common.{sym, subst, arith, rules, ℤ, pos, ◌+ℤ◌, ◌<ℤ◌}
+use Rattle.std.proofs.Common.{sym, subst, arith, rules, pos, ◌+ℤ◌, ◌<ℤ◌}
 use Rattle.std.proofs.lemmas.Int.{ints, to_z-of_z}
 use mir.Syntax.{w64}
 use mir.Val.{SFits}

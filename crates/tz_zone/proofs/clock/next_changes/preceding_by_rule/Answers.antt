@@ -1,5 +1,5 @@
 -- From the last start or end on the rule has the type after it.
-use Rattle.std.proofs.Common.{sym, subst, arith, rules, ℤ, pos, negsuc, ◌-ℤ◌, ◌<ℤ◌}
+use Rattle.std.proofs.Common.{sym, subst, arith, rules, pos, negsuc, ◌-ℤ◌, ◌<ℤ◌}
 use Rattle.std.proofs.lemmas.Int.{ints, to_z-of_z}
 use mir.Syntax.{w64}
 use mir.Val.{SFits}

@@ -1,9 +1,8 @@
 -- The first instant that is not before the start is the one after the last that is.
-use Rattle.std.proofs.Common.{◌≡◌, arith, subst, ℤ, pos, ◌+ℤ◌, ◌-ℤ◌, ◌≤ℤ◌, ◌<ℤ◌, rules}
+use Rattle.std.proofs.Common.{◌≡◌, arith, ℤ, pos, ◌+ℤ◌, ◌-ℤ◌, ◌<ℤ◌, rules}
 use Rattle.std.proofs.lemmas.Int.{ints, to_z-of_z}
 use mir.Syntax.{w64}
 use mir.Val.{SFits, to_z, of_z}
-use Rattle.tz_zone.specs.LeapTime.{IsBeforeStart}
 use Rattle.tz_zone.proofs.TypesAtCursors.{before_up_to, begun_after}
 use Rattle.tz_zone.proofs.clock.segments.last_before_start.Goals as goal
 

@@ -1,9 +1,9 @@
 -- Each transition that the cursor passes is reached at the instant, and was not a second before.
-use Rattle.std.proofs.Common.{◌≡◌, ℕ, ◌<◌, ◌≤◌, sym, inl, subst, arith, pos, ◌≤ℤ◌, Option, rules}
+use Rattle.std.proofs.Common.{◌≡◌, ℕ, ◌<◌, ◌≤◌, sym, inl, subst, arith, pos, Option, rules}
 use Rattle.std.specs.Prelude.{IfSome, IfNone}
 use Rattle.std.proofs.lemmas.Int.{ints, to_z-of_z}
 use mir.Syntax.{w64}
-use mir.Val.{SFits, to_z, of_z}
+use mir.Val.{SFits}
 use Rattle.tz_zone.specs.ZoneSeen.{zone_seen}
 use Rattle.tz_zone.specs.ClockSegments.{TakesEffectAt}
 use Rattle.tz_zone.specs.declared.clock.cursor.Cursor.{Cursor}

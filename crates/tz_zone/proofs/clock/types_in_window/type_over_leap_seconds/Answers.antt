@@ -1,5 +1,5 @@
 -- Where both ends of the window have a leap time, so has each instant of it, and leap times do not fall.
-use Rattle.std.proofs.Common.{◌≡◌, ◌-◌, ◌∙◌, inl, inr, arith, rules, subst, ◌≤ℤ◌, ◌<ℤ◌, List, length, Some}
+use Rattle.std.proofs.Common.{◌≡◌, ◌-◌, ◌∙◌, inl, inr, arith, rules, subst, ◌<ℤ◌, List, length, Some}
 use Rattle.std.specs.Prelude.{slice_get}
 use Rattle.std.proofs.lemmas.Int.{ints, to_z-of_z}
 use mir.Syntax.{w64}

@@ -1,69 +1,36 @@
--- The types of the parts are those of the clock.
-use Rattle.std.proofs.Common.{◌-◌, ◌∙◌, inl, inr, arith, sym, ◌≤ℤ◌, ◌<ℤ◌, length}
+-- Behind the table the types are those of the rule, or of the first type where there are no transitions.
+use Rattle.std.proofs.Common.{◌≡◌, ◌<◌, inl, inr, arith, sym, ap, ℕ, zero, suc, List, [], length, eqb, MatchBool}
+use Rattle.std.proofs.Math.Dec.{eqb-suc-zero}
 use Rattle.std.proofs.lemmas.Int.{ints, to_z-of_z}
 use Rattle.std.proofs.lemmas.List.{nil_from_length}
 use mir.Syntax.{w64}
+use Rattle.tz_zone.specs.Table.{Transition}
 use Rattle.tz_zone.specs.Clock.{IsClock, IsTypeAfter}
-use Rattle.tz_zone.specs.WindowTypes.{IsTypeBeforeLast}
+use Rattle.tz_zone.specs.WindowTypes.{AreTypesIn}
 use Rattle.tz_zone.specs.ZoneSeen.{zone_seen}
-use Rattle.tz_zone.proofs.TypesAtCursors.{none_if_empty, plain_leap}
+use Rattle.tz_zone.proofs.TypesAtCursors.{plain_leap}
 use Rattle.tz_zone.proofs.Clocks.{clock_from_last}
-use Rattle.tz_zone.proofs.RisingTimes.{ahead_from}
-use Rattle.tz_zone.proofs.WindowTypes.{clock_by_leap_time, types_weaker}
+use Rattle.tz_zone.proofs.WindowTypes.{types_weaker}
 use Rattle.tz_zone.proofs.clock.types_in_window.window_types.Goals as goal
 
-pub returns-then-count-eq0-clause-types : goal.returns-then-count-eq0-clause-types
-returns-then-count-eq0-clause-types g c =
-    let none = nil_from_length (g.V.Transitions.list c.args.view.now) (sym c.len-count.ensures ∙ c.if-count-eq0.true) in
-    let types = rw (to_z-of_z w64 c.args.low c.ranges.low, to_z-of_z w64 c.args.high c.ranges.high) at c.types_without_transitions.ensures in
-    rw none types
+by_count : (count : ℕ) (transitions : List Transition) → count ≡ length transitions → (P Q R : Type 0) → (transitions ≡ [] → P → R) → (0 < length transitions → Q → R) → MatchBool (eqb count 0) P Q → R
+by_count zero transitions is P Q R empty behind types = empty (nil_from_length transitions (sym is)) types
+by_count (suc before) transitions is P Q R empty behind types = behind (omega (arith, is)) (rw (eqb-suc-zero before) at types)
 
-pub returns-in-Some-clause-types : goal.returns-in-Some-clause-types
-returns-in-Some-clause-types g c = λ v from to.
-    let types = rw (c.look-last.ensures.same, to_z-of_z w64 c.args.low c.ranges.low, to_z-of_z w64 c.args.high c.ranges.high) at c.in-Some.ensures.local_time_type in
-    types v from to
-
-pub returns-in-None-clause-more : goal.returns-in-None-clause-more
-returns-in-None-clause-more g c =
-    let looks = g.V.Transitions.looks in
-    let at_most = rw c.look-last.ensures.same at c.in-None.ensures.at_most in
-    let none = rw (to_z-of_z w64 c.args.low c.ranges.low) at c.in-None.ensures.none in
-    let counted = c.look-last.ensures.counted in
-    let one = g.met.V.Transitions.one_more (looks c.args.view.now) in
-    elim none [
-      | inl same ↦ inl (omega (arith, same, counted, one))
-      | inr begun ↦ inr (begun, (λ b bits. omega (arith, at_most b bits, counted, one)))
-    ]
-
-pub types_before_last-requires-clause-ahead : goal.types_before_last-requires-clause-ahead
-types_before_last-requires-clause-ahead g c =
+pub returns-in-None-clause-types : goal.returns-in-None-clause-types
+returns-in-None-clause-types g c =
     let transitions = g.V.Transitions.list c.args.view.now in
+    let z = zone_seen transitions c.args.parts in
     let low = c.args.low in
-    let last = c.look-last.result in
-    let is_last = rw c.len-count.ensures at c.look-last.ensures.value in
-    let time = c.unix_leap_time.ensures in
-    let before : low <ℤ last.unix_leap_time = omega (arith, ints, c.if-low-unix_leap_time.true) in
-    rw (c.look-last.ensures.same, to_z-of_z w64 low c.ranges.low) (ahead_from transitions (λ i. (c.requires.transitions_are i).1) low (length transitions - 1) last is_last before)
-
-pub returns-then-low-unix_leap_time-clause-types : goal.returns-then-low-unix_leap_time-clause-types
-returns-then-low-unix_leap_time-clause-types g c =
-    let z = zone_seen (g.V.Transitions.list c.args.view.now) c.args.parts in
-    let last = c.look-last.result in
-    let is_last = rw c.len-count.ensures at c.look-last.ensures.value in
-    let none = none_if_empty z.leap_seconds c.if-not-is_empty.ensures in
-    let types = rw (c.look-last.ensures.same, to_z-of_z w64 c.args.low c.ranges.low, to_z-of_z w64 c.args.high c.ranges.high) at c.types_before_last.ensures.types in
-    types_weaker (IsTypeBeforeLast z) (IsClock z) c.args.low c.args.high c.types_before_last.result
-    (λ v t from to is. clock_by_leap_time z c.requires last is_last v v (plain_leap z.leap_seconds none v) t is) types
-
-pub returns-clause-types : goal.returns-clause-types
-returns-clause-types g c =
-    let z = zone_seen (g.V.Transitions.list c.args.view.now) c.args.parts in
-    let low = c.args.low in
-    let last = c.look-last.result in
-    let is_last = rw c.len-count.ensures at c.look-last.ensures.value in
-    let none = none_if_empty z.leap_seconds c.if-not-is_empty.ensures in
-    let time = c.unix_leap_time.ensures in
-    let reached : last.unix_leap_time ≤ℤ low = omega (arith, ints, c.if-low-unix_leap_time.false) in
-    let types = rw (to_z-of_z w64 low c.ranges.low, to_z-of_z w64 c.args.high c.ranges.high) at c.types_after_transitions.ensures in
-    types_weaker (IsTypeAfter z.extra_rule) (IsClock z) low c.args.high c.types_after_transitions.result
-    (λ v t from to is. clock_from_last z c.requires.leap_seconds_are last is_last v v (plain_leap z.leap_seconds none v) t (omega (arith, ints, reached, from)) is) types
+    let high = c.args.high in
+    let result = c.types_behind_table.result in
+    let count = rw c.types_in_table.ensures.same at c.len.ensures in
+    let types = rw (to_z-of_z w64 low c.ranges.low, to_z-of_z w64 high c.ranges.high) at c.types_behind_table.ensures in
+    by_count c.len.result transitions count (AreTypesIn (IsClock (zone_seen [] c.args.parts)) low high result) (AreTypesIn (IsTypeAfter z.extra_rule) low high result) (AreTypesIn (IsClock z) low high result)
+        (λ none clock. rw none clock)
+        (λ some after. elim c.in-None.ensures.behind [
+          | inl none ↦ absurd (omega (arith, some, ap length none))
+          | inr (leaps, last, is_last, reached) ↦
+              types_weaker (IsTypeAfter z.extra_rule) (IsClock z) low high result
+              (λ v t from to is. clock_from_last z c.requires.leap_seconds_are last is_last v v (plain_leap z.leap_seconds leaps v) t (omega (arith, ints, reached, from)) is) after
+        ]) types
