@@ -43,6 +43,7 @@ impl<A: Allocator + Copy> DateTimeList for FoundDateTimeList<A> {
     ghost more = { Prim.search (rules, common_steps) };
 
     /// The first one gets room for two, since a reading is found once, or twice where clocks are set back.
+    #[inline(always)]
     fn push(&mut self, found: FoundDateTimeKind) -> Result<(), AllocError> {
         if self.found.is_empty() {
             self.found.reserve_exact(2)?;
