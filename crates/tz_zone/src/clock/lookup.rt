@@ -72,7 +72,7 @@ fn type_over_leap_seconds<'a, V: Transitions>(
 }
 
 /// The type of a zone without transitions.
-#[inline(never)]
+#[inline(always)]
 fn type_without_transitions<'a>(
     parts: OtherParts<'a>,
     unix_time: i64,
