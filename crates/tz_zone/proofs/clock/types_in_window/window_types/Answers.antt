@@ -27,10 +27,10 @@ returns-in-None-clause-types g c =
     let count = rw c.types_in_table.ensures.same at c.len.ensures in
     let types = rw (to_z-of_z w64 low c.ranges.low, to_z-of_z w64 high c.ranges.high) at c.types_behind_table.ensures in
     by_count c.len.result transitions count (AreTypesIn (IsClock (zone_seen [] c.args.parts)) low high result) (AreTypesIn (IsTypeAfter z.extra_rule) low high result) (AreTypesIn (IsClock z) low high result)
-        (λ none clock. rw none clock)
-        (λ some after. elim c.in-None.ensures.behind [
-          | inl none ↦ absurd (omega (arith, some, ap length none))
-          | inr (leaps, last, is_last, reached) ↦
-              types_weaker (IsTypeAfter z.extra_rule) (IsClock z) low high result
-              (λ v t from to is. clock_from_last z c.requires.leap_seconds_are last is_last v v (plain_leap z.leap_seconds leaps v) t (omega (arith, ints, reached, from)) is) after
-        ]) types
+    (λ none clock. rw none clock)
+    (λ some after. elim c.in-None.ensures.behind [
+      | inl none ↦ absurd (omega (arith, some, ap length none))
+      | inr (leaps, last, is_last, reached) ↦
+          types_weaker (IsTypeAfter z.extra_rule) (IsClock z) low high result
+          (λ v t from to is. clock_from_last z c.requires.leap_seconds_are last is_last v v (plain_leap z.leap_seconds leaps v) t (omega (arith, ints, reached, from)) is) after
+    ]) types
