@@ -135,7 +135,7 @@ impl TextBuffer {
 
     /// Appends nanoseconds as nine digits.
     #[inline(always)]
-    pub(crate) fn push_nine_digits(&mut self, number: u32)
+    pub fn push_nine_digits(&mut self, number: u32)
         requires below { number < 1000000000 }
         requires room { length self.old + 9 ≤ 128 }
         ensures text { self.new ≡ self.old ++ nine_digits number }

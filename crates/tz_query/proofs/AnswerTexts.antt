@@ -1,11 +1,11 @@
 -- No answer line holds an LF, and no answer of one line begins as a group of more lines does.
-use Rattle.std.proofs.Common.{◌≡◌, ◌≢◌, ℕ, zero, suc, ◌+◌, ◌/◌, ◌%◌, ◌==◌, ◌<◌, ◌≤◌, ◌⊎◌, inl, inr, Bool, true, false, cond, eqb, ltb, ℤ, pos, negsuc, Option, Some, None, List, [], ◌∷◌, ◌++◌, length, get_or, refl, sym, ap, ◌∙◌, subst, arith}
+use Rattle.std.proofs.Common.{◌≡◌, ◌≢◌, ℕ, zero, suc, ◌+◌, ◌/◌, ◌%◌, ◌<◌, ◌≤◌, ◌⊎◌, inl, inr, Bool, true, false, cond, eqb, ltb, ℤ, pos, negsuc, Option, Some, None, List, [], ◌∷◌, ◌++◌, length, get_or, refl, sym, ap, ◌∙◌, subst, arith}
 use Rattle.std.specs.Prelude.{codes, map, unwrap_or, IfSome}
 use Rattle.std.specs.Fmt.{decimal, signed_decimal}
 use Rattle.core.specs.Fmt.{digit_glyph, digits, digits_onto}
 use Rattle.std.specs.List.{All, flat_map}
 use Rattle.std.proofs.lemmas.Bool.Decides.{nat_tests}
-use Rattle.std.proofs.lemmas.List.Elements.{All-nil, All-cons, All-head, All-tail, All-append, All-map}
+use Rattle.std.proofs.lemmas.List.Elements.{All-nil, All-cons, All-head, All-append, All-map}
 use Rattle.tz_base.specs.declared.calendar.Fields.{Fields}
 use Rattle.tz_base.specs.declared.error.TzError.{TzError}
 use Rattle.tz_base.specs.declared.error.TzError.TheVariants.{DateTime as FieldFault, OutOfRange, NoAvailableLocalTimeType}
@@ -20,9 +20,9 @@ use Rattle.tz.specs.PrintedText.{last_digits, two_digits, nine_digits, two_digit
 use Rattle.tz.specs.declared.datetime.found.FoundDateTimeKind.{FoundDateTimeKind}
 use Rattle.tz.specs.declared.datetime.found.FoundDateTimeKind.TheVariants.{Normal, Skipped}
 use Rattle.tz_query.specs.Lines.{line_feed, IsLine}
-use Rattle.tz_query.specs.Numbers.{hyphen, space}
-use Rattle.tz_query.specs.Queries.{Query, Time, Search, Meeting}
-use Rattle.tz_query.specs.Answers.{name_text, moment_text, field_fault_text, IsFaultText, entry_text, found_lines, meeting_lines, IsTimeAnswer, IsSearchAnswer, IsWeekAnswer, AreWeekAnswers, IsAnswer, IsSingle}
+use Rattle.tz_query.specs.Numbers.{hyphen}
+use Rattle.tz_query.specs.Queries.{Time, Search, Meeting}
+use Rattle.tz_query.specs.Answers.{name_text, moment_text, field_fault_text, IsFaultText, entry_text, IsTimeAnswer, IsSearchAnswer, IsWeekAnswer, AreWeekAnswers, IsAnswer, IsSingle}
 
 -- digits
 abbrev IsDigit : ℕ → Type 0

@@ -1,14 +1,14 @@
 -- Answers of two pieces of query bytes, of which the first ends in LF, are those of both, and those of both can be cut into these.
-use Rattle.std.proofs.Common.{◌≡◌, ◌≢◌, ℕ, zero, suc, ◌+◌, ◌<◌, ◌⊎◌, inl, inr, List, [], ◌∷◌, ◌++◌, length, refl, sym, ap, ◌∙◌, subst, arith, append_assoc}
+use Rattle.std.proofs.Common.{◌≡◌, ◌≢◌, ℕ, ◌⊎◌, inl, inr, List, [], ◌∷◌, ◌++◌, refl, sym, ap, ◌∙◌, subst, arith, append_assoc}
 use Rattle.std.specs.List.{All, AllZip, flat_map}
 use Rattle.std.proofs.lemmas.Bool.{cases_lt}
 use Rattle.std.proofs.lemmas.List.Concat.{flat_map-append}
 use Rattle.std.proofs.lemmas.List.Elements.{All-nil, All-cons, All-head, All-tail, All-append}
 use Rattle.tz_zone.specs.Table.{Zone}
-use Rattle.tz_query.specs.Lines.{line_feed, IsLine, IsLineEnd, IsFirstLine, IsCut, AreLines, ended}
+use Rattle.tz_query.specs.Lines.{line_feed, IsLine, IsCut, AreLines, ended}
 use Rattle.tz_query.specs.Answers.{IsAnswer, AreAnswers}
 use Rattle.tz_query.proofs.AnswerLines.{AreLines-cons}
-use Rattle.tz_query.proofs.UniqueAnswers.{no_end_within, IsEnded, IsLast, first_of_cut, nothing_of_cut, lines_unique, answer_groups}
+use Rattle.tz_query.proofs.UniqueAnswers.{no_end_within, IsEnded, IsLast, first_of_cut, nothing_of_cut, answer_groups}
 
 ended-append : (xs ys : List (List ℕ)) → ended (xs ++ ys) ≡ ended xs ++ ended ys
 ended-append [] ys = refl

@@ -7,6 +7,7 @@ pub mod Weeks
 pub mod Answers
 pub mod Streams
 pub mod Pages
+pub mod Outputs
 pub mod Suffixes
 pub mod Caches
 pub mod Program

@@ -1,6 +1,5 @@
 //! Lines of queries about date times, and the program that answers them.
 #![tactic(auto)]
 
-pub mod inner;
 pub mod laws;
 pub mod query;

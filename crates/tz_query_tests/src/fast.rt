@@ -1,49 +1,44 @@
-//! The fast answers beside the plain ones.
+//! Lines that are answered together beside each line alone, which the last bytes of the queries are read like.
 
 use crate::expect::expect_eq;
 use std::alloc::{AllocError, Global};
 use std::process::Abort;
 use std::test::Fail;
-use tz::inner::{Fields, TextBuffer, is_reading};
+use tz::inner::{Fields, is_reading};
 use tz::timezone::{LeapSecond, Transition, TransitionRule};
 use tz::{LocalTimeType, TimeZoneRef, TzError};
-use tz_query::inner::answer_line;
 use tz_query::query::answer;
 use tz_samples::rules::{Day, RuleRow, TypeRow, central_europe, rule_of};
 use tz_samples::zones::{leap_seconds_of, transitions_of, types_of};
 
-/// The answers of the plain half alone.
-fn answered_plainly(
+/// The answers of each line alone, as the last bytes of its queries.
+fn answered_alone(
     alloc: Global,
     zone: TimeZoneRef<'_>,
     queries: &[u8],
 ) -> Result<Vec<u8, Global>, TzError> {
     let mut answers = Vec::new(alloc);
-    let mut line = TextBuffer::new();
-    let mut rest = queries;
-    for _ in 0..queries.len() {
-        if rest.is_empty() {
-            break;
-        }
-        rest = answer_line(alloc, &mut answers, &mut line, zone, rest)?;
+    for line in queries.split_inclusive(|byte| *byte == b'\n') {
+        let answered = answer(alloc, zone, line)?;
+        answers.extend_from_slice(&answered)?;
     }
     Ok(answers)
 }
 
-/// Both halves answer alike.
+/// Lines are answered alike together and alone.
 fn expect_alike(
     rt: &impl Abort,
     alloc: Global,
     zone: TimeZoneRef<'_>,
     queries: &[u8],
 ) -> Result<(), Fail> {
-    let fast = answer(alloc, zone, queries)?;
-    let plain = answered_plainly(alloc, zone, queries)?;
-    expect_eq(rt, &fast.as_slice(), &plain.as_slice());
+    let together = answer(alloc, zone, queries)?;
+    let alone = answered_alone(alloc, zone, queries)?;
+    expect_eq(rt, &together.as_slice(), &alone.as_slice());
     Ok(())
 }
 
-/// Both halves answer alike over zones with these parts and each of these rules.
+/// Lines are answered alike together and alone over zones with these parts and each of these rules.
 fn expect_alike_by_rules(
     rt: &impl Abort,
     alloc: Global,
@@ -60,7 +55,7 @@ fn expect_alike_by_rules(
     Ok(())
 }
 
-/// Both halves answer alike over zones with these types and transitions and each of these rules, without leap seconds and with some.
+/// Lines are answered alike together and alone over zones with these types and transitions and each of these rules, without leap seconds and with some.
 fn expect_alike_by_parts(
     rt: &impl Abort,
     alloc: Global,
@@ -85,7 +80,7 @@ fn expect_alike_by_parts(
     )
 }
 
-/// Both halves answer alike over zones of each kind.
+/// Lines are answered alike together and alone over zones of each kind.
 fn expect_alike_over_zones(rt: &impl Abort, alloc: Global, queries: &[u8]) -> Result<(), Fail> {
     static SOUTHERN: RuleRow = (
         (-14_400, false, Some(b"-04")),
@@ -339,7 +334,7 @@ fn instants_apart(alloc: Global, apart: i64) -> Result<Vec<i64>, AllocError> {
     Ok(instants)
 }
 
-/// Both halves answer alike around twelve jumps with as many seconds between one and the next.
+/// Lines are answered alike together and alone around twelve jumps with as many seconds between one and the next.
 fn expect_alike_around_jumps_apart(
     rt: &impl Abort,
     alloc: Global,

@@ -1,99 +1,83 @@
 //! The answers of query lines.
 
-ghost use Rattle.std.specs.Prelude.{◌≡◌, ℕ, List, [], ◌++◌, IfOk, IfErr, alloc_error};
+ghost use Rattle.std.specs.Prelude.{◌≡◌, ℕ, List, ◌++◌, IfOk, IfErr, alloc_error};
 ghost use Rattle.tz_zone.specs.ZoneRef.{zone_of};
 ghost use Rattle.tz_query.specs.Lines.{IsFirstLine, ended};
 ghost use Rattle.tz_query.specs.Answers.{IsAnswer, AreAnswers};
 ghost use Rattle.tz_query.specs.Caches.{IsCacheOf};
+ghost use Rattle.tz_query.specs.Outputs.{written};
 ghost use Rattle.tz_query.specs.Pages.{HasRoom};
 
-use super::general::{answer_search, answer_time};
+use super::cache::Cache;
+use super::general_answers::answer_any_search;
+use super::lines::{
+    after_line, read_meeting_line, read_search_line, read_time_line, read_usual_search_line,
+    read_usual_time_line,
+};
+use super::meetings::answer_meeting;
+use super::output::Output;
+use super::search_answers::answer_search;
 use super::suffixes::suffixes_of;
-use crate::query::cache::Cache;
-use crate::query::fast::search_lines::answer_search_line;
-use crate::query::fast::time_lines::answer_time_line;
-use crate::query::lines::{after_line, read_meeting_line, read_search_line, read_time_line};
-use crate::query::meetings::answer_meeting;
-use crate::query::page::Page;
+use super::time_answers::{answer_any_time, answer_time};
 use std::alloc::{AllocError, Allocator};
-use tz::inner::TextBuffer;
 use tz::{TimeZoneRef, TzError};
 
-/// Appends the answer lines of the first line, and returns the bytes after that line.
-pub fn answer_line<'a, A: Allocator + Copy>(
+/// Answers the first line, whatever its numbers, and returns the bytes after that line.
+#[inline(never)]
+fn answer_any_line<'a, A: Allocator + Copy>(
     alloc: A,
-    answers: &mut Vec<u8, A>,
-    line: &mut TextBuffer,
-    zone: TimeZoneRef<'_>,
+    output: &mut Output<A>,
+    cache: &mut Cache<'_>,
+    zone: &TimeZoneRef<'_>,
     queries: &'a [u8],
 ) -> Result<&'a [u8], AllocError>
-    ensures { IfOk result (λ rest. (text : List ℕ) × (answer : List (List ℕ)) × IsFirstLine queries.now text rest.now
-        × IsAnswer (zone_of zone.entry) text answer × (answers.new.items ≡ answers.old.items ++ ended answer)) }
+    requires room { HasRoom output.old.page }
+    requires cached { IsCacheOf (zone_of zone.now) cache.old }
+    ensures answer { IfOk result (λ rest. (text : List ℕ) × (answer : List (List ℕ)) × IsFirstLine queries.now text rest.now
+        × IsAnswer (zone_of zone.entry.now) text answer × (written output.new ≡ written output.old ++ ended answer)) }
+    ensures cached { IsCacheOf (zone_of zone.entry.now) cache.new }
 {
     if let Some((unix_time, nanoseconds, rest)) = read_time_line(queries) {
-        answer_time(answers, line, zone, unix_time, nanoseconds)?;
+        answer_any_time(output, zone, unix_time, nanoseconds)?;
         return Ok(rest);
     }
     if let Some((fields, rest)) = read_search_line(queries) {
-        answer_search(alloc, answers, line, zone, &fields)?;
+        answer_any_search(alloc, output, zone, &fields)?;
         return Ok(rest);
     }
     if let Some((count, fields, rest)) = read_meeting_line(queries) {
-        answer_meeting(alloc, answers, line, zone, &fields, count)?;
+        answer_meeting(alloc, output, cache, zone, &fields, count)?;
         return Ok(rest);
     }
-    answers.extend_from_slice(b"E Line\n")?;
+    output.page.push(b"E Line\n");
     Ok(after_line(queries))
 }
 
-/// Appends what is on the page to the answers, and clears it.
-fn flush<A: Allocator>(answers: &mut Vec<u8, A>, page: &mut Page) -> Result<(), AllocError>
-    ensures text { IfOk result (λ _. answers.new.items ≡ answers.old.items ++ page.old) }
-    ensures clear { IfOk result (λ _. page.new ≡ []) }
-{
-    answers.extend_from_slice(page.as_bytes())?;
-    page.clear();
-    Ok(())
-}
-
-/// Appends what is on the page to the answers, where it has no room for one more.
+/// Answers the first line, and returns the bytes after that line.
 #[inline(always)]
-fn make_room<A: Allocator>(answers: &mut Vec<u8, A>, page: &mut Page) -> Result<(), AllocError>
-    ensures room { IfOk result (λ _. HasRoom page.new) }
-    ensures text { IfOk result (λ _. (answers.new.items ++ page.new) ≡ (answers.old.items ++ page.old)) }
-{
-    if page.has_room() {
-        return Ok(());
-    }
-    flush(answers, page)?;
-    Ok(())
-}
-
-/// Answers the first line, on the page where that is quick, and returns the bytes after that line.
-#[inline(always)]
-fn answer_next<'a, A: Allocator + Copy>(
+fn answer_line<'a, A: Allocator + Copy>(
     alloc: A,
-    answers: &mut Vec<u8, A>,
-    line: &mut TextBuffer,
-    page: &mut Page,
+    output: &mut Output<A>,
     cache: &mut Cache<'_>,
-    zone: TimeZoneRef<'_>,
+    zone: &TimeZoneRef<'_>,
     queries: &'a [u8],
 ) -> Result<&'a [u8], AllocError>
-    requires room { HasRoom page.old }
-    requires cached { IsCacheOf (zone_of zone) cache.old }
+    requires room { HasRoom output.old.page }
+    requires cached { IsCacheOf (zone_of zone.now) cache.old }
     ensures answer { IfOk result (λ rest. (text : List ℕ) × (answer : List (List ℕ)) × IsFirstLine queries.now text rest.now
-        × IsAnswer (zone_of zone.entry) text answer × ((answers.new.items ++ page.new) ≡ (answers.old.items ++ page.old) ++ ended answer)) }
-    ensures cached { IsCacheOf (zone_of zone.entry) cache.new }
+        × IsAnswer (zone_of zone.entry.now) text answer × (written output.new ≡ written output.old ++ ended answer)) }
+    ensures cached { IsCacheOf (zone_of zone.entry.now) cache.new }
 {
-    if let Some(rest) = answer_time_line(page, cache, zone, queries) {
+    let mut nine = [0; 9];
+    if let Some((unix_time, rest)) = read_usual_time_line(queries, &mut nine) {
+        answer_time(output, cache, zone, unix_time, &nine)?;
         return Ok(rest);
     }
-    if let Some(rest) = answer_search_line(page, cache, zone, queries) {
+    if let Some((fields, rest)) = read_usual_search_line(queries, &mut nine) {
+        answer_search(alloc, output, cache, zone, &fields, &nine)?;
         return Ok(rest);
     }
-    flush(answers, page)?;
-    answer_line(alloc, answers, line, zone, queries)
+    answer_any_line(alloc, output, cache, zone, queries)
 }
 
 /// Answers query bytes over a zone.
@@ -112,24 +96,14 @@ pub fn answer<A: Allocator + Copy>(
     ensures ok { IfOk result (λ answers. AreAnswers (zone_of zone.entry) queries.now answers.items) }
     ensures err { IfErr result (λ e. e ≡ TzError.Memory alloc_error) }
 {
-    let mut answers = Vec::with_capacity(alloc, queries.len().saturating_mul(2))?;
+    let answers = Vec::with_capacity(alloc, queries.len().saturating_mul(2))?;
     let suffixes = suffixes_of(alloc, zone)?;
-    let mut line = TextBuffer::new();
-    let mut page = Page::new();
+    let mut output = Output::new(answers);
     let mut cache = Cache::new(zone, &suffixes);
     let mut rest = queries;
     while !rest.is_empty() {
-        make_room(&mut answers, &mut page)?;
-        rest = answer_next(
-            alloc,
-            &mut answers,
-            &mut line,
-            &mut page,
-            &mut cache,
-            zone,
-            rest,
-        )?;
+        output.make_room()?;
+        rest = answer_line(alloc, &mut output, &mut cache, &zone, rest)?;
     }
-    flush(&mut answers, &mut page)?;
-    Ok(answers)
+    Ok(output.into_answers()?)
 }

@@ -1,80 +1,103 @@
 //! The answers of lines for a weekly meeting.
 
-ghost use Rattle.std.specs.Prelude.{◌≡◌, ℕ, List, ◌++◌, length, IfOk};
+ghost use Rattle.std.specs.Prelude.{◌≡◌, ◌<◌, ℕ, List, ◌++◌, length, IfOk};
 ghost use Rattle.std.specs.List.{flat_map};
 ghost use Rattle.tz_base.specs.Fields.{day_of};
 ghost use Rattle.tz.specs.Walks.{IsSmall};
 ghost use Rattle.tz_zone.specs.ZoneRef.{zone_of};
+ghost use Rattle.tz.specs.PrintedText.{nine_digits};
+ghost use Rattle.tz_query.specs.Caches.{IsCacheOf};
 ghost use Rattle.tz_query.specs.Lines.{ended};
+ghost use Rattle.tz_query.specs.Outputs.{written};
 ghost use Rattle.tz_query.specs.Weeks.{midnight};
 ghost use Rattle.tz_query.specs.Answers.{AreWeekAnswers, IsMeetingAnswer, IsWeekAnswer};
 
-use super::general::{answer_search, append_count, append_fault};
+use super::cache::Cache;
+use super::general_answers::{push_count, push_error};
+use super::meeting_dates::{first_day_begins, week_of};
+use super::numbers::write_nanoseconds;
+use super::output::Output;
 use super::print::field_fault_name;
-use crate::query::meeting_dates::{first_day_begins, week_of};
+use super::search_answers::answer_search;
 use std::alloc::{AllocError, Allocator};
 use tz::TimeZoneRef;
-use tz::inner::{Fields, TextBuffer};
+use tz::inner::Fields;
 
-/// Appends the answer lines of a week: those of a search for its fields, or that its year is out of range.
+/// Writes the answer lines of a week: those of a search for its fields, or that its year is out of range.
 fn answer_week<A: Allocator + Copy>(
     alloc: A,
-    answers: &mut Vec<u8, A>,
-    line: &mut TextBuffer,
-    zone: TimeZoneRef<'_>,
+    output: &mut Output<A>,
+    cache: &mut Cache<'_>,
+    zone: &TimeZoneRef<'_>,
     first: &Fields,
+    nine: &[u8; 9],
     begins: i64,
     weeks: u8,
 ) -> Result<(), AllocError>
     requires day { begins ≡ midnight (day_of first.now) }
     requires small { IsSmall begins }
-    ensures { IfOk result (λ _. (answer : List (List ℕ)) × IsWeekAnswer (zone_of zone.entry) first.now weeks answer
-        × (answers.new.items ≡ answers.old.items ++ ended answer)) }
+    requires cached { IsCacheOf (zone_of zone.now) cache.old }
+    requires few { first.now.nanoseconds < 1000000000 }
+    requires digits { nine.now ≡ nine_digits first.now.nanoseconds }
+    ensures answer { IfOk result (λ _. (answer : List (List ℕ)) × IsWeekAnswer (zone_of zone.entry.now) first.now weeks answer
+        × (written output.new ≡ written output.old ++ ended answer)) }
+    ensures cached { IsCacheOf (zone_of zone.entry.now) cache.new }
 {
+    output.make_room()?;
     match week_of(first, begins, weeks) {
-        Some(fields) => answer_search(alloc, answers, line, zone, &fields),
-        None => append_fault(answers, line, "OutOfRange"),
+        Some(fields) => answer_search(alloc, output, cache, zone, &fields, nine),
+        None => push_error(output, "OutOfRange"),
     }
 }
 
-/// Appends the answer lines of all weeks, in their order.
+/// Writes the answer lines of all weeks, in their order.
 fn answer_weeks<A: Allocator + Copy>(
     alloc: A,
-    answers: &mut Vec<u8, A>,
-    line: &mut TextBuffer,
-    zone: TimeZoneRef<'_>,
+    output: &mut Output<A>,
+    cache: &mut Cache<'_>,
+    zone: &TimeZoneRef<'_>,
     first: &Fields,
+    nine: &[u8; 9],
     begins: i64,
     count: u8,
 ) -> Result<(), AllocError>
     requires day { begins ≡ midnight (day_of first.now) }
     requires small { IsSmall begins }
-    ensures { IfOk result (λ _. (weeks : List (List (List ℕ))) × (length weeks ≡ count) × AreWeekAnswers (zone_of zone.entry) first.now 0 weeks
-        × (answers.new.items ≡ answers.old.items ++ flat_map ended weeks)) }
+    requires cached { IsCacheOf (zone_of zone.now) cache.old }
+    requires few { first.now.nanoseconds < 1000000000 }
+    requires digits { nine.now ≡ nine_digits first.now.nanoseconds }
+    ensures answer { IfOk result (λ _. (weeks : List (List (List ℕ))) × (length weeks ≡ count) × AreWeekAnswers (zone_of zone.entry.now) first.now 0 weeks
+        × (written output.new ≡ written output.old ++ flat_map ended weeks)) }
+    ensures cached { IsCacheOf (zone_of zone.entry.now) cache.new }
 {
     for weeks in 0..count {
-        answer_week(alloc, answers, line, zone, first, begins, weeks)?;
+        answer_week(alloc, output, cache, zone, first, nine, begins, weeks)?;
     }
     Ok(())
 }
 
-/// Appends the answer lines of a weekly meeting, which takes place in `count` weeks, in the first of them at these fields.
+/// Writes the answer lines of a weekly meeting, which takes place in `count` weeks, in the first of them at these fields.
+#[inline(never)]
 pub fn answer_meeting<A: Allocator + Copy>(
     alloc: A,
-    answers: &mut Vec<u8, A>,
-    line: &mut TextBuffer,
-    zone: TimeZoneRef<'_>,
+    output: &mut Output<A>,
+    cache: &mut Cache<'_>,
+    zone: &TimeZoneRef<'_>,
     first: &Fields,
     count: u8,
 ) -> Result<(), AllocError>
-    ensures { IfOk result (λ _. (answer : List (List ℕ)) × IsMeetingAnswer (zone_of zone.entry) count first.now answer
-        × (answers.new.items ≡ answers.old.items ++ ended answer)) }
+    requires { IsCacheOf (zone_of zone.now) cache.old }
+    ensures answer { IfOk result (λ _. (answer : List (List ℕ)) × IsMeetingAnswer (zone_of zone.entry.now) count first.now answer
+        × (written output.new ≡ written output.old ++ ended answer)) }
+    ensures cached { IsCacheOf (zone_of zone.entry.now) cache.new }
 {
     match first_day_begins(first) {
         Ok(begins) => {
-            append_count(answers, line, b'W', usize::from(count))?;
-            answer_weeks(alloc, answers, line, zone, first, begins, count)
+            let mut nine = [0; 9];
+            write_nanoseconds(first.nanoseconds, &mut nine);
+            push_count(output, b'W', usize::from(count))?;
+            answer_weeks(alloc, output, cache, zone, first, &nine, begins, count)
         }
-        Err(fault) => append_fault(answers, line, field_fault_name(&fault)),
+        Err(fault) => push_error(output, field_fault_name(&fault)),
     }
 }

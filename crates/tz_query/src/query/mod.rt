@@ -1,19 +1,24 @@
 //! Queries, a line each, and their answers.
 
-pub(crate) mod answers;
+mod answers;
 mod cache;
-mod fast;
-mod general;
+mod entries;
+mod general_answers;
+mod jump_answers;
 mod lines;
 mod meeting_dates;
 mod meetings;
 mod numbers;
+mod output;
 mod page;
+mod prefix;
 mod print;
 mod program;
+mod search_answers;
 mod streams;
 mod suffix;
 mod suffixes;
+mod time_answers;
 mod tzif;
 
 pub use answers::answer;

@@ -1,44 +1,37 @@
--- A `T` line, an `F` line, a `W` line, or a line that is no query.
-use Rattle.std.proofs.Common.{[], ◌∷◌, refl, inl, inr, rules}
-use Rattle.std.specs.Prelude.{codes}
+-- A line of usual numbers is answered as it is read, and every other one by what it holds.
+use Rattle.std.proofs.Common.{[], ◌∷◌, refl, inl, rules}
 use Rattle.std.proofs.lemmas.Int.{to_z-of_z}
 use mir.Syntax.{w64}
 use mir.Val.{SFits}
-use Rattle.tz_query.specs.Queries.{Time, Search, Meeting}
-use Rattle.tz_query.proofs.LineFronts.{no_query}
+use Rattle.tz_query.specs.Queries.{Time, Search}
 use Rattle.tz_query.proofs.query.answers.answer_line.Goals as goal
 
 pub returns-in-Some : goal.returns-in-Some
 returns-in-Some g c =
     let asked = c.in-Some in
-    let front = asked.ensures.some in
+    let (n, few, digits, front) = asked.ensures.line in
     let fits : SFits w64 asked.unix_time = search rules in
-    let answered = rw (to_z-of_z w64 asked.unix_time fits) at c.in_ok-answer_time.ensures in
-    (front.0, answered.0 ∷ [], front.1, inl (Time asked.unix_time asked.nanoseconds, front.2, (answered.0, answered.1, refl)), answered.2)
+    let answered = rw (to_z-of_z w64 asked.unix_time fits) at c.in_ok-answer_time.ensures.answer n few digits in
+    record {
+      answer = (front.0, answered.0 ∷ [], front.1, inl (Time asked.unix_time n, front.2, (answered.0, answered.1, refl)), answered.2);
+      cached = c.in_ok-answer_time.ensures.cached;
+    }
 
-pub returns-in-Some-read_search_line : goal.returns-in-Some-read_search_line
-returns-in-Some-read_search_line g c =
-    let asked = c.in-Some-read_search_line in
-    let front = asked.ensures.some in
-    let answered = c.in_ok-answer_search.ensures in
-    (front.0, answered.0, front.1, inl (Search asked.fields, front.2, answered.1), answered.2)
+pub returns-in-Some-read_usual_search_line : goal.returns-in-Some-read_usual_search_line
+returns-in-Some-read_usual_search_line g c =
+    let asked = c.in-Some-read_usual_search_line in
+    let (n, few, digits, front) = asked.ensures in
+    let answered = c.in_ok-answer_search.ensures.answer n few digits in
+    record {
+      answer = (front.0, answered.0, front.1, inl (Search (record asked.fields { nanoseconds = n }), front.2, answered.1), answered.2);
+      cached = c.in_ok-answer_search.ensures.cached;
+    }
 
-pub returns-in-Some-read_meeting_line : goal.returns-in-Some-read_meeting_line
-returns-in-Some-read_meeting_line g c =
-    let asked = c.in-Some-read_meeting_line in
-    let front = asked.ensures.some in
-    let answered = c.in_ok-answer_meeting.ensures in
-    (front.0, answered.0, front.1, inl (Meeting asked.count asked.fields, front.2, answered.1), answered.2)
+pub answer_time-requires-clause-near : goal.answer_time-requires-clause-near
+answer_time-requires-clause-near g c = let fits : SFits w64 c.in-Some.unix_time = search rules in rw (to_z-of_z w64 c.in-Some.unix_time fits) c.in-Some.ensures.bound
 
-pub returns : goal.returns
-returns g c =
-    let line = c.after_line.ensures in
-    let no_time = c.in_default.ensures.none in
-    let no_search = c.in_default-read_search_line.ensures.none in
-    let no_meeting = c.in_default-read_meeting_line.ensures.none in (
-      line.0,
-      codes "E Line" ∷ [],
-      line.1,
-      inr (no_query line.0 (λ u n is. no_time u n _ (line.0, line.1, is)) (λ f is. no_search f _ (line.0, line.1, is)) (λ count f is. no_meeting count f _ (line.0, line.1, is)), refl),
-      c.in_ok-extend_from_slice.ensures.items,
-    )
+pub answer_time-requires-clause-digits : goal.answer_time-requires-clause-digits
+answer_time-requires-clause-digits g c = let (n, few, digits, front) = c.in-Some.ensures.line in (n, few, digits)
+
+pub answer_search-requires-clause-digits : goal.answer_search-requires-clause-digits
+answer_search-requires-clause-digits g c = let (n, few, digits, front) = c.in-Some-read_usual_search_line.ensures in (n, few, digits)

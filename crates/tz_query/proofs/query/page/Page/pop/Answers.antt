@@ -1,5 +1,5 @@
 -- The text is what stands before the last byte.
-use Rattle.std.proofs.Common.{◌≡◌, ◌+◌, ◌≤◌, [], ◌∷◌, ◌++◌, ◌∙◌, length, ap, arith, rules}
+use Rattle.std.proofs.Common.{◌≡◌, ◌+◌, ◌≤◌, [], ◌∷◌, ◌∙◌, length, ap, arith, rules}
 use Rattle.std.proofs.lemmas.List.{length-take-le, length-append}
 use Rattle.tz_query.proofs.PageLines.{without_last}
 use Rattle.tz_query.proofs.query.page.Page.pop.Goals as goal

@@ -1,0 +1,76 @@
+//! Where answers are written.
+
+ghost use Rattle.std.specs.Prelude.{◌≡◌, ◌<◌, ◌≤◌, ◌∷◌, ◌++◌, [], length, IfOk};
+ghost use Rattle.tz_query.specs.Lines.{line_feed};
+ghost use Rattle.tz_query.specs.Pages.{HasRoom};
+
+use super::page::Page;
+use std::alloc::{AllocError, Allocator};
+use tz::inner::TextBuffer;
+
+/// Where answers are written: onto a page, which is appended to the answers before it when it has no room for one more.
+#[derive(Drop)]
+pub struct Output<A: Allocator> {
+    pub answers: Vec<u8, A>,
+    pub page: Page,
+}
+
+impl<A: Allocator> Output<A> {
+    ghost use Rattle.tz_query.specs.Outputs.{written};
+
+    /// Writes behind these answers.
+    pub fn new(answers: Vec<u8, A>) -> Output<A>
+        ensures { written result ≡ answers.items }
+    {
+        Output {
+            answers,
+            page: Page::new(),
+        }
+    }
+
+    /// Appends what is on the page to the answers, and clears it.
+    #[inline(never)]
+    fn flush(&mut self) -> Result<(), AllocError>
+        ensures text { IfOk result (λ _. written self.new ≡ written self.old) }
+        ensures answers { IfOk result (λ _. self.new.answers.items ≡ written self.old) }
+        ensures clear { IfOk result (λ _. self.new.page ≡ []) }
+    {
+        self.answers.extend_from_slice(self.page.as_bytes())?;
+        self.page.clear();
+        Ok(())
+    }
+
+    /// Makes room for one more answer on the page.
+    #[inline(always)]
+    pub fn make_room(&mut self) -> Result<(), AllocError>
+        ensures room { IfOk result (λ _. HasRoom self.new.page) }
+        ensures text { IfOk result (λ _. written self.new ≡ written self.old) }
+    {
+        if self.page.has_room() {
+            return Ok(());
+        }
+        self.flush()?;
+        Ok(())
+    }
+
+    /// Writes a line.
+    #[inline(never)]
+    pub fn push_line(&mut self, line: &mut TextBuffer) -> Result<(), AllocError>
+        requires { length line.old < 128 }
+        ensures { IfOk result (λ _. written self.new ≡ written self.old ++ (line.old ++ line_feed ∷ [])) }
+    {
+        self.make_room()?;
+        line.push(b'\n');
+        self.page.push(line.as_bytes());
+        Ok(())
+    }
+
+    /// All answers.
+    pub fn into_answers(self) -> Result<Vec<u8, A>, AllocError>
+        ensures { IfOk result (λ answers. answers.items ≡ written self) }
+    {
+        let Output { mut answers, page } = self;
+        answers.extend_from_slice(page.as_bytes())?;
+        Ok(answers)
+    }
+}
