@@ -8,7 +8,7 @@ use Rattle.tz_zone.specs.Clock.{IsClock}
 use Rattle.tz_zone.specs.Table.{Zone}
 use Rattle.tz.specs.DateTimes.{DateTime, ShowsByClock, IsClockFault}
 use Rattle.tz.specs.FindFaults.{IsFindFault}
-use Rattle.tz.specs.Found.{IsFound}
+use Rattle.tz.specs.Found.{EachCanBeMade, IsFound}
 use Rattle.tz.specs.declared.datetime.disambiguation.Disambiguation.{Disambiguation}
 use Rattle.tz.specs.declared.datetime.disambiguation.Disambiguation.TheVariants.{Compatible, Earlier, Later, Reject}
 use Rattle.tz.specs.declared.datetime.found.FoundDateTimeKind.{FoundDateTimeKind}
@@ -66,9 +66,9 @@ abbrev pub IsMeaning : Zone → Disambiguation → Fields → Option DateTime �
 IsMeaning z choice f meaning =
     (found : List FoundDateTimeKind) × IsFound (IsClock z) f found × IsMeantIn z choice f (entry_meant choice found) meaning
 
--- why there is no answer: the search for the fields is refused, or the clock shows nothing at the instant that is meant
+-- why there is no answer: the search for the fields is refused, or it is not and the clock shows nothing at the instant that is meant
 abbrev pub IsMeaningFault : Zone → Disambiguation → Fields → TzError → Type 0
 IsMeaningFault z choice f e =
     IsFindFault ⊥ (IsClock z) f e
-    ⊎ ((found : List FoundDateTimeKind) × (entry : FoundDateTimeKind) × IsValid f × IsFound (IsClock z) f found
+    ⊎ ((found : List FoundDateTimeKind) × (entry : FoundDateTimeKind) × IsValid f × IsFound (IsClock z) f found × EachCanBeMade (IsClock z) f
     × (entry_meant choice found ≡ Some entry) × IsMeantFault z choice f entry e)

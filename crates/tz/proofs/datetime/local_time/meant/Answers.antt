@@ -86,4 +86,5 @@ returns-in_err-date_time_of-clause-err c =
     let entry = sym (c.entry.ensures ok.0 (ok.1 [] c.new-choice.ensures)) ∙ c.in-Some.is in
     let p = err_from_is_err_and c.from_residual-in_err-date_time_of.result c.from_residual-in_err-date_time_of.ensures.1 in
     let is = found_in seen (zone_of c.args.time_zone_ref) same c.args.fields.now ok.0 ok.2 in
-    rw (p.1, p.2) (inr (ok.0, c.in-Some.entry, c.in_ok-check.ensures.ok, is, entry, c.in_err-date_time_of.ensures.err))
+    let made = made_in seen (zone_of c.args.time_zone_ref) same c.args.fields.now c.in_ok-search.ensures.made in
+    rw (p.1, p.2) (inr (ok.0, c.in-Some.entry, c.in_ok-check.ensures.ok, is, made, entry, c.in_err-date_time_of.ensures.err))
