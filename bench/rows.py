@@ -42,7 +42,7 @@ APART = ('`DateTime::from_timespec`, fixed offset', '`DateTime::find_n`, fixed o
 # Why tz takes more than the best peer, and the rows in which it may: a row says so where it does.
 REASONS = {
     'a': 'checks the fields, and makes date times, at jumps two, with fields, offset and name, where the others return seconds (date without a check);',
-    'b': 'allocates a list of them, and more room for a second one: `find_n` uses slots of the caller, and the peers return one or two values;',
+    'b': 'allocates a list of them: `find_n` uses slots of the caller, and the peers return one or two values;',
     'c': 'searches anew, where cctz first tries the transition that it found last;',
     'd': 'adds to calendar fields, where jiff, Abseil and Go add to a number;',
     'e': 'looks for a file of that name in three directories, as tz-rs does, by a call of the kit that clears 4096 bytes each time;',
