@@ -27,7 +27,7 @@ use Rattle.tz.proofs.PromisedLists.{not_out_of_range, valid_without_fault}
 use Rattle.tz_query.specs.Lines.{line_feed, IsLine, IsCut, AreLines, ended}
 use Rattle.tz_query.specs.Numbers.{AreNumbers}
 use Rattle.tz_query.specs.Queries.{time_letter, search_letter, meeting_letter, Query, Time, Search, Meeting, IsLineOf, IsQueryLine, numbers_of}
-use Rattle.tz_query.specs.Weeks.{IsWeekOf}
+use Rattle.tz_query.specs.MeetingDates.{IsWeekOf}
 use Rattle.tz_query.specs.Answers.{moment_text, entry_text, field_fault_text, found_lines, meeting_lines, IsFaultText, IsTimeAnswer, IsSearchAnswer, IsWeekAnswer, AreWeekAnswers, IsMeetingAnswer, IsQueryAnswer, IsAnswer, AreAnswers, IsSearchGroup, IsGroup}
 use Rattle.tz_query.proofs.AnswerLines.{no_lines}
 use Rattle.tz_query.proofs.AnswerTexts.{single_refusal, single_time_answer}

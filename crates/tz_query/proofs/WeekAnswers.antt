@@ -10,7 +10,7 @@ use Rattle.tz_zone.specs.Table.{Zone}
 use Rattle.tz_query.specs.Lines.{ended, line_feed}
 use Rattle.tz_query.specs.Numbers.{space}
 use Rattle.tz_query.specs.Queries.{meeting_letter}
-use Rattle.tz_query.specs.Weeks.{midnight}
+use Rattle.tz_query.specs.MeetingDates.{midnight}
 use Rattle.tz_query.specs.Answers.{AreWeekAnswers, IsWeekAnswer, meeting_lines}
 
 -- what shows the beginning of a day has its date

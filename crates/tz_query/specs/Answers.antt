@@ -20,7 +20,7 @@ use Rattle.tz.specs.declared.datetime.found.FoundDateTimeKind.TheVariants.{Norma
 use Rattle.tz_query.specs.Lines.{AreLines, ended}
 use Rattle.tz_query.specs.Numbers.{hyphen, space}
 use Rattle.tz_query.specs.Queries.{Query, Time, Search, Meeting, IsQueryLine}
-use Rattle.tz_query.specs.Weeks.{IsInYears, IsWeekOf, day_after}
+use Rattle.tz_query.specs.MeetingDates.{IsInYears, IsWeekOf, day_after}
 
 -- the name of a type, or `-`
 abbrev pub name_text : LocalTimeType → List ℕ

@@ -3,7 +3,7 @@ pub use Rattle.tz.specs.PrintedText
 pub mod Lines
 pub mod Numbers
 pub mod Queries
-pub mod Weeks
+pub mod MeetingDates
 pub mod Answers
 pub mod Streams
 pub mod Pages

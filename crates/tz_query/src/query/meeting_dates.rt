@@ -7,7 +7,7 @@
 ghost use Rattle.std.specs.Prelude.{◌≡◌, ◌+◌, ◌*◌, pos, ◌+ℤ◌, IfOk, IfErr, IfSome, IfNone, OnOk};
 ghost use Rattle.tz_base.specs.Fields.{IsCivil, IsFirstFault, IsReading, IsValid, day_of, reading};
 ghost use Rattle.tz.specs.Walks.{IsSmall};
-ghost use Rattle.tz_query.specs.Weeks.{IsInYears, IsWeekOf, day_after, midnight};
+ghost use Rattle.tz_query.specs.MeetingDates.{IsInYears, IsWeekOf, day_after, midnight};
 
 use tz::constants::SECONDS_PER_WEEK;
 use tz::error::datetime::DateTimeError;

@@ -9,7 +9,7 @@ ghost use Rattle.tz.specs.PrintedText.{nine_digits};
 ghost use Rattle.tz_query.specs.Caches.{IsCacheOf};
 ghost use Rattle.tz_query.specs.Lines.{ended};
 ghost use Rattle.tz_query.specs.Outputs.{written};
-ghost use Rattle.tz_query.specs.Weeks.{midnight};
+ghost use Rattle.tz_query.specs.MeetingDates.{midnight};
 ghost use Rattle.tz_query.specs.Answers.{AreWeekAnswers, IsMeetingAnswer, IsWeekAnswer};
 
 use super::cache::Cache;

@@ -4,7 +4,7 @@ use Rattle.std.proofs.lemmas.Int.{ints, to_z-of_z}
 use mir.Syntax.{w32, w64}
 use mir.Val.{SFits}
 use Rattle.tz_base.specs.Fields.{IsCivil}
-use Rattle.tz_query.specs.Weeks.{day_after, midnight}
+use Rattle.tz_query.specs.MeetingDates.{day_after, midnight}
 use Rattle.tz_query.proofs.WeekAnswers.{date_of_day}
 use Rattle.tz_query.proofs.query.meeting_dates.week_of.Goals as goal
 

@@ -5,7 +5,7 @@ use Rattle.std.proofs.lemmas.Result.{IfOk-weaker}
 use Rattle.tz.specs.PrintedText.{nine_digits}
 use Rattle.tz_base.specs.declared.calendar.Fields.{Fields}
 use Rattle.tz_query.specs.Lines.{ended}
-use Rattle.tz_query.specs.Weeks.{IsWeekOf}
+use Rattle.tz_query.specs.MeetingDates.{IsWeekOf}
 use Rattle.tz_query.proofs.query.meetings.answer_week.Goals as goal
 
 -- the nanoseconds of a week are those of the first
