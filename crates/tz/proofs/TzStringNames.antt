@@ -11,7 +11,7 @@ use Rattle.std.proofs.lemmas.Int.{ints}
 use Rattle.std.proofs.lemmas.List.Elements.{All-weaker}
 use Rattle.std.proofs.lemmas.List.Sums.{list_all-from_AllPass}
 use Rattle.tz_rule.specs.Alternate.{IsRuleTime}
-use Rattle.tz_rule.specs.Day.{IsRuleDay}
+use Rattle.tz_rule.specs.RuleDays.{IsRuleDay}
 use Rattle.tz_rule.specs.LocalTimeType.{IsDesignation, IsDesignationByte}
 use Rattle.tz_rule.specs.declared.timezone.rule_day.RuleDay.{RuleDay}
 use Rattle.tz_rule.specs.declared.timezone.rule_day.RuleDay.TheVariants.{Julian1WithoutLeap, Julian0WithLeap, MonthWeekDay}

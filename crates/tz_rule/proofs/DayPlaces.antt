@@ -8,7 +8,7 @@ use Rattle.std.proofs.lemmas.List.{get_or-map, length-map, get_or-append_right, 
 use Rattle.tz_base.specs.Days.{is_leap, month_length, months_length, first_day, day_number, week_day_of}
 use Rattle.tz_base.proofs.TestsBelow.{all_below, passes_at}
 use Rattle.tz_base.proofs.DaysOfYears.{day_number-is, year_length-is}
-use Rattle.tz_rule.specs.Day.{days_from, rule_day, is_leap_day, day_at}
+use Rattle.tz_rule.specs.RuleDays.{days_from, rule_day, is_leap_day, day_at}
 use Rattle.tz_rule.specs.MonthWeek.{MonthWeek, IsMonthWeek}
 use Rattle.tz_rule.specs.Places.{julian_place, week_day_place}
 use Rattle.tz_rule.specs.declared.timezone.rule_day.RuleDay.TheVariants.{Julian1WithoutLeap, Julian0WithLeap, MonthWeekDay}

@@ -5,7 +5,7 @@ use Rattle.std.proofs.lemmas.List.FromFn.{length-map-range_with_len, get_or-map-
 use Rattle.tz_base.specs.Days.{is_leap}
 use Rattle.tz_base.proofs.DaysOfYears.{first_day-next}
 use Rattle.tz_rule.specs.Alternate.{AlternateTime, start_of, end_of, IsInRuleRange, IsConsistentRule, AreRuleDays}
-use Rattle.tz_rule.specs.Day.{IsRuleDay}
+use Rattle.tz_rule.specs.RuleDays.{IsRuleDay}
 use Rattle.tz_rule.specs.Kinds.{year_kind, is_leap_kind, week_day_of_kind, first_kind, IsPairOf}
 use Rattle.tz_rule.specs.Places.{place_in_year}
 use Rattle.tz_rule.specs.Pairing.{IsConflict, IsInconsistent}

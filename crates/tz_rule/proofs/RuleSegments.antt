@@ -4,7 +4,7 @@ use Rattle.std.specs.Prelude.{Some, if◌then◌else◌, slice_get}
 use Rattle.std.proofs.lemmas.Int.{ints, by_lt_z}
 use Rattle.tz_base.proofs.DateOrder.{first_day-mono, gap_between}
 use Rattle.tz_rule.specs.Alternate.{AlternateTime, start_of, end_of, turn_of, IsInRuleRange, AreRuleDays, IsUtcYear, IsInRuleYears, IsAlternateType, IsUnchanged}
-use Rattle.tz_rule.specs.Day.{IsRuleDay}
+use Rattle.tz_rule.specs.RuleDays.{IsRuleDay}
 use Rattle.tz_rule.specs.Rule.{IsRuleType, types_of}
 use Rattle.tz_rule.specs.RuleSegments.{IsTurn, IsRuleChange, IsWholeSegment, IsNotInside}
 use Rattle.tz_rule.specs.AlternateSegments.{type_by, IsTriedYear}

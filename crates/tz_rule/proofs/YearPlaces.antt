@@ -3,7 +3,7 @@ use Rattle.std.proofs.Common.{◌≡◌, ℕ, true, false, suc, ◌+◌, ◌-◌
 use Rattle.std.proofs.lemmas.Int.{ints}
 use Rattle.tz_base.specs.Days.{is_leap, month_length, months_length, first_day, day_number, week_day_of}
 use Rattle.tz_base.proofs.DaysOfYears.{day_number-is, months_length-le_year}
-use Rattle.tz_rule.specs.Day.{rule_day, IsRuleDay}
+use Rattle.tz_rule.specs.RuleDays.{rule_day, IsRuleDay}
 use Rattle.tz_rule.specs.MonthWeek.{MonthWeek, IsMonthWeek}
 use Rattle.tz_rule.specs.Places.{week_day_place, place_in_year}
 use Rattle.tz_rule.specs.declared.timezone.rule_day.RuleDay.{RuleDay}

@@ -5,7 +5,7 @@ use Rattle.tz_base.specs.Days.{is_leap, first_day}
 use Rattle.tz_base.proofs.DaysOfYears.{first_day-next, year_length-is}
 use Rattle.tz_base.proofs.DateOrder.{first_day-mono, first_day-period, is_leap-period}
 use Rattle.tz_rule.specs.Alternate.{AlternateTime, start_of, end_of, turn_of, AreRuleDays, IsRuleOffset, IsRuleTime, IsInRuleRange, IsNearYear}
-use Rattle.tz_rule.specs.Day.{rule_day, IsRuleDay}
+use Rattle.tz_rule.specs.RuleDays.{rule_day, IsRuleDay}
 use Rattle.tz_rule.specs.Kinds.{week_day_of_year}
 use Rattle.tz_rule.specs.Places.{place_in_year}
 use Rattle.tz_rule.specs.Pairing.{IsConflict, IsInconsistent}

@@ -4,7 +4,7 @@ use Rattle.tz_base.specs.Days.{first_day}
 use Rattle.tz_base.specs.declared.error.timezone.TransitionRuleError.{TransitionRuleError}
 use Rattle.tz_base.specs.declared.error.timezone.TransitionRuleError.TheVariants.{InvalidStdUtcOffset, InvalidDstUtcOffset, InvalidDstStartEndTime, InconsistentRule}
 use Rattle.tz_rule.specs.LocalTimeType.{LocalTimeType}
-use Rattle.tz_rule.specs.Day.{rule_day, IsRuleDay}
+use Rattle.tz_rule.specs.RuleDays.{rule_day, IsRuleDay}
 use Rattle.tz_rule.specs.Pairing.{IsInconsistent, IsDaylight}
 use Rattle.tz_rule.specs.declared.timezone.rule_day.RuleDay.{RuleDay}
 

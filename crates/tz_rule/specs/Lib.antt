@@ -6,7 +6,7 @@ pub mod JulianDay
 pub mod MonthWeek
 pub mod Kinds
 pub mod Places
-pub mod Day
+pub mod RuleDays
 pub mod Pairing
 pub mod Alternate
 pub mod YearTables

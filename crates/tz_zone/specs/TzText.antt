@@ -5,7 +5,7 @@ use Rattle.std.specs.Prelude.{◌≡◌, ◌≢◌, ℕ, ◌+◌, ◌*◌, ◌�
 use Rattle.std.specs.Char.{is_ascii_digit, is_ascii_alphabetic}
 use Rattle.std.specs.Str.Parse.{digits_value}
 use Rattle.tz_rule.specs.LocalTimeType.{LocalTimeType, IsDesignation, type_of}
-use Rattle.tz_rule.specs.Day.{IsRuleDay}
+use Rattle.tz_rule.specs.RuleDays.{IsRuleDay}
 use Rattle.tz_rule.specs.MonthWeek.{MonthWeek}
 use Rattle.tz_rule.specs.Alternate.{AlternateTime, alternate_of, IsConsistentRule}
 use Rattle.tz_rule.specs.declared.timezone.rule_day.RuleDay.{RuleDay}

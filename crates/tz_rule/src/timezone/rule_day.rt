@@ -255,7 +255,7 @@ impl Eq for RuleDay {
 }
 
 impl RuleDay {
-    ghost use Rattle.tz_rule.specs.Day.{IsRuleDay};
+    ghost use Rattle.tz_rule.specs.RuleDays.{IsRuleDay};
 
     /// How many days after January 1st the day lies in leap years or in the others, for each week day of January 1st.
     pub(super) fn places(&self, leap: bool) -> [u16; 7]

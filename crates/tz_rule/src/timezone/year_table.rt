@@ -1,7 +1,7 @@
 //! Tables of an instant of each year, by the kind of the year.
 
 ghost use Rattle.std.specs.Prelude.{◌≡◌, ◌<◌, ◌≤◌, ◌*◌, pos, negsuc, ◌+ℤ◌, ◌≤ℤ◌};
-ghost use Rattle.tz_rule.specs.Day.{IsRuleDay};
+ghost use Rattle.tz_rule.specs.RuleDays.{IsRuleDay};
 ghost use Rattle.tz_rule.specs.AlternateSegments.{moved_back};
 ghost use Rattle.tz_rule.specs.YearTables.{instant_in, entry, next_entry, day_table, AreBounds, least_entry, greatest_entry, is_inner};
 

@@ -4,7 +4,7 @@ ghost use Rattle.std.specs.Prelude.{◌≡◌, ◌∷◌, ℕ, List, IfSome, Mat
 ghost use Rattle.tz_base.specs.declared.error.timezone.TransitionRuleError.TheVariants.{InvalidRuleDayJulianDay};
 ghost use Rattle.tz_rule.specs.JulianDay.{IsJulianDay, IsZeroBasedDay};
 ghost use Rattle.tz_rule.specs.MonthWeek.{IsMonthWeek, month_week};
-ghost use Rattle.tz_rule.specs.Day.{IsRuleDay};
+ghost use Rattle.tz_rule.specs.RuleDays.{IsRuleDay};
 ghost use Rattle.tz_zone.specs.Bytes.{slash};
 ghost use Rattle.tz_zone.specs.TzText.{IsNumber, IsMonthWeekText, IsDay, IsTimeOfRule, IsTimeUpTo, day_time_hours, IsRuleText, IsRuleInRange};
 ghost use Rattle.tz_zone.specs.TzTextFault.{IsDayNumberFault, IsMonthWeekDayFault, IsDayFault, IsDayTimeFault, IsRuleTextFault};
