@@ -7,8 +7,7 @@ use Rattle.tz_base.specs.declared.calendar.Fields.{Fields}
 use Rattle.tz_base.specs.Fields.{reading}
 use Rattle.tz_rule.specs.LocalTimeType.{LocalTimeType}
 use Rattle.tz_zone.specs.Table.{Zone}
-use Rattle.tz_zone.specs.Clock.{IsClock}
-use Rattle.tz_zone.specs.Segments.{IsStretch}
+use Rattle.tz_zone.specs.Clock.{IsClock, HasTypeFrom}
 use Rattle.tz_zone.specs.ValidZone.{AreLeapSeconds}
 use Rattle.tz_zone.proofs.Clocks.{clock_unique}
 use Rattle.tz.specs.DateTimes.{DateTime}
@@ -22,19 +21,19 @@ abbrev moment_of : Fields → LocalTimeType → ℤ → DateTime
 moment_of f t u = record { fields = f; local_time_type = t; unix_time = u }
 
 module _ (z : Zone) (are : AreLeapSeconds z.leap_seconds) (f : Fields) (least greatest from until : ℤ) (t : LocalTimeType) (order : least ≤ℤ greatest) (offsets : AreOffsetsOf z least greatest)
-    (stretch : IsStretch z from until t) (low : from ≤ℤ (reading f -ℤ greatest)) (high : (reading f -ℤ least) <ℤ until) where
+    (through : HasTypeFrom z from until t) (low : from ≤ℤ (reading f -ℤ greatest)) (high : (reading f -ℤ least) <ℤ until) where
   -- the date time that is found
   abbrev pub the_one : DateTime
   the_one = record { fields = f; local_time_type = t; unix_time = reading f -ℤ t.ut_offset }
 
   bounds : (least ≤ℤ t.ut_offset) × (t.ut_offset ≤ℤ greatest)
-  bounds = offsets (reading f -ℤ greatest) t (stretch (reading f -ℤ greatest) low (omega (arith, ints, high, order)))
+  bounds = offsets (reading f -ℤ greatest) t (through (reading f -ℤ greatest) low (omega (arith, ints, high, order)))
 
   is_found : IsFoundBy (IsClock z) f (Normal the_one)
-  is_found = (refl, (stretch (reading f -ℤ t.ut_offset) (omega (arith, ints, low, bounds.1)) (omega (arith, ints, high, bounds.0)), omega (arith, ints)))
+  is_found = (refl, (through (reading f -ℤ t.ut_offset) (omega (arith, ints, low, bounds.1)) (omega (arith, ints, high, bounds.0)), omega (arith, ints)))
 
   type_is : (u : ℤ) (a : LocalTimeType) → IsClock z u a → from ≤ℤ u → u <ℤ until → a ≡ t
-  type_is u a clock after before = clock_unique z u a t are clock (stretch u after before)
+  type_is u a clock after before = clock_unique z u a t are clock (through u after before)
 
   no_other : (e : FoundDateTimeKind) → IsFoundBy (IsClock z) f e → Contains (Normal the_one ∷ []) e
   no_other (Normal d) (fields, (clock, shows)) =

@@ -2,7 +2,7 @@
 use Rattle.std.specs.Prelude.{ℤ, ◌-ℤ◌, ◌<ℤ◌}
 use Rattle.tz_rule.specs.LocalTimeType.{LocalTimeType}
 use Rattle.tz_zone.specs.Table.{Zone}
-use Rattle.tz_zone.specs.Segments.{IsStretch}
+use Rattle.tz_zone.specs.Clock.{HasTypeFrom}
 use Rattle.tz.specs.Reached.{AreOffsetsOf}
 
 -- in the window of a reading the clock has the first type up to the jump, and the second from there on
@@ -14,5 +14,5 @@ pub record HasOneJump (z : Zone) (r jump : ℤ) (before after : LocalTimeType) :
   pub begins : low <ℤ jump
   pub ends : high <ℤ until
   pub goes_on : jump <ℤ until
-  pub has_before : IsStretch z low jump before
-  pub has_after : IsStretch z jump until after
+  pub has_before : HasTypeFrom z low jump before
+  pub has_after : HasTypeFrom z jump until after

@@ -4,4 +4,3 @@ pub use crate::datetime::find::find_fields;
 pub use crate::datetime::offsets::offsets;
 pub use crate::text::{TextBuffer, ones, tens};
 pub use tz_base::calendar::{Fields, is_reading};
-pub use tz_zone::inner::{Segment, segment_at, segment_following};

@@ -3,7 +3,6 @@ pub mod LeapLists
 pub mod LeapTimes
 pub mod LeapMoments
 pub mod Expiries
-pub mod LeapSpans
 pub mod OffsetBounds
 pub mod RisingTimes
 pub mod Halving
@@ -13,7 +12,6 @@ pub mod TableChecks
 pub mod RuleChecks
 pub mod Clocks
 pub mod NumbersBefore
-pub mod TypesBetweenTransitions
 pub mod TypesAtCursors
 pub mod WindowTypes
 pub mod NextChanges

@@ -10,7 +10,6 @@ pub mod ValidZone
 pub mod Offsets
 pub mod ZoneRef
 pub mod ZoneSeen
-pub mod Segments
 pub mod ClockSegments
 pub mod WindowTypes
 pub mod TableChanges

@@ -7,7 +7,6 @@ mod effect;
 pub mod inner;
 pub mod laws;
 mod leap_time;
-mod numbered_segments;
 mod parse;
 mod table;
 pub mod timezone;

@@ -417,3 +417,44 @@ fn segments_are_no_second_too_long(rt: HostRuntime) -> Result<(), TzError> {
     }
     Ok(())
 }
+
+#[test]
+fn segments_of_a_rule_begin_at_the_effect_of_the_last_transition(
+    rt: HostRuntime,
+) -> Result<(), TzError> {
+    // The last transition comes in the summer of 2024, which ends at 1729990800. That of 2025 begins at 1743296400.
+    static ROWS: [(i64, i64, Option<i32>); 6] = [
+        (i64::MIN, 999_999_999, Some(0)),
+        (1_000_000_000, 1_099_999_999, Some(3600)),
+        (1_100_000_000, 1_199_999_999, Some(7200)),
+        (1_200_000_000, 1_719_999_999, Some(3600)),
+        (1_720_000_000, 1_729_990_799, Some(7200)),
+        (1_729_990_800, 1_743_296_399, Some(3600)),
+    ];
+    let types = three_types()?;
+    let rule = Some(TransitionRule::Alternate(central_europe()?));
+    let transitions = [
+        Transition::new(1_000_000_000, 1),
+        Transition::new(1_100_000_000, 2),
+        Transition::new(1_200_000_000, 1),
+        Transition::new(1_720_000_000, 2),
+    ];
+    let zone = TimeZoneRef::new(&transitions, &types, &[], &rule)?;
+    for row in &ROWS {
+        expect_segment(&rt, &zone, row.0.midpoint(row.1), row);
+    }
+    // After two leap seconds, transitions take effect two seconds before their leap times.
+    let leap_seconds = [
+        LeapSecond::new(78_796_800, 1),
+        LeapSecond::new(94_694_401, 2),
+    ];
+    let transitions = [
+        Transition::new(1_200_000_002, 1),
+        Transition::new(1_720_000_002, 2),
+    ];
+    let zone = TimeZoneRef::new(&transitions, &types, &leap_seconds, &rule)?;
+    for row in &ROWS[3..] {
+        expect_segment(&rt, &zone, row.0.midpoint(row.1), row);
+    }
+    Ok(())
+}

@@ -445,3 +445,14 @@ fn few_looks_are_taken(rt: HostRuntime) -> Result<(), Fail> {
     }
     Ok(())
 }
+
+#[test]
+fn segments_of_a_rule_near_the_end_of_the_year(rt: HostRuntime) -> Result<(), TzError> {
+    // Daylight saving time from the end of October of 2024 to the first Sunday of 2025, and standard time before it.
+    let types = three_types()?;
+    let rule = Some(TransitionRule::Alternate(to_january()?));
+    let zone = TimeZoneRef::new(&[], &types, &[], &rule)?;
+    expect_ends(&rt, &zone, 1_735_689_600, 1_729_990_800, 1_736_038_799);
+    expect_ends(&rt, &zone, 1_720_000_000, 1_704_589_200, 1_729_990_799);
+    Ok(())
+}

@@ -16,8 +16,6 @@ mod leap_times;
 #[cfg(test)]
 mod owned_zones;
 #[cfg(test)]
-mod segments;
-#[cfg(test)]
 mod settings;
 #[cfg(test)]
 mod tz_files;

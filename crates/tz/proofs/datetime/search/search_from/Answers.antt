@@ -6,8 +6,7 @@ use Rattle.std.proofs.lemmas.Result.{IfErr-weaker, on_ok_weaker}
 use mir.Syntax.{w64}
 use mir.Val.{SFits}
 use Rattle.tz_base.specs.Fields.{reading}
-use Rattle.tz_zone.specs.Clock.{IsClock}
-use Rattle.tz_zone.specs.Segments.{IsStretch}
+use Rattle.tz_zone.specs.Clock.{IsClock, HasTypeFrom}
 use Rattle.tz_zone.specs.ZoneSeen.{zone_seen}
 use Rattle.tz.specs.Found.{CanBeMade}
 use Rattle.tz.proofs.UniqueLists.{each_from_list}
@@ -39,17 +38,17 @@ returns-in-Some g c =
     let fits_last : SFits w64 first.last = search rules in
     let over : high ≤ℤ first.last = omega (arith, ints, c.if-first-high.false, to_z-of_z w64 first.last fits_last, to_z-of_z w64 high c.ranges.high) in
     let order : (r -ℤ high) ≤ℤ (r -ℤ low) = omega (arith, ints, c.requires.order) in
-    let stretch : IsStretch z first.from (first.last +ℤ pos 1) type = λ v from until. rw c.in-Some.is at c.requires.first.holds v from (omega (arith, ints, until)) in
+    let through : HasTypeFrom z first.from (first.last +ℤ pos 1) type = λ v from until. rw c.in-Some.is at c.requires.first.holds v from (omega (arith, ints, until)) in
     let from : first.from ≤ℤ (r -ℤ (r -ℤ low)) = omega (arith, ints, c.requires.first.within.0) in
     let until : (r -ℤ (r -ℤ high)) <ℤ (first.last +ℤ pos 1) = omega (arith, ints, over) in
     record {
       ok = on_ok_weaker c.give_once.result (λ gains. (
         _,
         gains,
-        found_once z c.requires.sound.leap_seconds_are f (r -ℤ high) (r -ℤ low) first.from (first.last +ℤ pos 1) type order c.requires.offsets stretch from until,
+        found_once z c.requires.sound.leap_seconds_are f (r -ℤ high) (r -ℤ low) first.from (first.last +ℤ pos 1) type order c.requires.offsets through from until,
         omega arith,
       )) c.give_once.ensures.ok;
-      made = on_ok_weaker c.give_once.result (λ gains. made_once z c.requires.sound.leap_seconds_are f (r -ℤ high) (r -ℤ low) first.from (first.last +ℤ pos 1) type order c.requires.offsets stretch from until) c.give_once.ensures.ok;
+      made = on_ok_weaker c.give_once.result (λ gains. made_once z c.requires.sound.leap_seconds_are f (r -ℤ high) (r -ℤ low) first.from (first.last +ℤ pos 1) type order c.requires.offsets through from until) c.give_once.ensures.ok;
       err = IfErr-weaker c.give_once.result _ _ (λ e memory. inl memory) c.give_once.ensures.err;
       kept = omega arith;
       still = λ over. refl;

@@ -6,8 +6,7 @@ use Rattle.std.proofs.lemmas.Result.{IfErr-weaker, on_ok_weaker}
 use mir.Syntax.{w64}
 use mir.Val.{to_z, of_z, SFits}
 use Rattle.tz_base.specs.Fields.{reading}
-use Rattle.tz_zone.specs.Clock.{IsClock}
-use Rattle.tz_zone.specs.Segments.{IsStretch}
+use Rattle.tz_zone.specs.Clock.{IsClock, HasTypeFrom}
 use Rattle.tz_zone.specs.ZoneSeen.{zone_seen}
 use Rattle.tz.specs.Jumps.{HasOneJump}
 use Rattle.tz.proofs.UniqueLists.{each_from_list}
@@ -33,7 +32,7 @@ returns-in-One g c =
     let high = c.args.high in
     let type = c.in-One.local_time_type.now in
     let types = rw (to_z-of_z w64 low c.ranges.low, to_z-of_z w64 high c.ranges.high) at c.in-One.ensures.types in
-    let stretch : IsStretch z low (high +ℤ pos 1) type = λ v from until. types v from (omega (arith, ints, until)) in
+    let through : HasTypeFrom z low (high +ℤ pos 1) type = λ v from until. types v from (omega (arith, ints, until)) in
     let order : (r -ℤ high) ≤ℤ (r -ℤ low) = omega (arith, ints, c.requires.order) in
     let from : low ≤ℤ (r -ℤ (r -ℤ low)) = omega (arith, ints) in
     let until : (r -ℤ (r -ℤ high)) <ℤ (high +ℤ pos 1) = omega (arith, ints) in
@@ -42,10 +41,10 @@ returns-in-One g c =
       ok = on_ok_weaker c.give_once.result (λ gains. (
         _,
         gains,
-        found_once z leaps f (r -ℤ high) (r -ℤ low) low (high +ℤ pos 1) type order c.requires.offsets stretch from until,
+        found_once z leaps f (r -ℤ high) (r -ℤ low) low (high +ℤ pos 1) type order c.requires.offsets through from until,
         omega arith,
       )) c.give_once.ensures.ok;
-      made = on_ok_weaker c.give_once.result (λ gains. made_once z leaps f (r -ℤ high) (r -ℤ low) low (high +ℤ pos 1) type order c.requires.offsets stretch from until) c.give_once.ensures.ok;
+      made = on_ok_weaker c.give_once.result (λ gains. made_once z leaps f (r -ℤ high) (r -ℤ low) low (high +ℤ pos 1) type order c.requires.offsets through from until) c.give_once.ensures.ok;
       err = IfErr-weaker c.give_once.result _ _ (λ e memory. inl memory) c.give_once.ensures.err;
       at_most = on_ok_weaker c.give_once.result (λ gains b w bits most. omega (arith, c.window_types.ensures.at_most b bits)) c.give_once.ensures.ok;
       at_least_one = on_ok_weaker c.give_once.result (λ gains. c.window_types.ensures.at_least_one) c.give_once.ensures.ok;
