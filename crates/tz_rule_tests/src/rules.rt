@@ -2,7 +2,6 @@
 
 mod consistency;
 mod segments;
-mod stretches;
 
 use crate::expect::{expect_debug, expect_eq, expect_eq_at, expect_ne};
 use std::process::Abort;
@@ -407,9 +406,10 @@ fn expect_ends_of_auckland(rt: &impl Abort, auckland: &AlternateTime) {
     expect_eq(rt, &inner::start(auckland, 2000), &970_322_400);
     expect_eq(rt, &inner::end(auckland, 2000), &953_384_400);
     // Daylight saving time that starts in 2000 ends in 2001.
-    let found = inner::likely_segment(auckland, 970_322_400).map(|found| (found.from, found.until));
-    let wanted = (970_322_400, inner::end(auckland, 2001));
-    expect_eq(rt, &found, &Some(wanted));
+    let rule = TransitionRule::Alternate(*auckland);
+    let found = inner::segment_at(&rule, 970_322_400);
+    let wanted = (970_322_400, inner::end(auckland, 2001).wrapping_sub(1));
+    expect_eq(rt, &(found.from, found.last), &wanted);
 }
 
 #[test]

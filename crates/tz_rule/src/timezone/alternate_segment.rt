@@ -2,11 +2,11 @@
 
 /// A span of time through which an alternate rule has one type.
 #[derive(Clone, Copy)]
-pub struct AlternateSegment {
+pub(super) struct AlternateSegment {
     /// The first instant.
-    pub from: i64,
+    pub(super) from: i64,
     /// The first instant after it.
-    pub until: i64,
+    pub(super) until: i64,
     /// Whether its type is that of daylight saving time.
-    pub is_daylight: bool,
+    pub(super) is_daylight: bool,
 }

@@ -1,7 +1,7 @@
 //! Local time types, rule days and alternate rules.
 
 mod alternate;
-pub(crate) mod alternate_segment;
+mod alternate_segment;
 mod conflict;
 mod daylight;
 mod local_time_type;

@@ -1,13 +1,11 @@
 //! The clock of a rule: its type at an instant and around it, and where daylight saving time starts and ends.
 
-ghost use Rattle.std.specs.Prelude.{◌≡◌, ◌≢◌, ◌+ℤ◌, ◌≤ℤ◌, ℤ, pos, negsuc, IfOk, IfErr, IfSome, MatchOption};
+ghost use Rattle.std.specs.Prelude.{◌≡◌, ◌≢◌, ◌+ℤ◌, ◌≤ℤ◌, ℤ, pos, negsuc, IfOk, IfErr, MatchOption};
 ghost use Rattle.tz_rule.specs.Alternate.{start_of, end_of, IsNearYear};
-ghost use Rattle.tz_rule.specs.AlternateSegments.{IsAlternateSegment};
 ghost use Rattle.tz_rule.specs.LocalTimeType.{LocalTimeType};
 ghost use Rattle.tz_rule.specs.Rule.{IsRuleType};
 ghost use Rattle.tz_rule.specs.RuleSegments.{HasTypeOf, IsRuleChange};
 
-use super::alternate_segment::AlternateSegment;
 use super::rule_segment::RuleSegment;
 use super::{AlternateTime, LocalTimeType, TransitionRule};
 use tz_base::error::TzError;
@@ -42,14 +40,6 @@ pub fn end(rule: &AlternateTime, year: i32) -> i64
     ensures bound { IsNearYear result year }
 {
     rule.turn_in(true, year)
-}
-
-/// A segment in which the instant is expected to lie, which is for the caller to test. Some instants that have a type are given none.
-#[inline(always)]
-pub fn likely_segment(rule: &AlternateTime, unix_time: i64) -> Option<AlternateSegment>
-    ensures of { IfSome result (λ s. IsAlternateSegment rule.now s) }
-{
-    rule.likely_segment(unix_time)
 }
 
 /// The segment of the rule around an instant: the first and the last instant through which it has one type, or none.

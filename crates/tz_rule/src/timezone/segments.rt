@@ -171,7 +171,7 @@ impl AlternateTime {
 
     /// The segment around an instant, where the likely year tells it.
     #[inline(always)]
-    pub(crate) fn likely_segment(&self, unix_time: i64) -> Option<AlternateSegment>
+    fn likely_segment(&self, unix_time: i64) -> Option<AlternateSegment>
         ensures of { IfSome result (λ segment. IsWholeSegment self.now segment) }
         ensures within { IfSome result (λ segment. (segment.from ≤ℤ unix_time) × (unix_time <ℤ segment.until)) }
     {

@@ -365,6 +365,19 @@ fn segments_at_the_ends_of_the_answers(rt: HostRuntime) {
 }
 
 #[test]
+fn segments_of_a_summer_and_without_standard_time(rt: HostRuntime) {
+    // Daylight saving time of 2024 in Paris.
+    static PARIS: Parts = (3600, 7200, (M(3, 5, 0), 7200), (M(10, 5, 0), 10_800));
+    let paris = TransitionRule::Alternate(expect_made(&rt, rule(PARIS)));
+    let summer = (1_711_846_800, 1_729_990_799, Some(true));
+    expect_segment(&rt, &paris, 1_720_000_000, summer);
+    // The segment of 2001, where the next one starts when it ends.
+    let all_year = TransitionRule::Alternate(expect_made(&rt, rule(ALL_YEAR)));
+    let year = (978_325_200, 1_009_861_199, Some(true));
+    expect_segment(&rt, &all_year, 1_000_000_000, year);
+}
+
+#[test]
 fn a_fixed_rule_has_one_segment(rt: HostRuntime) {
     let rule = TransitionRule::Fixed(LocalTimeType::utc());
     static INSTANTS: [i64; 3] = [i64::MIN, 0, i64::MAX];
