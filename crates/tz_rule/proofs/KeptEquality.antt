@@ -1,22 +1,16 @@
 -- Equality of what is kept is equality of what is shown.
-use Rattle.std.proofs.Common.{◌≡◌, refl, ap, sym, ◌∙◌, ◌&&◌, ◌==◌, Bool, bytes_eq, Option, Some, None, IfSome, option_map, Decides}
+use Rattle.std.proofs.Common.{◌≡◌, refl, ap, sym, ◌∙◌, bytes_eq, Option, Some, None, IfSome, option_map, Decides}
 use Rattle.std.specs.Option.{option_eq}
-use Rattle.std.proofs.lemmas.Bool.Decides.{same_from_decides, Decides-eqb, Decides-int_eq, Decides-like, Decides-and}
+use Rattle.std.proofs.lemmas.Bool.Decides.{same_from_decides, Decides-eqb, Decides-int_eq, Decides-like}
 use Rattle.std.proofs.lemmas.Slice.Eq.{bytes_eq-Decides}
-use Rattle.tz_rule.specs.Designation.{IsKept, IsKeptType, name_of, kept, kept_name, shown}
+use Rattle.tz_rule.specs.Designation.{IsKept, IsKeptType, name_of, kept, kept_name, shown, word_of, same_designation}
+use Rattle.tz_rule.proofs.NameWords.{told_by_word}
 use Rattle.tz_rule.specs.Same.{same_type, Decides-beq}
 use Rattle.tz_rule.specs.declared.timezone.local_time_type.Designation.{Designation}
 use Rattle.tz_rule.specs.declared.timezone.local_time_type.LocalTimeType.TheInside.{Inside}
 
-abbrev same_designation : Designation → Designation → Bool
-same_designation d e = bytes_eq d.bytes e.bytes && d.len == e.len
-
-Decides-same_designation : (d e : Designation) → Decides (same_designation d e) (d ≡ e)
-Decides-same_designation d e =
-    Decides-like (same_designation d e) (λ h. same_parts h.0 h.1) (λ p. (ap (λ x. x.bytes) p, ap (λ x. x.len) p)) (Decides-and (bytes_eq d.bytes e.bytes) (d.len == e.len) (bytes_eq-Decides d.bytes e.bytes) (Decides-eqb d.len e.len))
-  where
-    same_parts : d.bytes ≡ e.bytes → d.len ≡ e.len → d ≡ e
-    same_parts b l = ap (λ x. let r : Designation = record d { bytes = x } in r) b ∙ ap (λ x. let r : Designation = record e { len = x } in r) l
+Decides-words : (d e : Designation) → IsKept d → IsKept e → Decides (same_designation d e) (d ≡ e)
+Decides-words d e k l = Decides-like (same_designation d e) (told_by_word d e k l) (ap word_of) (Decides-eqb (word_of d) (word_of e))
 
 same_name : (d e : Designation) → IsKept d → IsKept e → name_of d ≡ name_of e → d ≡ e
 same_name d e k l p = sym (kept_name d k) ∙ ap kept p ∙ kept_name e l
@@ -27,7 +21,7 @@ option_eq-kept None None k l = refl
 option_eq-kept None (Some e) k l = refl
 option_eq-kept (Some d) None k l = refl
 option_eq-kept (Some d) (Some e) k l =
-    same_from_decides (same_designation d e) (bytes_eq (name_of d) (name_of e)) (Decides-same_designation d e) (Decides-like (bytes_eq (name_of d) (name_of e)) (same_name d e k l) (ap name_of) (bytes_eq-Decides (name_of d) (name_of e)))
+    same_from_decides (same_designation d e) (bytes_eq (name_of d) (name_of e)) (Decides-words d e k l) (Decides-like (bytes_eq (name_of d) (name_of e)) (same_name d e k l) (ap name_of) (bytes_eq-Decides (name_of d) (name_of e)))
 
 -- types with one offset and one flag are equal where their designations are
 pub same_type-shown : (a b : Inside) → IsKeptType a → IsKeptType b → a.ut_offset ≡ b.ut_offset → a.is_dst ≡ b.is_dst → option_eq same_designation a.time_zone_designation b.time_zone_designation ≡ same_type (shown a) (shown b)

@@ -2,6 +2,7 @@ pub mod Below
 pub mod Weeks
 pub mod DayPlaces
 pub mod WeekPlaces
+pub mod NameWords
 pub mod YearPlaces
 pub mod YearKinds
 pub mod YearlyInstants

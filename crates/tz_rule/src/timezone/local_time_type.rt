@@ -8,10 +8,32 @@ use std::{fmt, str};
 use tz_base::error::timezone::LocalTimeTypeError;
 
 /// A name of one to seven ASCII bytes.
-#[derive(Clone, Copy, Debug, PartialEq, Eq)]
+#[derive(Clone, Copy, Debug)]
 pub(super) struct Designation {
     bytes: [u8; 7],
     len: u8,
+}
+
+impl PartialEq for Designation {
+    ghost use Rattle.std.specs.Cmp.{on_equiv, nat_eq_equiv, partial_equiv_from_equiv};
+    ghost use Rattle.tz_rule.specs.Designation.{word_of, same_designation};
+
+    ghost eq = { same_designation };
+
+    ghost laws = { partial_equiv_from_equiv (on_equiv word_of nat_eq_equiv) };
+
+    // Compares the eight bytes at once.
+    #[inline(always)]
+    fn eq(&self, other: &Designation) -> bool {
+        self.word() == other.word()
+    }
+}
+
+impl Eq for Designation {
+    ghost use Rattle.std.specs.Cmp.{on_equiv, nat_eq_equiv};
+    ghost use Rattle.tz_rule.specs.Designation.{word_of};
+
+    ghost laws = { on_equiv word_of nat_eq_equiv };
 }
 
 /// A local time type: an offset that is added to UTC, a daylight flag and a name.
@@ -47,6 +69,7 @@ impl PartialEq for LocalTimeType {
 
     ghost laws = { partial_equiv_from_equiv (IsEquivalence-from_equality same_type Decides-same_type) };
 
+    #[inline(always)]
     fn eq(&self, other: &LocalTimeType) -> bool {
         self.ut_offset == other.ut_offset
             && self.is_dst == other.is_dst
@@ -82,7 +105,7 @@ fn is_designation_byte(byte: u8) -> bool
 }
 
 impl Designation {
-    ghost use Rattle.tz_rule.specs.Designation.{IsKept, name_of};
+    ghost use Rattle.tz_rule.specs.Designation.{IsKept, name_of, word_of};
     ghost use Rattle.tz_rule.specs.LocalTimeType.{IsDesignation, IsDesignationLength};
     ghost use Rattle.tz_base.specs.declared.error.timezone.LocalTimeTypeError.TheVariants as faults;
     ghost use Rattle.std.specs.Prelude.{All, IfOk, IfErr, OnOk, ◌⊎◌, ◌≡◌};
@@ -108,6 +131,15 @@ impl Designation {
             bytes,
             len: name.len() as u8,
         })
+    }
+
+    /// The bytes and the length, as one number.
+    #[inline(always)]
+    fn word(&self) -> u64
+        ensures { result ≡ word_of self.now }
+    {
+        let [b0, b1, b2, b3, b4, b5, b6] = self.bytes;
+        u64::from_le_bytes([b0, b1, b2, b3, b4, b5, b6, self.len])
     }
 
     /// The name.
