@@ -1,5 +1,6 @@
 //! What the crates above use, and no part of the public surface: fields, text, and the search for them.
 
+pub use crate::datetime::date_time::fields_of;
 pub use crate::datetime::find::find_fields;
 pub use crate::datetime::offsets::offsets;
 pub use crate::text::{TextBuffer, ones, tens};

@@ -1,7 +1,7 @@
 //! Date times of a local time type.
 
 ghost use Rattle.std.specs.Prelude.{◌≡◌, ◌+ℤ◌, IfSome, IfNone};
-ghost use Rattle.tz_base.specs.Fields.{IsReading};
+ghost use Rattle.tz_base.specs.Fields.{IsReading, IsValid};
 
 use super::totals::duration_between;
 use crate::text::TextBuffer;
@@ -478,4 +478,13 @@ impl TextBuffer {
     {
         self.push_date_time(date_time.fields(), date_time.local_time_type().ut_offset());
     }
+}
+
+/// The fields of a date time, which are valid.
+#[inline(always)]
+pub fn fields_of(date_time: &DateTime) -> &Fields
+    ensures fields { result.now ≡ date_time.now.fields }
+    ensures valid { IsValid result.now }
+{
+    date_time.fields()
 }

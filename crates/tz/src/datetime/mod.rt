@@ -1,7 +1,7 @@
 //! Date times.
 
 mod choice;
-mod date_time;
+pub(crate) mod date_time;
 mod date_time_list;
 mod disambiguation;
 mod entry;
