@@ -12,6 +12,7 @@ mod found_list_ref;
 mod local_time;
 pub(crate) mod offsets;
 pub(crate) mod resolution;
+pub(crate) mod resolve;
 pub(crate) mod search;
 mod slot_writer;
 mod totals;
