@@ -20,22 +20,28 @@ use tz_zone::timezone::TimeZoneRef;
 ///
 /// Date times are compared field by field, so second 60 comes before the next minute's second 0, although both have the same
 /// Unix time.
-#[derive(Clone, Copy, PartialEq, Eq, PartialOrd, Ord)]
+#[derive(Clone, Copy)]
+#[derive_where(PartialEq, Eq, PartialOrd, Ord)]
 pub struct UtcDateTime {
     fields: Fields,
+    // The reading of the fields: sums and conversions need not work it out again.
+    #[derive_where(skip(EqHashOrd))]
+    unix_time: i64,
 }
 
 impl Model for UtcDateTime {
+    ghost use Rattle.std.specs.Prelude.{◌≡◌};
     ghost use Rattle.tz_base.specs.declared.calendar.Fields.{Fields};
+    ghost use Rattle.tz_base.specs.Fields.{reading};
     ghost use Rattle.tz.specs.DateTimes.{IsUtc};
 
     ghost Value = { Fields };
 
     ghost view = { λ d. d.fields };
 
-    ghost invariant = { λ d. IsUtc d.fields };
+    ghost invariant = { λ d. IsUtc d.fields × (d.unix_time ≡ reading d.fields) };
 
-    ghost inverse = { λ f. record { fields = f } };
+    ghost inverse = { λ f. record { fields = f; unix_time = reading f } };
 }
 
 const _: () = prove!(
@@ -46,6 +52,7 @@ const _: () = prove!(
         && UtcDateTime::UNIX_EPOCH.fields.minute == 0
         && UtcDateTime::UNIX_EPOCH.fields.second == 0
         && UtcDateTime::UNIX_EPOCH.fields.nanoseconds == 0
+        && UtcDateTime::UNIX_EPOCH.unix_time == 0
 );
 
 const _: () = prove!(
@@ -56,6 +63,7 @@ const _: () = prove!(
         && UtcDateTime::MIN.fields.minute == 0
         && UtcDateTime::MIN.fields.second == 0
         && UtcDateTime::MIN.fields.nanoseconds == 0
+        && UtcDateTime::MIN.unix_time == -67_768_100_567_971_200
 );
 
 const _: () = prove!(
@@ -66,6 +74,7 @@ const _: () = prove!(
         && UtcDateTime::MAX.fields.minute == 59
         && UtcDateTime::MAX.fields.second == 59
         && UtcDateTime::MAX.fields.nanoseconds == 999_999_999
+        && UtcDateTime::MAX.unix_time == 67_767_976_233_532_799
 );
 
 /// Whether the fields are second 60 of the last minute, which reads as a second past the years of 32 bits.
@@ -99,6 +108,7 @@ impl UtcDateTime {
             second: 0,
             nanoseconds: 0,
         },
+        unix_time: 0,
     };
 
     /// The first date time.
@@ -112,6 +122,7 @@ impl UtcDateTime {
             second: 0,
             nanoseconds: 0,
         },
+        unix_time: -67_768_100_567_971_200,
     };
 
     /// The last date time.
@@ -125,6 +136,7 @@ impl UtcDateTime {
             second: 59,
             nanoseconds: 999_999_999,
         },
+        unix_time: 67_767_976_233_532_799,
     };
 
     /// The date time with these fields: the month from 1 to 12, the day of the month from 1, the hour from 0 to 23, the minute
@@ -167,7 +179,20 @@ impl UtcDateTime {
             return Err(TzError::OutOfRange);
         }
         fields.check()?;
-        Ok(UtcDateTime { fields })
+        let unix_time = fields.reading();
+        Ok(UtcDateTime { fields, unix_time })
+    }
+
+    /// The date time of a Unix time and nanoseconds, which have one.
+    fn at(unix_time: i64, nanoseconds: u32) -> Self
+        requires in_range { IsReading unix_time }
+        requires part { nanoseconds < 1000000000 }
+        ensures { IsCivil unix_time nanoseconds result }
+    {
+        UtcDateTime {
+            fields: Fields::from_reading(unix_time, nanoseconds),
+            unix_time,
+        }
     }
 
     /// The date time of a Unix time and nanoseconds below a second.
@@ -184,9 +209,7 @@ impl UtcDateTime {
         if !calendar::is_reading(unix_time) {
             return Err(TzError::OutOfRange);
         }
-        Ok(UtcDateTime {
-            fields: Fields::from_reading(unix_time, nanoseconds),
-        })
+        Ok(UtcDateTime::at(unix_time, nanoseconds))
     }
 
     /// The date time a number of nanoseconds after [`UtcDateTime::UNIX_EPOCH`], or before it where the number is negative.
@@ -203,9 +226,7 @@ impl UtcDateTime {
         ensures some { IfSome result (IsUtcAt total_nanoseconds) }
     {
         let (unix_time, nanoseconds) = utc_timespec(total_nanoseconds)?;
-        Some(UtcDateTime {
-            fields: Fields::from_reading(unix_time, nanoseconds),
-        })
+        Some(UtcDateTime::at(unix_time, nanoseconds))
     }
 
     /// The date time of the current time, which the caller passes as Unix seconds and nanoseconds below a second.
@@ -227,7 +248,7 @@ impl UtcDateTime {
     pub fn unix_time(&self) -> i64
         ensures { result ≡ reading self.now }
     {
-        self.fields.reading()
+        self.unix_time
     }
 
     /// The year.
@@ -370,9 +391,7 @@ impl UtcDateTime {
     {
         let moved = timespec_after(self.unix_time(), self.fields.nanoseconds, duration);
         let (unix_time, nanoseconds) = moved?;
-        Some(UtcDateTime {
-            fields: Fields::from_reading(unix_time, nanoseconds),
-        })
+        Some(UtcDateTime::at(unix_time, nanoseconds))
     }
 
     /// The date time earlier by a duration, or `None` where that is before [`UtcDateTime::MIN`].
@@ -382,9 +401,7 @@ impl UtcDateTime {
     {
         let moved = timespec_before(self.unix_time(), self.fields.nanoseconds, duration);
         let (unix_time, nanoseconds) = moved?;
-        Some(UtcDateTime {
-            fields: Fields::from_reading(unix_time, nanoseconds),
-        })
+        Some(UtcDateTime::at(unix_time, nanoseconds))
     }
 
     /// The duration from an earlier date time to this one, or `Err` with the duration in the other direction if that one is later.
@@ -474,9 +491,7 @@ impl TryFrom<DateTime> for UtcDateTime {
         if !calendar::is_reading(date_time.unix_time()) {
             return Err(TzError::OutOfRange);
         }
-        Ok(UtcDateTime {
-            fields: Fields::from_reading(date_time.unix_time(), date_time.nanoseconds()),
-        })
+        Ok(UtcDateTime::at(date_time.unix_time(), date_time.nanoseconds()))
     }
 }
 

@@ -2,14 +2,11 @@
 use Rattle.std.proofs.Common.{rules}
 use Rattle.tz.proofs.datetime.utc_date_time.UtcDateTime.at_total.Goals as goal
 
-pub from_reading-requires-clause-in_range : goal.from_reading-requires-clause-in_range
-from_reading-requires-clause-in_range c = search rules
+pub at-requires-clause-in_range : goal.at-requires-clause-in_range
+at-requires-clause-in_range c = search rules
 
-pub from_reading-requires-clause-part : goal.from_reading-requires-clause-part
-from_reading-requires-clause-part c = search rules
-
-pub invariant_of-result : goal.invariant_of-result
-invariant_of-result c = search rules
+pub at-requires-clause-part : goal.at-requires-clause-part
+at-requires-clause-part c = search rules
 
 pub returns-in_err-unix_time-clause-in_range : goal.returns-in_err-unix_time-clause-in_range
 returns-in_err-unix_time-clause-in_range c = search rules

@@ -23,5 +23,5 @@ total_bound x nanoseconds reads below = omega (arith, ints)
 pub returns-clause-bound : goal.returns-clause-bound
 returns-clause-bound c =
     let fields = c.self.inside.fields in
-    let bound = total_bound (reading fields) fields.nanoseconds c.self.invariant.reads c.self.invariant.valid.in_range.nanoseconds in
+    let bound = total_bound (reading fields) fields.nanoseconds c.self.invariant.0.reads c.self.invariant.0.valid.in_range.nanoseconds in
     subst IsUtcTotal (sym (returns-clause-value c)) (subst (λ (f : Fields). IsUtcTotal (utc_total f)) c.self.view_is bound)
