@@ -10,7 +10,7 @@ mod found;
 mod found_list;
 mod found_list_ref;
 mod local_time;
-pub(crate) mod offsets;
+mod offsets;
 pub(crate) mod resolution;
 pub(crate) mod resolve;
 pub(crate) mod search;

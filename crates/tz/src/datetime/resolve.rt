@@ -40,7 +40,7 @@ pub fn once<'a>(reading: i64, local_time_type: &'a LocalTimeType) -> Resolution<
 }
 
 /// What a reading means to the clock of a zone, if that has one type in the window, or two with one jump between them.
-#[inline(never)]
+#[inline(always)]
 pub fn resolve_window<'a>(
     zone: TimeZoneRef<'a>,
     reading: i64,

@@ -4,8 +4,7 @@ use Rattle.std.proofs.lemmas.Int.{ints}
 use Rattle.tz_base.specs.declared.calendar.Fields.{Fields}
 use Rattle.tz_base.specs.Fields.{reading}
 use Rattle.tz_rule.specs.LocalTimeType.{LocalTimeType}
-use Rattle.tz_zone.specs.Clock.{IsClock}
-use Rattle.tz_zone.specs.Segments.{IsStretch}
+use Rattle.tz_zone.specs.Clock.{HasTypeFrom, IsClock}
 use Rattle.tz_zone.specs.Table.{Zone}
 use Rattle.tz_zone.specs.ValidZone.{AreLeapSeconds}
 use Rattle.tz.specs.Found.{IsFound, Shows}
@@ -27,7 +26,7 @@ module _ (z : Zone) (low high : ℤ) (leaps : AreLeapSeconds z.leap_seconds) (or
   found : (f : Fields) → reading f ≡ r → (all : List FoundDateTimeKind) → all ≡ Normal (moment_of f t u) ∷ [] → IsFound (IsClock z) f all
   found f is all entries =
       let around : AreOffsetsOf z (reading f -ℤ high) (reading f -ℤ low) = subst (λ (x : ℤ). AreOffsetsOf z (x -ℤ high) (x -ℤ low)) (sym is) offsets in
-      let stretch : IsStretch z low (high +ℤ pos 1) t = λ v from until. has v from (omega (arith, ints, until)) in
+      let stretch : HasTypeFrom z low (high +ℤ pos 1) t = λ v from until. has v from (omega (arith, ints, until)) in
       let instant : reading f -ℤ t.ut_offset ≡ u = omega (arith, ints, u_is, is) in
       subst (IsFound (IsClock z) f) (ap (λ (v : ℤ). Normal (moment_of f t v) ∷ []) instant ∙ sym entries)
       (found_once z leaps f (reading f -ℤ high) (reading f -ℤ low) low (high +ℤ pos 1) t (omega (arith, ints, order)) around stretch (omega (arith, ints)) (omega (arith, ints)))
