@@ -35,6 +35,8 @@ pub fn refuse(why: &str) -> ! {
 pub trait Zone: Sized {
     type Held;
     type Moment: Copy;
+    /// What `first_n` fills: it is made once, before the calls.
+    type Slots: Default;
     fn new(option: &str, argument: &str) -> Self;
     /// What clocks show at an instant.
     fn shown(&self, instant: i64, nanoseconds: u32) -> Shown;
@@ -45,7 +47,7 @@ pub trait Zone: Sized {
     /// The Unix time of the first of them.
     fn first(&self, local: Local) -> i64;
     /// The same without memory, where the crate has such a call.
-    fn first_n(&self, local: Local) -> i64 {
+    fn first_n(&self, _: &mut Self::Slots, local: Local) -> i64 {
         self.first(local)
     }
     fn held(&self, instant: i64) -> Self::Held;
@@ -176,8 +178,8 @@ fn local_of(word: i64) -> Local {
 }
 
 /// Makes the call for each of these words, this many times in all, and prints the sum of what they returned; or, for no number, each answer.
-fn run<W>(name: &str, times: &str, words: &[W], call: impl Fn(&W) -> u64) {
-    let sum = |words: &[W]| {
+fn run<W>(name: &str, times: &str, words: &[W], mut call: impl FnMut(&W) -> u64) {
+    let mut sum = |words: &[W]| {
         let mut total = 0u64;
         for word in words {
             total = total.wrapping_add(call(word));
@@ -212,7 +214,10 @@ fn make_calls<Z: Zone>(zone: &Z, argument: &str, call: &str, times: &str) {
             sum_of(&shown.local).wrapping_add(shown.offset as u64)
         }),
         "find" => run(call, times, &locals, |local| zone.first(*local) as u64),
-        "find_n" => run(call, times, &locals, |local| zone.first_n(*local) as u64),
+        "find_n" => {
+            let mut slots = Z::Slots::default();
+            run(call, times, &locals, |local| zone.first_n(&mut slots, *local) as u64);
+        }
         "display" => {
             let held: Vec<Z::Held> = words.iter().map(|word| zone.held(*word)).collect();
             run(call, times, &held, |held| zone.print(held).len() as u64);

@@ -52,6 +52,7 @@ enum Either {
 impl Zone for Either {
     type Held = DateTime<Tz>;
     type Moment = NaiveDateTime;
+    type Slots = ();
 
     fn new(option: &str, argument: &str) -> Self {
         match option {

@@ -31,6 +31,7 @@ fn name_of(date_time: &DateTime) -> &str {
 impl Zone for Made {
     type Held = DateTime;
     type Moment = UtcDateTime;
+    type Slots = [Option<FoundDateTimeKind>; 2];
 
     fn new(option: &str, argument: &str) -> Self {
         Made(match option {
@@ -70,10 +71,9 @@ impl Zone for Made {
         found.earliest().map_or(1, |first| first.unix_time())
     }
 
-    fn first_n(&self, local: Local) -> i64 {
+    fn first_n(&self, slots: &mut Self::Slots, local: Local) -> i64 {
         let Local { year, month, day, hour, minute, second } = local;
-        let mut slots = [None; 2];
-        let found = DateTime::find_n(&mut slots, year, month, day, hour, minute, second, 7, self.0.as_ref()).unwrap();
+        let found = DateTime::find_n(slots, year, month, day, hour, minute, second, 7, self.0.as_ref()).unwrap();
         found.earliest().map_or(1, |first| first.unix_time())
     }
 
