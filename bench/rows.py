@@ -31,6 +31,7 @@ GOALS = {
     '`TimeZoneRef::following`, random, Paris': 200, 'next of `changes_after`, 1900 to 2100, Paris': 120,
     '`UtcDateTime::new` and `unix_time`': 60, '`UtcDateTime::checked_add` and `unix_time`': 100,
     '`TimeZone::from_tz_data`, Paris': 8000, '`TimeZone::from_tz_data`, 100000 transitions': 2500000,
+    '`TimeZone::from_posix_tz`, failing reader, TZ string': 2600,
     '`TimeZoneSettings` without directories, TZ string': 2600, '`AlternateTime::new`, TZ string': 1200, '`AlternateTime::new`, days that meet': 5000,
 }
 
@@ -198,6 +199,7 @@ def calls(zones, count, seed=SEED):
     yield row('`TimeZone::from_tz_data`, Paris', 'from_tz_data', paris, 'instants', long=True)
     yield row('`TimeZone::from_tz_data`, 100000 transitions', 'from_tz_data', many, 'instants', long=True)
     yield row('`TimeZone::from_posix_tz`, TZ string', 'from_posix_tz', text, 'instants', long=True)
+    yield row('`TimeZone::from_posix_tz`, failing reader, TZ string', 'failing_reader', text, 'instants', long=True)
     yield row('`TimeZoneSettings` without directories, TZ string', 'parse_string', text, 'instants', long=True)
     yield row('`AlternateTime::new`, TZ string', 'rule', text, 'instants', long=True)
     yield row('`AlternateTime::new`, days that meet', 'rule', zones.meeting, 'instants', long=True)

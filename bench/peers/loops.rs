@@ -61,6 +61,10 @@ pub trait Zone: Sized {
     fn read(bytes: &[u8]) -> bool;
     /// Makes a zone of a setting: a file's name or a TZ string.
     fn set(string: &str) -> bool;
+    /// Makes a zone of a TZ string with a reader of files that fails for each path: the sum of the last bytes of the paths, and 1.
+    fn set_by_reader(_: &str) -> u64 {
+        refuse("no reader of files")
+    }
     /// Makes a zone of a TZ string alone.
     fn parse(string: &str) -> bool;
     /// Makes the zone's rule anew, of its parts.
@@ -233,6 +237,7 @@ fn make_calls<Z: Zone>(zone: &Z, argument: &str, call: &str, times: &str) {
             run(call, times, &words, |_| u64::from(Z::read(&bytes)));
         }
         "from_posix_tz" => run(call, times, &words, |_| u64::from(Z::set(argument))),
+        "failing_reader" => run(call, times, &words, |_| Z::set_by_reader(argument)),
         "parse_string" => run(call, times, &words, |_| u64::from(Z::parse(argument))),
         "rule" => run(call, times, &words, |_| u64::from(zone.made_rule())),
         _ => refuse("no such call"),

@@ -4,6 +4,9 @@
 mod loops;
 
 use loops::{Entry, Local, Shown, Zone, refuse};
+use std::error::Error;
+use std::fmt;
+use std::sync::atomic::{AtomicU64, Ordering::Relaxed};
 use std::time::Duration;
 use tz::datetime::FoundDateTimeKind;
 use tz::timezone::{AlternateTime, TimeZoneSettings, TransitionRule};
@@ -26,6 +29,21 @@ fn shown(date_time: &DateTime) -> Shown {
 fn name_of(date_time: &DateTime) -> &str {
     let name = date_time.local_time_type().time_zone_designation();
     if name.is_empty() { "-" } else { name }
+}
+
+/// The sum of the last bytes of the paths that the reader was called with.
+static SEEN: AtomicU64 = AtomicU64::new(0);
+
+/// The last byte of a path. It is never inlined, so that each path is made and read.
+#[inline(never)]
+fn last_byte(path: &str) -> u8 {
+    path.as_bytes().last().copied().unwrap_or(0)
+}
+
+/// A reader that fails for each path, with an error that takes no memory, and adds the last byte of the path.
+fn no_file(path: &str) -> Result<Vec<u8>, Box<dyn Error + Send + Sync>> {
+    SEEN.store(SEEN.load(Relaxed).wrapping_add(last_byte(path).into()), Relaxed);
+    Err(Box::new(fmt::Error))
 }
 
 impl Zone for Made {
@@ -108,6 +126,12 @@ impl Zone for Made {
 
     fn set(string: &str) -> bool {
         TimeZone::from_posix_tz(string).is_ok()
+    }
+
+    fn set_by_reader(string: &str) -> u64 {
+        SEEN.store(0, Relaxed);
+        let made = TimeZoneSettings::new(TimeZoneSettings::DEFAULT_DIRECTORIES, no_file).parse_posix_tz(string);
+        SEEN.load(Relaxed) + u64::from(made.is_ok())
     }
 
     fn parse(string: &str) -> bool {
