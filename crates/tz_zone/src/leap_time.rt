@@ -1,6 +1,6 @@
 //! Leap times. (RFC 8536, section 2)
 
-ghost use Rattle.std.specs.Prelude.{◌≡◌, ◌<◌, ◌≤◌, ◌+ℤ◌, ◌≤ℤ◌, ◌-ℤ◌, ℕ, length, slice_get, ℤ, IfOk, IfErr, IfSome, IfNone, MatchBool, MatchOption, Some};
+ghost use Rattle.std.specs.Prelude.{◌≡◌, ◌<◌, ◌≤◌, ◌+ℤ◌, ◌≤ℤ◌, ◌<ℤ◌, ◌-ℤ◌, ◌⊎◌, ℕ, length, slice_get, ℤ, IfOk, IfErr, IfSome, IfNone, MatchBool, MatchOption, Some};
 ghost use Rattle.tz_zone.specs.Table.{LeapSecond};
 ghost use Rattle.tz_zone.specs.LeapTime.{IsInstant, IsStart, correction_at_start as correction_of_start, correction_before as correction_at_place, IsReached, IsBeforeStart, IsFirstBegun, IsLeapTimeRefused, IsLeapTime};
 ghost use Rattle.tz_zone.specs.ValidZone.{AreLeapSeconds, HasBegunAt, ExpiresAt, IsPlainTable};
@@ -200,6 +200,44 @@ pub fn leap(leap_seconds: &[LeapSecond], unix_time: i64) -> Result<i64, TzError>
     }
     let correction = correction_before(leap_seconds, reached);
     Ok(unix_time + i64::from(correction))
+}
+
+/// Whether the record at a place, if there is one, comes after a leap time.
+fn comes_after(leap_seconds: &[LeapSecond], place: usize, unix_leap_time: i64) -> bool
+    ensures { MatchBool result
+        ((l : LeapSecond) → slice_get leap_seconds.now place ≡ Some l → unix_leap_time <ℤ l.unix_leap_time)
+        ((l : LeapSecond) × (slice_get leap_seconds.now place ≡ Some l) × (l.unix_leap_time ≤ℤ unix_leap_time)) }
+{
+    match leap_seconds.get(place) {
+        Some(next) => unix_leap_time < next.unix_leap_time(),
+        None => true,
+    }
+}
+
+/// The leap times of two instants, if both have one.
+///
+/// Mostly no leap second lies between them, and the correction of the first, looked up once, is that of the second too.
+pub(crate) fn leap_times(leap_seconds: &[LeapSecond], low: i64, high: i64) -> Option<(i64, i64)>
+    requires { AreLeapSeconds leap_seconds.now }
+    ensures some { IfSome result (λ times. IsLeapTime leap_seconds.now low times.0 × IsLeapTime leap_seconds.now high times.1) }
+    ensures none { IfNone result (IsLeapTimeRefused leap_seconds.now low ⊎ IsLeapTimeRefused leap_seconds.now high) }
+{
+    let reached = leap_seconds_reached(leap_seconds, low);
+    if !has_leap_time(leap_seconds, low, reached) {
+        return None;
+    }
+    let correction = i64::from(correction_before(leap_seconds, reached));
+    let first_time = low + correction;
+    if low <= high && high <= SURELY_ANSWERED {
+        let last_time = high + correction;
+        if comes_after(leap_seconds, reached, last_time) {
+            return Some((first_time, last_time));
+        }
+    }
+    let Ok(last_time) = leap(leap_seconds, high) else {
+        return None;
+    };
+    Some((first_time, last_time))
 }
 
 /// The leap time of an instant. Mostly there are no leap seconds, and it is the instant itself.

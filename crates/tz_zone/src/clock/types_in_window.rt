@@ -9,7 +9,7 @@ ghost use Rattle.tz_zone.specs.WindowTypes.{AreTypesIn, IfMore, IsBehindTable, I
 ghost use Rattle.tz_zone.specs.ZoneSeen.{zone_seen};
 
 use super::place::{place_before, type_at_place};
-use crate::leap_time::leap;
+use crate::leap_time::leap_times;
 use crate::table::{OtherParts, Transition, Transitions};
 use tz_rule::timezone::{LocalTimeType, TransitionRule};
 
@@ -147,12 +147,7 @@ fn type_over_leap_seconds<'a, V: Transitions>(
     ensures at_most { (b : ℕ) → length (V.list view.old) < 2 ^ b → V.looks view.new ≤ V.looks view.old + (b + 2) }
     ensures none { IfNone result ((V.looks view.new ≡ V.looks view.old) ⊎ ¬ IsBeforeStart parts.entry.leap_seconds.now low) }
 {
-    let Ok(first_time) = leap(parts.leap_seconds, low) else {
-        return None;
-    };
-    let Ok(last_time) = leap(parts.leap_seconds, high) else {
-        return None;
-    };
+    let (first_time, last_time) = leap_times(parts.leap_seconds, low, high)?;
     if last.unix_leap_time() <= first_time {
         return None;
     }

@@ -17,7 +17,7 @@ place_before-place-requires-clause-rising g c = λ i. (c.requires.sound.transiti
 pub place_before-place-requires-clause-ahead : goal.place_before-place-requires-clause-ahead
 place_before-place-requires-clause-ahead g c =
     let transitions = g.V.Transitions.list c.args.view.now in
-    let l = c.in-Ok.first_time in
+    let l = c.in_ok-first_time.first_time in
     let fits : SFits w64 l = search rules in
     let l_is = to_z-of_z w64 l fits in
     let time = c.unix_leap_time.ensures in
@@ -30,7 +30,7 @@ returns-then-unix_leap_time-last_time-clause-at_most g c = λ b bits.
 
 pub returns-then-unix_leap_time-last_time-clause-none : goal.returns-then-unix_leap_time-last_time-clause-none
 returns-then-unix_leap_time-last_time-clause-none g c =
-    let leap = rw (to_z-of_z w64 c.args.low c.ranges.low) at c.in-Ok.ensures.ok in
+    let leap = rw (to_z-of_z w64 c.args.low c.ranges.low) at c.in_ok-first_time.ensures.some.0 in
     inr (λ early. leap.not_refused (inl early))
 
 pub returns-clause-local_time_type : goal.returns-clause-local_time_type
@@ -38,12 +38,12 @@ returns-clause-local_time_type g c =
     let z = zone_seen (g.V.Transitions.list c.args.view.now) c.args.parts in
     let low = c.args.low in
     let high = c.args.high in
-    let first_time = c.in-Ok.first_time in
-    let last_time = c.in-Ok-leap.last_time in
+    let first_time = c.in_ok-first_time.first_time in
+    let last_time = c.in_ok-first_time.last_time in
     let first_fits : SFits w64 first_time = search rules in
     let last_fits : SFits w64 last_time = search rules in
-    let leap_low = rw (to_z-of_z w64 low c.ranges.low) at c.in-Ok.ensures.ok in
-    let leap_high = rw (to_z-of_z w64 high c.ranges.high) at c.in-Ok-leap.ensures.ok in
+    let leap_low = rw (to_z-of_z w64 low c.ranges.low) at c.in_ok-first_time.ensures.some.0 in
+    let leap_high = rw (to_z-of_z w64 high c.ranges.high) at c.in_ok-first_time.ensures.some.1 in
     let place = c.place_before-place.result in
     let same = c.place_before-place.ensures.same in
     let next = c.look-next.result in
