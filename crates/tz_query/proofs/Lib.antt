@@ -6,6 +6,5 @@ pub mod UniqueAnswers
 pub mod JoinedPieces
 pub mod FastNumbers
 pub mod PageLines
+pub mod EntryLines
 pub mod WeekAnswers
-pub mod SingleAnswers
-pub mod JumpAnswers

@@ -1,11 +1,10 @@
 -- A line on a page is its prefix, its nanoseconds and its end, each copied whole.
-use Rattle.std.proofs.Common.{◌≡◌, ℕ, zero, suc, get_or, ◌+◌, ◌/◌, ◌%◌, ◌<◌, ◌≤◌, List, [], ◌∷◌, ◌++◌, length, take, drop, refl, sym, ap, ◌∙◌, subst, arith, append_assoc, length-append, ℤ, pos, ◌+ℤ◌, inl}
-use Rattle.std.specs.Prelude.{slice_get, Some}
-use Rattle.std.proofs.lemmas.List.{length-map, length-take-le, take-append-le, take-append-drop}
+use Rattle.std.proofs.Common.{◌≡◌, ℕ, ◌+◌, ◌/◌, ◌%◌, ◌<◌, ◌≤◌, List, [], ◌∷◌, ◌++◌, length, take, drop, refl, sym, ap, ◌∙◌, subst, arith, append_assoc, length-append, ℤ, pos, ◌+ℤ◌, inl}
+use Rattle.std.proofs.lemmas.List.{length-take-le, take-append-le, take-append-drop}
 use Rattle.std.proofs.Math.Seq.{take-append-add, take-append_seam}
 use Rattle.std.proofs.lemmas.Slice.{take-put_mid}
 use Rattle.tz_base.specs.declared.calendar.Fields.{Fields}
-use Rattle.tz_base.specs.Fields.{IsCivil, IsReading}
+use Rattle.tz_base.specs.Fields.{IsCivil, IsReading, IsValid}
 use Rattle.tz_rule.specs.LocalTimeType.{LocalTimeType}
 use Rattle.tz_zone.specs.Table.{Zone}
 use Rattle.tz_zone.specs.Clock.{IsClock}
@@ -14,9 +13,6 @@ use Rattle.tz.specs.DateTimes.{DateTime}
 use Rattle.tz.proofs.PrintedDigits.{two_digits-below, decimal-four}
 use Rattle.tz_query.specs.Answers.{name_text, moment_text, IsTimeAnswer}
 use Rattle.tz_query.specs.Pages.{prefix_text, suffix_text}
-use Rattle.tz_query.specs.Suffixes.{types_of}
-use Rattle.tz_query.specs.declared.query.suffix.Suffix.{Suffix}
-use Rattle.std.proofs.lemmas.Option.{slice_get_within, same_Some}
 use borrow.Rule.Slice.PartMut.{put_mid}
 
 -- the prefix, the nanoseconds and the end make the line
@@ -67,6 +63,15 @@ without_last page text byte end last written within size =
     ∙ ap (λ k. take k (text ++ byte ∷ [])) last_is
     ∙ take-append_seam text (byte ∷ [])
 
+-- fields stay valid with other nanoseconds
+pub valid_with : (f : Fields) (n : ℕ) → n < 1000000000 → IsValid f → IsValid (record f { nanoseconds = n })
+valid_with f n part valid =
+    let in_range = valid.in_range in
+    record {
+      in_range = record { month = in_range.month; month_day = in_range.month_day; hour = in_range.hour; minute = in_range.minute; second = in_range.second; nanoseconds = part };
+      in_month = valid.in_month;
+    }
+
 -- the fields that are shown, with the nanoseconds put in
 pub civil_with : (x : ℤ) (n : ℕ) (f : Fields) → n < 1000000000 → IsCivil x 0 f → IsCivil x n (record f { nanoseconds = n })
 civil_with x n f part civil =
@@ -97,12 +102,13 @@ unfolding prefix_text date_text
 prefix_bytes f year is from below month day hour minute second =
     rw (is, decimal-four year from below, two_digits-below f.month month, two_digits-below f.month_day day, two_digits-below f.hour hour, two_digits-below f.minute minute, two_digits-below f.second second) refl
 
--- a type with a number has a suffix
-pub tail_within : (suffixes : List Suffix) (types : List LocalTimeType) (i : ℕ) (t : LocalTimeType) → types_of suffixes ≡ types → slice_get types i ≡ Some t → i < length suffixes
-tail_within suffixes types i t are at = omega (arith, slice_get_within types i t at, ap length are, length-map suffixes (λ (suffix : Suffix). suffix.local_time_type))
+-- a line whose LF is taken away, a space and a second line make the line of a jump
+pub joined_lines : (page front first second : List ℕ) → (((page ++ front) ++ first) ++ 32 ∷ []) ++ (second ++ 10 ∷ []) ≡ page ++ (front ++ (first ++ 32 ∷ (second ++ 10 ∷ [])))
+joined_lines page front first second =
+    append_assoc ((page ++ front) ++ first) (32 ∷ []) (second ++ 10 ∷ [])
+    ∙ append_assoc (page ++ front) first (32 ∷ (second ++ 10 ∷ []))
+    ∙ append_assoc page front (first ++ 32 ∷ (second ++ 10 ∷ []))
 
--- a suffix is that of the type with its number
-pub tail_type : (suffixes : List Suffix) (i : ℕ) (suffix : Suffix) (t : LocalTimeType) → slice_get (types_of suffixes) i ≡ Some t → suffix ≡ get_or suffixes i suffix → suffix.local_time_type ≡ t
-tail_type [] i suffix t at is = absurd (omega (arith, slice_get_within (types_of []) i t at))
-tail_type (first ∷ suffixes) zero suffix t at is = ap (λ (x : Suffix). x.local_time_type) is ∙ same_Some first.local_time_type t at
-tail_type (first ∷ suffixes) (suc i) suffix t at is = tail_type suffixes i suffix t at is
+-- fields that have the nanoseconds already
+pub same_fields : (f : Fields) (n : ℕ) → f.nanoseconds ≡ n → record f { nanoseconds = n } ≡ f
+same_fields f n is = ap (λ (k : ℕ). record f { nanoseconds = k }) (sym is)

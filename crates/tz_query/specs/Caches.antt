@@ -1,14 +1,10 @@
 -- What the lines over a zone share.
-use Rattle.std.specs.Prelude.{◌≡◌, ◌≤ℤ◌}
+use Rattle.std.specs.Prelude.{◌≡◌, ℤ, ◌≤ℤ◌}
+use Rattle.tz_zone.specs.Clock.{IsClock}
 use Rattle.tz_zone.specs.Table.{Zone}
-use Rattle.tz_zone.specs.Segments.{IsSegmentOf, numbered_types}
-use Rattle.tz.specs.Reached.{AreOffsetsOf}
-use Rattle.tz_query.specs.Suffixes.{types_of}
 use Rattle.tz_query.specs.declared.query.cache.Cache.{Cache}
 
--- the segment is one of the zone, the suffixes are those of all its types, and the offsets lie between these two
+-- through the span that is kept the clock has the type that is kept, and the suffix is that of this type
 pub record IsCacheOf (z : Zone) (c : Cache) : Type 0 where
-  pub segment : IsSegmentOf z c.segment
-  pub suffixes : types_of c.suffixes.now ≡ numbered_types z
-  pub offsets : AreOffsetsOf z c.offsets.0 c.offsets.1
-  pub order : c.offsets.0 ≤ℤ c.offsets.1
+  pub holds : (u : ℤ) → c.from ≤ℤ u → u ≤ℤ c.last → IsClock z u c.local_time_type.now
+  pub suffix_is : c.suffix.local_time_type ≡ c.local_time_type.now

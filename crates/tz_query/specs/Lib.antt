@@ -8,7 +8,7 @@ pub mod Answers
 pub mod Streams
 pub mod Pages
 pub mod Outputs
-pub mod Suffixes
 pub mod Caches
+pub mod Entries
 pub mod Program
 pub mod FileAnswers

@@ -1,8 +1,8 @@
 -- A page of answers, and the parts of a printed line: up to the nanoseconds, and what follows them.
-use Rattle.std.specs.Prelude.{ℕ, ◌≤◌, List, [], ◌∷◌, ◌++◌, length}
+use Rattle.std.specs.Prelude.{◌≡◌, ℕ, ◌+◌, ◌<◌, ◌≤◌, List, [], ◌∷◌, ◌++◌, length}
 use Rattle.tz_base.specs.declared.calendar.Fields.{Fields}
 use Rattle.tz_rule.specs.LocalTimeType.{LocalTimeType}
-use Rattle.tz.specs.PrintedText.{two_digits, date_text, offset_text}
+use Rattle.tz.specs.PrintedText.{two_digits, nine_digits, date_text, offset_text}
 use Rattle.tz_query.specs.Answers.{name_text}
 
 -- the date, `T`, and the time up to the point
@@ -13,6 +13,14 @@ prefix_text f = date_text f ++ (84 ∷ two_digits f.hour ++ (58 ∷ two_digits f
 unfoldable pub suffix_text : LocalTimeType → List ℕ
 suffix_text t = offset_text t.ut_offset ++ (32 ∷ name_text t ++ 10 ∷ [])
 
--- one more answer fits onto a page of 2040 bytes, since it has at most 130
+-- the nine digits of nanoseconds
+abbrev pub AreDigitsOf : ℕ → List ℕ → Type 0
+AreDigitsOf n nine = (n < 1000000000) × (nine ≡ nine_digits n)
+
+-- so many bytes fit onto a page of 2040 bytes
+abbrev pub HasRoomFor : ℕ → List ℕ → Type 0
+HasRoomFor bytes page = length page + bytes ≤ 2040
+
+-- one more answer of two date times does, since it has at most 160
 abbrev pub HasRoom : List ℕ → Type 0
-HasRoom page = length page ≤ 1910
+HasRoom page = HasRoomFor 160 page

@@ -6,64 +6,60 @@ ghost use Rattle.tz_query.specs.Lines.{IsFirstLine, ended};
 ghost use Rattle.tz_query.specs.Answers.{IsAnswer, AreAnswers};
 ghost use Rattle.tz_query.specs.Caches.{IsCacheOf};
 ghost use Rattle.tz_query.specs.Outputs.{written};
-ghost use Rattle.tz_query.specs.Pages.{HasRoom};
 
 use super::cache::Cache;
-use super::general_answers::answer_any_search;
 use super::lines::{
     after_line, read_meeting_line, read_search_line, read_time_line, read_usual_search_line,
     read_usual_time_line,
 };
 use super::meetings::answer_meeting;
 use super::output::Output;
-use super::search_answers::answer_search;
-use super::suffixes::suffixes_of;
+use super::plain_lines::push_error;
+use super::search_answers::{answer_any_search, answer_search};
 use super::time_answers::{answer_any_time, answer_time};
 use std::alloc::{AllocError, Allocator};
 use tz::{TimeZoneRef, TzError};
 
 /// Answers the first line, whatever its numbers, and returns the bytes after that line.
 #[inline(never)]
-fn answer_any_line<'a, A: Allocator + Copy>(
+fn answer_any_line<'a, 'b, A: Allocator + Copy>(
     alloc: A,
     output: &mut Output<A>,
-    cache: &mut Cache<'_>,
-    zone: &TimeZoneRef<'_>,
+    cache: &mut Cache<'b>,
+    zone: &TimeZoneRef<'b>,
     queries: &'a [u8],
 ) -> Result<&'a [u8], AllocError>
-    requires room { HasRoom output.old.page }
-    requires cached { IsCacheOf (zone_of zone.now) cache.old }
+    requires { IsCacheOf (zone_of zone.now) cache.old }
     ensures answer { IfOk result (λ rest. (text : List ℕ) × (answer : List (List ℕ)) × IsFirstLine queries.now text rest.now
         × IsAnswer (zone_of zone.entry.now) text answer × (written output.new ≡ written output.old ++ ended answer)) }
     ensures cached { IsCacheOf (zone_of zone.entry.now) cache.new }
 {
     if let Some((unix_time, nanoseconds, rest)) = read_time_line(queries) {
-        answer_any_time(output, zone, unix_time, nanoseconds)?;
+        answer_any_time(output, cache, zone, unix_time, nanoseconds)?;
         return Ok(rest);
     }
     if let Some((fields, rest)) = read_search_line(queries) {
-        answer_any_search(alloc, output, zone, &fields)?;
+        answer_any_search(alloc, output, cache, zone, &fields)?;
         return Ok(rest);
     }
     if let Some((count, fields, rest)) = read_meeting_line(queries) {
         answer_meeting(alloc, output, cache, zone, &fields, count)?;
         return Ok(rest);
     }
-    output.page.push(b"E Line\n");
+    push_error(output, "Line")?;
     Ok(after_line(queries))
 }
 
 /// Answers the first line, and returns the bytes after that line.
 #[inline(always)]
-fn answer_line<'a, A: Allocator + Copy>(
+fn answer_line<'a, 'b, A: Allocator + Copy>(
     alloc: A,
     output: &mut Output<A>,
-    cache: &mut Cache<'_>,
-    zone: &TimeZoneRef<'_>,
+    cache: &mut Cache<'b>,
+    zone: &TimeZoneRef<'b>,
     queries: &'a [u8],
 ) -> Result<&'a [u8], AllocError>
-    requires room { HasRoom output.old.page }
-    requires cached { IsCacheOf (zone_of zone.now) cache.old }
+    requires { IsCacheOf (zone_of zone.now) cache.old }
     ensures answer { IfOk result (λ rest. (text : List ℕ) × (answer : List (List ℕ)) × IsFirstLine queries.now text rest.now
         × IsAnswer (zone_of zone.entry.now) text answer × (written output.new ≡ written output.old ++ ended answer)) }
     ensures cached { IsCacheOf (zone_of zone.entry.now) cache.new }
@@ -97,12 +93,10 @@ pub fn answer<A: Allocator + Copy>(
     ensures err { IfErr result (λ e. e ≡ TzError.Memory alloc_error) }
 {
     let answers = Vec::with_capacity(alloc, queries.len().saturating_mul(2))?;
-    let suffixes = suffixes_of(alloc, zone)?;
     let mut output = Output::new(answers);
-    let mut cache = Cache::new(zone, &suffixes);
+    let mut cache = Cache::new(zone);
     let mut rest = queries;
     while !rest.is_empty() {
-        output.make_room()?;
         rest = answer_line(alloc, &mut output, &mut cache, &zone, rest)?;
     }
     Ok(output.into_answers()?)

@@ -1,67 +1,108 @@
 //! What the lines over a zone share.
 
 use super::suffix::Suffix;
-use tz::TimeZoneRef;
-use tz::inner::{self, Segment, segment_at};
+use super::suffixes::Suffixes;
+use tz::inner::{Resolution, once, resolve_window, window_of};
+use tz::{LocalTimeType, TimeZoneRef, TzError};
 
-/// The suffixes of a zone's types, two offsets between which those of the types lie, and the segment of the last line.
+/// Two lines whose instants are less than so many seconds apart are taken as lines in order: 30 days.
+const NEAR: u64 = 2_592_000;
+
+/// A span of time through which the clock has one type, with the suffix of that type, and the suffixes of other types.
 #[derive(Drop)]
 pub struct Cache<'a> {
-    pub suffixes: &'a [Suffix],
-    pub offsets: (i32, i32),
-    pub segment: Segment,
+    pub from: i64,
+    pub last: i64,
+    pub local_time_type: &'a LocalTimeType,
+    pub suffix: Suffix,
+    pub suffixes: Suffixes,
+    /// The last instant that did not lie in the span.
+    pub missed: i64,
 }
 
 impl<'a> Cache<'a> {
-    ghost use Rattle.std.specs.Prelude.{◌≡◌, ◌≤ℤ◌, ◌<ℤ◌, IsTrue};
+    ghost use Rattle.std.specs.Prelude.{◌≡◌, ℤ, ◌≤ℤ◌, IsTrue, OnOk, IfErr, IfSome};
+    ghost use Rattle.tz_zone.specs.Clock.{IsClock, IsLookupFault};
     ghost use Rattle.tz_zone.specs.ZoneRef.{zone_of};
-    ghost use Rattle.tz_zone.specs.Segments.{IsSegmentOf, IsStretch, numbered_types};
-    ghost use Rattle.tz_query.specs.Suffixes.{types_of};
+    ghost use Rattle.tz.specs.Resolutions.{IsResolution, IsResolutionAt};
+    ghost use Rattle.tz.specs.Walks.{IsSmall};
     ghost use Rattle.tz_query.specs.Caches.{IsCacheOf};
 
-    /// What is known of a zone before the first line: a segment without instants, which is one of every zone.
-    pub fn new(zone: TimeZoneRef<'_>, suffixes: &'a [Suffix]) -> Cache<'a>
-        requires { types_of suffixes.now ≡ numbered_types (zone_of zone) }
+    /// What is known of a zone before the first line.
+    pub fn new(zone: TimeZoneRef<'a>) -> Cache<'a>
         ensures { IsCacheOf (zone_of zone.entry) result }
     {
-        Cache {
-            suffixes,
-            offsets: inner::offsets(zone),
-            segment: Segment {
-                from: 1,
-                until: 0,
-                number: 0,
-                next_place: 0,
-            },
+        let local_time_type = &zone.local_time_types()[0];
+        let mut cache = Cache {
+            from: 1,
+            last: 0,
+            local_time_type,
+            suffix: Suffix::new(*local_time_type),
+            suffixes: Suffixes::new(),
+            missed: 0,
+        };
+        cache.keep_segment(&zone, 0);
+        cache
+    }
+
+    /// Keeps a span of time through which the clock has a type.
+    #[inline(always)]
+    fn keep(&mut self, from: i64, last: i64, local_time_type: &'a LocalTimeType)
+        ensures { (self.new.from ≡ from) × (self.new.last ≡ last) × (self.new.local_time_type ≡ local_time_type.entry) × (self.new.suffix.local_time_type ≡ local_time_type.entry.now) }
+    {
+        self.from = from;
+        self.last = last;
+        self.local_time_type = local_time_type;
+        self.suffix = *self.suffixes.of(local_time_type);
+    }
+
+    /// Keeps the segment around an instant if the lines seem to be in order.
+    #[inline(always)]
+    pub fn follow(&mut self, zone: &TimeZoneRef<'a>, unix_time: i64)
+        requires { IsCacheOf (zone_of zone.now) self.old }
+        ensures { IsCacheOf (zone_of zone.entry.now) self.new }
+    {
+        let is_near = unix_time.abs_diff(self.missed) < NEAR;
+        self.missed = unix_time;
+        if is_near {
+            self.keep_segment(zone, unix_time);
         }
     }
 
-    /// Keeps a segment in which the instant lies, if one is known.
-    #[inline(always)]
-    pub fn keep(&mut self, zone: TimeZoneRef<'_>, unix_time: i64) -> bool
-        requires { IsCacheOf (zone_of zone) self.old }
-        ensures cached { IsCacheOf (zone_of zone.entry) self.new }
-        ensures within { IsTrue result → (self.new.segment.from ≤ℤ unix_time) × (unix_time <ℤ self.new.segment.until) }
+    /// Keeps the segment around an instant, if the clock has a type there.
+    #[inline(never)]
+    fn keep_segment(&mut self, zone: &TimeZoneRef<'a>, unix_time: i64)
+        requires { IsCacheOf (zone_of zone.now) self.old }
+        ensures { IsCacheOf (zone_of zone.entry.now) self.new }
     {
-        if unix_time >= self.segment.from && unix_time < self.segment.until {
-            return true;
-        }
-        match segment_at(zone, unix_time) {
-            Some(found) => {
-                self.segment = found;
-                true
-            }
-            None => false,
+        let segment = zone.segment_at(unix_time);
+        if let Some(local_time_type) = segment.local_time_type() {
+            self.keep(segment.from(), segment.last(), local_time_type);
         }
     }
 
-    /// The suffix of lines of a segment.
+    /// Whether instants from the first one to the second lie in the span.
     #[inline(always)]
-    pub fn suffix_of(&self, zone: TimeZoneRef<'_>, segment: &Segment) -> &'a Suffix
-        requires cached { IsCacheOf (zone_of zone) self.now }
-        requires segment { IsSegmentOf (zone_of zone) segment.now }
-        ensures { IsStretch (zone_of zone.entry) segment.now.from segment.now.until result.now.local_time_type }
+    pub fn has(&self, low: i64, high: i64) -> bool
+        ensures { IsTrue result → (self.now.from ≤ℤ low) × (high ≤ℤ self.now.last) }
     {
-        &self.suffixes[segment.number]
+        self.from <= low && high <= self.last
+    }
+
+    /// What a reading means to the zone's clock, if the clock has one type in the window, or two with one jump between them.
+    #[inline(always)]
+    pub fn resolve(&mut self, zone: &TimeZoneRef<'a>, reading: i64) -> Option<Resolution<'a>>
+        requires small { IsSmall reading }
+        requires cached { IsCacheOf (zone_of zone.now) self.old }
+        ensures resolves { IfSome result (λ resolution. IsResolution (IsClock (zone_of zone.entry.now)) reading resolution) }
+        ensures at { IfSome result (λ resolution. IsResolutionAt reading resolution) }
+        ensures cached { IsCacheOf (zone_of zone.entry.now) self.new }
+    {
+        let (low, high) = window_of(*zone, reading);
+        if self.has(low, high) {
+            return Some(once(reading, self.local_time_type));
+        }
+        self.follow(zone, low);
+        resolve_window(*zone, reading, low, high)
     }
 }

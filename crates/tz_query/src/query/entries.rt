@@ -1,56 +1,64 @@
-//! The answers of `F` lines, written onto a page.
+//! What a search finds, on a page.
 
-ghost use Rattle.std.specs.Prelude.{◌≡◌, ℕ, List, [], ◌∷◌, ◌++◌};
-ghost use Rattle.tz_query.specs.Pages.{suffix_text, HasRoom};
+ghost use Rattle.std.specs.Prelude.{◌≡◌, ◌+◌, ◌<◌, ◌≤◌, ◌++◌, ◌∷◌, [], ℕ, ℤ, length};
+ghost use Rattle.tz_base.specs.Fields.{IsValid};
+ghost use Rattle.tz.specs.Walks.{moment_of};
+ghost use Rattle.tz_query.specs.Answers.{moment_text};
+ghost use Rattle.tz_query.specs.Lines.{line_feed};
+ghost use Rattle.tz_query.specs.Numbers.{space};
+ghost use Rattle.tz_query.specs.Pages.{AreDigitsOf, HasRoomFor};
 
-use crate::query::page::Page;
-use crate::query::suffix::Suffix;
+use super::moments::push_moment;
+use super::page::Page;
+use super::suffixes::Suffixes;
+use tz::LocalTimeType;
+use tz::inner::Fields;
 
-/// Writes the answer of one date time onto the page.
+/// Appends the line of fields that a type shows, behind what stands before it.
 #[inline(always)]
-pub fn push_once(page: &mut Page, prefix: &[u8; 20], nine: &[u8; 9], suffix: &Suffix)
-    requires { HasRoom page.old }
-    ensures { page.new ≡ page.old ++ (70 ∷ 32 ∷ 49 ∷ 10 ∷ 78 ∷ 32 ∷ (prefix.now ++ (nine.now ++ suffix_text suffix.now.local_time_type))) }
-{
-    page.push(b"F 1\nN ");
-    page.push_line(prefix, nine, suffix);
-}
-
-/// Writes the answer of the same fields in two types onto the page.
-#[inline(always)]
-pub fn push_twice(
+pub fn push_shown(
     page: &mut Page,
-    prefix: &[u8; 20],
+    front: &[u8],
+    suffixes: &mut Suffixes,
+    fields: &Fields,
+    local_time_type: &LocalTimeType,
     nine: &[u8; 9],
-    before: &Suffix,
-    after: &Suffix,
 )
-    requires { HasRoom page.old }
-    ensures { page.new ≡ page.old ++ (70 ∷ 32 ∷ 50 ∷ 10 ∷ 78 ∷ 32 ∷ ((prefix.now ++ (nine.now ++ suffix_text before.now.local_time_type)) ++ (78 ∷ 32 ∷ (prefix.now ++ (nine.now ++ suffix_text after.now.local_time_type))))) }
+    requires room { HasRoomFor 68 page.old }
+    requires front { length front.now ≤ 6 }
+    requires valid { IsValid fields.now }
+    requires digits { (n : ℕ) × AreDigitsOf n nine.now }
+    ensures text { (n : ℕ) → AreDigitsOf n nine.now → (u : ℤ) → page.new ≡ page.old ++ (front.now
+        ++ (moment_text (moment_of (record fields.now { nanoseconds = n }) local_time_type.now u) ++ line_feed ∷ [])) }
+    ensures len { length page.new ≤ length page.old + 68 }
 {
-    page.push(b"F 2\nN ");
-    page.push_line(prefix, nine, before);
-    page.push(b"N ");
-    page.push_line(prefix, nine, after);
+    page.push(front);
+    push_moment(page, fields, nine, suffixes.of(local_time_type));
 }
 
-/// Writes the answer of a jump onto the page, with what is shown before it and after it.
+/// Appends the line of a jump: what is shown before it, and after it.
 #[inline(always)]
 pub fn push_skipped(
     page: &mut Page,
-    prefix_before: &[u8; 20],
-    prefix_after: &[u8; 20],
+    front: &[u8],
+    suffixes: &mut Suffixes,
+    first: &Fields,
+    before: &LocalTimeType,
+    second: &Fields,
+    after: &LocalTimeType,
     nine: &[u8; 9],
-    before: &Suffix,
-    after: &Suffix,
 )
-    requires { HasRoom page.old }
-    ensures { (text : List ℕ) → (prefix_before.now ++ (nine.now ++ suffix_text before.now.local_time_type)) ≡ text ++ 10 ∷ []
-        → page.new ≡ page.old ++ (70 ∷ 32 ∷ 49 ∷ 10 ∷ 83 ∷ 32 ∷ (text ++ (32 ∷ (prefix_after.now ++ (nine.now ++ suffix_text after.now.local_time_type))))) }
+    requires room { HasRoomFor 131 page.old }
+    requires front { length front.now ≤ 6 }
+    requires valid { IsValid first.now × IsValid second.now }
+    requires digits { (n : ℕ) × AreDigitsOf n nine.now }
+    ensures { (n : ℕ) → AreDigitsOf n nine.now → (u v : ℤ) → page.new ≡ page.old ++ (front.now
+        ++ (moment_text (moment_of (record first.now { nanoseconds = n }) before.now u)
+        ++ space ∷ (moment_text (moment_of (record second.now { nanoseconds = n }) after.now v) ++ line_feed ∷ []))) }
 {
-    page.push(b"F 1\nS ");
-    page.push_line(prefix_before, nine, before);
+    page.push(front);
+    push_moment(page, first, nine, suffixes.of(before));
     page.pop();
     page.push(b" ");
-    page.push_line(prefix_after, nine, after);
+    push_moment(page, second, nine, suffixes.of(after));
 }

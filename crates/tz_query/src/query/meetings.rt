@@ -13,22 +13,22 @@ ghost use Rattle.tz_query.specs.MeetingDates.{midnight};
 ghost use Rattle.tz_query.specs.Answers.{AreWeekAnswers, IsMeetingAnswer, IsWeekAnswer};
 
 use super::cache::Cache;
-use super::general_answers::{push_count, push_error};
 use super::meeting_dates::{first_day_begins, week_of};
+use super::names::field_fault_name;
 use super::numbers::write_nanoseconds;
 use super::output::Output;
-use super::print::field_fault_name;
+use super::plain_lines::{push_count, push_error};
 use super::search_answers::answer_search;
 use std::alloc::{AllocError, Allocator};
 use tz::TimeZoneRef;
 use tz::inner::Fields;
 
 /// Writes the answer lines of a week: those of a search for its fields, or that its year is out of range.
-fn answer_week<A: Allocator + Copy>(
+fn answer_week<'a, A: Allocator + Copy>(
     alloc: A,
     output: &mut Output<A>,
-    cache: &mut Cache<'_>,
-    zone: &TimeZoneRef<'_>,
+    cache: &mut Cache<'a>,
+    zone: &TimeZoneRef<'a>,
     first: &Fields,
     nine: &[u8; 9],
     begins: i64,
@@ -43,7 +43,6 @@ fn answer_week<A: Allocator + Copy>(
         × (written output.new ≡ written output.old ++ ended answer)) }
     ensures cached { IsCacheOf (zone_of zone.entry.now) cache.new }
 {
-    output.make_room()?;
     match week_of(first, begins, weeks) {
         Some(fields) => answer_search(alloc, output, cache, zone, &fields, nine),
         None => push_error(output, "OutOfRange"),
@@ -51,11 +50,11 @@ fn answer_week<A: Allocator + Copy>(
 }
 
 /// Writes the answer lines of all weeks, in their order.
-fn answer_weeks<A: Allocator + Copy>(
+fn answer_weeks<'a, A: Allocator + Copy>(
     alloc: A,
     output: &mut Output<A>,
-    cache: &mut Cache<'_>,
-    zone: &TimeZoneRef<'_>,
+    cache: &mut Cache<'a>,
+    zone: &TimeZoneRef<'a>,
     first: &Fields,
     nine: &[u8; 9],
     begins: i64,
@@ -78,11 +77,11 @@ fn answer_weeks<A: Allocator + Copy>(
 
 /// Writes the answer lines of a weekly meeting, which takes place in `count` weeks, in the first of them at these fields.
 #[inline(never)]
-pub fn answer_meeting<A: Allocator + Copy>(
+pub fn answer_meeting<'a, A: Allocator + Copy>(
     alloc: A,
     output: &mut Output<A>,
-    cache: &mut Cache<'_>,
-    zone: &TimeZoneRef<'_>,
+    cache: &mut Cache<'a>,
+    zone: &TimeZoneRef<'a>,
     first: &Fields,
     count: u8,
 ) -> Result<(), AllocError>

@@ -1,7 +1,7 @@
 //! A page of answers, onto which they are written in pieces of fixed length.
 
 ghost use Rattle.std.specs.Prelude.{◌≡◌, ◌+◌, ◌<◌, ◌≤◌, ℕ, List, [], ◌∷◌, ◌++◌, length, MatchBool};
-ghost use Rattle.tz_query.specs.Pages.{suffix_text, HasRoom};
+ghost use Rattle.tz_query.specs.Pages.{suffix_text, HasRoom, HasRoomFor};
 
 use super::suffix::Suffix;
 use std::marker::Model;
@@ -10,7 +10,7 @@ use std::marker::Model;
 const SIZE: usize = 2040;
 
 /// The most bytes that the answer of an instant, or of fields that a clock shows twice or jumps over, has.
-const LONGEST: usize = 130;
+const LONGEST: usize = 160;
 
 /// Text of at most 2040 bytes, which is made without an allocation.
 #[derive(Drop)]
@@ -67,7 +67,7 @@ impl Page {
     /// Appends bytes.
     #[inline(always)]
     pub fn push(&mut self, text: &[u8])
-        requires { length self.old + length text.now ≤ 2040 }
+        requires { HasRoomFor (length text.now) self.old }
         ensures text { self.new ≡ self.old ++ text.now }
         ensures len { length self.new ≡ length self.old + length text.now }
     {
@@ -79,7 +79,7 @@ impl Page {
     /// Appends the line of a date and time, nanoseconds and the suffix of a type.
     #[inline(always)]
     pub fn push_line(&mut self, prefix: &[u8; 20], nine: &[u8; 9], suffix: &Suffix)
-        requires { length self.old + 61 ≤ 2040 }
+        requires { HasRoomFor 61 self.old }
         ensures text { self.new ≡ self.old ++ (prefix.now ++ (nine.now ++ suffix_text suffix.now.local_time_type)) }
         ensures len { length self.new ≤ length self.old + 61 }
     {

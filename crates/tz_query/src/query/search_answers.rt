@@ -1,102 +1,234 @@
 //! Answers of fields.
 
-ghost use Rattle.std.specs.Prelude.{◌≡◌, ◌<◌, ℕ, pos, negsuc, ◌-ℤ◌, ◌≤ℤ◌, List, ◌++◌, IfOk, IfSome, IfNone};
+ghost use Rattle.std.specs.Prelude.{◌≡◌, ◌<◌, ◌++◌, ◌∷◌, [], ℕ, List, map, IfOk, MatchBool};
+ghost use Rattle.std.specs.List.{All};
+ghost use Rattle.tz_base.specs.Fields.{IsValid};
 ghost use Rattle.tz_zone.specs.ZoneRef.{zone_of};
+ghost use Rattle.tz.specs.DateTimes.{DateTime, ShowsInstant};
+ghost use Rattle.tz.specs.Found.{CanBeMade};
 ghost use Rattle.tz.specs.PrintedText.{nine_digits};
-ghost use Rattle.tz_query.specs.Answers.{IsSearchAnswer};
+ghost use Rattle.tz.specs.Resolutions.{AreEntriesOf};
+ghost use Rattle.tz.specs.declared.datetime.found.FoundDateTimeKind.{FoundDateTimeKind};
+ghost use Rattle.tz.specs.declared.datetime.found.FoundDateTimeKind.TheVariants.{Skipped as SkippedKind};
+ghost use Rattle.tz_query.specs.Answers.{entry_text, found_lines, IsSearchAnswer};
 ghost use Rattle.tz_query.specs.Caches.{IsCacheOf};
+ghost use Rattle.tz_query.specs.Entries.{HasNanoseconds};
 ghost use Rattle.tz_query.specs.Lines.{ended};
 ghost use Rattle.tz_query.specs.Outputs.{written};
-ghost use Rattle.tz_query.specs.Pages.{HasRoom};
+ghost use Rattle.tz_query.specs.Pages.{AreDigitsOf, HasRoom};
 
 use super::cache::Cache;
-use super::entries::push_once;
-use super::general_answers::answer_any_search;
-use super::jump_answers::push_across_jump;
-use super::numbers::number_of_nine;
+use super::entries::{push_shown, push_skipped};
+use super::names::field_fault_name;
+use super::numbers::{number_of_nine, write_nanoseconds};
 use super::output::Output;
-use super::page::Page;
-use super::prefix::prefix_of;
+use super::plain_lines::{push_count, push_error};
+use super::suffixes::Suffixes;
+use super::time_answers::shown_fields;
 use std::alloc::{AllocError, Allocator};
-use tz::TimeZoneRef;
-use tz::inner::Fields;
+use tz::datetime::FoundDateTimeKind;
+use tz::inner::{self, Fields, Resolution, fields_of};
+use tz::{LocalTimeType, TimeZoneRef, TzError};
 
-/// The first and the last instant at which a clock whose offsets lie between two shows a reading.
-#[inline(always)]
-fn window_of(reading: i64, offsets: (i32, i32)) -> (i64, i64)
-    requires { (negsuc 67768100567971199 ≤ℤ reading) × (reading ≤ℤ pos 67767976233532800) }
-    ensures low { result.0 ≡ reading -ℤ offsets.1 }
-    ensures high { result.1 ≡ reading -ℤ offsets.0 }
-{
-    let (least, greatest) = offsets;
-    (reading - i64::from(greatest), reading - i64::from(least))
-}
-
-/// Writes what fields mean onto the page, if known segments hold their window and years have four digits.
-#[inline(always)]
-fn push_in_segments(
-    page: &mut Page,
-    cache: &mut Cache<'_>,
-    zone: TimeZoneRef<'_>,
-    fields: &Fields,
-    nine: &[u8; 9],
-) -> Option<()>
-    requires room { HasRoom page.old }
-    requires cached { IsCacheOf (zone_of zone) cache.old }
-    ensures some { (n : ℕ) → n < 1000000000 → nine.now ≡ nine_digits n → IfSome result (λ _. (answer : List (List ℕ))
-        × IsSearchAnswer (zone_of zone.entry) (record fields.now { nanoseconds = n }) answer × (page.new ≡ page.old ++ ended answer)) }
-    ensures none { IfNone result (page.new ≡ page.old) }
-    ensures cached { IsCacheOf (zone_of zone.entry) cache.new }
-{
-    if fields.year < 1000 || fields.year > 9999 {
-        return None;
-    }
-    let Ok(()) = fields.check() else {
-        return None;
-    };
-    let reading = fields.reading();
-    let (low, high) = window_of(reading, cache.offsets);
-    if !cache.keep(zone, low) {
-        return None;
-    }
-    if high < cache.segment.until {
-        let suffix = cache.suffix_of(zone, &cache.segment);
-        push_once(page, &prefix_of(fields), nine, suffix);
-        return Some(());
-    }
-    push_across_jump(page, cache, zone, fields, reading, nine, low, high)
-}
-
-/// Answers fields whose nanoseconds have these digits, by a search of its own.
-#[inline(never)]
-fn answer_anew<A: Allocator + Copy>(
-    alloc: A,
+/// Writes the line of what was found once.
+fn push_entry<A: Allocator>(
     output: &mut Output<A>,
-    zone: &TimeZoneRef<'_>,
-    fields: &Fields,
+    suffixes: &mut Suffixes,
+    entry: &FoundDateTimeKind,
     nine: &[u8; 9],
 ) -> Result<(), AllocError>
-    requires { (n : ℕ) × (n < 1000000000) × (nine.now ≡ nine_digits n) }
-    ensures { (n : ℕ) → n < 1000000000 → nine.now ≡ nine_digits n → IfOk result (λ _. (answer : List (List ℕ))
-        × IsSearchAnswer (zone_of zone.entry.now) (record fields.now { nanoseconds = n }) answer
-        × (written output.new ≡ written output.old ++ ended answer)) }
+    requires { (n : ℕ) × AreDigitsOf n nine.now × HasNanoseconds n entry.now }
+    ensures { IfOk result (λ _. written output.new ≡ written output.old ++ ended (entry_text entry.now ∷ [])) }
 {
-    let mut whole = *fields;
+    output.make_room()?;
+    match entry {
+        FoundDateTimeKind::Normal(date_time) => push_shown(
+            &mut output.page,
+            b"N ",
+            suffixes,
+            fields_of(date_time),
+            date_time.local_time_type(),
+            nine,
+        ),
+        FoundDateTimeKind::Skipped {
+            before_transition,
+            after_transition,
+        } => push_skipped(
+            &mut output.page,
+            b"S ",
+            suffixes,
+            fields_of(before_transition),
+            before_transition.local_time_type(),
+            fields_of(after_transition),
+            after_transition.local_time_type(),
+            nine,
+        ),
+    }
+    Ok(())
+}
+
+/// Writes the lines of what was found.
+fn push_entries<A: Allocator>(
+    output: &mut Output<A>,
+    suffixes: &mut Suffixes,
+    entries: &[FoundDateTimeKind],
+    nine: &[u8; 9],
+) -> Result<(), AllocError>
+    requires { (n : ℕ) × AreDigitsOf n nine.now × All (HasNanoseconds n) entries.now }
+    ensures { IfOk result (λ _. written output.new ≡ written output.old ++ ended (map entry_text entries.now)) }
+{
+    for entry in entries {
+        push_entry(output, suffixes, entry, nine)?;
+    }
+    Ok(())
+}
+
+/// Writes the answer lines of a list.
+fn push_found<A: Allocator>(
+    output: &mut Output<A>,
+    suffixes: &mut Suffixes,
+    found: &[FoundDateTimeKind],
+    nine: &[u8; 9],
+) -> Result<(), AllocError>
+    requires { (n : ℕ) × AreDigitsOf n nine.now × All (HasNanoseconds n) found.now }
+    ensures { IfOk result (λ _. written output.new ≡ written output.old ++ ended (found_lines found.now)) }
+{
+    push_count(output, b'F', found.len())?;
+    push_entries(output, suffixes, found, nine)
+}
+
+/// Answers fields whose nanoseconds have these digits, by a search of their own.
+#[inline(never)]
+fn answer_by_search<A: Allocator + Copy>(
+    alloc: A,
+    output: &mut Output<A>,
+    suffixes: &mut Suffixes,
+    zone: &TimeZoneRef<'_>,
+    fields: Fields,
+    nine: &[u8; 9],
+) -> Result<(), AllocError>
+    requires { (n : ℕ) × AreDigitsOf n nine.now }
+    ensures { (n : ℕ) → AreDigitsOf n nine.now → IfOk result (λ _. (answer : List (List ℕ))
+        × IsSearchAnswer (zone_of zone.entry.now) (record fields { nanoseconds = n }) answer × (written output.new ≡ written output.old ++ ended answer)) }
+{
+    let mut whole = fields;
     whole.nanoseconds = number_of_nine(nine);
-    answer_any_search(alloc, output, zone, &whole)
+    match inner::find_fields(alloc, &whole, *zone) {
+        Ok(list) => push_found(output, suffixes, &list.into_inner(), nine),
+        Err(TzError::DateTime(fault)) => push_error(output, field_fault_name(&fault)),
+        Err(TzError::OutOfRange) => push_error(output, "OutOfRange"),
+        Err(TzError::Memory(fault)) => Err(fault),
+        Err(_) => unreachable!(),
+    }
+}
+
+/// Writes the answer lines of fields over which a clock is set forward, unless a side of the jump is in no year of 32 bits.
+#[inline(never)]
+fn push_jump<A: Allocator>(
+    output: &mut Output<A>,
+    suffixes: &mut Suffixes,
+    nine: &[u8; 9],
+    unix_time: i64,
+    before: &LocalTimeType,
+    after: &LocalTimeType,
+) -> bool
+    requires room { HasRoom output.old.page }
+    requires digits { (n : ℕ) × AreDigitsOf n nine.now }
+    ensures { (n : ℕ) → AreDigitsOf n nine.now → MatchBool result ((x : DateTime) × (y : DateTime) × ShowsInstant unix_time n before.now x
+        × ShowsInstant unix_time n after.now y × CanBeMade (SkippedKind x y)
+        × (written output.new ≡ written output.old ++ ended (found_lines (SkippedKind x y ∷ [])))) (written output.new ≡ written output.old) }
+{
+    let Some(first) = shown_fields(unix_time, before.ut_offset()) else {
+        return false;
+    };
+    let Some(second) = shown_fields(unix_time, after.ut_offset()) else {
+        return false;
+    };
+    let front = b"F 1\nS ";
+    push_skipped(
+        &mut output.page,
+        front,
+        suffixes,
+        &first,
+        before,
+        &second,
+        after,
+        nine,
+    );
+    true
+}
+
+/// Writes the answer lines of fields by what they mean, unless a side of a jump is in no year of 32 bits.
+#[inline(always)]
+fn push_resolution<A: Allocator>(
+    output: &mut Output<A>,
+    suffixes: &mut Suffixes,
+    fields: &Fields,
+    nine: &[u8; 9],
+    resolution: &Resolution<'_>,
+) -> Result<bool, AllocError>
+    requires valid { IsValid fields.now }
+    requires digits { (n : ℕ) × AreDigitsOf n nine.now }
+    ensures { (n : ℕ) → AreDigitsOf n nine.now → IfOk result (λ told. MatchBool told ((found : List FoundDateTimeKind)
+        × AreEntriesOf (record fields.now { nanoseconds = n }) resolution.now found × All CanBeMade found
+        × (written output.new ≡ written output.old ++ ended (found_lines found))) (written output.new ≡ written output.old)) }
+{
+    output.make_room()?;
+    let page = &mut output.page;
+    match *resolution {
+        Resolution::Once(_, local_time_type) => {
+            push_shown(page, b"F 1\nN ", suffixes, fields, local_time_type, nine);
+        }
+        Resolution::Twice(_, before, _, after) => {
+            push_shown(page, b"F 2\nN ", suffixes, fields, before, nine);
+            push_shown(page, b"N ", suffixes, fields, after, nine);
+        }
+        Resolution::Skipped {
+            unix_time,
+            before,
+            after,
+        } => {
+            return Ok(push_jump(output, suffixes, nine, unix_time, before, after));
+        }
+    }
+    Ok(true)
+}
+
+/// Answers fields by what they mean, if they are valid, that is known by one look at their window, and it can be printed.
+#[inline(always)]
+fn answer_by_meaning<'a, A: Allocator>(
+    output: &mut Output<A>,
+    cache: &mut Cache<'a>,
+    zone: &TimeZoneRef<'a>,
+    fields: &Fields,
+    nine: &[u8; 9],
+) -> Result<bool, AllocError>
+    requires cached { IsCacheOf (zone_of zone.now) cache.old }
+    requires digits { (n : ℕ) × AreDigitsOf n nine.now }
+    ensures answer { (n : ℕ) → AreDigitsOf n nine.now → IfOk result (λ told. MatchBool told ((answer : List (List ℕ))
+        × IsSearchAnswer (zone_of zone.entry.now) (record fields.now { nanoseconds = n }) answer
+        × (written output.new ≡ written output.old ++ ended answer)) (written output.new ≡ written output.old)) }
+    ensures cached { IsCacheOf (zone_of zone.entry.now) cache.new }
+{
+    let Ok(()) = fields.check() else {
+        return Ok(false);
+    };
+    let Some(resolution) = cache.resolve(zone, fields.reading()) else {
+        return Ok(false);
+    };
+    push_resolution(output, &mut cache.suffixes, fields, nine, &resolution)
 }
 
 /// Answers fields whose nanoseconds have these digits. Those of the fields only have to be below 10^9.
 #[inline(always)]
-pub fn answer_search<A: Allocator + Copy>(
+pub fn answer_search<'a, A: Allocator + Copy>(
     alloc: A,
     output: &mut Output<A>,
-    cache: &mut Cache<'_>,
-    zone: &TimeZoneRef<'_>,
+    cache: &mut Cache<'a>,
+    zone: &TimeZoneRef<'a>,
     fields: &Fields,
     nine: &[u8; 9],
 ) -> Result<(), AllocError>
-    requires room { HasRoom output.old.page }
     requires cached { IsCacheOf (zone_of zone.now) cache.old }
     requires digits { (n : ℕ) × (n < 1000000000) × (nine.now ≡ nine_digits n) }
     ensures answer { (n : ℕ) → n < 1000000000 → nine.now ≡ nine_digits n → IfOk result (λ _. (answer : List (List ℕ))
@@ -104,8 +236,30 @@ pub fn answer_search<A: Allocator + Copy>(
         × (written output.new ≡ written output.old ++ ended answer)) }
     ensures cached { IsCacheOf (zone_of zone.entry.now) cache.new }
 {
-    if let Some(()) = push_in_segments(&mut output.page, cache, *zone, fields, nine) {
+    if answer_by_meaning(output, cache, zone, fields, nine)? {
         return Ok(());
     }
-    answer_anew(alloc, output, zone, fields, nine)
+    answer_by_search(alloc, output, &mut cache.suffixes, zone, *fields, nine)
+}
+
+/// Answers any fields.
+#[inline(never)]
+pub fn answer_any_search<'a, A: Allocator + Copy>(
+    alloc: A,
+    output: &mut Output<A>,
+    cache: &mut Cache<'a>,
+    zone: &TimeZoneRef<'a>,
+    fields: &Fields,
+) -> Result<(), AllocError>
+    requires { IsCacheOf (zone_of zone.now) cache.old }
+    ensures answer { IfOk result (λ _. (answer : List (List ℕ)) × IsSearchAnswer (zone_of zone.entry.now) fields.now answer
+        × (written output.new ≡ written output.old ++ ended answer)) }
+    ensures cached { IsCacheOf (zone_of zone.entry.now) cache.new }
+{
+    if let Err(fault) = fields.check() {
+        return push_error(output, field_fault_name(&fault));
+    }
+    let mut nine = [0; 9];
+    write_nanoseconds(fields.nanoseconds, &mut nine);
+    answer_search(alloc, output, cache, zone, fields, &nine)
 }

@@ -3,7 +3,7 @@
 ghost use Rattle.std.specs.Prelude.{◌≡◌, ◌≤◌, take};
 ghost use Rattle.tz_query.specs.Pages.{suffix_text};
 
-use super::print::push_name;
+use super::names::push_name;
 use tz::LocalTimeType;
 use tz::inner::TextBuffer;
 
@@ -55,11 +55,11 @@ impl Suffix {
         self.len
     }
 
-    /// The offset of the type.
+    /// The type.
     #[inline(always)]
-    pub fn ut_offset(&self) -> i32
-        ensures { result ≡ self.now.local_time_type.ut_offset }
+    pub fn local_time_type(&self) -> LocalTimeType
+        ensures { result ≡ self.now.local_time_type }
     {
-        self.local_time_type.ut_offset()
+        self.local_time_type
     }
 }

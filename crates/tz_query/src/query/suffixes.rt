@@ -1,35 +1,51 @@
-//! The suffixes of lines of a zone.
+//! The suffixes of the types that lines show.
 
-ghost use Rattle.std.specs.Prelude.{◌≡◌, IfOk};
-ghost use Rattle.tz_zone.specs.ZoneRef.{zone_of};
-ghost use Rattle.tz_zone.specs.Segments.{numbered_types};
-ghost use Rattle.tz_query.specs.Suffixes.{types_of};
+ghost use Rattle.std.specs.Prelude.{◌<◌};
 
 use super::suffix::Suffix;
-use std::alloc::{AllocError, Allocator};
-use tz::TimeZoneRef;
-use tz::timezone::TransitionRule;
+use tz::LocalTimeType;
 
-/// The suffixes of each type of a zone, and of those of its rule.
-pub fn suffixes_of<A: Allocator>(
-    alloc: A,
-    zone: TimeZoneRef<'_>,
-) -> Result<Vec<Suffix, A>, AllocError>
-    ensures { IfOk result (λ suffixes. types_of suffixes.items ≡ numbered_types (zone_of zone.entry)) }
+/// How many suffixes are kept. More types share these places.
+const COUNT: usize = 16;
+
+/// Suffixes of types that were shown before. Each is at the place of its type.
+#[derive(Drop)]
+pub struct Suffixes {
+    kept: [Suffix; COUNT],
+}
+
+/// The place of a type's suffix: a few bits of a product, in which those of the offset are mixed.
+#[inline(always)]
+fn place_of(local_time_type: &LocalTimeType) -> usize
+    ensures { result < 16 }
 {
-    let mut suffixes = Vec::new(alloc);
-    for local_time_type in zone.local_time_types() {
-        suffixes.push(Suffix::new(*local_time_type))?;
-    }
-    match zone.extra_rule() {
-        Some(TransitionRule::Fixed(local_time_type)) => {
-            suffixes.push(Suffix::new(*local_time_type))?;
+    let offset = local_time_type.ut_offset();
+    let mixed = offset
+        .cast_unsigned()
+        .wrapping_add(u32::from(local_time_type.is_dst()));
+    (mixed.wrapping_mul(0x9E37_79B1) / 0x1000_0000) as usize
+}
+
+impl Suffixes {
+    ghost use Rattle.std.specs.Prelude.{◌≡◌};
+
+    /// Suffixes of UTC alone.
+    pub fn new() -> Suffixes {
+        Suffixes {
+            kept: [Suffix::new(LocalTimeType::utc()); COUNT],
         }
-        Some(TransitionRule::Alternate(rule)) => {
-            suffixes.push(Suffix::new(*rule.std()))?;
-            suffixes.push(Suffix::new(*rule.dst()))?;
-        }
-        None => {}
     }
-    Ok(suffixes)
+
+    /// The suffix of lines of a type.
+    #[inline(always)]
+    pub fn of(&mut self, local_time_type: &LocalTimeType) -> &Suffix
+        ensures { result.now.local_time_type ≡ local_time_type.now }
+    {
+        let place = place_of(local_time_type);
+        if self.kept[place].local_time_type() != *local_time_type {
+            self.kept[place] = Suffix::new(*local_time_type);
+        }
+        let kept = &self.kept;
+        &kept[place]
+    }
 }

@@ -1,19 +1,11 @@
 -- Each line's answer stands behind those before it, and in the end no line is left.
 use Rattle.std.proofs.Common.{◌≡◌, ◌++◌, ◌<◌, [], length, sym, ap, ◌∙◌, subst, rules, append_assoc, append-nil}
-use Rattle.std.proofs.lemmas.Result.{IfOk-from_err}
-use Rattle.std.specs.Result.{IfErr, IsErrAnd}
-use Rattle.std.specs.Prelude.{Result, Ok, Err}
-use Rattle.tz_query.specs.Suffixes.{types_of}
 use Rattle.tz_zone.specs.ZoneRef.{zone_of}
 use Rattle.tz_query.specs.Lines.{ended}
 use Rattle.tz_query.specs.Answers.{AreAnswers}
 use Rattle.tz_query.specs.Outputs.{written}
 use Rattle.tz_query.proofs.AnswerLines.{AreAnswers-nil, AreAnswers-cons, rest_is_shorter, some_left, none_from_length}
 use Rattle.tz_query.proofs.query.answers.answer.Goals as goal
-
-if_err : {T E : Type 0} (P : E → Type 0) (r : Result T E) → IsErrAnd r P → IfErr r P
-if_err P (Ok x) h = tt
-if_err P (Err e) h = h
 
 pub loop-zone-init : goal.loop-zone-init
 loop-zone-init g c =
@@ -24,7 +16,6 @@ loop-zone-init g c =
 pub loop-zone-preserved : goal.loop-zone-preserved
 loop-zone-preserved g c =
     let z = zone_of c.args.zone in
-    let room = c.in_ok-make_room.ensures in
     let next = c.in_ok-rest.ensures in
     let step = next.answer in
     let some : 0 < length c.loop-zone.rest.now = search some_left in (
@@ -32,7 +23,7 @@ loop-zone-preserved g c =
       λ more are.
           subst (AreAnswers z c.args.queries.now)
           (sym (append_assoc (written c.loop-zone.output) (ended step.1) more)
-          ∙ ap (λ bytes. bytes ++ more) (ap (λ bytes. bytes ++ ended step.1) (sym room.text) ∙ sym step.4))
+          ∙ ap (λ bytes. bytes ++ more) (sym step.4))
           (c.loop-zone.invariant.1 (ended step.1 ++ more) (AreAnswers-cons z _ step.0 _ more step.1 some step.2 step.3 are)),
     )
 
@@ -50,13 +41,4 @@ loop-zone-smaller g c =
     rest_is_shorter c.loop-zone.rest.now next.0 c.in_ok-rest.rest.now next.2 some
 
 pub answer_line-requires : goal.answer_line-requires
-answer_line-requires g c = record { room = c.in_ok-make_room.ensures.room; cached = c.loop-zone.invariant.0 }
-
-pub new-cache-requires : goal.new-cache-requires
-new-cache-requires g c = ap types_of c.deref.ensures.value ∙ c.in_ok-suffixes.ensures
-
-pub returns-in_err-make_room : goal.returns-in_err-make_room
-returns-in_err-make_room g c = record { ok = IfOk-from_err c.from_residual-in_err-make_room.result _ c.from_residual-in_err-make_room.ensures.0; err = if_err _ c.from_residual-in_err-make_room.result c.from_residual-in_err-make_room.ensures.1 }
-
-pub returns-in_err-rest : goal.returns-in_err-rest
-returns-in_err-rest g c = record { ok = IfOk-from_err c.from_residual-in_err-rest.result _ c.from_residual-in_err-rest.ensures.0; err = if_err _ c.from_residual-in_err-rest.result c.from_residual-in_err-rest.ensures.1 }
+answer_line-requires g c = c.loop-zone.invariant.0

@@ -14,15 +14,15 @@ returns-in-Some g c =
     let asked = c.in-Some in
     let front = asked.ensures.some in
     let fits : SFits w64 asked.unix_time = search rules in
-    let answered = rw (to_z-of_z w64 asked.unix_time fits) at c.in_ok-answer_any_time.ensures in
-    record { answer = (front.0, answered.0 ∷ [], front.1, inl (Time asked.unix_time asked.nanoseconds, front.2, (answered.0, answered.1, refl)), answered.2); cached = c.requires.cached }
+    let answered = rw (to_z-of_z w64 asked.unix_time fits) at c.in_ok-answer_any_time.ensures.answer in
+    record { answer = (front.0, answered.0 ∷ [], front.1, inl (Time asked.unix_time asked.nanoseconds, front.2, (answered.0, answered.1, refl)), answered.2); cached = c.in_ok-answer_any_time.ensures.cached }
 
 pub returns-in-Some-read_search_line : goal.returns-in-Some-read_search_line
 returns-in-Some-read_search_line g c =
     let asked = c.in-Some-read_search_line in
     let front = asked.ensures.some in
-    let answered = c.in_ok-answer_any_search.ensures in
-    record { answer = (front.0, answered.0, front.1, inl (Search asked.fields, front.2, answered.1), answered.2); cached = c.requires.cached }
+    let answered = c.in_ok-answer_any_search.ensures.answer in
+    record { answer = (front.0, answered.0, front.1, inl (Search asked.fields, front.2, answered.1), answered.2); cached = c.in_ok-answer_any_search.ensures.cached }
 
 pub returns-in-Some-read_meeting_line : goal.returns-in-Some-read_meeting_line
 returns-in-Some-read_meeting_line g c =
@@ -44,5 +44,5 @@ returns-clause-answer g c =
       codes "E Line" ∷ [],
       line.1,
       inr (no_query line.0 (λ u n is. no_time u n _ (line.0, line.1, is)) (λ f is. no_search f _ (line.0, line.1, is)) (λ count f is. no_meeting count f _ (line.0, line.1, is)), refl),
-      ap (λ page. c.args.output.now.answers.items ++ page) c.push.ensures.text ∙ sym (append_assoc c.args.output.now.answers.items c.args.output.now.page (ended (codes "E Line" ∷ []))),
+      c.in_ok-push_error.ensures,
     )

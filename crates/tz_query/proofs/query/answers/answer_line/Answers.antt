@@ -27,9 +27,6 @@ returns-in-Some-read_usual_search_line g c =
       cached = c.in_ok-answer_search.ensures.cached;
     }
 
-pub answer_time-requires-clause-near : goal.answer_time-requires-clause-near
-answer_time-requires-clause-near g c = let fits : SFits w64 c.in-Some.unix_time = search rules in rw (to_z-of_z w64 c.in-Some.unix_time fits) c.in-Some.ensures.bound
-
 pub answer_time-requires-clause-digits : goal.answer_time-requires-clause-digits
 answer_time-requires-clause-digits g c = let (n, few, digits, front) = c.in-Some.ensures.line in (n, few, digits)
 

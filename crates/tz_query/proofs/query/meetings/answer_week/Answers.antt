@@ -33,10 +33,10 @@ returns-in-Some-clause-answer g c =
     let few = few_of_week c.args.first.now f c.args.weeks c.args.nine.now c.in-Some.ensures.some c.requires.few in
     let digits = digits_of_week c.args.first.now f c.args.weeks c.args.nine.now c.in-Some.ensures.some c.requires.digits in
     IfOk-weaker c.answer_search.result _ _
-    (λ done (answer, is, text). (answer, inl (f, c.in-Some.ensures.inside, c.in-Some.ensures.some, is), text ∙ ap (λ was. was ++ ended answer) c.in_ok-make_room.ensures.text))
+    (λ done (answer, is, text). (answer, inl (f, c.in-Some.ensures.inside, c.in-Some.ensures.some, is), text))
     (c.answer_search.ensures.answer f.nanoseconds few digits)
 
 pub returns-in-None-clause-answer : goal.returns-in-None-clause-answer
 returns-in-None-clause-answer g c =
     let answer : List (List ℕ) = codes "E OutOfRange" ∷ [] in
-    IfOk-weaker c.push_error.result _ _ (λ done text. (answer, inr (c.in-None.ensures.none, refl), text ∙ ap (λ was. was ++ ended answer) c.in_ok-make_room.ensures.text)) c.push_error.ensures
+    IfOk-weaker c.push_error.result _ _ (λ done text. (answer, inr (c.in-None.ensures.none, refl), text)) c.push_error.ensures

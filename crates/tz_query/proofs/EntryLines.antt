@@ -1,0 +1,65 @@
+-- The lines of what is found, and its nanoseconds.
+use Rattle.std.proofs.Common.{◌≡◌, ℕ, ◌<◌, Bool, true, false, List, [], ◌∷◌, ◌++◌, get_or, inl, refl, sym, ap, ◌∙◌, subst, arith, append_assoc, ℤ}
+use Rattle.std.specs.Prelude.{codes, MatchBool}
+use Rattle.std.specs.Fmt.{decimal}
+use Rattle.std.specs.List.{All}
+use Rattle.std.proofs.lemmas.Fmt.{decimal_digit}
+use Rattle.tz_base.specs.declared.calendar.Fields.{Fields}
+use Rattle.tz_base.specs.Fields.{IsValid, reading}
+use Rattle.tz_rule.specs.LocalTimeType.{LocalTimeType}
+use Rattle.tz_zone.specs.Clock.{IsClock}
+use Rattle.tz_zone.specs.Table.{Zone}
+use Rattle.tz.specs.DateTimes.{DateTime}
+use Rattle.tz.specs.Found.{CanBeMade, Clock, IsFound, IsFoundBy}
+use Rattle.tz.specs.Resolutions.{AreEntriesOf, IsResolution}
+use Rattle.tz.specs.Walks.{moment_of}
+use Rattle.tz.specs.declared.datetime.found.FoundDateTimeKind.{FoundDateTimeKind}
+use Rattle.tz.specs.declared.datetime.found.FoundDateTimeKind.TheVariants.{Normal, Skipped}
+use Rattle.tz.specs.declared.datetime.resolution.Resolution.{Resolution}
+use Rattle.tz.proofs.UniqueLists.{each_from_list}
+use Rattle.tz_query.specs.Answers.{found_lines, IsSearchAnswer}
+use Rattle.tz_query.specs.Entries.{HasNanoseconds}
+use Rattle.tz_query.specs.Lines.{ended}
+use Rattle.tz_query.proofs.PageLines.{same_fields, valid_with}
+
+-- the lines of one date time, of two, and of a jump
+pub lines_of_one : (text : List ℕ) → ended ((codes "F " ++ decimal 1) ∷ (codes "N " ++ text) ∷ []) ≡ 70 ∷ 32 ∷ 49 ∷ 10 ∷ 78 ∷ 32 ∷ (text ++ 10 ∷ [])
+lines_of_one text = ap (λ count. ended ((codes "F " ++ count) ∷ (codes "N " ++ text) ∷ [])) (decimal_digit 1 (omega arith))
+
+pub lines_of_two : (x y : List ℕ) → ended ((codes "F " ++ decimal 2) ∷ (codes "N " ++ x) ∷ (codes "N " ++ y) ∷ []) ≡ 70 ∷ 32 ∷ 50 ∷ 10 ∷ 78 ∷ 32 ∷ ((x ++ 10 ∷ []) ++ 78 ∷ 32 ∷ (y ++ 10 ∷ []))
+lines_of_two x y =
+    ap (λ count. ended ((codes "F " ++ count) ∷ (codes "N " ++ x) ∷ (codes "N " ++ y) ∷ [])) (decimal_digit 2 (omega arith))
+    ∙ ap (λ bytes. 70 ∷ 32 ∷ 50 ∷ 10 ∷ 78 ∷ 32 ∷ bytes) (sym (append_assoc x (10 ∷ []) (78 ∷ 32 ∷ (y ++ 10 ∷ []))))
+
+pub lines_of_jump : (x y : List ℕ) → ended ((codes "F " ++ decimal 1) ∷ (codes "S " ++ (x ++ 32 ∷ y)) ∷ []) ≡ 70 ∷ 32 ∷ 49 ∷ 10 ∷ 83 ∷ 32 ∷ (x ++ 32 ∷ (y ++ 10 ∷ []))
+lines_of_jump x y =
+    ap (λ count. ended ((codes "F " ++ count) ∷ (codes "S " ++ (x ++ 32 ∷ y)) ∷ [])) (decimal_digit 1 (omega arith))
+    ∙ ap (λ bytes. 70 ∷ 32 ∷ 49 ∷ 10 ∷ 83 ∷ 32 ∷ bytes) (append_assoc x (32 ∷ y) (10 ∷ []))
+
+-- a date time is made of its parts, its nanoseconds put in once more
+pub made_again : (d : DateTime) (f : Fields) (t : LocalTimeType) (n : ℕ) → f ≡ d.fields → t ≡ d.local_time_type → d.fields.nanoseconds ≡ n → moment_of (record f { nanoseconds = n }) t d.unix_time ≡ d
+made_again d f t n fields_are type_is few =
+    ap (λ (g : Fields). moment_of (record g { nanoseconds = n }) t d.unix_time) fields_are
+    ∙ ap (λ (g : Fields). moment_of g t d.unix_time) (same_fields d.fields n few)
+    ∙ ap (λ (s : LocalTimeType). moment_of d.fields s d.unix_time) type_is
+
+-- what is found has the nanoseconds of the fields
+each_has : (clock : Clock) (f : Fields) (e : FoundDateTimeKind) → IsFoundBy clock f e → HasNanoseconds f.nanoseconds e
+each_has clock f (Normal d) (fields_are, shows) = ap (λ (g : Fields). g.nanoseconds) fields_are
+each_has clock f (Skipped before after) (u, a, b, passes, first, second) = (first.civil.nanoseconds_are, second.civil.nanoseconds_are)
+
+pub found_nanoseconds : (clock : Clock) (f : Fields) (found : List FoundDateTimeKind) → IsFound clock f found → All (HasNanoseconds f.nanoseconds) found
+found_nanoseconds clock f found is = λ k e within. each_has clock f (get_or found k e) (is.sound k e within)
+
+-- the lines of what a reading means are the answer
+pub answered_by : (z : Zone) (f : Fields) (n : ℕ) (r : ℤ) (resolution : Resolution) (found : List FoundDateTimeKind) → n < 1000000000 → IsValid f → reading f ≡ r → IsResolution (IsClock z) r resolution →
+    AreEntriesOf (record f { nanoseconds = n }) resolution found → All CanBeMade found → IsSearchAnswer z (record f { nanoseconds = n }) (found_lines found)
+answered_by z f n r resolution found few valid is resolves entries made =
+    let g : Fields = record f { nanoseconds = n } in
+    let list : IsFound (IsClock z) g found = resolves.all g is found entries in
+    inl (found, valid_with f n few valid, list, each_from_list (IsClock z) g found list made, refl)
+
+-- what holds in either case
+pub either_way : (b : Bool) (P Q P' Q' : Type 0) → (P → P') → (Q → Q') → MatchBool b P Q → MatchBool b P' Q'
+either_way true P Q P' Q' first second holds = first holds
+either_way false P Q P' Q' first second holds = second holds

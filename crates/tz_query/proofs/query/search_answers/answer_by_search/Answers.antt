@@ -1,0 +1,58 @@
+-- What is found, or the name of a refusal.
+use Rattle.std.proofs.Common.{◌≡◌, ◌∷◌, [], ◌++◌, inl, inr, refl, sym, ap, subst, ◌∙◌, rules}
+use Rattle.std.specs.Prelude.{codes}
+use Rattle.std.proofs.lemmas.Result.{IfOk-weaker}
+use Rattle.tz_base.specs.declared.error.TzError.TheVariants.{DateTime, OutOfRange}
+use Rattle.tz_zone.specs.Clock.{IsClock}
+use Rattle.tz_zone.specs.ZoneRef.{zone_of}
+use Rattle.tz.specs.Lists.{found_of}
+use Rattle.std.specs.List.{All}
+use Rattle.tz_query.specs.Entries.{HasNanoseconds}
+use Rattle.tz_query.specs.Lines.{ended}
+use Rattle.tz_query.specs.Answers.{found_lines, field_fault_text}
+use Rattle.tz_query.specs.Outputs.{written}
+use Rattle.tz_query.proofs.AnswerLines.{told_field_fault, told_out_of_range}
+use Rattle.tz_query.proofs.EntryLines.{found_nanoseconds}
+use Rattle.tz_query.proofs.query.search_answers.answer_by_search.Goals as goal
+
+pub returns-in-Ok : goal.returns-in-Ok
+returns-in-Ok g c n digits =
+    let was = written c.args.output.now in
+    let found = found_of c.in-Ok.list in
+    let valid = rw (c.number_of_nine.ensures n digits.0 digits.1) at c.in-Ok.ensures.valid in
+    let is = rw (c.number_of_nine.ensures n digits.0 digits.1) at c.in-Ok.ensures.ok in
+    let made = rw (c.number_of_nine.ensures n digits.0 digits.1) at c.in-Ok.ensures.made in
+    let same : c.deref.result.now ≡ found = c.deref.ensures.value ∙ c.into_inner.ensures in
+    IfOk-weaker c.push_found.result _ _
+    (λ done items. (found_lines found, inl (found, valid, is, made, refl), items ∙ ap (λ es. was ++ ended (found_lines es)) same))
+    c.push_found.ensures
+
+pub returns-in-Err-DateTime : goal.returns-in-Err-DateTime
+returns-in-Err-DateTime g c n digits =
+    let was = written c.args.output.now in
+    let fault = c.in-Err-DateTime.fault in
+    let error : c.in-Err-DateTime.field-0 ≡ DateTime fault = search rules in
+    let refused = rw (c.in-Err-DateTime.is, error, c.number_of_nine.ensures n digits.0 digits.1) at c.find_fields.ensures.err in
+    IfOk-weaker c.push_error.result _ _
+    (λ done items. (
+      (codes "E " ++ field_fault_text fault) ∷ [],
+      inr (DateTime fault, field_fault_text fault, told_field_fault (IsClock (zone_of c.args.zone.now)) (record c.args.fields { nanoseconds = n }) fault refused, refl, refl),
+      items ∙ ap (λ name. was ++ ended ((codes "E " ++ name) ∷ [])) c.field_fault_name.ensures.text,
+    ))
+    c.push_error.ensures
+
+pub returns-in-Err-OutOfRange : goal.returns-in-Err-OutOfRange
+returns-in-Err-OutOfRange g c n digits =
+    let error : c.in-Err-OutOfRange.field-0 ≡ OutOfRange = search rules in
+    let refused = rw (c.in-Err-OutOfRange.is, error, c.number_of_nine.ensures n digits.0 digits.1) at c.find_fields.ensures.err in
+    IfOk-weaker c.push_error-in-Err-OutOfRange.result _ _
+    (λ done items. (codes "E OutOfRange" ∷ [], inr (OutOfRange, codes "OutOfRange", told_out_of_range (IsClock (zone_of c.args.zone.now)) (record c.args.fields { nanoseconds = n }) refused, refl, refl), items))
+    c.push_error-in-Err-OutOfRange.ensures
+
+pub push_found-requires : goal.push_found-requires
+push_found-requires g c =
+    let (n, digits) = c.requires in
+    let is = rw (c.number_of_nine.ensures n digits.0 digits.1) at c.in-Ok.ensures.ok in
+    let found = found_of c.in-Ok.list in
+    let all = found_nanoseconds (IsClock (zone_of c.args.zone.now)) (record c.args.fields { nanoseconds = n }) found is in
+    (n, digits, subst (All (HasNanoseconds n)) (sym (c.deref.ensures.value ∙ c.into_inner.ensures)) all)
