@@ -375,3 +375,59 @@ fn lines_around_jumps_at_the_year_s_end_are_answered_alike(rt: HostRuntime) -> R
     let queries = lines_around(rt.alloc(), &INSTANTS, &[0, 3601])?;
     expect_alike_over_zones(&rt, rt.alloc(), &queries)
 }
+
+/// The name of a type by its number. Types with the same offset have different names.
+fn name_of(number: u8) -> &'static [u8] {
+    static NAMES: [&[u8]; 3] = [b"AAA", b"AAB", b"AAAA"];
+    NAMES[usize::from(number % 3)]
+}
+
+/// Sixty types of twenty offsets, more than a run of queries keeps suffixes of.
+fn many_types(alloc: Global) -> Result<Vec<LocalTimeType>, TzError> {
+    let mut types = Vec::new(alloc);
+    for number in 0..60u8 {
+        let offset = i32::from(number / 3).wrapping_mul(900).wrapping_sub(9000);
+        types.push(LocalTimeType::new(offset, number % 2 == 1, Some(name_of(number)))?)?;
+    }
+    Ok(types)
+}
+
+/// The instant of the transition to a type in a zone of many types.
+fn instant_of(number: u8) -> i64 {
+    instant_at(4_000_000, i64::from(number))
+}
+
+/// A transition to each of many types.
+fn transitions_to_each(alloc: Global) -> Result<Vec<Transition>, AllocError> {
+    let mut transitions = Vec::new(alloc);
+    for number in 0..60u8 {
+        transitions.push(Transition::new(instant_of(number), usize::from(number)))?;
+    }
+    Ok(transitions)
+}
+
+/// `T` lines in each of many types, first in order and then with many types between two neighbours, and `F` lines around each transition.
+fn lines_of_many_types(alloc: Global) -> Result<Vec<u8, Global>, TzError> {
+    let mut queries = Vec::new(alloc);
+    for step in 0..120u8 {
+        let number = if step < 60 {
+            step
+        } else {
+            (u16::from(step) * 37 % 60) as u8
+        };
+        let unix_time = instant_of(number);
+        let lines = format!(in alloc; "T {unix_time} 5\nT {} 6\n", unix_time.wrapping_add(60))?;
+        queries.extend_from_slice(lines.as_bytes())?;
+        push_lines_around(alloc, &mut queries, unix_time, &[0])?;
+    }
+    Ok(queries)
+}
+
+#[test]
+fn lines_of_many_types_are_answered_alike(rt: HostRuntime) -> Result<(), Fail> {
+    let types = many_types(rt.alloc())?;
+    let transitions = transitions_to_each(rt.alloc())?;
+    let zone = TimeZoneRef::new(&transitions, &types, &[], &None)?;
+    let queries = lines_of_many_types(rt.alloc())?;
+    expect_alike(&rt, rt.alloc(), zone, &queries)
+}

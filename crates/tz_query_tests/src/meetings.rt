@@ -100,7 +100,7 @@ fn each_growth_of_a_meeting_can_be_refused(rt: HostRuntime) -> Result<(), Fail> 
         zone.as_ref(),
         OVER_A_JUMP.as_bytes(),
         JUMPED.as_bytes(),
-        3..40,
+        2..40,
     );
     Ok(())
 }

@@ -330,20 +330,20 @@ fn needed(alloc: Global, arguments: &[&str], answer: &str) -> Result<Option<u64>
 
 /// Options with their values, the answer, and the least number of growths that it needs.
 static NEEDS: [(&str, &str, &str, u64); 5] = [
-    ("-o", "0", "0|1970-01-01T00:00:00.000000000Z -\n|", 3),
-    ("-f", "/utc", "0|1970-01-01T00:00:00.000000000Z UTC\n|", 3),
-    ("-z", "/utc", "0|1970-01-01T00:00:00.000000000Z UTC\n|", 3),
+    ("-o", "0", "0|1970-01-01T00:00:00.000000000Z -\n|", 2),
+    ("-f", "/utc", "0|1970-01-01T00:00:00.000000000Z UTC\n|", 2),
+    ("-z", "/utc", "0|1970-01-01T00:00:00.000000000Z UTC\n|", 2),
     (
         "-z",
         "Zone/UTC",
         "0|1970-01-01T00:00:00.000000000Z UTC\n|",
-        3,
+        2,
     ),
     (
         "-z",
         "HST10",
         "0|1969-12-31T14:00:00.000000000-10:00 HST\n|",
-        5,
+        4,
     ),
 ];
 

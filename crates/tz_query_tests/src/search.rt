@@ -409,6 +409,6 @@ fn refused_memory_changes_no_answer(rt: HostRuntime) {
         TimeZoneRef::utc(),
         b"F 2000 1 1 0 0 0 0\nT 0\n",
         b"F 1\nN 2000-01-01T00:00:00.000000000Z -\nE Line\n",
-        2..20,
+        1..20,
     );
 }
