@@ -1,6 +1,6 @@
 //! Answers of fields.
 
-ghost use Rattle.std.specs.Prelude.{◌≡◌, ◌<◌, ◌++◌, ◌∷◌, [], ℕ, List, map, IfOk, MatchBool};
+ghost use Rattle.std.specs.Prelude.{◌≡◌, ◌<◌, ◌++◌, ◌∷◌, [], ℕ, ℤ, List, map, IfOk, MatchBool};
 ghost use Rattle.std.specs.List.{All};
 ghost use Rattle.tz_base.specs.Fields.{IsValid};
 ghost use Rattle.tz_zone.specs.ZoneRef.{zone_of};
@@ -8,8 +8,9 @@ ghost use Rattle.tz.specs.DateTimes.{DateTime, ShowsInstant};
 ghost use Rattle.tz.specs.Found.{CanBeMade};
 ghost use Rattle.tz.specs.PrintedText.{nine_digits};
 ghost use Rattle.tz.specs.Resolutions.{AreEntriesOf};
+ghost use Rattle.tz.specs.Walks.{moment_of};
 ghost use Rattle.tz.specs.declared.datetime.found.FoundDateTimeKind.{FoundDateTimeKind};
-ghost use Rattle.tz.specs.declared.datetime.found.FoundDateTimeKind.TheVariants.{Skipped as SkippedKind};
+ghost use Rattle.tz.specs.declared.datetime.found.FoundDateTimeKind.TheVariants.{Normal as Shown, Skipped as SkippedKind};
 ghost use Rattle.tz_query.specs.Answers.{entry_text, found_lines, IsSearchAnswer};
 ghost use Rattle.tz_query.specs.Caches.{IsCacheOf};
 ghost use Rattle.tz_query.specs.Entries.{HasNanoseconds};
@@ -158,6 +159,26 @@ fn push_jump<A: Allocator>(
     true
 }
 
+/// Writes the answer lines of fields that a clock shows in two types.
+#[inline(never)]
+fn push_twice<A: Allocator>(
+    output: &mut Output<A>,
+    suffixes: &mut Suffixes,
+    fields: &Fields,
+    nine: &[u8; 9],
+    before: &LocalTimeType,
+    after: &LocalTimeType,
+)
+    requires room { HasRoom output.old.page }
+    requires valid { IsValid fields.now }
+    requires digits { (n : ℕ) × AreDigitsOf n nine.now }
+    ensures { (n : ℕ) → AreDigitsOf n nine.now → (u v : ℤ) → written output.new ≡ written output.old ++ ended (found_lines
+        (Shown (moment_of (record fields.now { nanoseconds = n }) before.now u) ∷ Shown (moment_of (record fields.now { nanoseconds = n }) after.now v) ∷ [])) }
+{
+    push_shown(&mut output.page, b"F 2\nN ", suffixes, fields, before, nine);
+    push_shown(&mut output.page, b"N ", suffixes, fields, after, nine);
+}
+
 /// Writes the answer lines of fields by what they mean, unless a side of a jump is in no year of 32 bits.
 #[inline(always)]
 fn push_resolution<A: Allocator>(
@@ -174,14 +195,20 @@ fn push_resolution<A: Allocator>(
         × (written output.new ≡ written output.old ++ ended (found_lines found))) (written output.new ≡ written output.old)) }
 {
     output.make_room()?;
-    let page = &mut output.page;
     match *resolution {
         Resolution::Once(_, local_time_type) => {
-            push_shown(page, b"F 1\nN ", suffixes, fields, local_time_type, nine);
+            let front = b"F 1\nN ";
+            push_shown(
+                &mut output.page,
+                front,
+                suffixes,
+                fields,
+                local_time_type,
+                nine,
+            );
         }
         Resolution::Twice(_, before, _, after) => {
-            push_shown(page, b"F 2\nN ", suffixes, fields, before, nine);
-            push_shown(page, b"N ", suffixes, fields, after, nine);
+            push_twice(output, suffixes, fields, nine, before, after);
         }
         Resolution::Skipped {
             unix_time,

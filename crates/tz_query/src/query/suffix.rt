@@ -39,6 +39,14 @@ impl Suffix {
         }
     }
 
+    /// Makes it the suffix of lines of another type.
+    #[inline(never)]
+    pub fn become_that_of(&mut self, local_time_type: &LocalTimeType)
+        ensures { self.new.local_time_type ≡ local_time_type.now }
+    {
+        *self = Suffix::new(*local_time_type);
+    }
+
     /// The bytes, with those after the end of the text.
     #[inline(always)]
     pub fn bytes(&self) -> [u8; 32]

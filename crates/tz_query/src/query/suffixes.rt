@@ -43,7 +43,7 @@ impl Suffixes {
     {
         let place = place_of(local_time_type);
         if self.kept[place].local_time_type() != *local_time_type {
-            self.kept[place] = Suffix::new(*local_time_type);
+            self.kept[place].become_that_of(local_time_type);
         }
         let kept = &self.kept;
         &kept[place]

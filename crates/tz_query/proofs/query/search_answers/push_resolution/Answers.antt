@@ -13,7 +13,7 @@ use Rattle.tz.specs.declared.datetime.found.FoundDateTimeKind.TheVariants.{Norma
 use Rattle.tz_query.specs.Answers.{found_lines, moment_text}
 use Rattle.tz_query.specs.Lines.{ended}
 use Rattle.tz_query.specs.Outputs.{written}
-use Rattle.tz_query.proofs.EntryLines.{either_way, lines_of_one, lines_of_two}
+use Rattle.tz_query.proofs.EntryLines.{either_way, lines_of_one}
 use Rattle.tz_query.proofs.query.search_answers.push_resolution.Goals as goal
 
 pub returns-in-Once : goal.returns-in-Once
@@ -41,19 +41,11 @@ returns-in-Twice g c n digits =
     let v = c.in-Twice.field-2 in
     let x : DateTime = moment_of f c.in-Twice.before.now u in
     let y : DateTime = moment_of f c.in-Twice.after.now v in
-    let found = Normal x ∷ Normal y ∷ [] in
-    let items = c.make_room.new.self.answers.items in
-    let page = c.make_room.new.self.page in
-    let first = 70 ∷ 32 ∷ 50 ∷ 10 ∷ 78 ∷ 32 ∷ (moment_text x ++ 10 ∷ []) in
-    let second = 78 ∷ 32 ∷ (moment_text y ++ 10 ∷ []) in (
+    let found = Normal x ∷ Normal y ∷ [] in (
       found,
       subst (λ resolution. AreEntriesOf f resolution found) (sym c.in-Twice.is) refl,
       All-cons CanBeMade (Normal x) (Normal y ∷ []) tt (All-cons CanBeMade (Normal y) [] tt (All-nil CanBeMade)),
-      ap (λ bytes. items ++ bytes)
-          (c.push_shown-in-Twice-2.ensures.text n digits v ∙ ap (λ bytes. bytes ++ second) (c.push_shown-in-Twice.ensures.text n digits u) ∙ append_assoc page first second)
-          ∙ sym (append_assoc items page (first ++ second))
-          ∙ ap (λ bytes. bytes ++ (first ++ second)) c.in_ok-make_room.ensures.text
-          ∙ ap (λ bytes. written c.args.output.now ++ bytes) (sym (lines_of_two (moment_text x) (moment_text y))),
+      c.push_twice.ensures n digits u v ∙ ap (λ was. was ++ ended (found_lines found)) c.in_ok-make_room.ensures.text,
     )
 
 pub returns-in-Skipped : goal.returns-in-Skipped
