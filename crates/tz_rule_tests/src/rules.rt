@@ -15,6 +15,7 @@ use tz_rule::timezone::{
 };
 use tz_samples::rules::Day::{self, Julian0 as Z, Julian1 as J, Month as M};
 use tz_samples::rules::day_of;
+use tz_samples::utc;
 
 /// Why a rule of a test is not made.
 #[derive(Clone, Copy, Debug, PartialEq, Eq)]
@@ -82,14 +83,19 @@ static AUCKLAND: Parts = (43_200, 46_800, (M(10, 1, 0), 7200), (M(3, 3, 0), 7200
 
 #[test]
 fn all_year_is_daylight(rt: HostRuntime) {
-    static INSTANTS: [i64; 3] = [946_701_000, 946_702_799, 946_702_800];
+    static INSTANTS: [i64; 3] = [
+        utc!(2000-01-01 04:30:00),
+        utc!(2000-01-01 04:59:59),
+        utc!(2000-01-01 05:00:00),
+    ];
     static SECOND: Parts = (0, 3600, (J(1), 0), (J(365), 172_800));
     let first = rule(ALL_YEAR);
     for unix_time in &INSTANTS {
         expect_type_at(&rt, &first, *unix_time, (-14_400, true));
     }
     let second = rule(SECOND);
-    expect_eq(&rt, &type_at(&second, 978_305_400), &Some((3600, true)));
+    const LAST_HALF_HOUR: i64 = utc!(2000-12-31 23:30:00);
+    expect_type_at(&rt, &second, LAST_HALF_HOUR, (3600, true));
 }
 
 /// The rule has no type at the first instant and at the last one.
@@ -155,13 +161,14 @@ fn values_print_their_parts(rt: HostRuntime) -> Result<(), Fail> {
 fn the_pairing_is_the_rules(rt: HostRuntime) {
     static TIE: Parts = (0, 0, (J(60), 0), (Z(59), 0));
     let tie = rule(TIE);
-    expect_eq(&rt, &type_at(&tie, 978_307_200), &Some((0, true)));
+    const NEW_YEAR_2001: i64 = utc!(2001-01-01 00:00:00);
+    expect_type_at(&rt, &tie, NEW_YEAR_2001, (0, true));
 
     static TIE_ACROSS_YEARS: Parts = (0, 0, (Z(59), 0), (J(60), 0));
     static ACROSS_YEARS: [(i64, bool); 3] = [
-        (951_782_400, true),
-        (951_868_800, false),
-        (983_404_800, false),
+        (utc!(2000-02-29 00:00:00), true),
+        (utc!(2000-03-01 00:00:00), false),
+        (utc!(2001-03-01 00:00:00), false),
     ];
     let tie_across_years = rule(TIE_ACROSS_YEARS);
     for &(unix_time, is_dst) in ACROSS_YEARS.iter() {
@@ -172,10 +179,10 @@ fn the_pairing_is_the_rules(rt: HostRuntime) {
 #[test]
 fn offsets_of_zones(rt: HostRuntime) {
     static IN_AUCKLAND: [(i64, i32); 4] = [
-        (953_384_399, 46_800),
-        (953_384_400, 43_200),
-        (970_322_399, 43_200),
-        (970_322_400, 46_800),
+        (utc!(2000-03-18 12:59:59), 46_800),
+        (utc!(2000-03-18 13:00:00), 43_200),
+        (utc!(2000-09-30 13:59:59), 43_200),
+        (utc!(2000-09-30 14:00:00), 46_800),
     ];
     let auckland = rule(AUCKLAND);
     for &(unix_time, offset) in IN_AUCKLAND.iter() {
@@ -185,10 +192,10 @@ fn offsets_of_zones(rt: HostRuntime) {
     static DUBLIN: Parts = (3600, 0, (M(10, 5, 0), 7200), (M(3, 5, 0), 3600));
     static NUUK: Parts = (-10_800, -7200, (M(3, 5, 0), -7200), (M(10, 5, 0), -3600));
     static IN_DUBLIN_AND_NUUK: [(i64, i32, i32); 4] = [
-        (954_032_399, 0, -10_800),
-        (954_032_400, 3600, -7200),
-        (972_781_199, 3600, -7200),
-        (972_781_200, 0, -10_800),
+        (utc!(2000-03-26 00:59:59), 0, -10_800),
+        (utc!(2000-03-26 01:00:00), 3600, -7200),
+        (utc!(2000-10-29 00:59:59), 3600, -7200),
+        (utc!(2000-10-29 01:00:00), 0, -10_800),
     ];
     let dublin = rule(DUBLIN);
     let nuuk = rule(NUUK);
@@ -202,10 +209,10 @@ fn offsets_of_zones(rt: HostRuntime) {
 fn short_gaps_and_none(rt: HostRuntime) {
     static GAP: Parts = (0, 0, (Z(100), 0), (Z(101), -86_500));
     static IN_GAP: [(i64, bool); 4] = [
-        (8_639_899, true),
-        (8_639_900, false),
-        (8_639_999, false),
-        (8_640_000, true),
+        (utc!(1970-04-10 23:58:19), true),
+        (utc!(1970-04-10 23:58:20), false),
+        (utc!(1970-04-10 23:59:59), false),
+        (utc!(1970-04-11 00:00:00), true),
     ];
     let gap = rule(GAP);
     for &(unix_time, is_dst) in IN_GAP.iter() {
@@ -215,12 +222,12 @@ fn short_gaps_and_none(rt: HostRuntime) {
     static NEVER: Parts = (0, 3600, (J(365), 89_999), (Z(0), 7198));
     static ALWAYS: Parts = (0, 0, (Z(0), 0), (J(365), 89_999));
     static NEAR_NEW_YEAR: [i64; 6] = [
-        946_684_798,
-        946_684_799,
-        946_688_397,
-        946_688_398,
-        946_688_399,
-        946_688_400,
+        utc!(1999-12-31 23:59:58),
+        utc!(1999-12-31 23:59:59),
+        utc!(2000-01-01 00:59:57),
+        utc!(2000-01-01 00:59:58),
+        utc!(2000-01-01 00:59:59),
+        utc!(2000-01-01 01:00:00),
     ];
     let never = rule(NEVER);
     let always = rule(ALWAYS);
@@ -233,12 +240,12 @@ fn short_gaps_and_none(rt: HostRuntime) {
 #[test]
 fn starts(rt: HostRuntime) {
     static STARTS: [(At, i32, i64); 6] = [
-        ((J(60), 43_200), 2000, 951_912_000),
-        ((Z(59), 43_200), 2000, 951_825_600),
-        ((M(2, 5, 2), 43_200), 2000, 951_825_600),
-        ((M(2, 5, 2), 43_200), 2001, 983_275_200),
-        ((Z(365), 0), 2000, 978_220_800),
-        ((Z(365), 0), 1999, 946_684_800),
+        ((J(60), 43_200), 2000, utc!(2000-03-01 12:00:00)),
+        ((Z(59), 43_200), 2000, utc!(2000-02-29 12:00:00)),
+        ((M(2, 5, 2), 43_200), 2000, utc!(2000-02-29 12:00:00)),
+        ((M(2, 5, 2), 43_200), 2001, utc!(2001-02-27 12:00:00)),
+        ((Z(365), 0), 2000, utc!(2000-12-31 00:00:00)),
+        ((Z(365), 0), 1999, utc!(2000-01-01 00:00:00)),
     ];
     for &(start, year, instant) in STARTS.iter() {
         expect_eq(&rt, &start_in(start, year), &Some(instant));
@@ -403,12 +410,14 @@ fn expect_days(rt: &impl Abort) {
 
 /// The start and the end of a rule of the south, and the segment between them.
 fn expect_ends_of_auckland(rt: &impl Abort, auckland: &AlternateTime) {
-    expect_eq(rt, &inner::start(auckland, 2000), &970_322_400);
-    expect_eq(rt, &inner::end(auckland, 2000), &953_384_400);
+    const START: i64 = utc!(2000-09-30 14:00:00);
+    const END: i64 = utc!(2000-03-18 13:00:00);
+    expect_eq(rt, &inner::start(auckland, 2000), &START);
+    expect_eq(rt, &inner::end(auckland, 2000), &END);
     // Daylight saving time that starts in 2000 ends in 2001.
     let rule = TransitionRule::Alternate(*auckland);
-    let found = inner::segment_at(&rule, 970_322_400);
-    let wanted = (970_322_400, inner::end(auckland, 2001).wrapping_sub(1));
+    let found = inner::segment_at(&rule, START);
+    let wanted = (START, inner::end(auckland, 2001).wrapping_sub(1));
     expect_eq(rt, &(found.from, found.last), &wanted);
 }
 

@@ -1,9 +1,10 @@
-//! What several test crates use: rules, date times, zones and files, and an allocator that refuses.
+//! What several test crates use: instants, rules, date times, zones and files, and an allocator that refuses.
 #![tactic(auto)]
 
 pub mod date_times;
 pub mod faults;
 pub mod files;
+pub mod instants;
 pub mod refusing;
 pub mod rules;
 pub mod tz_strings;

@@ -6,12 +6,16 @@ use std::process::Abort;
 use tz_rule::inner;
 use tz_rule::timezone::{AlternateTime, LocalTimeType, TransitionRule};
 use tz_samples::rules::Day::{Julian0 as Z, Julian1 as J, Month as M};
+use tz_samples::utc;
 
 /// The first and the last instant of a segment, and whether it has daylight saving time.
 type Found = (i64, i64, Option<bool>);
 
-/// 00:00 UTC of January 1st of the first year in which rules answer, which is -2147483646, and of the first year after those, 2147483646.
-const ANSWERED: (i64, i64) = (-67_768_100_504_812_800, 67_767_976_170_460_800);
+/// The first moments of the first year in which rules answer, and of the first year after those.
+const ANSWERED: (i64, i64) = (
+    utc!(-2147483646-01-01 00:00:00),
+    utc!(2147483646-01-01 00:00:00),
+);
 
 /// Whether the rule has daylight saving time at an instant.
 fn is_daylight_at(rule: &TransitionRule, unix_time: i64) -> Option<bool> {
@@ -313,7 +317,12 @@ fn segments_are_true_second_by_second(rt: HostRuntime) {
         (0, 0, (J(365), 86_350), (J(365), 86_450)),
         (0, 0, (Z(365), 0), (Z(365), -100)),
     ];
-    static NEW_YEARS: [i64; 4] = [915_148_800, 946_684_800, 978_307_200, 1_009_843_200];
+    static NEW_YEARS: [i64; 4] = [
+        utc!(1999-01-01 00:00:00),
+        utc!(2000-01-01 00:00:00),
+        utc!(2001-01-01 00:00:00),
+        utc!(2002-01-01 00:00:00),
+    ];
     for parts in &RULES {
         let rule = TransitionRule::Alternate(expect_made(&rt, rule(*parts)));
         for new_year in &NEW_YEARS {
@@ -335,12 +344,12 @@ fn segments_at_the_ends_of_the_years(rt: HostRuntime) {
     let auckland = TransitionRule::Alternate(expect_made(&rt, rule(AUCKLAND)));
     let (first, past) = ANSWERED;
     let before = (i64::MIN, first.wrapping_sub(1), None);
-    static BEFORE: [i64; 3] = [i64::MIN, -70_000_000_000_000_000, -67_768_100_504_812_801];
+    static BEFORE: [i64; 3] = [i64::MIN, -70_000_000_000_000_000, ANSWERED.0 - 1];
     for unix_time in &BEFORE {
         expect_segment(&rt, &auckland, *unix_time, before);
     }
     let after = (past, i64::MAX, None);
-    static AFTER: [i64; 3] = [67_767_976_170_460_800, 70_000_000_000_000_000, i64::MAX];
+    static AFTER: [i64; 3] = [ANSWERED.1, 70_000_000_000_000_000, i64::MAX];
     for unix_time in &AFTER {
         expect_segment(&rt, &auckland, *unix_time, after);
     }
@@ -369,11 +378,15 @@ fn segments_of_a_summer_and_without_standard_time(rt: HostRuntime) {
     // Daylight saving time of 2024 in Paris.
     static PARIS: Parts = (3600, 7200, (M(3, 5, 0), 7200), (M(10, 5, 0), 10_800));
     let paris = TransitionRule::Alternate(expect_made(&rt, rule(PARIS)));
-    let summer = (1_711_846_800, 1_729_990_799, Some(true));
+    const SPRING: i64 = utc!(2024-03-31 01:00:00);
+    const AUTUMN: i64 = utc!(2024-10-27 01:00:00);
+    let summer = (SPRING, AUTUMN - 1, Some(true));
     expect_segment(&rt, &paris, 1_720_000_000, summer);
     // The segment of 2001, where the next one starts when it ends.
     let all_year = TransitionRule::Alternate(expect_made(&rt, rule(ALL_YEAR)));
-    let year = (978_325_200, 1_009_861_199, Some(true));
+    const START: i64 = utc!(2001-01-01 05:00:00);
+    const NEXT_START: i64 = utc!(2002-01-01 05:00:00);
+    let year = (START, NEXT_START - 1, Some(true));
     expect_segment(&rt, &all_year, 1_000_000_000, year);
 }
 
