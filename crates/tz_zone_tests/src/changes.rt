@@ -1,5 +1,9 @@
 //! Segments of clocks and their changes, by rows and beside a walk second by second.
 
+use crate::clocks::{
+    leap_seconds_from_the_fifth, leap_seconds_of_both_signs, three_types,
+    transitions_near_leap_seconds,
+};
 use crate::expect::{expect_eq, expect_eq_at};
 use std::process::Abort;
 use tz_base::error::TzError;
@@ -11,15 +15,6 @@ use tz_zone::timezone::{
 
 /// A change: its instant, and the offsets before it and from it on.
 type Row = (i64, i32, i32);
-
-/// Three types, which their offsets tell apart.
-fn three_types() -> Result<[LocalTimeType; 3], TzError> {
-    Ok([
-        LocalTimeType::new(0, false, Some(b"ZERO"))?,
-        LocalTimeType::new(3600, false, Some(b"CET"))?,
-        LocalTimeType::new(7200, true, Some(b"CEST"))?,
-    ])
-}
 
 /// The rule of `EST5EDT,0/0,J365/25`: daylight saving time all year.
 fn daylight_all_year() -> Result<TransitionRule, TzError> {
@@ -227,24 +222,9 @@ fn changes_at_both_ends(rt: HostRuntime) -> Result<(), TzError> {
 #[test]
 fn changes_over_leap_seconds(rt: HostRuntime) -> Result<(), TzError> {
     let types = three_types()?;
-    let leap_seconds = [
-        LeapSecond::new(3, -1),
-        LeapSecond::new(2_419_202, 0),
-        LeapSecond::new(4_838_401, 1),
-        LeapSecond::new(7_257_600, 0),
-        LeapSecond::new(9_676_799, 0),
-    ];
-    for moved in 0..7i64 {
-        // Leap times are left out and come twice here, so that several transitions take effect at one instant.
-        let transitions = [
-            Transition::new(moved, 1),
-            Transition::new(2_419_199 + moved, 2),
-            Transition::new(2_419_200 + moved, 0),
-            Transition::new(4_838_398 + moved, 1),
-            Transition::new(4_838_399 + moved, 2),
-            Transition::new(7_257_597 + moved, 2),
-            Transition::new(9_676_796 + moved, 0),
-        ];
+    let leap_seconds = leap_seconds_of_both_signs();
+    for later in 0..7u8 {
+        let transitions = transitions_near_leap_seconds(later);
         for extra_rule in [None, Some(TransitionRule::Fixed(types[0]))] {
             let zone = TimeZoneRef::new(&transitions, &types, &leap_seconds, &extra_rule)?;
             for instant in [0, 2_419_197, 4_838_396, 7_257_595, 9_676_794i64] {
@@ -260,10 +240,7 @@ fn changes_over_leap_seconds(rt: HostRuntime) -> Result<(), TzError> {
 fn changes_with_a_truncated_start(rt: HostRuntime) -> Result<(), TzError> {
     static ROWS: [Row; 1] = [(89_999_995, 7200, 3600)];
     let types = three_types()?;
-    let leap_seconds = [
-        LeapSecond::new(78_796_800, 5),
-        LeapSecond::new(94_694_401, 6),
-    ];
+    let leap_seconds = leap_seconds_from_the_fifth();
     let transitions = [
         Transition::new(1000, 1),
         Transition::new(78_796_799, 2),
@@ -336,7 +313,7 @@ fn changes_of_owned_zones(rt: HostRuntime) -> Result<(), TzError> {
 }
 
 /// The first and the last instant of a segment, and the offset through it.
-type Stretch = (i64, i64, Option<i32>);
+type SegmentRow = (i64, i64, Option<i32>);
 
 /// The offset at an instant, by a lookup.
 fn offset_at(zone: &TimeZoneRef<'_>, unix_time: i64) -> Option<i32> {
@@ -355,7 +332,7 @@ fn has_offset(zone: &TimeZoneRef<'_>, from: i64, last: i64, offset: Option<i32>)
 }
 
 /// Around an instant, and around each end of its segment, the segment is this, and would not be one with a second more at an end.
-fn expect_segment(rt: &impl Abort, zone: &TimeZoneRef<'_>, unix_time: i64, wanted: &Stretch) {
+fn expect_segment(rt: &impl Abort, zone: &TimeZoneRef<'_>, unix_time: i64, wanted: &SegmentRow) {
     let (from, last, offset) = *wanted;
     for time in [unix_time, from, last] {
         let segment = zone.segment_at(time);
@@ -381,13 +358,13 @@ fn expect_segment(rt: &impl Abort, zone: &TimeZoneRef<'_>, unix_time: i64, wante
 
 #[test]
 fn segments_are_no_second_too_long(rt: HostRuntime) -> Result<(), TzError> {
-    static BY_RULE: [Stretch; 4] = [
+    static BY_RULE: [SegmentRow; 4] = [
         (i64::MIN, 999_999, Some(0)),
         (1_000_000, 1_711_846_799, Some(3600)),
         (1_711_846_800, 1_729_990_799, Some(7200)),
         (1_729_990_800, 1_743_296_399, Some(3600)),
     ];
-    static BY_TABLE: [Stretch; 2] = [
+    static BY_TABLE: [SegmentRow; 2] = [
         (i64::MIN, 78_796_794, None),
         (78_796_795, 89_999_994, Some(7200)),
     ];
@@ -398,13 +375,10 @@ fn segments_are_no_second_too_long(rt: HostRuntime) -> Result<(), TzError> {
         Transition::new(1_711_846_800, 2),
     ];
     let zone = TimeZoneRef::new(&transitions, &types, &[], &rule)?;
-    for stretch in &BY_RULE {
-        expect_segment(&rt, &zone, stretch.0.midpoint(stretch.1), stretch);
+    for row in &BY_RULE {
+        expect_segment(&rt, &zone, row.0.midpoint(row.1), row);
     }
-    let leap_seconds = [
-        LeapSecond::new(78_796_800, 5),
-        LeapSecond::new(94_694_401, 6),
-    ];
+    let leap_seconds = leap_seconds_from_the_fifth();
     let transitions = [
         Transition::new(1000, 1),
         Transition::new(78_796_799, 2),
@@ -412,8 +386,8 @@ fn segments_are_no_second_too_long(rt: HostRuntime) -> Result<(), TzError> {
     ];
     let rule = Some(TransitionRule::Fixed(types[1]));
     let zone = TimeZoneRef::new(&transitions, &types, &leap_seconds, &rule)?;
-    for stretch in &BY_TABLE {
-        expect_segment(&rt, &zone, stretch.0, stretch);
+    for row in &BY_TABLE {
+        expect_segment(&rt, &zone, row.0, row);
     }
     Ok(())
 }
@@ -423,7 +397,7 @@ fn segments_of_a_rule_begin_at_the_effect_of_the_last_transition(
     rt: HostRuntime,
 ) -> Result<(), TzError> {
     // The last transition comes in the summer of 2024, which ends at 1729990800. That of 2025 begins at 1743296400.
-    static ROWS: [(i64, i64, Option<i32>); 6] = [
+    static ROWS: [SegmentRow; 6] = [
         (i64::MIN, 999_999_999, Some(0)),
         (1_000_000_000, 1_099_999_999, Some(3600)),
         (1_100_000_000, 1_199_999_999, Some(7200)),

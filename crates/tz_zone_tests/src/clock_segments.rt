@@ -4,6 +4,10 @@ ghost use Rattle.std.specs.Prelude.{ℤ, pos, ◌+ℤ◌, ◌<ℤ◌};
 ghost use Rattle.tz_zone.specs.ClockSegments.{IsSegmentAt};
 ghost use Rattle.tz_zone.specs.ZoneRef.{zone_of};
 
+use crate::clocks::{
+    leap_seconds_from_the_fifth, leap_seconds_of_both_signs, three_types,
+    transitions_near_leap_seconds,
+};
 use crate::expect::expect_eq_at;
 use std::alloc::Global;
 use std::process::Abort;
@@ -18,15 +22,6 @@ use tz_zone::timezone::{
 
 /// Up to this instant each one has a leap time.
 const SURELY_ANSWERED: i64 = 80_000_000_000_000_000;
-
-/// Three types, which their offsets tell apart.
-fn three_types() -> Result<[LocalTimeType; 3], TzError> {
-    Ok([
-        LocalTimeType::new(0, false, Some(b"ZERO"))?,
-        LocalTimeType::new(3600, false, Some(b"CET"))?,
-        LocalTimeType::new(7200, true, Some(b"CEST"))?,
-    ])
-}
 
 /// Southern time whose daylight saving time ends in the first days of January.
 fn to_january() -> Result<AlternateTime, TzError> {
@@ -192,10 +187,7 @@ fn segments_without_transitions(rt: HostRuntime) -> Result<(), TzError> {
         LeapSecond::new(78_796_800, 1),
         LeapSecond::new(94_694_401, 2),
     ];
-    let truncated = [
-        LeapSecond::new(78_796_800, 5),
-        LeapSecond::new(94_694_401, 6),
-    ];
+    let truncated = leap_seconds_from_the_fifth();
     for extra_rule in [
         None,
         Some(TransitionRule::Fixed(types[1])),
@@ -286,26 +278,11 @@ fn segments_of_transitions_at_both_ends(rt: HostRuntime) -> Result<(), TzError> 
 #[test]
 fn segments_over_leap_seconds_of_both_signs(rt: HostRuntime) -> Result<(), TzError> {
     let types = three_types()?;
-    let leap_seconds = [
-        LeapSecond::new(3, -1),
-        LeapSecond::new(2_419_202, 0),
-        LeapSecond::new(4_838_401, 1),
-        LeapSecond::new(7_257_600, 0),
-        LeapSecond::new(9_676_799, 0),
-    ];
+    let leap_seconds = leap_seconds_of_both_signs();
     let instants = [3, 2_419_202, 4_838_401, 7_257_600, 9_676_799];
-    for moved in 0..7i64 {
-        // The leap times 2419202 and 4838401 are left out, so that transitions there and a second later take effect at one instant.
-        let transitions = [
-            Transition::new(moved, 1),
-            Transition::new(2_419_199 + moved, 2),
-            Transition::new(2_419_200 + moved, 0),
-            Transition::new(4_838_398 + moved, 1),
-            Transition::new(4_838_399 + moved, 2),
-            Transition::new(7_257_597 + moved, 0),
-            Transition::new(9_676_796 + moved, 2),
-        ];
-        for extra_rule in [None, Some(TransitionRule::Fixed(types[2]))] {
+    for later in 0..7u8 {
+        let transitions = transitions_near_leap_seconds(later);
+        for extra_rule in [None, Some(TransitionRule::Fixed(types[0]))] {
             let zone = TimeZoneRef::new(&transitions, &types, &leap_seconds, &extra_rule)?;
             expect_segments_around(&rt, &zone, &instants);
         }

@@ -8,6 +8,8 @@ mod changes;
 #[cfg(test)]
 mod clock_segments;
 #[cfg(test)]
+mod clocks;
+#[cfg(test)]
 mod expect;
 #[cfg(test)]
 mod files;
