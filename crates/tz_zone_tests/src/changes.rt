@@ -1,13 +1,14 @@
 //! Segments of clocks and their changes, by rows and beside a walk second by second.
 
 use crate::clocks::{
-    leap_seconds_from_the_fifth, leap_seconds_of_both_signs, three_types,
-    transitions_near_leap_seconds,
+    AUTUMN_2024, SPRING_2024, SPRING_2025, leap_seconds_from_the_fifth, leap_seconds_of_both_signs,
+    three_types, transitions_near_leap_seconds,
 };
 use crate::expect::{expect_eq, expect_eq_at};
 use std::process::Abort;
 use tz_base::error::TzError;
 use tz_samples::rules::central_europe;
+use tz_samples::utc;
 use tz_zone::timezone::{
     AlternateTime, Change, Julian0WithLeap, Julian1WithoutLeap, LeapSecond, LocalTimeType, RuleDay,
     TimeZone, TimeZoneRef, Transition, TransitionRule,
@@ -15,6 +16,11 @@ use tz_zone::timezone::{
 
 /// A change: its instant, and the offsets before it and from it on.
 type Row = (i64, i32, i32);
+
+/// The first change of the rule of Central Europe, and the last one.
+const FIRST: Row = (utc!(-2147483646-03-28 01:00:00), 3600, 7200);
+
+const LAST: Row = (utc!(2147483645-10-29 01:00:00), 7200, 3600);
 
 /// The rule of `EST5EDT,0/0,J365/25`: daylight saving time all year.
 fn daylight_all_year() -> Result<TransitionRule, TzError> {
@@ -120,29 +126,29 @@ fn expect_plain_in_turn(rt: &impl Abort, zone: &TimeZoneRef<'_>, low: i64, secon
 #[test]
 fn changes_of_a_rule(rt: HostRuntime) -> Result<(), TzError> {
     static PARIS: [Row; 6] = [
-        (1_711_846_800, 3600, 7200),
-        (1_729_990_800, 7200, 3600),
-        (1_743_296_400, 3600, 7200),
-        (1_761_440_400, 7200, 3600),
-        (1_774_746_000, 3600, 7200),
-        (1_792_890_000, 7200, 3600),
+        (utc!(2024-03-31 01:00:00), 3600, 7200),
+        (utc!(2024-10-27 01:00:00), 7200, 3600),
+        (utc!(2025-03-30 01:00:00), 3600, 7200),
+        (utc!(2025-10-26 01:00:00), 7200, 3600),
+        (utc!(2026-03-29 01:00:00), 3600, 7200),
+        (utc!(2026-10-25 01:00:00), 7200, 3600),
     ];
-    static FIRST: [Row; 1] = [(-67_768_100_497_378_800, 3600, 7200)];
-    static LAST: [Row; 1] = [(67_767_976_164_934_800, 7200, 3600)];
+    const FROM: i64 = utc!(2024-01-01 00:00:00);
+    const UNTIL: i64 = utc!(2027-01-01 00:00:00);
     let types = three_types()?;
     let rule = Some(TransitionRule::Alternate(central_europe()?));
     let zone = TimeZoneRef::new(&[], &types, &[], &rule)?;
-    expect_changes(&rt, &zone, 1_704_067_200, 1_798_761_600, &PARIS);
-    expect_changes(&rt, &zone, i64::MIN, -67_768_100_497_378_799, &FIRST);
-    expect_changes(&rt, &zone, 67_767_976_164_934_799, i64::MAX, &LAST);
-    expect_no_others(&rt, &zone, FIRST[0].0, LAST[0].0);
+    expect_changes(&rt, &zone, FROM, UNTIL, &PARIS);
+    expect_changes(&rt, &zone, i64::MIN, FIRST.0 + 1, &[FIRST]);
+    expect_changes(&rt, &zone, LAST.0 - 1, i64::MAX, &[LAST]);
+    expect_no_others(&rt, &zone, FIRST.0, LAST.0);
 
     let types = three_types()?;
     let transitions = [Transition::new(0, 1), Transition::new(1_700_000_000, 1)];
     let zone = TimeZoneRef::new(&transitions, &types, &[], &rule)?;
-    expect_changes(&rt, &zone, 1_704_067_200, 1_798_761_600, &PARIS);
-    expect_changes(&rt, &zone, i64::MIN, 1_711_846_800, &[(0, 0, 3600)]);
-    expect_no_others(&rt, &zone, 0, LAST[0].0);
+    expect_changes(&rt, &zone, FROM, UNTIL, &PARIS);
+    expect_changes(&rt, &zone, i64::MIN, SPRING_2024, &[(0, 0, 3600)]);
+    expect_no_others(&rt, &zone, 0, LAST.0);
     Ok(())
 }
 
@@ -180,21 +186,21 @@ fn changes_that_are_none(rt: HostRuntime) -> Result<(), TzError> {
 #[test]
 fn changes_at_a_seam(rt: HostRuntime) -> Result<(), TzError> {
     static ROWS: [Row; 3] = [
-        (1_711_846_800, 0, 7200),
-        (1_729_990_800, 7200, 3600),
-        (1_743_296_400, 3600, 7200),
+        (SPRING_2024, 0, 7200),
+        (AUTUMN_2024, 7200, 3600),
+        (SPRING_2025, 3600, 7200),
     ];
     let types = three_types()?;
     let rule = Some(TransitionRule::Alternate(central_europe()?));
     // The last transition is where daylight saving time starts, or a day later, where the rule has its type already.
     let transitions = [
-        Transition::new(1_711_846_800, 2),
-        Transition::new(1_711_933_200, 2),
+        Transition::new(SPRING_2024, 2),
+        Transition::new(SPRING_2024 + 86_400, 2),
     ];
     for count in 1..3usize {
         let zone = TimeZoneRef::new(&transitions[..count], &types, &[], &rule)?;
-        expect_changes(&rt, &zone, i64::MIN, 1_743_296_401, &ROWS);
-        expect_eq(&rt, &row_of(zone.preceding(1_711_846_800)), &None);
+        expect_changes(&rt, &zone, i64::MIN, SPRING_2025 + 1, &ROWS);
+        expect_eq(&rt, &row_of(zone.preceding(SPRING_2024)), &None);
     }
     Ok(())
 }
@@ -257,17 +263,16 @@ fn changes_with_a_truncated_start(rt: HostRuntime) -> Result<(), TzError> {
 
 #[test]
 fn changes_before_instants_without_leap_time(rt: HostRuntime) -> Result<(), TzError> {
-    static LAST: [Row; 1] = [(67_767_976_164_934_800, 7200, 3600)];
     let types = three_types()?;
     let rule = Some(TransitionRule::Alternate(central_europe()?));
-    let transitions = [Transition::new(1_711_846_800, 2)];
+    let transitions = [Transition::new(SPRING_2024, 2)];
     for correction in [1, i32::MAX] {
         let leap_seconds = [LeapSecond::new(0, correction)];
         let zone = TimeZoneRef::new(&[], &types, &leap_seconds, &rule)?;
-        expect_changes(&rt, &zone, LAST[0].0 - 1, i64::MAX, &LAST);
+        expect_changes(&rt, &zone, LAST.0 - 1, i64::MAX, &[LAST]);
         let fixed = Some(TransitionRule::Fixed(types[2]));
         let zone = TimeZoneRef::new(&transitions, &types, &leap_seconds, &fixed)?;
-        let effect = 1_711_846_800 - i64::from(correction);
+        let effect = SPRING_2024 - i64::from(correction);
         expect_changes(&rt, &zone, i64::MIN, i64::MAX, &[(effect, 0, 7200)]);
         expect_no_others(&rt, &zone, effect, effect);
     }
@@ -360,9 +365,9 @@ fn expect_segment(rt: &impl Abort, zone: &TimeZoneRef<'_>, unix_time: i64, wante
 fn segments_are_no_second_too_long(rt: HostRuntime) -> Result<(), TzError> {
     static BY_RULE: [SegmentRow; 4] = [
         (i64::MIN, 999_999, Some(0)),
-        (1_000_000, 1_711_846_799, Some(3600)),
-        (1_711_846_800, 1_729_990_799, Some(7200)),
-        (1_729_990_800, 1_743_296_399, Some(3600)),
+        (1_000_000, SPRING_2024 - 1, Some(3600)),
+        (SPRING_2024, AUTUMN_2024 - 1, Some(7200)),
+        (AUTUMN_2024, SPRING_2025 - 1, Some(3600)),
     ];
     static BY_TABLE: [SegmentRow; 2] = [
         (i64::MIN, 78_796_794, None),
@@ -372,7 +377,7 @@ fn segments_are_no_second_too_long(rt: HostRuntime) -> Result<(), TzError> {
     let rule = Some(TransitionRule::Alternate(central_europe()?));
     let transitions = [
         Transition::new(1_000_000, 1),
-        Transition::new(1_711_846_800, 2),
+        Transition::new(SPRING_2024, 2),
     ];
     let zone = TimeZoneRef::new(&transitions, &types, &[], &rule)?;
     for row in &BY_RULE {
@@ -396,14 +401,14 @@ fn segments_are_no_second_too_long(rt: HostRuntime) -> Result<(), TzError> {
 fn segments_of_a_rule_begin_at_the_effect_of_the_last_transition(
     rt: HostRuntime,
 ) -> Result<(), TzError> {
-    // The last transition comes in the summer of 2024, which ends at 1729990800. That of 2025 begins at 1743296400.
+    // The last transition comes in the summer of 2024.
     static ROWS: [SegmentRow; 6] = [
         (i64::MIN, 999_999_999, Some(0)),
         (1_000_000_000, 1_099_999_999, Some(3600)),
         (1_100_000_000, 1_199_999_999, Some(7200)),
         (1_200_000_000, 1_719_999_999, Some(3600)),
-        (1_720_000_000, 1_729_990_799, Some(7200)),
-        (1_729_990_800, 1_743_296_399, Some(3600)),
+        (1_720_000_000, AUTUMN_2024 - 1, Some(7200)),
+        (AUTUMN_2024, SPRING_2025 - 1, Some(3600)),
     ];
     let types = three_types()?;
     let rule = Some(TransitionRule::Alternate(central_europe()?));

@@ -5,8 +5,8 @@ ghost use Rattle.tz_zone.specs.ClockSegments.{IsSegmentAt};
 ghost use Rattle.tz_zone.specs.ZoneRef.{zone_of};
 
 use crate::clocks::{
-    leap_seconds_from_the_fifth, leap_seconds_of_both_signs, three_types,
-    transitions_near_leap_seconds,
+    AUTUMN_2024, SPRING_2024, SPRING_2025, leap_seconds_from_the_fifth, leap_seconds_of_both_signs,
+    three_types, transitions_near_leap_seconds,
 };
 use crate::expect::expect_eq_at;
 use std::alloc::Global;
@@ -14,6 +14,7 @@ use std::process::Abort;
 use std::test::Fail;
 use tz_base::error::TzError;
 use tz_samples::rules::central_europe;
+use tz_samples::utc;
 use tz_zone::inner::{ClockSegment, Counted, clock_segment_after, clock_segment_at, other_parts};
 use tz_zone::timezone::{
     AlternateTime, LeapSecond, LocalTimeType, MonthWeekDay, RuleDay, TimeZoneRef, Transition,
@@ -164,17 +165,22 @@ fn expect_walk(
     assert!(rt; looks <= most_looks, "{looks}");
 }
 
+/// A New Year, and the first moment after the years of 32 bits.
+const NEW_YEAR_2025: i64 = utc!(2025-01-01 00:00:00);
+
+const PAST_ALL_YEARS: i64 = utc!(2147483648-01-01 00:00:00);
+
 /// Instants at which a clock may change, and the ends.
 static USUAL_INSTANTS: [i64; 12] = [
     i64::MIN,
-    -67_768_040_609_740_800,
+    utc!(-2147481748-01-01 00:00:00),
     0,
-    1_711_846_800,
-    1_729_990_800,
-    1_735_689_600,
-    1_743_296_400,
-    67_767_976_233_532_800,
-    67_768_036_191_676_800,
+    SPRING_2024,
+    AUTUMN_2024,
+    NEW_YEAR_2025,
+    SPRING_2025,
+    PAST_ALL_YEARS,
+    utc!(2147485548-01-01 00:00:00),
     SURELY_ANSWERED,
     i64::MAX - 10,
     i64::MAX,
@@ -220,10 +226,10 @@ fn segments_of_transitions_and_a_rule(rt: HostRuntime) -> Result<(), TzError> {
         -1_000_000_000,
         1_000_000_000,
         1_720_000_000,
-        1_729_990_800,
-        1_735_689_600,
-        1_743_296_400,
-        67_767_976_233_532_800,
+        AUTUMN_2024,
+        NEW_YEAR_2025,
+        SPRING_2025,
+        PAST_ALL_YEARS,
         i64::MAX,
     ];
     for extra_rule in [
@@ -429,7 +435,9 @@ fn segments_of_a_rule_near_the_end_of_the_year(rt: HostRuntime) -> Result<(), Tz
     let types = three_types()?;
     let rule = Some(TransitionRule::Alternate(to_january()?));
     let zone = TimeZoneRef::new(&[], &types, &[], &rule)?;
-    expect_ends(&rt, &zone, 1_735_689_600, 1_729_990_800, 1_736_038_799);
-    expect_ends(&rt, &zone, 1_720_000_000, 1_704_589_200, 1_729_990_799);
+    const END_IN_2024: i64 = utc!(2024-01-07 01:00:00);
+    const END_IN_2025: i64 = utc!(2025-01-05 01:00:00);
+    expect_ends(&rt, &zone, NEW_YEAR_2025, AUTUMN_2024, END_IN_2025 - 1);
+    expect_ends(&rt, &zone, 1_720_000_000, END_IN_2024, AUTUMN_2024 - 1);
     Ok(())
 }

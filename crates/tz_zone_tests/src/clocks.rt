@@ -1,7 +1,17 @@
-//! Types, leap seconds and transitions of clocks, which several modules of tests use.
+//! Instants, types, leap seconds and transitions of clocks, which several modules of tests use.
 
 use tz_base::error::TzError;
+use tz_samples::utc;
 use tz_zone::timezone::{LeapSecond, LocalTimeType, Transition};
+
+/// When Central Europe sets its clocks forward in 2024.
+pub(crate) const SPRING_2024: i64 = utc!(2024-03-31 01:00:00);
+
+/// When it sets them back in 2024.
+pub(crate) const AUTUMN_2024: i64 = utc!(2024-10-27 01:00:00);
+
+/// When it sets them forward in 2025.
+pub(crate) const SPRING_2025: i64 = utc!(2025-03-30 01:00:00);
 
 /// Three types, which their offsets tell apart.
 pub(crate) fn three_types() -> Result<[LocalTimeType; 3], TzError> {

@@ -5,16 +5,10 @@ mod tables;
 use crate::expect::{expect_eq, expect_eq_at};
 use std::process::Abort;
 use tz_base::error::TzError;
+use tz_samples::instants::LEAP_TIMES;
+use tz_samples::utc;
 use tz_zone::inner::{effect, leap};
 use tz_zone::timezone::{LeapSecond, LocalTimeType, TimeZoneRef};
-
-/// The leap times of the leap seconds from 1972 to 2016, each of one second more.
-static LEAP_TIMES: [i64; 27] = [
-    78796800, 94694401, 126230402, 157766403, 189302404, 220924805, 252460806, 283996807,
-    315532808, 362793609, 394329610, 425865611, 489024012, 567993613, 631152014, 662688015,
-    709948816, 741484817, 773020818, 820454419, 867715220, 915148821, 1136073622, 1230768023,
-    1341100824, 1435708825, 1483228826,
-];
 
 /// The leap seconds from 1972 to 2016.
 fn leap_seconds_to_2016() -> [LeapSecond; 27] {
@@ -70,16 +64,17 @@ fn expect_effects(rt: &impl Abort, leap_seconds: &[LeapSecond], rows: &[(i64, Op
 
 #[test]
 fn the_leap_second_of_2005(rt: HostRuntime) {
+    const NEW_YEAR: i64 = utc!(2006-01-01 00:00:00);
     static LEAPS: [(i64, Option<i64>); 3] = [
-        (1136073599, Some(1136073621)),
-        (1136073600, Some(1136073623)),
-        (1136073601, Some(1136073624)),
+        (NEW_YEAR - 1, Some(NEW_YEAR + 21)),
+        (NEW_YEAR, Some(NEW_YEAR + 23)),
+        (NEW_YEAR + 1, Some(NEW_YEAR + 24)),
     ];
     static EFFECTS: [(i64, Option<i64>); 4] = [
-        (1136073621, Some(1136073599)),
-        (1136073622, Some(1136073600)),
-        (1136073623, Some(1136073600)),
-        (1136073624, Some(1136073601)),
+        (NEW_YEAR + 21, Some(NEW_YEAR - 1)),
+        (NEW_YEAR + 22, Some(NEW_YEAR)),
+        (NEW_YEAR + 23, Some(NEW_YEAR)),
+        (NEW_YEAR + 24, Some(NEW_YEAR + 1)),
     ];
     let leap_seconds = leap_seconds_to_2016();
     expect_leap_times(&rt, &leap_seconds, &LEAPS);

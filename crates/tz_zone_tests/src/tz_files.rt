@@ -9,8 +9,10 @@ use tz_base::error::parse::{ParseDataError, TzFileError, TzStringError};
 use tz_base::error::timezone::{LocalTimeTypeError, TimeZoneError};
 use tz_samples::faults::{Fault, named};
 use tz_samples::files::{push_header, utc_v1, without_transitions};
+use tz_samples::instants::LEAP_TIMES;
 use tz_samples::refusing::Refusing;
 use tz_samples::rules::{Day, RuleRow, rule_of};
+use tz_samples::utc;
 use tz_zone::timezone::{
     LeapSecond, LocalTimeType, TimeZone, TimeZoneRef, Transition, TransitionRule,
 };
@@ -28,37 +30,6 @@ fn is_cut() -> Option<Fault> {
     CUT
 }
 
-/// The times of the 27 leap seconds up to 2017, each of one second more.
-static LEAP_TIMES: [i32; 27] = [
-    78_796_800,
-    94_694_401,
-    126_230_402,
-    157_766_403,
-    189_302_404,
-    220_924_805,
-    252_460_806,
-    283_996_807,
-    315_532_808,
-    362_793_609,
-    394_329_610,
-    425_865_611,
-    489_024_012,
-    567_993_613,
-    631_152_014,
-    662_688_015,
-    709_948_816,
-    741_484_817,
-    773_020_818,
-    820_454_419,
-    867_715_220,
-    915_148_821,
-    1_136_073_622,
-    1_230_768_023,
-    1_341_100_824,
-    1_435_708_825,
-    1_483_228_826,
-];
-
 /// UTC with its leap seconds, and both indicators.
 fn utc_v1_leap(alloc: Global) -> Result<Vec<u8>, AllocError> {
     let mut bytes = Vec::new(alloc);
@@ -67,7 +38,7 @@ fn utc_v1_leap(alloc: Global) -> Result<Vec<u8>, AllocError> {
     let mut correction = 0u32;
     for time in &LEAP_TIMES {
         correction = correction.saturating_add(1);
-        bytes.extend_from_slice(&time.to_be_bytes())?;
+        bytes.extend_from_slice(&time.to_be_bytes()[4..])?;
         bytes.extend_from_slice(&correction.to_be_bytes())?;
     }
     bytes.extend_from_slice(&[0, 0])?;
@@ -120,11 +91,7 @@ fn expect_leap_seconds(rt: &impl Abort, leap_seconds: &[LeapSecond]) {
     let mut correction = 0i32;
     for (leap_second, time) in leap_seconds.iter().zip(&LEAP_TIMES) {
         correction = correction.saturating_add(1);
-        expect_eq(
-            rt,
-            leap_second,
-            &LeapSecond::new(i64::from(*time), correction),
-        );
+        expect_eq(rt, leap_second, &LeapSecond::new(*time, correction));
     }
 }
 
@@ -192,13 +159,13 @@ fn jerusalem_v3(alloc: Global) -> Result<Vec<u8>, AllocError> {
 
 /// The transitions of Honolulu's times.
 static HONOLULU: [(i64, u8); 7] = [
-    (-2_334_101_314, 1),
-    (-1_157_283_000, 2),
-    (-1_155_436_200, 1),
-    (-880_198_200, 3),
-    (-769_395_600, 4),
-    (-765_376_200, 1),
-    (-712_150_200, 5),
+    (utc!(1896-01-13 22:31:26), 1),
+    (utc!(1933-04-30 12:30:00), 2),
+    (utc!(1933-05-21 21:30:00), 1),
+    (utc!(1942-02-09 12:30:00), 3),
+    (utc!(1945-08-14 23:00:00), 4),
+    (utc!(1945-09-30 11:30:00), 1),
+    (utc!(1947-06-08 12:30:00), 5),
 ];
 
 /// The types, their names and their indicators.
@@ -225,18 +192,11 @@ fn push_honolulu_types(bytes: &mut Vec<u8>) -> Result<(), AllocError> {
 
 /// Honolulu from 1896 on.
 fn honolulu_v2(alloc: Global) -> Result<Vec<u8>, AllocError> {
-    static TIMES: [i32; 7] = [
-        i32::MIN,
-        -1_157_283_000,
-        -1_155_436_200,
-        -880_198_200,
-        -769_395_600,
-        -765_376_200,
-        -712_150_200,
-    ];
     let mut bytes = Vec::new(alloc);
     push_header(&mut bytes, b'2', &[6, 6, 0, 7, 6, 20])?;
-    for time in &TIMES {
+    // Four bytes hold no time of 1896.
+    for (time, _) in &HONOLULU {
+        let time = i32::try_from(*time).unwrap_or(i32::MIN);
         bytes.extend_from_slice(&time.to_be_bytes())?;
     }
     push_honolulu_types(&mut bytes)?;
@@ -257,17 +217,17 @@ static JERUSALEM: RuleRow = (
     (Day::Month(10, 5, 0), 7200),
 );
 
+/// The only transition of Israel's zone.
+const NEW_YEAR_2038: i64 = utc!(2038-01-01 00:00:00);
+
 /// The bytes are Israel's zone.
 fn expect_jerusalem(rt: &impl Abort, alloc: Global, bytes: &[u8]) -> Result<(), TzError> {
     let types = [LocalTimeType::new(7200, false, Some(b"IST"))?];
     let rule = Some(TransitionRule::Alternate(rule_of(&JERUSALEM)?));
     let zone = TimeZone::from_tz_data(alloc, bytes)?;
     let zone = zone.as_ref();
-    expect_eq(
-        rt,
-        &zone.transitions(),
-        &[Transition::new(2_145_916_800, 0)].as_slice(),
-    );
+    let transitions = [Transition::new(NEW_YEAR_2038, 0)];
+    expect_eq(rt, &zone.transitions(), &transitions.as_slice());
     expect_eq(rt, &zone.local_time_types(), &types.as_slice());
     assert!(rt; zone.leap_seconds().is_empty());
     expect_eq(rt, zone.extra_rule(), &rule);
@@ -301,8 +261,10 @@ fn expect_honolulu(rt: &impl Abort, zone: TimeZoneRef<'_>) -> Result<(), TzError
     }
     let summer = LocalTimeType::new(-34_200, true, Some(b"HDT"))?;
     let now = LocalTimeType::new(-36_000, false, Some(b"HST"))?;
-    expect_eq(rt, zone.find_local_time_type(-1_156_939_200)?, &summer);
-    expect_eq(rt, zone.find_local_time_type(1_546_300_800)?, &now);
+    const MAY_1933: i64 = utc!(1933-05-04 12:00:00);
+    const NEW_YEAR_2019: i64 = utc!(2019-01-01 00:00:00);
+    expect_eq(rt, zone.find_local_time_type(MAY_1933)?, &summer);
+    expect_eq(rt, zone.find_local_time_type(NEW_YEAR_2019)?, &now);
     expect_eq(rt, zone.extra_rule(), &Some(TransitionRule::Fixed(now)));
     Ok(())
 }
@@ -420,7 +382,7 @@ fn utc_v2_leap(alloc: Global) -> Result<Vec<u8>, AllocError> {
     let mut correction = 0u32;
     for time in &LEAP_TIMES {
         correction = correction.saturating_add(1);
-        bytes.extend_from_slice(&i64::from(*time).to_be_bytes())?;
+        bytes.extend_from_slice(&time.to_be_bytes())?;
         bytes.extend_from_slice(&correction.to_be_bytes())?;
     }
     bytes.extend_from_slice(b"\nUTC0\n")?;

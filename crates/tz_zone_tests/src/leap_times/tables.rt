@@ -182,23 +182,24 @@ fn an_expiry_one_second_behind(rt: HostRuntime) {
 /// Before the start of the table there is no leap time, and its first effect is at the start.
 #[test]
 fn a_table_that_begins_later(rt: HostRuntime) {
+    const NEW_YEAR: i64 = utc!(2017-01-01 00:00:00);
     static LEAPS: [(i64, Option<i64>); 6] = [
         (i64::MIN, None),
         (0, None),
-        (1_483_228_798, None),
-        (1_483_228_799, Some(1_483_228_799 + 27)),
-        (1_483_228_800, Some(1_483_228_800 + 27)),
+        (NEW_YEAR - 2, None),
+        (NEW_YEAR - 1, Some(NEW_YEAR + 26)),
+        (NEW_YEAR, Some(NEW_YEAR + 27)),
         (1_700_000_000, Some(1_700_000_000 + 27)),
     ];
     static EFFECTS: [(i64, Option<i64>); 5] = [
         (i64::MIN, None),
-        (i64::MIN + 1, Some(1_483_228_799)),
-        (0, Some(1_483_228_799)),
-        (1_483_228_826, Some(1_483_228_799)),
-        (1_483_228_827, Some(1_483_228_800)),
+        (i64::MIN + 1, Some(NEW_YEAR - 1)),
+        (0, Some(NEW_YEAR - 1)),
+        (NEW_YEAR + 26, Some(NEW_YEAR - 1)),
+        (NEW_YEAR + 27, Some(NEW_YEAR)),
     ];
     let leap_seconds = [
-        LeapSecond::new(1_483_228_826, 27),
+        LeapSecond::new(NEW_YEAR + 26, 27),
         LeapSecond::new(1_700_000_000, 27),
     ];
     expect_leap_times(&rt, &leap_seconds, &LEAPS);

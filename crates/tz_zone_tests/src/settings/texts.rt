@@ -7,6 +7,7 @@ use std::process::Abort;
 use std::test::Fail;
 use tz_base::error::{Error, ReadFault, TzError};
 use tz_samples::tz_strings::extended_rule;
+use tz_samples::utc;
 use tz_zone::timezone::{LocalTimeType, TimeZone, TimeZoneRef, TimeZoneSettings, TransitionRule};
 
 /// Texts that are refused, and the refusal's text.
@@ -108,10 +109,10 @@ CET-1CEST,M3.5.0,M10.5.0/3
 #[test]
 fn clocks_turn_when_the_text_says(rt: HostRuntime) -> Result<(), Fail> {
     static ROWS: [(i64, i32); 4] = [
-        (953_384_399, 46_800),
-        (953_384_400, 43_200),
-        (970_322_399, 43_200),
-        (970_322_400, 46_800),
+        (utc!(2000-03-18 12:59:59), 46_800),
+        (utc!(2000-03-18 13:00:00), 43_200),
+        (utc!(2000-09-30 13:59:59), 43_200),
+        (utc!(2000-09-30 14:00:00), 46_800),
     ];
     let text = "NZST-12:00:00NZDT-13:00:00,M10.1.0/02:00:00,M3.3.0/02:00:00";
     let zone = zone_of(rt.alloc(), text)?;

@@ -20,13 +20,13 @@ struct Unit<'a> {
 /// Central Europe up to 1998, after a first type of local mean time.
 static FAT: Unit<'static> = Unit {
     transitions: &[
-        (-1_883_091_208, 1),
-        (828_234_000, 2),
-        (846_378_000, 1),
-        (859_683_600, 2),
-        (877_827_600, 1),
-        (891_133_200, 2),
-        (909_277_200, 1),
+        (utc!(1910-04-30 23:06:32), 1),
+        (utc!(1996-03-31 01:00:00), 2),
+        (utc!(1996-10-27 01:00:00), 1),
+        (utc!(1997-03-30 01:00:00), 2),
+        (utc!(1997-10-26 01:00:00), 1),
+        (utc!(1998-03-29 01:00:00), 2),
+        (utc!(1998-10-25 01:00:00), 1),
     ],
     types: &[(3208, 0, 0), (3600, 0, 4), (7200, 1, 8)],
     names: b"LMT\0CET\0CEST\0",
@@ -46,10 +46,10 @@ static NOTHING: Unit<'static> = Unit {
 /// The east of the United States, with the transitions alone that the rule does not have.
 static SLIM: Unit<'static> = Unit {
     transitions: &[
-        (-2_717_650_800, 2),
-        (1_143_961_200, 1),
-        (1_162_101_600, 2),
-        (1_173_596_400, 1),
+        (utc!(1883-11-18 17:00:00), 2),
+        (utc!(2006-04-02 07:00:00), 1),
+        (utc!(2006-10-29 06:00:00), 2),
+        (utc!(2007-03-11 07:00:00), 1),
     ],
     types: &[(-17_762, 0, 0), (-14_400, 1, 4), (-18_000, 0, 8)],
     names: b"LMT\0EDT\0EST\0",
@@ -60,15 +60,19 @@ static SLIM: Unit<'static> = Unit {
 /// Great Britain from 1972 to 1974, with the leap seconds of these years and times that count them.
 static LEAPING: Unit<'static> = Unit {
     transitions: &[
-        (69_818_400, 1),
-        (89_172_001, 0),
-        (101_268_002, 1),
-        (120_621_602, 0),
-        (132_717_603, 1),
+        (utc!(1972-03-19 02:00:00), 1),
+        (utc!(1972-10-29 02:00:00) + 1, 0),
+        (utc!(1973-03-18 02:00:00) + 2, 1),
+        (utc!(1973-10-28 02:00:00) + 2, 0),
+        (utc!(1974-03-17 02:00:00) + 3, 1),
     ],
     types: &[(0, 0, 0), (3600, 1, 4)],
     names: b"GMT\0BST\0",
-    leap_seconds: &[(78_796_800, 1), (94_694_401, 2), (126_230_402, 3)],
+    leap_seconds: &[
+        (utc!(1972-07-01 00:00:00), 1),
+        (utc!(1973-01-01 00:00:00) + 1, 2),
+        (utc!(1974-01-01 00:00:00) + 2, 3),
+    ],
     indicators: &[],
 };
 
@@ -158,13 +162,13 @@ fn expect_offsets(rt: &impl Abort, zone: &TimeZone, offsets: &[(i64, i32)]) -> R
 /// The zone of the fat file, without its rule.
 static FAT_ZONE: ZoneRow = ZoneRow {
     transitions: &[
-        (-1_883_091_208, 1),
-        (828_234_000, 2),
-        (846_378_000, 1),
-        (859_683_600, 2),
-        (877_827_600, 1),
-        (891_133_200, 2),
-        (909_277_200, 1),
+        (utc!(1910-04-30 23:06:32), 1),
+        (utc!(1996-03-31 01:00:00), 2),
+        (utc!(1996-10-27 01:00:00), 1),
+        (utc!(1997-03-30 01:00:00), 2),
+        (utc!(1997-10-26 01:00:00), 1),
+        (utc!(1998-03-29 01:00:00), 2),
+        (utc!(1998-10-25 01:00:00), 1),
     ],
     types: &[
         (3208, false, Some(b"LMT")),
@@ -178,14 +182,14 @@ static FAT_ZONE: ZoneRow = ZoneRow {
 #[test]
 fn a_fat_file_is_read(rt: HostRuntime) -> Result<(), Fail> {
     static OFFSETS: [(i64, i32); 8] = [
-        (-1_883_091_209, 3208),
-        (-1_883_091_208, 3600),
-        (846_377_999, 7200),
-        (846_378_000, 3600),
-        (909_277_199, 7200),
-        (909_277_200, 3600),
-        (1_711_846_799, 3600),
-        (1_711_846_800, 7200),
+        (utc!(1910-04-30 23:06:31), 3208),
+        (utc!(1910-04-30 23:06:32), 3600),
+        (utc!(1996-10-27 00:59:59), 7200),
+        (utc!(1996-10-27 01:00:00), 3600),
+        (utc!(1998-10-25 00:59:59), 7200),
+        (utc!(1998-10-25 01:00:00), 3600),
+        (utc!(2024-03-31 00:59:59), 3600),
+        (utc!(2024-03-31 01:00:00), 7200),
     ];
     let bytes = file(rt.alloc(), &FAT, &FAT, b"\nCET-1CEST,M3.5.0,M10.5.0/3\n")?;
     expect_eq(&rt, &bytes.len(), &288);
@@ -204,8 +208,13 @@ fn times_of_four_bytes_are_read(rt: HostRuntime) -> Result<(), Fail> {
     let bytes = with_byte(rt.alloc(), &bytes, 4, 0)?;
     let zone = TimeZone::from_tz_data(rt.alloc(), &bytes)?;
     assert!(rt; zone == zone_of(rt.alloc(), &FAT_ZONE)?);
-    expect_offsets(&rt, &zone, &[(-1_883_091_209, 3208), (909_277_199, 7200)])?;
-    let after = zone.find_local_time_type(909_277_200).err().map(named);
+    static OFFSETS: [(i64, i32); 2] = [
+        (utc!(1910-04-30 23:06:31), 3208),
+        (utc!(1998-10-25 00:59:59), 7200),
+    ];
+    expect_offsets(&rt, &zone, &OFFSETS)?;
+    const LAST_TRANSITION: i64 = utc!(1998-10-25 01:00:00);
+    let after = zone.find_local_time_type(LAST_TRANSITION).err().map(named);
     expect_eq(&rt, &after, &Some(Fault::NoType));
     Ok(())
 }
@@ -214,10 +223,10 @@ fn times_of_four_bytes_are_read(rt: HostRuntime) -> Result<(), Fail> {
 fn slim_zone(alloc: Global) -> Result<TimeZone, Fail> {
     static ZONE: ZoneRow = ZoneRow {
         transitions: &[
-            (-2_717_650_800, 2),
-            (1_143_961_200, 1),
-            (1_162_101_600, 2),
-            (1_173_596_400, 1),
+            (utc!(1883-11-18 17:00:00), 2),
+            (utc!(2006-04-02 07:00:00), 1),
+            (utc!(2006-10-29 06:00:00), 2),
+            (utc!(2007-03-11 07:00:00), 1),
         ],
         types: &[
             (-17_762, false, Some(b"LMT")),
@@ -238,12 +247,12 @@ fn slim_zone(alloc: Global) -> Result<TimeZone, Fail> {
 #[test]
 fn a_slim_file_is_read(rt: HostRuntime) -> Result<(), Fail> {
     static OFFSETS: [(i64, i32); 6] = [
-        (-2_717_650_801, -17_762),
-        (-2_717_650_800, -18_000),
-        (1_173_596_399, -18_000),
-        (1_173_596_400, -14_400),
-        (1_194_155_999, -14_400),
-        (1_194_156_000, -18_000),
+        (utc!(1883-11-18 16:59:59), -17_762),
+        (utc!(1883-11-18 17:00:00), -18_000),
+        (utc!(2007-03-11 06:59:59), -18_000),
+        (utc!(2007-03-11 07:00:00), -14_400),
+        (utc!(2007-11-04 05:59:59), -14_400),
+        (utc!(2007-11-04 06:00:00), -18_000),
     ];
     let bytes = file(rt.alloc(), &NOTHING, &SLIM, b"\nEST5EDT,M3.2.0,M11.1.0\n")?;
     expect_eq(&rt, &bytes.len(), &185);
@@ -256,14 +265,18 @@ fn a_slim_file_is_read(rt: HostRuntime) -> Result<(), Fail> {
 fn leaping_zone(alloc: Global) -> Result<TimeZone, Fail> {
     static ZONE: ZoneRow = ZoneRow {
         transitions: &[
-            (69_818_400, 1),
-            (89_172_001, 0),
-            (101_268_002, 1),
-            (120_621_602, 0),
-            (132_717_603, 1),
+            (utc!(1972-03-19 02:00:00), 1),
+            (utc!(1972-10-29 02:00:00) + 1, 0),
+            (utc!(1973-03-18 02:00:00) + 2, 1),
+            (utc!(1973-10-28 02:00:00) + 2, 0),
+            (utc!(1974-03-17 02:00:00) + 3, 1),
         ],
         types: &[(0, false, Some(b"GMT")), (3600, true, Some(b"BST"))],
-        leap_seconds: &[(78_796_800, 1), (94_694_401, 2), (126_230_402, 3)],
+        leap_seconds: &[
+            (utc!(1972-07-01 00:00:00), 1),
+            (utc!(1973-01-01 00:00:00) + 1, 2),
+            (utc!(1974-01-01 00:00:00) + 2, 3),
+        ],
         extra_rule: Some(ExtraRule::Alternate((
             (0, false, Some(b"GMT")),
             (3600, true, Some(b"BST")),
@@ -278,16 +291,16 @@ fn leaping_zone(alloc: Global) -> Result<TimeZone, Fail> {
 fn a_file_with_leap_seconds_is_read(rt: HostRuntime) -> Result<(), Fail> {
     // The transitions are at the full hour of UTC, without the leap seconds that their times count.
     static OFFSETS: [(i64, i32); 10] = [
-        (69_818_399, 0),
-        (69_818_400, 3600),
-        (89_171_999, 3600),
-        (89_172_000, 0),
-        (101_267_999, 0),
-        (101_268_000, 3600),
-        (132_717_599, 0),
-        (132_717_600, 3600),
-        (152_071_199, 3600),
-        (152_071_200, 0),
+        (utc!(1972-03-19 01:59:59), 0),
+        (utc!(1972-03-19 02:00:00), 3600),
+        (utc!(1972-10-29 01:59:59), 3600),
+        (utc!(1972-10-29 02:00:00), 0),
+        (utc!(1973-03-18 01:59:59), 0),
+        (utc!(1973-03-18 02:00:00), 3600),
+        (utc!(1974-03-17 01:59:59), 0),
+        (utc!(1974-03-17 02:00:00), 3600),
+        (utc!(1974-10-27 01:59:59), 3600),
+        (utc!(1974-10-27 02:00:00), 0),
     ];
     let footer = b"\nGMT0BST,M3.3.0/2,M10.5.0/3\n";
     let bytes = file(rt.alloc(), &LEAPING, &LEAPING, footer)?;

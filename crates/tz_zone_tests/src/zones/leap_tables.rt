@@ -2,9 +2,13 @@
 
 use super::*;
 use crate::expect::expect_eq;
+use tz_samples::utc;
+
+/// The first moment after the leap second of 2016.
+const NEW_YEAR: i64 = utc!(2017-01-01 00:00:00);
 
 /// One leap second is known, and the table begins with it.
-const LATE: &[(i64, i32)] = &[(1_483_228_826, 27)];
+const LATE: &[(i64, i32)] = &[(NEW_YEAR + 26, 27)];
 
 /// The leap time at which the parts' zone expires.
 fn expiry(alloc: Global, leap_seconds: &[(i64, i32)]) -> Result<Option<i64>, TzError> {
@@ -22,7 +26,7 @@ fn tables_expire(rt: HostRuntime) -> Result<(), Fail> {
         (&[(0, 1), (1, 1)], Some(1)),
         (&[(0, 0), (1, 0)], Some(1)),
         (
-            &[(1_483_228_826, 27), (1_700_000_000, 27)],
+            &[(NEW_YEAR + 26, 27), (1_700_000_000, 27)],
             Some(1_700_000_000),
         ),
         (&[(0, 1), (2_419_199, 2), (2_419_200, 2)], Some(2_419_200)),
@@ -42,8 +46,8 @@ fn clocks_begin_with_the_table(rt: HostRuntime) -> Result<(), Fail> {
             Parts(&[(1_500_000_027, 1)], &[0, 3600], LATE, Some(3600)),
             &[
                 (i64::MIN, OUT_OF_RANGE),
-                (1_483_228_798, OUT_OF_RANGE),
-                (1_483_228_799, Ok(0)),
+                (NEW_YEAR - 2, OUT_OF_RANGE),
+                (NEW_YEAR - 1, Ok(0)),
                 (1_499_999_999, Ok(0)),
                 (1_500_000_000, Ok(3600)),
             ],
@@ -52,8 +56,8 @@ fn clocks_begin_with_the_table(rt: HostRuntime) -> Result<(), Fail> {
         (
             Parts(&[(0, 1), (1_500_000_027, 0)], &[0, 3600], LATE, None),
             &[
-                (1_483_228_798, OUT_OF_RANGE),
-                (1_483_228_799, Ok(3600)),
+                (NEW_YEAR - 2, OUT_OF_RANGE),
+                (NEW_YEAR - 1, Ok(3600)),
                 (1_499_999_999, Ok(3600)),
                 (1_500_000_000, NO_TYPE),
             ],
@@ -61,7 +65,7 @@ fn clocks_begin_with_the_table(rt: HostRuntime) -> Result<(), Fail> {
         // Without transitions no leap second is asked for.
         (
             Parts(&[], &[0, 3600], LATE, None),
-            &[(i64::MIN, Ok(0)), (1_483_228_798, Ok(0))],
+            &[(i64::MIN, Ok(0)), (NEW_YEAR - 2, Ok(0))],
         ),
         // A correction of 0 starts a table as well.
         (
@@ -85,15 +89,15 @@ fn the_rule_is_checked_from_the_start_on(rt: HostRuntime) -> Result<(), Fail> {
         (Parts(&[(i64::MIN, 0)], &[0, 3600], LATE, Some(3600)), None),
         (Parts(&[(0, 0)], &[0, 3600], LATE, Some(3600)), None),
         (
-            Parts(&[(1_483_228_825, 0)], &[0, 3600], LATE, Some(3600)),
+            Parts(&[(NEW_YEAR + 25, 0)], &[0, 3600], LATE, Some(3600)),
             None,
         ),
         (
-            Parts(&[(1_483_228_826, 0)], &[0, 3600], LATE, Some(3600)),
+            Parts(&[(NEW_YEAR + 26, 0)], &[0, 3600], LATE, Some(3600)),
             INCONSISTENT,
         ),
         (
-            Parts(&[(1_483_228_826, 1)], &[0, 3600], LATE, Some(3600)),
+            Parts(&[(NEW_YEAR + 26, 1)], &[0, 3600], LATE, Some(3600)),
             None,
         ),
         (

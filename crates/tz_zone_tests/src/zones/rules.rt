@@ -2,6 +2,7 @@
 
 use super::*;
 use tz_samples::tz_strings::extended_rule;
+use tz_samples::utc;
 
 /// Central European Time, and other rules whose starts and ends are at given times.
 const CENTRAL_EUROPE: &str = "CET-1CEST,M3.5.0,M10.5.0/3";
@@ -19,32 +20,66 @@ fn found_at(
 
 #[test]
 fn the_zone_has_the_type_of_its_rule(rt: HostRuntime) -> Result<(), Fail> {
-    static ROWS: [(&str, i64, i32, bool); 20] = [
-        ("STD0DST0,59/0,J60/0", 951_782_400, 0, true),
-        ("STD0DST0,59/0,J60/0", 951_868_800, 0, false),
-        ("STD0DST0,59/0,J60/0", 983_404_800, 0, false),
-        ("EST5EDT,0/0,J365/25", 946_701_000, -14_400, true),
-        ("EST5EDT,0/0,J365/25", 946_702_799, -14_400, true),
-        ("EST5EDT,0/0,J365/25", 946_702_800, -14_400, true),
-        ("STD0DST,J1/0,J365/48", 978_305_400, 3600, true),
-        ("STD0DST0,J60/0,59/0", 978_307_200, 0, true),
-        ("STD-1DST0,M10.5.0/2,M3.5.0/1", 954_032_399, 0, true),
-        ("STD-1DST0,M10.5.0/2,M3.5.0/1", 954_032_400, 3600, false),
-        ("STD-1DST0,M10.5.0/2,M3.5.0/1", 972_781_199, 3600, false),
-        ("STD-1DST0,M10.5.0/2,M3.5.0/1", 972_781_200, 0, true),
-        ("STD3DST2,M3.5.0/-2,M10.5.0/-1", 954_032_399, -10_800, false),
-        ("STD3DST2,M3.5.0/-2,M10.5.0/-1", 954_032_400, -7200, true),
-        ("STD3DST2,M3.5.0/-2,M10.5.0/-1", 972_781_199, -7200, true),
-        ("STD3DST2,M3.5.0/-2,M10.5.0/-1", 972_781_200, -10_800, false),
-        ("STD0DST0,100/0,101/-24:01:40", 8_639_899, 0, true),
-        ("STD0DST0,100/0,101/-24:01:40", 8_639_900, 0, false),
-        ("STD0DST0,100/0,101/-24:01:40", 8_639_999, 0, false),
-        ("STD0DST0,100/0,101/-24:01:40", 8_640_000, 0, true),
+    static ROWS: [(&str, &[(i64, i32, bool)]); 7] = [
+        (
+            "STD0DST0,59/0,J60/0",
+            &[
+                (utc!(2000-02-29 00:00:00), 0, true),
+                (utc!(2000-03-01 00:00:00), 0, false),
+                (utc!(2001-03-01 00:00:00), 0, false),
+            ],
+        ),
+        (
+            "EST5EDT,0/0,J365/25",
+            &[
+                (utc!(2000-01-01 04:30:00), -14_400, true),
+                (utc!(2000-01-01 04:59:59), -14_400, true),
+                (utc!(2000-01-01 05:00:00), -14_400, true),
+            ],
+        ),
+        (
+            "STD0DST,J1/0,J365/48",
+            &[(utc!(2000-12-31 23:30:00), 3600, true)],
+        ),
+        (
+            "STD0DST0,J60/0,59/0",
+            &[(utc!(2001-01-01 00:00:00), 0, true)],
+        ),
+        (
+            "STD-1DST0,M10.5.0/2,M3.5.0/1",
+            &[
+                (utc!(2000-03-26 00:59:59), 0, true),
+                (utc!(2000-03-26 01:00:00), 3600, false),
+                (utc!(2000-10-29 00:59:59), 3600, false),
+                (utc!(2000-10-29 01:00:00), 0, true),
+            ],
+        ),
+        (
+            "STD3DST2,M3.5.0/-2,M10.5.0/-1",
+            &[
+                (utc!(2000-03-26 00:59:59), -10_800, false),
+                (utc!(2000-03-26 01:00:00), -7200, true),
+                (utc!(2000-10-29 00:59:59), -7200, true),
+                (utc!(2000-10-29 01:00:00), -10_800, false),
+            ],
+        ),
+        (
+            "STD0DST0,100/0,101/-24:01:40",
+            &[
+                (utc!(1970-04-10 23:58:19), 0, true),
+                (utc!(1970-04-10 23:58:20), 0, false),
+                (utc!(1970-04-10 23:59:59), 0, false),
+                (utc!(1970-04-11 00:00:00), 0, true),
+            ],
+        ),
     ];
     let types = [LocalTimeType::utc()];
-    for (text, unix_time, ut_offset, is_dst) in &ROWS {
-        let found = found_at(&types, &extended_rule(rt.alloc(), text)?, *unix_time).ok();
-        assert_eq!(rt; found, Some((*ut_offset, *is_dst)), "{text} at {unix_time}");
+    for (text, answers) in &ROWS {
+        let rule = extended_rule(rt.alloc(), text)?;
+        for (unix_time, ut_offset, is_dst) in *answers {
+            let found = found_at(&types, &rule, *unix_time).ok();
+            assert_eq!(rt; found, Some((*ut_offset, *is_dst)), "{text} at {unix_time}");
+        }
     }
     Ok(())
 }
@@ -67,14 +102,14 @@ fn no_rule_of_two_types_answers_at_the_ends(rt: HostRuntime) -> Result<(), Fail>
 fn the_last_transition_agrees_with_the_rule(rt: HostRuntime) -> Result<(), Fail> {
     const INCONSISTENT: Option<Fault> = Some(Fault::Zone(InconsistentExtraRule));
     static ROWS: [(i64, usize, Option<Fault>); 10] = [
-        (954_032_399, 0, None),
-        (954_032_399, 1, INCONSISTENT),
-        (954_032_400, 0, INCONSISTENT),
-        (954_032_400, 1, None),
-        (954_032_400, 2, INCONSISTENT),
-        (972_781_199, 1, None),
-        (972_781_200, 0, None),
-        (972_781_200, 1, INCONSISTENT),
+        (utc!(2000-03-26 00:59:59), 0, None),
+        (utc!(2000-03-26 00:59:59), 1, INCONSISTENT),
+        (utc!(2000-03-26 01:00:00), 0, INCONSISTENT),
+        (utc!(2000-03-26 01:00:00), 1, None),
+        (utc!(2000-03-26 01:00:00), 2, INCONSISTENT),
+        (utc!(2000-10-29 00:59:59), 1, None),
+        (utc!(2000-10-29 01:00:00), 0, None),
+        (utc!(2000-10-29 01:00:00), 1, INCONSISTENT),
         (i64::MAX, 0, Some(Fault::OutOfRange)),
         (i64::MIN, 0, Some(Fault::OutOfRange)),
     ];
