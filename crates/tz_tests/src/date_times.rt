@@ -11,6 +11,7 @@ use tz::datetime::{DateTime, UtcDateTime};
 use tz_base::error::TzError;
 use tz_base::error::datetime::DateTimeError;
 use tz_samples::date_times::{NOONS, Parts};
+use tz_samples::utc;
 use tz_zone::timezone::{LocalTimeType, TimeZone, TimeZoneRef, Transition};
 
 /// The date time prints as the text.
@@ -205,7 +206,8 @@ fn the_first_second_of_2000(rt: HostRuntime) -> Result<(), Fail> {
     let date_time = UtcDateTime::new(2000, 1, 1, 0, 0, 0, 123_456_789)?;
     expect_eq(&rt, &date_time.week_day(), &6);
     expect_eq(&rt, &date_time.year_day(), &0);
-    expect_eq(&rt, &date_time.unix_time(), &946_684_800);
+    const NEW_YEAR: i64 = utc!(2000-01-01 00:00:00);
+    expect_eq(&rt, &date_time.unix_time(), &NEW_YEAR);
     expect_text(
         &rt,
         rt.alloc(),
@@ -222,7 +224,8 @@ fn the_first_second_of_2000(rt: HostRuntime) -> Result<(), Fail> {
         &local,
         "1999-12-31T23:00:00.123456789-01:00",
     )?;
-    let before = UtcDateTime::from_timespec(-93_750_523_134, 10)?;
+    const EARLIER: i64 = utc!(-1001-03-01 12:01:06);
+    let before = UtcDateTime::from_timespec(EARLIER, 10)?;
     expect_text(&rt, rt.alloc(), &before, "-1001-03-01T12:01:06.000000010Z")?;
     Ok(())
 }
@@ -233,9 +236,9 @@ fn constants() -> [UtcDateTime; 3] {
     [UtcDateTime::MIN, UtcDateTime::UNIX_EPOCH, UtcDateTime::MAX]
 }
 
-const FIRST: i64 = -67_768_100_567_971_200;
+const FIRST: i64 = utc!(-2147483648-01-01 00:00:00);
 
-const LAST: i64 = 67_767_976_233_532_799;
+const LAST: i64 = utc!(2147483647-12-31 23:59:59);
 
 #[test]
 fn the_years_end(rt: HostRuntime) -> Result<(), Fail> {
@@ -334,28 +337,26 @@ fn the_first_fault_of_fields_is_named(rt: HostRuntime) {
 fn local_years_end_where_utc_does(rt: HostRuntime) -> Result<(), Fail> {
     expect_out_of_range(&rt, local_of(((i32::MAX, 12, 31, (23, 30, 0), 0), -3600)));
     let west = LocalTimeType::with_ut_offset(-3600)?;
-    let late = DateTime::from_timespec_and_local(67_767_976_233_532_800, 0, west)?;
+    let late = DateTime::from_timespec_and_local(LAST + 1, 0, west)?;
     expect_eq(
         &rt,
         &parts_of_local(late),
         &(i32::MAX, 12, 31, (23, 0, 0), 0),
     );
     expect_out_of_range(&rt, UtcDateTime::try_from(late));
-    expect_out_of_range(
-        &rt,
-        DateTime::from_timespec_and_local(-67_768_100_567_971_200, 0, west),
-    );
+    expect_out_of_range(&rt, DateTime::from_timespec_and_local(FIRST, 0, west));
     expect_field_fault(
         &rt,
         DateTime::from_timespec_and_local(i64::MAX, 1_000_000_000, west),
         DateTimeError::InvalidNanoseconds,
     );
     expect_out_of_range(&rt, DateTime::from_timespec_and_local(i64::MIN, 0, west));
-    let noon = DateTime::from_timespec_and_local(951_825_666, 7, west)?;
+    const NOON: i64 = utc!(2000-02-29 12:01:06);
+    let noon = DateTime::from_timespec_and_local(NOON, 7, west)?;
     expect_eq(
         &rt,
         &UtcDateTime::try_from(noon).ok(),
-        &UtcDateTime::from_timespec(951_825_666, 7).ok(),
+        &UtcDateTime::from_timespec(NOON, 7).ok(),
     );
     Ok(())
 }
@@ -674,8 +675,9 @@ fn second_60_is_before_the_next_minute(rt: HostRuntime) -> Result<(), Fail> {
     let second_60 = UtcDateTime::new(2016, 12, 31, 23, 59, 60, 0)?;
     let new_year = UtcDateTime::new(2017, 1, 1, 0, 0, 0, 0)?;
     assert!(rt; second_60 < new_year);
-    expect_eq(&rt, &second_60.unix_time(), &1_483_228_800);
-    expect_eq(&rt, &new_year.unix_time(), &1_483_228_800);
+    const NEW_YEAR: i64 = utc!(2017-01-01 00:00:00);
+    expect_eq(&rt, &second_60.unix_time(), &NEW_YEAR);
+    expect_eq(&rt, &new_year.unix_time(), &NEW_YEAR);
     expect_text(
         &rt,
         rt.alloc(),

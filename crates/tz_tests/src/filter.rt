@@ -12,6 +12,7 @@ use tz::datetime::UtcDateTime;
 use tz_base::error::TzError;
 use tz_base::error::timezone::LocalTimeTypeError;
 use tz_samples::rules::central_europe;
+use tz_samples::utc;
 use tz_samples::zones::{CROSSING, zone_of};
 use tz_zone::timezone::{
     AlternateTime, Julian0WithLeap, LeapSecond, LocalTimeType, RuleDay, TimeZoneRef, Transition,
@@ -135,8 +136,11 @@ fn jumps_that_cross(rt: HostRuntime) -> Result<(), Fail> {
 
 #[test]
 fn the_days_of_a_rule(rt: HostRuntime) -> Result<(), Fail> {
-    // 2000-03-26, with a jump, and 2000-10-29, with an hour twice.
-    static DAYS: [(i64, usize); 2] = [(954_028_800, 96), (972_777_600, 100)];
+    // With a jump, and with an hour twice.
+    static DAYS: [(i64, usize); 2] = [
+        (utc!(2000-03-26 00:00:00), 96),
+        (utc!(2000-10-29 00:00:00), 100),
+    ];
     let rule = central_europe()?;
     let types = [*rule.std(), *rule.dst()];
     let rule = Some(TransitionRule::Alternate(rule));
@@ -204,9 +208,9 @@ impl Random {
 }
 
 /// The first second of the years of 32 bits, and the first one after them.
-const START: i64 = -67_768_100_567_971_200;
+const START: i64 = utc!(-2147483648-01-01 00:00:00);
 
-const END: i64 = 67_767_976_233_532_800;
+const END: i64 = utc!(2147483648-01-01 00:00:00);
 
 /// The search and the filter find the same in a random zone with up to seven transitions around an instant, of the readings of 15 hours.
 fn entries_around(
@@ -256,7 +260,10 @@ fn transitions_near_the_ends(rt: HostRuntime) -> Result<(), Fail> {
 /// Around the first and the last instant at which a rule answers.
 #[test]
 fn rules_near_the_ends(rt: HostRuntime) -> Result<(), Fail> {
-    static BORDERS: [i64; 2] = [-67_768_100_504_812_800, 67_767_976_170_460_800];
+    static BORDERS: [i64; 2] = [
+        utc!(-2147483646-01-01 00:00:00),
+        utc!(2147483646-01-01 00:00:00),
+    ];
     let mut random = Random(1970);
     let mut entries = 0usize;
     for _ in 0..30 {

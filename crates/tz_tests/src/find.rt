@@ -26,6 +26,7 @@ use crate::expect::expect_eq;
 use crate::searches::{Reading, Summary, find, summaries, summary};
 use crate::zones::FAR_OFFSET;
 use tz_samples::rules::{Day, RuleRow, TypeRow, central_europe, rule_of};
+use tz_samples::utc;
 use tz_samples::zones::{CROSSING, ExtraRule, ZoneRow, zone_of};
 
 /// A Unix time and an offset.
@@ -116,7 +117,7 @@ fn held() -> Result<FoundDateTimeKind, TzError> {
     Ok(FoundDateTimeKind::Normal(DateTime::new(1234, 5, 6, 7, 8, 9, 0, utc)?))
 }
 
-const HELD: Summary = (-23_215_049_511, 0, 0);
+const HELD: Summary = (utc!(1234-05-06 07:08:09), 0, 0);
 
 /// Whether the slots begin with these, as far as they go, and the others hold what they held.
 fn are_written(slots: &[Option<FoundDateTimeKind>], found: &[Summary]) -> bool {
@@ -288,7 +289,10 @@ fn a_rule_goes_on_after_the_last_transition(rt: HostRuntime) -> Result<(), Fail>
                 leap_seconds: &[],
                 extra_rule: None,
             },
-            &[((2000, 1, 1, 0, 0, 0), &[(946_681_200, 3600, 3600)])],
+            &[(
+                (2000, 1, 1, 0, 0, 0),
+                &[(utc!(1999-12-31 23:00:00), 3600, 3600)],
+            )],
         ),
         (
             ZoneRow {
@@ -297,7 +301,10 @@ fn a_rule_goes_on_after_the_last_transition(rt: HostRuntime) -> Result<(), Fail>
                 leap_seconds: &[],
                 extra_rule: Some(ExtraRule::Fixed(HOUR_EAST)),
             },
-            &[((2000, 1, 1, 0, 0, 0), &[(946_681_200, 3600, 3600)])],
+            &[(
+                (2000, 1, 1, 0, 0, 0),
+                &[(utc!(1999-12-31 23:00:00), 3600, 3600)],
+            )],
         ),
         (
             ZoneRow {
@@ -307,8 +314,14 @@ fn a_rule_goes_on_after_the_last_transition(rt: HostRuntime) -> Result<(), Fail>
                 extra_rule: Some(ExtraRule::Fixed(HOUR_EAST)),
             },
             &[
-                ((1960, 1, 1, 0, 0, 0), &[(-315_622_800, 3600, 3600)]),
-                ((1980, 1, 1, 0, 0, 0), &[(315_529_200, 3600, 3600)]),
+                (
+                    (1960, 1, 1, 0, 0, 0),
+                    &[(utc!(1959-12-31 23:00:00), 3600, 3600)],
+                ),
+                (
+                    (1980, 1, 1, 0, 0, 0),
+                    &[(utc!(1979-12-31 23:00:00), 3600, 3600)],
+                ),
             ],
         ),
         (
@@ -588,15 +601,30 @@ fn expect_found_by_rule(
     expect_all(rt, alloc, zone, rows)
 }
 
-/// The first moments of these years.
-const MIDNIGHT_2000: i64 = 946_684_800;
-
-const MIDNIGHT_2010: i64 = 1_262_304_000;
-
-/// The jumps of the rule of one morning.
-const JUMP_2000: Summary = (MIDNIGHT_2000 + 7200, 0, 3600);
-
-const JUMP_2010: Summary = (MIDNIGHT_2010 + 7200, 0, 3600);
+/// The first of a year's days by a clock that is set forward from 2:00 to 3:00 and back from 3:30 to 2:30.
+macro_rules! morning_of {
+    ($year:literal) => {
+        [
+            (($year, 1, 1, 1, 45, 0), &[(utc!($year-01-01 01:45:00), 0, 0)]),
+            (($year, 1, 1, 2, 15, 0), &[(utc!($year-01-01 02:00:00), 0, 3600)]),
+            (
+                ($year, 1, 1, 2, 45, 0),
+                &[
+                    (utc!($year-01-01 02:00:00), 0, 3600),
+                    (utc!($year-01-01 02:45:00), 0, 0),
+                ],
+            ),
+            (
+                ($year, 1, 1, 3, 15, 0),
+                &[
+                    (utc!($year-01-01 02:15:00), 3600, 3600),
+                    (utc!($year-01-01 03:15:00), 0, 0),
+                ],
+            ),
+            (($year, 1, 1, 3, 45, 0), &[(utc!($year-01-01 03:45:00), 0, 0)]),
+        ]
+    };
+}
 
 #[test]
 fn a_rule_of_one_morning(rt: HostRuntime) -> Result<(), Fail> {
@@ -606,37 +634,11 @@ fn a_rule_of_one_morning(rt: HostRuntime) -> Result<(), Fail> {
         (Day::Julian1(1), 7200),
         (Day::Julian1(1), 12_600),
     );
-    static ROWS: [(Reading, &[Summary]); 10] = [
-        ((2000, 1, 1, 1, 45, 0), &[(MIDNIGHT_2000 + 6300, 0, 0)]),
-        ((2000, 1, 1, 2, 15, 0), &[JUMP_2000]),
-        (
-            (2000, 1, 1, 2, 45, 0),
-            &[JUMP_2000, (MIDNIGHT_2000 + 9900, 0, 0)],
-        ),
-        (
-            (2000, 1, 1, 3, 15, 0),
-            &[
-                (MIDNIGHT_2000 + 8100, 3600, 3600),
-                (MIDNIGHT_2000 + 11_700, 0, 0),
-            ],
-        ),
-        ((2000, 1, 1, 3, 45, 0), &[(MIDNIGHT_2000 + 13_500, 0, 0)]),
-        ((2010, 1, 1, 1, 45, 0), &[(MIDNIGHT_2010 + 6300, 0, 0)]),
-        ((2010, 1, 1, 2, 15, 0), &[JUMP_2010]),
-        (
-            (2010, 1, 1, 2, 45, 0),
-            &[JUMP_2010, (MIDNIGHT_2010 + 9900, 0, 0)],
-        ),
-        (
-            (2010, 1, 1, 3, 15, 0),
-            &[
-                (MIDNIGHT_2010 + 8100, 3600, 3600),
-                (MIDNIGHT_2010 + 11_700, 0, 0),
-            ],
-        ),
-        ((2010, 1, 1, 3, 45, 0), &[(MIDNIGHT_2010 + 13_500, 0, 0)]),
-    ];
-    expect_found_by_rule(&rt, rt.alloc(), rule_of(&RULE)?, &ROWS)?;
+    static IN_2000: [(Reading, &[Summary]); 5] = morning_of!(2000);
+    static IN_2010: [(Reading, &[Summary]); 5] = morning_of!(2010);
+    for rows in [&IN_2000, &IN_2010] {
+        expect_found_by_rule(&rt, rt.alloc(), rule_of(&RULE)?, rows)?;
+    }
     Ok(())
 }
 
@@ -655,7 +657,7 @@ fn the_morning_of_a_far_jump(rt: HostRuntime) -> Result<(), Fail> {
             (2038, 1, 19, 5, 0, 0),
             &[
                 (6353, 2_147_483_647, 2_147_483_647),
-                (2_147_486_400, 3600, 3600),
+                (utc!(2038-01-19 04:00:00), 3600, 3600),
             ],
         ),
     ];
@@ -663,74 +665,36 @@ fn the_morning_of_a_far_jump(rt: HostRuntime) -> Result<(), Fail> {
     Ok(())
 }
 
-/// Days of years that the jump passes over.
-#[test]
-fn a_rule_under_a_far_jump(rt: HostRuntime) -> Result<(), Fail> {
-    static ROWS: [(Reading, &[Summary]); 15] = [
-        ((1970, 2, 1, 0, 0, 0), &[FAR_JUMP, (2_674_800, 3600, 3600)]),
-        (
-            (1970, 3, 31, 0, 30, 0),
-            &[FAR_JUMP, (7_687_800, 3600, 3600), (7_691_400, 0, 0)],
-        ),
-        ((1970, 6, 1, 0, 0, 0), &[FAR_JUMP, (13_046_400, 0, 0)]),
-        ((1970, 10, 27, 0, 30, 0), &[FAR_JUMP, (25_833_600, 0, 3600)]),
-        (
-            (1970, 11, 1, 0, 0, 0),
-            &[FAR_JUMP, (26_262_000, 3600, 3600)],
-        ),
-        (
-            (2000, 2, 1, 0, 0, 0),
-            &[FAR_JUMP, (949_359_600, 3600, 3600)],
-        ),
-        (
-            (2000, 3, 31, 0, 30, 0),
-            &[FAR_JUMP, (954_459_000, 3600, 3600), (954_462_600, 0, 0)],
-        ),
-        ((2000, 6, 1, 0, 0, 0), &[FAR_JUMP, (959_817_600, 0, 0)]),
-        (
-            (2000, 10, 27, 0, 30, 0),
-            &[FAR_JUMP, (972_604_800, 0, 3600)],
-        ),
-        (
-            (2000, 11, 1, 0, 0, 0),
-            &[FAR_JUMP, (973_033_200, 3600, 3600)],
-        ),
-        (
-            (2030, 2, 1, 0, 0, 0),
-            &[FAR_JUMP, (1_896_130_800, 3600, 3600)],
-        ),
-        (
-            (2030, 3, 31, 0, 30, 0),
-            &[FAR_JUMP, (1_901_143_800, 3600, 3600), (1_901_147_400, 0, 0)],
-        ),
-        ((2030, 6, 1, 0, 0, 0), &[FAR_JUMP, (1_906_502_400, 0, 0)]),
-        (
-            (2030, 10, 27, 0, 30, 0),
-            &[FAR_JUMP, (1_919_289_600, 0, 3600)],
-        ),
-        (
-            (2030, 11, 1, 0, 0, 0),
-            &[FAR_JUMP, (1_919_718_000, 3600, 3600)],
-        ),
-    ];
-    expect_all_in(&rt, rt.alloc(), &FAR_OFFSET, &ROWS)?;
-    Ok(())
+/// Days of a year by a clock that is set back on March 31st and forward on October 27th, and what is found there before that year.
+macro_rules! days_of {
+    ($year:literal: $($before:expr)?) => {
+        [
+            (($year, 2, 1, 0, 0, 0), &[$($before,)? (utc!($year-01-31 23:00:00), 3600, 3600)]),
+            (
+                ($year, 3, 31, 0, 30, 0),
+                &[
+                    $($before,)?
+                    (utc!($year-03-30 23:30:00), 3600, 3600),
+                    (utc!($year-03-31 00:30:00), 0, 0),
+                ],
+            ),
+            (($year, 6, 1, 0, 0, 0), &[$($before,)? (utc!($year-06-01 00:00:00), 0, 0)]),
+            (($year, 10, 27, 0, 30, 0), &[$($before,)? (utc!($year-10-27 00:00:00), 0, 3600)]),
+            (($year, 11, 1, 0, 0, 0), &[$($before,)? (utc!($year-10-31 23:00:00), 3600, 3600)]),
+        ]
+    };
 }
 
-/// Days of the year in which the jump ends.
+/// The rule holds in years that the jump passes over, and after it.
 #[test]
-fn a_rule_after_a_far_jump(rt: HostRuntime) -> Result<(), Fail> {
-    static ROWS: [(Reading, &[Summary]); 5] = [
-        ((2038, 2, 1, 0, 0, 0), &[(2_148_591_600, 3600, 3600)]),
-        (
-            (2038, 3, 31, 0, 30, 0),
-            &[(2_153_604_600, 3600, 3600), (2_153_608_200, 0, 0)],
-        ),
-        ((2038, 6, 1, 0, 0, 0), &[(2_158_963_200, 0, 0)]),
-        ((2038, 10, 27, 0, 30, 0), &[(2_171_750_400, 0, 3600)]),
-        ((2038, 11, 1, 0, 0, 0), &[(2_172_178_800, 3600, 3600)]),
-    ];
-    expect_all_in(&rt, rt.alloc(), &FAR_OFFSET, &ROWS)?;
+fn a_rule_under_and_after_a_far_jump(rt: HostRuntime) -> Result<(), Fail> {
+    static IN_1970: [(Reading, &[Summary]); 5] = days_of!(1970: FAR_JUMP);
+    static IN_2000: [(Reading, &[Summary]); 5] = days_of!(2000: FAR_JUMP);
+    static IN_2030: [(Reading, &[Summary]); 5] = days_of!(2030: FAR_JUMP);
+    static IN_2038: [(Reading, &[Summary]); 5] = days_of!(2038:);
+    for rows in [&IN_1970, &IN_2000, &IN_2030, &IN_2038] {
+        expect_all_in(&rt, rt.alloc(), &FAR_OFFSET, rows)?;
+    }
     Ok(())
 }
 

@@ -9,6 +9,7 @@ use tz::datetime::{DateTime, Disambiguation, UtcDateTime};
 use tz_base::error::TzError;
 use tz_base::error::datetime::DateTimeError;
 use tz_samples::rules::Day;
+use tz_samples::utc;
 use tz_samples::zones::{CROSSING, ExtraRule, ZoneRow, zone_of};
 use tz_zone::timezone::TimeZoneRef;
 
@@ -212,7 +213,7 @@ fn nothing_is_shown_at_the_instant_that_is_meant(rt: HostRuntime) -> Result<(), 
         (
             ZoneRow {
                 types: &[(0, false, None), (7200, false, None)],
-                transitions: &[(67_767_976_233_523_800, 1)],
+                transitions: &[(utc!(2147483647-12-31 21:30:00), 1)],
                 leap_seconds: &[],
                 extra_rule: Some(ExtraRule::Fixed((7200, false, None))),
             },
@@ -223,7 +224,7 @@ fn nothing_is_shown_at_the_instant_that_is_meant(rt: HostRuntime) -> Result<(), 
         (
             ZoneRow {
                 types: &[(0, false, None), (7200, false, None)],
-                transitions: &[(-67_768_100_567_969_400, 1)],
+                transitions: &[(utc!(-2147483648-01-01 00:30:00), 1)],
                 leap_seconds: &[],
                 extra_rule: Some(ExtraRule::Fixed((7200, false, None))),
             },
@@ -257,7 +258,7 @@ fn lists_out_of_range(rt: HostRuntime) -> Result<(), Fail> {
         (
             ZoneRow {
                 types: &[(0, false, None), (7200, false, None)],
-                transitions: &[(-67_768_100_567_974_800, 1)],
+                transitions: &[(utc!(-2147483649-12-31 23:00:00), 1)],
                 leap_seconds: &[],
                 extra_rule: Some(ExtraRule::Fixed((7200, false, None))),
             },
@@ -266,7 +267,7 @@ fn lists_out_of_range(rt: HostRuntime) -> Result<(), Fail> {
         (
             ZoneRow {
                 types: &[(0, false, None), (7200, false, None)],
-                transitions: &[(67_767_976_233_529_200, 1)],
+                transitions: &[(utc!(2147483647-12-31 23:00:00), 1)],
                 leap_seconds: &[],
                 extra_rule: Some(ExtraRule::Fixed((7200, false, None))),
             },
@@ -308,11 +309,12 @@ fn date_times_past_the_ends_of_utc(rt: HostRuntime) -> Result<(), Fail> {
         let all = format!(in rt.alloc(); "{shown}{shown}{shown}{shown}")?;
         expect_meanings(&rt, rt.alloc(), zone, &[(*reading, all.as_str())])?;
     }
+    const PAST_ALL_YEARS: i64 = utc!(2147483648-01-01 00:00:00);
     let utc = TimeZoneRef::utc();
     for &choice in CHOICES.iter() {
         let last = DateTime::find_one(i32::MAX, 12, 31, 23, 59, 60, 0, choice, utc)?;
         let last = last.map(|date_time| (date_time.unix_time(), date_time.second()));
-        expect_eq(&rt, &last, &Some((67_767_976_233_532_800, 60)));
+        expect_eq(&rt, &last, &Some((PAST_ALL_YEARS, 60)));
     }
     Ok(())
 }

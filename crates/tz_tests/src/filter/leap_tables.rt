@@ -4,7 +4,7 @@ use super::*;
 use crate::expect::expect_eq;
 
 /// The leap time at which the tables of these tests begin.
-const START: i64 = 1_483_228_826;
+const START: i64 = utc!(2017-01-01 00:00:00) + 26;
 
 /// All entries for a reading, by a look at each instant that is less than eight seconds from it.
 fn filtered_seconds(

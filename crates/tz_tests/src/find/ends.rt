@@ -223,7 +223,7 @@ const AHEAD: Option<ExtraRule> = Some(ExtraRule::Fixed((7200, false, None)));
 /// From 23:00 of the year before the first one to 01:00.
 const FIRST_JUMP: ZoneRow = ZoneRow {
     types: TWO_HOURS,
-    transitions: &[(-67_768_100_567_974_800, 1)],
+    transitions: &[(utc!(-2147483649-12-31 23:00:00), 1)],
     leap_seconds: &[],
     extra_rule: AHEAD,
 };
@@ -231,7 +231,7 @@ const FIRST_JUMP: ZoneRow = ZoneRow {
 /// From 23:00 to 01:00 of the year after the last one.
 const LAST_JUMP: ZoneRow = ZoneRow {
     types: TWO_HOURS,
-    transitions: &[(67_767_976_233_529_200, 1)],
+    transitions: &[(utc!(2147483647-12-31 23:00:00), 1)],
     leap_seconds: &[],
     extra_rule: AHEAD,
 };
@@ -246,7 +246,7 @@ fn jumps_past_the_ends_are_out_of_range(rt: HostRuntime) -> Result<(), Fail> {
         (
             ZoneRow {
                 types: TWO_HOURS,
-                transitions: &[(-67_768_100_567_971_201, 1)],
+                transitions: &[(utc!(-2147483649-12-31 23:59:59), 1)],
                 leap_seconds: &[],
                 extra_rule: AHEAD,
             },
@@ -256,7 +256,7 @@ fn jumps_past_the_ends_are_out_of_range(rt: HostRuntime) -> Result<(), Fail> {
         (
             ZoneRow {
                 types: TWO_HOURS,
-                transitions: &[(67_767_976_233_525_600, 1)],
+                transitions: &[(utc!(2147483647-12-31 22:00:00), 1)],
                 leap_seconds: &[],
                 extra_rule: AHEAD,
             },
@@ -266,7 +266,7 @@ fn jumps_past_the_ends_are_out_of_range(rt: HostRuntime) -> Result<(), Fail> {
         (
             ZoneRow {
                 types: TWO_HOURS,
-                transitions: &[(67_767_976_233_532_800, 1)],
+                transitions: &[(utc!(2147483648-01-01 00:00:00), 1)],
                 leap_seconds: &[],
                 extra_rule: AHEAD,
             },
@@ -276,7 +276,10 @@ fn jumps_past_the_ends_are_out_of_range(rt: HostRuntime) -> Result<(), Fail> {
         (
             ZoneRow {
                 types: &[(0, false, None), (-7200, false, None), (7200, false, None)],
-                transitions: &[(67_767_976_233_531_900, 1), (67_767_976_233_534_600, 2)],
+                transitions: &[
+                    (utc!(2147483647-12-31 23:45:00), 1),
+                    (utc!(2147483648-01-01 00:30:00), 2),
+                ],
                 leap_seconds: &[],
                 extra_rule: AHEAD,
             },
@@ -326,7 +329,7 @@ fn all_else_at_the_ends_is_found(rt: HostRuntime) -> Result<(), Fail> {
         (
             ZoneRow {
                 types: TWO_HOURS,
-                transitions: &[(-67_768_100_567_971_200, 1)],
+                transitions: &[(utc!(-2147483648-01-01 00:00:00), 1)],
                 leap_seconds: &[],
                 extra_rule: AHEAD,
             },
@@ -336,7 +339,7 @@ fn all_else_at_the_ends_is_found(rt: HostRuntime) -> Result<(), Fail> {
         (
             ZoneRow {
                 types: TWO_HOURS,
-                transitions: &[(67_767_976_233_525_599, 1)],
+                transitions: &[(utc!(2147483647-12-31 21:59:59), 1)],
                 leap_seconds: &[],
                 extra_rule: AHEAD,
             },

@@ -3,7 +3,7 @@
 use super::*;
 
 /// The leap time at which the tables of these tests begin.
-const START: i64 = 1_483_228_826;
+const START: i64 = utc!(2017-01-01 00:00:00) + 26;
 
 /// The last second before the table begins is not found, and a jump behind it is.
 #[test]
@@ -16,7 +16,10 @@ fn a_table_from_2016(rt: HostRuntime) -> Result<(), Fail> {
     };
     static ROWS: [(Reading, &[Summary]); 3] = [
         ((2016, 12, 31, 23, 59, 58), &[]),
-        ((2016, 12, 31, 23, 59, 59), &[(1_483_228_799, 0, 0)]),
+        (
+            (2016, 12, 31, 23, 59, 59),
+            &[(utc!(2016-12-31 23:59:59), 0, 0)],
+        ),
         ((2017, 7, 14, 2, 40, 0), &[(1_500_000_000, 0, 3600)]),
     ];
     expect_all_in(&rt, rt.alloc(), &ZONE, &ROWS)?;
@@ -43,7 +46,7 @@ fn a_table_that_begins_too_late(rt: HostRuntime) -> Result<(), Fail> {
                 leap_seconds: &[(i64::MAX, 3)],
                 extra_rule: Some(ExtraRule::Fixed((0, false, None))),
             },
-            &[((2000, 1, 1, 0, 0, 0), &[(946_684_800, 0, 0)])],
+            &[((2000, 1, 1, 0, 0, 0), &[(utc!(2000-01-01 00:00:00), 0, 0)])],
         ),
     ];
     for (zone, rows) in &ROWS {

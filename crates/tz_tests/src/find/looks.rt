@@ -189,7 +189,7 @@ fn transitions_of_one_effect_are_each_looked_at(rt: HostRuntime) -> Result<(), F
 
 /// The counted search finds the hour that Central Europe's rule leaves out in 2400, after these transitions.
 fn expect_gap_of_2400(rt: &impl Abort, transitions: &[Transition]) -> Result<u64, TzError> {
-    static GAP: [Summary; 1] = [(13_576_813_200, 3600, 7200)];
+    static GAP: [Summary; 1] = [(utc!(2400-03-26 01:00:00), 3600, 7200)];
     let rule = central_europe()?;
     let types = [*rule.std(), *rule.dst()];
     let rule = Some(TransitionRule::Alternate(rule));
