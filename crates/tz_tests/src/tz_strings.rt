@@ -20,6 +20,18 @@ fn alternate(row: &RuleRow) -> Result<TransitionRule, TzError> {
     Ok(TransitionRule::Alternate(rule_of(row)?))
 }
 
+/// The offsets and names of standard time and of daylight saving time, when the latter starts and ends, and the text of the rule.
+type AlternateRow = (Named, Named, (Day, i32), (Day, i32), &'static str);
+
+type Named = (i32, &'static [u8]);
+
+/// The same rule as a row with daylight flags.
+fn rule_row(row: &AlternateRow) -> RuleRow {
+    let (std, dst, start, end, _) = *row;
+    let std = (std.0, false, Some(std.1));
+    (std, (dst.0, true, Some(dst.1)), start, end)
+}
+
 /// The rule has this text.
 fn expect_string(rt: &impl Abort, rule: &TransitionRule, text: &str) {
     let string = TzString::from_rule(rule);
@@ -84,137 +96,111 @@ fn a_fixed_rule_is_a_name_and_an_offset(rt: HostRuntime) -> Result<(), Fail> {
 
 #[test]
 fn an_alternate_rule_has_its_names_offsets_and_turns(rt: HostRuntime) -> Result<(), Fail> {
-    static ROWS: [(RuleRow, &str); 9] = [
+    static ROWS: [AlternateRow; 9] = [
         (
-            (
-                (3600, false, Some(b"CET")),
-                (7200, true, Some(b"CEST")),
-                (Day::Month(3, 5, 0), 7200),
-                (Day::Month(10, 5, 0), 10_800),
-            ),
+            (3600, b"CET"),
+            (7200, b"CEST"),
+            (Day::Month(3, 5, 0), 7200),
+            (Day::Month(10, 5, 0), 10_800),
             "CET-1CEST,M3.5.0,M10.5.0/3",
         ),
         (
-            (
-                (3600, false, Some(b"IST")),
-                (0, true, Some(b"GMT")),
-                (Day::Month(10, 5, 0), 7200),
-                (Day::Month(3, 5, 0), 3600),
-            ),
+            (3600, b"IST"),
+            (0, b"GMT"),
+            (Day::Month(10, 5, 0), 7200),
+            (Day::Month(3, 5, 0), 3600),
             "IST-1GMT0,M10.5.0,M3.5.0/1",
         ),
         (
-            (
-                (-10_800, false, Some(b"-03")),
-                (10_800, true, Some(b"+03")),
-                (Day::Julian1(1), 7200),
-                (Day::Julian1(365), 7200),
-            ),
+            (-10_800, b"-03"),
+            (10_800, b"+03"),
+            (Day::Julian1(1), 7200),
+            (Day::Julian1(365), 7200),
             "<-03>3<+03>-3,J1,J365",
         ),
         (
-            (
-                (-18_000, false, Some(b"EST")),
-                (-14_400, true, Some(b"EDT")),
-                (Day::Julian0(0), 0),
-                (Day::Julian1(365), 86_400),
-            ),
+            (-18_000, b"EST"),
+            (-14_400, b"EDT"),
+            (Day::Julian0(0), 0),
+            (Day::Julian1(365), 86_400),
             "EST5EDT,0/0,J365/24",
         ),
         (
-            (
-                (45_900, false, Some(b"+1245")),
-                (49_500, true, Some(b"+1345")),
-                (Day::Month(9, 5, 0), 9900),
-                (Day::Month(4, 1, 0), 13_500),
-            ),
+            (45_900, b"+1245"),
+            (49_500, b"+1345"),
+            (Day::Month(9, 5, 0), 9900),
+            (Day::Month(4, 1, 0), 13_500),
             "<+1245>-12:45<+1345>,M9.5.0/2:45,M4.1.0/3:45",
         ),
         (
-            (
-                (37_800, false, Some(b"+1030")),
-                (39_600, true, Some(b"+11")),
-                (Day::Month(10, 1, 0), 7200),
-                (Day::Month(4, 1, 0), 89_999),
-            ),
+            (37_800, b"+1030"),
+            (39_600, b"+11"),
+            (Day::Month(10, 1, 0), 7200),
+            (Day::Month(4, 1, 0), 89_999),
             "<+1030>-10:30<+11>-11,M10.1.0,M4.1.0/24:59:59",
         ),
         (
-            (
-                (-89_999, false, Some(b"STD")),
-                (-86_399, true, Some(b"DST")),
-                (Day::Julian1(1), 7200),
-                (Day::Julian0(364), 7201),
-            ),
+            (-89_999, b"STD"),
+            (-86_399, b"DST"),
+            (Day::Julian1(1), 7200),
+            (Day::Julian0(364), 7201),
             "STD24:59:59DST,J1,364/2:00:01",
         ),
         (
-            (
-                (89_999, false, Some(b"STD")),
-                (93_599, true, Some(b"DST")),
-                (Day::Julian1(1), 7200),
-                (Day::Julian1(365), 7200),
-            ),
+            (89_999, b"STD"),
+            (93_599, b"DST"),
+            (Day::Julian1(1), 7200),
+            (Day::Julian1(365), 7200),
             "STD-24:59:59DST,J1,J365",
         ),
         (
-            (
-                (0, false, Some(b"AB")),
-                (3601, true, Some(b"A")),
-                (Day::Julian1(60), 60),
-                (Day::Julian0(260), 1),
-            ),
+            (0, b"AB"),
+            (3601, b"A"),
+            (Day::Julian1(60), 60),
+            (Day::Julian0(260), 1),
             "<AB>0<A>-1:00:01,J60/0:01,260/0:00:01",
         ),
     ];
-    for (row, text) in &ROWS {
-        expect_ordinary(&rt, rt.alloc(), alternate(row)?, text)?;
+    for row in &ROWS {
+        expect_ordinary(&rt, rt.alloc(), alternate(&rule_row(row))?, row.4)?;
     }
     Ok(())
 }
 
 #[test]
 fn negative_and_late_times_of_day_are_extended(rt: HostRuntime) -> Result<(), Fail> {
-    static ROWS: [(RuleRow, &str); 4] = [
+    static ROWS: [AlternateRow; 4] = [
         (
-            (
-                (7200, false, Some(b"IST")),
-                (10_800, true, Some(b"IDT")),
-                (Day::Month(3, 4, 4), 93_600),
-                (Day::Month(10, 5, 0), 7200),
-            ),
+            (7200, b"IST"),
+            (10_800, b"IDT"),
+            (Day::Month(3, 4, 4), 93_600),
+            (Day::Month(10, 5, 0), 7200),
             "IST-2IDT,M3.4.4/26,M10.5.0",
         ),
         (
-            (
-                (-7200, false, Some(b"-02")),
-                (-3600, true, Some(b"-01")),
-                (Day::Month(3, 5, 0), -3600),
-                (Day::Month(10, 5, 0), 0),
-            ),
+            (-7200, b"-02"),
+            (-3600, b"-01"),
+            (Day::Month(3, 5, 0), -3600),
+            (Day::Month(10, 5, 0), 0),
             "<-02>2<-01>,M3.5.0/-1,M10.5.0/0",
         ),
         (
-            (
-                (0, false, Some(b"AAA")),
-                (3600, true, Some(b"BBB")),
-                (Day::Month(3, 4, 4), 604_799),
-                (Day::Month(10, 5, 0), -604_799),
-            ),
+            (0, b"AAA"),
+            (3600, b"BBB"),
+            (Day::Month(3, 4, 4), 604_799),
+            (Day::Month(10, 5, 0), -604_799),
             "AAA0BBB,M3.4.4/167:59:59,M10.5.0/-167:59:59",
         ),
         (
-            (
-                (0, false, Some(b"AAA")),
-                (3600, true, Some(b"BBB")),
-                (Day::Month(3, 4, 4), 90_000),
-                (Day::Month(10, 5, 0), -1),
-            ),
+            (0, b"AAA"),
+            (3600, b"BBB"),
+            (Day::Month(3, 4, 4), 90_000),
+            (Day::Month(10, 5, 0), -1),
             "AAA0BBB,M3.4.4/25,M10.5.0/-0:00:01",
         ),
     ];
-    for (row, text) in &ROWS {
-        expect_extended(&rt, rt.alloc(), alternate(row)?, text)?;
+    for row in &ROWS {
+        expect_extended(&rt, rt.alloc(), alternate(&rule_row(row))?, row.4)?;
     }
     Ok(())
 }
