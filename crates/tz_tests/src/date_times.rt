@@ -1,9 +1,9 @@
 //! Date times: instants and fields with their answers, the ends of the years, order, arithmetic and printing.
 
-use crate::expect::expect_eq;
+use crate::expect::{expect_debug, expect_eq};
 use std::alloc::{AllocError, Global};
 use std::cmp::Ordering;
-use std::fmt::{Debug, Display};
+use std::fmt::Display;
 use std::process::Abort;
 use std::test::Fail;
 use std::time::Duration;
@@ -25,18 +25,6 @@ fn expect_text(
     expect_eq(rt, &printed.as_str(), &text);
     let padded = format!(in alloc; "{date_time:60}")?;
     expect_eq(rt, &padded.as_str(), &text);
-    Ok(())
-}
-
-/// The value is shown to programmers as the text.
-fn expect_debug(
-    rt: &impl Abort,
-    alloc: Global,
-    value: &impl Debug,
-    text: &str,
-) -> Result<(), AllocError> {
-    let printed = format!(in alloc; "{value:?}")?;
-    expect_eq(rt, &printed.as_str(), &text);
     Ok(())
 }
 

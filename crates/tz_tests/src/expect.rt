@@ -1,9 +1,22 @@
 //! Comparisons of tests. The proof of a test walks through each `assert_eq!` where it is written out, and through a call of these much faster.
 
+use std::alloc::{AllocError, Global};
 use std::fmt::Debug;
 use std::process::Abort;
 
 /// The values are equal.
 pub(crate) fn expect_eq<T: Debug + PartialEq>(rt: &impl Abort, found: &T, wanted: &T) {
     assert_eq!(rt; *found, *wanted);
+}
+
+/// The value is shown to programmers as the text.
+pub(crate) fn expect_debug(
+    rt: &impl Abort,
+    alloc: Global,
+    value: &impl Debug,
+    text: &str,
+) -> Result<(), AllocError> {
+    let printed = format!(in alloc; "{value:?}")?;
+    expect_eq(rt, &printed.as_str(), &text);
+    Ok(())
 }

@@ -3,7 +3,6 @@
 ghost use Rattle.std.specs.Prelude.{◌≡◌};
 
 use std::alloc::{AllocError, Allocator, Global};
-use std::fmt::Debug;
 use std::process::Abort;
 use std::test::Fail;
 use tz::datetime::{DateTime, FoundDateTimeKind, FoundDateTimeList, FoundDateTimeListRefMut};
@@ -22,7 +21,7 @@ mod memory;
 mod texts;
 mod windows;
 
-use crate::expect::expect_eq;
+use crate::expect::{expect_debug, expect_eq};
 use crate::searches::{Reading, Summary, find, summaries, summary};
 use crate::zones::FAR_OFFSET;
 use tz_samples::rules::{Day, RuleRow, TypeRow, central_europe, rule_of};
@@ -394,18 +393,6 @@ fn an_empty_list_leaves_the_slots(rt: HostRuntime) -> Result<(), Fail> {
     let mut buf = [held, None, held];
     lend(&mut buf);
     assert!(rt; holds(&buf, &held));
-    Ok(())
-}
-
-/// The value is shown to programmers as the text.
-fn expect_debug(
-    rt: &impl Abort,
-    alloc: Global,
-    value: &impl Debug,
-    text: &str,
-) -> Result<(), AllocError> {
-    let printed = format!(in alloc; "{value:?}")?;
-    expect_eq(rt, &printed.as_str(), &text);
     Ok(())
 }
 
