@@ -14,9 +14,16 @@ use std::process::Abort;
 use std::test::Fail;
 use tz::{Error, TimeZoneRef, TzError, UtcDateTime};
 use tz_samples::files::JERUSALEM_V3;
+use tz_samples::utc;
 
 /// The clocks of central Europe.
 const CENTRAL_EUROPE: &str = "CET-1CEST,M3.5.0,M10.5.0/3";
+
+/// When they go forward in 2000.
+const SPRING_2000: i64 = utc!(2000-03-26 01:00:00);
+
+/// When those of Israel go forward in 2040.
+const SPRING_2040: i64 = utc!(2040-03-23 00:00:00);
 
 /// The value prints as the text.
 fn expect_shown(
@@ -45,12 +52,13 @@ fn expect_instant(
 
 #[test]
 fn instants_are_shown(rt: HostRuntime) -> Result<(), Fail> {
+    const NEW_YEAR: i64 = utc!(2000-01-01 00:00:00);
     static MOVED: [(i64, &str); 2] = [
-        (946_684_799, "2000-01-01T00:59:59.000000000+01:00"),
-        (946_684_800, "2000-01-01T02:00:00.000000000+02:00"),
+        (NEW_YEAR - 1, "2000-01-01T00:59:59.000000000+01:00"),
+        (NEW_YEAR, "2000-01-01T02:00:00.000000000+02:00"),
     ];
     let alloc = rt.alloc();
-    let local = local_time(alloc, JERUSALEM_V3, 2_216_073_600)?;
+    let local = local_time(alloc, JERUSALEM_V3, SPRING_2040)?;
     expect_shown(&rt, alloc, &local, "2040-03-23T03:00:00.000000000+03:00")?;
     let behind = new_year_an_hour_behind(alloc)?;
     expect_shown(&rt, alloc, &behind, "2023-12-31T23:00:00.000000000-01:00")?;
@@ -62,7 +70,7 @@ fn instants_are_shown(rt: HostRuntime) -> Result<(), Fail> {
         &rt,
         alloc,
         zone.as_ref(),
-        954_032_400,
+        SPRING_2000,
         "2000-03-26T03:00:00.000000000+02:00 CEST",
     )?;
     assert!(rt; show_now(&rt, zone.as_ref())?.unix_time() > 1_700_000_000);
@@ -88,10 +96,10 @@ fn expect_alarms(rt: &impl Abort, alloc: Global, zone: TimeZoneRef<'_>) -> Resul
     // Month, day, hour and minute in 2000, with the instant at which the alarm rings, and the number of meanings.
     static ALARMS: [((u8, u8, u8, u8), i64, usize); 3] = [
         // Clocks go forward from 2:00 to 3:00.
-        ((3, 26, 2, 30), 954_032_400, 1),
+        ((3, 26, 2, 30), SPRING_2000, 1),
         // Clocks go back from 3:00 to 2:00.
-        ((10, 29, 2, 30), 972_779_400, 2),
-        ((7, 1, 0, 0), 962_402_400, 1),
+        ((10, 29, 2, 30), utc!(2000-10-29 00:30:00), 2),
+        ((7, 1, 0, 0), utc!(2000-06-30 22:00:00), 1),
     ];
     for &((month, month_day, hour, minute), instant, meanings) in ALARMS.iter() {
         let local = UtcDateTime::new(2000, month, month_day, hour, minute, 0, 0)?;
@@ -131,18 +139,50 @@ fn expect_runs(
 fn daily_jobs_run_once_in_gaps_and_folds(rt: HostRuntime) -> Result<(), Fail> {
     static NEW_YORK: [(u8, i64, &str); 6] = [
         // Noon of March 7th; clocks go forward from 2:00 to 3:00 in the night that follows.
-        (2, 1_772_902_800, "2026-03-08T03:30:00.000000000-04:00"),
-        (2, 1_772_954_999, "2026-03-08T03:30:00.000000000-04:00"),
-        (2, 1_772_955_000, "2026-03-09T02:30:00.000000000-04:00"),
+        (
+            2,
+            utc!(2026-03-07 17:00:00),
+            "2026-03-08T03:30:00.000000000-04:00",
+        ),
+        (
+            2,
+            utc!(2026-03-08 07:29:59),
+            "2026-03-08T03:30:00.000000000-04:00",
+        ),
+        (
+            2,
+            utc!(2026-03-08 07:30:00),
+            "2026-03-09T02:30:00.000000000-04:00",
+        ),
         // Noon of October 31st; clocks go back from 2:00 to 1:00 in the night that follows, so that 1:30 is shown twice.
-        (1, 1_793_462_400, "2026-11-01T01:30:00.000000000-04:00"),
-        (1, 1_793_511_000, "2026-11-02T01:30:00.000000000-05:00"),
-        (1, 1_793_514_600, "2026-11-02T01:30:00.000000000-05:00"),
+        (
+            1,
+            utc!(2026-10-31 16:00:00),
+            "2026-11-01T01:30:00.000000000-04:00",
+        ),
+        (
+            1,
+            utc!(2026-11-01 05:30:00),
+            "2026-11-02T01:30:00.000000000-05:00",
+        ),
+        (
+            1,
+            utc!(2026-11-01 06:30:00),
+            "2026-11-02T01:30:00.000000000-05:00",
+        ),
     ];
     // Clocks go forward from 23:00 to midnight, as in Scoresbysund, and midnight itself is the first instant.
     static OVER_MIDNIGHT: [(u8, i64, &str); 2] = [
-        (23, 1_743_296_400, "2025-03-30T00:30:00.000000000-01:00"),
-        (23, 1_743_298_200, "2025-03-30T23:30:00.000000000-01:00"),
+        (
+            23,
+            utc!(2025-03-30 01:00:00),
+            "2025-03-30T00:30:00.000000000-01:00",
+        ),
+        (
+            23,
+            utc!(2025-03-30 01:30:00),
+            "2025-03-30T23:30:00.000000000-01:00",
+        ),
     ];
     let alloc = rt.alloc();
     let zone = zone_of_setting(&rt, alloc, "EST5EDT,M3.2.0,M11.1.0")?;
@@ -172,9 +212,9 @@ fn expect_meetings(rt: &impl Abort, alloc: Global, zone: TimeZoneRef<'_>) -> Res
 fn expect_mondays(rt: &impl Abort, zone: TimeZoneRef<'_>) -> Result<(), TzError> {
     static MONDAYS: [(i64, i64); 3] = [
         // A Sunday; Monday at 9:00 itself; one second before it.
-        (954_032_400, 954_140_400),
-        (954_140_400, 954_745_200),
-        (954_140_399, 954_140_400),
+        (utc!(2000-03-26 01:00:00), utc!(2000-03-27 07:00:00)),
+        (utc!(2000-03-27 07:00:00), utc!(2000-04-03 07:00:00)),
+        (utc!(2000-03-27 06:59:59), utc!(2000-03-27 07:00:00)),
     ];
     for &(now, monday) in MONDAYS.iter() {
         let next = next_monday_at_nine(zone, now)?;
@@ -199,8 +239,16 @@ fn expect_next_changes(
     zone: TimeZoneRef<'_>,
 ) -> Result<(), TzError> {
     static CHANGES: [(i64, &str, i64); 2] = [
-        (954_032_399, "2000-03-26T03:00:00.000000000+02:00", 3600),
-        (954_032_400, "2000-10-29T02:00:00.000000000+01:00", -3600),
+        (
+            utc!(2000-03-26 00:59:59),
+            "2000-03-26T03:00:00.000000000+02:00",
+            3600,
+        ),
+        (
+            utc!(2000-03-26 01:00:00),
+            "2000-10-29T02:00:00.000000000+01:00",
+            -3600,
+        ),
     ];
     for &(now, text, seconds) in CHANGES.iter() {
         let found = next_change(zone, now)?;
@@ -219,22 +267,24 @@ fn expect_changes_around(
     alloc: Global,
     zone: TimeZoneRef<'_>,
 ) -> Result<(), TzError> {
-    let changes = changes_around(alloc, zone, 954_032_400)?;
+    const FIRST: i64 = utc!(1980-03-30 01:00:00);
+    const LAST: i64 = utc!(2001-03-25 01:00:00);
+    let changes = changes_around(alloc, zone, SPRING_2000)?;
     expect_eq(rt, &changes.len(), &43);
     let first = changes.first().map(|change| change.unix_time());
-    expect_eq(rt, &first, &Some(323_226_000));
+    expect_eq(rt, &first, &Some(FIRST));
     let last = changes.last().map(|change| change.unix_time());
-    expect_eq(rt, &last, &Some(985_482_000));
+    expect_eq(rt, &last, &Some(LAST));
     Ok(())
 }
 
 /// The entries of a log are shown as lookups show them.
 fn expect_entries(rt: &impl Abort, alloc: Global, zone: TimeZoneRef<'_>) -> Result<(), TzError> {
     static ENTRIES: [(i64, &str); 4] = [
-        (954_032_398, "2000-03-26T01:59:58.000000000+01:00"),
-        (954_032_399, "2000-03-26T01:59:59.000000000+01:00"),
-        (954_032_400, "2000-03-26T03:00:00.000000000+02:00"),
-        (954_032_399, "2000-03-26T01:59:59.000000000+01:00"),
+        (SPRING_2000 - 2, "2000-03-26T01:59:58.000000000+01:00"),
+        (SPRING_2000 - 1, "2000-03-26T01:59:59.000000000+01:00"),
+        (SPRING_2000, "2000-03-26T03:00:00.000000000+02:00"),
+        (SPRING_2000 - 1, "2000-03-26T01:59:59.000000000+01:00"),
     ];
     let mut segment = zone.segment_at(0);
     for &(unix_time, text) in ENTRIES.iter() {
