@@ -7,6 +7,7 @@ use std::test::Fail;
 use tz::{TimeZoneRef, UtcDateTime};
 use tz_query::query::answer;
 use tz_samples::tz_strings::central_europe_zone;
+use tz_samples::utc;
 
 /// Three weeks over a jump of the clock of Central Europe, and their answer.
 const OVER_A_JUMP: &str = "W 3 2000 3 19 2 30 0 0";
@@ -67,7 +68,8 @@ fn meetings_have_these_answers(rt: HostRuntime) -> Result<(), Fail> {
 
 /// The answers to the question for the date as many weeks after the thirty-first of October 1999.
 fn answers_of_week(alloc: Global, zone: TimeZoneRef<'_>, weeks: u8) -> Result<Vec<u8>, Fail> {
-    let date = UtcDateTime::from_timespec(941_328_000 + 604_800 * i64::from(weeks), 0)?;
+    const FIRST: i64 = utc!(1999-10-31 00:00:00);
+    let date = UtcDateTime::from_timespec(FIRST + 604_800 * i64::from(weeks), 0)?;
     let (year, month, day) = (date.year(), date.month(), date.month_day());
     let line = format!(in alloc; "F {year} {month} {day} 2 30 0 0")?;
     Ok(answer(alloc, zone, line.as_bytes())?)

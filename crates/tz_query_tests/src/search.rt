@@ -9,6 +9,7 @@ use tz::{TimeZone, TimeZoneRef};
 use tz_query::query::answer;
 use tz_samples::files::JERUSALEM_V3;
 use tz_samples::rules::Day;
+use tz_samples::utc;
 use tz_samples::zones::{CROSSING, ExtraRule, ZoneRow};
 
 /// The zone of `EST5EDT,0/0,J365/25`.
@@ -179,7 +180,7 @@ fn a_zone_whose_leap_seconds_begin_later(rt: HostRuntime) -> Result<(), Fail> {
     static ZONE: ZoneRow = ZoneRow {
         types: &[(0, false, Some(b"A")), (3600, false, Some(b"B"))],
         transitions: &[(1_500_000_027, 1)],
-        leap_seconds: &[(1_483_228_826, 27)],
+        leap_seconds: &[(utc!(2017-01-01 00:00:00) + 26, 27)],
         extra_rule: Some(ExtraRule::Fixed((3600, false, Some(b"B")))),
     };
     expect_answers_by_parts(
@@ -346,7 +347,10 @@ fn jumps_past_the_ends_are_out_of_range(rt: HostRuntime) -> Result<(), Fail> {
             (0, false, Some(b"B")),
             (7200, false, Some(b"C")),
         ],
-        transitions: &[(-67_768_100_567_969_400, 1), (67_767_976_233_529_200, 2)],
+        transitions: &[
+            (utc!(-2147483648-01-01 00:30:00), 1),
+            (utc!(2147483647-12-31 23:00:00), 2),
+        ],
         leap_seconds: &[],
         extra_rule: Some(ExtraRule::Fixed((7200, false, Some(b"C")))),
     };
