@@ -17,10 +17,10 @@ suffix_text t = offset_text t.ut_offset ++ (32 ∷ name_text t ++ 10 ∷ [])
 abbrev pub AreDigitsOf : ℕ → List ℕ → Type 0
 AreDigitsOf n nine = (n < 1000000000) × (nine ≡ nine_digits n)
 
--- so many bytes fit onto a page of 2040 bytes
+-- this number of bytes fits onto a page of 2040 bytes
 abbrev pub HasRoomFor : ℕ → List ℕ → Type 0
 HasRoomFor bytes page = length page + bytes ≤ 2040
 
--- one more answer of two date times does, since it has at most 160
+-- one more answer of two date times fits, since it has at most 160 bytes
 abbrev pub HasRoom : List ℕ → Type 0
 HasRoom page = HasRoomFor 160 page

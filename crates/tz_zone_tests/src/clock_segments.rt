@@ -138,7 +138,7 @@ fn expect_segments_around(rt: &impl Abort, zone: &TimeZoneRef<'_>, instants: &[i
     }
 }
 
-/// From an instant on so many segments follow one another up to the greatest instant, with so many looks at most.
+/// From an instant on, this number of segments follow one another up to the greatest instant, with no more looks in all than allowed.
 fn expect_walk(
     rt: &impl Abort,
     zone: &TimeZoneRef<'_>,
@@ -374,7 +374,7 @@ fn few_segments_follow_far_from_1970(rt: HostRuntime) -> Result<(), TzError> {
     Ok(())
 }
 
-/// The segment around an instant takes so many looks at most, and the next one takes one at most.
+/// The segment around an instant takes no more looks than allowed, and the next one takes one at most.
 fn expect_few_looks(rt: &impl Abort, zone: &TimeZoneRef<'_>, unix_time: i64, most_looks: u64) {
     let (_, looks) = segment_at(zone, unix_time);
     assert!(rt; 1 <= looks && looks <= most_looks, "{unix_time}: {looks}");
@@ -383,7 +383,8 @@ fn expect_few_looks(rt: &impl Abort, zone: &TimeZoneRef<'_>, unix_time: i64, mos
     }
 }
 
-/// Segments among so many transitions take so many looks at most, and one look for each transition on the way from one to the next.
+/// Segments among this number of transitions take no more looks than allowed, and one look for each transition on the way from one to the
+/// next.
 fn expect_few_looks_among(
     rt: &impl Abort,
     alloc: Global,

@@ -33,7 +33,7 @@ pub(crate) fn leap_seconds_of_both_signs() -> [LeapSecond; 5] {
     ]
 }
 
-/// Transitions near them, so many seconds later. Some take effect at one instant.
+/// Transitions near the leap seconds, this number of seconds later. Some take effect at one instant.
 pub(crate) fn transitions_near_leap_seconds(later: u8) -> [Transition; 7] {
     let later = i64::from(later);
     [

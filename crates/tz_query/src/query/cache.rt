@@ -3,9 +3,9 @@
 use super::suffix::Suffix;
 use super::suffixes::Suffixes;
 use tz::inner::{Resolution, once, resolve_window, window_of};
-use tz::{LocalTimeType, TimeZoneRef, TzError};
+use tz::{LocalTimeType, TimeZoneRef};
 
-/// Two lines whose instants are less than so many seconds apart are taken as lines in order: 30 days.
+/// 30 days in seconds: lines whose instants are less than this apart are taken as lines in order.
 const NEAR: u64 = 2_592_000;
 
 /// A span of time through which the clock has one type, with the suffix of that type, and the suffixes of other types.
@@ -21,8 +21,8 @@ pub struct Cache<'a> {
 }
 
 impl<'a> Cache<'a> {
-    ghost use Rattle.std.specs.Prelude.{◌≡◌, ℤ, ◌≤ℤ◌, IsTrue, OnOk, IfErr, IfSome};
-    ghost use Rattle.tz_zone.specs.Clock.{IsClock, IsLookupFault};
+    ghost use Rattle.std.specs.Prelude.{◌≡◌, ◌≤ℤ◌, IsTrue, IfSome};
+    ghost use Rattle.tz_zone.specs.Clock.{IsClock};
     ghost use Rattle.tz_zone.specs.ZoneRef.{zone_of};
     ghost use Rattle.tz.specs.Resolutions.{IsResolution, IsResolutionAt};
     ghost use Rattle.tz.specs.Walks.{IsSmall};

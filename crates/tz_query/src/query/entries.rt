@@ -1,6 +1,6 @@
 //! What a search finds, on a page.
 
-ghost use Rattle.std.specs.Prelude.{◌≡◌, ◌+◌, ◌<◌, ◌≤◌, ◌++◌, ◌∷◌, [], ℕ, ℤ, length};
+ghost use Rattle.std.specs.Prelude.{◌≡◌, ◌+◌, ◌≤◌, ◌++◌, ◌∷◌, [], ℕ, ℤ, length};
 ghost use Rattle.tz_base.specs.Fields.{IsValid};
 ghost use Rattle.tz.specs.Walks.{moment_of};
 ghost use Rattle.tz_query.specs.Answers.{moment_text};

@@ -1,11 +1,9 @@
 -- The walk begins in the segment that holds the window's first instant, and halves anew only if that lies before a truncated start.
-use Rattle.std.proofs.Common.{◌∙◌, inl, inr, arith, rules}
-use Rattle.std.proofs.lemmas.Int.{ints, to_z-of_z}
+use Rattle.std.proofs.Common.{◌∙◌, inl, inr, arith}
+use Rattle.std.proofs.lemmas.Int.{to_z-of_z}
 use Rattle.std.proofs.lemmas.List.{nil_from_length}
 use Rattle.std.proofs.lemmas.Result.{on_ok_weaker}
 use mir.Syntax.{w64}
-use mir.Val.{SFits}
-use Rattle.tz_zone.specs.ZoneSeen.{zone_seen}
 use Rattle.tz.proofs.SegmentLooks.{empty_or_some, looks_of_walk, looks_of_long_walk}
 use Rattle.tz.proofs.datetime.search.search_segments.Goals as goal
 

@@ -1,10 +1,9 @@
 -- A `T` line, an `F` line, a `W` line, or a line that is no query.
-use Rattle.std.proofs.Common.{[], ◌∷◌, ◌++◌, refl, inl, inr, sym, ap, ◌∙◌, append_assoc, rules}
+use Rattle.std.proofs.Common.{[], ◌∷◌, refl, inl, inr, rules}
 use Rattle.std.proofs.lemmas.Int.{to_z-of_z}
 use mir.Syntax.{w64}
 use mir.Val.{SFits}
 use Rattle.std.specs.Prelude.{codes}
-use Rattle.tz_query.specs.Lines.{ended}
 use Rattle.tz_query.specs.Queries.{Time, Search, Meeting}
 use Rattle.tz_query.proofs.LineFronts.{no_query}
 use Rattle.tz_query.proofs.query.answers.answer_any_line.Goals as goal

@@ -1,10 +1,9 @@
 -- The answer of the week's fields; a week past the years of 32 bits is out of range.
-use Rattle.std.proofs.Common.{◌≡◌, ◌<◌, ◌∷◌, ◌++◌, [], inl, inr, refl, sym, ap, ◌∙◌, subst, List, ℕ}
+use Rattle.std.proofs.Common.{◌≡◌, ◌<◌, ◌∷◌, [], inl, inr, refl, sym, ap, ◌∙◌, subst, List, ℕ}
 use Rattle.std.specs.Prelude.{codes}
 use Rattle.std.proofs.lemmas.Result.{IfOk-weaker}
 use Rattle.tz.specs.PrintedText.{nine_digits}
 use Rattle.tz_base.specs.declared.calendar.Fields.{Fields}
-use Rattle.tz_query.specs.Lines.{ended}
 use Rattle.tz_query.specs.MeetingDates.{IsWeekOf}
 use Rattle.tz_query.proofs.query.meetings.answer_week.Goals as goal
 

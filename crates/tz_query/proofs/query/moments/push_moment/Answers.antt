@@ -1,6 +1,5 @@
 -- The prefix, the nanoseconds and the suffix make the line.
 use Rattle.std.proofs.Common.{◌++◌, ap, ◌∙◌}
-use Rattle.tz.specs.PrintedText.{nine_digits}
 use Rattle.tz_query.specs.Pages.{prefix_text, suffix_text}
 use Rattle.tz_query.proofs.PageLines.{line_text}
 use Rattle.tz_query.proofs.query.moments.push_moment.Goals as goal

@@ -1,5 +1,5 @@
 -- The line of the entry.
-use Rattle.std.proofs.Common.{◌≡◌, ◌++◌, ◌∷◌, [], sym, ap, subst, ◌∙◌, append_assoc}
+use Rattle.std.proofs.Common.{◌++◌, ◌∷◌, [], sym, ap, subst, ◌∙◌, append_assoc}
 use Rattle.std.specs.Prelude.{codes}
 use Rattle.tz.specs.DateTimes.{DateTime}
 use Rattle.tz.specs.Walks.{moment_of}

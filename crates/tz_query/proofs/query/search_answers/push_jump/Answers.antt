@@ -1,13 +1,12 @@
 -- What is shown on both sides of the jump.
-use Rattle.std.proofs.Common.{◌≡◌, ◌++◌, ◌∷◌, [], ◌+ℤ◌, refl, sym, ap, subst, ◌∙◌, append_assoc, rules}
+use Rattle.std.proofs.Common.{◌++◌, ◌∷◌, [], ◌+ℤ◌, refl, sym, ap, subst, ◌∙◌, append_assoc, rules}
 use Rattle.std.proofs.lemmas.Int.{to_z-of_z}
 use mir.Syntax.{w32, w64}
 use mir.Val.{SFits}
-use Rattle.tz_base.specs.Fields.{IsCivil, IsReading}
+use Rattle.tz_base.specs.Fields.{IsReading}
 use Rattle.tz.specs.DateTimes.{DateTime, ShowsInstant}
 use Rattle.tz.specs.Walks.{moment_of}
 use Rattle.tz_query.specs.Answers.{moment_text}
-use Rattle.tz_query.specs.Outputs.{written}
 use Rattle.tz_query.proofs.PageLines.{civil_with}
 use Rattle.tz_query.proofs.EntryLines.{lines_of_jump}
 use Rattle.tz_query.proofs.query.search_answers.push_jump.Goals as goal

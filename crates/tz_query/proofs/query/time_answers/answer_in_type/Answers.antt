@@ -1,5 +1,5 @@
 -- What the type shows, or that it is in no year of 32 bits.
-use Rattle.std.proofs.Common.{◌≡◌, ◌++◌, ◌∷◌, [], ◌+ℤ◌, inl, inr, refl, sym, subst, ap, ◌∙◌, append_assoc, rules}
+use Rattle.std.proofs.Common.{◌++◌, ◌∷◌, [], ◌+ℤ◌, inl, inr, refl, sym, subst, ap, ◌∙◌, append_assoc, rules}
 use Rattle.std.specs.Prelude.{codes}
 use Rattle.std.proofs.lemmas.Int.{to_z-of_z}
 use Rattle.std.proofs.lemmas.Result.{IfOk-weaker}
@@ -11,7 +11,6 @@ use Rattle.tz.specs.DateTimes.{DateTime}
 use Rattle.tz.specs.Walks.{moment_of}
 use Rattle.tz_query.specs.Answers.{moment_text}
 use Rattle.tz_query.specs.Lines.{line_feed}
-use Rattle.tz_query.specs.Outputs.{written}
 use Rattle.tz_query.proofs.PageLines.{civil_with}
 use Rattle.tz_query.proofs.query.time_answers.answer_in_type.Goals as goal
 

@@ -1,14 +1,11 @@
 -- The type of the span that is kept, or that of a lookup.
-use Rattle.std.proofs.Common.{◌≡◌, ◌++◌, ◌∷◌, [], inl, inr, refl, sym, ap, ◌∙◌, subst, arith}
+use Rattle.std.proofs.Common.{◌++◌, inl, inr, refl, sym, subst, arith}
 use Rattle.std.specs.Prelude.{codes}
 use Rattle.std.proofs.lemmas.Int.{to_z-of_z}
 use Rattle.std.proofs.lemmas.Result.{IfOk-weaker}
 use mir.Syntax.{w64}
-use Rattle.tz_rule.specs.LocalTimeType.{LocalTimeType}
 use Rattle.tz_zone.specs.Clock.{IsClock, IsLookupFault}
 use Rattle.tz_zone.specs.ZoneRef.{zone_of}
-use Rattle.tz_query.specs.Lines.{line_feed}
-use Rattle.tz_query.specs.Outputs.{written}
 use Rattle.tz_query.proofs.AnswerLines.{clock_fault_text}
 use Rattle.tz_query.proofs.query.time_answers.answer_time.Goals as goal
 

@@ -1,12 +1,11 @@
 -- The entries of two instants, or of a jump.
-use Rattle.std.proofs.Common.{◌≡◌, sym, subst, refl, ap, rules, [], ◌∷◌}
+use Rattle.std.proofs.Common.{sym, subst, rules, [], ◌∷◌}
 use Rattle.std.proofs.lemmas.Int.{to_z-of_z}
 use Rattle.std.proofs.lemmas.List.Elements.{All-cons, All-nil}
 use mir.Syntax.{w64}
 use mir.Val.{SFits}
 use Rattle.tz.specs.Found.{CanBeMade}
 use Rattle.tz.specs.Resolutions.{AreEntriesOf}
-use Rattle.tz.specs.declared.datetime.found.FoundDateTimeKind.{FoundDateTimeKind}
 use Rattle.tz.specs.declared.datetime.resolution.Resolution.{Resolution}
 use Rattle.tz.proofs.JumpResolutions.{jump_entries, two_entries}
 use Rattle.tz.proofs.datetime.resolution.Resolution.give.Goals as goal
