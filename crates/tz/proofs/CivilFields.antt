@@ -5,7 +5,7 @@ use Rattle.std.proofs.lemmas.Bool.{cases_lt}
 use Rattle.tz_base.specs.Cycles.{days_of_march_years, march_month, march_month_day}
 use Rattle.tz_base.specs.Days.{is_leap, month_length, months_length, first_day, IsDateOf}
 use Rattle.tz_base.specs.Fields.{IsCivil}
-use Rattle.tz_base.specs.declared.calendar.Fields.{Fields}
+use Rattle.tz_base.specs.declared.fields.Fields.{Fields}
 use Rattle.tz_base.proofs.MarchYears.{year_of_century_bound, march_year_is, last_day_is_leap}
 use Rattle.tz_base.proofs.DatesOfDays.{date_before_january, date_from_january}
 use Rattle.tz_base.proofs.DaysOfYears.{day_number-is}

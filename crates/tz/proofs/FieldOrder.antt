@@ -6,7 +6,7 @@ use Rattle.std.specs.Ordering.{ordering_then, int_cmp, nat_cmp}
 use Rattle.std.specs.declared.cmp.Ordering.{Ordering}
 use Rattle.tz_base.specs.Days.{IsEarlierDate}
 use Rattle.tz_base.specs.Fields.{IsValid, day_of}
-use Rattle.tz_base.specs.declared.calendar.Fields.{Fields}
+use Rattle.tz_base.specs.declared.fields.Fields.{Fields}
 use Rattle.tz_base.proofs.DateOrder.{day_number-mono, valid_day}
 use Rattle.tz.specs.DateTimes.{utc_total}
 use Rattle.tz.proofs.ComparisonsByParts.{nat_ranked, int_ranked, then_ranked, weaker_ranks}

@@ -5,7 +5,7 @@ use Rattle.std.proofs.lemmas.Int.{ints}
 use lib.Signed.{mag}
 use mir.Syntax.{w32, w64}
 use mir.Val.{to_z, of_z, SFits}
-use Rattle.tz_base.specs.declared.calendar.Fields.{Fields}
+use Rattle.tz_base.specs.declared.fields.Fields.{Fields}
 use Rattle.tz_base.specs.declared.error.TzError.{TzError}
 use Rattle.tz_base.specs.declared.error.TzError.TheVariants as faults
 use Rattle.tz_base.specs.Fields.{IsValid, reading}

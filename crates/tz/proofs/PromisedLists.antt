@@ -7,7 +7,7 @@ use Rattle.std.specs.Prelude.{⊤, alloc_error}
 use Rattle.tz_base.specs.declared.error.datetime.DateTimeError.{DateTimeError}
 use Rattle.tz_base.specs.declared.error.datetime.DateTimeError.TheVariants.{InvalidMonth, InvalidMonthDay, InvalidHour, InvalidMinute, InvalidSecond, InvalidNanoseconds}
 use Rattle.tz_base.specs.Fields.{IsValid, IsFirstFault, IsReading, reading}
-use Rattle.tz_base.specs.declared.calendar.Fields.{Fields}
+use Rattle.tz_base.specs.declared.fields.Fields.{Fields}
 use Rattle.tz_base.specs.declared.error.TzError.{TzError}
 use Rattle.tz_base.specs.declared.error.TzError.TheVariants.{OutOfRange, Memory}
 use Rattle.tz_base.proofs.DaysOfYears.{day_in_year, first_day_bounds}

@@ -4,7 +4,7 @@ use Rattle.std.specs.Ordering.{on, eq_of_both, then_cmp, int_eq, int_cmp, nat_cm
 use Rattle.std.specs.declared.cmp.Ordering.{Ordering}
 use Rattle.std.specs.declared.time.Duration.{Duration}
 use Rattle.std.specs.Duration.{as_nanos}
-use Rattle.tz_base.specs.declared.calendar.Fields.{Fields}
+use Rattle.tz_base.specs.declared.fields.Fields.{Fields}
 use Rattle.tz_base.specs.declared.error.TzError.{TzError}
 use Rattle.tz_base.specs.declared.error.TzError.TheVariants as faults
 use Rattle.tz_base.specs.declared.error.datetime.DateTimeError.{DateTimeError}

@@ -1,6 +1,6 @@
 -- Why a search for fields is refused, and where it is never out of range.
 use Rattle.std.specs.Prelude.{◌≡◌, ◌⊎◌, ℕ, ℤ, negsuc, pos, ◌≤ℤ◌, Option, Some, None, ⊤, alloc_error}
-use Rattle.tz_base.specs.declared.calendar.Fields.{Fields}
+use Rattle.tz_base.specs.declared.fields.Fields.{Fields}
 use Rattle.tz_base.specs.declared.error.TzError.{TzError}
 use Rattle.tz_base.specs.declared.error.TzError.TheVariants as faults
 use Rattle.tz_base.specs.declared.error.datetime.DateTimeError.{DateTimeError}

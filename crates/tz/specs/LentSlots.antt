@@ -3,7 +3,7 @@ use Rattle.std.specs.Borrow.{RestsIfErr, MutBor, Fml, GName, Array, RattleType}
 use Rattle.std.specs.Prelude.{◌≡◌, ◌⊎◌, Result}
 use Rattle.std.specs.contracts.option.Option as option
 use Rattle.tz_base.specs.Fields.{IsValid}
-use Rattle.tz_base.specs.declared.calendar.Fields.{Fields}
+use Rattle.tz_base.specs.declared.fields.Fields.{Fields}
 use Rattle.tz.specs.Slots.{Slots}
 use Rattle.tz.specs.contracts.datetime.found.FoundDateTimeKind as found
 

@@ -1,7 +1,7 @@
 -- Which one date time a local time means, where clocks show it never or more than once. (RFC 5545, 3.3.5)
 use Rattle.std.specs.Prelude.{◌≡◌, ◌⊎◌, ◌-◌, ◌-ℤ◌, ℤ, List, [], ◌∷◌, Option, Some, None, length, slice_get, ⊤}
 use Rattle.std.specs.Option.{option_or}
-use Rattle.tz_base.specs.declared.calendar.Fields.{Fields}
+use Rattle.tz_base.specs.declared.fields.Fields.{Fields}
 use Rattle.tz_base.specs.declared.error.TzError.{TzError}
 use Rattle.tz_base.specs.Fields.{reading, IsValid}
 use Rattle.tz_zone.specs.Clock.{IsClock}

@@ -7,7 +7,7 @@ use mir.Val.{SFits}
 use Rattle.tz_base.specs.Cycles.{days_of_years}
 use Rattle.tz_base.specs.Days.{is_leap, month_length, months_length, first_day, day_number}
 use Rattle.tz_base.specs.Fields.{IsValid, reading}
-use Rattle.tz_base.specs.declared.calendar.Fields.{Fields}
+use Rattle.tz_base.specs.declared.fields.Fields.{Fields}
 use Rattle.tz_base.proofs.DaysOfYears.{day_number-is}
 use Rattle.tz_base.proofs.LastSeconds.{valid_reading}
 use Rattle.tz_base.proofs.YearStarts.{first_day-moved}

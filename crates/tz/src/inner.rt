@@ -5,4 +5,4 @@ pub use crate::datetime::find::find_fields;
 pub use crate::datetime::resolution::Resolution;
 pub use crate::datetime::resolve::{once, resolve_window, window_of};
 pub use crate::text::{TextBuffer, ones, tens};
-pub use tz_base::calendar::{Fields, is_reading};
+pub use tz_base::fields::{Fields, is_reading};

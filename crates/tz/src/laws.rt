@@ -9,7 +9,7 @@ ghost use Rattle.std.specs.Ordering.{int_cmp};
 ghost use Rattle.std.specs.declared.cmp.Ordering.TheVariants.{Equal, Less};
 ghost use Rattle.std.specs.declared.time.Duration.{Duration};
 ghost use Rattle.tz_base.specs.Fields.{IsCivil, IsValid, reading};
-ghost use Rattle.tz_base.specs.declared.calendar.Fields.{Fields};
+ghost use Rattle.tz_base.specs.declared.fields.Fields.{Fields};
 ghost use Rattle.tz_base.specs.declared.error.TzError.{TzError};
 ghost use Rattle.tz_base.specs.declared.error.TzError.TheVariants.{Memory};
 ghost use Rattle.tz_rule.specs.LocalTimeType.{LocalTimeType};

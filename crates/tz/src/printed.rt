@@ -6,7 +6,7 @@ ghost use Rattle.tz_base.specs.Fields.{IsValid};
 ghost use Rattle.tz.specs.PrintedText.{two_digits_or_more, date_text, time_text, seconds_text, duration_text, offset_text, printed_text};
 
 use crate::text::{TextBuffer, ones, tens};
-use tz_base::calendar::Fields;
+use tz_base::fields::Fields;
 
 impl TextBuffer {
     /// Appends a year.

@@ -5,7 +5,7 @@ use Rattle.std.proofs.lemmas.Bool.{cases_lt}
 use Rattle.tz_base.specs.Cycles.{days_of_years}
 use Rattle.tz_base.specs.Days.{is_leap, month_length, months_length, first_day, day_number, IsDay, IsEarlierDate, week_day_of}
 use Rattle.tz_base.specs.Fields.{IsValid, IsCivil, day_of}
-use Rattle.tz_base.specs.declared.calendar.Fields.{Fields}
+use Rattle.tz_base.specs.declared.fields.Fields.{Fields}
 use Rattle.tz_base.proofs.YearStarts.{first_day-moved, is_leap-moved}
 use Rattle.tz_base.proofs.DaysOfYears.{day_number-is, day_in_year}
 

@@ -6,7 +6,7 @@ use mir.Syntax.{w32}
 use mir.Val.{SFits}
 use Rattle.tz_base.specs.Days.{month_length, IsDay, IsEarlierDate}
 use Rattle.tz_base.specs.Fields.{IsValid, IsReading, reading, day_of}
-use Rattle.tz_base.specs.declared.calendar.Fields.{Fields}
+use Rattle.tz_base.specs.declared.fields.Fields.{Fields}
 use Rattle.tz_base.proofs.DaysOfYears.{day_in_year, first_day_bounds}
 use Rattle.tz_base.proofs.DateOrder.{day_number-mono, valid_day}
 

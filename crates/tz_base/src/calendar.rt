@@ -1,50 +1,22 @@
-//! The proleptic Gregorian calendar over all years of 32 bits, both ways.
+//! The proleptic Gregorian calendar over all years of 32 bits: leap years, the lengths of months, week days, and days by number and back.
 //!
-//! A reading counts the seconds from 1970-01-01 00:00:00 to the fields of a date time, whatever clock shows them.
+//! Also instants as a total of nanoseconds, and back.
 
-ghost use Rattle.std.specs.Prelude.{◌≡◌, Bool, if◌then◌else◌, ℕ, ◌+◌, ◌-◌, ◌*◌, ◌^◌, ◌<◌, ◌≤◌, true, ℤ, pos, negsuc, ◌+ℤ◌, ◌-ℤ◌, ◌*ℤ◌, ◌≤ℤ◌, OnOk, IfErr, IfSome, IfNone, MatchBool, FitsSigned};
+ghost use Rattle.std.specs.Prelude.{◌≡◌, Bool, if◌then◌else◌, ℕ, ◌+◌, ◌-◌, ◌^◌, ◌<◌, ◌≤◌, true, ℤ, pos, negsuc, ◌+ℤ◌, ◌-ℤ◌, ◌≤ℤ◌, IfSome, IfNone, MatchBool, FitsSigned};
 ghost use Rattle.std.specs.Int.{w64};
 ghost use Rattle.tz_base.specs.Cycles.{days_of_march_years as closed_march_days, march_month, march_month_day};
 ghost use Rattle.tz_base.specs.Days.{is_leap, month_length, months_length, first_day, day_number, week_day_of, IsDateOf};
-ghost use Rattle.tz_base.specs.Fields.{IsMonth, IsValid, IsFirstFault, IsCivil, IsReading, day_of, reading as reading_of, total_nanoseconds_of, IsTimespec};
+ghost use Rattle.tz_base.specs.Fields.{IsMonth, total_nanoseconds_of, IsTimespec};
 
 use crate::constants::{
     CUMUL_DAYS_IN_MONTHS_LEAP_YEAR, CUMUL_DAYS_IN_MONTHS_NORMAL_YEAR, NANOSECONDS_PER_SECOND,
-    SECONDS_PER_DAY,
 };
-use crate::error::datetime::DateTimeError;
 use crate::year::{
-    ADDED_DAYS, days_before_moved_year, is_moved_year_leap, moved_seconds, moved_year,
-    year_of_moved,
+    ADDED_DAYS, days_before_moved_year, is_moved_year_leap, moved_year, year_of_moved,
 };
-
-/// The seven fields of a date time, in the order in which they are compared.
-#[derive(Clone, Copy, Debug, PartialEq, Eq, PartialOrd, Ord)]
-pub struct Fields {
-    /// The year; 0 is the year before 1.
-    pub year: i32,
-    /// The month, from 1 to 12.
-    pub month: u8,
-    /// The day of the month, from 1.
-    pub month_day: u8,
-    /// The hour, from 0 to 23.
-    pub hour: u8,
-    /// The minute, from 0 to 59.
-    pub minute: u8,
-    /// The second, from 0 to 60.
-    pub second: u8,
-    /// The nanoseconds, below a second.
-    pub nanoseconds: u32,
-}
 
 /// The days from the day before March 1st of the year -2147484000 to 1970-01-01.
 const ADDED_MARCH_DAYS: i64 = 784_353_144_339;
-
-/// The reading of the first second of the years of 32 bits.
-const FIRST_READING: i64 = -67_768_100_567_971_200;
-
-/// The reading of their last second.
-const LAST_READING: i64 = 67_767_976_233_532_799;
 
 /// Days from March 1st to the first of each month: January and February come last.
 const DAYS_FROM_MARCH: [u16; 12] = [306, 337, 0, 31, 61, 92, 122, 153, 184, 214, 245, 275];
@@ -78,7 +50,7 @@ pub fn days_in_month(year: i32, month: u8) -> u8
 }
 
 /// Whether the month of a year has the day; a day up to the 28th is not looked up.
-fn has_month_day(year: i32, month: u8, month_day: u8) -> bool
+pub(crate) fn has_month_day(year: i32, month: u8, month_day: u8) -> bool
     requires { IsMonth month }
     ensures { MatchBool result (month_day ≤ month_length (is_leap year) month) (month_length (is_leap year) month < month_day) }
 {
@@ -193,7 +165,7 @@ fn month_of_march_day(day: u32) -> (u8, u8)
 }
 
 /// The year, the month and the day of the month of a day that is counted from January 1st of the year -2147484000.
-fn date_of_day(day: u64) -> (i32, u8, u8)
+pub(crate) fn date_of_day(day: u64) -> (i32, u8, u8)
     requires { (128565 ≤ day) × (day ≤ 1568704721174) }
     ensures { IsDateOf (pos day -ℤ pos 784353144398) result.0 result.1 result.2 }
 {
@@ -203,103 +175,6 @@ fn date_of_day(day: u64) -> (i32, u8, u8)
         (year_of_moved(march_year), month, month_day + 1)
     } else {
         (year_of_moved(march_year + 1), month - 12, month_day + 1)
-    }
-}
-
-/// Whether the reading lies in a year of 32 bits.
-pub fn is_reading(reading: i64) -> bool
-    ensures { MatchBool result (IsReading reading) (¬ IsReading reading) }
-{
-    (FIRST_READING..=LAST_READING).contains(&reading)
-}
-
-impl Fields {
-    /// Whether the fields are those of a date time; second 60 is one of every minute.
-    pub fn check(&self) -> Result<(), DateTimeError>
-        ensures ok { OnOk result (IsValid self.now) }
-        ensures err { IfErr result (IsFirstFault self.now) }
-    {
-        if self.month < 1 || self.month > 12 {
-            return Err(DateTimeError::InvalidMonth);
-        }
-        if self.month_day < 1 || self.month_day > 31 {
-            return Err(DateTimeError::InvalidMonthDay);
-        }
-        if self.hour > 23 {
-            return Err(DateTimeError::InvalidHour);
-        }
-        if self.minute > 59 {
-            return Err(DateTimeError::InvalidMinute);
-        }
-        if self.second > 60 {
-            return Err(DateTimeError::InvalidSecond);
-        }
-        if self.nanoseconds >= NANOSECONDS_PER_SECOND {
-            return Err(DateTimeError::InvalidNanoseconds);
-        }
-        if !has_month_day(self.year, self.month, self.month_day) {
-            return Err(DateTimeError::InvalidMonthDay);
-        }
-        Ok(())
-    }
-
-    /// The seconds from 1970-01-01 00:00:00 to the fields. Second 60 reads as the next minute's first second.
-    pub fn reading(&self) -> i64
-        requires { IsValid self.now }
-        ensures value { result ≡ reading_of self.now }
-        ensures bound { (negsuc 67768100567971199 ≤ℤ result) × (result ≤ℤ pos 67767976233532800) }
-    {
-        let second_of_day = 3600 * u32::from(self.hour)
-            + 60 * u32::from(self.minute)
-            + u32::from(self.second);
-        SECONDS_PER_DAY * self.day() + i64::from(second_of_day)
-    }
-
-    /// The number of the day of the fields, where 1970-01-01 has the number 0.
-    fn day(&self) -> i64
-        requires { IsValid self.now }
-        ensures value { result ≡ day_of self.now }
-        ensures bound { (negsuc 784353015832 ≤ℤ result) × (result ≤ℤ pos 784351576776) }
-    {
-        days_since_unix_epoch(self.year, self.month, self.month_day)
-    }
-
-    /// The fields that a clock shows at the reading.
-    pub fn from_reading(reading: i64, nanoseconds: u32) -> Fields
-        requires in_range { IsReading reading }
-        requires part { nanoseconds < 1000000000 }
-        ensures { IsCivil reading nanoseconds result }
-    {
-        let seconds = moved_seconds(reading);
-        let (year, month, month_day) = date_of_day(seconds / 86_400);
-        let second_of_day = (seconds % 86_400) as u32;
-        Fields {
-            year,
-            month,
-            month_day,
-            hour: (second_of_day / 3600) as u8,
-            minute: (second_of_day % 3600 / 60) as u8,
-            second: (second_of_day % 60) as u8,
-            nanoseconds,
-        }
-    }
-
-    /// The week day, from Sunday = 0.
-    pub fn week_day(&self) -> u8
-        requires { IsValid self.now }
-        ensures value { pos result ≡ week_day_of (day_of self.now) }
-        ensures bound { result < 7 }
-    {
-        week_day_of_day(self.day())
-    }
-
-    /// The day of the year, from January 1st = 0.
-    pub fn year_day(&self) -> u16
-        requires { IsValid self.now }
-        ensures value { pos result ≡ day_of self.now -ℤ first_day self.now.year }
-        ensures bound { result ≤ 365 }
-    {
-        days_before_month(is_leap_year(self.year), self.month) + u16::from(self.month_day) - 1
     }
 }
 

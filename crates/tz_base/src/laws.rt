@@ -3,7 +3,7 @@
 ghost use Rattle.std.specs.Prelude.{◌≡◌, ℕ, ◌*◌, ℤ, pos, ◌+ℤ◌, ◌<ℤ◌, [], ◌∷◌};
 ghost use Rattle.tz_base.specs.Days.{is_leap, year_length, first_day, day_number, week_day_of, IsDay, IsEarlierDate};
 ghost use Rattle.tz_base.specs.Fields.{IsCivil};
-ghost use Rattle.tz_base.specs.declared.calendar.Fields.{Fields};
+ghost use Rattle.tz_base.specs.declared.fields.Fields.{Fields};
 
 use crate::constants::*;
 

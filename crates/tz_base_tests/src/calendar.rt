@@ -5,9 +5,10 @@ ghost use Rattle.tz_base.specs.Days.{is_leap, year_length, years_length_from_197
 
 use crate::expect::expect_eq;
 use std::process::Abort;
-use tz_base::calendar::{Fields, days_in_month, is_leap_year, timespec, total_nanoseconds};
+use tz_base::calendar::{days_in_month, is_leap_year, timespec, total_nanoseconds};
 use tz_base::constants::NANOSECONDS_PER_SECOND;
 use tz_base::error::datetime::DateTimeError;
+use tz_base::fields::Fields;
 use tz_samples::date_times::{NOONS, Parts, fields_of};
 
 /// The days of the year.

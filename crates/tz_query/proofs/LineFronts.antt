@@ -7,7 +7,7 @@ use Rattle.std.specs.Str.Parse.{AllDigits}
 use Rattle.std.proofs.lemmas.List.{drop_more, length-take-le, take-append-drop}
 use Rattle.std.proofs.lemmas.List.Elements.{All-nil, All-cons, All-append}
 use Rattle.tz_query.specs.Lines.{line_feed, IsLine, IsLineEnd, IsFirstLine}
-use Rattle.tz_base.specs.declared.calendar.Fields.{Fields}
+use Rattle.tz_base.specs.declared.fields.Fields.{Fields}
 use Rattle.tz_query.specs.Numbers.{hyphen, space, IsNumber, EndsDigits, AreNumbers, IsPartFront, ArePartsFront}
 use Rattle.tz_query.specs.Queries.{Query, Time, Search, Meeting, IsLineOf, IsTimeLine, IsSearchLine, IsMeetingLine, IsQueryLine, AreFieldsOfBits, numbers_of, IsTimeLineFront, IsSearchLineFront, IsMeetingLineFront}
 use Rattle.tz_query.proofs.NumberFronts.{no_part_after, parts_unique, parts_in_front, numbers_from_parts}

@@ -5,7 +5,7 @@ use Rattle.std.specs.List.{flat_map}
 use Rattle.std.proofs.lemmas.Int.{ints}
 use Rattle.tz_base.specs.Days.{IsDateOf}
 use Rattle.tz_base.specs.Fields.{IsCivil}
-use Rattle.tz_base.specs.declared.calendar.Fields.{Fields}
+use Rattle.tz_base.specs.declared.fields.Fields.{Fields}
 use Rattle.tz_zone.specs.Table.{Zone}
 use Rattle.tz_query.specs.Lines.{ended, line_feed}
 use Rattle.tz_query.specs.Numbers.{space}

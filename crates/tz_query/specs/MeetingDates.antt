@@ -2,7 +2,7 @@
 use Rattle.std.specs.Prelude.{◌≡◌, ℕ, ◌*◌, ℤ, pos, ◌+ℤ◌, ◌*ℤ◌}
 use Rattle.tz_base.specs.Days.{IsDateOf}
 use Rattle.tz_base.specs.Fields.{IsReading, day_of}
-use Rattle.tz_base.specs.declared.calendar.Fields.{Fields}
+use Rattle.tz_base.specs.declared.fields.Fields.{Fields}
 
 -- the number of the day this many weeks after that of the fields
 abbrev pub day_after : Fields → ℕ → ℤ

@@ -1,6 +1,6 @@
 -- A page of answers, and the parts of a printed line: up to the nanoseconds, and what follows them.
 use Rattle.std.specs.Prelude.{◌≡◌, ℕ, ◌+◌, ◌<◌, ◌≤◌, List, [], ◌∷◌, ◌++◌, length}
-use Rattle.tz_base.specs.declared.calendar.Fields.{Fields}
+use Rattle.tz_base.specs.declared.fields.Fields.{Fields}
 use Rattle.tz_rule.specs.LocalTimeType.{LocalTimeType}
 use Rattle.tz.specs.PrintedText.{two_digits, nine_digits, date_text, offset_text}
 use Rattle.tz_query.specs.Answers.{name_text}

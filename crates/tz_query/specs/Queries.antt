@@ -1,7 +1,7 @@
 -- The grammar of a query line: a letter and numbers, each after one space.
 use Rattle.std.specs.Prelude.{◌≡◌, ℕ, ◌^◌, ◌<◌, ℤ, pos, List, [], ◌∷◌, FitsSigned}
 use Rattle.std.specs.Int.{w32, w64}
-use Rattle.tz_base.specs.declared.calendar.Fields.{Fields}
+use Rattle.tz_base.specs.declared.fields.Fields.{Fields}
 use Rattle.tz_query.specs.Lines.{IsFirstLine}
 use Rattle.tz_query.specs.Numbers.{AreNumbers}
 

@@ -1,6 +1,6 @@
 //! Date times as rows of tables.
 
-use tz_base::calendar::Fields;
+use tz_base::fields::Fields;
 
 /// A year, a month, a day of the month, hour, minute and second, and nanoseconds.
 pub type Parts = (i32, u8, u8, (u8, u8, u8), u32);

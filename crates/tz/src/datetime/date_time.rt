@@ -9,10 +9,11 @@ use std::cmp::Ordering;
 use std::fmt;
 use std::marker::Model;
 use std::time::Duration;
-use tz_base::calendar::{self, Fields};
+use tz_base::calendar;
 use tz_base::constants::NANOSECONDS_PER_SECOND;
 use tz_base::error::TzError;
 use tz_base::error::datetime::DateTimeError;
+use tz_base::fields::{Fields, is_reading};
 use tz_zone::timezone::{LocalTimeType, TimeZoneRef};
 
 /// What a clock with this offset from UTC shows at a Unix time, if it is a reading.
@@ -22,7 +23,7 @@ fn local_reading(unix_time: i64, ut_offset: i32) -> Option<i64>
 {
     // A sum that wraps is no reading, as the true one is none.
     let reading = unix_time.wrapping_add(i64::from(ut_offset));
-    if calendar::is_reading(reading) {
+    if is_reading(reading) {
         Some(reading)
     } else {
         None
@@ -162,7 +163,7 @@ impl DateTime {
     {
         fields.check()?;
         let unix_time = fields.reading() - i64::from(local_time_type.ut_offset());
-        if !calendar::is_reading(unix_time) {
+        if !is_reading(unix_time) {
             return Err(TzError::OutOfRange);
         }
         Ok(DateTime::from_valid_fields(&fields, local_time_type, unix_time))

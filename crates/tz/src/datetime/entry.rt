@@ -10,8 +10,8 @@ ghost use Rattle.tz.specs.declared.datetime.found.FoundDateTimeKind.TheVariants.
 
 use super::date_time_list::DateTimeList;
 use super::{DateTime, FoundDateTimeKind};
-use tz_base::calendar::Fields;
 use tz_base::error::TzError;
+use tz_base::fields::Fields;
 use tz_zone::timezone::LocalTimeType;
 
 /// An instant at which a clock shows a reading, or at which it is set forward over it.

@@ -14,8 +14,8 @@ use super::search::search;
 use super::slot_writer::SlotWriter;
 use super::{DateTime, FoundDateTimeKind};
 use std::alloc::Allocator;
-use tz_base::calendar::Fields;
 use tz_base::error::TzError;
+use tz_base::fields::Fields;
 use tz_zone::inner::{Counted, OtherParts, Transitions, Uncounted, offsets, other_parts};
 use tz_zone::timezone::TimeZoneRef;
 

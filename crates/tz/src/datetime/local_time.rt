@@ -11,8 +11,8 @@ ghost use Rattle.tz_base.specs.Fields.{reading as reading_of};
 use super::choice::Choice;
 use super::search::search;
 use super::{DateTime, Disambiguation, FoundDateTimeKind, UtcDateTime};
-use tz_base::calendar::Fields;
 use tz_base::error::TzError;
+use tz_base::fields::Fields;
 use tz_zone::inner::{Uncounted, offsets, other_parts};
 use tz_zone::timezone::TimeZoneRef;
 

@@ -12,8 +12,8 @@ ghost use Rattle.tz.specs.Walks.{IsSmall};
 
 use super::date_time_list::DateTimeList;
 use super::entry::{shown, skipped};
-use tz_base::calendar::Fields;
 use tz_base::error::TzError;
+use tz_base::fields::Fields;
 use tz_zone::inner::ClockSegment;
 use tz_zone::timezone::LocalTimeType;
 

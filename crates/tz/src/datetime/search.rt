@@ -22,8 +22,8 @@ use super::resolution::{across, around_jump};
 use super::walk::{Piece, Walk};
 use super::window::window;
 use super::{DateTime, FoundDateTimeKind};
-use tz_base::calendar::Fields;
 use tz_base::error::TzError;
+use tz_base::fields::Fields;
 use tz_zone::inner::{
     ClockSegment, OtherParts, Transitions, WindowTypes, clock_segment_after, clock_segment_at,
     window_types,

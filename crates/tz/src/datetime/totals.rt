@@ -8,6 +8,7 @@ ghost use Rattle.tz.specs.DateTimes.{IsUtcTotal, IsNearTotal, IsForwards, IsBack
 use std::time::Duration;
 use tz_base::calendar;
 use tz_base::constants::NANOSECONDS_PER_SECOND;
+use tz_base::fields::is_reading;
 
 /// The seconds of the total, rounded down, and the nanoseconds that remain, if the seconds are those of a UTC date time.
 pub(super) fn utc_timespec(total: i128) -> Option<(i64, u32)>
@@ -15,7 +16,7 @@ pub(super) fn utc_timespec(total: i128) -> Option<(i64, u32)>
     ensures in_range { IsSome result ↔ IsUtcTotal total }
 {
     let (seconds, nanoseconds) = calendar::timespec(total)?;
-    if calendar::is_reading(seconds) {
+    if is_reading(seconds) {
         Some((seconds, nanoseconds))
     } else {
         None
@@ -32,7 +33,7 @@ fn carried(seconds: i64, nanoseconds: u32) -> Option<(i64, u32)>
     ensures in_range { IsSome result ↔ IsUtcTotal (total_nanoseconds_of seconds nanoseconds) }
 {
     let whole = seconds + i64::from(nanoseconds / NANOSECONDS_PER_SECOND);
-    if calendar::is_reading(whole) {
+    if is_reading(whole) {
         Some((whole, nanoseconds % NANOSECONDS_PER_SECOND))
     } else {
         None

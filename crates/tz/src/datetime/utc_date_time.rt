@@ -10,10 +10,11 @@ use std::fmt;
 use std::marker::Model;
 use std::ops::{Add, AddAssign, Sub, SubAssign};
 use std::time::Duration;
-use tz_base::calendar::{self, Fields};
+use tz_base::calendar;
 use tz_base::constants::NANOSECONDS_PER_SECOND;
 use tz_base::error::TzError;
 use tz_base::error::datetime::DateTimeError;
+use tz_base::fields::{Fields, is_reading};
 use tz_zone::timezone::TimeZoneRef;
 
 /// A date time of UTC, in a year of 32 bits. (ISO 8601)
@@ -31,7 +32,7 @@ pub struct UtcDateTime {
 
 impl Model for UtcDateTime {
     ghost use Rattle.std.specs.Prelude.{◌≡◌};
-    ghost use Rattle.tz_base.specs.declared.calendar.Fields.{Fields};
+    ghost use Rattle.tz_base.specs.declared.fields.Fields.{Fields};
     ghost use Rattle.tz_base.specs.Fields.{reading};
     ghost use Rattle.tz.specs.DateTimes.{IsUtc};
 
@@ -206,7 +207,7 @@ impl UtcDateTime {
         if nanoseconds >= NANOSECONDS_PER_SECOND {
             return Err(TzError::DateTime(DateTimeError::InvalidNanoseconds));
         }
-        if !calendar::is_reading(unix_time) {
+        if !is_reading(unix_time) {
             return Err(TzError::OutOfRange);
         }
         Ok(UtcDateTime::at(unix_time, nanoseconds))
@@ -488,7 +489,7 @@ impl TryFrom<DateTime> for UtcDateTime {
     ghost try_from_gives = { λ d r. IfOk r (IsCivil d.unix_time d.fields.nanoseconds) × IfErr r (λ e. (e ≡ OutOfRange) × ¬ IsReading d.unix_time) };
 
     fn try_from(date_time: DateTime) -> Result<Self, TzError> {
-        if !calendar::is_reading(date_time.unix_time()) {
+        if !is_reading(date_time.unix_time()) {
             return Err(TzError::OutOfRange);
         }
         Ok(UtcDateTime::at(date_time.unix_time(), date_time.nanoseconds()))

@@ -2,8 +2,8 @@
 
 use super::date_time_list::DateTimeList;
 use super::entry::Entry;
-use tz_base::calendar::Fields;
 use tz_base::error::TzError;
+use tz_base::fields::Fields;
 use tz_zone::timezone::LocalTimeType;
 
 /// The type that a clock has from an instant on, if any, until the next piece begins.

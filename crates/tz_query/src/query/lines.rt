@@ -2,7 +2,7 @@
 
 ghost use Rattle.std.specs.Prelude.{◌≡◌, ℕ, ◌^◌, ◌<◌, [], ◌∷◌, List, ℤ, pos, negsuc, ◌≤ℤ◌, length, IfSome, IfNone, FitsSigned};
 ghost use Rattle.std.specs.Int.{w64};
-ghost use Rattle.tz_base.specs.declared.calendar.Fields.{Fields};
+ghost use Rattle.tz_base.specs.declared.fields.Fields.{Fields};
 ghost use Rattle.tz.specs.PrintedText.{nine_digits};
 ghost use Rattle.tz_query.specs.Lines.{IsLineEnd, IsFirstLine};
 ghost use Rattle.tz_query.specs.Numbers.{ArePartsFront};

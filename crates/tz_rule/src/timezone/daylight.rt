@@ -6,7 +6,7 @@ ghost use Rattle.tz_rule.specs.Daylight.{IsInSpan};
 ghost use Rattle.tz_rule.specs.Pairing.{EndsNextYear, IsDaylight};
 
 use super::AlternateTime;
-use tz_base::calendar::{self, Fields};
+use tz_base::fields::{Fields, is_reading};
 
 /// The first year over which a rule is defined.
 pub(super) const FIRST_YEAR: i32 = i32::MIN + 2;
@@ -19,7 +19,7 @@ pub(super) fn rule_year(unix_time: i64) -> Option<i32>
     ensures some { IfSome result (λ year. IsUtcYear unix_time year × IsRuleYear year) }
     ensures none { IfNone result (¬ IsInRuleYears unix_time) }
 {
-    if !calendar::is_reading(unix_time) {
+    if !is_reading(unix_time) {
         return None;
     }
     let year = Fields::from_reading(unix_time, 0).year;

@@ -4,7 +4,7 @@ use super::*;
 use crate::expect::expect_eq;
 use crate::zones::ONE_EFFECT;
 use tz::datetime::UtcDateTime;
-use tz_base::calendar::Fields;
+use tz_base::fields::Fields;
 use tz_zone::inner::effect;
 
 /// The least and the greatest offset of the zone.

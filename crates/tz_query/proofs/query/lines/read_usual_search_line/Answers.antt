@@ -3,7 +3,7 @@ use Rattle.std.proofs.Common.{◌≡◌, ◌+◌, ◌<◌, pos, length, drop, in
 use Rattle.std.proofs.lemmas.Int.{ints}
 use Rattle.std.proofs.lemmas.List.{take_rest}
 use mir.Syntax.{w32}
-use Rattle.tz_base.specs.declared.calendar.Fields.{Fields}
+use Rattle.tz_base.specs.declared.fields.Fields.{Fields}
 use Rattle.tz_query.specs.Numbers.{ArePartsFront}
 use Rattle.tz_query.specs.Queries.{AreFieldsOfBits, numbers_of, IsSearchLineFront}
 use Rattle.tz_query.proofs.FastNumbers.{byte_at}

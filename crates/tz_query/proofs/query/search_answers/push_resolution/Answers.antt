@@ -4,7 +4,7 @@ use Rattle.std.proofs.lemmas.Int.{to_z-of_z}
 use Rattle.std.proofs.lemmas.List.Elements.{All-nil, All-cons}
 use mir.Syntax.{w64}
 use mir.Val.{SFits}
-use Rattle.tz_base.specs.declared.calendar.Fields.{Fields}
+use Rattle.tz_base.specs.declared.fields.Fields.{Fields}
 use Rattle.tz.specs.DateTimes.{DateTime}
 use Rattle.tz.specs.Found.{CanBeMade}
 use Rattle.tz.specs.Resolutions.{AreEntriesOf}

@@ -1,6 +1,6 @@
 -- A line for each of the two types.
 use Rattle.std.proofs.Common.{[], ◌∷◌, ◌++◌, sym, ap, ◌∙◌, append_assoc}
-use Rattle.tz_base.specs.declared.calendar.Fields.{Fields}
+use Rattle.tz_base.specs.declared.fields.Fields.{Fields}
 use Rattle.tz.specs.DateTimes.{DateTime}
 use Rattle.tz.specs.Walks.{moment_of}
 use Rattle.tz_query.specs.Answers.{moment_text}

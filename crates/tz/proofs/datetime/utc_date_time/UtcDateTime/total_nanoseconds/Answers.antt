@@ -3,7 +3,7 @@ use Rattle.std.proofs.Common.{◌∙◌, ◌<◌, ap, sym, subst, arith, rules, 
 use Rattle.std.proofs.lemmas.Int.{ints, to_z-of_z}
 use mir.Syntax.{w64, w128}
 use mir.Val.{SFits}
-use Rattle.tz_base.specs.declared.calendar.Fields.{Fields}
+use Rattle.tz_base.specs.declared.fields.Fields.{Fields}
 use Rattle.tz_base.specs.Fields.{IsReading, reading, total_nanoseconds_of}
 use Rattle.tz.specs.DateTimes.{utc_total, IsUtcTotal}
 use Rattle.tz.proofs.datetime.utc_date_time.UtcDateTime.total_nanoseconds.Goals as goal

@@ -4,7 +4,7 @@ use Rattle.std.proofs.lemmas.Int.{ints, to_z-of_z}
 use mir.Syntax.{w32}
 use mir.Val.{SFits}
 use Rattle.tz_base.proofs.DaysOfYears.{day_number-is}
-use Rattle.tz_base.proofs.calendar.Fields.year_day.Goals as goal
+use Rattle.tz_base.proofs.fields.Fields.year_day.Goals as goal
 
 pub returns-clause-value : goal.returns-clause-value
 returns-clause-value c =

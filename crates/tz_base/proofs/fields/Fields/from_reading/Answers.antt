@@ -4,7 +4,7 @@ use Rattle.std.proofs.lemmas.Int.{to_z-of_z}
 use mir.Syntax.{w32, w64}
 use Rattle.tz_base.specs.Days.{is_leap}
 use Rattle.tz_base.proofs.CivilReadings.{civil_from_parts, month_length-le}
-use Rattle.tz_base.proofs.calendar.Fields.from_reading.Goals as goal
+use Rattle.tz_base.proofs.fields.Fields.from_reading.Goals as goal
 
 pub returns : goal.returns
 returns c =

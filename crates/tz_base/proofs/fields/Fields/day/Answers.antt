@@ -4,7 +4,7 @@ use Rattle.std.proofs.lemmas.Int.{ints, to_z-of_z}
 use mir.Syntax.{w32}
 use mir.Val.{SFits}
 use Rattle.tz_base.proofs.DaysOfYears.{day_in_year, first_day_bounds}
-use Rattle.tz_base.proofs.calendar.Fields.day.Goals as goal
+use Rattle.tz_base.proofs.fields.Fields.day.Goals as goal
 
 pub returns-clause-bound : goal.returns-clause-bound
 returns-clause-bound c =
