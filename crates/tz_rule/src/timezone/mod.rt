@@ -2,9 +2,10 @@
 
 mod alternate;
 mod alternate_segment;
-mod conflict;
+mod conflict_years;
 mod daylight;
 mod local_time_type;
+mod pair_kinds;
 mod pairing;
 mod parts;
 mod rule;
@@ -13,7 +14,6 @@ mod rule_day;
 pub(crate) mod rule_segment;
 mod segments;
 pub(crate) mod utc;
-mod year_kind;
 mod year_table;
 
 pub use alternate::AlternateTime;

@@ -3,7 +3,7 @@
 ghost use Rattle.std.specs.Prelude.{IfSome, IfNone, MatchBool};
 ghost use Rattle.tz_rule.specs.YearTables.{ComesFirst, ComesBeforeNext, ComesAfterNext, ChangesInYear, ChangesAcrossYears, ChangesOrder};
 
-use super::year_kind::{self, KINDS, PAIR_KINDS};
+use super::pair_kinds::{self, KINDS, PAIR_KINDS};
 use super::year_table::YearTable;
 use tz_base::constants::SECONDS_PER_NORMAL_YEAR;
 
@@ -25,7 +25,7 @@ impl YearTable {
         ensures { MatchBool result (ComesBeforeNext self.now.0 other.now.0) (¬ ComesBeforeNext self.now.0 other.now.0) }
     {
         for pair in 0..PAIR_KINDS {
-            if self.entry(year_kind::first_kind(pair)) < other.next_entry(pair) {
+            if self.entry(pair_kinds::first_kind(pair)) < other.next_entry(pair) {
                 return true;
             }
         }
@@ -37,7 +37,7 @@ impl YearTable {
         ensures { MatchBool result (ComesAfterNext self.now.0 other.now.0) (¬ ComesAfterNext self.now.0 other.now.0) }
     {
         for pair in 0..PAIR_KINDS {
-            if other.next_entry(pair) < self.entry(year_kind::first_kind(pair)) {
+            if other.next_entry(pair) < self.entry(pair_kinds::first_kind(pair)) {
                 return true;
             }
         }

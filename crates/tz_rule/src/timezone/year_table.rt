@@ -6,7 +6,7 @@ ghost use Rattle.tz_rule.specs.AlternateSegments.{moved_back};
 ghost use Rattle.tz_rule.specs.YearTables.{instant_in, entry, next_entry, day_table, AreBounds, least_entry, greatest_entry, is_inner};
 
 use super::RuleDay;
-use super::year_kind::{self, KINDS, moved_year_start};
+use super::pair_kinds::{self, KINDS, moved_year_start};
 use tz_base::constants::SECONDS_PER_DAY;
 use tz_base::year::moved_year;
 
@@ -80,8 +80,8 @@ impl YearTable {
         requires { pair < 21 }
         ensures { result ≡ next_entry self.now.0 pair }
     {
-        let days = year_kind::first_days(pair);
-        self.entry(year_kind::second_kind(pair)) + SECONDS_PER_DAY * i64::from(days)
+        let days = pair_kinds::first_days(pair);
+        self.entry(pair_kinds::second_kind(pair)) + SECONDS_PER_DAY * i64::from(days)
     }
 
     /// The least and the greatest seconds of all kinds.

@@ -1,4 +1,6 @@
 //! Kinds of years, by number: the week day of January 1st, and 7 more for a leap year. All years of a kind have the same calendar.
+//!
+//! And kinds of pairs, two years that follow one another: tables of the kinds of the first year and of the second.
 
 ghost use Rattle.std.specs.Prelude.{◌≡◌, ◌+◌, ◌*◌, ◌/◌, ◌%◌, ◌^◌, ◌<◌, ◌≤◌, pos, negsuc, ◌-ℤ◌, ◌*ℤ◌, ◌≤ℤ◌};
 ghost use Rattle.tz_base.specs.Days.{first_day};

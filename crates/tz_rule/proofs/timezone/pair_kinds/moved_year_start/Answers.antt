@@ -7,7 +7,7 @@ use Rattle.tz_base.specs.Days.{is_leap}
 use Rattle.tz_base.proofs.YearStarts.{first_day-moved, is_leap-moved, days_of_years_bounds}
 use Rattle.tz_rule.specs.Kinds.{kind_of, year_kind}
 use Rattle.tz_rule.proofs.Weeks.{week_day_of_year-moved}
-use Rattle.tz_rule.proofs.timezone.year_kind.moved_year_start.Goals as goal
+use Rattle.tz_rule.proofs.timezone.pair_kinds.moved_year_start.Goals as goal
 
 fits_from : (y : ℤ) → negsuc 2147483647 ≤ℤ y → y ≤ℤ pos 2147483647 → SFits w32 y
 fits_from (pos n) low high = record { sfits = omega (arith, ints) }

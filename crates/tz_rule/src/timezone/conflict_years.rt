@@ -1,4 +1,6 @@
-//! Two years in which a rule's start and end have different orders, which is why the rule is refused.
+//! Finds two years that show why parts are inconsistent: the start and the end have different orders in them.
+//!
+//! Nothing is refused here. `alternate.rt` refuses such parts, by the checks in `parts.rt` (ranges) and `pairing.rt` (the order over all years).
 
 ghost use Rattle.std.specs.Prelude.{ℤ, pos, ◌+ℤ◌, ◌≤ℤ◌, ◌<ℤ◌, IfSome, IfNone};
 ghost use Rattle.tz_rule.specs.Pairing.{IsConflict};
