@@ -5,7 +5,6 @@ pub mod LeapMoments
 pub mod Expiries
 pub mod OffsetBounds
 pub mod RisingTimes
-pub mod Halving
 pub mod PowerSteps
 pub mod LeapAnswers
 pub mod TableChecks

@@ -1,5 +1,6 @@
 -- Leap times between the transitions on both sides of a cursor, and the type of the clock there.
-use Rattle.std.proofs.Common.{◌≡◌, ◌≢◌, ℕ, ◌-◌, ◌<◌, ◌≤◌, ◌⊎◌, inl, inr, true, eqb, eqb-true, refl, sym, ap, subst, arith, ℤ, pos, negsuc, ◌+ℤ◌, ◌≤ℤ◌, ◌<ℤ◌, List, [], ◌∷◌, length, get_or, Option, Some, None}
+use Rattle.std.proofs.Common.{◌≡◌, ◌≢◌, ℕ, zero, suc, ◌-◌, ◌<◌, ◌≤◌, ◌⊎◌, inl, inr, true, eqb, eqb-true, refl, sym, ap, subst, arith, ℤ, pos, negsuc, ◌+ℤ◌, ◌≤ℤ◌, ◌<ℤ◌, List, [], ◌∷◌, length, get_or, Option, Some, None, MatchBool}
+use Rattle.std.proofs.Math.Dec.{eqb-suc-zero}
 use Rattle.std.specs.Prelude.{slice_get, IfSome, IfNone, MatchOption}
 use Rattle.std.proofs.lemmas.Int.{ints, by_lt_z}
 use Rattle.std.proofs.lemmas.List.{nil_from_length}
@@ -15,7 +16,7 @@ use Rattle.tz_zone.specs.declared.clock.segment.ClockSegment.{ClockSegment}
 use Rattle.tz_zone.proofs.LeapLists.{count_exists}
 use Rattle.tz_zone.proofs.LeapTimes.{IsLeapTime-from_count, leap_time_from_count, leap_time_fits, leap_time_mono, past_later, begun_later, not_refused_within, instant_bounds}
 use Rattle.tz_zone.proofs.LeapAnswers.{start_unique}
-use Rattle.tz_zone.proofs.RisingTimes.{reached_through, ahead_from}
+use Rattle.tz_zone.proofs.RisingTimes.{reached_before_cursor, ahead_at_cursor}
 use Rattle.tz_zone.proofs.Clocks.{some_from_last, transition_type_of_last, clock_before_last, clock_from_last, type_after_from_clock}
 
 -- without leap seconds the leap time is the instant
@@ -39,6 +40,11 @@ plain_at_cursor leaps none c u between = (u, plain_leap leaps none u, between)
 -- the test whether a list is empty
 pub none_if_empty : {X : Type 0} (xs : List X) → true ≡ eqb (length xs) 0 → xs ≡ []
 none_if_empty xs e = nil_from_length xs (eqb-true (length xs) 0 (sym e))
+
+-- a clause on that there are no transitions, or on that there are some, by the test of their number
+pub by_count : (count : ℕ) (transitions : List Transition) → count ≡ length transitions → (P Q R : Type 0) → (transitions ≡ [] → P → R) → (0 < length transitions → Q → R) → MatchBool (eqb count 0) P Q → R
+by_count zero transitions is P Q R empty behind types = empty (nil_from_length transitions (sym is)) types
+by_count (suc before) transitions is P Q R empty behind types = behind (omega (arith, is)) (rw (eqb-suc-zero before) at types)
 
 -- a clause on what an option holds, or on that it holds nothing, from another one
 pub match_weaker : {X : Type 0} (o : Option X) (P P' : Type 0) (Q Q' : X → Type 0) → (P → P') → ((x : X) → Q x → Q' x) → MatchOption o P Q → MatchOption o P' Q'
@@ -143,17 +149,10 @@ module _ (z : Zone) (sound : IsSoundTable z) (c : Cursor) (cursor : IsCursor z.t
       by_next None all = omega (arith, all)
 
   pub reached_from_before : (l : ℤ) → c.before.unix_leap_time ≤ℤ l → AreReached z.transitions l c.place
-  reached_from_before l before i change less at = elim cursor.before [
-    | inl (none, is) ↦ absurd (omega (arith, none, less))
-    | inr (some, at_before) ↦ reached_through z.transitions rising l (c.place - 1) c.before at_before before i change (omega (arith, less, some)) at
-  ]
+  reached_from_before = reached_before_cursor z.transitions rising c cursor
 
   pub ahead_before_next : (l : ℤ) → IfSome c.next (λ next. l <ℤ next.unix_leap_time) → AreAhead z.transitions l c.place
-  ahead_before_next l = by_next c.next cursor.next
-    where
-      by_next : (o : Option Transition) → MatchOption o (c.place ≡ length z.transitions) (λ next. slice_get z.transitions c.place ≡ Some next) → IfSome o (λ next. l <ℤ next.unix_leap_time) → AreAhead z.transitions l c.place
-      by_next (Some next) at ahead = ahead_from z.transitions rising l c.place next at ahead
-      by_next None all ahead = λ i change above at. absurd (omega (arith, all, above, slice_get_within z.transitions i change at))
+  ahead_before_next = ahead_at_cursor z.transitions rising c cursor
 
   pub reached_at : (u : ℤ) → IsAtCursor z.leap_seconds c u → IsReachedAt z u c.place
   reached_at u (l, leap, between) = record { time = l; time_is = leap; reached = reached_from_before l between.0; ahead = ahead_before_next l between.1 }

@@ -14,8 +14,7 @@ use Rattle.tz_zone.specs.declared.clock.types_in_window.WindowTypes.TheVariants.
 use Rattle.tz_zone.proofs.TypesAtCursors.{answered_between, leap_unless_refused}
 use Rattle.tz_zone.proofs.Clocks.{clock_before_last, transition_type_of_last}
 use Rattle.tz_zone.proofs.LeapTimes.{leap_time_mono}
-use Rattle.tz_zone.proofs.PowerSteps.{ahead_later}
-use Rattle.tz_zone.proofs.RisingTimes.{ahead_from, reached_through}
+use Rattle.tz_zone.proofs.RisingTimes.{ahead_from, ahead_later, reached_through}
 
 -- the types of one clock are those of another one that has them
 pub types_weaker : (clock clock' : ℤ → LocalTimeType → Type 0) (low high : ℤ) (types : WindowTypes) → ((v : ℤ) (t : LocalTimeType) → low ≤ℤ v → v ≤ℤ high → clock v t → clock' v t) →
@@ -36,7 +35,7 @@ module _ (z : Zone) (sound : IsSoundTable z) where
   -- the transitions up to the last one are ahead where an earlier one is
   last_ahead : (k : ℕ) (next : Transition) → slice_get z.transitions k ≡ Some next → (l : ℤ) → l <ℤ next.unix_leap_time → AreAhead z.transitions l (length z.transitions - 1)
   last_ahead k next at l before =
-      ahead_later z.transitions rising l k (length z.transitions - 1) (omega (arith, slice_get_within z.transitions k next at)) (ahead_from z.transitions rising l k next at before)
+      ahead_later z.transitions l k (length z.transitions - 1) (omega (arith, slice_get_within z.transitions k next at)) (ahead_from z.transitions rising l k next at before)
 
   -- up to the next transition the type is that of the last one that is reached
   pub type_until_next : (low : ℤ) (k : ℕ) (t : LocalTimeType) (next : Transition) → AreReached z.transitions low k → slice_get z.transitions k ≡ Some next → IsTypeOfLast z k t →

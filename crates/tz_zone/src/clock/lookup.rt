@@ -1,6 +1,6 @@
 //! The clock's type at an instant, over a view of the transitions.
 
-ghost use Rattle.std.specs.Prelude.{◌≡◌, ◌≢◌, ℕ, ◌+◌, ◌-◌, ◌^◌, ◌<◌, ◌≤◌, ◌<ℤ◌, [], length, IfOk, IfErr};
+ghost use Rattle.std.specs.Prelude.{◌≡◌, ◌≢◌, ℕ, ◌+◌, ◌-◌, ◌^◌, ◌<◌, ◌≤◌, ◌<ℤ◌, [], length, IfOk, IfErr, MatchBool};
 ghost use Rattle.tz_rule.specs.LocalTimeType.{LocalTimeType};
 ghost use Rattle.tz_zone.specs.Clock.{AreAhead, IsLast, IsTransitionType, IsTypeWithout, IsTypeAfter, IsFaultAfter, IsClock, IsLookupFault};
 ghost use Rattle.tz_zone.specs.ValidZone.{IsSoundTable};
@@ -14,8 +14,8 @@ use tz_rule::timezone::{LocalTimeType, TransitionRule};
 
 /// The clock's type at an instant. (RFC 8536, section 3.2)
 ///
-/// The last transition is looked at first: from there on no other is, and the extra rule tells the type. The way of most lookups, before
-/// it in a zone without leap seconds, is short and stands in the caller; the others are calls.
+/// The last transition is looked at first: from there on no other is, and the extra rule tells the type. Only the way over leap seconds is a
+/// call.
 #[inline(always)]
 pub fn find_local_time_type<'a, V: Transitions>(
     view: &mut V,
@@ -32,18 +32,16 @@ pub fn find_local_time_type<'a, V: Transitions>(
     ensures none { V.list view.old ≡ [] → V.looks view.new ≡ V.looks view.old }
 {
     let count = view.len();
-    if count == 0 {
-        return type_without_transitions(parts, unix_time);
+    if count > 0 {
+        let last = view.look(count - 1);
+        if !parts.leap_seconds.is_empty() {
+            return type_over_leap_seconds(view, parts, last, unix_time);
+        }
+        if unix_time < last.unix_leap_time() {
+            return Ok(type_before_last(view, parts, last, unix_time));
+        }
     }
-    let last = view.look(count - 1);
-    if !parts.leap_seconds.is_empty() {
-        return type_over_leap_seconds(view, parts, last, unix_time);
-    }
-    if unix_time < last.unix_leap_time() {
-        Ok(type_before_last(view, parts, unix_time))
-    } else {
-        type_after_transitions(parts.extra_rule, unix_time)
-    }
+    type_behind_table(parts, count == 0, unix_time)
 }
 
 /// The clock's type by the leap time of an instant, where the last transition was looked at.
@@ -65,39 +63,28 @@ fn type_over_leap_seconds<'a, V: Transitions>(
 {
     let unix_leap_time = leap(parts.leap_seconds, unix_time)?;
     if unix_leap_time < last.unix_leap_time() {
-        Ok(type_before_last(view, parts, unix_leap_time))
+        Ok(type_before_last(view, parts, last, unix_leap_time))
     } else {
-        type_after_transitions(parts.extra_rule, unix_time)
+        type_behind_table(parts, false, unix_time)
     }
 }
 
-/// The type of a zone without transitions.
+/// The type from the last transition on, which the extra rule tells, or of a zone that has no transitions.
 #[inline(always)]
-fn type_without_transitions<'a>(
+fn type_behind_table<'a>(
     parts: OtherParts<'a>,
+    is_empty: bool,
     unix_time: i64,
 ) -> Result<&'a LocalTimeType, TzError>
     requires { parts.local_time_types.now ≢ [] }
-    ensures ok { IfOk result (λ t. IsTypeWithout (zone_seen [] parts.entry) parts.entry.extra_rule.now unix_time t.now) }
-    ensures err { IfErr result (λ e. (e ≡ TzError.OutOfRange) × ((t : LocalTimeType) → ¬ IsTypeWithout (zone_seen [] parts.entry) parts.entry.extra_rule.now unix_time t)) }
+    ensures ok { IfOk result (λ t. MatchBool is_empty (IsTypeWithout (zone_seen [] parts.entry) parts.entry.extra_rule.now unix_time t.now)
+        (IsTypeAfter parts.entry.extra_rule.now unix_time t.now)) }
+    ensures err { IfErr result (λ e. MatchBool is_empty ((e ≡ TzError.OutOfRange)
+        × ((t : LocalTimeType) → ¬ IsTypeWithout (zone_seen [] parts.entry) parts.entry.extra_rule.now unix_time t)) (IsFaultAfter parts.entry.extra_rule.now unix_time e)) }
 {
     match parts.extra_rule {
         Some(rule) => tz_rule::inner::find_local_time_type(rule, unix_time),
-        None => Ok(&parts.local_time_types[0]),
-    }
-}
-
-/// The type from the last transition on, which the extra rule tells.
-#[inline(never)]
-fn type_after_transitions(
-    extra_rule: &Option<TransitionRule>,
-    unix_time: i64,
-) -> Result<&LocalTimeType, TzError>
-    ensures ok { IfOk result (λ t. IsTypeAfter extra_rule.now unix_time t.now) }
-    ensures err { IfErr result (IsFaultAfter extra_rule.now unix_time) }
-{
-    match extra_rule {
-        Some(rule) => tz_rule::inner::find_local_time_type(rule, unix_time),
+        None if is_empty => Ok(&parts.local_time_types[0]),
         None => Err(TzError::NoAvailableLocalTimeType),
     }
 }
@@ -107,9 +94,11 @@ fn type_after_transitions(
 fn type_before_last<'a, V: Transitions>(
     view: &mut V,
     parts: OtherParts<'a>,
+    last: Transition,
     unix_leap_time: i64,
 ) -> &'a LocalTimeType
     requires sound { IsSoundTable (zone_seen (V.list view.old) parts) }
+    requires last { IsLast (V.list view.old) last }
     requires at_least_one { 0 < length (V.list view.old) }
     requires ahead { AreAhead (V.list view.old) unix_leap_time (length (V.list view.old) - 1) }
     ensures same { V.list view.new ≡ V.list view.old }
@@ -117,6 +106,6 @@ fn type_before_last<'a, V: Transitions>(
     ensures kept { V.looks view.old ≤ V.looks view.new }
     ensures at_most { (b : ℕ) → length (V.list view.old) < 2 ^ b → V.looks view.new ≤ V.looks view.old + (b + 1) }
 {
-    let place = place_before(view, unix_leap_time);
+    let place = place_before(view, last, unix_leap_time);
     type_at_place(view, parts, place)
 }

@@ -9,7 +9,7 @@ ghost use Rattle.tz_zone.specs.ValidZone.{IsSoundTable};
 ghost use Rattle.tz_zone.specs.ZoneSeen.{zone_seen};
 
 use super::change::Change;
-use super::cursor::cursor_before;
+use super::place::place_before;
 use crate::table::{OtherParts, Transition, Transitions};
 use tz_rule::timezone::{LocalTimeType, TransitionRule};
 
@@ -54,7 +54,7 @@ fn place_of<V: Transitions>(
             return place;
         }
     }
-    cursor_before(view, last, unix_time).place
+    place_before(view, last, unix_time)
 }
 
 /// The type of a transition.

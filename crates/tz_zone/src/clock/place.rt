@@ -1,42 +1,24 @@
 //! A place among a zone's transitions at which a leap time is reached, as a number alone.
 
 ghost use Rattle.std.specs.Prelude.{◌≡◌, ℕ, ◌+◌, ◌-◌, ◌^◌, ◌<◌, ◌≤◌, length};
-ghost use Rattle.tz_zone.specs.Clock.{AreReached, AreAhead, IsNumberBefore, IsTypeOfLast};
+ghost use Rattle.tz_zone.specs.Clock.{AreReached, AreAhead, IsLast, IsNumberBefore, IsTypeOfLast};
 ghost use Rattle.tz_zone.specs.ValidZone.{IsRising, IsSoundTable};
 ghost use Rattle.tz_zone.specs.ZoneSeen.{zone_seen};
 
-use crate::bisect::power_up_to;
-use crate::table::{OtherParts, Transitions};
+use super::cursor::cursor_before;
+use crate::table::{OtherParts, Transition, Transitions};
 use tz_rule::timezone::LocalTimeType;
 
-/// The first of as many places as a power of two, at one of which a leap time is reached that lies before the last transition.
-#[inline(always)]
-fn first_place<V: Transitions>(view: &mut V, power: usize, unix_leap_time: i64) -> usize
-    requires rising { IsRising (V.list view.old) }
-    requires power { (0 < power) × (power < length (V.list view.old)) × (length (V.list view.old) ≤ power + power) }
-    requires ahead { AreAhead (V.list view.old) unix_leap_time (length (V.list view.old) - 1) }
-    ensures same { V.list view.new ≡ V.list view.old }
-    ensures within { result + power ≤ length (V.list view.old) }
-    ensures reached { AreReached (V.list view.old) unix_leap_time result }
-    ensures ahead { AreAhead (V.list view.old) unix_leap_time (result + power - 1) }
-    ensures kept { V.looks view.old ≤ V.looks view.new }
-    ensures at_most { V.looks view.new ≤ V.looks view.old + 1 }
-{
-    let place = view.len() - power;
-    if view.look(place - 1).unix_leap_time() <= unix_leap_time {
-        place
-    } else {
-        0
-    }
-}
-
 /// How many transitions are reached at a leap time that lies before the last one.
-///
-/// The places that are left are as many as a power of two, so a step of the halving compares once and moves one number.
 #[inline(always)]
-pub(super) fn place_before<V: Transitions>(view: &mut V, unix_leap_time: i64) -> usize
+pub(super) fn place_before<V: Transitions>(
+    view: &mut V,
+    last: Transition,
+    unix_leap_time: i64,
+) -> usize
     requires rising { IsRising (V.list view.old) }
     requires at_least_one { 0 < length (V.list view.old) }
+    requires last { IsLast (V.list view.old) last }
     requires ahead { AreAhead (V.list view.old) unix_leap_time (length (V.list view.old) - 1) }
     ensures same { V.list view.new ≡ V.list view.old }
     ensures within { result < length (V.list view.old) }
@@ -45,21 +27,7 @@ pub(super) fn place_before<V: Transitions>(view: &mut V, unix_leap_time: i64) ->
     ensures kept { V.looks view.old ≤ V.looks view.new }
     ensures at_most { (b : ℕ) → length (V.list view.old) < 2 ^ b → V.looks view.new ≤ V.looks view.old + b }
 {
-    let before_last = view.len() - 1;
-    if before_last == 0 {
-        return 0;
-    }
-    let power = power_up_to(before_last);
-    let mut place = first_place(view, power, unix_leap_time);
-    let mut step = power / 2;
-    while step > 0 {
-        let next = place + step;
-        step /= 2;
-        if view.look(next - 1).unix_leap_time() <= unix_leap_time {
-            place = next;
-        }
-    }
-    place
+    cursor_before(view, last, unix_leap_time).place
 }
 
 /// The number of the type that the transition before a place names, or 0 where there is none.

@@ -31,8 +31,9 @@ pub enum WindowTypes<'a> {
     More,
 }
 
-/// The types of a rule from a segment that ends in the window on.
-#[inline(always)]
+/// The types of a rule from a segment that ends in the window on. It is a call, so that a caller in whose window the rule has one type stays
+/// small.
+#[inline(never)]
 fn types_across<'a>(
     rule: &'a TransitionRule,
     before: &'a LocalTimeType,
@@ -97,10 +98,12 @@ fn types_behind_table<'a>(
 fn types_before_last<'a, V: Transitions>(
     view: &mut V,
     parts: OtherParts<'a>,
+    last: Transition,
     low: i64,
     high: i64,
 ) -> WindowTypes<'a>
     requires sound { IsSoundTable (zone_seen (V.list view.old) parts) }
+    requires last { IsLast (V.list view.old) last }
     requires at_least_one { 0 < length (V.list view.old) }
     requires ahead { AreAhead (V.list view.old) low (length (V.list view.old) - 1) }
     ensures same { V.list view.new ≡ V.list view.old }
@@ -110,7 +113,7 @@ fn types_before_last<'a, V: Transitions>(
     ensures more { IfMore result ((b : ℕ) → length (V.list view.old) < 2 ^ b → V.looks view.new ≤ V.looks view.old + (b + 2)) }
 {
     let count = view.len();
-    let place = place_before(view, low);
+    let place = place_before(view, last, low);
     let next = view.look(place);
     if high < next.unix_leap_time() {
         return WindowTypes::One(type_at_place(view, parts, place));
@@ -151,7 +154,7 @@ fn type_over_leap_seconds<'a, V: Transitions>(
     if last.unix_leap_time() <= first_time {
         return None;
     }
-    let place = place_before(view, first_time);
+    let place = place_before(view, last, first_time);
     let next = view.look(place);
     if next.unix_leap_time() <= last_time {
         return None;
@@ -192,7 +195,7 @@ fn types_in_table<'a, V: Transitions>(
         };
     }
     if low < last.unix_leap_time() {
-        return Some(types_before_last(view, parts, low, high));
+        return Some(types_before_last(view, parts, last, low, high));
     }
     None
 }

@@ -40,9 +40,9 @@ returns-else-unix_leap_time-clause-ok g c =
     let leap = rw (to_z-of_z w64 u c.ranges.unix_time) at c.in_ok-unix_leap_time.ensures.ok in
     let time = c.unix_leap_time.ensures in
     let from : last.unix_leap_time ≤ℤ l = omega (arith, ints, c.if-unix_leap_time.false) in
-    IfOk-weaker c.type_after_transitions.result _ _
+    IfOk-weaker c.type_behind_table.result _ _
     (λ t type. clock_from_last z c.requires.sound.leap_seconds_are last c.requires.last u l leap t.now from (rw (to_z-of_z w64 u c.ranges.unix_time) at type))
-    c.type_after_transitions.ensures.ok
+    c.type_behind_table.ensures.ok
 
 pub returns-else-unix_leap_time-clause-err : goal.returns-else-unix_leap_time-clause-err
 returns-else-unix_leap_time-clause-err g c =
@@ -53,9 +53,9 @@ returns-else-unix_leap_time-clause-err g c =
     let leap = rw (to_z-of_z w64 u c.ranges.unix_time) at c.in_ok-unix_leap_time.ensures.ok in
     let time = c.unix_leap_time.ensures in
     let from : last.unix_leap_time ≤ℤ l = omega (arith, ints, c.if-unix_leap_time.false) in
-    IfErr-weaker c.type_after_transitions.result _ _
+    IfErr-weaker c.type_behind_table.result _ _
     (λ e fault. fault_from_last z c.requires.sound.leap_seconds_are last c.requires.last u l leap e from (rw (to_z-of_z w64 u c.ranges.unix_time) at fault))
-    c.type_after_transitions.ensures.err
+    c.type_behind_table.ensures.err
 
 pub returns-in_err-unix_leap_time-clause-err : goal.returns-in_err-unix_leap_time-clause-err
 returns-in_err-unix_leap_time-clause-err g c =

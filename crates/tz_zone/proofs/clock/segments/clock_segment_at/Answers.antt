@@ -15,6 +15,9 @@ returns-in_default-clause-at g c =
     let found = rw (to_z-of_z w64 u c.ranges.unix_time) at c.refused_segment.ensures in
     refused_segment_is z some u c.refused_segment.result found.within found.refused found.begun found.local_time_type found.cursor
 
+pub cursor_at-cursor-requires-clause-rising : goal.cursor_at-cursor-requires-clause-rising
+cursor_at-cursor-requires-clause-rising g c = rw c.look-last.ensures.same (λ i. (c.requires.transitions_are i).1)
+
 pub segment_at_cursor-requires-clause-named : goal.segment_at_cursor-requires-clause-named
 segment_at_cursor-requires-clause-named g c =
     let z = zone_seen (g.V.Transitions.list c.args.view.now) c.args.parts in

@@ -1,21 +1,14 @@
 -- Behind the table the types are those of the rule, or of the first type where there are no transitions.
-use Rattle.std.proofs.Common.{◌≡◌, ◌<◌, inl, inr, arith, sym, ap, ℕ, zero, suc, List, [], length, eqb, MatchBool}
-use Rattle.std.proofs.Math.Dec.{eqb-suc-zero}
+use Rattle.std.proofs.Common.{inl, inr, arith, ap, [], length}
 use Rattle.std.proofs.lemmas.Int.{ints, to_z-of_z}
-use Rattle.std.proofs.lemmas.List.{nil_from_length}
 use mir.Syntax.{w64}
-use Rattle.tz_zone.specs.Table.{Transition}
 use Rattle.tz_zone.specs.Clock.{IsClock, IsTypeAfter}
 use Rattle.tz_zone.specs.WindowTypes.{AreTypesIn}
 use Rattle.tz_zone.specs.ZoneSeen.{zone_seen}
-use Rattle.tz_zone.proofs.TypesAtCursors.{plain_leap}
+use Rattle.tz_zone.proofs.TypesAtCursors.{by_count, plain_leap}
 use Rattle.tz_zone.proofs.Clocks.{clock_from_last}
 use Rattle.tz_zone.proofs.WindowTypes.{types_weaker}
 use Rattle.tz_zone.proofs.clock.types_in_window.window_types.Goals as goal
-
-by_count : (count : ℕ) (transitions : List Transition) → count ≡ length transitions → (P Q R : Type 0) → (transitions ≡ [] → P → R) → (0 < length transitions → Q → R) → MatchBool (eqb count 0) P Q → R
-by_count zero transitions is P Q R empty behind types = empty (nil_from_length transitions (sym is)) types
-by_count (suc before) transitions is P Q R empty behind types = behind (omega (arith, is)) (rw (eqb-suc-zero before) at types)
 
 pub returns-in-None-clause-types : goal.returns-in-None-clause-types
 returns-in-None-clause-types g c =
