@@ -1,5 +1,5 @@
 -- The table of pairs has the tens and the ones of each number.
-use Rattle.std.proofs.Common.{◌≡◌, ℕ, zero, suc, ◌+◌, ◌-◌, ◌*◌, ◌/◌, ◌%◌, ◌<◌, Bool, true, ◌&&◌, eqb, T, eqb→eq, get_or, inl, inr, eq-zero-or-pos, arith}
+use Rattle.std.proofs.Common.{◌≡◌, ℕ, zero, suc, ◌+◌, ◌-◌, ◌*◌, ◌/◌, ◌%◌, ◌<◌, ◌≤◌, Bool, true, ◌&&◌, eqb, T, eqb→eq, get_or, inl, inr, eq-zero-or-pos, arith, refl, ap, ◌∙◌, List, [], ◌∷◌, length, take, drop}
 use lib.Ieee.Fits.{and_l, and_r}
 use Rattle.tz.specs.declared.text.TheConstants.{PAIRS}
 
@@ -18,5 +18,23 @@ pairs_below (suc count) n all below =
       | inr before ↦ pairs_below count n (and_r (is_pair count) (are_pairs count) all) (omega arith)
     ]
 
-pub pair_at : (n : ℕ) → n < 100 → (get_or PAIRS (n * 2) 0 ≡ 48 + n / 10) × (get_or PAIRS (n * 2 + 1) 0 ≡ 48 + n % 10)
+pair_at : (n : ℕ) → n < 100 → (get_or PAIRS (n * 2) 0 ≡ 48 + n / 10) × (get_or PAIRS (n * 2 + 1) 0 ≡ 48 + n % 10)
 pair_at n below = pairs_below 100 n tt below
+
+-- two items of a list in their order
+two_items : (items : List ℕ) (place : ℕ) → place + 2 ≤ length items → take 2 (drop place items) ≡ get_or items place 0 ∷ get_or items (suc place) 0 ∷ []
+two_items [] place within = absurd (omega (arith, within))
+two_items (x ∷ []) zero within = absurd (omega (arith, within))
+two_items (x ∷ y ∷ items) zero within = refl
+two_items (x ∷ items) (suc place) within = two_items items place (omega (arith, within))
+
+-- so the two bytes at a number's place are its digits
+pub pair_is : (n : ℕ) → n < 100 → take 2 (drop (n * 2) PAIRS) ≡ (48 + n / 10) ∷ (48 + n % 10) ∷ []
+pair_is n below =
+    let at = pair_at n below in
+    let next : suc (n * 2) ≡ n * 2 + 1 = omega arith in
+    let within : n * 2 + 2 ≤ length PAIRS = omega (arith, below) in
+    two_items PAIRS (n * 2) within
+    ∙ ap (λ digit. digit ∷ get_or PAIRS (suc (n * 2)) 0 ∷ []) at.0
+    ∙ ap (λ place. (48 + n / 10) ∷ get_or PAIRS place 0 ∷ []) next
+    ∙ ap (λ digit. (48 + n / 10) ∷ digit ∷ []) at.1

@@ -1,11 +1,14 @@
 -- Digits two at a time.
 use Rattle.std.proofs.Common.{◌≡◌, ℕ, zero, suc, ◌+◌, ◌/◌, ◌%◌, ◌^◌, ◌<◌, ◌≤◌, [], ◌∷◌, ◌++◌, length, length-append, refl, ℤ, pos, negsuc, ◌<ℤ◌, ap, sym, ◌∙◌, arith, append_assoc, append-nil}
-use Rattle.std.specs.Prelude.{unsigned_abs}
-use Rattle.std.specs.Fmt.{decimal}
+use Rattle.std.specs.Prelude.{unsigned_abs, IsAscii}
+use Rattle.std.specs.Fmt.{decimal, signed_decimal}
 use Rattle.std.proofs.lemmas.Bool.Decides.{nat_tests}
 use Rattle.std.proofs.lemmas.Int.{ints}
 use Rattle.std.proofs.lemmas.Fmt.{decimal_digit, decimal_step, length-decimal-le}
-use Rattle.tz.specs.PrintedText.{last_digits, two_digits, nine_digits, two_digits_or_more, offset_text, duration_text}
+use Rattle.std.proofs.lemmas.Str.{IsAscii-append}
+use Rattle.std.proofs.lemmas.Str.Ascii.{IsAscii-cons, IsAscii-nil}
+use Rattle.tz_base.specs.declared.fields.Fields.{Fields}
+use Rattle.tz.specs.PrintedText.{last_digits, two_digits, nine_digits, two_digits_or_more, date_text, time_text, middle_text, offset_text, duration_text, printed_text}
 
 -- the last digits, and the two before them
 pub last_two_digits : (width n : ℕ) → last_digits (suc (suc width)) n ≡ last_digits width (n / 100) ++ two_digits (n % 100)
@@ -19,6 +22,10 @@ last_two_digits width n =
 pub two_digits-below : (n : ℕ) → n < 100 → two_digits n ≡ (48 + n / 10) ∷ (48 + n % 10) ∷ []
 unfolding two_digits
 two_digits-below n below = let tens : n / 10 % 10 ≡ n / 10 = omega arith in rw tens refl
+
+-- digits are ASCII bytes
+pub two_digits-ascii : (n : ℕ) → n < 100 → IsAscii (two_digits n)
+two_digits-ascii n below = rw (two_digits-below n below) (IsAscii-cons (48 + n / 10) ((48 + n % 10) ∷ []) (omega (arith, below)) (IsAscii-cons (48 + n % 10) [] (omega arith) IsAscii-nil))
 
 pub nine_digits-pairs : (n : ℕ) → n < 1000000000 → nine_digits n ≡
     (48 + n / 10000 / 10000) ∷ two_digits (n / 10000 % 10000 / 100) ++ (two_digits (n / 10000 % 100) ++ (two_digits (n % 10000 / 100) ++ two_digits (n % 10000 % 100)))
@@ -34,6 +41,36 @@ nine_digits-pairs n below =
     ∙ ap (λ xs. xs ++ two_digits (n / 100 % 100)) (last_two_digits 3 (n / 100 / 100)
     ∙ ap (λ xs. xs ++ two_digits (n / 100 / 100 % 100)) (last_two_digits 1 (n / 100 / 100 / 100))))
     ∙ rw (fourth, fifth, third, second, first) (simp append_assoc)
+
+pub nine_digits-ascii : (n : ℕ) → n < 1000000000 → IsAscii (nine_digits n)
+nine_digits-ascii n below =
+    rw (nine_digits-pairs n below)
+    (IsAscii-cons (48 + n / 10000 / 10000) _ (omega (arith, below))
+    (IsAscii-append _ _ (two_digits-ascii (n / 10000 % 10000 / 100) (omega arith))
+    (IsAscii-append _ _ (two_digits-ascii (n / 10000 % 100) (omega arith))
+    (IsAscii-append _ _ (two_digits-ascii (n % 10000 / 100) (omega arith)) (two_digits-ascii (n % 10000 % 100) (omega arith))))))
+
+-- what stands between a year and nanoseconds, byte by byte
+pub middle_text-bytes : (f : Fields) → f.month < 100 → f.month_day < 100 → f.hour < 100 → f.minute < 100 → f.second < 100 →
+    middle_text f ≡ 45 ∷ (48 + f.month / 10) ∷ (48 + f.month % 10) ∷ 45 ∷ (48 + f.month_day / 10) ∷ (48 + f.month_day % 10)
+    ∷ 84 ∷ (48 + f.hour / 10) ∷ (48 + f.hour % 10) ∷ 58 ∷ (48 + f.minute / 10) ∷ (48 + f.minute % 10) ∷ 58 ∷ (48 + f.second / 10) ∷ (48 + f.second % 10) ∷ 46 ∷ []
+unfolding middle_text
+middle_text-bytes f month day hour minute second =
+    rw (two_digits-below f.month month, two_digits-below f.month_day day, two_digits-below f.hour hour, two_digits-below f.minute minute, two_digits-below f.second second) refl
+
+pub middle_text-ascii : (f : Fields) → f.month < 100 → f.month_day < 100 → f.hour < 100 → f.minute < 100 → f.second < 100 → IsAscii (middle_text f)
+unfolding middle_text
+middle_text-ascii f month day hour minute second =
+    IsAscii-cons 45 _ (omega arith) (IsAscii-append _ _ (two_digits-ascii f.month month)
+    (IsAscii-cons 45 _ (omega arith) (IsAscii-append _ _ (two_digits-ascii f.month_day day)
+    (IsAscii-cons 84 _ (omega arith) (IsAscii-append _ _ (two_digits-ascii f.hour hour)
+    (IsAscii-cons 58 _ (omega arith) (IsAscii-append _ _ (two_digits-ascii f.minute minute)
+    (IsAscii-cons 58 _ (omega arith) (IsAscii-append _ _ (two_digits-ascii f.second second) (IsAscii-cons 46 [] (omega arith) IsAscii-nil))))))))))
+
+-- the parts of a printed date time
+pub printed_parts : (f : Fields) (offset : ℤ) → printed_text f offset ≡ signed_decimal f.year ++ (middle_text f ++ (nine_digits f.nanoseconds ++ offset_text offset))
+unfolding printed_text date_text time_text middle_text two_digits
+printed_parts f offset = append_assoc (signed_decimal f.year) (45 ∷ two_digits f.month ++ (45 ∷ two_digits f.month_day)) (84 ∷ time_text f ++ offset_text offset)
 
 -- a number of several digits is written two at a time
 pub decimal-pairs : (n : ℕ) → 100 ≤ n → n < 2 ^ 64 → decimal n ≡ decimal (n / 100) ++ two_digits (n % 100)

@@ -41,6 +41,10 @@ offset_text (pos zero) = 90 ∷ []
 offset_text (pos (suc n)) = 43 ∷ duration_text (suc n)
 offset_text (negsuc n) = 45 ∷ duration_text (suc n)
 
+-- what stands between the year and the nanoseconds
+unfoldable pub middle_text : Fields → List ℕ
+middle_text f = 45 ∷ two_digits f.month ++ (45 ∷ two_digits f.month_day ++ (84 ∷ two_digits f.hour ++ (58 ∷ two_digits f.minute ++ (58 ∷ two_digits f.second ++ 46 ∷ []))))
+
 -- the date, `T`, the time, and the offset from UTC
 unfoldable pub printed_text : Fields → ℤ → List ℕ
 printed_text f offset = date_text f ++ (84 ∷ time_text f ++ offset_text offset)

@@ -4,5 +4,6 @@ pub use crate::datetime::date_time::fields_of;
 pub use crate::datetime::find::find_fields;
 pub use crate::datetime::resolution::Resolution;
 pub use crate::datetime::resolve::{once, resolve_window, window_of};
-pub use crate::text::{TextBuffer, ones, tens};
+pub use crate::printed::middle_of;
+pub use crate::text::{TextBuffer, two_pairs};
 pub use tz_base::fields::{Fields, is_reading};

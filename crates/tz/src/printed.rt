@@ -1,17 +1,33 @@
 //! How dates, times and offsets are printed.
 
-ghost use Rattle.std.specs.Prelude.{◌≡◌, ◌+◌, ◌<◌, ◌≤◌, ◌++◌, length};
+ghost use Rattle.std.specs.Prelude.{◌≡◌, ◌+◌, ◌<◌, ◌≤◌, ◌++◌, length, IsAscii};
 ghost use Rattle.std.specs.Fmt.{signed_decimal};
 ghost use Rattle.tz_base.specs.Fields.{IsValid};
-ghost use Rattle.tz.specs.PrintedText.{two_digits_or_more, date_text, time_text, seconds_text, duration_text, offset_text, printed_text};
+ghost use Rattle.tz.specs.PrintedText.{two_digits_or_more, middle_text, seconds_text, duration_text, offset_text, printed_text};
 
-use crate::text::{TextBuffer, ones, tens};
+use crate::text::{TextBuffer, pair_of};
 use tz_base::fields::Fields;
+
+/// What stands between the year and the nanoseconds: month and day, and the time of day up to the point.
+#[inline(always)]
+pub fn middle_of(fields: &Fields) -> [u8; 16]
+    requires { IsValid fields.now }
+    ensures text { result ≡ middle_text fields.now }
+    ensures ascii { IsAscii result }
+{
+    let (month, day) = (pair_of(fields.month), pair_of(fields.month_day));
+    let hour = pair_of(fields.hour);
+    let (minute, second) = (pair_of(fields.minute), pair_of(fields.second));
+    [
+        b'-', month[0], month[1], b'-', day[0], day[1], b'T', hour[0], hour[1], b':', minute[0],
+        minute[1], b':', second[0], second[1], b'.',
+    ]
+}
 
 impl TextBuffer {
     /// Appends a year.
     #[inline(always)]
-    fn push_year(&mut self, year: i32)
+    pub fn push_year(&mut self, year: i32)
         requires { length self.old + 11 ≤ 128 }
         ensures text { self.new ≡ self.old ++ signed_decimal year }
         ensures len { length self.new ≤ length self.old + 11 }
@@ -22,42 +38,6 @@ impl TextBuffer {
         } else {
             self.push_decimal(year.unsigned_abs());
         }
-    }
-
-    /// Appends year-MM-DD.
-    #[inline(always)]
-    fn push_date(&mut self, fields: &Fields)
-        requires valid { IsValid fields.now }
-        requires room { length self.old + 17 ≤ 128 }
-        ensures text { self.new ≡ self.old ++ date_text fields.now }
-        ensures len { length self.new ≤ length self.old + 17 }
-    {
-        self.push_year(fields.year);
-        let (month, day) = (fields.month, fields.month_day);
-        self.push_ascii(&[b'-', tens(month), ones(month), b'-', tens(day), ones(day)]);
-    }
-
-    /// Appends hh:mm:ss.nnnnnnnnn.
-    #[inline(always)]
-    fn push_time(&mut self, fields: &Fields)
-        requires valid { IsValid fields.now }
-        requires room { length self.old + 18 ≤ 128 }
-        ensures text { self.new ≡ self.old ++ time_text fields.now }
-        ensures len { length self.new ≡ length self.old + 18 }
-    {
-        let (hour, minute, second) = (fields.hour, fields.minute, fields.second);
-        self.push_ascii(&[
-            tens(hour),
-            ones(hour),
-            b':',
-            tens(minute),
-            ones(minute),
-            b':',
-            tens(second),
-            ones(second),
-            b'.',
-        ]);
-        self.push_nine_digits(fields.nanoseconds);
     }
 
     /// Appends hours, with two digits at least.
@@ -97,8 +77,8 @@ impl TextBuffer {
         let minutes = (seconds / 60 % 60) as u8;
         let rest = (seconds % 60) as u8;
         if hours < 100 && rest == 0 {
-            let hours = hours as u8;
-            self.push_ascii(&[tens(hours), ones(hours), b':', tens(minutes), ones(minutes)]);
+            let (hours, minutes) = (pair_of(hours as u8), pair_of(minutes));
+            self.push_ascii(&[hours[0], hours[1], b':', minutes[0], minutes[1]]);
         } else {
             self.push_hours(hours);
             self.push(b':');
@@ -132,9 +112,9 @@ impl TextBuffer {
         ensures text { self.new ≡ self.old ++ printed_text fields.now ut_offset }
         ensures len { length self.new ≤ length self.old + 53 }
     {
-        self.push_date(fields);
-        self.push(b'T');
-        self.push_time(fields);
+        self.push_year(fields.year);
+        self.push_ascii(&middle_of(fields));
+        self.push_nine_digits(fields.nanoseconds);
         self.push_offset(ut_offset);
     }
 }

@@ -30,22 +30,26 @@ impl Model for TextBuffer {
 static PAIRS: [u8; 200] =
     *b"00010203040506070809101112131415161718192021222324252627282930313233343536373839404142434445464748495051525354555657585960616263646566676869707172737475767778798081828384858687888990919293949596979899";
 
-/// The tens of a number below 100, as a digit.
+/// The two digits of a number below 100.
 #[inline(always)]
-pub fn tens(number: u8) -> u8
+pub fn pair_of(number: u8) -> [u8; 2]
     requires { number < 100 }
-    ensures { result ≡ 48 + number / 10 }
+    ensures { result ≡ two_digits number }
 {
-    PAIRS[usize::from(number) * 2]
+    let place = usize::from(number) * 2;
+    let mut pair = [0; 2];
+    pair.copy_from_slice(&PAIRS[place..place + 2]);
+    pair
 }
 
-/// The ones of a number below 100, as a digit.
+/// The digits of a number that has four: the first two, and the last two.
 #[inline(always)]
-pub fn ones(number: u8) -> u8
-    requires { number < 100 }
-    ensures { result ≡ 48 + number % 10 }
+pub fn two_pairs(number: u32) -> ([u8; 2], [u8; 2])
+    requires { (1000 ≤ number) × (number < 10000) }
+    ensures text { result.0 ++ result.1 ≡ decimal number }
+    ensures ascii { IsAscii result.0 × IsAscii result.1 }
 {
-    PAIRS[usize::from(number) * 2 + 1]
+    (pair_of((number / 100) as u8), pair_of((number % 100) as u8))
 }
 
 impl TextBuffer {
@@ -130,7 +134,7 @@ impl TextBuffer {
         ensures text { self.new ≡ self.old ++ two_digits number }
         ensures len { length self.new ≡ length self.old + 2 }
     {
-        self.push_ascii(&[tens(number), ones(number)]);
+        self.push_ascii(&pair_of(number));
     }
 
     /// Appends nanoseconds as nine digits.
@@ -144,20 +148,14 @@ impl TextBuffer {
         let high = number / 10_000;
         let low = number % 10_000;
         let first = b'0' + (high / 10_000) as u8;
-        let second = (high % 10_000 / 100) as u8;
-        let third = (high % 100) as u8;
-        let fourth = (low / 100) as u8;
-        let fifth = (low % 100) as u8;
+        let (second, third) = (
+            pair_of((high % 10_000 / 100) as u8),
+            pair_of((high % 100) as u8),
+        );
+        let (fourth, fifth) = (pair_of((low / 100) as u8), pair_of((low % 100) as u8));
         self.push_ascii(&[
-            first,
-            tens(second),
-            ones(second),
-            tens(third),
-            ones(third),
-            tens(fourth),
-            ones(fourth),
-            tens(fifth),
-            ones(fifth),
+            first, second[0], second[1], third[0], third[1], fourth[0], fourth[1], fifth[0],
+            fifth[1],
         ]);
     }
 
@@ -186,8 +184,9 @@ impl TextBuffer {
         ensures len { length self.new ≤ length self.old + 10 }
     {
         if number >= 1000 && number < 10_000 {
-            let (front, back) = ((number / 100) as u8, (number % 100) as u8);
-            self.push_ascii(&[tens(front), ones(front), tens(back), ones(back)]);
+            let (front, back) = two_pairs(number);
+            self.push_ascii(&front);
+            self.push_ascii(&back);
         } else {
             self.push_digits(u64::from(number));
         }

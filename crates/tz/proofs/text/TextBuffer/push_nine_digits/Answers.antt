@@ -1,25 +1,38 @@
 -- One digit and four pairs.
-use Rattle.std.proofs.Common.{◌/◌, ◌%◌, refl, arith}
-use Rattle.tz.proofs.PrintedDigits.{nine_digits-pairs, two_digits-below}
+use Rattle.std.proofs.Common.{◌≡◌, ◌+◌, ◌/◌, ◌%◌, [], ◌∷◌, slice_index_or, refl, arith, sym, ◌∙◌, subst, IsAscii}
+use Rattle.tz.specs.PrintedText.{nine_digits}
+use Rattle.tz.proofs.PrintedDigits.{nine_digits-ascii, nine_digits-pairs, two_digits-below}
 use Rattle.tz.proofs.text.TextBuffer.push_nine_digits.Goals as goal
+
+pub push_ascii-requires-clause-ascii : goal.push_ascii-requires-clause-ascii
+push_ascii-requires-clause-ascii c =
+    let n = c.args.number in
+    let second = two_digits-below (n / 10000 % 10000 / 100) (omega arith) in
+    let third = two_digits-below (n / 10000 % 100) (omega arith) in
+    let fourth = two_digits-below (n % 10000 / 100) (omega arith) in
+    let fifth = two_digits-below (n % 10000 % 100) (omega arith) in
+    let bytes : (48 + n / 10000 / 10000) ∷ slice_index_or c.pair_of-second.result 0 0 ∷ slice_index_or c.pair_of-second.result 1 0 ∷ slice_index_or c.pair_of-third.result 0 0 ∷ slice_index_or c.pair_of-third.result 1 0
+    ∷ slice_index_or c.pair_of-fourth.result 0 0 ∷ slice_index_or c.pair_of-fourth.result 1 0 ∷ slice_index_or c.pair_of-fifth.result 0 0 ∷ slice_index_or c.pair_of-fifth.result 1 0 ∷ [] ≡ nine_digits n =
+    rw (c.pair_of-second.ensures ∙ second, c.pair_of-third.ensures ∙ third, c.pair_of-fourth.ensures ∙ fourth, c.pair_of-fifth.ensures ∙ fifth, nine_digits-pairs n c.requires.below, second, third, fourth, fifth) refl in
+    subst IsAscii (sym bytes) (nine_digits-ascii n c.requires.below)
 
 pub returns-clause-text : goal.returns-clause-text
 returns-clause-text c =
     let n = c.args.number in
+    let second = two_digits-below (n / 10000 % 10000 / 100) (omega arith) in
+    let third = two_digits-below (n / 10000 % 100) (omega arith) in
+    let fourth = two_digits-below (n % 10000 / 100) (omega arith) in
+    let fifth = two_digits-below (n % 10000 % 100) (omega arith) in
     rw (
       c.push_ascii.ensures.text,
-      c.tens.ensures,
-      c.ones.ensures,
-      c.tens-2.ensures,
-      c.ones-2.ensures,
-      c.tens-3.ensures,
-      c.ones-3.ensures,
-      c.tens-4.ensures,
-      c.ones-4.ensures,
+      c.pair_of-second.ensures ∙ second,
+      c.pair_of-third.ensures ∙ third,
+      c.pair_of-fourth.ensures ∙ fourth,
+      c.pair_of-fifth.ensures ∙ fifth,
       nine_digits-pairs n c.requires.below,
-      two_digits-below (n / 10000 % 10000 / 100) (omega arith),
-      two_digits-below (n / 10000 % 100) (omega arith),
-      two_digits-below (n % 10000 / 100) (omega arith),
-      two_digits-below (n % 10000 % 100) (omega arith),
+      second,
+      third,
+      fourth,
+      fifth,
     )
     refl
