@@ -1,5 +1,6 @@
--- A line on a page is its prefix, its nanoseconds and its end, each copied whole.
+-- A line on a page is its year, what follows up to the nanoseconds, these, and its suffix, each copied whole.
 use Rattle.std.proofs.Common.{◌≡◌, ℕ, ◌+◌, ◌/◌, ◌%◌, ◌<◌, ◌≤◌, List, [], ◌∷◌, ◌++◌, length, take, drop, refl, sym, ap, ◌∙◌, subst, arith, append_assoc, length-append, ℤ, pos, ◌+ℤ◌, inl}
+use Rattle.std.specs.Fmt.{signed_decimal}
 use Rattle.std.proofs.lemmas.List.{length-take-le, take-append-le, take-append-drop}
 use Rattle.std.proofs.Math.Seq.{take-append-add, take-append_seam}
 use Rattle.std.proofs.lemmas.Slice.{take-put_mid}
@@ -8,45 +9,45 @@ use Rattle.tz_base.specs.Fields.{IsCivil, IsReading, IsValid}
 use Rattle.tz_rule.specs.LocalTimeType.{LocalTimeType}
 use Rattle.tz_zone.specs.Table.{Zone}
 use Rattle.tz_zone.specs.Clock.{IsClock}
-use Rattle.tz.specs.PrintedText.{two_digits, nine_digits, date_text, time_text, offset_text, printed_text}
+use Rattle.tz.specs.PrintedText.{two_digits, nine_digits, date_text, time_text, middle_text, offset_text, printed_text}
 use Rattle.tz.specs.DateTimes.{DateTime}
-use Rattle.tz.proofs.PrintedDigits.{two_digits-below, decimal-four}
 use Rattle.tz_query.specs.Answers.{name_text, moment_text, IsTimeAnswer}
-use Rattle.tz_query.specs.Pages.{prefix_text, suffix_text}
+use Rattle.tz_query.specs.Pages.{suffix_text}
 use borrow.Rule.Slice.PartMut.{put_mid}
 
--- the prefix, the nanoseconds and the end make the line
+-- the year, what stands between it and the nanoseconds, these and the suffix make the line
 pub line_text : (f : Fields) (n : ℕ) (t : LocalTimeType) (u : ℤ) →
-    prefix_text f ++ (nine_digits n ++ suffix_text t) ≡ moment_text (record { fields = record f { nanoseconds = n }; local_time_type = t; unix_time = u }) ++ 10 ∷ []
-unfolding prefix_text suffix_text moment_text printed_text date_text time_text two_digits nine_digits
+    signed_decimal f.year ++ (middle_text f ++ (nine_digits n ++ suffix_text t)) ≡ moment_text (record { fields = record f { nanoseconds = n }; local_time_type = t; unix_time = u }) ++ 10 ∷ []
+unfolding middle_text suffix_text moment_text printed_text date_text time_text two_digits nine_digits
 line_text f n t u =
+    let day = 45 ∷ two_digits f.month ++ (45 ∷ two_digits f.month_day) in
     let date = date_text f in
     let offset = offset_text t.ut_offset in
     let time = time_text (record f { nanoseconds = n }) in
     let name = 32 ∷ name_text t in
-    append_assoc date (84 ∷ two_digits f.hour ++ (58 ∷ two_digits f.minute ++ (58 ∷ two_digits f.second ++ 46 ∷ []))) (nine_digits n ++ suffix_text t)
-    ∙ sym (ap (λ line. line ++ 10 ∷ []) (append_assoc date (84 ∷ time ++ offset) name)
+    sym (ap (λ line. line ++ 10 ∷ []) (append_assoc date (84 ∷ time ++ offset) name)
     ∙ append_assoc date ((84 ∷ time ++ offset) ++ name) (10 ∷ [])
-    ∙ ap (λ line. date ++ (84 ∷ time ++ line)) (append_assoc offset name (10 ∷ [])))
+    ∙ ap (λ line. date ++ (84 ∷ time ++ line)) (append_assoc offset name (10 ∷ []))
+    ∙ append_assoc (signed_decimal f.year) day (84 ∷ time ++ (offset ++ (name ++ 10 ∷ []))))
 
 -- three pieces that are copied one behind the other
-pub three_pieces : (page prefix nine suffix : List ℕ) (at len : ℕ) → at + 61 ≤ length page → length prefix ≡ 20 → length nine ≡ 9 → length suffix ≡ 32 → len ≤ 32 →
-    take (at + 29 + len) (put_mid (at + 29) 32 (put_mid (at + 20) 9 (put_mid at 20 page prefix) nine) suffix) ≡ take at page ++ (prefix ++ (nine ++ take len suffix))
+pub three_pieces : (page prefix nine suffix : List ℕ) (at len : ℕ) → at + 57 ≤ length page → length prefix ≡ 16 → length nine ≡ 9 → length suffix ≡ 32 → len ≤ 32 →
+    take (at + 25 + len) (put_mid (at + 25) 32 (put_mid (at + 16) 9 (put_mid at 16 page prefix) nine) suffix) ≡ take at page ++ (prefix ++ (nine ++ take len suffix))
 three_pieces page prefix nine suffix at len room prefix_len nine_len suffix_len few =
-    let first = put_mid at 20 page prefix in
-    let second = put_mid (at + 20) 9 first nine in
+    let first = put_mid at 16 page prefix in
+    let second = put_mid (at + 16) 9 first nine in
     let kept : length (take at page) ≡ at = length-take-le at page (omega (arith, room)) in
-    let first_size : length first ≡ length (take at page) + (length prefix + length (drop 20 (drop at page))) = length-append (take at page) (prefix ++ drop 20 (drop at page)) ∙ ap (λ n. length (take at page) + n) (length-append prefix (drop 20 (drop at page))) in
-    let first_is : take (at + 20) first ≡ take at page ++ prefix = take-put_mid at 20 page prefix (at + 20) (omega (arith, prefix_len)) (omega (arith, room)) in
-    let begun : length (take (at + 20) first) ≡ at + 20 = ap length first_is ∙ length-append (take at page) prefix ∙ omega (arith, kept, prefix_len) in
-    let second_size : length second ≡ length (take (at + 20) first) + (length nine + length (drop 9 (drop (at + 20) first))) = length-append (take (at + 20) first) (nine ++ drop 9 (drop (at + 20) first)) ∙ ap (λ n. length (take (at + 20) first) + n) (length-append nine (drop 9 (drop (at + 20) first))) in
-    let second_is : take (at + 29) second ≡ take (at + 20) first ++ nine = take-put_mid (at + 20) 9 first nine (at + 29) (omega (arith, nine_len)) (omega (arith, first_size, kept, prefix_len)) in
-    let written : length (take (at + 29) second) ≡ at + 29 = ap length second_is ∙ length-append (take (at + 20) first) nine ∙ omega (arith, begun, nine_len) in
-    let behind = drop 32 (drop (at + 29) second) in
-    let place : at + 29 + len ≡ length (take (at + 29) second) + len = omega (arith, written) in
-    ap (λ n. take n (take (at + 29) second ++ (suffix ++ behind))) place
-    ∙ take-append-add (take (at + 29) second) (suffix ++ behind) len
-    ∙ ap (λ bytes. take (at + 29) second ++ bytes) (take-append-le len suffix behind (omega (arith, few, suffix_len)))
+    let first_size : length first ≡ length (take at page) + (length prefix + length (drop 16 (drop at page))) = length-append (take at page) (prefix ++ drop 16 (drop at page)) ∙ ap (λ n. length (take at page) + n) (length-append prefix (drop 16 (drop at page))) in
+    let first_is : take (at + 16) first ≡ take at page ++ prefix = take-put_mid at 16 page prefix (at + 16) (omega (arith, prefix_len)) (omega (arith, room)) in
+    let begun : length (take (at + 16) first) ≡ at + 16 = ap length first_is ∙ length-append (take at page) prefix ∙ omega (arith, kept, prefix_len) in
+    let second_size : length second ≡ length (take (at + 16) first) + (length nine + length (drop 9 (drop (at + 16) first))) = length-append (take (at + 16) first) (nine ++ drop 9 (drop (at + 16) first)) ∙ ap (λ n. length (take (at + 16) first) + n) (length-append nine (drop 9 (drop (at + 16) first))) in
+    let second_is : take (at + 25) second ≡ take (at + 16) first ++ nine = take-put_mid (at + 16) 9 first nine (at + 25) (omega (arith, nine_len)) (omega (arith, first_size, kept, prefix_len)) in
+    let written : length (take (at + 25) second) ≡ at + 25 = ap length second_is ∙ length-append (take (at + 16) first) nine ∙ omega (arith, begun, nine_len) in
+    let behind = drop 32 (drop (at + 25) second) in
+    let place : at + 25 + len ≡ length (take (at + 25) second) + len = omega (arith, written) in
+    ap (λ n. take n (take (at + 25) second ++ (suffix ++ behind))) place
+    ∙ take-append-add (take (at + 25) second) (suffix ++ behind) len
+    ∙ ap (λ bytes. take (at + 25) second ++ bytes) (take-append-le len suffix behind (omega (arith, few, suffix_len)))
     ∙ ap (λ bytes. bytes ++ take len suffix) (second_is ∙ ap (λ bytes. bytes ++ nine) first_is)
     ∙ append_assoc (take at page ++ prefix) nine (take len suffix)
     ∙ append_assoc (take at page) prefix (nine ++ take len suffix)
@@ -85,22 +86,6 @@ civil_with x n f part civil =
       reads = civil.reads;
       nanoseconds_are = refl;
     }
-
--- the date time that a clock shows at an instant has these fields, with the nanoseconds put in
-pub shown_with : (z : Zone) (u : ℤ) (n : ℕ) (t : LocalTimeType) (f : Fields) → n < 1000000000 → IsClock z u t → IsCivil (u +ℤ t.ut_offset) 0 f → IsReading (u +ℤ t.ut_offset) →
-    (text : List ℕ) × IsTimeAnswer z u n text × (prefix_text f ++ (nine_digits n ++ suffix_text t) ≡ text ++ 10 ∷ [])
-shown_with z u n t f part clock civil reads =
-    let d : DateTime = record { fields = record f { nanoseconds = n }; local_time_type = t; unix_time = u } in
-    (moment_text d, inl (d, (t, clock, record { civil = civil_with (u +ℤ t.ut_offset) n f part civil; type_is = refl; instant_is = refl }), subst IsReading (sym civil.reads) reads, refl), line_text f n t u)
-
--- the twenty bytes of fields in a year of four digits
-pub prefix_bytes : (f : Fields) (year : ℕ) → f.year ≡ pos year → 1000 ≤ year → year < 10000 → f.month < 100 → f.month_day < 100 → f.hour < 100 → f.minute < 100 → f.second < 100 →
-    prefix_text f ≡ (48 + year / 100 / 10) ∷ (48 + year / 100 % 10) ∷ (48 + year % 100 / 10) ∷ (48 + year % 100 % 10)
-    ∷ 45 ∷ (48 + f.month / 10) ∷ (48 + f.month % 10) ∷ 45 ∷ (48 + f.month_day / 10) ∷ (48 + f.month_day % 10)
-    ∷ 84 ∷ (48 + f.hour / 10) ∷ (48 + f.hour % 10) ∷ 58 ∷ (48 + f.minute / 10) ∷ (48 + f.minute % 10) ∷ 58 ∷ (48 + f.second / 10) ∷ (48 + f.second % 10) ∷ 46 ∷ []
-unfolding prefix_text date_text
-prefix_bytes f year is from below month day hour minute second =
-    rw (is, decimal-four year from below, two_digits-below f.month month, two_digits-below f.month_day day, two_digits-below f.hour hour, two_digits-below f.minute minute, two_digits-below f.second second) refl
 
 -- a line whose LF is taken away, a space and a second line make the line of a jump
 pub joined_lines : (page front first second : List ℕ) → (((page ++ front) ++ first) ++ 32 ∷ []) ++ (second ++ 10 ∷ []) ≡ page ++ (front ++ (first ++ 32 ∷ (second ++ 10 ∷ [])))

@@ -1,13 +1,8 @@
--- A page of answers, and the parts of a printed line: up to the nanoseconds, and what follows them.
+-- A page of answers, and what follows the nanoseconds on a printed line.
 use Rattle.std.specs.Prelude.{◌≡◌, ℕ, ◌+◌, ◌<◌, ◌≤◌, List, [], ◌∷◌, ◌++◌, length}
-use Rattle.tz_base.specs.declared.fields.Fields.{Fields}
 use Rattle.tz_rule.specs.LocalTimeType.{LocalTimeType}
-use Rattle.tz.specs.PrintedText.{two_digits, nine_digits, date_text, offset_text}
+use Rattle.tz.specs.PrintedText.{nine_digits, offset_text}
 use Rattle.tz_query.specs.Answers.{name_text}
-
--- the date, `T`, and the time up to the point
-unfoldable pub prefix_text : Fields → List ℕ
-prefix_text f = date_text f ++ (84 ∷ two_digits f.hour ++ (58 ∷ two_digits f.minute ++ (58 ∷ two_digits f.second ++ 46 ∷ [])))
 
 -- the offset, the name, and LF
 unfoldable pub suffix_text : LocalTimeType → List ℕ

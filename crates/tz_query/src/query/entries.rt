@@ -24,13 +24,13 @@ pub fn push_shown(
     local_time_type: &LocalTimeType,
     nine: &[u8; 9],
 )
-    requires room { HasRoomFor 68 page.old }
+    requires room { HasRoomFor 74 page.old }
     requires front { length front.now ≤ 6 }
     requires valid { IsValid fields.now }
     requires digits { (n : ℕ) × AreDigitsOf n nine.now }
     ensures text { (n : ℕ) → AreDigitsOf n nine.now → (u : ℤ) → page.new ≡ page.old ++ (front.now
         ++ (moment_text (moment_of (record fields.now { nanoseconds = n }) local_time_type.now u) ++ line_feed ∷ [])) }
-    ensures len { length page.new ≤ length page.old + 68 }
+    ensures len { length page.new ≤ length page.old + 74 }
 {
     page.push(front);
     push_moment(page, fields, nine, suffixes.of(local_time_type));
@@ -48,7 +48,7 @@ pub fn push_skipped(
     after: &LocalTimeType,
     nine: &[u8; 9],
 )
-    requires room { HasRoomFor 131 page.old }
+    requires room { HasRoomFor 143 page.old }
     requires front { length front.now ≤ 6 }
     requires valid { IsValid first.now × IsValid second.now }
     requires digits { (n : ℕ) × AreDigitsOf n nine.now }

@@ -12,7 +12,6 @@ mod numbers;
 mod output;
 mod page;
 mod plain_lines;
-mod prefix;
 mod program;
 mod search_answers;
 mod streams;

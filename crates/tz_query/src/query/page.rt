@@ -76,18 +76,18 @@ impl Page {
         self.len = end;
     }
 
-    /// Appends the line of a date and time, nanoseconds and the suffix of a type.
+    /// Appends what follows the year on the line of a date time: month to second, nanoseconds, and the suffix of a type.
     #[inline(always)]
-    pub fn push_line(&mut self, prefix: &[u8; 20], nine: &[u8; 9], suffix: &Suffix)
-        requires { HasRoomFor 61 self.old }
-        ensures text { self.new ≡ self.old ++ (prefix.now ++ (nine.now ++ suffix_text suffix.now.local_time_type)) }
-        ensures len { length self.new ≤ length self.old + 61 }
+    pub fn push_rest(&mut self, middle: &[u8; 16], nine: &[u8; 9], suffix: &Suffix)
+        requires { HasRoomFor 57 self.old }
+        ensures text { self.new ≡ self.old ++ (middle.now ++ (nine.now ++ suffix_text suffix.now.local_time_type)) }
+        ensures len { length self.new ≤ length self.old + 57 }
     {
         let at = self.len;
-        self.bytes[at..at + 20].copy_from_slice(prefix);
-        self.bytes[at + 20..at + 29].copy_from_slice(nine);
-        self.bytes[at + 29..at + 61].copy_from_slice(&suffix.bytes());
-        self.len = at + 29 + suffix.len();
+        self.bytes[at..at + 16].copy_from_slice(middle);
+        self.bytes[at + 16..at + 25].copy_from_slice(nine);
+        self.bytes[at + 25..at + 57].copy_from_slice(&suffix.bytes());
+        self.len = at + 25 + suffix.len();
     }
 
     /// Takes the last byte away.

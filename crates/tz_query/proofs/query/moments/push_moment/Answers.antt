@@ -1,15 +1,24 @@
--- The prefix, the nanoseconds and the suffix make the line.
-use Rattle.std.proofs.Common.{◌++◌, ap, ◌∙◌}
-use Rattle.tz_query.specs.Pages.{prefix_text, suffix_text}
+-- The year, what follows up to the nanoseconds, these, and the suffix make the line.
+use Rattle.std.proofs.Common.{◌++◌, ap, ◌∙◌, append_assoc, rules}
+use Rattle.std.specs.Fmt.{signed_decimal}
+use Rattle.std.proofs.lemmas.Int.{to_z-of_z}
+use mir.Syntax.{w32}
+use mir.Val.{SFits}
+use Rattle.tz.specs.PrintedText.{middle_text}
+use Rattle.tz_query.specs.Pages.{suffix_text}
 use Rattle.tz_query.proofs.PageLines.{line_text}
 use Rattle.tz_query.proofs.query.moments.push_moment.Goals as goal
 
-pub returns-else-fields-gt9999-clause-text : goal.returns-else-fields-gt9999-clause-text
-returns-else-fields-gt9999-clause-text c n digits u =
+pub returns-clause-text : goal.returns-clause-text
+returns-clause-text c n digits u =
     let page = c.args.page.now in
     let f = c.args.fields.now in
     let t = c.args.suffix.now.local_time_type in
-    c.push_line.ensures.text
-    ∙ ap (λ bytes. page ++ (bytes ++ (c.args.nine.now ++ suffix_text t))) c.prefix_of.ensures
-    ∙ ap (λ bytes. page ++ (prefix_text f ++ (bytes ++ suffix_text t))) digits.1
+    let year = signed_decimal f.year in
+    let fits : SFits w32 f.year = search rules in
+    c.push_rest.ensures.text
+    ∙ ap (λ bytes. bytes ++ (c.middle_of.result ++ (c.args.nine.now ++ suffix_text t))) (rw (to_z-of_z w32 f.year fits) at c.push_year.ensures.text)
+    ∙ ap (λ bytes. (page ++ year) ++ (bytes ++ (c.args.nine.now ++ suffix_text t))) c.middle_of.ensures.text
+    ∙ ap (λ bytes. (page ++ year) ++ (middle_text f ++ (bytes ++ suffix_text t))) digits.1
+    ∙ append_assoc page year _
     ∙ ap (λ bytes. page ++ bytes) (line_text f n t u)
