@@ -1,4 +1,5 @@
-//! What the crates above use, and no part of the public surface: fields, text, and the search for them.
+//! What the crates above use, and no part of the public surface: fields, text, the search for them, and
+//! how bytes are read.
 
 pub use crate::datetime::date_time::fields_of;
 pub use crate::datetime::find::find_fields;
@@ -7,3 +8,4 @@ pub use crate::datetime::resolve::{once, resolve_window, window_of};
 pub use crate::printed::middle_of;
 pub use crate::text::{TextBuffer, two_pairs};
 pub use tz_base::fields::{Fields, is_reading};
+pub use tz_zone::inner::{after_byte, read_to_end};

@@ -6,6 +6,7 @@ pub use crate::clock::{
 };
 pub use crate::effect::effect;
 pub use crate::leap_time::leap;
+pub use crate::parse::tz_string::cursor::after_byte;
 pub use crate::table::{Counted, OtherParts, Transitions, Uncounted};
 pub use crate::timezone::file::read_to_end;
 pub use crate::timezone::zone_parts::{offsets, other_parts};

@@ -1,15 +1,17 @@
 //! Answers over a reader and a writer.
 
-ghost use Rattle.std.specs.Prelude.{◌≡◌, ◌≢◌, ◌++◌, IfOk, IfErr, OnOk};
-ghost use Rattle.std.specs.Io.KnownBytes.{Appends, Consumes, IsAtEnd};
+ghost use Rattle.std.specs.Prelude.{◌≡◌, ◌≢◌, IfErr, OnOk};
+ghost use Rattle.std.specs.Io.KnownBytes.{Appends};
 ghost use Rattle.tz_query.specs.Streams.{WritesAnswers, WritesFront, WritesFrontOfAnswers};
 ghost use Rattle.tz_zone.specs.ZoneRef.{zone_of};
 
 use crate::query::answers::answer;
-use std::alloc::{AllocError, Allocator};
+use std::alloc::Allocator;
 use std::io::{Read, Write};
 use thiserror::Error;
 use tz::TimeZoneRef;
+use tz::error::ReadFault;
+use tz::inner::read_to_end;
 
 /// Why a run ends without all answers.
 #[derive(Debug, Drop, Error)]
@@ -25,39 +27,8 @@ pub enum RunFault {
     Write,
 }
 
-/// The initial capacity for input. Memory that is not written to costs little, and a growth may copy everything.
+/// The initial capacity for input. Memory that is not written to costs little.
 const FIRST_ROOM: usize = 262_144;
-
-/// Appends a piece of the input.
-fn append<A: Allocator>(bytes: &mut Vec<u8, A>, piece: &[u8]) -> Result<(), AllocError>
-    ensures { IfOk result (λ _. bytes.new.items ≡ bytes.old.items ++ piece.now) }
-{
-    if bytes.is_empty() {
-        bytes.reserve(FIRST_ROOM)?;
-    }
-    bytes.extend_from_slice(piece)
-}
-
-/// Reads the input to its end.
-fn read_to_end<A: Allocator, R: Read>(alloc: A, input: &mut R) -> Result<Vec<u8, A>, RunFault>
-    ensures ok { IfOk result (λ bytes. Consumes (R.remaining input.old) (R.remaining input.new) bytes.items × IsAtEnd (R.remaining input.new)) }
-    ensures err { IfErr result (λ e. e ≢ RunFault.Write) }
-{
-    let mut bytes = Vec::new(alloc);
-    let mut buffer = [0; 2_000];
-    for _ in 0..u64::MAX {
-        let Ok(count) = input.read(&mut buffer) else {
-            return Err(RunFault::Read);
-        };
-        if count == 0 {
-            return Ok(bytes);
-        }
-        let Ok(()) = append(&mut bytes, &buffer[..count]) else {
-            return Err(RunFault::Memory);
-        };
-    }
-    Err(RunFault::Read)
-}
 
 /// Writes all bytes, in as many writes as the writer takes.
 fn write_all<W: Write>(out: &mut W, bytes: &[u8]) -> Result<(), RunFault>
@@ -92,7 +63,11 @@ pub fn run<A: Allocator + Copy, R: Read, W: Write>(
     ensures begun { IfErr result (λ e. e ≡ RunFault.Write
         → WritesFrontOfAnswers (zone_of zone.entry) (R.remaining input.old) (R.remaining input.new) (W.contents out.old) (W.contents out.new)) }
 {
-    let queries = read_to_end(alloc, input)?;
+    let queries = match read_to_end(alloc, input, FIRST_ROOM) {
+        Ok(queries) => queries,
+        Err(ReadFault::Memory(_)) => return Err(RunFault::Memory),
+        Err(ReadFault::Failed(_)) => return Err(RunFault::Read),
+    };
     let Ok(answers) = answer(alloc, zone, &queries) else {
         return Err(RunFault::Memory);
     };

@@ -31,17 +31,24 @@ fn read_piece<I: Read>(input: &mut I, buffer: &mut [u8]) -> Result<usize, ReadFa
     }
 }
 
-/// Appends a piece.
-fn append<A: Allocator>(bytes: &mut Vec<u8, A>, piece: &[u8]) -> Result<(), ReadFault>
+/// Appends a piece. The first one reserves room for this number of bytes.
+fn append<A: Allocator>(bytes: &mut Vec<u8, A>, piece: &[u8], room: usize) -> Result<(), ReadFault>
     ensures ok { IfOk result (λ _. bytes.new.items ≡ bytes.old.items ++ piece.now) }
     ensures err { IfErr result (λ e. e ≡ Memory alloc_error) }
 {
+    if bytes.is_empty() {
+        bytes.reserve(room)?;
+    }
     bytes.extend_from_slice(piece)?;
     Ok(())
 }
 
-/// Reads the input to its end.
-pub fn read_to_end<A: Allocator, I: Read>(alloc: A, input: &mut I) -> Result<Vec<u8, A>, ReadFault>
+/// Reads the input to its end. Where it is not empty, room for this number of bytes is reserved, since a growth may copy everything.
+pub fn read_to_end<A: Allocator, I: Read>(
+    alloc: A,
+    input: &mut I,
+    room: usize,
+) -> Result<Vec<u8, A>, ReadFault>
     ensures { IfOk result (λ bytes. Consumes (I.remaining input.old) (I.remaining input.new) bytes.items × IsAtEnd (I.remaining input.new)) }
 {
     let mut bytes = Vec::new(alloc);
@@ -51,7 +58,7 @@ pub fn read_to_end<A: Allocator, I: Read>(alloc: A, input: &mut I) -> Result<Vec
         if count == 0 {
             return Ok(bytes);
         }
-        append(&mut bytes, &buffer[..count])?;
+        append(&mut bytes, &buffer[..count], room)?;
     }
     Err(ReadFault::Failed(anyhow!("file has no end")))
 }
@@ -74,7 +81,7 @@ pub fn read_file<R: Files>(rt: &R, alloc: Global, path: &str) -> Result<Vec<u8>,
     ensures { IfOk result (λ bytes. IsReadOut R.File.remaining bytes.items) }
 {
     match File::open(rt, path) {
-        Ok(mut file) => read_to_end(alloc, &mut file),
+        Ok(mut file) => read_to_end(alloc, &mut file, 0),
         Err(error) => Err(open_fault(error)),
     }
 }

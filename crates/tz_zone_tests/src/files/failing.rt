@@ -52,7 +52,7 @@ fn a_reader_is_read_to_its_end_or_fails(rt: HostRuntime) -> Result<(), Fail> {
             rest: TEXT.as_bytes(),
             calls_left: *calls_left,
         };
-        let read = named(alloc, read_to_end(alloc, &mut input))?;
+        let read = named(alloc, read_to_end(alloc, &mut input, 100_000))?;
         expect_eq_at(&rt, calls_left, &read.as_str(), wanted);
     }
     Ok(())
@@ -69,7 +69,7 @@ fn each_growth_can_be_refused(rt: HostRuntime) -> Result<(), Fail> {
             rest: &text,
             calls_left: 100,
         };
-        match read_to_end(&heap, &mut input) {
+        match read_to_end(&heap, &mut input, 0) {
             Ok(bytes) => expect_eq(&rt, &bytes.as_slice(), &text.as_slice()),
             Err(fault) => {
                 assert!(rt; matches!(fault, ReadFault::Memory(_)), "{left}");

@@ -10,7 +10,7 @@ use tz_base::error::parse::{ParseDataError, TzStringError};
 
 /// The bytes after a byte, if they begin with it.
 #[inline(always)]
-pub(super) fn after_byte(text: &[u8], byte: u8) -> Option<&[u8]>
+pub fn after_byte(text: &[u8], byte: u8) -> Option<&[u8]>
     ensures { MatchOption result (¬ Begins byte text.now) (λ rest. text.now ≡ byte ∷ rest.now) }
 {
     match text {

@@ -1,9 +1,9 @@
 -- What a write took stands behind what was written before.
-use Rattle.std.proofs.Common.{◌≡◌, ◌-◌, ◌++◌, [], List, ℕ, Option, length, take, drop, arith, refl, sym, ap, ◌∙◌, subst, append-nil, append_assoc, take-append-drop}
+use Rattle.std.proofs.Common.{◌≡◌, ◌-◌, ◌++◌, [], eqb-true, List, ℕ, Option, length, take, drop, arith, refl, sym, ap, ◌∙◌, subst, append-nil, append_assoc, take-append-drop}
 use Rattle.std.specs.Io.KnownBytes.{Appends}
 use Rattle.std.proofs.KnownBytes.{Appends-nil, Appends-trans, Appends-kept}
 use Rattle.std.proofs.lemmas.List.{take_rest, length-drop}
-use Rattle.tz_zone.proofs.TextEnds.{is_over}
+use Rattle.std.proofs.lemmas.List.{nil_from_length}
 use Rattle.tz_query.specs.Streams.{WritesFront}
 use Rattle.tz_query.proofs.query.streams.write_all.Goals as goal
 
@@ -63,7 +63,7 @@ loop-rest-preserved g c =
 pub returns-clause-all : goal.returns-clause-all
 returns-clause-all g c =
     let (done, whole, wrote) = c.loop-rest.invariant in
-    let none = is_over c.loop-rest.rest.now c.loop-rest-test.ensures in
+    let none = nil_from_length c.loop-rest.rest.now (eqb-true (length c.loop-rest.rest.now) 0 (sym c.loop-rest-test.ensures)) in
     subst (Appends (g.W.Write.contents c.args.out.now) (g.W.Write.contents c.loop-rest.out)) (sym (whole ∙ ap (λ bs. done ++ bs) none ∙ append-nil done)) wrote
 
 pub returns-clause-front : goal.returns-clause-front
