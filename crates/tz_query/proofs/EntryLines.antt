@@ -3,6 +3,7 @@ use Rattle.std.proofs.Common.{◌≡◌, ℕ, ◌<◌, Bool, true, false, List, 
 use Rattle.std.specs.Prelude.{codes, MatchBool}
 use Rattle.std.specs.Fmt.{decimal}
 use Rattle.std.specs.List.{All}
+use Rattle.std.proofs.lemmas.List.Elements.{All-contains}
 use Rattle.std.proofs.lemmas.Fmt.{decimal_digit}
 use Rattle.tz_base.specs.declared.fields.Fields.{Fields}
 use Rattle.tz_base.specs.Fields.{IsValid, reading}
@@ -16,7 +17,6 @@ use Rattle.tz.specs.Walks.{moment_of}
 use Rattle.tz.specs.declared.datetime.found.FoundDateTimeKind.{FoundDateTimeKind}
 use Rattle.tz.specs.declared.datetime.found.FoundDateTimeKind.TheVariants.{Normal, Skipped}
 use Rattle.tz.specs.declared.datetime.resolution.Resolution.{Resolution}
-use Rattle.tz.proofs.UniqueLists.{each_from_list}
 use Rattle.tz_query.specs.Answers.{found_lines, IsSearchAnswer}
 use Rattle.tz_query.specs.Entries.{HasNanoseconds}
 use Rattle.tz_query.specs.Lines.{ended}
@@ -57,7 +57,7 @@ pub answered_by : (z : Zone) (f : Fields) (n : ℕ) (r : ℤ) (resolution : Reso
 answered_by z f n r resolution found few valid is resolves entries made =
     let g : Fields = record f { nanoseconds = n } in
     let list : IsFound (IsClock z) g found = resolves.all g is found entries in
-    inl (found, valid_with f n few valid, list, each_from_list (IsClock z) g found list made, refl)
+    inl (found, valid_with f n few valid, list, (λ e by. All-contains CanBeMade found e made (list.complete e by)), refl)
 
 -- what holds in either case
 pub either_way : (b : Bool) (P Q P' Q' : Type 0) → (P → P') → (Q → Q') → MatchBool b P Q → MatchBool b P' Q'

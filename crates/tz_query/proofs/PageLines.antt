@@ -1,17 +1,14 @@
 -- A line on a page is its year, what follows up to the nanoseconds, these, and its suffix, each copied whole.
-use Rattle.std.proofs.Common.{◌≡◌, ℕ, ◌+◌, ◌/◌, ◌%◌, ◌<◌, ◌≤◌, List, [], ◌∷◌, ◌++◌, length, take, drop, refl, sym, ap, ◌∙◌, subst, arith, append_assoc, length-append, ℤ, pos, ◌+ℤ◌, inl}
+use Rattle.std.proofs.Common.{◌≡◌, ℕ, ◌+◌, ◌<◌, ◌≤◌, List, [], ◌∷◌, ◌++◌, length, take, drop, refl, sym, ap, ◌∙◌, arith, append_assoc, length-append, ℤ}
 use Rattle.std.specs.Fmt.{signed_decimal}
 use Rattle.std.proofs.lemmas.List.{length-take-le, take-append-le, take-append-drop}
 use Rattle.std.proofs.Math.Seq.{take-append-add, take-append_seam}
 use Rattle.std.proofs.lemmas.Slice.{take-put_mid}
 use Rattle.tz_base.specs.declared.fields.Fields.{Fields}
-use Rattle.tz_base.specs.Fields.{IsCivil, IsReading, IsValid}
+use Rattle.tz_base.specs.Fields.{IsCivil, IsValid}
 use Rattle.tz_rule.specs.LocalTimeType.{LocalTimeType}
-use Rattle.tz_zone.specs.Table.{Zone}
-use Rattle.tz_zone.specs.Clock.{IsClock}
 use Rattle.tz.specs.PrintedText.{two_digits, nine_digits, date_text, time_text, middle_text, offset_text, printed_text}
-use Rattle.tz.specs.DateTimes.{DateTime}
-use Rattle.tz_query.specs.Answers.{name_text, moment_text, IsTimeAnswer}
+use Rattle.tz_query.specs.Answers.{name_text, moment_text}
 use Rattle.tz_query.specs.Pages.{suffix_text}
 use borrow.Rule.Slice.PartMut.{put_mid}
 

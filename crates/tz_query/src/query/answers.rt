@@ -12,9 +12,8 @@ use super::lines::{
     after_line, read_meeting_line, read_search_line, read_time_line, read_usual_search_line,
     read_usual_time_line,
 };
-use super::meetings::answer_meeting;
+use super::meeting_answers::answer_meeting;
 use super::output::Output;
-use super::plain_lines::push_error;
 use super::search_answers::{answer_any_search, answer_search};
 use super::time_answers::{answer_any_time, answer_time};
 use std::alloc::{AllocError, Allocator};
@@ -46,7 +45,7 @@ fn answer_any_line<'a, 'b, A: Allocator + Copy>(
         answer_meeting(alloc, output, cache, zone, &fields, count)?;
         return Ok(rest);
     }
-    push_error(output, "Line")?;
+    output.push_error("Line")?;
     Ok(after_line(queries))
 }
 

@@ -50,14 +50,3 @@ pub(super) fn fault_name(error: &TzError) -> &'static str
         _ => unreachable!(),
     }
 }
-
-/// Appends the name of an error.
-pub(super) fn push_fault(line: &mut TextBuffer, name: &str)
-    requires named { length name.now ≤ 24 }
-    requires empty { line.old ≡ [] }
-    ensures text { line.new ≡ codes "E " ++ name.now }
-    ensures len { length line.new ≤ 26 }
-{
-    line.push_str("E ");
-    line.push_str(name);
-}

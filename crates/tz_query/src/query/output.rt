@@ -1,7 +1,9 @@
 //! Where answers are written.
 
-ghost use Rattle.std.specs.Prelude.{◌≡◌, ◌<◌, ◌≤◌, ◌∷◌, ◌++◌, [], length, IfOk};
-ghost use Rattle.tz_query.specs.Lines.{line_feed};
+ghost use Rattle.std.specs.Prelude.{◌≡◌, ◌<◌, ◌≤◌, ◌∷◌, ◌++◌, [], length, codes, IfOk};
+ghost use Rattle.std.specs.Fmt.{decimal};
+ghost use Rattle.tz_query.specs.Lines.{ended, line_feed};
+ghost use Rattle.tz_query.specs.Numbers.{space};
 ghost use Rattle.tz_query.specs.Pages.{HasRoom};
 
 use super::page::Page;
@@ -54,8 +56,7 @@ impl<A: Allocator> Output<A> {
     }
 
     /// Writes a line.
-    #[inline(never)]
-    pub fn push_line(&mut self, line: &mut TextBuffer) -> Result<(), AllocError>
+    fn push_line(&mut self, line: &mut TextBuffer) -> Result<(), AllocError>
         requires { length line.old < 128 }
         ensures { IfOk result (λ _. written self.new ≡ written self.old ++ (line.old ++ line_feed ∷ [])) }
     {
@@ -63,6 +64,31 @@ impl<A: Allocator> Output<A> {
         line.push(b'\n');
         self.page.push(line.as_bytes());
         Ok(())
+    }
+
+    /// Writes the line of an error.
+    #[inline(never)]
+    pub fn push_error(&mut self, name: &str) -> Result<(), AllocError>
+        requires { length name.now ≤ 24 }
+        ensures { IfOk result (λ _. written self.new ≡ written self.old ++ ended ((codes "E " ++ name.now) ∷ [])) }
+    {
+        let mut line = TextBuffer::new();
+        line.push_str("E ");
+        line.push_str(name);
+        self.push_line(&mut line)
+    }
+
+    /// Writes a line with a letter and a count.
+    #[inline(never)]
+    pub fn push_count(&mut self, letter: u8, count: usize) -> Result<(), AllocError>
+        requires { letter < 128 }
+        ensures { IfOk result (λ _. written self.new ≡ written self.old ++ ended ((letter ∷ space ∷ decimal count) ∷ [])) }
+    {
+        let mut line = TextBuffer::new();
+        line.push(letter);
+        line.push(b' ');
+        line.push_count(count as u64);
+        self.push_line(&mut line)
     }
 
     /// All answers.

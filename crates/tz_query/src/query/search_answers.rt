@@ -23,7 +23,6 @@ use super::entries::{push_shown, push_skipped};
 use super::names::field_fault_name;
 use super::numbers::{number_of_nine, write_nanoseconds};
 use super::output::Output;
-use super::plain_lines::{push_count, push_error};
 use super::suffixes::Suffixes;
 use super::time_answers::shown_fields;
 use std::alloc::{AllocError, Allocator};
@@ -94,7 +93,7 @@ fn push_found<A: Allocator>(
     requires { (n : ℕ) × AreDigitsOf n nine.now × All (HasNanoseconds n) found.now }
     ensures { IfOk result (λ _. written output.new ≡ written output.old ++ ended (found_lines found.now)) }
 {
-    push_count(output, b'F', found.len())?;
+    output.push_count(b'F', found.len())?;
     push_entries(output, suffixes, found, nine)
 }
 
@@ -116,8 +115,8 @@ fn answer_by_search<A: Allocator + Copy>(
     whole.nanoseconds = number_of_nine(nine);
     match inner::find_fields(alloc, &whole, *zone) {
         Ok(list) => push_found(output, suffixes, &list.into_inner(), nine),
-        Err(TzError::DateTime(fault)) => push_error(output, field_fault_name(&fault)),
-        Err(TzError::OutOfRange) => push_error(output, "OutOfRange"),
+        Err(TzError::DateTime(fault)) => output.push_error(field_fault_name(&fault)),
+        Err(TzError::OutOfRange) => output.push_error("OutOfRange"),
         Err(TzError::Memory(fault)) => Err(fault),
         Err(_) => unreachable!(),
     }
@@ -284,7 +283,7 @@ pub fn answer_any_search<'a, A: Allocator + Copy>(
     ensures cached { IsCacheOf (zone_of zone.entry.now) cache.new }
 {
     if let Err(fault) = fields.check() {
-        return push_error(output, field_fault_name(&fault));
+        return output.push_error(field_fault_name(&fault));
     }
     let mut nine = [0; 9];
     write_nanoseconds(fields.nanoseconds, &mut nine);

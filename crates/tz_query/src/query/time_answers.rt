@@ -17,7 +17,6 @@ use super::moments::push_moment;
 use super::names::fault_name;
 use super::numbers::write_nanoseconds;
 use super::output::Output;
-use super::plain_lines::push_error;
 use super::suffix::Suffix;
 use std::alloc::{AllocError, Allocator};
 use tz::TimeZoneRef;
@@ -51,7 +50,7 @@ fn answer_in_type<A: Allocator>(
         × IsTimeAnswer z unix_time n text × (written output.new ≡ written output.old ++ (text ++ line_feed ∷ []))) }
 {
     let Some(fields) = shown_fields(unix_time, suffix.local_time_type().ut_offset()) else {
-        return push_error(output, "OutOfRange");
+        return output.push_error("OutOfRange");
     };
     output.make_room()?;
     push_moment(&mut output.page, &fields, nine, suffix);
@@ -82,7 +81,7 @@ pub fn answer_time<'a, A: Allocator>(
             let suffix = cache.suffixes.of(local_time_type);
             answer_in_type(output, unix_time, nine, suffix)
         }
-        Err(error) => push_error(output, fault_name(&error)),
+        Err(error) => output.push_error(fault_name(&error)),
     }
 }
 
@@ -101,7 +100,7 @@ pub fn answer_any_time<'a, A: Allocator>(
     ensures cached { IsCacheOf (zone_of zone.entry.now) cache.new }
 {
     if nanoseconds >= NANOSECONDS_PER_SECOND {
-        return push_error(output, "InvalidNanoseconds");
+        return output.push_error("InvalidNanoseconds");
     }
     let mut nine = [0; 9];
     write_nanoseconds(nanoseconds, &mut nine);

@@ -17,7 +17,6 @@ use super::meeting_dates::{first_day_begins, week_of};
 use super::names::field_fault_name;
 use super::numbers::write_nanoseconds;
 use super::output::Output;
-use super::plain_lines::{push_count, push_error};
 use super::search_answers::answer_search;
 use std::alloc::{AllocError, Allocator};
 use tz::TimeZoneRef;
@@ -45,7 +44,7 @@ fn answer_week<'a, A: Allocator + Copy>(
 {
     match week_of(first, begins, weeks) {
         Some(fields) => answer_search(alloc, output, cache, zone, &fields, nine),
-        None => push_error(output, "OutOfRange"),
+        None => output.push_error("OutOfRange"),
     }
 }
 
@@ -94,9 +93,9 @@ pub fn answer_meeting<'a, A: Allocator + Copy>(
         Ok(begins) => {
             let mut nine = [0; 9];
             write_nanoseconds(first.nanoseconds, &mut nine);
-            push_count(output, b'W', usize::from(count))?;
+            output.push_count(b'W', usize::from(count))?;
             answer_weeks(alloc, output, cache, zone, first, &nine, begins, count)
         }
-        Err(fault) => push_error(output, field_fault_name(&fault)),
+        Err(fault) => output.push_error(field_fault_name(&fault)),
     }
 }

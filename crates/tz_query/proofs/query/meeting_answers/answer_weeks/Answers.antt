@@ -6,7 +6,7 @@ use Rattle.tz_query.specs.Lines.{ended}
 use Rattle.tz_query.specs.Answers.{IsWeekAnswer}
 use Rattle.tz_query.specs.Outputs.{written}
 use Rattle.tz_query.proofs.WeekAnswers.{weeks_more}
-use Rattle.tz_query.proofs.query.meetings.answer_weeks.Goals as goal
+use Rattle.tz_query.proofs.query.meeting_answers.answer_weeks.Goals as goal
 
 pub loop-weeks-preserved : goal.loop-weeks-preserved
 loop-weeks-preserved g c =

@@ -5,7 +5,7 @@ use Rattle.std.proofs.lemmas.Result.{IfOk-weaker}
 use Rattle.tz.specs.PrintedText.{nine_digits}
 use Rattle.tz_base.specs.declared.fields.Fields.{Fields}
 use Rattle.tz_query.specs.MeetingDates.{IsWeekOf}
-use Rattle.tz_query.proofs.query.meetings.answer_week.Goals as goal
+use Rattle.tz_query.proofs.query.meeting_answers.answer_week.Goals as goal
 
 -- the nanoseconds of a week are those of the first
 module _ (f g : Fields) (weeks : ℕ) (nine : List ℕ) (week : IsWeekOf f weeks g) where
