@@ -1,7 +1,6 @@
-//! What the crates above use, and no part of the public surface: fields, text, the search for them, and
-//! how bytes are read.
+//! What the crates above use, and no part of the public surface: fields, text, the search for them, and how bytes are read.
 
-pub use crate::datetime::date_time::fields_of;
+pub use crate::datetime::date_time::{fields_of, local_reading};
 pub use crate::datetime::find::find_fields;
 pub use crate::datetime::resolution::Resolution;
 pub use crate::datetime::resolve::{once, resolve_window, window_of};

@@ -17,7 +17,8 @@ use tz_base::fields::{Fields, is_reading};
 use tz_zone::timezone::{LocalTimeType, TimeZoneRef};
 
 /// What a clock with this offset from UTC shows at a Unix time, if it is a reading.
-fn local_reading(unix_time: i64, ut_offset: i32) -> Option<i64>
+#[inline(always)]
+pub fn local_reading(unix_time: i64, ut_offset: i32) -> Option<i64>
     ensures some { IfSome result (λ x. (x ≡ unix_time +ℤ ut_offset) × IsReading x) }
     ensures none { IfNone result (¬ IsReading (unix_time +ℤ ut_offset)) }
 {

@@ -21,7 +21,7 @@ use super::suffix::Suffix;
 use std::alloc::{AllocError, Allocator};
 use tz::TimeZoneRef;
 use tz::constants::NANOSECONDS_PER_SECOND;
-use tz::inner::{Fields, is_reading};
+use tz::inner::{Fields, local_reading};
 
 /// What a clock with this offset from UTC shows at a Unix time, if its year is one of 32 bits.
 #[inline(always)]
@@ -29,11 +29,7 @@ pub fn shown_fields(unix_time: i64, ut_offset: i32) -> Option<Fields>
     ensures some { IfSome result (λ f. IsCivil (unix_time +ℤ ut_offset) 0 f × IsReading (unix_time +ℤ ut_offset)) }
     ensures none { IfNone result (¬ IsReading (unix_time +ℤ ut_offset)) }
 {
-    // A sum that wraps is no reading, as the true one is none.
-    let reading = unix_time.wrapping_add(i64::from(ut_offset));
-    if !is_reading(reading) {
-        return None;
-    }
+    let reading = local_reading(unix_time, ut_offset)?;
     Some(Fields::from_reading(reading, 0))
 }
 
