@@ -1,7 +1,5 @@
 -- Where the first line ends, and that what a line asks for is what stands in front.
-use Rattle.std.proofs.Common.{◌≡◌, ◌≢◌, ℕ, ◌+◌, ◌^◌, ◌<◌, inl, inr, ℤ, pos, List, [], ◌∷◌, ◌++◌, length, take, drop, get_or, refl, sym, ap, ◌∙◌, subst, arith, append-nil}
-use Rattle.std.specs.Prelude.{FitsSigned}
-use Rattle.std.specs.Int.{w64}
+use Rattle.std.proofs.Common.{◌≡◌, ◌≢◌, ℕ, ◌+◌, ◌<◌, inl, inr, ℤ, pos, List, [], ◌∷◌, ◌++◌, length, take, drop, get_or, refl, sym, ap, ◌∙◌, subst, arith, append-nil}
 use Rattle.std.specs.Char.{digit_value}
 use Rattle.std.specs.Str.Parse.{AllDigits}
 use Rattle.std.proofs.lemmas.List.{drop_more, length-take-le, take-append-drop}
@@ -68,22 +66,20 @@ module _ (letter : ℕ) (numbers : List ℤ) (bytes rest : List ℕ) where
         record { parts = parts.0; whole = refl; are_numbers = parts.2 },
       )
 
--- where no such numbers follow the letter, or no end follows them, the first line is no such line
-pub no_line_without_numbers : (letter : ℕ) (bytes after : List ℕ) → bytes ≡ letter ∷ after → (numbers : List ℤ) → ((tail : List ℕ) → ¬ ArePartsFront after numbers tail) → (rest line : List ℕ) → IsFirstLine bytes line rest → ¬ IsLineOf letter numbers line
-no_line_without_numbers letter bytes after letter_is numbers none rest line first is =
+-- where no such numbers and no end follow the letter, the first line is no such line
+pub no_line_without_numbers : (letter : ℕ) (bytes after : List ℕ) → bytes ≡ letter ∷ after → (numbers : List ℤ) (rest : List ℕ) → ((tail : List ℕ) → ArePartsFront after numbers tail → ¬ IsLineEnd tail rest) →
+    (line : List ℕ) → IsFirstLine bytes line rest → ¬ IsLineOf letter numbers line
+no_line_without_numbers letter bytes after letter_is numbers rest none line first is =
     let front = front_from_line letter numbers bytes rest line first is in
     let at = front.2 in
     let same : front.0 ≡ after = cc (at, letter_is) in
-    none front.1 (subst (λ bs. ArePartsFront bs numbers front.1) same front.3)
+    none front.1 (subst (λ bs. ArePartsFront bs numbers front.1) same front.3) front.4
 
-pub no_line_without_end : (letter : ℕ) (bytes after : List ℕ) → bytes ≡ letter ∷ after → (numbers : List ℤ) (tail : List ℕ) → ArePartsFront after numbers tail → ((rest : List ℕ) → ¬ IsLineEnd tail rest) →
-    (others : List ℤ) → length numbers ≡ length others → (rest line : List ℕ) → IsFirstLine bytes line rest → ¬ IsLineOf letter others line
-no_line_without_end letter bytes after letter_is numbers tail are none others many rest line first is =
-    let front = front_from_line letter others bytes rest line first is in
-    let at = front.2 in
-    let same : front.0 ≡ after = cc (at, letter_is) in
-    let one = parts_unique after numbers others tail front.1 many are (subst (λ bs. ArePartsFront bs others front.1) same front.3) in
-    none rest (subst (λ t. IsLineEnd t rest) (sym one.1) front.4)
+-- where no end follows numbers, none follows as many others
+pub no_other_end : (bytes : List ℕ) (numbers : List ℤ) (tail : List ℕ) → ArePartsFront bytes numbers tail → ((rest : List ℕ) → ¬ IsLineEnd tail rest) →
+    (others : List ℤ) → length numbers ≡ length others → (tail' rest : List ℕ) → ArePartsFront bytes others tail' → ¬ IsLineEnd tail' rest
+no_other_end bytes numbers tail are none others many tail' rest are' end =
+    none rest (subst (λ t. IsLineEnd t rest) (sym (parts_unique bytes numbers others tail tail' many are are').1) end)
 
 -- a line that is no `T` line, no `F` line and no `W` line asks for nothing
 pub no_query : (line : List ℕ) → ((u : ℤ) (n : ℕ) → ¬ IsTimeLine line u n) → ((f : Fields) → ¬ IsSearchLine line f) → ((count : ℕ) (f : Fields) → ¬ IsMeetingLine line count f) → (query : Query) → ¬ IsQueryLine line query
@@ -92,11 +88,8 @@ no_query line no_time no_search no_meeting (Search f) is = no_search f is
 no_query line no_time no_search no_meeting (Meeting count f) is = no_meeting count f is
 
 -- no such numbers stand in front, and the first line is no such line
-abbrev pub NoTime : List ℕ → Type 0
-NoTime bytes = (u : ℤ) (n : ℕ) (rest : List ℕ) → FitsSigned w64 u → n < 2 ^ 32 → ¬ ArePartsFront bytes (u ∷ pos n ∷ []) rest
-
 abbrev pub NoFields : List ℕ → Type 0
-NoFields bytes = (f : Fields) (rest : List ℕ) → AreFieldsOfBits f → ¬ ArePartsFront bytes (numbers_of f) rest
+NoFields bytes = (f : Fields) (tail rest : List ℕ) → AreFieldsOfBits f → ArePartsFront bytes (numbers_of f) tail → ¬ IsLineEnd tail rest
 
 abbrev pub NoTimeLine : List ℕ → Type 0
 NoTimeLine bytes = (u : ℤ) (n : ℕ) (rest : List ℕ) → ¬ IsTimeLineFront bytes u n rest
@@ -109,15 +102,15 @@ NoMeetingLine bytes = (count : ℕ) (f : Fields) (rest : List ℕ) → ¬ IsMeet
 
 -- no fields follow the number of weeks
 pub no_fields_after_count : (bytes after : List ℕ) (count : ℕ) → IsPartFront bytes (pos count) after → NoFields after →
-    (count' : ℕ) (f : Fields) (rest : List ℕ) → AreFieldsOfBits f → ¬ ArePartsFront bytes (pos count' ∷ numbers_of f) rest
-no_fields_after_count bytes after count first none count' f rest fit (after', first', are) =
+    (count' : ℕ) (f : Fields) (tail rest : List ℕ) → AreFieldsOfBits f → ArePartsFront bytes (pos count' ∷ numbers_of f) tail → ¬ IsLineEnd tail rest
+no_fields_after_count bytes after count first none count' f tail rest fit (after', first', are) =
     let same = (parts_unique bytes (pos count ∷ []) (pos count' ∷ []) after after' refl (after, first, refl) (after', first', refl)).1 in
-    none f rest fit (subst (λ bs. ArePartsFront bs (numbers_of f) rest) (sym same) are)
+    none f tail rest fit (subst (λ bs. ArePartsFront bs (numbers_of f) tail) (sym same) are)
 
 -- where some fields stand in front, and the next one does not follow, no fields do
 pub no_fields_after : (bytes : List ℕ) (read : List ℤ) (after : List ℕ) → ArePartsFront bytes read after → length read < 7 →
     ((f : Fields) (rest : List ℕ) → AreFieldsOfBits f → ¬ IsPartFront after (get_or (numbers_of f) (length read) (pos 0)) rest) → NoFields bytes
-no_fields_after bytes read after are few none f rest fit parts =
+no_fields_after bytes read after are few none f rest end fit parts is_end =
     let k = length read in
     let numbers = numbers_of f in
     let next = get_or numbers k (pos 0) in

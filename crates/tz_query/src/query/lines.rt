@@ -1,7 +1,6 @@
 //! The first line of bytes, and its query.
 
-ghost use Rattle.std.specs.Prelude.{◌≡◌, ℕ, ◌^◌, ◌<◌, [], ◌∷◌, List, ℤ, pos, negsuc, ◌≤ℤ◌, length, IfSome, IfNone, FitsSigned};
-ghost use Rattle.std.specs.Int.{w64};
+ghost use Rattle.std.specs.Prelude.{◌≡◌, ℕ, ◌<◌, List, ℤ, pos, negsuc, ◌≤ℤ◌, length, IfSome, IfNone};
 ghost use Rattle.tz_base.specs.declared.fields.Fields.{Fields};
 ghost use Rattle.tz.specs.PrintedText.{nine_digits};
 ghost use Rattle.tz_query.specs.Lines.{IsLineEnd, IsFirstLine};
@@ -38,22 +37,12 @@ pub fn after_line(bytes: &[u8]) -> &[u8]
     &[]
 }
 
-/// The instant and the nanoseconds at the beginning of the bytes, if they are numbers of their types, each after a space, and the bytes after
-/// them.
-#[inline(always)]
-fn read_time(bytes: &[u8]) -> Option<(i64, u32, &[u8])>
-    ensures some { IfSome result (λ r. ArePartsFront bytes.now (r.0 ∷ pos r.1 ∷ []) r.2.now) }
-    ensures none { IfNone result ((u : ℤ) (n : ℕ) (rest : List ℕ) → FitsSigned w64 u → n < 2 ^ 32 → ¬ ArePartsFront bytes.now (u ∷ pos n ∷ []) rest) }
-{
-    let (unix_time, after_seconds) = read_i64(bytes)?;
-    let (nanoseconds, rest) = read_u32(after_seconds)?;
-    Some((unix_time, nanoseconds, rest))
-}
-
-/// The fields at the beginning of the bytes, if they are numbers of their types, each after a space, and the bytes after them.
+/// The fields at the beginning of the bytes, if they are numbers of their types, each after a space, and the line ends after them, and the
+/// bytes after that line.
 fn read_fields(bytes: &[u8]) -> Option<(Fields, &[u8])>
-    ensures some { IfSome result (λ r. ArePartsFront bytes.now (numbers_of r.0) r.1.now × AreFieldsOfBits r.0) }
-    ensures none { IfNone result ((f : Fields) (rest : List ℕ) → AreFieldsOfBits f → ¬ ArePartsFront bytes.now (numbers_of f) rest) }
+    ensures some { IfSome result (λ r. AreFieldsOfBits r.0
+        × (tail : List ℕ) × ArePartsFront bytes.now (numbers_of r.0) tail × IsLineEnd tail r.1.now) }
+    ensures none { IfNone result ((f : Fields) (tail rest : List ℕ) → AreFieldsOfBits f → ArePartsFront bytes.now (numbers_of f) tail → ¬ IsLineEnd tail rest) }
 {
     let (year, after_year) = read_i32(bytes)?;
     let (month, after_month) = read_u8(after_year)?;
@@ -61,7 +50,8 @@ fn read_fields(bytes: &[u8]) -> Option<(Fields, &[u8])>
     let (hour, after_hour) = read_u8(after_day)?;
     let (minute, after_minute) = read_u8(after_hour)?;
     let (second, after_second) = read_u8(after_minute)?;
-    let (nanoseconds, rest) = read_u32(after_second)?;
+    let (nanoseconds, tail) = read_u32(after_second)?;
+    let rest = after_line_end(tail)?;
     let fields = Fields {
         year,
         month,
@@ -81,7 +71,8 @@ pub fn read_time_line(bytes: &[u8]) -> Option<(i64, u32, &[u8])>
     ensures none { IfNone result ((u : ℤ) (n : ℕ) (rest : List ℕ) → ¬ IsTimeLineFront bytes.now u n rest) }
 {
     let parts = after_byte(bytes, b'T')?;
-    let (unix_time, nanoseconds, tail) = read_time(parts)?;
+    let (unix_time, after_seconds) = read_i64(parts)?;
+    let (nanoseconds, tail) = read_u32(after_seconds)?;
     let rest = after_line_end(tail)?;
     Some((unix_time, nanoseconds, rest))
 }
@@ -93,9 +84,7 @@ pub fn read_search_line(bytes: &[u8]) -> Option<(Fields, &[u8])>
     ensures none { IfNone result ((f : Fields) (rest : List ℕ) → ¬ IsSearchLineFront bytes.now f rest) }
 {
     let parts = after_byte(bytes, b'F')?;
-    let (fields, tail) = read_fields(parts)?;
-    let rest = after_line_end(tail)?;
-    Some((fields, rest))
+    read_fields(parts)
 }
 
 /// The number of weeks and the fields of the first line, if it is a `W` line, and the bytes after it.
@@ -106,8 +95,7 @@ pub fn read_meeting_line(bytes: &[u8]) -> Option<(u8, Fields, &[u8])>
 {
     let parts = after_byte(bytes, b'W')?;
     let (count, after_count) = read_u8(parts)?;
-    let (fields, tail) = read_fields(after_count)?;
-    let rest = after_line_end(tail)?;
+    let (fields, rest) = read_fields(after_count)?;
     Some((count, fields, rest))
 }
 

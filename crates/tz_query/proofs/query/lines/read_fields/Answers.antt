@@ -3,7 +3,8 @@ use Rattle.std.proofs.Common.{◌<◌, ◌^◌, ◌∷◌, [], refl, arith, rule
 use Rattle.std.proofs.lemmas.Int.{to_z-of_z}
 use mir.Syntax.{w32}
 use mir.Val.{SFits}
-use Rattle.tz_query.proofs.LineFronts.{no_fields_after}
+use Rattle.tz_query.specs.Queries.{numbers_of}
+use Rattle.tz_query.proofs.LineFronts.{NoFields, no_fields_after, no_other_end}
 use Rattle.tz_query.proofs.NumberFronts.{IfNone-anyway}
 use Rattle.tz_query.proofs.query.lines.read_fields.Goals as goal
 
@@ -49,6 +50,12 @@ returns-in_err-nanoseconds-clause-none c =
     (_, c.in_ok-year.ensures.some, (_, c.in_ok-month.ensures.some, (_, c.in_ok-month_day.ensures.some, (_, c.in_ok-hour.ensures.some, (_, c.in_ok-minute.ensures.some, (_, c.in_ok-second.ensures.some, refl)))))) (omega arith)
     (λ f rest fit. c.in_err-nanoseconds.ensures.none f.nanoseconds rest fit.nanoseconds_fit))
 
+pub returns-in_err-rest-clause-none : goal.returns-in_err-rest-clause-none
+returns-in_err-rest-clause-none c =
+    IfNone-anyway {P = NoFields c.args.bytes.now} _ (λ f tail rest fit. no_other_end c.args.bytes.now (_ ∷ _ ∷ _ ∷ _ ∷ _ ∷ _ ∷ _ ∷ []) _
+    (_, c.in_ok-year.ensures.some, (_, c.in_ok-month.ensures.some, (_, c.in_ok-month_day.ensures.some, (_, c.in_ok-hour.ensures.some, (_, c.in_ok-minute.ensures.some, (_, c.in_ok-second.ensures.some, (_, c.in_ok-nanoseconds.ensures.some, refl)))))))
+    c.in_err-rest.ensures.none (numbers_of f) refl tail rest)
+
 pub returns-clause-some : goal.returns-clause-some
 returns-clause-some c =
     let year : SFits w32 c.in_ok-year.year = search rules in
@@ -59,6 +66,8 @@ returns-clause-some c =
     let second : c.in_ok-second.second < 2 ^ 8 = search rules in
     let nanoseconds : c.in_ok-nanoseconds.nanoseconds < 2 ^ 32 = search rules in
     rw (to_z-of_z w32 c.in_ok-year.year year) (
-      (_, c.in_ok-year.ensures.some, (_, c.in_ok-month.ensures.some, (_, c.in_ok-month_day.ensures.some, (_, c.in_ok-hour.ensures.some, (_, c.in_ok-minute.ensures.some, (_, c.in_ok-second.ensures.some, (_, c.in_ok-nanoseconds.ensures.some, refl))))))),
       record { year_fits = year; month_fits = month; month_day_fits = month_day; hour_fits = hour; minute_fits = minute; second_fits = second; nanoseconds_fit = nanoseconds },
+      _,
+      (_, c.in_ok-year.ensures.some, (_, c.in_ok-month.ensures.some, (_, c.in_ok-month_day.ensures.some, (_, c.in_ok-hour.ensures.some, (_, c.in_ok-minute.ensures.some, (_, c.in_ok-second.ensures.some, (_, c.in_ok-nanoseconds.ensures.some, refl))))))),
+      c.in_ok-rest.ensures.some,
     )
