@@ -1,8 +1,9 @@
 -- Where the first line ends, and that what a line asks for is what stands in front.
-use Rattle.std.proofs.Common.{◌≡◌, ◌≢◌, ℕ, ◌+◌, ◌<◌, inl, inr, ℤ, pos, List, [], ◌∷◌, ◌++◌, length, take, drop, get_or, refl, sym, ap, ◌∙◌, subst, arith, append-nil}
+use Rattle.std.proofs.Common.{◌≡◌, ◌≢◌, ℕ, ◌+◌, ◌<◌, inl, inr, ℤ, pos, List, [], ◌∷◌, ◌++◌, length, take, drop, get_or, refl, sym, ap, ◌∙◌, subst, arith, append-nil, ◌-◌, ◌≤◌, append_assoc}
 use Rattle.std.specs.Char.{digit_value}
 use Rattle.std.specs.Str.Parse.{AllDigits}
-use Rattle.std.proofs.lemmas.List.{drop_more, length-take-le, take-append-drop}
+use Rattle.std.proofs.Math.Seq.{drop-append_seam}
+use Rattle.std.proofs.lemmas.List.{drop_more, length-append, length-take-le, take-append-drop}
 use Rattle.std.proofs.lemmas.List.Elements.{All-nil, All-cons, All-append}
 use Rattle.tz_query.specs.Lines.{line_feed, IsLine, IsLineEnd, IsFirstLine}
 use Rattle.tz_base.specs.declared.fields.Fields.{Fields}
@@ -17,6 +18,23 @@ first_line_to_end bytes i within line at =
 
 pub whole_line : (bytes : List ℕ) → IsLine bytes → IsFirstLine bytes bytes []
 whole_line bytes line = record { tail = []; cut = sym (append-nil bytes); end = inr (refl, refl); without_end = line }
+
+-- what follows the first line is the end of the bytes
+rest_behind : (bytes front rest : List ℕ) → bytes ≡ front ++ rest → (length rest ≤ length bytes) × (drop (length bytes - length rest) bytes ≡ rest)
+rest_behind bytes front rest whole =
+    let long : length bytes ≡ length front + length rest = ap length whole ∙ length-append front rest in
+    let place : length bytes - length rest ≡ length front = omega (arith, long) in
+    (omega (arith, long), ap (λ k. drop k bytes) place ∙ ap (λ xs. drop (length front) xs) whole ∙ drop-append_seam front rest)
+
+pub rest_of_line : (bytes line rest : List ℕ) → IsFirstLine bytes line rest → (length rest ≤ length bytes) × (drop (length bytes - length rest) bytes ≡ rest)
+rest_of_line bytes line rest first = cases first.end
+  where
+    cases : IsLineEnd first.tail rest → (length rest ≤ length bytes) × (drop (length bytes - length rest) bytes ≡ rest)
+    cases (inl is) = rest_behind bytes (line ++ line_feed ∷ []) rest (first.cut ∙ ap (λ t. line ++ t) is ∙ sym (append_assoc line (line_feed ∷ []) rest))
+    cases (inr is) = rest_behind bytes line rest (first.cut ∙ ap (λ t. line ++ t) (is.0 ∙ sym is.1))
+
+pub first_line_to_place : (bytes line rest : List ℕ) → IsFirstLine bytes line rest → IsFirstLine bytes line (drop (length bytes - length rest) bytes)
+first_line_to_place bytes line rest first = subst (IsFirstLine bytes line) (sym (rest_of_line bytes line rest first).1) first
 
 -- no digit is LF
 digits_are_line : (digits : List ℕ) → AllDigits 10 digits → IsLine digits

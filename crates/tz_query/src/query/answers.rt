@@ -1,6 +1,6 @@
 //! The answers of query lines.
 
-ghost use Rattle.std.specs.Prelude.{◌≡◌, ℕ, List, ◌++◌, IfOk, IfErr, alloc_error};
+ghost use Rattle.std.specs.Prelude.{◌≡◌, ◌≤◌, ℕ, List, ◌++◌, length, drop, IfOk, IfErr, alloc_error};
 ghost use Rattle.tz_zone.specs.ZoneRef.{zone_of};
 ghost use Rattle.tz_query.specs.Lines.{IsFirstLine, ended};
 ghost use Rattle.tz_query.specs.Answers.{IsAnswer, AreAnswers};
@@ -19,34 +19,37 @@ use super::time_answers::{answer_any_time, answer_time};
 use std::alloc::{AllocError, Allocator};
 use tz::{TimeZoneRef, TzError};
 
-/// Answers the first line, whatever its numbers, and returns the bytes after that line.
+/// Answers the first line, whatever its numbers, and returns the place after that line.
+///
+/// A place is returned in a register, and so costs nothing where this is not called.
 #[inline(never)]
-fn answer_any_line<'a, 'b, A: Allocator + Copy>(
+fn answer_any_line<'b, A: Allocator + Copy>(
     alloc: A,
     output: &mut Output<A>,
     cache: &mut Cache<'b>,
     zone: &TimeZoneRef<'b>,
-    queries: &'a [u8],
-) -> Result<&'a [u8], AllocError>
+    queries: &[u8],
+) -> Result<usize, AllocError>
     requires { IsCacheOf (zone_of zone.now) cache.old }
-    ensures answer { IfOk result (λ rest. (text : List ℕ) × (answer : List (List ℕ)) × IsFirstLine queries.now text rest.now
+    ensures within { IfOk result (λ end. end ≤ length queries.now) }
+    ensures answer { IfOk result (λ end. (text : List ℕ) × (answer : List (List ℕ)) × IsFirstLine queries.now text (drop end queries.now)
         × IsAnswer (zone_of zone.entry.now) text answer × (written output.new ≡ written output.old ++ ended answer)) }
     ensures cached { IsCacheOf (zone_of zone.entry.now) cache.new }
 {
     if let Some((unix_time, nanoseconds, rest)) = read_time_line(queries) {
         answer_any_time(output, cache, zone, unix_time, nanoseconds)?;
-        return Ok(rest);
+        return Ok(queries.len() - rest.len());
     }
     if let Some((fields, rest)) = read_search_line(queries) {
         answer_any_search(alloc, output, cache, zone, &fields)?;
-        return Ok(rest);
+        return Ok(queries.len() - rest.len());
     }
     if let Some((count, fields, rest)) = read_meeting_line(queries) {
         answer_meeting(alloc, output, cache, zone, &fields, count)?;
-        return Ok(rest);
+        return Ok(queries.len() - rest.len());
     }
     output.push_error("Line")?;
-    Ok(after_line(queries))
+    Ok(queries.len() - after_line(queries).len())
 }
 
 /// Answers the first line, and returns the bytes after that line.
@@ -72,7 +75,8 @@ fn answer_line<'a, 'b, A: Allocator + Copy>(
         answer_search(alloc, output, cache, zone, &fields, &nine)?;
         return Ok(rest);
     }
-    answer_any_line(alloc, output, cache, zone, queries)
+    let end = answer_any_line(alloc, output, cache, zone, queries)?;
+    Ok(&queries[end..])
 }
 
 /// Answers query bytes over a zone.

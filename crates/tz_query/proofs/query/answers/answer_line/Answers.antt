@@ -1,8 +1,10 @@
 -- A line of usual numbers is answered as it is read, and every other one by what it holds.
-use Rattle.std.proofs.Common.{[], ◌∷◌, refl, inl, rules}
+use Rattle.std.proofs.Common.{[], ◌∷◌, refl, inl, sym, subst, rules}
 use Rattle.std.proofs.lemmas.Int.{to_z-of_z}
+use Rattle.std.proofs.lemmas.List.{take_rest}
 use mir.Syntax.{w64}
 use mir.Val.{SFits}
+use Rattle.tz_query.specs.Lines.{IsFirstLine}
 use Rattle.tz_query.specs.Queries.{Time, Search}
 use Rattle.tz_query.proofs.query.answers.answer_line.Goals as goal
 
@@ -32,3 +34,9 @@ answer_time-requires-clause-digits g c = let (n, few, digits, front) = c.in-Some
 
 pub answer_search-requires-clause-digits : goal.answer_search-requires-clause-digits
 answer_search-requires-clause-digits g c = let (n, few, digits, front) = c.in-Some-read_usual_search_line.ensures in (n, few, digits)
+
+pub returns-clause-answer : goal.returns-clause-answer
+returns-clause-answer g c =
+    let bytes = c.args.queries.now in
+    let next = c.in_ok-end.ensures.answer in
+    (next.0, next.1, subst (IsFirstLine bytes next.0) (sym (take_rest bytes c.in_ok-end.end)) next.2, next.3, next.4)
