@@ -1,9 +1,17 @@
--- After `W` stand the number of weeks and the fields.
+-- The line is usual, or after `W` stand the number of weeks and the fields.
 use Rattle.std.proofs.Common.{◌∷◌, ◌<◌, ◌^◌, pos, arith, rules}
 use Rattle.tz_query.specs.Queries.{meeting_letter, numbers_of}
 use Rattle.tz_query.proofs.NumberFronts.{IfNone-anyway}
 use Rattle.tz_query.proofs.LineFronts.{NoMeetingLine, line_from_front, no_fields_after_count, no_line_without_numbers}
 use Rattle.tz_query.proofs.query.lines.read_meeting_line.Goals as goal
+
+pub returns-in-Some-clause-some : goal.returns-in-Some-clause-some
+returns-in-Some-clause-some c =
+    let (n, few, digits, front) = c.in-Some.ensures in
+    rw (c.number_of_nine.ensures n few digits) front
+
+pub number_of_nine-requires : goal.number_of_nine-requires
+number_of_nine-requires c = let (n, few, digits, front) = c.in-Some.ensures in (n, few, digits)
 
 pub returns-in_err-count-clause-none : goal.returns-in_err-count-clause-none
 returns-in_err-count-clause-none c =
