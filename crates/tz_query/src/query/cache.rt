@@ -56,8 +56,8 @@ impl<'a> Cache<'a> {
         self.suffix = *self.suffixes.of(local_time_type);
     }
 
-    /// Keeps the segment around an instant if the lines seem to be in order.
-    #[inline(always)]
+    /// Keeps the segment around an instant if the lines seem to be in order. It is a call, since lines in order need it seldom.
+    #[inline(never)]
     pub fn follow(&mut self, zone: &TimeZoneRef<'a>, unix_time: i64)
         requires { IsCacheOf (zone_of zone.now) self.old }
         ensures { IsCacheOf (zone_of zone.entry.now) self.new }
@@ -70,7 +70,6 @@ impl<'a> Cache<'a> {
     }
 
     /// Keeps the segment around an instant, if the clock has a type there.
-    #[inline(never)]
     fn keep_segment(&mut self, zone: &TimeZoneRef<'a>, unix_time: i64)
         requires { IsCacheOf (zone_of zone.now) self.old }
         ensures { IsCacheOf (zone_of zone.entry.now) self.new }
