@@ -197,10 +197,12 @@ fn push_lines_with_digits(
     sign: &str,
     digits: &[u8],
 ) -> Result<(), AllocError> {
-    static LINES: [(&[u8], &[u8]); 3] = [
+    static LINES: [(&[u8], &[u8]); 5] = [
         (b"T ", b" 1\n"),
         (b"T 86399 ", b"\n"),
         (b"F ", b" 2 29 0 0 0 0\n"),
+        (b"W 2 ", b" 2 29 0 0 0 0\n"),
+        (b"W ", b" 2024 2 29 0 0 0 123456789\n"),
     ];
     for (before, after) in &LINES {
         queries.extend_from_slice(before)?;
@@ -229,7 +231,7 @@ fn numbers_of_each_length_are_answered_alike(rt: HostRuntime) -> Result<(), Fail
 #[test]
 fn lines_cut_at_each_length_are_answered_alike(rt: HostRuntime) -> Result<(), Fail> {
     let queries =
-        b"T 1700000000 123456789\nT -1 5\nT 1 1000000000\nF 2024 2 29 1 2 3 4\nT  7 7\nT 7  7\nT 7 7\r\nT 7\nT7 7\nT 1 2 3\nt 1 2\n\nT 1600000000 100\nT 253402300800 0\nT -62167219201 0\nT 123456789012345678 99\nT 1500000000 000000001\nT 1 123456789 \nT 1 123456789\r\nT 1 1234567890\nT 12345678901 5\nT 123456789012 5\nT 12345678901x 5\nT -12345678901 12345678\n";
+        b"T 1700000000 123456789\nT -1 5\nT 1 1000000000\nF 2024 2 29 1 2 3 4\nF -12345 12 31 1 2 3 4\nW 2 2024 2 29 1 2 3 4\nW 10 99999 2 28 11 22 33 123456789\nT  7 7\nT 7  7\nT 7 7\r\nT 7\nT7 7\nT 1 2 3\nt 1 2\n\nT 1600000000 100\nT 253402300800 0\nT -62167219201 0\nT 123456789012345678 99\nT 1500000000 000000001\nT 1 123456789 \nT 1 123456789\r\nT 1 1234567890\nT 12345678901 5\nT 123456789012 5\nT 12345678901x 5\nT -12345678901 12345678\n";
     for length in 0..=queries.len() {
         expect_alike(&rt, rt.alloc(), TimeZoneRef::utc(), &queries[..length])?;
         expect_alike(&rt, rt.alloc(), TimeZoneRef::utc(), &queries[length..])?;
