@@ -156,8 +156,8 @@ fn read_any_year_fields<'a>(bytes: &'a [u8], nine: &mut [u8; 9]) -> Option<(Fiel
     read_usual_fields(after_year, year, 0, nine)
 }
 
-/// The fields of the first line, if it is an `F` line of usual numbers, and the bytes after it. Its nanoseconds are copied,
-/// and are 0 in the fields.
+/// The fields of the first line, if it is an `F` line of a year of four digits and usual numbers, and the bytes after it. Its nanoseconds
+/// are copied, and are 0 in the fields.
 #[inline(always)]
 pub fn read_usual_search_line<'a>(
     queries: &'a [u8],
