@@ -67,22 +67,6 @@ fn push_entry<A: Allocator>(
     Ok(())
 }
 
-/// Writes the lines of what was found.
-fn push_entries<A: Allocator>(
-    output: &mut Output<A>,
-    suffixes: &mut Suffixes,
-    entries: &[FoundDateTimeKind],
-    nine: &[u8; 9],
-) -> Result<(), AllocError>
-    requires { (n : ℕ) × AreDigitsOf n nine.now × All (HasNanoseconds n) entries.now }
-    ensures { IfOk result (λ _. written output.new ≡ written output.old ++ ended (map entry_text entries.now)) }
-{
-    for entry in entries {
-        push_entry(output, suffixes, entry, nine)?;
-    }
-    Ok(())
-}
-
 /// Writes the answer lines of a list.
 fn push_found<A: Allocator>(
     output: &mut Output<A>,
@@ -94,7 +78,10 @@ fn push_found<A: Allocator>(
     ensures { IfOk result (λ _. written output.new ≡ written output.old ++ ended (found_lines found.now)) }
 {
     output.push_count(b'F', found.len())?;
-    push_entries(output, suffixes, found, nine)
+    for entry in found {
+        push_entry(output, suffixes, entry, nine)?;
+    }
+    Ok(())
 }
 
 /// Answers fields whose nanoseconds have these digits, by a search of their own.

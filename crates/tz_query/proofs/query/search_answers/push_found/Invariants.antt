@@ -4,7 +4,7 @@ use Rattle.std.specs.Prelude.{map}
 use Rattle.tz_query.specs.Lines.{ended}
 use Rattle.tz_query.specs.Answers.{entry_text}
 use Rattle.tz_query.specs.Outputs.{written}
-use Rattle.tz_query.proofs.query.search_answers.push_entries.Given as goal
+use Rattle.tz_query.proofs.query.search_answers.push_found.Given as goal
 
 abbrev pub invariant-loop-entry : goal.invariant-loop-entry
-invariant-loop-entry g l = written l.output ≡ written l.initial.output ++ ended (map entry_text (take l.entry-index l.entries))
+invariant-loop-entry g l = written l.output ≡ written l.initial.output ++ ended (map entry_text (take l.entry-index l.found))
