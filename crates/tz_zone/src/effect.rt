@@ -5,8 +5,8 @@ ghost use Rattle.tz_zone.specs.Table.{LeapSecond};
 ghost use Rattle.tz_zone.specs.LeapTime.{IsMomentOf, IsEffect, IsEffectRefused};
 ghost use Rattle.tz_zone.specs.ValidZone.{AreLeapSeconds, HasBegunAt};
 
-use crate::bisect::{Places, partition_point};
 use crate::leap_time::{correction_before, leap, less, truncated_start};
+use crate::partition::{Places, partition_point};
 use crate::table::LeapSecond;
 use tz_base::error::TzError;
 

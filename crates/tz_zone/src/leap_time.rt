@@ -5,7 +5,7 @@ ghost use Rattle.tz_zone.specs.Table.{LeapSecond};
 ghost use Rattle.tz_zone.specs.LeapTime.{IsInstant, IsStart, correction_at_start as correction_of_start, correction_before as correction_at_place, IsReached, IsBeforeStart, IsFirstBegun, IsLeapTimeRefused, IsLeapTime};
 ghost use Rattle.tz_zone.specs.ValidZone.{AreLeapSeconds, HasBegunAt, ExpiresAt, IsPlainTable};
 
-use crate::bisect::{Places, partition_point};
+use crate::partition::{Places, partition_point};
 use crate::table::LeapSecond;
 use tz_base::error::TzError;
 

@@ -1,12 +1,12 @@
 //! Time zones: transitions, leap seconds and an extra rule, and the clock that they make.
 #![tactic(auto)]
 
-mod bisect;
 mod clock;
 mod effect;
 pub mod inner;
 pub mod laws;
 mod leap_time;
 mod parse;
+mod partition;
 mod table;
 pub mod timezone;

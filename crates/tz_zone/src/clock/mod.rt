@@ -1,5 +1,6 @@
 //! The clock of a zone: its type at an instant, its segments, and where it changes.
 
+mod bisect;
 mod change;
 mod changes;
 mod cursor;

@@ -5,7 +5,7 @@ ghost use Rattle.tz_zone.specs.Clock.{AreReached, AreAhead, IsLast, IsNumberBefo
 ghost use Rattle.tz_zone.specs.ValidZone.{IsRising, IsSoundTable};
 ghost use Rattle.tz_zone.specs.ZoneSeen.{zone_seen};
 
-use super::cursor::cursor_before;
+use super::bisect::cursor_before;
 use crate::table::{OtherParts, Transition, Transitions};
 use tz_rule::timezone::LocalTimeType;
 

@@ -10,7 +10,8 @@ ghost use Rattle.tz_zone.specs.TableChanges.{IsChangeByRule, IsTableStart, IsFar
 ghost use Rattle.tz_zone.specs.ValidZone.{AreLeapSeconds, IsSoundTable};
 ghost use Rattle.tz_zone.specs.ZoneSeen.{zone_seen};
 
-use super::cursor::{Cursor, cursor_at, moved_on};
+use super::bisect::cursor_at;
+use super::cursor::{Cursor, moved_on};
 use super::cursor_span::{CursorSpan, first_past, span_of};
 use super::segment::ClockSegment;
 use crate::leap_time::{first_begun, has_begun, leap_time};

@@ -1,7 +1,7 @@
 -- The places that are left are as many as a power of two, of which the step is half.
 use Rattle.std.proofs.Common.{◌≡◌, ◌≤◌}
 use Rattle.tz_zone.proofs.PowerSteps.{AreStepsLeft}
-use Rattle.tz_zone.proofs.clock.cursor.cursor_before.Given as goal
+use Rattle.tz_zone.proofs.clock.bisect.cursor_before.Given as goal
 
 abbrev pub invariant-loop-step : goal.invariant-loop-step
 invariant-loop-step g l =

@@ -1,6 +1,6 @@
 //! The partition point of places, by halving.
 
-ghost use Rattle.std.specs.Prelude.{◌≡◌, ℕ, ◌+◌, ◌-◌, ◌^◌, ◌<◌, ◌≤◌, MatchBool};
+ghost use Rattle.std.specs.Prelude.{◌≡◌, ℕ, ◌+◌, ◌-◌, ◌<◌, ◌≤◌, MatchBool};
 
 /// Places that a test passes up to some place, and not from there on.
 pub(crate) trait Places {
@@ -29,17 +29,6 @@ pub(crate) fn middle(low: usize, high: usize) -> usize
     ensures after { (high - (result + 1)) + (high - (result + 1)) ≤ high - low }
 {
     low + (high - low) / 2
-}
-
-/// The greatest power of two up to a number.
-#[inline(always)]
-pub(crate) fn power_up_to(number: usize) -> usize
-    requires { 0 < number }
-    ensures power { (exponent : ℕ) × (result ≡ 2 ^ exponent) }
-    ensures within { (0 < result) × (result ≤ number) }
-    ensures next { number < result + result }
-{
-    1 << number.ilog2()
 }
 
 /// The partition point: the first place at which the test fails, or the number of places.

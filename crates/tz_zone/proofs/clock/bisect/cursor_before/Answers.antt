@@ -6,7 +6,7 @@ use mir.Syntax.{w64}
 use Rattle.tz_zone.specs.Table.{Transition}
 use Rattle.tz_zone.specs.ClockSegments.{from_start}
 use Rattle.tz_zone.proofs.PowerSteps.{IsAfterLook, cursor_at_end, steps_after_first_look, steps_after_look}
-use Rattle.tz_zone.proofs.clock.cursor.cursor_before.Goals as goal
+use Rattle.tz_zone.proofs.clock.bisect.cursor_before.Goals as goal
 
 pub loop-step-init : goal.loop-step-init
 loop-step-init g c =

@@ -1,6 +1,6 @@
 -- The power fits, and twice as much is more.
 use Rattle.std.proofs.Common.{◌≡◌, ℕ, ◌*◌, ◌%◌, ◌<◌, ◌≤◌, ◌^◌, refl, arith}
-use Rattle.tz_zone.proofs.bisect.power_up_to.Goals as goal
+use Rattle.tz_zone.proofs.clock.bisect.power_up_to.Goals as goal
 
 stays : (x n : ℕ) → x ≤ n → n < 18446744073709551616 → 1 * x % 18446744073709551616 ≡ x
 stays x n least fits = omega (arith, least, fits)

@@ -1,6 +1,6 @@
 -- The partition point lies between the two places.
 use Rattle.std.proofs.Common.{◌≡◌, ℕ, ◌+◌, ◌-◌, ◌<◌, ◌≤◌}
-use Rattle.tz_zone.proofs.bisect.partition_point.Given as goal
+use Rattle.tz_zone.proofs.partition.partition_point.Given as goal
 
 abbrev pub invariant-loop-low : goal.invariant-loop-low
 invariant-loop-low g l =
