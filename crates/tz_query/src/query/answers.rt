@@ -12,10 +12,10 @@ use super::lines::{
     after_line, read_any_year_search_line, read_meeting_line, read_search_line, read_time_line,
     read_usual_search_line, read_usual_time_line,
 };
-use super::meeting_answers::answer_meeting;
 use super::output::Output;
 use super::search_answers::{answer_any_search, answer_search};
 use super::time_answers::{answer_any_time, answer_time};
+use super::week_answers::answer_meeting;
 use std::alloc::{AllocError, Allocator};
 use tz::{TimeZoneRef, TzError};
 

@@ -4,8 +4,6 @@ mod answers;
 mod cache;
 mod entries;
 mod lines;
-mod meeting_answers;
-mod meeting_dates;
 mod moments;
 mod names;
 mod numbers;
@@ -18,6 +16,8 @@ mod suffix;
 mod suffixes;
 mod time_answers;
 mod tzif;
+mod week_answers;
+mod week_dates;
 
 pub use answers::answer;
 pub use program::tool;

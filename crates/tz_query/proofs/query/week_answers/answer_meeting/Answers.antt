@@ -8,7 +8,7 @@ use Rattle.tz_query.specs.Lines.{ended}
 use Rattle.tz_query.specs.Outputs.{written}
 use Rattle.tz_query.specs.Answers.{field_fault_text, meeting_lines}
 use Rattle.tz_query.proofs.WeekAnswers.{meeting_written}
-use Rattle.tz_query.proofs.query.meeting_answers.answer_meeting.Goals as goal
+use Rattle.tz_query.proofs.query.week_answers.answer_meeting.Goals as goal
 
 pub returns-in_ok-push_count-in-Ok-clause-answer : goal.returns-in_ok-push_count-in-Ok-clause-answer
 returns-in_ok-push_count-in-Ok-clause-answer g c =

@@ -6,7 +6,7 @@ use Rattle.tz_query.specs.Caches.{IsCacheOf}
 use Rattle.tz_query.specs.Lines.{ended}
 use Rattle.tz_query.specs.Outputs.{written}
 use Rattle.tz_query.specs.Answers.{AreWeekAnswers}
-use Rattle.tz_query.proofs.query.meeting_answers.answer_weeks.Given as goal
+use Rattle.tz_query.proofs.query.week_answers.answer_weeks.Given as goal
 
 abbrev pub invariant-loop-weeks : goal.invariant-loop-weeks
 invariant-loop-weeks g l =

@@ -6,7 +6,7 @@ use mir.Val.{SFits}
 use Rattle.tz_base.specs.Fields.{IsCivil}
 use Rattle.tz_query.specs.MeetingDates.{day_after, midnight}
 use Rattle.tz_query.proofs.WeekAnswers.{date_of_day}
-use Rattle.tz_query.proofs.query.meeting_dates.week_of.Goals as goal
+use Rattle.tz_query.proofs.query.week_dates.week_of.Goals as goal
 
 pub returns-clause-some : goal.returns-clause-some
 returns-clause-some c =

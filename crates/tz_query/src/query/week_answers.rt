@@ -13,42 +13,16 @@ ghost use Rattle.tz_query.specs.MeetingDates.{midnight};
 ghost use Rattle.tz_query.specs.Answers.{AreWeekAnswers, IsMeetingAnswer, IsWeekAnswer};
 
 use super::cache::Cache;
-use super::meeting_dates::{first_day_begins, week_of};
 use super::names::field_fault_name;
 use super::numbers::write_nanoseconds;
 use super::output::Output;
 use super::search_answers::answer_search;
+use super::week_dates::{first_day_begins, week_of};
 use std::alloc::{AllocError, Allocator};
 use tz::TimeZoneRef;
 use tz::inner::Fields;
 
-/// Writes the answer lines of a week: those of a search for its fields, or that its year is out of range.
-fn answer_week<'a, A: Allocator + Copy>(
-    alloc: A,
-    output: &mut Output<A>,
-    cache: &mut Cache<'a>,
-    zone: &TimeZoneRef<'a>,
-    first: &Fields,
-    nine: &[u8; 9],
-    begins: i64,
-    weeks: u8,
-) -> Result<(), AllocError>
-    requires day { begins ≡ midnight (day_of first.now) }
-    requires small { IsSmall begins }
-    requires cached { IsCacheOf (zone_of zone.now) cache.old }
-    requires few { first.now.nanoseconds < 1000000000 }
-    requires digits { nine.now ≡ nine_digits first.now.nanoseconds }
-    ensures answer { IfOk result (λ _. (answer : List (List ℕ)) × IsWeekAnswer (zone_of zone.entry.now) first.now weeks answer
-        × (written output.new ≡ written output.old ++ ended answer)) }
-    ensures cached { IsCacheOf (zone_of zone.entry.now) cache.new }
-{
-    match week_of(first, begins, weeks) {
-        Some(fields) => answer_search(alloc, output, cache, zone, &fields, nine),
-        None => output.push_error("OutOfRange"),
-    }
-}
-
-/// Writes the answer lines of all weeks, in their order.
+/// Writes the answer lines of all weeks, in their order: those of a search for the fields of the week, or that its year is out of range.
 fn answer_weeks<'a, A: Allocator + Copy>(
     alloc: A,
     output: &mut Output<A>,
@@ -69,7 +43,10 @@ fn answer_weeks<'a, A: Allocator + Copy>(
     ensures cached { IsCacheOf (zone_of zone.entry.now) cache.new }
 {
     for weeks in 0..count {
-        answer_week(alloc, output, cache, zone, first, nine, begins, weeks)?;
+        match week_of(first, begins, weeks) {
+            Some(fields) => answer_search(alloc, output, cache, zone, &fields, nine)?,
+            None => output.push_error("OutOfRange")?,
+        }
     }
     Ok(())
 }

@@ -1,6 +1,6 @@
 -- The date time is that of the first day's instant and the seconds of the weeks.
 use Rattle.std.proofs.Common.{rules}
-use Rattle.tz_query.proofs.query.meeting_dates.day_of_week.Goals as goal
+use Rattle.tz_query.proofs.query.week_dates.day_of_week.Goals as goal
 
 pub returns-in-Ok-clause-some : goal.returns-in-Ok-clause-some
 returns-in-Ok-clause-some c = search rules
