@@ -31,31 +31,17 @@ pub enum WindowTypes<'a> {
     More,
 }
 
-/// The types of a rule from a segment that ends in the window on. It is a call, so that a caller in whose window the rule has one type stays
-/// small.
+/// The type that a rule has from one instant up to another, if it is one. It is a call, so that the callers of a window in which the rule has
+/// one type stay small.
 #[inline(never)]
-fn types_across<'a>(
-    rule: &'a TransitionRule,
-    before: &'a LocalTimeType,
-    unix_time: i64,
-    high: i64,
-) -> WindowTypes<'a>
-    requires { unix_time ≤ℤ high }
-    ensures { (low : ℤ) → low <ℤ unix_time → ((v : ℤ) → low ≤ℤ v → v <ℤ unix_time → IsRuleType rule.entry.now v before.entry.now)
-        → AreTypesIn (IsRuleType rule.entry.now) low high result }
+fn type_through(rule: &TransitionRule, unix_time: i64, high: i64) -> Option<&LocalTimeType>
+    ensures { IfSome result (λ t. (v : ℤ) → unix_time ≤ℤ v → v ≤ℤ high → IsRuleType rule.now v t.now) }
 {
-    let next = tz_rule::inner::segment_at(rule, unix_time);
-    if next.last < high {
-        return WindowTypes::More;
+    let segment = tz_rule::inner::segment_at(rule, unix_time);
+    if segment.last < high {
+        return None;
     }
-    match next.local_time_type {
-        Some(after) => WindowTypes::Two {
-            unix_time,
-            before,
-            after,
-        },
-        None => WindowTypes::More,
-    }
+    segment.local_time_type
 }
 
 /// The types of a rule in a window.
@@ -64,13 +50,19 @@ fn types_by_rule(rule: &TransitionRule, low: i64, high: i64) -> WindowTypes<'_>
     ensures { AreTypesIn (IsRuleType rule.now) low high result }
 {
     let first = tz_rule::inner::segment_at(rule, low);
-    match first.local_time_type {
-        Some(local_time_type) => {
-            if high <= first.last {
-                return WindowTypes::One(local_time_type);
-            }
-            types_across(rule, local_time_type, first.last + 1, high)
-        }
+    let Some(before) = first.local_time_type else {
+        return WindowTypes::More;
+    };
+    if high <= first.last {
+        return WindowTypes::One(before);
+    }
+    let unix_time = first.last + 1;
+    match type_through(rule, unix_time, high) {
+        Some(after) => WindowTypes::Two {
+            unix_time,
+            before,
+            after,
+        },
         None => WindowTypes::More,
     }
 }

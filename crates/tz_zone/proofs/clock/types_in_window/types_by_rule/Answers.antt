@@ -13,16 +13,19 @@ returns-then-high-first c = λ v from to.
     let over : c.args.high ≤ℤ first.last = omega (arith, ints, c.if-high-first.true, to_z-of_z w64 first.last fits, to_z-of_z w64 c.args.high c.ranges.high) in
     rw c.in-Some.is at segment.holds v (omega (arith, ints, segment.within.0, from)) (omega (arith, ints, to, over))
 
-pub returns-else-high-first : goal.returns-else-high-first
-returns-else-high-first c =
+pub returns-in-Some-type_through : goal.returns-in-Some-type_through
+returns-in-Some-type_through c =
     let first = c.segment_at-first.result in
-    let high = c.args.high in
-    let high_is = to_z-of_z w64 high c.ranges.high in
+    let high_is = to_z-of_z w64 c.args.high c.ranges.high in
     let fits : SFits w64 first.last = search rules in
     let last_is = to_z-of_z w64 first.last fits in
     let segment = rw (to_z-of_z w64 c.args.low c.ranges.low) at c.segment_at-first.ensures in
-    let ends : first.last <ℤ high = omega (arith, ints, c.if-high-first.false, last_is, high_is) in
+    let ends : first.last <ℤ c.args.high = omega (arith, ints, c.if-high-first.false, last_is, high_is) in
     let jump_fits : SFits w64 (first.last +ℤ pos 1) = search rules in
-    let across = rw (high_is, last_is, to_z-of_z w64 (first.last +ℤ pos 1) jump_fits) at c.types_across.ensures in
-    across c.args.low (omega (arith, ints, segment.within.1))
-    (λ v from until. rw c.in-Some.is at segment.holds v (omega (arith, ints, segment.within.0, from)) (omega (arith, ints, until)))
+    let jump_is = to_z-of_z w64 (first.last +ℤ pos 1) jump_fits in
+    rw (last_is, jump_is) (
+      omega (arith, ints, segment.within.1),
+      omega (arith, ints, ends),
+      (λ v from until. rw c.in-Some.is at segment.holds v (omega (arith, ints, segment.within.0, from)) (omega (arith, ints, until))),
+      rw (last_is, jump_is, high_is) at c.in-Some-type_through.ensures,
+    )
