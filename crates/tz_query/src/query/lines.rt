@@ -8,10 +8,10 @@ ghost use Rattle.tz_query.specs.Numbers.{ArePartsFront};
 ghost use Rattle.tz_query.specs.Queries.{AreFieldsOfBits, numbers_of, IsTimeLineFront, IsSearchLineFront, IsMeetingLineFront};
 
 use crate::query::numbers::{
-    after_byte, number_of_nine, read_i32, read_i64, read_nanoseconds, read_seconds, read_small,
-    read_u8, read_u32, read_year,
+    number_of_nine, read_i32, read_i64, read_nanoseconds, read_seconds, read_small, read_u8,
+    read_u32, read_year,
 };
-use tz::inner::Fields;
+use tz::inner::{Fields, after_byte};
 
 /// The bytes after the end of a line, if it ends here: after an LF, or none where there are none.
 #[inline(always)]

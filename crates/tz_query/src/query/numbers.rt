@@ -9,7 +9,7 @@ ghost use Rattle.tz_query.specs.Numbers.{IsNumberFront, IsDigitsFront, IsCapped,
 
 use core::dec2flt;
 use tz::constants::NANOSECONDS_PER_SECOND;
-use tz::inner::TextBuffer;
+use tz::inner::{TextBuffer, after_byte};
 
 /// From here on one more digit makes a number that no type of 64 bits has.
 const LIMIT: u64 = 1_000_000_000_000_000_000;
@@ -64,18 +64,6 @@ fn read_size(bytes: &[u8]) -> Option<(u64, &[u8])>
         None
     } else {
         Some((size, rest))
-    }
-}
-
-/// The bytes after the first one, if it is this one.
-#[inline(always)]
-pub fn after_byte(bytes: &[u8], byte: u8) -> Option<&[u8]>
-    ensures some { IfSome result (λ rest. bytes.now ≡ byte ∷ rest.now) }
-    ensures none { IfNone result ((rest : List ℕ) → bytes.now ≢ byte ∷ rest) }
-{
-    match bytes {
-        [first, rest @ ..] if *first == byte => Some(rest),
-        _ => None,
     }
 }
 

@@ -4,4 +4,4 @@ use Rattle.tz_query.proofs.query.numbers.read_i64.Goals as goal
 
 pub returns-clause-none : goal.returns-clause-none
 returns-clause-none c =
-    IfNone-weaker c.read_number.result (no_part_without_number c.args.bytes.now c.in_ok-number.number.now c.in_ok-number.ensures.some) c.read_number.ensures.none
+    IfNone-weaker c.read_number.result (no_part_without_number c.args.bytes.now c.in_ok-number.number.now c.in_ok-number.ensures) c.read_number.ensures.none
