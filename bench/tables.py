@@ -87,16 +87,27 @@ def days_of(names, kept):
     return [min((days[name] for name in names if name in days), default='no day') for days in made]
 
 
+def of_zones(versions):
+    """The versions of the zones' files, by library where they differ."""
+    named = {}
+    for name, version in versions.items():
+        named.setdefault(version, []).append(name)
+    if len(named) == 1:
+        return f'Zones are those of tzdata {next(iter(named))}.'
+    return 'Zones are those of ' + ', '.join(f'tzdata {version} for {" and ".join(names)}' for version, names in named.items()) + '.'
+
+
 def of_versions(kept):
     """What was measured, and when."""
-    version = {name: row['version'] for name, row in kept.rows('versions').items()}
+    version = {name: row['version'] for name, row in kept.rows('versions').items() if name != 'tzdata'}
+    zones = of_zones(kept.rows('versions')['tzdata'])
     days = days_of(['tz'], kept) + days_of(PEERS, kept)
     shown = 'Lines were counted, calls were, and times were taken on {}, {} and {} for tz, and on {}, {} and {} for the others.'.format(*days)
     if len(set(days)) == 1:
         shown = f'All was measured on {days[0]}.'
     text = (f'The peers are tz-rs {version["tz-rs"]}, then glibc {version["glibc"]}, Abseil {version["Abseil"]}, cctz {version["cctz"]}, Hinnant\'s date '
             f'{version["date"]}, chrono-tz {version["chrono-tz"]} and Go {version["Go"]} as packaged in Debian {version["Debian"]}, and the Rattle kit\'s port of jiff '
-            f'0.2.39. Zones are those of tzdata {version["tzdata"]}. {shown}')
+            f'0.2.39. {zones} {shown}')
     return textwrap.fill(text, COLUMNS, break_on_hyphens=False)
 
 
