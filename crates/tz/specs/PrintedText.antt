@@ -1,8 +1,9 @@
 -- How a date time is printed: ISO 8601-1, sections 5.4.2 (extended format, nine decimal digits) and 5.3.4 (UTC and offsets from it), with the year
 -- as long as it is, and the seconds of an offset where there are any.
-use Rattle.std.specs.Prelude.{ℕ, zero, suc, ◌+◌, ◌/◌, ◌%◌, ◌==◌, nat_lt, if◌then◌else◌, ℤ, pos, negsuc, List, [], ◌∷◌, ◌++◌}
+use Rattle.std.specs.Prelude.{ℕ, zero, suc, ◌+◌, ◌/◌, ◌%◌, ◌==◌, nat_lt, if◌then◌else◌, ℤ, pos, negsuc, List, [], ◌∷◌, ◌++◌, unwrap_or}
 use Rattle.std.specs.Fmt.{decimal, signed_decimal}
 use Rattle.tz_base.specs.declared.fields.Fields.{Fields}
+use Rattle.tz_rule.specs.LocalTimeType.{LocalTimeType}
 
 -- the last digits of a number, as many as the width says
 abbrev pub last_digits : ℕ → ℕ → List ℕ
@@ -48,3 +49,11 @@ middle_text f = 45 ∷ two_digits f.month ++ (45 ∷ two_digits f.month_day ++ (
 -- the date, `T`, the time, and the offset from UTC
 unfoldable pub printed_text : Fields → ℤ → List ℕ
 printed_text f offset = date_text f ++ (84 ∷ time_text f ++ offset_text offset)
+
+-- the name of a type, or `-`
+abbrev pub type_name_text : LocalTimeType → List ℕ
+type_name_text t = unwrap_or t.designation (45 ∷ [])
+
+-- what a line has behind the nanoseconds: the offset, a space, the name of the type, and LF
+unfoldable pub suffix_text : LocalTimeType → List ℕ
+suffix_text t = offset_text t.ut_offset ++ (32 ∷ type_name_text t ++ 10 ∷ [])

@@ -5,6 +5,7 @@ pub use crate::datetime::find::find_fields;
 pub use crate::datetime::resolution::Resolution;
 pub use crate::datetime::resolve::{once, resolve_window, window_of};
 pub use crate::printed::middle_of;
+pub use crate::suffixes::{Suffix, Suffixes};
 pub use crate::text::{TextBuffer, two_pairs};
 pub use tz_base::fields::{Fields, is_reading};
 pub use tz_zone::inner::{after_byte, read_to_end};

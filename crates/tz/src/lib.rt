@@ -48,6 +48,7 @@ pub mod datetime;
 pub mod inner;
 pub mod laws;
 mod printed;
+mod suffixes;
 mod text;
 mod tz_string;
 

@@ -16,13 +16,13 @@ use Rattle.tz_zone.specs.Table.{Zone}
 use Rattle.tz_zone.specs.Clock.{IsClock}
 use Rattle.tz.specs.DateTimes.{DateTime}
 use Rattle.tz.specs.Found.{IsFoundBy}
-use Rattle.tz.specs.PrintedText.{last_digits, two_digits, nine_digits, two_digits_or_more, date_text, time_text, seconds_text, duration_text, offset_text, printed_text}
+use Rattle.tz.specs.PrintedText.{last_digits, two_digits, nine_digits, two_digits_or_more, date_text, time_text, seconds_text, duration_text, offset_text, printed_text, type_name_text}
 use Rattle.tz.specs.declared.datetime.found.FoundDateTimeKind.{FoundDateTimeKind}
 use Rattle.tz.specs.declared.datetime.found.FoundDateTimeKind.TheVariants.{Normal, Skipped}
 use Rattle.tz_query.specs.Lines.{line_feed, IsLine}
 use Rattle.tz_query.specs.Numbers.{hyphen}
 use Rattle.tz_query.specs.Queries.{Time, Search, Meeting}
-use Rattle.tz_query.specs.Answers.{name_text, moment_text, field_fault_text, IsFaultText, entry_text, IsTimeAnswer, IsSearchAnswer, IsWeekAnswer, AreWeekAnswers, IsAnswer, IsSingle}
+use Rattle.tz_query.specs.Answers.{moment_text, field_fault_text, IsFaultText, entry_text, IsTimeAnswer, IsSearchAnswer, IsWeekAnswer, AreWeekAnswers, IsAnswer, IsSingle}
 
 -- digits
 abbrev IsDigit : ℕ → Type 0
@@ -145,7 +145,7 @@ name_of_line : (name : Option (List ℕ)) → IfSome name IsDesignation → IsLi
 name_of_line (Some name) is = λ k d within. name_byte (get_or name k d) (is.bytes_are k d within)
 name_of_line None is = above 45 [] (omega arith) nothing
 
-name_line : (t : LocalTimeType) → IsLocalTimeType t → IsLine (name_text t)
+name_line : (t : LocalTimeType) → IsLocalTimeType t → IsLine (type_name_text t)
 name_line t is = name_of_line t.designation is.designation_is
 
 moment_line : (d : DateTime) → IsLocalTimeType d.local_time_type → IsLine (moment_text d)

@@ -7,9 +7,8 @@ use Rattle.std.proofs.lemmas.Slice.{take-put_mid}
 use Rattle.tz_base.specs.declared.fields.Fields.{Fields}
 use Rattle.tz_base.specs.Fields.{IsCivil, IsValid}
 use Rattle.tz_rule.specs.LocalTimeType.{LocalTimeType}
-use Rattle.tz.specs.PrintedText.{two_digits, nine_digits, date_text, time_text, middle_text, offset_text, printed_text}
-use Rattle.tz_query.specs.Answers.{name_text, moment_text}
-use Rattle.tz_query.specs.Pages.{suffix_text}
+use Rattle.tz.specs.PrintedText.{two_digits, nine_digits, date_text, time_text, middle_text, offset_text, printed_text, type_name_text, suffix_text}
+use Rattle.tz_query.specs.Answers.{moment_text}
 use borrow.Rule.Slice.PartMut.{put_mid}
 
 -- the year, what stands between it and the nanoseconds, these and the suffix make the line
@@ -21,7 +20,7 @@ line_text f n t u =
     let date = date_text f in
     let offset = offset_text t.ut_offset in
     let time = time_text (record f { nanoseconds = n }) in
-    let name = 32 ∷ name_text t in
+    let name = 32 ∷ type_name_text t in
     sym (ap (λ line. line ++ 10 ∷ []) (append_assoc date (84 ∷ time ++ offset) name)
     ∙ append_assoc date ((84 ∷ time ++ offset) ++ name) (10 ∷ [])
     ∙ ap (λ line. date ++ (84 ∷ time ++ line)) (append_assoc offset name (10 ∷ []))

@@ -1,5 +1,5 @@
 -- The answers of query lines.
-use Rattle.std.specs.Prelude.{◌≡◌, ◌≢◌, ℕ, ◌+◌, ⊤, ◌⊎◌, ℤ, List, [], ◌∷◌, ◌++◌, length, map, codes, unwrap_or}
+use Rattle.std.specs.Prelude.{◌≡◌, ◌≢◌, ℕ, ◌+◌, ⊤, ◌⊎◌, ℤ, List, [], ◌∷◌, ◌++◌, length, map, codes}
 use Rattle.std.specs.Fmt.{decimal}
 use Rattle.std.specs.List.{All, AllZip, flat_map}
 use Rattle.tz_base.specs.Fields.{IsFirstFault, IsValid, IsReading, reading}
@@ -8,27 +8,22 @@ use Rattle.tz_base.specs.declared.error.TzError.{TzError}
 use Rattle.tz_base.specs.declared.error.TzError.TheVariants.{DateTime as FieldFault, OutOfRange, NoAvailableLocalTimeType}
 use Rattle.tz_base.specs.declared.error.datetime.DateTimeError.{DateTimeError}
 use Rattle.tz_base.specs.declared.error.datetime.DateTimeError.TheVariants.{InvalidMonth, InvalidMonthDay, InvalidHour, InvalidMinute, InvalidSecond, InvalidNanoseconds}
-use Rattle.tz_rule.specs.LocalTimeType.{LocalTimeType}
 use Rattle.tz_zone.specs.Clock.{IsClock}
 use Rattle.tz_zone.specs.Table.{Zone}
 use Rattle.tz.specs.DateTimes.{DateTime, ShowsByClock, IsClockFault}
 use Rattle.tz.specs.FindFaults.{IsFindFault}
 use Rattle.tz.specs.Found.{EachCanBeMade, IsFound}
-use Rattle.tz.specs.PrintedText.{printed_text}
+use Rattle.tz.specs.PrintedText.{printed_text, type_name_text}
 use Rattle.tz.specs.declared.datetime.found.FoundDateTimeKind.{FoundDateTimeKind}
 use Rattle.tz.specs.declared.datetime.found.FoundDateTimeKind.TheVariants.{Normal, Skipped}
 use Rattle.tz_query.specs.Lines.{AreLines, ended}
-use Rattle.tz_query.specs.Numbers.{hyphen, space}
+use Rattle.tz_query.specs.Numbers.{space}
 use Rattle.tz_query.specs.Queries.{Query, Time, Search, Meeting, IsQueryLine}
 use Rattle.tz_query.specs.MeetingDates.{IsInYears, IsWeekOf, day_after}
 
--- the name of a type, or `-`
-abbrev pub name_text : LocalTimeType → List ℕ
-name_text t = unwrap_or t.designation (hyphen ∷ [])
-
 -- a date time and the name of its type
 unfoldable pub moment_text : DateTime → List ℕ
-moment_text d = printed_text d.fields d.local_time_type.ut_offset ++ space ∷ name_text d.local_time_type
+moment_text d = printed_text d.fields d.local_time_type.ut_offset ++ space ∷ type_name_text d.local_time_type
 
 -- a refused field has its variant's name
 abbrev pub field_fault_text : DateTimeError → List ℕ

@@ -1,12 +1,6 @@
--- A page of answers, and what follows the nanoseconds on a printed line.
-use Rattle.std.specs.Prelude.{◌≡◌, ℕ, ◌+◌, ◌<◌, ◌≤◌, List, [], ◌∷◌, ◌++◌, length}
-use Rattle.tz_rule.specs.LocalTimeType.{LocalTimeType}
-use Rattle.tz.specs.PrintedText.{nine_digits, offset_text}
-use Rattle.tz_query.specs.Answers.{name_text}
-
--- the offset, the name, and LF
-unfoldable pub suffix_text : LocalTimeType → List ℕ
-suffix_text t = offset_text t.ut_offset ++ (32 ∷ name_text t ++ 10 ∷ [])
+-- A page of answers.
+use Rattle.std.specs.Prelude.{◌≡◌, ℕ, ◌+◌, ◌<◌, ◌≤◌, List, length}
+use Rattle.tz.specs.PrintedText.{nine_digits}
 
 -- the nine digits of nanoseconds
 abbrev pub AreDigitsOf : ℕ → List ℕ → Type 0

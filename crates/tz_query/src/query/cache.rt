@@ -1,8 +1,6 @@
 //! What the lines over a zone share.
 
-use super::suffix::Suffix;
-use super::suffixes::Suffixes;
-use tz::inner::{Resolution, once, resolve_window, window_of};
+use tz::inner::{Resolution, Suffix, Suffixes, once, resolve_window, window_of};
 use tz::{LocalTimeType, TimeZoneRef};
 
 /// 30 days in seconds: lines whose instants are less than this apart are taken as lines in order.

@@ -10,9 +10,8 @@ ghost use Rattle.tz_query.specs.Pages.{AreDigitsOf, HasRoomFor};
 
 use super::moments::push_moment;
 use super::page::Page;
-use super::suffixes::Suffixes;
 use tz::LocalTimeType;
-use tz::inner::Fields;
+use tz::inner::{Fields, Suffixes};
 
 /// Appends the line of fields that a type shows, behind what stands before it.
 #[inline(always)]

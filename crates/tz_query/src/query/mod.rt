@@ -12,8 +12,6 @@ mod page;
 mod program;
 mod search_answers;
 mod streams;
-mod suffix;
-mod suffixes;
 mod time_answers;
 mod tzif;
 mod week_answers;

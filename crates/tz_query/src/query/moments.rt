@@ -9,8 +9,7 @@ ghost use Rattle.tz_query.specs.Lines.{line_feed};
 ghost use Rattle.tz_query.specs.Pages.{AreDigitsOf, HasRoomFor};
 
 use super::page::Page;
-use super::suffix::Suffix;
-use tz::inner::{Fields, TextBuffer, middle_of, two_pairs};
+use tz::inner::{Fields, Suffix, TextBuffer, middle_of, two_pairs};
 
 /// Appends a year of any number of digits.
 #[inline(never)]

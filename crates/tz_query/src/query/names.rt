@@ -1,26 +1,10 @@
-//! The names of types and errors in answers.
+//! The names of errors in answers.
 
-ghost use Rattle.std.specs.Prelude.{◌≡◌, ◌+◌, ◌≤◌, ◌++◌, ℕ, List, [], length, codes};
-ghost use Rattle.tz_query.specs.Answers.{name_text, field_fault_text, IsFaultText};
+ghost use Rattle.std.specs.Prelude.{◌≡◌, ◌≤◌, ℕ, List, length};
+ghost use Rattle.tz_query.specs.Answers.{field_fault_text, IsFaultText};
 
+use tz::TzError;
 use tz::error::datetime::DateTimeError;
-use tz::inner::TextBuffer;
-use tz::{LocalTimeType, TzError};
-
-/// Appends the name of a type, or `-` where it has none.
-#[inline]
-pub(super) fn push_name(line: &mut TextBuffer, local_time_type: &LocalTimeType)
-    requires { length line.old + 7 ≤ 128 }
-    ensures text { line.new ≡ line.old ++ name_text local_time_type.now }
-    ensures len { length line.new ≤ length line.old + 7 }
-{
-    let name = local_time_type.time_zone_designation();
-    if name.is_empty() {
-        line.push(b'-');
-    } else {
-        line.push_str(name);
-    }
-}
 
 /// The name of an error in fields.
 pub(super) fn field_fault_name(fault: &DateTimeError) -> &'static str

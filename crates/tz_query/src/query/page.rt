@@ -1,10 +1,11 @@
 //! A page of answers, onto which they are written in pieces of fixed length.
 
 ghost use Rattle.std.specs.Prelude.{◌≡◌, ◌+◌, ◌<◌, ◌≤◌, ℕ, List, [], ◌∷◌, ◌++◌, length, MatchBool};
-ghost use Rattle.tz_query.specs.Pages.{suffix_text, HasRoom, HasRoomFor};
+ghost use Rattle.tz.specs.PrintedText.{suffix_text};
+ghost use Rattle.tz_query.specs.Pages.{HasRoom, HasRoomFor};
 
-use super::suffix::Suffix;
 use std::marker::Model;
+use tz::inner::Suffix;
 
 /// How many bytes a page holds.
 const SIZE: usize = 2040;

@@ -23,11 +23,10 @@ use super::entries::{push_shown, push_skipped};
 use super::names::field_fault_name;
 use super::numbers::{number_of_nine, write_nanoseconds};
 use super::output::Output;
-use super::suffixes::Suffixes;
 use super::time_answers::shown_fields;
 use std::alloc::{AllocError, Allocator};
 use tz::datetime::FoundDateTimeKind;
-use tz::inner::{self, Fields, Resolution, fields_of};
+use tz::inner::{self, Fields, Resolution, Suffixes, fields_of};
 use tz::{LocalTimeType, TimeZoneRef, TzError};
 
 /// Writes the line of what was found once.

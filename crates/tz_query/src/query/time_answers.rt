@@ -17,11 +17,10 @@ use super::moments::push_moment;
 use super::names::fault_name;
 use super::numbers::write_nanoseconds;
 use super::output::Output;
-use super::suffix::Suffix;
 use std::alloc::{AllocError, Allocator};
 use tz::TimeZoneRef;
 use tz::constants::NANOSECONDS_PER_SECOND;
-use tz::inner::{Fields, local_reading};
+use tz::inner::{Fields, Suffix, local_reading};
 
 /// What a clock with this offset from UTC shows at a Unix time, if its year is one of 32 bits.
 #[inline(always)]

@@ -4,8 +4,7 @@ use Rattle.std.specs.Fmt.{signed_decimal}
 use Rattle.std.proofs.lemmas.Int.{to_z-of_z}
 use mir.Syntax.{w32}
 use mir.Val.{SFits}
-use Rattle.tz.specs.PrintedText.{middle_text}
-use Rattle.tz_query.specs.Pages.{suffix_text}
+use Rattle.tz.specs.PrintedText.{middle_text, suffix_text}
 use Rattle.tz_query.proofs.PageLines.{line_text}
 use Rattle.tz_query.proofs.query.moments.push_moment.Goals as goal
 
