@@ -23,3 +23,4 @@ pub mod FoundOnce
 pub mod FoundAtJump
 pub mod JumpResolutions
 pub mod EntriesTaken
+pub mod UniqueResults

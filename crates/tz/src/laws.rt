@@ -8,10 +8,11 @@ ghost use Rattle.std.specs.Int.{w32};
 ghost use Rattle.std.specs.Ordering.{int_cmp};
 ghost use Rattle.std.specs.declared.cmp.Ordering.TheVariants.{Equal, Less};
 ghost use Rattle.std.specs.declared.time.Duration.{Duration};
-ghost use Rattle.tz_base.specs.Fields.{IsCivil, IsValid, reading};
+ghost use Rattle.tz_base.specs.Fields.{IsCivil, IsFirstFault, IsReading, IsValid, reading};
 ghost use Rattle.tz_base.specs.declared.fields.Fields.{Fields};
 ghost use Rattle.tz_base.specs.declared.error.TzError.{TzError};
 ghost use Rattle.tz_base.specs.declared.error.TzError.TheVariants.{Memory};
+ghost use Rattle.tz_base.specs.declared.error.datetime.DateTimeError.{DateTimeError};
 ghost use Rattle.tz_rule.specs.LocalTimeType.{LocalTimeType};
 ghost use Rattle.tz_zone.specs.Clock.{IsClock};
 ghost use Rattle.tz_zone.specs.Table.{Zone};
@@ -21,7 +22,7 @@ ghost use Rattle.tz.specs.Windows.{IsWindow, TakesEffectIn, AreRising, AtMostTak
 ghost use Rattle.tz.specs.declared.datetime.found.FoundDateTimeKind.{FoundDateTimeKind};
 ghost use Rattle.tz.specs.declared.datetime.found.FoundDateTimeKind.TheVariants.{Normal as normal};
 ghost use Rattle.tz.specs.contracts.datetime.utc_date_time.UtcDateTimeOrd.TheImpl as utc_order;
-ghost use Rattle.tz.specs.DateTimes.{DateTime, IsDateTime, IsUtc, IsUtcAt, IsShowFault, IsForwards, IsBackwards, ShowsByClock, utc_total, total_of, moment_eq, moment_cmp};
+ghost use Rattle.tz.specs.DateTimes.{DateTime, IsDateTime, IsUtc, IsUtcAt, IsShowFault, IsClockFault, IsForwards, IsBackwards, ShowsByClock, utc_total, total_of, moment_eq, moment_cmp};
 
 use crate::DateTime;
 
@@ -58,9 +59,29 @@ pub fn order_of_utc_date_times()
     ensures { (a b : Fields) → IsUtc a → IsUtc b → a.second < 60 → b.second < 60 → (utc_order.ghosts).cmp a b ≡ int_cmp (utc_total a) (utc_total b) }
 {}
 
+/// [`crate::DateTime::from_timespec`] has one result for a zone and an instant: one date time, or one error if there is none.
+pub fn lookups_have_one_result()
+    ensures shown { (z : Zone) (u : ℤ) (nanoseconds : ℕ) (d e : DateTime) → ShowsByClock z u nanoseconds d → ShowsByClock z u nanoseconds e → d ≡ e }
+    ensures refused { (z : Zone) (u : ℤ) (nanoseconds : ℕ) (e e' : TzError) → IsClockFault z u nanoseconds e → IsClockFault z u nanoseconds e' → e ≡ e' }
+    ensures either { (z : Zone) (u : ℤ) (nanoseconds : ℕ) (d : DateTime) (e : TzError) → ShowsByClock z u nanoseconds d → IsReading (reading d.fields)
+        → ¬ IsClockFault z u nanoseconds e }
+{}
+
+/// Fields have one first error, and none if they are valid.
+pub fn field_errors_are_unique()
+    ensures first { (f : Fields) (a b : DateTimeError) → IsFirstFault f a → IsFirstFault f b → a ≡ b }
+    ensures either { (f : Fields) (a : DateTimeError) → IsValid f → ¬ IsFirstFault f a }
+{}
+
 /// What [`crate::DateTime::find`] finds of fields is one list, whatever the search.
 pub fn found_lists_are_unique()
     ensures { (z : Zone) (f : Fields) (found others : List FoundDateTimeKind) → IsFound (IsClock z) f found → IsFound (IsClock z) f others → found ≡ others }
+{}
+
+/// [`crate::DateTime::find`] has one error if it fails for fields and a zone, and none if each entry of its list can be made, apart from `Memory`.
+pub fn search_errors_are_unique()
+    ensures refused { (z : Zone) (f : Fields) (e e' : TzError) → IsFindFault ⊥ (IsClock z) f e → IsFindFault ⊥ (IsClock z) f e' → e ≡ e' }
+    ensures either { (z : Zone) (f : Fields) (e : TzError) → IsValid f → EachCanBeMade (IsClock z) f → ¬ IsFindFault ⊥ (IsClock z) f e }
 {}
 
 /// No local time is lost: where the clock has a type at each instant of a reading's window, it shows the reading there or is set forward over it.

@@ -1,0 +1,119 @@
+-- A lookup has one result, and a search has one error.
+use Rattle.std.proofs.Common.{◌≡◌, ℕ, inl, inr, ℤ, ◌+ℤ◌, refl, sym, ap, ◌∙◌, subst, arith}
+use Rattle.std.proofs.lemmas.Int.{ints}
+use Rattle.tz_base.specs.declared.fields.Fields.{Fields}
+use Rattle.tz_base.specs.declared.error.TzError.{TzError}
+use Rattle.tz_base.specs.declared.error.TzError.TheVariants.{DateTime as FieldFault}
+use Rattle.tz_base.specs.declared.error.datetime.DateTimeError.{DateTimeError}
+use Rattle.tz_base.specs.declared.error.datetime.DateTimeError.TheVariants.{InvalidMonth, InvalidMonthDay, InvalidHour, InvalidMinute, InvalidSecond, InvalidNanoseconds}
+use Rattle.tz_base.specs.Fields.{IsFirstFault, IsReading, IsValid, reading}
+use Rattle.tz_rule.specs.LocalTimeType.{LocalTimeType}
+use Rattle.tz_zone.specs.Table.{Transition, Zone}
+use Rattle.tz_zone.specs.Clock.{IsClock, IsOver, IsTypeAfter}
+use Rattle.tz_zone.proofs.Clocks.{last_unique, one_type, some_from_last}
+use Rattle.tz_zone.proofs.LeapTimes.{one_leap_time}
+use Rattle.tz.specs.DateTimes.{DateTime, ShowsByClock, ShowsInstant, IsClockFault}
+use Rattle.tz.specs.FindFaults.{IsFindFault}
+use Rattle.tz.specs.Found.{EachCanBeMade}
+use Rattle.tz.proofs.PromisedLists.{not_out_of_range, valid_without_fault}
+use Rattle.tz.proofs.WalkSteps.{side_unique}
+
+module _ (z : Zone) (u : ℤ) (n : ℕ) where
+  -- a zone that is over has no type
+  no_type_when_over : IsOver z u → (t : LocalTimeType) → ¬ IsClock z u t
+  no_type_when_over (last, l, is_last, leap, from, none) t (inl (without, type)) = some_from_last z.transitions last is_last without
+  no_type_when_over (last, l, is_last, leap, from, none) t (inr (last', is_last', (l', leap', inl (before, type)))) =
+      omega (arith, ints, from, before, one_leap_time z.leap_seconds u l l' leap leap', ap (λ (c : Transition). c.unix_leap_time) (last_unique z.transitions last last' is_last is_last'))
+  no_type_when_over (last, l, is_last, leap, from, none) t (inr (last', is_last', (l', leap', inr (from', type)))) =
+      subst (λ rule. IsTypeAfter rule u t) none type
+
+  pub clock_fault_unique : (e e' : TzError) → IsClockFault z u n e → IsClockFault z u n e' → e ≡ e'
+  clock_fault_unique e e' (inl (is, many)) (inl (is', many')) = is ∙ sym is'
+  clock_fault_unique e e' (inl (is, many)) (inr (inl (few, fault))) = absurd (omega (arith, many, few))
+  clock_fault_unique e e' (inl (is, many)) (inr (inr (is', few, out))) = absurd (omega (arith, many, few))
+  clock_fault_unique e e' (inr (inl (few, fault))) (inl (is', many)) = absurd (omega (arith, many, few))
+  clock_fault_unique e e' (inr (inl (few, inl (is, over)))) (inr (inl (few', inl (is', over')))) = is ∙ sym is'
+  clock_fault_unique e e' (inr (inl (few, inl (is, over)))) (inr (inl (few', inr (is', none, not_over)))) = absurd (not_over over)
+  clock_fault_unique e e' (inr (inl (few, inr (is, none, not_over)))) (inr (inl (few', inl (is', over)))) = absurd (not_over over)
+  clock_fault_unique e e' (inr (inl (few, inr (is, none, not_over)))) (inr (inl (few', inr (is', none', not_over')))) = is ∙ sym is'
+  clock_fault_unique e e' (inr (inl (few, inl (is, over)))) (inr (inr (is', few', (t, clock, out)))) = absurd (no_type_when_over over t clock)
+  clock_fault_unique e e' (inr (inl (few, inr (is, none, not_over)))) (inr (inr (is', few', out))) = is ∙ sym is'
+  clock_fault_unique e e' (inr (inr (is, few, out))) (inl (is', many)) = absurd (omega (arith, many, few))
+  clock_fault_unique e e' (inr (inr (is, few, (t, clock, out)))) (inr (inl (few', inl (is', over)))) = absurd (no_type_when_over over t clock)
+  clock_fault_unique e e' (inr (inr (is, few, out))) (inr (inl (few', inr (is', none, not_over)))) = is ∙ sym is'
+  clock_fault_unique e e' (inr (inr (is, few, out))) (inr (inr (is', few', out'))) = is ∙ sym is'
+
+  -- where the clock shows a date time there is no refusal
+  pub no_fault_where_shown : (d : DateTime) (e : TzError) → ShowsByClock z u n d → IsReading (reading d.fields) → ¬ IsClockFault z u n e
+  no_fault_where_shown d e (t, clock, shows) in_range (inl (is, many)) = omega (arith, many, shows.civil.valid.in_range.nanoseconds, shows.civil.nanoseconds_are)
+  no_fault_where_shown d e (t, clock, shows) in_range (inr (inl (few, inl (is, over)))) = no_type_when_over over t clock
+  no_fault_where_shown d e (t, clock, shows) in_range (inr (inl (few, inr (is, none, not_over)))) = none t clock
+  no_fault_where_shown d e (t, clock, shows) in_range (inr (inr (is, few, (t', clock', out)))) =
+      out (subst IsReading (shows.civil.reads ∙ ap (λ x. u +ℤ x.ut_offset) (one_type z u t t' clock clock')) in_range)
+
+  -- the clock shows one date time
+  pub shown_unique : (d d' : DateTime) → ShowsByClock z u n d → ShowsByClock z u n d' → d ≡ d'
+  shown_unique d d' (t, clock, shows) (t', clock', shows') =
+      side_unique u n t d d' shows (subst (λ (x : LocalTimeType). ShowsInstant u n x d') (one_type z u t' t clock' clock) shows')
+
+-- fields have one first fault
+pub first_fault_unique : (f : Fields) (a b : DateTimeError) → IsFirstFault f a → IsFirstFault f b → a ≡ b
+first_fault_unique f InvalidMonth InvalidMonth is is' = refl
+first_fault_unique f InvalidMonth InvalidMonthDay is is' = absurd (is is'.0)
+first_fault_unique f InvalidMonth InvalidHour is is' = absurd (is is'.0)
+first_fault_unique f InvalidMonth InvalidMinute is is' = absurd (is is'.0)
+first_fault_unique f InvalidMonth InvalidSecond is is' = absurd (is is'.0)
+first_fault_unique f InvalidMonth InvalidNanoseconds is is' = absurd (is is'.0)
+first_fault_unique f InvalidMonthDay InvalidMonth is is' = absurd (is' is.0)
+first_fault_unique f InvalidMonthDay InvalidMonthDay is is' = refl
+first_fault_unique f InvalidMonthDay InvalidHour (month, inl day) is' = absurd (day is'.1)
+first_fault_unique f InvalidMonthDay InvalidHour (month, inr (range, past)) is' = absurd (omega (arith, range.hour, is'.2))
+first_fault_unique f InvalidMonthDay InvalidMinute (month, inl day) is' = absurd (day is'.1)
+first_fault_unique f InvalidMonthDay InvalidMinute (month, inr (range, past)) is' = absurd (omega (arith, range.minute, is'.3))
+first_fault_unique f InvalidMonthDay InvalidSecond (month, inl day) is' = absurd (day is'.1)
+first_fault_unique f InvalidMonthDay InvalidSecond (month, inr (range, past)) is' = absurd (omega (arith, range.second, is'.4))
+first_fault_unique f InvalidMonthDay InvalidNanoseconds (month, inl day) is' = absurd (day is'.1)
+first_fault_unique f InvalidMonthDay InvalidNanoseconds (month, inr (range, past)) is' = absurd (omega (arith, range.nanoseconds, is'.5))
+first_fault_unique f InvalidHour InvalidMonth is is' = absurd (is' is.0)
+first_fault_unique f InvalidHour InvalidMonthDay is (month, inl day) = absurd (day is.1)
+first_fault_unique f InvalidHour InvalidMonthDay is (month, inr (range, past)) = absurd (omega (arith, range.hour, is.2))
+first_fault_unique f InvalidHour InvalidHour is is' = refl
+first_fault_unique f InvalidHour InvalidMinute is is' = absurd (omega (arith, is.2, is'.2))
+first_fault_unique f InvalidHour InvalidSecond is is' = absurd (omega (arith, is.2, is'.2))
+first_fault_unique f InvalidHour InvalidNanoseconds is is' = absurd (omega (arith, is.2, is'.2))
+first_fault_unique f InvalidMinute InvalidMonth is is' = absurd (is' is.0)
+first_fault_unique f InvalidMinute InvalidMonthDay is (month, inl day) = absurd (day is.1)
+first_fault_unique f InvalidMinute InvalidMonthDay is (month, inr (range, past)) = absurd (omega (arith, range.minute, is.3))
+first_fault_unique f InvalidMinute InvalidHour is is' = absurd (omega (arith, is'.2, is.2))
+first_fault_unique f InvalidMinute InvalidMinute is is' = refl
+first_fault_unique f InvalidMinute InvalidSecond is is' = absurd (omega (arith, is.3, is'.3))
+first_fault_unique f InvalidMinute InvalidNanoseconds is is' = absurd (omega (arith, is.3, is'.3))
+first_fault_unique f InvalidSecond InvalidMonth is is' = absurd (is' is.0)
+first_fault_unique f InvalidSecond InvalidMonthDay is (month, inl day) = absurd (day is.1)
+first_fault_unique f InvalidSecond InvalidMonthDay is (month, inr (range, past)) = absurd (omega (arith, range.second, is.4))
+first_fault_unique f InvalidSecond InvalidHour is is' = absurd (omega (arith, is'.2, is.2))
+first_fault_unique f InvalidSecond InvalidMinute is is' = absurd (omega (arith, is'.3, is.3))
+first_fault_unique f InvalidSecond InvalidSecond is is' = refl
+first_fault_unique f InvalidSecond InvalidNanoseconds is is' = absurd (omega (arith, is.4, is'.4))
+first_fault_unique f InvalidNanoseconds InvalidMonth is is' = absurd (is' is.0)
+first_fault_unique f InvalidNanoseconds InvalidMonthDay is (month, inl day) = absurd (day is.1)
+first_fault_unique f InvalidNanoseconds InvalidMonthDay is (month, inr (range, past)) = absurd (omega (arith, range.nanoseconds, is.5))
+first_fault_unique f InvalidNanoseconds InvalidHour is is' = absurd (omega (arith, is'.2, is.2))
+first_fault_unique f InvalidNanoseconds InvalidMinute is is' = absurd (omega (arith, is'.3, is.3))
+first_fault_unique f InvalidNanoseconds InvalidSecond is is' = absurd (omega (arith, is'.4, is.4))
+first_fault_unique f InvalidNanoseconds InvalidNanoseconds is is' = refl
+
+-- why a search is refused, an allocation failure aside, is one reason where it is not both
+pub search_fault_unique : (z : Zone) (f : Fields) (e e' : TzError) → IsFindFault ⊥ (IsClock z) f e → IsFindFault ⊥ (IsClock z) f e' → e ≡ e'
+search_fault_unique z f e e' (inl (a, is, first)) (inl (b, is', first')) = is ∙ ap (λ x. FieldFault x) (first_fault_unique f a b first first') ∙ sym is'
+search_fault_unique z f e e' (inl (a, is, first)) (inr (valid, fault)) = absurd (valid_without_fault f valid a first)
+search_fault_unique z f e e' (inr (valid, fault)) (inl (b, is, first)) = absurd (valid_without_fault f valid b first)
+search_fault_unique z f e e' (inr (valid, inl (is, none))) (inr fault) = absurd none
+search_fault_unique z f e e' (inr (valid, inr (is, near))) (inr (valid', inl (is', none))) = absurd none
+search_fault_unique z f e e' (inr (valid, inr (is, near))) (inr (valid', inr (is', near'))) = is ∙ sym is'
+
+-- where each entry can be made, valid fields have an answer that is no refusal
+pub no_fault_where_made : (z : Zone) (f : Fields) → IsValid f → EachCanBeMade (IsClock z) f → (e : TzError) → ¬ IsFindFault ⊥ (IsClock z) f e
+no_fault_where_made z f valid made e (inl (fault, is, first)) = valid_without_fault f valid fault first
+no_fault_where_made z f valid made e (inr (valid', inl (is, none))) = none
+no_fault_where_made z f valid made e (inr (valid', inr (is, one))) = not_out_of_range ⊥ (IsClock z) f (λ valid. made) e (inr (valid', inr (is, one))) is
