@@ -1,37 +1,30 @@
 -- Bytes have one cut into lines, a line has a group of answer lines, and one answer.
-use Rattle.std.proofs.Common.{◌≡◌, ◌≢◌, ℕ, ◌+◌, ◌⊎◌, inl, inr, ℤ, pos, negsuc, ◌+ℤ◌, List, [], ◌∷◌, ◌++◌, length, get_or, refl, sym, ap, ◌∙◌, subst, arith, append_assoc}
+use Rattle.std.proofs.Common.{◌≡◌, ◌≢◌, ℕ, ◌+◌, ◌≤◌, ◌⊎◌, inl, inr, Bool, true, false, if◌then◌else◌, ◌==◌, ℤ, pos, negsuc, List, [], ◌∷◌, ◌++◌, length, get_or, refl, sym, ap, ◌∙◌, subst, arith, append_assoc}
 use Rattle.std.specs.Prelude.{codes, map}
 use Rattle.std.specs.Fmt.{decimal}
 use Rattle.std.specs.List.{All, AllZip, flat_map}
 use Rattle.std.proofs.lemmas.Int.{ints}
 use Rattle.std.proofs.lemmas.List.{length-map}
 use Rattle.std.proofs.lemmas.List.Elements.{All-nil, All-cons, All-head, All-tail}
-use Rattle.tz_base.specs.Days.{IsDay}
+use Rattle.tz_base.specs.Days.{is_leap, month_length, IsDateOf}
 use Rattle.tz_base.specs.declared.fields.Fields.{Fields}
 use Rattle.tz_base.specs.declared.error.TzError.{TzError}
 use Rattle.tz_base.specs.declared.error.TzError.TheVariants.{DateTime as FieldFault, OutOfRange, NoAvailableLocalTimeType}
 use Rattle.tz_base.specs.declared.error.datetime.DateTimeError.{DateTimeError}
-use Rattle.tz_base.specs.declared.error.datetime.DateTimeError.TheVariants.{InvalidMonth, InvalidMonthDay, InvalidHour, InvalidMinute, InvalidSecond, InvalidNanoseconds}
 use Rattle.tz_base.specs.Fields.{IsCivil, IsFirstFault, IsReading, IsValid, reading}
-use Rattle.tz_base.proofs.DateOrder.{civil_unique, date_unique}
-use Rattle.tz_rule.specs.LocalTimeType.{LocalTimeType}
-use Rattle.tz_zone.specs.Table.{Transition, Zone}
-use Rattle.tz_zone.specs.Clock.{IsClock, IsOver, IsTypeAfter}
-use Rattle.tz_zone.proofs.Clocks.{last_unique, one_type, some_from_last}
-use Rattle.tz_zone.proofs.LeapTimes.{one_leap_time}
+use Rattle.tz_zone.specs.Table.{Zone}
+use Rattle.tz_zone.specs.Clock.{IsClock}
 use Rattle.tz.specs.DateTimes.{DateTime, ShowsByClock, IsClockFault}
 use Rattle.tz.specs.FindFaults.{IsFindFault}
 use Rattle.tz.specs.Found.{EachCanBeMade, IsFound}
 use Rattle.tz.specs.declared.datetime.found.FoundDateTimeKind.{FoundDateTimeKind}
-use Rattle.tz.proofs.PromisedLists.{not_out_of_range, valid_without_fault}
 use Rattle.tz_query.specs.Lines.{line_feed, IsLine, IsCut, AreLines, ended}
 use Rattle.tz_query.specs.Numbers.{AreNumbers}
 use Rattle.tz_query.specs.Queries.{time_letter, search_letter, meeting_letter, Query, Time, Search, Meeting, IsLineOf, IsQueryLine, numbers_of}
-use Rattle.tz_query.specs.MeetingDates.{IsWeekOf}
+use Rattle.tz_query.specs.MeetingDates.{IsWeekOf, day_after, midnight}
 use Rattle.tz_query.specs.Answers.{moment_text, entry_text, field_fault_text, found_lines, meeting_lines, IsFaultText, IsTimeAnswer, IsSearchAnswer, IsWeekAnswer, AreWeekAnswers, IsMeetingAnswer, IsQueryAnswer, IsAnswer, AreAnswers, IsSearchGroup, IsGroup}
 use Rattle.tz_query.proofs.AnswerLines.{no_lines}
 use Rattle.tz_query.proofs.AnswerTexts.{single_refusal, single_time_answer}
-use Rattle.tz.proofs.UniqueLists.{found_unique}
 use Rattle.tz_query.proofs.NumberFronts.{parts_in_front, parts_unique}
 
 -- a line has no LF
@@ -195,201 +188,126 @@ fault_text_unique OutOfRange text text' is is' = is ∙ sym is'
 fault_text_unique NoAvailableLocalTimeType text text' is is' = is ∙ sym is'
 fault_text_unique _ text text' is is' = absurd is
 
-module _ (z : Zone) (u : ℤ) (n : ℕ) where
-  -- a zone that is over has no type
-  no_type_when_over : IsOver z u → (t : LocalTimeType) → ¬ IsClock z u t
-  no_type_when_over (last, l, is_last, leap, from, none) t (inl (without, type)) = some_from_last z.transitions last is_last without
-  no_type_when_over (last, l, is_last, leap, from, none) t (inr (last', is_last', (l', leap', inl (before, type)))) =
-      omega (arith, ints, from, before, one_leap_time z.leap_seconds u l l' leap leap', ap (λ (c : Transition). c.unix_leap_time) (last_unique z.transitions last last' is_last is_last'))
-  no_type_when_over (last, l, is_last, leap, from, none) t (inr (last', is_last', (l', leap', inr (from', type)))) =
-      subst (λ rule. IsTypeAfter rule u t) none type
+-- what laws of `tz_base` and `tz` say: civil fields, lookups, errors of fields and searches are unique
+pub record Laws : Type 0 where
+  pub civil : (x : ℤ) (n : ℕ) (f g : Fields) → IsCivil x n f → IsCivil x n g → f ≡ g
+  pub shown : (z : Zone) (u : ℤ) (n : ℕ) (d e : DateTime) → ShowsByClock z u n d → ShowsByClock z u n e → d ≡ e
+  pub not_shown : (z : Zone) (u : ℤ) (n : ℕ) (e e' : TzError) → IsClockFault z u n e → IsClockFault z u n e' → e ≡ e'
+  pub shown_or_not : (z : Zone) (u : ℤ) (n : ℕ) (d : DateTime) (e : TzError) → ShowsByClock z u n d → IsReading (reading d.fields) → ¬ IsClockFault z u n e
+  pub first_fault : (f : Fields) (a b : DateTimeError) → IsFirstFault f a → IsFirstFault f b → a ≡ b
+  pub valid_or_fault : (f : Fields) (a : DateTimeError) → IsValid f → ¬ IsFirstFault f a
+  pub found : (z : Zone) (f : Fields) (found others : List FoundDateTimeKind) → IsFound (IsClock z) f found → IsFound (IsClock z) f others → found ≡ others
+  pub not_found : (z : Zone) (f : Fields) (e e' : TzError) → IsFindFault ⊥ (IsClock z) f e → IsFindFault ⊥ (IsClock z) f e' → e ≡ e'
+  pub found_or_not : (z : Zone) (f : Fields) (e : TzError) → IsValid f → EachCanBeMade (IsClock z) f → ¬ IsFindFault ⊥ (IsClock z) f e
 
-  fault_unique : (e e' : TzError) → IsClockFault z u n e → IsClockFault z u n e' → e ≡ e'
-  fault_unique e e' (inl (is, many)) (inl (is', many')) = is ∙ sym is'
-  fault_unique e e' (inl (is, many)) (inr (inl (few, fault))) = absurd (omega (arith, many, few))
-  fault_unique e e' (inl (is, many)) (inr (inr (is', few, out))) = absurd (omega (arith, many, few))
-  fault_unique e e' (inr (inl (few, fault))) (inl (is', many)) = absurd (omega (arith, many, few))
-  fault_unique e e' (inr (inl (few, inl (is, over)))) (inr (inl (few', inl (is', over')))) = is ∙ sym is'
-  fault_unique e e' (inr (inl (few, inl (is, over)))) (inr (inl (few', inr (is', none, not_over)))) = absurd (not_over over)
-  fault_unique e e' (inr (inl (few, inr (is, none, not_over)))) (inr (inl (few', inl (is', over)))) = absurd (not_over over)
-  fault_unique e e' (inr (inl (few, inr (is, none, not_over)))) (inr (inl (few', inr (is', none', not_over')))) = is ∙ sym is'
-  fault_unique e e' (inr (inl (few, inl (is, over)))) (inr (inr (is', few', (t, clock, out)))) = absurd (no_type_when_over over t clock)
-  fault_unique e e' (inr (inl (few, inr (is, none, not_over)))) (inr (inr (is', few', out))) = is ∙ sym is'
-  fault_unique e e' (inr (inr (is, few, out))) (inl (is', many)) = absurd (omega (arith, many, few))
-  fault_unique e e' (inr (inr (is, few, (t, clock, out)))) (inr (inl (few', inl (is', over)))) = absurd (no_type_when_over over t clock)
-  fault_unique e e' (inr (inr (is, few, out))) (inr (inl (few', inr (is', none, not_over)))) = is ∙ sym is'
-  fault_unique e e' (inr (inr (is, few, out))) (inr (inr (is', few', out'))) = is ∙ sym is'
+-- no month has more than 31 days
+either_short : (b : Bool) (x y : ℕ) → x ≤ 31 → y ≤ 31 → (if b then x else y) ≤ 31
+either_short true x y first second = first
+either_short false x y first second = second
 
-  -- where the clock shows a date time there is no refusal
-  no_fault : (d : DateTime) (e : TzError) → ShowsByClock z u n d → IsReading (reading d.fields) → ¬ IsClockFault z u n e
-  no_fault d e (t, clock, shows) in_range (inl (is, many)) = omega (arith, many, shows.civil.valid.in_range.nanoseconds, shows.civil.nanoseconds_are)
-  no_fault d e (t, clock, shows) in_range (inr (inl (few, inl (is, over)))) = no_type_when_over over t clock
-  no_fault d e (t, clock, shows) in_range (inr (inl (few, inr (is, none, not_over)))) = none t clock
-  no_fault d e (t, clock, shows) in_range (inr (inr (is, few, (t', clock', out)))) =
-      out (subst IsReading (shows.civil.reads ∙ ap (λ x. u +ℤ x.ut_offset) (one_type z u t t' clock clock')) in_range)
+short_month : (leap : Bool) (month : ℕ) → month_length leap month ≤ 31
+unfolding month_length
+short_month leap month =
+    either_short (month == 2) _ _ (either_short leap 29 28 (omega arith) (omega arith)) (either_short _ 30 31 (omega arith) (omega arith))
 
-  -- the clock shows one date time
-  moment_unique : (d d' : DateTime) → ShowsByClock z u n d → ShowsByClock z u n d' → moment_text d ≡ moment_text d'
-  unfolding moment_text
-  moment_unique d d' (t, clock, shows) (t', clock', shows') =
-      let same = one_type z u t t' clock clock' in
-      let fields : d.fields ≡ d'.fields = civil_unique (u +ℤ t.ut_offset) n d.fields d'.fields shows.civil (subst (λ x. IsCivil (u +ℤ x.ut_offset) n d'.fields) (sym same) shows'.civil) in
-      let type : d.local_time_type ≡ d'.local_time_type = shows.type_is ∙ same ∙ sym shows'.type_is in
-      rw (fields, type) refl
+-- the first fields of a day
+abbrev at_midnight : Fields → Fields
+at_midnight g = record { year = g.year; month = g.month; month_day = g.month_day; hour = 0; minute = 0; second = 0; nanoseconds = 0 }
 
-  time_answer_unique : (answer other : List ℕ) → IsTimeAnswer z u n answer → IsTimeAnswer z u n other → answer ≡ other
-  time_answer_unique answer other (inl (d, shows, in_range, same)) (inl (d', shows', in_range', same')) = same ∙ moment_unique d d' shows shows' ∙ sym same'
-  time_answer_unique answer other (inl (d, shows, in_range, same)) (inr (e, text, fault, is, same')) = absurd (no_fault d e shows in_range fault)
-  time_answer_unique answer other (inr (e, text, fault, is, same)) (inl (d, shows, in_range, same')) = absurd (no_fault d e shows in_range fault)
-  time_answer_unique answer other (inr (e, text, fault, is, same)) (inr (e', text', fault', is', same')) =
-      let one = fault_text_unique e text text' is (subst (λ x. IsFaultText x text') (sym (fault_unique e e' fault fault')) is') in
+day_begins : (day : ℤ) (g : Fields) → IsDateOf day g.year g.month g.month_day → IsCivil (midnight day) 0 (at_midnight g)
+day_begins day g is = record {
+  valid = record {
+    in_range = record {
+      month = is.month_is;
+      month_day = (is.month_day_is.0, omega (arith, is.month_day_is.1, short_month (is_leap g.year) g.month));
+      hour = omega arith;
+      minute = omega arith;
+      second = omega arith;
+      nanoseconds = omega arith;
+    };
+    in_month = is.month_day_is.1;
+  };
+  below_60 = omega arith;
+  reads = omega (arith, ints, is.day_is);
+  nanoseconds_are = refl;
+}
+
+module _ (laws : Laws) (z : Zone) where
+  -- an instant has one answer
+  time_answer_unique : (u : ℤ) (n : ℕ) (answer other : List ℕ) → IsTimeAnswer z u n answer → IsTimeAnswer z u n other → answer ≡ other
+  time_answer_unique u n answer other (inl (d, shows, in_range, same)) (inl (d', shows', in_range', same')) = same ∙ ap moment_text (laws.shown z u n d d' shows shows') ∙ sym same'
+  time_answer_unique u n answer other (inl (d, shows, in_range, same)) (inr (e, text, fault, is, same')) = absurd (laws.shown_or_not z u n d e shows in_range fault)
+  time_answer_unique u n answer other (inr (e, text, fault, is, same)) (inl (d, shows, in_range, same')) = absurd (laws.shown_or_not z u n d e shows in_range fault)
+  time_answer_unique u n answer other (inr (e, text, fault, is, same)) (inr (e', text', fault', is', same')) =
+      let one = fault_text_unique e text text' is (subst (λ x. IsFaultText x text') (sym (laws.not_shown z u n e e' fault fault')) is') in
       same ∙ ap (λ t. codes "E " ++ t) one ∙ sym same'
 
--- fields have one first fault
-first_fault_unique : (f : Fields) (a b : DateTimeError) → IsFirstFault f a → IsFirstFault f b → a ≡ b
-first_fault_unique f InvalidMonth InvalidMonth is is' = refl
-first_fault_unique f InvalidMonth InvalidMonthDay is is' = absurd (is is'.0)
-first_fault_unique f InvalidMonth InvalidHour is is' = absurd (is is'.0)
-first_fault_unique f InvalidMonth InvalidMinute is is' = absurd (is is'.0)
-first_fault_unique f InvalidMonth InvalidSecond is is' = absurd (is is'.0)
-first_fault_unique f InvalidMonth InvalidNanoseconds is is' = absurd (is is'.0)
-first_fault_unique f InvalidMonthDay InvalidMonth is is' = absurd (is' is.0)
-first_fault_unique f InvalidMonthDay InvalidMonthDay is is' = refl
-first_fault_unique f InvalidMonthDay InvalidHour (month, inl day) is' = absurd (day is'.1)
-first_fault_unique f InvalidMonthDay InvalidHour (month, inr (range, past)) is' = absurd (omega (arith, range.hour, is'.2))
-first_fault_unique f InvalidMonthDay InvalidMinute (month, inl day) is' = absurd (day is'.1)
-first_fault_unique f InvalidMonthDay InvalidMinute (month, inr (range, past)) is' = absurd (omega (arith, range.minute, is'.3))
-first_fault_unique f InvalidMonthDay InvalidSecond (month, inl day) is' = absurd (day is'.1)
-first_fault_unique f InvalidMonthDay InvalidSecond (month, inr (range, past)) is' = absurd (omega (arith, range.second, is'.4))
-first_fault_unique f InvalidMonthDay InvalidNanoseconds (month, inl day) is' = absurd (day is'.1)
-first_fault_unique f InvalidMonthDay InvalidNanoseconds (month, inr (range, past)) is' = absurd (omega (arith, range.nanoseconds, is'.5))
-first_fault_unique f InvalidHour InvalidMonth is is' = absurd (is' is.0)
-first_fault_unique f InvalidHour InvalidMonthDay is (month, inl day) = absurd (day is.1)
-first_fault_unique f InvalidHour InvalidMonthDay is (month, inr (range, past)) = absurd (omega (arith, range.hour, is.2))
-first_fault_unique f InvalidHour InvalidHour is is' = refl
-first_fault_unique f InvalidHour InvalidMinute is is' = absurd (omega (arith, is.2, is'.2))
-first_fault_unique f InvalidHour InvalidSecond is is' = absurd (omega (arith, is.2, is'.2))
-first_fault_unique f InvalidHour InvalidNanoseconds is is' = absurd (omega (arith, is.2, is'.2))
-first_fault_unique f InvalidMinute InvalidMonth is is' = absurd (is' is.0)
-first_fault_unique f InvalidMinute InvalidMonthDay is (month, inl day) = absurd (day is.1)
-first_fault_unique f InvalidMinute InvalidMonthDay is (month, inr (range, past)) = absurd (omega (arith, range.minute, is.3))
-first_fault_unique f InvalidMinute InvalidHour is is' = absurd (omega (arith, is'.2, is.2))
-first_fault_unique f InvalidMinute InvalidMinute is is' = refl
-first_fault_unique f InvalidMinute InvalidSecond is is' = absurd (omega (arith, is.3, is'.3))
-first_fault_unique f InvalidMinute InvalidNanoseconds is is' = absurd (omega (arith, is.3, is'.3))
-first_fault_unique f InvalidSecond InvalidMonth is is' = absurd (is' is.0)
-first_fault_unique f InvalidSecond InvalidMonthDay is (month, inl day) = absurd (day is.1)
-first_fault_unique f InvalidSecond InvalidMonthDay is (month, inr (range, past)) = absurd (omega (arith, range.second, is.4))
-first_fault_unique f InvalidSecond InvalidHour is is' = absurd (omega (arith, is'.2, is.2))
-first_fault_unique f InvalidSecond InvalidMinute is is' = absurd (omega (arith, is'.3, is.3))
-first_fault_unique f InvalidSecond InvalidSecond is is' = refl
-first_fault_unique f InvalidSecond InvalidNanoseconds is is' = absurd (omega (arith, is.4, is'.4))
-first_fault_unique f InvalidNanoseconds InvalidMonth is is' = absurd (is' is.0)
-first_fault_unique f InvalidNanoseconds InvalidMonthDay is (month, inl day) = absurd (day is.1)
-first_fault_unique f InvalidNanoseconds InvalidMonthDay is (month, inr (range, past)) = absurd (omega (arith, range.nanoseconds, is.5))
-first_fault_unique f InvalidNanoseconds InvalidHour is is' = absurd (omega (arith, is'.2, is.2))
-first_fault_unique f InvalidNanoseconds InvalidMinute is is' = absurd (omega (arith, is'.3, is.3))
-first_fault_unique f InvalidNanoseconds InvalidSecond is is' = absurd (omega (arith, is'.4, is.4))
-first_fault_unique f InvalidNanoseconds InvalidNanoseconds is is' = refl
+  -- fields have one answer
+  search_answer_unique : (f : Fields) (answer other : List (List ℕ)) → IsSearchAnswer z f answer → IsSearchAnswer z f other → answer ≡ other
+  search_answer_unique f answer other (inl (found, valid, list, made, same)) (inl (others, valid', list', made', same')) = same ∙ ap found_lines (laws.found z f found others list list') ∙ sym same'
+  search_answer_unique f answer other (inl (found, valid, list, made, same)) (inr (e, text, fault, told, same')) = absurd (laws.found_or_not z f e valid made fault)
+  search_answer_unique f answer other (inr (e, text, fault, told, same)) (inl (found, valid, list, made, same')) = absurd (laws.found_or_not z f e valid made fault)
+  search_answer_unique f answer other (inr (e, text, fault, told, same)) (inr (e', text', fault', told', same')) =
+      let one = fault_text_unique e text text' told (subst (λ x. IsFaultText x text') (sym (laws.not_found z f e e' fault fault')) told') in
+      same ∙ ap (λ t. (codes "E " ++ t) ∷ []) one ∙ sym same'
 
--- why a search is refused, an allocation failure aside, is one reason where it is not both
-search_fault_unique : (z : Zone) (f : Fields) (e e' : TzError) → IsFindFault ⊥ (IsClock z) f e → IsFindFault ⊥ (IsClock z) f e' → e ≡ e'
-search_fault_unique z f e e' (inl (a, is, first)) (inl (b, is', first')) = is ∙ ap (λ x. FieldFault x) (first_fault_unique f a b first first') ∙ sym is'
-search_fault_unique z f e e' (inl (a, is, first)) (inr (valid, fault)) = absurd (valid_without_fault f valid a first)
-search_fault_unique z f e e' (inr (valid, fault)) (inl (b, is, first)) = absurd (valid_without_fault f valid b first)
-search_fault_unique z f e e' (inr (valid, inl (is, none))) (inr fault) = absurd none
-search_fault_unique z f e e' (inr (valid, inr (is, near))) (inr (valid', inl (is', none))) = absurd none
-search_fault_unique z f e e' (inr (valid, inr (is, near))) (inr (valid', inr (is', near'))) = is ∙ sym is'
+  -- a week has one list of fields, and one answer
+  week_unique : (f : Fields) (k : ℕ) (g h : Fields) → IsWeekOf f k g → IsWeekOf f k h → g ≡ h
+  week_unique f k g h is is' =
+      let same = laws.civil (midnight (day_after f k)) 0 (at_midnight g) (at_midnight h) (day_begins (day_after f k) g is.date) (day_begins (day_after f k) h is'.date) in
+      is.time ∙ ap (λ (m : Fields). record f { year = m.year; month = m.month; month_day = m.month_day }) same ∙ sym is'.time
 
--- where each entry can be made, valid fields have an answer that is no refusal
-no_fault_where_made : (z : Zone) (f : Fields) → IsValid f → EachCanBeMade (IsClock z) f → (e : TzError) → ¬ IsFindFault ⊥ (IsClock z) f e
-no_fault_where_made z f valid made e (inl (fault, is, first)) = valid_without_fault f valid fault first
-no_fault_where_made z f valid made e (inr (valid', inl (is, none))) = none
-no_fault_where_made z f valid made e (inr (valid', inr (is, one))) = not_out_of_range ⊥ (IsClock z) f (λ valid. made) e (inr (valid', inr (is, one))) is
+  week_answer_unique : (f : Fields) (k : ℕ) (answer other : List (List ℕ)) → IsWeekAnswer z f k answer → IsWeekAnswer z f k other → answer ≡ other
+  week_answer_unique f k answer other (inl (g, inside, is, told)) (inl (h, inside', is', told')) =
+      search_answer_unique g answer other told (subst (λ x. IsSearchAnswer z x other) (week_unique f k h g is' is) told')
+  week_answer_unique f k answer other (inl (g, inside, is, told)) (inr (outside, same)) = absurd (outside inside)
+  week_answer_unique f k answer other (inr (outside, same)) (inl (g, inside, is, told)) = absurd (outside inside)
+  week_answer_unique f k answer other (inr (outside, same)) (inr (outside', same')) = same ∙ sym same'
 
--- the list is one, and so is the refusal
-found_answers_same : (z : Zone) (f : Fields) (answer other : List (List ℕ)) (found others : List FoundDateTimeKind) → IsFound (IsClock z) f found → IsFound (IsClock z) f others →
-    answer ≡ found_lines found → other ≡ found_lines others → answer ≡ other
-found_answers_same z f answer other found others list list' same same' = same ∙ ap found_lines (found_unique (IsClock z) f found others list list') ∙ sym same'
+  weeks_unique : (f : Fields) (k : ℕ) (weeks others : List (List (List ℕ))) → length weeks ≡ length others → AreWeekAnswers z f k weeks → AreWeekAnswers z f k others → weeks ≡ others
+  weeks_unique f k [] [] many are are' = refl
+  weeks_unique f k [] (other ∷ others) many are are' = absurd (omega (arith, many))
+  weeks_unique f k (week ∷ weeks) [] many are are' = absurd (omega (arith, many))
+  weeks_unique f k (week ∷ weeks) (other ∷ others) many are are' =
+      let first = week_answer_unique f k week other are.0 are'.0 in
+      let more = weeks_unique f (k + 1) weeks others (omega (arith, many)) are.1 are'.1 in
+      cc
 
-refused_answers_same : (z : Zone) (f : Fields) (answer other : List (List ℕ)) (e e' : TzError) (text text' : List ℕ) → IsFindFault ⊥ (IsClock z) f e → IsFindFault ⊥ (IsClock z) f e' → IsFaultText e text → IsFaultText e' text' →
-    answer ≡ (codes "E " ++ text) ∷ [] → other ≡ (codes "E " ++ text') ∷ [] → answer ≡ other
-refused_answers_same z f answer other e e' text text' fault fault' told told' same same' =
-    let one = fault_text_unique e text text' told (subst (λ x. IsFaultText x text') (sym (search_fault_unique z f e e' fault fault')) told') in
-    same ∙ ap (λ t. (codes "E " ++ t) ∷ []) one ∙ sym same'
+  -- a meeting has one answer
+  meeting_answer_unique : (count : ℕ) (f : Fields) (answer other : List (List ℕ)) → IsMeetingAnswer z count f answer → IsMeetingAnswer z count f other → answer ≡ other
+  meeting_answer_unique count f answer other (inl (valid, weeks, many, are, same)) (inl (valid', others, many', are', same')) =
+      same ∙ ap meeting_lines (weeks_unique f 0 weeks others (many ∙ sym many') are are') ∙ sym same'
+  meeting_answer_unique count f answer other (inl (valid, weeks, many, are, same)) (inr (fault, first, same')) = absurd (laws.valid_or_fault f fault valid first)
+  meeting_answer_unique count f answer other (inr (fault, first, same)) (inl (valid, weeks, many, are, same')) = absurd (laws.valid_or_fault f fault valid first)
+  meeting_answer_unique count f answer other (inr (fault, first, same)) (inr (fault', first', same')) =
+      same ∙ ap (λ x. (codes "E " ++ field_fault_text x) ∷ []) (laws.first_fault f fault fault' first first') ∙ sym same'
 
--- fields have one answer
-search_answer_unique : (z : Zone) (f : Fields) (answer other : List (List ℕ)) → IsSearchAnswer z f answer → IsSearchAnswer z f other → answer ≡ other
-search_answer_unique z f answer other (inl (found, valid, list, made, same)) (inl (others, valid', list', made', same')) = found_answers_same z f answer other found others list list' same same'
-search_answer_unique z f answer other (inl (found, valid, list, made, same)) (inr (e, text, fault, told, same')) = absurd (no_fault_where_made z f valid made e fault)
-search_answer_unique z f answer other (inr (e, text, fault, told, same)) (inl (found, valid, list, made, same')) = absurd (no_fault_where_made z f valid made e fault)
-search_answer_unique z f answer other (inr (e, text, fault, told, same)) (inr (e', text', fault', told', same')) =
-    refused_answers_same z f answer other e e' text text' fault fault' told told' same same'
+  -- what a line asks for has one answer
+  query_answer_unique : (query : Query) (answer other : List (List ℕ)) → IsQueryAnswer z query answer → IsQueryAnswer z query other → answer ≡ other
+  query_answer_unique (Time u n) answer other (text, told, same) (text', told', same') = same ∙ ap (λ t. t ∷ []) (time_answer_unique u n text text' told told') ∙ sym same'
+  query_answer_unique (Search f) answer other told told' = search_answer_unique f answer other told told'
+  query_answer_unique (Meeting count f) answer other told told' = meeting_answer_unique count f answer other told told'
 
--- a day has one date, and a week one list of fields
-week_unique : (f : Fields) (k : ℕ) (g h : Fields) → IsWeekOf f k g → IsWeekOf f k h → g ≡ h
-week_unique f k g h is is' =
-    let day : IsDay g.year g.month g.month_day = record { month_is = is.date.month_is; month_day_is = is.date.month_day_is } in
-    let day' : IsDay h.year h.month h.month_day = record { month_is = is'.date.month_is; month_day_is = is'.date.month_day_is } in
-    let (year, month, month_day) = date_unique g.year g.month g.month_day h.year h.month h.month_day day day' (is.date.day_is ∙ sym is'.date.day_is) in
-    is.time
-    ∙ ap (λ y. record f { year = y; month = g.month; month_day = g.month_day }) year
-    ∙ ap (λ m. record f { year = h.year; month = m; month_day = g.month_day }) month
-    ∙ ap (λ d. record f { year = h.year; month = h.month; month_day = d }) month_day
-    ∙ sym is'.time
+  -- and so has the line
+  pub line_answer_unique : (line : List ℕ) (answer other : List (List ℕ)) → IsAnswer z line answer → IsAnswer z line other → answer ≡ other
+  line_answer_unique line answer other (inl (query, is, told)) (inl (query', is', told')) =
+      query_answer_unique query answer other told (subst (λ q. IsQueryAnswer z q other) (sym (query_unique line query query' is is')) told')
+  line_answer_unique line answer other (inl (query, is, told)) (inr (none, same)) = absurd (none query is)
+  line_answer_unique line answer other (inr (none, same)) (inl (query, is, told)) = absurd (none query is)
+  line_answer_unique line answer other (inr (none, same)) (inr (none', same')) = same ∙ sym same'
 
--- a week has one answer, and so have weeks in turn
-week_answer_unique : (z : Zone) (f : Fields) (k : ℕ) (answer other : List (List ℕ)) → IsWeekAnswer z f k answer → IsWeekAnswer z f k other → answer ≡ other
-week_answer_unique z f k answer other (inl (g, inside, is, told)) (inl (h, inside', is', told')) =
-    search_answer_unique z g answer other told (subst (λ x. IsSearchAnswer z x other) (week_unique f k h g is' is) told')
-week_answer_unique z f k answer other (inl (g, inside, is, told)) (inr (outside, same)) = absurd (outside inside)
-week_answer_unique z f k answer other (inr (outside, same)) (inl (g, inside, is, told)) = absurd (outside inside)
-week_answer_unique z f k answer other (inr (outside, same)) (inr (outside', same')) = same ∙ sym same'
+  zip_unique : (lines : List (List ℕ)) (answers others : List (List (List ℕ))) → AllZip (IsAnswer z) lines answers → AllZip (IsAnswer z) lines others → answers ≡ others
+  zip_unique [] [] [] each each' = refl
+  zip_unique [] [] (x ∷ others) each each' = absurd each'
+  zip_unique [] (x ∷ answers) others each each' = absurd each
+  zip_unique (line ∷ lines) [] others each each' = absurd each
+  zip_unique (line ∷ lines) (answer ∷ answers) [] each each' = absurd each'
+  zip_unique (line ∷ lines) (answer ∷ answers) (other ∷ others) each each' =
+      let first = line_answer_unique line answer other each.0 each'.0 in
+      let more = zip_unique lines answers others each.1 each'.1 in
+      cc
 
-weeks_unique : (z : Zone) (f : Fields) (k : ℕ) (weeks others : List (List (List ℕ))) → length weeks ≡ length others → AreWeekAnswers z f k weeks → AreWeekAnswers z f k others → weeks ≡ others
-weeks_unique z f k [] [] many are are' = refl
-weeks_unique z f k [] (other ∷ others) many are are' = absurd (omega (arith, many))
-weeks_unique z f k (week ∷ weeks) [] many are are' = absurd (omega (arith, many))
-weeks_unique z f k (week ∷ weeks) (other ∷ others) many are are' =
-    let first = week_answer_unique z f k week other are.0 are'.0 in
-    let more = weeks_unique z f (k + 1) weeks others (omega (arith, many)) are.1 are'.1 in
-    cc
-
--- a meeting has one answer
-meeting_answer_unique : (z : Zone) (count : ℕ) (f : Fields) (answer other : List (List ℕ)) → IsMeetingAnswer z count f answer → IsMeetingAnswer z count f other → answer ≡ other
-meeting_answer_unique z count f answer other (inl (valid, weeks, many, are, same)) (inl (valid', others, many', are', same')) =
-    same ∙ ap meeting_lines (weeks_unique z f 0 weeks others (many ∙ sym many') are are') ∙ sym same'
-meeting_answer_unique z count f answer other (inl (valid, weeks, many, are, same)) (inr (fault, first, same')) = absurd (valid_without_fault f valid fault first)
-meeting_answer_unique z count f answer other (inr (fault, first, same)) (inl (valid, weeks, many, are, same')) = absurd (valid_without_fault f valid fault first)
-meeting_answer_unique z count f answer other (inr (fault, first, same)) (inr (fault', first', same')) =
-    same ∙ ap (λ x. (codes "E " ++ field_fault_text x) ∷ []) (first_fault_unique f fault fault' first first') ∙ sym same'
-
--- what a line asks for has one answer
-query_answer_unique : (z : Zone) (query : Query) (answer other : List (List ℕ)) → IsQueryAnswer z query answer → IsQueryAnswer z query other → answer ≡ other
-query_answer_unique z (Time u n) answer other (text, told, same) (text', told', same') = same ∙ ap (λ t. t ∷ []) (time_answer_unique z u n text text' told told') ∙ sym same'
-query_answer_unique z (Search f) answer other told told' = search_answer_unique z f answer other told told'
-query_answer_unique z (Meeting count f) answer other told told' = meeting_answer_unique z count f answer other told told'
-
--- and so has the line
-pub line_answer_unique : (z : Zone) (line : List ℕ) (answer other : List (List ℕ)) → IsAnswer z line answer → IsAnswer z line other → answer ≡ other
-line_answer_unique z line answer other (inl (query, is, told)) (inl (query', is', told')) =
-    query_answer_unique z query answer other told (subst (λ q. IsQueryAnswer z q other) (sym (query_unique line query query' is is')) told')
-line_answer_unique z line answer other (inl (query, is, told)) (inr (none, same)) = absurd (none query is)
-line_answer_unique z line answer other (inr (none, same)) (inl (query, is, told)) = absurd (none query is)
-line_answer_unique z line answer other (inr (none, same)) (inr (none', same')) = same ∙ sym same'
-
-zip_unique : (z : Zone) (lines : List (List ℕ)) (answers others : List (List (List ℕ))) → AllZip (IsAnswer z) lines answers → AllZip (IsAnswer z) lines others → answers ≡ others
-zip_unique z [] [] [] each each' = refl
-zip_unique z [] [] (x ∷ others) each each' = absurd each'
-zip_unique z [] (x ∷ answers) others each each' = absurd each
-zip_unique z (line ∷ lines) [] others each each' = absurd each
-zip_unique z (line ∷ lines) (answer ∷ answers) [] each each' = absurd each'
-zip_unique z (line ∷ lines) (answer ∷ answers) (other ∷ others) each each' =
-    let first = line_answer_unique z line answer other each.0 each'.0 in
-    let more = zip_unique z lines answers others each.1 each'.1 in
-    cc
-
-pub answers_unique : (z : Zone) (queries bytes others : List ℕ) → AreAnswers z queries bytes → AreAnswers z queries others → bytes ≡ others
-answers_unique z queries bytes others are are' =
-    let found = answer_groups z queries others are.lines are' are.cut in
-    are.written ∙ ap (λ groups. flat_map ended groups) (zip_unique z are.lines are.answers found.0 are.each found.1) ∙ sym found.2
+  pub answers_unique : (queries bytes others : List ℕ) → AreAnswers z queries bytes → AreAnswers z queries others → bytes ≡ others
+  answers_unique queries bytes others are are' =
+      let found = answer_groups z queries others are.lines are' are.cut in
+      are.written ∙ ap (λ groups. flat_map ended groups) (zip_unique are.lines are.answers found.0 are.each found.1) ∙ sym found.2

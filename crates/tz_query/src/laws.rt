@@ -1,5 +1,5 @@
-//! Laws of query lines and their answers. Each function does nothing; its contract is the law, in the words of the contract of
-//! [`crate::query::answer`].
+//! Laws of query lines and their answers. A function here does nothing, or calls the laws of the crates below on which it rests. Its contract is the
+//! law, in the words of the contract of [`crate::query::answer`].
 
 ghost use Rattle.std.specs.Prelude.{◌≡◌, ℕ, ℤ, List, [], ◌∷◌, ◌++◌, All};
 ghost use Rattle.std.specs.List.{AllZip, flat_map};
@@ -8,6 +8,12 @@ ghost use Rattle.tz_zone.specs.Clock.{IsClock};
 ghost use Rattle.tz_zone.specs.Table.{Zone};
 ghost use Rattle.tz_query.specs.Lines.{line_feed, IsLine, AreLines, ended};
 ghost use Rattle.tz_query.specs.Answers.{AreAnswers, IsAnswer, IsGroup};
+
+use tz::laws::{
+    field_errors_are_unique, found_lists_are_unique, lookups_have_one_result,
+    search_errors_are_unique,
+};
+use tz_base::laws::civil_fields_are_unique;
 
 /// Bytes are cut into lines in one way.
 pub fn lines_are_unique()
@@ -39,4 +45,10 @@ pub fn pieces_are_answered_apart()
 pub fn answers_are_unique()
     ensures line { (z : Zone) (line : List ℕ) (answer other : List (List ℕ)) → IsAnswer z line answer → IsAnswer z line other → answer ≡ other }
     ensures all { (z : Zone) (queries bytes others : List ℕ) → AreAnswers z queries bytes → AreAnswers z queries others → bytes ≡ others }
-{}
+{
+    civil_fields_are_unique();
+    lookups_have_one_result();
+    field_errors_are_unique();
+    found_lists_are_unique();
+    search_errors_are_unique();
+}
