@@ -1,32 +1,29 @@
 -- What a run wrote are the answers of what it read, or a front of them.
-use Rattle.std.proofs.Common.{ℕ, List, Option, ◌≡◌, subst}
+use Rattle.std.proofs.Common.{◌≡◌, ◌++◌, [], eqb-true, length, take, rules, refl, sym, ap, ◌∙◌, subst, append-nil, append_assoc, take-append-drop}
 use Rattle.std.specs.Io.KnownBytes.{Appends}
-use Rattle.std.proofs.lemmas.Result.{IfErr-weaker, on_ok_weaker}
-use Rattle.tz_query.specs.Answers.{AreAnswers}
-use Rattle.tz_query.specs.Streams.{AreAnswersOf, WritesAnswers, WritesFront, WritesFrontOfAnswers}
-use Rattle.tz_zone.specs.Table.{Zone}
+use Rattle.std.proofs.KnownBytes.{Appends-nil, Appends-trans}
+use Rattle.std.proofs.lemmas.List.{take_rest, nil_from_length}
+use Rattle.tz_query.specs.Streams.{AreAnswersOf}
 use Rattle.tz_zone.specs.ZoneRef.{zone_of}
 use Rattle.tz_query.proofs.query.streams.run.Goals as goal
 
-written_all : {zone : Zone} {unread left : Option (List ℕ)} (written now : Option (List ℕ)) (answers bytes : List ℕ) → AreAnswersOf zone unread left answers → bytes ≡ answers → Appends written now bytes → WritesAnswers zone unread left written now
-written_all written now answers bytes are same wrote = (answers, are, subst (λ bs. Appends written now bs) same wrote)
+pub loop-rest-init : goal.loop-rest-init
+loop-rest-init g c = ([], refl, Appends-nil (g.W.Write.contents c.args.out.now))
 
-written_front : {zone : Zone} {unread left : Option (List ℕ)} (written now : Option (List ℕ)) (answers bytes : List ℕ) → AreAnswersOf zone unread left answers → bytes ≡ answers → WritesFront bytes written now → WritesFrontOfAnswers zone unread left written now
-written_front written now answers bytes are same wrote = (answers, are, subst (λ bs. WritesFront bs written now) same wrote)
-
-answers_of : (g : _) (c : goal.After-drop-queries-2 g) → AreAnswersOf (zone_of c.args.zone) (g.R.Read.remaining c.args.input.now) (g.R.Read.remaining c.read_to_end.new.input) c.in-Ok-answer.answers.items
-answers_of g c = record {
-  queries = c.in-Ok.queries.items;
-  read = c.in-Ok.ensures.0;
-  at_end = c.in-Ok.ensures.1;
-  answered = subst (λ bs. AreAnswers (zone_of c.args.zone) bs c.in-Ok-answer.answers.items) c.deref.ensures.value c.in-Ok-answer.ensures.ok;
-}
+pub loop-rest-preserved : goal.loop-rest-preserved
+loop-rest-preserved g c =
+    let rest = c.loop-rest.rest.now in
+    let count = c.in-Ok-1-to-max.count in
+    let (done, whole, wrote) = c.loop-rest.invariant in (
+      done ++ take count rest,
+      rw (take_rest rest count, append_assoc, take-append-drop count rest) whole,
+      Appends-trans (g.W.Write.contents c.args.out.now) (g.W.Write.contents c.loop-rest.out) (g.W.Write.contents c.write.new.self) done (take count rest) wrote c.in-Ok-1-to-max.ensures.bytes,
+    )
 
 pub returns-clause-ok : goal.returns-clause-ok
-returns-clause-ok g c = on_ok_weaker c.write_all.result (written_all (g.W.Write.contents c.args.out.now) (g.W.Write.contents c.write_all.new.out) c.in-Ok-answer.answers.items _ (answers_of g c) c.deref-2.ensures.value) c.write_all.ensures.all
-
-pub returns-clause-untouched : goal.returns-clause-untouched
-returns-clause-untouched g c = IfErr-weaker c.write_all.result _ _ (λ e is not. absurd (not is)) c.write_all.ensures.err
-
-pub returns-clause-begun : goal.returns-clause-begun
-returns-clause-begun g c = IfErr-weaker c.write_all.result _ _ (λ e _ _. written_front (g.W.Write.contents c.args.out.now) (g.W.Write.contents c.write_all.new.out) c.in-Ok-answer.answers.items _ (answers_of g c) c.deref-2.ensures.value c.write_all.ensures.front) c.write_all.ensures.err
+returns-clause-ok g c =
+    let (done, whole, wrote) = c.loop-rest.invariant in
+    let none = nil_from_length c.loop-rest.rest.now (eqb-true (length c.loop-rest.rest.now) 0 (sym c.loop-rest-test.ensures)) in
+    let all : done ≡ c.in_ok-answers.answers.items = sym (whole ∙ ap (λ bs. done ++ bs) none ∙ append-nil done) ∙ c.as_slice-rest.ensures.value in
+    let are : AreAnswersOf (zone_of c.args.zone) (g.R.Read.remaining c.args.input.now) (g.R.Read.remaining c.read_to_end.new.input) c.in_ok-answers.answers.items = search rules in
+    (c.in_ok-answers.answers.items, are, subst (Appends (g.W.Write.contents c.args.out.now) (g.W.Write.contents c.loop-rest.out)) all wrote)
