@@ -4,6 +4,7 @@ use Rattle.std.specs.Prelude.{ℕ, zero, suc, ◌+◌, ◌/◌, ◌%◌, ◌==�
 use Rattle.std.specs.Fmt.{decimal, signed_decimal}
 use Rattle.tz_base.specs.declared.fields.Fields.{Fields}
 use Rattle.tz_rule.specs.LocalTimeType.{LocalTimeType}
+use Rattle.tz.specs.DateTimes.{DateTime}
 
 -- the last digits of a number, as many as the width says
 abbrev pub last_digits : ℕ → ℕ → List ℕ
@@ -53,6 +54,10 @@ printed_text f offset = date_text f ++ (84 ∷ time_text f ++ offset_text offset
 -- the name of a type, or `-`
 abbrev pub type_name_text : LocalTimeType → List ℕ
 type_name_text t = unwrap_or t.designation (45 ∷ [])
+
+-- a date time, a space and the name of its type
+unfoldable pub moment_text : DateTime → List ℕ
+moment_text d = printed_text d.fields d.local_time_type.ut_offset ++ 32 ∷ type_name_text d.local_time_type
 
 -- what a line has behind the nanoseconds: the offset, a space, the name of the type, and LF
 unfoldable pub suffix_text : LocalTimeType → List ℕ

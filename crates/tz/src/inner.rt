@@ -4,6 +4,8 @@ pub use crate::datetime::date_time::{fields_of, local_reading};
 pub use crate::datetime::find::find_fields;
 pub use crate::datetime::resolution::Resolution;
 pub use crate::datetime::resolve::{once, resolve_window, window_of};
+pub use crate::nanoseconds::Nanoseconds;
+pub use crate::page::Page;
 pub use crate::printed::middle_of;
 pub use crate::suffixes::{Suffix, Suffixes};
 pub use crate::text::{TextBuffer, two_pairs};

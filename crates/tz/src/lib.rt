@@ -47,6 +47,8 @@
 pub mod datetime;
 pub mod inner;
 pub mod laws;
+mod nanoseconds;
+mod page;
 mod printed;
 mod suffixes;
 mod text;

@@ -1,0 +1,68 @@
+-- The nine digits of a number below 10^9 are nine bytes that are all digits, and have its value.
+use Rattle.std.proofs.Common.{◌≡◌, ℕ, zero, suc, ◌+◌, ◌-◌, ◌*◌, ◌/◌, ◌%◌, ◌^◌, ◌<◌, ◌≤◌, cond, List, [], ◌∷◌, ◌++◌, length, take, drop, refl, sym, ap, ◌∙◌, subst, arith}
+use Rattle.std.specs.Prelude.{slice_range}
+use Rattle.std.specs.Char.{digit_value}
+use Rattle.std.specs.Str.Parse.{AllDigits, digits_value}
+use Rattle.std.specs.Float.Numeral.{digits_len}
+use Rattle.std.proofs.lemmas.Bool.Decides.{nat_tests}
+use Rattle.std.proofs.lemmas.Int.Digits.{digits_value_push}
+use Rattle.std.proofs.lemmas.List.{length-append}
+use Rattle.std.proofs.Math.Nat.{pow-suc}
+use Rattle.core.proofs.dec2flt.DigitsLemmas.{is_digit}
+use Rattle.tz.specs.PrintedText.{last_digits, nine_digits}
+
+-- a byte whose value as a digit is below 10 is one of the ten digits
+digit_of_value : (b : ℕ) → digit_value b < 10 → (48 ≤ b) × (b ≤ 57)
+digit_of_value b is = (grind (arith, nat_tests), grind (arith, nat_tests))
+
+-- the last digits of a number are digits, as many as asked for, with its value
+last_digits_all : (width n : ℕ) → AllDigits 10 (last_digits width n)
+last_digits_all zero n = tt
+last_digits_all (suc width) n = pushed (last_digits width (n / 10)) (last_digits_all width (n / 10))
+  where
+    pushed : (ds : List ℕ) → AllDigits 10 ds → AllDigits 10 (ds ++ (48 + n % 10) ∷ [])
+    pushed [] all = (omega (arith, (is_digit (48 + n % 10) (omega arith) (omega arith)).1), tt)
+    pushed (d ∷ ds) all = (all.0, pushed ds all.1)
+
+last_digits_length : (width n : ℕ) → length (last_digits width n) ≡ width
+last_digits_length zero n = refl
+last_digits_length (suc width) n = omega (arith, length-append (last_digits width (n / 10)) ((48 + n % 10) ∷ []), last_digits_length width (n / 10))
+
+last_digits_value : (width n : ℕ) → n < 10 ^ width → digits_value 10 (last_digits width n) ≡ n
+last_digits_value zero n few = omega (arith, few)
+last_digits_value (suc width) n few =
+    let more = last_digits_value width (n / 10) (omega (arith, few, pow-suc 10 width)) in
+    let push = digits_value_push 10 (last_digits width (n / 10)) (48 + n % 10) in
+    let digit = (is_digit (48 + n % 10) (omega arith) (omega arith)).1 in
+    omega (arith, push, more, digit)
+
+all_are_digits : (ds : List ℕ) → AllDigits 10 ds → digits_len ds ≡ length ds
+all_are_digits [] all = refl
+all_are_digits (d ∷ ds) all =
+    let range = digit_of_value d all.0 in
+    ap (λ b. cond b (1 + digits_len ds) 0) (is_digit d range.0 range.1).0 ∙ omega (arith, all_are_digits ds all.1)
+
+-- the number that nine digits are read as
+pub value_of_nine : (n : ℕ) → n < 1000000000 → (nine : List ℕ) → nine ≡ nine_digits n → (end value : ℕ) → end ≡ 0 + digits_len (drop 0 nine) →
+    value ≡ (0 * 10 ^ (end - 0) + digits_value 10 (slice_range nine 0 end)) % 2 ^ 64 → value ≡ n
+unfolding nine_digits
+value_of_nine n few nine is end value end_is value_is =
+    let long : length nine ≡ 9 = ap length is ∙ last_digits_length 9 n in
+    let all : AllDigits 10 nine = subst (AllDigits 10) (sym is) (last_digits_all 9 n) in
+    let nine_is : end ≡ 9 = omega (arith, end_is, all_are_digits nine all, long) in
+    let whole : slice_range nine 0 end ≡ nine = ap (λ k. take k nine) (omega (arith, nine_is, long)) ∙ take_all nine in
+    let number : digits_value 10 nine ≡ n = ap (digits_value 10) is ∙ last_digits_value 9 n few in
+    omega (arith, value_is, ap (digits_value 10) whole, number, few)
+  where
+    take_all : (xs : List ℕ) → take (length xs) xs ≡ xs
+    take_all [] = refl
+    take_all (x ∷ xs) = ap (λ ys. x ∷ ys) (take_all xs)
+
+-- nine digits have the value of the number that they are the digits of
+pub value_of_nine_digits : (n : ℕ) → n < 1000000000 → (nine : List ℕ) → nine ≡ nine_digits n → digits_value 10 nine ≡ n
+unfolding nine_digits
+value_of_nine_digits n few nine is = ap (digits_value 10) is ∙ last_digits_value 9 n few
+
+-- so they are the digits of their value, which is below 10^9
+pub nine_of_their_value : (n : ℕ) → n < 1000000000 → (nine : List ℕ) → nine ≡ nine_digits n → (digits_value 10 nine < 1000000000) × (nine ≡ nine_digits (digits_value 10 nine))
+nine_of_their_value n few nine is = let value = value_of_nine_digits n few nine is in (omega (arith, value, few), is ∙ ap nine_digits (sym value))
