@@ -1,15 +1,21 @@
 -- Where the first line ends, and that what a line asks for is what stands in front.
-use Rattle.std.proofs.Common.{◌≡◌, ◌≢◌, ℕ, ◌+◌, ◌<◌, inl, inr, ℤ, pos, List, [], ◌∷◌, ◌++◌, length, take, drop, get_or, refl, sym, ap, ◌∙◌, subst, arith, append-nil, ◌-◌, ◌≤◌, append_assoc}
+use Rattle.std.proofs.Common.{◌≡◌, ◌≢◌, ℕ, ◌+◌, ◌<◌, ◌^◌, inl, inr, ℤ, pos, negsuc, nat_abs, List, [], ◌∷◌, ◌++◌, length, take, drop, get_or, refl, sym, ap, ◌∙◌, subst, arith, append-nil, ◌-◌, ◌≤◌, append_assoc}
+use Rattle.std.specs.Prelude.{FitsSigned, All, Option, Some, None, Result, Ok, Err, IfOk, IfErr, OkIff, MatchOption}
+use Rattle.std.specs.Result.{result_ok}
+use Rattle.std.specs.Int.{w64, FitsUnsignedBits}
 use Rattle.std.specs.Char.{digit_value}
 use Rattle.std.specs.Str.Parse.{AllDigits}
+use Rattle.std.proofs.lemmas.Int.{ints}
 use Rattle.std.proofs.Math.Seq.{drop-append_seam}
-use Rattle.std.proofs.lemmas.List.{drop_more, length-append, length-take-le, take-append-drop}
-use Rattle.std.proofs.lemmas.List.Elements.{All-nil, All-cons, All-append}
-use Rattle.tz_query.specs.Lines.{line_feed, IsLine, IsLineEnd, IsFirstLine}
+use Rattle.std.proofs.lemmas.List.{drop_more, length-append, take-append-drop}
+use Rattle.std.proofs.lemmas.List.Elements.{All-nil, All-cons, All-append, All-tail, All-from_recursion}
 use Rattle.tz_base.specs.declared.fields.Fields.{Fields}
+use Rattle.tz_query.specs.declared.query.lines.Query.{Query}
+use Rattle.tz_query.specs.declared.query.lines.Query.TheVariants.{Time, Search, Meeting}
+use Rattle.tz_query.specs.Lines.{line_feed, IsLine, IsLineEnd, IsFirstLine}
 use Rattle.tz_query.specs.Numbers.{hyphen, space, IsNumber, EndsDigits, AreNumbers, IsPartFront, ArePartsFront}
-use Rattle.tz_query.specs.Queries.{Query, Time, Search, Meeting, IsLineOf, IsTimeLine, IsSearchLine, IsMeetingLine, IsQueryLine, AreFieldsOfBits, numbers_of, IsTimeLineFront, IsSearchLineFront, IsMeetingLineFront}
-use Rattle.tz_query.proofs.NumberFronts.{no_part_after, parts_unique, parts_in_front, numbers_from_parts}
+use Rattle.tz_query.specs.Queries.{time_letter, search_letter, meeting_letter, IsLineOf, IsQueryLine, AreFieldsOfBits, numbers_of}
+use Rattle.tz_query.proofs.NumberFronts.{parts_behind, parts_unique, parts_in_front, numbers_from_parts}
 
 -- the first line ends at an LF, or where the bytes end
 pub first_line_to_end : (bytes : List ℕ) (i : ℕ) → i < length bytes → IsLine (take i bytes) → get_or bytes i 0 ≡ line_feed → IsFirstLine bytes (take i bytes) (drop (i + 1) bytes)
@@ -57,82 +63,130 @@ numbers_are_line text [] are = subst IsLine (sym are) (All-nil (λ b. b ≢ line
 numbers_are_line text (n ∷ numbers) (number, rest, whole, is, are) =
     subst IsLine (sym whole) (All-cons (λ b. b ≢ line_feed) space (number ++ rest) (λ e. absurd (omega (arith, e))) (All-append (λ b. b ≢ line_feed) number rest (number_is_line number n is) (numbers_are_line rest numbers are)))
 
-module _ (letter : ℕ) (numbers : List ℤ) (bytes rest : List ℕ) where
-  -- what stands in front of the bytes where their first line is such a line
-  abbrev pub IsFrontOf : Type 0
-  IsFrontOf = (after : List ℕ) × (tail : List ℕ) × (bytes ≡ letter ∷ after) × ArePartsFront after numbers tail × IsLineEnd tail rest
+-- numbers in front of the end of a line are that line, and the numbers of the first line stand in front
+pub line_of_parts : (bytes : List ℕ) (numbers : List ℤ) (tail rest : List ℕ) → ArePartsFront bytes numbers tail → IsLineEnd tail rest → (line : List ℕ) × IsFirstLine bytes line rest × AreNumbers line numbers
+line_of_parts bytes numbers tail rest are end =
+    let (line, cut, is) = numbers_from_parts bytes numbers tail are in
+    (line, record { tail = tail; cut = cut; end = end; without_end = numbers_are_line line numbers is }, is)
 
-  pub front_from_line : (line : List ℕ) → IsFirstLine bytes line rest → IsLineOf letter numbers line → IsFrontOf
-  front_from_line line first is = (
-    is.parts ++ first.tail,
-    first.tail,
-    first.cut ∙ ap (λ l. l ++ first.tail) is.whole,
-    parts_in_front is.parts numbers first.tail is.are_numbers (line_end_ends_digits first.tail rest first.end),
-    first.end,
-  )
+pub parts_of_line : (bytes line rest : List ℕ) (numbers : List ℤ) → IsFirstLine bytes line rest → AreNumbers line numbers → (tail : List ℕ) × ArePartsFront bytes numbers tail × IsLineEnd tail rest
+parts_of_line bytes line rest numbers first are =
+    let tail = first.tail in
+    (tail, subst (λ bs. ArePartsFront bs numbers tail) (sym first.cut) (parts_in_front line numbers tail are (line_end_ends_digits tail rest first.end)), first.end)
 
-  pub line_from_front : letter ≢ line_feed → IsFrontOf → (line : List ℕ) × IsFirstLine bytes line rest × IsLineOf letter numbers line
-  line_from_front plain (after, tail, is, are, end) =
-      let parts = numbers_from_parts after numbers tail are in (
-        letter ∷ parts.0,
-        record {
-          tail = tail;
-          cut = is ∙ ap (λ bs. letter ∷ bs) parts.1;
-          end = end;
-          without_end = All-cons (λ b. b ≢ line_feed) letter parts.0 plain (numbers_are_line parts.0 numbers parts.2);
-        },
-        record { parts = parts.0; whole = refl; are_numbers = parts.2 },
-      )
+-- the first line has no such number of numbers
+abbrev pub NoNumbers : ℕ → List ℕ → Type 0
+NoNumbers count bytes = (line : List ℕ) (numbers : List ℤ) (rest : List ℕ) → length numbers ≡ count → All (FitsSigned w64) numbers → IsFirstLine bytes line rest → ¬ AreNumbers line numbers
 
--- where no such numbers and no end follow the letter, the first line is no such line
-pub no_line_without_numbers : (letter : ℕ) (bytes after : List ℕ) → bytes ≡ letter ∷ after → (numbers : List ℤ) (rest : List ℕ) → ((tail : List ℕ) → ArePartsFront after numbers tail → ¬ IsLineEnd tail rest) →
-    (line : List ℕ) → IsFirstLine bytes line rest → ¬ IsLineOf letter numbers line
-no_line_without_numbers letter bytes after letter_is numbers rest none line first is =
-    let front = front_from_line letter numbers bytes rest line first is in
-    let at = front.2 in
-    let same : front.0 ≡ after = cc (at, letter_is) in
-    none front.1 (subst (λ bs. ArePartsFront bs numbers front.1) same front.3) front.4
+-- where fewer numbers are read than the first line has, the next one stands in front, and where as many are, the line ends
+pub next_part : (bytes line rest after : List ℕ) (numbers others : List ℤ) → ArePartsFront bytes numbers after → length numbers < length others → All (FitsSigned w64) others → IsFirstLine bytes line rest → AreNumbers line others →
+    (n : ℤ) × (behind : List ℕ) × FitsSigned w64 n × IsPartFront after n behind
+next_part bytes line rest after numbers others are few fit first are' =
+    let (tail, parts, end) = parts_of_line bytes line rest others first are' in
+    let k = length numbers in
+    let later = parts_behind bytes numbers others after tail (omega (arith, few)) are parts in
+    let (behind, next, more) = subst (λ ns. ArePartsFront after ns tail) (drop_more others k (pos 0) few) later in
+    (get_or others k (pos 0), behind, fit k (pos 0) few, next)
 
--- where no end follows numbers, none follows as many others
-pub no_other_end : (bytes : List ℕ) (numbers : List ℤ) (tail : List ℕ) → ArePartsFront bytes numbers tail → ((rest : List ℕ) → ¬ IsLineEnd tail rest) →
-    (others : List ℤ) → length numbers ≡ length others → (tail' rest : List ℕ) → ArePartsFront bytes others tail' → ¬ IsLineEnd tail' rest
-no_other_end bytes numbers tail are none others many tail' rest are' end =
-    none rest (subst (λ t. IsLineEnd t rest) (sym (parts_unique bytes numbers others tail tail' many are are').1) end)
+pub end_of_parts : (bytes line rest after : List ℕ) (numbers others : List ℤ) → ArePartsFront bytes numbers after → length numbers ≡ length others → IsFirstLine bytes line rest → AreNumbers line others → IsLineEnd after rest
+end_of_parts bytes line rest after numbers others are many first are' =
+    let (tail, parts, end) = parts_of_line bytes line rest others first are' in
+    subst (λ bs. IsLineEnd bs rest) (sym (parts_unique bytes numbers others after tail many are parts).1) end
 
--- a line that is no `T` line, no `F` line and no `W` line asks for nothing
-pub no_query : (line : List ℕ) → ((u : ℤ) (n : ℕ) → ¬ IsTimeLine line u n) → ((f : Fields) → ¬ IsSearchLine line f) → ((count : ℕ) (f : Fields) → ¬ IsMeetingLine line count f) → (query : Query) → ¬ IsQueryLine line query
-no_query line no_time no_search no_meeting (Time u n) is = no_time u n is
-no_query line no_time no_search no_meeting (Search f) is = no_search f is
-no_query line no_time no_search no_meeting (Meeting count f) is = no_meeting count f is
+-- as many numbers in the first line are these alone
+pub numbers_unique : (bytes line line' rest rest' : List ℕ) (numbers others : List ℤ) → IsFirstLine bytes line rest → AreNumbers line numbers → IsFirstLine bytes line' rest' → AreNumbers line' others → length numbers ≡ length others → numbers ≡ others
+numbers_unique bytes line line' rest rest' numbers others first are first' are' many =
+    let (tail, parts, end) = parts_of_line bytes line rest numbers first are in
+    let (tail', parts', end') = parts_of_line bytes line' rest' others first' are' in
+    (parts_unique bytes numbers others tail tail' many parts parts').0
 
--- no such numbers stand in front, and the first line is no such line
-abbrev pub NoFields : List ℕ → Type 0
-NoFields bytes = (f : Fields) (tail rest : List ℕ) → AreFieldsOfBits f → ArePartsFront bytes (numbers_of f) tail → ¬ IsLineEnd tail rest
+-- a letter before the first line's numbers
+pub line_from_numbers : (letter : ℕ) (bytes after line rest : List ℕ) (numbers : List ℤ) → letter ≢ line_feed → bytes ≡ letter ∷ after → IsFirstLine after line rest → AreNumbers line numbers →
+    (text : List ℕ) × IsFirstLine bytes text rest × IsLineOf letter numbers text
+line_from_numbers letter bytes after line rest numbers plain is first are = (
+  letter ∷ line,
+  record { tail = first.tail; cut = is ∙ ap (λ bs. letter ∷ bs) first.cut; end = first.end; without_end = All-cons (λ b. b ≢ line_feed) letter line plain first.without_end },
+  record { parts = line; whole = refl; are_numbers = are },
+)
 
-abbrev pub NoTimeLine : List ℕ → Type 0
-NoTimeLine bytes = (u : ℤ) (n : ℕ) (rest : List ℕ) → ¬ IsTimeLineFront bytes u n rest
+pub line_from_front : (letter : ℕ) (numbers : List ℤ) (bytes after tail rest : List ℕ) → letter ≢ line_feed → bytes ≡ letter ∷ after → ArePartsFront after numbers tail → IsLineEnd tail rest →
+    (text : List ℕ) × IsFirstLine bytes text rest × IsLineOf letter numbers text
+line_from_front letter numbers bytes after tail rest plain is are end =
+    let (line, first, numbers_are) = line_of_parts after numbers tail rest are end in
+    line_from_numbers letter bytes after line rest numbers plain is first numbers_are
 
-abbrev pub NoSearchLine : List ℕ → Type 0
-NoSearchLine bytes = (f : Fields) (rest : List ℕ) → ¬ IsSearchLineFront bytes f rest
+-- the first line behind its letter
+behind_letter : (letter b : ℕ) (bytes after line rest : List ℕ) (numbers : List ℤ) → bytes ≡ b ∷ after → IsFirstLine bytes line rest → IsLineOf letter numbers line → (letter ≡ b) × (parts : List ℕ) × IsFirstLine after parts rest × AreNumbers parts numbers
+behind_letter letter b bytes after line rest numbers is first of =
+    let parts = of.parts in
+    let same : b ∷ after ≡ letter ∷ (parts ++ first.tail) = sym is ∙ first.cut ∙ ap (λ l. l ++ first.tail) of.whole in
+    let inside = All-tail (λ b. b ≢ line_feed) letter parts (subst IsLine of.whole first.without_end) in
+    (cc same, parts, record { tail = first.tail; cut = cc same; end = first.end; without_end = inside }, of.are_numbers)
 
-abbrev pub NoMeetingLine : List ℕ → Type 0
-NoMeetingLine bytes = (count : ℕ) (f : Fields) (rest : List ℕ) → ¬ IsMeetingLineFront bytes count f rest
+-- the first line asks for nothing
+abbrev pub NoQuery : List ℕ → Type 0
+NoQuery bytes = (line rest : List ℕ) (query : Query) → IsFirstLine bytes line rest → ¬ IsQueryLine line query
 
--- no fields follow the number of weeks
-pub no_fields_after_count : (bytes after : List ℕ) (count : ℕ) → IsPartFront bytes (pos count) after → NoFields after →
-    (count' : ℕ) (f : Fields) (tail rest : List ℕ) → AreFieldsOfBits f → ArePartsFront bytes (pos count' ∷ numbers_of f) tail → ¬ IsLineEnd tail rest
-no_fields_after_count bytes after count first none count' f tail rest fit (after', first', are) =
-    let same = (parts_unique bytes (pos count ∷ []) (pos count' ∷ []) after after' refl (after, first, refl) (after', first', refl)).1 in
-    none f tail rest fit (subst (λ bs. ArePartsFront bs (numbers_of f) tail) (sym same) are)
+module _ (bytes after : List ℕ) where
+  pub only_time : bytes ≡ time_letter ∷ after → ((line rest : List ℕ) (u : ℤ) (n : ℕ) → FitsSigned w64 u → n < 2 ^ 32 → IsFirstLine after line rest → ¬ AreNumbers line (u ∷ pos n ∷ [])) → NoQuery bytes
+  only_time is none line rest (Time u n) first of =
+      let (same, parts, inside, are) = behind_letter time_letter time_letter bytes after line rest (u ∷ pos n ∷ []) is first of.line_is in none parts rest u n of.seconds_fit of.nanoseconds_fit inside are
+  only_time is none line rest (Search f) first of = omega (arith, (behind_letter search_letter time_letter bytes after line rest (numbers_of f) is first of.line_is).0)
+  only_time is none line rest (Meeting count f) first of = omega (arith, (behind_letter meeting_letter time_letter bytes after line rest (pos count ∷ numbers_of f) is first of.line_is).0)
 
--- where some fields stand in front, and the next one does not follow, no fields do
-pub no_fields_after : (bytes : List ℕ) (read : List ℤ) (after : List ℕ) → ArePartsFront bytes read after → length read < 7 →
-    ((f : Fields) (rest : List ℕ) → AreFieldsOfBits f → ¬ IsPartFront after (get_or (numbers_of f) (length read) (pos 0)) rest) → NoFields bytes
-no_fields_after bytes read after are few none f rest end fit parts is_end =
-    let k = length read in
-    let numbers = numbers_of f in
-    let next = get_or numbers k (pos 0) in
-    let later = drop (k + 1) numbers in
-    let split : numbers ≡ take k numbers ++ next ∷ later = sym (take-append-drop k numbers) ∙ ap (λ ns. take k numbers ++ ns) (drop_more numbers k (pos 0) few) in
-    let long : k ≡ length (take k numbers) = sym (length-take-le k numbers (omega (arith, few))) in
-    no_part_after bytes read after are next (λ r. none f r fit) (take k numbers) long later rest (subst (λ ns. ArePartsFront bytes ns rest) split parts)
+  pub only_search : bytes ≡ search_letter ∷ after → ((line rest : List ℕ) (f : Fields) → AreFieldsOfBits f → IsFirstLine after line rest → ¬ AreNumbers line (numbers_of f)) → NoQuery bytes
+  only_search is none line rest (Time u n) first of = omega (arith, (behind_letter time_letter search_letter bytes after line rest (u ∷ pos n ∷ []) is first of.line_is).0)
+  only_search is none line rest (Search f) first of =
+      let (same, parts, inside, are) = behind_letter search_letter search_letter bytes after line rest (numbers_of f) is first of.line_is in none parts rest f of.fields_fit inside are
+  only_search is none line rest (Meeting count f) first of = omega (arith, (behind_letter meeting_letter search_letter bytes after line rest (pos count ∷ numbers_of f) is first of.line_is).0)
+
+  pub only_meeting : bytes ≡ meeting_letter ∷ after → ((line rest : List ℕ) (count : ℕ) (f : Fields) → count < 2 ^ 8 → AreFieldsOfBits f → IsFirstLine after line rest → ¬ AreNumbers line (pos count ∷ numbers_of f)) → NoQuery bytes
+  only_meeting is none line rest (Time u n) first of = omega (arith, (behind_letter time_letter meeting_letter bytes after line rest (u ∷ pos n ∷ []) is first of.line_is).0)
+  only_meeting is none line rest (Search f) first of = omega (arith, (behind_letter search_letter meeting_letter bytes after line rest (numbers_of f) is first of.line_is).0)
+  only_meeting is none line rest (Meeting count f) first of =
+      let (same, parts, inside, are) = behind_letter meeting_letter meeting_letter bytes after line rest (pos count ∷ numbers_of f) is first of.line_is in none parts rest count f of.count_fits of.fields_fit inside are
+
+-- the numbers of fields have 64 bits
+pub fields_fit : (f : Fields) → AreFieldsOfBits f → All (FitsSigned w64) (numbers_of f)
+fields_fit f fit =
+    All-from_recursion (FitsSigned w64) (numbers_of f)
+    (omega (arith, ints, fit.year_fits), (omega (arith, ints, fit.month_fits), (omega (arith, ints, fit.month_day_fits), (omega (arith, ints, fit.hour_fits), (omega (arith, ints, fit.minute_fits), (omega (arith, ints, fit.second_fits), (omega (arith, ints, fit.nanoseconds_fit), tt)))))))
+
+-- an unsigned number by its bits, and two and seven by their places
+pub unsigned_value : (k : ℕ) (x : ℤ) (v : ℕ) → FitsUnsignedBits k x × (v ≡ nat_abs x) → (v < 2 ^ k) × (pos v ≡ x)
+unsigned_value k (pos n) v (fits, is) = (subst (λ m. m < 2 ^ k) (sym is) fits, ap pos is)
+unsigned_value k (negsuc n) v (fits, is) = absurd fits
+
+pub two_numbers : (ns : List ℤ) → length ns ≡ 2 → ns ≡ get_or ns 0 (pos 0) ∷ get_or ns 1 (pos 0) ∷ []
+two_numbers (a ∷ b ∷ []) long = refl
+two_numbers _ long = absurd (omega (arith, long))
+
+pub seven_numbers : (ns : List ℤ) → length ns ≡ 7 → let d = pos 0 in ns ≡ get_or ns 0 d ∷ get_or ns 1 d ∷ get_or ns 2 d ∷ get_or ns 3 d ∷ get_or ns 4 d ∷ get_or ns 5 d ∷ get_or ns 6 d ∷ []
+seven_numbers (a ∷ b ∷ c ∷ d ∷ e ∷ f ∷ g ∷ []) long = refl
+seven_numbers _ long = absurd (omega (arith, long))
+
+-- what a result gives as an option
+pub none_if_not : {T E : Type 0} (r : Result T E) (P : Type 0) (v : T) → OkIff r P v → result_ok r ≡ None → ¬ P
+none_if_not (Ok x) P v is none = absurd (cc none)
+none_if_not (Err e) P v is none = is
+
+pub some_if : {T E : Type 0} (r : Result T E) (P : Type 0) (v x : T) → OkIff r P v → result_ok r ≡ Some x → P × (x ≡ v)
+some_if (Ok y) P v x is some = (is.0, cc (some, is.1))
+some_if (Err e) P v x is some = absurd (cc some)
+
+pub none_if_err : {T E : Type 0} (r : Result T E) (P : Type 0) → IfErr r (λ e. P) → result_ok r ≡ None → P
+none_if_err (Ok x) P is none = absurd (cc none)
+none_if_err (Err e) P is none = is
+
+pub some_if_ok : {T E : Type 0} (r : Result T E) (P : T → Type 0) (x : T) → IfOk r P → result_ok r ≡ Some x → P x
+some_if_ok (Ok y) P x is some = subst P (cc some) is
+some_if_ok (Err e) P x is some = absurd (cc some)
+
+-- the first line's query, where it is some or none
+pub query_is : (line : List ℕ) (asked : Option Query) (given query : Query) → MatchOption asked ((other : Query) → ¬ IsQueryLine line other) (λ other. IsQueryLine line other) → asked ≡ Some given → given ≡ query → IsQueryLine line query
+query_is line None given query is some same = absurd (cc some)
+query_is line (Some other) given query is some same = subst (IsQueryLine line) (cc (some, same)) is
+
+pub query_is_none : (line : List ℕ) (asked : Option Query) → MatchOption asked ((other : Query) → ¬ IsQueryLine line other) (λ other. IsQueryLine line other) → asked ≡ None → (query : Query) → ¬ IsQueryLine line query
+query_is_none line None is none = is
+query_is_none line (Some other) is none = absurd (cc none)

@@ -20,7 +20,9 @@ use Rattle.tz.specs.Found.{EachCanBeMade, IsFound}
 use Rattle.tz.specs.declared.datetime.found.FoundDateTimeKind.{FoundDateTimeKind}
 use Rattle.tz_query.specs.Lines.{line_feed, IsLine, IsCut, AreLines, ended}
 use Rattle.tz_query.specs.Numbers.{AreNumbers}
-use Rattle.tz_query.specs.Queries.{time_letter, search_letter, meeting_letter, Query, Time, Search, Meeting, IsLineOf, IsQueryLine, numbers_of}
+use Rattle.tz_query.specs.declared.query.lines.Query.{Query}
+use Rattle.tz_query.specs.declared.query.lines.Query.TheVariants.{Time, Search, Meeting}
+use Rattle.tz_query.specs.Queries.{time_letter, search_letter, meeting_letter, IsLineOf, IsQueryLine, numbers_of}
 use Rattle.tz_query.specs.MeetingDates.{IsWeekOf, day_after, midnight}
 use Rattle.tz_query.specs.Answers.{moment_text, entry_text, field_fault_text, found_lines, meeting_lines, IsFaultText, IsTimeAnswer, IsSearchAnswer, IsWeekAnswer, AreWeekAnswers, IsMeetingAnswer, IsQueryAnswer, IsAnswer, AreAnswers, IsSearchGroup, IsGroup}
 use Rattle.tz_query.proofs.AnswerLines.{no_lines}

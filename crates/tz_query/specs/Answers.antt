@@ -18,7 +18,9 @@ use Rattle.tz.specs.declared.datetime.found.FoundDateTimeKind.{FoundDateTimeKind
 use Rattle.tz.specs.declared.datetime.found.FoundDateTimeKind.TheVariants.{Normal, Skipped}
 use Rattle.tz_query.specs.Lines.{AreLines, ended}
 use Rattle.tz_query.specs.Numbers.{space}
-use Rattle.tz_query.specs.Queries.{Query, Time, Search, Meeting, IsQueryLine}
+use Rattle.tz_query.specs.declared.query.lines.Query.{Query}
+use Rattle.tz_query.specs.declared.query.lines.Query.TheVariants.{Time, Search, Meeting}
+use Rattle.tz_query.specs.Queries.{IsQueryLine}
 use Rattle.tz_query.specs.MeetingDates.{IsInYears, IsWeekOf, day_after}
 
 -- a date time and the name of its type

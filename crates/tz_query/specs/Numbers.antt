@@ -1,5 +1,5 @@
 -- Numbers as lines have them.
-use Rattle.std.specs.Prelude.{◌≡◌, ℕ, ◌<◌, ◌≤◌, ◌⊎◌, ℤ, pos, neg_ℤ, List, [], ◌∷◌, ◌++◌}
+use Rattle.std.specs.Prelude.{◌≡◌, ℕ, ◌<◌, ◌⊎◌, ℤ, pos, neg_ℤ, List, [], ◌∷◌, ◌++◌}
 use Rattle.std.specs.Char.{digit_value}
 use Rattle.std.specs.Str.Parse.{AllDigits, IsNumeral, digits_value}
 
@@ -26,10 +26,6 @@ pub record IsDigitsFront (bytes digits rest : List ℕ) : Type 0 where
   pub whole : bytes ≡ digits ++ rest
   pub all_digits : AllDigits 10 digits
   pub ends : EndsDigits rest
-
--- the value of the digits, or for every value of 10^19 and more any such number
-abbrev pub IsCapped : List ℕ → ℕ → Type 0
-IsCapped digits n = (digits_value 10 digits ≡ n) ⊎ ((10000000000000000000 ≤ n) × (10000000000000000000 ≤ digits_value 10 digits))
 
 -- the number in front of the bytes, and what follows it
 pub record IsNumberFront (bytes : List ℕ) (n : ℤ) (rest : List ℕ) : Type 0 where

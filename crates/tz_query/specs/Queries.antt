@@ -2,14 +2,10 @@
 use Rattle.std.specs.Prelude.{◌≡◌, ℕ, ◌^◌, ◌<◌, ℤ, pos, List, [], ◌∷◌, FitsSigned}
 use Rattle.std.specs.Int.{w32, w64}
 use Rattle.tz_base.specs.declared.fields.Fields.{Fields}
+use Rattle.tz_query.specs.declared.query.lines.Query.{Query}
+use Rattle.tz_query.specs.declared.query.lines.Query.TheVariants.{Time, Search, Meeting}
 use Rattle.tz_query.specs.Lines.{IsFirstLine}
 use Rattle.tz_query.specs.Numbers.{AreNumbers}
-
--- what a line asks for: the date time of an instant, with nanoseconds, the date times of fields, or those of fields in a number of weeks
-pub data Query : Type 0 where
-  Time : ℤ → ℕ → Query
-  Search : Fields → Query
-  Meeting : ℕ → Fields → Query
 
 -- the letters with which lines begin
 abbrev pub time_letter : ℕ
@@ -71,7 +67,3 @@ IsTimeLineFront bytes u n rest = (line : List ℕ) × IsFirstLine bytes line res
 -- it is an `F` line
 abbrev pub IsSearchLineFront : List ℕ → Fields → List ℕ → Type 0
 IsSearchLineFront bytes f rest = (line : List ℕ) × IsFirstLine bytes line rest × IsSearchLine line f
-
--- it is a `W` line
-abbrev pub IsMeetingLineFront : List ℕ → ℕ → Fields → List ℕ → Type 0
-IsMeetingLineFront bytes count f rest = (line : List ℕ) × IsFirstLine bytes line rest × IsMeetingLine line count f

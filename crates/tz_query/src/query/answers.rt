@@ -8,10 +8,7 @@ ghost use Rattle.tz_query.specs.Caches.{IsCacheOf};
 ghost use Rattle.tz_query.specs.Outputs.{written};
 
 use super::cache::Cache;
-use super::lines::{
-    after_line, read_any_year_search_line, read_meeting_line, read_search_line, read_time_line,
-    read_usual_search_line, read_usual_time_line,
-};
+use super::lines::{Query, read_query, read_usual_search_line, read_usual_time_line};
 use super::output::Output;
 use super::search_answers::{answer_any_search, answer_search};
 use super::time_answers::{answer_any_time, answer_time};
@@ -36,25 +33,18 @@ fn answer_any_line<'b, A: Allocator + Copy>(
         × IsAnswer (zone_of zone.entry.now) text answer × (written output.new ≡ written output.old ++ ended answer)) }
     ensures cached { IsCacheOf (zone_of zone.entry.now) cache.new }
 {
-    let mut nine = [0; 9];
-    if let Some((fields, rest)) = read_any_year_search_line(queries, &mut nine) {
-        answer_search(alloc, output, cache, zone, &fields, &nine)?;
-        return Ok(queries.len() - rest.len());
+    let (query, rest) = read_query(queries);
+    match query {
+        Some(Query::Time(unix_time, nanoseconds)) => {
+            answer_any_time(output, cache, zone, unix_time, nanoseconds)?
+        }
+        Some(Query::Search(fields)) => answer_any_search(alloc, output, cache, zone, &fields)?,
+        Some(Query::Meeting(count, fields)) => {
+            answer_meeting(alloc, output, cache, zone, &fields, count)?
+        }
+        None => output.push_error("Line")?,
     }
-    if let Some((count, fields, rest)) = read_meeting_line(queries) {
-        answer_meeting(alloc, output, cache, zone, &fields, count)?;
-        return Ok(queries.len() - rest.len());
-    }
-    if let Some((unix_time, nanoseconds, rest)) = read_time_line(queries) {
-        answer_any_time(output, cache, zone, unix_time, nanoseconds)?;
-        return Ok(queries.len() - rest.len());
-    }
-    if let Some((fields, rest)) = read_search_line(queries) {
-        answer_any_search(alloc, output, cache, zone, &fields)?;
-        return Ok(queries.len() - rest.len());
-    }
-    output.push_error("Line")?;
-    Ok(queries.len() - after_line(queries).len())
+    Ok(queries.len() - rest.len())
 }
 
 /// Answers the first line, and returns the bytes after that line.

@@ -1,32 +1,27 @@
 //! The first line of bytes, and its query.
 
-ghost use Rattle.std.specs.Prelude.{◌≡◌, ℕ, ◌+◌, ◌<◌, ◌≤◌, ◌∷◌, List, drop, ℤ, pos, negsuc, ◌≤ℤ◌, length, IfSome, IfNone};
+ghost use Rattle.std.specs.Prelude.{◌≡◌, ◌≢◌, ℕ, ◌+◌, ◌<◌, ◌≤◌, ◌∷◌, List, drop, ℤ, pos, negsuc, ◌≤ℤ◌, length, IfSome, IfNone, IfOk, IfErr, MatchOption};
 ghost use Rattle.tz_base.specs.declared.fields.Fields.{Fields};
 ghost use Rattle.tz.specs.PrintedText.{nine_digits};
+ghost use Rattle.tz_query.specs.declared.query.lines.Query.{Query};
 ghost use Rattle.tz_query.specs.Lines.{IsLineEnd, IsFirstLine};
 ghost use Rattle.tz_query.specs.Numbers.{ArePartsFront};
-ghost use Rattle.tz_query.specs.Queries.{AreFieldsOfBits, numbers_of, IsTimeLineFront, IsSearchLineFront, IsMeetingLineFront};
+ghost use Rattle.tz_query.specs.Queries.{AreFieldsOfBits, numbers_of, IsQueryLine, IsTimeLineFront, IsSearchLineFront};
 
-use crate::query::numbers::{
-    number_of_nine, read_i32, read_i64, read_nanoseconds, read_seconds, read_small, read_u8,
-    read_u32, read_year,
-};
+use crate::query::numbers::{read_nanoseconds, read_numbers, read_seconds, read_small, read_year};
+use std::num::TryFromIntError;
 use tz::inner::{Fields, after_byte};
 
-/// The bytes after the end of a line, if it ends here: after an LF, or none where there are none.
-#[inline(always)]
-fn after_line_end(bytes: &[u8]) -> Option<&[u8]>
-    ensures some { IfSome result (λ rest. IsLineEnd bytes.now rest.now) }
-    ensures none { IfNone result ((rest : List ℕ) → ¬ IsLineEnd bytes.now rest) }
-{
-    if bytes.is_empty() {
-        return Some(bytes);
-    }
-    after_byte(bytes, b'\n')
+/// What a line asks for: the date time of an instant, with nanoseconds, the date times of fields, or those of fields in a number of weeks.
+#[derive(Drop)]
+pub enum Query {
+    Time(i64, u32),
+    Search(Fields),
+    Meeting(u8, Fields),
 }
 
 /// The bytes after the first line.
-pub fn after_line(bytes: &[u8]) -> &[u8]
+fn after_line(bytes: &[u8]) -> &[u8]
     ensures { (line : List ℕ) × IsFirstLine bytes.now line result.now }
 {
     for (place, byte) in bytes.iter().enumerate() {
@@ -37,54 +32,55 @@ pub fn after_line(bytes: &[u8]) -> &[u8]
     &[]
 }
 
-/// The fields at the beginning of the bytes, if they are numbers of their types, each after a space, and the line ends after them, and the
-/// bytes after that line.
-fn read_fields(bytes: &[u8]) -> Option<(Fields, &[u8])>
-    ensures some { IfSome result (λ r. AreFieldsOfBits r.0
-        × (tail : List ℕ) × ArePartsFront bytes.now (numbers_of r.0) tail × IsLineEnd tail r.1.now) }
-    ensures none { IfNone result ((f : Fields) (tail rest : List ℕ) → AreFieldsOfBits f → ArePartsFront bytes.now (numbers_of f) tail → ¬ IsLineEnd tail rest) }
+/// The fields of these numbers, if each is one of its field's type.
+fn fields_of(numbers: &[i64]) -> Result<Fields, TryFromIntError>
+    requires { length numbers.now ≡ 7 }
+    ensures ok { IfOk result (λ f. AreFieldsOfBits f × (numbers_of f ≡ numbers.now)) }
+    ensures err { IfErr result (λ e. (f : Fields) → AreFieldsOfBits f → numbers_of f ≢ numbers.now) }
 {
-    let (year, after_year) = read_i32(bytes)?;
-    let (month, after_month) = read_u8(after_year)?;
-    let (month_day, after_day) = read_u8(after_month)?;
-    let (hour, after_hour) = read_u8(after_day)?;
-    let (minute, after_minute) = read_u8(after_hour)?;
-    let (second, after_second) = read_u8(after_minute)?;
-    let (nanoseconds, tail) = read_u32(after_second)?;
-    let rest = after_line_end(tail)?;
-    let fields = Fields {
-        year,
-        month,
-        month_day,
-        hour,
-        minute,
-        second,
-        nanoseconds,
-    };
-    Some((fields, rest))
+    Ok(Fields {
+        year: i32::try_from(numbers[0])?,
+        month: u8::try_from(numbers[1])?,
+        month_day: u8::try_from(numbers[2])?,
+        hour: u8::try_from(numbers[3])?,
+        minute: u8::try_from(numbers[4])?,
+        second: u8::try_from(numbers[5])?,
+        nanoseconds: u32::try_from(numbers[6])?,
+    })
 }
 
-/// The instant and the nanoseconds of the first line, if it is a `T` line, and the bytes after it.
-#[inline(always)]
-pub fn read_time_line(bytes: &[u8]) -> Option<(i64, u32, &[u8])>
-    ensures some { IfSome result (λ r. IsTimeLineFront bytes.now r.0 r.1 r.2.now) }
-    ensures none { IfNone result ((u : ℤ) (n : ℕ) (rest : List ℕ) → ¬ IsTimeLineFront bytes.now u n rest) }
+/// What the first line asks for, if it is a query, and the bytes after that line.
+fn read_query_line(queries: &[u8]) -> Option<(Query, &[u8])>
+    ensures some { IfSome result (λ r. (line : List ℕ) × IsFirstLine queries.now line r.1.now × IsQueryLine line r.0) }
+    ensures none { IfNone result ((line rest : List ℕ) (query : Query) → IsFirstLine queries.now line rest → ¬ IsQueryLine line query) }
 {
-    let parts = after_byte(bytes, b'T')?;
-    let (unix_time, after_seconds) = read_i64(parts)?;
-    let (nanoseconds, tail) = read_u32(after_seconds)?;
-    let rest = after_line_end(tail)?;
-    Some((unix_time, nanoseconds, rest))
+    if let Some(parts) = after_byte(queries, b'T') {
+        let (numbers, rest) = read_numbers::<2>(parts)?;
+        let nanoseconds = u32::try_from(numbers[1]).ok()?;
+        return Some((Query::Time(numbers[0], nanoseconds), rest));
+    }
+    if let Some(parts) = after_byte(queries, b'F') {
+        let (numbers, rest) = read_numbers::<7>(parts)?;
+        let fields = fields_of(&numbers).ok()?;
+        return Some((Query::Search(fields), rest));
+    }
+    let parts = after_byte(queries, b'W')?;
+    let (numbers, rest) = read_numbers::<8>(parts)?;
+    let count = u8::try_from(numbers[0]).ok()?;
+    let fields = fields_of(&numbers[1..]).ok()?;
+    Some((Query::Meeting(count, fields), rest))
 }
 
-/// The fields of the first line, if it is an `F` line, and the bytes after it.
+/// What the first line asks for, if it is a query, and the bytes after that line.
 #[inline(never)]
-pub fn read_search_line(bytes: &[u8]) -> Option<(Fields, &[u8])>
-    ensures some { IfSome result (λ r. IsSearchLineFront bytes.now r.0 r.1.now) }
-    ensures none { IfNone result ((f : Fields) (rest : List ℕ) → ¬ IsSearchLineFront bytes.now f rest) }
+pub fn read_query(queries: &[u8]) -> (Option<Query>, &[u8])
+    ensures { (line : List ℕ) × IsFirstLine queries.now line result.1.now
+        × MatchOption result.0 ((query : Query) → ¬ IsQueryLine line query) (λ query. IsQueryLine line query) }
 {
-    let parts = after_byte(bytes, b'F')?;
-    read_fields(parts)
+    match read_query_line(queries) {
+        Some((query, rest)) => (Some(query), rest),
+        None => (None, after_line(queries)),
+    }
 }
 
 /// The instant of the first line, if it is a `T` line of usual numbers, and the bytes after it. Its nanoseconds are copied.
@@ -142,20 +138,6 @@ fn read_usual_fields<'a>(
     Some((fields, &bytes[line_end + 1..]))
 }
 
-/// The fields at the beginning of the bytes, a year of any number of digits and usual numbers after it, each after a space, if the line
-/// ends after them, and the bytes after that line. Their nanoseconds are copied, and are 0 in the fields.
-#[inline(always)]
-fn read_any_year_fields<'a>(bytes: &'a [u8], nine: &mut [u8; 9]) -> Option<(Fields, &'a [u8])>
-    ensures { IfSome result (λ r. (n : ℕ) × (n < 1000000000) × (nine.new ≡ nine_digits n) × AreFieldsOfBits (record r.0 { nanoseconds = n })
-        × (tail : List ℕ) × ArePartsFront bytes.now (numbers_of (record r.0 { nanoseconds = n })) tail × IsLineEnd tail r.1.now) }
-{
-    let (year, after_year) = read_i32(bytes)?;
-    if after_year.len() < 32 || after_year[0] != b' ' {
-        return None;
-    }
-    read_usual_fields(after_year, year, 0, nine)
-}
-
 /// The fields of the first line, if it is an `F` line of a year of four digits and usual numbers, and the bytes after it. Its nanoseconds
 /// are copied, and are 0 in the fields.
 #[inline(always)]
@@ -171,53 +153,4 @@ pub fn read_usual_search_line<'a>(
     }
     let year = read_year(queries, 2)?;
     read_usual_fields(queries, i32::from(year), 6, nine)
-}
-
-/// The fields of the first line, if it is an `F` line of a year of any number of digits and usual numbers, and the bytes after it. Its
-/// nanoseconds are copied, and are 0 in the fields.
-#[inline(always)]
-pub fn read_any_year_search_line<'a>(
-    queries: &'a [u8],
-    nine: &mut [u8; 9],
-) -> Option<(Fields, &'a [u8])>
-    ensures { IfSome result (λ r. (n : ℕ) × (n < 1000000000) × (nine.new ≡ nine_digits n)
-        × IsSearchLineFront queries.now (record r.0 { nanoseconds = n }) r.1.now) }
-{
-    let parts = after_byte(queries, b'F')?;
-    read_any_year_fields(parts, nine)
-}
-
-/// The number of weeks, if it is below 100, and the fields of the first line, if it is a `W` line of a year of any number of digits and
-/// usual numbers, and the bytes after it. Its nanoseconds are copied, and are 0 in the fields.
-#[inline(always)]
-fn read_usual_meeting_line<'a>(
-    queries: &'a [u8],
-    nine: &mut [u8; 9],
-) -> Option<(u8, Fields, &'a [u8])>
-    ensures { IfSome result (λ r. (n : ℕ) × (n < 1000000000) × (nine.new ≡ nine_digits n)
-        × IsMeetingLineFront queries.now r.0 (record r.1 { nanoseconds = n }) r.2.now) }
-{
-    if queries.len() < 48 || queries[0] != b'W' || queries[1] != b' ' {
-        return None;
-    }
-    let (count, after_count) = read_small(queries, 2)?;
-    let (fields, rest) = read_any_year_fields(&queries[after_count..], nine)?;
-    Some((count, fields, rest))
-}
-
-/// The number of weeks and the fields of the first line, if it is a `W` line, and the bytes after it.
-#[inline(never)]
-pub fn read_meeting_line(bytes: &[u8]) -> Option<(u8, Fields, &[u8])>
-    ensures some { IfSome result (λ r. IsMeetingLineFront bytes.now r.0 r.1 r.2.now) }
-    ensures none { IfNone result ((count : ℕ) (f : Fields) (rest : List ℕ) → ¬ IsMeetingLineFront bytes.now count f rest) }
-{
-    let mut nine = [0; 9];
-    if let Some((count, mut fields, rest)) = read_usual_meeting_line(bytes, &mut nine) {
-        fields.nanoseconds = number_of_nine(&nine);
-        return Some((count, fields, rest));
-    }
-    let parts = after_byte(bytes, b'W')?;
-    let (count, after_count) = read_u8(parts)?;
-    let (fields, rest) = read_fields(after_count)?;
-    Some((count, fields, rest))
 }

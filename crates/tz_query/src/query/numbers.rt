@@ -1,32 +1,16 @@
 //! Numbers at the beginning of bytes: of any length, and, read in few steps, those that lines mostly have.
 
-ghost use Rattle.std.specs.Prelude.{◌≡◌, ◌≢◌, ℕ, ◌+◌, ◌*◌, ◌^◌, ◌<◌, ◌≤◌, List, length, ◌∷◌, drop, ℤ, pos, negsuc, ◌≤ℤ◌, IfSome, IfNone, FitsSigned};
+ghost use Rattle.std.specs.Prelude.{◌≡◌, ℕ, min, ◌+◌, ◌<◌, ◌≤◌, List, length, ◌∷◌, drop, ℤ, pos, negsuc, ◌≤ℤ◌, All, IfSome, IfNone, FitsSigned};
 ghost use Rattle.std.specs.Char.{digit_value};
-ghost use Rattle.std.specs.Int.{w32, w64};
+ghost use Rattle.std.specs.Int.{w64};
 ghost use Rattle.std.specs.Str.Parse.{digits_value};
 ghost use Rattle.tz.specs.PrintedText.{nine_digits};
-ghost use Rattle.tz_query.specs.Numbers.{IsNumberFront, IsDigitsFront, IsCapped, IsPartFront, EndsDigits};
+ghost use Rattle.tz_query.specs.Lines.{IsFirstLine};
+ghost use Rattle.tz_query.specs.Numbers.{AreNumbers, IsDigitsFront, IsNumberFront, IsPartFront};
 
 use core::dec2flt;
 use tz::constants::NANOSECONDS_PER_SECOND;
 use tz::inner::{TextBuffer, after_byte};
-
-/// From here on one more digit makes a number that no type of 64 bits has.
-const LIMIT: u64 = 1_000_000_000_000_000_000;
-
-/// The number with one more digit, where every number of 10^19 and more is as good as any other.
-#[inline(always)]
-fn with_digit(number: u64, digit: u8) -> u64
-    requires { digit < 10 }
-    ensures exact { number < 1000000000000000000 → result ≡ number * 10 + digit }
-    ensures past { 1000000000000000000 ≤ number → 10000000000000000000 ≤ result }
-{
-    if number < LIMIT {
-        number * 10 + u64::from(digit)
-    } else {
-        u64::MAX
-    }
-}
 
 /// The value of a digit, which is below 10; for every other byte it is 10 or more.
 #[inline(always)]
@@ -37,34 +21,20 @@ fn value_of(byte: u8) -> u8
     byte.wrapping_sub(b'0')
 }
 
-/// The number of the digits at the beginning of the bytes, and the bytes after them.
+/// The number of the digits at the beginning of the bytes, or 2^64 - 1 where it is greater, and the bytes after them.
 #[inline(always)]
 fn read_digits(bytes: &[u8]) -> (u64, &[u8])
-    ensures { (digits : List ℕ) × IsDigitsFront bytes.now digits result.1.now × IsCapped digits result.0 }
+    ensures { (digits : List ℕ) × IsDigitsFront bytes.now digits result.1.now × (result.0 ≡ min (digits_value 10 digits) u64.MAX) }
 {
-    let mut number = 0;
+    let mut size = 0u64;
     for (place, byte) in bytes.iter().enumerate() {
-        let value = value_of(*byte);
-        if value >= 10 {
-            return (number, &bytes[place..]);
+        let digit = value_of(*byte);
+        if digit >= 10 {
+            return (size, &bytes[place..]);
         }
-        number = with_digit(number, value);
+        size = size.saturating_mul(10).saturating_add(u64::from(digit));
     }
-    (number, &[])
-}
-
-/// The number of the digits at the beginning of the bytes, if there are any, and the bytes after them.
-#[inline(always)]
-fn read_size(bytes: &[u8]) -> Option<(u64, &[u8])>
-    ensures some { IfSome result (λ r. (digits : List ℕ) × IsDigitsFront bytes.now digits r.1.now × (0 < length digits) × IsCapped digits r.0) }
-    ensures none { IfNone result (EndsDigits bytes.now) }
-{
-    let (size, rest) = read_digits(bytes);
-    if rest.len() == bytes.len() {
-        None
-    } else {
-        Some((size, rest))
-    }
+    (size, &[])
 }
 
 /// The number at the beginning of the bytes, if there is one of 64 bits, and the bytes after it.
@@ -73,65 +43,36 @@ pub fn read_number(bytes: &[u8]) -> Option<(i64, &[u8])>
     ensures some { IfSome result (λ r. IsNumberFront bytes.now r.0 r.1.now) }
     ensures none { IfNone result ((n : ℤ) (rest : List ℕ) → FitsSigned w64 n → ¬ IsNumberFront bytes.now n rest) }
 {
-    match after_byte(bytes, b'-') {
-        Some(digits) => {
-            let (size, rest) = read_size(digits)?;
-            let number = 0i64.checked_sub_unsigned(size)?;
-            Some((number, rest))
-        }
-        None => {
-            let (size, rest) = read_size(bytes)?;
-            let number = 0i64.checked_add_unsigned(size)?;
-            Some((number, rest))
-        }
+    let (size, rest) = read_digits(bytes);
+    if rest.len() < bytes.len() {
+        return Some((0i64.checked_add_unsigned(size)?, rest));
     }
+    let digits = after_byte(bytes, b'-')?;
+    let (size, rest) = read_digits(digits);
+    if rest.len() == digits.len() {
+        return None;
+    }
+    Some((0i64.checked_sub_unsigned(size)?, rest))
 }
 
-/// The number after a space at the beginning of the bytes, if there is one of 64 bits, and the bytes after it.
+/// As many numbers at the beginning of the bytes as are asked for, each of 64 bits and after a space, if the line ends after them, and the
+/// bytes after that line.
 #[inline(always)]
-pub fn read_i64(bytes: &[u8]) -> Option<(i64, &[u8])>
-    ensures some { IfSome result (λ r. IsPartFront bytes.now r.0 r.1.now) }
-    ensures none { IfNone result ((n : ℤ) (rest : List ℕ) → FitsSigned w64 n → ¬ IsPartFront bytes.now n rest) }
+pub fn read_numbers<const N: usize>(bytes: &[u8]) -> Option<([i64; N], &[u8])>
+    ensures some { IfSome result (λ r. (line : List ℕ) × IsFirstLine bytes.now line r.1.now × AreNumbers line r.0) }
+    ensures none { IfNone result ((line : List ℕ) (numbers : List ℤ) (rest : List ℕ) → length numbers ≡ N → All (FitsSigned w64) numbers
+        → IsFirstLine bytes.now line rest → ¬ AreNumbers line numbers) }
 {
-    let number = after_byte(bytes, b' ')?;
-    read_number(number)
-}
-
-/// The number of 32 bits after a space at the beginning of the bytes, if there is one, and the bytes after it.
-pub fn read_i32(bytes: &[u8]) -> Option<(i32, &[u8])>
-    ensures some { IfSome result (λ r. IsPartFront bytes.now r.0 r.1.now) }
-    ensures none { IfNone result ((n : ℤ) (rest : List ℕ) → FitsSigned w32 n → ¬ IsPartFront bytes.now n rest) }
-{
-    let (number, rest) = read_i64(bytes)?;
-    match i32::try_from(number) {
-        Ok(number) => Some((number, rest)),
-        Err(_) => None,
+    let mut numbers = [0; N];
+    let mut rest = bytes;
+    for place in 0..N {
+        let number = after_byte(rest, b' ')?;
+        (numbers[place], rest) = read_number(number)?;
     }
-}
-
-/// The number without a sign of 32 bits after a space at the beginning of the bytes, if there is one, and the bytes after it.
-#[inline(always)]
-pub fn read_u32(bytes: &[u8]) -> Option<(u32, &[u8])>
-    ensures some { IfSome result (λ r. IsPartFront bytes.now (pos r.0) r.1.now) }
-    ensures none { IfNone result ((n : ℕ) (rest : List ℕ) → n < 2 ^ 32 → ¬ IsPartFront bytes.now (pos n) rest) }
-{
-    let (number, rest) = read_i64(bytes)?;
-    match u32::try_from(number) {
-        Ok(number) => Some((number, rest)),
-        Err(_) => None,
+    if rest.is_empty() {
+        return Some((numbers, rest));
     }
-}
-
-/// The number without a sign of 8 bits after a space at the beginning of the bytes, if there is one, and the bytes after it.
-pub fn read_u8(bytes: &[u8]) -> Option<(u8, &[u8])>
-    ensures some { IfSome result (λ r. IsPartFront bytes.now (pos r.0) r.1.now) }
-    ensures none { IfNone result ((n : ℕ) (rest : List ℕ) → n < 2 ^ 8 → ¬ IsPartFront bytes.now (pos n) rest) }
-{
-    let (number, rest) = read_i64(bytes)?;
-    match u8::try_from(number) {
-        Ok(number) => Some((number, rest)),
-        Err(_) => None,
-    }
+    Some((numbers, after_byte(rest, b'\n')?))
 }
 
 /// The number of the digits at a place, if there are 1 to 18, and the place after them.

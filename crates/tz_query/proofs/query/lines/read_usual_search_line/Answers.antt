@@ -17,7 +17,7 @@ returns c =
     let value : to_z w32 (of_z w32 c.from.result) ≡ pos c.in_ok-year.year = omega (arith, ints, c.from.ensures, c.in_ok-year.ensures.bound) in
     let year : IsPartFront (drop 1 q) (to_z w32 (of_z w32 c.from.result)) (drop 6 q) = rw value (drop 2 q, space, c.in_ok-year.ensures.number) in
     IfSome_then c.read_usual_fields.result c.read_usual_fields.ensures (λ r (n, few, digits, same, fit, tail, parts, end).
-    let line = line_from_front search_letter (numbers_of (record r.0 { nanoseconds = n })) q r.1.now (λ e. absurd (omega (arith, e))) (drop 1 q, tail, letter, (drop 6 q, subst (λ y. IsPartFront (drop 1 q) y (drop 6 q)) (sym same) year, parts), end) in
+    let line = line_from_front search_letter (numbers_of (record r.0 { nanoseconds = n })) q (drop 1 q) tail r.1.now (λ e. absurd (omega (arith, e))) letter (drop 6 q, subst (λ y. IsPartFront (drop 1 q) y (drop 6 q)) (sym same) year, parts) end in
     (n, few, digits, (line.0, line.1, record { line_is = line.2; fields_fit = fit })))
 
 pub read_usual_fields-requires-clause-space : goal.read_usual_fields-requires-clause-space

@@ -1,13 +1,12 @@
 -- Each digit is one more.
-use Rattle.std.proofs.Common.{◌+◌, ◌*◌, ◌∙◌, ap, arith}
-use Rattle.tz_query.proofs.NumberFronts.{digits_more, capped_more}
+use Rattle.std.proofs.Common.{arith}
+use Rattle.std.proofs.lemmas.Int.Digits.{digits_more, digits_value_more}
 use Rattle.tz_query.proofs.query.numbers.read_digits.Goals as goal
 
 pub loop-place-preserved : goal.loop-place-preserved
 loop-place-preserved c =
+    let bs = c.args.bytes.now in
     let loop = c.loop-place in
-    let step = c.with_digit-number.ensures in
-    let is_digit = c.value_of-value.ensures.digit (omega arith) in (
-      digits_more c.args.bytes.now loop.place (omega arith) loop.invariant.0 is_digit.0,
-      capped_more c.args.bytes.now loop.place loop.number _ (omega arith) loop.invariant.1 (λ below. step.exact below ∙ ap (λ v. loop.number * 10 + v) is_digit.1) step.past,
-    )
+    let (digit, value) = c.value_of-digit.ensures.digit (omega arith) in
+    let more = digits_value_more 10 bs loop.place (omega arith) in
+    (digits_more 10 bs loop.place (omega arith) loop.invariant.0 digit, omega (arith, more, value, loop.invariant.1, c.saturating_mul.ensures, c.from.ensures, c.saturating_add-size.ensures))

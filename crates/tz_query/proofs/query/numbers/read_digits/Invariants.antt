@@ -1,7 +1,6 @@
-use Rattle.std.proofs.Common.{take}
-use Rattle.std.specs.Str.Parse.{AllDigits}
-use Rattle.tz_query.specs.Numbers.{IsCapped}
+use Rattle.std.proofs.Common.{◌≡◌, take, min}
+use Rattle.std.specs.Str.Parse.{AllDigits, digits_value}
 use Rattle.tz_query.proofs.query.numbers.read_digits.Given as goal
 
 abbrev pub invariant-loop-place : goal.invariant-loop-place
-invariant-loop-place l = AllDigits 10 (take l.place l.bytes) × IsCapped (take l.place l.bytes) l.number
+invariant-loop-place l = AllDigits 10 (take l.place l.bytes) × (l.size ≡ min (digits_value 10 (take l.place l.bytes)) 18446744073709551615)
