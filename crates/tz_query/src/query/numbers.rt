@@ -21,10 +21,12 @@ fn value_of(byte: u8) -> u8
     byte.wrapping_sub(b'0')
 }
 
-/// The number of the digits at the beginning of the bytes, or 2^64 - 1 where it is greater, and the bytes after them.
+/// The number of the digits at the beginning of the bytes, or another one from 10^19 on in the place of such a number, and the bytes after
+/// them.
 #[inline(always)]
 fn read_digits(bytes: &[u8]) -> (u64, &[u8])
-    ensures { (digits : List ℕ) × IsDigitsFront bytes.now digits result.1.now × (result.0 ≡ min (digits_value 10 digits) u64.MAX) }
+    ensures { (digits : List ℕ) × IsDigitsFront bytes.now digits result.1.now
+        × (min result.0 10000000000000000000 ≡ min (digits_value 10 digits) 10000000000000000000) }
 {
     let mut size = 0u64;
     for (place, byte) in bytes.iter().enumerate() {
@@ -32,17 +34,22 @@ fn read_digits(bytes: &[u8]) -> (u64, &[u8])
         if digit >= 10 {
             return (size, &bytes[place..]);
         }
-        size = size.saturating_mul(10).saturating_add(u64::from(digit));
+        size = size.min(1_000_000_000_000_000_000) * 10 + u64::from(digit);
     }
     (size, &[])
 }
 
-/// The number at the beginning of the bytes, if there is one of 64 bits, and the bytes after it.
-#[inline]
+/// The number at the beginning of the bytes, if there is one of 64 bits, and the bytes after it. Most have one digit or two.
+#[inline(always)]
 pub fn read_number(bytes: &[u8]) -> Option<(i64, &[u8])>
     ensures some { IfSome result (λ r. IsNumberFront bytes.now r.0 r.1.now) }
     ensures none { IfNone result ((n : ℤ) (rest : List ℕ) → FitsSigned w64 n → ¬ IsNumberFront bytes.now n rest) }
 {
+    if bytes.len() >= 3
+        && let Some((number, end)) = read_small(bytes, 0)
+    {
+        return Some((i64::from(number), &bytes[end..]));
+    }
     let (size, rest) = read_digits(bytes);
     if rest.len() < bytes.len() {
         return Some((0i64.checked_add_unsigned(size)?, rest));

@@ -43,8 +43,8 @@ returns-in_err-checked_sub_unsigned-clause-none c =
     let number = minus_number bytes behind digits rest c.in_ok-digits.ensures front (some_digits behind digits rest front (omega (arith, c.if-rest-digits.false, ap length front.whole, length-append digits rest))) in
     IfNone-anyway {P = NoNumber bytes} _ (no_other_number bytes rest _ number (λ fits. c.in_err-checked_sub_unsigned.ensures (subst (FitsSigned w64) (omega (arith, ints, fits, size)) fits)))
 
-pub returns-clause-some : goal.returns-clause-some
-returns-clause-some c =
+pub returns-2-clause-some : goal.returns-2-clause-some
+returns-2-clause-some c =
     let bytes = c.args.bytes.now in
     let behind = c.in_ok-digits.digits.now in
     let rest = c.read_digits-size-2.result.1.now in
