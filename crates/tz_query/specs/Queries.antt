@@ -4,7 +4,6 @@ use Rattle.std.specs.Int.{w32, w64}
 use Rattle.tz_base.specs.declared.fields.Fields.{Fields}
 use Rattle.tz_query.specs.declared.query.lines.Query.{Query}
 use Rattle.tz_query.specs.declared.query.lines.Query.TheVariants.{Time, Search, Meeting}
-use Rattle.tz_query.specs.Lines.{IsFirstLine}
 use Rattle.tz_query.specs.Numbers.{AreNumbers}
 
 -- the letters with which lines begin
@@ -59,11 +58,3 @@ abbrev pub IsQueryLine : List ℕ → Query → Type 0
 IsQueryLine line (Time u n) = IsTimeLine line u n
 IsQueryLine line (Search f) = IsSearchLine line f
 IsQueryLine line (Meeting count f) = IsMeetingLine line count f
-
--- the first line of the bytes is a `T` line, and what follows it
-abbrev pub IsTimeLineFront : List ℕ → ℤ → ℕ → List ℕ → Type 0
-IsTimeLineFront bytes u n rest = (line : List ℕ) × IsFirstLine bytes line rest × IsTimeLine line u n
-
--- it is an `F` line
-abbrev pub IsSearchLineFront : List ℕ → Fields → List ℕ → Type 0
-IsSearchLineFront bytes f rest = (line : List ℕ) × IsFirstLine bytes line rest × IsSearchLine line f

@@ -1,12 +1,11 @@
 //! The first line of bytes, and its query.
 
-ghost use Rattle.std.specs.Prelude.{◌≡◌, ◌≢◌, ℕ, ◌+◌, ◌<◌, ◌≤◌, ◌∷◌, List, drop, ℤ, pos, negsuc, ◌≤ℤ◌, length, IfSome, IfNone, IfOk, IfErr, MatchOption};
+ghost use Rattle.std.specs.Prelude.{◌≡◌, ◌≢◌, ℕ, ◌<◌, List, ℤ, pos, negsuc, ◌≤ℤ◌, length, IfSome, IfNone, IfOk, IfErr, MatchOption};
 ghost use Rattle.tz_base.specs.declared.fields.Fields.{Fields};
 ghost use Rattle.tz.specs.PrintedText.{nine_digits};
 ghost use Rattle.tz_query.specs.declared.query.lines.Query.{Query};
-ghost use Rattle.tz_query.specs.Lines.{IsLineEnd, IsFirstLine};
-ghost use Rattle.tz_query.specs.Numbers.{ArePartsFront};
-ghost use Rattle.tz_query.specs.Queries.{AreFieldsOfBits, numbers_of, IsQueryLine, IsTimeLineFront, IsSearchLineFront};
+ghost use Rattle.tz_query.specs.Lines.{IsFirstLine};
+ghost use Rattle.tz_query.specs.Queries.{AreFieldsOfBits, numbers_of, IsTimeLine, IsSearchLine, IsQueryLine};
 
 use crate::query::numbers::{read_nanoseconds, read_numbers, read_seconds, read_small, read_year};
 use std::num::TryFromIntError;
@@ -88,7 +87,8 @@ pub fn read_query(queries: &[u8]) -> (Option<Query>, &[u8])
 /// Lines that end in the last bytes of the queries are none: so no read tests where the bytes end.
 #[inline(always)]
 pub fn read_usual_time_line<'a>(queries: &'a [u8], nine: &mut [u8; 9]) -> Option<(i64, &'a [u8])>
-    ensures line { IfSome result (λ r. (n : ℕ) × (n < 1000000000) × (nine.new ≡ nine_digits n) × IsTimeLineFront queries.now r.0 n r.1.now) }
+    ensures line { IfSome result (λ r. (n : ℕ) × (n < 1000000000) × (nine.new ≡ nine_digits n)
+        × ((line : List ℕ) × IsFirstLine queries.now line r.1.now × IsTimeLine line r.0 n)) }
     ensures bound { IfSome result (λ r. (negsuc 1000000000000000000 ≤ℤ r.0) × (r.0 ≤ℤ pos 1000000000000000000)) }
 {
     if queries.len() < 48 || queries[0] != b'T' {
@@ -102,42 +102,6 @@ pub fn read_usual_time_line<'a>(queries: &'a [u8], nine: &mut [u8; 9]) -> Option
     Some((unix_time, &queries[line_end + 1..]))
 }
 
-/// The fields of a year and of the usual numbers after it, each after a space, if the line ends after them, and the bytes after that line.
-/// Their nanoseconds are copied, and are 0 in the fields.
-#[inline(always)]
-fn read_usual_fields<'a>(
-    bytes: &'a [u8],
-    year: i32,
-    after_year: usize,
-    nine: &mut [u8; 9],
-) -> Option<(Fields, &'a [u8])>
-    requires long { after_year + 32 ≤ length bytes.now }
-    requires space { drop after_year bytes.now ≡ 32 ∷ drop (after_year + 1) bytes.now }
-    ensures { IfSome result (λ r. (n : ℕ) × (n < 1000000000) × (nine.new ≡ nine_digits n) × (r.0.year ≡ year)
-        × AreFieldsOfBits (record r.0 { nanoseconds = n }) × (tail : List ℕ)
-        × ArePartsFront (drop after_year bytes.now) (drop 1 (numbers_of (record r.0 { nanoseconds = n }))) tail × IsLineEnd tail r.1.now) }
-{
-    let (month, after_month) = read_small(bytes, after_year + 1)?;
-    let (month_day, after_day) = read_small(bytes, after_month + 1)?;
-    let (hour, after_hour) = read_small(bytes, after_day + 1)?;
-    let (minute, after_minute) = read_small(bytes, after_hour + 1)?;
-    let (second, after_second) = read_small(bytes, after_minute + 1)?;
-    let line_end = read_nanoseconds(bytes, after_second, nine)?;
-    if bytes[line_end] != b'\n' {
-        return None;
-    }
-    let fields = Fields {
-        year,
-        month,
-        month_day,
-        hour,
-        minute,
-        second,
-        nanoseconds: 0,
-    };
-    Some((fields, &bytes[line_end + 1..]))
-}
-
 /// The fields of the first line, if it is an `F` line of a year of four digits and usual numbers, and the bytes after it. Its nanoseconds
 /// are copied, and are 0 in the fields.
 #[inline(always)]
@@ -146,11 +110,29 @@ pub fn read_usual_search_line<'a>(
     nine: &mut [u8; 9],
 ) -> Option<(Fields, &'a [u8])>
     ensures { IfSome result (λ r. (n : ℕ) × (n < 1000000000) × (nine.new ≡ nine_digits n)
-        × IsSearchLineFront queries.now (record r.0 { nanoseconds = n }) r.1.now) }
+        × ((line : List ℕ) × IsFirstLine queries.now line r.1.now × IsSearchLine line (record r.0 { nanoseconds = n }))) }
 {
     if queries.len() < 64 || queries[0] != b'F' || queries[1] != b' ' {
         return None;
     }
     let year = read_year(queries, 2)?;
-    read_usual_fields(queries, i32::from(year), 6, nine)
+    let (month, after_month) = read_small(queries, 7)?;
+    let (month_day, after_day) = read_small(queries, after_month + 1)?;
+    let (hour, after_hour) = read_small(queries, after_day + 1)?;
+    let (minute, after_minute) = read_small(queries, after_hour + 1)?;
+    let (second, after_second) = read_small(queries, after_minute + 1)?;
+    let line_end = read_nanoseconds(queries, after_second, nine)?;
+    if queries[line_end] != b'\n' {
+        return None;
+    }
+    let fields = Fields {
+        year: i32::from(year),
+        month,
+        month_day,
+        hour,
+        minute,
+        second,
+        nanoseconds: 0,
+    };
+    Some((fields, &queries[line_end + 1..]))
 }

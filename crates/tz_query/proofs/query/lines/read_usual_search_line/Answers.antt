@@ -1,10 +1,12 @@
--- After `F` stand a year of four digits and the fields.
-use Rattle.std.proofs.Common.{◌≡◌, drop, pos, to_z, of_z, sym, subst, arith}
+-- `F`, seven numbers and LF stand in front.
+use Rattle.std.proofs.Common.{◌≡◌, ◌+◌, ◌<◌, length, drop, pos, to_z, of_z, inl, refl, sym, subst, arith}
 use Rattle.std.proofs.lemmas.Int.{ints}
-use Rattle.std.proofs.lemmas.Option.{IfSome_then}
+use Rattle.std.proofs.lemmas.List.{take_rest}
 use mir.Syntax.{w32}
-use Rattle.tz_query.specs.Numbers.{IsPartFront}
-use Rattle.tz_query.specs.Queries.{search_letter, numbers_of}
+use Rattle.tz_base.specs.declared.fields.Fields.{Fields}
+use Rattle.tz_query.specs.Lines.{IsFirstLine}
+use Rattle.tz_query.specs.Numbers.{ArePartsFront}
+use Rattle.tz_query.specs.Queries.{search_letter, AreFieldsOfBits, numbers_of}
 use Rattle.tz_query.proofs.FastNumbers.{byte_at}
 use Rattle.tz_query.proofs.LineFronts.{line_from_front}
 use Rattle.tz_query.proofs.query.lines.read_usual_search_line.Goals as goal
@@ -12,13 +14,51 @@ use Rattle.tz_query.proofs.query.lines.read_usual_search_line.Goals as goal
 pub returns : goal.returns
 returns c =
     let q = c.args.queries.now in
+    let end = c.in_ok-line_end.line_end in
+    let digits = c.in_ok-line_end.ensures.number in
+    let n = digits.0 in
+    let year = c.in_ok-year in
+    let month = c.in_ok-month in
+    let day = c.in_ok-month_day in
+    let hour = c.in_ok-hour in
+    let minute = c.in_ok-minute in
+    let second = c.in_ok-second in
+    let f : Fields = record { year = pos year.year; month = month.month; month_day = day.month_day; hour = hour.hour; minute = minute.minute; second = second.second; nanoseconds = n } in
     let letter = byte_at q 0 70 (omega (arith, c.if-queries-lt64.false)) c.if-queries-ne70.false in
     let space = byte_at q 1 32 (omega (arith, c.if-queries-lt64.false)) c.if-queries-ne32.false in
-    let value : to_z w32 (of_z w32 c.from.result) ≡ pos c.in_ok-year.year = omega (arith, ints, c.from.ensures, c.in_ok-year.ensures.bound) in
-    let year : IsPartFront (drop 1 q) (to_z w32 (of_z w32 c.from.result)) (drop 6 q) = rw value (drop 2 q, space, c.in_ok-year.ensures.number) in
-    IfSome_then c.read_usual_fields.result c.read_usual_fields.ensures (λ r (n, few, digits, same, fit, tail, parts, end).
-    let line = line_from_front search_letter (numbers_of (record r.0 { nanoseconds = n })) q (drop 1 q) tail r.1.now (λ e. absurd (omega (arith, e))) letter (drop 6 q, subst (λ y. IsPartFront (drop 1 q) y (drop 6 q)) (sym same) year, parts) end in
-    (n, few, digits, (line.0, line.1, record { line_is = line.2; fields_fit = fit })))
-
-pub read_usual_fields-requires-clause-space : goal.read_usual_fields-requires-clause-space
-read_usual_fields-requires-clause-space c = c.in_ok-year.ensures.space
+    let within : end < length q = c.in_ok-line_end.ensures.end.1 in
+    let line_end = byte_at q end 10 within c.if-queries-line_end-ne10.false in
+    let parts : ArePartsFront (drop 1 q) (numbers_of f) (drop end q) = (
+      drop 6 q,
+      (drop 2 q, space, year.ensures.number),
+      (
+        drop month.after_month q,
+        (drop 7 q, year.ensures.space, month.ensures.number),
+        (
+          drop day.after_day q,
+          (drop (month.after_month + 1) q, month.ensures.space, day.ensures.number),
+          (
+            drop hour.after_hour q,
+            (drop (day.after_day + 1) q, day.ensures.space, hour.ensures.number),
+            (
+              drop minute.after_minute q,
+              (drop (hour.after_hour + 1) q, hour.ensures.space, minute.ensures.number),
+              (drop second.after_second q, (drop (minute.after_minute + 1) q, minute.ensures.space, second.ensures.number), (drop end q, digits.3, refl)),
+            ),
+          ),
+        ),
+      ),
+    ) in
+    let fit : AreFieldsOfBits f = record {
+      year_fits = omega (arith, ints, year.ensures.bound);
+      month_fits = omega (arith, month.ensures.bound);
+      month_day_fits = omega (arith, day.ensures.bound);
+      hour_fits = omega (arith, hour.ensures.bound);
+      minute_fits = omega (arith, minute.ensures.bound);
+      second_fits = omega (arith, second.ensures.bound);
+      nanoseconds_fit = omega (arith, digits.1);
+    } in
+    let line = line_from_front search_letter (numbers_of f) q (drop 1 q) (drop end q) (drop (end + 1) q) (λ e. absurd (omega (arith, e))) letter parts (inl line_end) in
+    let first = subst (IsFirstLine q line.0) (sym (take_rest q (end + 1))) line.1 in
+    let value : to_z w32 (of_z w32 c.from.result) ≡ pos year.year = omega (arith, ints, c.from.ensures, year.ensures.bound) in
+    rw value (n, digits.1, digits.2, (line.0, first, record { line_is = line.2; fields_fit = fit }))

@@ -4,7 +4,7 @@ use Rattle.std.proofs.lemmas.Int.{to_z-of_z}
 use Rattle.std.proofs.lemmas.List.{take_rest}
 use mir.Syntax.{w64}
 use mir.Val.{SFits}
-use Rattle.tz_query.specs.Queries.{IsTimeLineFront}
+use Rattle.tz_query.specs.Lines.{IsFirstLine}
 use Rattle.tz_query.proofs.FastNumbers.{byte_at}
 use Rattle.tz_query.proofs.LineFronts.{line_from_front}
 use Rattle.tz_query.proofs.query.lines.read_usual_time_line.Goals as goal
@@ -23,5 +23,5 @@ returns-clause-line c =
     let letter = byte_at q 0 84 (omega (arith, within)) c.if-queries-ne84.false in
     let line_end = byte_at q end 10 within c.if-queries-line_end-ne10.false in
     let line = line_from_front 84 (u ∷ pos n ∷ []) q (drop 1 q) (drop end q) (drop (end + 1) q) (λ e. absurd (omega (arith, e))) letter (drop after q, c.in_ok-unix_time.ensures.number, (drop end q, digits.3, refl)) (inl line_end) in
-    let front : IsTimeLineFront q u n (drop (end + 1) q) = (line.0, line.1, record { line_is = line.2; seconds_fit = fits; nanoseconds_fit = few }) in
-    rw (to_z-of_z w64 u fits) (n, digits.1, digits.2, subst (IsTimeLineFront q u n) (sym (take_rest q (end + 1))) front)
+    let first = subst (IsFirstLine q line.0) (sym (take_rest q (end + 1))) line.1 in
+    rw (to_z-of_z w64 u fits) (n, digits.1, digits.2, (line.0, first, record { line_is = line.2; seconds_fit = fits; nanoseconds_fit = few }))
