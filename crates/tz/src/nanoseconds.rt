@@ -37,7 +37,7 @@ impl Nanoseconds {
     #[inline(always)]
     pub fn of_digits(digits: [u8; 9]) -> Nanoseconds
         requires { (n : ℕ) × (n < 1000000000) × (digits ≡ nine_digits n) }
-        ensures { result.digits ≡ digits }
+        ensures { (n : ℕ) → n < 1000000000 → digits ≡ nine_digits n → number_of result ≡ n }
     {
         Nanoseconds { digits }
     }

@@ -16,13 +16,13 @@ use Rattle.tz_zone.specs.Table.{Zone}
 use Rattle.tz_zone.specs.Clock.{IsClock}
 use Rattle.tz.specs.DateTimes.{DateTime}
 use Rattle.tz.specs.Found.{IsFoundBy}
-use Rattle.tz.specs.PrintedText.{last_digits, two_digits, nine_digits, two_digits_or_more, date_text, time_text, seconds_text, duration_text, offset_text, printed_text, type_name_text}
+use Rattle.tz.specs.PrintedText.{last_digits, two_digits, nine_digits, two_digits_or_more, date_text, time_text, seconds_text, duration_text, offset_text, printed_text, type_name_text, moment_text}
 use Rattle.tz.specs.declared.datetime.found.FoundDateTimeKind.{FoundDateTimeKind}
 use Rattle.tz.specs.declared.datetime.found.FoundDateTimeKind.TheVariants.{Normal, Skipped}
 use Rattle.tz_query.specs.Lines.{line_feed, IsLine}
 use Rattle.tz_query.specs.Numbers.{hyphen}
 use Rattle.tz_query.specs.declared.query.lines.Query.TheVariants.{Time, Search, Meeting}
-use Rattle.tz_query.specs.Answers.{moment_text, field_fault_text, IsFaultText, entry_text, IsTimeAnswer, IsSearchAnswer, IsWeekAnswer, AreWeekAnswers, IsAnswer, IsSingle}
+use Rattle.tz_query.specs.Answers.{field_fault_text, IsFaultText, entry_text, IsTimeAnswer, IsSearchAnswer, IsWeekAnswer, AreWeekAnswers, IsAnswer, IsSingle}
 
 -- digits
 abbrev IsDigit : ℕ → Type 0

@@ -1,6 +1,6 @@
 -- The lines of what is found, and its nanoseconds.
-use Rattle.std.proofs.Common.{◌≡◌, ℕ, ◌<◌, Bool, true, false, List, [], ◌∷◌, ◌++◌, get_or, inl, refl, sym, ap, ◌∙◌, arith, append_assoc, ℤ}
-use Rattle.std.specs.Prelude.{codes, MatchBool}
+use Rattle.std.proofs.Common.{◌≡◌, ℕ, ◌<◌, ◌⊎◌, List, [], ◌∷◌, ◌++◌, get_or, inl, inr, refl, sym, ap, ◌∙◌, arith, append_assoc, ℤ}
+use Rattle.std.specs.Prelude.{codes}
 use Rattle.std.specs.Fmt.{decimal}
 use Rattle.std.specs.List.{All}
 use Rattle.std.proofs.lemmas.List.Elements.{All-contains}
@@ -20,7 +20,7 @@ use Rattle.tz.specs.declared.datetime.resolution.Resolution.{Resolution}
 use Rattle.tz_query.specs.Answers.{found_lines, IsSearchAnswer}
 use Rattle.tz_query.specs.Entries.{HasNanoseconds}
 use Rattle.tz_query.specs.Lines.{ended}
-use Rattle.tz_query.proofs.PageLines.{same_fields, valid_with}
+use Rattle.tz_query.proofs.OtherNanoseconds.{same_fields, valid_with}
 
 -- the lines of one date time, of two, and of a jump
 pub lines_of_one : (text : List ℕ) → ended ((codes "F " ++ decimal 1) ∷ (codes "N " ++ text) ∷ []) ≡ 70 ∷ 32 ∷ 49 ∷ 10 ∷ 78 ∷ 32 ∷ (text ++ 10 ∷ [])
@@ -59,7 +59,7 @@ answered_by z f n r resolution found few valid is resolves entries made =
     let list : IsFound (IsClock z) g found = resolves.all g is found entries in
     inl (found, valid_with f n few valid, list, (λ e by. All-contains CanBeMade found e made (list.complete e by)), refl)
 
--- what holds in either case
-pub either_way : (b : Bool) (P Q P' Q' : Type 0) → (P → P') → (Q → Q') → MatchBool b P Q → MatchBool b P' Q'
-either_way true P Q P' Q' first second holds = first holds
-either_way false P Q P' Q' first second holds = second holds
+-- what follows in either case
+pub either : (P Q R : Type 0) → (P → R) → (Q → R) → P ⊎ Q → R
+either P Q R first second (inl p) = first p
+either P Q R first second (inr q) = second q

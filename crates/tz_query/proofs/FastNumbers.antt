@@ -179,49 +179,6 @@ nine_digits_are k ds long all =
     let power : 10 ^ length ds ≤ 10 ^ 9 = pow-le-pow_right (omega arith) {i = length ds} {j = 9} (omega (arith, long)) in
     (sym padded ∙ ap (last_digits 9) (zeros_in_front k ds), omega (arith, digits_value-lt 10 ds all, power))
 
--- the last digits of a number are digits, as many as asked for, with its value
-last_digits_all : (width n : ℕ) → AllDigits 10 (last_digits width n)
-last_digits_all zero n = tt
-last_digits_all (suc width) n = pushed (last_digits width (n / 10)) (last_digits_all width (n / 10))
-  where
-    pushed : (ds : List ℕ) → AllDigits 10 ds → AllDigits 10 (ds ++ (48 + n % 10) ∷ [])
-    pushed [] all = (omega (arith, (is_digit (48 + n % 10) (omega arith) (omega arith)).1), tt)
-    pushed (d ∷ ds) all = (all.0, pushed ds all.1)
-
-last_digits_length : (width n : ℕ) → length (last_digits width n) ≡ width
-last_digits_length zero n = refl
-last_digits_length (suc width) n = omega (arith, length-append (last_digits width (n / 10)) ((48 + n % 10) ∷ []), last_digits_length width (n / 10))
-
-last_digits_value : (width n : ℕ) → n < 10 ^ width → digits_value 10 (last_digits width n) ≡ n
-last_digits_value zero n few = omega (arith, few)
-last_digits_value (suc width) n few =
-    let more = last_digits_value width (n / 10) (omega (arith, few, pow-suc 10 width)) in
-    let push = digits_value_push 10 (last_digits width (n / 10)) (48 + n % 10) in
-    let digit = (is_digit (48 + n % 10) (omega arith) (omega arith)).1 in
-    omega (arith, push, more, digit)
-
-all_are_digits : (ds : List ℕ) → AllDigits 10 ds → digits_len ds ≡ length ds
-all_are_digits [] all = refl
-all_are_digits (d ∷ ds) all =
-    let range = digit_of_value d all.0 in
-    ap (λ b. cond b (1 + digits_len ds) 0) (is_digit d range.0 range.1).0 ∙ omega (arith, all_are_digits ds all.1)
-
--- the number that nine digits are read as
-pub value_of_nine : (n : ℕ) → n < 1000000000 → (nine : List ℕ) → nine ≡ nine_digits n → (end value : ℕ) → end ≡ 0 + digits_len (drop 0 nine) →
-    value ≡ (0 * 10 ^ (end - 0) + digits_value 10 (slice_range nine 0 end)) % 2 ^ 64 → value ≡ n
-unfolding nine_digits
-value_of_nine n few nine is end value end_is value_is =
-    let long : length nine ≡ 9 = ap length is ∙ last_digits_length 9 n in
-    let all : AllDigits 10 nine = subst (AllDigits 10) (sym is) (last_digits_all 9 n) in
-    let nine_is : end ≡ 9 = omega (arith, end_is, all_are_digits nine all, long) in
-    let whole : slice_range nine 0 end ≡ nine = ap (λ k. take k nine) (omega (arith, nine_is, long)) ∙ take_all nine in
-    let number : digits_value 10 nine ≡ n = ap (digits_value 10) is ∙ last_digits_value 9 n few in
-    omega (arith, value_is, ap (digits_value 10) whole, number, few)
-  where
-    take_all : (xs : List ℕ) → take (length xs) xs ≡ xs
-    take_all [] = refl
-    take_all (x ∷ xs) = ap (λ ys. x ∷ ys) (take_all xs)
-
 -- numbers after a space
 module _ (bytes digits rest : List ℕ) (front : IsDigitsFront bytes digits rest) (some : 0 < length digits) (all : List ℕ) where
   pub plain_part : all ≡ 32 ∷ bytes → IsPartFront all (pos (digits_value 10 digits)) rest

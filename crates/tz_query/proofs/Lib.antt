@@ -1,10 +1,11 @@
 pub mod NumberFronts
 pub mod LineFronts
+pub mod AddedText
 pub mod AnswerLines
 pub mod AnswerTexts
 pub mod UniqueAnswers
 pub mod JoinedPieces
 pub mod FastNumbers
-pub mod PageLines
+pub mod OtherNanoseconds
 pub mod EntryLines
 pub mod WeekAnswers

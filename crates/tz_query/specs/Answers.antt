@@ -13,7 +13,7 @@ use Rattle.tz_zone.specs.Table.{Zone}
 use Rattle.tz.specs.DateTimes.{DateTime, ShowsByClock, IsClockFault}
 use Rattle.tz.specs.FindFaults.{IsFindFault}
 use Rattle.tz.specs.Found.{EachCanBeMade, IsFound}
-use Rattle.tz.specs.PrintedText.{printed_text, type_name_text}
+use Rattle.tz.specs.PrintedText.{moment_text}
 use Rattle.tz.specs.declared.datetime.found.FoundDateTimeKind.{FoundDateTimeKind}
 use Rattle.tz.specs.declared.datetime.found.FoundDateTimeKind.TheVariants.{Normal, Skipped}
 use Rattle.tz_query.specs.Lines.{AreLines, ended}
@@ -22,10 +22,6 @@ use Rattle.tz_query.specs.declared.query.lines.Query.{Query}
 use Rattle.tz_query.specs.declared.query.lines.Query.TheVariants.{Time, Search, Meeting}
 use Rattle.tz_query.specs.Queries.{IsQueryLine}
 use Rattle.tz_query.specs.MeetingDates.{IsInYears, IsWeekOf, day_after}
-
--- a date time and the name of its type
-unfoldable pub moment_text : DateTime → List ℕ
-moment_text d = printed_text d.fields d.local_time_type.ut_offset ++ space ∷ type_name_text d.local_time_type
 
 -- a refused field has its variant's name
 abbrev pub field_fault_text : DateTimeError → List ℕ

@@ -6,9 +6,7 @@ pub mod Queries
 pub mod MeetingDates
 pub mod Answers
 pub mod Streams
-pub mod Pages
 pub mod Outputs
-pub mod Caches
 pub mod Entries
 pub mod Program
 pub mod FileAnswers

@@ -1,7 +1,35 @@
 -- What is written.
-use Rattle.std.specs.Prelude.{ℕ, List, ◌++◌}
+use Rattle.std.specs.Prelude.{◌≡◌, ℕ, ℤ, ◌≤ℤ◌, List, ◌++◌}
+use Rattle.tz_zone.specs.Clock.{IsClock}
+use Rattle.tz_zone.specs.ZoneRef.{zone_of}
+use Rattle.tz_query.specs.Answers.{IsQueryAnswer}
+use Rattle.tz_query.specs.Lines.{ended}
+use Rattle.tz_query.specs.declared.query.answers.Answers.{Answers}
+use Rattle.tz_query.specs.declared.query.lines.Query.{Query}
 use Rattle.tz_query.specs.declared.query.output.Output.{Output}
 
 -- the answers so far, and behind them those on the page
 abbrev pub written : {A : Type 0} → Output A → List ℕ
 written output = output.answers.items ++ output.page
+
+-- through the span that is kept the clock has the type that is kept, and the suffix is that of this type
+abbrev pub IsSound : {A : Type 0} → Answers A → Type 0
+IsSound a =
+    ((u : ℤ) → a.from ≤ℤ u → u ≤ℤ a.last → IsClock (zone_of a.zone) u a.local_time_type.now)
+    × (a.suffix.local_time_type ≡ a.local_time_type.now)
+
+-- what was written is the same, and so is the zone
+pub record Leaves {A : Type 0} (before after : Answers A) : Type 0 where
+  pub zone_is : after.zone ≡ before.zone
+  pub sound : IsSound before → IsSound after
+  pub output_is : after.output ≡ before.output
+
+-- these bytes stand behind what was written, and the zone is the same
+pub record Adds {A : Type 0} (before after : Answers A) (text : List ℕ) : Type 0 where
+  pub zone_is : after.zone ≡ before.zone
+  pub sound : IsSound before → IsSound after
+  pub text_is : written after.output ≡ written before.output ++ text
+
+-- the answer lines of a query stand behind what was written
+abbrev pub IsAnswered : {A : Type 0} → Query → Answers A → Answers A → Type 0
+IsAnswered query before after = (answer : List (List ℕ)) × IsQueryAnswer (zone_of before.zone) query answer × Adds before after (ended answer)

@@ -1,77 +1,157 @@
 //! The answers of query lines.
 
-ghost use Rattle.std.specs.Prelude.{◌≡◌, ◌≤◌, ℕ, List, ◌++◌, length, drop, IfOk, IfErr, alloc_error};
+ghost use Rattle.std.specs.Prelude.{◌≡◌, ◌≤◌, ◌≤ℤ◌, ℕ, List, [], length, drop, IfOk, IfErr, IfSome, IsTrue, alloc_error};
 ghost use Rattle.tz_zone.specs.ZoneRef.{zone_of};
-ghost use Rattle.tz_query.specs.Lines.{IsFirstLine, ended};
-ghost use Rattle.tz_query.specs.Answers.{IsAnswer, AreAnswers};
-ghost use Rattle.tz_query.specs.Caches.{IsCacheOf};
-ghost use Rattle.tz_query.specs.Outputs.{written};
+ghost use Rattle.tz_query.specs.Answers.{AreAnswers};
 
-use super::cache::Cache;
-use super::lines::{Query, read_query, read_usual_search_line, read_usual_time_line};
+use super::lines::{Query, after_line, read_query, read_usual_search_line, read_usual_time_line};
 use super::output::Output;
-use super::search_answers::{answer_any_search, answer_search};
-use super::time_answers::{answer_any_time, answer_time};
-use super::week_answers::answer_meeting;
 use std::alloc::{AllocError, Allocator};
-use tz::{TimeZoneRef, TzError};
+use tz::inner::{Nanoseconds, Page, Resolution, Suffix, Suffixes, once, resolve_window, window_of};
+use tz::{LocalTimeType, TimeZoneRef, TzError};
 
-/// Answers the first line, whatever its numbers, and returns the place after that line.
-///
-/// A place is returned in a register, and so costs nothing where this is not called.
-#[inline(never)]
-fn answer_any_line<'b, A: Allocator + Copy>(
-    alloc: A,
-    output: &mut Output<A>,
-    cache: &mut Cache<'b>,
-    zone: &TimeZoneRef<'b>,
-    queries: &[u8],
-) -> Result<usize, AllocError>
-    requires { IsCacheOf (zone_of zone.now) cache.old }
-    ensures within { IfOk result (λ end. end ≤ length queries.now) }
-    ensures answer { IfOk result (λ end. (text : List ℕ) × (answer : List (List ℕ)) × IsFirstLine queries.now text (drop end queries.now)
-        × IsAnswer (zone_of zone.entry.now) text answer × (written output.new ≡ written output.old ++ ended answer)) }
-    ensures cached { IsCacheOf (zone_of zone.entry.now) cache.new }
-{
-    let (query, rest) = read_query(queries);
-    match query {
-        Some(Query::Time(unix_time, nanoseconds)) => {
-            answer_any_time(output, cache, zone, unix_time, nanoseconds)?
-        }
-        Some(Query::Search(fields)) => answer_any_search(alloc, output, cache, zone, &fields)?,
-        Some(Query::Meeting(count, fields)) => {
-            answer_meeting(alloc, output, cache, zone, &fields, count)?
-        }
-        None => output.push_error("Line")?,
-    }
-    Ok(queries.len() - rest.len())
+/// 30 days in seconds: lines whose instants are less than this apart are taken as lines in order.
+const NEAR: u64 = 2_592_000;
+
+/// The answers of lines over a zone, and what the lines share: a span of time through which the clock has one type.
+#[derive(Drop)]
+pub struct Answers<'a, A: Allocator + Copy> {
+    pub alloc: A,
+    pub zone: TimeZoneRef<'a>,
+    from: i64,
+    last: i64,
+    local_time_type: &'a LocalTimeType,
+    /// The suffix of the span's type.
+    pub suffix: Suffix,
+    pub suffixes: Suffixes,
+    /// The last instant that did not lie in the span.
+    missed: i64,
+    pub output: Output<A>,
 }
 
-/// Answers the first line, and returns the bytes after that line.
-#[inline(always)]
-fn answer_line<'a, 'b, A: Allocator + Copy>(
-    alloc: A,
-    output: &mut Output<A>,
-    cache: &mut Cache<'b>,
-    zone: &TimeZoneRef<'b>,
-    queries: &'a [u8],
-) -> Result<&'a [u8], AllocError>
-    requires { IsCacheOf (zone_of zone.now) cache.old }
-    ensures answer { IfOk result (λ rest. (text : List ℕ) × (answer : List (List ℕ)) × IsFirstLine queries.now text rest.now
-        × IsAnswer (zone_of zone.entry.now) text answer × (written output.new ≡ written output.old ++ ended answer)) }
-    ensures cached { IsCacheOf (zone_of zone.entry.now) cache.new }
-{
-    let mut nine = [0; 9];
-    if let Some((unix_time, rest)) = read_usual_time_line(queries, &mut nine) {
-        answer_time(output, cache, zone, unix_time, &nine)?;
-        return Ok(rest);
+impl<'a, A: Allocator + Copy> Answers<'a, A> {
+    ghost use Rattle.tz.specs.Resolutions.{IsResolution};
+    ghost use Rattle.tz.specs.Walks.{IsSmall};
+    ghost use Rattle.tz_zone.specs.Clock.{IsClock};
+    ghost use Rattle.tz_query.specs.Answers.{IsAnswer};
+    ghost use Rattle.tz_query.specs.Lines.{IsFirstLine, ended};
+    ghost use Rattle.tz_query.specs.Outputs.{Adds, IsSound, Leaves, written};
+
+    /// Answers over a zone, which are written behind these bytes, with a span without an instant.
+    #[inline(always)]
+    fn new(alloc: A, zone: TimeZoneRef<'a>, answers: Vec<u8, A>) -> Answers<'a, A>
+        ensures written { written result.output ≡ answers.items }
+        ensures zone { result.zone ≡ zone.entry }
+        ensures sound { IsSound result }
+    {
+        let page = Page::new();
+        let local_time_type = &zone.local_time_types()[0];
+        Answers {
+            alloc,
+            zone,
+            from: 1,
+            last: 0,
+            local_time_type,
+            suffix: Suffix::new(*local_time_type),
+            suffixes: Suffixes::new(),
+            missed: 0,
+            output: Output { answers, page },
+        }
     }
-    if let Some((fields, rest)) = read_usual_search_line(queries, &mut nine) {
-        answer_search(alloc, output, cache, zone, &fields, &nine)?;
-        return Ok(rest);
+
+    /// Whether instants from the first one to the second lie in the span.
+    #[inline(always)]
+    pub fn has(&self, low: i64, high: i64) -> bool
+        ensures { IsTrue result → (self.now.from ≤ℤ low) × (high ≤ℤ self.now.last) }
+    {
+        self.from <= low && high <= self.last
     }
-    let end = answer_any_line(alloc, output, cache, zone, queries)?;
-    Ok(&queries[end..])
+
+    /// Keeps the segment around an instant, if the clock has a type there.
+    #[inline(never)]
+    fn keep_segment(&mut self, unix_time: i64)
+        requires { IsSound self.old }
+        ensures { Leaves self.old self.new }
+    {
+        let segment = self.zone.segment_at(unix_time);
+        if let Some(local_time_type) = segment.local_time_type() {
+            self.from = segment.from();
+            self.last = segment.last();
+            self.local_time_type = local_time_type;
+            self.suffix = *self.suffixes.of(local_time_type);
+        }
+    }
+
+    /// Keeps the segment around an instant if the lines seem to be in order. It is a call, since lines in order need it seldom.
+    #[inline(never)]
+    pub fn follow(&mut self, unix_time: i64)
+        requires { IsSound self.old }
+        ensures { Leaves self.old self.new }
+    {
+        let is_near = unix_time.abs_diff(self.missed) < NEAR;
+        self.missed = unix_time;
+        if is_near {
+            self.keep_segment(unix_time);
+        }
+    }
+
+    /// What a reading means to the zone's clock, if the clock has one type in the window, or two with one jump between them.
+    #[inline(always)]
+    pub fn resolve(&mut self, reading: i64) -> Option<Resolution<'a>>
+        requires small { IsSmall reading }
+        requires sound { IsSound self.old }
+        ensures resolves { IfSome result (λ resolution. IsResolution (IsClock (zone_of self.old.zone)) reading resolution) }
+        ensures kept { Leaves self.old self.new }
+    {
+        let (low, high) = window_of(self.zone, reading);
+        if self.has(low, high) {
+            return Some(once(reading, self.local_time_type));
+        }
+        self.follow(low);
+        resolve_window(self.zone, reading, low, high)
+    }
+
+    /// Answers the first line, whatever its numbers, and returns the place after that line.
+    ///
+    /// A place is returned in a register, and so costs nothing where this is not called.
+    #[inline(never)]
+    fn answer_any_line(&mut self, queries: &[u8]) -> Result<usize, AllocError>
+        requires { IsSound self.old }
+        ensures within { IfOk result (λ end. end ≤ length queries.now) }
+        ensures answer { IfOk result (λ end. (line : List ℕ) × (answer : List (List ℕ)) × IsFirstLine queries.now line (drop end queries.now)
+            × IsAnswer (zone_of self.old.zone) line answer × Adds self.old self.new (ended answer)) }
+    {
+        let Some((query, rest)) = read_query(queries) else {
+            self.output.push_error("Line")?;
+            return Ok(queries.len() - after_line(queries).len());
+        };
+        match query {
+            Query::Time(unix_time, nanoseconds) => self.answer_any_time(unix_time, nanoseconds)?,
+            Query::Search(fields) => self.answer_any_search(&fields)?,
+            Query::Meeting(count, fields) => self.answer_meeting(count, &fields)?,
+        }
+        Ok(queries.len() - rest.len())
+    }
+
+    /// Answers the first line, and returns the bytes after that line.
+    #[inline(always)]
+    fn answer_line<'q>(&mut self, queries: &'q [u8]) -> Result<&'q [u8], AllocError>
+        requires { IsSound self.old }
+        ensures { IfOk result (λ rest. (line : List ℕ) × (answer : List (List ℕ)) × IsFirstLine queries.now line rest.now
+            × IsAnswer (zone_of self.old.zone) line answer × Adds self.old self.new (ended answer)) }
+    {
+        let mut nine = [0; 9];
+        if let Some((unix_time, rest)) = read_usual_time_line(queries, &mut nine) {
+            self.answer_time(unix_time, &Nanoseconds::of_digits(nine))?;
+            return Ok(rest);
+        }
+        if let Some((fields, rest)) = read_usual_search_line(queries, &mut nine) {
+            self.answer_search(&fields, &Nanoseconds::of_digits(nine))?;
+            return Ok(rest);
+        }
+        let end = self.answer_any_line(queries)?;
+        Ok(&queries[end..])
+    }
 }
 
 /// Answers query bytes over a zone.
@@ -91,11 +171,12 @@ pub fn answer<A: Allocator + Copy>(
     ensures err { IfErr result (λ e. e ≡ TzError.Memory alloc_error) }
 {
     let answers = Vec::with_capacity(alloc, queries.len().saturating_mul(2))?;
-    let mut output = Output::new(answers);
-    let mut cache = Cache::new(zone);
+    let mut answers = Answers::new(alloc, zone, answers);
+    answers.keep_segment(0);
     let mut rest = queries;
     while !rest.is_empty() {
-        rest = answer_line(alloc, &mut output, &mut cache, &zone, rest)?;
+        rest = answers.answer_line(rest)?;
     }
+    let Answers { output, .. } = answers;
     Ok(output.into_answers()?)
 }

@@ -1,6 +1,6 @@
 //! The first line of bytes, and its query.
 
-ghost use Rattle.std.specs.Prelude.{◌≡◌, ◌≢◌, ℕ, ◌<◌, List, ℤ, pos, negsuc, ◌≤ℤ◌, length, IfSome, IfNone, IfOk, IfErr, MatchOption};
+ghost use Rattle.std.specs.Prelude.{◌≡◌, ◌≢◌, ℕ, ◌<◌, List, ℤ, pos, negsuc, ◌≤ℤ◌, length, IfSome, IfNone, IfOk, IfErr};
 ghost use Rattle.tz_base.specs.declared.fields.Fields.{Fields};
 ghost use Rattle.tz.specs.PrintedText.{nine_digits};
 ghost use Rattle.tz_query.specs.declared.query.lines.Query.{Query};
@@ -20,7 +20,7 @@ pub enum Query {
 }
 
 /// The bytes after the first line.
-fn after_line(bytes: &[u8]) -> &[u8]
+pub fn after_line(bytes: &[u8]) -> &[u8]
     ensures { (line : List ℕ) × IsFirstLine bytes.now line result.now }
 {
     for (place, byte) in bytes.iter().enumerate() {
@@ -49,7 +49,8 @@ fn fields_of(numbers: &[i64]) -> Result<Fields, TryFromIntError>
 }
 
 /// What the first line asks for, if it is a query, and the bytes after that line.
-fn read_query_line(queries: &[u8]) -> Option<(Query, &[u8])>
+#[inline(never)]
+pub fn read_query(queries: &[u8]) -> Option<(Query, &[u8])>
     ensures some { IfSome result (λ r. (line : List ℕ) × IsFirstLine queries.now line r.1.now × IsQueryLine line r.0) }
     ensures none { IfNone result ((line rest : List ℕ) (query : Query) → IsFirstLine queries.now line rest → ¬ IsQueryLine line query) }
 {
@@ -68,18 +69,6 @@ fn read_query_line(queries: &[u8]) -> Option<(Query, &[u8])>
     let count = u8::try_from(numbers[0]).ok()?;
     let fields = fields_of(&numbers[1..]).ok()?;
     Some((Query::Meeting(count, fields), rest))
-}
-
-/// What the first line asks for, if it is a query, and the bytes after that line.
-#[inline(never)]
-pub fn read_query(queries: &[u8]) -> (Option<Query>, &[u8])
-    ensures { (line : List ℕ) × IsFirstLine queries.now line result.1.now
-        × MatchOption result.0 ((query : Query) → ¬ IsQueryLine line query) (λ query. IsQueryLine line query) }
-{
-    match read_query_line(queries) {
-        Some((query, rest)) => (Some(query), rest),
-        None => (None, after_line(queries)),
-    }
 }
 
 /// The instant of the first line, if it is a `T` line of usual numbers, and the bytes after it. Its nanoseconds are copied.

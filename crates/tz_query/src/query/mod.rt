@@ -1,14 +1,10 @@
 //! Queries, a line each, and their answers.
 
 mod answers;
-mod cache;
-mod entries;
 mod lines;
-mod moments;
 mod names;
 mod numbers;
 mod output;
-mod page;
 mod program;
 mod search_answers;
 mod streams;

@@ -9,8 +9,7 @@ ghost use Rattle.tz_query.specs.Lines.{IsFirstLine};
 ghost use Rattle.tz_query.specs.Numbers.{AreNumbers, IsDigitsFront, IsNumberFront, IsPartFront};
 
 use core::dec2flt;
-use tz::constants::NANOSECONDS_PER_SECOND;
-use tz::inner::{TextBuffer, after_byte};
+use tz::inner::after_byte;
 
 /// The value of a digit, which is below 10; for every other byte it is 10 or more.
 #[inline(always)]
@@ -197,26 +196,4 @@ pub fn read_year(bytes: &[u8], place: usize) -> Option<u16>
     }
     let century = u16::from(first * 10 + second);
     Some(century * 100 + u16::from(third * 10 + fourth))
-}
-
-/// Writes nanoseconds as nine digits, if they are below 10^9.
-#[inline(never)]
-pub fn write_nanoseconds(nanoseconds: u32, nine: &mut [u8; 9])
-    ensures { nanoseconds < 1000000000 → nine.new ≡ nine_digits nanoseconds }
-{
-    if nanoseconds < NANOSECONDS_PER_SECOND {
-        let mut text = TextBuffer::new();
-        text.push_nine_digits(nanoseconds);
-        nine.copy_from_slice(text.as_bytes());
-    }
-}
-
-/// The number of nine digits.
-#[inline(never)]
-pub fn number_of_nine(nine: &[u8; 9]) -> u32
-    requires { (n : ℕ) × (n < 1000000000) × (nine.now ≡ nine_digits n) }
-    ensures { (n : ℕ) → n < 1000000000 → nine.now ≡ nine_digits n → result ≡ n }
-{
-    let (_, number) = dec2flt::read_digits(nine, 0, 0);
-    number as u32
 }

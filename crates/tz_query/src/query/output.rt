@@ -1,14 +1,13 @@
 //! Where answers are written.
 
-ghost use Rattle.std.specs.Prelude.{◌≡◌, ◌<◌, ◌≤◌, ◌∷◌, ◌++◌, [], length, codes, IfOk};
+ghost use Rattle.std.specs.Prelude.{◌≡◌, ◌+◌, ◌<◌, ◌≤◌, ◌∷◌, ◌++◌, [], length, codes, IfOk};
 ghost use Rattle.std.specs.Fmt.{decimal};
 ghost use Rattle.tz_query.specs.Lines.{ended, line_feed};
 ghost use Rattle.tz_query.specs.Numbers.{space};
-ghost use Rattle.tz_query.specs.Pages.{HasRoom};
+ghost use Rattle.tz.specs.Pages.{HasRoom};
 
-use super::page::Page;
 use std::alloc::{AllocError, Allocator};
-use tz::inner::TextBuffer;
+use tz::inner::{Page, TextBuffer};
 
 /// Where answers are written: onto a page, which is appended to the answers before it when it has no room for one more.
 #[derive(Drop)]
@@ -19,16 +18,6 @@ pub struct Output<A: Allocator> {
 
 impl<A: Allocator> Output<A> {
     ghost use Rattle.tz_query.specs.Outputs.{written};
-
-    /// Writes behind these answers.
-    pub fn new(answers: Vec<u8, A>) -> Output<A>
-        ensures { written result ≡ answers.items }
-    {
-        Output {
-            answers,
-            page: Page::new(),
-        }
-    }
 
     /// Appends what is on the page to the answers, and clears it.
     #[inline(never)]
@@ -51,18 +40,18 @@ impl<A: Allocator> Output<A> {
         if self.page.has_room() {
             return Ok(());
         }
-        self.flush()?;
-        Ok(())
+        self.flush()
     }
 
-    /// Writes a line.
-    fn push_line(&mut self, line: &mut TextBuffer) -> Result<(), AllocError>
-        requires { length line.old < 128 }
-        ensures { IfOk result (λ _. written self.new ≡ written self.old ++ (line.old ++ line_feed ∷ [])) }
+    /// Writes a line of two pieces.
+    fn push_line(&mut self, front: &[u8], text: &[u8]) -> Result<(), AllocError>
+        requires { length front.now + length text.now < 128 }
+        ensures { IfOk result (λ _. written self.new ≡ written self.old ++ (front.now ++ (text.now ++ line_feed ∷ []))) }
     {
         self.make_room()?;
-        line.push(b'\n');
-        self.page.push(line.as_bytes());
+        self.page.push(front);
+        self.page.push(text);
+        self.page.push(b"\n");
         Ok(())
     }
 
@@ -72,23 +61,17 @@ impl<A: Allocator> Output<A> {
         requires { length name.now ≤ 24 }
         ensures { IfOk result (λ _. written self.new ≡ written self.old ++ ended ((codes "E " ++ name.now) ∷ [])) }
     {
-        let mut line = TextBuffer::new();
-        line.push_str("E ");
-        line.push_str(name);
-        self.push_line(&mut line)
+        self.push_line(b"E ", name.as_bytes())
     }
 
     /// Writes a line with a letter and a count.
     #[inline(never)]
     pub fn push_count(&mut self, letter: u8, count: usize) -> Result<(), AllocError>
-        requires { letter < 128 }
         ensures { IfOk result (λ _. written self.new ≡ written self.old ++ ended ((letter ∷ space ∷ decimal count) ∷ [])) }
     {
-        let mut line = TextBuffer::new();
-        line.push(letter);
-        line.push(b' ');
-        line.push_count(count as u64);
-        self.push_line(&mut line)
+        let mut text = TextBuffer::new();
+        text.push_count(count as u64);
+        self.push_line(&[letter, b' '], text.as_bytes())
     }
 
     /// All answers.

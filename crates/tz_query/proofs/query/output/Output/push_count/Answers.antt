@@ -9,6 +9,6 @@ use Rattle.tz_query.proofs.query.output.Output.push_count.Goals as goal
 
 pub returns : goal.returns
 returns g c =
-    let was = (written c.args.self.now) in
-    let text : c.push_count.new.self ≡ c.args.letter ∷ space ∷ decimal c.args.count = rw (c.push-2.ensures.text, c.push.ensures.text, c.new-line.ensures) at c.push_count.ensures.text in
-    IfOk-weaker c.push_line.result _ _ (λ done items. items ∙ ap (λ bs. was ++ (bs ++ line_feed ∷ [])) text) c.push_line.ensures
+    let was = written c.args.self.now in
+    let digits : c.as_bytes.result.now ≡ decimal c.args.count = c.as_bytes.ensures.text ∙ c.push_count.ensures.text ∙ ap (λ bytes. bytes ++ decimal c.args.count) c.new-text.ensures in
+    IfOk-weaker c.push_line.result _ _ (λ done items. items ∙ ap (λ bs. was ++ c.args.letter ∷ space ∷ (bs ++ line_feed ∷ [])) digits) c.push_line.ensures

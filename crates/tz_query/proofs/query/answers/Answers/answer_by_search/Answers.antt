@@ -1,0 +1,62 @@
+-- What is found, or the name of a refusal.
+use Rattle.std.proofs.Common.{◌≡◌, ◌∷◌, [], ◌++◌, inl, inr, refl, sym, ap, subst, ◌∙◌, rules}
+use Rattle.std.specs.Prelude.{codes}
+use Rattle.std.specs.List.{All}
+use Rattle.std.proofs.lemmas.Result.{IfOk-weaker}
+use Rattle.tz_base.specs.declared.error.TzError.TheVariants.{DateTime, OutOfRange}
+use Rattle.tz_zone.specs.Clock.{IsClock}
+use Rattle.tz.specs.Lists.{found_of}
+use Rattle.tz_zone.specs.ZoneRef.{zone_of}
+use Rattle.tz_query.specs.Answers.{found_lines, field_fault_text}
+use Rattle.tz_query.specs.Entries.{HasNanoseconds}
+use Rattle.tz_query.specs.Lines.{ended}
+use Rattle.tz.specs.Nanoseconds.{number_of, with_nanoseconds}
+use Rattle.tz_query.specs.Outputs.{written}
+use Rattle.tz_query.proofs.AddedText.{with_text}
+use Rattle.tz_query.proofs.AnswerLines.{told_field_fault, told_out_of_range}
+use Rattle.tz_query.proofs.EntryLines.{found_nanoseconds}
+use Rattle.tz_query.proofs.query.answers.Answers.answer_by_search.Goals as goal
+
+pub returns-in-Ok : goal.returns-in-Ok
+returns-in-Ok g c =
+    let found = found_of c.in-Ok.list in
+    let valid = rw c.number.ensures at c.in-Ok.ensures.valid in
+    let is = rw c.number.ensures at c.in-Ok.ensures.ok in
+    let made = rw c.number.ensures at c.in-Ok.ensures.made in
+    let same : c.deref.result.now ≡ found = c.deref.ensures.value ∙ c.into_inner.ensures in
+    IfOk-weaker c.push_found.result _ _
+    (λ done adds. (found_lines found, inl (found, valid, is, made, refl), with_text (ap (λ es. ended (found_lines es)) same) adds))
+    c.push_found.ensures
+
+pub returns-in-Err-DateTime : goal.returns-in-Err-DateTime
+returns-in-Err-DateTime g c =
+    let was = written c.args.self.now.output in
+    let fault = c.in-Err-DateTime.fault in
+    let error : c.in-Err-DateTime.field-0 ≡ DateTime fault = search rules in
+    let refused = rw (c.in-Err-DateTime.is, error, c.number.ensures) at c.find_fields.ensures.err in
+    IfOk-weaker c.push_error.result _ _
+    (λ done items. (
+      (codes "E " ++ field_fault_text fault) ∷ [],
+      inr (DateTime fault, field_fault_text fault, told_field_fault (IsClock (zone_of c.args.self.now.zone)) (with_nanoseconds c.args.fields.now c.args.nanoseconds.now) fault refused, refl, refl),
+      record { zone_is = refl; sound = λ s. s; text_is = items ∙ ap (λ name. was ++ ended ((codes "E " ++ name) ∷ [])) c.field_fault_name.ensures.text },
+    ))
+    c.push_error.ensures
+
+pub returns-in-Err-OutOfRange : goal.returns-in-Err-OutOfRange
+returns-in-Err-OutOfRange g c =
+    let error : c.in-Err-OutOfRange.field-0 ≡ OutOfRange = search rules in
+    let refused = rw (c.in-Err-OutOfRange.is, error, c.number.ensures) at c.find_fields.ensures.err in
+    IfOk-weaker c.push_error-in-Err-OutOfRange.result _ _
+    (λ done items. (
+      codes "E OutOfRange" ∷ [],
+      inr (OutOfRange, codes "OutOfRange", told_out_of_range (IsClock (zone_of c.args.self.now.zone)) (with_nanoseconds c.args.fields.now c.args.nanoseconds.now) refused, refl, refl),
+      record { zone_is = refl; sound = λ s. s; text_is = items },
+    ))
+    c.push_error-in-Err-OutOfRange.ensures
+
+pub push_found-requires : goal.push_found-requires
+push_found-requires g c =
+    let is = rw c.number.ensures at c.in-Ok.ensures.ok in
+    let found = found_of c.in-Ok.list in
+    let all = found_nanoseconds (IsClock (zone_of c.args.self.now.zone)) (with_nanoseconds c.args.fields.now c.args.nanoseconds.now) found is in
+    subst (All (HasNanoseconds (number_of c.args.nanoseconds.now))) (sym (c.deref.ensures.value ∙ c.into_inner.ensures)) all

@@ -1,0 +1,69 @@
+-- The number of weeks and then one more week at a time: by a search for its fields, or that it lies past the years of 32 bits.
+use Rattle.std.proofs.Common.{◌≡◌, ℕ, ◌+◌, ◌++◌, ◌∷◌, [], List, length, inl, inr, refl, sym, subst, ap, ◌∙◌, arith, length-append, append-nil}
+use Rattle.std.specs.Prelude.{codes}
+use Rattle.std.specs.List.{flat_map}
+use Rattle.std.proofs.lemmas.List.{flat_map_more}
+use Rattle.std.proofs.lemmas.Result.{IfOk-weaker}
+use Rattle.tz_base.specs.declared.fields.Fields.{Fields}
+use Rattle.tz_zone.specs.ZoneRef.{zone_of}
+use Rattle.tz_query.specs.Lines.{ended}
+use Rattle.tz_query.specs.Answers.{IsSearchAnswer, IsWeekAnswer, field_fault_text, meeting_lines}
+use Rattle.tz_query.specs.MeetingDates.{IsWeekOf}
+use Rattle.tz.specs.Nanoseconds.{number_of, with_nanoseconds}
+use Rattle.tz_query.specs.Outputs.{Adds, written}
+use Rattle.tz_query.proofs.AddedText.{adds_both, with_text}
+use Rattle.tz_query.proofs.OtherNanoseconds.{same_fields}
+use Rattle.tz_query.proofs.WeekAnswers.{meeting_written, weeks_more}
+use Rattle.tz_query.proofs.query.answers.Answers.answer_meeting.Goals.{in-Some+in_ok-answer_search-in-Some, in-None+in_ok-push_error-in-None}
+use Rattle.tz_query.proofs.query.answers.Answers.answer_meeting.Goals as goal
+
+pub loop-weeks-init : goal.loop-weeks-init
+loop-weeks-init g c = ([], refl, tt, record { zone_is = refl; sound = λ s. s; text_is = sym (append-nil (written c.push_count.new.self)) })
+
+pub loop-weeks-preserved : goal.loop-weeks-preserved
+loop-weeks-preserved g c =
+    let z = zone_of c.args.self.now.zone in
+    let f = c.args.first.now in
+    let (weeks, many, are, adds) = c.loop-weeks.invariant in
+    let week : (answer : List (List ℕ)) × IsWeekAnswer z f c.loop-weeks.weeks answer × Adds c.loop-weeks.self c.match-week_of.self (ended answer) = elim c.match-week_of.branch [
+      | in-Some+in_ok-answer_search-in-Some w ↦
+          let found = w.in-Some.fields in
+          let same : found.nanoseconds ≡ number_of c.new-nanoseconds.result = ap (λ (h : Fields). h.nanoseconds) w.in-Some.ensures.some.time ∙ sym c.new-nanoseconds.ensures in
+          let (answer, is, text) = w.in_ok-answer_search-in-Some.ensures in
+          let searched = subst (λ g. IsSearchAnswer z g answer) (same_fields found (number_of c.new-nanoseconds.result) same) (subst (λ zone. IsSearchAnswer (zone_of zone) (with_nanoseconds found c.new-nanoseconds.result) answer) adds.zone_is is) in
+          rw (w.self-is) (answer, inl (found, w.in-Some.ensures.inside, w.in-Some.ensures.some, searched), text)
+      | in-None+in_ok-push_error-in-None w ↦
+          rw (w.self-is) (codes "E OutOfRange" ∷ [], inr (w.in-None.ensures.none, refl), record { zone_is = refl; sound = λ s. s; text_is = w.in_ok-push_error-in-None.ensures })
+    ] in
+    let place : c.loop-weeks.weeks ≡ 0 + length weeks = omega (arith, many) in
+    let answer = week.0 in (
+      weeks ++ answer ∷ [],
+      omega (arith, length-append weeks (answer ∷ []), many),
+      weeks_more z f 0 weeks answer are (subst (λ n. IsWeekAnswer z f n answer) place week.1),
+      with_text (flat_map_more ended [] weeks answer) (adds_both adds week.2),
+    )
+
+pub returns : goal.returns
+returns g c =
+    let (weeks, many, are, adds) = c.loop-weeks.invariant in
+    let count : length weeks ≡ c.args.count = omega (arith, many, c.loop-weeks-test.false, c.loop-weeks.auto.weeks-end) in (
+      meeting_lines weeks,
+      inl (c.in-Ok.ensures.valid, weeks, count, are, refl),
+      record {
+        zone_is = adds.zone_is;
+        sound = adds.sound;
+        text_is = adds.text_is ∙ ap (λ bs. bs ++ flat_map ended weeks) c.in_ok-push_count.ensures ∙ meeting_written (written c.args.self.now.output) weeks c.from.result (count ∙ sym c.from.ensures);
+      },
+    )
+
+pub returns-in-Err : goal.returns-in-Err
+returns-in-Err g c =
+    let was = written c.args.self.now.output in
+    let fault = c.in-Err.fault in
+    IfOk-weaker c.push_error.result _ _
+    (λ done items. (
+      (codes "E " ++ field_fault_text fault) ∷ [],
+      inr (fault, c.in-Err.ensures.err, refl),
+      record { zone_is = refl; sound = λ s. s; text_is = items ∙ ap (λ name. was ++ ended ((codes "E " ++ name) ∷ [])) c.field_fault_name.ensures.text },
+    ))
+    c.push_error.ensures

@@ -1,0 +1,29 @@
+-- The clock has the segment's type throughout it.
+use Rattle.std.proofs.Common.{◌≡◌, refl, ◌∙◌, sym, ap, subst, rules, ℤ, ◌≤ℤ◌}
+use Rattle.std.specs.Prelude.{Some, option_copied}
+use Rattle.std.proofs.lemmas.Int.{to_z-of_z}
+use mir.Syntax.{w64}
+use mir.Val.{SFits}
+use Rattle.tz_zone.specs.Changes.{HasTypeOrNone, segment_of}
+use Rattle.tz_zone.specs.ZoneRef.{zone_of}
+use Rattle.tz_query.proofs.query.answers.Answers.keep_segment.Goals as goal
+
+pub returns-in-Some : goal.returns-in-Some
+returns-in-Some g c =
+    let z = zone_of c.args.self.now.zone in
+    let segment = segment_of c.segment_at-segment.result in
+    let t = c.in-Some.local_time_type in
+    let from_fits : SFits w64 c.from-self.result = search rules in
+    let last_fits : SFits w64 c.last-self.result = search rules in
+    let from_is = to_z-of_z w64 c.from-self.result from_fits ∙ c.from-self.ensures in
+    let last_is = to_z-of_z w64 c.last-self.result last_fits ∙ c.last-self.ensures in
+    let has : segment.local_time_type ≡ Some t.now = sym c.local_time_type.ensures ∙ ap option_copied c.in-Some.is in
+    record {
+      zone_is = refl;
+      sound = λ was. (
+        λ u after before. subst (λ type. HasTypeOrNone z u type) has
+            (c.segment_at-segment.ensures.segment.holds u (subst (λ (x : ℤ). x ≤ℤ u) from_is after) (subst (λ (x : ℤ). u ≤ℤ x) last_is before)),
+        c.of.ensures,
+      );
+      output_is = refl;
+    }

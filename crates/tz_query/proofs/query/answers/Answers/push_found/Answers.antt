@@ -1,0 +1,46 @@
+-- How much is found, and a line for each: one more entry is there after each turn.
+use Rattle.std.proofs.Common.{◌≡◌, ◌<◌, ◌++◌, ◌∷◌, [], length, take, get_or, arith, refl, sym, ap, subst, ◌∙◌, append-nil, append_assoc, rules}
+use Rattle.std.proofs.Math.Seq.{take-length}
+use Rattle.std.specs.Prelude.{map, codes}
+use Rattle.std.specs.Fmt.{decimal}
+use Rattle.tz.specs.declared.datetime.found.FoundDateTimeKind.{FoundDateTimeKind}
+use Rattle.tz_query.specs.Answers.{entry_text}
+use Rattle.tz_query.specs.Entries.{HasNanoseconds}
+use Rattle.tz_query.specs.Lines.{line_feed, ended}
+use Rattle.tz.specs.Nanoseconds.{number_of}
+use Rattle.tz_query.specs.Outputs.{Adds, written}
+use Rattle.tz_query.proofs.AddedText.{adds_both, with_text}
+use Rattle.tz_query.proofs.AnswerLines.{entries_more}
+use Rattle.tz_query.proofs.query.answers.Answers.push_found.Goals as goal
+
+pub loop-entry-init : goal.loop-entry-init
+loop-entry-init g c = record { zone_is = refl; sound = λ s. s; text_is = sym (append-nil (written c.push_count.new.self)) }
+
+pub push_entry-requires : goal.push_entry-requires
+push_entry-requires g c =
+    let e = c.entry-item.result in
+    let within : c.loop-entry.entry-index < length c.args.found.now = search rules in
+    subst (HasNanoseconds (number_of c.args.nanoseconds.now)) (sym c.entry-item.is) (c.requires c.loop-entry.entry-index e within)
+
+pub loop-entry-smaller : goal.loop-entry-smaller
+loop-entry-smaller g c = omega (arith, c.loop-entry-test.true)
+
+pub loop-entry-preserved : goal.loop-entry-preserved
+loop-entry-preserved g c =
+    let found = c.args.found.now in
+    let i = c.loop-entry.entry-index in
+    let e = c.entry-item.result in
+    let within : i < length found = search rules in
+    let line = with_text (ap (λ (x : FoundDateTimeKind). entry_text x ++ line_feed ∷ []) c.entry-item.is) c.in_ok-push_entry.ensures in
+    with_text (sym (entries_more found i e within)) (adds_both c.loop-entry.invariant line)
+
+pub returns : goal.returns
+returns g c =
+    let found = c.args.found.now in
+    let count = codes "F " ++ decimal (length found) in
+    let entries = ended (map entry_text found) in
+    let end : c.loop-entry.entry-index ≡ length found = omega (arith, c.loop-entry-test.false, c.loop-entry.auto.entry-index-end) in
+    let all : take c.loop-entry.entry-index found ≡ found = ap (λ n. take n found) end ∙ take-length found in
+    let lines = with_text (ap (λ es. ended (map entry_text es)) all) c.loop-entry.invariant in
+    let counted : Adds c.args.self.now (record c.args.self.now { output = c.push_count.new.self }) (ended (count ∷ [])) = record { zone_is = refl; sound = λ s. s; text_is = c.in_ok-push_count.ensures } in
+    with_text (append_assoc count (line_feed ∷ []) entries) (adds_both counted lines)

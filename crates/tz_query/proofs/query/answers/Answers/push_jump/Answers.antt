@@ -1,0 +1,43 @@
+-- What is shown on both sides of the jump.
+use Rattle.std.proofs.Common.{[], ◌∷◌, ◌+ℤ◌, inl, inr, refl, sym, subst, rules}
+use Rattle.std.proofs.lemmas.Int.{to_z-of_z}
+use Rattle.std.proofs.lemmas.Result.{IfOk-weaker}
+use mir.Syntax.{w32, w64}
+use mir.Val.{SFits}
+use Rattle.tz_base.specs.Fields.{IsReading}
+use Rattle.tz.specs.DateTimes.{DateTime, ShowsInstant}
+use Rattle.tz.specs.Walks.{moment_of}
+use Rattle.tz.specs.PrintedText.{moment_text}
+use Rattle.tz_query.proofs.AddedText.{with_text}
+use Rattle.tz_query.proofs.OtherNanoseconds.{civil_with}
+use Rattle.tz_query.proofs.EntryLines.{lines_of_jump}
+use Rattle.tz.specs.Nanoseconds.{number_of}
+use Rattle.tz_query.proofs.query.answers.Answers.push_jump.Goals as goal
+
+pub returns : goal.returns
+returns g c =
+    let n = number_of c.args.nanoseconds.now in
+    let u = c.args.unix_time in
+    let a = c.args.before.now in
+    let b = c.args.after.now in
+    let first = c.in-Some.first in
+    let second = c.in-Some-shown_fields.second in
+    let fits_a : SFits w32 c.ut_offset.result = search rules in
+    let fits_b : SFits w32 c.ut_offset-2.result = search rules in
+    let (civil_a, reads_a) = rw (to_z-of_z w64 u c.ranges.unix_time, to_z-of_z w32 c.ut_offset.result fits_a, c.ut_offset.ensures.value) at c.in-Some.ensures.some in
+    let (civil_b, reads_b) = rw (to_z-of_z w64 u c.ranges.unix_time, to_z-of_z w32 c.ut_offset-2.result fits_b, c.ut_offset-2.ensures.value) at c.in-Some-shown_fields.ensures.some in
+    let x : DateTime = moment_of (record first { nanoseconds = n }) a u in
+    let y : DateTime = moment_of (record second { nanoseconds = n }) b u in
+    let few = c.args.nanoseconds.now.below in
+    let shown_x : ShowsInstant u n a x = record { civil = civil_with (u +ℤ a.ut_offset) n first few civil_a; type_is = refl; instant_is = refl } in
+    let shown_y : ShowsInstant u n b y = record { civil = civil_with (u +ℤ b.ut_offset) n second few civil_b; type_is = refl; instant_is = refl } in
+    IfOk-weaker c.push_skipped.result _ _
+    (λ done adds. inl (
+      x,
+      y,
+      shown_x,
+      shown_y,
+      (subst IsReading (sym civil_a.reads) reads_a, subst IsReading (sym civil_b.reads) reads_b),
+      with_text (sym (lines_of_jump (moment_text x) (moment_text y))) (adds u u),
+    ))
+    c.push_skipped.ensures
