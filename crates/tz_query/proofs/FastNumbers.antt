@@ -6,10 +6,10 @@ use Rattle.std.specs.Str.Parse.{AllDigits, digits_value}
 use Rattle.std.specs.Float.Numeral.{digits_len}
 use Rattle.std.proofs.lemmas.Bool.Decides.{nat_tests}
 use Rattle.std.proofs.lemmas.Int.Digits.{digits_value-lt, digits_value_push}
-use Rattle.std.proofs.lemmas.List.{take-append-drop, drop-drop, drop-take, drop_more, length-append, length-drop, length-take-le, take-take, take_more}
+use Rattle.std.proofs.lemmas.List.{take-append-drop, drop-drop, drop-take, drop_more, length-drop, length-take-le, take-take, take_more}
 use Rattle.std.proofs.lemmas.List.Folds.{length-prefix_len}
 use Rattle.std.proofs.lemmas.List.Sums.{prefix_len-le-length}
-use Rattle.std.proofs.Math.Nat.{pow-le-pow_right, pow-suc}
+use Rattle.std.proofs.Math.Nat.{pow-le-pow_right}
 use mathlib.Core.Bool.{true≢false}
 use Rattle.core.proofs.dec2flt.DigitsLemmas.{digit_range, is_digit}
 use Rattle.tz.specs.PrintedText.{last_digits, nine_digits}

@@ -1,14 +1,7 @@
 -- Fields that stay valid, and show what they showed, with other nanoseconds.
-use Rattle.std.proofs.Common.{◌≡◌, ℕ, ◌+◌, ◌<◌, ◌≤◌, List, [], ◌∷◌, ◌++◌, length, take, drop, refl, sym, ap, ◌∙◌, arith, append_assoc, length-append, ℤ}
-use Rattle.std.specs.Fmt.{signed_decimal}
-use Rattle.std.proofs.lemmas.List.{length-take-le, take-append-le, take-append-drop}
-use Rattle.std.proofs.Math.Seq.{take-append-add, take-append_seam}
-use Rattle.std.proofs.lemmas.Slice.{take-put_mid}
+use Rattle.std.proofs.Common.{◌≡◌, ℕ, ◌<◌, refl, sym, ap, ℤ}
 use Rattle.tz_base.specs.declared.fields.Fields.{Fields}
 use Rattle.tz_base.specs.Fields.{IsCivil, IsValid}
-use Rattle.tz_rule.specs.LocalTimeType.{LocalTimeType}
-use Rattle.tz.specs.PrintedText.{two_digits, nine_digits, date_text, time_text, middle_text, offset_text, printed_text, type_name_text, suffix_text, moment_text}
-use borrow.Rule.Slice.PartMut.{put_mid}
 
 -- fields stay valid with other nanoseconds
 pub valid_with : (f : Fields) (n : ℕ) → n < 1000000000 → IsValid f → IsValid (record f { nanoseconds = n })

@@ -7,7 +7,7 @@ ghost use Rattle.tz_query.specs.declared.query.lines.Query.{Query};
 ghost use Rattle.tz_query.specs.Lines.{IsFirstLine};
 ghost use Rattle.tz_query.specs.Queries.{AreFieldsOfBits, numbers_of, IsTimeLine, IsSearchLine, IsQueryLine};
 
-use crate::query::numbers::{read_nanoseconds, read_numbers, read_seconds, read_small, read_year};
+use crate::query::numbers::{read_nanoseconds, read_numbers, read_small, read_usual_number};
 use std::num::TryFromIntError;
 use tz::inner::{Fields, after_byte};
 
@@ -83,7 +83,7 @@ pub fn read_usual_time_line<'a>(queries: &'a [u8], nine: &mut [u8; 9]) -> Option
     if queries.len() < 48 || queries[0] != b'T' {
         return None;
     }
-    let (unix_time, after_seconds) = read_seconds(queries, 1)?;
+    let (unix_time, after_seconds) = read_usual_number(queries, 1)?;
     let line_end = read_nanoseconds(queries, after_seconds, nine)?;
     if queries[line_end] != b'\n' {
         return None;
@@ -91,8 +91,8 @@ pub fn read_usual_time_line<'a>(queries: &'a [u8], nine: &mut [u8; 9]) -> Option
     Some((unix_time, &queries[line_end + 1..]))
 }
 
-/// The fields of the first line, if it is an `F` line of a year of four digits and usual numbers, and the bytes after it. Its nanoseconds
-/// are copied, and are 0 in the fields.
+/// The fields of the first line, if it is an `F` line of usual numbers, and the bytes after it. Its nanoseconds are copied, and are 0 in the
+/// fields.
 #[inline(always)]
 pub fn read_usual_search_line<'a>(
     queries: &'a [u8],
@@ -101,11 +101,17 @@ pub fn read_usual_search_line<'a>(
     ensures { IfSome result (λ r. (n : ℕ) × (n < 1000000000) × (nine.new ≡ nine_digits n)
         × ((line : List ℕ) × IsFirstLine queries.now line r.1.now × IsSearchLine line (record r.0 { nanoseconds = n }))) }
 {
-    if queries.len() < 64 || queries[0] != b'F' || queries[1] != b' ' {
+    if queries.len() < 48 || queries[0] != b'F' {
         return None;
     }
-    let year = read_year(queries, 2)?;
-    let (month, after_month) = read_small(queries, 7)?;
+    let (number, after_year) = read_usual_number(queries, 1)?;
+    let Ok(year) = i32::try_from(number) else {
+        return None;
+    };
+    if queries[after_year] != b' ' {
+        return None;
+    }
+    let (month, after_month) = read_small(queries, after_year + 1)?;
     let (month_day, after_day) = read_small(queries, after_month + 1)?;
     let (hour, after_hour) = read_small(queries, after_day + 1)?;
     let (minute, after_minute) = read_small(queries, after_hour + 1)?;
@@ -115,7 +121,7 @@ pub fn read_usual_search_line<'a>(
         return None;
     }
     let fields = Fields {
-        year: i32::from(year),
+        year,
         month,
         month_day,
         hour,

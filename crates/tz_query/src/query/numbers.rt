@@ -107,7 +107,7 @@ fn read_few_digits(bytes: &[u8], place: usize) -> Option<(u64, usize)>
 
 /// The number of up to 18 digits after a space at a place, and the place after it.
 #[inline(always)]
-pub fn read_seconds(bytes: &[u8], place: usize) -> Option<(i64, usize)>
+pub fn read_usual_number(bytes: &[u8], place: usize) -> Option<(i64, usize)>
     requires { place + 14 ≤ length bytes.now }
     ensures number { IfSome result (λ r. IsPartFront (drop place bytes.now) r.0 (drop r.1 bytes.now)) }
     ensures bound { IfSome result (λ r. (negsuc 1000000000000000000 ≤ℤ r.0) × (r.0 ≤ℤ pos 1000000000000000000)) }
@@ -177,23 +177,4 @@ pub fn read_small(bytes: &[u8], place: usize) -> Option<(u8, usize)>
         return None;
     }
     Some((first * 10 + second, place + 2))
-}
-
-/// The number of four digits at a place, if a space follows it.
-#[inline(always)]
-pub fn read_year(bytes: &[u8], place: usize) -> Option<u16>
-    requires { place + 5 ≤ length bytes.now }
-    ensures number { IfSome result (λ year. IsNumberFront (drop place bytes.now) (pos year) (drop (place + 4) bytes.now)) }
-    ensures space { IfSome result (λ year. drop (place + 4) bytes.now ≡ 32 ∷ drop (place + 5) bytes.now) }
-    ensures bound { IfSome result (λ year. year < 10000) }
-{
-    let first = value_of(bytes[place]);
-    let second = value_of(bytes[place + 1]);
-    let third = value_of(bytes[place + 2]);
-    let fourth = value_of(bytes[place + 3]);
-    if first >= 10 || second >= 10 || third >= 10 || fourth >= 10 || bytes[place + 4] != b' ' {
-        return None;
-    }
-    let century = u16::from(first * 10 + second);
-    Some(century * 100 + u16::from(third * 10 + fourth))
 }

@@ -2,7 +2,7 @@
 use Rattle.std.proofs.Common.{◌≡◌, ◌++◌, ◌<◌, [], length, sym, ap, ◌∙◌, subst, rules, append_assoc, append-nil}
 use Rattle.tz_zone.specs.ZoneRef.{zone_of}
 use Rattle.tz_query.specs.Lines.{ended}
-use Rattle.tz_query.specs.Answers.{AreAnswers, IsAnswer}
+use Rattle.tz_query.specs.Answers.{AreAnswers}
 use Rattle.tz_query.specs.Outputs.{written}
 use Rattle.tz_query.proofs.AnswerLines.{AreAnswers-nil, AreAnswers-cons, rest_is_shorter, some_left, none_from_length}
 use Rattle.tz_query.proofs.query.answers.answer.Goals as goal

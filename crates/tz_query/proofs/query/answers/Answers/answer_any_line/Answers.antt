@@ -1,5 +1,5 @@
 -- A query is answered by what it asks for, and a line that is no query by its error.
-use Rattle.std.proofs.Common.{◌≡◌, ℕ, List, [], ◌∷◌, refl, inl, inr, rules}
+use Rattle.std.proofs.Common.{ℕ, List, [], ◌∷◌, refl, inl, inr, rules}
 use Rattle.std.specs.Prelude.{codes}
 use Rattle.std.proofs.lemmas.Int.{to_z-of_z}
 use mir.Syntax.{w64}

@@ -1,5 +1,5 @@
 -- What the reading means, or what a search finds.
-use Rattle.std.proofs.Common.{◌∷◌, [], inl, inr, refl, sym, subst, rules}
+use Rattle.std.proofs.Common.{◌∷◌, [], refl, sym, subst, rules}
 use Rattle.std.proofs.lemmas.Int.{to_z-of_z}
 use Rattle.std.proofs.lemmas.List.Elements.{All-nil, All-cons}
 use Rattle.std.proofs.lemmas.Result.{IfOk-weaker}

@@ -1,5 +1,5 @@
 -- What is shown on both sides of the jump.
-use Rattle.std.proofs.Common.{[], ◌∷◌, ◌+ℤ◌, inl, inr, refl, sym, subst, rules}
+use Rattle.std.proofs.Common.{◌+ℤ◌, inl, refl, sym, subst, rules}
 use Rattle.std.proofs.lemmas.Int.{to_z-of_z}
 use Rattle.std.proofs.lemmas.Result.{IfOk-weaker}
 use mir.Syntax.{w32, w64}

@@ -1,6 +1,5 @@
 -- The line stands behind what comes before it.
 use Rattle.std.proofs.Common.{◌++◌, ◌∷◌, [], refl, sym, ap, ◌∙◌, append_assoc}
-use Rattle.tz_rule.specs.LocalTimeType.{LocalTimeType}
 use Rattle.tz.specs.Walks.{moment_of}
 use Rattle.tz.specs.PrintedText.{moment_text}
 use Rattle.tz.specs.Nanoseconds.{number_of}

@@ -1,5 +1,5 @@
 -- A line for each of the two types.
-use Rattle.std.proofs.Common.{[], ◌∷◌, ◌++◌, sym, subst}
+use Rattle.std.proofs.Common.{sym}
 use Rattle.std.proofs.lemmas.Result.{IfOk-weaker}
 use Rattle.tz_base.specs.declared.fields.Fields.{Fields}
 use Rattle.tz.specs.DateTimes.{DateTime}
