@@ -37,7 +37,7 @@ impl<'a, A: Allocator + Copy> Answers<'a, A> {
     ghost use Rattle.tz_query.specs.Lines.{IsFirstLine, ended};
     ghost use Rattle.tz_query.specs.Outputs.{Adds, IsSound, Leaves, written};
 
-    /// Answers over a zone, which are written behind these bytes, with a span without an instant.
+    /// Answers that follow these bytes. The span holds no instant yet.
     #[inline(always)]
     fn new(alloc: A, zone: TimeZoneRef<'a>, answers: Vec<u8, A>) -> Answers<'a, A>
         ensures written { written result.output ≡ answers.items }

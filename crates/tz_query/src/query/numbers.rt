@@ -20,8 +20,8 @@ fn value_of(byte: u8) -> u8
     byte.wrapping_sub(b'0')
 }
 
-/// The number of the digits at the beginning of the bytes, or another one from 10^19 on in the place of such a number, and the bytes after
-/// them.
+/// The number of the digits at the beginning of the bytes, and the bytes after them. In the place of a number of 10^19 or more stands some
+/// number that is no less than 10^19.
 #[inline(always)]
 fn read_digits(bytes: &[u8]) -> (u64, &[u8])
     ensures { (digits : List ℕ) × IsDigitsFront bytes.now digits result.1.now
@@ -61,8 +61,8 @@ pub fn read_number(bytes: &[u8]) -> Option<(i64, &[u8])>
     Some((0i64.checked_sub_unsigned(size)?, rest))
 }
 
-/// As many numbers at the beginning of the bytes as are asked for, each of 64 bits and after a space, if the line ends after them, and the
-/// bytes after that line.
+/// Numbers at the beginning of the bytes, each of 64 bits and after a space, if the line ends after the last of them, and the bytes after
+/// that line.
 #[inline(always)]
 pub fn read_numbers<const N: usize>(bytes: &[u8]) -> Option<([i64; N], &[u8])>
     ensures some { IfSome result (λ r. (line : List ℕ) × IsFirstLine bytes.now line r.1.now × AreNumbers line r.0) }

@@ -74,7 +74,7 @@ impl<A: Allocator> Output<A> {
         self.push_line(&[letter, b' '], text.as_bytes())
     }
 
-    /// All answers.
+    /// Returns all answers.
     pub fn into_answers(self) -> Result<Vec<u8, A>, AllocError>
         ensures { IfOk result (λ answers. answers.items ≡ written self) }
     {

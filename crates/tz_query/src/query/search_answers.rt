@@ -75,7 +75,7 @@ impl<'a, A: Allocator + Copy> Answers<'a, A> {
         Ok(())
     }
 
-    /// Writes the line of what was found once.
+    /// Writes the line of an entry of a list.
     fn push_entry(
         &mut self,
         entry: &FoundDateTimeKind,
