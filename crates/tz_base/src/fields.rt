@@ -15,6 +15,7 @@ use crate::error::datetime::DateTimeError;
 use crate::year::moved_seconds;
 
 /// The seven fields of a date time, in the order in which they are compared.
+#[repr(C)]
 #[derive(Clone, Copy, Debug, PartialEq, Eq, PartialOrd, Ord)]
 pub struct Fields {
     /// The year; 0 is the year before 1.

@@ -15,6 +15,7 @@ pub mod TablesOfDays
 pub mod WeakerClauses
 pub mod RuleConflicts
 pub mod RulesAcrossYears
+pub mod ZeroRules
 pub mod UtcYears
 pub mod DaylightSpans
 pub mod InnerTurns

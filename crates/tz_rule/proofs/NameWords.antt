@@ -1,9 +1,9 @@
 -- A number of eight bytes has the bytes as its digits, so what keeps a name is told by its word.
-use Rattle.std.proofs.Common.{◌≡◌, ℕ, zero, suc, ◌-◌, ◌<◌, List, ◌∷◌, [], ◌++◌, ◌∙◌, refl, ap, sym, subst, arith, length, get_or, take, replicate, All, length-append}
+use Rattle.std.proofs.Common.{◌≡◌, ℕ, zero, suc, ◌-◌, ◌<◌, ◌≤◌, List, ◌∷◌, [], ◌++◌, ◌∙◌, refl, ap, sym, subst, arith, length, get_or, take, replicate, All, length-append}
 use Rattle.std.specs.Int.{w64, to_le_bytes}
 use Rattle.std.proofs.Math.Seq.{take-append_seam, get_or-append_seam}
 use Rattle.std.proofs.lemmas.Nat.{le_bytes_8}
-use Rattle.tz_rule.specs.LocalTimeType.{IsDesignationByte}
+use Rattle.tz_rule.specs.LocalTimeType.{IsDesignationByte, IsDesignation}
 use Rattle.tz_rule.specs.Designation.{IsKept, word_of, seven_bytes}
 use Rattle.tz_rule.specs.declared.timezone.local_time_type.Designation.{Designation}
 
@@ -33,10 +33,15 @@ AreBytes-single : (x : ℕ) → x < 256 → AreBytes (x ∷ [])
 AreBytes-single x below zero = below
 AreBytes-single x below (suc i) = omega arith
 
+-- the bytes of the name, of which there may be none
+AreBytes-first : (n : ℕ) (bytes : List ℕ) → (1 ≤ n → IsDesignation (take n bytes)) → AreBytes (take n bytes)
+AreBytes-first zero bytes name i = omega arith
+AreBytes-first (suc n) bytes name i = AreBytes-name (take (suc n) bytes) (name (omega arith)).bytes_are i
+
 AreBytes-kept : (d : Designation) → IsKept d → AreBytes (d.bytes ++ d.len ∷ [])
 AreBytes-kept d k =
     let name = take d.len d.bytes in
-    let seven : AreBytes d.bytes = subst AreBytes (sym k.is_padded) (AreBytes-append name (replicate (7 - length name) 0) (AreBytes-name name k.is_name.bytes_are) (AreBytes-zeros (7 - length name))) in
+    let seven : AreBytes d.bytes = subst AreBytes (sym k.is_padded) (AreBytes-append name (replicate (7 - length name) 0) (AreBytes-first d.len d.bytes k.is_name) (AreBytes-zeros (7 - length name))) in
     AreBytes-append d.bytes (d.len ∷ []) seven (AreBytes-single d.len (omega (arith, k.short)))
 
 -- the bytes are the digits of the word

@@ -1,11 +1,10 @@
 -- From one start or end up to the next a rule has one type. Starts and ends rise from year to year, so those of five years tell the nearest ones.
 use Rattle.std.proofs.Common.{◌≡◌, ◌⊎◌, inl, inr, ℕ, zero, suc, ◌+◌, ◌<◌, ◌≤◌, Bool, true, false, not, MatchBool, refl, ap, arith, ℤ, pos, negsuc, ◌+ℤ◌, ◌-ℤ◌, ◌≤ℤ◌, ◌<ℤ◌}
-use Rattle.std.specs.Prelude.{Some, if◌then◌else◌, slice_get}
 use Rattle.std.proofs.lemmas.Int.{ints, by_lt_z}
 use Rattle.tz_base.proofs.DateOrder.{first_day-mono, gap_between}
 use Rattle.tz_rule.specs.Alternate.{AlternateTime, start_of, end_of, turn_of, IsInRuleRange, AreRuleDays, IsUtcYear, IsInRuleYears, IsAlternateType, IsUnchanged}
 use Rattle.tz_rule.specs.RuleDays.{IsRuleDay}
-use Rattle.tz_rule.specs.Rule.{IsRuleType, types_of}
+use Rattle.tz_rule.specs.Rule.{IsRuleType}
 use Rattle.tz_rule.specs.RuleSegments.{IsTurn, IsRuleChange, IsWholeSegment, IsNotInside}
 use Rattle.tz_rule.specs.AlternateSegments.{type_by, IsTriedYear}
 use Rattle.tz_rule.specs.Pairing.{EndsNextYear, IsDaylight}
@@ -268,8 +267,3 @@ module _ (r : AlternateTime) (range : IsInRuleRange r) (days : AreRuleDays r) (u
               (λ not_before. alternate_type_unchanged r u v t not_before (unchanged_within u v segment.within.0 to) here),
         );
       }
-
--- the type by a test is the one with that number
-pub type_at : (r : AlternateTime) (is_daylight : Bool) → slice_get (types_of (Alternate r)) (if is_daylight then 1 else 0) ≡ Some (type_by r is_daylight)
-type_at r true = refl
-type_at r false = refl

@@ -1,9 +1,9 @@
 -- Spans of time between two changes of a rule, through which it has one type or none. (POSIX.1-2017, Base Definitions, 8.3: the TZ variable.)
-use Rattle.std.specs.Prelude.{◌≡◌, ◌≢◌, ◌⊎◌, ℤ, pos, negsuc, ◌+ℤ◌, ◌*ℤ◌, ◌≤ℤ◌, ◌<ℤ◌, Some, IfSome, MatchOption, if◌then◌else◌, slice_get}
+use Rattle.std.specs.Prelude.{◌≡◌, ◌≢◌, ◌⊎◌, ℤ, pos, negsuc, ◌+ℤ◌, ◌*ℤ◌, ◌≤ℤ◌, ◌<ℤ◌, MatchOption}
 use Rattle.tz_base.specs.Days.{first_day}
 use Rattle.tz_rule.specs.LocalTimeType.{LocalTimeType}
 use Rattle.tz_rule.specs.Alternate.{AlternateTime, start_of, end_of}
-use Rattle.tz_rule.specs.Rule.{IsRuleType, types_of}
+use Rattle.tz_rule.specs.Rule.{IsRuleType}
 use Rattle.tz_rule.specs.AlternateSegments.{IsAlternateSegment}
 use Rattle.tz_rule.specs.declared.timezone.rule.TransitionRule.{TransitionRule}
 use Rattle.tz_rule.specs.declared.timezone.rule.TransitionRule.TheVariants.{Fixed, Alternate}
@@ -20,10 +20,6 @@ IsRuleChange (Fixed fixed) u = ⊥
 IsRuleChange (Alternate r) u =
     IsTurn r u ⊎ (u ≡ pos 86400 *ℤ first_day (negsuc 2147483645)) ⊎ (u ≡ pos 86400 *ℤ first_day (pos 2147483646))
 
--- the type of a segment, where it has one, is the second of the rule's in daylight saving time, and else the first
-abbrev pub HasTypeOf : TransitionRule → RuleSegment → Type 0
-HasTypeOf rule s = IfSome s.local_time_type (λ t. slice_get (types_of rule) (if s.is_daylight then 1 else 0) ≡ Some t.now)
-
 -- a segment holds the instant, lies between two changes of the rule or the ends of 64 bits, and the rule has its type, or none, at each of its instants
 pub record IsRuleSegment (rule : TransitionRule) (u : ℤ) (s : RuleSegment) : Type 0 where
   pub within : (s.from ≤ℤ u) × (u ≤ℤ s.last)
@@ -31,7 +27,6 @@ pub record IsRuleSegment (rule : TransitionRule) (u : ℤ) (s : RuleSegment) : T
       → MatchOption s.local_time_type ((t : LocalTimeType) → ¬ IsRuleType rule v t) (λ t. IsRuleType rule v t.now)
   pub from_is : s.from ≢ negsuc 9223372036854775807 → IsRuleChange rule s.from
   pub last_is : s.last ≢ pos 9223372036854775807 → IsRuleChange rule (s.last +ℤ pos 1)
-  pub type_is : HasTypeOf rule s
 
 -- the rule has the type throughout a segment that lies between two of its changes
 pub record IsWholeSegment (r : AlternateTime) (s : AlternateSegment) : Type 0 where

@@ -1,4 +1,10 @@
-//! What the crates above use, and no part of the public surface: the clock of a rule, and the parts of UTC's zone.
+//! What the crates above use, and no part of the public surface: the clock of a rule, rules as plain data, and the parts of UTC's zone.
 
-pub use crate::timezone::rule_clock::{end, find_local_time_type, segment_at, start};
+pub use crate::timezone::alternate_clock::AlternateClock;
+pub use crate::timezone::day_data::DayData;
+pub use crate::timezone::rule_clock::{
+    end, find_local_time_type, parts_are_sound, segment_at, start,
+};
+pub use crate::timezone::rule_data::RuleData;
+pub use crate::timezone::rule_ref::RuleRef;
 pub use crate::timezone::utc::{no_rule, utc_types};

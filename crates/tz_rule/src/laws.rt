@@ -14,7 +14,7 @@ pub fn rule_parts_are_sound(rule: &TransitionRule)
 {
     match rule {
         TransitionRule::Fixed(_) => {}
-        TransitionRule::Alternate(rule) => rule.parts_are_sound(),
+        TransitionRule::Alternate(rule) => rule.clock().parts_are_sound(),
     }
 }
 
@@ -40,7 +40,7 @@ pub fn starts_and_ends_are_near(rule: &AlternateTime)
     ensures starts { (year : ℤ) → IsNearYear (start_of rule.now year) year }
     ensures ends { (year : ℤ) → IsNearYear (end_of rule.now year) year }
 {
-    rule.parts_are_sound();
+    rule.clock().parts_are_sound();
 }
 
 /// For an instant only the starts and ends of its year in UTC and of the two neighbours matter: earlier ones are over, and later ones are yet to come.
@@ -48,7 +48,7 @@ pub fn far_starts_and_ends_are_over_or_to_come(rule: &AlternateTime)
     ensures over { (u year y : ℤ) → IsUtcYear u year → (y +ℤ pos 2) ≤ℤ year → (start_of rule.now y ≤ℤ u) × (end_of rule.now y ≤ℤ u) }
     ensures to_come { (u year y : ℤ) → IsUtcYear u year → (year +ℤ pos 2) ≤ℤ y → (u <ℤ start_of rule.now y) × (u <ℤ end_of rule.now y) }
 {
-    rule.parts_are_sound();
+    rule.clock().parts_are_sound();
 }
 
 /// After 400 years, which are 12622780800 seconds, a rule has the same type.

@@ -8,7 +8,7 @@ use std::process::Abort;
 use std::test::Fail;
 use tz_base::error::TzError;
 use tz_base::error::timezone::{LocalTimeTypeError, TransitionRuleError};
-use tz_rule::inner;
+use tz_rule::inner::{self, RuleRef};
 use tz_rule::timezone::{
     AlternateTime, Julian0WithLeap, Julian1WithoutLeap, LocalTimeType, MonthWeekDay, RuleDay,
     TransitionRule,
@@ -53,7 +53,7 @@ fn type_at(rule: &Result<AlternateTime, Refusal>, unix_time: i64) -> Option<(i32
     let Ok(rule) = rule else {
         return None;
     };
-    match inner::find_local_time_type(&TransitionRule::Alternate(*rule), unix_time) {
+    match inner::find_local_time_type(RuleRef::of(&TransitionRule::Alternate(*rule)), unix_time) {
         Ok(found) => Some((found.ut_offset(), found.is_dst())),
         Err(_) => None,
     }
@@ -103,7 +103,7 @@ fn expect_out_of_range(rt: &impl Abort, rule: AlternateTime) {
     let rule = TransitionRule::Alternate(rule);
     static ENDS: [i64; 2] = [i64::MIN, i64::MAX];
     for unix_time in &ENDS {
-        let found = inner::find_local_time_type(&rule, *unix_time);
+        let found = inner::find_local_time_type(RuleRef::of(&rule), *unix_time);
         assert!(rt; matches!(found, Err(TzError::OutOfRange)), "{unix_time}");
     }
 }
@@ -416,7 +416,7 @@ fn expect_ends_of_auckland(rt: &impl Abort, auckland: &AlternateTime) {
     expect_eq(rt, &inner::end(auckland, 2000), &END);
     // Daylight saving time that starts in 2000 ends in 2001.
     let rule = TransitionRule::Alternate(*auckland);
-    let found = inner::segment_at(&rule, START);
+    let found = inner::segment_at(RuleRef::of(&rule), START);
     let wanted = (START, inner::end(auckland, 2001).wrapping_sub(1));
     expect_eq(rt, &(found.from, found.last), &wanted);
 }
@@ -430,6 +430,8 @@ fn days_ends_and_rules(rt: HostRuntime) {
     let fixed = TransitionRule::Fixed(*auckland.std());
     expect_eq(&rt, &fixed, &fixed);
     expect_ne(&rt, &fixed, &TransitionRule::Alternate(auckland));
-    let found = inner::find_local_time_type(&fixed, i64::MIN).map(|found| found.ut_offset());
+    let found = inner::find_local_time_type(RuleRef::of(&fixed), i64::MIN).map(
+        |found| found.ut_offset(),
+    );
     expect_eq(&rt, &found.ok(), &Some(43_200));
 }

@@ -1,14 +1,13 @@
 //! Rules of standard time and daylight saving time.
 
-ghost use Rattle.std.specs.Prelude.{◌≡◌, OnOk, IfOk, IfErr, IfSome, IfNone, MatchBool};
-ghost use Rattle.std.specs.Bool.{OnTrue};
-ghost use Rattle.tz_rule.specs.Alternate.{start_of, end_of, turn_of, alternate_of, IsInRuleRange, IsFirstRuleFault, IsConsistentRule, AreRuleDays, IsNearYear};
-ghost use Rattle.tz_rule.specs.InnerTurns.{HasInnerTurns};
-ghost use Rattle.tz_rule.specs.YearTables.{IsTableOf};
-ghost use Rattle.tz_rule.specs.Pairing.{IsConflict, IsInconsistent, EndsNextYear};
+ghost use Rattle.std.specs.Prelude.{◌≡◌, ◌&&◌, OnOk, IfOk, IfErr, IfSome, IfNone};
+ghost use Rattle.tz_rule.specs.Alternate.{start_of, end_of, alternate_of, IsInRuleRange, IsFirstRuleFault, IsConsistentRule};
+ghost use Rattle.std.specs.Ordering.{int_eq};
+ghost use Rattle.tz_rule.specs.SameDay.{same_day};
+ghost use Rattle.tz_rule.specs.Pairing.{IsConflict, IsInconsistent};
 
-use super::parts::Parts;
-use super::year_table::YearTable;
+use super::alternate_clock::AlternateClock;
+use super::day_data::DayData;
 use super::{LocalTimeType, RuleDay};
 use std::fmt;
 use std::marker::Model;
@@ -20,11 +19,9 @@ use tz_base::error::timezone::TransitionRuleError;
 /// daylight saving time lasts from each start to the next year's end, and else to the end of the same year.
 #[derive(Clone, Copy)]
 pub struct AlternateTime {
-    parts: Parts,
-    ends_next_year: bool,
-    has_inner_turns: bool,
-    starts: YearTable,
-    ends: YearTable,
+    clock: AlternateClock,
+    dst_start: RuleDay,
+    dst_end: RuleDay,
 }
 
 impl Model for AlternateTime {
@@ -32,16 +29,15 @@ impl Model for AlternateTime {
 
     ghost Value = { AlternateTime };
 
-    ghost use Rattle.tz_rule.specs.Parts.{rule_of};
-    ghost use Rattle.tz_rule.specs.KeptRule.{IsKeptRule, parts_of, ends_come_first, kept_of, kept_rule};
+    ghost use Rattle.tz_rule.specs.RuleWithDays.{HasItsDays, with_days, with_its_days};
 
-    ghost view = { λ r. rule_of r.parts };
+    ghost view = { λ r. r.clock };
 
-    ghost invariant = { IsKeptRule };
+    ghost invariant = { HasItsDays };
 
-    ghost inverse = { kept_of };
+    ghost inverse = { with_days };
 
-    ghost inverse_ok = { λ r k. kept_rule r k };
+    ghost inverse_ok = { λ r k. with_its_days r k };
 }
 
 impl AlternateTime {
@@ -62,25 +58,13 @@ impl AlternateTime {
         ensures ok { OnOk result (IsConsistentRule (alternate_of std dst dst_start dst_start_time dst_end dst_end_time)) }
         ensures err { IfErr result (IsFirstRuleFault (alternate_of std dst dst_start dst_start_time dst_end dst_end_time)) }
     {
-        let parts = Parts {
-            std,
-            dst,
-            dst_start,
-            dst_start_time,
-            dst_end,
-            dst_end_time,
-        };
-        parts.check_range()?;
-        let (starts, ends) = parts.tables();
-        let Some(ends_next_year) = starts.order(&ends) else {
-            return Err(TransitionRuleError::InconsistentRule);
-        };
+        let start = DayData::of(&dst_start);
+        let end = DayData::of(&dst_end);
+        let clock = AlternateClock::new(std, dst, start, dst_start_time, end, dst_end_time)?;
         Ok(AlternateTime {
-            parts,
-            ends_next_year,
-            has_inner_turns: starts.is_inner() && ends.is_inner(),
-            starts,
-            ends,
+            clock,
+            dst_start,
+            dst_end,
         })
     }
 
@@ -103,101 +87,77 @@ impl AlternateTime {
             (start_of (alternate_of std dst dst_start dst_start_time dst_end dst_end_time))
             (end_of (alternate_of std dst dst_start dst_start_time dst_end dst_end_time)))) }
     {
-        let parts = Parts {
-            std,
-            dst,
-            dst_start,
-            dst_start_time,
-            dst_end,
-            dst_end_time,
-        };
-        parts.check_range().ok()?;
-        let (starts, ends) = parts.tables();
-        starts.conflict(&ends)
+        let start = DayData::of(&dst_start);
+        let end = DayData::of(&dst_end);
+        AlternateClock::conflict(std, dst, start, dst_start_time, end, dst_end_time)
     }
 
     /// The type of standard time.
     pub fn std(&self) -> &LocalTimeType
         ensures { result.now ≡ self.now.std }
     {
-        &self.parts.std
+        self.clock.std()
     }
 
     /// The type of daylight saving time.
     pub fn dst(&self) -> &LocalTimeType
         ensures { result.now ≡ self.now.dst }
     {
-        &self.parts.dst
+        self.clock.dst()
     }
 
     /// The day on which daylight saving time starts.
     pub fn dst_start(&self) -> &RuleDay
         ensures { result.now ≡ self.now.dst_start }
     {
-        &self.parts.dst_start
+        &self.dst_start
     }
 
     /// When it starts on that day, in seconds from 00:00 of standard time, less than a week either way.
     pub fn dst_start_time(&self) -> i32
         ensures { result ≡ self.now.dst_start_time }
     {
-        self.parts.dst_start_time
+        self.clock.dst_start_time()
     }
 
     /// The day on which daylight saving time ends.
     pub fn dst_end(&self) -> &RuleDay
         ensures { result.now ≡ self.now.dst_end }
     {
-        &self.parts.dst_end
+        &self.dst_end
     }
 
     /// When it ends on that day, in seconds from 00:00 of daylight saving time, less than a week either way.
     pub fn dst_end_time(&self) -> i32
         ensures { result ≡ self.now.dst_end_time }
     {
-        self.parts.dst_end_time
+        self.clock.dst_end_time()
     }
 
-    /// The table of the starts of daylight saving time, or of its ends.
-    #[inline(always)]
-    pub(super) fn turns(&self, is_end: bool) -> &YearTable
-        ensures { IsTableOf (turn_of self.now is_end) result.now.0 }
+    /// The rule of a clock.
+    pub(crate) fn of_clock(clock: &AlternateClock) -> Self
+        ensures { result ≡ clock.now }
     {
-        if is_end { &self.ends } else { &self.starts }
+        AlternateTime {
+            clock: *clock,
+            dst_start: clock.dst_start().day(),
+            dst_end: clock.dst_end().day(),
+        }
     }
 
-    /// The instant at which daylight saving time starts, or ends, in a year.
-    pub(crate) fn turn_in(&self, is_end: bool, year: i32) -> i64
-        ensures value { result ≡ turn_of self.now is_end year }
-        ensures bound { IsNearYear result year }
+    /// The rule's clock.
+    pub(crate) fn clock(&self) -> &AlternateClock
+        ensures { result.now ≡ self.now }
     {
-        self.parts_are_sound();
-        self.turns(is_end).in_year(year)
+        &self.clock
     }
+}
 
-    /// Whether each start has the end of the next year.
-    #[inline(always)]
-    pub(crate) fn ends_next_year(&self) -> bool
-        ensures { MatchBool result (EndsNextYear (start_of self.now) (end_of self.now)) (¬ EndsNextYear (start_of self.now) (end_of self.now)) }
-    {
-        self.ends_next_year
-    }
-
-    /// Whether each start and each end lies ten days or more from the ends of its year.
-    #[inline(always)]
-    pub(super) fn has_inner_turns(&self) -> bool
-        ensures { OnTrue result (HasInnerTurns self.now) }
-    {
-        self.has_inner_turns
-    }
-
-    /// The parts are those of a valid rule. This does nothing; its contract is what holds of every value.
-    pub(crate) fn parts_are_sound(&self)
-        ensures rule { IsConsistentRule self.now }
-        ensures days { AreRuleDays self.now }
-    {
-        let _ = &self.parts;
-    }
+/// Whether two starts, or two ends, fall on the same day at the same time.
+fn is_same_switch(day: &RuleDay, time: i32, other_day: &RuleDay, other_time: i32) -> bool
+    ensures { result ≡ (same_day day.now other_day.now && int_eq time other_time) }
+{
+    day == other_day && time == other_time
 }
 
 impl PartialEq for AlternateTime {
@@ -210,13 +170,21 @@ impl PartialEq for AlternateTime {
     ghost laws = { partial_equiv_from_equiv (IsEquivalence-from_equality same_alternate Decides-same_alternate) };
 
     fn eq(&self, other: &AlternateTime) -> bool {
-        let (a, b) = (&self.parts, &other.parts);
-        a.std == b.std
-            && a.dst == b.dst
-            && a.dst_start == b.dst_start
-            && a.dst_start_time == b.dst_start_time
-            && a.dst_end == b.dst_end
-            && a.dst_end_time == b.dst_end_time
+        let (a, b) = (&self.clock, &other.clock);
+        a.std() == b.std()
+            && a.dst() == b.dst()
+            && is_same_switch(
+                &self.dst_start,
+                a.dst_start_time(),
+                &other.dst_start,
+                b.dst_start_time(),
+            )
+            && is_same_switch(
+                &self.dst_end,
+                a.dst_end_time(),
+                &other.dst_end,
+                b.dst_end_time(),
+            )
     }
 }
 

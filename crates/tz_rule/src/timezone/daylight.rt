@@ -5,7 +5,7 @@ ghost use Rattle.tz_rule.specs.Alternate.{start_of, end_of, IsUtcYear, IsRuleYea
 ghost use Rattle.tz_rule.specs.Daylight.{IsInSpan};
 ghost use Rattle.tz_rule.specs.Pairing.{EndsNextYear, IsDaylight};
 
-use super::AlternateTime;
+use super::alternate_clock::AlternateClock;
 use tz_base::fields::{Fields, is_reading};
 
 /// The first year over which a rule is defined.
@@ -29,7 +29,7 @@ pub(super) fn rule_year(unix_time: i64) -> Option<i32>
     Some(year)
 }
 
-impl AlternateTime {
+impl AlternateClock {
     /// Whether the instant lies from one year's start up to, not including, a year's end.
     fn is_in_span(&self, unix_time: i64, start_year: i32, end_year: i32) -> bool
         ensures { MatchBool result

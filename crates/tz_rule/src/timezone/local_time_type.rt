@@ -7,11 +7,12 @@ use std::marker::Model;
 use std::{fmt, str};
 use tz_base::error::timezone::LocalTimeTypeError;
 
-/// A name of one to seven ASCII bytes.
+/// A name of one to seven ASCII bytes, or none, of length 0. The bytes after the name are zero.
+#[repr(C)]
 #[derive(Clone, Copy, Debug)]
 pub(super) struct Designation {
-    bytes: [u8; 7],
-    len: u8,
+    pub(super) bytes: [u8; 7],
+    pub(super) len: u8,
 }
 
 impl PartialEq for Designation {
@@ -37,11 +38,12 @@ impl Eq for Designation {
 }
 
 /// A local time type: an offset that is added to UTC, a daylight flag and a name.
+#[repr(C)]
 #[derive(Clone, Copy)]
 pub struct LocalTimeType {
     ut_offset: i32,
     is_dst: bool,
-    time_zone_designation: Option<Designation>,
+    time_zone_designation: Designation,
 }
 
 impl Model for LocalTimeType {
@@ -49,14 +51,13 @@ impl Model for LocalTimeType {
 
     ghost Value = { LocalTimeType };
 
-    ghost use Rattle.std.specs.Prelude.{option_map};
     ghost use Rattle.tz_rule.specs.Designation.{shown, kept, kept_shown, IsKeptType};
 
     ghost view = { shown };
 
     ghost invariant = { IsKeptType };
 
-    ghost inverse = { λ t. record { ut_offset = t.ut_offset; is_dst = t.is_dst; time_zone_designation = option_map kept t.designation } };
+    ghost inverse = { λ t. record { ut_offset = t.ut_offset; is_dst = t.is_dst; time_zone_designation = kept t.designation } };
 
     ghost inverse_ok = { λ t k. kept_shown t k };
 }
@@ -105,15 +106,26 @@ fn is_designation_byte(byte: u8) -> bool
 }
 
 impl Designation {
-    ghost use Rattle.tz_rule.specs.Designation.{IsKept, name_of, word_of};
+    ghost use Rattle.tz_rule.specs.Designation.{IsKept, name_of, kept, word_of};
     ghost use Rattle.tz_rule.specs.LocalTimeType.{IsDesignation, IsDesignationLength};
     ghost use Rattle.tz_base.specs.declared.error.timezone.LocalTimeTypeError.TheVariants as faults;
     ghost use Rattle.std.specs.Prelude.{All, IfOk, IfErr, OnOk, ◌⊎◌, ◌≡◌};
 
-    /// Keeps a name.
+    /// No name.
+    #[inline(always)]
+    fn none() -> Designation
+        ensures { result ≡ kept None }
+    {
+        Designation {
+            bytes: [0; 7],
+            len: 0,
+        }
+    }
+
+    /// Checks and stores a name.
     #[inline(always)]
     fn new(name: &[u8]) -> Result<Designation, LocalTimeTypeError>
-        ensures kept { IfOk result (λ d. IsKept d × (name_of d ≡ name.now)) }
+        ensures kept { IfOk result (λ d. IsKept d × (name_of d ≡ name.now) × (1 ≤ d.len)) }
         ensures err { IfErr result (λ e. ((e ≡ faults.InvalidTimeZoneDesignationLength) × ¬ IsDesignationLength name.now)
             ⊎ ((e ≡ faults.InvalidTimeZoneDesignationChar) × IsDesignationLength name.now × ¬ All IsDesignationByte name.now)) }
     {
@@ -142,7 +154,7 @@ impl Designation {
         u64::from_le_bytes([b0, b1, b2, b3, b4, b5, b6, self.len])
     }
 
-    /// The name.
+    /// The name, empty if there is none.
     fn as_str(&self) -> &str
         requires { IsKept self.now }
         ensures { result.now ≡ name_of self.now }
@@ -173,8 +185,8 @@ impl LocalTimeType {
             return Err(LocalTimeTypeError::InvalidUtcOffset);
         }
         let time_zone_designation = match time_zone_designation {
-            Some(name) => Some(Designation::new(name)?),
-            None => None,
+            Some(name) => Designation::new(name)?,
+            None => Designation::none(),
         };
         Ok(LocalTimeType {
             ut_offset,
@@ -190,7 +202,7 @@ impl LocalTimeType {
         LocalTimeType {
             ut_offset: 0,
             is_dst: false,
-            time_zone_designation: None,
+            time_zone_designation: Designation::none(),
         }
     }
 
@@ -223,10 +235,7 @@ impl LocalTimeType {
         ensures text { result.now ≡ designation_text self.now }
         ensures name { IfSome self.now.designation IsDesignation }
     {
-        match self.designation() {
-            Some(name) => name,
-            None => "",
-        }
+        self.time_zone_designation.as_str()
     }
 
     /// The name, if there is one.
@@ -234,9 +243,9 @@ impl LocalTimeType {
         ensures text { option_copied result ≡ self.now.designation }
         ensures name { IfSome self.now.designation IsDesignation }
     {
-        match &self.time_zone_designation {
-            Some(designation) => Some(designation.as_str()),
-            None => None,
+        if self.time_zone_designation.len == 0 {
+            return None;
         }
+        Some(self.time_zone_designation.as_str())
     }
 }

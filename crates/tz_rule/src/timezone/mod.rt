@@ -1,8 +1,10 @@
 //! Local time types, rule days and alternate rules.
 
 mod alternate;
+pub(crate) mod alternate_clock;
 mod alternate_segment;
 mod conflict_years;
+pub(crate) mod day_data;
 mod daylight;
 mod local_time_type;
 mod pair_kinds;
@@ -10,7 +12,9 @@ mod pairing;
 mod parts;
 mod rule;
 pub(crate) mod rule_clock;
+pub(crate) mod rule_data;
 mod rule_day;
+pub(crate) mod rule_ref;
 pub(crate) mod rule_segment;
 mod segments;
 pub(crate) mod utc;

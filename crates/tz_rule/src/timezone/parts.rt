@@ -3,8 +3,9 @@
 ghost use Rattle.std.specs.Prelude.{◌≡◌, OnOk, IfErr, MatchBool};
 ghost use Rattle.tz_rule.specs.Alternate.{IsRuleOffset, IsRuleTime, IsInRuleRange, IsRangeFault, AreRuleDays};
 
+use super::LocalTimeType;
+use super::day_data::DayData;
 use super::year_table::YearTable;
-use super::{LocalTimeType, RuleDay};
 use tz_base::error::timezone::TransitionRuleError;
 
 /// Whether the offset is above -25 and below 26 hours.
@@ -22,13 +23,14 @@ fn is_rule_time(time: i32) -> bool
 }
 
 /// The six parts of an alternate rule.
+#[repr(C)]
 #[derive(Clone, Copy)]
 pub(super) struct Parts {
     pub(super) std: LocalTimeType,
     pub(super) dst: LocalTimeType,
-    pub(super) dst_start: RuleDay,
+    pub(super) dst_start: DayData,
     pub(super) dst_start_time: i32,
-    pub(super) dst_end: RuleDay,
+    pub(super) dst_end: DayData,
     pub(super) dst_end_time: i32,
 }
 
@@ -60,8 +62,14 @@ impl Parts {
         ensures ends { result.1.0 ≡ end_table (rule_of self.now) }
         ensures days { AreRuleDays (rule_of self.now) }
     {
-        let starts = YearTable::of_day(&self.dst_start, self.dst_start_time - self.std.ut_offset());
-        let ends = YearTable::of_day(&self.dst_end, self.dst_end_time - self.dst.ut_offset());
+        let starts = YearTable::of_day(
+            &self.dst_start.day(),
+            self.dst_start_time - self.std.ut_offset(),
+        );
+        let ends = YearTable::of_day(
+            &self.dst_end.day(),
+            self.dst_end_time - self.dst.ut_offset(),
+        );
         (starts, ends)
     }
 }

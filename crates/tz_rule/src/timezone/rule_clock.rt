@@ -3,26 +3,28 @@
 ghost use Rattle.std.specs.Prelude.{◌≡◌, ◌≢◌, ◌+ℤ◌, ◌≤ℤ◌, ℤ, pos, negsuc, IfOk, IfErr, MatchOption};
 ghost use Rattle.tz_rule.specs.Alternate.{start_of, end_of, IsNearYear};
 ghost use Rattle.tz_rule.specs.LocalTimeType.{LocalTimeType};
-ghost use Rattle.tz_rule.specs.Rule.{IsRuleType};
-ghost use Rattle.tz_rule.specs.RuleSegments.{HasTypeOf, IsRuleChange};
+ghost use Rattle.tz_rule.specs.Rule.{IsRuleType, IsSoundRule};
+ghost use Rattle.tz_rule.specs.RuleRef.{rule_seen};
+ghost use Rattle.tz_rule.specs.RuleSegments.{IsRuleChange};
 
+use super::rule_ref::RuleRef;
 use super::rule_segment::RuleSegment;
-use super::{AlternateTime, LocalTimeType, TransitionRule};
+use super::{AlternateTime, LocalTimeType};
 use tz_base::error::TzError;
 
 /// The type of the rule at an instant. An alternate rule has one in the UTC years that are two or more from both ends of `i32`.
 #[tactic(auto, unfolding(crate::specs::Rule::IsRuleType))]
 #[inline(always)]
-pub fn find_local_time_type(
-    rule: &TransitionRule,
+pub fn find_local_time_type<'a>(
+    rule: RuleRef<'a>,
     unix_time: i64,
-) -> Result<&LocalTimeType, TzError>
-    ensures ok { IfOk result (λ t. IsRuleType rule.now unix_time t.now) }
-    ensures err { IfErr result (λ e. (e ≡ TzError.OutOfRange) × ((t : LocalTimeType) → ¬ IsRuleType rule.now unix_time t)) }
+) -> Result<&'a LocalTimeType, TzError>
+    ensures ok { IfOk result (λ t. IsRuleType (rule_seen rule.entry) unix_time t.now) }
+    ensures err { IfErr result (λ e. (e ≡ TzError.OutOfRange) × ((t : LocalTimeType) → ¬ IsRuleType (rule_seen rule.entry) unix_time t)) }
 {
     match rule {
-        TransitionRule::Fixed(local_time_type) => Ok(local_time_type),
-        TransitionRule::Alternate(rule) => rule.find_local_time_type(unix_time),
+        RuleRef::Fixed(local_time_type) => Ok(local_time_type),
+        RuleRef::Alternate(rule) => rule.find_local_time_type(unix_time),
     }
 }
 
@@ -31,7 +33,7 @@ pub fn start(rule: &AlternateTime, year: i32) -> i64
     ensures value { result ≡ start_of rule.now year }
     ensures bound { IsNearYear result year }
 {
-    rule.turn_in(false, year)
+    rule.clock().turn_in(false, year)
 }
 
 /// The instant at which daylight saving time ends in a year.
@@ -39,27 +41,35 @@ pub fn end(rule: &AlternateTime, year: i32) -> i64
     ensures value { result ≡ end_of rule.now year }
     ensures bound { IsNearYear result year }
 {
-    rule.turn_in(true, year)
+    rule.clock().turn_in(true, year)
 }
 
 /// The segment of the rule around an instant: the first and the last instant through which it has one type, or none.
 #[tactic(auto, unfolding(crate::specs::Rule::IsRuleType))]
 #[inline(always)]
-pub fn segment_at(rule: &TransitionRule, unix_time: i64) -> RuleSegment<'_>
+pub fn segment_at<'a>(rule: RuleRef<'a>, unix_time: i64) -> RuleSegment<'a>
     ensures within { (result.from ≤ℤ unix_time) × (unix_time ≤ℤ result.last) }
     ensures holds { (v : ℤ) → result.from ≤ℤ v → v ≤ℤ result.last
-        → MatchOption result.local_time_type ((t : LocalTimeType) → ¬ IsRuleType rule.now v t) (λ t. IsRuleType rule.now v t.now) }
-    ensures from { (result.from ≢ negsuc 9223372036854775807) → IsRuleChange rule.now result.from }
-    ensures last { (result.last ≢ pos 9223372036854775807) → IsRuleChange rule.now (result.last +ℤ pos 1) }
-    ensures is_daylight { HasTypeOf rule.now result }
+        → MatchOption result.local_time_type ((t : LocalTimeType) → ¬ IsRuleType (rule_seen rule.entry) v t) (λ t. IsRuleType (rule_seen rule.entry) v t.now) }
+    ensures from { (result.from ≢ negsuc 9223372036854775807) → IsRuleChange (rule_seen rule.entry) result.from }
+    ensures last { (result.last ≢ pos 9223372036854775807) → IsRuleChange (rule_seen rule.entry) (result.last +ℤ pos 1) }
 {
     match rule {
-        TransitionRule::Fixed(local_time_type) => RuleSegment {
+        RuleRef::Fixed(local_time_type) => RuleSegment {
             from: i64::MIN,
             last: i64::MAX,
             local_time_type: Some(local_time_type),
-            is_daylight: false,
         },
-        TransitionRule::Alternate(rule) => rule.segment(unix_time),
+        RuleRef::Alternate(rule) => rule.segment(unix_time),
+    }
+}
+
+/// The parts of the rule obey the rules of their making. This does nothing; its contract is what holds of every rule.
+pub fn parts_are_sound(rule: RuleRef<'_>)
+    ensures { IsSoundRule (rule_seen rule.entry) }
+{
+    match rule {
+        RuleRef::Fixed(_) => {}
+        RuleRef::Alternate(rule) => rule.parts_are_sound(),
     }
 }

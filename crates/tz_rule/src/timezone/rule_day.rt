@@ -65,6 +65,14 @@ impl Julian1WithoutLeap {
         Ok(Julian1WithoutLeap(julian_day_1))
     }
 
+    /// The day with a number that is known to be in range.
+    pub(super) fn of_number(julian_day_1: u16) -> Self
+        requires { IsJulianDay julian_day_1 }
+        ensures { result ≡ julian_day_1 }
+    {
+        Julian1WithoutLeap(julian_day_1)
+    }
+
     /// The number of the day.
     pub fn get(&self) -> u16
         ensures value { result ≡ self.now }
@@ -113,6 +121,14 @@ impl Julian0WithLeap {
             return Err(TransitionRuleError::InvalidRuleDayJulianDay);
         }
         Ok(Julian0WithLeap(julian_day_0))
+    }
+
+    /// The day with a number that is known to be in range.
+    pub(super) fn of_number(julian_day_0: u16) -> Self
+        requires { IsZeroBasedDay julian_day_0 }
+        ensures { result ≡ julian_day_0 }
+    {
+        Julian0WithLeap(julian_day_0)
     }
 
     /// The number of the day.
@@ -169,6 +185,18 @@ impl MonthWeekDay {
             week,
             week_day,
         })
+    }
+
+    /// The day with numbers that are known to be in range.
+    pub(super) fn of_numbers(month: u8, week: u8, week_day: u8) -> Self
+        requires { IsMonthWeek (month_week month week week_day) }
+        ensures { result ≡ month_week month week week_day }
+    {
+        MonthWeekDay {
+            month,
+            week,
+            week_day,
+        }
     }
 
     /// The month, from 1 to 12.

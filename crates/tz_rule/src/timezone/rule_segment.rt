@@ -11,6 +11,4 @@ pub struct RuleSegment<'a> {
     pub last: i64,
     /// The type, where the rule answers.
     pub local_time_type: Option<&'a LocalTimeType>,
-    /// Whether that is the type of daylight saving time.
-    pub is_daylight: bool,
 }

@@ -6,19 +6,20 @@
 
 ghost use Rattle.std.specs.Prelude.{◌≡◌, ◌≢◌, ◌⊎◌, ℤ, pos, negsuc, ◌+ℤ◌, ◌*ℤ◌, ◌≤ℤ◌, ◌<ℤ◌, IfOk, IfErr, IfSome, MatchBool, MatchOption};
 ghost use Rattle.tz_base.specs.Days.{first_day};
-ghost use Rattle.tz_rule.specs.Alternate.{start_of, end_of, turn_of, IsUtcYear, IsRuleYear, IsInRuleYears, IsAlternateType};
+ghost use Rattle.tz_rule.specs.Alternate.{AlternateTime, start_of, end_of, turn_of, IsUtcYear, IsRuleYear, IsInRuleYears, IsAlternateType};
 ghost use Rattle.tz_rule.specs.LocalTimeType.{LocalTimeType};
 ghost use Rattle.tz_rule.specs.Rule.{IsRuleType};
-ghost use Rattle.tz_rule.specs.RuleSegments.{HasTypeOf, IsRuleChange, IsRuleSegment, IsWholeSegment, IsNotInside};
+ghost use Rattle.tz_rule.specs.RuleSegments.{IsRuleChange, IsRuleSegment, IsWholeSegment, IsNotInside};
 ghost use Rattle.tz_rule.specs.InnerTurns.{HasInnerTurns, IsLikelyYear};
 ghost use Rattle.tz_rule.specs.AlternateSegments.{type_by, IsTriedYear, moved_back};
 ghost use Rattle.tz_rule.specs.Pairing.{EndsNextYear};
 ghost use Rattle.tz_rule.specs.declared.timezone.rule.TransitionRule.TheVariants.{Alternate};
 
+use super::LocalTimeType;
+use super::alternate_clock::AlternateClock;
 use super::alternate_segment::AlternateSegment;
 use super::daylight::{FIRST_YEAR, LAST_YEAR, rule_year};
 use super::rule_segment::RuleSegment;
-use super::{AlternateTime, LocalTimeType};
 use tz_base::calendar;
 use tz_base::constants::SECONDS_PER_DAY;
 use tz_base::error::TzError;
@@ -64,14 +65,12 @@ fn unanswered<'a>(unix_time: i64) -> RuleSegment<'a>
             from: i64::MIN,
             last: first - 1,
             local_time_type: None,
-            is_daylight: false,
         };
     }
     RuleSegment {
         from: new_year(LAST_YEAR + 1),
         last: i64::MAX,
         local_time_type: None,
-        is_daylight: false,
     }
 }
 
@@ -98,7 +97,7 @@ fn cut(segment: AlternateSegment, unix_time: i64, turn: i64) -> AlternateSegment
     }
 }
 
-impl AlternateTime {
+impl AlternateClock {
     /// The instant at which daylight saving time starts, or ends, in a moved year.
     #[inline(always)]
     fn turn_in_moved(&self, is_end: bool, years: u64) -> i64
@@ -222,7 +221,6 @@ impl AlternateTime {
             from: segment.from,
             last: segment.until - 1,
             local_time_type: Some(self.type_by(segment.is_daylight)),
-            is_daylight: segment.is_daylight,
         }
     }
 
@@ -249,7 +247,6 @@ impl AlternateTime {
             (λ t. IsRuleType (Alternate self.now) v t.now) }
         ensures from { (result.from ≢ negsuc 9223372036854775807) → IsRuleChange (Alternate self.now) result.from }
         ensures last { (result.last ≢ pos 9223372036854775807) → IsRuleChange (Alternate self.now) (result.last +ℤ pos 1) }
-        ensures is_daylight { HasTypeOf (Alternate self.now) result }
     {
         match self.inner_segment(unix_time) {
             Some(segment) => self.rule_segment(unix_time, segment),

@@ -3,6 +3,7 @@
 //! A static holds no type with a model. So the statics are of plain types whose fields lie as those of the types with a model do, and are lent as these.
 
 ghost use Rattle.std.specs.Prelude.{◌≡◌, [], ◌∷◌, false, pos};
+ghost use Rattle.tz_rule.specs.Designation.{kept};
 ghost use Rattle.tz_rule.specs.LocalTimeType.{plain_type};
 
 use super::local_time_type::Designation;
@@ -11,16 +12,20 @@ use super::{LocalTimeType, TransitionRule};
 use std::slice;
 
 /// The fields of a local time type.
+#[repr(C)]
 struct TypeFields {
     ut_offset: i32,
     is_dst: bool,
-    time_zone_designation: Option<Designation>,
+    time_zone_designation: Designation,
 }
 
 static UTC_TYPE: TypeFields = TypeFields {
     ut_offset: 0,
     is_dst: false,
-    time_zone_designation: None,
+    time_zone_designation: Designation {
+        bytes: [0; 7],
+        len: 0,
+    },
 };
 
 /// The list that has UTC's type alone.
@@ -32,7 +37,7 @@ pub fn utc_types() -> &'static [LocalTimeType]
 
 /// UTC's type, from its fields.
 fn utc_type(fields: &TypeFields) -> &LocalTimeType
-    requires { fields.now ≡ record { ut_offset = pos 0; is_dst = false; time_zone_designation = None } }
+    requires { fields.now ≡ record { ut_offset = pos 0; is_dst = false; time_zone_designation = kept None } }
     ensures { result.now ≡ plain_type (pos 0) }
 {
     unsafe { &*(fields as *const TypeFields as *const LocalTimeType) }
@@ -55,23 +60,42 @@ enum RuleDayFields {
     MonthWeekDay(MonthWeekDayFields),
 }
 
+/// The fields of a rule day's numbers.
+#[repr(C)]
+struct DayDataFields {
+    number: u16,
+    kind: u8,
+    month: u8,
+    week: u8,
+    week_day: u8,
+}
+
 /// The fields of an alternate rule's parts.
+#[repr(C)]
 struct PartsFields {
     std: TypeFields,
     dst: TypeFields,
-    dst_start: RuleDayFields,
+    dst_start: DayDataFields,
     dst_start_time: i32,
-    dst_end: RuleDayFields,
+    dst_end: DayDataFields,
     dst_end_time: i32,
 }
 
-/// The fields of an alternate rule.
-struct AlternateFields {
+/// The fields of the clock of an alternate rule.
+#[repr(C)]
+struct ClockFields {
     parts: PartsFields,
     ends_next_year: bool,
     has_inner_turns: bool,
     starts: YearTable,
     ends: YearTable,
+}
+
+/// The fields of an alternate rule.
+struct AlternateFields {
+    clock: ClockFields,
+    dst_start: RuleDayFields,
+    dst_end: RuleDayFields,
 }
 
 /// The fields of a rule.

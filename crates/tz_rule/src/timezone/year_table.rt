@@ -1,6 +1,6 @@
 //! Tables of an instant of each year, by the kind of the year.
 
-ghost use Rattle.std.specs.Prelude.{◌≡◌, ◌<◌, ◌≤◌, ◌*◌, pos, negsuc, ◌+ℤ◌, ◌≤ℤ◌};
+ghost use Rattle.std.specs.Prelude.{◌≡◌, ◌<◌, ◌≤◌, ◌*◌, replicate, pos, negsuc, ◌+ℤ◌, ◌≤ℤ◌};
 ghost use Rattle.tz_rule.specs.RuleDays.{IsRuleDay};
 ghost use Rattle.tz_rule.specs.AlternateSegments.{moved_back};
 ghost use Rattle.tz_rule.specs.YearTables.{instant_in, entry, next_entry, day_table, AreBounds, least_entry, greatest_entry, is_inner};
@@ -11,6 +11,7 @@ use tz_base::constants::SECONDS_PER_DAY;
 use tz_base::year::moved_year;
 
 /// How many seconds after 00:00 UTC of January 1st an instant of the year lies, for each kind of years.
+#[repr(C)]
 #[derive(Clone, Copy)]
 pub(super) struct YearTable([i32; KINDS]);
 
@@ -31,6 +32,13 @@ fn seconds_to(place: u16, seconds: i32) -> i32
 }
 
 impl YearTable {
+    /// The table of zeros.
+    pub(super) fn zeros() -> YearTable
+        ensures { result.0 ≡ replicate 14 (pos 0) }
+    {
+        YearTable([0; KINDS])
+    }
+
     /// The table of a time after 00:00 UTC of a rule day, in seconds.
     pub(super) fn of_day(day: &RuleDay, seconds: i32) -> YearTable
         requires { (negsuc 999999 ≤ℤ seconds) × (seconds ≤ℤ pos 999999) }

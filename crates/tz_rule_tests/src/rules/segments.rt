@@ -3,7 +3,7 @@
 use super::{ALL_YEAR, AUCKLAND, Parts, expect_made, rule, start_in};
 use crate::expect::expect_eq;
 use std::process::Abort;
-use tz_rule::inner;
+use tz_rule::inner::{self, RuleRef};
 use tz_rule::timezone::{AlternateTime, LocalTimeType, TransitionRule};
 use tz_samples::rules::Day::{Julian0 as Z, Julian1 as J, Month as M};
 use tz_samples::utc;
@@ -19,7 +19,7 @@ const ANSWERED: (i64, i64) = (
 
 /// Whether the rule has daylight saving time at an instant.
 fn is_daylight_at(rule: &TransitionRule, unix_time: i64) -> Option<bool> {
-    match inner::find_local_time_type(rule, unix_time) {
+    match inner::find_local_time_type(RuleRef::of(rule), unix_time) {
         Ok(found) => Some(found.is_dst()),
         Err(_) => None,
     }
@@ -27,7 +27,7 @@ fn is_daylight_at(rule: &TransitionRule, unix_time: i64) -> Option<bool> {
 
 /// The segment around an instant.
 fn segment(rule: &TransitionRule, unix_time: i64) -> Found {
-    let found = inner::segment_at(rule, unix_time);
+    let found = inner::segment_at(RuleRef::of(rule), unix_time);
     match found.local_time_type {
         Some(local_time_type) => (found.from, found.last, Some(local_time_type.is_dst())),
         None => (found.from, found.last, None),

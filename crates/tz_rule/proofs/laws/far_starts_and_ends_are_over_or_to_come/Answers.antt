@@ -7,8 +7,9 @@ use Rattle.tz_rule.proofs.laws.far_starts_and_ends_are_over_or_to_come.Goals as 
 pub returns : goal.returns
 returns c =
     let r = c.args.rule.now in
-    let yf = IsYearly-start_of r c.parts_are_sound.ensures.rule.in_range c.parts_are_sound.ensures.days.start_is in
-    let yg = IsYearly-end_of r c.parts_are_sound.ensures.rule.in_range c.parts_are_sound.ensures.days.end_is in
+    let sound = rw c.clock.ensures at c.parts_are_sound.ensures in
+    let yf = IsYearly-start_of r sound.rule.in_range sound.days.start_is in
+    let yg = IsYearly-end_of r sound.rule.in_range sound.days.end_is in
     record {
       over = λ u year y is h. (far_over (start_of r) yf u year y is h, far_over (end_of r) yg u year y is h);
       to_come = λ u year y is h. (far_to_come (start_of r) yf u year y is h, far_to_come (end_of r) yg u year y is h);

@@ -6,8 +6,9 @@ use Rattle.tz_rule.proofs.laws.starts_and_ends_are_near.Goals as goal
 pub returns : goal.returns
 returns c =
     let r = c.args.rule.now in
-    let range = c.parts_are_sound.ensures.rule.in_range in
-    let days = c.parts_are_sound.ensures.days in
+    let sound = rw c.clock.ensures at c.parts_are_sound.ensures in
+    let range = sound.rule.in_range in
+    let days = sound.days in
     record {
       starts = near_year (start_of r) (IsYearly-start_of r range days.start_is);
       ends = near_year (end_of r) (IsYearly-end_of r range days.end_is);

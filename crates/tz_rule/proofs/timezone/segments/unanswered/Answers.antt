@@ -18,7 +18,6 @@ returns-then-unix_time-first c =
       holds = λ v from to t is. omega (arith, ints, first.value, last, to, (answered_from_years v is.0).0);
       from_is = λ later. absurd (later refl);
       last_is = λ _. inr (inl (omega (arith, ints, first.value, last)));
-      type_is = tt;
     }
 
 pub returns : goal.returns
@@ -36,5 +35,4 @@ returns c =
       holds = λ v low high t is. omega (arith, ints, end.value, from, low, (answered_from_years v is.0).1);
       from_is = λ _. inr (inr (omega (arith, ints, end.value, from)));
       last_is = λ earlier. absurd (earlier refl);
-      type_is = tt;
     }

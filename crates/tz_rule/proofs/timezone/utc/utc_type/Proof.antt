@@ -1,11 +1,12 @@
 -- A `&` to the fields of UTC's type holds what one to the type does. Assumes `Logic`.
-use Rattle.std.proofs.Common.{◌≡◌, [], ◌∷◌, refl}
+use Rattle.std.proofs.Common.{◌≡◌, [], ◌∷◌, refl, arith}
 use Rattle.std.specs.Prelude.{false, None, pos}
 use base.Logic.{id⊢}
 use base.Fml.{ftrue}
 use denote.Memory.{hidden_shr}
 use denote.Steps.{nothing}
 use types.Kit.{‵, ◌$◌, ◌∵◌, !, qed, done, move, use2, fpack}
+use Rattle.tz_rule.specs.Designation.{kept}
 use Rattle.tz_rule.specs.LocalTimeType.{plain_type}
 use Rattle.tz_rule.specs.contracts.timezone.local_time_type.LocalTimeType as LocalTimeType
 use Rattle.tz_rule.specs.contracts.timezone.utc.TypeFields as TypeFields
@@ -15,7 +16,7 @@ use Rattle.tz_rule.proofs.timezone.utc.utc_type.Symbol.{name}
 use Rattle.tz_rule.proofs.timezone.utc.utc_type.Code as code
 
 abbrev fields : TypeFields.the_row.Denot
-fields = record { ut_offset = pos 0; is_dst = false; time_zone_designation = None }
+fields = record { ut_offset = pos 0; is_dst = false; time_zone_designation = kept None }
 
 abbrev utc : LocalTimeType.the_row.Denot
 utc = plain_type (pos 0)
@@ -25,7 +26,7 @@ abbrev Known : Type 0
 Known = (LocalTimeType.the_view (LocalTimeType.the_inverse utc) ≡ utc) × LocalTimeType.the_invariant (LocalTimeType.the_inverse utc)
 
 known : Known
-known = (refl, record { offset_is = λ e. cc; designation_is = tt })
+known = (refl, record { offset_is = λ e. cc; designation_is = record { short = omega arith; is_padded = refl; is_name = λ h. absurd (omega (arith, h)) } })
 
 pub utc_type_spec : {M : Type 1} → statement M
 utc_type_spec 𝓤 𝓛 𝓜 𝓡 wired =

@@ -8,10 +8,10 @@ pub returns-clause-starts : goal.returns-clause-starts
 unfolding start_table
 returns-clause-starts c =
     let p = c.args.self.now in
-    c.of_day-starts.ensures.table ∙ ap (day_table p.dst_start) (omega (arith, ints, c.requires))
+    (rw c.day.ensures at c.of_day-starts.ensures.table) ∙ ap (day_table p.dst_start) (omega (arith, ints, c.requires))
 
 pub returns-clause-ends : goal.returns-clause-ends
 unfolding end_table
 returns-clause-ends c =
     let p = c.args.self.now in
-    c.of_day-ends.ensures.table ∙ ap (day_table p.dst_end) (omega (arith, ints, c.requires))
+    (rw c.day-2.ensures at c.of_day-ends.ensures.table) ∙ ap (day_table p.dst_end) (omega (arith, ints, c.requires))

@@ -1,0 +1,16 @@
+-- The rule that plain data gives, or none.
+use Rattle.std.specs.Prelude.{ℕ, zero, suc, Option, Some, None}
+use Rattle.tz_rule.specs.Alternate.{AlternateTime}
+use Rattle.tz_rule.specs.LocalTimeType.{LocalTimeType}
+use Rattle.tz_rule.specs.declared.timezone.rule.TransitionRule.{TransitionRule}
+use Rattle.tz_rule.specs.declared.timezone.rule.TransitionRule.TheVariants.{Fixed, Alternate}
+use Rattle.tz_rule.specs.declared.timezone.rule_data.RuleData.{RuleData}
+
+-- the rule of a kind: none, a fixed type, or an alternate rule
+abbrev pub rule_of_kind : ℕ → LocalTimeType → AlternateTime → Option TransitionRule
+rule_of_kind zero fixed alternate = None
+rule_of_kind (suc zero) fixed alternate = Some (Fixed fixed)
+rule_of_kind (suc (suc kind)) fixed alternate = Some (Alternate alternate)
+
+abbrev pub rule_given : RuleData → Option TransitionRule
+rule_given r = rule_of_kind r.kind r.fixed r.alternate
