@@ -2,12 +2,12 @@
 
 mod failing;
 
-use crate::expect::expect_eq;
+use crate::expect::{expect_eq, expect_eq_at};
 use std::alloc::{AllocError, Global};
 use std::test::Fail;
 use std::{env, fs, process};
 use tz_base::error::{Error, ReadFault};
-use tz_zone::timezone::{LocalTimeType, TimeZoneSettings, read_file};
+use tz_zone::timezone::{LocalTimeType, TimeZone, TimeZoneSettings, read_file, read_file_up_to};
 
 /// Some MiB, of which the last piece of 2000 bytes is not whole.
 fn many_bytes(alloc: Global) -> Result<Vec<u8>, AllocError> {
@@ -75,5 +75,75 @@ fn the_settings_take_it(rt: HostRuntime) -> Result<(), Fail> {
     assert!(rt; matches!(directory, Err(Error::Io(_))));
     let zone = settings.parse_posix_tz(alloc, "HST10")?;
     expect_eq(&rt, &zone.as_ref().local_time_types(), &types.as_slice());
+    Ok(())
+}
+
+/// A file of 6003 bytes, at a limit from the first: read whole, or refused.
+#[test]
+fn a_file_is_read_up_to_a_limit(rt: HostRuntime) -> Result<(), Fail> {
+    static ROWS: [(usize, Option<&str>); 8] = [
+        (0, Some("file is longer than 0 bytes")),
+        (1, Some("file is longer than 1 bytes")),
+        (1999, Some("file is longer than 1999 bytes")),
+        (2000, Some("file is longer than 2000 bytes")),
+        (6002, Some("file is longer than 6002 bytes")),
+        (6003, None),
+        (6004, None),
+        (usize::MAX, None),
+    ];
+    let alloc = rt.alloc();
+    let mut bytes = Vec::new(alloc);
+    for _ in 0..2001 {
+        bytes.extend_from_slice(b"tz\n")?;
+    }
+    let name = format!(in alloc; "tz-read-file-up-to-{}", process::id(rt.process()))?;
+    let path = env::temp_dir(&rt)?.join(alloc, name.as_str())?;
+    fs::write(&rt, path.as_str(), bytes.as_slice())?;
+    for (limit, refusal) in &ROWS {
+        match read_file_up_to(&rt, alloc, *limit, path.as_str()) {
+            Ok(read) => {
+                expect_eq_at(&rt, limit, &None, refusal);
+                expect_eq_at(&rt, limit, &read, &bytes);
+            }
+            Err(fault) => {
+                let text = format!(in alloc; "{fault}")?;
+                expect_eq_at(&rt, limit, &Some(text.as_str()), refusal);
+            }
+        }
+    }
+    fs::remove_file(&rt, path.as_str())?;
+    Ok(())
+}
+
+#[test]
+fn a_fault_up_to_a_limit_is_that_of_the_system(rt: HostRuntime) -> Result<(), Fail> {
+    let alloc = rt.alloc();
+    for (path, text) in &FAULTS {
+        let fault = read_file_up_to(&rt, alloc, 10, path).err().ok_or("read")?;
+        let printed = format!(in alloc; "{fault}")?;
+        expect_eq(&rt, &printed.as_str(), text);
+    }
+    assert!(rt; read_file_up_to(&rt, alloc, 0, "/dev/null")?.is_empty());
+    let endless = read_file_up_to(&rt, alloc, 100_000, "/dev/zero")
+        .err()
+        .ok_or("read")?;
+    let printed = format!(in alloc; "{endless}")?;
+    expect_eq(&rt, &printed.as_str(), &"file is longer than 100000 bytes");
+    Ok(())
+}
+
+#[test]
+fn names_take_it(rt: HostRuntime) -> Result<(), Fail> {
+    let alloc = rt.alloc();
+    let reader = |path: &str| read_file_up_to(&rt, alloc, 200_000, path);
+    let unknown = TimeZone::named(alloc, reader, "No/Such_Zone")
+        .err()
+        .ok_or("read")?;
+    let printed = format!(in alloc; "{unknown}")?;
+    expect_eq(
+        &rt,
+        &printed.as_str(),
+        &"no time zone has the name No/Such_Zone",
+    );
     Ok(())
 }

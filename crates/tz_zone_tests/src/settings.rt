@@ -280,6 +280,32 @@ fn the_usual_directories_are_asked(rt: HostRuntime) -> Result<(), Fail> {
     Ok(())
 }
 
+/// A letter, a thousand times.
+fn thousand(alloc: Global, letter: char) -> Result<String, AllocError> {
+    let mut text = String::new(alloc);
+    for _ in 0..1000u16 {
+        text.push(letter)?;
+    }
+    Ok(text)
+}
+
+#[test]
+fn a_thousand_bytes_are_a_setting(rt: HostRuntime) -> Result<(), Fail> {
+    let alloc = rt.alloc();
+    let name = thousand(alloc, 'z')?;
+    let path = format!(in alloc; "/a/{name}")?;
+    let named = format!(in alloc; ":{name}")?;
+    let replies = [(path.as_str(), Reply::Utc)];
+    let files = files_of(alloc, &replies);
+    for text in [&name, &path, &named] {
+        expect_type(&rt, text, files.ask(&["/a"], text), 0, b"UTC")?;
+    }
+    let spaced = format!(in alloc; "{}HST10", thousand(alloc, ' ')?)?;
+    let answer = files.ask(&["/a"], &spaced);
+    expect_type(&rt, &spaced, answer, -36_000, b"HST")?;
+    Ok(())
+}
+
 /// The error of a text prints so, where no file is found.
 fn expect_text_of_fault(
     rt: &impl Abort,
@@ -595,4 +621,5 @@ fn refusals_with_each_growth_refused(rt: HostRuntime) {
     expect_refusal(&rt, rt.alloc(), Call::LongMissingFile, &Fault::Io);
 }
 
+mod names;
 mod texts;

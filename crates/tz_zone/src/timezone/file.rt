@@ -1,10 +1,10 @@
 //! The reader of the machine's files.
 
-ghost use Rattle.std.specs.Prelude.{◌≡◌, ◌++◌, IfOk, IfErr, alloc_error};
+ghost use Rattle.std.specs.Prelude.{◌≡◌, ◌+◌, ◌≤◌, ◌++◌, length, IfOk, IfErr, alloc_error};
 ghost use Rattle.std.specs.Io.{ReadsAtMost};
 ghost use Rattle.std.specs.Io.KnownBytes.{ReadConsumes, Consumes, IsAtEnd};
 ghost use Rattle.tz_base.specs.declared.error.ReadFault.TheVariants.{Memory};
-ghost use Rattle.tz_zone.specs.File.{IsFailed, IsReadOut};
+ghost use Rattle.tz_zone.specs.File.{IsFailed, IsReadOut, IsReadOutUpTo, TakesAtMost};
 
 use anyhow::anyhow;
 use std::alloc::{Allocator, Global};
@@ -63,6 +63,47 @@ pub fn read_to_end<A: Allocator, I: Read>(
     Err(ReadFault::Failed(anyhow!("file has no end")))
 }
 
+/// Reads the next piece, and at most this many bytes.
+fn read_piece_up_to<I: Read>(
+    input: &mut I,
+    buffer: &mut [u8; PIECE],
+    most: usize,
+) -> Result<usize, ReadFault>
+    requires some { 1 ≤ most }
+    requires within { most ≤ PIECE }
+    ensures bound { ReadsAtMost result buffer.new }
+    ensures most { IfOk result (λ count. count ≤ most) }
+    ensures bytes { ReadConsumes (I.remaining input.old) (I.remaining input.new) result buffer.new }
+{
+    read_piece(input, &mut buffer[..most])
+}
+
+/// Reads the input to its end, or refuses it once one byte more than the limit was read.
+pub fn read_up_to<A: Allocator, I: Read>(
+    alloc: A,
+    input: &mut I,
+    limit: usize,
+) -> Result<Vec<u8, A>, ReadFault>
+    ensures ok { IfOk result (λ bytes. Consumes (I.remaining input.old) (I.remaining input.new) bytes.items × IsAtEnd (I.remaining input.new)) }
+    ensures limit { IfOk result (λ bytes. length bytes.items ≤ limit) }
+    ensures most { TakesAtMost (limit + 1) (I.remaining input.old) (I.remaining input.new) }
+{
+    let mut bytes = Vec::new(alloc);
+    let mut buffer = [0; PIECE];
+    for _ in 0..u64::MAX {
+        let left = limit - bytes.len();
+        let count = read_piece_up_to(input, &mut buffer, left.min(PIECE - 1) + 1)?;
+        if count == 0 {
+            return Ok(bytes);
+        }
+        if left < count {
+            return Err(ReadFault::Failed(anyhow!("file is longer than {limit} bytes")));
+        }
+        append(&mut bytes, &buffer[..count], 0)?;
+    }
+    Err(ReadFault::Failed(anyhow!("file has no end")))
+}
+
 /// Why a file could not be opened. Most paths of a search have no file, so the system's text of that error is not looked up.
 fn open_fault(error: io::Error) -> ReadFault
     ensures { IsFailed result }
@@ -82,6 +123,25 @@ pub fn read_file<R: Files>(rt: &R, alloc: Global, path: &str) -> Result<Vec<u8>,
 {
     match File::open(rt, path) {
         Ok(mut file) => read_to_end(alloc, &mut file, 0),
+        Err(error) => Err(open_fault(error)),
+    }
+}
+
+/// The bytes of the file at the path, read to its end, if there are at most `limit` of them.
+///
+/// A longer file is `Failed` with a text that says so, after one byte more than the limit was read; other errors are those of [`read_file`]. So a
+/// file that someone else chooses takes no more memory than the limit needs. Files of time zones are shorter than 10000 bytes, or with leap
+/// seconds and all their history than 100000.
+pub fn read_file_up_to<R: Files>(
+    rt: &R,
+    alloc: Global,
+    limit: usize,
+    path: &str,
+) -> Result<Vec<u8>, ReadFault>
+    ensures { IfOk result (λ bytes. IsReadOutUpTo limit R.File.remaining bytes.items) }
+{
+    match File::open(rt, path) {
+        Ok(mut file) => read_up_to(alloc, &mut file, limit),
         Err(error) => Err(open_fault(error)),
     }
 }

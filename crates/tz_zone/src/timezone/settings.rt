@@ -10,6 +10,7 @@ ghost use Rattle.tz_zone.specs.Settings.{path_in, IsFileAnswer, Opens, IsTextAns
 ghost use Rattle.tz_zone.specs.TzText.{Begins};
 ghost use Rattle.tz_zone.specs.ZoneRef.{own_zone_of};
 
+use super::zone_name::{is_zone_name, no_such_zone, not_a_name};
 use super::{LocalTimeType, TimeZone, TransitionRule};
 use crate::parse::tz_string;
 use anyhow::anyhow;
@@ -159,6 +160,7 @@ impl<'a, F: Fn(&str) -> Result<Vec<u8>, ReadFault>> TimeZoneSettings<'a, F> {
     ghost use Rattle.tz_base.specs.declared.error.ReadFault.TheVariants.{Failed};
     ghost use Rattle.tz_zone.specs.Settings.{FindsIn, Finds, IsLocalAnswer, IsNamedAnswer, IsNamedOrTextAnswer, IsSettingsAnswer, texts_of};
     ghost use Rattle.tz_zone.specs.SettingsParts.{directories_of, reader_of};
+    ghost use Rattle.tz_zone.specs.ZoneNames.{IsCallableAt, IsPathIn, IsPathOfName, IsZoneNameAnswer};
 
     /// The settings with these directories, and with this function that reads a file.
     pub fn new(directories: &'a [&'a str], reader: F) -> Self
@@ -173,7 +175,7 @@ impl<'a, F: Fn(&str) -> Result<Vec<u8>, ReadFault>> TimeZoneSettings<'a, F> {
 
     /// What the reader returns for the path.
     fn read(&self, path: &str) -> Result<Vec<u8>, ReadFault>
-        requires { F.IsAlwaysCallable (reader_of self.now) }
+        requires { IsCallableAt F.Fn (reader_of self.now) (λ asked. asked ≡ path.now) }
         ensures { FnReturnsAt F.Fn (reader_of self.now) path.now result }
     {
         (self.reader)(path)
@@ -182,7 +184,7 @@ impl<'a, F: Fn(&str) -> Result<Vec<u8>, ReadFault>> TimeZoneSettings<'a, F> {
     /// The file at the path, or `None` if it cannot be read. The reader's fault is dropped at once.
     #[inline(always)]
     fn read_if_there(&self, path: &str) -> Result<Option<Vec<u8>>, AllocError>
-        requires { F.IsAlwaysCallable (reader_of self.now) }
+        requires { IsCallableAt F.Fn (reader_of self.now) (λ asked. asked ≡ path.now) }
         ensures { IfOk result (λ found. MatchOption found
             ((fault : Fault) × FnReturnsAt F.Fn (reader_of self.now) path.now (Err (Failed fault)))
             (λ bytes. FnReturnsAt F.Fn (reader_of self.now) path.now (Ok bytes))) }
@@ -203,7 +205,7 @@ impl<'a, F: Fn(&str) -> Result<Vec<u8>, ReadFault>> TimeZoneSettings<'a, F> {
         directory: &str,
         name: &str,
     ) -> Result<Option<Vec<u8>>, AllocError>
-        requires { F.IsAlwaysCallable (reader_of self.now) }
+        requires { IsCallableAt F.Fn (reader_of self.now) (λ asked. asked ≡ path_in directory.now name.now) }
         ensures { IfOk result (λ found. MatchOption found
             ((fault : Fault) × FnReturnsAt F.Fn (reader_of self.now) (path_in directory.now name.now) (Err (Failed fault)))
             (λ bytes. FnReturnsAt F.Fn (reader_of self.now) (path_in directory.now name.now) (Ok bytes))) }
@@ -221,7 +223,7 @@ impl<'a, F: Fn(&str) -> Result<Vec<u8>, ReadFault>> TimeZoneSettings<'a, F> {
         alloc: A,
         name: &str,
     ) -> Result<Option<Vec<u8>>, AllocError>
-        requires { F.IsAlwaysCallable (reader_of self.now) }
+        requires { IsCallableAt F.Fn (reader_of self.now) (IsPathIn (directories_of self.now) name.now) }
         ensures { IfOk result (λ found. MatchOption found
             ((fault : Fault) → FindsIn (FnReturnsAt F.Fn (reader_of self.now)) (directories_of self.now) name.now (Err (Failed fault)))
             (λ bytes. FindsIn (FnReturnsAt F.Fn (reader_of self.now)) (directories_of self.now) name.now (Ok bytes))) }
@@ -269,6 +271,8 @@ impl<'a, F: Fn(&str) -> Result<Vec<u8>, ReadFault>> TimeZoneSettings<'a, F> {
     }
 
     /// The machine's local time zone, from `/etc/localtime`.
+    ///
+    /// Fails if that file cannot be read (`Io`) or is not a TZif file (`Tz`), or if an allocation fails (`Tz(Memory)`).
     #[inline(never)]
     pub fn parse_local<A: Allocator + Copy>(&self, alloc: A) -> Result<TimeZone<A>, Error>
         requires { F.IsAlwaysCallable (reader_of self.now) }
@@ -319,6 +323,23 @@ impl<'a, F: Fn(&str) -> Result<Vec<u8>, ReadFault>> TimeZoneSettings<'a, F> {
         zone_of_found(alloc, self.find(alloc, name))
     }
 
+    /// The zone with the name. For a text that is no name nothing is read.
+    fn zone_of_name<A: Allocator + Copy>(&self, alloc: A, name: &str) -> Result<TimeZone<A>, Error>
+        requires { IsCallableAt F.Fn (reader_of self.now) (IsPathOfName (directories_of self.now) name.now) }
+        ensures { MatchResult result
+            (λ zone. IsZoneNameAnswer (FnReturnsAt F.Fn (reader_of self.now)) (directories_of self.now) name.now (Ok (own_zone_of zone)))
+            (λ e. (e ≡ Tz (NoMemory alloc_error)) ⊎ IsZoneNameAnswer (FnReturnsAt F.Fn (reader_of self.now)) (directories_of self.now) name.now (Err e)) }
+    {
+        if !is_zone_name(name) {
+            return Err(Error::Io(not_a_name(name)));
+        }
+        let found = self.find_in_directories(alloc, name)?;
+        match found {
+            Some(bytes) => zone_of_bytes(alloc, &bytes),
+            None => Err(Error::Io(no_such_zone(name))),
+        }
+    }
+
     /// The zone of the file with the name, or that of the TZ string where there is none.
     fn parse_name_or_text<A: Allocator + Copy>(
         &self,
@@ -341,6 +362,7 @@ impl<'a, F: Fn(&str) -> Result<Vec<u8>, ReadFault>> TimeZoneSettings<'a, F> {
 impl<A: Allocator + Copy> TimeZone<A> {
     ghost use Rattle.std.specs.Fn.{FnReturnsAt};
     ghost use Rattle.tz_zone.specs.Settings.{IsLocalAnswer, IsSettingsAnswer};
+    ghost use Rattle.tz_zone.specs.ZoneNames.{IsCallableAt, IsPathOfName, IsZoneNameAnswer};
 
     /// The machine's local time zone: that of the TZif file at `/etc/localtime`, whose bytes the reader returns for this path.
     ///
@@ -393,5 +415,28 @@ impl<A: Allocator + Copy> TimeZone<A> {
     {
         let settings = TimeZoneSettings::new(DEFAULT_DIRECTORIES, reader);
         settings.parse_posix_tz(alloc, tz_string)
+    }
+
+    /// The time zone with the name, such as `Europe/Paris`, in the database of the system. (tz database, Timezone identifiers)
+    ///
+    /// A name has parts of ASCII letters, digits, `.`, `_`, `+` and `-`, with `/` between them; no part is `.` or `..`. For a name the reader is
+    /// asked in each of the [usual directories](DEFAULT_DIRECTORIES) in turn until it returns bytes or `ReadFault::Memory`, and for any other
+    /// text it is not asked. So no file outside of these directories is read, even if a user chooses the name. A name is never read as a TZ
+    /// string.
+    ///
+    /// Fails if the text is not a name or no directory has a file with it (`Io`, whose text says which, and has the name), if the file is not a
+    /// TZif file (`Tz`), or if an allocation fails (`Tz(Memory)`).
+    pub fn named<F: Fn(&str) -> Result<Vec<u8>, ReadFault> + Drop>(
+        alloc: A,
+        reader: F,
+        name: &str,
+    ) -> Result<Self, Error>
+        requires { IsCallableAt F.Fn reader (IsPathOfName (map (λ directory. directory.now) DEFAULT_DIRECTORIES.now) name.now) }
+        ensures { MatchResult result
+            (λ zone. IsZoneNameAnswer (FnReturnsAt F.Fn reader) (map (λ directory. directory.now) DEFAULT_DIRECTORIES.now) name.now (Ok (own_zone_of zone)))
+            (λ e. (e ≡ Tz (NoMemory alloc_error)) ⊎ IsZoneNameAnswer (FnReturnsAt F.Fn reader) (map (λ directory. directory.now) DEFAULT_DIRECTORIES.now) name.now (Err e)) }
+    {
+        let settings = TimeZoneSettings::new(DEFAULT_DIRECTORIES, reader);
+        settings.zone_of_name(alloc, name)
     }
 }

@@ -7,6 +7,7 @@ ghost use Rattle.tz_zone.specs.ValidZone.{IsSoundTable, IsSoundTable-prop, IsVal
 use super::checks::check_read_parts;
 use super::offsets::offsets;
 use super::{LeapSecond, LocalTimeType, TimeZoneRef, Transition, TransitionRule};
+use crate::table::lent;
 use std::alloc::{Allocator, Global};
 use std::fmt;
 use tz_base::error::TzError;
@@ -101,10 +102,10 @@ impl<A: Allocator + Copy> TimeZone<A> {
             &transitions,
             &local_time_types,
             &leap_seconds,
-            &extra_rule,
+            lent(&extra_rule),
             are_in_order,
         )?;
-        let (least_offset, greatest_offset) = offsets(&local_time_types, &extra_rule);
+        let (least_offset, greatest_offset) = offsets(&local_time_types, lent(&extra_rule));
         Ok(TimeZone {
             transitions,
             local_time_types,
@@ -115,7 +116,7 @@ impl<A: Allocator + Copy> TimeZone<A> {
         })
     }
 
-    /// The zone that has UTC's type alone.
+    /// The zone that has UTC's type alone. `Memory`: an allocation failed.
     pub fn utc(alloc: A) -> Result<Self, TzError>
         ensures ok { IfOk result (λ z. own_zone_of z ≡ zone_of_type (plain_type (pos 0))) }
         ensures err { IfErr result (λ e. e ≡ TzError.Memory alloc_error) }
@@ -151,7 +152,7 @@ impl<A: Allocator + Copy> TimeZone<A> {
         })
     }
 
-    /// A copy of the zone, on the same allocator.
+    /// A copy of the zone, on the same allocator. `Memory`: an allocation failed.
     pub fn try_clone(&self) -> Result<Self, TzError>
         ensures ok { IfOk result (λ z. own_zone_of z ≡ own_zone_of self.now) }
         ensures err { IfErr result (λ e. e ≡ TzError.Memory alloc_error) }
@@ -194,7 +195,8 @@ impl<A: Allocator + Copy> TimeZone<A> {
         self.as_ref().find_local_time_type(unix_time)
     }
 
-    /// The clock's type at the current time, which the caller passes as Unix seconds.
+    /// The clock's type at the current time, which the caller passes as Unix seconds. The errors are those of
+    /// [`TimeZone::find_local_time_type`].
     pub fn find_current_local_time_type(&self, unix_time: i64) -> Result<&LocalTimeType, TzError>
         ensures ok { IfOk result (λ t. IsClock (own_zone_of self.now) unix_time t.now) }
         ensures err { IfErr result (IsLookupFault (own_zone_of self.now) unix_time) }

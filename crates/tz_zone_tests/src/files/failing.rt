@@ -6,7 +6,7 @@ use std::io::{self, Read};
 use std::test::Fail;
 use tz_base::error::ReadFault;
 use tz_samples::refusing::Refusing;
-use tz_zone::inner::read_to_end;
+use tz_zone::inner::{read_to_end, read_up_to};
 
 /// A reader over bytes, which gives ten of them at most at once and fails when it was called a number of times.
 #[derive(Drop)]
@@ -70,6 +70,62 @@ fn each_growth_can_be_refused(rt: HostRuntime) -> Result<(), Fail> {
             calls_left: 100,
         };
         match read_to_end(&heap, &mut input, 0) {
+            Ok(bytes) => expect_eq(&rt, &bytes.as_slice(), &text.as_slice()),
+            Err(fault) => {
+                assert!(rt; matches!(fault, ReadFault::Memory(_)), "{left}");
+                refusals = left + 1;
+            }
+        }
+        expect_eq(
+            &rt,
+            &(heap.refused(), heap.held()),
+            &(u64::from(left < refusals), 0),
+        );
+    }
+    assert!(rt; (2..30).contains(&refusals));
+    Ok(())
+}
+
+/// How many of the bytes a reader over 23 bytes has left, and what was read of it, or the name of the fault.
+#[test]
+fn a_reader_is_read_up_to_a_limit(rt: HostRuntime) -> Result<(), Fail> {
+    const TEXT: &str = "three and twenty bytes.";
+    static ROWS: [(usize, u64, usize, &str); 9] = [
+        (0, 9, 22, "failed: file is longer than 0 bytes"),
+        (1, 9, 21, "failed: file is longer than 1 bytes"),
+        (9, 9, 13, "failed: file is longer than 9 bytes"),
+        (10, 9, 12, "failed: file is longer than 10 bytes"),
+        (22, 9, 0, "failed: file is longer than 22 bytes"),
+        (22, 2, 3, "failed: the disk is gone"),
+        (23, 3, 0, "failed: the disk is gone"),
+        (23, 9, 0, TEXT),
+        (24, 9, 0, TEXT),
+    ];
+    let alloc = rt.alloc();
+    for (limit, calls_left, rest, wanted) in &ROWS {
+        let mut input = Input {
+            rest: TEXT.as_bytes(),
+            calls_left: *calls_left,
+        };
+        let read = named(alloc, read_up_to(alloc, &mut input, *limit))?;
+        expect_eq_at(&rt, limit, &read.as_str(), wanted);
+        expect_eq_at(&rt, limit, &input.rest.len(), rest);
+    }
+    Ok(())
+}
+
+#[test]
+fn each_growth_up_to_a_limit_can_be_refused(rt: HostRuntime) -> Result<(), Fail> {
+    let alloc = rt.alloc();
+    let text = [b'a'; 500];
+    let mut refusals = 0u64;
+    for left in 0..30u64 {
+        let heap = Refusing::new(alloc, left);
+        let mut input = Input {
+            rest: &text,
+            calls_left: 100,
+        };
+        match read_up_to(&heap, &mut input, 500) {
             Ok(bytes) => expect_eq(&rt, &bytes.as_slice(), &text.as_slice()),
             Err(fault) => {
                 assert!(rt; matches!(fault, ReadFault::Memory(_)), "{left}");

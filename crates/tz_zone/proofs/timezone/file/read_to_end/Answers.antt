@@ -1,14 +1,7 @@
 -- The bytes so far are followed by those of the piece.
-use Rattle.std.proofs.Common.{◌≡◌, ◌++◌, ℕ, List, [], Option, Some, None, take, append-nil, sym, rules}
-use Rattle.std.specs.Io.KnownBytes.{Consumes}
-use Rattle.std.proofs.lemmas.List.{append_assoc}
+use Rattle.std.proofs.Common.{◌≡◌, ◌++◌, ℕ, List, [], take, append-nil, rules}
+use Rattle.tz_zone.proofs.ReadBytes.{consumes_more}
 use Rattle.tz_zone.proofs.timezone.file.read_to_end.Goals as goal
-
-consumes_more : (old mid new : Option (List ℕ)) (xs ys zs : List ℕ) → Consumes old mid xs → Consumes mid new ys → zs ≡ xs ++ ys → Consumes old new zs
-consumes_more None mid new xs ys zs so_far next is = tt
-consumes_more (Some a) None new xs ys zs so_far next is = absurd so_far
-consumes_more (Some a) (Some b) None xs ys zs so_far next is = absurd next
-consumes_more (Some a) (Some b) (Some c) xs ys zs so_far next is = rw (is, append_assoc, sym next) so_far
 
 pub loop-preserved : goal.loop-preserved
 loop-preserved g c =

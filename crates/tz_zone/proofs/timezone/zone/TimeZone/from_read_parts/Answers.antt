@@ -9,10 +9,10 @@ pub returns-clause-parts : goal.returns-clause-parts
 returns-clause-parts g c = refl
 
 pub invariant_of-result-clause-sound : goal.invariant_of-result-clause-sound
-invariant_of-result-clause-sound g c = rw (← c.deref.ensures.value, ← c.deref-2.ensures.value, ← c.deref-3.ensures.value) (c.in_ok-check_read_parts.ensures.ok).table
+invariant_of-result-clause-sound g c = rw (← c.deref.ensures.value, ← c.deref-2.ensures.value, ← c.deref-3.ensures.value) (rw c.lent.ensures at c.in_ok-check_read_parts.ensures.ok).table
 
 pub invariant_of-result-clause-valid : goal.invariant_of-result-clause-valid
-invariant_of-result-clause-valid g c = rw (← c.deref.ensures.value, ← c.deref-2.ensures.value, ← c.deref-3.ensures.value) (∣ c.in_ok-check_read_parts.ensures.ok ∣₁)
+invariant_of-result-clause-valid g c = rw (← c.deref.ensures.value, ← c.deref-2.ensures.value, ← c.deref-3.ensures.value) (∣ rw c.lent.ensures at c.in_ok-check_read_parts.ensures.ok ∣₁)
 
 pub check_read_parts-requires : goal.check_read_parts-requires
 check_read_parts-requires g c = rw (c.deref.ensures.value, c.deref-2.ensures.value) c.requires
@@ -22,4 +22,4 @@ invariant_of-result-clause-offsets g c =
     let ends = c.offsets-least_offset in
     let fits_least : SFits w32 ends.result.0 = search rules in
     let fits_greatest : SFits w32 ends.result.1 = search rules in
-    rw (to_z-of_z w32 ends.result.0 fits_least, to_z-of_z w32 ends.result.1 fits_greatest, ← c.deref-4.ensures.value) (∣ (ends.ensures.least, ends.ensures.greatest) ∣₁)
+    rw (to_z-of_z w32 ends.result.0 fits_least, to_z-of_z w32 ends.result.1 fits_greatest, ← c.deref-4.ensures.value) (∣ (rw c.lent-2.ensures at ends.ensures.least, rw c.lent-2.ensures at ends.ensures.greatest) ∣₁)
