@@ -1,19 +1,16 @@
--- Where a cursor's span begins and ends the tables change.
+-- Where a segment of the clock begins and ends the tables change.
 use Rattle.std.proofs.Common.{◌≡◌, ◌≢◌, ◌∙◌, ◌-◌, ◌⊎◌, inl, inr, false, eqb, refl, sym, ap, subst, arith, ℤ, pos, negsuc, ◌+ℤ◌, ◌-ℤ◌, ◌≤ℤ◌, ◌<ℤ◌, List, [], ◌∷◌, length, Option, Some, None}
 use Rattle.std.specs.Prelude.{slice_get, unsigned_abs, IfSome, MatchOption}
-use Rattle.std.proofs.lemmas.Int.{ints, by_lt_z, int_max_is, int_min_is}
-use Rattle.std.specs.Int.{int_max, int_min}
+use Rattle.std.proofs.lemmas.Int.{ints, by_lt_z}
 use Rattle.std.proofs.lemmas.Bool.{cases_lt, false≢true}
 use Rattle.std.proofs.lemmas.Option.{none-some, same_Some}
-use Rattle.tz_rule.specs.RuleSegments.{IsRuleChange}
-use Rattle.tz_rule.specs.declared.timezone.rule.TransitionRule.{TransitionRule}
 use Rattle.tz_zone.specs.Table.{Transition, LeapSecond, Zone}
-use Rattle.tz_zone.specs.LeapTime.{IsInstant, IsBeforeStart, IsLeapTimeRefused, IsMomentOf}
+use Rattle.tz_zone.specs.LeapTime.{IsInstant, IsBeforeStart, IsPastInstants, IsLeapTimeRefused, IsMomentOf}
 use Rattle.tz_zone.specs.ValidZone.{AreLeapSeconds, IsSoundTable}
 use Rattle.tz_zone.specs.ClockSegments.{IsReachedAt, IsCursor, IsAtCursor}
-use Rattle.tz_zone.specs.TableChanges.{IsChangeByRule, IsTableChange, IsFar, HasTableEnds, IsSpanEnd}
+use Rattle.tz_zone.specs.TableChanges.{IsChangeByRule, IsTableChange, IsFar, HasTableEnds}
 use Rattle.tz_zone.specs.declared.clock.cursor.Cursor.{Cursor}
-use Rattle.tz_zone.proofs.LeapTimes.{one_leap_time, past_later, not_refused_within, IsInstant-from_bounds, instant_bounds}
+use Rattle.tz_zone.proofs.LeapTimes.{one_leap_time, leap_time_mono, past_later, begun_later, not_past_within, not_refused_within, IsInstant-from_bounds, instant_bounds}
 use Rattle.tz_zone.proofs.TypesAtCursors.{plain_leap, leap_unless_refused, leap_time_low, moment_up_to, answered_from_moment, reached_at}
 
 -- an instant lies before a truncated start or it does not
@@ -64,27 +61,9 @@ plain_moment leaps none v low = record {
   low = low;
 }
 
--- where a span that is cut to the rule's begins later, it does so with a change of the rule
-pub cut_at_first : (rule : Option TransitionRule) (r : TransitionRule) (from first cut : ℤ) → rule ≡ Some r → cut ≡ int_max from first → negsuc 9223372036854775807 ≤ℤ from
-    → (first ≢ negsuc 9223372036854775807 → IsRuleChange r first) → cut ≢ from → IsChangeByRule rule cut
-cut_at_first rule r from first cut is value low change other =
-    let greatest = int_max_is from first in
-    by_lt_z from first
-    (λ h.
-    let same : first ≡ cut = omega (arith, ints, value, greatest, h) in
-    subst (λ (o : Option TransitionRule). IsChangeByRule o cut) (sym is) (subst (IsRuleChange r) same (change (λ e. absurd (omega (arith, ints, e, h, low))))))
-    (λ h. absurd (other (omega (arith, ints, value, greatest, h))))
-
--- and where it ends earlier one comes behind it
-pub cut_at_last : (rule : Option TransitionRule) (r : TransitionRule) (last end cut : ℤ) → rule ≡ Some r → cut ≡ int_min last end → last ≤ℤ pos 9223372036854775807
-    → (end ≢ pos 9223372036854775807 → IsRuleChange r (end +ℤ pos 1)) → cut ≢ last → IsChangeByRule rule (cut +ℤ pos 1)
-cut_at_last rule r last end cut is value high change other =
-    let least = int_min_is last end in
-    by_lt_z end last
-    (λ h.
-    let same : end ≡ cut = omega (arith, ints, value, least, h) in
-    subst (λ (o : Option TransitionRule). IsChangeByRule o (cut +ℤ pos 1)) (sym is) (subst (λ (v : ℤ). IsRuleChange r (v +ℤ pos 1)) same (change (λ e. absurd (omega (arith, ints, e, h, high))))))
-    (λ h. absurd (other (omega (arith, ints, value, least, h))))
+-- where leap times have left 64 bits they may do so
+pub far_if_past : (leaps : List LeapSecond) → AreLeapSeconds leaps → (u : ℤ) → IsPastInstants leaps u → IsFar leaps u
+far_if_past leaps are u past = (some_if_refused leaps u (inr past), by_lt_z (pos 80000000000000000) u (λ h. h) (λ h. absurd (not_past_within leaps are u h past)))
 
 module _ (z : Zone) (sound : IsSoundTable z) (c : Cursor) (cursor : IsCursor z.transitions c) (u : ℤ) (fits : IsInstant u) (at : IsAtCursor z.leap_seconds c u) where
   are : AreLeapSeconds z.leap_seconds
@@ -130,38 +109,41 @@ module _ (z : Zone) (sound : IsSoundTable z) (c : Cursor) (cursor : IsCursor z.t
           answered begun (inl before) = begun before
           answered begun (inr past) = at.1.not_refused (inr (past_later z.leap_seconds are (m -ℤ pos 1) u (omega (arith, ints, up_to)) past))
 
-  -- and behind the span's last instant the transition after the cursor does
-  pub change_behind_span : (last : ℤ) → last ≤ℤ pos 9223372036854775807 → u ≤ℤ last → IsSpanEnd z.leap_seconds c last → last ≢ pos 9223372036854775807
-      → IsTableChange z (last +ℤ pos 1) ⊎ IsFar z.leap_seconds (last +ℤ pos 1)
-  change_behind_span last fits_last from end not_greatest = elim end [
+  -- where the leap time of the transition after the cursor is first reached that takes effect, or leap times may leave 64 bits
+  pub change_at_next : (next : Transition) → c.next ≡ Some next → (m : ℤ) → m ≤ℤ pos 9223372036854775807 → IsMomentOf z.leap_seconds next.unix_leap_time m → IsTableChange z m ⊎ IsFar z.leap_seconds m
+  change_at_next next is m high moment = elim (far_or_answered z.leap_seconds are m moment.begun) [
     | inl far ↦ inr far
-    | inr moment ↦ by_next c.next cursor.next at.2.1 moment
+    | inr answered ↦ inl (inl (
+      c.place,
+      (
+        next,
+        subst (λ (o : Option Transition). MatchOption o (c.place ≡ length z.transitions) (λ x. slice_get z.transitions c.place ≡ Some x)) is cursor.next,
+        record {
+          not_least = λ e. absurd (omega (arith, ints, e, ahead, leap_time_low z.leap_seconds are u at.0 fits at.1));
+          instant = IsInstant-from_bounds m moment.low high;
+          reached = moment.reached answered;
+          least = moment.least;
+        },
+      ),
+    ))
   ]
     where
-      by_next : (o : Option Transition) → MatchOption o (c.place ≡ length z.transitions) (λ next. slice_get z.transitions c.place ≡ Some next)
-          → IfSome o (λ next. at.0 <ℤ next.unix_leap_time)
-          → MatchOption o (last ≡ pos 9223372036854775807) (λ next. IsMomentOf z.leap_seconds next.unix_leap_time (last +ℤ pos 1))
-          → IsTableChange z (last +ℤ pos 1) ⊎ IsFar z.leap_seconds (last +ℤ pos 1)
-      by_next None all ahead greatest = absurd (not_greatest greatest)
-      by_next (Some next) at_next ahead moment = elim (far_or_answered z.leap_seconds are (last +ℤ pos 1) moment.begun) [
-        | inl far ↦ inr far
-        | inr answered ↦ inl (inl (
-          c.place,
-          (
-            next,
-            at_next,
-            record {
-              not_least = λ e. absurd (omega (arith, ints, e, ahead, leap_time_low z.leap_seconds are u at.0 fits at.1));
-              instant = IsInstant-from_bounds (last +ℤ pos 1) moment.low (above_none last fits_last not_greatest);
-              reached = moment.reached answered;
-              least = moment.least;
-            },
-          ),
-        ))
-      ]
-        where
-          above_none : (n : ℤ) → n ≤ℤ pos 9223372036854775807 → n ≢ pos 9223372036854775807 → (n +ℤ pos 1) ≤ℤ pos 9223372036854775807
-          above_none n high other = by_lt_z n (pos 9223372036854775807) (λ h. omega (arith, ints, h)) (λ h. absurd (other (omega (arith, ints, h, high))))
+      ahead : at.0 <ℤ next.unix_leap_time
+      ahead = subst (λ (o : Option Transition). IfSome o (λ x. at.0 <ℤ x.unix_leap_time)) is at.2.1
+
+  -- so the ends of a segment between two transitions are changes of the tables
+  pub ends_between : (next : Transition) → c.next ≡ Some next → (from last : ℤ) → last ≤ℤ pos 9223372036854775807 → IsMomentOf z.leap_seconds c.before.unix_leap_time from
+      → (last ≢ pos 9223372036854775807 → IsPastInstants z.leap_seconds (last +ℤ pos 1) ⊎ IsMomentOf z.leap_seconds next.unix_leap_time (last +ℤ pos 1)) → HasTableEnds z from last
+  ends_between next is from last high moment behind = record {
+    from_is = λ not_least. inl (change_at_moment from moment not_least);
+    last_is = λ not_greatest. elim (behind not_greatest) [
+      | inl past ↦ inr (far_if_past z.leap_seconds are (last +ℤ pos 1) past)
+      | inr next_moment ↦ change_at_next next is (last +ℤ pos 1) (one_more last high not_greatest) next_moment
+    ];
+  }
+    where
+      one_more : (n : ℤ) → n ≤ℤ pos 9223372036854775807 → n ≢ pos 9223372036854775807 → (n +ℤ pos 1) ≤ℤ pos 9223372036854775807
+      one_more n high other = by_lt_z n (pos 9223372036854775807) (λ h. omega (arith, ints, h)) (λ h. absurd (other (omega (arith, ints, h, high))))
 
   -- a change of the rule, once all transitions are reached, is one of the tables
   pub change_by_rule : c.next ≡ None → (v : ℤ) → IsAtCursor z.leap_seconds c v → IsChangeByRule z.extra_rule v → IsTableChange z v
@@ -170,21 +152,32 @@ module _ (z : Zone) (sound : IsSoundTable z) (c : Cursor) (cursor : IsCursor z.t
       all : c.place ≡ length z.transitions
       all = subst (λ (o : Option Transition). MatchOption o (c.place ≡ length z.transitions) (λ x. slice_get z.transitions c.place ≡ Some x)) is cursor.next
 
-  -- so the ends of the span are changes of the tables
-  pub ends_of_span : (from last : ℤ) → last ≤ℤ pos 9223372036854775807 → u ≤ℤ last → IsMomentOf z.leap_seconds c.before.unix_leap_time from → IsSpanEnd z.leap_seconds c last → HasTableEnds z from last
-  ends_of_span from last fits_last high moment end = record {
-    from_is = λ not_least. inl (change_at_moment from moment not_least);
-    last_is = change_behind_span last fits_last high end;
-  }
+  -- from the last transition on each later instant that has a leap time lies at the cursor too
+  at_cursor_later : c.next ≡ None → (v w : ℤ) → v ≤ℤ w → IsAtCursor z.leap_seconds c v → ¬ IsLeapTimeRefused z.leap_seconds w → IsAtCursor z.leap_seconds c w
+  at_cursor_later is v w h (l, leap, between) answered =
+      let there = leap_unless_refused z.leap_seconds are w answered in
+      (there.0, there.1, (omega (arith, ints, between.0, leap_time_mono z.leap_seconds are v w l there.0 h leap there.1), subst (λ (o : Option Transition). IfSome o (λ next. there.0 <ℤ next.unix_leap_time)) (sym is) tt))
 
-  -- and those of what the rule leaves of it
-  pub ends_within_span : c.next ≡ None → (from last : ℤ) → HasTableEnds z from last → ((v : ℤ) → from ≤ℤ v → v ≤ℤ last → IsAtCursor z.leap_seconds c v)
-      → (f l : ℤ) → f ≤ℤ l → from ≤ℤ f → l ≤ℤ last → (f ≢ from → IsChangeByRule z.extra_rule f) → (l ≢ last → IsChangeByRule z.extra_rule (l +ℤ pos 1)) → HasTableEnds z f l
-  ends_within_span is from last ends at_all f l order low high at_first behind = record {
-    from_is = λ not_least. by_lt_z from f (λ h. inl (change_by_rule is f (at_all f low (omega (arith, ints, order, high))) (at_first (λ e. absurd (omega (arith, ints, e, h)))))) (λ h.
-        let same : f ≡ from = omega (arith, ints, h, low) in
-        subst (λ (v : ℤ). IsTableChange z v ⊎ IsFar z.leap_seconds v) (sym same) (ends.from_is (λ e. not_least (same ∙ e))));
-    last_is = λ not_greatest. by_lt_z l last (λ h. inl (change_by_rule is (l +ℤ pos 1) (at_all (l +ℤ pos 1) (omega (arith, ints, order, low)) (omega (arith, ints, h))) (behind (λ e. absurd (omega (arith, ints, e, h)))))) (λ h.
-        let same : l ≡ last = omega (arith, ints, h, high) in
-        subst (λ (v : ℤ). IsTableChange z (v +ℤ pos 1) ⊎ IsFar z.leap_seconds (v +ℤ pos 1)) (sym same) (ends.last_is (λ e. not_greatest (same ∙ e))));
+  -- and the ends of a segment after all transitions are, too
+  pub ends_after_all : c.next ≡ None → (from last : ℤ) → from ≤ℤ last → ((v : ℤ) → from ≤ℤ v → v ≤ℤ last → IsAtCursor z.leap_seconds c v)
+      → (IsMomentOf z.leap_seconds c.before.unix_leap_time from ⊎ IsChangeByRule z.extra_rule from)
+      → (last ≢ pos 9223372036854775807 → IsPastInstants z.leap_seconds (last +ℤ pos 1) ⊎ IsChangeByRule z.extra_rule (last +ℤ pos 1)) → HasTableEnds z from last
+  ends_after_all is from last order at_all begin behind = record {
+    from_is = λ not_least. inl (elim begin [
+      | inl moment ↦ change_at_moment from moment not_least
+      | inr change ↦ change_by_rule is from (at_all from (omega (arith, ints)) order) change
+    ]);
+    last_is = λ not_greatest. elim (behind not_greatest) [
+      | inl past ↦ inr (far_if_past z.leap_seconds are (last +ℤ pos 1) past)
+      | inr change ↦ elim (far_or_answered z.leap_seconds are (last +ℤ pos 1) begun) [
+        | inl far ↦ inr far
+        | inr answered ↦ inl (change_by_rule is (last +ℤ pos 1) (at_cursor_later is last (last +ℤ pos 1) (omega (arith, ints)) at_last answered) change)
+      ]
+    ];
   }
+    where
+      at_last : IsAtCursor z.leap_seconds c last
+      at_last = at_all last order (omega (arith, ints))
+
+      begun : ¬ IsBeforeStart z.leap_seconds (last +ℤ pos 1)
+      begun = begun_later z.leap_seconds are last (last +ℤ pos 1) (omega (arith, ints)) (λ before. at_last.1.not_refused (inl before))

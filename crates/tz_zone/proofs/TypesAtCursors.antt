@@ -7,7 +7,7 @@ use Rattle.std.proofs.lemmas.List.{nil_from_length}
 use Rattle.std.proofs.lemmas.Option.{slice_get_within, slice_get-get_or, none-some}
 use Rattle.tz_rule.specs.LocalTimeType.{LocalTimeType}
 use Rattle.tz_zone.specs.Table.{Transition, LeapSecond, Zone}
-use Rattle.tz_zone.specs.LeapTime.{IsInstant, IsReached, IsBeforeStart, IsFirstBegun, IsLeapTimeRefused, IsLeapTime, IsTimeReached, IsMomentOf}
+use Rattle.tz_zone.specs.LeapTime.{IsInstant, IsReached, IsBeforeStart, IsLeapTimeRefused, IsLeapTime, IsTimeReached, IsMomentOf}
 use Rattle.tz_zone.specs.Clock.{AreReached, AreAhead, IsTypeAt, IsTypeOfLast, IsLast, IsTransitionType, IsTypeAfter, IsTypeWithout, IsClock, HasNoType}
 use Rattle.tz_zone.specs.ValidZone.{AreLeapSeconds, IsRising, IsSoundTable}
 use Rattle.tz_zone.specs.ClockSegments.{from_start, IsReachedAt, IsCursor, IsBetween, IsAtCursor, IsSegmentAt, TakesEffectAt}
@@ -15,7 +15,6 @@ use Rattle.tz_zone.specs.declared.clock.cursor.Cursor.{Cursor}
 use Rattle.tz_zone.specs.declared.clock.segment.ClockSegment.{ClockSegment}
 use Rattle.tz_zone.proofs.LeapLists.{count_exists}
 use Rattle.tz_zone.proofs.LeapTimes.{IsLeapTime-from_count, leap_time_from_count, leap_time_fits, leap_time_mono, past_later, begun_later, not_refused_within, instant_bounds}
-use Rattle.tz_zone.proofs.LeapAnswers.{start_unique}
 use Rattle.tz_zone.proofs.RisingTimes.{reached_before_cursor, ahead_at_cursor}
 use Rattle.tz_zone.proofs.Clocks.{some_from_last, transition_type_of_last, clock_before_last, clock_from_last, type_after_from_clock}
 
@@ -307,23 +306,6 @@ refused_segment_is z some u s within refused begun type cursor = record {
     fresh_none None P e h = h
     fresh_none (Some x) P e h = tt
 
--- the first instant that is not before a truncated start comes after one that is
-pub begun_after : (leaps : List LeapSecond) → (u high begin : ℤ) → IsBeforeStart leaps u → IsFirstBegun leaps u high begin → u <ℤ begin
-begun_after leaps u high begin (l, start, before) first = by_lt_z u begin (λ h. h) (λ h. absurd (first.begun (l, start, omega (arith, ints, h, before))))
-
--- all up to it are before it
-pub before_up_to : (leaps : List LeapSecond) → (u high begin : ℤ) → IsBeforeStart leaps u → IsFirstBegun leaps u high begin → (v : ℤ) → v <ℤ begin → IsBeforeStart leaps v
-before_up_to leaps u high begin (l, start, before) first v less =
-    by_lt_z (v +ℤ l.correction) l.unix_leap_time (λ h. (l, start, h)) (λ h.
-    absurd (omega (arith, ints, less, first.first v (omega (arith, ints, h, before)) (not_before h))))
-  where
-    not_before : l.unix_leap_time ≤ℤ (v +ℤ l.correction) → ¬ IsBeforeStart leaps v
-    not_before order (l', start', before') =
-        let same = start_unique leaps l' l start' start in
-        let same_time = ap (λ (x : LeapSecond). x.unix_leap_time) same in
-        let same_correction = ap (λ (x : LeapSecond). x.correction) same in
-        absurd (omega (arith, ints, order, before', same_time, same_correction))
-
 -- where no cursor stands at a segment's end the leap seconds have begun behind it
 pub begun_behind : (z : Zone) (u : ℤ) (s : ClockSegment) → IsSegmentAt z u s → s.cursor ≡ None → s.last <ℤ pos 9223372036854775807 → z.transitions ≢ [] → ¬ IsBeforeStart z.leap_seconds (s.last +ℤ pos 1)
 begun_behind z u s segment none ends some = begun (subst (λ (o : Option Cursor). IfNone o ((z.transitions ≡ []) ⊎ ¬ IsBeforeStart z.leap_seconds (s.last +ℤ pos 1))) none (segment.fresh ends))
@@ -331,7 +313,3 @@ begun_behind z u s segment none ends some = begun (subst (λ (o : Option Cursor)
     begun : (z.transitions ≡ []) ⊎ ¬ IsBeforeStart z.leap_seconds (s.last +ℤ pos 1) → ¬ IsBeforeStart z.leap_seconds (s.last +ℤ pos 1)
     begun (inl e) = absurd (some e)
     begun (inr h) = h
-
--- where one stands it does so at the segment's last instant
-pub stands_at_end : (z : Zone) (u : ℤ) (s : ClockSegment) (c : Cursor) → IsSegmentAt z u s → s.cursor ≡ Some c → s.last <ℤ pos 9223372036854775807 → (z.transitions ≢ []) × IsCursor z.transitions c × IsReachedAt z s.last c.place
-stands_at_end z u s c segment is ends = subst (λ (o : Option Cursor). IfSome o (λ x. (z.transitions ≢ []) × IsCursor z.transitions x × IsReachedAt z s.last x.place)) is (segment.cursor_is ends)

@@ -1,5 +1,5 @@
 -- The clock of a zone: which local time type it has at an instant, if any. (RFC 8536, section 3.2: transition times and types; 3.3: the footer.)
-use Rattle.std.specs.Prelude.{◌≡◌, ◌≢◌, ℕ, ◌-◌, ◌<◌, ◌≤◌, ◌⊎◌, ℤ, ◌≤ℤ◌, ◌<ℤ◌, List, [], length, Option, Some, None, slice_get}
+use Rattle.std.specs.Prelude.{◌≡◌, ◌≢◌, ℕ, ◌-◌, ◌<◌, ◌≤◌, ◌⊎◌, ℤ, ◌≤ℤ◌, ◌<ℤ◌, List, [], length, Bool, Option, Some, None, MatchBool, slice_get}
 use Rattle.tz_base.specs.declared.error.TzError.{TzError}
 use Rattle.tz_base.specs.declared.error.TzError.TheVariants.{OutOfRange, NoAvailableLocalTimeType}
 use Rattle.tz_rule.specs.LocalTimeType.{LocalTimeType}
@@ -19,6 +19,10 @@ AreReached transitions l k = (i : ℕ) (change : Transition) → i < k → slice
 -- the transitions from number k on are ahead of a leap time
 abbrev pub AreAhead : List Transition → ℤ → ℕ → Type 0
 AreAhead transitions l k = (i : ℕ) (change : Transition) → k ≤ i → slice_get transitions i ≡ Some change → l <ℤ change.unix_leap_time
+
+-- a leap time lies at a place: so many transitions are reached, and the others are ahead
+abbrev pub IsPlaceAt : List Transition → ℤ → ℕ → Type 0
+IsPlaceAt transitions l k = AreReached transitions l k × AreAhead transitions l k
 
 -- transition i is the last that is reached at a leap time
 abbrev pub IsLastReached : List Transition → ℤ → ℕ → Transition → Type 0
@@ -42,12 +46,6 @@ IsTypeOfLast z k t =
     ((k ≡ 0) × IsTypeAt z 0 t)
     ⊎ ((k ≢ 0) × (change : Transition) × (slice_get z.transitions (k - 1) ≡ Some change) × IsTypeAt z change.type_index t)
 
--- the number that the transition before a place names, or 0 where there is none
-abbrev pub IsNumberBefore : List Transition → ℕ → ℕ → Type 0
-IsNumberBefore transitions k i =
-    ((k ≡ 0) × (i ≡ 0))
-    ⊎ ((k ≢ 0) × (change : Transition) × (slice_get transitions (k - 1) ≡ Some change) × (i ≡ change.type_index))
-
 -- the last transition
 abbrev pub IsLast : List Transition → Transition → Type 0
 IsLast transitions last = slice_get transitions (length transitions - 1) ≡ Some last
@@ -65,6 +63,10 @@ IsFaultAfter rule u e = ((e ≡ NoAvailableLocalTimeType) × (rule ≡ None)) �
 abbrev pub IsTypeWithout : Zone → Option TransitionRule → ℤ → LocalTimeType → Type 0
 IsTypeWithout z (Some rule) u t = IsRuleType rule u t
 IsTypeWithout z None u t = IsTypeAt z 0 t
+
+-- the type after the last transition, or of a zone that has none
+abbrev pub IsTypeAfterTable : Bool → Zone → ℤ → LocalTimeType → Type 0
+IsTypeAfterTable is_empty z u t = MatchBool is_empty (IsTypeWithout z z.extra_rule u t) (IsTypeAfter z.extra_rule u t)
 
 -- the type of a zone with transitions, by the leap time of the instant
 abbrev pub IsTypeWith : Zone → Transition → ℤ → LocalTimeType → Type 0

@@ -17,9 +17,13 @@ pub record IsReachedAt (z : Zone) (u : ℤ) (k : ℕ) : Type 0 where
 abbrev pub from_start : Transition
 from_start = record { unix_leap_time = negsuc 9223372036854775807; type_index = 0 }
 
+-- the last transition before a place, or what stands for it
+abbrev pub IsBefore : List Transition → ℕ → Transition → Type 0
+IsBefore transitions k before = ((k ≡ 0) × (before ≡ from_start)) ⊎ ((k ≢ 0) × (slice_get transitions (k - 1) ≡ Some before))
+
 -- a cursor after some transitions: with the last one of them, or what stands for it, and the next one, if there is any
 pub record IsCursor (transitions : List Transition) (c : Cursor) : Type 0 where
-  pub before : ((c.place ≡ 0) × (c.before ≡ from_start)) ⊎ ((c.place ≢ 0) × (slice_get transitions (c.place - 1) ≡ Some c.before))
+  pub before : IsBefore transitions c.place c.before
   pub next : MatchOption c.next (c.place ≡ length transitions) (λ next. slice_get transitions c.place ≡ Some next)
 
 -- a leap time lies from the transition before a cursor on, up to the next one

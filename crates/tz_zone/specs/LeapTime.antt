@@ -45,13 +45,6 @@ IsCorrection leaps u c =
 abbrev pub IsBeforeStart : List LeapSecond → ℤ → Type 0
 IsBeforeStart leaps u = (l : LeapSecond) × IsStart leaps l × ((u +ℤ l.correction) <ℤ l.unix_leap_time)
 
--- the first instant from one on, up to another, that does not lie before a truncated start
-pub record IsFirstBegun (leaps : List LeapSecond) (from high low : ℤ) : Type 0 where
-  pub from_is : from ≤ℤ low
-  pub high_is : low ≤ℤ high
-  pub begun : ¬ IsBeforeStart leaps low
-  pub first : (u : ℤ) → from ≤ℤ u → ¬ IsBeforeStart leaps u → low ≤ℤ u
-
 -- with the correction of some leap second reached u lies outside 64 bits
 abbrev pub IsPastInstants : List LeapSecond → ℤ → Type 0
 IsPastInstants leaps u = (i : ℕ) × (l : LeapSecond) × IsReached leaps i l u × ¬ IsInstant (u +ℤ l.correction)

@@ -4,12 +4,8 @@ use Rattle.tz_rule.specs.LocalTimeType.{LocalTimeType}
 use Rattle.tz_rule.specs.Rule.{IsRuleType}
 use Rattle.tz_rule.specs.declared.timezone.rule.TransitionRule.{TransitionRule}
 use Rattle.tz_zone.specs.Table.{Transition, Zone}
-use Rattle.tz_zone.specs.Clock.{AreReached, AreAhead, IsLast, IsTypeOfLast, IsClock}
+use Rattle.tz_zone.specs.Clock.{IsLast, IsTypeOfLast, IsClock}
 use Rattle.tz_zone.specs.Changes.{Change}
-
--- this many transitions are reached at a leap time, and the others are ahead
-abbrev pub IsPlaceAt : List Transition → ℤ → ℕ → Type 0
-IsPlaceAt transitions l k = AreReached transitions l k × AreAhead transitions l k
 
 -- the change that the transition at a place makes, from the type of the last one before it to its own
 pub record IsChangeAtPlace (z : Zone) (k : ℕ) (c : Change) : Type 0 where

@@ -1,12 +1,11 @@
 -- Changes of a zone's tables, at which the segments of its clock begin and end. (RFC 8536, section 3.2: transitions, leap-second records; 3.3: the
 -- footer; RFC 9636, section 3.2: a truncated start.)
-use Rattle.std.specs.Prelude.{◌≡◌, ◌≢◌, ℕ, ◌⊎◌, ℤ, pos, negsuc, ◌+ℤ◌, ◌-ℤ◌, ◌<ℤ◌, List, [], length, Option, Some, None, MatchOption}
+use Rattle.std.specs.Prelude.{◌≡◌, ◌≢◌, ℕ, ◌⊎◌, ℤ, pos, negsuc, ◌+ℤ◌, ◌-ℤ◌, ◌<ℤ◌, List, [], length, Option, Some, None}
 use Rattle.tz_rule.specs.RuleSegments.{IsRuleChange}
 use Rattle.tz_rule.specs.declared.timezone.rule.TransitionRule.{TransitionRule}
 use Rattle.tz_zone.specs.Table.{LeapSecond, Zone}
-use Rattle.tz_zone.specs.LeapTime.{IsBeforeStart, IsMomentOf}
+use Rattle.tz_zone.specs.LeapTime.{IsBeforeStart}
 use Rattle.tz_zone.specs.ClockSegments.{IsReachedAt, TakesEffectAt}
-use Rattle.tz_zone.specs.declared.clock.cursor.Cursor.{Cursor}
 
 -- all transitions are reached at an instant, so that the rule tells the type
 abbrev pub IsAfterTransitions : Zone → ℤ → Type 0
@@ -33,9 +32,3 @@ IsFar leaps u = (leaps ≢ []) × (pos 80000000000000000 <ℤ u)
 pub record HasTableEnds (z : Zone) (from last : ℤ) : Type 0 where
   pub from_is : from ≢ negsuc 9223372036854775807 → IsTableChange z from ⊎ IsFar z.leap_seconds from
   pub last_is : last ≢ pos 9223372036854775807 → IsTableChange z (last +ℤ pos 1) ⊎ IsFar z.leap_seconds (last +ℤ pos 1)
-
--- behind an instant comes the moment of the transition after a cursor, or leap times may leave 64 bits; where there is none it is the greatest instant
-abbrev pub IsSpanEnd : List LeapSecond → Cursor → ℤ → Type 0
-IsSpanEnd leaps c last =
-    IsFar leaps (last +ℤ pos 1)
-    ⊎ MatchOption c.next (last ≡ pos 9223372036854775807) (λ next. IsMomentOf leaps next.unix_leap_time (last +ℤ pos 1))

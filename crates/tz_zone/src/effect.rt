@@ -1,51 +1,14 @@
 //! The way back from leap times: when a transition takes effect. (RFC 8536, section 2)
 
-ghost use Rattle.std.specs.Prelude.{◌≡◌, ◌<◌, ◌≤◌, ◌≤ℤ◌, ◌<ℤ◌, ℕ, length, slice_get, IfOk, IfErr, Some};
-ghost use Rattle.tz_zone.specs.Table.{LeapSecond};
-ghost use Rattle.tz_zone.specs.LeapTime.{IsMomentOf, IsEffect, IsEffectRefused};
+ghost use Rattle.std.specs.Prelude.{◌≡◌, ◌≢◌, ◌⊎◌, ℤ, pos, negsuc, ◌+ℤ◌, ◌≤ℤ◌, IfOk, IfErr};
+ghost use Rattle.tz_zone.specs.LeapTime.{IsPastInstants, IsLeapTimeRefused, IsTimeReached, IsMomentOf, IsEffect, IsEffectRefused};
 ghost use Rattle.tz_zone.specs.ValidZone.{AreLeapSeconds, HasBegunAt};
 
-use crate::leap_time::{correction_before, leap, less, truncated_start};
-use crate::partition::{Places, partition_point};
+use crate::leap_time::{
+    correction_before, has_leap_time, last_instant_up_to, leap_seconds_up_to, less, truncated_start,
+};
 use crate::table::LeapSecond;
 use tz_base::error::TzError;
-
-/// Leap seconds, tested whether their time is not above a leap time.
-#[derive(Clone, Copy)]
-struct LeapSecondsUpTo<'a> {
-    leap_seconds: &'a [LeapSecond],
-    unix_leap_time: i64,
-}
-
-impl Places for LeapSecondsUpTo<'_> {
-    ghost use Rattle.std.specs.Prelude.{ℕ, ◌≡◌, ◌≤ℤ◌, Some, length, slice_get};
-    ghost use Rattle.tz_zone.specs.Table.{LeapSecond};
-
-    ghost count = { λ s. length s.leap_seconds.now };
-
-    ghost passes = { λ s place. (l : LeapSecond) × (slice_get s.leap_seconds.now place ≡ Some l) × (l.unix_leap_time ≤ℤ s.unix_leap_time) };
-
-    fn len(&self) -> usize {
-        self.leap_seconds.len()
-    }
-
-    fn passes_at(&self, place: usize) -> bool {
-        self.leap_seconds[place].unix_leap_time() <= self.unix_leap_time
-    }
-}
-
-/// How many leap seconds have a time that is not above a leap time.
-fn leap_seconds_up_to(leap_seconds: &[LeapSecond], unix_leap_time: i64) -> usize
-    requires { AreLeapSeconds leap_seconds.now }
-    ensures within { result ≤ length leap_seconds.now }
-    ensures up_to { (i : ℕ) (l : LeapSecond) → i < result → slice_get leap_seconds.now i ≡ Some l → l.unix_leap_time ≤ℤ unix_leap_time }
-    ensures later { (i : ℕ) (l : LeapSecond) → result ≤ i → slice_get leap_seconds.now i ≡ Some l → unix_leap_time <ℤ l.unix_leap_time }
-{
-    partition_point(&LeapSecondsUpTo {
-        leap_seconds,
-        unix_leap_time,
-    })
-}
 
 /// The moment of a leap time that is not before a truncated start, by the leap seconds up to it, which may lie past 64 bits: the leap
 /// time less the correction, but not before the last of them is reached.
@@ -80,6 +43,19 @@ pub(crate) fn moment(leap_seconds: &[LeapSecond], unix_leap_time: i64) -> i128
     }
 }
 
+/// The moment of a leap time that is reached at some instant, which is one too.
+#[inline(always)]
+pub(crate) fn start_of(leap_seconds: &[LeapSecond], unix_leap_time: i64) -> i64
+    requires leaps { AreLeapSeconds leap_seconds.now }
+    requires reached { (u : ℤ) × (u ≤ℤ pos 9223372036854775807) × IsTimeReached leap_seconds.now unix_leap_time u }
+    ensures { IsMomentOf leap_seconds.now unix_leap_time result }
+{
+    if leap_seconds.is_empty() {
+        return unix_leap_time;
+    }
+    moment(leap_seconds, unix_leap_time) as i64
+}
+
 /// The instant at which a leap time takes effect: the least one whose leap time is not below it.
 pub fn effect(leap_seconds: &[LeapSecond], unix_leap_time: i64) -> Result<i64, TzError>
     requires { AreLeapSeconds leap_seconds.now }
@@ -92,8 +68,37 @@ pub fn effect(leap_seconds: &[LeapSecond], unix_leap_time: i64) -> Result<i64, T
     let Ok(unix_time) = i64::try_from(moment(leap_seconds, unix_leap_time)) else {
         return Err(TzError::OutOfRange);
     };
-    match leap(leap_seconds, unix_time) {
-        Ok(_) => Ok(unix_time),
-        Err(error) => Err(error),
+    if !has_leap_time(leap_seconds, unix_time) {
+        return Err(TzError::OutOfRange);
     }
+    Ok(unix_time)
+}
+
+/// The last instant that is not past those with a leap time, and not at or after a moment.
+#[inline(never)]
+fn last_before_moment(leap_seconds: &[LeapSecond], unix_leap_time: i64) -> i64
+    requires leaps { AreLeapSeconds leap_seconds.now }
+    requires before { (u : ℤ) × (negsuc 9223372036854775807 ≤ℤ u) × (¬ IsLeapTimeRefused leap_seconds.now u) × ¬ IsTimeReached leap_seconds.now unix_leap_time u }
+    ensures before { (v : ℤ) → v ≤ℤ result → ¬ IsTimeReached leap_seconds.now unix_leap_time v }
+    ensures within { (v : ℤ) → v ≤ℤ result → ¬ IsPastInstants leap_seconds.now v }
+    ensures next { result ≢ pos 9223372036854775807 → IsPastInstants leap_seconds.now (result +ℤ pos 1) ⊎ IsMomentOf leap_seconds.now unix_leap_time (result +ℤ pos 1) }
+{
+    let before = moment(leap_seconds, unix_leap_time) - 1;
+    let last = before.min(i128::from(i64::MAX)) as i64;
+    last_instant_up_to(leap_seconds, last)
+}
+
+/// The last instant that has a leap time and at which another leap time is not reached yet, if there is any.
+#[inline(always)]
+pub(crate) fn last_before(leap_seconds: &[LeapSecond], unix_leap_time: i64) -> i64
+    requires leaps { AreLeapSeconds leap_seconds.now }
+    requires before { (u : ℤ) × (negsuc 9223372036854775807 ≤ℤ u) × (¬ IsLeapTimeRefused leap_seconds.now u) × ¬ IsTimeReached leap_seconds.now unix_leap_time u }
+    ensures before { (v : ℤ) → v ≤ℤ result → ¬ IsTimeReached leap_seconds.now unix_leap_time v }
+    ensures within { (v : ℤ) → v ≤ℤ result → ¬ IsPastInstants leap_seconds.now v }
+    ensures next { result ≢ pos 9223372036854775807 → IsPastInstants leap_seconds.now (result +ℤ pos 1) ⊎ IsMomentOf leap_seconds.now unix_leap_time (result +ℤ pos 1) }
+{
+    if leap_seconds.is_empty() {
+        return unix_leap_time - 1;
+    }
+    last_before_moment(leap_seconds, unix_leap_time)
 }

@@ -1,16 +1,15 @@
 //! Leap times. (RFC 8536, section 2)
 
-ghost use Rattle.std.specs.Prelude.{◌≡◌, ◌<◌, ◌≤◌, ◌+ℤ◌, ◌≤ℤ◌, ◌<ℤ◌, ◌-ℤ◌, ◌⊎◌, ℕ, length, slice_get, ℤ, IfOk, IfErr, IfSome, IfNone, MatchBool, MatchOption, Some};
+ghost use Rattle.std.specs.Prelude.{◌≡◌, ◌<◌, ◌≤◌, ◌+◌, ◌+ℤ◌, ◌≤ℤ◌, ◌<ℤ◌, ◌-ℤ◌, ◌⊎◌, ℕ, length, slice_get, ℤ, pos, negsuc, IfOk, IfErr, IfSome, IfNone, MatchBool, MatchOption, Some};
 ghost use Rattle.tz_zone.specs.Table.{LeapSecond};
-ghost use Rattle.tz_zone.specs.LeapTime.{IsInstant, IsStart, correction_at_start as correction_of_start, correction_before as correction_at_place, IsReached, IsBeforeStart, IsFirstBegun, IsLeapTimeRefused, IsLeapTime};
+ghost use Rattle.tz_zone.specs.LeapTime.{IsInstant, IsStart, correction_at_start as correction_of_start, correction_before as correction_at_place, IsReached, IsBeforeStart, IsPastInstants, IsLeapTimeRefused, IsLeapTime};
 ghost use Rattle.tz_zone.specs.ValidZone.{AreLeapSeconds, HasBegunAt, ExpiresAt, IsPlainTable};
 
-use crate::partition::{Places, partition_point};
 use crate::table::LeapSecond;
 use tz_base::error::TzError;
 
-/// From the start of the table up to this instant each one has a leap time, whatever the leap seconds.
-pub(crate) const SURELY_ANSWERED: i64 = 80_000_000_000_000_000;
+/// Up to this instant no correction takes a leap time out of 64 bits, whatever the leap seconds.
+const SURELY_ANSWERED: i64 = 80_000_000_000_000_000;
 
 /// The truncated start: a first record whose correction is not one second, with which the table begins.
 pub(crate) fn truncated_start(leap_seconds: &[LeapSecond]) -> Option<&LeapSecond>
@@ -75,33 +74,22 @@ pub(crate) fn is_plain_table(leap_seconds: &[LeapSecond]) -> bool
     truncated_start(leap_seconds).is_none() && expiry(leap_seconds).is_none()
 }
 
+/// The first instant that does not lie before a truncated start, which may lie past 64 bits, or the least instant where there is none.
+pub(crate) fn first_instant(leap_seconds: &[LeapSecond]) -> i128
+    ensures begun { (u : ℤ) → result ≤ℤ u → ¬ IsBeforeStart leap_seconds.now u }
+    ensures before { (u : ℤ) → negsuc 9223372036854775807 ≤ℤ u → u <ℤ result → IsBeforeStart leap_seconds.now u }
+{
+    match truncated_start(leap_seconds) {
+        Some(start) => less(start.unix_leap_time(), start.correction()),
+        None => i128::from(i64::MIN),
+    }
+}
+
 /// Whether the instant is not before a truncated start.
 pub(crate) fn has_begun(leap_seconds: &[LeapSecond], unix_time: i64) -> bool
     ensures { MatchBool result (¬ IsBeforeStart leap_seconds.now unix_time) (IsBeforeStart leap_seconds.now unix_time) }
 {
-    match truncated_start(leap_seconds) {
-        Some(start) => {
-            i128::from(start.unix_leap_time())
-                <= i128::from(unix_time) + i128::from(start.correction())
-        }
-        None => true,
-    }
-}
-
-/// The first instant from one on up to another that is not before a truncated start, if there is any.
-pub(crate) fn first_begun(leap_seconds: &[LeapSecond], from: i64, high: i64) -> Option<i64>
-    requires { from ≤ℤ high }
-    ensures some { IfSome result (IsFirstBegun leap_seconds.now from high) }
-    ensures none { IfNone result ((u : ℤ) → u ≤ℤ high → IsBeforeStart leap_seconds.now u) }
-{
-    let Some(start) = truncated_start(leap_seconds) else {
-        return Some(from);
-    };
-    let begin = less(start.unix_leap_time(), start.correction()).max(i128::from(from));
-    if i128::from(high) < begin {
-        return None;
-    }
-    Some(begin as i64)
+    first_instant(leap_seconds) <= i128::from(unix_time)
 }
 
 /// Whether a truncated start is reached at the leap time.
@@ -114,78 +102,153 @@ pub(crate) fn has_begun_at(leap_seconds: &[LeapSecond], unix_leap_time: i64) -> 
     }
 }
 
+/// How many leap seconds have a time that is not above a leap time, by halving.
+pub(crate) fn leap_seconds_up_to(leap_seconds: &[LeapSecond], unix_leap_time: i64) -> usize
+    requires { AreLeapSeconds leap_seconds.now }
+    ensures within { result ≤ length leap_seconds.now }
+    ensures up_to { (i : ℕ) (l : LeapSecond) → i < result → slice_get leap_seconds.now i ≡ Some l → l.unix_leap_time ≤ℤ unix_leap_time }
+    ensures later { (i : ℕ) (l : LeapSecond) → result ≤ i → slice_get leap_seconds.now i ≡ Some l → unix_leap_time <ℤ l.unix_leap_time }
+{
+    let mut low = 0;
+    let mut high = leap_seconds.len();
+    while low < high {
+        let place = low + (high - low) / 2;
+        if leap_seconds[place].unix_leap_time() <= unix_leap_time {
+            low = place + 1;
+        } else {
+            high = place;
+        }
+    }
+    low
+}
+
+/// Whether the leap second at a place is reached at an instant.
+fn is_reached(leap_seconds: &[LeapSecond], place: usize, unix_time: i64) -> bool
+    requires { place < length leap_seconds.now }
+    ensures { MatchBool result ((l : LeapSecond) × IsReached leap_seconds.now place l unix_time)
+        (¬ ((l : LeapSecond) × IsReached leap_seconds.now place l unix_time)) }
+{
+    let correction = correction_before(leap_seconds, place);
+    let time = leap_seconds[place].unix_leap_time();
+    i128::from(time) <= i128::from(unix_time) + i128::from(correction)
+}
+
+/// The first place from one on at which no leap second is reached.
+fn first_not_reached(leap_seconds: &[LeapSecond], from: usize, unix_time: i64) -> usize
+    requires { from ≤ length leap_seconds.now }
+    ensures within { result ≤ length leap_seconds.now }
+    ensures ahead { result < length leap_seconds.now → ¬ ((l : LeapSecond) × IsReached leap_seconds.now result l unix_time) }
+{
+    let mut place = from;
+    while place < leap_seconds.len() && is_reached(leap_seconds, place, unix_time) {
+        place += 1;
+    }
+    place
+}
+
+/// The place behind the last leap second before another place that is reached, or 0.
+fn after_last_reached(leap_seconds: &[LeapSecond], until: usize, unix_time: i64) -> usize
+    requires within { until ≤ length leap_seconds.now }
+    requires ahead { until < length leap_seconds.now → ¬ ((l : LeapSecond) × IsReached leap_seconds.now until l unix_time) }
+    ensures within { result ≤ length leap_seconds.now }
+    ensures reached { (place : ℕ) → place + 1 ≡ result → (l : LeapSecond) × IsReached leap_seconds.now place l unix_time }
+    ensures ahead { result < length leap_seconds.now → ¬ ((l : LeapSecond) × IsReached leap_seconds.now result l unix_time) }
+{
+    let mut place = until;
+    while place > 0 && !is_reached(leap_seconds, place - 1, unix_time) {
+        place -= 1;
+    }
+    place
+}
+
 /// How many leap seconds are reached at an instant.
-pub(crate) fn leap_seconds_reached(leap_seconds: &[LeapSecond], unix_time: i64) -> usize
+///
+/// Corrections change by a second in four weeks at most. So these are the leap seconds up to the instant and the first correction, one more or
+/// less.
+fn leap_seconds_reached(leap_seconds: &[LeapSecond], unix_time: i64) -> usize
     requires { AreLeapSeconds leap_seconds.now }
     ensures within { result ≤ length leap_seconds.now }
     ensures reached { (i : ℕ) (l : LeapSecond) → i < result → slice_get leap_seconds.now i ≡ Some l → IsReached leap_seconds.now i l unix_time }
     ensures beyond { (i : ℕ) (l : LeapSecond) → IsReached leap_seconds.now i l unix_time → i < result }
 {
-    partition_point(&ReachedAt {
-        leap_seconds,
-        unix_time,
-    })
+    let correction = correction_at_start(leap_seconds);
+    let likely = unix_time.saturating_add(i64::from(correction));
+    let place = leap_seconds_up_to(leap_seconds, likely);
+    let place = first_not_reached(leap_seconds, place, unix_time);
+    after_last_reached(leap_seconds, place, unix_time)
 }
 
-/// Leap seconds, tested whether they are reached at an instant.
-#[derive(Clone, Copy)]
-struct ReachedAt<'a> {
-    leap_seconds: &'a [LeapSecond],
-    unix_time: i64,
-}
-
-impl Places for ReachedAt<'_> {
-    ghost use Rattle.std.specs.Prelude.{ℕ, length};
-    ghost use Rattle.tz_zone.specs.Table.{LeapSecond};
-    ghost use Rattle.tz_zone.specs.LeapTime.{IsReached};
-
-    ghost count = { λ s. length s.leap_seconds.now };
-
-    ghost passes = { λ s place. (l : LeapSecond) × IsReached s.leap_seconds.now place l s.unix_time };
-
-    fn len(&self) -> usize {
-        self.leap_seconds.len()
-    }
-
-    fn passes_at(&self, place: usize) -> bool {
-        let correction = correction_before(self.leap_seconds, place);
-        let time = self.leap_seconds[place].unix_leap_time();
-        i128::from(time) <= i128::from(self.unix_time) + i128::from(correction)
-    }
-}
-
-/// Whether the instant stays in 64 bits with each of the corrections.
-fn stays_with_all(leap_seconds: &[LeapSecond], unix_time: i64) -> bool
-    ensures { MatchBool result
-        ((i : ℕ) (l : LeapSecond) → slice_get leap_seconds.now i ≡ Some l → IsInstant (unix_time +ℤ l.correction))
-        ((i : ℕ) × (l : LeapSecond) × (slice_get leap_seconds.now i ≡ Some l) × ¬ IsInstant (unix_time +ℤ l.correction)) }
-{
-    for leap_second in leap_seconds {
-        if unix_time
-            .checked_add(i64::from(leap_second.correction()))
-            .is_none()
-        {
-            return false;
-        }
-    }
-    true
-}
-
-/// Whether the instant has a leap time, where the first leap seconds of this number are reached.
-pub(crate) fn has_leap_time(leap_seconds: &[LeapSecond], unix_time: i64, reached: usize) -> bool
+/// The last instant up to another one at which the leap second at a place does not take a leap time out of 64 bits: it is not reached
+/// there, or the sum with its correction fits.
+fn last_with(leap_seconds: &[LeapSecond], place: usize, high: i64) -> i64
     requires leaps { AreLeapSeconds leap_seconds.now }
-    requires within { reached ≤ length leap_seconds.now }
-    requires reached { (i : ℕ) (l : LeapSecond) → i < reached → slice_get leap_seconds.now i ≡ Some l → IsReached leap_seconds.now i l unix_time }
-    requires beyond { (i : ℕ) (l : LeapSecond) → IsReached leap_seconds.now i l unix_time → i < reached }
+    requires place { place < length leap_seconds.now }
+    ensures up_to { result ≤ℤ high }
+    ensures within { (l : LeapSecond) (u : ℤ) → u ≤ℤ result → IsReached leap_seconds.now place l u → IsInstant (u +ℤ l.correction) }
+    ensures past { (u : ℤ) → result <ℤ u → u ≤ℤ high → (l : LeapSecond) × IsReached leap_seconds.now place l u × ¬ IsInstant (u +ℤ l.correction) }
+{
+    let leap_second = &leap_seconds[place];
+    let correction = correction_before(leap_seconds, place);
+    let before = less(leap_second.unix_leap_time(), correction) - 1;
+    let fitting = less(i64::MAX, leap_second.correction());
+    before.max(fitting).min(i128::from(high)) as i64
+}
+
+/// The last instant up to another one that each of the leap seconds leaves.
+#[inline(never)]
+fn last_with_all(leap_seconds: &[LeapSecond], high: i64) -> i64
+    requires { AreLeapSeconds leap_seconds.now }
+    ensures up_to { result ≤ℤ high }
+    ensures within { (u : ℤ) → u ≤ℤ result → ¬ IsPastInstants leap_seconds.now u }
+    ensures past { (u : ℤ) → result <ℤ u → u ≤ℤ high → IsPastInstants leap_seconds.now u }
+{
+    let mut last = high;
+    for place in 0..leap_seconds.len() {
+        last = last_with(leap_seconds, place, last);
+    }
+    last
+}
+
+/// The last instant up to another one at which no correction takes a leap time out of 64 bits. Mostly it is that other one, and no leap
+/// second is looked at.
+#[inline(always)]
+pub(crate) fn last_instant_up_to(leap_seconds: &[LeapSecond], high: i64) -> i64
+    requires { AreLeapSeconds leap_seconds.now }
+    ensures up_to { result ≤ℤ high }
+    ensures within { (u : ℤ) → u ≤ℤ result → ¬ IsPastInstants leap_seconds.now u }
+    ensures past { (u : ℤ) → result <ℤ u → u ≤ℤ high → IsPastInstants leap_seconds.now u }
+{
+    if high <= SURELY_ANSWERED {
+        return high;
+    }
+    last_with_all(leap_seconds, high)
+}
+
+/// The last instant at which no correction takes a leap time out of 64 bits.
+pub(crate) fn last_instant(leap_seconds: &[LeapSecond]) -> i64
+    requires { AreLeapSeconds leap_seconds.now }
+    ensures within { (u : ℤ) → u ≤ℤ result → ¬ IsPastInstants leap_seconds.now u }
+    ensures past { (u : ℤ) → result <ℤ u → u ≤ℤ pos 9223372036854775807 → IsPastInstants leap_seconds.now u }
+{
+    last_instant_up_to(leap_seconds, i64::MAX)
+}
+
+/// Whether the instant has a leap time: it lies between the first and the last that have one.
+pub(crate) fn has_leap_time(leap_seconds: &[LeapSecond], unix_time: i64) -> bool
+    requires { AreLeapSeconds leap_seconds.now }
     ensures { MatchBool result (¬ IsLeapTimeRefused leap_seconds.now unix_time) (IsLeapTimeRefused leap_seconds.now unix_time) }
 {
-    if !has_begun(leap_seconds, unix_time) {
-        return false;
-    }
-    if unix_time <= SURELY_ANSWERED {
-        return true;
-    }
-    stays_with_all(&leap_seconds[..reached], unix_time)
+    has_begun(leap_seconds, unix_time) && unix_time <= last_instant_up_to(leap_seconds, unix_time)
+}
+
+/// The leap time of an instant that has one.
+pub(crate) fn shifted(leap_seconds: &[LeapSecond], unix_time: i64) -> i64
+    requires leaps { AreLeapSeconds leap_seconds.now }
+    requires answered { ¬ IsLeapTimeRefused leap_seconds.now unix_time }
+    ensures { IsLeapTime leap_seconds.now unix_time result }
+{
+    let reached = leap_seconds_reached(leap_seconds, unix_time);
+    unix_time + i64::from(correction_before(leap_seconds, reached))
 }
 
 /// The leap time of an instant. (RFC 8536, section 2)
@@ -194,50 +257,10 @@ pub fn leap(leap_seconds: &[LeapSecond], unix_time: i64) -> Result<i64, TzError>
     ensures ok { IfOk result (λ v. IsLeapTime leap_seconds.now unix_time v) }
     ensures err { IfErr result (λ e. (e ≡ TzError.OutOfRange) × IsLeapTimeRefused leap_seconds.now unix_time) }
 {
-    let reached = leap_seconds_reached(leap_seconds, unix_time);
-    if !has_leap_time(leap_seconds, unix_time, reached) {
+    if !has_leap_time(leap_seconds, unix_time) {
         return Err(TzError::OutOfRange);
     }
-    let correction = correction_before(leap_seconds, reached);
-    Ok(unix_time + i64::from(correction))
-}
-
-/// Whether the record at a place, if there is one, comes after a leap time.
-fn comes_after(leap_seconds: &[LeapSecond], place: usize, unix_leap_time: i64) -> bool
-    ensures { MatchBool result
-        ((l : LeapSecond) → slice_get leap_seconds.now place ≡ Some l → unix_leap_time <ℤ l.unix_leap_time)
-        ((l : LeapSecond) × (slice_get leap_seconds.now place ≡ Some l) × (l.unix_leap_time ≤ℤ unix_leap_time)) }
-{
-    match leap_seconds.get(place) {
-        Some(next) => unix_leap_time < next.unix_leap_time(),
-        None => true,
-    }
-}
-
-/// The leap times of two instants, if both have one.
-///
-/// Mostly no leap second lies between them, and the correction of the first, looked up once, is that of the second too.
-pub(crate) fn leap_times(leap_seconds: &[LeapSecond], low: i64, high: i64) -> Option<(i64, i64)>
-    requires { AreLeapSeconds leap_seconds.now }
-    ensures some { IfSome result (λ times. IsLeapTime leap_seconds.now low times.0 × IsLeapTime leap_seconds.now high times.1) }
-    ensures none { IfNone result (IsLeapTimeRefused leap_seconds.now low ⊎ IsLeapTimeRefused leap_seconds.now high) }
-{
-    let reached = leap_seconds_reached(leap_seconds, low);
-    if !has_leap_time(leap_seconds, low, reached) {
-        return None;
-    }
-    let correction = i64::from(correction_before(leap_seconds, reached));
-    let first_time = low + correction;
-    if low <= high && high <= SURELY_ANSWERED {
-        let last_time = high + correction;
-        if comes_after(leap_seconds, reached, last_time) {
-            return Some((first_time, last_time));
-        }
-    }
-    let Ok(last_time) = leap(leap_seconds, high) else {
-        return None;
-    };
-    Some((first_time, last_time))
+    Ok(shifted(leap_seconds, unix_time))
 }
 
 /// The leap time of an instant. Mostly there are no leap seconds, and it is the instant itself.

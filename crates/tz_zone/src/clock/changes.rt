@@ -16,7 +16,6 @@ use super::segment::ClockSegment;
 use super::segments::{clock_segment_after, clock_segment_at};
 use crate::effect::moment;
 use crate::table::{LeapSecond, OtherParts, Transitions};
-use tz_rule::laws::rule_parts_are_sound;
 use tz_rule::timezone::LocalTimeType;
 
 /// Seconds of 400 years, after which a rule has the same types again.
@@ -89,7 +88,7 @@ fn settled_from<V: Transitions>(
     if i128::from(last) < since || !lasts_a_period(since, last) {
         return None;
     }
-    rule_parts_are_sound(rule);
+    tz_rule::inner::parts_are_sound(rule);
     Some(seam as i64)
 }
 

@@ -1,8 +1,9 @@
 //! A place among a zone's transitions, with the transitions on both sides of it.
 
 ghost use Rattle.std.specs.Prelude.{◌≡◌, ℕ, ◌+◌, ◌<◌, ◌≤◌, ◌≤ℤ◌, length, slice_get, Some};
-ghost use Rattle.tz_zone.specs.ClockSegments.{from_start as transition_from_start, IsCursor, IsBetween};
+ghost use Rattle.tz_zone.specs.ClockSegments.{IsCursor, IsBetween};
 
+use super::place::before;
 use crate::table::{Transition, Transitions};
 
 /// A place among a zone's transitions, with the transitions on both sides of it.
@@ -16,12 +17,26 @@ pub struct Cursor {
     pub next: Option<Transition>,
 }
 
-/// What stands for a transition before the first one.
-#[inline(always)]
-pub(super) fn from_start() -> Transition
-    ensures { result ≡ transition_from_start }
+/// The cursor at a place.
+pub(super) fn cursor_at<V: Transitions>(view: &mut V, place: usize) -> Cursor
+    requires { place ≤ length (V.list view.old) }
+    ensures same { V.list view.new ≡ V.list view.old }
+    ensures cursor { IsCursor (V.list view.old) result }
+    ensures place { result.place ≡ place }
+    ensures kept { V.looks view.old ≤ V.looks view.new }
+    ensures at_most { V.looks view.new ≤ V.looks view.old + 2 }
 {
-    Transition::new(i64::MIN, 0)
+    let before = before(view, place);
+    let next = if place < view.len() {
+        Some(view.look(place))
+    } else {
+        None
+    };
+    Cursor {
+        place,
+        before,
+        next,
+    }
 }
 
 /// The cursor behind the transition at a place.

@@ -1,17 +1,19 @@
 //! Changes of a clock that one transition tells, or one start or end of daylight saving time, where there are no leap seconds.
 
 ghost use Rattle.std.specs.Prelude.{◌≡◌, ◌≢◌, ◌<◌, ◌≤◌, negsuc, ◌<ℤ◌, [], length, slice_get, Some, IfSome, IsTrue};
+ghost use Rattle.tz_rule.specs.RuleRef.{rule_seen};
 ghost use Rattle.tz_zone.specs.Table.{Zone};
-ghost use Rattle.tz_zone.specs.Clock.{IsLast, IsTypeOfLast};
+ghost use Rattle.tz_zone.specs.Clock.{IsLast, IsPlaceAt};
 ghost use Rattle.tz_zone.specs.Changes.{change_of, IsFollowing, IsPreceding};
-ghost use Rattle.tz_zone.specs.NextChanges.{IsPlaceAt, IsChangeAtPlace, IsPlainSeam, HasTypesFrom};
+ghost use Rattle.tz_zone.specs.NextChanges.{IsChangeAtPlace, IsPlainSeam, HasTypesFrom};
 ghost use Rattle.tz_zone.specs.ValidZone.{IsSoundTable};
 ghost use Rattle.tz_zone.specs.ZoneSeen.{zone_seen};
 
 use super::change::Change;
-use super::place::place_before;
+use super::place::{place_before, type_before, type_of};
 use crate::table::{OtherParts, Transition, Transitions};
-use tz_rule::timezone::{LocalTimeType, TransitionRule};
+use tz_rule::inner::RuleRef;
+use tz_rule::timezone::LocalTimeType;
 
 /// Whether an instant lies at a place: not before the transition in front of it, and before the one behind it.
 #[inline(always)]
@@ -54,34 +56,7 @@ fn place_of<V: Transitions>(
             return place;
         }
     }
-    place_before(view, last, unix_time)
-}
-
-/// The type of a transition.
-#[inline(always)]
-fn type_of<'a>(parts: OtherParts<'a>, change: Transition) -> &'a LocalTimeType
-    requires { change.type_index < length parts.local_time_types.now }
-    ensures { slice_get parts.entry.local_time_types.now change.type_index ≡ Some result.now }
-{
-    &parts.local_time_types[change.local_time_type_index()]
-}
-
-/// The type of the last transition before a place, or type number 0 where there is none.
-#[inline(always)]
-fn type_before<'a, V: Transitions>(
-    view: &mut V,
-    parts: OtherParts<'a>,
-    place: usize,
-) -> &'a LocalTimeType
-    requires sound { IsSoundTable (zone_seen (V.list view.old) parts) }
-    requires place { place ≤ length (V.list view.old) }
-    ensures same { V.list view.new ≡ V.list view.old }
-    ensures value { IsTypeOfLast (zone_seen (V.list view.old) parts.entry) place result.now }
-{
-    if place == 0 {
-        return &parts.local_time_types[0];
-    }
-    type_of(parts, view.look(place - 1))
+    place_before(view, unix_time)
 }
 
 /// The change from one type to another, if these differ.
@@ -118,8 +93,8 @@ fn change_at_place<'a, V: Transitions>(
 
 /// The next change of a rule after an instant, if the next start or end of daylight saving time is one.
 #[inline(always)]
-fn following_by_rule<'a>(rule: &'a TransitionRule, unix_time: i64) -> Option<Change<'a>>
-    ensures { (z : Zone) → IsSoundTable z → HasTypesFrom z rule.entry.now unix_time → IfSome result (λ c. IsFollowing z unix_time (change_of c)) }
+fn following_by_rule<'a>(rule: RuleRef<'a>, unix_time: i64) -> Option<Change<'a>>
+    ensures { (z : Zone) → IsSoundTable z → HasTypesFrom z (rule_seen rule.entry) unix_time → IfSome result (λ c. IsFollowing z unix_time (change_of c)) }
 {
     let segment = tz_rule::inner::segment_at(rule, unix_time);
     if segment.last >= i64::MAX {
@@ -134,9 +109,9 @@ fn following_by_rule<'a>(rule: &'a TransitionRule, unix_time: i64) -> Option<Cha
 
 /// The last change of a rule before an instant, if the last start or end of daylight saving time is one and comes behind another instant.
 #[inline(always)]
-fn preceding_by_rule<'a>(rule: &'a TransitionRule, seam: i64, unix_time: i64) -> Option<Change<'a>>
+fn preceding_by_rule<'a>(rule: RuleRef<'a>, seam: i64, unix_time: i64) -> Option<Change<'a>>
     requires { seam <ℤ unix_time }
-    ensures { (z : Zone) → IsSoundTable z → HasTypesFrom z rule.entry.now seam → IfSome result (λ c. IsPreceding z unix_time (change_of c)) }
+    ensures { (z : Zone) → IsSoundTable z → HasTypesFrom z (rule_seen rule.entry) seam → IfSome result (λ c. IsPreceding z unix_time (change_of c)) }
 {
     let segment = tz_rule::inner::segment_at(rule, unix_time - 1);
     if segment.from <= seam {

@@ -1,53 +1,135 @@
-//! A place among a zone's transitions at which a leap time is reached, as a number alone.
+//! Places among a zone's transitions: how many of them are reached.
 
-ghost use Rattle.std.specs.Prelude.{◌≡◌, ℕ, ◌+◌, ◌-◌, ◌^◌, ◌<◌, ◌≤◌, length};
-ghost use Rattle.tz_zone.specs.Clock.{AreReached, AreAhead, IsLast, IsNumberBefore, IsTypeOfLast};
+ghost use Rattle.std.specs.Prelude.{◌≡◌, ℕ, ◌+◌, ◌-◌, ◌^◌, ◌<◌, ◌≤◌, ◌⊎◌, length, slice_get, Some, IfNone, MatchOption};
+ghost use Rattle.tz_zone.specs.Clock.{AreReached, AreAhead, IsPlaceAt, IsTypeOfLast};
+ghost use Rattle.tz_zone.specs.ClockSegments.{IsBefore, IsReachedAt};
+ghost use Rattle.tz_zone.specs.LeapTime.{IsLeapTimeRefused};
 ghost use Rattle.tz_zone.specs.ValidZone.{IsRising, IsSoundTable};
 ghost use Rattle.tz_zone.specs.ZoneSeen.{zone_seen};
 
-use super::bisect::cursor_before;
+use crate::leap_time::leap_time;
 use crate::table::{OtherParts, Transition, Transitions};
 use tz_rule::timezone::LocalTimeType;
 
-/// How many transitions are reached at a leap time that lies before the last one.
+/// The greatest power of two up to a number.
 #[inline(always)]
-pub(super) fn place_before<V: Transitions>(
+fn power_up_to(number: usize) -> usize
+    requires { 0 < number }
+    ensures power { (exponent : ℕ) × (result ≡ 2 ^ exponent) }
+    ensures within { (0 < result) × (result ≤ number) }
+    ensures next { number < result + result }
+{
+    1 << number.ilog2()
+}
+
+/// The later of two places, if the transition before it is reached at a leap time, or else the earlier one.
+#[inline(always)]
+fn place_after_look<V: Transitions>(
     view: &mut V,
-    last: Transition,
+    place: usize,
+    later: usize,
     unix_leap_time: i64,
 ) -> usize
     requires rising { IsRising (V.list view.old) }
+    requires order { place < later }
+    requires within { later ≤ length (V.list view.old) }
+    ensures same { V.list view.new ≡ V.list view.old }
+    ensures place { ((result ≡ later) × AreReached (V.list view.old) unix_leap_time later)
+        ⊎ ((result ≡ place) × AreAhead (V.list view.old) unix_leap_time (later - 1)) }
+    ensures kept { V.looks view.old ≤ V.looks view.new }
+    ensures at_most { V.looks view.new ≤ V.looks view.old + 1 }
+{
+    if view.look(later - 1).unix_leap_time() <= unix_leap_time {
+        later
+    } else {
+        place
+    }
+}
+
+/// The place at which a leap time before the last transition lies, by halving.
+///
+/// The places that are left are as many as a power of two, so a step of the halving compares once, needs no branch, and moves one number.
+#[inline(always)]
+pub(super) fn place_before<V: Transitions>(view: &mut V, unix_leap_time: i64) -> usize
+    requires rising { IsRising (V.list view.old) }
     requires at_least_one { 0 < length (V.list view.old) }
-    requires last { IsLast (V.list view.old) last }
     requires ahead { AreAhead (V.list view.old) unix_leap_time (length (V.list view.old) - 1) }
     ensures same { V.list view.new ≡ V.list view.old }
     ensures within { result < length (V.list view.old) }
-    ensures reached { AreReached (V.list view.old) unix_leap_time result }
-    ensures ahead { AreAhead (V.list view.old) unix_leap_time result }
+    ensures at { IsPlaceAt (V.list view.old) unix_leap_time result }
     ensures kept { V.looks view.old ≤ V.looks view.new }
     ensures at_most { (b : ℕ) → length (V.list view.old) < 2 ^ b → V.looks view.new ≤ V.looks view.old + b }
 {
-    cursor_before(view, last, unix_leap_time).place
+    let count = view.len();
+    if count == 1 {
+        return 0;
+    }
+    let power = power_up_to(count - 1);
+    let mut place = place_after_look(view, 0, count - power, unix_leap_time);
+    let mut step = power / 2;
+    while step > 0 {
+        place = place_after_look(view, place, place + step, unix_leap_time);
+        step /= 2;
+    }
+    place
 }
 
-/// The number of the type that the transition before a place names, or 0 where there is none.
+/// The place at which an instant lies: how many transitions are reached. There is none if the instant has no leap time.
+///
+/// The last transition is looked at first: if it is reached, no other one is looked at.
 #[inline(always)]
-fn number_before<V: Transitions>(view: &mut V, place: usize) -> usize
+pub(super) fn place_at<V: Transitions>(
+    view: &mut V,
+    parts: OtherParts<'_>,
+    unix_time: i64,
+) -> Option<usize>
+    requires sound { IsSoundTable (zone_seen (V.list view.old) parts) }
+    requires at_least_one { 0 < length (V.list view.old) }
+    ensures same { V.list view.new ≡ V.list view.old }
+    ensures place { MatchOption result (IsLeapTimeRefused parts.entry.leap_seconds.now unix_time)
+        (λ place. (place ≤ length (V.list view.old)) × IsReachedAt (zone_seen (V.list view.old) parts.entry) unix_time place) }
+    ensures at_least_one { V.next (V.looks view.old) ≤ V.looks view.new }
+    ensures at_most { (b : ℕ) → length (V.list view.old) < 2 ^ b → V.looks view.new ≤ V.looks view.old + (b + 1) }
+    ensures none { IfNone result (V.looks view.new ≤ V.looks view.old + 1) }
+{
+    let count = view.len();
+    let last = view.look(count - 1);
+    let Ok(unix_leap_time) = leap_time(parts.leap_seconds, unix_time) else {
+        return None;
+    };
+    if last.unix_leap_time() <= unix_leap_time {
+        return Some(count);
+    }
+    Some(place_before(view, unix_leap_time))
+}
+
+/// The last transition before a place. Where there is none, it is one from the least leap time on, to type number 0.
+#[inline(always)]
+pub(super) fn before<V: Transitions>(view: &mut V, place: usize) -> Transition
     requires { place ≤ length (V.list view.old) }
     ensures same { V.list view.new ≡ V.list view.old }
-    ensures number { IsNumberBefore (V.list view.old) place result }
+    ensures before { IsBefore (V.list view.old) place result }
     ensures kept { V.looks view.old ≤ V.looks view.new }
     ensures at_most { V.looks view.new ≤ V.looks view.old + 1 }
 {
     if place == 0 {
-        return 0;
+        return Transition::new(i64::MIN, 0);
     }
-    view.look(place - 1).local_time_type_index()
+    view.look(place - 1)
 }
 
-/// The type that the transition before a place names, or type number 0 where there is none.
+/// The type of a transition.
 #[inline(always)]
-pub(super) fn type_at_place<'a, V: Transitions>(
+pub(super) fn type_of<'a>(parts: OtherParts<'a>, change: Transition) -> &'a LocalTimeType
+    requires { change.type_index < length parts.local_time_types.now }
+    ensures { slice_get parts.entry.local_time_types.now change.type_index ≡ Some result.now }
+{
+    &parts.local_time_types[change.local_time_type_index()]
+}
+
+/// The type of the last transition before a place, or type number 0 where there is none.
+#[inline(always)]
+pub(super) fn type_before<'a, V: Transitions>(
     view: &mut V,
     parts: OtherParts<'a>,
     place: usize,
@@ -59,6 +141,6 @@ pub(super) fn type_at_place<'a, V: Transitions>(
     ensures kept { V.looks view.old ≤ V.looks view.new }
     ensures at_most { V.looks view.new ≤ V.looks view.old + 1 }
 {
-    let number = number_before(view, place);
-    &parts.local_time_types[number]
+    let change = before(view, place);
+    type_of(parts, change)
 }

@@ -1,58 +1,47 @@
 //! The segments of a zone's clock: around an instant, and one after the other.
 
-ghost use Rattle.std.specs.Prelude.{◌≡◌, ◌≢◌, ℕ, ℤ, pos, negsuc, ◌+◌, ◌^◌, ◌<◌, ◌≤◌, ◌+ℤ◌, ◌≤ℤ◌, ◌<ℤ◌, List, [], length, Some, None, IfSome, IfNone, MatchOption};
+ghost use Rattle.std.specs.Prelude.{◌≡◌, ◌≢◌, ◌⊎◌, ℕ, ℤ, pos, negsuc, ◌+◌, ◌^◌, ◌<◌, ◌≤◌, ◌+ℤ◌, ◌≤ℤ◌, ◌<ℤ◌, List, [], length, Some, None, IfSome, IfNone, MatchOption};
 ghost use Rattle.tz_rule.specs.LocalTimeType.{LocalTimeType};
 ghost use Rattle.tz_zone.specs.Table.{Transition, Zone};
-ghost use Rattle.tz_zone.specs.LeapTime.{IsBeforeStart, IsLeapTimeRefused};
+ghost use Rattle.tz_zone.specs.LeapTime.{IsBeforeStart, IsPastInstants, IsLeapTimeRefused, IsMomentOf};
 ghost use Rattle.tz_zone.specs.Clock.{IsTypeAfter};
 ghost use Rattle.tz_zone.specs.ClockSegments.{IsCursor, IsAtCursor, IsReachedAt, IsSegmentAt, TakesEffectAt};
 ghost use Rattle.tz_zone.specs.TableChanges.{IsChangeByRule, IsTableStart, IsFar, HasTableEnds};
 ghost use Rattle.tz_zone.specs.ValidZone.{AreLeapSeconds, IsSoundTable};
+ghost use Rattle.tz_zone.specs.WindowTypes.{IsPlaceOf};
 ghost use Rattle.tz_zone.specs.ZoneSeen.{zone_seen};
 
-use super::bisect::cursor_at;
-use super::cursor::{Cursor, moved_on};
-use super::cursor_span::{CursorSpan, first_past, span_of};
+use super::after_table::after_table;
+use super::cursor::{Cursor, cursor_at, moved_on};
+use super::place::place_at;
 use super::segment::ClockSegment;
-use crate::leap_time::{first_begun, has_begun, leap_time};
+use crate::effect::{last_before, start_of};
+use crate::leap_time::{first_instant, has_begun, last_instant, last_instant_up_to, leap_time};
 use crate::table::{LeapSecond, OtherParts, Transitions};
-use tz_rule::timezone::TransitionRule;
 
-/// The segment of a zone without transitions.
-#[inline(always)]
-fn segment_without_transitions<'a>(parts: OtherParts<'a>, unix_time: i64) -> ClockSegment<'a>
-    requires { parts.local_time_types.now ≢ [] }
-    ensures at { IsSegmentAt (zone_seen [] parts.entry) unix_time result }
-    ensures ends { HasTableEnds (zone_seen [] parts.entry) result.from result.last }
-{
-    let Some(rule) = parts.extra_rule else {
-        return ClockSegment {
-            from: i64::MIN,
-            last: i64::MAX,
-            local_time_type: Some(&parts.local_time_types[0]),
-            cursor: None,
-        };
-    };
-    let segment = tz_rule::inner::segment_at(rule, unix_time);
-    ClockSegment {
-        from: segment.from,
-        last: segment.last,
-        local_time_type: segment.local_time_type,
-        cursor: None,
-    }
-}
-
-/// The last instant before a truncated start, from one on that lies before it.
+/// The last instant before a truncated start.
 fn last_before_start(leap_seconds: &[LeapSecond], unix_time: i64) -> i64
     requires { IsBeforeStart leap_seconds.now unix_time }
     ensures from { unix_time ≤ℤ result }
     ensures before { (v : ℤ) → v ≤ℤ result → IsBeforeStart leap_seconds.now v }
     ensures begun { result <ℤ pos 9223372036854775807 → ¬ IsBeforeStart leap_seconds.now (result +ℤ pos 1) }
 {
-    match first_begun(leap_seconds, unix_time, i64::MAX) {
-        Some(begin) => begin - 1,
-        None => i64::MAX,
-    }
+    let Ok(begin) = i64::try_from(first_instant(leap_seconds)) else {
+        return i64::MAX;
+    };
+    begin - 1
+}
+
+/// The first instant from which on none has a leap time, because it would leave 64 bits.
+fn first_past(leap_seconds: &[LeapSecond], unix_time: i64) -> i64
+    requires leaps { AreLeapSeconds leap_seconds.now }
+    requires begun { ¬ IsBeforeStart leap_seconds.now unix_time }
+    requires refused { IsLeapTimeRefused leap_seconds.now unix_time }
+    ensures up_to { result ≤ℤ unix_time }
+    ensures far { pos 80000000000000000 <ℤ result }
+    ensures refused { (v : ℤ) → result ≤ℤ v → IsLeapTimeRefused leap_seconds.now v }
+{
+    last_instant(leap_seconds) + 1
 }
 
 /// The segment of instants that have no leap time.
@@ -85,35 +74,31 @@ fn refused_segment<'a>(leap_seconds: &[LeapSecond], unix_time: i64) -> ClockSegm
     }
 }
 
-/// The segment of a span in which all transitions are reached.
+/// The segment around an instant from the last transition on.
 #[inline(always)]
 fn segment_after_transitions<'a>(
-    extra_rule: &'a Option<TransitionRule>,
+    parts: OtherParts<'a>,
     cursor: Cursor,
-    span: CursorSpan,
     unix_time: i64,
 ) -> ClockSegment<'a>
-    requires { (span.from ≤ℤ unix_time) × (unix_time ≤ℤ span.last) }
+    requires types { parts.local_time_types.now ≢ [] }
+    requires leaps { AreLeapSeconds parts.leap_seconds.now }
+    requires at { IsAtCursor parts.leap_seconds.now cursor unix_time }
+    requires next { cursor.next ≡ None }
     ensures within { (result.from ≤ℤ unix_time) × (unix_time ≤ℤ result.last) }
-    ensures inside { (span.from ≤ℤ result.from) × (result.last ≤ℤ span.last) }
+    ensures at { (v : ℤ) → result.from ≤ℤ v → v ≤ℤ result.last → IsAtCursor parts.entry.leap_seconds.now cursor v }
     ensures holds { (v : ℤ) → result.from ≤ℤ v → v ≤ℤ result.last
-        → MatchOption result.local_time_type ((t : LocalTimeType) → ¬ IsTypeAfter extra_rule.entry.now v t) (λ t. IsTypeAfter extra_rule.entry.now v t.now) }
-    ensures from { result.from ≢ span.from → IsChangeByRule extra_rule.entry.now result.from }
-    ensures last { result.last ≢ span.last → IsChangeByRule extra_rule.entry.now (result.last +ℤ pos 1) }
+        → MatchOption result.local_time_type ((t : LocalTimeType) → ¬ IsTypeAfter (zone_seen [] parts.entry).extra_rule v t) (λ t. IsTypeAfter (zone_seen [] parts.entry).extra_rule v t.now) }
+    ensures from { IsMomentOf parts.entry.leap_seconds.now cursor.before.unix_leap_time result.from ⊎ IsChangeByRule (zone_seen [] parts.entry).extra_rule result.from }
+    ensures last { result.last ≢ pos 9223372036854775807
+        → IsPastInstants parts.entry.leap_seconds.now (result.last +ℤ pos 1) ⊎ IsChangeByRule (zone_seen [] parts.entry).extra_rule (result.last +ℤ pos 1) }
     ensures cursor { result.cursor ≡ Some cursor }
 {
-    let Some(rule) = extra_rule else {
-        return ClockSegment {
-            from: span.from,
-            last: span.last,
-            local_time_type: None,
-            cursor: Some(cursor),
-        };
-    };
-    let segment = tz_rule::inner::segment_at(rule, unix_time);
+    let from = start_of(parts.leap_seconds, cursor.before.unix_leap_time());
+    let segment = after_table(parts, false, unix_time);
     ClockSegment {
-        from: span.from.max(segment.from),
-        last: span.last.min(segment.last),
+        from: from.max(segment.from),
+        last: last_instant_up_to(parts.leap_seconds, segment.last),
         local_time_type: segment.local_time_type,
         cursor: Some(cursor),
     }
@@ -124,6 +109,7 @@ fn segment_after_transitions<'a>(
 fn segment_at_cursor<'a>(parts: OtherParts<'a>, cursor: Cursor, unix_time: i64) -> ClockSegment<'a>
     requires leaps { AreLeapSeconds parts.leap_seconds.now }
     requires at { IsAtCursor parts.leap_seconds.now cursor unix_time }
+    requires types { parts.local_time_types.now ≢ [] }
     requires named { cursor.before.type_index < length parts.local_time_types.now }
     ensures at { (transitions : List Transition) → IsSoundTable (zone_seen transitions parts.entry) → transitions ≢ [] → IsCursor transitions cursor
         → IsSegmentAt (zone_seen transitions parts.entry) unix_time result }
@@ -131,16 +117,45 @@ fn segment_at_cursor<'a>(parts: OtherParts<'a>, cursor: Cursor, unix_time: i64) 
         → HasTableEnds (zone_seen transitions parts.entry) result.from result.last }
     ensures cursor { result.cursor ≡ Some cursor }
 {
-    let span = span_of(parts.leap_seconds, cursor, unix_time);
-    match cursor.next {
-        Some(_) => ClockSegment {
-            from: span.from,
-            last: span.last,
-            local_time_type: Some(&parts.local_time_types[cursor.before.local_time_type_index()]),
-            cursor: Some(cursor),
-        },
-        None => segment_after_transitions(parts.extra_rule, cursor, span, unix_time),
+    let Some(next) = cursor.next else {
+        return segment_after_transitions(parts, cursor, unix_time);
+    };
+    ClockSegment {
+        from: start_of(parts.leap_seconds, cursor.before.unix_leap_time()),
+        last: last_before(parts.leap_seconds, next.unix_leap_time()),
+        local_time_type: Some(&parts.local_time_types[cursor.before.local_time_type_index()]),
+        cursor: Some(cursor),
     }
+}
+
+/// The segment of the clock around an instant, by the place at which that lies.
+#[inline(always)]
+pub fn clock_segment_from<'a, V: Transitions>(
+    view: &mut V,
+    parts: OtherParts<'a>,
+    place: Option<usize>,
+    unix_time: i64,
+) -> ClockSegment<'a>
+    requires sound { IsSoundTable (zone_seen (V.list view.old) parts) }
+    requires place { IsPlaceOf (zone_seen (V.list view.old) parts) unix_time place }
+    ensures same { V.list view.new ≡ V.list view.old }
+    ensures at { IsSegmentAt (zone_seen (V.list view.old) parts.entry) unix_time result }
+    ensures ends { HasTableEnds (zone_seen (V.list view.old) parts.entry) result.from result.last }
+    ensures kept { V.looks view.old ≤ V.looks view.new }
+    ensures at_most { V.looks view.new ≤ V.looks view.old + 2 }
+    ensures refused { IfNone place (V.looks view.new ≡ V.looks view.old) }
+    ensures none { V.list view.old ≡ [] → V.looks view.new ≡ V.looks view.old }
+    ensures end { V.list view.old ≢ [] → ¬ IsBeforeStart parts.entry.leap_seconds.now unix_time
+        → IfNone result.cursor (result.last ≡ pos 9223372036854775807) }
+{
+    if view.len() == 0 {
+        return after_table(parts, true, unix_time);
+    }
+    let Some(place) = place else {
+        return refused_segment(parts.leap_seconds, unix_time);
+    };
+    let cursor = cursor_at(view, place);
+    segment_at_cursor(parts, cursor, unix_time)
 }
 
 /// The segment of the clock around an instant.
@@ -155,22 +170,18 @@ pub fn clock_segment_at<'a, V: Transitions>(
     ensures at { IsSegmentAt (zone_seen (V.list view.old) parts.entry) unix_time result }
     ensures ends { HasTableEnds (zone_seen (V.list view.old) parts.entry) result.from result.last }
     ensures kept { V.looks view.old ≤ V.looks view.new }
-    ensures at_most { (b : ℕ) → length (V.list view.old) < 2 ^ b → V.looks view.new ≤ V.looks view.old + (b + 1) }
+    ensures at_most { (b : ℕ) → length (V.list view.old) < 2 ^ b → V.looks view.new ≤ V.looks view.old + (b + 3) }
     ensures at_least_one { 0 < length (V.list view.old) → V.next (V.looks view.old) ≤ V.looks view.new }
     ensures none { V.list view.old ≡ [] → V.looks view.new ≡ V.looks view.old }
     ensures end { V.list view.old ≢ [] → ¬ IsBeforeStart parts.entry.leap_seconds.now unix_time
         → IfNone result.cursor (result.last ≡ pos 9223372036854775807) }
 {
-    let count = view.len();
-    if count == 0 {
-        return segment_without_transitions(parts, unix_time);
-    }
-    let last = view.look(count - 1);
-    let Ok(unix_leap_time) = leap_time(parts.leap_seconds, unix_time) else {
-        return refused_segment(parts.leap_seconds, unix_time);
+    let place = if view.len() == 0 {
+        None
+    } else {
+        place_at(view, parts, unix_time)
     };
-    let cursor = cursor_at(view, last, unix_leap_time);
-    segment_at_cursor(parts, cursor, unix_time)
+    clock_segment_from(view, parts, place, unix_time)
 }
 
 /// The segment around an instant right behind one at which a cursor stands.
@@ -229,7 +240,7 @@ pub fn clock_segment_after<'a, V: Transitions>(
     ensures at { IsSegmentAt (zone_seen (V.list view.old) parts.entry) (segment.now.last +ℤ pos 1) result }
     ensures from { result.from ≡ segment.now.last +ℤ pos 1 }
     ensures kept { V.looks view.old ≤ V.looks view.new }
-    ensures anew { IfNone segment.now.cursor ((b : ℕ) → length (V.list view.old) < 2 ^ b → V.looks view.new ≤ V.looks view.old + (b + 1)) }
+    ensures anew { IfNone segment.now.cursor ((b : ℕ) → length (V.list view.old) < 2 ^ b → V.looks view.new ≤ V.looks view.old + (b + 3)) }
     ensures on { IfSome segment.now.cursor (λ before. IfSome result.cursor (λ after. V.looks view.new + before.place ≤ V.looks view.old + after.place)) }
     ensures none { IfSome segment.now.cursor (λ before. IfNone result.cursor (V.looks view.new ≡ V.looks view.old)) }
     ensures effects { IfSome segment.now.cursor (λ before. IfSome result.cursor (λ after. (i : ℕ) → before.place ≤ i → i < after.place

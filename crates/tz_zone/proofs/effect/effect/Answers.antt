@@ -13,8 +13,8 @@ returns-in_default-clause-err c =
     let moment = rw (to_z-of_z w64 c.args.unix_leap_time c.ranges.unix_leap_time) at c.moment.ensures in
     (refl, effect_none c.args.leap_seconds.now c.args.unix_leap_time c.moment.result moment outside)
 
-pub returns-in-Ok-leap-clause-ok : goal.returns-in-Ok-leap-clause-ok
-returns-in-Ok-leap-clause-ok c =
+pub returns-then-not-has_leap_time-clause-err : goal.returns-then-not-has_leap_time-clause-err
+returns-then-not-has_leap_time-clause-err c =
     let leaps = c.args.leap_seconds.now in
     let v = c.args.unix_leap_time in
     let m = c.in-Ok.unix_time in
@@ -22,12 +22,11 @@ returns-in-Ok-leap-clause-ok c =
     let fits : SFits w64 m = search rules in
     let found = rw (to_z-of_z w128 c.moment.result wide) at c.in-Ok.ensures in
     let moment = rw (to_z-of_z w64 v c.ranges.unix_leap_time) at c.moment.ensures in
-    let leap = rw (to_z-of_z w64 m fits) at c.in-Ok-leap.ensures.ok in
-    let high : v ≢ negsuc 9223372036854775807 = search rules in
-    rw (to_z-of_z w64 m fits) (effect_found leaps v m high (rw (sym found.1) at moment) fits leap.not_refused)
+    let refused = rw (to_z-of_z w64 m fits) at c.if-not-has_leap_time.ensures in
+    (refl, effect_refused leaps c.requires v m (rw (sym found.1) at moment) refused)
 
-pub returns-in-Err-clause-err : goal.returns-in-Err-clause-err
-returns-in-Err-clause-err c =
+pub returns-clause-ok : goal.returns-clause-ok
+returns-clause-ok c =
     let leaps = c.args.leap_seconds.now in
     let v = c.args.unix_leap_time in
     let m = c.in-Ok.unix_time in
@@ -35,5 +34,6 @@ returns-in-Err-clause-err c =
     let fits : SFits w64 m = search rules in
     let found = rw (to_z-of_z w128 c.moment.result wide) at c.in-Ok.ensures in
     let moment = rw (to_z-of_z w64 v c.ranges.unix_leap_time) at c.moment.ensures in
-    let leap = rw (to_z-of_z w64 m fits) at c.in-Err.ensures.err in
-    (leap.0, effect_refused leaps c.requires v m (rw (sym found.1) at moment) leap.1)
+    let answered = rw (to_z-of_z w64 m fits) at c.if-not-has_leap_time.ensures in
+    let high : v ≢ negsuc 9223372036854775807 = search rules in
+    rw (to_z-of_z w64 m fits) (effect_found leaps v m high (rw (sym found.1) at moment) fits answered)

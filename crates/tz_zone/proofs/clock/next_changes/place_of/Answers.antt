@@ -24,5 +24,4 @@ pub returns-clause-at : goal.returns-clause-at
 returns-clause-at g c =
     let u = c.args.unix_time in
     let same : g.V.Transitions.list c.match-likely.view ≡ g.V.Transitions.list c.args.view.now = elim c.match-likely.branch [ in-Some+else-lies_at w ↦ search rules | in_default w ↦ search rules ] in
-    let found = rw (same, to_z-of_z w64 u c.ranges.unix_time) at c.place_before.ensures in
-    (found.reached, found.ahead)
+    rw (same, to_z-of_z w64 u c.ranges.unix_time) at c.place_before.ensures.at

@@ -4,7 +4,8 @@ use Rattle.std.proofs.lemmas.Int.{ints, to_z-of_z}
 use mir.Syntax.{w64}
 use mir.Val.{SFits}
 use Rattle.tz_zone.specs.Changes.{change_of}
-use Rattle.tz_zone.specs.NextChanges.{IsPlaceAt, IsChangeAtPlace}
+use Rattle.tz_zone.specs.Clock.{IsPlaceAt}
+use Rattle.tz_zone.specs.NextChanges.{IsChangeAtPlace}
 use Rattle.tz_zone.specs.ZoneSeen.{zone_seen}
 use Rattle.tz_zone.proofs.LeapTimes.{instant_bounds}
 use Rattle.tz_zone.proofs.NextChanges.{preceding_at_place, one_before, some_held}

@@ -1,63 +1,130 @@
--- The segment of the rule is cut to the span.
-use Rattle.std.proofs.Common.{◌≡◌, arith, sym, subst, ℤ, ◌≤ℤ◌, Option, rules}
-use Rattle.std.specs.Prelude.{MatchOption}
-use Rattle.std.specs.Int.{int_max, int_min}
-use Rattle.std.proofs.lemmas.Int.{ints, int_max_is, int_min_is, to_z-of_z}
+-- From the later one of the last transition's start and of the rule's segment on, up to the rule's end, as long as there are leap times.
+use Rattle.std.proofs.Common.{◌≡◌, ◌≢◌, ◌⊎◌, inl, inr, sym, subst, arith, rules, ℤ, pos, ◌+ℤ◌, ◌≤ℤ◌, ◌<ℤ◌, List, Option, Some, None, negsuc}
+use Rattle.std.specs.Prelude.{IfSome, MatchOption}
+use Rattle.std.specs.Int.{int_max}
+use Rattle.std.proofs.lemmas.Int.{ints, by_lt_z, to_z-of_z}
 use mir.Syntax.{w64}
-use mir.Val.{SFits, to_z, of_z}
+use mir.Val.{SFits}
 use Rattle.tz_rule.specs.LocalTimeType.{LocalTimeType}
+use Rattle.tz_rule.specs.RuleSegments.{IsRuleChange}
 use Rattle.tz_rule.specs.declared.timezone.rule.TransitionRule.{TransitionRule}
+use Rattle.tz_zone.specs.Table.{Transition, LeapSecond}
 use Rattle.tz_zone.specs.Clock.{IsTypeAfter}
+use Rattle.tz_zone.specs.LeapTime.{IsPastInstants, IsTimeReached, IsMomentOf}
+use Rattle.tz_zone.specs.ValidZone.{AreLeapSeconds}
+use Rattle.tz_zone.specs.ZoneSeen.{lent_rule}
+use Rattle.tz_zone.specs.ClockSegments.{IsAtCursor}
+use Rattle.tz_zone.specs.TableChanges.{IsChangeByRule}
+use Rattle.tz_zone.specs.declared.clock.cursor.Cursor.{Cursor}
 use Rattle.tz_zone.proofs.LeapTimes.{instant_bounds}
-use Rattle.tz_zone.proofs.SegmentEnds.{cut_at_first, cut_at_last}
+use Rattle.tz_zone.proofs.LeapMoments.{int_max-one}
+use Rattle.tz_zone.proofs.LeapReached.{up_to_last, answered_up_to}
+use Rattle.tz_zone.proofs.TypesAtCursors.{moment_up_to, at_cursor_within}
 use Rattle.tz_zone.proofs.clock.segments.segment_after_transitions.Goals as goal
 
-max_up_to : (x y u r : ℤ) → r ≡ int_max x y → x ≤ℤ u → y ≤ℤ u → r ≤ℤ u
-max_up_to x y u r is a b = let greatest = int_max_is x y in omega (arith, ints, is, a, b)
+-- from the start of the last transition on the instants with a leap time lie at the cursor
+module _ (leaps : List LeapSecond) (are : AreLeapSeconds leaps) (cursor : Cursor) (u : ℤ) (at : IsAtCursor leaps cursor u) (m : ℤ) (moment : IsMomentOf leaps cursor.before.unix_leap_time m) where
+  start_up_to : m ≤ℤ u
+  start_up_to = moment_up_to leaps are u at.0 at.1 cursor.before.unix_leap_time m moment at.2.0
 
-min_from : (x y u r : ℤ) → r ≡ int_min x y → u ≤ℤ x → u ≤ℤ y → u ≤ℤ r
-min_from x y u r is a b = let least = int_min_is x y in omega (arith, ints, is, a, b)
+  all_at : cursor.next ≡ None → (last : ℤ) → ((w : ℤ) → w ≤ℤ last → ¬ IsPastInstants leaps w) → (v : ℤ) → m ≤ℤ v → v ≤ℤ last → IsAtCursor leaps cursor v
+  all_at is last within = at_cursor_within leaps are u at.0 at.1 cursor at.2 m last moment (λ v low high. answered_up_to leaps are u v at.1.not_refused low (within v high)) none
+    where
+      none : IfSome cursor.next (λ next. (v : ℤ) → v ≤ℤ last → ¬ IsTimeReached leaps next.unix_leap_time v)
+      none = subst (λ (o : Option Transition). IfSome o (λ next. (v : ℤ) → v ≤ℤ last → ¬ IsTimeReached leaps next.unix_leap_time v)) (sym is) tt
+
+  last_from : (last high : ℤ) → u ≤ℤ high → ((w : ℤ) → last <ℤ w → w ≤ℤ high → IsPastInstants leaps w) → u ≤ℤ last
+  last_from last high within past = up_to_last leaps are last high u past within (λ gone. at.1.not_refused (inr gone))
+
+-- if the rule's segment begins later than the transition starts it begins with a change of the rule
+begin_is : (leaps : List LeapSecond) (rule : Option TransitionRule) (v from first cut : ℤ) → IsMomentOf leaps v from → cut ≡ int_max from first → from ≤ℤ cut
+    → (first ≢ negsuc 9223372036854775807 → IsChangeByRule rule first) → IsMomentOf leaps v cut ⊎ IsChangeByRule rule cut
+begin_is leaps rule v from first cut moment value low change = by_lt_z from cut
+    (λ h. elim (int_max-one from first) [
+      | inl e ↦ absurd (omega (arith, ints, value, e, h))
+      | inr e ↦
+          let same : first ≡ cut = omega (arith, ints, value, e) in
+          inr (subst (IsChangeByRule rule) same (change (λ least. absurd (omega (arith, ints, same, least, h, moment.low)))))
+    ])
+    (λ h. let same : from ≡ cut = omega (arith, ints, h, low) in inl (subst (IsMomentOf leaps v) same moment))
+
+-- at its end the rule changes, or leap times have left 64 bits before that
+end_is : (leaps : List LeapSecond) (rule : Option TransitionRule) (last high : ℤ) → last ≤ℤ high → high ≤ℤ pos 9223372036854775807
+    → ((w : ℤ) → last <ℤ w → w ≤ℤ high → IsPastInstants leaps w) → (high ≢ pos 9223372036854775807 → IsChangeByRule rule (high +ℤ pos 1))
+    → last ≢ pos 9223372036854775807 → IsPastInstants leaps (last +ℤ pos 1) ⊎ IsChangeByRule rule (last +ℤ pos 1)
+end_is leaps rule last high up_to greatest past change other = by_lt_z last high
+    (λ h. inl (past (last +ℤ pos 1) (omega (arith, ints)) (omega (arith, ints, h))))
+    (λ h.
+    let same : high ≡ last = omega (arith, ints, h, up_to) in
+    inr (subst (λ (v : ℤ). IsChangeByRule rule (v +ℤ pos 1)) same (change (λ e. absurd (other (omega (arith, ints, same, e)))))))
 
 pub returns-clause-within : goal.returns-clause-within
 returns-clause-within c =
+    let leaps = c.args.parts.leap_seconds.now in
     let u = c.args.unix_time in
-    let span_from : SFits w64 c.args.span.from = search rules in
-    let span_last : SFits w64 c.args.span.last = search rules in
-    let from : SFits w64 c.segment_at-segment.result.from = search rules in
-    let last : SFits w64 c.segment_at-segment.result.last = search rules in
+    let s = c.after_table-segment.result in
+    let before : SFits w64 c.unix_leap_time.result = search rules in
+    let from : SFits w64 c.start_of-from.result = search rules in
+    let first : SFits w64 s.from = search rules in
+    let end : SFits w64 s.last = search rules in
     let max : SFits w64 c.max.result = search rules in
-    let min : SFits w64 c.min.result = search rules in
-    let within = rw (to_z-of_z w64 u c.ranges.unix_time) at c.segment_at-segment.ensures.within in
-    let from_up_to : c.max.result ≤ℤ u =
-    max_up_to (to_z w64 (of_z w64 c.args.span.from)) (to_z w64 (of_z w64 c.segment_at-segment.result.from)) u c.max.result c.max.ensures.value (omega (arith, ints, c.requires.0)) (omega (arith, ints, within.0)) in
-    let last_from : u ≤ℤ c.min.result =
-    min_from (to_z w64 (of_z w64 c.args.span.last)) (to_z w64 (of_z w64 c.segment_at-segment.result.last)) u c.min.result c.min.ensures.value (omega (arith, ints, c.requires.1)) (omega (arith, ints, within.1)) in
-    rw (to_z-of_z w64 c.max.result max, to_z-of_z w64 c.min.result min) (from_up_to, last_from)
+    let last : SFits w64 c.last_instant_up_to.result = search rules in
+    let within = rw (to_z-of_z w64 u c.ranges.unix_time) at c.after_table-segment.ensures.within in
+    let moment = rw (to_z-of_z w64 c.unix_leap_time.result before, c.unix_leap_time.ensures) at c.start_of-from.ensures in
+    let greatest = rw (to_z-of_z w64 c.start_of-from.result from, to_z-of_z w64 s.from first) at c.max.ensures in
+    let cut = rw (to_z-of_z w64 s.last end) at c.last_instant_up_to.ensures in
+    let begin = start_up_to leaps c.requires.leaps c.args.cursor u c.requires.at c.start_of-from.result moment in
+    let max_up_to : c.max.result ≤ℤ u = elim (int_max-one c.start_of-from.result s.from) [
+      | inl e ↦ omega (arith, ints, greatest.value, e, begin)
+      | inr e ↦ omega (arith, ints, greatest.value, e, within.0)
+    ] in
+    rw (to_z-of_z w64 c.max.result max, to_z-of_z w64 c.last_instant_up_to.result last) (
+      max_up_to,
+      last_from leaps c.requires.leaps c.args.cursor u c.requires.at c.start_of-from.result moment c.last_instant_up_to.result s.last within.1 cut.past,
+    )
+
+pub returns-clause-at : goal.returns-clause-at
+returns-clause-at c =
+    let leaps = c.args.parts.leap_seconds.now in
+    let u = c.args.unix_time in
+    let before : SFits w64 c.unix_leap_time.result = search rules in
+    let from : SFits w64 c.start_of-from.result = search rules in
+    let max : SFits w64 c.max.result = search rules in
+    let last : SFits w64 c.last_instant_up_to.result = search rules in
+    let moment = rw (to_z-of_z w64 c.unix_leap_time.result before, c.unix_leap_time.ensures) at c.start_of-from.ensures in
+    let low = rw (to_z-of_z w64 c.start_of-from.result from) at c.max.ensures.self_bound in
+    rw (to_z-of_z w64 c.max.result max, to_z-of_z w64 c.last_instant_up_to.result last)
+    (λ v from_v up_to. all_at leaps c.requires.leaps c.args.cursor u c.requires.at c.start_of-from.result moment c.requires.next c.last_instant_up_to.result c.last_instant_up_to.ensures.within v (omega (arith, ints, low, from_v)) up_to)
 
 pub returns-clause-holds : goal.returns-clause-holds
-returns-clause-holds c = λ v low high.
-    let from : SFits w64 c.segment_at-segment.result.from = search rules in
-    let last : SFits w64 c.segment_at-segment.result.last = search rules in
+returns-clause-holds c =
+    let s = c.after_table-segment.result in
+    let first : SFits w64 s.from = search rules in
+    let end : SFits w64 s.last = search rules in
     let max : SFits w64 c.max.result = search rules in
-    let min : SFits w64 c.min.result = search rules in
-    let holds = c.segment_at-segment.ensures.holds v (omega (arith, ints, low, c.max.ensures.other_bound)) (omega (arith, ints, high, c.min.ensures.other_bound)) in
-    let After : Option TransitionRule → Type 0 = λ rule. MatchOption c.segment_at-segment.result.local_time_type ((t : LocalTimeType) → ¬ IsTypeAfter rule v t) (λ t. IsTypeAfter rule v t.now) in
-    subst After (sym c.in-Some.is) holds
+    let last : SFits w64 c.last_instant_up_to.result = search rules in
+    let low = rw (to_z-of_z w64 s.from first) at c.max.ensures.other_bound in
+    let up_to = rw (to_z-of_z w64 s.last end) at c.last_instant_up_to.ensures.up_to in
+    rw (to_z-of_z w64 c.max.result max, to_z-of_z w64 c.last_instant_up_to.result last)
+    (λ v from high. c.after_table-segment.ensures.holds v (omega (arith, ints, low, from)) (omega (arith, ints, up_to, high)))
 
 pub returns-clause-from : goal.returns-clause-from
 returns-clause-from c =
-    let span : SFits w64 c.args.span.from = search rules in
-    let first : SFits w64 c.segment_at-segment.result.from = search rules in
+    let s = c.after_table-segment.result in
+    let before : SFits w64 c.unix_leap_time.result = search rules in
+    let from : SFits w64 c.start_of-from.result = search rules in
+    let first : SFits w64 s.from = search rules in
     let max : SFits w64 c.max.result = search rules in
-    let value = rw (to_z-of_z w64 c.args.span.from span, to_z-of_z w64 c.segment_at-segment.result.from first) at c.max.ensures.value in
+    let moment = rw (to_z-of_z w64 c.unix_leap_time.result before, c.unix_leap_time.ensures) at c.start_of-from.ensures in
+    let greatest = rw (to_z-of_z w64 c.start_of-from.result from, to_z-of_z w64 s.from first) at c.max.ensures in
     rw (to_z-of_z w64 c.max.result max)
-    (cut_at_first c.args.extra_rule.now c.in-Some.rule c.args.span.from c.segment_at-segment.result.from c.max.result c.in-Some.is value (instant_bounds c.args.span.from span).0 c.segment_at-segment.ensures.from)
+    (begin_is c.args.parts.leap_seconds.now (lent_rule c.args.parts.extra_rule) _ c.start_of-from.result s.from c.max.result moment greatest.value greatest.self_bound c.after_table-segment.ensures.from)
 
 pub returns-clause-last : goal.returns-clause-last
 returns-clause-last c =
-    let span : SFits w64 c.args.span.last = search rules in
-    let last : SFits w64 c.segment_at-segment.result.last = search rules in
-    let min : SFits w64 c.min.result = search rules in
-    let value = rw (to_z-of_z w64 c.args.span.last span, to_z-of_z w64 c.segment_at-segment.result.last last) at c.min.ensures.value in
-    rw (to_z-of_z w64 c.min.result min)
-    (cut_at_last c.args.extra_rule.now c.in-Some.rule c.args.span.last c.segment_at-segment.result.last c.min.result c.in-Some.is value (instant_bounds c.args.span.last span).1 c.segment_at-segment.ensures.last)
+    let s = c.after_table-segment.result in
+    let end : SFits w64 s.last = search rules in
+    let last : SFits w64 c.last_instant_up_to.result = search rules in
+    let cut = rw (to_z-of_z w64 s.last end) at c.last_instant_up_to.ensures in
+    rw (to_z-of_z w64 c.last_instant_up_to.result last)
+    (end_is c.args.parts.leap_seconds.now (lent_rule c.args.parts.extra_rule) c.last_instant_up_to.result s.last cut.up_to (instant_bounds s.last end).1 cut.past c.after_table-segment.ensures.last)

@@ -1,0 +1,96 @@
+-- At which instants a leap time is reached: from its moment on.
+use Rattle.std.proofs.Common.{◌≡◌, ◌≢◌, ◌⊎◌, inl, inr, arith, ℤ, pos, negsuc, ◌+ℤ◌, ◌-ℤ◌, ◌≤ℤ◌, ◌<ℤ◌, List, []}
+use Rattle.std.proofs.lemmas.Int.{ints, by_lt_z}
+use Rattle.tz_zone.specs.Table.{LeapSecond}
+use Rattle.tz_zone.specs.LeapTime.{IsBeforeStart, IsPastInstants, IsLeapTimeRefused, IsTimeReached, IsMomentOf}
+use Rattle.tz_zone.specs.ValidZone.{AreLeapSeconds}
+use Rattle.tz_zone.proofs.LeapTimes.{one_leap_time, leap_time_mono, past_later, begun_later, not_past_within}
+use Rattle.tz_zone.proofs.TypesAtCursors.{plain_leap, leap_unless_refused}
+use Rattle.tz_zone.proofs.SegmentEnds.{plain_moment}
+
+-- the last instant before a leap time: at none up to it the time is reached or lies past 64 bits, and after it comes the moment, or the end
+pub record IsLastBefore (leaps : List LeapSecond) (v last : ℤ) : Type 0 where
+  pub before : (u : ℤ) → u ≤ℤ last → ¬ IsTimeReached leaps v u
+  pub within : (u : ℤ) → u ≤ℤ last → ¬ IsPastInstants leaps u
+  pub next : last ≢ pos 9223372036854775807 → IsPastInstants leaps (last +ℤ pos 1) ⊎ IsMomentOf leaps v (last +ℤ pos 1)
+
+-- a leap time that is not reached at some instant is not the least one
+pub not_least : (leaps : List LeapSecond) → leaps ≡ [] → (u v : ℤ) → ¬ IsTimeReached leaps v u → u <ℤ v
+not_least leaps none u v before = by_lt_z u v (λ h. h) (λ h. absurd (before (u, plain_leap leaps none u, h)))
+
+-- without leap seconds it is the second before
+pub plain_last_before : (leaps : List LeapSecond) → leaps ≡ [] → (v : ℤ) → negsuc 9223372036854775807 ≤ℤ v → IsLastBefore leaps v (v -ℤ pos 1)
+plain_last_before leaps none v low =
+    let next : v -ℤ pos 1 +ℤ pos 1 ≡ v = omega (arith, ints) in
+    record {
+      before = λ u up_to reached. absurd (omega (arith, ints, up_to, reached.2, one_leap_time leaps u reached.0 u reached.1 (plain_leap leaps none u)));
+      within = λ u up_to past. (plain_leap leaps none u).not_refused (inr past);
+      next = λ not_greatest. inr (rw next (plain_moment leaps none v low));
+    }
+
+-- it is the second before the moment, or the last instant that has a leap time
+pub last_before_moment : (leaps : List LeapSecond) (v m last high : ℤ) → IsMomentOf leaps v m → last ≤ℤ high → ((high ≡ m -ℤ pos 1) ⊎ (high ≡ pos 9223372036854775807)) → high ≤ℤ (m -ℤ pos 1)
+    → ((u : ℤ) → u ≤ℤ last → ¬ IsPastInstants leaps u) → ((u : ℤ) → last <ℤ u → u ≤ℤ high → IsPastInstants leaps u) → IsLastBefore leaps v last
+last_before_moment leaps v m last high moment up_to one bound within past = record {
+  before = λ u h reached. absurd (omega (arith, ints, h, up_to, bound, moment.least u reached));
+  within = within;
+  next = λ not_greatest. by_lt_z last high
+      (λ h. inl (past (last +ℤ pos 1) (omega (arith, ints)) (omega (arith, ints, h))))
+      (λ h. elim one [
+        | inl e ↦
+            let same : last +ℤ pos 1 ≡ m = omega (arith, ints, h, up_to, e) in
+            inr (rw same moment)
+        | inr e ↦ absurd (not_greatest (omega (arith, ints, h, up_to, e)))
+      ]);
+}
+
+module _ (leaps : List LeapSecond) (are : AreLeapSeconds leaps) where
+  -- at an instant that has a leap time another one is reached exactly from its moment on
+  pub reached_from : (v m u : ℤ) → IsMomentOf leaps v m → ¬ IsLeapTimeRefused leaps u → m ≤ℤ u → IsTimeReached leaps v u
+  reached_from v m u moment answered from =
+      let here = leap_unless_refused leaps are u answered in
+      let at = moment.reached answered_at in
+      (here.0, here.1, omega (arith, ints, at.2, leap_time_mono leaps are m u at.0 here.0 from at.1 here.1))
+    where
+      answered_at : ¬ IsLeapTimeRefused leaps m
+      answered_at (inl before) = moment.begun before
+      answered_at (inr past) = answered (inr (past_later leaps are m u from past))
+
+  pub from_reached : (v m u : ℤ) → IsMomentOf leaps v m → IsTimeReached leaps v u → m ≤ℤ u
+  from_reached v m u moment reached = moment.least u reached
+
+  -- moments come in the order of their leap times
+  pub moment_order : (v w m n : ℤ) → v ≤ℤ w → IsMomentOf leaps v m → IsMomentOf leaps w n → ¬ IsLeapTimeRefused leaps n → m ≤ℤ n
+  moment_order v w m n h moment later answered =
+      let reached = later.reached answered in
+      moment.least n (reached.0, reached.1, omega (arith, ints, h, reached.2))
+
+  -- up to an end an instant that is not past the last one that has a leap time is not after it, and conversely
+  pub up_to_last : (last high u : ℤ) → ((w : ℤ) → last <ℤ w → w ≤ℤ high → IsPastInstants leaps w) → u ≤ℤ high → ¬ IsPastInstants leaps u → u ≤ℤ last
+  up_to_last last high u past within answered = by_lt_z last u (λ h. absurd (answered (past u h within))) (λ h. h)
+
+  pub after_last : (last u : ℤ) → ((w : ℤ) → w ≤ℤ last → ¬ IsPastInstants leaps w) → IsPastInstants leaps u → last <ℤ u
+  after_last last u within past = by_lt_z last u (λ h. h) (λ h. absurd (within u h past))
+
+  -- the last one that has a leap time is a far one
+  pub last_is_far : (last : ℤ) → ((w : ℤ) → last <ℤ w → w ≤ℤ pos 9223372036854775807 → IsPastInstants leaps w) → pos 80000000000000000 ≤ℤ last
+  last_is_far last past = up_to_last last (pos 9223372036854775807) (pos 80000000000000000) past (omega (arith, ints)) (not_past_within leaps are (pos 80000000000000000) (omega (arith, ints)))
+
+  -- what is refused although the table has begun is past it
+  pub past_if_begun : (u : ℤ) → ¬ IsBeforeStart leaps u → IsLeapTimeRefused leaps u → IsPastInstants leaps u
+  past_if_begun u begun (inl before) = absurd (begun before)
+  past_if_begun u begun (inr past) = past
+
+  -- and what is not past it has a leap time, once the table has begun
+  pub answered_up_to : (u v : ℤ) → ¬ IsLeapTimeRefused leaps u → u ≤ℤ v → ¬ IsPastInstants leaps v → ¬ IsLeapTimeRefused leaps v
+  answered_up_to u v answered low within (inl before) = begun_later leaps are u v low (λ h. answered (inl h)) before
+  answered_up_to u v answered low within (inr past) = within past
+
+  -- each instant that has a leap time, and at which another one is not reached, is one up to the last before that
+  pub up_to_last_before : (v last u : ℤ) → IsLastBefore leaps v last → u ≤ℤ pos 9223372036854775807 → ¬ IsLeapTimeRefused leaps u → ¬ IsTimeReached leaps v u → u ≤ℤ last
+  up_to_last_before v last u is high answered before = by_lt_z last u
+      (λ h. elim (is.next (λ e. absurd (omega (arith, ints, e, h, high)))) [
+        | inl past ↦ absurd (answered (inr (past_later leaps are (last +ℤ pos 1) u (omega (arith, ints, h)) past)))
+        | inr moment ↦ absurd (before (reached_from v (last +ℤ pos 1) u moment answered (omega (arith, ints, h))))
+      ])
+      (λ h. h)

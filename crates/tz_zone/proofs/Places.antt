@@ -1,0 +1,157 @@
+-- Places: which instants lie at one, and the type of the clock there.
+use Rattle.std.proofs.Common.{◌≡◌, ◌≢◌, ℕ, zero, suc, ◌+◌, ◌-◌, ◌<◌, ◌≤◌, ◌∙◌, inl, inr, eqb, refl, sym, ap, subst, arith, ℤ, ◌≤ℤ◌, ◌<ℤ◌, List, [], ◌∷◌, length, get_or, Option, Some, None}
+use Rattle.std.proofs.Math.Dec.{eqb-suc-zero}
+use Rattle.std.proofs.lemmas.List.{nil_from_length}
+use Rattle.std.specs.Prelude.{slice_get, IfSome, MatchOption}
+use Rattle.std.proofs.lemmas.Int.{ints, by_lt_z}
+use Rattle.std.proofs.lemmas.Option.{slice_get_within, slice_get-get_or, same_Some, none-some}
+use Rattle.tz_base.specs.declared.error.TzError.{TzError}
+use Rattle.tz_base.specs.declared.error.TzError.TheVariants.{OutOfRange, NoAvailableLocalTimeType}
+use Rattle.tz_rule.specs.LocalTimeType.{LocalTimeType}
+use Rattle.tz_rule.specs.declared.timezone.rule.TransitionRule.{TransitionRule}
+use Rattle.tz_zone.specs.Table.{Transition, Zone}
+use Rattle.tz_zone.specs.LeapTime.{IsInstant, IsLeapTime, IsMomentOf}
+use Rattle.tz_zone.specs.Clock.{IsTypeAt, IsTypeOfLast, IsLast, IsTypeAfter, IsTypeWithout, IsTypeAfterTable, IsFaultAfter, IsClock, IsLookupFault}
+use Rattle.tz_zone.specs.ValidZone.{IsRising, IsSoundTable}
+use Rattle.tz_zone.specs.ClockSegments.{from_start, IsReachedAt, IsCursor, IsAtCursor}
+use Rattle.tz_zone.specs.ZoneSeen.{zone_seen}
+use Rattle.tz_zone.specs.declared.clock.cursor.Cursor.{Cursor}
+use Rattle.tz_zone.specs.declared.table.parts.OtherParts.{OtherParts}
+use Rattle.tz_zone.proofs.LeapTimes.{leap_time_mono}
+use Rattle.tz_zone.proofs.RisingTimes.{ahead_from, reached_through}
+use Rattle.tz_zone.proofs.Clocks.{transition_type_of_last, clock_before_last, clock_from_last, fault_from_last, fault_without}
+use Rattle.tz_zone.proofs.TypesAtCursors.{by_count, leap_unless_refused, answered_between, reached_from_moment, moment_up_to, before_later}
+
+module _ (z : Zone) (sound : IsSoundTable z) where
+  rising : IsRising z.transitions
+  rising i = (sound.transitions_are i).1
+
+  -- the last transition
+  last : 0 < length z.transitions → (last : Transition) × IsLast z.transitions last
+  last some = (get_or z.transitions (length z.transitions - 1) from_start, slice_get-get_or z.transitions (length z.transitions - 1) from_start (omega (arith, some)))
+
+  -- before the last transition the clock has the type of the last one that is reached
+  pub clock_at_place : (k : ℕ) (v : ℤ) (t : LocalTimeType) → k < length z.transitions → IsReachedAt z v k → IsTypeOfLast z k t → IsClock z v t
+  clock_at_place k v t inside at type =
+      let (end, is_last) = last (omega (arith, inside)) in
+      clock_before_last z sound.leap_seconds_are end is_last v at.time at.time_is t (at.ahead (length z.transitions - 1) end (omega (arith, inside)) is_last)
+      (transition_type_of_last z at.time k t at.reached at.ahead type)
+
+  -- from the last one on it is that of the rule
+  pub clock_after_place : (v : ℤ) (t : LocalTimeType) → 0 < length z.transitions → IsReachedAt z v (length z.transitions) → IsTypeAfter z.extra_rule v t → IsClock z v t
+  clock_after_place v t some at type =
+      let (end, is_last) = last some in
+      clock_from_last z sound.leap_seconds_are end is_last v at.time at.time_is t (at.reached (length z.transitions - 1) end (omega (arith, some)) is_last) type
+
+  pub fault_after_place : (v : ℤ) (e : TzError) → 0 < length z.transitions → IsReachedAt z v (length z.transitions) → IsFaultAfter z.extra_rule v e → IsLookupFault z v e
+  fault_after_place v e some at fault =
+      let (end, is_last) = last some in
+      fault_from_last z sound.leap_seconds_are end is_last v at.time at.time_is e (at.reached (length z.transitions - 1) end (omega (arith, some)) is_last) fault
+
+  -- a place at which some instant lies, and after which no transition is reached later, is that of the later instant
+  pub place_later : (k : ℕ) (low v l : ℤ) → IsReachedAt z low k → low ≤ℤ v → IsLeapTime z.leap_seconds v l → ((next : Transition) → slice_get z.transitions k ≡ Some next → l <ℤ next.unix_leap_time) → IsReachedAt z v k
+  place_later k low v l at order leap before = record {
+    time = l;
+    time_is = leap;
+    reached = λ i change less at_i. omega (arith, ints, at.reached i change less at_i, leap_time_mono z.leap_seconds sound.leap_seconds_are low v at.time l order at.time_is leap);
+    ahead = λ i change from at_i.
+        let inside = slice_get_within z.transitions i change at_i in
+        let next = slice_get-get_or z.transitions k change (omega (arith, from, inside)) in
+        ahead_from z.transitions rising l k (get_or z.transitions k change) next (before (get_or z.transitions k change) next) i change from at_i;
+  }
+
+  -- from a transition up to the next one instants lie at the place between them
+  pub place_after : (k : ℕ) (v l : ℤ) (next later : Transition) → IsLeapTime z.leap_seconds v l → slice_get z.transitions k ≡ Some next → next.unix_leap_time ≤ℤ l → slice_get z.transitions (k + 1) ≡ Some later → l <ℤ later.unix_leap_time → IsReachedAt z v (k + 1)
+  place_after k v l next later leap at from after before = record {
+    time = l;
+    time_is = leap;
+    reached = reached_through z.transitions rising l k next at from;
+    ahead = ahead_from z.transitions rising l (k + 1) later after before;
+  }
+
+  module _ (k : ℕ) (low high h : ℤ) (at : IsReachedAt z low k) (leap : IsLeapTime z.leap_seconds high h) where
+    -- instants between two that have a leap time have one
+    leap_between : (v : ℤ) → low ≤ℤ v → v ≤ℤ high → (l : ℤ) × IsLeapTime z.leap_seconds v l × (l ≤ℤ h)
+    leap_between v from to =
+        let here = leap_unless_refused z.leap_seconds sound.leap_seconds_are v (answered_between z.leap_seconds sound.leap_seconds_are low high v at.time_is.not_refused leap.not_refused from to) in
+        (here.0, here.1, leap_time_mono z.leap_seconds sound.leap_seconds_are v high here.0 h to here.1 leap)
+
+    -- where no transition is left, all are reached from then on
+    pub place_through : k ≡ length z.transitions → (v : ℤ) → low ≤ℤ v → v ≤ℤ high → IsReachedAt z v k
+    place_through all v from to =
+        let here = leap_between v from to in
+        place_later k low v here.0 at from here.1 (λ next at_k. absurd (omega (arith, all, slice_get_within z.transitions k next at_k)))
+
+    -- up to the next transition the clock has one type
+    pub one_type : (next : Transition) (t : LocalTimeType) → slice_get z.transitions k ≡ Some next → h <ℤ next.unix_leap_time → IsTypeOfLast z k t → (v : ℤ) → low ≤ℤ v → v ≤ℤ high → IsClock z v t
+    one_type next t at_next before type v from to =
+        let here = leap_between v from to in
+        clock_at_place k v t (slice_get_within z.transitions k next at_next)
+        (place_later k low v here.0 at from here.1 (λ other at_k. rw (same_Some other next (sym at_k ∙ at_next)) (omega (arith, ints, here.2, before)))) type
+
+    -- around the next transition it has two, if the one after that comes later
+    module _ (next later : Transition) (jump : ℤ) (before after : LocalTimeType) (at_next : slice_get z.transitions k ≡ Some next) (at_later : slice_get z.transitions (k + 1) ≡ Some later)
+        (reached : next.unix_leap_time ≤ℤ h) (ahead : h <ℤ later.unix_leap_time) (moment : IsMomentOf z.leap_seconds next.unix_leap_time jump) where
+      pub jump_above : low <ℤ jump
+      jump_above = by_lt_z low jump (λ e. e) (λ e.
+          absurd (omega (arith, ints, at.ahead k next (omega arith) at_next, reached_from_moment z.leap_seconds sound.leap_seconds_are high h leap next.unix_leap_time jump low at.time moment reached e at.time_is)))
+
+      pub jump_up_to : jump ≤ℤ high
+      jump_up_to = moment_up_to z.leap_seconds sound.leap_seconds_are high h leap next.unix_leap_time jump moment reached
+
+      pub type_before_jump : IsTypeOfLast z k before → (v : ℤ) → low ≤ℤ v → v <ℤ jump → IsClock z v before
+      type_before_jump type v from until =
+          let here = leap_between v from (omega (arith, ints, until, jump_up_to)) in
+          clock_at_place k v before (slice_get_within z.transitions k next at_next)
+          (place_later k low v here.0 at from here.1 (λ other at_k.
+          rw (same_Some other next (sym at_k ∙ at_next)) (by_lt_z here.0 next.unix_leap_time (λ e. e) (λ e. absurd (omega (arith, ints, moment.least v (here.0, here.1, e), until)))))) type
+
+      pub type_from_jump : IsTypeAt z next.type_index after → (v : ℤ) → jump ≤ℤ v → v ≤ℤ high → IsClock z v after
+      type_from_jump type v from to =
+          let here = leap_between v (omega (arith, ints, from, jump_above)) to in
+          let since = reached_from_moment z.leap_seconds sound.leap_seconds_are high h leap next.unix_leap_time jump v here.0 moment reached from here.1 in
+          let back : k ≡ k + 1 - 1 = omega arith in
+          let here_next : slice_get z.transitions (k + 1 - 1) ≡ Some next = subst (λ (i : ℕ). slice_get z.transitions i ≡ Some next) back at_next in
+          clock_at_place (k + 1) v after (slice_get_within z.transitions (k + 1) later at_later) (place_after k v here.0 next later here.1 at_next since at_later (omega (arith, ints, here.2, ahead)))
+          (inr ((λ none. absurd (omega (arith, none))), next, here_next, type))
+
+  -- an instant that lies at the place of a cursor lies between the transitions on both sides of it
+  pub at_cursor : (c : Cursor) → IsCursor z.transitions c → (u : ℤ) → IsInstant u → IsReachedAt z u c.place → IsAtCursor z.leap_seconds c u
+  at_cursor c cursor u fits at = (at.time, at.time_is, (before_later z sound c cursor u u at.time (omega (arith, ints)) fits at at.time_is, by_next c.next cursor.next))
+    where
+      by_next : (o : Option Transition) → MatchOption o (c.place ≡ length z.transitions) (λ next. slice_get z.transitions c.place ≡ Some next) → IfSome o (λ next. at.time <ℤ next.unix_leap_time)
+      by_next (Some next) at_next = at.ahead c.place next (omega arith) at_next
+      by_next None all = tt
+
+-- the type after the table is that of the clock where all transitions are reached, and of one that has none
+pub clock_after_table : (list : List Transition) (parts : OtherParts) → IsSoundTable (zone_seen list parts) → (count : ℕ) → count ≡ length list → (v : ℤ) (t : LocalTimeType)
+    → (0 < length list → IsReachedAt (zone_seen list parts) v (length list)) → IsTypeAfterTable (eqb count 0) (zone_seen [] parts) v t → IsClock (zone_seen list parts) v t
+clock_after_table list parts sound count is v t reached types =
+    by_count count list is _ _ (IsClock (zone_seen list parts) v t)
+    (λ none without. rw none (inl (refl, without)))
+    (λ some after. clock_after_place (zone_seen list parts) sound v t some (reached some) after) types
+
+-- and where there is none, a lookup has the fault of the rule
+fault_by_rule : (rule : Option TransitionRule) (v : ℤ) (e : TzError) → MatchOption rule (e ≡ NoAvailableLocalTimeType) (λ r. e ≡ OutOfRange) → ((t : LocalTimeType) → ¬ IsTypeAfter rule v t) → IsFaultAfter rule v e
+fault_by_rule (Some rule) v e is never = inr (is, (λ none. none-some rule (sym none)), never)
+fault_by_rule None v e is never = inl (is, refl)
+
+fault_by_rule_without : (z : Zone) → z.types ≢ [] → (rule : Option TransitionRule) (v : ℤ) (e : TzError) → MatchOption rule (e ≡ NoAvailableLocalTimeType) (λ r. e ≡ OutOfRange) → ((t : LocalTimeType) → ¬ IsTypeWithout z rule v t) → e ≡ OutOfRange
+fault_by_rule_without z some (Some rule) v e is never = is
+fault_by_rule_without z some None v e is never = absurd (first z.types refl)
+  where
+    first : (types : List LocalTimeType) → z.types ≡ types → ⊥
+    first [] none = some none
+    first (t ∷ types) are = never t (ap (λ (xs : List LocalTimeType). slice_get xs 0) are)
+
+pub fault_after_table : (list : List Transition) (parts : OtherParts) → IsSoundTable (zone_seen list parts) → (count : ℕ) → count ≡ length list → (v : ℤ) (e : TzError)
+    → (0 < length list → IsReachedAt (zone_seen list parts) v (length list)) → MatchOption (zone_seen [] parts).extra_rule (e ≡ NoAvailableLocalTimeType) (λ rule. e ≡ OutOfRange)
+    → ((t : LocalTimeType) → ¬ IsTypeAfterTable (eqb count 0) (zone_seen [] parts) v t) → IsLookupFault (zone_seen list parts) v e
+fault_after_table list parts sound zero is v e reached fault never =
+    let none = nil_from_length list (sym is) in
+    let z = zone_seen [] parts in
+    rw none (fault_without z refl v e (fault_by_rule_without z sound.has_types z.extra_rule v e fault never) never)
+fault_after_table list parts sound (suc before) is v e reached fault never =
+    let z = zone_seen list parts in
+    let some : 0 < length list = omega (arith, is) in
+    fault_after_place z sound v e some (reached some) (fault_by_rule z.extra_rule v e fault (rw (eqb-suc-zero before) at never))

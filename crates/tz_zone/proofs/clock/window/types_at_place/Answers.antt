@@ -1,0 +1,59 @@
+-- The next transition ends the window's first type, and the one after it the second.
+use Rattle.std.proofs.Common.{◌≡◌, ◌+◌, ◌∙◌, arith, rules, subst, ◌≤ℤ◌, ◌<ℤ◌, List, Some}
+use Rattle.std.specs.Prelude.{slice_get}
+use Rattle.std.proofs.lemmas.Int.{ints, to_z-of_z}
+use mir.Syntax.{w64}
+use mir.Val.{SFits}
+use Rattle.tz_zone.specs.Table.{Transition}
+use Rattle.tz_zone.specs.Clock.{IsTypeOfLast}
+use Rattle.tz_zone.specs.LeapTime.{IsMomentOf}
+use Rattle.tz_zone.specs.ZoneSeen.{zone_seen}
+use Rattle.tz_zone.proofs.Places.{one_type, jump_above, jump_up_to, type_before_jump, type_from_jump}
+use Rattle.tz_zone.proofs.clock.window.types_at_place.Goals as goal
+
+pub returns-then-unix_leap_time-since-clause-types : goal.returns-then-unix_leap_time-since-clause-types
+returns-then-unix_leap_time-since-clause-types g c = λ low at.
+    let z = zone_seen (g.V.Transitions.list c.args.view.now) c.args.parts in
+    let h = c.args.unix_leap_time in
+    let next = c.look-next.result in
+    let type = c.type_before.result.now in
+    let is : IsTypeOfLast z c.args.place type = subst (λ (list : List Transition). IsTypeOfLast (zone_seen list c.args.parts) c.args.place type) c.look-next.ensures.same c.type_before.ensures.value in
+    let time : SFits w64 c.unix_leap_time-since.result = search rules in
+    let before : h <ℤ next.unix_leap_time = omega (arith, ints, c.if-unix_leap_time-since.true, c.unix_leap_time-since.ensures, to_z-of_z w64 c.unix_leap_time-since.result time, to_z-of_z w64 h c.ranges.unix_leap_time) in
+    one_type z c.requires.sound c.args.place low c.args.high h at c.requires.leap next type c.look-next.ensures.value before is
+
+pub overflow_add-place : goal.overflow_add-place
+overflow_add-place g c = record { fits = omega (arith, c.requires.place, c.len-count.ensures, c.len-count.type_inv) }
+
+pub type_of-after-requires : goal.type_of-after-requires
+type_of-after-requires g c = (c.requires.sound.transitions_are c.args.place).0 c.look-next.result c.look-next.ensures.value
+
+pub returns-clause-types : goal.returns-clause-types
+returns-clause-types g c = λ low at.
+    let z = zone_seen (g.V.Transitions.list c.args.view.now) c.args.parts in
+    let place = c.args.place in
+    let high = c.args.high in
+    let h = c.args.unix_leap_time in
+    let h_is = to_z-of_z w64 h c.ranges.unix_leap_time in
+    let next = c.look-next.result in
+    let later = c.look-later.result in
+    let before = c.type_before-before.result.now in
+    let after = c.type_of-after.result.now in
+    let same = c.look-next.ensures.same in
+    let at_next = c.look-next.ensures.value in
+    let at_later : slice_get z.transitions (place + 1) ≡ Some later = subst (λ (list : List Transition). slice_get list (place + 1) ≡ Some later) same c.look-later.ensures.value in
+    let is : IsTypeOfLast z place before = subst (λ (list : List Transition). IsTypeOfLast (zone_seen list c.args.parts) place before) (c.look-later.ensures.same ∙ same) c.type_before-before.ensures.value in
+    let since : SFits w64 c.unix_leap_time-since.result = search rules in
+    let until : SFits w64 c.unix_leap_time-until.result = search rules in
+    let since_is = to_z-of_z w64 c.unix_leap_time-since.result since in
+    let reached : next.unix_leap_time ≤ℤ h = omega (arith, ints, c.if-unix_leap_time-since.false, c.unix_leap_time-since.ensures, since_is, h_is) in
+    let ahead : h <ℤ later.unix_leap_time = omega (arith, ints, c.if-until-unix_leap_time.false, c.unix_leap_time-until.ensures, to_z-of_z w64 c.unix_leap_time-until.result until, h_is) in
+    let jump = c.start_of-unix_time.result in
+    let jump_fits : SFits w64 jump = search rules in
+    let moment : IsMomentOf z.leap_seconds next.unix_leap_time jump = rw (since_is, c.unix_leap_time-since.ensures) at c.start_of-unix_time.ensures in
+    rw (to_z-of_z w64 jump jump_fits) (
+      jump_above z c.requires.sound place low high h at c.requires.leap next later jump before after at_next at_later reached ahead moment,
+      jump_up_to z c.requires.sound place low high h at c.requires.leap next later jump before after at_next at_later reached ahead moment,
+      type_before_jump z c.requires.sound place low high h at c.requires.leap next later jump before after at_next at_later reached ahead moment is,
+      type_from_jump z c.requires.sound place low high h at c.requires.leap next later jump before after at_next at_later reached ahead moment c.type_of-after.ensures,
+    )

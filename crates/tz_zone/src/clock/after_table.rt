@@ -1,0 +1,60 @@
+//! What comes after the last transition.
+
+ghost use Rattle.std.specs.Prelude.{◌≡◌, ◌≢◌, ℤ, pos, negsuc, ◌+ℤ◌, ◌≤ℤ◌, [], None, MatchOption};
+ghost use Rattle.tz_rule.specs.LocalTimeType.{LocalTimeType};
+ghost use Rattle.tz_zone.specs.Clock.{IsTypeAfterTable};
+ghost use Rattle.tz_zone.specs.TableChanges.{IsChangeByRule};
+ghost use Rattle.tz_zone.specs.ZoneSeen.{zone_seen};
+
+use super::segment::ClockSegment;
+use crate::table::OtherParts;
+use tz_base::error::TzError;
+
+/// The segment around an instant of a clock whose transitions are all reached, or of one that has none: that of the extra rule. Without a rule
+/// there is no type, and type number 0 if there are no transitions.
+#[inline(always)]
+pub(super) fn after_table<'a>(
+    parts: OtherParts<'a>,
+    is_empty: bool,
+    unix_time: i64,
+) -> ClockSegment<'a>
+    requires { parts.local_time_types.now ≢ [] }
+    ensures within { (result.from ≤ℤ unix_time) × (unix_time ≤ℤ result.last) }
+    ensures holds { (v : ℤ) → result.from ≤ℤ v → v ≤ℤ result.last
+        → MatchOption result.local_time_type ((t : LocalTimeType) → ¬ IsTypeAfterTable is_empty (zone_seen [] parts.entry) v t)
+        (λ t. IsTypeAfterTable is_empty (zone_seen [] parts.entry) v t.now) }
+    ensures from { result.from ≢ negsuc 9223372036854775807 → IsChangeByRule (zone_seen [] parts.entry).extra_rule result.from }
+    ensures last { result.last ≢ pos 9223372036854775807 → IsChangeByRule (zone_seen [] parts.entry).extra_rule (result.last +ℤ pos 1) }
+    ensures cursor { result.cursor ≡ None }
+{
+    let Some(rule) = parts.extra_rule else {
+        return ClockSegment {
+            from: i64::MIN,
+            last: i64::MAX,
+            local_time_type: if is_empty {
+                Some(&parts.local_time_types[0])
+            } else {
+                None
+            },
+            cursor: None,
+        };
+    };
+    let segment = tz_rule::inner::segment_at(rule, unix_time);
+    ClockSegment {
+        from: segment.from,
+        last: segment.last,
+        local_time_type: segment.local_time_type,
+        cursor: None,
+    }
+}
+
+/// Why there is no type there: there is no rule, or it is not defined at the instant.
+#[inline(always)]
+pub(super) fn fault_after(parts: OtherParts<'_>) -> TzError
+    ensures { MatchOption (zone_seen [] parts.entry).extra_rule (result ≡ TzError.NoAvailableLocalTimeType) (λ rule. result ≡ TzError.OutOfRange) }
+{
+    match parts.extra_rule {
+        Some(_) => TzError::OutOfRange,
+        None => TzError::NoAvailableLocalTimeType,
+    }
+}
