@@ -90,7 +90,7 @@ module _ (leaps : List LeapSecond) (are : AreLeapSeconds leaps) where
       (i, l, (r.0, omega (arith, ints, r.1)), λ fits. absurd (omega (arith, ints, instant_bounds (w +ℤ l.correction) fits)))
 
   -- and none is past them within 80000000000000000 seconds of 1970
-  not_past_within : (u : ℤ) → u ≤ℤ pos 80000000000000000 → ¬ IsPastInstants leaps u
+  pub not_past_within : (u : ℤ) → u ≤ℤ pos 80000000000000000 → ¬ IsPastInstants leaps u
   not_past_within u h (i, l, r, outside) =
       let above = refused_above u i l r outside in
       let inside : i < length leaps = omega (arith, slice_get_within leaps i l r.0) in

@@ -1,6 +1,8 @@
 pub mod LeapSteps
+pub mod ReadBytes
 pub mod LeapLists
 pub mod LeapTimes
+pub mod LeapEnds
 pub mod LeapMoments
 pub mod Expiries
 pub mod OffsetBounds
@@ -10,11 +12,14 @@ pub mod LeapAnswers
 pub mod TableChecks
 pub mod RuleChecks
 pub mod Clocks
-pub mod NumbersBefore
+pub mod ShownTypes
+pub mod NearestChanges
 pub mod TypesAtCursors
+pub mod Places
 pub mod WindowTypes
 pub mod NextChanges
 pub mod SegmentEnds
+pub mod LeapReached
 pub mod SegmentTypes
 pub mod TzFileLaws
 pub mod TzNames

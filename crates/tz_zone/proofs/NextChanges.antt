@@ -8,11 +8,11 @@ use mir.Val.{SFits, to_z, of_z}
 use Rattle.tz_rule.specs.LocalTimeType.{LocalTimeType}
 use Rattle.tz_rule.specs.declared.timezone.rule.TransitionRule.{TransitionRule}
 use Rattle.tz_zone.specs.Table.{Transition, Zone}
-use Rattle.tz_zone.specs.Clock.{IsLast, IsTypeOfLast, IsTypeAfter, IsTypeWithout, IsClock}
+use Rattle.tz_zone.specs.Clock.{IsLast, IsPlaceAt, IsTypeOfLast, IsTypeAfter, IsTypeWithout, IsClock}
 use Rattle.tz_zone.specs.ValidZone.{IsRising, IsSoundTable}
 use Rattle.tz_zone.specs.ClockSegments.{from_start}
 use Rattle.tz_zone.specs.Changes.{Change, IsFollowing, IsPreceding}
-use Rattle.tz_zone.specs.NextChanges.{IsPlaceAt, IsChangeAtPlace, IsPlainSeam, HasTypesFrom}
+use Rattle.tz_zone.specs.NextChanges.{IsChangeAtPlace, IsPlainSeam, HasTypesFrom}
 use Rattle.tz_zone.proofs.Clocks.{clock_unique, transition_type_of_last, clock_before_last, clock_from_last}
 use Rattle.tz_zone.proofs.TypesAtCursors.{plain_leap}
 use Rattle.tz_zone.proofs.RisingTimes.{transitions_rise, reached_through, ahead_from}

@@ -192,10 +192,6 @@ pub match_if_none : {X : Type 0} (o : Option X) (P : Type 0) (Q : X → Type 0) 
 match_if_none None P Q e h = h
 match_if_none (Some x) P Q e h = absurd (false≢true (sym e))
 
-pub held_if_some : {X : Type 0} (o : Option X) (Q : X → Type 0) → is_some o ≡ true → IfSome o Q → (x : X) × Q x
-held_if_some (Some x) Q e h = (x, h)
-held_if_some None Q e h = absurd (false≢true e)
-
 -- one of two numbers, by whether an option holds something
 pub chosen : {X : Type 0} (o : Option X) (r a b a' b' : ℤ) → a ≡ a' → b ≡ b' → MatchOption o (r ≡ a) (λ x. r ≡ b) → MatchOption o (r ≡ a') (λ x. r ≡ b')
 chosen (Some x) r a b a' b' first second is = is ∙ second

@@ -10,6 +10,7 @@ pub mod ValidZone
 pub mod Offsets
 pub mod ZoneRef
 pub mod ZoneSeen
+pub mod ZoneViewed
 pub mod ClockSegments
 pub mod WindowTypes
 pub mod TableChanges
@@ -26,4 +27,6 @@ pub mod TzText
 pub mod TzTextFault
 pub mod Settings
 pub mod SettingsParts
+pub mod ZoneNames
 pub mod File
+pub mod FileSizes

@@ -2,11 +2,15 @@
 //! read of a zone.
 
 pub use crate::clock::{
-    ClockSegment, WindowTypes, clock_segment_after, clock_segment_at, window_types,
+    ClockSegment, WindowTypes, clock_segment_after, clock_segment_at, clock_segment_from,
+    window_types,
 };
 pub use crate::effect::effect;
 pub use crate::leap_time::leap;
+pub use crate::parse::tz_file::sizes::{FileSizes, file_sizes};
 pub use crate::parse::tz_string::cursor::after_byte;
+pub use crate::parse::tz_string::parse_posix_tz;
 pub use crate::table::{Counted, OtherParts, Transitions, Uncounted};
-pub use crate::timezone::file::read_to_end;
+pub use crate::timezone::file::{read_to_end, read_up_to};
 pub use crate::timezone::zone_parts::{offsets, other_parts};
+pub use crate::timezone::zone_view::ZoneView;

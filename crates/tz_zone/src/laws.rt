@@ -1,14 +1,17 @@
-//! Laws of zones. Each function does nothing; its contract is the law.
+//! Laws of zones. A function here does nothing, or looks at each type of a zone. Its contract is the law.
 
-ghost use Rattle.std.specs.Prelude.{◌≡◌, ℤ, ◌≤ℤ◌, List, [], ◌∷◌, ◌++◌, ◌↔◌, map, codes};
-ghost use Rattle.tz_rule.specs.LocalTimeType.{LocalTimeType};
+ghost use Rattle.std.specs.Prelude.{◌≡◌, ℕ, ℤ, ◌≤ℤ◌, List, [], ◌∷◌, ◌++◌, ◌↔◌, Some, slice_get, map, codes, FitsSigned};
+ghost use Rattle.std.specs.Int.{w32};
+ghost use Rattle.tz_rule.specs.LocalTimeType.{LocalTimeType, IsLocalTimeType};
+ghost use Rattle.tz_rule.specs.Rule.{IsRuleType};
+ghost use Rattle.tz_zone.specs.Changes.{Change, IsFollowing, IsPreceding, HasNoFollowing, HasNoPreceding};
 ghost use Rattle.tz_zone.specs.Table.{LeapSecond, Zone};
 ghost use Rattle.tz_zone.specs.LeapTime.{IsEffect, IsLeapTime};
 ghost use Rattle.tz_zone.specs.Clock.{IsClock};
 ghost use Rattle.tz_zone.specs.ValidZone.{AreLeapSeconds, ExpiresAt, IsValidZone};
 ghost use Rattle.tz_zone.specs.ZoneRef.{zone_of, own_zone_of};
 
-use crate::timezone::{DEFAULT_DIRECTORIES, TimeZone, TimeZoneRef};
+use crate::timezone::{DEFAULT_DIRECTORIES, LocalTimeType, TimeZone, TimeZoneRef, TransitionRule};
 use std::alloc::Allocator;
 
 /// The clock of a zone has no two types at one instant.
@@ -42,6 +45,56 @@ pub fn zones_are_valid(zone: &TimeZoneRef<'_>)
 pub fn own_zones_are_valid<A: Allocator + Copy>(zone: &TimeZone<A>)
     ensures { ∥ IsValidZone (own_zone_of zone.now) ∥₁ }
 {}
+
+/// The first change after an instant is one, if there is any, and so is the last change before it.
+pub fn nearest_changes_are_unique()
+    ensures following { (z : Zone) (u : ℤ) (c d : Change) → IsFollowing z u c → IsFollowing z u d → c ≡ d }
+    ensures preceding { (z : Zone) (u : ℤ) (c d : Change) → IsPreceding z u c → IsPreceding z u d → c ≡ d }
+    ensures none_following { (z : Zone) (u : ℤ) (c : Change) → IsFollowing z u c → ¬ HasNoFollowing z u }
+    ensures none_preceding { (z : Zone) (u : ℤ) (c : Change) → IsPreceding z u c → ¬ HasNoPreceding z u }
+{}
+
+/// The parts of a local time type obey the rules of their making.
+pub fn type_parts_are_sound(local_time_type: &LocalTimeType)
+    ensures sound { IsLocalTimeType local_time_type.now }
+    ensures fits { FitsSigned w32 local_time_type.now.ut_offset }
+{
+    let _ = local_time_type.ut_offset();
+    let _ = local_time_type.time_zone_designation();
+}
+
+/// So do the parts of each type of a list.
+fn listed_types_are_sound(local_time_types: &[LocalTimeType])
+    ensures { (i : ℕ) (t : LocalTimeType) → slice_get local_time_types.now i ≡ Some t → IsLocalTimeType t × FitsSigned w32 t.ut_offset }
+{
+    for local_time_type in local_time_types {
+        type_parts_are_sound(local_time_type);
+    }
+}
+
+/// So do the parts of the types of a rule.
+fn rule_types_are_sound(rule: &TransitionRule)
+    ensures { (u : ℤ) (t : LocalTimeType) → IsRuleType rule.now u t → IsLocalTimeType t × FitsSigned w32 t.ut_offset }
+{
+    match rule {
+        TransitionRule::Fixed(fixed) => type_parts_are_sound(fixed),
+        TransitionRule::Alternate(rule) => {
+            type_parts_are_sound(rule.std());
+            type_parts_are_sound(rule.dst());
+        }
+    }
+}
+
+/// Every local time type that the clock of a zone shows has the parts that one may have, and its offset fits 32 bits.
+pub fn shown_types_are_sound(zone: &TimeZoneRef<'_>)
+    ensures sound { (u : ℤ) (t : LocalTimeType) → IsClock (zone_of zone.now) u t → IsLocalTimeType t }
+    ensures fits { (u : ℤ) (t : LocalTimeType) → IsClock (zone_of zone.now) u t → FitsSigned w32 t.ut_offset }
+{
+    listed_types_are_sound(zone.local_time_types());
+    if let Some(rule) = zone.extra_rule() {
+        rule_types_are_sound(rule);
+    }
+}
 
 /// The directories in which [`TimeZone::local`] and [`TimeZone::from_posix_tz`] look for files, in their order.
 pub fn default_directories_have_their_values()

@@ -7,6 +7,5 @@ pub mod inner;
 pub mod laws;
 mod leap_time;
 mod parse;
-mod partition;
 mod table;
 pub mod timezone;

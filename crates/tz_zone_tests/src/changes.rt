@@ -437,3 +437,57 @@ fn segments_of_a_rule_begin_at_the_effect_of_the_last_transition(
     }
     Ok(())
 }
+
+/// Neither the years in which a rule does not answer nor those before its first change are cut.
+#[test]
+fn segments_at_the_ends_of_a_rule(rt: HostRuntime) -> Result<(), TzError> {
+    const BEGINS: i64 = utc!(-2147483646-01-01 00:00:00);
+    const CEASES: i64 = utc!(2147483646-01-01 00:00:00);
+    static ROWS: [SegmentRow; 4] = [
+        (i64::MIN, BEGINS - 1, None),
+        (BEGINS, FIRST.0 - 1, Some(3600)),
+        (LAST.0, CEASES - 1, Some(3600)),
+        (CEASES, i64::MAX, None),
+    ];
+    static YEARS_WITHOUT: [i64; 4] = [
+        utc!(-2147483648-07-01 00:00:00),
+        utc!(-2147483647-07-01 00:00:00),
+        utc!(2147483646-07-01 00:00:00),
+        utc!(2147483647-07-01 00:00:00),
+    ];
+    let types = three_types()?;
+    let rule = Some(TransitionRule::Alternate(central_europe()?));
+    let zone = TimeZoneRef::new(&[], &types, &[], &rule)?;
+    for row in &ROWS {
+        expect_segment(&rt, &zone, row.0.midpoint(row.1), row);
+    }
+    for unix_time in &YEARS_WITHOUT {
+        let row = if *unix_time < 0 { &ROWS[0] } else { &ROWS[3] };
+        expect_segment(&rt, &zone, *unix_time, row);
+    }
+    Ok(())
+}
+
+/// Where leap times may leave 64 bits, a segment still goes on for years.
+#[test]
+fn segments_far_behind_leap_seconds_are_long(rt: HostRuntime) -> Result<(), TzError> {
+    static UNIX_TIMES: [i64; 3] = [
+        80_000_000_000_000_001,
+        1_000_000_000_000_000_000,
+        i64::MAX - 1_000_000_000_000,
+    ];
+    let types = three_types()?;
+    let leap_seconds = leap_seconds_from_the_fifth();
+    let transitions = [Transition::new(90_000_000, 1)];
+    let rule = Some(TransitionRule::Fixed(types[1]));
+    let zone = TimeZoneRef::new(&transitions, &types, &leap_seconds, &rule)?;
+    for unix_time in &UNIX_TIMES {
+        let segment = zone.segment_at(*unix_time);
+        let later = unix_time.saturating_add(1_000_000_000);
+        expect_eq_at(&rt, unix_time, &segment.from(), &89_999_995);
+        expect_eq_at(&rt, unix_time, &segment.contains(later), &true);
+        let offset = segment.local_time_type().map(LocalTimeType::ut_offset);
+        expect_eq_at(&rt, unix_time, &offset, &Some(3600));
+    }
+    Ok(())
+}

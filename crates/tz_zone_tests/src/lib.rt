@@ -24,4 +24,6 @@ mod tz_files;
 #[cfg(test)]
 mod tz_strings;
 #[cfg(test)]
+mod windows;
+#[cfg(test)]
 mod zones;

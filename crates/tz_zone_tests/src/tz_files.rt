@@ -404,5 +404,6 @@ fn leap_seconds_of_later_files_are_read(rt: HostRuntime) -> Result<(), Fail> {
 }
 
 mod altered;
+mod large;
 mod layouts;
 mod version_4;

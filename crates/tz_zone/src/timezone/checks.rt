@@ -2,14 +2,18 @@
 
 ghost use Rattle.std.specs.Prelude.{◌≡◌, ◌≢◌, ℕ, pos, ◌+ℤ◌, ◌-ℤ◌, ◌≤ℤ◌, ◌+◌, ◌<◌, length, [], OnOk, IfOk, IfErr, IsTrue, MatchBool};
 ghost use Rattle.tz_rule.specs.LocalTimeType.{LocalTimeType};
+ghost use Rattle.tz_rule.specs.RuleRef.{rule_seen};
 ghost use Rattle.tz_zone.specs.Table.{zone_with};
+ghost use Rattle.tz_zone.specs.ZoneSeen.{lent_rule};
 ghost use Rattle.tz_zone.specs.LeapTime.{IsOneSecond};
 ghost use Rattle.tz_zone.specs.ValidZone.{IsRuleTypeAt, MayBeFirst, MayFollow, FollowsAt, AreLeapSeconds, HasTypeAtPlace, RisesAtPlace, IsFirstTransitionFault, IsSoundTable, IsRuleFault, RuleAnswers, RuleAgrees, IsValidZone, IsFirstZoneFault};
 
-use super::{LeapSecond, LocalTimeType, Transition, TransitionRule};
+use super::{LeapSecond, LocalTimeType, Transition};
 use crate::{effect, leap_time};
+use tz_base::constants::SECONDS_PER_28_DAYS;
 use tz_base::error::TzError;
 use tz_base::error::timezone::TimeZoneError;
+use tz_rule::inner::RuleRef;
 
 /// Whether the transition at a place names one of the types, whose number is given.
 fn has_type_at(transitions: &[Transition], types: usize, place: usize) -> bool
@@ -82,7 +86,7 @@ fn is_one_second_apart(correction: i32, next: i32) -> bool
 fn is_far_from(time: i64, next: i64) -> bool
     ensures { MatchBool result ((time +ℤ pos 2419199) ≤ℤ next) (¬ ((time +ℤ pos 2419199) ≤ℤ next)) }
 {
-    i128::from(time) + 2_419_199 <= i128::from(next)
+    i128::from(time) + i128::from(SECONDS_PER_28_DAYS) - 1 <= i128::from(next)
 }
 
 /// Whether a leap second may follow another one.
@@ -129,13 +133,13 @@ fn are_leap_seconds(leap_seconds: &[LeapSecond]) -> bool
 
 /// The type that a rule has where a leap time takes effect.
 fn rule_type_at<'a>(
-    rule: &'a TransitionRule,
+    rule: RuleRef<'a>,
     leap_seconds: &[LeapSecond],
     unix_leap_time: i64,
 ) -> Result<&'a LocalTimeType, TzError>
     requires { AreLeapSeconds leap_seconds.now }
-    ensures ok { IfOk result (λ t. IsRuleTypeAt leap_seconds.now rule.now unix_leap_time t.now) }
-    ensures err { IfErr result (λ e. (e ≡ TzError.OutOfRange) × ((t : LocalTimeType) → ¬ IsRuleTypeAt leap_seconds.now rule.now unix_leap_time t)) }
+    ensures ok { IfOk result (λ t. IsRuleTypeAt leap_seconds.now (rule_seen rule.entry) unix_leap_time t.now) }
+    ensures err { IfErr result (λ e. (e ≡ TzError.OutOfRange) × ((t : LocalTimeType) → ¬ IsRuleTypeAt leap_seconds.now (rule_seen rule.entry) unix_leap_time t)) }
 {
     match effect::effect(leap_seconds, unix_leap_time) {
         Ok(unix_time) => tz_rule::inner::find_local_time_type(rule, unix_time),
@@ -148,12 +152,12 @@ fn check_extra_rule(
     transitions: &[Transition],
     local_time_types: &[LocalTimeType],
     leap_seconds: &[LeapSecond],
-    extra_rule: &Option<TransitionRule>,
+    extra_rule: Option<RuleRef<'_>>,
 ) -> Result<(), TzError>
-    requires { IsSoundTable (zone_with transitions.now local_time_types.now leap_seconds.now extra_rule.now) }
-    ensures answers { OnOk result (RuleAnswers (zone_with transitions.now local_time_types.now leap_seconds.now extra_rule.now)) }
-    ensures agrees { OnOk result (RuleAgrees (zone_with transitions.now local_time_types.now leap_seconds.now extra_rule.now)) }
-    ensures err { IfErr result (IsRuleFault (zone_with transitions.now local_time_types.now leap_seconds.now extra_rule.now)) }
+    requires { IsSoundTable (zone_with transitions.now local_time_types.now leap_seconds.now (lent_rule extra_rule)) }
+    ensures answers { OnOk result (RuleAnswers (zone_with transitions.now local_time_types.now leap_seconds.now (lent_rule extra_rule.entry))) }
+    ensures agrees { OnOk result (RuleAgrees (zone_with transitions.now local_time_types.now leap_seconds.now (lent_rule extra_rule.entry))) }
+    ensures err { IfErr result (IsRuleFault (zone_with transitions.now local_time_types.now leap_seconds.now (lent_rule extra_rule.entry))) }
 {
     let Some(rule) = extra_rule else {
         return Ok(());
@@ -177,10 +181,10 @@ pub(crate) fn check_parts(
     transitions: &[Transition],
     local_time_types: &[LocalTimeType],
     leap_seconds: &[LeapSecond],
-    extra_rule: &Option<TransitionRule>,
+    extra_rule: Option<RuleRef<'_>>,
 ) -> Result<(), TzError>
-    ensures ok { OnOk result (IsValidZone (zone_with transitions.now local_time_types.now leap_seconds.now extra_rule.now)) }
-    ensures err { IfErr result (IsFirstZoneFault (zone_with transitions.now local_time_types.now leap_seconds.now extra_rule.now)) }
+    ensures ok { OnOk result (IsValidZone (zone_with transitions.now local_time_types.now leap_seconds.now (lent_rule extra_rule.entry))) }
+    ensures err { IfErr result (IsFirstZoneFault (zone_with transitions.now local_time_types.now leap_seconds.now (lent_rule extra_rule.entry))) }
 {
     check_read_parts(
         transitions,
@@ -197,12 +201,12 @@ pub(crate) fn check_read_parts(
     transitions: &[Transition],
     local_time_types: &[LocalTimeType],
     leap_seconds: &[LeapSecond],
-    extra_rule: &Option<TransitionRule>,
+    extra_rule: Option<RuleRef<'_>>,
     are_in_order: bool,
 ) -> Result<(), TzError>
     requires { IsTrue are_in_order → (i : ℕ) → HasTypeAtPlace transitions.now (length local_time_types.now) i × RisesAtPlace transitions.now i }
-    ensures ok { OnOk result (IsValidZone (zone_with transitions.now local_time_types.now leap_seconds.now extra_rule.now)) }
-    ensures err { IfErr result (IsFirstZoneFault (zone_with transitions.now local_time_types.now leap_seconds.now extra_rule.now)) }
+    ensures ok { OnOk result (IsValidZone (zone_with transitions.now local_time_types.now leap_seconds.now (lent_rule extra_rule.entry))) }
+    ensures err { IfErr result (IsFirstZoneFault (zone_with transitions.now local_time_types.now leap_seconds.now (lent_rule extra_rule.entry))) }
 {
     if local_time_types.is_empty() {
         return Err(TzError::TimeZone(TimeZoneError::NoLocalTimeType));

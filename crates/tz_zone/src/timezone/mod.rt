@@ -11,14 +11,16 @@ mod zone;
 mod zone_changes;
 mod zone_data;
 mod zone_lookup;
+mod zone_name;
 pub(crate) mod zone_parts;
 mod zone_ref;
+pub(crate) mod zone_view;
 
 pub use crate::clock::Change;
 pub use crate::table::{LeapSecond, Transition};
 pub use changes_after::ChangesAfter;
 pub use changes_before::ChangesBefore;
-pub use file::read_file;
+pub use file::{read_file, read_file_up_to};
 pub use segment::Segment;
 pub use settings::{DEFAULT_DIRECTORIES, TimeZoneSettings};
 pub use tz_rule::timezone::{

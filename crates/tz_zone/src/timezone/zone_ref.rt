@@ -9,6 +9,7 @@ use super::checks::check_parts;
 use super::offsets::offsets;
 use super::{LeapSecond, LocalTimeType, Transition, TransitionRule};
 use crate::leap_time;
+use crate::table::lent;
 use std::fmt;
 use tz_base::error::TzError;
 
@@ -93,8 +94,9 @@ impl<'a> TimeZoneRef<'a> {
         ensures ok { OnOk result (IsValidZone (zone_with transitions.now local_time_types.now leap_seconds.now extra_rule.now)) }
         ensures err { IfErr result (IsFirstZoneFault (zone_with transitions.now local_time_types.now leap_seconds.now extra_rule.now)) }
     {
-        check_parts(transitions, local_time_types, leap_seconds, extra_rule)?;
-        let (least_offset, greatest_offset) = offsets(local_time_types, extra_rule);
+        let rule = lent(extra_rule);
+        check_parts(transitions, local_time_types, leap_seconds, rule)?;
+        let (least_offset, greatest_offset) = offsets(local_time_types, rule);
         Ok(TimeZoneRef {
             transitions,
             local_time_types,

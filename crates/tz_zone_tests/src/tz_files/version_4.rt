@@ -138,6 +138,18 @@ fn earlier_versions_have_plain_tables(rt: HostRuntime) -> Result<(), Fail> {
     Ok(())
 }
 
+/// Of a table that the version may not hold and a footer that is none, the footer is named, as tz-rs does.
+#[test]
+fn a_footer_is_named_before_leap_seconds(rt: HostRuntime) -> Result<(), Fail> {
+    let is_no_table = Some(Fault::Zone(TimeZoneError::InvalidLeapSecond));
+    let is_no_footer = Some(Fault::File(TzFileError::InvalidFooter));
+    let bytes = with_byte(rt.alloc(), &utc_v4(rt.alloc())?, 58, b'3')?;
+    expect_eq(&rt, &fault_of(rt.alloc(), &bytes), &is_no_table);
+    let bytes = with_byte(rt.alloc(), &bytes, 133, b' ')?;
+    expect_eq(&rt, &fault_of(rt.alloc(), &bytes), &is_no_footer);
+    Ok(())
+}
+
 #[test]
 fn footers_are_extended(rt: HostRuntime) -> Result<(), Fail> {
     let footer = b"\nIST-2IDT,M3.4.4/26,M10.5.0\n";

@@ -12,6 +12,7 @@ pub(crate) mod footer;
 mod header;
 mod indicators;
 mod number;
+pub(crate) mod sizes;
 pub(crate) mod version;
 
 use crate::table::{LeapSecond, Transition};

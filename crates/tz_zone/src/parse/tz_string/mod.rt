@@ -132,7 +132,7 @@ fn read_text(text: &[u8], extended: bool) -> Result<TransitionRule, TzError>
 ///
 /// An extended string may have day times from -167 to 167 hours. (RFC 8536, section 3.3.1)
 #[inline(always)]
-pub(crate) fn parse_posix_tz(text: &[u8], extended: bool) -> Result<TransitionRule, TzError>
+pub fn parse_posix_tz(text: &[u8], extended: bool) -> Result<TransitionRule, TzError>
     ensures ok { IfOk result (IsTzText extended text.now) }
     ensures err { IfErr result (IsTzTextFault extended text.now) }
     ensures only { (rule : TransitionRule) → IsTzText extended text.now rule → result ≡ Ok rule }

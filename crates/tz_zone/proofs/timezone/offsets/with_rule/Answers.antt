@@ -32,7 +32,7 @@ pub returns-in-Alternate : goal.returns-in-Alternate
 returns-in-Alternate c =
     let least = c.args.least in
     let greatest = c.args.greatest in
-    let rule = c.in-Alternate.rule in
+    let rule = c.in-Alternate.rule.now in
     let std = c.ut_offset-std.result in
     let dst = c.ut_offset-dst.result in
     let std_is : std ≡ rule.std.ut_offset = c.ut_offset-std.ensures.value ∙ ap (λ (t : LocalTimeType). t.ut_offset) c.std.ensures in

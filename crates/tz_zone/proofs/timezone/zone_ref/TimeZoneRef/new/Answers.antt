@@ -10,8 +10,11 @@ invariant_of-result c =
     let ends = c.offsets-least_offset in
     let fits_least : SFits w32 ends.result.0 = search rules in
     let fits_greatest : SFits w32 ends.result.1 = search rules in
+    let ok = rw c.lent-rule.ensures at c.in_ok-check_parts.ensures.ok in
+    let least = rw c.lent-rule.ensures at ends.ensures.least in
+    let greatest = rw c.lent-rule.ensures at ends.ensures.greatest in
     record {
-      sound = c.in_ok-check_parts.ensures.ok.table;
-      valid = ∣ c.in_ok-check_parts.ensures.ok ∣₁;
-      offsets = rw (to_z-of_z w32 ends.result.0 fits_least, to_z-of_z w32 ends.result.1 fits_greatest) (∣ (ends.ensures.least, ends.ensures.greatest) ∣₁);
+      sound = ok.table;
+      valid = ∣ ok ∣₁;
+      offsets = rw (to_z-of_z w32 ends.result.0 fits_least, to_z-of_z w32 ends.result.1 fits_greatest) (∣ (least, greatest) ∣₁);
     }

@@ -1,0 +1,39 @@
+//! The sizes of a file.
+
+ghost use Rattle.std.specs.Prelude.{◌≡◌, OnOk, IfOk, IfErr};
+ghost use Rattle.tz_zone.specs.FileSizes.{AreSizesOf};
+ghost use Rattle.tz_zone.specs.TzFile.{IsFramed};
+ghost use Rattle.tz_zone.specs.TzFileFault.{FrameFails};
+
+use super::read_frame;
+use tz_base::error::parse::TzFileError;
+
+/// How many entries each table of a file has, and how many bytes its footer, in C's layout.
+#[repr(C)]
+#[derive(Clone, Copy)]
+pub struct FileSizes {
+    transitions: usize,
+    local_time_types: usize,
+    leap_seconds: usize,
+    footer: usize,
+}
+
+/// The sizes of a file whose headers and blocks are whole. Its tables are not looked at.
+pub fn file_sizes(bytes: &[u8]) -> Result<FileSizes, TzFileError>
+    ensures sizes { IfOk result (AreSizesOf bytes.now) }
+    ensures ok { OnOk result (IsFramed bytes.now) }
+    ensures err { IfErr result (FrameFails bytes.now) }
+{
+    let frame = read_frame(bytes)?;
+    let counts = frame.part.counts;
+    let footer = match frame.footer {
+        Some(footer) => footer.len(),
+        None => 0,
+    };
+    Ok(FileSizes {
+        transitions: counts.transition as usize,
+        local_time_types: counts.local_type as usize,
+        leap_seconds: counts.leap as usize,
+        footer,
+    })
+}

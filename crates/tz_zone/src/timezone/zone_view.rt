@@ -1,0 +1,150 @@
+//! Zones as plain data, in tables that another language may own.
+
+ghost use Rattle.std.specs.Prelude.{◌≡◌};
+ghost use Rattle.tz_zone.specs.Offsets.{AreEndOffsets};
+ghost use Rattle.tz_zone.specs.Table.{zone_with};
+ghost use Rattle.tz_zone.specs.ValidZone.{IsSoundTable, IsSoundTable-prop, IsValidZone};
+ghost use Rattle.tz_zone.specs.ZoneSeen.{lent_rule, rule_of_lists};
+
+use super::checks::check_parts;
+use super::offsets::offsets;
+use super::{Change, LeapSecond, LocalTimeType, Segment, Transition};
+use crate::clock;
+use crate::table::{OtherParts, Uncounted};
+use tz_base::error::TzError;
+use tz_rule::inner::{AlternateClock, RuleRef};
+
+/// A time zone as slices of plain data, in C's layout. Its rule is the first fixed type, or else the first clock.
+#[repr(C)]
+#[derive(Clone, Copy)]
+pub struct ZoneView<'a> {
+    transitions: &'a [Transition],
+    local_time_types: &'a [LocalTimeType],
+    leap_seconds: &'a [LeapSecond],
+    fixed: &'a [LocalTimeType],
+    alternate: &'a [AlternateClock],
+    least_offset: i32,
+    greatest_offset: i32,
+    ghost sound: { IsSoundTable (zone_with transitions.now local_time_types.now leap_seconds.now (rule_of_lists fixed.now alternate.now)) } by { IsSoundTable-prop (zone_with transitions.now local_time_types.now leap_seconds.now (rule_of_lists fixed.now alternate.now)) },
+    ghost valid: { ∥ IsValidZone (zone_with transitions.now local_time_types.now leap_seconds.now (rule_of_lists fixed.now alternate.now)) ∥₁ },
+    ghost offsets: { ∥ AreEndOffsets (zone_with transitions.now local_time_types.now leap_seconds.now (rule_of_lists fixed.now alternate.now)) least_offset greatest_offset ∥₁ },
+}
+
+/// The rule that two lists give: the first type of the one, or else the first clock of the other.
+#[inline(always)]
+fn rule_of<'a>(fixed: &'a [LocalTimeType], alternate: &'a [AlternateClock]) -> Option<RuleRef<'a>>
+    ensures { lent_rule result ≡ rule_of_lists fixed.entry.now alternate.entry.now }
+{
+    if let Some(local_time_type) = fixed.first() {
+        return Some(RuleRef::Fixed(local_time_type));
+    }
+    match alternate.first() {
+        Some(rule) => Some(RuleRef::Alternate(rule)),
+        None => None,
+    }
+}
+
+impl<'a> ZoneView<'a> {
+    ghost use Rattle.std.specs.Prelude.{◌≡◌, ◌≤ℤ◌, IfOk, IfErr, OnOk, MatchOption};
+    ghost use Rattle.tz_zone.specs.Changes.{segment_of, change_of, IsTrueSegment, IsFollowing, IsPreceding, HasNoFollowing, HasNoPreceding};
+    ghost use Rattle.tz_zone.specs.Clock.{IsClock, IsLookupFault};
+    ghost use Rattle.tz_zone.specs.Offsets.{AreEndOffsets};
+    ghost use Rattle.tz_zone.specs.Table.{zone_with};
+    ghost use Rattle.tz_zone.specs.TableChanges.{HasTableEnds};
+    ghost use Rattle.tz_zone.specs.ValidZone.{IsValidZone, IsFirstZoneFault};
+    ghost use Rattle.tz_zone.specs.ZoneSeen.{rule_of_lists, zone_seen};
+    ghost use Rattle.tz_zone.specs.ZoneViewed.{zone_viewed};
+
+    /// The zone with these parts, which are checked as `TimeZoneRef::new` checks them.
+    pub fn new(
+        transitions: &'a [Transition],
+        local_time_types: &'a [LocalTimeType],
+        leap_seconds: &'a [LeapSecond],
+        fixed: &'a [LocalTimeType],
+        alternate: &'a [AlternateClock],
+    ) -> Result<Self, TzError>
+        ensures parts { IfOk result (λ z. zone_viewed z ≡ zone_with transitions.now local_time_types.now leap_seconds.now (rule_of_lists fixed.now alternate.now)) }
+        ensures ok { OnOk result (IsValidZone (zone_with transitions.now local_time_types.now leap_seconds.now (rule_of_lists fixed.now alternate.now))) }
+        ensures err { IfErr result (IsFirstZoneFault (zone_with transitions.now local_time_types.now leap_seconds.now (rule_of_lists fixed.now alternate.now))) }
+    {
+        let rule = rule_of(fixed, alternate);
+        check_parts(transitions, local_time_types, leap_seconds, rule)?;
+        let (least_offset, greatest_offset) = offsets(local_time_types, rule);
+        Ok(ZoneView {
+            transitions,
+            local_time_types,
+            leap_seconds,
+            fixed,
+            alternate,
+            least_offset,
+            greatest_offset,
+        })
+    }
+
+    /// The transitions, in order.
+    #[inline(always)]
+    pub fn transitions(&self) -> &'a [Transition]
+        ensures { result.now ≡ (zone_viewed self.now).transitions }
+    {
+        self.transitions
+    }
+
+    /// What the zone has beside its transitions.
+    #[inline(always)]
+    pub fn other_parts(&self) -> OtherParts<'a>
+        ensures { zone_seen (zone_viewed self.now).transitions result ≡ zone_viewed self.now }
+    {
+        OtherParts {
+            local_time_types: self.local_time_types,
+            leap_seconds: self.leap_seconds,
+            extra_rule: rule_of(self.fixed, self.alternate),
+        }
+    }
+
+    /// The least and the greatest offset of the types and of the rule.
+    #[inline(always)]
+    pub fn offsets(&self) -> (i32, i32)
+        ensures { AreEndOffsets (zone_viewed self.now) result.0 result.1 }
+    {
+        (self.least_offset, self.greatest_offset)
+    }
+
+    /// The clock's type at an instant, as `TimeZoneRef::find_local_time_type` answers it.
+    #[inline(always)]
+    pub fn find_local_time_type(&self, unix_time: i64) -> Result<&'a LocalTimeType, TzError>
+        ensures ok { IfOk result (λ t. IsClock (zone_viewed self.now) unix_time t.now) }
+        ensures err { IfErr result (IsLookupFault (zone_viewed self.now) unix_time) }
+    {
+        let mut view = Uncounted::new(self.transitions);
+        clock::find_local_time_type(&mut view, self.other_parts(), unix_time)
+    }
+
+    /// The segment around an instant, as `TimeZoneRef::segment_at` answers it.
+    pub fn segment_at(&self, unix_time: i64) -> Segment<'a>
+        ensures within { ((segment_of result).from ≤ℤ unix_time) × (unix_time ≤ℤ (segment_of result).last) }
+        ensures segment { IsTrueSegment (zone_viewed self.now) (segment_of result) }
+        ensures ends { HasTableEnds (zone_viewed self.now) (segment_of result).from (segment_of result).last }
+    {
+        let mut view = Uncounted::new(self.transitions);
+        let segment = clock::clock_segment_at(&mut view, self.other_parts(), unix_time);
+        Segment::new(segment.from, segment.last, segment.local_time_type)
+    }
+
+    /// The first change after an instant, as `TimeZoneRef::following` answers it.
+    pub fn following(&self, unix_time: i64) -> Option<Change<'a>>
+        ensures { MatchOption result (HasNoFollowing (zone_viewed self.now) unix_time) (λ c. IsFollowing (zone_viewed self.now) unix_time (change_of c)) }
+    {
+        let mut view = Uncounted::new(self.transitions);
+        let (change, _) = clock::following(&mut view, self.other_parts(), unix_time, None)?;
+        Some(change)
+    }
+
+    /// The last change before an instant, as `TimeZoneRef::preceding` answers it.
+    pub fn preceding(&self, unix_time: i64) -> Option<Change<'a>>
+        ensures { MatchOption result (HasNoPreceding (zone_viewed self.now) unix_time) (λ c. IsPreceding (zone_viewed self.now) unix_time (change_of c)) }
+    {
+        let mut view = Uncounted::new(self.transitions);
+        let (change, _) = clock::preceding(&mut view, self.other_parts(), unix_time, None)?;
+        Some(change)
+    }
+}
