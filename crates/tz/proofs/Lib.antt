@@ -26,3 +26,5 @@ pub mod FoundAtJump
 pub mod JumpResolutions
 pub mod EntriesTaken
 pub mod UniqueResults
+pub mod UniqueMeanings
+pub mod PlacedSlots

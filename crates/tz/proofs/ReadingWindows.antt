@@ -1,6 +1,5 @@
 -- The window of a reading holds all that the clock can show, and no more transitions take effect there than a rising list of them has.
 use Rattle.std.proofs.Common.{◌≡◌, ℕ, zero, suc, ◌+◌, ◌-◌, ◌<◌, ◌≤◌, ◌∙◌, inl, inr, refl, sym, ap, subst, arith, ℤ, ◌-ℤ◌, ◌≤ℤ◌, List, [], ◌∷◌, length, get_or, Option}
-use Rattle.std.specs.Int.{int_min, int_max}
 use Rattle.std.specs.List.{All, Contains, range_with_len}
 use Rattle.std.proofs.lemmas.Int.{ints}
 use Rattle.std.proofs.lemmas.Bool.{cases_lt}
@@ -13,7 +12,6 @@ use Rattle.tz_rule.specs.declared.timezone.rule.TransitionRule.TheVariants.{Fixe
 use Rattle.tz_zone.specs.Table.{Zone}
 use Rattle.tz.specs.Reached.{AreOffsetsOf}
 use Rattle.tz_zone.specs.Offsets.{IsOffsetOfRule, IsOffset, IsLeastOffset, IsGreatestOffset}
-use Rattle.tz_zone.proofs.OffsetBounds.{int_min_either, int_max_either}
 use Rattle.tz.specs.Windows.{IsWindow, TakesEffectIn, AreRising, AtMostTakeEffectIn, AtMostTakeEffectAround}
 use Rattle.tz.proofs.ClockTypes.{fixed_type, alternate_type, offsets_from_types}
 
@@ -57,13 +55,6 @@ window_unique types extra_rule r low high low' high' window window' = (
   omega (arith, ints, window.first.1 (r -ℤ low') window'.first.0, window'.first.1 (r -ℤ low) window.first.0),
   omega (arith, ints, window.last.1 (r -ℤ high') window'.last.0, window'.last.1 (r -ℤ high) window.last.0),
 )
-
--- what is above both is above the greater one, and what is below both is below the less
-pub least_above : (x y r u : ℤ) → r ≡ int_max x y → x ≤ℤ u → y ≤ℤ u → r ≤ℤ u
-least_above x y r u is first second = elim (int_max_either x y) [ inl e ↦ omega (arith, ints, is ∙ e, first) | inr e ↦ omega (arith, ints, is ∙ e, second) ]
-
-pub greatest_below : (x y r u : ℤ) → r ≡ int_min x y → u ≤ℤ x → u ≤ℤ y → u ≤ℤ r
-greatest_below x y r u is first second = elim (int_min_either x y) [ inl e ↦ omega (arith, ints, is ∙ e, first) | inr e ↦ omega (arith, ints, is ∙ e, second) ]
 
 -- the transitions that take effect around a reading are those in its window
 pub most_in_window : (z : Zone) (r low high : ℤ) → IsWindow z.types z.extra_rule r low high → (w : ℕ) → AtMostTakeEffectAround z r w → AtMostTakeEffectIn z low high w

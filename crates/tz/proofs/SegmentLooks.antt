@@ -1,13 +1,15 @@
 -- A walk past the segments of a zone looks at each transition that takes effect in the window, and halves once at most: only if it begins without a cursor.
-use Rattle.std.proofs.Common.{◌≡◌, ◌≢◌, ℕ, ◌+◌, ◌-◌, ◌^◌, ◌<◌, ◌≤◌, ◌⊎◌, ◌∙◌, inl, inr, refl, sym, ap, subst, arith, ℤ, pos, ◌≤ℤ◌, ◌<ℤ◌, List, [], length, Option, Some, None}
-use Rattle.std.specs.Prelude.{IfSome, IfNone}
+use Rattle.std.proofs.Common.{◌≡◌, ◌≢◌, ℕ, ◌+◌, ◌-◌, ◌^◌, ◌<◌, ◌≤◌, ◌⊎◌, ◌∙◌, inl, inr, refl, sym, ap, subst, arith, ℤ, pos, ◌≤ℤ◌, ◌<ℤ◌, List, [], length, Option, Some, None, Result, Ok, Err}
+use Rattle.std.specs.Prelude.{IfSome, IfNone, OnOk}
 use Rattle.std.proofs.lemmas.Bool.{cases_lt}
 use Rattle.std.proofs.lemmas.Int.{ints}
 use Rattle.std.proofs.lemmas.List.{nil_from_length}
 use Rattle.tz_zone.specs.Table.{Transition, Zone}
+use Rattle.tz_zone.specs.LeapTime.{IsBeforeStart}
 use Rattle.tz_zone.specs.ClockSegments.{TakesEffectAt}
+use Rattle.tz_zone.specs.WindowTypes.{IsPlaceOf}
 use Rattle.tz_zone.specs.declared.clock.cursor.Cursor.{Cursor}
-use Rattle.tz.specs.Windows.{TakesEffectIn, AtMostTakeEffectIn, halvings}
+use Rattle.tz.specs.Windows.{TakesEffectIn, AtMostTakeEffectIn, halvings, first_looks}
 use Rattle.tz.proofs.ReadingWindows.{as_many_as_passed}
 
 pub empty_or_some : (transitions : List Transition) → (transitions ≡ []) ⊎ (transitions ≢ [])
@@ -51,7 +53,7 @@ module _ (z : Zone) (low high : ℤ) (start : Option Cursor) (before : ℕ) wher
       omega (arith, to.passed, to.few b bits, as_many_as_passed z low high w most to.first place to.order to.effects)
 
   -- the one halving of a walk that begins without a cursor
-  few_anew : (looks : ℕ) → start ≡ None → ((b : ℕ) → length z.transitions < 2 ^ b → looks ≤ before + (b + 1)) → AreFew looks
+  few_anew : (looks : ℕ) → start ≡ None → ((b : ℕ) → length z.transitions < 2 ^ b → looks ≤ before + (b + 3)) → AreFew looks
   few_anew looks same anew b w bits most = subst (λ (s : Option Cursor). looks ≤ before + (halvings s b + w)) (sym same) (omega (arith, anew b bits))
 
   pub few_at_end : (looks : ℕ) (cursor : Option Cursor) (last : ℤ) → AreLooks looks cursor last → AreFew looks
@@ -66,7 +68,7 @@ module _ (z : Zone) (low high : ℤ) (start : Option Cursor) (before : ℕ) wher
   -- on to the next segment, which begins in the window
   pub looks_at_next : (looks next : ℕ) (cursor after : Option Cursor) (last from end : ℤ) → AreLooks looks cursor last → last <ℤ pos 9223372036854775807 → low ≤ℤ from → from ≤ℤ high →
       looks ≤ next →
-      IfNone cursor ((b : ℕ) → length z.transitions < 2 ^ b → next ≤ looks + (b + 1)) →
+      IfNone cursor ((b : ℕ) → length z.transitions < 2 ^ b → next ≤ looks + (b + 3)) →
       IfSome cursor (λ c. IfSome after (λ d. next + c.place ≤ looks + d.place)) →
       IfSome cursor (λ c. IfNone after (next ≡ looks)) →
       IfSome cursor (λ c. IfSome after (λ d. (i : ℕ) → c.place ≤ i → i < d.place → TakesEffectAt z from i)) →
@@ -150,6 +152,25 @@ looks_of_walk None last high before looks b w end reach still few = omega (arith
 looks_of_walk (Some c) last high before looks b w end reach still few = omega (arith, few)
 
 -- and of any walk
-pub looks_of_long_walk : (cursor : Option Cursor) (before looks b w : ℕ) → looks ≤ before + (halvings cursor b + w) → looks ≤ before + (b + w + 1)
+pub looks_of_long_walk : (cursor : Option Cursor) (before looks b w : ℕ) → looks ≤ before + (halvings cursor b + w) → looks ≤ before + (b + w + 3)
 looks_of_long_walk None before looks b w few = omega (arith, few)
 looks_of_long_walk (Some c) before looks b w few = omega (arith, few)
+
+-- and of one that begins at a place
+pub looks_from_place : (z : Zone) (place : Option ℕ) (cursor : Option Cursor) (low last high : ℤ) (old before looks b w : ℕ) → IsPlaceOf z low place →
+    IfNone place (before ≡ old) → before ≤ old + 2 →
+    (z.transitions ≢ [] → ¬ IsBeforeStart z.leap_seconds low → IfNone cursor (last ≡ pos 9223372036854775807)) → high ≤ℤ pos 80000000000000000 →
+    (high ≤ℤ last → looks ≡ before) → (z.transitions ≡ [] → looks ≡ before) → looks ≤ before + (halvings cursor b + w) → looks ≤ old + (first_looks place b + w)
+looks_from_place z None cursor low last high old before looks b w at refused few_before end reach still empty few = omega (arith, looks_of_long_walk cursor before looks b w few, refused)
+looks_from_place z (Some k) cursor low last high old before looks b w at refused few_before end reach still empty few = elim (empty_or_some z.transitions) [
+  | inl none ↦ omega (arith, empty none, few_before)
+  | inr some ↦ elim at [
+    | inl none ↦ absurd (some none)
+    | inr (within, reached) ↦ omega (arith, looks_of_walk cursor last high before looks b w (end some (λ early. reached.time_is.not_refused (inl early))) reach still few, few_before)
+  ]
+]
+
+-- what two facts of a success show
+pub on_ok_both : {T E P Q R : Type 0} (r : Result T E) → (P → Q → R) → OnOk r P → OnOk r Q → OnOk r R
+on_ok_both (Ok x) both p q = both p q
+on_ok_both (Err e) both p q = tt

@@ -263,7 +263,3 @@ no_entry_after w until t s is was shown passed (Shown u x) (type_is, within, sho
 no_entry_after w until t s is was shown passed (Jump u a b) (at, before, type_is, low, high) =
     let offset = ap (λ (y : LocalTimeType). y.ut_offset) (same_Some s a (sym was ∙ before)) in
     absurd (omega (arith, ints, offset, at, low, passed))
-
--- a walk is one for its own fields
-pub own_walk : (f : Fields) (w : Walk) → IsWalk f w → IsWalk w.fields w
-own_walk f w walk = subst (λ (g : Fields). IsWalk g w) (sym walk.fields_are) walk

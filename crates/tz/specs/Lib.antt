@@ -20,4 +20,8 @@ pub mod LentSlots
 pub mod SlotEquality
 pub mod Jumps
 pub mod Meanings
+pub mod LocalMeanings
+pub mod MeantSlots
 pub mod Choices
+pub mod Plain
+pub mod PlainSlots

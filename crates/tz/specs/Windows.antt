@@ -33,5 +33,10 @@ AtMostTakeEffectAround z r w = (low : ℤ) × (high : ℤ) × IsWindow z.types z
 
 -- the looks that a walk takes to find its place, by the bits of the number of transitions: none from a cursor on
 abbrev pub halvings : Option Cursor → ℕ → ℕ
-halvings None b = b + 1
+halvings None b = b + 3
 halvings (Some c) b = 0
+
+-- the looks with which a walk begins in the segment at a place: at the transitions on both sides of it, or the halving of a walk that begins without one
+abbrev pub first_looks : Option ℕ → ℕ → ℕ
+first_looks None b = b + 3
+first_looks (Some place) b = 2

@@ -1,13 +1,15 @@
-//! What the crates above use, and no part of the public surface: fields, text, the search for them, and how bytes are read.
+//! What the crates above use, and no part of the public surface: fields, text, the search for them, date times as plain
+//! data, and how bytes are read.
 
 pub use crate::datetime::date_time::{fields_of, local_reading};
 pub use crate::datetime::find::find_fields;
+pub use crate::datetime::plain::{DateTimeData, FoundData, UtcData};
 pub use crate::datetime::resolution::Resolution;
 pub use crate::datetime::resolve::{once, resolve_window, window_of};
+pub use crate::datetime::view::{find_into, find_one, from_timespec};
 pub use crate::nanoseconds::Nanoseconds;
 pub use crate::page::Page;
-pub use crate::printed::middle_of;
 pub use crate::suffixes::{Suffix, Suffixes};
-pub use crate::text::{TextBuffer, two_pairs};
+pub use crate::text::TextBuffer;
 pub use tz_base::fields::{Fields, is_reading};
 pub use tz_zone::inner::{after_byte, read_to_end};

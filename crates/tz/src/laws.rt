@@ -1,7 +1,7 @@
-//! Laws of date times. A function here does nothing, or makes one call that the law is about. Its contract is the law, stated like the
-//! contracts of [`crate::UtcDateTime`] and [`crate::DateTime`].
+//! Laws of date times. A function here does nothing, or calls the laws on which it rests, or makes one call that the law is about. Its contract
+//! is the law, stated like the contracts of [`crate::UtcDateTime`] and [`crate::DateTime`].
 
-ghost use Rattle.std.specs.Prelude.{◌≡◌, ◌≢◌, ℕ, ◌<◌, true, pos, ℤ, ◌+ℤ◌, ◌↔◌, ◌≤◌, ◌≤ℤ◌, length, List, [], ⊤, alloc_error, FitsSigned};
+ghost use Rattle.std.specs.Prelude.{◌≡◌, ◌≢◌, ℕ, ◌<◌, true, pos, ℤ, ◌+ℤ◌, ◌↔◌, ◌≤◌, ◌≤ℤ◌, length, List, [], Option, ⊤, alloc_error, FitsSigned};
 ghost use Rattle.std.specs.List.{Contains};
 ghost use Rattle.std.specs.Duration.{as_nanos};
 ghost use Rattle.std.specs.Int.{w32};
@@ -16,15 +16,19 @@ ghost use Rattle.tz_base.specs.declared.error.datetime.DateTimeError.{DateTimeEr
 ghost use Rattle.tz_rule.specs.LocalTimeType.{LocalTimeType};
 ghost use Rattle.tz_zone.specs.Clock.{IsClock};
 ghost use Rattle.tz_zone.specs.Table.{Zone};
+ghost use Rattle.tz_zone.specs.ZoneRef.{zone_of};
 ghost use Rattle.tz.specs.FindFaults.{IsPromised, IsFindFault};
 ghost use Rattle.tz.specs.Found.{EachCanBeMade, IsFound};
+ghost use Rattle.tz.specs.Meanings.{IsMeaning, IsMeaningFault};
 ghost use Rattle.tz.specs.Windows.{IsWindow, TakesEffectIn, AreRising, AtMostTakeEffectIn};
+ghost use Rattle.tz.specs.declared.datetime.disambiguation.Disambiguation.{Disambiguation};
 ghost use Rattle.tz.specs.declared.datetime.found.FoundDateTimeKind.{FoundDateTimeKind};
 ghost use Rattle.tz.specs.declared.datetime.found.FoundDateTimeKind.TheVariants.{Normal as normal};
 ghost use Rattle.tz.specs.contracts.datetime.utc_date_time.UtcDateTimeOrd.TheImpl as utc_order;
 ghost use Rattle.tz.specs.DateTimes.{DateTime, IsDateTime, IsUtc, IsUtcAt, IsShowFault, IsClockFault, IsForwards, IsBackwards, ShowsByClock, utc_total, total_of, moment_eq, moment_cmp};
 
-use crate::DateTime;
+use crate::{DateTime, TimeZoneRef};
+use tz_zone::laws::shown_types_are_sound;
 
 /// [`UtcDateTime::from_timespec`] of a date time's Unix time and nanoseconds is that date time again, unless its second is 60.
 pub fn utc_date_times_come_back()
@@ -84,6 +88,12 @@ pub fn search_errors_are_unique()
     ensures either { (z : Zone) (f : Fields) (e : TzError) → IsValid f → EachCanBeMade (IsClock z) f → ¬ IsFindFault ⊥ (IsClock z) f e }
 {}
 
+/// [`crate::DateTime::find_one`] has one result for a zone, a choice and fields: one date time, none, or one error.
+pub fn meanings_are_unique()
+    ensures meant { (z : Zone) (choice : Disambiguation) (f : Fields) (d e : Option DateTime) → IsMeaning z choice f d → IsMeaning z choice f e → d ≡ e }
+    ensures refused { (z : Zone) (choice : Disambiguation) (f : Fields) (e e' : TzError) → IsMeaningFault z choice f e → IsMeaningFault z choice f e' → e ≡ e' }
+{}
+
 /// No local time is lost: where the clock has a type at each instant of a reading's window, it shows the reading there or is set forward over it.
 pub fn no_local_time_is_lost()
     ensures { (z : Zone) (f : Fields) (low high : ℤ) (found : List FoundDateTimeKind) → IsValid f → IsWindow z.types z.extra_rule (reading f) low high
@@ -105,6 +115,14 @@ pub fn shown_date_times_are_found()
     ensures promised { (z : Zone) (f : Fields) → ((u : ℤ) (t : LocalTimeType) → IsClock z u t → FitsSigned w32 t.ut_offset) → IsValid f → IsPromised z f.year
         → EachCanBeMade (IsClock z) f }
 {}
+
+/// Where the list of a search in a zone is promised, each of its entries can be made.
+pub fn promised_entries_can_be_made(zone: &TimeZoneRef<'_>)
+    ensures { (f : Fields) → IsValid f → IsPromised (zone_of zone.now) f.year → EachCanBeMade (IsClock (zone_of zone.now)) f }
+{
+    shown_types_are_sound(zone);
+    shown_date_times_are_found();
+}
 
 /// The number of transitions that take effect in a window is the length of a rising list that holds just these: at most w take effect
 /// there exactly where that length is at most w.

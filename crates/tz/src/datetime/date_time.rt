@@ -34,6 +34,7 @@ pub fn local_reading(unix_time: i64, ut_offset: i32) -> Option<i64>
 /// A date time with the local time type that shows it, and its Unix time.
 ///
 /// Date times are compared by Unix time and then by nanoseconds, whatever their local time types.
+#[repr(C)]
 #[derive(Clone, Copy)]
 pub struct DateTime {
     fields: Fields,
@@ -208,7 +209,7 @@ impl DateTime {
 
     /// The date time that the type shows at a Unix time.
     #[inline(always)]
-    fn shown_by(
+    pub(super) fn shown_by(
         unix_time: i64,
         nanoseconds: u32,
         local_time_type: LocalTimeType,
@@ -263,7 +264,9 @@ impl DateTime {
         DateTime::shown_by(unix_time, nanoseconds, *local_time_type)
     }
 
-    /// The date time that the type shows a number of nanoseconds after 1970-01-01T00:00:00Z, or before it where the number is negative.
+    /// The date time that the type shows a number of nanoseconds after 1970-01-01T00:00:00Z, or before it if the number is negative.
+    ///
+    /// `OutOfRange`: the year that it shows does not fit an `i32`.
     pub fn from_total_nanoseconds_and_local(
         total_nanoseconds: i128,
         local_time_type: LocalTimeType,
@@ -277,7 +280,9 @@ impl DateTime {
         DateTime::shown_by(unix_time, nanoseconds, local_time_type)
     }
 
-    /// The date time that the zone's clock shows a number of nanoseconds after 1970-01-01T00:00:00Z, or before it where the number is negative.
+    /// The date time that the zone's clock shows a number of nanoseconds after 1970-01-01T00:00:00Z, or before it if the number is negative.
+    ///
+    /// `OutOfRange`: the seconds do not fit an `i64`. Otherwise the errors are those of [`DateTime::from_timespec`].
     pub fn from_total_nanoseconds(
         total_nanoseconds: i128,
         time_zone_ref: TimeZoneRef<'_>,
@@ -291,7 +296,7 @@ impl DateTime {
         DateTime::from_timespec(unix_time, nanoseconds, time_zone_ref)
     }
 
-    /// What the zone's clock shows at this instant.
+    /// What the zone's clock shows at this instant. The errors are those of [`DateTime::from_timespec`].
     pub fn project(&self, time_zone_ref: TimeZoneRef<'_>) -> Result<Self, TzError>
         ensures ok { IfOk result (ShowsByClock (zone_of time_zone_ref.entry) self.now.unix_time self.now.fields.nanoseconds) }
         ensures err { IfErr result (IsClockFault (zone_of time_zone_ref.entry) self.now.unix_time self.now.fields.nanoseconds) }
@@ -299,7 +304,8 @@ impl DateTime {
         DateTime::from_timespec(self.unix_time, self.fields.nanoseconds, time_zone_ref)
     }
 
-    /// What the zone's clock shows at the current time, which the caller passes as Unix seconds and nanoseconds below a second.
+    /// What the zone's clock shows at the current time, which the caller passes as Unix seconds and nanoseconds below a second. The errors are
+    /// those of [`DateTime::from_timespec`].
     ///
     /// What clocks of a zone show now, by the system's clock:
     ///

@@ -3,6 +3,7 @@
 use super::FoundDateTimeKind;
 use super::choice::Choice;
 use super::found_list::FoundDateTimeList;
+use super::plain_writer::PlainWriter;
 use super::slot_writer::SlotWriter;
 use std::alloc::{AllocError, Allocator};
 
@@ -66,6 +67,23 @@ impl DateTimeList for SlotWriter<'_> {
 
     fn push(&mut self, found: FoundDateTimeKind) -> Result<(), AllocError> {
         self.write(found);
+        Ok(())
+    }
+}
+
+impl DateTimeList for PlainWriter<'_> {
+    ghost use Rattle.tz.specs.PlainSlots.{GrowsBy, grows_by_none, grows_by_more};
+
+    ghost gains = { GrowsBy };
+
+    ghost takes_memory = { ⊥ };
+
+    ghost none = { grows_by_none };
+
+    ghost more = { grows_by_more };
+
+    fn push(&mut self, found: FoundDateTimeKind) -> Result<(), AllocError> {
+        self.write(&found);
         Ok(())
     }
 }

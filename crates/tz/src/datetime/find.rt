@@ -73,39 +73,6 @@ impl DateTime {
     /// A date time keeps the fields that were passed, second 60 included. `OutOfRange`: an entry lies outside the years of an `i32`, as
     /// only the local time before or after a jump can. This cannot happen 200 years or more from both ends of these years, nor three
     /// years or more from them if all offsets of the zone are above -25 and below 26 hours. `Memory`: an allocation for the list failed.
-    ///
-    /// When an alarm that is set to a local time rings: at the first instant at which clocks show that time or are set forward over it.
-    ///
-    /// ```rust
-    /// pub fn alarm(
-    ///     alloc: Global,
-    ///     zone: TimeZoneRef<'_>,
-    ///     local: UtcDateTime,
-    /// ) -> Result<Option<DateTime>, TzError> {
-    ///     let found = DateTime::find(
-    ///         alloc,
-    ///         local.year(),
-    ///         local.month(),
-    ///         local.month_day(),
-    ///         local.hour(),
-    ///         local.minute(),
-    ///         local.second(),
-    ///         local.nanoseconds(),
-    ///         zone,
-    ///     )?;
-    ///     Ok(match found.into_inner().as_slice() {
-    ///         [] => None,
-    ///         [FoundDateTimeKind::Normal(date_time), ..] => Some(*date_time),
-    ///         [
-    ///             FoundDateTimeKind::Skipped {
-    ///                 after_transition,
-    ///                 ..
-    ///             },
-    ///             ..
-    ///         ] => Some(*after_transition),
-    ///     })
-    /// }
-    /// ```
     pub fn find<A: Allocator + Copy>(
         alloc: A,
         year: i32,
@@ -145,26 +112,6 @@ impl DateTime {
     /// A date time keeps the fields that were passed, second 60 included. `OutOfRange`: an entry lies outside the years of an `i32`, as
     /// only the local time before or after a jump can. This cannot happen 200 years or more from both ends of these years, nor three
     /// years or more from them if all offsets of the zone are above -25 and below 26 hours. This call does not allocate.
-    ///
-    /// How many instants and jumps a local time has, without allocating: almost always 1, and 2 if clocks show it twice.
-    ///
-    /// ```rust
-    /// pub fn count_meanings(zone: TimeZoneRef<'_>, local: UtcDateTime) -> Result<usize, TzError> {
-    ///     let mut slots = [None; 2];
-    ///     let found = DateTime::find_n(
-    ///         &mut slots,
-    ///         local.year(),
-    ///         local.month(),
-    ///         local.month_day(),
-    ///         local.hour(),
-    ///         local.minute(),
-    ///         local.second(),
-    ///         local.nanoseconds(),
-    ///         zone,
-    ///     )?;
-    ///     Ok(found.count())
-    /// }
-    /// ```
     pub fn find_n<'a>(
         buf: &'a mut [Option<FoundDateTimeKind>],
         year: i32,
@@ -203,7 +150,7 @@ impl DateTime {
         }
     }
 
-    /// What [`DateTime::find_n`] returns, and how many transitions were read.
+    /// What [`DateTime::find_n`] returns, with its errors, and how many transitions were read.
     ///
     /// If a zone has n transitions, of which w take effect in the window of the local time, a search reads at most 2 b + w + 4, where b is
     /// the number of binary digits of n. The count saturates at `u64::MAX`.

@@ -9,7 +9,7 @@ pub enum FoundDateTimeKind {
     Normal(DateTime),
     /// The clock was set forward over the date time.
     ///
-    /// Both sides are the instant of the jump.
+    /// Both sides have the Unix time of the jump, and the nanoseconds of the search.
     Skipped {
         /// The date time that the clock would have shown without the jump.
         before_transition: DateTime,

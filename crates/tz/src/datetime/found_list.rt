@@ -28,7 +28,7 @@ impl<A: Allocator + Copy> FoundDateTimeList<A> {
         }
     }
 
-    /// A copy of the list, on the same allocator.
+    /// A copy of the list, on the same allocator. `Memory`: an allocation failed.
     pub fn try_clone(&self) -> Result<Self, TzError>
         ensures ok { IfOk result (λ list. found_of list ≡ found_of self.now) }
         ensures err { IfErr result (λ e. e ≡ TzError.Memory alloc_error) }

@@ -63,7 +63,7 @@ fn date_time_of(
 }
 
 /// The instant that is meant where clocks are set forward over the fields.
-fn instant(
+pub(super) fn instant(
     fields: &Fields,
     disambiguation: Disambiguation,
     before: &DateTime,

@@ -61,6 +61,6 @@ pub fn resolve_window<'a>(
             before,
             after,
         } => Some(around_jump(reading, unix_time, before, after)),
-        WindowTypes::More => None,
+        WindowTypes::More(_) => None,
     }
 }

@@ -4,16 +4,16 @@ ghost use Rattle.std.specs.Prelude.{◌≡◌, ◌+◌, ◌*◌, ◌^◌, ◌<�
 ghost use Rattle.tz_base.specs.Fields.{IsValid, reading as reading_of};
 ghost use Rattle.tz_zone.specs.Table.{Zone};
 ghost use Rattle.tz_zone.specs.Clock.{IsClock};
-ghost use Rattle.tz_zone.specs.LeapTime.{IsBeforeStart};
 ghost use Rattle.tz_zone.specs.ClockSegments.{IsSegmentAt};
 ghost use Rattle.tz_zone.specs.Offsets.{AreEndOffsets};
 ghost use Rattle.tz_zone.specs.ValidZone.{AreLeapSeconds, IsSoundTable};
+ghost use Rattle.tz_zone.specs.WindowTypes.{IsPlaceOf};
 ghost use Rattle.tz_zone.specs.ZoneSeen.{zone_seen};
 ghost use Rattle.tz.specs.FindFaults.{IsSearchFault};
 ghost use Rattle.tz.specs.Found.{EachCanBeMade, IsFound};
 ghost use Rattle.tz.specs.Walks.{HoldsAt, IsSmall, moment_of};
 ghost use Rattle.tz.specs.Reached.{AreOffsetsOf};
-ghost use Rattle.tz.specs.Windows.{AtMostTakeEffectIn, AtMostTakeEffectAround, halvings};
+ghost use Rattle.tz.specs.Windows.{AtMostTakeEffectIn, AtMostTakeEffectAround, first_looks, halvings};
 ghost use Rattle.tz.specs.declared.datetime.found.FoundDateTimeKind.{FoundDateTimeKind};
 ghost use Rattle.tz.specs.declared.datetime.found.FoundDateTimeKind.TheVariants.{Normal};
 
@@ -25,7 +25,7 @@ use super::{DateTime, FoundDateTimeKind};
 use tz_base::error::TzError;
 use tz_base::fields::Fields;
 use tz_zone::inner::{
-    ClockSegment, OtherParts, Transitions, WindowTypes, clock_segment_after, clock_segment_at,
+    ClockSegment, OtherParts, Transitions, WindowTypes, clock_segment_after, clock_segment_from,
     window_types,
 };
 use tz_zone::timezone::LocalTimeType;
@@ -177,6 +177,7 @@ fn search_segments<L: DateTimeList, V: Transitions>(
     reading: i64,
     view: &mut V,
     parts: OtherParts<'_>,
+    place: Option<usize>,
     low: i64,
     high: i64,
 ) -> Result<(), TzError>
@@ -184,6 +185,7 @@ fn search_segments<L: DateTimeList, V: Transitions>(
     requires reading { reading ≡ reading_of fields.now }
     requires small { IsSmall reading }
     requires sound { IsSoundTable (zone_seen (V.list view.old) parts) }
+    requires place { IsPlaceOf (zone_seen (V.list view.old) parts) low place }
     requires order { low ≤ℤ high }
     requires reach { high ≤ℤ pos 80000000000000000 }
     requires offsets { AreOffsetsOf (zone_seen (V.list view.old) parts) (reading_of fields.now -ℤ high) (reading_of fields.now -ℤ low) }
@@ -195,13 +197,10 @@ fn search_segments<L: DateTimeList, V: Transitions>(
     ensures kept { V.looks view.old ≤ V.looks view.new }
     ensures at_most { OnOk result ((b w : ℕ) → length (V.list view.old) < 2 ^ b
         → AtMostTakeEffectIn (zone_seen (V.list view.old) parts.entry) low high w
-        → V.looks view.new ≤ V.looks view.old + (2 * b + w + 2)) }
-    ensures at_most_begun { ¬ IsBeforeStart parts.entry.leap_seconds.now low → OnOk result ((b w : ℕ) → length (V.list view.old) < 2 ^ b
-        → AtMostTakeEffectIn (zone_seen (V.list view.old) parts.entry) low high w
-        → V.looks view.new ≤ V.looks view.old + (b + w + 1)) }
+        → V.looks view.new ≤ V.looks view.old + (first_looks place b + w)) }
     ensures none { OnOk result (length (V.list view.old) ≡ 0 → V.looks view.new ≡ V.looks view.old) }
 {
-    let mut first = clock_segment_at(view, parts, low);
+    let mut first = clock_segment_from(view, parts, place, low);
     search_from(list, fields, reading, view, parts, &mut first, low, high)
 }
 
@@ -241,7 +240,9 @@ fn search_window<L: DateTimeList, V: Transitions>(
             before,
             after,
         } => around_jump(reading, unix_time, before, after).give(list, fields),
-        WindowTypes::More => search_segments(list, fields, reading, view, parts, low, high),
+        WindowTypes::More(place) => {
+            search_segments(list, fields, reading, view, parts, place, low, high)
+        }
     }
 }
 

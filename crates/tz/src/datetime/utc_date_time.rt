@@ -21,6 +21,7 @@ use tz_zone::timezone::TimeZoneRef;
 ///
 /// Date times are compared field by field, so second 60 comes before the next minute's second 0, although both have the same
 /// Unix time.
+#[repr(C)]
 #[derive(Clone, Copy)]
 #[derive_where(PartialEq, Eq, PartialOrd, Ord)]
 pub struct UtcDateTime {
@@ -213,7 +214,8 @@ impl UtcDateTime {
         Ok(UtcDateTime::at(unix_time, nanoseconds))
     }
 
-    /// The date time a number of nanoseconds after [`UtcDateTime::UNIX_EPOCH`], or before it where the number is negative.
+    /// The date time a number of nanoseconds after [`UtcDateTime::UNIX_EPOCH`], or before it if the number is negative. `OutOfRange`: its year
+    /// does not fit an `i32`.
     pub fn from_total_nanoseconds(total_nanoseconds: i128) -> Result<Self, TzError>
         ensures ok { IfOk result (IsUtcAt total_nanoseconds) }
         ensures err { IfErr result (λ e. (e ≡ TzError.OutOfRange) × ¬ IsUtcTotal total_nanoseconds) }
@@ -230,7 +232,8 @@ impl UtcDateTime {
         Some(UtcDateTime::at(unix_time, nanoseconds))
     }
 
-    /// The date time of the current time, which the caller passes as Unix seconds and nanoseconds below a second.
+    /// The date time of the current time, which the caller passes as Unix seconds and nanoseconds below a second. The errors are those of
+    /// [`UtcDateTime::from_timespec`].
     pub fn now(unix_time: i64, nanoseconds: u32) -> Result<Self, TzError>
         ensures ok { IfOk result (IsCivil unix_time nanoseconds) }
         ensures err { IfErr result (IsShowFault unix_time nanoseconds) }
@@ -243,6 +246,13 @@ impl UtcDateTime {
         ensures { result.now ≡ self.now }
     {
         &self.fields
+    }
+
+    /// The fields are those of a UTC date time. This does nothing; its contract is what holds of every value.
+    pub(crate) fn parts_are_sound(&self)
+        ensures { IsUtc self.now }
+    {
+        let _ = &self.fields;
     }
 
     /// Seconds from [`UtcDateTime::UNIX_EPOCH`] on. Second 60 counts as the next minute's second 0.
@@ -346,7 +356,7 @@ impl UtcDateTime {
         calendar::total_nanoseconds(self.unix_time(), self.fields.nanoseconds)
     }
 
-    /// What the zone's clock shows at this instant.
+    /// What the zone's clock shows at this instant. The errors are those of [`DateTime::from_timespec`].
     ///
     /// What clocks an hour behind UTC show at the beginning of 2024 in UTC:
     ///

@@ -2,6 +2,7 @@
 
 use super::*;
 use crate::expect::expect_eq;
+use tz_samples::instants::LEAP_TIMES;
 
 /// The leap time at which the tables of these tests begin.
 const START: i64 = utc!(2017-01-01 00:00:00) + 26;
@@ -127,5 +128,20 @@ fn clocks_that_begin_with_a_table(rt: HostRuntime) -> Result<(), Fail> {
             assert!(rt; entries > 200, "{entries} entries");
         }
     }
+    Ok(())
+}
+
+/// Jumps before, at and after the last of the leap seconds up to 2017.
+#[test]
+fn jumps_after_many_leap_seconds(rt: HostRuntime) -> Result<(), Fail> {
+    let mut leap_seconds = Vec::new(rt.alloc());
+    let mut correction = 0i32;
+    for time in &LEAP_TIMES {
+        correction = correction.saturating_add(1);
+        leap_seconds.push(LeapSecond::new(*time, correction))?;
+    }
+    let unix_time = START - 26;
+    let entries = entries_of_table(&rt, rt.alloc(), &leap_seconds, unix_time)?;
+    assert!(rt; entries > 200, "{entries} entries");
     Ok(())
 }

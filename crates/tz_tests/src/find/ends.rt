@@ -181,32 +181,50 @@ fn a_year_without_an_answer_of_the_rule(rt: HostRuntime) -> Result<(), Fail> {
     Ok(())
 }
 
-/// All searches of a reading are refused as out of range.
+/// Whether each slot holds what it held, or the entry at its place of a list.
+fn are_untouched_or_listed(slots: &[Option<FoundDateTimeKind>], listed: &[Summary]) -> bool {
+    let mut places = slots.iter().enumerate();
+    places.all(|(place, slot)| {
+        let found = slot.as_ref().map(summary);
+        found == Some(HELD) || found == listed.get(place).copied()
+    })
+}
+
+/// Both searches into slots are refused as out of range, and write nothing but entries of the list.
+fn expect_out_of_range_in(
+    rt: &impl Abort,
+    slots: &mut [Option<FoundDateTimeKind>],
+    zone: TimeZoneRef<'_>,
+    reading: Reading,
+    listed: &[Summary],
+) {
+    let refused = find_n(slots, zone, reading).err();
+    assert!(rt; matches!(refused, Some(TzError::OutOfRange)));
+    assert!(rt; are_untouched_or_listed(slots, listed));
+    let (year, month, month_day, hour, minute, second) = reading;
+    let refused = DateTime::find_n_counted(
+        slots, year, month, month_day, hour, minute, second, 0, zone,
+    ).err();
+    assert!(rt; matches!(refused, Some(TzError::OutOfRange)));
+    assert!(rt; are_untouched_or_listed(slots, listed));
+}
+
+/// All searches of a reading are refused as out of range, whose list has these entries that can be made.
 fn expect_out_of_range(
     rt: &impl Abort,
     alloc: Global,
     row: &ZoneRow,
     reading: Reading,
+    listed: &[Summary],
 ) -> Result<(), TzError> {
     let zone = zone_of(alloc, row)?;
-    let refused = find(alloc, zone.as_ref(), reading).err();
-    assert!(rt; matches!(refused, Some(TzError::OutOfRange)));
-    let refused = find_n(&mut [], zone.as_ref(), reading).err();
-    assert!(rt; matches!(refused, Some(TzError::OutOfRange)));
-    let (year, month, month_day, hour, minute, second) = reading;
     let zone = zone.as_ref();
-    let refused = DateTime::find_n_counted(
-        &mut [],
-        year,
-        month,
-        month_day,
-        hour,
-        minute,
-        second,
-        0,
-        zone,
-    );
-    assert!(rt; matches!(refused.err(), Some(TzError::OutOfRange)));
+    let refused = find(alloc, zone, reading).err();
+    assert!(rt; matches!(refused, Some(TzError::OutOfRange)));
+    for count in 0..4usize {
+        let mut slots = [Some(held()?); 3];
+        expect_out_of_range_in(rt, &mut slots[..count], zone, reading, listed);
+    }
     Ok(())
 }
 
@@ -239,9 +257,9 @@ const LAST_JUMP: ZoneRow = ZoneRow {
 /// A jump can't be listed where the local time before it or after it lies outside the years of 32 bits.
 #[test]
 fn jumps_past_the_ends_are_out_of_range(rt: HostRuntime) -> Result<(), Fail> {
-    static REFUSED: [(ZoneRow, Reading); 6] = [
-        (FIRST_JUMP, FIRST),
-        (LAST_JUMP, LAST),
+    static REFUSED: [(ZoneRow, Reading, &[Summary]); 6] = [
+        (FIRST_JUMP, FIRST, &[]),
+        (LAST_JUMP, LAST, &[]),
         // From the second before the first one of all.
         (
             ZoneRow {
@@ -251,6 +269,7 @@ fn jumps_past_the_ends_are_out_of_range(rt: HostRuntime) -> Result<(), Fail> {
                 extra_rule: AHEAD,
             },
             FIRST,
+            &[],
         ),
         // To the second after the last one of all.
         (
@@ -261,6 +280,7 @@ fn jumps_past_the_ends_are_out_of_range(rt: HostRuntime) -> Result<(), Fail> {
                 extra_rule: AHEAD,
             },
             LAST,
+            &[],
         ),
         // From that second on: both sides lie outside, and second 60 between them.
         (
@@ -271,6 +291,7 @@ fn jumps_past_the_ends_are_out_of_range(rt: HostRuntime) -> Result<(), Fail> {
                 extra_rule: AHEAD,
             },
             (i32::MAX, 12, 31, 23, 59, 60),
+            &[],
         ),
         // The clock shows the half hour, is set back by two hours and then forward by four.
         (
@@ -284,10 +305,11 @@ fn jumps_past_the_ends_are_out_of_range(rt: HostRuntime) -> Result<(), Fail> {
                 extra_rule: AHEAD,
             },
             LAST,
+            &[(utc!(2147483647-12-31 23:30:00), 0, 0)],
         ),
     ];
-    for (row, reading) in &REFUSED {
-        expect_out_of_range(&rt, rt.alloc(), row, *reading)?;
+    for (row, reading, listed) in &REFUSED {
+        expect_out_of_range(&rt, rt.alloc(), row, *reading, listed)?;
     }
     Ok(())
 }

@@ -139,40 +139,68 @@ fn reading_of(seconds: i64) -> Result<Reading, TzError> {
     Ok((year, month, month_day, hour, minute, second))
 }
 
-/// Searches around an instant of the table find what `find` finds.
+/// The least and the greatest number of looks.
+type Range = (u64, u64);
+
+/// Searches around an instant of the table find what `find` finds. Their looks, and those of the range.
 fn expect_around(
     rt: &impl Abort,
     alloc: Global,
     zone: TimeZoneRef<'_>,
     start: i64,
-) -> Result<(), TzError> {
+    range: Range,
+) -> Result<Range, TzError> {
     static SHIFTS: [i64; 6] = [-1, 0, 1800, 3599, 3600, 3601];
+    let (mut least, mut greatest) = range;
     for shift in &SHIFTS {
         let reading = reading_of(start.wrapping_add(*shift))?;
         let expected = summaries(alloc, find(alloc, zone, reading)?)?;
-        expect_counted(rt, &mut [None, None], zone, reading, expected.as_slice())?;
+        let looks = expect_counted(rt, &mut [None, None], zone, reading, expected.as_slice())?;
+        least = least.min(looks);
+        greatest = greatest.max(looks);
     }
-    Ok(())
+    Ok((least, greatest))
 }
 
-/// Searches near the front, in the middle and past the end of a table find what `find` finds.
-fn expect_ends(rt: &impl Abort, alloc: Global, len: usize) -> Result<(), TzError> {
+/// Searches near the front, in the middle and past the end of a table find what `find` finds. Their looks.
+fn expect_ends(rt: &impl Abort, alloc: Global, len: usize) -> Result<Range, TzError> {
     let types = hour_apart()?;
     let transitions = alternating(alloc, len)?;
     let rule = None;
     let zone = TimeZoneRef::new(transitions.as_slice(), &types, &[], &rule)?;
     let past = seconds_to(len);
+    let mut range = (u64::MAX, 0);
     for start in [-1_000_000, 0, 500_000, past.wrapping_sub(1_000_000), past] {
-        expect_around(rt, alloc, zone, start)?;
+        range = expect_around(rt, alloc, zone, start, range)?;
     }
-    Ok(())
+    Ok(range)
 }
 
+/// The last transition is read twice if that is enough, and at most three are read beside two bisections.
 #[test]
 fn tables_around_powers_of_two(rt: HostRuntime) -> Result<(), Fail> {
-    static LENGTHS: [usize; 15] = [0, 1, 2, 3, 4, 5, 7, 8, 9, 31, 32, 33, 127, 128, 129];
-    for len in &LENGTHS {
-        expect_ends(&rt, rt.alloc(), *len)?;
+    // Numbers of transitions, and the least and the greatest number of looks.
+    static ROWS: [(usize, u64, u64); 15] = [
+        (0, 0, 0),
+        (1, 2, 3),
+        (2, 2, 5),
+        (3, 2, 7),
+        (4, 2, 7),
+        (5, 2, 9),
+        (7, 2, 9),
+        (8, 2, 9),
+        (9, 2, 11),
+        (31, 2, 13),
+        (32, 2, 13),
+        (33, 2, 15),
+        (127, 2, 17),
+        (128, 2, 17),
+        (129, 2, 19),
+    ];
+    for row in &ROWS {
+        let (len, ..) = *row;
+        let (least, greatest) = expect_ends(&rt, rt.alloc(), len)?;
+        expect_eq(&rt, &(len, least, greatest), row);
     }
     Ok(())
 }

@@ -179,3 +179,32 @@ fn a_copy_with_each_growth_refused(rt: HostRuntime) -> Result<(), Fail> {
     expect_copies(&rt, rt.alloc(), zone.as_ref())?;
     Ok(())
 }
+
+/// A clock that is set back by an hour at each of twenty hours shows half past midnight twenty times.
+fn twenty_entries(alloc: Global) -> Result<FoundDateTimeList<Global>, TzError> {
+    let mut types = Vec::new(alloc);
+    let mut transitions = Vec::new(alloc);
+    for place in 0..21i32 {
+        types.push(LocalTimeType::with_ut_offset(-3600 * place)?)?;
+        let unix_leap_time = 3600 * i64::from(place);
+        transitions.push(Transition::new(unix_leap_time, place as usize))?;
+    }
+    let zone = TimeZoneRef::new(&transitions, &types, &[], &None)?;
+    find(alloc, zone, (1970, 1, 1, 0, 30, 0))
+}
+
+#[test]
+fn a_copy_of_twenty_entries(rt: HostRuntime) -> Result<(), Fail> {
+    let list = twenty_entries(rt.alloc())?;
+    let copy = list.try_clone()?;
+    assert!(rt; copy == list);
+    let (mut unix_time, mut offset) = (1800i64, 0i32);
+    let copied = summaries(rt.alloc(), copy)?;
+    expect_eq(&rt, &copied.len(), &20);
+    for entry in &copied {
+        expect_eq(&rt, entry, &(unix_time, offset, offset));
+        unix_time = unix_time.saturating_add(3600);
+        offset = offset.saturating_sub(3600);
+    }
+    Ok(())
+}

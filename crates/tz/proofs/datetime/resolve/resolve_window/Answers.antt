@@ -48,3 +48,6 @@ returns-in-Two-clause-resolves c =
 
 pub returns-in-Two-clause-at : goal.returns-in-Two-clause-at
 returns-in-Two-clause-at c = rw (to_z-of_z w64 c.args.reading c.ranges.reading) at c.around_jump.ensures.at
+
+pub returns-in-One-clause-at : goal.returns-in-One-clause-at
+returns-in-One-clause-at c = rw (to_z-of_z w64 c.args.reading c.ranges.reading) at c.once.ensures.at

@@ -1,5 +1,7 @@
 -- The clock has one type in the window, or two with a jump between them, or the segments tell.
-use Rattle.std.proofs.Common.{◌≡◌, ◌∙◌, inl, inr, refl, arith, rules, pos, ◌+ℤ◌, ◌-ℤ◌, ◌≤ℤ◌, ◌<ℤ◌}
+use Rattle.std.proofs.Common.{◌≡◌, ◌∙◌, ℕ, zero, suc, ◌+◌, ◌*◌, ◌^◌, ◌<◌, ◌≤◌, Option, Some, None, length, inl, inr, refl, arith, rules, pos, ◌+ℤ◌, ◌-ℤ◌, ◌≤ℤ◌, ◌<ℤ◌}
+use Rattle.std.specs.Prelude.{MatchOption}
+use Rattle.std.proofs.lemmas.Bool.{cases_lt}
 use Rattle.std.proofs.lemmas.Int.{ints, to_z-of_z}
 use Rattle.std.proofs.lemmas.List.{nil_from_length}
 use Rattle.std.proofs.lemmas.Result.{IfErr-weaker, on_ok_weaker}
@@ -9,9 +11,11 @@ use Rattle.tz_base.specs.Fields.{reading}
 use Rattle.tz_zone.specs.Clock.{IsClock, HasTypeFrom}
 use Rattle.tz_zone.specs.ZoneSeen.{zone_seen}
 use Rattle.tz.specs.Jumps.{HasOneJump}
+use Rattle.tz.specs.Windows.{first_looks}
 use Rattle.tz.proofs.UniqueLists.{each_from_list}
 use Rattle.tz.proofs.FoundOnce.{found_once, made_once}
 use Rattle.tz.proofs.JumpResolutions.{fault_of, few_entries}
+use Rattle.tz.proofs.SegmentLooks.{on_ok_both}
 use Rattle.tz.proofs.datetime.search.search_window.Goals as goal
 
 pub give-requires-clause-at : goal.give-requires-clause-at
@@ -22,6 +26,11 @@ give-requires-clause-at g c =
 pub search_segments-requires-clause-offsets : goal.search_segments-requires-clause-offsets
 search_segments-requires-clause-offsets g c =
     rw (c.window_types.ensures.same, to_z-of_z w64 c.args.low c.ranges.low, to_z-of_z w64 c.args.high c.ranges.high) c.requires.offsets
+
+pub search_segments-requires-clause-place : goal.search_segments-requires-clause-place
+search_segments-requires-clause-place g c =
+    let low_is = to_z-of_z w64 c.args.low c.ranges.low in
+    rw (c.window_types.ensures.same, low_is) (rw low_is at c.in-More.ensures.place)
 
 pub returns-in-One : goal.returns-in-One
 returns-in-One g c =
@@ -93,19 +102,29 @@ returns-in-More-clause-made g c = rw c.window_types.ensures.same at c.search_seg
 pub returns-in-More-clause-err : goal.returns-in-More-clause-err
 returns-in-More-clause-err g c = rw c.window_types.ensures.same at c.search_segments.ensures.err
 
+-- a zone with a transition has a bit or more of them
+some_bits : (n b : ℕ) → 0 < n → n < 2 ^ b → 1 ≤ b
+some_bits n zero some bits = absurd (omega (arith, some, bits))
+some_bits n (suc b) some bits = omega arith
+
+few_in_all : (place : Option ℕ) (n old before looks b w : ℕ) → n < 2 ^ b → (n ≡ 0 → looks ≡ before) → (n ≡ 0 → before ≡ old) →
+    MatchOption place (before ≤ old + 1) (λ k. (b : ℕ) → n < 2 ^ b → before ≤ old + (b + 3)) → looks ≤ before + (first_looks place b + w) → looks ≤ old + (2 * b + w + 4)
+few_in_all None n old before looks b w bits none first more few = omega (arith, more, few)
+few_in_all (Some k) n old before looks b w bits none first more few = elim (cases_lt 0 n) [
+  | inl some ↦ omega (arith, some_bits n b some bits, more b bits, few)
+  | inr empty ↦ omega (arith, none (omega (arith, empty)), first (omega (arith, empty)))
+]
+
 pub returns-in-More-clause-at_most : goal.returns-in-More-clause-at_most
 returns-in-More-clause-at_most g c =
     let low_is = to_z-of_z w64 c.args.low c.ranges.low in
     let high_is = to_z-of_z w64 c.args.high c.ranges.high in
+    let list = g.V.Transitions.list c.args.view.now in
     let same = c.window_types.ensures.same in
-    elim (rw low_is at c.in-More.ensures.more) [
-      | inl one ↦
-          on_ok_weaker c.search_segments.result (λ few b w bits most. omega (arith, few b w bits most, one))
-          (rw (same, low_is, high_is) at c.search_segments.ensures.at_most)
-      | inr (begun, first) ↦
-          on_ok_weaker c.search_segments.result (λ few b w bits most. omega (arith, few b w bits most, first b bits))
-          ((rw (same, low_is, high_is) at c.search_segments.ensures.at_most_begun) begun)
-    ]
+    on_ok_both c.search_segments.result (λ few none b w bits most. few_in_all c.in-More.place (length list) _ _ _ b w bits none
+    (λ e. c.window_types.ensures.none (nil_from_length list e)) c.in-More.ensures.more (few b w bits most))
+    (rw (same, low_is, high_is) at c.search_segments.ensures.at_most)
+    (rw same at c.search_segments.ensures.none)
 
 pub returns-in-More-clause-at_least_one : goal.returns-in-More-clause-at_least_one
 returns-in-More-clause-at_least_one g c =

@@ -1,0 +1,97 @@
+-- Slots of plain data filled by a list from a number on, and by one more at its end.
+use Rattle.std.proofs.Common.{◌≡◌, ℕ, zero, suc, ◌+◌, ◌-◌, ◌<◌, ◌≤◌, ◌∙◌, refl, sym, ap, subst, arith, List, [], ◌∷◌, ◌++◌, length, length-append, set, inl, inr}
+use Rattle.std.specs.Prelude.{min, map, drop}
+use Rattle.std.proofs.lemmas.Bool.{cases_lt}
+use Rattle.tz.specs.Plain.{found_data, entries_from, placed}
+use Rattle.tz.specs.PlainSlots.{GrowsBy}
+use Rattle.tz.specs.declared.datetime.found.FoundDateTimeKind.{FoundDateTimeKind}
+use Rattle.tz.specs.declared.datetime.plain.FoundData.{FoundData}
+use Rattle.tz.specs.declared.datetime.plain_writer.PlainWriter.{PlainWriter}
+
+pub placed_none : (slots : List FoundData) → placed slots [] ≡ slots
+placed_none [] = refl
+placed_none (slot ∷ slots) = refl
+
+length-placed : (slots xs : List FoundData) → length (placed slots xs) ≡ length slots
+length-placed [] xs = refl
+length-placed (slot ∷ slots) [] = refl
+length-placed (slot ∷ slots) (x ∷ xs) = ap suc (length-placed slots xs)
+
+-- the next one goes to the next slot
+placed_next : (slots xs : List FoundData) (x : FoundData) → length xs < length slots → placed slots (xs ++ x ∷ []) ≡ set (placed slots xs) (length xs) x
+placed_next [] xs x h = absurd (omega arith)
+placed_next (slot ∷ slots) [] x h = ap (λ rest. x ∷ rest) (placed_none slots)
+placed_next (slot ∷ slots) (first ∷ xs) x h = ap (λ rest. first ∷ rest) (placed_next slots xs x (omega arith))
+
+-- where there is none, the slots stay
+placed_full : (slots xs : List FoundData) (x : FoundData) → length slots ≤ length xs → placed slots (xs ++ x ∷ []) ≡ placed slots xs
+placed_full [] xs x h = refl
+placed_full (slot ∷ slots) [] x h = absurd (omega arith)
+placed_full (slot ∷ slots) (first ∷ xs) x h = ap (λ rest. first ∷ rest) (placed_full slots xs x (omega arith))
+
+-- one more entry at the end of those from a number on, if it has that number or a later one
+entries_more : (found : List FoundDateTimeKind) (skip : ℕ) (e : FoundDateTimeKind) → skip ≤ length found → entries_from skip (found ++ e ∷ []) ≡ entries_from skip found ++ found_data e ∷ []
+entries_more [] zero e h = refl
+entries_more [] (suc skip) e h = absurd (omega arith)
+entries_more (first ∷ found) zero e h = ap (λ rest. found_data first ∷ rest) (entries_more found zero e (omega arith))
+entries_more (first ∷ found) (suc skip) e h = entries_more found skip e (omega arith)
+
+abbrev nothing : List FoundDateTimeKind
+nothing = []
+
+drop_none : (n : ℕ) → drop n nothing ≡ nothing
+drop_none zero = refl
+drop_none (suc n) = refl
+
+entries_skipped : (found : List FoundDateTimeKind) (skip : ℕ) (e : FoundDateTimeKind) → length found < skip → entries_from skip (found ++ e ∷ []) ≡ entries_from skip found
+entries_skipped found zero e h = absurd (omega arith)
+entries_skipped [] (suc skip) e h = ap (map found_data) (drop_none skip)
+entries_skipped (first ∷ found) (suc skip) e h = entries_skipped found skip e (omega arith)
+
+length-entries : (found : List FoundDateTimeKind) (skip : ℕ) → length (entries_from skip found) ≡ length found - skip
+length-entries [] zero = refl
+length-entries [] (suc skip) = omega arith
+length-entries (first ∷ found) zero = omega (arith, length-entries found zero)
+length-entries (first ∷ found) (suc skip) = length-entries found skip ∙ omega arith
+
+-- what becomes of the slots when one more is counted
+step : (slots : List FoundData) (skip : ℕ) (before : List FoundDateTimeKind) (e : FoundDateTimeKind) (now : List FoundData) →
+    (skip ≤ length before → length before - skip < length slots → now ≡ set (placed slots (entries_from skip before)) (length before - skip) (found_data e)) →
+    (length before < skip → now ≡ placed slots (entries_from skip before)) →
+    (skip ≤ length before → length slots ≤ length before - skip → now ≡ placed slots (entries_from skip before)) →
+    now ≡ placed slots (entries_from skip (before ++ e ∷ []))
+step slots skip before e now next skipped full =
+    let size = length-entries before skip in
+    elim (cases_lt (length before) skip) [
+      | inl less ↦ skipped less ∙ ap (λ xs. placed slots xs) (sym (entries_skipped before skip e less))
+      | inr more ↦
+          let longer = ap (λ xs. placed slots xs) (entries_more before skip e more) in
+          elim (cases_lt (length before - skip) (length slots)) [
+            | inl room ↦
+                next more room ∙ ap (λ place. set (placed slots (entries_from skip before)) place (found_data e)) (sym size)
+                ∙ sym (placed_next slots (entries_from skip before) (found_data e) (omega arith)) ∙ sym longer
+            | inr none ↦ full more none ∙ sym (placed_full slots (entries_from skip before) (found_data e) (omega arith)) ∙ sym longer
+          ]
+    ]
+
+-- the step of a writer that counts one more
+pub grows_by_one : (list grown : PlainWriter) (e : FoundDateTimeKind) →
+    grown.slots.ghost_name ≡ list.slots.ghost_name → grown.skip ≡ list.skip →
+    (list.skip ≤ list.count → list.count - list.skip < length list.slots.now → grown.slots.now ≡ set list.slots.now (list.count - list.skip) (found_data e)) →
+    (list.count < list.skip → grown.slots.now ≡ list.slots.now) →
+    (list.skip ≤ list.count → length list.slots.now ≤ list.count - list.skip → grown.slots.now ≡ list.slots.now) →
+    grown.count ≡ min (list.count + 1) 18446744073709551615 → GrowsBy list grown (e ∷ [])
+grows_by_one list grown e same skip next skipped full count = (
+  same,
+  skip,
+  λ slots before fits holding.
+      let size = length-append before (e ∷ []) in
+      let long = ap length holding.1 ∙ length-placed slots (entries_from list.skip before) in
+      let now = step slots list.skip before e grown.slots.now
+      (λ more room. next (omega arith) (omega arith)
+      ∙ ap (λ xs. set xs (list.count - list.skip) (found_data e)) holding.1
+      ∙ ap (λ count. set (placed slots (entries_from list.skip before)) (count - list.skip) (found_data e)) holding.0)
+      (λ less. skipped (omega arith) ∙ holding.1)
+      (λ more none. full (omega arith) (omega arith) ∙ holding.1) in
+      (omega arith, now ∙ ap (λ k. placed slots (entries_from k (before ++ e ∷ []))) (sym skip)),
+)

@@ -1,0 +1,43 @@
+-- A search finds one list, of which a choice means one entry, and this gives one date time or one error.
+use Rattle.std.proofs.Common.{◌≡◌, ◌∙◌, inl, inr, refl, sym, ap, subst, List, Option, Some, None}
+use Rattle.std.proofs.lemmas.Option.{same_Some}
+use Rattle.tz_base.specs.Fields.{reading}
+use Rattle.tz_base.specs.declared.error.TzError.{TzError}
+use Rattle.tz_base.specs.declared.fields.Fields.{Fields}
+use Rattle.tz_zone.specs.Clock.{IsClock}
+use Rattle.tz_zone.specs.Table.{Zone}
+use Rattle.tz.specs.DateTimes.{DateTime}
+use Rattle.tz.specs.Meanings.{entry_meant, instant_meant, IsMeantFault, IsMeantIn, IsMeaning, IsMeaningFault}
+use Rattle.tz.specs.declared.datetime.disambiguation.Disambiguation.{Disambiguation}
+use Rattle.tz.specs.declared.datetime.found.FoundDateTimeKind.{FoundDateTimeKind}
+use Rattle.tz.specs.declared.datetime.found.FoundDateTimeKind.TheVariants.{Normal, Skipped}
+use Rattle.tz.proofs.UniqueLists.{found_unique}
+use Rattle.tz.proofs.UniqueResults.{clock_fault_unique, no_fault_where_made, search_fault_unique, shown_unique}
+
+module _ (z : Zone) (choice : Disambiguation) (f : Fields) where
+  meant_unique : (entry : Option FoundDateTimeKind) (d e : Option DateTime) → IsMeantIn z choice f entry d → IsMeantIn z choice f entry e → d ≡ e
+  meant_unique (Some (Normal shown)) (Some d) (Some e) is is' = ap Some (is ∙ sym is')
+  meant_unique (Some (Skipped before after)) (Some d) (Some e) is is' = ap Some (shown_unique z (instant_meant choice (reading f) before after) f.nanoseconds d e is is')
+  meant_unique (Some entry) (Some d) None is is' = absurd is'
+  meant_unique (Some entry) None e is is' = absurd is
+  meant_unique None None None is is' = refl
+  meant_unique None None (Some e) is is' = absurd is'
+  meant_unique None (Some d) e is is' = absurd is
+
+  meant_fault_unique : (entry : FoundDateTimeKind) (e e' : TzError) → IsMeantFault z choice f entry e → IsMeantFault z choice f entry e' → e ≡ e'
+  meant_fault_unique (Normal shown) e e' is is' = absurd is
+  meant_fault_unique (Skipped before after) e e' is is' = clock_fault_unique z (instant_meant choice (reading f) before after) f.nanoseconds e e' is is'
+
+  pub meaning_unique : (d e : Option DateTime) → IsMeaning z choice f d → IsMeaning z choice f e → d ≡ e
+  meaning_unique d e (found, is, meant) (others, is', meant') =
+      let same = found_unique (IsClock z) f others found is' is in
+      meant_unique (entry_meant choice found) d e meant (subst (λ (list : List FoundDateTimeKind). IsMeantIn z choice f (entry_meant choice list) e) same meant')
+
+  pub meaning_fault_unique : (e e' : TzError) → IsMeaningFault z choice f e → IsMeaningFault z choice f e' → e ≡ e'
+  meaning_fault_unique e e' (inl fault) (inl fault') = search_fault_unique z f e e' fault fault'
+  meaning_fault_unique e e' (inl fault) (inr (found, entry, valid, is, made, at, meant)) = absurd (no_fault_where_made z f valid made e fault)
+  meaning_fault_unique e e' (inr (found, entry, valid, is, made, at, meant)) (inl fault) = absurd (no_fault_where_made z f valid made e' fault)
+  meaning_fault_unique e e' (inr (found, entry, valid, is, made, at, meant)) (inr (others, other, valid', is', made', at', meant')) =
+      let same = found_unique (IsClock z) f others found is' is in
+      let one = same_Some other entry (sym at' ∙ ap (entry_meant choice) same ∙ at) in
+      meant_fault_unique entry e e' meant (subst (λ (x : FoundDateTimeKind). IsMeantFault z choice f x e') one meant')

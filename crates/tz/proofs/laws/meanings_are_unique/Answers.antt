@@ -1,0 +1,9 @@
+-- A search finds one list, and of that list one entry is meant.
+use Rattle.tz.proofs.UniqueMeanings.{meaning_unique, meaning_fault_unique}
+use Rattle.tz.proofs.laws.meanings_are_unique.Goals as goal
+
+pub returns-clause-meant : goal.returns-clause-meant
+returns-clause-meant c = meaning_unique
+
+pub returns-clause-refused : goal.returns-clause-refused
+returns-clause-refused c = meaning_fault_unique

@@ -1,0 +1,150 @@
+//! What a local time means in a zone, without a list.
+
+ghost use Rattle.std.specs.Prelude.{◌≡◌, ◌≢◌, List, [], ◌∷◌, length, IfOk, IfErr, OnOk};
+ghost use Rattle.tz.specs.LocalMeanings.{meaning_of};
+ghost use Rattle.tz.specs.MeantSlots.{AreFirstTwo};
+ghost use Rattle.tz.specs.declared.datetime.found.FoundDateTimeKind.{FoundDateTimeKind};
+
+use super::{DateTime, FoundDateTimeKind, UtcDateTime};
+use tz_base::error::TzError;
+use tz_zone::timezone::TimeZoneRef;
+
+/// What a local time means in a zone: the instants at which clocks show it, and the jumps over it.
+#[derive(Clone, Copy, Debug, PartialEq)]
+pub enum Meaning {
+    /// Clocks never show it, and are not set forward over it. This is so if the zone has no clock then.
+    Nothing,
+    /// Clocks show it once.
+    Once(DateTime),
+    /// Clocks show it twice, as when they are set back.
+    Twice {
+        /// The earlier date time.
+        first: DateTime,
+        /// The later one.
+        last: DateTime,
+    },
+    /// Clocks are set forward over it. Both sides have the Unix time of the jump, and the nanoseconds of the local time.
+    Skipped {
+        /// The date time that the clock would have shown without the jump.
+        before_transition: DateTime,
+        /// The date time that the clock shows.
+        after_transition: DateTime,
+    },
+    /// Any other list, as of a jump and a date time, by the number of its entries. [`DateTime::find`] returns them.
+    More(usize),
+}
+
+/// The meaning of one entry.
+fn meaning_of_one(found: &FoundDateTimeKind) -> Meaning
+    ensures { result ≡ meaning_of (found.now ∷ []) }
+{
+    match *found {
+        FoundDateTimeKind::Normal(date_time) => Meaning::Once(date_time),
+        FoundDateTimeKind::Skipped {
+            before_transition,
+            after_transition,
+        } => Meaning::Skipped {
+            before_transition,
+            after_transition,
+        },
+    }
+}
+
+/// The meaning of two entries.
+fn meaning_of_two(first: &FoundDateTimeKind, second: &FoundDateTimeKind) -> Meaning
+    ensures { result ≡ meaning_of (first.now ∷ second.now ∷ []) }
+{
+    match (first, second) {
+        (FoundDateTimeKind::Normal(first), FoundDateTimeKind::Normal(last)) => Meaning::Twice {
+            first: *first,
+            last: *last,
+        },
+        _ => Meaning::More(2),
+    }
+}
+
+/// The meaning of this number of entries, the first two of which are in the slots.
+fn meaning_of(slots: &[Option<FoundDateTimeKind>], count: usize) -> Meaning
+    ensures { (found : List FoundDateTimeKind) → count ≡ length found → AreFirstTwo found slots.now → result ≡ meaning_of found }
+{
+    if slots.len() < count {
+        return Meaning::More(count);
+    }
+    let Some(Some(first)) = slots.first() else {
+        return Meaning::Nothing;
+    };
+    match slots.get(1) {
+        Some(Some(second)) => meaning_of_two(first, second),
+        _ => meaning_of_one(first),
+    }
+}
+
+impl DateTime {
+    ghost use Rattle.tz_base.specs.Fields.{IsValid};
+    ghost use Rattle.tz_zone.specs.Clock.{IsClock};
+    ghost use Rattle.tz_zone.specs.ZoneRef.{zone_of};
+    ghost use Rattle.tz.specs.DateTimes.{fields_of};
+    ghost use Rattle.tz.specs.FindFaults.{IsFindFault, IsPromised};
+    ghost use Rattle.tz.specs.Found.{EachCanBeMade};
+    ghost use Rattle.tz.specs.LocalMeanings.{HasMeaning};
+
+    /// What the fields mean in the zone: how often clocks show them, and whether they are set forward over them. This call does not allocate.
+    ///
+    /// The month is from 1 to 12, the day of the month from 1, the hour from 0 to 23, the minute from 0 to 59, the second from 0 to
+    /// 60 and the nanoseconds below 10^9. They are checked in this order, and then that the month has the day (`InvalidMonthDay`).
+    /// `OutOfRange` is as for [`DateTime::find`].
+    pub fn meaning(
+        year: i32,
+        month: u8,
+        month_day: u8,
+        hour: u8,
+        minute: u8,
+        second: u8,
+        nanoseconds: u32,
+        time_zone_ref: TimeZoneRef<'_>,
+    ) -> Result<Meaning, TzError>
+        ensures ok { IfOk result (HasMeaning (zone_of time_zone_ref.entry) (fields_of year month month_day hour minute second nanoseconds)) }
+        ensures valid { OnOk result (IsValid (fields_of year month month_day hour minute second nanoseconds)) }
+        ensures made { OnOk result (EachCanBeMade (IsClock (zone_of time_zone_ref.entry)) (fields_of year month month_day hour minute second nanoseconds)) }
+        ensures promised { IsPromised (zone_of time_zone_ref.entry) year → IfErr result (λ e. e ≢ TzError.OutOfRange) }
+        ensures err { IfErr result (IsFindFault ⊥ (IsClock (zone_of time_zone_ref.entry)) (fields_of year month month_day hour minute second nanoseconds)) }
+    {
+        let mut slots = [None; 2];
+        let found = DateTime::find_n(
+            &mut slots,
+            year,
+            month,
+            month_day,
+            hour,
+            minute,
+            second,
+            nanoseconds,
+            time_zone_ref,
+        )?;
+        Ok(meaning_of(found.data(), found.count()))
+    }
+
+    /// What the local time means in the zone. The `UtcDateTime` is read as a local time, without an offset. This call does not allocate.
+    ///
+    /// `OutOfRange` is as for [`DateTime::find`].
+    pub fn meaning_local(
+        local: UtcDateTime,
+        time_zone_ref: TimeZoneRef<'_>,
+    ) -> Result<Meaning, TzError>
+        ensures ok { IfOk result (HasMeaning (zone_of time_zone_ref.entry) local) }
+        ensures made { OnOk result (EachCanBeMade (IsClock (zone_of time_zone_ref.entry)) local) }
+        ensures promised { IsPromised (zone_of time_zone_ref.entry) local.year → IfErr result (λ e. e ≢ TzError.OutOfRange) }
+        ensures err { IfErr result (IsFindFault ⊥ (IsClock (zone_of time_zone_ref.entry)) local) }
+    {
+        DateTime::meaning(
+            local.year(),
+            local.month(),
+            local.month_day(),
+            local.hour(),
+            local.minute(),
+            local.second(),
+            local.nanoseconds(),
+            time_zone_ref,
+        )
+    }
+}

@@ -1,0 +1,98 @@
+//! Date times, and what a search finds, as plain data in C's layout. All zeros are valid data.
+
+ghost use Rattle.std.specs.Prelude.{◌≡◌};
+ghost use Rattle.tz.specs.DateTimes.{IsDateTime};
+ghost use Rattle.tz.specs.Plain.{IsUtcData, date_time_data, found_data};
+
+use super::{DateTime, FoundDateTimeKind, UtcDateTime};
+use tz_base::fields::Fields;
+use tz_rule::timezone::LocalTimeType;
+
+/// The data of a [`UtcDateTime`], which lies as that does.
+#[repr(C)]
+#[derive(Clone, Copy)]
+pub struct UtcData {
+    /// The fields.
+    pub fields: Fields,
+    /// Their reading.
+    pub unix_time: i64,
+}
+
+/// The data of a [`DateTime`], which lies as that does.
+#[repr(C)]
+#[derive(Clone, Copy)]
+pub struct DateTimeData {
+    /// The fields.
+    pub fields: Fields,
+    /// The type that shows them.
+    pub local_time_type: LocalTimeType,
+    /// Its Unix time.
+    pub unix_time: i64,
+}
+
+/// The data of a [`FoundDateTimeKind`].
+#[repr(C)]
+#[derive(Clone, Copy)]
+pub struct FoundData {
+    /// Whether the clock was set forward over the date time.
+    pub is_skipped: bool,
+    /// The date time, or the one before the jump.
+    pub before: DateTimeData,
+    /// The date time, or the one after the jump.
+    pub after: DateTimeData,
+}
+
+impl UtcData {
+    /// The data of a date time.
+    #[inline(always)]
+    pub fn of(date_time: &UtcDateTime) -> Self
+        ensures fields { result.fields ≡ date_time.now }
+        ensures value { IsUtcData result }
+    {
+        date_time.parts_are_sound();
+        UtcData {
+            fields: *date_time.fields(),
+            unix_time: date_time.unix_time(),
+        }
+    }
+}
+
+impl DateTimeData {
+    /// The data of a date time.
+    #[inline(always)]
+    pub fn of(date_time: &DateTime) -> Self
+        ensures value { result ≡ date_time_data date_time.now }
+        ensures sound { IsDateTime date_time.now }
+    {
+        date_time.parts_are_sound();
+        DateTimeData {
+            fields: *date_time.fields(),
+            local_time_type: *date_time.local_time_type(),
+            unix_time: date_time.unix_time(),
+        }
+    }
+}
+
+impl FoundData {
+    /// The data of what is found.
+    #[inline(always)]
+    pub fn of(found: &FoundDateTimeKind) -> Self
+        ensures { result ≡ found_data found.now }
+    {
+        match found {
+            FoundDateTimeKind::Normal(date_time) => FoundData {
+                is_skipped: false,
+                before: DateTimeData::of(date_time),
+                after: DateTimeData::of(date_time),
+            },
+            FoundDateTimeKind::Skipped {
+                before_transition,
+                after_transition,
+            } => FoundData {
+                is_skipped: true,
+                before: DateTimeData::of(before_transition),
+                after: DateTimeData::of(after_transition),
+            },
+        }
+    }
+}
