@@ -28,24 +28,14 @@ pub fn next_daily_run(
     Ok(None)
 }
 
-/// When an alarm rings that is set to a local time: at the first instant at which clocks show it or are set forward over it. There is
-/// none where the zone has no clock then.
+/// When an alarm rings that is set to a local time: at the first instant at which clocks show it or are set forward over it. At a jump it
+/// rings as many nanoseconds late as the local time has. It does not ring if the zone has no clock then.
 pub fn alarm(
     alloc: Global,
     zone: TimeZoneRef<'_>,
     local: UtcDateTime,
 ) -> Result<Option<DateTime>, TzError> {
-    let found = DateTime::find(
-        alloc,
-        local.year(),
-        local.month(),
-        local.month_day(),
-        local.hour(),
-        local.minute(),
-        local.second(),
-        local.nanoseconds(),
-        zone,
-    )?;
+    let found = DateTime::find_local(alloc, local, zone)?;
     Ok(match found.into_inner().as_slice() {
         [] => None,
         [FoundDateTimeKind::Normal(date_time), ..] => Some(*date_time),
@@ -62,18 +52,7 @@ pub fn alarm(
 /// How many instants and jumps a local time has, found without memory: 1 nearly always, 2 where clocks show it twice.
 pub fn count_meanings(zone: TimeZoneRef<'_>, local: UtcDateTime) -> Result<usize, TzError> {
     let mut slots = [None; 2];
-    let found = DateTime::find_n(
-        &mut slots,
-        local.year(),
-        local.month(),
-        local.month_day(),
-        local.hour(),
-        local.minute(),
-        local.second(),
-        local.nanoseconds(),
-        zone,
-    )?;
-    Ok(found.count())
+    Ok(DateTime::find_n_local(&mut slots, local, zone)?.count())
 }
 
 /// A meeting at one local time each week. Weeks are added to the local time, not to the first instant: an hour may be lost or

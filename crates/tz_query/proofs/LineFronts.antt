@@ -1,6 +1,6 @@
 -- Where the first line ends, and that what a line asks for is what stands in front.
 use Rattle.std.proofs.Common.{◌≡◌, ◌≢◌, ℕ, ◌+◌, ◌<◌, ◌^◌, inl, inr, ℤ, pos, negsuc, nat_abs, List, [], ◌∷◌, ◌++◌, length, take, drop, get_or, refl, sym, ap, ◌∙◌, subst, arith, append-nil, ◌-◌, ◌≤◌, append_assoc}
-use Rattle.std.specs.Prelude.{FitsSigned, All, Option, Some, None, Result, Ok, Err, IfOk, IfErr, OkIff, MatchOption}
+use Rattle.std.specs.Prelude.{FitsSigned, All, Some, None, Result, Ok, Err, IfOk, IfErr, OkIff}
 use Rattle.std.specs.Result.{result_ok}
 use Rattle.std.specs.Int.{w64, FitsUnsignedBits}
 use Rattle.std.specs.Char.{digit_value}
@@ -181,12 +181,3 @@ none_if_err (Err e) P is none = is
 pub some_if_ok : {T E : Type 0} (r : Result T E) (P : T → Type 0) (x : T) → IfOk r P → result_ok r ≡ Some x → P x
 some_if_ok (Ok y) P x is some = subst P (cc some) is
 some_if_ok (Err e) P x is some = absurd (cc some)
-
--- the first line's query, where it is some or none
-pub query_is : (line : List ℕ) (asked : Option Query) (given query : Query) → MatchOption asked ((other : Query) → ¬ IsQueryLine line other) (λ other. IsQueryLine line other) → asked ≡ Some given → given ≡ query → IsQueryLine line query
-query_is line None given query is some same = absurd (cc some)
-query_is line (Some other) given query is some same = subst (IsQueryLine line) (cc (some, same)) is
-
-pub query_is_none : (line : List ℕ) (asked : Option Query) → MatchOption asked ((other : Query) → ¬ IsQueryLine line other) (λ other. IsQueryLine line other) → asked ≡ None → (query : Query) → ¬ IsQueryLine line query
-query_is_none line None is none = is
-query_is_none line (Some other) is none = absurd (cc none)

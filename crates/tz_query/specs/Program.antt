@@ -1,10 +1,13 @@
 -- What a run of the program has read and written.
 -- What the reader of files can answer for a path is a relation, as it is for the settings.
-use Rattle.std.specs.Prelude.{◌≡◌, ℕ, ◌⊎◌, ℤ, List, [], ◌∷◌, Option, None, Ok, Vec, vec_items, map, codes, FitsSigned}
+use Rattle.std.specs.Prelude.{◌≡◌, ◌≢◌, ℕ, ◌⊎◌, ℤ, List, [], ◌∷◌, Option, None, Ok, Err, Vec, vec_items, map, codes, alloc_error, FitsSigned}
 use Rattle.std.specs.Borrow.{Bor}
 use Rattle.std.specs.Int.{w32}
 use Rattle.std.specs.declared.alloc.Global.{Global}
-use Rattle.tz_rule.specs.LocalTimeType.{plain_type}
+use Rattle.tz_base.specs.declared.error.Error.TheVariants.{Tz}
+use Rattle.tz_base.specs.declared.error.TzError.{TzError}
+use Rattle.tz_base.specs.declared.error.TzError.TheVariants.{Memory as NoMemory}
+use Rattle.tz_rule.specs.LocalTimeType.{plain_type, IsOffset}
 use Rattle.tz_zone.specs.Settings.{Read, IsSettingsAnswer}
 use Rattle.tz_zone.specs.Table.{Zone, zone_with}
 use Rattle.tz_zone.specs.TzFile.{IsTzFile}
@@ -45,6 +48,29 @@ IsZoneOfOption reads option value zone =
 -- two arguments name a zone, an option and its value
 abbrev pub NamesZone : (List ℕ → Read → Type 0) → List (List ℕ) → Zone → Type 0
 NamesZone reads arguments zone = (option : List ℕ) × (value : List ℕ) × (arguments ≡ option ∷ value ∷ []) × IsZoneOfOption reads option value zone
+
+-- a number is an offset of 32 bits that no local time type has
+abbrev pub IsRefusedOffset : List ℕ → Type 0
+IsRefusedOffset number = (offset : ℤ) × IsNumber number offset × FitsSigned w32 offset × ¬ IsOffset offset
+
+-- the reader can answer bytes for a path that denote no zone
+abbrev pub IsRefusedFile : (List ℕ → Read → Type 0) → List ℕ → Type 0
+IsRefusedFile reads path = (bytes : Vec ℕ Global) × reads path (Ok bytes) × ((zone : Zone) → ¬ IsTzFile (vec_items bytes) zone)
+
+-- the settings can answer a TZ string with a fault of the string, or of the file that it names
+abbrev pub IsRefusedText : (List ℕ → Read → Type 0) → List ℕ → Type 0
+IsRefusedText reads text = (e : TzError) × IsSettingsAnswer reads usual_directories text (Err (Tz e)) × (e ≢ NoMemory alloc_error)
+
+-- the value of an option makes no zone
+abbrev pub IsRefusedOption : (List ℕ → Read → Type 0) → List ℕ → List ℕ → Type 0
+IsRefusedOption reads option value =
+    ((option ≡ codes "-o") × IsRefusedOffset value)
+    ⊎ ((option ≡ codes "-f") × IsRefusedFile reads value)
+    ⊎ ((option ≡ codes "-z") × IsRefusedText reads value)
+
+-- two arguments are an option and a value that makes no zone
+abbrev pub NamesRefusedZone : (List ℕ → Read → Type 0) → List (List ℕ) → Type 0
+NamesRefusedZone reads arguments = (option : List ℕ) × (value : List ℕ) × (arguments ≡ option ∷ value ∷ []) × IsRefusedOption reads option value
 
 -- the input is read to its end, and its answers over the zone of the arguments are written, where the bytes of input and output are known
 pub record AnswersInput (reads : List ℕ → Read → Type 0) (arguments : List (List ℕ)) (unread left written now : Option (List ℕ)) : Type 0 where

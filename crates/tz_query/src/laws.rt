@@ -1,4 +1,4 @@
-//! Laws of query lines and their answers. A function here does nothing, or calls the laws of the crates below on which it rests. Its contract is the
+//! Laws of query lines and their answers. A function here does nothing, or calls the laws on which it rests. Its contract is the
 //! law, in the words of the contract of [`crate::query::answer`].
 
 ghost use Rattle.std.specs.Prelude.{◌≡◌, ℕ, ℤ, List, [], ◌∷◌, ◌++◌, All};
@@ -6,14 +6,17 @@ ghost use Rattle.std.specs.List.{AllZip, flat_map};
 ghost use Rattle.tz_rule.specs.LocalTimeType.{LocalTimeType, IsLocalTimeType};
 ghost use Rattle.tz_zone.specs.Clock.{IsClock};
 ghost use Rattle.tz_zone.specs.Table.{Zone};
+ghost use Rattle.tz_zone.specs.ZoneRef.{zone_of};
 ghost use Rattle.tz_query.specs.Lines.{line_feed, IsLine, AreLines, ended};
 ghost use Rattle.tz_query.specs.Answers.{AreAnswers, IsAnswer, IsGroup};
 
+use tz::TimeZoneRef;
 use tz::laws::{
     field_errors_are_unique, found_lists_are_unique, lookups_have_one_result,
     search_errors_are_unique,
 };
 use tz_base::laws::civil_fields_are_unique;
+use tz_zone::laws::shown_types_are_sound;
 
 /// Bytes are cut into lines in one way.
 pub fn lines_are_unique()
@@ -30,6 +33,14 @@ pub fn each_line_has_a_group_of_answer_lines()
     ensures lines { (z : Zone) (line : List ℕ) (answer : List (List ℕ)) → ((u : ℤ) (t : LocalTimeType) → IsClock z u t → IsLocalTimeType t)
         → IsAnswer z line answer → All IsLine answer }
 {}
+
+/// No line of an answer over a zone holds an LF.
+pub fn answers_are_cut_into_lines(zone: &TimeZoneRef<'_>)
+    ensures { (line : List ℕ) (answer : List (List ℕ)) → IsAnswer (zone_of zone.now) line answer → All IsLine answer }
+{
+    shown_types_are_sound(zone);
+    each_line_has_a_group_of_answer_lines();
+}
 
 /// Query bytes may be answered in pieces, each but the last of which ends in LF: the answers of two pieces are those of both, one after the
 /// other, and the answers of both can be cut into these.

@@ -10,6 +10,8 @@ mod fast;
 #[cfg(test)]
 mod growths;
 #[cfg(test)]
+mod large;
+#[cfg(test)]
 mod lines;
 #[cfg(test)]
 mod meetings;

@@ -24,10 +24,19 @@ const UTC_V4: &[u8] = b"TZif4\
     \0\0\0\0\x65\x53\xf1\0\0\0\0\x1b\
     \n\n";
 
-/// The files: two of UTC, one cut short, and one for which there is no memory.
+/// A file of version 1 with one type, UTC, and a leap second before 1970.
+const EARLY_LEAP_SECOND: &[u8] = b"TZif\0\
+    \0\0\0\0\0\0\0\0\0\0\0\0\0\0\0\
+    \0\0\0\0\0\0\0\0\0\0\0\x01\0\0\0\0\0\0\0\x01\0\0\0\x04\
+    \0\0\0\0\0\0UTC\0\
+    \xff\xff\xff\xff\0\0\0\x01";
+
+/// The files: three of UTC, one without bytes, one cut short, one whose parts make no zone, and one for which there is no memory.
 fn file_at(alloc: Global, path: &str) -> Result<Vec<u8>, ReadFault> {
-    static FILES: [(&str, &[u8]); 4] = [
+    static FILES: [(&str, &[u8]); 6] = [
         ("/utc", UTC_V1),
+        ("/empty", b""),
+        ("/early_leap_second", EARLY_LEAP_SECOND),
         ("/utc_v4", UTC_V4),
         ("/usr/share/zoneinfo/Zone/UTC", UTC_V1),
         ("/cut", b"TZif"),
@@ -154,6 +163,11 @@ fn answers_over_the_zone_of_the_arguments(rt: HostRuntime) -> Result<(), Fail> {
 static REFUSED_ZONES: &str = "\
 -o -2147483648 | invalid local time type: invalid UTC offset
 -f /cut | invalid TZ file: unexpected end of data
+-f /empty | invalid TZ file: unexpected end of data
+-f /early_leap_second | invalid time zone: invalid leap second
+-z /empty | invalid TZ file: unexpected end of data
+-z /early_leap_second | invalid time zone: invalid leap second
+-z A0B0,J59/24:0:1,J60/0 | invalid transition rule: DST transition rules are not consistent from one year to another
 -z /cut | invalid TZ file: unexpected end of data
 -z EET-2EEST | invalid TZ string: missing DST start and end rules
 -z  | invalid TZ string: empty TZ string
@@ -275,11 +289,16 @@ fn names_streams_that_fail(rt: HostRuntime) -> Result<(), Fail> {
 }
 
 /// Options with their values, and what the program does where no byte can be read.
-static FAULTS_OF_ZONES: [(&str, &str, &str); 5] = [
+static FAULTS_OF_ZONES: [(&str, &str, &str); 6] = [
     ("-x", "0", "1||tzq: bad arguments\n"),
     ("-o", "x", "1||tzq: bad arguments\n"),
     ("-f", "/none", "1||tzq: cannot read file\n"),
     ("-f", "/large", "1||tzq: no memory\n"),
+    (
+        "-f",
+        "/early_leap_second",
+        "2||tzq: zone refused: invalid time zone: invalid leap second\n",
+    ),
     (
         "-z",
         "/cut",
@@ -291,6 +310,32 @@ static FAULTS_OF_ZONES: [(&str, &str, &str); 5] = [
 fn the_zone_is_made_before_a_byte_is_read(rt: HostRuntime) -> Result<(), Fail> {
     for (option, value, want) in &FAULTS_OF_ZONES {
         expect_outcome_of_failing(&rt, rt.alloc(), &[option, value], (0, 9, 9), want)?;
+    }
+    Ok(())
+}
+
+/// Of nine reads and nine writes that would succeed, how many the program leaves.
+fn calls_left(alloc: Global, arguments: &[&str]) -> (u8, u8) {
+    let mut input = FailingReader {
+        bytes: b"T 0 0\n",
+        calls: 9,
+    };
+    let mut out = failing_after(alloc, 9);
+    let mut err = Vec::new(alloc);
+    let reader = |path: &str| file_at(alloc, path);
+    tool(alloc, arguments, reader, &mut input, &mut out, &mut err);
+    (input.calls, out.calls)
+}
+
+#[test]
+fn without_a_zone_it_neither_reads_nor_writes(rt: HostRuntime) -> Result<(), Fail> {
+    for (option, value, _) in &FAULTS_OF_ZONES {
+        let left = calls_left(rt.alloc(), &[option, value]);
+        expect_eq_for(&rt, value, &left, &(9, 9));
+    }
+    for arguments in &BAD_ARGUMENTS {
+        let left = calls_left(rt.alloc(), arguments);
+        expect_eq_for(&rt, arguments, &left, &(9, 9));
     }
     Ok(())
 }

@@ -1,10 +1,12 @@
 //! The program over arguments, a file reader, an input and outputs that are passed in.
 
-ghost use Rattle.std.specs.Prelude.{◌≡◌, ◌≤◌, ◌⊎◌, ℤ, IfSome, IfNone, IfOk, FitsSigned};
+ghost use Rattle.std.specs.Prelude.{◌≡◌, ◌≤◌, ◌⊎◌, ℤ, IfSome, IfNone, IfOk, IfErr, FitsSigned};
 ghost use Rattle.std.specs.Fn.{FnReturnsAt};
 ghost use Rattle.std.specs.Int.{w32};
 ghost use Rattle.tz_query.specs.Numbers.{IsNumber};
-ghost use Rattle.tz_query.specs.Program.{texts_of, NamesZone, AnswersInput, BeginsAnswers};
+ghost use Rattle.tz_query.specs.Program.{texts_of, NamesZone, NamesRefusedZone, AnswersInput, BeginsAnswers};
+ghost use Rattle.tz_base.specs.declared.error.TzError.{TzError};
+ghost use Rattle.tz_zone.specs.Table.{Zone};
 ghost use Rattle.tz_zone.specs.ZoneRef.{own_zone_of};
 
 use crate::query::numbers::read_number;
@@ -30,12 +32,50 @@ enum Fault {
     Run(RunFault),
 }
 
+impl From<TzError> for Fault {
+    ghost use Rattle.std.specs.Prelude.{◌≡◌, ◌≢◌, alloc_error};
+    ghost use Rattle.tz_base.specs.declared.error.TzError.{TzError};
+    ghost use Rattle.tz_base.specs.declared.error.TzError.TheVariants as refusals;
+    ghost use Rattle.tz_query.specs.declared.query.program.Fault.TheVariants as faults;
+
+    ghost from_gives = { λ error fault. (refused : TzError) → fault ≡ faults.Zone refused → (error ≡ refused) × (refused ≢ refusals.Memory alloc_error) };
+
+    fn from(error: TzError) -> Self {
+        match error {
+            TzError::Memory(_) => Fault::Memory,
+            error => Fault::Zone(error),
+        }
+    }
+}
+
 impl From<tz::Error> for Fault {
+    ghost use Rattle.std.specs.Prelude.{◌≡◌, ◌≢◌, alloc_error};
+    ghost use Rattle.tz_base.specs.declared.error.Error.TheVariants.{Tz};
+    ghost use Rattle.tz_base.specs.declared.error.TzError.{TzError};
+    ghost use Rattle.tz_base.specs.declared.error.TzError.TheVariants as refusals;
+    ghost use Rattle.tz_query.specs.declared.query.program.Fault.TheVariants as faults;
+
+    ghost from_gives = { λ error fault. (refused : TzError) → fault ≡ faults.Zone refused → (error ≡ Tz refused) × (refused ≢ refusals.Memory alloc_error) };
+
     fn from(error: tz::Error) -> Self {
         match error {
             tz::Error::Io(_) => Fault::File,
-            tz::Error::Tz(TzError::Memory(_)) => Fault::Memory,
-            tz::Error::Tz(error) => Fault::Zone(error),
+            tz::Error::Tz(error) => Fault::from(error),
+        }
+    }
+}
+
+impl From<ReadFault> for Fault {
+    ghost use Rattle.std.specs.Prelude.{◌≢◌};
+    ghost use Rattle.tz_base.specs.declared.error.TzError.{TzError};
+    ghost use Rattle.tz_query.specs.declared.query.program.Fault.TheVariants as faults;
+
+    ghost from_gives = { λ _ fault. (refused : TzError) → fault ≢ faults.Zone refused };
+
+    fn from(fault: ReadFault) -> Self {
+        match fault {
+            ReadFault::Memory(_) => Fault::Memory,
+            ReadFault::Failed(_) => Fault::File,
         }
     }
 }
@@ -58,19 +98,17 @@ fn zone_of_arguments<A: Allocator + Copy, F: Fn(&str) -> Result<Vec<u8>, ReadFau
     reader: F,
 ) -> Result<TimeZone<A>, Fault>
     requires { F.IsAlwaysCallable reader }
-    ensures { IfOk result (λ zone. NamesZone (FnReturnsAt F.Fn reader) (texts_of arguments.now) (own_zone_of zone)) }
+    ensures ok { IfOk result (λ zone. NamesZone (FnReturnsAt F.Fn reader) (texts_of arguments.now) (own_zone_of zone)) }
+    ensures refused { IfErr result (λ fault. (e : TzError) → fault ≡ Fault.Zone e → NamesRefusedZone (FnReturnsAt F.Fn reader) (texts_of arguments.now)) }
 {
     match arguments {
         ["-o", number] => {
             let ut_offset = read_offset(number).ok_or(Fault::Arguments)?;
-            Ok(TimeZone::fixed(alloc, ut_offset).map_err(tz::Error::from)?)
+            Ok(TimeZone::fixed(alloc, ut_offset)?)
         }
         ["-f", path] => {
-            let bytes = reader(path).map_err(|fault| match fault {
-                ReadFault::Memory(_) => Fault::Memory,
-                ReadFault::Failed(_) => Fault::File,
-            })?;
-            Ok(TimeZone::from_tz_data(alloc, &bytes).map_err(tz::Error::from)?)
+            let bytes = reader(path)?;
+            Ok(TimeZone::from_tz_data(alloc, &bytes)?)
         }
         ["-z", text] => Ok(TimeZone::from_posix_tz(alloc, reader, text)?),
         _ => Err(Fault::Arguments),
@@ -99,6 +137,9 @@ where
     E: Write,
     requires { F.IsAlwaysCallable reader }
     ensures status { result ≤ 2 }
+    ensures refused { result ≡ 2 → NamesRefusedZone (FnReturnsAt F.Fn reader) (texts_of arguments.now) }
+    ensures unread { (result ≡ 2) ⊎ ((zone : Zone) → ¬ NamesZone (FnReturnsAt F.Fn reader) (texts_of arguments.now) zone)
+        → (input.new ≡ input.old) × (out.new ≡ out.old) }
     ensures answered { result ≡ 0 → AnswersInput (FnReturnsAt F.Fn reader) (texts_of arguments.now) (R.remaining input.old) (R.remaining input.new) (W.contents out.old) (W.contents out.new) }
     ensures written { (out.new ≡ out.old)
         ⊎ BeginsAnswers (FnReturnsAt F.Fn reader) (texts_of arguments.now) (R.remaining input.old) (R.remaining input.new) (W.contents out.old) (W.contents out.new) }

@@ -1,17 +1,21 @@
--- Each option has its letter, and names the zone of its value.
-use Rattle.std.proofs.Common.{◌≡◌, ◌≤◌, ◌<◌, ℕ, true, List, [], ◌∷◌, length, get_or, inl, inr, refl, ap, subst, ◌∙◌, arith}
-use Rattle.std.specs.Prelude.{Option, Some, Result, Ok, Err, IfSome, MatchResult}
-use Rattle.std.specs.Result.{is_ok}
+-- Each option has its letter, and names the zone of its value, or a value that makes none.
+use Rattle.std.proofs.Common.{◌≡◌, ◌≢◌, ◌≤◌, ◌<◌, ◌⊎◌, ℕ, ℤ, List, [], ◌∷◌, length, get_or, inl, inr, refl, sym, ap, subst, ◌∙◌, arith}
+use Rattle.std.specs.Prelude.{Option, Some, Err, IfSome, alloc_error}
 use Rattle.std.specs.Borrow.{Bor}
 use Rattle.std.proofs.lemmas.Fn.{says_at}
 use Rattle.std.proofs.lemmas.Int.{to_z-of_z}
-use Rattle.std.proofs.lemmas.Result.{IfOk-at_ok}
+use Rattle.std.proofs.lemmas.Result.{err_from_is_err_and}
 use mir.Syntax.{w32}
-use Rattle.tz_zone.specs.Settings.{Read}
+use Rattle.tz_base.specs.declared.error.Error.{Error}
+use Rattle.tz_base.specs.declared.error.Error.TheVariants.{Tz}
+use Rattle.tz_base.specs.declared.error.TzError.{TzError}
+use Rattle.tz_base.specs.declared.error.TzError.TheVariants.{Memory}
+use Rattle.tz_rule.specs.LocalTimeType.{IsOffset}
+use Rattle.tz_zone.specs.Settings.{Read, IsSettingsAnswer}
 use Rattle.tz_zone.specs.Table.{Zone}
 use Rattle.tz_zone.specs.TzFile.{IsTzFile}
 use Rattle.tz_zone.specs.ZoneRef.{own_zone_of}
-use Rattle.tz_query.specs.Program.{texts_of, fixed_zone, IsZoneOfOption, NamesZone}
+use Rattle.tz_query.specs.Program.{texts_of, fixed_zone, usual_directories, IsZoneOfOption, IsRefusedOption, IsRefusedText, NamesZone, NamesRefusedZone}
 use Rattle.tz_query.proofs.query.program.zone_of_arguments.Goals as goal
 
 -- two arguments are an option and its value
@@ -22,33 +26,70 @@ names (option ∷ []) none least most is = absurd (omega arith)
 names (option ∷ value ∷ []) none least most is = (option.now, value.now, refl, is)
 names (option ∷ value ∷ other ∷ more) none least most is = absurd (omega arith)
 
--- a value whose error is mapped was there before
-value_before : {T E D : Type 0} (r : Result T E) (s : Result T D) (x : T) (Q : E → Type 0) → MatchResult r (λ y. s ≡ Ok y) Q → is_ok s ≡ is_ok r → s ≡ Ok x → r ≡ Ok x
-value_before (Ok y) s x Q same variant was = cc
-value_before (Err e) s x Q other variant was = let is : is_ok s ≡ true = ap is_ok was in cc
+refuses : {reads : List ℕ → Read → Type 0} (arguments : List (Bor (List ℕ))) (none : Bor (List ℕ)) → 2 ≤ length arguments → length arguments < 3 →
+    IsRefusedOption reads (get_or arguments 0 none).now (get_or arguments 1 none).now → NamesRefusedZone reads (texts_of arguments)
+refuses [] none least most is = absurd (omega arith)
+refuses (option ∷ []) none least most is = absurd (omega arith)
+refuses (option ∷ value ∷ []) none least most is = (option.now, value.now, refl, is)
+refuses (option ∷ value ∷ other ∷ more) none least most is = absurd (omega arith)
 
 value_in : {T : Type 0} (o : Option T) (x : T) (P : T → Type 0) → o ≡ Some x → IfSome o P → P x
 value_in o x P is known = subst (λ v. IfSome v P) is known
 
-pub returns-in_ok-map_err-in-text : goal.returns-in_ok-map_err-in-text
-returns-in_ok-map_err-in-text g c =
+-- an error other than out of memory is of the offset
+offset_refused : {F : Type 0} (offset given : ℤ) (error e : TzError) → given ≡ offset → (F × ¬ IsOffset given) ⊎ ((error ≡ Memory alloc_error) × IsOffset given) →
+    (error ≡ e) × (e ≢ Memory alloc_error) → ¬ IsOffset offset
+offset_refused offset given error e same (inl (fault, not)) is = subst (λ v. ¬ IsOffset v) same not
+offset_refused offset given error e same (inr (memory, fits)) (is, not) = absurd (not (sym is ∙ memory))
+
+-- and of bytes that are no file
+file_refused : (bytes : List ℕ) (error e : TzError) → ((zone : Zone) → IsTzFile bytes zone → error ≡ Memory alloc_error) → (error ≡ e) × (e ≢ Memory alloc_error) →
+    (zone : Zone) → ¬ IsTzFile bytes zone
+file_refused bytes error e only (is, not) = λ zone of. not (sym is ∙ only zone of)
+
+-- and of a string that the settings refuse
+text_refused : (reads : List ℕ → Read → Type 0) (text : List ℕ) (error : Error) (e : TzError) → (error ≡ Tz (Memory alloc_error)) ⊎ IsSettingsAnswer reads usual_directories text (Err error) →
+    (error ≡ Tz e) × (e ≢ Memory alloc_error) → IsRefusedText reads text
+text_refused reads text error e (inl memory) (is, not) = let same : e ≡ Memory alloc_error = cc in absurd (not same)
+text_refused reads text error e (inr answer) (is, not) = (e, subst (λ x. IsSettingsAnswer reads usual_directories text (Err x)) is answer, not)
+
+pub returns-in_ok-fixed-in-text-clause-ok : goal.returns-in_ok-fixed-in-text-clause-ok
+returns-in_ok-fixed-in-text-clause-ok g c =
     let offset = c.in_ok-ut_offset-in-text.ut_offset in
     let number = value_in c.read_offset.result offset _ c.in_ok-ut_offset-in-text.ensures.ok_part c.read_offset.ensures.some in
-    let made = value_before c.fixed.result c.map_err.result c.in_ok-map_err-in-text.field-0 _ c.map_err.ensures.cases c.map_err.ensures.variant c.in_ok-map_err-in-text.was in
-    let zone = IfOk-at_ok _ made c.fixed.ensures.ok in
     names c.args.arguments.now _ c.in-text.len_at_least c.in-text.len_below
-    (inl (c.in-text.is-text, (offset, number.0, number.1, zone.1 ∙ ap fixed_zone (to_z-of_z w32 offset number.1))))
+    (inl (c.in-text.is-text, (offset, number.0, number.1, c.in_ok-fixed-in-text.ensures.ok.1 ∙ ap fixed_zone (to_z-of_z w32 offset number.1))))
 
-pub returns-in_ok-map_err-in-text-2 : goal.returns-in_ok-map_err-in-text-2
-returns-in_ok-map_err-in-text-2 g c =
+pub returns-in_err-fixed-in-text-clause-refused : goal.returns-in_err-fixed-in-text-clause-refused
+returns-in_err-fixed-in-text-clause-refused g c =
+    let offset = c.in_ok-ut_offset-in-text.ut_offset in
+    let number = value_in c.read_offset.result offset _ c.in_ok-ut_offset-in-text.ensures.ok_part c.read_offset.ensures.some in
+    let p = err_from_is_err_and c.from_residual-in_err-fixed-in-text.result c.from_residual-in_err-fixed-in-text.ensures.1 in
+    rw p.1 (λ e is. refuses c.args.arguments.now _ c.in-text.len_at_least c.in-text.len_below
+    (inl (c.in-text.is-text, (offset, number.0, number.1, offset_refused offset _ _ e (to_z-of_z w32 offset number.1) c.in_err-fixed-in-text.ensures.err (p.2 e is)))))
+
+pub returns-in_ok-from_tz_data-in-text-2-clause-ok : goal.returns-in_ok-from_tz_data-in-text-2-clause-ok
+returns-in_ok-from_tz_data-in-text-2-clause-ok g c =
     let bytes = c.in_ok-bytes-in-text-2.bytes in
-    let zone = c.in_ok-map_err-in-text-2.field-0 in
-    let read = value_before c.reader.result c.map_err-in-text-2.result bytes _ c.map_err-in-text-2.ensures.cases c.map_err-in-text-2.ensures.variant c.in_ok-bytes-in-text-2.was in
-    let made = value_before c.from_tz_data.result c.map_err-in-text-2-2.result zone _ c.map_err-in-text-2-2.ensures.cases c.map_err-in-text-2-2.ensures.variant c.in_ok-map_err-in-text-2.was in
+    let zone = c.in_ok-from_tz_data-in-text-2.field-0 in
     let IsFile : List ℕ → Type 0 = λ bs. IsTzFile bs (own_zone_of zone) in
     names c.args.arguments.now _ c.in-text-2.len_at_least c.in-text-2.len_below
-    (inr (inl (c.in-text-2.is-text, (bytes, says_at g.F.Fn c.reader.ensures read, subst IsFile c.deref.ensures.value (IfOk-at_ok _ made c.from_tz_data.ensures.ok)))))
+    (inr (inl (c.in-text-2.is-text, (bytes, says_at g.F.Fn c.reader.ensures c.in_ok-bytes-in-text-2.was, subst IsFile c.deref.ensures.value c.in_ok-from_tz_data-in-text-2.ensures.ok))))
 
-pub returns-in_ok-from_posix_tz-in-text-3 : goal.returns-in_ok-from_posix_tz-in-text-3
-returns-in_ok-from_posix_tz-in-text-3 g c =
+pub returns-in_err-from_tz_data-in-text-2-clause-refused : goal.returns-in_err-from_tz_data-in-text-2-clause-refused
+returns-in_err-from_tz_data-in-text-2-clause-refused g c =
+    let bytes = c.in_ok-bytes-in-text-2.bytes in
+    let p = err_from_is_err_and c.from_residual-in_err-from_tz_data-in-text-2.result c.from_residual-in_err-from_tz_data-in-text-2.ensures.1 in
+    let IsNone : List ℕ → Type 0 = λ bs. (zone : Zone) → ¬ IsTzFile bs zone in
+    rw p.1 (λ e is. refuses c.args.arguments.now _ c.in-text-2.len_at_least c.in-text-2.len_below
+    (inr (inl (c.in-text-2.is-text, (bytes, says_at g.F.Fn c.reader.ensures c.in_ok-bytes-in-text-2.was, subst IsNone c.deref.ensures.value (file_refused _ _ e c.in_err-from_tz_data-in-text-2.ensures.only (p.2 e is)))))))
+
+pub returns-in_ok-from_posix_tz-in-text-3-clause-ok : goal.returns-in_ok-from_posix_tz-in-text-3-clause-ok
+returns-in_ok-from_posix_tz-in-text-3-clause-ok g c =
     names c.args.arguments.now _ c.in-text-3.len_at_least c.in-text-3.len_below (inr (inr (c.in-text-3.is-text, c.in_ok-from_posix_tz-in-text-3.ensures)))
+
+pub returns-in_err-from_posix_tz-in-text-3-clause-refused : goal.returns-in_err-from_posix_tz-in-text-3-clause-refused
+returns-in_err-from_posix_tz-in-text-3-clause-refused g c =
+    let p = err_from_is_err_and c.from_residual-in_err-from_posix_tz-in-text-3.result c.from_residual-in_err-from_posix_tz-in-text-3.ensures.1 in
+    rw p.1 (λ e is. refuses c.args.arguments.now _ c.in-text-3.len_at_least c.in-text-3.len_below
+    (inr (inr (c.in-text-3.is-text, text_refused _ _ _ e c.in_err-from_posix_tz-in-text-3.ensures (p.2 e is)))))

@@ -1,0 +1,40 @@
+//! Queries and answers of a megabyte: no proof says that there is memory for them.
+
+use crate::expect::expect_eq;
+use std::alloc::{AllocError, Global};
+use std::test::Fail;
+use tz::TimeZoneRef;
+use tz_query::query::{answer, run};
+
+/// A line whose answer has nearly ten thousand bytes.
+const MEETING: &[u8] = b"W 255 2000 10 15 2 30 0 0\n";
+
+/// Bytes, as often as this.
+fn repeated(alloc: Global, bytes: &[u8], times: u16) -> Result<Vec<u8>, AllocError> {
+    let mut all = Vec::new(alloc);
+    for _ in 0..times {
+        all.extend_from_slice(bytes)?;
+    }
+    Ok(all)
+}
+
+#[test]
+fn a_megabyte_is_answered(rt: HostRuntime) -> Result<(), Fail> {
+    let zone = TimeZoneRef::utc();
+    let of_meeting = answer(rt.alloc(), zone, MEETING)?;
+    assert!(rt; of_meeting.len() > 9_000);
+    let mut queries = repeated(rt.alloc(), MEETING, 100)?;
+    queries.extend_from_slice(&repeated(rt.alloc(), &[b'x'; 1000], 1000)?)?;
+    let mut answers = repeated(rt.alloc(), &of_meeting, 100)?;
+    answers.extend_from_slice(b"E Line\n")?;
+    let found = answer(rt.alloc(), zone, &queries)?;
+    expect_eq(&rt, &(found == answers), &true);
+    let (mut input, mut out) = (queries.as_slice(), Vec::new(rt.alloc()));
+    expect_eq(
+        &rt,
+        &run(rt.alloc(), zone, &mut input, &mut out).is_ok(),
+        &true,
+    );
+    expect_eq(&rt, &(out == answers), &true);
+    Ok(())
+}
