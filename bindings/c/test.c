@@ -1,0 +1,640 @@
+/* Calls each function of tz.h, and reaches each code that a call can return. Ends with status 1 at the first answer that is wrong. */
+#include "tz.h"
+
+#include <stdio.h>
+#include <stdlib.h>
+#include <string.h>
+
+static int failures = 0;
+static bool reached[256];
+
+static void fail(int line, const char *what, long long got, long long wanted) {
+  printf("test.c:%d: %s is %lld, and not %lld\n", line, what, got, wanted);
+  failures++;
+}
+
+#define EXPECT(got, wanted)                                                                       \
+  do {                                                                                            \
+    long long g = (long long)(got), w = (long long)(wanted);                                      \
+    if (g != w) fail(__LINE__, #got, g, w);                                                       \
+  } while (0)
+
+/* The code of a call, which is marked as reached. */
+static tz_code code_of(tz_code code) {
+  if (code < 256) reached[code] = true;
+  return code;
+}
+#define CODE(call, wanted) EXPECT(code_of(call), wanted)
+
+/* A call is refused with the code, and leaves what it was to write to as it was. */
+#define REFUSED(call, wanted, out)                                 \
+  do {                                                             \
+    unsigned char before[sizeof(out)];                             \
+    memcpy(before, &(out), sizeof(out));                           \
+    CODE(call, wanted);                                            \
+    EXPECT(memcmp(before, &(out), sizeof(out)), 0);                \
+  } while (0)
+
+static tz_fields fields_of(int32_t year, int month, int day, int hour, int minute, int second, uint32_t nanoseconds) {
+  tz_fields fields = {year, (uint8_t)month, (uint8_t)day, (uint8_t)hour, (uint8_t)minute, (uint8_t)second, nanoseconds};
+  return fields;
+}
+
+static tz_local_time_type type_of(int32_t offset, bool is_dst, const char *name) {
+  tz_local_time_type type = {0};
+  CODE(tz_local_time_type_new(offset, is_dst, name != NULL, name, name == NULL ? 0 : strlen(name), &type), TZ_OK);
+  return type;
+}
+
+static tz_day week_day_of(int month, int week, int week_day) {
+  tz_day day = {0};
+  CODE(tz_month_week_day_new((uint8_t)month, (uint8_t)week, (uint8_t)week_day, &day), TZ_OK);
+  return day;
+}
+
+/* The rule of central Europe. */
+static tz_alternate europe(void) {
+  tz_local_time_type std = type_of(3600, false, "CET"), dst = type_of(7200, true, "CEST");
+  tz_day start = week_day_of(3, 5, 0), end = week_day_of(10, 5, 0);
+  tz_alternate rule = {0};
+  CODE(tz_alternate_new(&std, &dst, &start, 7200, &end, 10800, &rule), TZ_OK);
+  return rule;
+}
+
+static void test_layout(void) {
+  size_t layout[TZ_LAYOUT_LENGTH] = {0};
+  static const size_t sizes[TZ_LAYOUT_LENGTH] = {
+      TZ_ABI,           sizeof(tz_local_time_type), sizeof(tz_day),        sizeof(tz_alternate), sizeof(tz_rule),
+      sizeof(tz_conflict), sizeof(tz_transition),   sizeof(tz_leap_second), sizeof(tz_parts),    sizeof(tz_offsets),
+      sizeof(tz_zone),  sizeof(tz_fields),          sizeof(tz_utc),        sizeof(tz_date_time), sizeof(tz_found),
+      sizeof(tz_segment), sizeof(tz_change),        sizeof(tz_sizes),      sizeof(tz_setting)};
+  CODE(tz_layout(layout, TZ_LAYOUT_LENGTH), TZ_OK);
+  for (size_t i = 0; i < TZ_LAYOUT_LENGTH; i++) EXPECT(layout[i], sizes[i]);
+  REFUSED(tz_layout(layout, TZ_LAYOUT_LENGTH - 1), TZ_BUFFER_LENGTH, layout);
+  CODE(tz_layout(NULL, 0), TZ_BUFFER_LENGTH);
+}
+
+static void test_types(void) {
+  tz_local_time_type type = type_of(3600, true, "CEST");
+  EXPECT(type.ut_offset, 3600);
+  EXPECT(type.is_dst, true);
+  EXPECT(type.designation_length, 4);
+  EXPECT(memcmp(type.designation, "CEST\0\0", 7), 0);
+  REFUSED(tz_local_time_type_new(INT32_MIN, false, true, "", 0, &type), TZ_INVALID_UTC_OFFSET, type);
+  REFUSED(tz_local_time_type_new(0, false, true, NULL, 0, &type), TZ_INVALID_TIME_ZONE_DESIGNATION_LENGTH, type);
+  REFUSED(tz_local_time_type_new(0, false, true, "ABCDEFGH", 8, &type), TZ_INVALID_TIME_ZONE_DESIGNATION_LENGTH, type);
+  REFUSED(tz_local_time_type_new(0, false, true, "A C", 3, &type), TZ_INVALID_TIME_ZONE_DESIGNATION_CHAR, type);
+  CODE(tz_local_time_type_new(-1, false, false, NULL, 0, &type), TZ_OK);
+  EXPECT(type.ut_offset, -1);
+  EXPECT(type.designation_length, 0);
+  CODE(tz_local_time_type_new(0, false, true, "ABCDEFG", 7, &type), TZ_OK);
+  EXPECT(memcmp(type.designation, "ABCDEFG", 7), 0);
+}
+
+static void test_days(void) {
+  tz_day day = {0};
+  REFUSED(tz_julian_1_new(0, &day), TZ_INVALID_RULE_DAY_JULIAN_DAY, day);
+  REFUSED(tz_julian_1_new(366, &day), TZ_INVALID_RULE_DAY_JULIAN_DAY, day);
+  REFUSED(tz_julian_0_new(366, &day), TZ_INVALID_RULE_DAY_JULIAN_DAY, day);
+  CODE(tz_julian_0_new(365, &day), TZ_OK);
+  EXPECT(day.kind, TZ_JULIAN_0);
+  EXPECT(day.number, 365);
+  CODE(tz_julian_1_new(1, &day), TZ_OK);
+  EXPECT(day.kind, TZ_JULIAN_1);
+  EXPECT(day.number, 1);
+  REFUSED(tz_month_week_day_new(13, 0, 7, &day), TZ_INVALID_RULE_DAY_MONTH, day);
+  REFUSED(tz_month_week_day_new(12, 6, 7, &day), TZ_INVALID_RULE_DAY_WEEK, day);
+  REFUSED(tz_month_week_day_new(12, 5, 7, &day), TZ_INVALID_RULE_DAY_WEEK_DAY, day);
+  day = week_day_of(12, 5, 6);
+  EXPECT(day.kind, TZ_MONTH_WEEK_DAY);
+  EXPECT(day.month * 100 + day.week * 10 + day.week_day, 1256);
+}
+
+static void test_rules(void) {
+  tz_alternate rule = europe();
+  tz_local_time_type std = rule.types[0], dst = rule.types[1], far = type_of(93600, false, NULL), type = {0};
+  tz_day start = rule.dst_start, end = rule.dst_end, first = {0};
+  tz_conflict conflict = {0};
+  REFUSED(tz_alternate_new(&far, &far, &start, 604800, &end, 0, &rule), TZ_INVALID_STD_UTC_OFFSET, rule);
+  REFUSED(tz_alternate_new(&std, &far, &start, 604800, &end, 0, &rule), TZ_INVALID_DST_UTC_OFFSET, rule);
+  REFUSED(tz_alternate_new(&std, &dst, &start, 604800, &end, 0, &rule), TZ_INVALID_DST_START_END_TIME, rule);
+  /* The last Sunday of March and March 28th: each comes before the other in some year. */
+  CODE(tz_julian_1_new(87, &first), TZ_OK);
+  REFUSED(tz_alternate_new(&std, &dst, &start, 0, &first, 3600, &rule), TZ_INCONSISTENT_RULE, rule);
+  CODE(tz_alternate_conflict(&std, &dst, &start, 0, &first, 3600, &conflict), TZ_OK);
+  EXPECT(conflict.first_year != conflict.second_year, true);
+  REFUSED(tz_alternate_conflict(&std, &dst, &start, 7200, &end, 10800, &conflict), TZ_NO_CONFLICT, conflict);
+  /* 2000-03-26T01:00:00Z */
+  CODE(tz_rule_type_at(NULL, 0, &rule, 1, 954032400, &type), TZ_OK);
+  EXPECT(type.ut_offset, 7200);
+  CODE(tz_rule_type_at(NULL, 0, &rule, 1, 954032399, &type), TZ_OK);
+  EXPECT(type.ut_offset, 3600);
+  CODE(tz_rule_type_at(&far, 1, &rule, 1, 0, &type), TZ_OK);
+  EXPECT(type.ut_offset, 93600);
+  REFUSED(tz_rule_type_at(NULL, 0, NULL, 0, 0, &type), TZ_NO_RULE, type);
+  REFUSED(tz_rule_type_at(NULL, 0, &rule, 1, INT64_MAX, &type), TZ_OUT_OF_RANGE, type);
+  tz_alternate zeros = {0};
+  CODE(tz_rule_type_at(NULL, 0, &zeros, 1, 0, &type), TZ_OK);
+  EXPECT(type.ut_offset, 0);
+}
+
+static void test_utc(void) {
+  tz_utc utc = {0}, other = {0};
+  tz_fields fields = fields_of(2000, 2, 29, 23, 59, 60, 999999999);
+  CODE(tz_utc_new(&fields, &utc), TZ_OK);
+  EXPECT(utc.unix_time, 951868800);
+  EXPECT(memcmp(&utc.fields, &fields, 9), 0);
+  EXPECT(tz_utc_week_day(&utc), 2);
+  EXPECT(tz_utc_year_day(&utc), 59);
+  fields = fields_of(2000, 13, 32, 24, 60, 61, 1000000000);
+  REFUSED(tz_utc_new(&fields, &utc), TZ_INVALID_MONTH, utc);
+  fields.month = 2;
+  REFUSED(tz_utc_new(&fields, &utc), TZ_INVALID_MONTH_DAY, utc);
+  fields.month_day = 30;
+  REFUSED(tz_utc_new(&fields, &utc), TZ_INVALID_HOUR, utc);
+  fields.hour = 0;
+  REFUSED(tz_utc_new(&fields, &utc), TZ_INVALID_MINUTE, utc);
+  fields.minute = 0;
+  REFUSED(tz_utc_new(&fields, &utc), TZ_INVALID_SECOND, utc);
+  fields.second = 0;
+  REFUSED(tz_utc_new(&fields, &utc), TZ_INVALID_NANOSECONDS, utc);
+  fields.nanoseconds = 0;
+  REFUSED(tz_utc_new(&fields, &utc), TZ_INVALID_MONTH_DAY, utc);
+  fields = fields_of(INT32_MAX, 12, 31, 23, 59, 60, 0);
+  REFUSED(tz_utc_new(&fields, &utc), TZ_OUT_OF_RANGE, utc);
+  REFUSED(tz_utc_from_timespec(0, 1000000000, &utc), TZ_INVALID_NANOSECONDS, utc);
+  REFUSED(tz_utc_from_timespec(INT64_MAX, 0, &utc), TZ_OUT_OF_RANGE, utc);
+  CODE(tz_utc_from_timespec(-1, 7, &utc), TZ_OK);
+  EXPECT(utc.fields.year, 1969);
+  EXPECT(utc.fields.second, 59);
+  EXPECT(utc.fields.nanoseconds, 7);
+  CODE(tz_utc_add(&utc, 1, 999999993, &other), TZ_OK);
+  EXPECT(other.unix_time, 1);
+  EXPECT(other.fields.nanoseconds, 0);
+  CODE(tz_utc_sub(&other, 2, 0, &utc), TZ_OK);
+  EXPECT(utc.unix_time, -1);
+  REFUSED(tz_utc_add(&utc, 0, 1000000000, &other), TZ_INVALID_NANOSECONDS, other);
+  REFUSED(tz_utc_sub(&utc, UINT64_MAX, 0, &other), TZ_OUT_OF_RANGE, other);
+  tz_utc epoch = TZ_UTC_EPOCH;
+  EXPECT(tz_utc_week_day(&epoch), 4);
+}
+
+static void test_date_times(void) {
+  tz_local_time_type type = type_of(3600, false, "CET");
+  tz_date_time shown = {0}, epoch = TZ_DATE_TIME_EPOCH;
+  tz_utc utc = {0};
+  tz_fields fields = fields_of(2000, 1, 1, 0, 30, 0, 5);
+  CODE(tz_date_time_new(&fields, &type, &shown), TZ_OK);
+  EXPECT(shown.unix_time, 946683000);
+  EXPECT(shown.local_time_type.ut_offset, 3600);
+  EXPECT(tz_date_time_week_day(&shown), 6);
+  EXPECT(tz_date_time_year_day(&shown), 0);
+  CODE(tz_date_time_to_utc(&shown, &utc), TZ_OK);
+  EXPECT(utc.fields.year, 1999);
+  EXPECT(utc.fields.nanoseconds, 5);
+  fields.hour = 24;
+  REFUSED(tz_date_time_new(&fields, &type, &shown), TZ_INVALID_HOUR, shown);
+  fields = fields_of(INT32_MIN, 1, 1, 0, 0, 0, 0);
+  REFUSED(tz_date_time_new(&fields, &type, &shown), TZ_OUT_OF_RANGE, shown);
+  CODE(tz_date_time_from_timespec_and_local(0, 0, &type, &shown), TZ_OK);
+  EXPECT(shown.fields.hour, 1);
+  REFUSED(tz_date_time_from_timespec_and_local(INT64_MIN, 0, &type, &shown), TZ_OUT_OF_RANGE, shown);
+  REFUSED(tz_date_time_from_timespec_and_local(0, UINT32_MAX, &type, &shown), TZ_INVALID_NANOSECONDS, shown);
+  /* The clock shows a year of 32 bits, and UTC is a year before. */
+  CODE(tz_date_time_from_timespec_and_local(INT64_C(-67768100567971201), 0, &type, &shown), TZ_OK);
+  REFUSED(tz_date_time_to_utc(&shown, &utc), TZ_OUT_OF_RANGE, utc);
+  CODE(tz_date_time_to_utc(&epoch, &utc), TZ_OK);
+  EXPECT(utc.unix_time, 0);
+}
+
+/* A text without a zero at its end is given, and a buffer that is one byte short is refused. */
+#define TEXT(call, wanted)                                                            \
+  do {                                                                                \
+    char text[129];                                                                   \
+    const size_t n = sizeof wanted - 1;                                               \
+    size_t given = 77;                                                                \
+    memset(text, '?', sizeof text);                                                   \
+    CODE(call(text, n, &given), TZ_OK);                                               \
+    EXPECT(given, n);                                                                 \
+    EXPECT(memcmp(text, wanted "?", n + 1), 0);                                       \
+    memset(text, '?', sizeof text);                                                   \
+    given = 77;                                                                       \
+    CODE(call(text, n - 1, &given), TZ_BUFFER_LENGTH);                                \
+    EXPECT(given, 77);                                                                \
+    EXPECT(text[0], '?');                                                             \
+    CODE(call(NULL, 0, &given), TZ_BUFFER_LENGTH);                                    \
+    CODE(call(text, sizeof text, &given), TZ_OK);                                     \
+    EXPECT(given, n);                                                                 \
+    EXPECT(text[n], '?');                                                             \
+  } while (0)
+
+static tz_utc the_utc;
+static tz_date_time the_date_time;
+static tz_alternate the_rule;
+static tz_local_time_type the_type;
+static tz_code the_code;
+
+static tz_code utc_text(char *text, size_t n, size_t *length) { return tz_utc_text(&the_utc, text, n, length); }
+static tz_code date_time_text(char *text, size_t n, size_t *length) { return tz_date_time_text(&the_date_time, text, n, length); }
+static tz_code rule_text(char *text, size_t n, size_t *length) { return tz_rule_text(NULL, 0, &the_rule, 1, text, n, length); }
+static tz_code fixed_text(char *text, size_t n, size_t *length) { return tz_rule_text(&the_type, 1, NULL, 0, text, n, length); }
+static tz_code error_text(char *text, size_t n, size_t *length) { return tz_error_text(the_code, text, n, length); }
+
+static void test_texts(void) {
+  CODE(tz_utc_from_timespec(946684800, 5, &the_utc), TZ_OK);
+  TEXT(utc_text, "2000-01-01T00:00:00.000000005Z");
+  the_type = type_of(-12600, false, "-0330");
+  CODE(tz_date_time_from_timespec_and_local(946684800, 0, &the_type, &the_date_time), TZ_OK);
+  TEXT(date_time_text, "1999-12-31T20:30:00.000000000-03:30");
+  the_rule = europe();
+  TEXT(rule_text, "CET-1CEST,M3.5.0,M10.5.0/3");
+  TEXT(fixed_text, "<-0330>3:30");
+  char text[114];
+  size_t length = 7;
+  REFUSED(tz_rule_text(NULL, 0, NULL, 0, text, sizeof text, &length), TZ_NO_RULE, length);
+  the_type = type_of(0, false, NULL);
+  REFUSED(tz_rule_text(&the_type, 1, NULL, 0, text, sizeof text, &length), TZ_NO_TZ_STRING, length);
+}
+
+#define ERROR_TEXT(code, wanted) \
+  do {                           \
+    the_code = code;             \
+    TEXT(error_text, wanted);    \
+  } while (0)
+
+static void test_error_texts(void) {
+  ERROR_TEXT(TZ_OUT_OF_RANGE, "out of range operation");
+  ERROR_TEXT(TZ_NO_AVAILABLE_LOCAL_TIME_TYPE, "no local time type is available for the specified timestamp");
+  ERROR_TEXT(TZ_INVALID_MONTH, "invalid date time: invalid month");
+  ERROR_TEXT(TZ_INVALID_NANOSECONDS, "invalid date time: invalid nanoseconds");
+  ERROR_TEXT(TZ_INVALID_UTC_OFFSET, "invalid local time type: invalid UTC offset");
+  ERROR_TEXT(TZ_INCONSISTENT_RULE, "invalid transition rule: DST transition rules are not consistent from one year to another");
+  ERROR_TEXT(TZ_INCONSISTENT_EXTRA_RULE, "invalid time zone: extra transition rule is inconsistent with the last transition");
+  ERROR_TEXT(TZ_STRING_PARSE_INT_EMPTY, "invalid TZ string: cannot parse integer from empty string");
+  ERROR_TEXT(TZ_STRING_PARSE_INT_OVERFLOW, "invalid TZ string: number too large to fit in target type");
+  ERROR_TEXT(TZ_STRING_REMAINING_DATA, "invalid TZ string: remaining data after parsing TZ string");
+  ERROR_TEXT(TZ_STRING_EMPTY, "invalid TZ string: empty TZ string");
+  ERROR_TEXT(TZ_FILE_UNEXPECTED_EOF, "invalid TZ file: unexpected end of data");
+  ERROR_TEXT(TZ_FILE_REMAINING_DATA_V1, "invalid TZ file: remaining data after the end of a TZif v1 data block");
+  ERROR_TEXT(TZ_MEMORY, "no memory");
+  char text[128];
+  size_t length = 7;
+  int known = 0;
+  for (tz_code code = 0; code < 300; code++) {
+    tz_code answer = code_of(tz_error_text(code, text, sizeof text, &length));
+    if (answer == TZ_OK) known++;
+    else EXPECT(answer, TZ_UNKNOWN_CODE);
+  }
+  EXPECT(known, 59);
+  REFUSED(tz_error_text(UINT32_MAX, text, sizeof text, &length), TZ_UNKNOWN_CODE, length);
+}
+
+static void test_strings(void) {
+  tz_rule rule = {0};
+  static const struct { const char *text; tz_code code; } rows[] = {
+      {"CET-1CEST,M3.5.0,M10.5.0/3", TZ_OK},
+      {"", TZ_INVALID_TIME_ZONE_DESIGNATION_LENGTH + 1000}, /* any code but 0 */
+      {"HST", TZ_STRING_PARSE_INT_EMPTY},
+      {"HST99999999999", TZ_STRING_PARSE_INT_OVERFLOW},
+      {"<HST", TZ_STRING_UNEXPECTED_EOF},
+      {"AAA0BBB1;", TZ_STRING_INVALID_DATA},
+      {"HST25", TZ_STRING_INVALID_OFFSET_HOUR},
+      {"HST1:60", TZ_STRING_INVALID_OFFSET_MINUTE},
+      {"HST1:00:60", TZ_STRING_INVALID_OFFSET_SECOND},
+      {"AAA0BBB,0/25,1", TZ_STRING_INVALID_DAY_TIME_HOUR},
+      {"AAA0BBB,0/1:60,1", TZ_STRING_INVALID_DAY_TIME_MINUTE},
+      {"AAA0BBB,0/1:00:60,1", TZ_STRING_INVALID_DAY_TIME_SECOND},
+      {"AAA0BBB", TZ_STRING_MISSING_DST_START_END_RULES},
+      {"AAA0BBB,0,1,", TZ_STRING_REMAINING_DATA},
+      {"AAAAAAAA0", TZ_INVALID_TIME_ZONE_DESIGNATION_LENGTH},
+      {"<A C>0", TZ_INVALID_TIME_ZONE_DESIGNATION_CHAR},
+      {"AAA0BBB,M0.1.0,1", TZ_INVALID_RULE_DAY_MONTH},
+  };
+  for (size_t i = 0; i < sizeof rows / sizeof *rows; i++) {
+    tz_code code = code_of(tz_string_read(rows[i].text, strlen(rows[i].text), false, &rule));
+    if (rows[i].code < 1000) EXPECT(code, rows[i].code);
+    else EXPECT(code != TZ_OK, true);
+  }
+  CODE(tz_string_read("HST10", 5, false, &rule), TZ_OK);
+  EXPECT(rule.kind, TZ_FIXED);
+  EXPECT(rule.fixed.ut_offset, -36000);
+  const char *extended = "<-02>2<-01>,M3.5.0/-1,M10.5.0/0";
+  EXPECT(tz_string_read(extended, strlen(extended), false, &rule) != TZ_OK, true);
+  EXPECT(rule.kind, TZ_FIXED);
+  CODE(tz_string_read(extended, strlen(extended), true, &rule), TZ_OK);
+  EXPECT(rule.kind, TZ_ALTERNATE);
+  EXPECT(rule.alternate.dst_start_time, -3600);
+}
+
+static void test_settings(void) {
+  tz_setting setting = {0};
+  REFUSED(tz_setting_read(NULL, 0, &setting), TZ_STRING_EMPTY, setting);
+  CODE(tz_setting_read("Europe/Paris", 12, &setting), TZ_OK);
+  EXPECT(setting.kind, TZ_FILE_OR_STRING);
+  EXPECT(setting.from, 0);
+  EXPECT(setting.until, 12);
+  CODE(tz_setting_read(":/etc/x", 7, &setting), TZ_OK);
+  EXPECT(setting.kind, TZ_FILE);
+  EXPECT(setting.from, 1);
+  EXPECT(setting.until, 7);
+  CODE(tz_setting_read("localtime", 9, &setting), TZ_OK);
+  EXPECT(setting.kind, TZ_LOCAL_TIME);
+  EXPECT(setting.from + setting.until, 0);
+}
+
+/* A zone with two transitions and the rule of central Europe. */
+typedef struct { tz_transition transitions[2]; tz_local_time_type types[3]; tz_alternate rule; tz_zone zone; } made_zone;
+
+static void make_zone(made_zone *made) {
+  memset(made, 0, sizeof *made);
+  made->types[0] = type_of(0, false, "LMT");
+  made->types[1] = type_of(3600, false, "CET");
+  made->types[2] = type_of(7200, true, "CEST");
+  made->transitions[0].unix_leap_time = 0;
+  made->transitions[0].local_time_type_index = 2;
+  made->transitions[1].unix_leap_time = 946684800;
+  made->transitions[1].local_time_type_index = 1;
+  made->rule = europe();
+  tz_parts parts = {made->transitions, 2, made->types, 3, NULL, 0, NULL, 0, &made->rule, 1};
+  made->zone.parts = parts;
+  CODE(tz_zone_check(&made->zone.parts, &made->zone.offsets), TZ_OK);
+  EXPECT(made->zone.offsets.least, 0);
+  EXPECT(made->zone.offsets.greatest, 7200);
+}
+
+static void test_zone_checks(void) {
+  made_zone made;
+  make_zone(&made);
+  tz_parts parts = made.zone.parts;
+  tz_offsets offsets = {0, 0};
+  parts.types_length = 0;
+  parts.types = NULL;
+  REFUSED(tz_zone_check(&parts, &offsets), TZ_NO_LOCAL_TIME_TYPE, offsets);
+  parts = made.zone.parts;
+  parts.types_length = 2;
+  REFUSED(tz_zone_check(&parts, &offsets), TZ_INVALID_LOCAL_TIME_TYPE_INDEX, offsets);
+  parts = made.zone.parts;
+  tz_transition equal[2] = {made.transitions[0], made.transitions[0]};
+  parts.transitions = equal;
+  REFUSED(tz_zone_check(&parts, &offsets), TZ_INVALID_TRANSITION, offsets);
+  parts = made.zone.parts;
+  tz_leap_second leap = {-1, 1};
+  parts.leap_seconds = &leap;
+  parts.leap_seconds_length = 1;
+  REFUSED(tz_zone_check(&parts, &offsets), TZ_INVALID_LEAP_SECOND, offsets);
+  parts = made.zone.parts;
+  tz_transition summer[1] = {{946684800, 2}};
+  parts.transitions = summer;
+  parts.transitions_length = 1;
+  REFUSED(tz_zone_check(&parts, &offsets), TZ_INCONSISTENT_EXTRA_RULE, offsets);
+  summer[0].unix_leap_time = INT64_MAX;
+  REFUSED(tz_zone_check(&parts, &offsets), TZ_OUT_OF_RANGE, offsets);
+}
+
+static void test_zones(void) {
+  made_zone made;
+  make_zone(&made);
+  const tz_zone *zone = &made.zone;
+  tz_local_time_type type = {0};
+  tz_segment segment = {0};
+  tz_change change = {0};
+  tz_date_time shown = {0};
+  size_t place = 77;
+  int64_t moment = 77;
+  CODE(tz_zone_type_at(zone, -1, &type), TZ_OK);
+  EXPECT(type.ut_offset, 0);
+  CODE(tz_zone_type_at(zone, 954032400, &type), TZ_OK);
+  EXPECT(type.ut_offset, 7200);
+  REFUSED(tz_zone_type_at(zone, INT64_MAX, &type), TZ_OUT_OF_RANGE, type);
+  CODE(tz_zone_place_at(zone, 0, &place), TZ_OK);
+  EXPECT(place, 2);
+  REFUSED(tz_zone_place_at(zone, INT64_MAX, &place), TZ_OUT_OF_RANGE, place);
+  CODE(tz_zone_segment_at(zone, 5, &segment), TZ_OK);
+  EXPECT(segment.from, 0);
+  EXPECT(segment.last, 946684799);
+  EXPECT(segment.has_type, true);
+  EXPECT(segment.local_time_type.ut_offset, 7200);
+  CODE(tz_zone_segment_at(zone, INT64_MAX, &segment), TZ_OK);
+  EXPECT(segment.has_type, false);
+  CODE(tz_zone_following(zone, 0, &change), TZ_OK);
+  EXPECT(change.unix_time, 946684800);
+  EXPECT(change.before.ut_offset, 7200);
+  EXPECT(change.after.ut_offset, 3600);
+  CODE(tz_zone_preceding(zone, 1, &change), TZ_OK);
+  EXPECT(change.unix_time, 0);
+  REFUSED(tz_zone_preceding(zone, 0, &change), TZ_NO_CHANGE, change);
+  CODE(tz_zone_leap_time(zone, 5, &moment), TZ_OK);
+  EXPECT(moment, 5);
+  CODE(tz_zone_effect(zone, 6, &moment), TZ_OK);
+  EXPECT(moment, 6);
+  REFUSED(tz_zone_effect(zone, INT64_MIN, &moment), TZ_OUT_OF_RANGE, moment);
+  CODE(tz_date_time_from_timespec(954032400, 3, zone, &shown), TZ_OK);
+  EXPECT(shown.fields.hour, 3);
+  EXPECT(shown.fields.nanoseconds, 3);
+  REFUSED(tz_date_time_from_timespec(0, 1000000000, zone, &shown), TZ_INVALID_NANOSECONDS, shown);
+  REFUSED(tz_date_time_from_timespec(INT64_MIN, 0, zone, &shown), TZ_OUT_OF_RANGE, shown);
+
+  /* The rule's own types, which the list does not have. */
+  tz_local_time_type plain = type_of(60, false, NULL);
+  tz_parts alone = {NULL, 0, &plain, 1, NULL, 0, NULL, 0, &made.rule, 1};
+  tz_zone by_rule = {alone, {0, 0}};
+  CODE(tz_zone_check(&by_rule.parts, &by_rule.offsets), TZ_OK);
+  CODE(tz_zone_place_at(&by_rule, 0, &place), TZ_OK);
+  EXPECT(place, 1);
+  CODE(tz_zone_place_at(&by_rule, 954032400, &place), TZ_OK);
+  EXPECT(place, 2);
+
+  /* A zone that is over. */
+  tz_parts over = made.zone.parts;
+  over.alternate_length = 0;
+  tz_zone ended = {over, {0, 0}};
+  CODE(tz_zone_check(&ended.parts, &ended.offsets), TZ_OK);
+  REFUSED(tz_zone_type_at(&ended, 946684800, &type), TZ_NO_AVAILABLE_LOCAL_TIME_TYPE, type);
+  REFUSED(tz_zone_following(&ended, 0, &change), TZ_NO_CHANGE, change);
+
+  /* A zone of static tables of zeros. */
+  static const tz_local_time_type zeros[1] = {{0, false, {0}, 0}};
+  tz_zone still = {{NULL, 0, zeros, 1, NULL, 0, NULL, 0, NULL, 0}, {0, 0}};
+  CODE(tz_zone_check(&still.parts, &still.offsets), TZ_OK);
+  CODE(tz_zone_type_at(&still, INT64_MIN, &type), TZ_OK);
+  REFUSED(tz_zone_following(&still, INT64_MIN, &change), TZ_NO_CHANGE, change);
+}
+
+/* A clock that shows 00:00 five times: it is set back an hour each hour. */
+static void test_many_entries(void) {
+  static tz_transition transitions[5];
+  static tz_local_time_type types[6];
+  for (int i = 0; i < 6; i++) types[i] = type_of(3600 * (5 - i), false, NULL);
+  for (int i = 0; i < 5; i++) {
+    transitions[i].unix_leap_time = 3600 * i + 1800;
+    transitions[i].local_time_type_index = (size_t)(i + 1);
+  }
+  tz_zone zone = {{transitions, 5, types, 6, NULL, 0, &types[5], 1, NULL, 0}, {0, 0}};
+  CODE(tz_zone_check(&zone.parts, &zone.offsets), TZ_OK);
+  tz_fields fields = fields_of(1970, 1, 1, 5, 10, 0, 0);
+  static const size_t lengths[] = {0, 1, 2, 4, 5, 40};
+  for (size_t k = 0; k < sizeof lengths / sizeof *lengths; k++) {
+    for (size_t skip = 0; skip < 8; skip++) {
+      tz_found slots[41];
+      size_t count = 77, n = lengths[k];
+      memset(slots, 0, sizeof slots);
+      for (size_t i = 0; i < 41; i++) slots[i].before.unix_time = 1000 + (int64_t)i;
+      CODE(tz_find_n(&fields, &zone, skip, n == 0 ? NULL : slots, n, &count), TZ_OK);
+      EXPECT(count, 6);
+      for (size_t i = 0; i < 41; i++) {
+        bool written = i < n && skip + i < 6;
+        EXPECT(slots[i].before.unix_time, written ? 600 + 3600 * (int64_t)(skip + i) : 1000 + (int64_t)i);
+      }
+    }
+  }
+}
+
+static void test_searches(void) {
+  made_zone made;
+  make_zone(&made);
+  tz_found slots[2];
+  tz_date_time meant = {0};
+  size_t count = 77;
+  memset(slots, 0, sizeof slots);
+  tz_fields skipped = fields_of(2001, 3, 25, 2, 30, 0, 1), twice = fields_of(2001, 10, 28, 2, 30, 0, 0), none = fields_of(2001, 2, 29, 0, 0, 0, 0);
+  CODE(tz_find_n(&skipped, &made.zone, 0, slots, 2, &count), TZ_OK);
+  EXPECT(count, 1);
+  EXPECT(slots[0].is_skipped, true);
+  EXPECT(slots[0].before.fields.hour, 2);
+  EXPECT(slots[0].after.fields.hour, 3);
+  EXPECT(slots[1].before.fields.month, 0);
+  CODE(tz_find_n(&twice, &made.zone, 1, slots, 1, &count), TZ_OK);
+  EXPECT(count, 2);
+  EXPECT(slots[0].is_skipped, false);
+  EXPECT(slots[0].before.local_time_type.ut_offset, 3600);
+  EXPECT(slots[0].after.local_time_type.ut_offset, 3600);
+  count = 77;
+  REFUSED(tz_find_n(&none, &made.zone, 0, slots, 2, &count), TZ_INVALID_MONTH_DAY, slots);
+  EXPECT(count, 77);
+  CODE(tz_find_one(&twice, TZ_COMPATIBLE, &made.zone, &meant), TZ_OK);
+  EXPECT(meant.local_time_type.ut_offset, 7200);
+  CODE(tz_find_one(&twice, TZ_LATER, &made.zone, &meant), TZ_OK);
+  EXPECT(meant.local_time_type.ut_offset, 3600);
+  CODE(tz_find_one(&skipped, TZ_COMPATIBLE, &made.zone, &meant), TZ_OK);
+  EXPECT(meant.fields.hour, 3);
+  CODE(tz_find_one(&skipped, TZ_EARLIER, &made.zone, &meant), TZ_OK);
+  EXPECT(meant.fields.hour, 1);
+  REFUSED(tz_find_one(&twice, TZ_REJECT, &made.zone, &meant), TZ_NO_DATE_TIME, meant);
+  REFUSED(tz_find_one(&twice, 4, &made.zone, &meant), TZ_UNKNOWN_CHOICE, meant);
+  REFUSED(tz_find_one(&none, TZ_REJECT, &made.zone, &meant), TZ_INVALID_MONTH_DAY, meant);
+}
+
+/* A file of version 1 with one type. */
+static const uint8_t small_file[] = {'T', 'Z', 'i', 'f', 0, 0, 0, 0, 0, 0, 0, 0, 0, 0, 0, 0, 0, 0, 0, 0, 0, 0, 0, 0, 0, 0, 0, 0, 0, 0, 0, 0,
+                                     0,   0,   0,   0,   0, 0, 0, 1, 0, 0, 0, 4, 0, 0, 14, 16, 0, 0, 'C', 'E', 'T', 0};
+
+/* A change of one byte is refused with the code, by the sizes or by the reader. */
+static void expect_altered(size_t at, uint8_t byte, tz_code wanted) {
+  uint8_t bytes[sizeof small_file];
+  tz_sizes sizes = {0};
+  tz_local_time_type types[2] = {{0}};
+  tz_rule rule = {0};
+  tz_offsets offsets = {7, 7};
+  memcpy(bytes, small_file, sizeof bytes);
+  bytes[at] = byte;
+  tz_code code = tz_file_sizes(bytes, sizeof bytes, &sizes);
+  if (code == TZ_OK) code = tz_file_read(bytes, sizeof bytes, NULL, 0, types, 1, NULL, 0, &rule, &offsets);
+  CODE(code, wanted);
+  EXPECT(offsets.least, 7);
+}
+
+static void test_files(const char *path) {
+  tz_sizes sizes = {0};
+  tz_local_time_type types[1] = {{0}};
+  tz_rule rule = {0};
+  tz_offsets offsets = {7, 7};
+  CODE(tz_file_sizes(small_file, sizeof small_file, &sizes), TZ_OK);
+  EXPECT(sizes.transitions, 0);
+  EXPECT(sizes.types, 1);
+  EXPECT(sizes.leap_seconds, 0);
+  EXPECT(sizes.footer, 0);
+  CODE(tz_file_read(small_file, sizeof small_file, NULL, 0, types, 1, NULL, 0, &rule, &offsets), TZ_OK);
+  EXPECT(types[0].ut_offset, 3600);
+  EXPECT(types[0].designation_length, 3);
+  EXPECT(rule.kind, TZ_NONE);
+  EXPECT(offsets.least, 3600);
+  EXPECT(offsets.greatest, 3600);
+  REFUSED(tz_file_read(small_file, sizeof small_file, NULL, 0, NULL, 0, NULL, 0, &rule, &offsets), TZ_BUFFER_LENGTH, offsets);
+  REFUSED(tz_file_sizes(NULL, 0, &sizes), TZ_FILE_UNEXPECTED_EOF, sizes);
+  for (size_t n = 0; n < sizeof small_file; n++) REFUSED(tz_file_sizes(small_file, n, &sizes), TZ_FILE_UNEXPECTED_EOF, sizes);
+  expect_altered(0, 'X', TZ_FILE_INVALID_MAGIC_NUMBER);
+  expect_altered(4, '9', TZ_FILE_UNSUPPORTED_VERSION);
+  expect_altered(39, 0, TZ_FILE_INVALID_HEADER);
+  expect_altered(48, 2, TZ_FILE_INVALID_DST_INDICATOR);
+  expect_altered(49, 9, TZ_FILE_INVALID_DESIGNATION_CHAR_INDEX);
+  expect_altered(43, 3, TZ_FILE_REMAINING_DATA_V1);
+
+  static uint8_t bytes[65536];
+  FILE *file = fopen(path, "rb");
+  if (file == NULL) {
+    fail(__LINE__, "the file", 0, 1);
+    return;
+  }
+  size_t n = fread(bytes, 1, sizeof bytes, file);
+  fclose(file);
+  CODE(tz_file_sizes(bytes, n, &sizes), TZ_OK);
+  tz_transition *transitions = calloc(sizes.transitions + 1, sizeof *transitions);
+  tz_local_time_type *list = calloc(sizes.types + 1, sizeof *list);
+  tz_leap_second *leaps = calloc(sizes.leap_seconds + 1, sizeof *leaps);
+  CODE(tz_file_read(bytes, n, transitions, sizes.transitions, list, sizes.types, leaps, sizes.leap_seconds, &rule, &offsets), TZ_OK);
+  tz_zone zone = {{transitions, sizes.transitions, list, sizes.types, leaps, sizes.leap_seconds, &rule.fixed, rule.kind == TZ_FIXED,
+                   &rule.alternate, rule.kind == TZ_ALTERNATE},
+                  offsets};
+  tz_offsets again = {0, 0};
+  CODE(tz_zone_check(&zone.parts, &again), TZ_OK);
+  EXPECT(again.least, offsets.least);
+  EXPECT(again.greatest, offsets.greatest);
+  /* The footer of Europe/Paris is that of the rule of central Europe. */
+  tz_date_time shown = {0};
+  char text[53];
+  size_t length = 0;
+  CODE(tz_date_time_from_timespec(954032400, 0, &zone, &shown), TZ_OK);
+  CODE(tz_date_time_text(&shown, text, sizeof text, &length), TZ_OK);
+  EXPECT(memcmp(text, "2000-03-26T03:00:00.000000000+02:00", 35), 0);
+  /* A file that is cut has sizes exactly if its tables are whole. */
+  const size_t tables = n - sizes.footer;
+  for (size_t cut = 0; cut < n; cut++) EXPECT(tz_file_sizes(bytes, cut, &sizes) == TZ_OK, tables <= cut);
+  /* Each altered byte: some code, and no read or write outside. */
+  static uint8_t altered[65536];
+  for (size_t at = 0; at < n; at++) {
+    memcpy(altered, bytes, n);
+    altered[at] ^= 0xff;
+    if (tz_file_sizes(altered, n, &sizes) != TZ_OK) continue;
+    if (sizes.transitions > n || sizes.types > n || sizes.leap_seconds > n) continue;
+    tz_transition *t = calloc(sizes.transitions + 1, sizeof *t);
+    tz_local_time_type *l = calloc(sizes.types + 1, sizeof *l);
+    tz_leap_second *s = calloc(sizes.leap_seconds + 1, sizeof *s);
+    code_of(tz_file_read(altered, n, t, sizes.transitions, l, sizes.types, s, sizes.leap_seconds, &rule, &offsets));
+    free(t);
+    free(l);
+    free(s);
+  }
+  free(transitions);
+  free(list);
+  free(leaps);
+}
+
+int main(int argc, char **argv) {
+  test_layout();
+  test_types();
+  test_days();
+  test_rules();
+  test_utc();
+  test_date_times();
+  test_texts();
+  test_error_texts();
+  test_strings();
+  test_settings();
+  test_zone_checks();
+  test_zones();
+  test_many_entries();
+  test_searches();
+  if (argc == 2) test_files(argv[1]);
+  if (failures == 0) printf("passed\n");
+  return failures != 0;
+}

@@ -1,0 +1,428 @@
+/*
+ * tz: Unix time to the local date and time of a time zone, and back.
+ *
+ * ABI number 1 (TZ_ABI).
+ * Every call is proved against its contract (crates/tz_c). What a proof cannot see is that a caller keeps what is asked here:
+ *
+ * - Pointers. A pointer parameter is not null, aligned, and points to one value, or, if a length follows it, to that many. With length 0 it
+ *   may be null. What a call writes overlaps nothing else that the call is given.
+ * - Values. A `bool` is 0 or 1. A `tz_local_time_type`, `tz_day`, `tz_alternate`, `tz_rule`, `tz_utc` or `tz_date_time` that a call reads is
+ *   as a call wrote it, or a copy. All zeros are valid too, but for `tz_utc` and `tz_date_time`: there TZ_UTC_EPOCH and TZ_DATE_TIME_EPOCH are.
+ * - What a call writes to holds all zeros or such a value before the call, so `= {0}` serves for every out parameter and every buffer.
+ * - Zones. The offsets of a `tz_zone` are those that `tz_zone_check` or `tz_file_read` wrote for its very parts, which stay as they are while
+ *   the zone is used. Parts may lie in read-only memory, and any number of threads may read one zone.
+ *
+ * A call returns TZ_OK or the code of an error. After an error everything that it was to write to is as it was. No call allocates but
+ * `tz_file_read`, no call prints, blocks, calls back, or keeps a pointer.
+ */
+#ifndef TZ_H
+#define TZ_H
+
+#include <stdbool.h>
+#include <stddef.h>
+#include <stdint.h>
+
+#ifdef __cplusplus
+extern "C" {
+#endif
+
+/* The number of this header's layout: the first number of `tz_layout`. */
+#define TZ_ABI 1
+
+/* ---- Codes ---------------------------------------------------------------------------------------------------------------------------- */
+
+typedef uint32_t tz_code;
+
+enum {
+  TZ_OK = 0,
+  /* A value lies outside the range of its type: a year outside 32 bits, an instant without a leap time. */
+  TZ_OUT_OF_RANGE = 1,
+  /* The zone has no type at the instant: it has no rule, and its transitions have ended. */
+  TZ_NO_AVAILABLE_LOCAL_TIME_TYPE = 2,
+  /* Two lists of which at most one has one entry, and none has: no rule is given. */
+  TZ_NO_RULE = 3,
+  /* The clock does not change any more, or has not changed before. */
+  TZ_NO_CHANGE = 4,
+  /* The local time means no date time, by the choice that is given. */
+  TZ_NO_DATE_TIME = 5,
+  /* No TZ string denotes the rule. */
+  TZ_NO_TZ_STRING = 6,
+  /* The parts make an alternate rule, or are out of range: there are no years that show a conflict. */
+  TZ_NO_CONFLICT = 7,
+  /* A buffer is too short, or has not the length that is asked. */
+  TZ_BUFFER_LENGTH = 8,
+  /* The number is not one of the four choices. */
+  TZ_UNKNOWN_CHOICE = 9,
+  /* The number is not a code. */
+  TZ_UNKNOWN_CODE = 10,
+
+  /* DateTimeError */
+  TZ_INVALID_MONTH = 16,
+  TZ_INVALID_MONTH_DAY = 17,
+  TZ_INVALID_HOUR = 18,
+  TZ_INVALID_MINUTE = 19,
+  TZ_INVALID_SECOND = 20,
+  TZ_INVALID_NANOSECONDS = 21,
+
+  /* LocalTimeTypeError */
+  TZ_INVALID_TIME_ZONE_DESIGNATION_LENGTH = 32,
+  TZ_INVALID_TIME_ZONE_DESIGNATION_CHAR = 33,
+  TZ_INVALID_UTC_OFFSET = 34,
+
+  /* TransitionRuleError */
+  TZ_INVALID_RULE_DAY_JULIAN_DAY = 48,
+  TZ_INVALID_RULE_DAY_MONTH = 49,
+  TZ_INVALID_RULE_DAY_WEEK = 50,
+  TZ_INVALID_RULE_DAY_WEEK_DAY = 51,
+  TZ_INVALID_STD_UTC_OFFSET = 52,
+  TZ_INVALID_DST_UTC_OFFSET = 53,
+  TZ_INVALID_DST_START_END_TIME = 54,
+  TZ_INCONSISTENT_RULE = 55,
+
+  /* TimeZoneError */
+  TZ_NO_LOCAL_TIME_TYPE = 64,
+  TZ_INVALID_LOCAL_TIME_TYPE_INDEX = 65,
+  TZ_INVALID_TRANSITION = 66,
+  TZ_INVALID_LEAP_SECOND = 67,
+  TZ_INCONSISTENT_EXTRA_RULE = 68,
+
+  /* TzStringError */
+  TZ_STRING_UTF8 = 80, /* no call returns it */
+  TZ_STRING_PARSE_INT_EMPTY = 81,       /* ParseInt: digits are missing */
+  TZ_STRING_UNEXPECTED_EOF = 82,        /* ParseData(UnexpectedEof) */
+  TZ_STRING_INVALID_DATA = 83,          /* ParseData(InvalidData) */
+  TZ_STRING_INVALID_OFFSET_HOUR = 84,
+  TZ_STRING_INVALID_OFFSET_MINUTE = 85,
+  TZ_STRING_INVALID_OFFSET_SECOND = 86,
+  TZ_STRING_INVALID_DAY_TIME_HOUR = 87,
+  TZ_STRING_INVALID_DAY_TIME_MINUTE = 88,
+  TZ_STRING_INVALID_DAY_TIME_SECOND = 89,
+  TZ_STRING_MISSING_DST_START_END_RULES = 90,
+  TZ_STRING_REMAINING_DATA = 91,
+  TZ_STRING_EMPTY = 92,
+  TZ_STRING_PARSE_INT_OVERFLOW = 93,    /* ParseInt: the number does not fit its type */
+
+  /* TzFileError */
+  TZ_FILE_UTF8 = 112,
+  TZ_FILE_UNEXPECTED_EOF = 113,         /* ParseData(UnexpectedEof) */
+  TZ_FILE_INVALID_DATA = 114,           /* ParseData(InvalidData); no call returns it */
+  TZ_FILE_INVALID_MAGIC_NUMBER = 115,
+  TZ_FILE_UNSUPPORTED_VERSION = 116,
+  TZ_FILE_INVALID_HEADER = 117,
+  TZ_FILE_INVALID_FOOTER = 118,
+  TZ_FILE_INVALID_DST_INDICATOR = 119,
+  TZ_FILE_INVALID_DESIGNATION_CHAR_INDEX = 120,
+  TZ_FILE_INVALID_STD_WALL_UT_LOCAL = 121,
+  TZ_FILE_REMAINING_DATA_V1 = 122,
+
+  /* Out of memory */
+  TZ_MEMORY = 255
+};
+
+/* ---- Types ---------------------------------------------------------------------------------------------------------------------------- */
+
+/* A local time type: an offset that is added to UTC, a daylight flag, a name. 16 bytes. */
+typedef struct tz_local_time_type {
+  int32_t ut_offset;          /* seconds; never INT32_MIN */
+  bool is_dst;
+  char designation[7];        /* padded with zeros; no zero follows a name of seven bytes */
+  uint8_t designation_length; /* 0 if there is no name */
+} tz_local_time_type;
+
+/* A day of each year. 6 bytes. */
+typedef struct tz_day {
+  uint16_t number;  /* TZ_JULIAN_0: 0 to 365. TZ_JULIAN_1: 1 to 365. Else 0 */
+  uint8_t kind;     /* TZ_JULIAN_0, TZ_JULIAN_1, TZ_MONTH_WEEK_DAY */
+  uint8_t month;    /* TZ_MONTH_WEEK_DAY: 1 to 12. Else 0 */
+  uint8_t week;     /* TZ_MONTH_WEEK_DAY: 1 to 5, where 5 is the last. Else 0 */
+  uint8_t week_day; /* TZ_MONTH_WEEK_DAY: 0 (Sunday) to 6. Else 0 */
+} tz_day;
+
+enum { TZ_JULIAN_0 = 0, TZ_JULIAN_1 = 1, TZ_MONTH_WEEK_DAY = 2 };
+
+/* An alternate rule with the tables of its clock. 172 bytes. */
+typedef struct tz_alternate {
+  tz_local_time_type types[2]; /* standard time, daylight saving time */
+  tz_day dst_start;
+  int32_t dst_start_time; /* seconds from 00:00 of standard time */
+  tz_day dst_end;
+  int32_t dst_end_time; /* seconds from 00:00 of daylight saving time */
+  bool ends_next_year;
+  bool has_inner_turns;
+  int32_t starts[14];
+  int32_t ends[14];
+} tz_alternate;
+
+/* At most one rule. 192 bytes. `kind == TZ_FIXED` is the length of the list `fixed` of a zone's parts, `kind == TZ_ALTERNATE` that of `alternate`. */
+typedef struct tz_rule {
+  uint32_t kind; /* TZ_NONE, TZ_FIXED, TZ_ALTERNATE */
+  tz_local_time_type fixed;
+  tz_alternate alternate;
+} tz_rule;
+
+enum { TZ_NONE = 0, TZ_FIXED = 1, TZ_ALTERNATE = 2 };
+
+/* Two years and a distance: the start of `first_year` comes after the end of `first_year + distance`, and the start of `second_year` before the
+   end of `second_year + distance`. 12 bytes. */
+typedef struct tz_conflict {
+  int32_t first_year;
+  int32_t second_year;
+  int32_t distance;
+} tz_conflict;
+
+/* A leap time from which on a type holds. 16 bytes. */
+typedef struct tz_transition {
+  int64_t unix_leap_time;
+  size_t local_time_type_index;
+} tz_transition;
+
+/* A leap time from which on leap time is ahead of Unix time by a correction. 16 bytes. */
+typedef struct tz_leap_second {
+  int64_t unix_leap_time;
+  int32_t correction;
+} tz_leap_second;
+
+/* The parts of a zone. `fixed` and `alternate` have one entry together, or none: the rule from the last transition on. 80 bytes. */
+typedef struct tz_parts {
+  const tz_transition *transitions;
+  size_t transitions_length;
+  const tz_local_time_type *types;
+  size_t types_length;
+  const tz_leap_second *leap_seconds;
+  size_t leap_seconds_length;
+  const tz_local_time_type *fixed;
+  size_t fixed_length;
+  const tz_alternate *alternate;
+  size_t alternate_length;
+} tz_parts;
+
+/* The least and the greatest offset of a zone's types and of its rule. 8 bytes. */
+typedef struct tz_offsets {
+  int32_t least;
+  int32_t greatest;
+} tz_offsets;
+
+/* A zone. 88 bytes. */
+typedef struct tz_zone {
+  tz_parts parts;
+  tz_offsets offsets;
+} tz_zone;
+
+/* What a clock shows. 16 bytes. Any values may be passed: calls check them. */
+typedef struct tz_fields {
+  int32_t year;
+  uint8_t month;     /* 1 to 12 */
+  uint8_t month_day; /* from 1 */
+  uint8_t hour;      /* 0 to 23 */
+  uint8_t minute;    /* 0 to 59 */
+  uint8_t second;    /* 0 to 60 */
+  uint32_t nanoseconds; /* below 10^9 */
+} tz_fields;
+
+/* A date time of UTC. 24 bytes. */
+typedef struct tz_utc {
+  tz_fields fields;
+  int64_t unix_time;
+} tz_utc;
+
+/* A date time with the type that shows it. 40 bytes. */
+typedef struct tz_date_time {
+  tz_fields fields;
+  tz_local_time_type local_time_type;
+  int64_t unix_time;
+} tz_date_time;
+
+#define TZ_UTC_EPOCH { { 1970, 1, 1, 0, 0, 0, 0 }, 0 }
+#define TZ_DATE_TIME_EPOCH { { 1970, 1, 1, 0, 0, 0, 0 }, { 0, false, { 0, 0, 0, 0, 0, 0, 0 }, 0 }, 0 }
+
+/* What a search finds. 88 bytes. */
+typedef struct tz_found {
+  bool is_skipped;     /* whether clocks are set forward over the fields */
+  tz_date_time before; /* the date time, or what clocks would show at the jump without it */
+  tz_date_time after;  /* the date time again, or what clocks show at the jump */
+} tz_found;
+
+/* A span of instants through which a clock has one type, or none. 40 bytes. */
+typedef struct tz_segment {
+  int64_t from;
+  int64_t last;
+  bool has_type;
+  tz_local_time_type local_time_type; /* zeros if it has none */
+} tz_segment;
+
+/* An instant at which a clock has another type than a second before. 40 bytes. */
+typedef struct tz_change {
+  int64_t unix_time;
+  tz_local_time_type before;
+  tz_local_time_type after;
+} tz_change;
+
+/* How many of each a file has. 32 bytes. */
+typedef struct tz_sizes {
+  size_t transitions;
+  size_t types;
+  size_t leap_seconds;
+  size_t footer; /* the last bytes of the file, behind its tables; 0 in version 1 */
+} tz_sizes;
+
+/* What a setting asks for: bytes `from` to `until` of it. 24 bytes. */
+typedef struct tz_setting {
+  uint32_t kind; /* TZ_LOCAL_TIME, TZ_FILE, TZ_FILE_OR_STRING */
+  size_t from;   /* TZ_LOCAL_TIME: both are 0 */
+  size_t until;
+} tz_setting;
+
+enum {
+  TZ_LOCAL_TIME = 0,    /* the file /etc/localtime */
+  TZ_FILE = 1,          /* the file of the name: in a directory of time zones, or by its path if it begins with '/' */
+  TZ_FILE_OR_STRING = 2 /* that file, and if there is none the TZ string, which `tz_string_read` reads without white space at its ends */
+};
+
+/* Which date time a local time means. */
+enum { TZ_COMPATIBLE = 0, TZ_EARLIER = 1, TZ_LATER = 2, TZ_REJECT = 3 };
+
+/* ---- Local time types and rules ------------------------------------------------------------------------------------------------------- */
+
+/* A type. The name has 1 to 7 bytes of 0-9A-Za-z+-; without `has_name` the bytes are not read.
+   TZ_INVALID_UTC_OFFSET (INT32_MIN), TZ_INVALID_TIME_ZONE_DESIGNATION_LENGTH, TZ_INVALID_TIME_ZONE_DESIGNATION_CHAR, in this order. */
+tz_code tz_local_time_type_new(int32_t ut_offset, bool is_dst, bool has_name, const char *name, size_t name_length, tz_local_time_type *out);
+
+/* The n-th of the days that are not February 29th, 1 to 365. TZ_INVALID_RULE_DAY_JULIAN_DAY. */
+tz_code tz_julian_1_new(uint16_t julian_day_1, tz_day *out);
+
+/* The day n days after January 1st, 0 to 365. TZ_INVALID_RULE_DAY_JULIAN_DAY. */
+tz_code tz_julian_0_new(uint16_t julian_day_0, tz_day *out);
+
+/* A week day of a month. TZ_INVALID_RULE_DAY_MONTH, TZ_INVALID_RULE_DAY_WEEK, TZ_INVALID_RULE_DAY_WEEK_DAY, in this order. */
+tz_code tz_month_week_day_new(uint8_t month, uint8_t week, uint8_t week_day, tz_day *out);
+
+/* The rule of these parts. Times are less than a week either way, offsets above -25 and below 26 hours.
+   TZ_INVALID_STD_UTC_OFFSET, TZ_INVALID_DST_UTC_OFFSET, TZ_INVALID_DST_START_END_TIME, TZ_INCONSISTENT_RULE, in this order. */
+tz_code tz_alternate_new(const tz_local_time_type *std, const tz_local_time_type *dst, const tz_day *dst_start, int32_t dst_start_time,
+                         const tz_day *dst_end, int32_t dst_end_time, tz_alternate *out);
+
+/* Why parts in range make no rule. TZ_NO_CONFLICT. */
+tz_code tz_alternate_conflict(const tz_local_time_type *std, const tz_local_time_type *dst, const tz_day *dst_start, int32_t dst_start_time,
+                              const tz_day *dst_end, int32_t dst_end_time, tz_conflict *out);
+
+/* The type of a rule at an instant in Unix seconds; `fixed` goes first if both lists have an entry. TZ_NO_RULE, TZ_OUT_OF_RANGE. */
+tz_code tz_rule_type_at(const tz_local_time_type *fixed, size_t fixed_length, const tz_alternate *alternate, size_t alternate_length,
+                        int64_t unix_time, tz_local_time_type *out);
+
+/* The TZ string of a rule, and its length; it has at most 114 bytes, and no zero follows it. TZ_NO_RULE, TZ_NO_TZ_STRING, TZ_BUFFER_LENGTH. */
+tz_code tz_rule_text(const tz_local_time_type *fixed, size_t fixed_length, const tz_alternate *alternate, size_t alternate_length, char *text,
+                     size_t text_length, size_t *length);
+
+/* ---- Files, TZ strings, settings ------------------------------------------------------------------------------------------------------ */
+
+/* The sizes of a TZif file, by its headers alone. (RFC 8536) TZ_FILE_... */
+tz_code tz_file_sizes(const uint8_t *bytes, size_t bytes_length, tz_sizes *out);
+
+/* The parts of a TZif file and the end offsets of its zone. The three lengths are those of `tz_file_sizes`.
+   TZ_BUFFER_LENGTH, TZ_FILE_..., TZ_STRING_... (of the footer), the codes of local time types, rules and `tz_zone_check`, TZ_MEMORY.
+   The call takes memory by malloc and gives it back. */
+tz_code tz_file_read(const uint8_t *bytes, size_t bytes_length, tz_transition *transitions, size_t transitions_length,
+                     tz_local_time_type *types, size_t types_length, tz_leap_second *leap_seconds, size_t leap_seconds_length, tz_rule *rule,
+                     tz_offsets *offsets);
+
+/* The rule of a TZ string, ordinary or extended (hours from -167 to 167), without white space at its ends. (POSIX.1-2017, 8.3; RFC 8536,
+   3.3.1) TZ_STRING_..., the codes of local time types, days and rules. */
+tz_code tz_string_read(const char *text, size_t text_length, bool is_extended, tz_rule *out);
+
+/* What a setting asks for. TZ_STRING_EMPTY. */
+tz_code tz_setting_read(const char *text, size_t text_length, tz_setting *out);
+
+/* Whether parts make a zone, and its end offsets.
+   TZ_NO_LOCAL_TIME_TYPE, for each transition in turn TZ_INVALID_LOCAL_TIME_TYPE_INDEX and TZ_INVALID_TRANSITION, TZ_INVALID_LEAP_SECOND,
+   TZ_OUT_OF_RANGE or TZ_INCONSISTENT_EXTRA_RULE, in this order. */
+tz_code tz_zone_check(const tz_parts *parts, tz_offsets *offsets);
+
+/* ---- Zones ---------------------------------------------------------------------------------------------------------------------------- */
+
+/* The type of the zone's clock at an instant. TZ_NO_AVAILABLE_LOCAL_TIME_TYPE, TZ_OUT_OF_RANGE. */
+tz_code tz_zone_type_at(const tz_zone *zone, int64_t unix_time, tz_local_time_type *out);
+
+/* The place of that type: below `types_length` that of a type of the list, `types_length` for the fixed type or standard time of the rule, and
+   one more for its daylight saving time. */
+tz_code tz_zone_place_at(const tz_zone *zone, int64_t unix_time, size_t *place);
+
+/* The segment around an instant. Returns TZ_OK. */
+tz_code tz_zone_segment_at(const tz_zone *zone, int64_t unix_time, tz_segment *out);
+
+/* The first change after an instant. TZ_NO_CHANGE. */
+tz_code tz_zone_following(const tz_zone *zone, int64_t unix_time, tz_change *out);
+
+/* The last change before an instant. TZ_NO_CHANGE. */
+tz_code tz_zone_preceding(const tz_zone *zone, int64_t unix_time, tz_change *out);
+
+/* The leap time of an instant, and the least instant at which a leap time is reached. TZ_OUT_OF_RANGE. */
+tz_code tz_zone_leap_time(const tz_zone *zone, int64_t unix_time, int64_t *leap_time);
+tz_code tz_zone_effect(const tz_zone *zone, int64_t leap_time, int64_t *unix_time);
+
+/* ---- Date times ----------------------------------------------------------------------------------------------------------------------- */
+
+/* The date time of UTC with these fields. TZ_OUT_OF_RANGE (second 60 of the last minute), the first field out of range by its code,
+   TZ_INVALID_MONTH_DAY. */
+tz_code tz_utc_new(const tz_fields *fields, tz_utc *out);
+
+/* The date time of UTC at an instant. TZ_INVALID_NANOSECONDS, TZ_OUT_OF_RANGE. */
+tz_code tz_utc_from_timespec(int64_t unix_time, uint32_t nanoseconds, tz_utc *out);
+
+/* The date time a duration later, or earlier. TZ_INVALID_NANOSECONDS, TZ_OUT_OF_RANGE. */
+tz_code tz_utc_add(const tz_utc *utc, uint64_t seconds, uint32_t nanoseconds, tz_utc *out);
+tz_code tz_utc_sub(const tz_utc *utc, uint64_t seconds, uint32_t nanoseconds, tz_utc *out);
+
+/* The week day, 0 (Sunday) to 6. */
+uint8_t tz_utc_week_day(const tz_utc *utc);
+uint8_t tz_date_time_week_day(const tz_date_time *date_time);
+
+/* The days since January 1st, 0 to 365. */
+uint16_t tz_utc_year_day(const tz_utc *utc);
+uint16_t tz_date_time_year_day(const tz_date_time *date_time);
+
+/* The date time with these fields, which the type shows. The first field out of range by its code, TZ_INVALID_MONTH_DAY, TZ_OUT_OF_RANGE. */
+tz_code tz_date_time_new(const tz_fields *fields, const tz_local_time_type *local_time_type, tz_date_time *out);
+
+/* What the type shows at an instant. TZ_INVALID_NANOSECONDS, TZ_OUT_OF_RANGE. */
+tz_code tz_date_time_from_timespec_and_local(int64_t unix_time, uint32_t nanoseconds, const tz_local_time_type *local_time_type,
+                                             tz_date_time *out);
+
+/* What the zone's clock shows at an instant. TZ_INVALID_NANOSECONDS, the codes of `tz_zone_type_at`, TZ_OUT_OF_RANGE. */
+tz_code tz_date_time_from_timespec(int64_t unix_time, uint32_t nanoseconds, const tz_zone *zone, tz_date_time *out);
+
+/* The date time of UTC at the same instant. TZ_OUT_OF_RANGE. */
+tz_code tz_date_time_to_utc(const tz_date_time *date_time, tz_utc *out);
+
+/* ---- Search --------------------------------------------------------------------------------------------------------------------------- */
+
+/* Everything that the fields mean in the zone, in order of Unix time: each instant at which clocks show them, and each jump over them. `count`
+   is how many there are; those from number `skip` on go to the slots, as far as these go, and the other slots stay as they are.
+   The first field out of range by its code, TZ_INVALID_MONTH_DAY, TZ_OUT_OF_RANGE. */
+tz_code tz_find_n(const tz_fields *fields, const tz_zone *zone, size_t skip, tz_found *slots, size_t slots_length, size_t *count);
+
+/* The one date time that the fields mean by a choice. TZ_UNKNOWN_CHOICE, the codes of `tz_find_n`, TZ_NO_DATE_TIME, and for a gap those of
+   `tz_date_time_from_timespec`. */
+tz_code tz_find_one(const tz_fields *fields, uint8_t choice, const tz_zone *zone, tz_date_time *out);
+
+/* ---- Text ----------------------------------------------------------------------------------------------------------------------------- */
+
+/* `year-MM-DDThh:mm:ss.nnnnnnnnn` and `Z` or the offset, and its length: at most 53 bytes, and no zero follows them. TZ_BUFFER_LENGTH. */
+tz_code tz_utc_text(const tz_utc *utc, char *text, size_t text_length, size_t *length);
+tz_code tz_date_time_text(const tz_date_time *date_time, char *text, size_t text_length, size_t *length);
+
+/* What a code says, and its length: at most 128 bytes, and no zero follows them. TZ_UNKNOWN_CODE, TZ_BUFFER_LENGTH. */
+tz_code tz_error_text(tz_code code, char *text, size_t text_length, size_t *length);
+
+/* ---- Layout --------------------------------------------------------------------------------------------------------------------------- */
+
+/* TZ_ABI, and the sizes in bytes of the types above in their order: tz_local_time_type, tz_day, tz_alternate, tz_rule, tz_conflict,
+   tz_transition, tz_leap_second, tz_parts, tz_offsets, tz_zone, tz_fields, tz_utc, tz_date_time, tz_found, tz_segment, tz_change, tz_sizes,
+   tz_setting. They are 19 numbers, TZ_LAYOUT_LENGTH. TZ_BUFFER_LENGTH if the buffer has another length. */
+#define TZ_LAYOUT_LENGTH 19
+tz_code tz_layout(size_t *out, size_t out_length);
+
+#ifdef __cplusplus
+}
+#endif
+
+#endif

@@ -1,0 +1,9 @@
+pub mod Codes
+pub mod DateTimes
+pub mod Files
+pub mod Places
+pub mod Rules
+pub mod Settings
+pub mod Tables
+pub mod Texts
+pub mod Zones

@@ -1,0 +1,29 @@
+-- What the reader of TZif files answers.
+use Rattle.std.specs.Prelude.{◌≡◌, ◌⊎◌, ℕ, List, length}
+use Rattle.tz_base.specs.declared.error.TzError.{TzError}
+use Rattle.tz_rule.specs.LocalTimeType.{LocalTimeType}
+use Rattle.tz_rule.specs.RuleData.{rule_given}
+use Rattle.tz_rule.specs.declared.timezone.rule_data.RuleData.{RuleData}
+use Rattle.tz_zone.specs.Offsets.{AreEndOffsets}
+use Rattle.tz_zone.specs.Table.{LeapSecond, Transition, Zone, zone_with}
+use Rattle.tz_zone.specs.TzFile.{IsTzFile}
+use Rattle.tz_zone.specs.TzFileFault.{IsReadFault}
+use Rattle.tz_c.specs.Codes.{buffer_length, code_of}
+use Rattle.tz_c.specs.declared.zones.OffsetsData.{OffsetsData}
+
+-- the zone that is written
+abbrev pub zone_written : List Transition → List LocalTimeType → List LeapSecond → RuleData → Zone
+zone_written transitions types leap_seconds rule = zone_with transitions types leap_seconds (rule_given rule)
+
+-- two zones have tables of the same lengths
+pub record HaveSameLengths (a b : Zone) : Type 0 where
+  pub transitions_are : length a.transitions ≡ length b.transitions
+  pub types_are : length a.types ≡ length b.types
+  pub leap_seconds_are : length a.leap_seconds ≡ length b.leap_seconds
+
+-- the zone of the file and its end offsets are written, or the tables of the file have other lengths than the slices, or the bytes are no file
+abbrev pub IsReadAnswer : List ℕ → ℕ → Zone → OffsetsData → Type 0
+IsReadAnswer bytes code z offsets =
+    ((code ≡ 0) × IsTzFile bytes z × AreEndOffsets z offsets.least offsets.greatest)
+    ⊎ ((code ≡ buffer_length) × ((zone : Zone) × IsTzFile bytes zone × ¬ HaveSameLengths zone z))
+    ⊎ ((e : TzError) × (code ≡ code_of e) × IsReadFault bytes e)

@@ -1,0 +1,50 @@
+//! The sizes of the types that cross.
+
+ghost use Rattle.std.specs.Prelude.{◌≡◌, ◌≢◌, length};
+ghost use Rattle.tz_c.specs.Codes.{buffer_length};
+
+use crate::codes::{BUFFER_LENGTH, OK};
+use crate::rules::ConflictData;
+use crate::settings::SettingData;
+use crate::zones::{ChangeData, OffsetsData, PartsData, SegmentData};
+use tz::inner::{DateTimeData, Fields, FoundData, UtcData};
+use tz_rule::inner::{AlternateClock, DayData, RuleData};
+use tz_rule::timezone::LocalTimeType;
+use tz_zone::inner::{FileSizes, ZoneView};
+use tz_zone::timezone::{LeapSecond, Transition};
+
+/// The number of the layout, and the sizes in the order of the header.
+const LAYOUT: [usize; 19] = [
+    1,
+    size_of::<LocalTimeType>(),
+    size_of::<DayData>(),
+    size_of::<AlternateClock>(),
+    size_of::<RuleData>(),
+    size_of::<ConflictData>(),
+    size_of::<Transition>(),
+    size_of::<LeapSecond>(),
+    size_of::<PartsData<'static>>(),
+    size_of::<OffsetsData>(),
+    size_of::<ZoneView<'static>>(),
+    size_of::<Fields>(),
+    size_of::<UtcData>(),
+    size_of::<DateTimeData>(),
+    size_of::<FoundData>(),
+    size_of::<SegmentData>(),
+    size_of::<ChangeData>(),
+    size_of::<FileSizes>(),
+    size_of::<SettingData>(),
+];
+
+/// The number of the layout, and the sizes of the types that cross.
+#[unsafe(no_mangle)]
+pub extern "C" fn tz_layout(out: &mut [usize]) -> u32
+    ensures ok { result ≡ 0 → out.new ≡ LAYOUT }
+    ensures other { result ≢ 0 → (result ≡ buffer_length) × (length out.old ≢ 19) × (out.new ≡ out.old) }
+{
+    if out.len() != LAYOUT.len() {
+        return BUFFER_LENGTH;
+    }
+    out.copy_from_slice(&LAYOUT);
+    OK
+}

@@ -1,0 +1,18 @@
+//! The library of C programs: exports that state the contracts of `tz` again. The header is bindings/c/tz.h.
+#![tactic(auto)]
+
+mod codes;
+mod date_times;
+mod error_texts;
+mod files;
+mod layout;
+mod leap_times;
+mod local_time_types;
+mod places;
+mod rules;
+mod searches;
+mod settings;
+mod tables;
+mod texts;
+mod utc;
+mod zones;

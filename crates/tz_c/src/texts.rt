@@ -1,0 +1,73 @@
+//! Printed text.
+
+ghost use Rattle.std.specs.Prelude.{◌≡◌, ◌≢◌, pos};
+ghost use Rattle.tz.specs.PrintedText.{printed_text};
+ghost use Rattle.tz_zone.specs.ZoneSeen.{rule_of_lists};
+ghost use Rattle.tz_c.specs.Texts.{IsTextAnswer, IsRuleTextAnswer};
+
+use crate::codes::{BUFFER_LENGTH, NO_RULE, NO_TZ_STRING, OK};
+use crate::rules::rule_of_lists;
+use tz::inner::{TextBuffer, UtcData};
+use tz::{DateTime, TzString, UtcDateTime};
+use tz_rule::inner::AlternateClock;
+use tz_rule::timezone::LocalTimeType;
+
+/// Gives a text to a buffer, and its length, if there is room.
+#[inline(always)]
+pub(crate) fn give(given: &[u8], text: &mut [u8], len: &mut usize) -> u32
+    ensures answer { IsTextAnswer given.now result text.old text.new len.new }
+    ensures text_kept { result ≢ 0 → text.new ≡ text.old }
+    ensures len_kept { result ≢ 0 → len.new ≡ len.old }
+{
+    if given.len() > text.len() {
+        return BUFFER_LENGTH;
+    }
+    text[..given.len()].copy_from_slice(given);
+    *len = given.len();
+    OK
+}
+
+/// The date time of UTC as its `Display` prints it.
+#[unsafe(no_mangle)]
+pub extern "C" fn tz_utc_text(utc: &UtcDateTime, text: &mut [u8], len: &mut usize) -> u32
+    ensures answer { IsTextAnswer (printed_text utc.now (pos 0)) result text.old text.new len.new }
+    ensures text_kept { result ≢ 0 → text.new ≡ text.old }
+    ensures len_kept { result ≢ 0 → len.new ≡ len.old }
+{
+    let mut line = TextBuffer::new();
+    line.push_date_time(&UtcData::of(utc).fields, 0);
+    give(line.as_bytes(), text, len)
+}
+
+/// The date time as its `Display` prints it.
+#[unsafe(no_mangle)]
+pub extern "C" fn tz_date_time_text(date_time: &DateTime, text: &mut [u8], len: &mut usize) -> u32
+    ensures answer { IsTextAnswer (printed_text date_time.now.fields date_time.now.local_time_type.ut_offset) result text.old text.new len.new }
+    ensures text_kept { result ≢ 0 → text.new ≡ text.old }
+    ensures len_kept { result ≢ 0 → len.new ≡ len.old }
+{
+    let mut line = TextBuffer::new();
+    line.push_local_date_time(date_time);
+    give(line.as_bytes(), text, len)
+}
+
+/// The TZ string of a rule, as `TzString::from_rule` writes it.
+#[unsafe(no_mangle)]
+pub extern "C" fn tz_rule_text(
+    fixed: &[LocalTimeType],
+    alternate: &[AlternateClock],
+    text: &mut [u8],
+    len: &mut usize,
+) -> u32
+    ensures answer { IsRuleTextAnswer (rule_of_lists fixed.now alternate.now) result text.old text.new len.new }
+    ensures text_kept { result ≢ 0 → text.new ≡ text.old }
+    ensures len_kept { result ≢ 0 → len.new ≡ len.old }
+{
+    let Some(rule) = rule_of_lists(fixed, alternate) else {
+        return NO_RULE;
+    };
+    match TzString::from_rule(&rule.rule()) {
+        Some(string) => give(string.as_str().as_bytes(), text, len),
+        None => NO_TZ_STRING,
+    }
+}

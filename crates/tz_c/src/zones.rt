@@ -1,0 +1,191 @@
+//! Zones.
+
+ghost use Rattle.std.specs.Prelude.{◌≡◌, ◌≢◌, ◌≤ℤ◌};
+ghost use Rattle.tz_zone.specs.Changes.{IsTrueSegment, IsFollowing, IsPreceding, HasNoFollowing, HasNoPreceding};
+ghost use Rattle.tz_zone.specs.Clock.{IsClock, IsLookupFault};
+ghost use Rattle.tz_zone.specs.Offsets.{AreEndOffsets};
+ghost use Rattle.tz_zone.specs.TableChanges.{HasTableEnds};
+ghost use Rattle.tz_zone.specs.ValidZone.{IsValidZone, IsFirstZoneFault};
+ghost use Rattle.tz_zone.specs.ZoneViewed.{zone_viewed};
+ghost use Rattle.tz_c.specs.Codes.{IsAnswer, IsAnswerOr, no_change};
+ghost use Rattle.tz_c.specs.Zones.{zone_of_parts, segment_written, change_written};
+
+use crate::codes::{NO_CHANGE, OK, code_of};
+use tz_rule::inner::AlternateClock;
+use tz_rule::timezone::LocalTimeType;
+use tz_zone::inner::ZoneView;
+use tz_zone::timezone::{Change, LeapSecond, Segment, Transition};
+
+/// Parts that may make a zone.
+#[repr(C)]
+#[derive(Clone, Copy)]
+pub struct PartsData<'a> {
+    transitions: &'a [Transition],
+    local_time_types: &'a [LocalTimeType],
+    leap_seconds: &'a [LeapSecond],
+    fixed: &'a [LocalTimeType],
+    alternate: &'a [AlternateClock],
+}
+
+/// The least and the greatest offset of a zone.
+#[repr(C)]
+#[derive(Clone, Copy)]
+pub struct OffsetsData {
+    pub(crate) least: i32,
+    pub(crate) greatest: i32,
+}
+
+/// What a call writes of a segment. Without a type the type is UTC's, whose bytes are zero.
+#[repr(C)]
+#[derive(Clone, Copy)]
+pub struct SegmentData {
+    from: i64,
+    last: i64,
+    has_type: bool,
+    local_time_type: LocalTimeType,
+}
+
+/// What a call writes of a change.
+#[repr(C)]
+#[derive(Clone, Copy)]
+pub struct ChangeData {
+    unix_time: i64,
+    before: LocalTimeType,
+    after: LocalTimeType,
+}
+
+impl SegmentData {
+    ghost use Rattle.tz_zone.specs.Changes.{segment_of};
+
+    /// The data of a segment.
+    fn of(segment: &Segment<'_>) -> Self
+        ensures { segment_written result ≡ segment_of segment.now }
+    {
+        let (from, last) = (segment.from(), segment.last());
+        match segment.local_time_type() {
+            Some(local_time_type) => SegmentData {
+                from,
+                last,
+                has_type: true,
+                local_time_type: *local_time_type,
+            },
+            None => SegmentData {
+                from,
+                last,
+                has_type: false,
+                local_time_type: LocalTimeType::utc(),
+            },
+        }
+    }
+}
+
+impl ChangeData {
+    ghost use Rattle.tz_zone.specs.Changes.{change_of};
+
+    /// The data of a change.
+    fn of(change: &Change<'_>) -> Self
+        ensures { change_written result ≡ change_of change.now }
+    {
+        ChangeData {
+            unix_time: change.unix_time(),
+            before: *change.before(),
+            after: *change.after(),
+        }
+    }
+}
+
+/// Whether parts make a zone, as `TimeZoneRef::new` checks them, and its end offsets.
+#[unsafe(no_mangle)]
+pub extern "C" fn tz_zone_check(parts: &PartsData<'_>, out: &mut OffsetsData) -> u32
+    ensures answer { let z = zone_of_parts parts.now in
+        IsAnswer result (IsValidZone z × AreEndOffsets z out.new.least out.new.greatest) (IsFirstZoneFault z) }
+    ensures kept { result ≢ 0 → out.new ≡ out.old }
+{
+    match ZoneView::new(
+        parts.transitions,
+        parts.local_time_types,
+        parts.leap_seconds,
+        parts.fixed,
+        parts.alternate,
+    ) {
+        Ok(zone) => {
+            let (least, greatest) = zone.offsets();
+            *out = OffsetsData { least, greatest };
+            OK
+        }
+        Err(error) => code_of(&error),
+    }
+}
+
+/// The type of a zone's clock at an instant, as `TimeZoneRef::find_local_time_type` finds it.
+#[unsafe(no_mangle)]
+pub extern "C" fn tz_zone_type_at(
+    zone: &ZoneView<'_>,
+    unix_time: i64,
+    out: &mut LocalTimeType,
+) -> u32
+    ensures answer { IsAnswer result (IsClock (zone_viewed zone.now) unix_time out.new) (IsLookupFault (zone_viewed zone.now) unix_time) }
+    ensures kept { result ≢ 0 → out.new ≡ out.old }
+{
+    match zone.find_local_time_type(unix_time) {
+        Ok(local_time_type) => {
+            *out = *local_time_type;
+            OK
+        }
+        Err(error) => code_of(&error),
+    }
+}
+
+/// The segment around an instant, as `TimeZoneRef::segment_at` finds it.
+#[unsafe(no_mangle)]
+pub extern "C" fn tz_zone_segment_at(
+    zone: &ZoneView<'_>,
+    unix_time: i64,
+    out: &mut SegmentData,
+) -> u32
+    ensures ok { result ≡ 0 }
+    ensures within { (out.new.from ≤ℤ unix_time) × (unix_time ≤ℤ out.new.last) }
+    ensures segment { IsTrueSegment (zone_viewed zone.now) (segment_written out.new) }
+    ensures ends { HasTableEnds (zone_viewed zone.now) out.new.from out.new.last }
+{
+    *out = SegmentData::of(&zone.segment_at(unix_time));
+    OK
+}
+
+/// The first change after an instant, as `TimeZoneRef::following` finds it.
+#[unsafe(no_mangle)]
+pub extern "C" fn tz_zone_following(
+    zone: &ZoneView<'_>,
+    unix_time: i64,
+    out: &mut ChangeData,
+) -> u32
+    ensures answer { IsAnswerOr result no_change (IsFollowing (zone_viewed zone.now) unix_time (change_written out.new)) (HasNoFollowing (zone_viewed zone.now) unix_time) }
+    ensures kept { result ≢ 0 → out.new ≡ out.old }
+{
+    match zone.following(unix_time) {
+        Some(change) => {
+            *out = ChangeData::of(&change);
+            OK
+        }
+        None => NO_CHANGE,
+    }
+}
+
+/// The last change before an instant, as `TimeZoneRef::preceding` finds it.
+#[unsafe(no_mangle)]
+pub extern "C" fn tz_zone_preceding(
+    zone: &ZoneView<'_>,
+    unix_time: i64,
+    out: &mut ChangeData,
+) -> u32
+    ensures answer { IsAnswerOr result no_change (IsPreceding (zone_viewed zone.now) unix_time (change_written out.new)) (HasNoPreceding (zone_viewed zone.now) unix_time) }
+    ensures kept { result ≢ 0 → out.new ≡ out.old }
+{
+    match zone.preceding(unix_time) {
+        Some(change) => {
+            *out = ChangeData::of(&change);
+            OK
+        }
+        None => NO_CHANGE,
+    }
+}
