@@ -1,0 +1,17 @@
+#![deny(missing_docs)]
+#![deny(unsafe_code)]
+#![doc = include_str!("../README.md")]
+
+mod codes;
+pub mod datetime;
+pub mod error;
+#[allow(unsafe_code)]
+mod ffi;
+mod system_time;
+pub mod timezone;
+mod tz_string;
+
+pub use datetime::{DateTime, UtcDateTime};
+pub use error::{Error, TzError};
+pub use timezone::{LocalTimeType, TimeZone, TimeZoneRef, TimeZoneSettings};
+pub use tz_string::TzString;
