@@ -40,22 +40,25 @@ GOALS = {
 APART = ('`DateTime::from_timespec`, fixed offset', '`DateTime::find_n`, fixed offset', '`TimeZoneRef::following`, rule without a change')
 
 
+# Rows of lines that no other program answers.
+OWN_LINES = ('W, ten weeks, Paris',)
+
+
 # Why tz takes more than the best peer, and the rows in which it may: a row says so where it does.
 REASONS = {
     'a': 'checks the fields, and makes date times, at jumps two, with fields, offset and name, where the others return seconds (date without a check);',
     'b': 'allocates a list of them: `find_n` uses slots of the caller, and the peers return one or two values;',
-    'c': 'searches anew, where cctz first tries the transition that it found last;',
-    'd': 'looks for a file of that name in three directories, as tz-rs does, by a call of the kit that clears 4096 bytes each time;',
-    'e': 'makes tables of the starts and ends of a rule, which its lookups read; and jiff does not check that both keep their order in all years;',
-    'f': 'checks that the transitions of a file rise, which glibc does not.',
+    'c': 'looks for a file of that name in three directories, as tz-rs does, by a call of the kit that clears 4096 bytes each time;',
+    'd': 'makes tables of the starts and ends of a rule, which its lookups read; and jiff does not check that both keep their order in all years;',
+    'e': 'checks that the transitions of a file rise, which glibc does not.',
 }
 BEHIND = {
     '`DateTime::find`, fixed offset': 'ab', '`DateTime::find`, random, Paris': 'b', '`DateTime::find`, at jumps, Paris': 'b',
     '`DateTime::find`, at jumps, TZ string': 'b', '`DateTime::find`, random, 100000 transitions': 'b',
-    '`DateTime::find`, weekly, Paris': 'bc', '`DateTime::find_n`, fixed offset': 'a',
-    '`TimeZone::from_posix_tz`, TZ string': 'd',
-    '`TimeZoneSettings` without directories, TZ string': 'e', '`AlternateTime::new`, TZ string': 'e', '`AlternateTime::new`, days that meet': 'e',
-    '`TimeZone::from_tz_data`, 100000 transitions': 'f',
+    '`DateTime::find`, weekly, Paris': 'b', '`DateTime::find_n`, fixed offset': 'a',
+    '`TimeZone::from_posix_tz`, TZ string': 'c',
+    '`TimeZoneSettings` without directories, TZ string': 'd', '`AlternateTime::new`, TZ string': 'd', '`AlternateTime::new`, days that meet': 'd',
+    '`TimeZone::from_tz_data`, 100000 transitions': 'e',
     'time of `DateTime::find`, random, Paris': 'b', 'time of `DateTime::find_n`, random, Paris': 'a', 'time of `DateTime::find_n`, at jumps, Paris': 'a',
     'time of `DateTime::find_n`, random, 100000 transitions': 'a',
 }
@@ -100,7 +103,8 @@ class Zones:
         self.paris = Zone('Paris', ['-f', paris], paris, lines.jumps_of_file(paris) + rule, LAST)
         self.string = Zone('TZ string', ['-z', STRING], string, lines.jumps_of_string(STRING, 1900, 3000))
         self.many = Zone('100000 transitions', ['-f', many], many, lines.jumps_of_file(many))
-        self.leaps = Zone('leap seconds', ['-f', leaps], leaps, [], lines.last_year_of_file(leaps))
+        # The clock of its leap seconds jumps at the same instants.
+        self.leaps = Zone('leap seconds', ['-f', leaps], leaps, lines.jumps_of_file(paris), lines.last_year_of_file(leaps))
         self.constant = Zone('rule without a change', ['-z', CONSTANT], '', [])
         self.meeting = Zone('days that meet', ['-z', MEETING], '', [])
 
@@ -126,6 +130,7 @@ def query_lines(zones, count, seed=SEED):
     yield Lines('F, random, 100000 transitions', many, lines.random_readings(rng, count, 2016, 2024))
     yield Lines('F, at jumps, 100000 transitions', many, lines.readings_at_jumps(rng, count, many.jumps, 2016, 2024))
     yield Lines('F, random, leap seconds', leaps, lines.random_readings(rng, count))
+    yield Lines('W, ten weeks, Paris', paris, ['W 10' + line[1:] for line in lines.random_readings(rng, count)])
 
 
 # The rows of lines that are timed too.
@@ -134,8 +139,10 @@ STARTS = ('to start, fixed offset', 'fixed'), ('to start, Paris', 'paris'), ('to
 
 
 def word_of(line):
-    """The instant of a T line, or the local time of an F line."""
+    """The instant of a T line, or the local time of an F line or of a W line's first week."""
     parts = line.split()
+    if parts[0] == 'W':
+        del parts[1]
     return int(parts[1]) if parts[0] == 'T' else int(''.join(f'{int(part):02}' for part in parts[1:7]))
 
 
@@ -188,10 +195,21 @@ def calls(zones, count, seed=SEED):
         yield row(f'{shown}, random, 100000 transitions', call, many, 'local times', timed=call == 'find_n')
     yield row('`DateTime::find`, weekly, Paris', 'find', paris, 'weekly local times')
     yield row('`DateTime::find`, leap seconds', 'find', leaps, 'local times')
+    yield row('`DateTime::find`, at jumps, leap seconds', 'find', leaps, 'local times at jumps')
+    yield row('`DateTime::find_one`, random, Paris', 'find_one', paris, 'local times')
+    yield row('`DateTime::find_one`, at jumps, Paris', 'find_one', paris, 'local times at jumps')
+    yield row('`DateTime::from_local`, random, Paris', 'from_local', paris, 'instants of local years')
     yield row('`TimeZoneRef::following`, random, Paris', 'following', paris, 'instants')
     yield row('`TimeZoneRef::following`, random, TZ string', 'following', text, 'instants')
     yield row('`TimeZoneRef::following`, rule without a change', 'following', zones.constant, 'instants', long=True)
+    for call in ('preceding', 'segment_at'):
+        shown = f'`TimeZoneRef::{call}`'
+        yield row(f'{shown}, random, Paris', call, paris, 'instants')
+        yield row(f'{shown}, random, TZ string', call, text, 'instants')
+        yield row(f'{shown}, leap seconds', call, leaps, 'instants')
+    yield row('`TimeZoneRef::preceding`, rule without a change', 'preceding', zones.constant, 'instants', long=True)
     yield row('next of `changes_after`, 1900 to 2100, Paris', 'walk', paris, 'instants')
+    yield row('next of `changes_before`, 2100 to 1900, Paris', 'walk_back', paris, 'instants')
     yield row('`Display` into a new string, Paris', 'display', paris, 'instants of local years', timed=True)
     yield row('`UtcDateTime::from_timespec`', 'utc_from_timespec', fixed, 'instants')
     yield row('`UtcDateTime::new` and `unix_time`', 'utc_new', fixed, 'local times')
@@ -201,13 +219,14 @@ def calls(zones, count, seed=SEED):
     yield row('`TimeZone::from_posix_tz`, TZ string', 'from_posix_tz', text, 'instants', long=True)
     yield row('`TimeZone::from_posix_tz`, failing reader, TZ string', 'failing_reader', text, 'instants', long=True)
     yield row('`TimeZoneSettings` without directories, TZ string', 'parse_string', text, 'instants', long=True)
+    yield row('`TzString::from_rule`, TZ string', 'from_rule', text, 'instants')
     yield row('`AlternateTime::new`, TZ string', 'rule', text, 'instants', long=True)
     yield row('`AlternateTime::new`, days that meet', 'rule', zones.meeting, 'instants', long=True)
 
 
 def loop_of(call):
     """The loop around a call, which is taken off its figure: it reads local times or instants."""
-    return 'local' if call in ('find', 'find_n', 'utc_new') else 'instant'
+    return 'local' if call in ('find', 'find_n', 'find_one', 'utc_new') else 'instant'
 
 
 def search_of(name):

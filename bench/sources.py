@@ -21,7 +21,7 @@ def libraries_of(uses):
     """The crates of the repository that these words of crates.txt name, and those below them."""
     found, left = set(), uses.split()
     with open(f'{TOP}/crates.txt') as file:
-        below = dict(line.split(':') for line in file if ':' in line and not line.startswith('#'))
+        below = {line.split()[0].rstrip(':'): line.split(':')[1] for line in file if ':' in line and not line.startswith('#')}
     while left:
         name = left.pop()
         if name in below and name not in found:

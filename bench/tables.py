@@ -142,7 +142,7 @@ def of_sizes():
     crates = {}
     for line in (TOP / 'crates.txt').read_text().splitlines():
         if not line.startswith('#'):
-            name = line.split(':')[0]
+            name = line.split(':')[0].split()[0]
             crate = TOP / 'crates' / name
             sizes = [lines_of(crate.glob(found)) for found in ('src/**/*.rt', 'specs/**/*.antt', 'proofs/**/*.antt')]
             sizes.append(len(list(crate.glob('must-fail/*.edit'))))
