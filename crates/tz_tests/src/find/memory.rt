@@ -184,10 +184,12 @@ fn a_copy_with_each_growth_refused(rt: HostRuntime) -> Result<(), Fail> {
 fn twenty_entries(alloc: Global) -> Result<FoundDateTimeList<Global>, TzError> {
     let mut types = Vec::new(alloc);
     let mut transitions = Vec::new(alloc);
-    for place in 0..21i32 {
-        types.push(LocalTimeType::with_ut_offset(-3600 * place)?)?;
-        let unix_leap_time = 3600 * i64::from(place);
-        transitions.push(Transition::new(unix_leap_time, place as usize))?;
+    let (mut unix_leap_time, mut offset) = (0i64, 0i32);
+    for place in 0..21usize {
+        types.push(LocalTimeType::with_ut_offset(offset)?)?;
+        transitions.push(Transition::new(unix_leap_time, place))?;
+        unix_leap_time = unix_leap_time.saturating_add(3600);
+        offset = offset.saturating_sub(3600);
     }
     let zone = TimeZoneRef::new(&transitions, &types, &[], &None)?;
     find(alloc, zone, (1970, 1, 1, 0, 30, 0))
