@@ -1,41 +1,23 @@
 /* Calls each function of tz.h, and reaches each code that a call can return. Ends with status 1 at the first answer that is wrong. */
-#include "tz.h"
+#include "test.h"
 
 #include <stdio.h>
 #include <stdlib.h>
-#include <string.h>
 
 static int failures = 0;
 static bool reached[256];
 
-static void fail(int line, const char *what, long long got, long long wanted) {
-  printf("test.c:%d: %s is %lld, and not %lld\n", line, what, got, wanted);
+void fail(const char *file, int line, const char *what, long long got, long long wanted) {
+  printf("%s:%d: %s is %lld, and not %lld\n", file, line, what, got, wanted);
   failures++;
 }
 
-#define EXPECT(got, wanted)                                                                       \
-  do {                                                                                            \
-    long long g = (long long)(got), w = (long long)(wanted);                                      \
-    if (g != w) fail(__LINE__, #got, g, w);                                                       \
-  } while (0)
-
-/* The code of a call, which is marked as reached. */
-static tz_code code_of(tz_code code) {
+tz_code code_of(tz_code code) {
   if (code < 256) reached[code] = true;
   return code;
 }
-#define CODE(call, wanted) EXPECT(code_of(call), wanted)
 
-/* A call is refused with the code, and leaves what it was to write to as it was. */
-#define REFUSED(call, wanted, out)                                 \
-  do {                                                             \
-    unsigned char before[sizeof(out)];                             \
-    memcpy(before, &(out), sizeof(out));                           \
-    CODE(call, wanted);                                            \
-    EXPECT(memcmp(before, &(out), sizeof(out)), 0);                \
-  } while (0)
-
-static tz_fields fields_of(int32_t year, int month, int day, int hour, int minute, int second, uint32_t nanoseconds) {
+tz_fields fields_of(int32_t year, int month, int day, int hour, int minute, int second, uint32_t nanoseconds) {
   tz_fields fields = {year, (uint8_t)month, (uint8_t)day, (uint8_t)hour, (uint8_t)minute, (uint8_t)second, nanoseconds};
   return fields;
 }
@@ -342,10 +324,7 @@ static void test_settings(void) {
   EXPECT(setting.from + setting.until, 0);
 }
 
-/* A zone with two transitions and the rule of central Europe. */
-typedef struct { tz_transition transitions[2]; tz_local_time_type types[3]; tz_alternate rule; tz_zone zone; } made_zone;
-
-static void make_zone(made_zone *made) {
+void make_zone(made_zone *made) {
   memset(made, 0, sizeof *made);
   made->types[0] = type_of(0, false, "LMT");
   made->types[1] = type_of(3600, false, "CET");
@@ -543,6 +522,82 @@ static void expect_altered(size_t at, uint8_t byte, tz_code wanted) {
   EXPECT(offsets.least, 7);
 }
 
+/* Whether `malloc` gives no memory. The linker has the archive call this one (--wrap=malloc). */
+static bool is_out_of_memory = false;
+void *__real_malloc(size_t size);
+void *__wrap_malloc(size_t size);
+void *__wrap_malloc(size_t size) { return is_out_of_memory ? NULL : __real_malloc(size); }
+
+/* Reads a file of one type, by its sizes and its tables. */
+static tz_code read_small(const uint8_t *bytes, size_t length, tz_rule *rule) {
+  tz_sizes sizes = {0};
+  tz_local_time_type types[1] = {{0}};
+  tz_offsets offsets = {7, 7};
+  const tz_code code = tz_file_sizes(bytes, length, &sizes);
+  return code != TZ_OK ? code : tz_file_read(bytes, length, NULL, 0, types, 1, NULL, 0, rule, &offsets);
+}
+
+/* The small file as one of version 2 with this footer is read, or refused with the code. */
+static void expect_footer(const char *footer, tz_code wanted) {
+  uint8_t bytes[2 * sizeof small_file + 16];
+  const size_t length = strlen(footer);
+  tz_rule rule = {0};
+  memcpy(bytes, small_file, sizeof small_file);
+  memcpy(bytes + sizeof small_file, small_file, sizeof small_file);
+  memcpy(bytes + 2 * sizeof small_file, footer, length);
+  bytes[4] = bytes[sizeof small_file + 4] = '2';
+  CODE(read_small(bytes, 2 * sizeof small_file + length, &rule), wanted);
+  EXPECT(rule.kind, wanted == TZ_OK && length > 2 ? TZ_FIXED : TZ_NONE);
+}
+
+/* The small file with these indicators of standard time and of UT is read, or refused with the code. */
+static void expect_indicators(uint8_t is_standard, uint8_t is_ut, tz_code wanted) {
+  uint8_t bytes[sizeof small_file + 2];
+  tz_rule rule = {0};
+  memcpy(bytes, small_file, sizeof small_file);
+  bytes[23] = bytes[27] = 1;
+  bytes[sizeof small_file] = is_standard;
+  bytes[sizeof small_file + 1] = is_ut;
+  CODE(read_small(bytes, sizeof bytes, &rule), wanted);
+}
+
+static void test_damaged_files(void) {
+  expect_altered(0, 'X', TZ_FILE_INVALID_MAGIC_NUMBER);
+  expect_altered(4, '9', TZ_FILE_UNSUPPORTED_VERSION);
+  expect_altered(39, 0, TZ_FILE_INVALID_HEADER);
+  expect_altered(48, 2, TZ_FILE_INVALID_DST_INDICATOR);
+  expect_altered(49, 9, TZ_FILE_INVALID_DESIGNATION_CHAR_INDEX);
+  expect_altered(43, 3, TZ_FILE_REMAINING_DATA_V1);
+  expect_footer("\n\n", TZ_OK);
+  expect_footer("\nCET-1\n", TZ_OK);
+  expect_footer("", TZ_FILE_INVALID_FOOTER);
+  expect_footer("\nCET-1", TZ_FILE_INVALID_FOOTER);
+  expect_footer("\n:CET-1\n", TZ_FILE_INVALID_FOOTER);
+  expect_footer("\n\xff\n", TZ_FILE_UTF8);
+  expect_footer("\nCET-25\n", TZ_STRING_INVALID_OFFSET_HOUR);
+  expect_indicators(0, 0, TZ_OK);
+  expect_indicators(1, 1, TZ_OK);
+  expect_indicators(0, 1, TZ_FILE_INVALID_STD_WALL_UT_LOCAL);
+  expect_indicators(2, 0, TZ_FILE_INVALID_STD_WALL_UT_LOCAL);
+
+  tz_rule rule = {0};
+  is_out_of_memory = true;
+  const tz_code code = read_small(small_file, sizeof small_file, &rule);
+  is_out_of_memory = false;
+  CODE(code, TZ_MEMORY);
+}
+
+/* Each code that the library names is reached, but for two that no call returns. */
+static void test_reached(void) {
+  for (tz_code code = 0; code < 256; code++) {
+    char text[128];
+    size_t length = 0;
+    const bool is_named = tz_error_text(code, text, sizeof text, &length) == TZ_OK;
+    const bool is_returned = is_named && code != TZ_STRING_UTF8 && code != TZ_FILE_INVALID_DATA;
+    if (reached[code] != is_returned) fail(__FILE__, __LINE__, "a code that is reached", code, is_returned);
+  }
+}
+
 static void test_files(const char *path) {
   tz_sizes sizes = {0};
   tz_local_time_type types[1] = {{0}};
@@ -562,17 +617,11 @@ static void test_files(const char *path) {
   REFUSED(tz_file_read(small_file, sizeof small_file, NULL, 0, NULL, 0, NULL, 0, &rule, &offsets), TZ_BUFFER_LENGTH, offsets);
   REFUSED(tz_file_sizes(NULL, 0, &sizes), TZ_FILE_UNEXPECTED_EOF, sizes);
   for (size_t n = 0; n < sizeof small_file; n++) REFUSED(tz_file_sizes(small_file, n, &sizes), TZ_FILE_UNEXPECTED_EOF, sizes);
-  expect_altered(0, 'X', TZ_FILE_INVALID_MAGIC_NUMBER);
-  expect_altered(4, '9', TZ_FILE_UNSUPPORTED_VERSION);
-  expect_altered(39, 0, TZ_FILE_INVALID_HEADER);
-  expect_altered(48, 2, TZ_FILE_INVALID_DST_INDICATOR);
-  expect_altered(49, 9, TZ_FILE_INVALID_DESIGNATION_CHAR_INDEX);
-  expect_altered(43, 3, TZ_FILE_REMAINING_DATA_V1);
 
   static uint8_t bytes[65536];
   FILE *file = fopen(path, "rb");
   if (file == NULL) {
-    fail(__LINE__, "the file", 0, 1);
+    fail(__FILE__, __LINE__, "the file", 0, 1);
     return;
   }
   size_t n = fread(bytes, 1, sizeof bytes, file);
@@ -634,7 +683,10 @@ int main(int argc, char **argv) {
   test_zones();
   test_many_entries();
   test_searches();
+  test_columns();
+  test_damaged_files();
   if (argc == 2) test_files(argv[1]);
+  test_reached();
   if (failures == 0) printf("passed\n");
   return failures != 0;
 }

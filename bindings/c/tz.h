@@ -404,6 +404,27 @@ tz_code tz_find_n(const tz_fields *fields, const tz_zone *zone, size_t skip, tz_
    `tz_date_time_from_timespec`. */
 tz_code tz_find_one(const tz_fields *fields, uint8_t choice, const tz_zone *zone, tz_date_time *out);
 
+/* ---- Columns -------------------------------------------------------------------------------------------------------------------------- */
+
+/* Each of these calls answers a whole column. Place i of `codes` gets the code that the call for one value would return: if it is TZ_OK, place i of
+   the column that is written to gets the value, and else stays as it is. All columns have one length: if they differ the call returns
+   TZ_BUFFER_LENGTH, and nothing is written. Instants may come in any order. Those in order are fastest, since a span of instants in which the clock
+   does not change is searched once. */
+
+/* The offsets of the zone's clock at instants, in seconds. Returns TZ_OK or TZ_BUFFER_LENGTH, and writes the codes of `tz_zone_type_at`. */
+tz_code tz_column_offsets(const int64_t *unix_times, size_t unix_times_length, const tz_zone *zone, int32_t *offsets, size_t offsets_length,
+                          tz_code *codes, size_t codes_length);
+
+/* What the zone's clock shows at instants. The slots hold TZ_DATE_TIME_EPOCH, zeros or earlier date times. Returns TZ_OK or TZ_BUFFER_LENGTH, and
+   writes the codes of `tz_date_time_from_timespec`. */
+tz_code tz_column_date_times(const int64_t *unix_times, size_t unix_times_length, const uint32_t *nanoseconds, size_t nanoseconds_length,
+                             const tz_zone *zone, tz_date_time *date_times, size_t date_times_length, tz_code *codes, size_t codes_length);
+
+/* The instants that fields mean by a choice, as `tz_find_one` finds them. Returns TZ_OK, TZ_UNKNOWN_CHOICE or TZ_BUFFER_LENGTH, and writes the codes
+   of `tz_find_one`. */
+tz_code tz_column_instants(const tz_fields *fields, size_t fields_length, uint8_t choice, const tz_zone *zone, int64_t *unix_times,
+                           size_t unix_times_length, tz_code *codes, size_t codes_length);
+
 /* ---- Text ----------------------------------------------------------------------------------------------------------------------------- */
 
 /* `year-MM-DDThh:mm:ss.nnnnnnnnn` and `Z` or the offset, and its length: at most 53 bytes, and no zero follows them. TZ_BUFFER_LENGTH. */

@@ -1,1 +1,2 @@
+pub mod AnswersInTurn
 pub mod ClockPlaces

@@ -1,4 +1,5 @@
 pub mod Codes
+pub mod Columns
 pub mod DateTimes
 pub mod Files
 pub mod Places

@@ -1,7 +1,5 @@
 -- What calls answer of local time types and rules.
-use Rattle.std.specs.Prelude.{◌≡◌, ◌⊎◌, ℕ, ℤ, List, Bool, Option, Some, None, if◌then◌else◌}
-use Rattle.tz_base.specs.declared.error.timezone.LocalTimeTypeError.{LocalTimeTypeError}
-use Rattle.tz_base.specs.declared.error.timezone.TransitionRuleError.{TransitionRuleError}
+use Rattle.std.specs.Prelude.{◌≡◌, ℕ, ℤ, List, Bool, Option, Some, None, if◌then◌else◌}
 use Rattle.tz_rule.specs.Alternate.{AlternateTime, start_of, end_of, IsInRuleRange, IsConsistentRule, IsFirstRuleFault}
 use Rattle.tz_rule.specs.LocalTimeType.{LocalTimeType, IsLocalTimeType, IsFirstTypeFault}
 use Rattle.tz_rule.specs.Pairing.{IsConflict, IsInconsistent}

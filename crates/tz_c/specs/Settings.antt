@@ -1,5 +1,5 @@
 -- What a setting asks for. (POSIX.1-2017, Base Definitions, 8.3: TZ; `localtime` as in tz-rs.)
-use Rattle.std.specs.Prelude.{◌≡◌, ◌≢◌, ◌⊎◌, ℕ, List, [], ◌∷◌, length}
+use Rattle.std.specs.Prelude.{◌≡◌, ◌≢◌, ◌⊎◌, ℕ, List, [], length}
 use Rattle.tz_zone.specs.Bytes.{colon}
 use Rattle.tz_zone.specs.Settings.{local_time}
 use Rattle.tz_zone.specs.TzText.{Begins}

@@ -1,5 +1,5 @@
 -- Zones, segments and changes as plain data.
-use Rattle.std.specs.Prelude.{Bool, Option, Some, None, if◌then◌else◌}
+use Rattle.std.specs.Prelude.{Some, None, if◌then◌else◌}
 use Rattle.tz_zone.specs.Changes.{Segment, Change}
 use Rattle.tz_zone.specs.Table.{Zone, zone_with}
 use Rattle.tz_zone.specs.ZoneSeen.{rule_of_lists}

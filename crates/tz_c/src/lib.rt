@@ -2,6 +2,7 @@
 #![tactic(auto)]
 
 mod codes;
+mod columns;
 mod date_times;
 mod error_texts;
 mod files;

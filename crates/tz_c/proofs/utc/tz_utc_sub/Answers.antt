@@ -4,7 +4,7 @@ use Rattle.std.specs.Duration.{as_nanos}
 use Rattle.std.proofs.lemmas.Bool.{false≢true}
 use Rattle.tz_base.specs.declared.error.TzError.TheVariants as faults
 use Rattle.tz_base.specs.declared.error.datetime.DateTimeError.TheVariants as field_faults
-use Rattle.tz.specs.DateTimes.{IsUtcAt, IsUtcTotal, utc_total}
+use Rattle.tz.specs.DateTimes.{IsUtcTotal, utc_total}
 use Rattle.tz_c.proofs.utc.tz_utc_sub.Goals as goal
 
 pub returns-then-nanoseconds-ge-NANOSECONDS_PER_SECOND-clause-answer : goal.returns-then-nanoseconds-ge-NANOSECONDS_PER_SECOND-clause-answer

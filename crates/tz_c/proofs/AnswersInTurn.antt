@@ -1,0 +1,91 @@
+-- The answers at the places of a column, one after the other.
+use Rattle.std.proofs.Common.{◌≡◌, ◌≢◌, inl, inr, ◌∙◌, refl, sym, ap, arith, ℕ, zero, suc, ◌+◌, ◌<◌, ◌≤◌, List, [], ◌∷◌, length, Some, slice_set, slice_index_or}
+use Rattle.std.specs.Prelude.{slice_get}
+use Rattle.std.proofs.lemmas.Bool.{cases_lt}
+use Rattle.std.proofs.lemmas.Option.{slice_get_within, slice_get-get_or}
+use Rattle.std.proofs.lemmas.List.{length-set}
+use Rattle.tz_c.specs.Columns.{AreAnswers}
+
+-- an element that is set, and another one
+set_same : {B : Type 0} (xs : List B) (i : ℕ) (b : B) → i < length xs → slice_get (slice_set xs i b) i ≡ Some b
+set_same [] i b within = absurd (omega (arith, within))
+set_same (x ∷ xs) zero b within = refl
+set_same (x ∷ xs) (suc i) b within = set_same xs i b (omega (arith, within))
+
+set_other : {B : Type 0} (xs : List B) (i j : ℕ) (b : B) → j ≢ i → slice_get (slice_set xs i b) j ≡ slice_get xs j
+set_other [] i j b other = refl
+set_other (x ∷ xs) zero zero b other = absurd (other refl)
+set_other (x ∷ xs) zero (suc j) b other = refl
+set_other (x ∷ xs) (suc i) zero b other = refl
+set_other (x ∷ xs) (suc i) (suc j) b other = set_other xs i j b (λ e. other (ap suc e))
+
+-- the places before the n-th are answered, and the others are as they were
+pub record AreAnswersUpTo {B : Type 0} (IsAnswerAt : ℕ → ℕ → B → Type 0) (before after : List B) (codes : List ℕ) (n : ℕ) : Type 0 where
+  pub lengths_are : (length after ≡ length before) × (length codes ≡ length before)
+  pub answered : (i : ℕ) (code : ℕ) (b : B) → i < n → slice_get codes i ≡ Some code → slice_get after i ≡ Some b → IsAnswerAt i code b
+  pub kept : (i : ℕ) (code : ℕ) → i < n → slice_get codes i ≡ Some code → code ≢ 0 → slice_get after i ≡ slice_get before i
+  pub rest : (i : ℕ) → n ≤ i → slice_get after i ≡ slice_get before i
+
+pub none_yet : {B : Type 0} (IsAnswerAt : ℕ → ℕ → B → Type 0) (before : List B) (codes : List ℕ) → length codes ≡ length before
+    → AreAnswersUpTo IsAnswerAt before before codes 0
+none_yet P before codes same = record {
+  lengths_are = (refl, same);
+  answered = λ i code b less. absurd (omega (arith, less));
+  kept = λ i code less. absurd (omega (arith, less));
+  rest = λ i from. refl;
+}
+
+pub one_more : {B : Type 0} (IsAnswerAt : ℕ → ℕ → B → Type 0) (before after : List B) (codes : List ℕ) (n code : ℕ) (b d : B)
+    → AreAnswersUpTo IsAnswerAt before after codes n → n < length before → IsAnswerAt n code b → (code ≢ 0 → b ≡ slice_index_or after n d)
+    → AreAnswersUpTo IsAnswerAt before (slice_set after n b) (slice_set codes n code) (n + 1)
+one_more {B} P before after codes n code b d so_far within is stays = record {
+  lengths_are = (length-set after n b ∙ so_far.lengths_are.0, length-set codes n code ∙ so_far.lengths_are.1);
+  answered = λ i c x less has_code has.
+      elim (cases_lt i n) [
+        | inl earlier ↦ let other : i ≢ n = omega (arith, earlier) in
+            so_far.answered i c x earlier (sym (set_other codes n i code other) ∙ has_code) (sym (set_other after n i b other) ∙ has)
+        | inr later ↦ let same : i ≡ n = omega (arith, less, later) in here i c x same has_code has
+      ];
+  kept = λ i c less has_code fault.
+      elim (cases_lt i n) [
+        | inl earlier ↦ let other : i ≢ n = omega (arith, earlier) in
+            set_other after n i b other ∙ so_far.kept i c earlier (sym (set_other codes n i code other) ∙ has_code) fault
+        | inr later ↦ let same : i ≡ n = omega (arith, less, later) in here_kept i c same has_code fault
+      ];
+  rest = λ i from. let other : i ≢ n = omega (arith, from) in let from_n : n ≤ i = omega (arith, from) in set_other after n i b other ∙ so_far.rest i from_n;
+}
+  where
+    in_after : n < length after
+    in_after = omega (arith, within, so_far.lengths_are.0)
+
+    in_codes : n < length codes
+    in_codes = omega (arith, within, so_far.lengths_are.1)
+
+    code_is : (c : ℕ) → slice_get (slice_set codes n code) n ≡ Some c → code ≡ c
+    code_is c has = let both : Some code ≡ Some c = sym (set_same codes n code in_codes) ∙ has in cc
+
+    value_is : (x : B) → slice_get (slice_set after n b) n ≡ Some x → b ≡ x
+    value_is x has = let both : Some b ≡ Some x = sym (set_same after n b in_after) ∙ has in cc
+
+    here : (i c : ℕ) (x : B) → i ≡ n → slice_get (slice_set codes n code) i ≡ Some c → slice_get (slice_set after n b) i ≡ Some x → P i c x
+    here i c x same has_code has =
+        rw (same, sym (code_is c (rw same at has_code)), sym (value_is x (rw same at has))) is
+
+    here_kept : (i c : ℕ) → i ≡ n → slice_get (slice_set codes n code) i ≡ Some c → c ≢ 0 → slice_get (slice_set after n b) i ≡ slice_get before i
+    here_kept i c same has_code fault =
+        let fails : code ≢ 0 = λ e. fault (sym (code_is c (rw same at has_code)) ∙ e) in
+        rw same (set_same after n b in_after ∙ ap Some (stays fails) ∙ sym (slice_get-get_or after n d in_after) ∙ so_far.rest n (omega arith))
+
+pub all_of : {B : Type 0} (IsAnswerAt : ℕ → ℕ → B → Type 0) (before after : List B) (codes : List ℕ) (n : ℕ)
+    → AreAnswersUpTo IsAnswerAt before after codes n → length before ≤ n → AreAnswers IsAnswerAt before after codes
+all_of {B} P before after codes n so_far all = record {
+  lengths_are = so_far.lengths_are;
+  answered = λ i code b has_code has. so_far.answered i code b (below i b has) has_code has;
+  kept = λ i code has_code fault. so_far.kept i code (below_code i code has_code) has_code fault;
+}
+  where
+    below : (i : ℕ) (b : B) → slice_get after i ≡ Some b → i < n
+    below i b has = omega (arith, slice_get_within after i b has, so_far.lengths_are.0, all)
+
+    below_code : (i code : ℕ) → slice_get codes i ≡ Some code → i < n
+    below_code i code has = omega (arith, slice_get_within codes i code has, so_far.lengths_are.1, all)

@@ -1,0 +1,208 @@
+//! Whole columns in one call.
+
+ghost use Rattle.std.specs.Prelude.{◌≡◌, ◌≢◌, ◌≤ℤ◌, length, IfOk, IfErr};
+ghost use Rattle.tz.specs.DateTimes.{IsClockFault, ShowsByClock};
+ghost use Rattle.tz_zone.specs.Changes.{IsTrueSegment, segment_of};
+ghost use Rattle.tz_zone.specs.Clock.{IsClock, IsLookupFault};
+ghost use Rattle.tz_zone.specs.ZoneViewed.{zone_viewed};
+ghost use Rattle.tz.specs.declared.datetime.disambiguation.Disambiguation.{Disambiguation};
+ghost use Rattle.tz_c.specs.Codes.{IsAnswer, IsAnswerOr, buffer_length};
+ghost use Rattle.tz_c.specs.Columns.{AreAnswers, AreInstantsBy, AreOfLength, IsDateTimeAt, IsInstantAnswer, IsInstantAt, IsOffset, IsOffsetAt};
+ghost use Rattle.tz_c.specs.DateTimes.{IsDateTimeDataOf, choice_of};
+
+use crate::codes::{BUFFER_LENGTH, INVALID_NANOSECONDS, NO_DATE_TIME, OK, UNKNOWN_CHOICE, code_of};
+use crate::searches::choice_of;
+use tz::DateTime;
+use tz::datetime::Disambiguation;
+use tz::inner::{DateTimeData, Fields, find_one};
+use tz_base::constants::NANOSECONDS_PER_SECOND;
+use tz_base::error::TzError;
+use tz_rule::timezone::LocalTimeType;
+use tz_zone::inner::ZoneView;
+use tz_zone::timezone::Segment;
+
+/// The segment of the zone's clock that holds an instant: the one before, if it holds the instant too.
+#[inline(always)]
+fn segment_around<'a>(zone: &ZoneView<'a>, before: Segment<'a>, unix_time: i64) -> Segment<'a>
+    requires { IsTrueSegment (zone_viewed zone.now) (segment_of before) }
+    ensures segment { IsTrueSegment (zone_viewed zone.now) (segment_of result) }
+    ensures within { ((segment_of result).from ≤ℤ unix_time) × (unix_time ≤ℤ (segment_of result).last) }
+{
+    if before.contains(unix_time) {
+        before
+    } else {
+        zone.segment_at(unix_time)
+    }
+}
+
+/// The type of the zone's clock at an instant of a segment.
+#[inline(always)]
+fn type_in<'a>(
+    zone: &ZoneView<'a>,
+    segment: &Segment<'a>,
+    unix_time: i64,
+) -> Result<&'a LocalTimeType, TzError>
+    requires segment { IsTrueSegment (zone_viewed zone.now) (segment_of segment.now) }
+    requires within { ((segment_of segment.now).from ≤ℤ unix_time) × (unix_time ≤ℤ (segment_of segment.now).last) }
+    ensures ok { IfOk result (λ t. IsClock (zone_viewed zone.now) unix_time t.now) }
+    ensures err { IfErr result (IsLookupFault (zone_viewed zone.now) unix_time) }
+{
+    match segment.local_time_type() {
+        Some(local_time_type) => Ok(local_time_type),
+        None => zone.find_local_time_type(unix_time),
+    }
+}
+
+/// The offset of the zone's clock at an instant of a segment.
+#[inline(always)]
+fn offset_in(zone: &ZoneView<'_>, segment: &Segment<'_>, unix_time: i64, out: &mut i32) -> u32
+    requires segment { IsTrueSegment (zone_viewed zone.now) (segment_of segment.now) }
+    requires within { ((segment_of segment.now).from ≤ℤ unix_time) × (unix_time ≤ℤ (segment_of segment.now).last) }
+    ensures answer { IsAnswer result (IsOffset (zone_viewed zone.now) unix_time out.new) (IsLookupFault (zone_viewed zone.now) unix_time) }
+    ensures kept { result ≢ 0 → out.new ≡ out.old }
+{
+    match type_in(zone, segment, unix_time) {
+        Ok(local_time_type) => {
+            *out = local_time_type.ut_offset();
+            OK
+        }
+        Err(error) => code_of(&error),
+    }
+}
+
+/// What the zone's clock shows at an instant of a segment.
+#[inline(always)]
+fn date_time_in(
+    zone: &ZoneView<'_>,
+    segment: &Segment<'_>,
+    unix_time: i64,
+    nanoseconds: u32,
+    out: &mut DateTimeData,
+) -> u32
+    requires segment { IsTrueSegment (zone_viewed zone.now) (segment_of segment.now) }
+    requires within { ((segment_of segment.now).from ≤ℤ unix_time) × (unix_time ≤ℤ (segment_of segment.now).last) }
+    ensures answer { IsAnswer result (IsDateTimeDataOf (ShowsByClock (zone_viewed zone.now) unix_time nanoseconds) out.new)
+        (IsClockFault (zone_viewed zone.now) unix_time nanoseconds) }
+    ensures kept { result ≢ 0 → out.new ≡ out.old }
+{
+    if nanoseconds >= NANOSECONDS_PER_SECOND {
+        return INVALID_NANOSECONDS;
+    }
+    let local_time_type = match type_in(zone, segment, unix_time) {
+        Ok(local_time_type) => local_time_type,
+        Err(error) => return code_of(&error),
+    };
+    match DateTime::from_timespec_and_local(unix_time, nanoseconds, *local_time_type) {
+        Ok(date_time) => {
+            *out = DateTimeData::of(&date_time);
+            OK
+        }
+        Err(error) => code_of(&error),
+    }
+}
+
+/// The instant that fields mean by a choice.
+fn instant_of(
+    fields: &Fields,
+    disambiguation: Disambiguation,
+    zone: &ZoneView<'_>,
+    out: &mut i64,
+) -> u32
+    ensures answer { IsInstantAnswer (zone_viewed zone.now) disambiguation fields.now result out.new }
+    ensures kept { result ≢ 0 → out.new ≡ out.old }
+{
+    match find_one(fields, disambiguation, zone) {
+        Ok(Some(date_time)) => {
+            *out = date_time.unix_time();
+            OK
+        }
+        Ok(None) => NO_DATE_TIME,
+        Err(error) => code_of(&error),
+    }
+}
+
+/// The offsets of the zone's clock at instants.
+#[unsafe(no_mangle)]
+pub extern "C" fn tz_column_offsets(
+    unix_times: &[i64],
+    zone: &ZoneView<'_>,
+    offsets: &mut [i32],
+    codes: &mut [u32],
+) -> u32
+    ensures answer { IsAnswerOr result buffer_length
+        (AreOfLength (length unix_times.now) offsets.old codes.old × AreAnswers (IsOffsetAt (zone_viewed zone.now) unix_times.now) offsets.old offsets.new codes.new)
+        (¬ AreOfLength (length unix_times.now) offsets.old codes.old) }
+    ensures offsets_kept { result ≢ 0 → offsets.new ≡ offsets.old }
+    ensures codes_kept { result ≢ 0 → codes.new ≡ codes.old }
+{
+    if offsets.len() != unix_times.len() || codes.len() != unix_times.len() {
+        return BUFFER_LENGTH;
+    }
+    let mut segment = zone.segment_at(unix_times.first().copied().unwrap_or(0));
+    for i in 0..unix_times.len() {
+        segment = segment_around(zone, segment, unix_times[i]);
+        codes[i] = offset_in(zone, &segment, unix_times[i], &mut offsets[i]);
+    }
+    OK
+}
+
+/// What the zone's clock shows at instants.
+#[unsafe(no_mangle)]
+pub extern "C" fn tz_column_date_times(
+    unix_times: &[i64],
+    nanoseconds: &[u32],
+    zone: &ZoneView<'_>,
+    date_times: &mut [DateTimeData],
+    codes: &mut [u32],
+) -> u32
+    ensures answer { IsAnswerOr result buffer_length
+        ((length nanoseconds.now ≡ length unix_times.now) × AreOfLength (length unix_times.now) date_times.old codes.old
+        × AreAnswers (IsDateTimeAt (zone_viewed zone.now) unix_times.now nanoseconds.now) date_times.old date_times.new codes.new)
+        (¬ ((length nanoseconds.now ≡ length unix_times.now) × AreOfLength (length unix_times.now) date_times.old codes.old)) }
+    ensures date_times_kept { result ≢ 0 → date_times.new ≡ date_times.old }
+    ensures codes_kept { result ≢ 0 → codes.new ≡ codes.old }
+{
+    if nanoseconds.len() != unix_times.len()
+        || date_times.len() != unix_times.len()
+        || codes.len() != unix_times.len()
+    {
+        return BUFFER_LENGTH;
+    }
+    let mut segment = zone.segment_at(unix_times.first().copied().unwrap_or(0));
+    for i in 0..unix_times.len() {
+        segment = segment_around(zone, segment, unix_times[i]);
+        codes[i] = date_time_in(
+            zone,
+            &segment,
+            unix_times[i],
+            nanoseconds[i],
+            &mut date_times[i],
+        );
+    }
+    OK
+}
+
+/// The instants that fields mean by a choice.
+#[unsafe(no_mangle)]
+pub extern "C" fn tz_column_instants(
+    fields: &[Fields],
+    choice: u8,
+    zone: &ZoneView<'_>,
+    unix_times: &mut [i64],
+    codes: &mut [u32],
+) -> u32
+    ensures answer { AreInstantsBy (zone_viewed zone.now) (choice_of choice) fields.now result unix_times.old unix_times.new codes.old codes.new }
+    ensures unix_times_kept { result ≢ 0 → unix_times.new ≡ unix_times.old }
+    ensures codes_kept { result ≢ 0 → codes.new ≡ codes.old }
+{
+    let Some(disambiguation) = choice_of(choice) else {
+        return UNKNOWN_CHOICE;
+    };
+    if unix_times.len() != fields.len() || codes.len() != fields.len() {
+        return BUFFER_LENGTH;
+    }
+    for i in 0..fields.len() {
+        codes[i] = instant_of(&fields[i], disambiguation, zone, &mut unix_times[i]);
+    }
+    OK
+}
