@@ -28,3 +28,5 @@ pub mod EntriesTaken
 pub mod UniqueResults
 pub mod UniqueMeanings
 pub mod PlacedSlots
+pub mod TextFronts
+pub mod TextValues

@@ -11,6 +11,8 @@ pub mod Reached
 pub mod Windows
 pub mod FindFaults
 pub mod PrintedText
+pub mod Grammars
+pub mod DateTimeText
 pub mod Nanoseconds
 pub mod Pages
 pub mod TzStrings

@@ -50,6 +50,7 @@ pub mod inner;
 pub mod laws;
 mod nanoseconds;
 mod page;
+mod parse;
 mod printed;
 mod suffixes;
 mod text;
@@ -57,6 +58,7 @@ mod tz_string;
 
 pub use crate::datetime::{DateTime, UtcDateTime};
 pub use crate::error::{Error, TzError};
+pub use crate::parse::{DateTimePart, ParseDateTimeError, ParsedDateTime};
 pub use crate::timezone::{
     Change, ChangesAfter, ChangesBefore, LocalTimeType, Segment, TimeZone, TimeZoneRef,
     TimeZoneSettings,

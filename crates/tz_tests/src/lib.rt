@@ -16,6 +16,8 @@ mod meanings;
 #[cfg(test)]
 mod memory;
 #[cfg(test)]
+mod parsed;
+#[cfg(test)]
 mod printed;
 #[cfg(test)]
 mod searches;

@@ -20,7 +20,7 @@ pub(crate) mod resolve;
 pub(crate) mod search;
 mod slot_writer;
 mod totals;
-mod utc_date_time;
+pub(crate) mod utc_date_time;
 pub(crate) mod view;
 mod walk;
 mod window;

@@ -80,7 +80,7 @@ const _: () = prove!(
 );
 
 /// Whether the fields are second 60 of the last minute, which reads as a second past the years of 32 bits.
-fn is_past_the_end(fields: &Fields) -> bool
+pub(crate) fn is_past_the_end(fields: &Fields) -> bool
     ensures { MatchBool result (IsPastTheEnd fields.now) (¬ IsPastTheEnd fields.now) }
 {
     fields.year == i32::MAX
@@ -183,6 +183,18 @@ impl UtcDateTime {
         fields.check()?;
         let unix_time = fields.reading();
         Ok(UtcDateTime { fields, unix_time })
+    }
+
+    /// The date time with these fields, which have one.
+    #[inline(always)]
+    pub(crate) fn of_fields(fields: Fields) -> Self
+        requires { IsUtc fields }
+        ensures { result ≡ fields }
+    {
+        UtcDateTime {
+            fields,
+            unix_time: fields.reading(),
+        }
     }
 
     /// The date time of a Unix time and nanoseconds, which have one.

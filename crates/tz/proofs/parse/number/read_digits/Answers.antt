@@ -1,0 +1,12 @@
+-- Each digit is one more.
+use Rattle.std.proofs.Common.{arith}
+use Rattle.std.proofs.lemmas.Int.Digits.{digits_more, digits_value_more}
+use Rattle.tz.proofs.parse.number.read_digits.Goals as goal
+
+pub loop-place-preserved : goal.loop-place-preserved
+loop-place-preserved c =
+    let bs = c.args.text.now in
+    let loop = c.loop-place in
+    let (digit, value) = c.value_of-digit.ensures.digit (omega arith) in
+    let more = digits_value_more 10 bs loop.place (omega arith) in
+    (digits_more 10 bs loop.place (omega arith) loop.invariant.0 digit, omega (arith, more, value, loop.invariant.1, c.min.ensures, c.from.ensures))

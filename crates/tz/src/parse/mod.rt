@@ -1,0 +1,93 @@
+//! Printed date times read back. (RFC 3339, section 5.6)
+
+mod error;
+mod fields;
+mod number;
+mod offset;
+
+ghost use Rattle.std.specs.Prelude.{◌≡◌, ◌-ℤ◌, List, ℕ, [], Option, IfOk, IfErr, MatchResult};
+ghost use Rattle.tz.specs.DateTimeText.{date_time, IsDateTimeText, IsDateTimeTextFault};
+
+use crate::datetime::UtcDateTime;
+use error::Missing;
+pub use error::{DateTimePart, ParseDateTimeError};
+use fields::{after_separator, read_date, read_time};
+use offset::read_offset;
+
+/// The local time and the offset of a text.
+#[derive(Clone, Copy, Debug, PartialEq, Eq)]
+pub struct ParsedDateTime {
+    local: UtcDateTime,
+    ut_offset: Option<i32>,
+}
+
+/// The date time that the whole text is.
+#[inline(always)]
+fn read_date_time(text: &[u8]) -> Result<ParsedDateTime, Missing<'_>>
+    ensures { MatchResult result (λ p. IsDateTimeText text.now p) (λ e. date_time.misses text.now e.part e.rest.now) }
+{
+    let (date, after_date) = read_date(text)?;
+    let Some(time_text) = after_separator(after_date) else {
+        return Err(Missing {
+            part: DateTimePart::Separator,
+            rest: after_date,
+        });
+    };
+    let (fields, after_time) = read_time(&date, time_text)?;
+    let (ut_offset, rest) = read_offset(after_time)?;
+    if !rest.is_empty() {
+        return Err(Missing {
+            part: DateTimePart::End,
+            rest,
+        });
+    }
+    Ok(ParsedDateTime {
+        local: UtcDateTime::of_fields(fields),
+        ut_offset,
+    })
+}
+
+impl ParsedDateTime {
+    ghost use Rattle.std.specs.Prelude.{ℤ, Some, None, IfSome, IfNone};
+    ghost use Rattle.tz_base.specs.Fields.{reading};
+
+    /// Reads a text.
+    pub fn parse(text: &[u8]) -> Result<Self, ParseDateTimeError>
+        ensures ok { IfOk result (λ p. IsDateTimeText text.now p) }
+        ensures err { IfErr result (λ e. IsDateTimeTextFault text.now e) }
+    {
+        match read_date_time(text) {
+            Ok(parsed) => Ok(parsed),
+            Err(missing) => Err(ParseDateTimeError {
+                expected: missing.part,
+                position: text.len() - missing.rest.len(),
+            }),
+        }
+    }
+
+    /// The local time.
+    pub fn local(&self) -> UtcDateTime
+        ensures { result ≡ self.now.local }
+    {
+        self.local
+    }
+
+    /// The offset from UTC in seconds, if the text has one; 0 for `Z`.
+    pub fn ut_offset(&self) -> Option<i32>
+        ensures { result ≡ self.now.ut_offset }
+    {
+        self.ut_offset
+    }
+
+    /// The Unix time of the local time at the offset, if the text has one. Second 60 counts as the next minute's second 0.
+    pub fn unix_time(&self) -> Option<i64>
+        ensures some { IfSome result (λ u. (offset : ℤ) × (self.now.ut_offset ≡ Some offset) × (u ≡ reading self.now.local -ℤ offset)) }
+        ensures none { IfNone result (self.now.ut_offset ≡ None) }
+    {
+        self.local.parts_are_sound();
+        match self.ut_offset {
+            Some(offset) => Some(self.local.unix_time() - i64::from(offset)),
+            None => None,
+        }
+    }
+}
