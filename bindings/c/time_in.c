@@ -7,9 +7,10 @@
 
 int main(int argc, char **argv) {
   static uint8_t bytes[65536];
-  FILE *file = argc == 2 ? fopen(argv[1], "rb") : NULL;
-  if (file == NULL) return fprintf(stderr, "usage: time_in FILE\n"), 2;
-  size_t length = fread(bytes, 1, sizeof bytes, file);
+  if (argc != 2) return fprintf(stderr, "usage: time_in FILE\n"), 2;
+  FILE *file = fopen(argv[1], "rb");
+  if (file == NULL) return perror(argv[1]), 1;
+  size_t length = fread(bytes, 1, sizeof bytes, file); /* a longer file is cut, and refused */
   fclose(file);
 
   tz_sizes sizes = {0};
@@ -17,6 +18,7 @@ int main(int argc, char **argv) {
   tz_zone zone = {0};
   tz_code code = tz_file_sizes(bytes, length, &sizes);
   if (code != TZ_OK) return fprintf(stderr, "not a TZif file: code %u\n", (unsigned)code), 1;
+  /* One more of each, since calloc may return NULL for none. */
   tz_transition *transitions = calloc(sizes.transitions + 1, sizeof *transitions);
   tz_local_time_type *types = calloc(sizes.types + 1, sizeof *types);
   tz_leap_second *leap_seconds = calloc(sizes.leap_seconds + 1, sizeof *leap_seconds);

@@ -39,7 +39,7 @@ enum {
   TZ_OUT_OF_RANGE = 1,
   /* The zone has no type at the instant: it has no rule, and its transitions have ended. */
   TZ_NO_AVAILABLE_LOCAL_TIME_TYPE = 2,
-  /* Two lists of which at most one has one entry, and none has: no rule is given. */
+  /* Neither `fixed` nor `alternate` has an entry, so no rule is given. */
   TZ_NO_RULE = 3,
   /* The clock does not change any more, or has not changed before. */
   TZ_NO_CHANGE = 4,
@@ -202,7 +202,7 @@ typedef struct tz_offsets {
   int32_t greatest;
 } tz_offsets;
 
-/* A zone. 88 bytes. */
+/* A zone. 88 bytes. It points into the memory of its parts, a `tz_rule` among them: a function that returns a zone returns that memory too. */
 typedef struct tz_zone {
   tz_parts parts;
   tz_offsets offsets;
@@ -262,7 +262,7 @@ typedef struct tz_sizes {
   size_t transitions;
   size_t types;
   size_t leap_seconds;
-  size_t footer; /* the last bytes of the file, behind its tables; 0 in version 1 */
+  size_t footer; /* the last bytes of the file, after its tables; 0 in version 1 */
 } tz_sizes;
 
 /* What a setting asks for: bytes `from` to `until` of it. 24 bytes. */
@@ -332,7 +332,7 @@ tz_code tz_string_read(const char *text, size_t text_length, bool is_extended, t
 /* What a setting asks for. TZ_STRING_EMPTY. */
 tz_code tz_setting_read(const char *text, size_t text_length, tz_setting *out);
 
-/* Whether parts make a zone, and its end offsets.
+/* Checks that parts make a zone, and writes its least and greatest offset.
    TZ_NO_LOCAL_TIME_TYPE, for each transition in turn TZ_INVALID_LOCAL_TIME_TYPE_INDEX and TZ_INVALID_TRANSITION, TZ_INVALID_LEAP_SECOND,
    TZ_OUT_OF_RANGE or TZ_INCONSISTENT_EXTRA_RULE, in this order. */
 tz_code tz_zone_check(const tz_parts *parts, tz_offsets *offsets);
