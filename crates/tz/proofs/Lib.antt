@@ -1,10 +1,10 @@
 pub mod FilledSlots
 pub mod LentSlots
 pub mod SearchParameters
-pub mod WalkSteps
+pub mod DatedEntries
 pub mod ClockTypes
 pub mod ReadingWindows
-pub mod SegmentWalks
+pub mod EntryWalks
 pub mod SegmentLooks
 pub mod PromisedLists
 pub mod CivilFields
@@ -21,9 +21,6 @@ pub mod TzStringRules
 pub mod ComparisonsByParts
 pub mod FieldOrder
 pub mod TimespecTotals
-pub mod FoundOnce
-pub mod FoundAtJump
-pub mod JumpResolutions
 pub mod EntriesTaken
 pub mod UniqueResults
 pub mod UniqueMeanings

@@ -12,7 +12,7 @@ use Rattle.tz.specs.Found.{Clock, Shows, PassesOver, IsFoundBy, IsFound}
 use Rattle.tz.specs.Windows.{IsWindow}
 use Rattle.tz.specs.declared.datetime.found.FoundDateTimeKind.{FoundDateTimeKind}
 use Rattle.tz.specs.declared.datetime.found.FoundDateTimeKind.TheVariants.{Normal, Skipped}
-use Rattle.tz.proofs.WalkSteps.{side_exists}
+use Rattle.tz.proofs.DatedEntries.{side_exists}
 use Rattle.tz.proofs.ReadingWindows.{clock_between}
 
 -- the clock shows the reading at some instant, or passes over it

@@ -1,5 +1,5 @@
 -- Slots of plain data filled by a list from a number on, and by one more at its end.
-use Rattle.std.proofs.Common.{◌≡◌, ℕ, zero, suc, ◌+◌, ◌-◌, ◌<◌, ◌≤◌, ◌∙◌, refl, sym, ap, subst, arith, List, [], ◌∷◌, ◌++◌, length, length-append, set, inl, inr}
+use Rattle.std.proofs.Common.{◌≡◌, ℕ, zero, suc, ◌+◌, ◌-◌, ◌<◌, ◌≤◌, ◌∙◌, refl, sym, ap, arith, List, [], ◌∷◌, ◌++◌, length, length-append, set, inl, inr}
 use Rattle.std.specs.Prelude.{min, map, drop}
 use Rattle.std.proofs.lemmas.Bool.{cases_lt}
 use Rattle.tz.specs.Plain.{found_data, entries_from, placed}

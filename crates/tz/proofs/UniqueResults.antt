@@ -16,7 +16,7 @@ use Rattle.tz.specs.DateTimes.{DateTime, ShowsByClock, ShowsInstant, IsClockFaul
 use Rattle.tz.specs.FindFaults.{IsFindFault}
 use Rattle.tz.specs.Found.{EachCanBeMade}
 use Rattle.tz.proofs.PromisedLists.{not_out_of_range, valid_without_fault}
-use Rattle.tz.proofs.WalkSteps.{side_unique}
+use Rattle.tz.proofs.DatedEntries.{side_unique}
 
 module _ (z : Zone) (u : ℤ) (n : ℕ) where
   -- a zone that is over has no type

@@ -25,6 +25,10 @@ pub record DateTime : Type 0 where
   pub local_time_type : LocalTimeType
   pub unix_time : ℤ
 
+-- the date time with these parts
+abbrev pub moment_of : Fields → LocalTimeType → ℤ → DateTime
+moment_of f t u = record { fields = f; local_time_type = t; unix_time = u }
+
 -- valid fields, which the type shows at the Unix time
 pub record IsDateTime (d : DateTime) : Type 0 where
   pub valid : IsValid d.fields

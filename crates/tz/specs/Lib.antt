@@ -5,8 +5,8 @@ pub mod DateTimes
 pub mod Found
 pub mod Slots
 pub mod Buffers
-pub mod Walks
-pub mod Resolutions
+pub mod Entries
+pub mod EntryDateTimes
 pub mod Reached
 pub mod Windows
 pub mod FindFaults
@@ -20,7 +20,6 @@ pub mod UtcConstants
 pub mod Lists
 pub mod LentSlots
 pub mod SlotEquality
-pub mod Jumps
 pub mod Meanings
 pub mod LocalMeanings
 pub mod MeantSlots

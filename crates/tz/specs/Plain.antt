@@ -1,6 +1,5 @@
 -- Date times, and what a search finds, as plain data.
 use Rattle.std.specs.Prelude.{◌≡◌, ℕ, List, [], ◌∷◌, false, true, map, drop}
-use Rattle.tz_base.specs.declared.fields.Fields.{Fields}
 use Rattle.tz_base.specs.Fields.{reading}
 use Rattle.tz.specs.DateTimes.{DateTime, IsUtc}
 use Rattle.tz.specs.declared.datetime.found.FoundDateTimeKind.{FoundDateTimeKind}

@@ -1,5 +1,5 @@
 -- The window in which a clock can show a reading, by the offsets that a zone has, and the transitions that take effect there.
-use Rattle.std.specs.Prelude.{◌≡◌, ℕ, ◌+◌, ◌<◌, ◌≤◌, ℤ, ◌-ℤ◌, ◌≤ℤ◌, List, Option, Some, None, length, slice_get}
+use Rattle.std.specs.Prelude.{◌≡◌, ℕ, ◌+◌, ◌^◌, ◌<◌, ◌≤◌, ℤ, pos, negsuc, ◌-ℤ◌, ◌≤ℤ◌, List, Option, Some, None, length, slice_get}
 use Rattle.std.specs.List.{All, AllPairs}
 use Rattle.tz_rule.specs.LocalTimeType.{LocalTimeType}
 use Rattle.tz_rule.specs.declared.timezone.rule.TransitionRule.{TransitionRule}
@@ -7,11 +7,26 @@ use Rattle.tz_zone.specs.Table.{Transition, Zone}
 use Rattle.tz_zone.specs.LeapTime.{IsEffect}
 use Rattle.tz_zone.specs.declared.clock.cursor.Cursor.{Cursor}
 use Rattle.tz_zone.specs.Offsets.{IsLeastOffset, IsGreatestOffset}
+use Rattle.tz_zone.specs.ValidZone.{IsSoundTable}
+use Rattle.tz.specs.Reached.{AreOffsetsOf}
+
+-- a reading of fields, roughly: less than 70000000000000000 seconds from 1970
+abbrev pub IsSmall : ℤ → Type 0
+IsSmall x = (negsuc 70000000000000000 ≤ℤ x) × (x ≤ℤ pos 70000000000000000)
 
 -- the first and the last instant of a reading's window: the reading less the greatest offset, and less the least
 pub record IsWindow (types : List LocalTimeType) (extra_rule : Option TransitionRule) (r low high : ℤ) : Type 0 where
   pub first : IsGreatestOffset types extra_rule (r -ℤ low)
   pub last : IsLeastOffset types extra_rule (r -ℤ high)
+
+-- a window in which a search finds all that a reading has in the clock of a sound zone
+pub record IsSearchable (z : Zone) (r low high : ℤ) : Type 0 where
+  pub sound : IsSoundTable z
+  pub small : IsSmall r
+  pub order : low ≤ℤ high
+  pub reach : high ≤ℤ pos 80000000000000000
+  pub width : (high -ℤ low) ≤ℤ pos (2 ^ 32)
+  pub offsets : AreOffsetsOf z (r -ℤ high) (r -ℤ low)
 
 -- the transition at a place takes effect at one of two instants or between them
 abbrev pub TakesEffectIn : Zone → ℤ → ℤ → ℕ → Type 0

@@ -2,10 +2,10 @@
 //! data, and how bytes are read.
 
 pub use crate::datetime::date_time::{fields_of, local_reading};
+pub use crate::datetime::entries::Entries;
 pub use crate::datetime::find::find_fields;
 pub use crate::datetime::plain::{DateTimeData, FoundData, UtcData};
-pub use crate::datetime::resolution::Resolution;
-pub use crate::datetime::resolve::{once, resolve_window, window_of};
+pub use crate::datetime::search::{search_zone, window_of};
 pub use crate::datetime::view::{find_into, find_one, from_timespec};
 pub use crate::nanoseconds::Nanoseconds;
 pub use crate::page::Page;

@@ -3,7 +3,7 @@
 ghost use Rattle.std.specs.Prelude.{◌≡◌, ◌+◌, ◌<◌, ◌≤◌, ℕ, ℤ, List, [], ◌∷◌, ◌++◌, length, MatchBool};
 ghost use Rattle.std.specs.Fmt.{signed_decimal};
 ghost use Rattle.tz_base.specs.Fields.{IsValid};
-ghost use Rattle.tz.specs.Walks.{moment_of};
+ghost use Rattle.tz.specs.DateTimes.{moment_of};
 ghost use Rattle.tz.specs.PrintedText.{moment_text, suffix_text};
 ghost use Rattle.tz.specs.Nanoseconds.{with_nanoseconds};
 ghost use Rattle.tz.specs.Pages.{HasRoom, HasRoomFor};

@@ -1,22 +1,21 @@
 -- The lines of what is found, and its nanoseconds.
-use Rattle.std.proofs.Common.{◌≡◌, ℕ, ◌<◌, ◌⊎◌, List, [], ◌∷◌, ◌++◌, get_or, inl, inr, refl, sym, ap, ◌∙◌, arith, append_assoc, ℤ}
+use Rattle.std.proofs.Common.{◌≡◌, ℕ, ◌<◌, ◌⊎◌, List, [], ◌∷◌, ◌++◌, get_or, inl, inr, refl, sym, ap, subst, ◌∙◌, arith, append_assoc, ℤ}
 use Rattle.std.specs.Prelude.{codes}
 use Rattle.std.specs.Fmt.{decimal}
-use Rattle.std.specs.List.{All}
-use Rattle.std.proofs.lemmas.List.Elements.{All-contains}
+use Rattle.std.specs.List.{All, AllZip}
 use Rattle.std.proofs.lemmas.Fmt.{decimal_digit}
 use Rattle.tz_base.specs.declared.fields.Fields.{Fields}
 use Rattle.tz_base.specs.Fields.{IsValid, reading}
 use Rattle.tz_rule.specs.LocalTimeType.{LocalTimeType}
 use Rattle.tz_zone.specs.Clock.{IsClock}
 use Rattle.tz_zone.specs.Table.{Zone}
-use Rattle.tz.specs.DateTimes.{DateTime}
-use Rattle.tz.specs.Found.{CanBeMade, Clock, IsFound, IsFoundBy}
-use Rattle.tz.specs.Resolutions.{AreEntriesOf, IsResolution}
-use Rattle.tz.specs.Walks.{moment_of}
+use Rattle.tz.specs.DateTimes.{DateTime, moment_of}
+use Rattle.tz.specs.Entries.{Entry, AreEntries}
+use Rattle.tz.specs.EntryDateTimes.{IsMadeOf}
+use Rattle.tz.specs.Found.{Clock, IsFound, IsFoundBy}
 use Rattle.tz.specs.declared.datetime.found.FoundDateTimeKind.{FoundDateTimeKind}
 use Rattle.tz.specs.declared.datetime.found.FoundDateTimeKind.TheVariants.{Normal, Skipped}
-use Rattle.tz.specs.declared.datetime.resolution.Resolution.{Resolution}
+use Rattle.tz.proofs.DatedEntries.{found_from_entries, made_from_entries}
 use Rattle.tz_query.specs.Answers.{found_lines, IsSearchAnswer}
 use Rattle.tz_query.specs.Entries.{HasNanoseconds}
 use Rattle.tz_query.specs.Lines.{ended}
@@ -51,13 +50,13 @@ each_has clock f (Skipped before after) (u, a, b, passes, first, second) = (firs
 pub found_nanoseconds : (clock : Clock) (f : Fields) (found : List FoundDateTimeKind) → IsFound clock f found → All (HasNanoseconds f.nanoseconds) found
 found_nanoseconds clock f found is = λ k e within. each_has clock f (get_or found k e) (is.sound k e within)
 
--- the lines of what a reading means are the answer
-pub answered_by : (z : Zone) (f : Fields) (n : ℕ) (r : ℤ) (resolution : Resolution) (found : List FoundDateTimeKind) → n < 1000000000 → IsValid f → reading f ≡ r → IsResolution (IsClock z) r resolution →
-    AreEntriesOf (record f { nanoseconds = n }) resolution found → All CanBeMade found → IsSearchAnswer z (record f { nanoseconds = n }) (found_lines found)
-answered_by z f n r resolution found few valid is resolves entries made =
+-- the lines of the date times of all entries are the answer
+pub answered_by : (z : Zone) (f : Fields) (n : ℕ) (r : ℤ) (es : List Entry) (found : List FoundDateTimeKind) → n < 1000000000 → IsValid f → reading f ≡ r → AreEntries (IsClock z) r es →
+    AllZip (IsMadeOf (record f { nanoseconds = n })) es found → IsSearchAnswer z (record f { nanoseconds = n }) (found_lines found)
+answered_by z f n r es found few valid is are made =
     let g : Fields = record f { nanoseconds = n } in
-    let list : IsFound (IsClock z) g found = resolves.all g is found entries in
-    inl (found, valid_with f n few valid, list, (λ e by. All-contains CanBeMade found e made (list.complete e by)), refl)
+    let all : AreEntries (IsClock z) (reading g) es = subst (λ (x : ℤ). AreEntries (IsClock z) x es) (sym is) are in
+    inl (found, valid_with f n few valid, found_from_entries (IsClock z) g es found all made, made_from_entries (IsClock z) g es found all made, refl)
 
 -- what follows in either case
 pub either : (P Q R : Type 0) → (P → R) → (Q → R) → P ⊎ Q → R

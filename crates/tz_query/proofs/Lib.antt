@@ -8,4 +8,5 @@ pub mod JoinedPieces
 pub mod FastNumbers
 pub mod OtherNanoseconds
 pub mod EntryLines
+pub mod LineMeanings
 pub mod WeekAnswers

@@ -8,5 +8,6 @@ pub mod Answers
 pub mod Streams
 pub mod Outputs
 pub mod Entries
+pub mod LineMeanings
 pub mod Program
 pub mod FileAnswers

@@ -3,8 +3,9 @@
 mod choice;
 pub(crate) mod date_time;
 mod date_time_list;
+mod dated;
 mod disambiguation;
-mod entry;
+pub(crate) mod entries;
 pub(crate) mod find;
 mod find_local;
 mod found;
@@ -15,14 +16,11 @@ mod meaning;
 mod offsets;
 pub(crate) mod plain;
 mod plain_writer;
-pub(crate) mod resolution;
-pub(crate) mod resolve;
 pub(crate) mod search;
 mod slot_writer;
 mod totals;
 pub(crate) mod utc_date_time;
 pub(crate) mod view;
-mod walk;
 mod window;
 
 pub use date_time::DateTime;

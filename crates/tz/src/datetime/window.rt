@@ -1,7 +1,7 @@
 //! The window of a reading: the instants among which a search finds all that a reading means.
 
 ghost use Rattle.std.specs.Prelude.{◌≡◌, ◌^◌, pos, ◌-ℤ◌, ◌≤ℤ◌};
-ghost use Rattle.tz.specs.Walks.{IsSmall};
+ghost use Rattle.tz.specs.Windows.{IsSmall};
 
 /// The instants between which a clock with offsets from the least to the greatest one can show a reading, or be set forward over it,
 /// both counted.

@@ -5,9 +5,10 @@ ghost use Rattle.tz_zone.specs.ZoneRef.{zone_of};
 ghost use Rattle.tz_query.specs.Answers.{AreAnswers};
 
 use super::lines::{Query, after_line, read_query, read_usual_search_line, read_usual_time_line};
+use super::meaning::Meaning;
 use super::output::Output;
 use std::alloc::{AllocError, Allocator};
-use tz::inner::{Nanoseconds, Page, Resolution, Suffix, Suffixes, once, resolve_window, window_of};
+use tz::inner::{Nanoseconds, Page, Suffix, Suffixes, search_zone, window_of};
 use tz::{LocalTimeType, TimeZoneRef, TzError};
 
 /// 30 days in seconds: lines whose instants are less than this apart are taken as lines in order.
@@ -30,11 +31,12 @@ pub struct Answers<'a, A: Allocator + Copy> {
 }
 
 impl<'a, A: Allocator + Copy> Answers<'a, A> {
-    ghost use Rattle.tz.specs.Resolutions.{IsResolution};
-    ghost use Rattle.tz.specs.Walks.{IsSmall};
+    ghost use Rattle.tz.specs.Entries.{Entry, AreEntries};
+    ghost use Rattle.tz.specs.Windows.{IsSmall};
     ghost use Rattle.tz_zone.specs.Clock.{IsClock};
     ghost use Rattle.tz_query.specs.Answers.{IsAnswer};
     ghost use Rattle.tz_query.specs.Lines.{IsFirstLine, ended};
+    ghost use Rattle.tz_query.specs.LineMeanings.{IsMeaningOf};
     ghost use Rattle.tz_query.specs.Outputs.{Adds, IsSound, Leaves, written};
 
     /// Answers that follow these bytes. The span holds no instant yet.
@@ -95,20 +97,25 @@ impl<'a, A: Allocator + Copy> Answers<'a, A> {
         }
     }
 
-    /// What a reading means to the zone's clock, if the clock has one type in the window, or two with one jump between them.
+    /// What a reading means to the zone's clock.
     #[inline(always)]
-    pub fn resolve(&mut self, reading: i64) -> Option<Resolution<'a>>
+    pub fn meaning(&mut self, reading: i64) -> Meaning<'a>
         requires small { IsSmall reading }
         requires sound { IsSound self.old }
-        ensures resolves { IfSome result (λ resolution. IsResolution (IsClock (zone_of self.old.zone)) reading resolution) }
+        ensures means { (es : List Entry) × AreEntries (IsClock (zone_of self.old.zone)) reading es × IsMeaningOf es result }
         ensures kept { Leaves self.old self.new }
     {
         let (low, high) = window_of(self.zone, reading);
         if self.has(low, high) {
-            return Some(once(reading, self.local_time_type));
+            return Meaning::Once(self.local_time_type);
         }
         self.follow(low);
-        resolve_window(self.zone, reading, low, high)
+        let mut meaning = Meaning::Nothing;
+        match search_zone(&mut meaning, reading, self.zone, low, high) {
+            Ok(()) => meaning,
+            // It takes any entry.
+            Err(_) => unreachable!(),
+        }
     }
 
     /// Answers the first line, whatever its numbers, and returns the place after that line.

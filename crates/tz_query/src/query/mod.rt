@@ -2,6 +2,7 @@
 
 mod answers;
 mod lines;
+mod meaning;
 mod names;
 mod numbers;
 mod output;

@@ -4,19 +4,19 @@ ghost use Rattle.std.specs.Prelude.{◌≡◌, ◌≤◌, ◌⊎◌, ◌∷◌, 
 ghost use Rattle.std.specs.List.{All};
 
 use super::answers::Answers;
+use super::meaning::Meaning;
 use super::names::field_fault_name;
 use super::time_answers::shown_fields;
 use std::alloc::{AllocError, Allocator};
 use tz::datetime::FoundDateTimeKind;
-use tz::inner::{self, Fields, Nanoseconds, Resolution, fields_of};
+use tz::inner::{self, Fields, Nanoseconds, fields_of};
 use tz::{LocalTimeType, TzError};
 
 impl<'a, A: Allocator + Copy> Answers<'a, A> {
     ghost use Rattle.tz_base.specs.Fields.{IsValid};
-    ghost use Rattle.tz.specs.DateTimes.{DateTime, ShowsInstant};
+    ghost use Rattle.tz.specs.DateTimes.{DateTime, ShowsInstant, moment_of};
     ghost use Rattle.tz.specs.Found.{CanBeMade};
     ghost use Rattle.tz.specs.PrintedText.{moment_text};
-    ghost use Rattle.tz.specs.Walks.{moment_of};
     ghost use Rattle.tz.specs.declared.datetime.found.FoundDateTimeKind.TheVariants.{Normal as Shown, Skipped as SkippedKind};
     ghost use Rattle.tz_query.specs.Answers.{entry_text, found_lines};
     ghost use Rattle.tz_query.specs.Entries.{HasNanoseconds};
@@ -182,7 +182,7 @@ impl<'a, A: Allocator + Copy> Answers<'a, A> {
         self.push_skipped(b"F 1\nS ", &first, before, &second, after, nanoseconds)
     }
 
-    /// Answers fields with these nanoseconds: by one look at their window, if they are valid and the look tells what they mean.
+    /// Answers fields with these nanoseconds: by what they mean, if they are valid and have one or two entries, else by a search for them.
     #[inline(always)]
     pub fn answer_search(
         &mut self,
@@ -195,21 +195,15 @@ impl<'a, A: Allocator + Copy> Answers<'a, A> {
         let Ok(()) = fields.check() else {
             return self.answer_by_search(fields, nanoseconds);
         };
-        match self.resolve(fields.reading()) {
-            Some(Resolution::Once(_, local_time_type)) => {
+        match self.meaning(fields.reading()) {
+            Meaning::Once(local_time_type) => {
                 self.push_shown(b"F 1\nN ", fields, local_time_type, nanoseconds)
             }
-            Some(Resolution::Twice(_, before, _, after)) => {
-                self.push_twice(fields, nanoseconds, before, after)
+            Meaning::Twice(before, after) => self.push_twice(fields, nanoseconds, before, after),
+            Meaning::Skipped(unix_time, before, after) => {
+                self.push_jump(fields, nanoseconds, unix_time, before, after)
             }
-            Some(
-                Resolution::Skipped {
-                    unix_time,
-                    before,
-                    after,
-                },
-            ) => self.push_jump(fields, nanoseconds, unix_time, before, after),
-            None => self.answer_by_search(fields, nanoseconds),
+            Meaning::Nothing | Meaning::More => self.answer_by_search(fields, nanoseconds),
         }
     }
 

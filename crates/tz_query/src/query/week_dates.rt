@@ -6,7 +6,7 @@
 
 ghost use Rattle.std.specs.Prelude.{◌≡◌, IfOk, IfErr, IfSome, IfNone, OnOk};
 ghost use Rattle.tz_base.specs.Fields.{IsFirstFault, IsValid, day_of};
-ghost use Rattle.tz.specs.Walks.{IsSmall};
+ghost use Rattle.tz.specs.Windows.{IsSmall};
 ghost use Rattle.tz_query.specs.MeetingDates.{IsInYears, IsWeekOf, day_after, midnight};
 
 use tz::constants::{SECONDS_PER_DAY, SECONDS_PER_WEEK};

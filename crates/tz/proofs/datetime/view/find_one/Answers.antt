@@ -1,5 +1,5 @@
 -- What is meant is taken from the list that the search finds.
-use Rattle.std.proofs.Common.{◌≡◌, ◌∙◌, inr, sym, subst, [], Option, Some, None}
+use Rattle.std.proofs.Common.{◌∙◌, inr, sym, subst, [], Option, Some, None}
 use Rattle.std.proofs.lemmas.Result.{err_from_is_err_and}
 use Rattle.tz_zone.specs.ZoneViewed.{zone_viewed}
 use Rattle.tz.specs.Meanings.{IsMeantIn}

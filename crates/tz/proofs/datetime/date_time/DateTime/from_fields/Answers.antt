@@ -6,7 +6,7 @@ use lib.Signed.{mag}
 use mir.Syntax.{w32, w64}
 use mir.Val.{to_z, of_z, SFits}
 use Rattle.tz_base.specs.Fields.{IsReading}
-use Rattle.tz.specs.Walks.{moment_of}
+use Rattle.tz.specs.DateTimes.{moment_of}
 use Rattle.tz.proofs.datetime.date_time.DateTime.from_fields.Goals as goal
 
 module _ (read reading at offset wide : ℤ) (bound : (negsuc 67768100567971199 ≤ℤ read) × (read ≤ℤ pos 67767976233532800)) (reading_is : read ≡ reading)

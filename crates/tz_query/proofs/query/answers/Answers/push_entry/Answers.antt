@@ -2,8 +2,7 @@
 use Rattle.std.proofs.Common.{◌++◌, ◌∷◌, [], sym, ap, subst, ◌∙◌, append_assoc}
 use Rattle.std.specs.Prelude.{codes}
 use Rattle.std.proofs.lemmas.Result.{IfOk-weaker}
-use Rattle.tz.specs.DateTimes.{DateTime}
-use Rattle.tz.specs.Walks.{moment_of}
+use Rattle.tz.specs.DateTimes.{DateTime, moment_of}
 use Rattle.tz.specs.PrintedText.{moment_text}
 use Rattle.tz_query.specs.Answers.{entry_text}
 use Rattle.tz_query.specs.Entries.{HasNanoseconds}

@@ -5,8 +5,7 @@ use Rattle.std.proofs.lemmas.Result.{IfOk-weaker}
 use mir.Syntax.{w32, w64}
 use mir.Val.{SFits}
 use Rattle.tz_base.specs.Fields.{IsReading}
-use Rattle.tz.specs.DateTimes.{DateTime, ShowsInstant}
-use Rattle.tz.specs.Walks.{moment_of}
+use Rattle.tz.specs.DateTimes.{DateTime, ShowsInstant, moment_of}
 use Rattle.tz.specs.PrintedText.{moment_text}
 use Rattle.tz_query.proofs.AddedText.{with_text}
 use Rattle.tz_query.proofs.OtherNanoseconds.{civil_with}

@@ -1,6 +1,6 @@
 -- The second date time stands in the place of the LF behind the first.
 use Rattle.std.proofs.Common.{◌≡◌, ℕ, List, ◌++◌, ◌∷◌, [], refl, sym, ap, ◌∙◌, append_assoc, arith}
-use Rattle.tz.specs.Walks.{moment_of}
+use Rattle.tz.specs.DateTimes.{moment_of}
 use Rattle.tz.specs.PrintedText.{moment_text}
 use Rattle.tz.specs.Nanoseconds.{number_of}
 use Rattle.tz_query.proofs.query.answers.Answers.push_skipped.Goals as goal

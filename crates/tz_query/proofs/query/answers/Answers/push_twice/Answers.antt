@@ -2,8 +2,7 @@
 use Rattle.std.proofs.Common.{sym}
 use Rattle.std.proofs.lemmas.Result.{IfOk-weaker}
 use Rattle.tz_base.specs.declared.fields.Fields.{Fields}
-use Rattle.tz.specs.DateTimes.{DateTime}
-use Rattle.tz.specs.Walks.{moment_of}
+use Rattle.tz.specs.DateTimes.{DateTime, moment_of}
 use Rattle.tz.specs.PrintedText.{moment_text}
 use Rattle.tz_query.proofs.AddedText.{adds_both, with_text}
 use Rattle.tz_query.proofs.EntryLines.{lines_of_two}

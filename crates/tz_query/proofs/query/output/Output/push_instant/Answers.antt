@@ -7,8 +7,7 @@ use mir.Syntax.{w32, w64}
 use mir.Val.{SFits}
 use Rattle.tz_base.specs.Fields.{IsCivil, IsReading}
 use Rattle.tz_base.specs.declared.error.TzError.TheVariants.{OutOfRange}
-use Rattle.tz.specs.DateTimes.{DateTime}
-use Rattle.tz.specs.Walks.{moment_of}
+use Rattle.tz.specs.DateTimes.{DateTime, moment_of}
 use Rattle.tz.specs.PrintedText.{moment_text}
 use Rattle.tz_query.specs.Lines.{line_feed}
 use Rattle.tz.specs.Nanoseconds.{number_of}
