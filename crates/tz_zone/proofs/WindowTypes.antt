@@ -1,5 +1,5 @@
 -- The types of a clock from those of its parts.
-use Rattle.std.proofs.Common.{ℕ, Option, arith, ℤ, ◌≤ℤ◌, ◌<ℤ◌}
+use Rattle.std.proofs.Common.{ℕ, Option, arith, ℤ, ◌≤ℤ◌}
 use Rattle.std.proofs.lemmas.Int.{ints}
 use Rattle.tz_rule.specs.LocalTimeType.{LocalTimeType}
 use Rattle.tz_zone.specs.WindowTypes.{AreTypesIn, IfMore}

@@ -27,7 +27,7 @@ pub(super) fn after_table<'a>(
     ensures last { result.last ≢ pos 9223372036854775807 → IsChangeByRule (zone_seen [] parts.entry).extra_rule (result.last +ℤ pos 1) }
     ensures cursor { result.cursor ≡ None }
 {
-    let Some(rule) = parts.extra_rule else {
+    let Some(rule) = parts.extra_rule.lent() else {
         return ClockSegment {
             from: i64::MIN,
             last: i64::MAX,
@@ -53,7 +53,7 @@ pub(super) fn after_table<'a>(
 pub(super) fn fault_after(parts: OtherParts<'_>) -> TzError
     ensures { MatchOption (zone_seen [] parts.entry).extra_rule (result ≡ TzError.NoAvailableLocalTimeType) (λ rule. result ≡ TzError.OutOfRange) }
 {
-    match parts.extra_rule {
+    match parts.extra_rule.lent() {
         Some(_) => TzError::OutOfRange,
         None => TzError::NoAvailableLocalTimeType,
     }

@@ -80,7 +80,7 @@ fn settled_from<V: Transitions>(
     ensures settled { (t : LocalTimeType) → ((u : ℤ) → from ≤ℤ u → u ≤ℤ last → IsClock (zone_seen (V.list view.old) parts.entry) u t)
         → IfSome result (HasNoFollowing (zone_seen (V.list view.old) parts.entry)) }
 {
-    let Some(rule) = parts.extra_rule else {
+    let Some(rule) = parts.extra_rule.lent() else {
         return None;
     };
     let seam = seam(view, parts.leap_seconds);

@@ -178,7 +178,7 @@ fn following_behind_table<'a, V: Transitions>(
     ensures same { V.list view.new ≡ V.list view.old }
     ensures change { IfSome result (λ found. IsFollowing (zone_seen (V.list view.old) parts.entry) unix_time (change_of found.0)) }
 {
-    let Some(rule) = parts.extra_rule else {
+    let Some(rule) = parts.extra_rule.lent() else {
         return None;
     };
     if unix_time < plain_seam(view) {
@@ -256,7 +256,7 @@ fn preceding_behind_table<'a, V: Transitions>(
     ensures same { V.list view.new ≡ V.list view.old }
     ensures change { IfSome result (λ found. IsPreceding (zone_seen (V.list view.old) parts.entry) unix_time (change_of found.0)) }
 {
-    let Some(rule) = parts.extra_rule else {
+    let Some(rule) = parts.extra_rule.lent() else {
         return None;
     };
     let seam = plain_seam(view);

@@ -6,6 +6,6 @@ mod transition;
 mod transitions;
 
 pub use leap_second::LeapSecond;
-pub use parts::{OtherParts, lent};
+pub use parts::{KeptRule, OtherParts, lent};
 pub use transition::Transition;
 pub use transitions::{Counted, Transitions, Uncounted};

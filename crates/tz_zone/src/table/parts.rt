@@ -1,11 +1,24 @@
 //! What a zone has beside its transitions.
 
 ghost use Rattle.std.specs.Prelude.{◌≡◌};
-ghost use Rattle.tz_zone.specs.ZoneSeen.{lent_rule};
+ghost use Rattle.tz_zone.specs.ZoneSeen.{lent_rule, rule_kept};
 
 use super::leap_second::LeapSecond;
-use tz_rule::inner::RuleRef;
+use tz_rule::inner::{AlternateClock, RuleRef};
 use tz_rule::timezone::{LocalTimeType, TransitionRule};
+
+/// A zone's rule as the zone keeps it. What lies before the last transition needs no look at it.
+#[derive(Clone, Copy)]
+pub enum KeptRule<'a> {
+    /// There is no rule.
+    Without,
+    /// One type for all time.
+    Fixed(&'a LocalTimeType),
+    /// Two types that alternate.
+    Alternate(&'a AlternateClock),
+    /// A rule or none, in the zone's own form.
+    Stored(&'a Option<TransitionRule>),
+}
 
 /// The parts of a zone beside its transitions, borrowed.
 #[derive(Clone, Copy)]
@@ -15,7 +28,7 @@ pub struct OtherParts<'a> {
     /// The leap seconds, in order.
     pub leap_seconds: &'a [LeapSecond],
     /// The rule from the last transition on.
-    pub extra_rule: Option<RuleRef<'a>>,
+    pub extra_rule: KeptRule<'a>,
 }
 
 /// Lends a rule, if there is one.
@@ -26,5 +39,32 @@ pub fn lent(extra_rule: &Option<TransitionRule>) -> Option<RuleRef<'_>>
     match extra_rule {
         Some(rule) => Some(RuleRef::of(rule)),
         None => None,
+    }
+}
+
+impl<'a> KeptRule<'a> {
+    /// Keeps a rule that is lent, if there is one.
+    #[inline(always)]
+    pub fn of(rule: Option<RuleRef<'a>>) -> KeptRule<'a>
+        ensures { rule_kept result ≡ lent_rule rule.entry }
+    {
+        match rule {
+            Some(RuleRef::Fixed(local_time_type)) => KeptRule::Fixed(local_time_type),
+            Some(RuleRef::Alternate(clock)) => KeptRule::Alternate(clock),
+            None => KeptRule::Without,
+        }
+    }
+
+    /// Lends the rule, if there is one.
+    #[inline(always)]
+    pub fn lent(self) -> Option<RuleRef<'a>>
+        ensures { lent_rule result ≡ rule_kept self.entry }
+    {
+        match self {
+            KeptRule::Without => None,
+            KeptRule::Fixed(local_time_type) => Some(RuleRef::Fixed(local_time_type)),
+            KeptRule::Alternate(clock) => Some(RuleRef::Alternate(clock)),
+            KeptRule::Stored(extra_rule) => lent(extra_rule),
+        }
     }
 }

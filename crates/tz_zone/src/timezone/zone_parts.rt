@@ -6,7 +6,7 @@ ghost use Rattle.tz_zone.specs.ZoneRef.{zone_of};
 ghost use Rattle.tz_zone.specs.ZoneSeen.{zone_seen};
 
 use super::TimeZoneRef;
-use crate::table::{OtherParts, lent};
+use crate::table::{KeptRule, OtherParts};
 
 /// The least and the greatest offset of a zone's types and of its rule.
 pub fn offsets(zone: &TimeZoneRef<'_>) -> (i32, i32)
@@ -22,6 +22,6 @@ pub fn other_parts<'a>(zone: &TimeZoneRef<'a>) -> OtherParts<'a>
     OtherParts {
         local_time_types: zone.local_time_types(),
         leap_seconds: zone.leap_seconds(),
-        extra_rule: lent(zone.extra_rule()),
+        extra_rule: KeptRule::Stored(zone.extra_rule()),
     }
 }

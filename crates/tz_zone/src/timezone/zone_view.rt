@@ -10,7 +10,7 @@ use super::checks::check_parts;
 use super::offsets::offsets;
 use super::{Change, LeapSecond, LocalTimeType, Segment, Transition};
 use crate::clock;
-use crate::table::{OtherParts, Uncounted};
+use crate::table::{KeptRule, OtherParts, Uncounted};
 use tz_base::error::TzError;
 use tz_rule::inner::{AlternateClock, RuleRef};
 
@@ -97,7 +97,7 @@ impl<'a> ZoneView<'a> {
         OtherParts {
             local_time_types: self.local_time_types,
             leap_seconds: self.leap_seconds,
-            extra_rule: rule_of(self.fixed, self.alternate),
+            extra_rule: KeptRule::of(rule_of(self.fixed, self.alternate)),
         }
     }
 

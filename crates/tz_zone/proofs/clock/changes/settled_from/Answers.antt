@@ -1,5 +1,5 @@
 -- The run behind the seam lasts for a period.
-use Rattle.std.proofs.Common.{arith, rules, pos, ◌+ℤ◌, ◌≤ℤ◌, ap, option_map}
+use Rattle.std.proofs.Common.{arith, rules, pos, ◌+ℤ◌, ◌≤ℤ◌, ◌∙◌, ap, sym, option_map}
 use Rattle.std.proofs.lemmas.Int.{ints, to_z-of_z}
 use mir.Syntax.{w64, w128}
 use mir.Val.{SFits}
@@ -28,4 +28,4 @@ returns-clause-settled g c = λ t run.
     let bounds = instant_bounds last c.ranges.last in
     let fits : SFits w64 m = IsInstant-from_bounds m (seam_low (g.V.Transitions.list c.args.view.now) c.args.parts.leap_seconds.now m c.seam-seam.ensures.seam) (omega (arith, ints, low, bounds.1)) in
     rw (m_is, to_z-of_z w64 m fits)
-    (none_behind_seam z c.requires m since last t (rule_seen c.in-Some.rule) c.seam-seam.ensures.seam (ap (option_map rule_seen) c.in-Some.is) c.parts_are_sound.ensures behind long (λ u low high. run u (omega (arith, ints, start, low)) high))
+    (none_behind_seam z c.requires m since last t (rule_seen c.in-Some.rule) c.seam-seam.ensures.seam (sym c.lent.ensures ∙ ap (option_map rule_seen) c.in-Some.is) c.parts_are_sound.ensures behind long (λ u low high. run u (omega (arith, ints, start, low)) high))

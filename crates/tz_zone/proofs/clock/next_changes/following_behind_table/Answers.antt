@@ -1,5 +1,5 @@
 -- From the seam on the rule tells the types.
-use Rattle.std.proofs.Common.{arith, rules, ◌≤ℤ◌, ap, option_map}
+use Rattle.std.proofs.Common.{arith, rules, ◌≤ℤ◌, ◌∙◌, ap, sym, option_map}
 use Rattle.std.proofs.lemmas.Int.{ints, to_z-of_z}
 use mir.Syntax.{w64}
 use mir.Val.{SFits}
@@ -16,6 +16,6 @@ returns-clause-change g c =
     let m = c.plain_seam.result in
     let time : SFits w64 m = search rules in
     let from : m ≤ℤ u = omega (arith, ints, c.if-unix_time-plain_seam.false, to_z-of_z w64 m time, to_z-of_z w64 u c.ranges.unix_time) in
-    let has = types_from_seam z c.requires.sound c.requires.plain (rule_seen c.in-Some.rule) m u (ap (option_map rule_seen) c.in-Some.is) c.plain_seam.ensures.seam from in
+    let has = types_from_seam z c.requires.sound c.requires.plain (rule_seen c.in-Some.rule) m u (sym c.lent.ensures ∙ ap (option_map rule_seen) c.in-Some.is) c.plain_seam.ensures.seam from in
     let found = rw (to_z-of_z w64 u c.ranges.unix_time) at c.following_by_rule.ensures in
     some_held c.following_by_rule.result c.in_ok-change.change (λ x. IsFollowing z u (change_of x)) c.in_ok-change.was (found z c.requires.sound has)

@@ -1,5 +1,5 @@
 -- From the seam on the rule tells the types.
-use Rattle.std.proofs.Common.{arith, rules, ap, option_map}
+use Rattle.std.proofs.Common.{arith, rules, ◌∙◌, ap, sym, option_map}
 use Rattle.std.proofs.lemmas.Int.{ints, to_z-of_z}
 use mir.Syntax.{w64}
 use mir.Val.{SFits}
@@ -15,6 +15,6 @@ returns-clause-change g c =
     let u = c.args.unix_time in
     let m = c.plain_seam-seam.result in
     let time : SFits w64 m = search rules in
-    let has = types_from_seam z c.requires.sound c.requires.plain (rule_seen c.in-Some.rule) m m (ap (option_map rule_seen) c.in-Some.is) c.plain_seam-seam.ensures.seam (omega (arith, ints)) in
+    let has = types_from_seam z c.requires.sound c.requires.plain (rule_seen c.in-Some.rule) m m (sym c.lent.ensures ∙ ap (option_map rule_seen) c.in-Some.is) c.plain_seam-seam.ensures.seam (omega (arith, ints)) in
     let found = rw (to_z-of_z w64 u c.ranges.unix_time, to_z-of_z w64 m time) at c.preceding_by_rule.ensures in
     some_held c.preceding_by_rule.result c.in_ok-change.change (λ x. IsPreceding z u (change_of x)) c.in_ok-change.was (found z c.requires.sound has)

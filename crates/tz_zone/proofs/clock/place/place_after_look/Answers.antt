@@ -1,5 +1,5 @@
 -- What is reached is reached with all before it, and what is ahead with all after it.
-use Rattle.std.proofs.Common.{◌+◌, ◌-◌, ◌≤ℤ◌, ◌<ℤ◌, ℕ, inl, inr, refl, subst, arith, rules}
+use Rattle.std.proofs.Common.{◌-◌, ◌≤ℤ◌, ◌<ℤ◌, ℕ, inl, inr, refl, subst, arith, rules}
 use Rattle.std.proofs.lemmas.Int.{ints, to_z-of_z}
 use mir.Syntax.{w64}
 use mir.Val.{SFits}

@@ -1,5 +1,5 @@
 -- A look leaves the lower half of the places, or the upper one.
-use Rattle.std.proofs.Common.{◌≡◌, refl, ◌+◌, ◌-◌, ◌≤◌, ◌∙◌, arith, subst, List, length}
+use Rattle.std.proofs.Common.{refl, ◌+◌, ◌∙◌, arith, subst, List}
 use Rattle.std.proofs.lemmas.Int.{to_z-of_z}
 use mir.Syntax.{w64}
 use Rattle.tz_zone.specs.Table.{Transition}

@@ -1,5 +1,5 @@
 -- The transition before the place has a type of the zone.
-use Rattle.std.proofs.Common.{◌≡◌, ◌≢◌, ◌-◌, ◌<◌, inl, inr, ap, subst, arith, refl, List, [], ◌∷◌, length}
+use Rattle.std.proofs.Common.{◌≢◌, ◌-◌, ◌<◌, inl, inr, ap, subst, arith, refl, List, [], ◌∷◌, length}
 use Rattle.tz_rule.specs.LocalTimeType.{LocalTimeType}
 use Rattle.tz_zone.specs.Table.{Transition}
 use Rattle.tz_zone.specs.Clock.{IsTypeAt}

@@ -1,18 +1,15 @@
 -- From the later one of the last transition's start and of the rule's segment on, up to the rule's end, as long as there are leap times.
-use Rattle.std.proofs.Common.{◌≡◌, ◌≢◌, ◌⊎◌, inl, inr, sym, subst, arith, rules, ℤ, pos, ◌+ℤ◌, ◌≤ℤ◌, ◌<ℤ◌, List, Option, Some, None, negsuc}
-use Rattle.std.specs.Prelude.{IfSome, MatchOption}
+use Rattle.std.proofs.Common.{◌≡◌, ◌≢◌, ◌⊎◌, inl, inr, sym, subst, arith, rules, ℤ, pos, ◌+ℤ◌, ◌≤ℤ◌, ◌<ℤ◌, List, Option, None, negsuc}
+use Rattle.std.specs.Prelude.{IfSome}
 use Rattle.std.specs.Int.{int_max}
 use Rattle.std.proofs.lemmas.Int.{ints, by_lt_z, to_z-of_z}
 use mir.Syntax.{w64}
 use mir.Val.{SFits}
-use Rattle.tz_rule.specs.LocalTimeType.{LocalTimeType}
-use Rattle.tz_rule.specs.RuleSegments.{IsRuleChange}
 use Rattle.tz_rule.specs.declared.timezone.rule.TransitionRule.{TransitionRule}
 use Rattle.tz_zone.specs.Table.{Transition, LeapSecond}
-use Rattle.tz_zone.specs.Clock.{IsTypeAfter}
 use Rattle.tz_zone.specs.LeapTime.{IsPastInstants, IsTimeReached, IsMomentOf}
 use Rattle.tz_zone.specs.ValidZone.{AreLeapSeconds}
-use Rattle.tz_zone.specs.ZoneSeen.{lent_rule}
+use Rattle.tz_zone.specs.ZoneSeen.{rule_kept}
 use Rattle.tz_zone.specs.ClockSegments.{IsAtCursor}
 use Rattle.tz_zone.specs.TableChanges.{IsChangeByRule}
 use Rattle.tz_zone.specs.declared.clock.cursor.Cursor.{Cursor}
@@ -118,7 +115,7 @@ returns-clause-from c =
     let moment = rw (to_z-of_z w64 c.unix_leap_time.result before, c.unix_leap_time.ensures) at c.start_of-from.ensures in
     let greatest = rw (to_z-of_z w64 c.start_of-from.result from, to_z-of_z w64 s.from first) at c.max.ensures in
     rw (to_z-of_z w64 c.max.result max)
-    (begin_is c.args.parts.leap_seconds.now (lent_rule c.args.parts.extra_rule) _ c.start_of-from.result s.from c.max.result moment greatest.value greatest.self_bound c.after_table-segment.ensures.from)
+    (begin_is c.args.parts.leap_seconds.now (rule_kept c.args.parts.extra_rule) _ c.start_of-from.result s.from c.max.result moment greatest.value greatest.self_bound c.after_table-segment.ensures.from)
 
 pub returns-clause-last : goal.returns-clause-last
 returns-clause-last c =
@@ -127,4 +124,4 @@ returns-clause-last c =
     let last : SFits w64 c.last_instant_up_to.result = search rules in
     let cut = rw (to_z-of_z w64 s.last end) at c.last_instant_up_to.ensures in
     rw (to_z-of_z w64 c.last_instant_up_to.result last)
-    (end_is c.args.parts.leap_seconds.now (lent_rule c.args.parts.extra_rule) c.last_instant_up_to.result s.last cut.up_to (instant_bounds s.last end).1 cut.past c.after_table-segment.ensures.last)
+    (end_is c.args.parts.leap_seconds.now (rule_kept c.args.parts.extra_rule) c.last_instant_up_to.result s.last cut.up_to (instant_bounds s.last end).1 cut.past c.after_table-segment.ensures.last)

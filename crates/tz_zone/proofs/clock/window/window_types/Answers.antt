@@ -1,6 +1,6 @@
 -- After the table the types are those of the rule, or of the first type where there are no transitions.
-use Rattle.std.proofs.Common.{◌≡◌, ◌<◌, ℕ, ℤ, ◌≤ℤ◌, Option, Some, List, [], length, eqb, inl, inr, refl, sym, subst, arith}
-use Rattle.std.proofs.lemmas.Int.{ints, to_z-of_z}
+use Rattle.std.proofs.Common.{◌≡◌, ◌<◌, ℕ, ℤ, ◌≤ℤ◌, Some, [], length, eqb, inl, inr, refl, sym, subst, arith}
+use Rattle.std.proofs.lemmas.Int.{to_z-of_z}
 use Rattle.std.proofs.lemmas.List.{nil_from_length}
 use mir.Syntax.{w64}
 use Rattle.tz_rule.specs.LocalTimeType.{LocalTimeType}

@@ -1,5 +1,5 @@
 -- The bytes so far are followed by those of the piece.
-use Rattle.std.proofs.Common.{◌≡◌, ◌++◌, ℕ, List, [], take, append-nil, rules}
+use Rattle.std.proofs.Common.{◌≡◌, ◌++◌, [], take, append-nil, rules}
 use Rattle.tz_zone.proofs.ReadBytes.{consumes_more}
 use Rattle.tz_zone.proofs.timezone.file.read_to_end.Goals as goal
 
