@@ -198,6 +198,8 @@ def calls(zones, count, seed=SEED):
     yield row('`DateTime::find`, at jumps, leap seconds', 'find', leaps, 'local times at jumps')
     yield row('`DateTime::find_one`, random, Paris', 'find_one', paris, 'local times')
     yield row('`DateTime::find_one`, at jumps, Paris', 'find_one', paris, 'local times at jumps')
+    yield row('`DateTime::meaning`, random, Paris', 'meaning', paris, 'local times')
+    yield row('`DateTime::meaning`, at jumps, Paris', 'meaning', paris, 'local times at jumps')
     yield row('`DateTime::from_local`, random, Paris', 'from_local', paris, 'instants of local years')
     yield row('`TimeZoneRef::following`, random, Paris', 'following', paris, 'instants')
     yield row('`TimeZoneRef::following`, random, TZ string', 'following', text, 'instants')
@@ -208,9 +210,11 @@ def calls(zones, count, seed=SEED):
         yield row(f'{shown}, random, TZ string', call, text, 'instants')
         yield row(f'{shown}, leap seconds', call, leaps, 'instants')
     yield row('`TimeZoneRef::preceding`, rule without a change', 'preceding', zones.constant, 'instants', long=True)
+    yield row('`DateTime` by a kept `Segment`, sorted, Paris', 'kept_segment', paris, 'sorted instants')
     yield row('next of `changes_after`, 1900 to 2100, Paris', 'walk', paris, 'instants')
     yield row('next of `changes_before`, 2100 to 1900, Paris', 'walk_back', paris, 'instants')
     yield row('`Display` into a new string, Paris', 'display', paris, 'instants of local years', timed=True)
+    yield row('`ParsedDateTime::parse` and `unix_time`, Paris', 'parse', paris, 'instants of local years')
     yield row('`UtcDateTime::from_timespec`', 'utc_from_timespec', fixed, 'instants')
     yield row('`UtcDateTime::new` and `unix_time`', 'utc_new', fixed, 'local times')
     yield row('`UtcDateTime::checked_add` and `unix_time`', 'utc_add', fixed, 'instants')
@@ -226,7 +230,7 @@ def calls(zones, count, seed=SEED):
 
 def loop_of(call):
     """The loop around a call, which is taken off its figure: it reads local times or instants."""
-    return 'local' if call in ('find', 'find_n', 'find_one', 'utc_new') else 'instant'
+    return 'local' if call in ('find', 'find_n', 'find_one', 'meaning', 'utc_new') else 'instant'
 
 
 def search_of(name):
