@@ -8,7 +8,8 @@
  *   may be null. What a call writes overlaps nothing else that the call is given.
  * - Values. A `bool` is 0 or 1. A `tz_local_time_type`, `tz_day`, `tz_alternate`, `tz_rule`, `tz_utc` or `tz_date_time` that a call reads is
  *   as a call wrote it, or a copy. All zeros are valid too, but for `tz_utc` and `tz_date_time`: there TZ_UTC_EPOCH and TZ_DATE_TIME_EPOCH are.
- * - What a call writes to holds all zeros or such a value before the call, so `= {0}` serves for every out parameter and every buffer.
+ * - What a call writes to holds all zeros or such a value before the call, so `= {0}` serves for every out parameter and every buffer. Texts,
+ *   transitions, leap seconds, and columns of numbers may hold anything.
  * - Zones. The offsets of a `tz_zone` are those that `tz_zone_check` or `tz_file_read` wrote for its very parts, which stay as they are while
  *   the zone is used. Parts may lie in read-only memory, and any number of threads may read one zone.
  *

@@ -5,22 +5,23 @@
 //! - **The declarations fit.** They follow `bindings/c/tz.h`. Sizes and places are asserted below, and a test compares the sizes with those that
 //!   the archive has.
 //! - **Values are valid.** Fields of types that cross are private to the crate, so each value was written by an export, copied, or is one of the
-//!   constants here: all zeros and the epoch, which the header names, and the ends of UTC. A test makes them all by exports.
+//!   constants: UTC's type, its epoch and its ends, which a test makes by exports, and all zeros, where an export is to write.
 //! - **A zone's offsets are those of its parts.** A [`View`] is only made of parts that `tz_zone_check` or `tz_file_read` passed, and
-//!   it borrows them, so they stay as they are.
+//!   it borrows them, so they stay as they are. [`Tables`] own parts, at a place where they stay until they are dropped, with the view of them.
 //! - **References.** Pointers come from references and slices, so they are aligned, point to live values, and those that are written are not shared.
 
 use crate::codes::{Code, error, local_time_type_error, transition_rule_error, unknown};
 use crate::datetime::{DateTime, Disambiguation, Fields, FoundDateTimeKind, UtcDateTime};
-use crate::error::TzError;
 use crate::error::parse::TzFileError;
 use crate::error::timezone::{LocalTimeTypeError, TransitionRuleError};
+use crate::error::{ColumnError, TzError};
 use crate::timezone::{
     AlternateTime, Change, Julian0WithLeap, Julian1WithoutLeap, LeapSecond, LocalTimeType,
     MonthWeekDay, RuleDay, Segment, Transition, TransitionRule,
 };
 use std::marker::PhantomData;
-use std::mem::{align_of, offset_of, size_of};
+use std::mem::{MaybeUninit, align_of, offset_of, size_of};
+use std::ptr::{self, NonNull};
 use std::slice;
 use std::str;
 use std::time::Duration;
@@ -206,21 +207,6 @@ struct Conflict {
     distance: i32,
 }
 
-/// An entry of a search.
-#[repr(C)]
-#[derive(Clone, Copy)]
-struct Found {
-    is_skipped: bool,
-    before: DateTime,
-    after: DateTime,
-}
-
-const NOTHING_FOUND: Found = Found {
-    is_skipped: false,
-    before: DateTime::EPOCH,
-    after: DateTime::EPOCH,
-};
-
 /// How many of each a file has, and how many bytes its footer.
 #[repr(C)]
 struct Sizes {
@@ -266,8 +252,8 @@ const _: () = {
     assert!(size_of::<Zone<'_>>() == 88 && offset_of!(Zone<'_>, offsets) == 80);
     assert!(size_of::<Fields>() == 16);
     assert!(size_of::<UtcDateTime>() == 24 && size_of::<DateTime>() == 40);
-    assert!(size_of::<Found>() == 88);
-    assert!(offset_of!(Found, before) == 8 && offset_of!(Found, after) == 48);
+    // Its places follow from `repr(u8)`: the number of the variant, and from 8 on one date time or two.
+    assert!(size_of::<FoundDateTimeKind>() == 88 && align_of::<FoundDateTimeKind>() == 8);
     assert!(size_of::<Segment>() == 40 && size_of::<Change>() == 40);
     assert!(size_of::<Sizes>() == 32 && offset_of!(Sizes, footer) == 24);
     assert!(size_of::<Asked>() == 24 && offset_of!(Asked, from) == 8);
@@ -379,11 +365,41 @@ unsafe extern "C" {
         fields: &Fields,
         zone: &Zone<'_>,
         skip: usize,
-        slots: *mut Found,
+        slots: *mut FoundDateTimeKind,
         slots_length: usize,
         count: &mut usize,
     ) -> Code;
     safe fn tz_find_one(fields: &Fields, choice: u8, zone: &Zone<'_>, out: &mut DateTime) -> Code;
+    unsafe fn tz_column_offsets(
+        unix_times: *const i64,
+        unix_times_length: usize,
+        zone: &Zone<'_>,
+        offsets: *mut i32,
+        offsets_length: usize,
+        codes: *mut Code,
+        codes_length: usize,
+    ) -> Code;
+    unsafe fn tz_column_date_times(
+        unix_times: *const i64,
+        unix_times_length: usize,
+        nanoseconds: *const u32,
+        nanoseconds_length: usize,
+        zone: &Zone<'_>,
+        date_times: *mut DateTime,
+        date_times_length: usize,
+        codes: *mut Code,
+        codes_length: usize,
+    ) -> Code;
+    unsafe fn tz_column_instants(
+        fields: *const Fields,
+        fields_length: usize,
+        choice: u8,
+        zone: &Zone<'_>,
+        unix_times: *mut i64,
+        unix_times_length: usize,
+        codes: *mut Code,
+        codes_length: usize,
+    ) -> Code;
     unsafe fn tz_utc_text(
         utc: &UtcDateTime,
         text: *mut u8,
@@ -400,13 +416,30 @@ unsafe extern "C" {
     unsafe fn tz_layout(out: *mut usize, out_length: usize) -> Code;
 }
 
-/// What `f` writes over the first value, unless it fails.
-#[inline]
-fn written<T>(mut value: T, f: impl FnOnce(&mut T) -> Code) -> Result<T, Code> {
+/// What `f` writes over a value, or the error of its code.
+#[inline(always)]
+fn written<T, E>(
+    mut value: T,
+    error: impl FnOnce(Code) -> E,
+    f: impl FnOnce(&mut T) -> Code,
+) -> Result<T, E> {
     match f(&mut value) {
         OK => Ok(value),
-        code => Err(code),
+        code => Err(error(code)),
     }
+}
+
+/// Ends the program if a call is refused that its contract does not refuse.
+#[inline(always)]
+fn expect_ok(code: Code) {
+    if code != OK {
+        unknown(code)
+    }
+}
+
+/// The code itself, where it is no error.
+fn same(code: Code) -> Code {
+    code
 }
 
 /// `LocalTimeType::new`.
@@ -416,7 +449,7 @@ pub(crate) fn local_time_type_new(
     name: Option<&[u8]>,
 ) -> Result<LocalTimeType, LocalTimeTypeError> {
     let bytes = name.unwrap_or_default();
-    written(LocalTimeType::utc(), |out| {
+    written(LocalTimeType::utc(), local_time_type_error, |out| {
         // SAFETY: the pointer and the length are those of a slice.
         unsafe {
             tz_local_time_type_new(
@@ -429,19 +462,22 @@ pub(crate) fn local_time_type_new(
             )
         }
     })
-    .map_err(local_time_type_error)
 }
 
 /// Whether a number is a day of the year without February 29th.
 pub(crate) fn check_julian_1(julian_day_1: u16) -> Result<(), TransitionRuleError> {
-    let day = written(FIRST_DAY, |out| tz_julian_1_new(julian_day_1, out));
-    day.map(drop).map_err(transition_rule_error)
+    let day = written(FIRST_DAY, transition_rule_error, |out| {
+        tz_julian_1_new(julian_day_1, out)
+    });
+    day.map(drop)
 }
 
 /// Whether a number is a day of the year from 0 on.
 pub(crate) fn check_julian_0(julian_day_0: u16) -> Result<(), TransitionRuleError> {
-    let day = written(FIRST_DAY, |out| tz_julian_0_new(julian_day_0, out));
-    day.map(drop).map_err(transition_rule_error)
+    let day = written(FIRST_DAY, transition_rule_error, |out| {
+        tz_julian_0_new(julian_day_0, out)
+    });
+    day.map(drop)
 }
 
 /// Whether numbers are a day of the week in some week of a month.
@@ -450,10 +486,10 @@ pub(crate) fn check_month_week_day(
     week: u8,
     week_day: u8,
 ) -> Result<(), TransitionRuleError> {
-    let day = written(FIRST_DAY, |out| {
+    let day = written(FIRST_DAY, transition_rule_error, |out| {
         tz_month_week_day_new(month, week, week_day, out)
     });
-    day.map(drop).map_err(transition_rule_error)
+    day.map(drop)
 }
 
 impl From<&RuleDay> for Day {
@@ -533,13 +569,10 @@ pub(crate) fn alternate_new(
     dst_end_time: i32,
 ) -> Result<AlternateTime, TransitionRuleError> {
     let (start, end) = (Day::from(dst_start), Day::from(dst_end));
-    let clock = written(NO_CLOCK, |out| {
+    let clock = written(NO_CLOCK, transition_rule_error, |out| {
         tz_alternate_new(std, dst, &start, dst_start_time, &end, dst_end_time, out)
-    });
-    match clock {
-        Ok(clock) => Ok(AlternateTime::with_parts(clock, *dst_start, *dst_end)),
-        Err(code) => Err(transition_rule_error(code)),
-    }
+    })?;
+    Ok(AlternateTime::with_parts(clock, *dst_start, *dst_end))
 }
 
 /// `AlternateTime::conflict`.
@@ -557,7 +590,7 @@ pub(crate) fn alternate_conflict(
         second_year: 0,
         distance: 0,
     };
-    let conflict = written(none, |out| {
+    let conflict = written(none, same, |out| {
         tz_alternate_conflict(std, dst, &start, dst_start_time, &end, dst_end_time, out)
     });
     match conflict {
@@ -569,11 +602,11 @@ pub(crate) fn alternate_conflict(
 
 /// The rule of a TZ string that is not extended, without white space at its ends.
 pub(crate) fn rule_of_text(text: &str) -> Result<Option<TransitionRule>, TzError> {
-    let rule = written(NO_RULE, |out| {
+    let rule = written(NO_RULE, error, |out| {
         // SAFETY: the pointer and the length are those of a string.
         unsafe { tz_string_read(text.as_ptr(), text.len(), false, out) }
     });
-    rule.map(Rule::rule).map_err(error)
+    rule.map(Rule::rule)
 }
 
 /// What a setting asks for.
@@ -593,11 +626,10 @@ pub(crate) fn setting(text: &str) -> Result<Setting<'_>, TzError> {
         from: 0,
         until: 0,
     };
-    let asked = written(none, |out| {
+    let asked = written(none, error, |out| {
         // SAFETY: the pointer and the length are those of a string.
         unsafe { tz_setting_read(text.as_ptr(), text.len(), out) }
-    })
-    .map_err(error)?;
+    })?;
     let name = text.get(asked.from..asked.until).unwrap_or_default();
     Ok(match asked.kind {
         LOCAL_TIME => Setting::LocalTime,
@@ -631,7 +663,9 @@ impl<const N: usize> Text<N> {
     #[inline]
     pub(crate) fn as_str(&self) -> &str {
         let bytes = self.bytes.get(..self.length).unwrap_or_default();
-        str::from_utf8(bytes).unwrap_or_default()
+        debug_assert!(bytes.is_ascii());
+        // SAFETY: by their contracts the calls write date times, numbers, and names of ASCII letters, digits, `+` and `-` alone.
+        unsafe { str::from_utf8_unchecked(bytes) }
     }
 }
 
@@ -682,23 +716,22 @@ pub(crate) fn rule_text(rule: &TransitionRule) -> Option<Text<114>> {
 /// `UtcDateTime::new`.
 #[inline]
 pub(crate) fn utc_new(fields: &Fields) -> Result<UtcDateTime, TzError> {
-    written(UtcDateTime::UNIX_EPOCH, |out| tz_utc_new(fields, out)).map_err(error)
+    written(UtcDateTime::UNWRITTEN, error, |out| tz_utc_new(fields, out))
 }
 
 /// `UtcDateTime::from_timespec`.
 #[inline]
 pub(crate) fn utc_from_timespec(unix_time: i64, nanoseconds: u32) -> Result<UtcDateTime, TzError> {
-    written(UtcDateTime::UNIX_EPOCH, |out| {
+    written(UtcDateTime::UNWRITTEN, error, |out| {
         tz_utc_from_timespec(unix_time, nanoseconds, out)
     })
-    .map_err(error)
 }
 
 /// `UtcDateTime::checked_add`.
 #[inline]
 pub(crate) fn utc_add(utc: &UtcDateTime, duration: Duration) -> Option<UtcDateTime> {
     let (seconds, nanoseconds) = (duration.as_secs(), duration.subsec_nanos());
-    written(UtcDateTime::UNIX_EPOCH, |out| {
+    written(UtcDateTime::UNWRITTEN, same, |out| {
         tz_utc_add(utc, seconds, nanoseconds, out)
     })
     .ok()
@@ -708,7 +741,7 @@ pub(crate) fn utc_add(utc: &UtcDateTime, duration: Duration) -> Option<UtcDateTi
 #[inline]
 pub(crate) fn utc_sub(utc: &UtcDateTime, duration: Duration) -> Option<UtcDateTime> {
     let (seconds, nanoseconds) = (duration.as_secs(), duration.subsec_nanos());
-    written(UtcDateTime::UNIX_EPOCH, |out| {
+    written(UtcDateTime::UNWRITTEN, same, |out| {
         tz_utc_sub(utc, seconds, nanoseconds, out)
     })
     .ok()
@@ -744,10 +777,9 @@ pub(crate) fn date_time_new(
     fields: &Fields,
     local_time_type: &LocalTimeType,
 ) -> Result<DateTime, TzError> {
-    written(DateTime::EPOCH, |out| {
+    written(DateTime::UNWRITTEN, error, |out| {
         tz_date_time_new(fields, local_time_type, out)
     })
-    .map_err(error)
 }
 
 /// `DateTime::from_timespec_and_local`.
@@ -757,19 +789,17 @@ pub(crate) fn date_time_local(
     nanoseconds: u32,
     local_time_type: &LocalTimeType,
 ) -> Result<DateTime, TzError> {
-    written(DateTime::EPOCH, |out| {
+    written(DateTime::UNWRITTEN, error, |out| {
         tz_date_time_from_timespec_and_local(unix_time, nanoseconds, local_time_type, out)
     })
-    .map_err(error)
 }
 
 /// The date time of UTC at the instant of another one.
 #[inline]
 pub(crate) fn date_time_to_utc(date_time: &DateTime) -> Result<UtcDateTime, TzError> {
-    written(UtcDateTime::UNIX_EPOCH, |out| {
+    written(UtcDateTime::UNWRITTEN, error, |out| {
         tz_date_time_to_utc(date_time, out)
     })
-    .map_err(error)
 }
 
 /// The number of a choice.
@@ -782,22 +812,44 @@ const fn number_of(choice: Disambiguation) -> u8 {
     }
 }
 
-impl From<&Found> for FoundDateTimeKind {
-    #[inline]
-    fn from(found: &Found) -> Self {
-        if found.is_skipped {
-            FoundDateTimeKind::Skipped {
-                before_transition: found.before,
-                after_transition: found.after,
-            }
-        } else {
-            FoundDateTimeKind::Normal(found.before)
-        }
+/// How many slots a search has on the stack. There are more entries only in zones that are set back again and again.
+const SLOTS: usize = 2;
+
+/// The slots of a search.
+struct Slots(MaybeUninit<[FoundDateTimeKind; SLOTS]>);
+
+impl Slots {
+    /// Slots of zeros.
+    #[inline(always)]
+    fn zeros() -> Self {
+        Self(MaybeUninit::zeroed())
+    }
+
+    /// A pointer to the slots.
+    #[inline(always)]
+    fn first(&mut self) -> *mut FoundDateTimeKind {
+        self.0.as_mut_ptr().cast()
+    }
+
+    /// The slots, which hold entries or zeros.
+    #[inline(always)]
+    fn entries(&self) -> &[FoundDateTimeKind; SLOTS] {
+        // SAFETY: all bytes are written, and all zeros are an entry too: number 0 is that of `Normal`.
+        unsafe { self.0.assume_init_ref() }
     }
 }
 
-/// How many slots a search has on the stack. There are more entries only in zones that are set back again and again.
-const SLOTS: usize = 2;
+/// How many places of a column go to the library at a time, so that their codes lie on the stack.
+const PLACES: usize = 256;
+
+/// The first of the codes that is one of an error, of a part of a column that begins at a place.
+fn first_error(start: usize, codes: &[Code]) -> Result<(), ColumnError> {
+    let is_error = |code: &Code| !matches!(*code, OK | NO_DATE_TIME);
+    match codes.iter().position(is_error) {
+        None => Ok(()),
+        Some(place) => Err(ColumnError::new(start + place, error(codes[place]))),
+    }
+}
 
 /// The parts of a zone that the library has checked, borrowed.
 #[derive(Clone, Copy)]
@@ -854,8 +906,7 @@ impl<'a> View<'a> {
     /// The type at an instant, which is one of the list or one of the rule.
     #[inline]
     pub(crate) fn type_at(&self, unix_time: i64) -> Result<&'a LocalTimeType, TzError> {
-        let place =
-            written(0, |out| tz_zone_place_at(&self.zone, unix_time, out)).map_err(error)?;
+        let place = written(0, error, |out| tz_zone_place_at(&self.zone, unix_time, out))?;
         let types = self.local_time_types();
         match (types.get(place), self.extra_rule) {
             (Some(local_time_type), _) => Ok(local_time_type),
@@ -869,7 +920,7 @@ impl<'a> View<'a> {
 
     /// The segment around an instant.
     pub(crate) fn segment_at(&self, unix_time: i64) -> Segment {
-        written(Segment::EPOCH, |out| {
+        written(Segment::EPOCH, same, |out| {
             tz_zone_segment_at(&self.zone, unix_time, out)
         })
         .unwrap_or_else(|code| unknown(code))
@@ -878,7 +929,7 @@ impl<'a> View<'a> {
     /// The first change after an instant.
     #[inline]
     pub(crate) fn following(&self, unix_time: i64) -> Option<Change> {
-        match written(Change::EPOCH, |out| {
+        match written(Change::EPOCH, same, |out| {
             tz_zone_following(&self.zone, unix_time, out)
         }) {
             Ok(change) => Some(change),
@@ -890,7 +941,7 @@ impl<'a> View<'a> {
     /// The last change before an instant.
     #[inline]
     pub(crate) fn preceding(&self, unix_time: i64) -> Option<Change> {
-        match written(Change::EPOCH, |out| {
+        match written(Change::EPOCH, same, |out| {
             tz_zone_preceding(&self.zone, unix_time, out)
         }) {
             Ok(change) => Some(change),
@@ -906,61 +957,198 @@ impl<'a> View<'a> {
         unix_time: i64,
         nanoseconds: u32,
     ) -> Result<DateTime, TzError> {
-        written(DateTime::EPOCH, |out| {
+        written(DateTime::UNWRITTEN, error, |out| {
             tz_date_time_from_timespec(unix_time, nanoseconds, &self.zone, out)
         })
-        .map_err(error)
     }
 
     /// Writes the entries of a search into slots, from number `skip` on, and returns how many entries there are.
-    #[inline]
-    fn search(&self, fields: &Fields, skip: usize, slots: &mut [Found]) -> Result<usize, TzError> {
-        written(0, |count| {
-            // SAFETY: the pointer and the length are those of the slots.
-            unsafe {
-                tz_find_n(
-                    fields,
-                    &self.zone,
-                    skip,
-                    slots.as_mut_ptr(),
-                    slots.len(),
-                    count,
-                )
-            }
+    ///
+    /// # Safety
+    ///
+    /// The pointer is that of so many slots, which may be written and hold all zeros or entries.
+    #[inline(always)]
+    unsafe fn search(
+        &self,
+        fields: &Fields,
+        skip: usize,
+        slots: *mut FoundDateTimeKind,
+        length: usize,
+    ) -> Result<usize, TzError> {
+        written(0, error, |count| {
+            // SAFETY: the caller's, and all zeros are an entry: number 0 is that of `Normal`.
+            unsafe { tz_find_n(fields, &self.zone, skip, slots, length, count) }
         })
-        .map_err(error)
     }
 
     /// `DateTime::find`.
+    #[inline]
     pub(crate) fn find(&self, fields: &Fields) -> Result<Vec<FoundDateTimeKind>, TzError> {
-        let mut slots = [NOTHING_FOUND; SLOTS];
-        let count = self.search(fields, 0, &mut slots)?;
-        if let Some(slots) = slots.get(..count) {
-            return Ok(slots.iter().map(FoundDateTimeKind::from).collect());
+        let mut slots = Slots::zeros();
+        // SAFETY: the pointer is that of the slots.
+        let count = unsafe { self.search(fields, 0, slots.first(), SLOTS)? };
+        match slots.entries().get(..count) {
+            Some(entries) => Ok(entries.to_vec()),
+            None => self.find_many(fields, count),
         }
-        let mut slots = vec![NOTHING_FOUND; count];
-        self.search(fields, 0, &mut slots)?;
-        Ok(slots.iter().map(FoundDateTimeKind::from).collect())
+    }
+
+    /// The entries of a search, of which there are so many.
+    #[cold]
+    fn find_many(&self, fields: &Fields, count: usize) -> Result<Vec<FoundDateTimeKind>, TzError> {
+        let mut entries = Vec::with_capacity(count);
+        // SAFETY: there is room for the slots, which hold zeros before the call, and entries or zeros after it: zeros are an entry too.
+        unsafe {
+            ptr::write_bytes(entries.as_mut_ptr(), 0, count);
+            self.search(fields, 0, entries.as_mut_ptr(), count)?;
+            entries.set_len(count);
+        }
+        Ok(entries)
     }
 
     /// `DateTime::find_n`: how many entries there are, of which the first are in the buffer.
+    #[inline]
     pub(crate) fn find_n(
         &self,
         fields: &Fields,
         buf: &mut [Option<FoundDateTimeKind>],
     ) -> Result<usize, TzError> {
-        let mut slots = [NOTHING_FOUND; SLOTS];
-        let count = self.search(fields, 0, &mut slots)?;
-        let length = count.min(buf.len());
-        for (number, entries) in buf[..length].chunks_mut(SLOTS).enumerate() {
-            if number > 0 {
-                self.search(fields, number * SLOTS, &mut slots)?;
-            }
-            for (entry, found) in entries.iter_mut().zip(&slots) {
-                *entry = Some(found.into());
-            }
+        let mut slots = Slots::zeros();
+        // SAFETY: the pointer is that of the slots.
+        let count = unsafe { self.search(fields, 0, slots.first(), SLOTS)? };
+        for (entry, found) in buf.iter_mut().zip(slots.entries()).take(count) {
+            *entry = Some(*found);
+        }
+        if count > SLOTS && buf.len() > SLOTS {
+            let length = count.min(buf.len());
+            self.find_more(fields, &mut buf[..length])?;
         }
         Ok(count)
+    }
+
+    /// The entries of a search behind the first slots.
+    #[cold]
+    fn find_more(
+        &self,
+        fields: &Fields,
+        buf: &mut [Option<FoundDateTimeKind>],
+    ) -> Result<(), TzError> {
+        for (number, entries) in buf.chunks_mut(SLOTS).enumerate().skip(1) {
+            let mut slots = Slots::zeros();
+            // SAFETY: the pointer is that of the slots.
+            unsafe { self.search(fields, number * SLOTS, slots.first(), SLOTS)? };
+            for (entry, found) in entries.iter_mut().zip(slots.entries()) {
+                *entry = Some(*found);
+            }
+        }
+        Ok(())
+    }
+
+    /// `TimeZoneRef::offsets_at`.
+    pub(crate) fn offsets_at(
+        &self,
+        unix_times: &[i64],
+        offsets: &mut [i32],
+    ) -> Result<(), ColumnError> {
+        let mut answer = Ok(());
+        let parts = unix_times.chunks(PLACES).zip(offsets.chunks_mut(PLACES));
+        for (number, (unix_times, offsets)) in parts.enumerate() {
+            let length = unix_times.len().min(offsets.len());
+            let mut codes = [OK; PLACES];
+            // SAFETY: each pointer is that of a slice of this length or more.
+            let code = unsafe {
+                tz_column_offsets(
+                    unix_times.as_ptr(),
+                    length,
+                    &self.zone,
+                    offsets.as_mut_ptr(),
+                    length,
+                    codes.as_mut_ptr(),
+                    length,
+                )
+            };
+            expect_ok(code);
+            answer = answer.and(first_error(number * PLACES, &codes[..length]));
+        }
+        answer
+    }
+
+    /// `TimeZoneRef::date_times_at`.
+    pub(crate) fn date_times_at(
+        &self,
+        unix_times: &[i64],
+        nanoseconds: &[u32],
+        date_times: &mut [DateTime],
+    ) -> Result<(), ColumnError> {
+        let mut answer = Ok(());
+        let instants = unix_times.chunks(PLACES).zip(nanoseconds.chunks(PLACES));
+        let parts = instants.zip(date_times.chunks_mut(PLACES));
+        for (number, ((unix_times, nanoseconds), date_times)) in parts.enumerate() {
+            let length = unix_times.len().min(nanoseconds.len());
+            let length = length.min(date_times.len());
+            let mut codes = [OK; PLACES];
+            // SAFETY: each pointer is that of a slice of this length or more.
+            let code = unsafe {
+                tz_column_date_times(
+                    unix_times.as_ptr(),
+                    length,
+                    nanoseconds.as_ptr(),
+                    length,
+                    &self.zone,
+                    date_times.as_mut_ptr(),
+                    length,
+                    codes.as_mut_ptr(),
+                    length,
+                )
+            };
+            expect_ok(code);
+            answer = answer.and(first_error(number * PLACES, &codes[..length]));
+        }
+        answer
+    }
+
+    /// `TimeZoneRef::instants_of`.
+    pub(crate) fn instants_of(
+        &self,
+        local: &[UtcDateTime],
+        choice: Disambiguation,
+        unix_times: &mut [Option<i64>],
+    ) -> Result<(), ColumnError> {
+        let mut answer = Ok(());
+        let parts = local.chunks(PLACES).zip(unix_times.chunks_mut(PLACES));
+        for (number, (local, unix_times)) in parts.enumerate() {
+            let length = local.len().min(unix_times.len());
+            let mut fields = [Fields::EPOCH; PLACES];
+            for (fields, local) in fields.iter_mut().zip(local) {
+                *fields = *local.fields();
+            }
+            let mut instants = [0; PLACES];
+            let mut codes = [OK; PLACES];
+            // SAFETY: each pointer is that of an array of this length or more.
+            let code = unsafe {
+                tz_column_instants(
+                    fields.as_ptr(),
+                    length,
+                    number_of(choice),
+                    &self.zone,
+                    instants.as_mut_ptr(),
+                    length,
+                    codes.as_mut_ptr(),
+                    length,
+                )
+            };
+            expect_ok(code);
+            let answers = instants.into_iter().zip(codes).take(length);
+            for (unix_time, (instant, code)) in unix_times.iter_mut().zip(answers) {
+                match code {
+                    OK => *unix_time = Some(instant),
+                    NO_DATE_TIME => *unix_time = None,
+                    _ => {}
+                }
+            }
+            answer = answer.and(first_error(number * PLACES, &codes[..length]));
+        }
+        answer
     }
 
     /// `DateTime::find_one`.
@@ -970,7 +1158,7 @@ impl<'a> View<'a> {
         fields: &Fields,
         choice: Disambiguation,
     ) -> Result<Option<DateTime>, TzError> {
-        match written(DateTime::EPOCH, |out| {
+        match written(DateTime::UNWRITTEN, same, |out| {
             tz_find_one(fields, number_of(choice), &self.zone, out)
         }) {
             Ok(date_time) => Ok(Some(date_time)),
@@ -1005,20 +1193,62 @@ const fn parts_of<'a>(
 
 /// The end offsets of parts, if they make a zone.
 fn checked(parts: &Parts<'_>) -> Result<Offsets, TzError> {
-    written(NO_OFFSETS, |out| tz_zone_check(parts, out)).map_err(error)
+    written(NO_OFFSETS, error, |out| tz_zone_check(parts, out))
 }
 
-/// The parts of a zone that the library has checked.
-#[derive(Clone)]
-pub(crate) struct Tables {
+/// The parts of a zone that the library has checked, and the view of them.
+struct Kept {
+    /// Of the other fields. It is lent for as long as they stay.
+    view: View<'static>,
     transitions: Vec<Transition>,
     local_time_types: Vec<LocalTimeType>,
     leap_seconds: Vec<LeapSecond>,
     extra_rule: Option<TransitionRule>,
-    offsets: Offsets,
 }
 
+/// The parts of a zone that the library has checked. They stay at one place, so that the view of them is made once.
+pub(crate) struct Tables(NonNull<Kept>);
+
+// SAFETY: the parts are owned, and plain data.
+unsafe impl Send for Tables {}
+
+// SAFETY: nothing is written behind a shared reference.
+unsafe impl Sync for Tables {}
+
 impl Tables {
+    /// Parts with their end offsets.
+    fn of(
+        transitions: Vec<Transition>,
+        local_time_types: Vec<LocalTimeType>,
+        leap_seconds: Vec<LeapSecond>,
+        extra_rule: Option<TransitionRule>,
+        offsets: Offsets,
+    ) -> Self {
+        let place = NonNull::from(Box::leak(Box::new(Kept {
+            view: View::UTC,
+            transitions,
+            local_time_types,
+            leap_seconds,
+            extra_rule,
+        })));
+        // SAFETY: the parts lie at this place until `drop`, and nothing writes them. The view alone is written, here, and `view` lends it for no longer.
+        unsafe {
+            let kept: &'static Kept = place.as_ref();
+            let parts = parts_of(
+                &kept.transitions,
+                &kept.local_time_types,
+                &kept.leap_seconds,
+                &kept.extra_rule,
+            );
+            let extra_rule = &kept.extra_rule;
+            (&raw mut (*place.as_ptr()).view).write(View {
+                zone: Zone { parts, offsets },
+                extra_rule,
+            });
+        }
+        Self(place)
+    }
+
     /// The parts, if they make a zone.
     pub(crate) fn new(
         transitions: Vec<Transition>,
@@ -1028,28 +1258,24 @@ impl Tables {
     ) -> Result<Self, TzError> {
         let parts = parts_of(&transitions, &local_time_types, &leap_seconds, &extra_rule);
         let offsets = checked(&parts)?;
-        Ok(Tables {
+        Ok(Self::of(
             transitions,
             local_time_types,
             leap_seconds,
             extra_rule,
             offsets,
-        })
+        ))
     }
 
     /// A zone of one type, whose offset is the least and the greatest.
     pub(crate) fn of_type(local_time_type: LocalTimeType) -> Self {
         let ut_offset = local_time_type.ut_offset();
-        Tables {
-            transitions: Vec::new(),
-            local_time_types: vec![local_time_type],
-            leap_seconds: Vec::new(),
-            extra_rule: None,
-            offsets: Offsets {
-                least: ut_offset,
-                greatest: ut_offset,
-            },
-        }
+        let offsets = Offsets {
+            least: ut_offset,
+            greatest: ut_offset,
+        };
+        let types = vec![local_time_type];
+        Self::of(Vec::new(), types, Vec::new(), None, offsets)
     }
 
     /// The parts of a TZif file.
@@ -1060,60 +1286,76 @@ impl Tables {
             leap_seconds: 0,
             footer: 0,
         };
-        let sizes = written(none, |out| {
+        let sizes = written(none, error, |out| {
             // SAFETY: the pointer and the length are those of a slice.
             unsafe { tz_file_sizes(bytes.as_ptr(), bytes.len(), out) }
-        })
-        .map_err(error)?;
-        let mut tables = Tables {
-            transitions: vec![Transition::new(0, 0); sizes.transitions],
-            local_time_types: vec![LocalTimeType::utc(); sizes.types],
-            leap_seconds: vec![LeapSecond::new(0, 0); sizes.leap_seconds],
-            extra_rule: None,
-            offsets: NO_OFFSETS,
-        };
+        })?;
+        let mut transitions = Vec::with_capacity(sizes.transitions);
+        let mut local_time_types = vec![LocalTimeType::utc(); sizes.types];
+        let mut leap_seconds = Vec::with_capacity(sizes.leap_seconds);
         let mut rule = NO_RULE;
-        // SAFETY: each pointer and length are those of a slice or of a vector.
+        let mut offsets = NO_OFFSETS;
+        // SAFETY: each pointer and length are those of a slice, or of the room of a vector. What is in the room of transitions and leap seconds
+        // before is of no matter, since these are numbers alone.
         let code = unsafe {
             tz_file_read(
                 bytes.as_ptr(),
                 bytes.len(),
-                tables.transitions.as_mut_ptr(),
-                tables.transitions.len(),
-                tables.local_time_types.as_mut_ptr(),
-                tables.local_time_types.len(),
-                tables.leap_seconds.as_mut_ptr(),
-                tables.leap_seconds.len(),
+                transitions.as_mut_ptr(),
+                sizes.transitions,
+                local_time_types.as_mut_ptr(),
+                sizes.types,
+                leap_seconds.as_mut_ptr(),
+                sizes.leap_seconds,
                 &mut rule,
-                &mut tables.offsets,
+                &mut offsets,
             )
         };
         match code {
-            OK => {
-                tables.extra_rule = rule.rule();
-                Ok(tables)
-            }
-            FILE_UTF8 => Err(footer_error(bytes, sizes.footer)),
-            code => Err(error(code)),
+            OK => {}
+            FILE_UTF8 => return Err(footer_error(bytes, sizes.footer)),
+            code => return Err(error(code)),
         }
+        // SAFETY: the call has written as many as there is room for.
+        unsafe {
+            transitions.set_len(sizes.transitions);
+            leap_seconds.set_len(sizes.leap_seconds);
+        }
+        let rule = rule.rule();
+        Ok(Self::of(
+            transitions,
+            local_time_types,
+            leap_seconds,
+            rule,
+            offsets,
+        ))
     }
 
     /// The parts, borrowed.
     #[inline]
-    pub(crate) fn view(&self) -> View<'_> {
-        let parts = parts_of(
-            &self.transitions,
-            &self.local_time_types,
-            &self.leap_seconds,
-            &self.extra_rule,
-        );
-        View {
-            zone: Zone {
-                parts,
-                offsets: self.offsets,
-            },
-            extra_rule: &self.extra_rule,
-        }
+    pub(crate) fn view(&self) -> &View<'_> {
+        // SAFETY: the place is that of a `Kept` until `drop`, and nothing writes it.
+        unsafe { &self.0.as_ref().view }
+    }
+}
+
+impl Clone for Tables {
+    fn clone(&self) -> Self {
+        let view = self.view();
+        Self::of(
+            view.transitions().to_vec(),
+            view.local_time_types().to_vec(),
+            view.leap_seconds().to_vec(),
+            *view.extra_rule(),
+            view.zone.offsets,
+        )
+    }
+}
+
+impl Drop for Tables {
+    fn drop(&mut self) {
+        // SAFETY: `of` leaked this box, and views of it are lent for no longer than the borrow of `self`.
+        drop(unsafe { Box::from_raw(self.0.as_ptr()) });
     }
 }
 
@@ -1149,7 +1391,7 @@ mod tests {
             ("Fields", size_of::<Fields>()),
             ("UtcDateTime", size_of::<UtcDateTime>()),
             ("DateTime", size_of::<DateTime>()),
-            ("Found", size_of::<Found>()),
+            ("FoundDateTimeKind", size_of::<FoundDateTimeKind>()),
             ("Segment", size_of::<Segment>()),
             ("Change", size_of::<Change>()),
             ("Sizes", size_of::<Sizes>()),
@@ -1189,14 +1431,13 @@ mod tests {
             assert_eq!(again, utc);
             assert_eq!(again.unix_time(), utc.unix_time());
         }
-        let epoch = date_time_local(0, 0, &LocalTimeType::utc()).unwrap();
-        assert_eq!(format!("{epoch:?}"), format!("{:?}", DateTime::EPOCH));
         for ut_offset in [1 - i32::MAX, -3600, 0, 3600, i32::MAX] {
             let tables = Tables::of_type(LocalTimeType::with_ut_offset(ut_offset).unwrap());
-            let offsets = self::checked(&tables.view().zone.parts).unwrap();
+            let zone = &tables.view().zone;
+            let offsets = self::checked(&zone.parts).unwrap();
             assert_eq!(
                 (offsets.least, offsets.greatest),
-                (tables.offsets.least, tables.offsets.greatest)
+                (zone.offsets.least, zone.offsets.greatest)
             );
         }
     }

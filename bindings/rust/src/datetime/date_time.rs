@@ -24,9 +24,9 @@ pub struct DateTime {
 }
 
 impl DateTime {
-    /// The first second of 1970 in UTC.
-    pub(crate) const EPOCH: Self = Self {
-        fields: Fields::EPOCH,
+    /// All zeros, which are no date time: what stands where the library is to write one.
+    pub(crate) const UNWRITTEN: Self = Self {
+        fields: Fields::UNWRITTEN,
         local_time_type: LocalTimeType::utc(),
         unix_time: 0,
     };
@@ -82,6 +82,7 @@ impl DateTime {
     /// ```
     // tz-rs has these arguments.
     #[allow(clippy::too_many_arguments)]
+    #[inline]
     pub fn find(
         year: i32,
         month: u8,
@@ -114,6 +115,7 @@ impl DateTime {
     /// Those of [`DateTime::find`]. The buffer stays as it is.
     // tz-rs has these arguments.
     #[allow(clippy::too_many_arguments)]
+    #[inline]
     pub fn find_n<'a>(
         buf: &'a mut [Option<FoundDateTimeKind>],
         year: i32,
@@ -146,6 +148,7 @@ impl DateTime {
     /// Those of [`DateTime::find`]. If clocks are set forward over the local time, the result is what they show at another instant, with the
     /// errors of [`DateTime::from_timespec`].
     #[allow(clippy::too_many_arguments)]
+    #[inline]
     pub fn find_one(
         year: i32,
         month: u8,
@@ -187,6 +190,7 @@ impl DateTime {
     /// assert_eq!(later.unwrap().to_string(), "2000-03-26T03:30:00.000000000+02:00");
     /// # Ok::<(), tz::Error>(())
     /// ```
+    #[inline]
     pub fn from_local(
         local: UtcDateTime,
         disambiguation: Disambiguation,

@@ -28,6 +28,17 @@ impl Fields {
         nanoseconds: 0,
     };
 
+    /// All zeros, which no clock shows: what stands where the library is to write fields.
+    pub(crate) const UNWRITTEN: Self = Self {
+        year: 0,
+        month: 0,
+        month_day: 0,
+        hour: 0,
+        minute: 0,
+        second: 0,
+        nanoseconds: 0,
+    };
+
     /// The fields from the year to the second, for `Debug`.
     pub(super) fn write<'s, 'a, 'b>(
         &self,

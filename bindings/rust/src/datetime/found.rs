@@ -3,17 +3,19 @@
 use super::DateTime;
 
 /// An entry of what a local time means.
+// It lies as the library's entries do, which begin with whether clocks are set forward, and then have two date times.
+#[repr(u8)]
 #[derive(Debug, Copy, Clone, PartialEq)]
 pub enum FoundDateTimeKind {
     /// Clocks show the local time at this instant.
-    Normal(DateTime),
+    Normal(DateTime) = 0,
     /// Clocks are set forward over the local time. Both sides are the instant of the jump.
     Skipped {
         /// What clocks would show at that instant without the jump.
         before_transition: DateTime,
         /// What clocks show at that instant.
         after_transition: DateTime,
-    },
+    } = 1,
 }
 
 impl FoundDateTimeKind {

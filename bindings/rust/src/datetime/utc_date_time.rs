@@ -27,6 +27,12 @@ impl UtcDateTime {
         unix_time: 0,
     };
 
+    /// All zeros, which are no date time: what stands where the library is to write one.
+    pub(crate) const UNWRITTEN: Self = Self {
+        fields: Fields::UNWRITTEN,
+        unix_time: 0,
+    };
+
     /// The first date time.
     pub const MIN: Self = Self {
         fields: Fields {
@@ -105,7 +111,7 @@ impl UtcDateTime {
 
     /// The fields.
     #[inline]
-    pub(super) const fn fields(&self) -> &Fields {
+    pub(crate) const fn fields(&self) -> &Fields {
         &self.fields
     }
 

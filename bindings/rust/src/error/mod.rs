@@ -1,8 +1,11 @@
 //! Errors.
 
+mod column;
 pub mod datetime;
 pub mod parse;
 pub mod timezone;
+
+pub use column::ColumnError;
 
 use datetime::DateTimeError;
 use parse::{TzFileError, TzStringError};

@@ -2,7 +2,8 @@
 
 use super::changes::{Change, ChangesAfter, ChangesBefore};
 use super::{LeapSecond, LocalTimeType, Segment, Transition, TransitionRule};
-use crate::error::TzError;
+use crate::datetime::{DateTime, Disambiguation, UtcDateTime};
+use crate::error::{ColumnError, TzError};
 use crate::ffi::View;
 use std::fmt;
 
@@ -10,7 +11,14 @@ use std::fmt;
 ///
 /// Before the last transition, the transitions determine its clock; from there on the extra rule does.
 #[derive(Copy, Clone)]
-pub struct TimeZoneRef<'a>(View<'a>);
+pub struct TimeZoneRef<'a>(Held<'a>);
+
+/// The checked parts of a zone: lent by the one that owns them, or a view of its own.
+#[derive(Copy, Clone)]
+enum Held<'a> {
+    Lent(&'a View<'a>),
+    Own(View<'a>),
+}
 
 impl<'a> TimeZoneRef<'a> {
     /// The zone with these parts. (RFC 8536, 3.2)
@@ -47,49 +55,53 @@ impl<'a> TimeZoneRef<'a> {
         leap_seconds: &'a [LeapSecond],
         extra_rule: &'a Option<TransitionRule>,
     ) -> Result<Self, TzError> {
-        View::new(transitions, local_time_types, leap_seconds, extra_rule).map(Self)
+        let view = View::new(transitions, local_time_types, leap_seconds, extra_rule)?;
+        Ok(Self(Held::Own(view)))
     }
 
     /// UTC.
     #[inline]
     pub const fn utc() -> Self {
-        Self(View::UTC)
+        Self(Held::Lent(const { &View::UTC }))
     }
 
     /// The zone of checked parts.
     #[inline]
-    pub(crate) const fn of_view(view: View<'a>) -> Self {
-        Self(view)
+    pub(crate) const fn of_view(view: &'a View<'a>) -> Self {
+        Self(Held::Lent(view))
     }
 
     /// The checked parts.
     #[inline]
     pub(crate) const fn view(&self) -> &View<'a> {
-        &self.0
+        match &self.0 {
+            Held::Lent(view) => view,
+            Held::Own(view) => view,
+        }
     }
 
     /// The transitions, in order.
     #[inline]
     pub const fn transitions(&self) -> &'a [Transition] {
-        self.0.transitions()
+        self.view().transitions()
     }
 
     /// The local time types, which the transitions name by their indices. There is at least one.
     #[inline]
     pub const fn local_time_types(&self) -> &'a [LocalTimeType] {
-        self.0.local_time_types()
+        self.view().local_time_types()
     }
 
     /// The leap seconds, in order.
     #[inline]
     pub const fn leap_seconds(&self) -> &'a [LeapSecond] {
-        self.0.leap_seconds()
+        self.view().leap_seconds()
     }
 
     /// The rule from the last transition on.
     #[inline]
     pub const fn extra_rule(&self) -> &'a Option<TransitionRule> {
-        self.0.extra_rule()
+        self.view().extra_rule()
     }
 
     /// The local time type of the clock at an instant, in Unix seconds. (RFC 8536, 3.2)
@@ -102,14 +114,14 @@ impl<'a> TimeZoneRef<'a> {
     /// year in which the rule is not defined.
     #[inline]
     pub fn find_local_time_type(&self, unix_time: i64) -> Result<&'a LocalTimeType, TzError> {
-        self.0.type_at(unix_time)
+        self.view().type_at(unix_time)
     }
 
     /// The segment around an instant, in Unix seconds.
     ///
     /// The next segment is the one around `last() + 1`. It may have the same type, if a transition to an equal type lies between.
     pub fn segment_at(&self, unix_time: i64) -> Segment {
-        self.0.segment_at(unix_time)
+        self.view().segment_at(unix_time)
     }
 
     /// The first change after an instant, in Unix seconds, or `None` if the clock does not change any more.
@@ -125,7 +137,7 @@ impl<'a> TimeZoneRef<'a> {
     /// ```
     #[inline]
     pub fn following(&self, unix_time: i64) -> Option<Change> {
-        self.0.following(unix_time)
+        self.view().following(unix_time)
     }
 
     /// The last change before an instant, in Unix seconds, or `None` if the clock has not changed before.
@@ -133,7 +145,59 @@ impl<'a> TimeZoneRef<'a> {
     /// A transition to an equal type is not a change, nor is the point at which a clock begins or ceases to have a type.
     #[inline]
     pub fn preceding(&self, unix_time: i64) -> Option<Change> {
-        self.0.preceding(unix_time)
+        self.view().preceding(unix_time)
+    }
+
+    /// Writes the offsets of the clock at instants, in Unix seconds, into a column: as many as the shorter of both has. One call of the library
+    /// answers many instants, and those in order are fastest.
+    ///
+    /// # Errors
+    ///
+    /// The first place at which the clock has no offset, with the errors of [`find_local_time_type`](Self::find_local_time_type). All other
+    /// offsets are written, and where there is none the column stays as it is. No offset is `i32::MIN`.
+    ///
+    /// ```
+    /// let zone = tz::TimeZone::from_posix_tz("CET-1CEST,M3.5.0,M10.5.0/3")?;
+    /// let mut offsets = [0; 2];
+    /// zone.as_ref().offsets_at(&[954_032_399, 954_032_400], &mut offsets)?;
+    /// assert_eq!(offsets, [3600, 7200]);
+    /// # Ok::<(), Box<dyn std::error::Error>>(())
+    /// ```
+    pub fn offsets_at(&self, unix_times: &[i64], offsets: &mut [i32]) -> Result<(), ColumnError> {
+        self.view().offsets_at(unix_times, offsets)
+    }
+
+    /// Writes what clocks show at instants, in Unix seconds and nanoseconds, into a column: as many date times as the shortest of the three has.
+    /// One call of the library answers many instants, and those in order are fastest.
+    ///
+    /// # Errors
+    ///
+    /// The first place at which clocks show no date time, with the errors of [`DateTime::from_timespec`]. All other date times are written, and
+    /// where there is none the column stays as it is.
+    pub fn date_times_at(
+        &self,
+        unix_times: &[i64],
+        nanoseconds: &[u32],
+        date_times: &mut [DateTime],
+    ) -> Result<(), ColumnError> {
+        self.view()
+            .date_times_at(unix_times, nanoseconds, date_times)
+    }
+
+    /// Writes the instants that local times mean, in Unix seconds, into a column: as many as the shorter of both has. There is `None` where
+    /// [`DateTime::from_local`] returns it.
+    ///
+    /// # Errors
+    ///
+    /// The first place at which there is an error, with those of [`DateTime::from_local`]. All other instants are written, and where there is an
+    /// error the column stays as it is.
+    pub fn instants_of(
+        &self,
+        local: &[UtcDateTime],
+        disambiguation: Disambiguation,
+        unix_times: &mut [Option<i64>],
+    ) -> Result<(), ColumnError> {
+        self.view().instants_of(local, disambiguation, unix_times)
     }
 
     /// The changes after an instant, in Unix seconds, in the order of time: the one that [`following`](Self::following) returns, and so on from

@@ -1,0 +1,191 @@
+//! Calls over whole columns answer each place as the call for one value does.
+
+use tz::datetime::Disambiguation;
+use tz::error::ColumnError;
+use tz::timezone::{Transition, TransitionRule};
+use tz::{DateTime, LocalTimeType, TimeZone, TimeZoneRef, TzError, UtcDateTime};
+
+/// Standard time until 2000, and then the rule of central Europe.
+fn zone() -> TimeZone {
+    let rule = TimeZone::from_posix_tz("CET-1CEST,M3.5.0,M10.5.0/3").unwrap();
+    let rule = *rule.as_ref().extra_rule();
+    let Some(TransitionRule::Alternate(alternate)) = rule else {
+        panic!("no alternate rule")
+    };
+    let types = vec![LocalTimeType::utc(), *alternate.std()];
+    TimeZone::new(
+        vec![Transition::new(946_684_800, 1)],
+        types,
+        Vec::new(),
+        rule,
+    )
+    .unwrap()
+}
+
+/// Instants in order over the changes of the zone, and then some in no order, of which the ends have no type.
+fn instants(length: usize) -> Vec<i64> {
+    let others = [i64::MAX, 0, i64::MIN, 954_032_400, 954_032_399, -1];
+    let ordered = (0..length).map(|number| 900_000_000 + 1_000_000 * number as i64);
+    let mut instants: Vec<_> = ordered.collect();
+    for (place, instant) in instants.iter_mut().enumerate().skip(length / 2) {
+        *instant = others[place % others.len()];
+    }
+    instants
+}
+
+/// The first error, as its place and its text.
+fn first<T>(answers: &[Result<T, TzError>]) -> Option<(usize, String)> {
+    let error = |(place, answer): (usize, &Result<T, TzError>)| {
+        Some((place, answer.as_ref().err()?.to_string()))
+    };
+    answers.iter().enumerate().find_map(error)
+}
+
+/// A column's error, as its place and its text.
+fn told(answer: Result<(), ColumnError>) -> Option<(usize, String)> {
+    let error = answer.err()?;
+    let text = error.error().to_string();
+    assert_eq!(
+        error.to_string(),
+        format!("at place {}: {text}", error.place())
+    );
+    Some((error.place(), text))
+}
+
+const LENGTHS: [usize; 7] = [0, 1, 2, 40, 255, 256, 1000];
+
+#[test]
+fn offsets_are_those_of_single_calls() {
+    let zone = zone();
+    let zone = zone.as_ref();
+    for length in LENGTHS {
+        let instants = instants(length);
+        let single = instants.iter().map(|instant| {
+            let local_time_type = zone.find_local_time_type(*instant)?;
+            Ok(local_time_type.ut_offset())
+        });
+        let single: Vec<Result<i32, TzError>> = single.collect();
+        let mut offsets = vec![i32::MIN; length + 1];
+        assert_eq!(
+            told(zone.offsets_at(&instants, &mut offsets)),
+            first(&single)
+        );
+        let wanted = single.iter().map(|one| *one.as_ref().unwrap_or(&i32::MIN));
+        assert!(wanted.chain([i32::MIN]).eq(offsets));
+    }
+}
+
+#[test]
+fn date_times_are_those_of_single_calls() {
+    let zone = zone();
+    let zone = zone.as_ref();
+    let epoch = DateTime::from_timespec(0, 0, TimeZoneRef::utc()).unwrap();
+    for length in LENGTHS {
+        let instants = instants(length);
+        let nanoseconds = (0..length).map(|place| if place % 30 == 29 { 1_000_000_000 } else { 7 });
+        let nanoseconds: Vec<_> = nanoseconds.collect();
+        let single = instants.iter().zip(&nanoseconds);
+        let single = single.map(|(instant, rest)| DateTime::from_timespec(*instant, *rest, zone));
+        let single: Vec<_> = single.collect();
+        let mut shown = vec![epoch; length + 1];
+        let answer = zone.date_times_at(&instants, &nanoseconds, &mut shown);
+        assert_eq!(told(answer), first(&single));
+        let wanted = single.iter().map(|one| one.as_ref().unwrap_or(&epoch));
+        let wanted: Vec<_> = wanted
+            .chain([&epoch])
+            .map(|one| format!("{one:?}"))
+            .collect();
+        let shown: Vec<_> = shown.iter().map(|one| format!("{one:?}")).collect();
+        assert_eq!(shown, wanted);
+    }
+}
+
+#[test]
+fn instants_are_those_of_single_calls() {
+    let zone = zone();
+    let zone = zone.as_ref();
+    for disambiguation in [
+        Disambiguation::Compatible,
+        Disambiguation::Earlier,
+        Disambiguation::Later,
+        Disambiguation::Reject,
+    ] {
+        for length in LENGTHS {
+            let local = (0..length).map(|place| match place % 5 {
+                0 => UtcDateTime::new(2000, 3, 26, 2, 30, 0, 0).unwrap(),
+                1 => UtcDateTime::new(2000, 10, 29, 2, 30, 0, 0).unwrap(),
+                2 if place > 20 => UtcDateTime::MAX,
+                _ => UtcDateTime::from_timespec(86_400 * place as i64, 0).unwrap(),
+            });
+            let local: Vec<_> = local.collect();
+            let single = local.iter().map(|local| {
+                let meant = DateTime::from_local(*local, disambiguation, zone)?;
+                Ok(meant.map(|meant| meant.unix_time()))
+            });
+            let single: Vec<Result<Option<i64>, TzError>> = single.collect();
+            let mut meant = vec![Some(77); length + 1];
+            let answer = zone.instants_of(&local, disambiguation, &mut meant);
+            assert_eq!(told(answer), first(&single));
+            let wanted = single.iter().map(|one| *one.as_ref().unwrap_or(&Some(77)));
+            assert!(wanted.chain([Some(77)]).eq(meant));
+        }
+    }
+}
+
+#[test]
+fn the_shortest_column_decides() {
+    let zone = zone();
+    let zone = zone.as_ref();
+    let mut offsets = [1; 3];
+    zone.offsets_at(&[0; 2], &mut offsets).unwrap();
+    assert_eq!(offsets, [0, 0, 1]);
+    zone.offsets_at(&[0; 5], &mut offsets).unwrap();
+    assert_eq!(offsets, [0; 3]);
+    zone.offsets_at(&[0; 5], &mut []).unwrap();
+    let epoch = DateTime::from_timespec(0, 0, TimeZoneRef::utc()).unwrap();
+    let mut shown = [epoch; 3];
+    zone.date_times_at(&[1, 2, 3], &[0; 2], &mut shown).unwrap();
+    assert_eq!(shown.map(|one| one.unix_time()), [1, 2, 0]);
+    let mut meant = [None; 2];
+    let local = [UtcDateTime::UNIX_EPOCH; 1];
+    zone.instants_of(&local, Disambiguation::Reject, &mut meant)
+        .unwrap();
+    assert_eq!(meant, [Some(0), None]);
+}
+
+/// A search with more entries than the crate has slots on its stack: a clock that is set back an hour each hour shows 5:10 six times.
+#[test]
+fn many_entries_are_found() {
+    let types = (0..6).map(|number| LocalTimeType::with_ut_offset(3600 * (5 - number)).unwrap());
+    let types: Vec<_> = types.collect();
+    let transitions =
+        (0..5).map(|number| Transition::new(3600 * number + 1800, 1 + number as usize));
+    let rule = Some(TransitionRule::Fixed(types[5]));
+    let zone = TimeZone::new(transitions.collect(), types, Vec::new(), rule).unwrap();
+    // A view of a zone stays valid where its owner goes, and a copy has one of its own.
+    let moved = Box::new(zone.clone());
+    drop(zone);
+    let zone = moved.as_ref().as_ref();
+    let found = DateTime::find(1970, 1, 1, 5, 10, 0, 0, zone).unwrap();
+    let instants: Vec<_> = (0..6).map(|number| 600 + 3600 * number).collect();
+    let unix_time = |entry: &tz::datetime::FoundDateTimeKind| match entry {
+        tz::datetime::FoundDateTimeKind::Normal(date_time) => date_time.unix_time(),
+        _ => panic!("a jump"),
+    };
+    assert!(
+        found
+            .clone()
+            .into_inner()
+            .iter()
+            .map(unix_time)
+            .eq(instants)
+    );
+    for slots in 0..8 {
+        let mut buf = vec![None; slots];
+        let some = DateTime::find_n(&mut buf, 1970, 1, 1, 5, 10, 0, 0, zone).unwrap();
+        assert_eq!((some.count(), some.data().len()), (6, slots.min(6)));
+        let entries = found.clone().into_inner();
+        assert!(some.data().iter().flatten().eq(entries.iter().take(slots)));
+        assert!(buf.iter().skip(6).all(Option::is_none));
+    }
+}
