@@ -120,7 +120,7 @@ def command(doc, section, counted):
     with tempfile.TemporaryDirectory() as folder:
         for name, counts in counted(rows.Zones(folder), programs, given):
             behind = ''
-            if given.against:
+            if given.against and counts[0] is not None:
                 behind, is_too_much = stored.against(section, name, counts[0])
                 is_above |= is_too_much
             elif given.json:

@@ -40,6 +40,10 @@ GOALS = {
 APART = ('`DateTime::from_timespec`, fixed offset', '`DateTime::find_n`, fixed offset', '`TimeZoneRef::following`, rule without a change')
 
 
+# Calls over whole columns, which the bindings alone have, and the call of tz whose answers those of each place are, if there is one.
+COLUMN_CALLS = {'column_offsets': None, 'column_date_times': 'from_timespec', 'column_instants': 'find_one'}
+
+
 # Rows of lines that no other program answers.
 OWN_LINES = ('W, ten weeks, Paris',)
 
@@ -201,6 +205,11 @@ def calls(zones, count, seed=SEED):
     yield row('`DateTime::meaning`, random, Paris', 'meaning', paris, 'local times')
     yield row('`DateTime::meaning`, at jumps, Paris', 'meaning', paris, 'local times at jumps')
     yield row('`DateTime::from_local`, random, Paris', 'from_local', paris, 'instants of local years')
+    yield row('place of a column of offsets, sorted, Paris', 'column_offsets', paris, 'sorted instants')
+    yield row('place of a column of offsets, random, Paris', 'column_offsets', paris, 'instants')
+    yield row('place of a column of date times, sorted, Paris', 'column_date_times', paris, 'sorted instants')
+    yield row('place of a column of date times, random, Paris', 'column_date_times', paris, 'instants')
+    yield row('place of a column of instants, random, Paris', 'column_instants', paris, 'local times')
     yield row('`TimeZoneRef::following`, random, Paris', 'following', paris, 'instants')
     yield row('`TimeZoneRef::following`, random, TZ string', 'following', text, 'instants')
     yield row('`TimeZoneRef::following`, rule without a change', 'following', zones.constant, 'instants', long=True)
@@ -230,7 +239,7 @@ def calls(zones, count, seed=SEED):
 
 def loop_of(call):
     """The loop around a call, which is taken off its figure: it reads local times or instants."""
-    return 'local' if call in ('find', 'find_n', 'find_one', 'meaning', 'utc_new') else 'instant'
+    return 'local' if call in ('find', 'find_n', 'find_one', 'meaning', 'column_instants', 'utc_new') else 'instant'
 
 
 def search_of(name):

@@ -20,6 +20,7 @@ TOP = pathlib.Path(__file__).resolve().parent.parent
 PAGE = TOP / 'docs' / 'BENCHMARKS.md'
 README = TOP / 'README.md'
 COLUMNS = 150
+THROUGH = ('through-C', 'through-Rust')
 PEERS = ('tz-rs', 'glibc', 'Abseil', 'cctz', 'date', 'chrono-tz', 'Go', 'jiff')
 WIDTH, LEFT, BAR, HEAD, LONGEST = 900, 330, 11, 46, 4000
 STAR = r'\*'
@@ -58,16 +59,17 @@ class Reasons:
         return '\n'.join(f'- {letter}: {reason}' for letter, reason in rows.REASONS.items() if letter in self.given)
 
 
-def of_instructions(section, kept, peers, goals, reasons):
-    """Instructions beside the peers, and tz's over the least of them. A figure has a star where answers differ."""
+def of_instructions(section, kept, through, peers, goals, reasons):
+    """Instructions of tz, of tz through its bindings, and of the peers, and tz's over the least of these. A figure has a star where answers differ."""
     lines = []
     for name, row in kept.rows(section).items():
         best = best_of(row)
         ratio = f'{row["tz"] / best:.2f}{reasons.of(name, row)}' if best and 'tz' in row else '–'
         differing = kept.rows(f'differing {section}').get(rows.search_of(name), {})
-        cells = [f'{row[peer]}{STAR * (peer in differing)}' if peer in row else '–' for peer in peers]
+        cells = [f'{row[peer]}{STAR * (peer in differing)}' if peer in row else '–' for peer in (*through, *peers)]
         lines.append([name, row.get('tz', '–'), *([goals.get(name, '')] if goals else []), *cells, ratio])
-    return table(['row', 'tz', *(['goal'] if goals else []), *peers, 'tz / best'], lines)
+    names = [name.replace('-', ' ') for name in through]
+    return table(['row', 'tz', *(['goal'] if goals else []), *names, *peers, 'tz / best'], lines)
 
 
 def of_times(kept, reasons):
@@ -197,8 +199,8 @@ def write():
     reasons = Reasons()
     made = {
         'versions': of_versions(kept),
-        'lines': of_instructions('lines', kept, PEERS[:-1], {}, reasons),
-        'calls': of_instructions('calls', kept, PEERS, rows.GOALS, reasons),
+        'lines': of_instructions('lines', kept, (), PEERS[:-1], {}, reasons),
+        'calls': of_instructions('calls', kept, THROUGH, PEERS, rows.GOALS, reasons),
         'times': of_times(kept, reasons),
         'scaling': of_scaling(kept),
         'sizes': of_sizes(),

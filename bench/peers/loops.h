@@ -40,6 +40,9 @@ struct Found {
     Entry entries[2];
 };
 
+// The most places of a column.
+constexpr size_t COLUMN = 10000;
+
 [[noreturn]] inline void refuse(const char *why) {
     puts(why);
     exit(3);

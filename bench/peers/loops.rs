@@ -57,6 +57,22 @@ pub trait Zone: Sized {
     fn moment(instant: i64) -> Self::Moment;
     /// The Unix time that many seconds and 7 nanoseconds later.
     fn add(moment: Self::Moment, seconds: u64) -> i64;
+    /// The Unix time of the next change, where the crate has such a call.
+    fn following(&self, _: i64) -> i64 {
+        refuse("no call for the next change")
+    }
+    /// The offsets at instants, where the crate answers columns.
+    fn column_offsets(&self, _: &[i64]) -> Vec<i32> {
+        refuse("no columns")
+    }
+    /// What clocks show at instants, where the crate answers columns: the sum of each one's fields and offset.
+    fn column_date_times(&self, _: &[i64]) -> Vec<u64> {
+        refuse("no columns")
+    }
+    /// The Unix times of the one date times that local times mean, where the crate answers columns.
+    fn column_instants(&self, _: &[Local]) -> Vec<u64> {
+        refuse("no columns")
+    }
     /// Makes a zone of a file's bytes.
     fn read(bytes: &[u8]) -> bool;
     /// Makes a zone of a setting: a file's name or a TZ string.
@@ -171,7 +187,7 @@ fn answer_lines<Z: Zone>(zone: &Z) {
     io::stdout().lock().write_all(&out).unwrap();
 }
 
-fn sum_of(local: &Local) -> u64 {
+pub fn sum_of(local: &Local) -> u64 {
     let small = u32::from(local.month) + u32::from(local.day) + u32::from(local.hour) + u32::from(local.minute) + u32::from(local.second);
     u64::from(small).wrapping_add(local.year as u64)
 }
@@ -205,6 +221,20 @@ fn run<W>(name: &str, times: &str, words: &[W], mut call: impl FnMut(&W) -> u64)
     println!("{name} {}", total.wrapping_add(sum(&words[..left])));
 }
 
+/// Answers a column of the first words, this many, in one call, and prints the sum; or, for no number, each answer.
+fn run_column<W, A>(name: &str, times: &str, words: &[W], value: impl Fn(&A) -> u64, call: impl FnOnce(&[W]) -> Vec<A>) {
+    let count = if times == "each" { words.len() } else { times.parse().unwrap() };
+    let Some(words) = words.get(..count) else { refuse("no column of that length") };
+    let answers = call(words);
+    if times == "each" {
+        for answer in &answers {
+            println!("{}", value(answer));
+        }
+        return;
+    }
+    println!("{name} {}", answers.iter().fold(0, |sum: u64, answer| sum.wrapping_add(value(answer))));
+}
+
 fn make_calls<Z: Zone>(zone: &Z, argument: &str, call: &str, times: &str) {
     let mut input = String::new();
     io::stdin().lock().read_to_string(&mut input).unwrap();
@@ -222,6 +252,10 @@ fn make_calls<Z: Zone>(zone: &Z, argument: &str, call: &str, times: &str) {
             let mut slots = Z::Slots::default();
             run(call, times, &locals, |local| zone.first_n(&mut slots, *local) as u64);
         }
+        "following" => run(call, times, &words, |word| zone.following(*word) as u64),
+        "column_offsets" => run_column(call, times, &words, |offset| *offset as u64, |words| zone.column_offsets(words)),
+        "column_date_times" => run_column(call, times, &words, |sum| *sum, |words| zone.column_date_times(words)),
+        "column_instants" => run_column(call, times, &locals, |instant| *instant, |locals| zone.column_instants(locals)),
         "display" => {
             let held: Vec<Z::Held> = words.iter().map(|word| zone.held(*word)).collect();
             run(call, times, &held, |held| zone.print(held).len() as u64);

@@ -132,6 +132,24 @@ void run(const std::string &name, const std::string &times, const std::vector<Wo
     printf("%s %llu\n", name.c_str(), (unsigned long long)total);
 }
 
+#ifdef HAS_COLUMNS
+// Answers a column of the first words, this many, in one call, and prints the sum; or, for no number, each answer.
+template <class Word, class Call>
+void run_column(const std::string &name, const std::string &times, const std::vector<Word> &words, Call call) {
+    static uint64_t answers[COLUMN];
+    const bool is_each = times == "each";
+    const size_t count = is_each ? words.size() : strtoul(times.c_str(), nullptr, 10);
+    if (count > words.size() || count > COLUMN) refuse("no column of that length");
+    call(std::vector<Word>(words.begin(), words.begin() + (long)count), answers);
+    uint64_t total = 0;
+    for (size_t n = 0; n < count; ++n) {
+        if (is_each) printf("%llu\n", (unsigned long long)answers[n]);
+        total += answers[n];
+    }
+    if (!is_each) printf("%s %llu\n", name.c_str(), (unsigned long long)total);
+}
+#endif
+
 template <class Made, class Word, class Make>
 std::vector<Made> each(const std::vector<Word> &words, Make make) {
     std::vector<Made> made;
@@ -184,6 +202,14 @@ void make_calls(Zone &zone, const std::string &call, const std::string &times) {
     } else if (call == "parse_string") {
         if (!Zone::reads_strings) refuse("no TZ string apart from a setting");
         run(call, times, words, [&](long) { return zone.from_string(); });
+#ifdef HAS_COLUMNS
+    } else if (call == "column_offsets") {
+        run_column(call, times, words, [&](const std::vector<long> &instants, uint64_t *answers) { zone.offsets(instants, answers); });
+    } else if (call == "column_date_times") {
+        run_column(call, times, words, [&](const std::vector<long> &instants, uint64_t *answers) { zone.date_times(instants, answers); });
+    } else if (call == "column_instants") {
+        run_column(call, times, locals, [&](const std::vector<Local> &locals, uint64_t *answers) { zone.instants(locals, answers); });
+#endif
     } else {
         refuse("no such call");
     }

@@ -120,6 +120,36 @@ impl Zone for Made {
         moment.checked_add(Duration::new(seconds, 7)).unwrap().unix_time()
     }
 
+    #[cfg(feature = "own")]
+    fn following(&self, instant: i64) -> i64 {
+        self.0.following(instant).map_or(0, |change| change.unix_time())
+    }
+
+    #[cfg(feature = "own")]
+    fn column_offsets(&self, instants: &[i64]) -> Vec<i32> {
+        let mut offsets = vec![0; instants.len()];
+        self.0.as_ref().offsets_at(instants, &mut offsets).unwrap();
+        offsets
+    }
+
+    #[cfg(feature = "own")]
+    fn column_date_times(&self, instants: &[i64]) -> Vec<u64> {
+        let nanoseconds = vec![0; instants.len()];
+        let mut date_times = vec![DateTime::from_timespec(0, 0, tz::TimeZoneRef::utc()).unwrap(); instants.len()];
+        self.0.as_ref().date_times_at(instants, &nanoseconds, &mut date_times).unwrap();
+        let sum = |date_time: &DateTime| loops::sum_of(&shown(date_time).local).wrapping_add(date_time.local_time_type().ut_offset() as u64);
+        date_times.iter().map(sum).collect()
+    }
+
+    #[cfg(feature = "own")]
+    fn column_instants(&self, locals: &[Local]) -> Vec<u64> {
+        let of = |local: &Local| UtcDateTime::new(local.year, local.month, local.day, local.hour, local.minute, local.second, 7).unwrap();
+        let locals: Vec<UtcDateTime> = locals.iter().map(of).collect();
+        let mut instants = vec![None; locals.len()];
+        self.0.as_ref().instants_of(&locals, tz::datetime::Disambiguation::Compatible, &mut instants).unwrap();
+        instants.iter().map(|instant| instant.map_or(1, |instant| instant as u64)).collect()
+    }
+
     fn read(bytes: &[u8]) -> bool {
         TimeZone::from_tz_data(bytes).is_ok()
     }
