@@ -17,7 +17,6 @@ pub mod NearestChanges
 pub mod TypesAtCursors
 pub mod Places
 pub mod WindowTypes
-pub mod NextChanges
 pub mod SegmentEnds
 pub mod LeapReached
 pub mod SegmentTypes
@@ -38,3 +37,6 @@ pub mod TextAnswers
 pub mod TzFrames
 pub mod Directories
 pub mod SettingsAnswers
+pub mod ChangeSpans
+pub mod PlaceRuns
+pub mod RuleChanges

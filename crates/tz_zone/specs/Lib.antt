@@ -16,7 +16,6 @@ pub mod WindowTypes
 pub mod TableChanges
 pub mod Changes
 pub mod ChangesInTurn
-pub mod NextChanges
 pub mod Runs
 pub mod SameZone
 pub mod Bytes

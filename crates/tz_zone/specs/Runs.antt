@@ -1,17 +1,29 @@
--- How the walk from change to change ends: from which instant on a rule tells the type, and through which span the clock keeps a type.
-use Rattle.std.specs.Prelude.{◌≡◌, ◌⊎◌, ℤ, negsuc, ◌≤ℤ◌, List, [], Option, IfSome}
-use Rattle.std.specs.Borrow.{Bor}
-use Rattle.tz_rule.specs.LocalTimeType.{LocalTimeType}
+-- How walks from change to change stand: from which instant on a rule has the types, and how far a walk has come.
+use Rattle.std.specs.Prelude.{◌≡◌, ◌≢◌, ℕ, ◌≤◌, ◌⊎◌, ℤ, pos, negsuc, ◌+ℤ◌, ◌≤ℤ◌, ◌<ℤ◌, List, [], length}
 use Rattle.tz_zone.specs.Table.{Transition, LeapSecond, Zone}
 use Rattle.tz_zone.specs.LeapTime.{IsMomentOf}
-use Rattle.tz_zone.specs.Clock.{IsLast, IsClock}
+use Rattle.tz_zone.specs.Clock.{IsLast}
+use Rattle.tz_zone.specs.ClockSegments.{IsReachedAt}
+use Rattle.tz_zone.specs.Changes.{HasNoChange}
 
--- from this whole number on the rule tells the type: the moment of the last transition's time, or the least instant where there are no transitions
+-- from this whole number on the rule has the types: the moment of the last transition's time, or the least instant where there are no transitions
 abbrev pub IsSeam : List Transition → List LeapSecond → ℤ → Type 0
 IsSeam transitions leaps m =
     ((transitions ≡ []) × (m ≡ negsuc 9223372036854775807))
     ⊎ ((last : Transition) × IsLast transitions last × IsMomentOf leaps last.unix_leap_time m)
 
--- the clock has the type, if there is one, from an instant on up to another
-abbrev pub IsRun : Zone → ℤ → ℤ → Option (Bor LocalTimeType) → Type 0
-IsRun z from last type = IfSome type (λ t. (u : ℤ) → from ≤ℤ u → u ≤ℤ last → IsClock z u t.now)
+-- an instant lies at a place; without transitions it may have no leap time
+abbrev pub LiesAt : Zone → ℤ → ℕ → Type 0
+LiesAt z u k = (k ≤ length z.transitions) × (z.transitions ≢ [] → IsReachedAt z u k)
+
+-- a walk after an instant has come to another one, which lies at a place, and found no change up to it
+abbrev pub IsWalkedUp : Zone → ℤ → ℤ → ℕ → Type 0
+IsWalkedUp z u since k = (u ≤ℤ since) × LiesAt z since k × HasNoChange z u (since +ℤ pos 1)
+
+-- a walk back from an instant has come to another one, which lies at a place, and found no change after it
+abbrev pub IsWalkedDown : Zone → ℤ → ℤ → ℕ → Type 0
+IsWalkedDown z u last k = (last <ℤ u) × LiesAt z last k × HasNoChange z last u
+
+-- after all transitions, no change comes after the seam and before an instant
+abbrev pub HasNoneAfterSeam : Zone → ℕ → ℤ → Type 0
+HasNoneAfterSeam z k u = k ≡ length z.transitions → (m : ℤ) → IsSeam z.transitions z.leap_seconds m → HasNoChange z m u

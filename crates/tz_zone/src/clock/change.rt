@@ -1,6 +1,10 @@
 //! Changes: instants at which a clock has another type than a second before.
 
-ghost use Rattle.std.specs.Prelude.{◌≡◌};
+ghost use Rattle.std.specs.Prelude.{◌≡◌, pos, negsuc, ◌-ℤ◌, ◌<ℤ◌, IfSome, IfNone, MatchOption};
+ghost use Rattle.tz_zone.specs.Changes.{Change as ChangeParts, change_of, IsChange};
+ghost use Rattle.tz_zone.specs.Clock.{IsClock, HasNoType};
+ghost use Rattle.tz_zone.specs.Table.{Zone};
+ghost use Rattle.tz_zone.specs.ValidZone.{IsSoundTable};
 
 use tz_rule::timezone::LocalTimeType;
 
@@ -46,4 +50,25 @@ impl<'a> Change<'a> {
     {
         self.after
     }
+}
+
+/// The change at an instant, by the types at the instant before and at it.
+#[inline(always)]
+pub(super) fn change_at<'a>(
+    unix_time: i64,
+    before: Option<&'a LocalTimeType>,
+    after: Option<&'a LocalTimeType>,
+) -> Option<Change<'a>>
+    ensures same { IfNone result (IfSome before.entry (λ a. IfSome after.entry (λ b. a.now ≡ b.now))) }
+    ensures change { (z : Zone) → IsSoundTable z → negsuc 9223372036854775807 <ℤ unix_time
+        → MatchOption before.entry (HasNoType z (unix_time -ℤ pos 1)) (λ a. IsClock z (unix_time -ℤ pos 1) a.now)
+        → MatchOption after.entry (HasNoType z unix_time) (λ b. IsClock z unix_time b.now)
+        → MatchOption result ((c : ChangeParts) → c.unix_time ≡ unix_time → ¬ IsChange z c) (λ c. ((change_of c).unix_time ≡ unix_time) × IsChange z (change_of c)) }
+{
+    let before = before?;
+    let after = after?;
+    if before == after {
+        return None;
+    }
+    Some(Change::new(unix_time, before, after))
 }

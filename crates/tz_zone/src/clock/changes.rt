@@ -1,277 +1,335 @@
 //! Where the clock of a zone changes: the first change after an instant, and the last one before it.
+//!
+//! Up to the last transition a walk goes from place to place. It reads the types of transitions, and looks for the instant at which one takes
+//! effect only where its type is another than the one before. From the last one on the rule has the changes.
 
-ghost use Rattle.std.specs.Prelude.{◌≡◌, ℕ, ◌+◌, ℤ, pos, negsuc, ◌+ℤ◌, ◌-ℤ◌, ◌≤ℤ◌, ◌<ℤ◌, List, [], IfSome, IfNone, MatchBool, MatchOption};
+ghost use Rattle.std.specs.Prelude.{◌≡◌, ◌≢◌, ℕ, ◌<◌, ◌≤◌, ℤ, pos, negsuc, ◌+ℤ◌, ◌≤ℤ◌, ◌<ℤ◌, [], length, slice_get, Some, MatchOption};
 ghost use Rattle.tz_rule.specs.LocalTimeType.{LocalTimeType};
-ghost use Rattle.tz_zone.specs.Table.{Zone};
-ghost use Rattle.tz_zone.specs.Clock.{IsClock, HasNoType};
-ghost use Rattle.tz_zone.specs.ClockSegments.{IsSegmentAt};
-ghost use Rattle.tz_zone.specs.Changes.{Change as ChangeParts, change_of, IsChange, IsFollowing, IsPreceding, HasNoChange, HasNoFollowing, HasNoPreceding};
-ghost use Rattle.tz_zone.specs.Runs.{IsSeam, IsRun};
+ghost use Rattle.tz_zone.specs.Clock.{IsClock, HasNoType, IsLast, IsTypeOfLast, IsTypeAfter};
+ghost use Rattle.tz_zone.specs.ClockSegments.{IsReachedAt};
+ghost use Rattle.tz_zone.specs.Changes.{change_of, IsFollowing, IsPreceding, HasNoChange, HasNoFollowing, HasNoPreceding};
+ghost use Rattle.tz_zone.specs.LeapTime.{IsBeforeStart, IsLeapTimeRefused, IsTimeReached, IsMomentOf};
+ghost use Rattle.tz_zone.specs.Runs.{IsSeam, IsWalkedUp, IsWalkedDown, HasNoneAfterSeam};
+ghost use Rattle.tz_zone.specs.Table.{Transition};
 ghost use Rattle.tz_zone.specs.ValidZone.{AreLeapSeconds, IsSoundTable};
 ghost use Rattle.tz_zone.specs.ZoneSeen.{zone_seen};
 
-use super::change::Change;
-use super::next_changes::{likely_following, likely_preceding};
-use super::segment::ClockSegment;
-use super::segments::{clock_segment_after, clock_segment_at};
-use crate::effect::moment;
-use crate::table::{LeapSecond, OtherParts, Transitions};
+use super::after_table::after_table;
+use super::change::{Change, change_at};
+use super::near::{place_near, place_of};
+use super::place::{type_before, type_of};
+use super::rule_changes::{following_by_rule, preceding_by_rule};
+use crate::effect::{moment, start_of};
+use crate::leap_time::{first_instant, has_begun, last_instant_up_to, shifted};
+use crate::table::{LeapSecond, OtherParts, Transition, Uncounted};
 use tz_rule::timezone::LocalTimeType;
 
-/// Seconds of 400 years, after which a rule has the same types again.
-const PERIOD: i128 = 12_622_780_800;
-
-/// The change at an instant, by the types at the instant before and at it.
+/// The first instant from another one on that does not lie before a truncated start, if there is one.
 #[inline(always)]
-fn change_at<'a>(
-    unix_time: i64,
-    before: Option<&'a LocalTimeType>,
-    after: Option<&'a LocalTimeType>,
-) -> Option<Change<'a>>
-    ensures same { IfNone result (IfSome before.entry (λ a. IfSome after.entry (λ b. a.now ≡ b.now))) }
-    ensures change { (z : Zone) → IsSoundTable z → negsuc 9223372036854775807 <ℤ unix_time
-        → MatchOption before.entry (HasNoType z (unix_time -ℤ pos 1)) (λ a. IsClock z (unix_time -ℤ pos 1) a.now)
-        → MatchOption after.entry (HasNoType z unix_time) (λ b. IsClock z unix_time b.now)
-        → MatchOption result ((c : ChangeParts) → c.unix_time ≡ unix_time → ¬ IsChange z c) (λ c. ((change_of c).unix_time ≡ unix_time) × IsChange z (change_of c)) }
+fn first_begun(leap_seconds: &[LeapSecond], unix_time: i64) -> Option<i64>
+    ensures { MatchOption result ((u : ℤ) → unix_time ≤ℤ u → u ≤ℤ pos 9223372036854775807 → IsBeforeStart leap_seconds.now u)
+        (λ first. (unix_time ≤ℤ first) × (¬ IsBeforeStart leap_seconds.now first) × ((u : ℤ) → unix_time ≤ℤ u → u <ℤ first → IsBeforeStart leap_seconds.now u)) }
 {
-    let before = before?;
-    let after = after?;
-    if before == after {
-        return None;
+    if has_begun(leap_seconds, unix_time) {
+        return Some(unix_time);
     }
-    Some(Change::new(unix_time, before, after))
-}
-
-/// The seam: the moment of the last transition's time, or the least instant where there are no transitions. From there on the rule
-/// tells the type.
-fn seam<V: Transitions>(view: &mut V, leap_seconds: &[LeapSecond]) -> i128
-    requires { AreLeapSeconds leap_seconds.now }
-    ensures same { V.list view.new ≡ V.list view.old }
-    ensures seam { IsSeam (V.list view.old) leap_seconds.now result }
-{
-    let count = view.len();
-    if count == 0 {
-        return i128::from(i64::MIN);
+    match i64::try_from(first_instant(leap_seconds)) {
+        Ok(first) => Some(first),
+        Err(_) => None,
     }
-    let last = view.look(count - 1);
-    moment(leap_seconds, last.unix_leap_time())
 }
 
-/// Whether a span lasts for a period or longer.
-#[inline(always)]
-fn lasts_a_period(from: i128, last: i64) -> bool
-    requires { (negsuc 9223372036854775807 ≤ℤ from) × (from ≤ℤ (last +ℤ pos 1)) }
-    ensures { MatchBool result ((from +ℤ pos 12622780800) ≤ℤ (last +ℤ pos 1)) ((last +ℤ pos 1) <ℤ (from +ℤ pos 12622780800)) }
-{
-    i128::from(last) - from + 1 >= PERIOD
-}
-
-/// The seam, if the clock has one type for a period behind it, and so no other.
+/// The instant at which a leap time takes effect, if it is reached at any.
 #[inline(never)]
-fn settled_from<V: Transitions>(
-    view: &mut V,
-    parts: OtherParts<'_>,
-    from: i64,
-    last: i64,
-) -> Option<i64>
-    requires { IsSoundTable (zone_seen (V.list view.old) parts) }
-    ensures same { V.list view.new ≡ V.list view.old }
-    ensures last { IfSome result (λ seam. seam ≤ℤ last) }
-    ensures settled { (t : LocalTimeType) → ((u : ℤ) → from ≤ℤ u → u ≤ℤ last → IsClock (zone_seen (V.list view.old) parts.entry) u t)
-        → IfSome result (HasNoFollowing (zone_seen (V.list view.old) parts.entry)) }
+fn effect_over(leap_seconds: &[LeapSecond], unix_leap_time: i64) -> Option<i64>
+    requires { AreLeapSeconds leap_seconds.now }
+    ensures { MatchOption result ((u : ℤ) → u ≤ℤ pos 9223372036854775807 → ¬ IsTimeReached leap_seconds.now unix_leap_time u)
+        (λ m. IsMomentOf leap_seconds.now unix_leap_time m × ¬ IsLeapTimeRefused leap_seconds.now m) }
 {
-    let Some(rule) = parts.extra_rule.lent() else {
+    let Ok(effect) = i64::try_from(moment(leap_seconds, unix_leap_time)) else {
         return None;
     };
-    let seam = seam(view, parts.leap_seconds);
-    let since = seam.max(i128::from(from));
-    if i128::from(last) < since || !lasts_a_period(since, last) {
+    if last_instant_up_to(leap_seconds, effect) < effect {
         return None;
     }
-    tz_rule::inner::parts_are_sound(rule);
-    Some(seam as i64)
+    Some(effect)
 }
 
-/// The seam, if the clock has a type through a span, and is known by that to have no other behind the seam.
+/// The instant at which a leap time takes effect, if it is reached at any. Mostly there are no leap seconds, and it is the leap time itself.
 #[inline(always)]
-fn settled<V: Transitions>(
-    view: &mut V,
+fn effect_of(leap_seconds: &[LeapSecond], unix_leap_time: i64) -> Option<i64>
+    requires { AreLeapSeconds leap_seconds.now }
+    ensures { MatchOption result ((u : ℤ) → u ≤ℤ pos 9223372036854775807 → ¬ IsTimeReached leap_seconds.now unix_leap_time u)
+        (λ m. IsMomentOf leap_seconds.now unix_leap_time m × ¬ IsLeapTimeRefused leap_seconds.now m) }
+{
+    if leap_seconds.is_empty() {
+        return Some(unix_leap_time);
+    }
+    effect_over(leap_seconds, unix_leap_time)
+}
+
+/// The place at which the effect of a transition lies. It is not right after the transition where the next one takes effect at the same instant.
+#[inline(always)]
+fn place_at_effect(
+    transitions: &[Transition],
     parts: OtherParts<'_>,
-    from: i64,
-    last: i64,
-    local_time_type: Option<&LocalTimeType>,
-) -> Option<i64>
-    requires { IsSoundTable (zone_seen (V.list view.old) parts) }
-    ensures same { V.list view.new ≡ V.list view.old }
-    ensures last { IfSome result (λ seam. seam ≤ℤ last) }
-    ensures settled { IsRun (zone_seen (V.list view.old) parts.entry) from last local_time_type.entry
-        → IfSome result (HasNoFollowing (zone_seen (V.list view.old) parts.entry)) }
+    index: usize,
+    effect: i64,
+) -> usize
+    requires sound { IsSoundTable (zone_seen transitions.now parts) }
+    requires inside { index < length transitions.now }
+    requires transition { (change : Transition) × (slice_get transitions.now index ≡ Some change) × IsMomentOf parts.leap_seconds.now change.unix_leap_time effect }
+    requires answered { ¬ IsLeapTimeRefused parts.leap_seconds.now effect }
+    ensures within { (index < result) × (result ≤ length transitions.now) }
+    ensures at { IsReachedAt (zone_seen transitions.now parts.entry) effect result }
 {
-    if local_time_type.is_none() || last < from || !lasts_a_period(i128::from(from), last) {
-        return None;
+    let place = index + 1;
+    if parts.leap_seconds.is_empty() {
+        return place;
     }
-    settled_from(view, parts, from, last)
+    place_near(
+        transitions,
+        shifted(parts.leap_seconds, effect),
+        Some(place),
+    )
 }
 
-/// Where the run of a type begins that goes on behind a segment.
-#[inline(always)]
-fn run_from(segment: &ClockSegment<'_>, from: i64, next_from: i64) -> i64
-    ensures { MatchOption segment.now.local_time_type (result ≡ next_from) (λ t. result ≡ from) }
-{
-    match segment.local_time_type {
-        Some(_) => from,
-        None => next_from,
-    }
-}
-
-/// The first change of the clock after an instant, by each segment after it.
+/// The type at an instant from the last transition on. It is a call, so that walks over places stay small.
 #[inline(never)]
-fn following_by_segments<'a, V: Transitions>(
-    view: &mut V,
+fn type_from_last<'a>(parts: OtherParts<'a>, unix_time: i64) -> Option<&'a LocalTimeType>
+    requires { parts.local_time_types.now ≢ [] }
+    ensures { MatchOption result ((t : LocalTimeType) → ¬ IsTypeAfter (zone_seen [] parts.entry).extra_rule unix_time t)
+        (λ t. IsTypeAfter (zone_seen [] parts.entry).extra_rule unix_time t.now) }
+{
+    after_table(parts, false, unix_time).local_time_type
+}
+
+/// The type at an instant that lies at a place, or at an earlier one of the same type.
+#[inline(always)]
+fn type_at<'a>(
+    transitions: &[Transition],
+    parts: OtherParts<'a>,
+    place: usize,
+    unix_time: i64,
+) -> Option<&'a LocalTimeType>
+    requires sound { IsSoundTable (zone_seen transitions.now parts) }
+    requires within { place ≤ length transitions.now }
+    requires at_least_one { 0 < length transitions.now }
+    requires before { place < length transitions.now → (t : LocalTimeType) → IsTypeOfLast (zone_seen transitions.now parts) place t → IsClock (zone_seen transitions.now parts) unix_time t }
+    requires all { place ≡ length transitions.now → IsReachedAt (zone_seen transitions.now parts) unix_time place }
+    ensures { MatchOption result (HasNoType (zone_seen transitions.now parts.entry) unix_time) (λ t. IsClock (zone_seen transitions.now parts.entry) unix_time t.now) }
+{
+    if place == transitions.len() {
+        return type_from_last(parts, unix_time);
+    }
+    Some(type_before(&mut Uncounted::new(transitions), parts, place))
+}
+
+/// The last place from one on up to which transitions are to its type. The last transition ends it, whatever its type.
+#[inline(always)]
+fn end_of_run(
+    transitions: &[Transition],
+    parts: OtherParts<'_>,
+    place: usize,
+    local_time_type: &LocalTimeType,
+) -> usize
+    requires sound { IsSoundTable (zone_seen transitions.now parts) }
+    requires place { place < length transitions.now }
+    requires is_type { IsTypeOfLast (zone_seen transitions.now parts) place local_time_type.now }
+    ensures within { (place ≤ result) × (result < length transitions.now) }
+    ensures types { (i : ℕ) → place ≤ i → i ≤ result → IsTypeOfLast (zone_seen transitions.now parts.entry) i local_time_type.now }
+{
+    let mut end = place;
+    while end + 1 < transitions.len() && type_of(parts, transitions[end]) == local_time_type {
+        end += 1;
+    }
+    end
+}
+
+/// The first place up to one, but not before the first transition, from which on transitions are to its type.
+#[inline(always)]
+fn start_of_run(
+    transitions: &[Transition],
+    parts: OtherParts<'_>,
+    place: usize,
+    local_time_type: &LocalTimeType,
+) -> usize
+    requires sound { IsSoundTable (zone_seen transitions.now parts) }
+    requires place { (0 < place) × (place ≤ length transitions.now) }
+    requires is_type { IsTypeOfLast (zone_seen transitions.now parts) place local_time_type.now }
+    ensures within { (0 < result) × (result ≤ place) }
+    ensures types { (i : ℕ) → result ≤ i → i ≤ place → IsTypeOfLast (zone_seen transitions.now parts.entry) i local_time_type.now }
+{
+    let mut start = place;
+    while start > 1 && type_of(parts, transitions[start - 2]) == local_time_type {
+        start -= 1;
+    }
+    start
+}
+
+/// The first instant from another one on that has a leap time, and the place at which it lies. In a zone without transitions it is the other one
+/// itself.
+#[inline(always)]
+fn first_place(
+    transitions: &[Transition],
+    parts: OtherParts<'_>,
+    unix_time: i64,
+    likely: Option<usize>,
+) -> Option<(i64, usize)>
+    requires { IsSoundTable (zone_seen transitions.now parts) }
+    ensures { MatchOption result (HasNoFollowing (zone_seen transitions.now parts.entry) unix_time)
+        (λ found. IsWalkedUp (zone_seen transitions.now parts.entry) unix_time found.0 found.1) }
+{
+    if transitions.is_empty() {
+        return Some((unix_time, 0));
+    }
+    let first = first_begun(parts.leap_seconds, unix_time)?;
+    let place = place_of(transitions, parts, first, likely)?;
+    Some((first, place))
+}
+
+/// The first change of the clock after an instant, and the place after it.
+///
+/// A place at which the instant is likely to lie is tried first: a wrong one costs time and no more.
+#[inline(always)]
+pub fn following<'a>(
+    transitions: &[Transition],
     parts: OtherParts<'a>,
     unix_time: i64,
-) -> Option<Change<'a>>
-    requires { IsSoundTable (zone_seen (V.list view.old) parts) }
-    ensures same { V.list view.new ≡ V.list view.old }
-    ensures change { MatchOption result (HasNoFollowing (zone_seen (V.list view.old) parts.entry) unix_time)
-        (λ c. IsFollowing (zone_seen (V.list view.old) parts.entry) unix_time (change_of c)) }
+    likely: Option<usize>,
+) -> Option<(Change<'a>, usize)>
+    requires { IsSoundTable (zone_seen transitions.now parts) }
+    ensures { MatchOption result (HasNoFollowing (zone_seen transitions.now parts.entry) unix_time)
+        (λ found. IsFollowing (zone_seen transitions.now parts.entry) unix_time (change_of found.0)) }
 {
-    let mut segment = clock_segment_at(view, parts, unix_time);
-    let mut since = segment.from;
-    while segment.last < i64::MAX {
-        let next = clock_segment_after(view, parts, &segment);
-        let change = change_at(next.from, segment.local_time_type, next.local_time_type);
-        if change.is_some() {
-            return change;
+    let (mut since, mut place) = first_place(transitions, parts, unix_time, likely)?;
+    while place < transitions.len() {
+        let before = type_before(&mut Uncounted::new(transitions), parts, place);
+        let end = end_of_run(transitions, parts, place, before);
+        let effect = effect_of(parts.leap_seconds, transitions[end].unix_leap_time())?;
+        let next = place_at_effect(transitions, parts, end, effect);
+        let after = type_at(transitions, parts, next, effect);
+        if let Some(change) = change_at(effect, Some(before), after) {
+            return Some((change, next));
         }
-        since = run_from(&segment, since, next.from);
-        if settled(view, parts, since, next.last, next.local_time_type).is_some() {
+        since = effect;
+        place = next;
+    }
+    let change = following_by_rule(parts, since)?;
+    Some((change, place))
+}
+
+/// The last instant before another one that has a leap time, and the place at which it lies. In a zone without transitions it is the one right before.
+#[inline(always)]
+fn last_place(
+    transitions: &[Transition],
+    parts: OtherParts<'_>,
+    unix_time: i64,
+    likely: Option<usize>,
+) -> Option<(i64, usize)>
+    requires sound { IsSoundTable (zone_seen transitions.now parts) }
+    requires not_least { negsuc 9223372036854775807 <ℤ unix_time }
+    ensures { MatchOption result (HasNoPreceding (zone_seen transitions.now parts.entry) unix_time)
+        (λ found. IsWalkedDown (zone_seen transitions.now parts.entry) unix_time found.0 found.1) }
+{
+    let before = unix_time - 1;
+    if transitions.is_empty() {
+        return Some((before, 0));
+    }
+    let last = last_instant_up_to(parts.leap_seconds, before);
+    let place = place_of(transitions, parts, last, likely)?;
+    Some((last, place))
+}
+
+/// The seam: the instant at which the last transition takes effect, or the least one where there are none. From there on the rule has the types.
+#[inline(always)]
+fn seam(transitions: &[Transition], leap_seconds: &[LeapSecond]) -> i64
+    requires leaps { AreLeapSeconds leap_seconds.now }
+    requires reached { (last : Transition) → IsLast transitions.now last → (u : ℤ) × (u ≤ℤ pos 9223372036854775807) × IsTimeReached leap_seconds.now last.unix_leap_time u }
+    ensures { IsSeam transitions.now leap_seconds.now result }
+{
+    let count = transitions.len();
+    if count == 0 {
+        return i64::MIN;
+    }
+    start_of(leap_seconds, transitions[count - 1].unix_leap_time())
+}
+
+/// The last change of the clock up to an instant that lies at a place, if it comes after all transitions.
+#[inline(always)]
+fn preceding_after_table<'a>(
+    transitions: &[Transition],
+    parts: OtherParts<'a>,
+    place: usize,
+    last: i64,
+) -> Option<Change<'a>>
+    requires sound { IsSoundTable (zone_seen transitions.now parts) }
+    requires within { place ≤ length transitions.now }
+    requires not_greatest { last <ℤ pos 9223372036854775807 }
+    requires at { transitions.now ≢ [] → IsReachedAt (zone_seen transitions.now parts) last place }
+    ensures { MatchOption result (HasNoneAfterSeam (zone_seen transitions.now parts.entry) place (last +ℤ pos 1))
+        (λ c. IsPreceding (zone_seen transitions.now parts.entry) (last +ℤ pos 1) (change_of c)) }
+{
+    if place < transitions.len() {
+        return None;
+    }
+    let change = preceding_by_rule(parts, last + 1)?;
+    if change.unix_time() <= seam(transitions, parts.leap_seconds) {
+        return None;
+    }
+    Some(change)
+}
+
+/// The first place from which on transitions are to the type that the clock has at a place, or all transitions if they come before it.
+#[inline(always)]
+fn first_of_run(transitions: &[Transition], parts: OtherParts<'_>, place: usize) -> usize
+    requires sound { IsSoundTable (zone_seen transitions.now parts) }
+    requires place { (0 < place) × (place ≤ length transitions.now) }
+    ensures within { (0 < result) × (result ≤ place) }
+    ensures types { place < length transitions.now → (t : LocalTimeType) × ((i : ℕ) → result ≤ i → i ≤ place → IsTypeOfLast (zone_seen transitions.now parts.entry) i t) }
+    ensures all { place ≡ length transitions.now → result ≡ place }
+{
+    if place == transitions.len() {
+        return place;
+    }
+    let local_time_type = type_before(&mut Uncounted::new(transitions), parts, place);
+    start_of_run(transitions, parts, place, local_time_type)
+}
+
+/// The last change of the clock before an instant, and the place before it.
+///
+/// A place at which the second before the instant is likely to lie is tried first: a wrong one costs time and no more.
+#[inline(always)]
+pub fn preceding<'a>(
+    transitions: &[Transition],
+    parts: OtherParts<'a>,
+    unix_time: i64,
+    likely: Option<usize>,
+) -> Option<(Change<'a>, usize)>
+    requires { IsSoundTable (zone_seen transitions.now parts) }
+    ensures { MatchOption result (HasNoPreceding (zone_seen transitions.now parts.entry) unix_time)
+        (λ found. IsPreceding (zone_seen transitions.now parts.entry) unix_time (change_of found.0)) }
+{
+    if unix_time == i64::MIN {
+        return None;
+    }
+    let (last, mut place) = last_place(transitions, parts, unix_time, likely)?;
+    if let Some(change) = preceding_after_table(transitions, parts, place, last) {
+        return Some((change, place));
+    }
+    while place > 0 {
+        let start = first_of_run(transitions, parts, place);
+        let effect = start_of(parts.leap_seconds, transitions[start - 1].unix_leap_time());
+        if effect == i64::MIN {
             return None;
         }
-        segment = next;
+        let earlier = place_of(transitions, parts, effect - 1, Some(start - 1))?;
+        let before = type_before(&mut Uncounted::new(transitions), parts, earlier);
+        let after = type_at(transitions, parts, start, effect);
+        if let Some(change) = change_at(effect, Some(before), after) {
+            return Some((change, earlier));
+        }
+        place = earlier;
     }
     None
-}
-
-/// Up to where a type is known to hold behind a segment, which goes on before it up to the segment's beginning.
-#[inline(always)]
-fn run_to(segment: &ClockSegment<'_>, last: i64, before_last: i64) -> i64
-    ensures { MatchOption segment.now.local_time_type (result ≡ before_last) (λ t. result ≡ last) }
-{
-    match segment.local_time_type {
-        Some(_) => last,
-        None => before_last,
-    }
-}
-
-/// The last change of the clock before an instant, by each segment before it.
-fn preceding_by_each_segment<'a, V: Transitions>(
-    view: &mut V,
-    parts: OtherParts<'a>,
-    unix_time: i64,
-) -> Option<Change<'a>>
-    requires sound { IsSoundTable (zone_seen (V.list view.old) parts) }
-    requires not_least { negsuc 9223372036854775807 <ℤ unix_time }
-    ensures same { V.list view.new ≡ V.list view.old }
-    ensures change { MatchOption result (HasNoPreceding (zone_seen (V.list view.old) parts.entry) unix_time)
-        (λ c. IsPreceding (zone_seen (V.list view.old) parts.entry) unix_time (change_of c)) }
-{
-    let mut segment = clock_segment_at(view, parts, unix_time - 1);
-    while segment.from > i64::MIN {
-        let earlier = clock_segment_at(view, parts, segment.from - 1);
-        let change = change_at(
-            segment.from,
-            earlier.local_time_type,
-            segment.local_time_type,
-        );
-        if change.is_some() {
-            return change;
-        }
-        segment = earlier;
-    }
-    None
-}
-
-/// The last change of the clock before an instant, by segments before it.
-#[inline(never)]
-fn preceding_by_segments<'a, V: Transitions>(
-    view: &mut V,
-    parts: OtherParts<'a>,
-    unix_time: i64,
-) -> Option<Change<'a>>
-    requires { IsSoundTable (zone_seen (V.list view.old) parts) }
-    ensures same { V.list view.new ≡ V.list view.old }
-    ensures change { MatchOption result (HasNoPreceding (zone_seen (V.list view.old) parts.entry) unix_time)
-        (λ c. IsPreceding (zone_seen (V.list view.old) parts.entry) unix_time (change_of c)) }
-{
-    if unix_time == i64::MIN {
-        return None;
-    }
-    let mut segment = clock_segment_at(view, parts, unix_time - 1);
-    let mut until = unix_time - 1;
-    while segment.from > i64::MIN {
-        let time = segment.from - 1;
-        let earlier = clock_segment_at(view, parts, time);
-        let change = change_at(
-            segment.from,
-            earlier.local_time_type,
-            segment.local_time_type,
-        );
-        if change.is_some() {
-            return change;
-        }
-        until = run_to(&segment, until, time);
-        if let Some(seam) = settled(view, parts, earlier.from, until, earlier.local_time_type) {
-            return preceding_by_each_segment(view, parts, seam + 1);
-        }
-        segment = earlier;
-    }
-    None
-}
-
-/// The first change of the clock after an instant, and a place among the transitions that is likely to be the one behind it.
-///
-/// The place at which the instant lies is looked for first where it is likely to be. A wrong one costs time and no more.
-#[inline(always)]
-pub fn following<'a, V: Transitions>(
-    view: &mut V,
-    parts: OtherParts<'a>,
-    unix_time: i64,
-    likely: Option<usize>,
-) -> Option<(Change<'a>, usize)>
-    requires { IsSoundTable (zone_seen (V.list view.old) parts) }
-    ensures same { V.list view.new ≡ V.list view.old }
-    ensures change { MatchOption result (HasNoFollowing (zone_seen (V.list view.old) parts.entry) unix_time)
-        (λ found. IsFollowing (zone_seen (V.list view.old) parts.entry) unix_time (change_of found.0)) }
-{
-    if let Some(found) = likely_following(view, parts, unix_time, likely) {
-        return Some(found);
-    }
-    let change = following_by_segments(view, parts, unix_time)?;
-    Some((change, view.len()))
-}
-
-/// The last change of the clock before an instant, and a place among the transitions that is likely to be the one in front of it.
-///
-/// The place at which the second before the instant lies is looked for first where it is likely to be. A wrong one costs time and no more.
-#[inline(always)]
-pub fn preceding<'a, V: Transitions>(
-    view: &mut V,
-    parts: OtherParts<'a>,
-    unix_time: i64,
-    likely: Option<usize>,
-) -> Option<(Change<'a>, usize)>
-    requires { IsSoundTable (zone_seen (V.list view.old) parts) }
-    ensures same { V.list view.new ≡ V.list view.old }
-    ensures change { MatchOption result (HasNoPreceding (zone_seen (V.list view.old) parts.entry) unix_time)
-        (λ found. IsPreceding (zone_seen (V.list view.old) parts.entry) unix_time (change_of found.0)) }
-{
-    if unix_time == i64::MIN {
-        return None;
-    }
-    if let Some(found) = likely_preceding(view, parts, unix_time, likely) {
-        return Some(found);
-    }
-    let change = preceding_by_segments(view, parts, unix_time)?;
-    Some((change, view.len()))
 }

@@ -46,8 +46,9 @@ impl<'a> TimeZoneRef<'a> {
 
     /// The first change after an instant, in Unix seconds, or `None` if the clock does not change any more. Does not allocate.
     ///
-    /// A transition to an equal type is not a change, nor is the point where a clock begins or ceases to have a type. Transitions to equal
-    /// types are passed one by one, and a rule that keeps one type is followed through 400 years, at up to 800 starts and ends.
+    /// A transition to an equal type is not a change, nor is the point where a clock begins or ceases to have a type. The dearest calls compare
+    /// the types of a run of transitions to equal types, one by one, or follow a rule that keeps one type through 400 years, at up to 800 starts
+    /// and ends.
     ///
     /// When clocks are set next, and by how many seconds forward:
     ///
@@ -78,8 +79,7 @@ impl<'a> TimeZoneRef<'a> {
         ensures { MatchOption result (HasNoFollowing (zone_of self.now) unix_time)
             (λ found. IsFollowing (zone_of self.now) unix_time (change_of found.0)) }
     {
-        let mut view = Uncounted::new(self.transitions());
-        clock::following(&mut view, other_parts(self), unix_time, likely)
+        clock::following(self.transitions(), other_parts(self), unix_time, likely)
     }
 
     /// The last change before an instant, in Unix seconds, or `None` if the clock has not changed before. Does not allocate.
@@ -103,8 +103,7 @@ impl<'a> TimeZoneRef<'a> {
         ensures { MatchOption result (HasNoPreceding (zone_of self.now) unix_time)
             (λ found. IsPreceding (zone_of self.now) unix_time (change_of found.0)) }
     {
-        let mut view = Uncounted::new(self.transitions());
-        clock::preceding(&mut view, other_parts(self), unix_time, likely)
+        clock::preceding(self.transitions(), other_parts(self), unix_time, likely)
     }
 
     /// The changes after an instant, in Unix seconds, in the order of time: the one that `following` answers, and so on from each. Takes no

@@ -134,8 +134,7 @@ impl<'a> ZoneView<'a> {
     pub fn following(&self, unix_time: i64) -> Option<Change<'a>>
         ensures { MatchOption result (HasNoFollowing (zone_viewed self.now) unix_time) (λ c. IsFollowing (zone_viewed self.now) unix_time (change_of c)) }
     {
-        let mut view = Uncounted::new(self.transitions);
-        let (change, _) = clock::following(&mut view, self.other_parts(), unix_time, None)?;
+        let (change, _) = clock::following(self.transitions, self.other_parts(), unix_time, None)?;
         Some(change)
     }
 
@@ -143,8 +142,7 @@ impl<'a> ZoneView<'a> {
     pub fn preceding(&self, unix_time: i64) -> Option<Change<'a>>
         ensures { MatchOption result (HasNoPreceding (zone_viewed self.now) unix_time) (λ c. IsPreceding (zone_viewed self.now) unix_time (change_of c)) }
     {
-        let mut view = Uncounted::new(self.transitions);
-        let (change, _) = clock::preceding(&mut view, self.other_parts(), unix_time, None)?;
+        let (change, _) = clock::preceding(self.transitions, self.other_parts(), unix_time, None)?;
         Some(change)
     }
 }

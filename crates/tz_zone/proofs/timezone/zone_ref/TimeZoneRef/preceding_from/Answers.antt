@@ -1,4 +1,4 @@
--- The zone that is seen through the view is this one.
+-- The zone of these transitions and other parts is this one.
 use Rattle.std.proofs.Common.{◌∙◌, ap, subst}
 use Rattle.std.specs.Prelude.{MatchOption}
 use Rattle.std.proofs.lemmas.Int.{to_z-of_z}
@@ -12,5 +12,5 @@ pub returns : goal.returns
 returns c =
     let u = c.args.unix_time in
     let Seen : Zone → Type 0 = λ z. MatchOption c.preceding.result (HasNoPreceding z u) (λ x. IsPreceding z u (change_of x.0)) in
-    subst Seen (ap (λ transitions. zone_seen transitions c.other_parts.result) (c.new-view.ensures ∙ c.transitions.ensures) ∙ c.other_parts.ensures)
-    (rw (to_z-of_z w64 u c.ranges.unix_time) at c.preceding.ensures.change)
+    subst Seen (ap (λ transitions. zone_seen transitions c.other_parts.result) c.transitions.ensures ∙ c.other_parts.ensures)
+    (rw (to_z-of_z w64 u c.ranges.unix_time) at c.preceding.ensures)

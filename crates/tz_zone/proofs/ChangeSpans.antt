@@ -1,0 +1,150 @@
+-- Spans of one type have no change inside, and the change where one ends is the next one.
+use Rattle.std.proofs.Common.{◌≡◌, ◌∙◌, refl, sym, subst, arith, inl, true, [], ℤ, pos, negsuc, ◌+ℤ◌, ◌-ℤ◌, ◌≤ℤ◌, ◌<ℤ◌, Option, Some, None}
+use Rattle.std.specs.Prelude.{IfSome, MatchOption, is_some}
+use Rattle.std.specs.Borrow.{Bor}
+use Rattle.std.proofs.lemmas.Int.{ints, by_lt_z}
+use Rattle.std.proofs.lemmas.Bool.{false≢true}
+use Rattle.tz_rule.specs.LocalTimeType.{LocalTimeType}
+use Rattle.tz_rule.specs.Rule.{IsRuleType}
+use Rattle.tz_rule.specs.declared.timezone.rule.TransitionRule.{TransitionRule}
+use Rattle.tz_zone.specs.Table.{Zone}
+use Rattle.tz_zone.specs.Clock.{IsTypeWithout, IsClock, HasNoType}
+use Rattle.tz_zone.specs.Changes.{Change, IsChange, HasNoChange, HasNoFollowing, HasNoPreceding, IsFollowing, IsPreceding}
+use Rattle.tz_zone.proofs.Clocks.{one_type}
+use Rattle.tz_zone.proofs.TypesAtCursors.{clock_without}
+
+-- from one instant up to another the clock has no two types
+abbrev pub HasOneType : Zone → ℤ → ℤ → Type 0
+HasOneType z low last = (v w : ℤ) (s t : LocalTimeType) → low ≤ℤ v → v ≤ℤ last → low ≤ℤ w → w ≤ℤ last → IsClock z v s → IsClock z w t → s ≡ t
+
+-- what the clock has at one instant, it has from another one up to a third
+abbrev pub IsSpread : Zone → ℤ → ℤ → ℤ → Type 0
+IsSpread z at low last = (v : ℤ) (t : LocalTimeType) → low ≤ℤ v → v ≤ℤ last → IsClock z at t → IsClock z v t
+
+-- the clock has the type, if there is one, or none, from one instant up to another
+abbrev pub Holds : Zone → ℤ → ℤ → Option (Bor LocalTimeType) → Type 0
+Holds z low last type = (v : ℤ) → low ≤ℤ v → v ≤ℤ last → MatchOption type (HasNoType z v) (λ t. IsClock z v t.now)
+
+module _ (z : Zone) where
+  pub one_type_if_holds : (low last : ℤ) (type : Option (Bor LocalTimeType)) → Holds z low last type → HasOneType z low last
+  one_type_if_holds low last (Some t) holds v w s s' a b c d first second =
+      one_type z v s t.now first (holds v a b) ∙ one_type z w t.now s' (holds w c d) second
+  one_type_if_holds low last None holds v w s s' a b c d first second = absurd (holds v a b s first)
+
+  pub one_type_of : (low last : ℤ) (t : LocalTimeType) → ((v : ℤ) (s : LocalTimeType) → low ≤ℤ v → v ≤ℤ last → IsClock z v s → s ≡ t) → HasOneType z low last
+  one_type_of low last t all v w s s' a b c d first second = all v s a b first ∙ sym (all w s' c d second)
+
+  -- no change lies inside such a span
+  none_inside : (low last : ℤ) → HasOneType z low last → (c : Change) → low <ℤ c.unix_time → c.unix_time ≤ℤ last → ¬ IsChange z c
+  none_inside low last one c above below change =
+      change.differ (one (c.unix_time -ℤ pos 1) c.unix_time c.before c.after (omega (arith, ints, above)) (omega (arith, ints, below)) (omega (arith, ints, above)) below change.before_is change.after_is)
+
+  -- nor where one goes on
+  pub none_up : (u low last : ℤ) → HasNoChange z u (low +ℤ pos 1) → HasOneType z low last → HasNoChange z u (last +ℤ pos 1)
+  none_up u low last none one c above below =
+      by_lt_z low c.unix_time (λ over change. none_inside low last one c over (omega (arith, ints, below)) change) (λ up. none c above (omega (arith, ints, up)))
+
+  pub none_until : (u low m : ℤ) → low <ℤ m → HasNoChange z u (low +ℤ pos 1) → HasOneType z low (m -ℤ pos 1) → HasNoChange z u m
+  none_until u low m order none one c above below = none_up u low (m -ℤ pos 1) none one c above (omega (arith, ints, below))
+
+  pub none_down : (u low last : ℤ) → HasNoChange z last u → HasOneType z low last → HasNoChange z low u
+  none_down u low last none one c above below =
+      by_lt_z last c.unix_time (λ over. none c over below) (λ up change. none_inside low last one c above up change)
+
+  pub none_joined : (low mid u : ℤ) → HasNoChange z low (mid +ℤ pos 1) → HasNoChange z mid u → HasNoChange z low u
+  none_joined low mid u before after c above below = by_lt_z mid c.unix_time (λ over. after c over below) (λ up. before c above (omega (arith, ints, up)))
+
+  -- nor at an instant at which there is none
+  pub none_at : (u m : ℤ) → HasNoChange z u m → ((c : Change) → c.unix_time ≡ m → ¬ IsChange z c) → HasNoChange z u (m +ℤ pos 1)
+  none_at u m none at c above below = by_lt_z c.unix_time m (none c above) (λ from. at c (omega (arith, ints, below, from)))
+
+  pub none_back : (u m : ℤ) → HasNoChange z m u → ((c : Change) → c.unix_time ≡ m → ¬ IsChange z c) → HasNoChange z (m -ℤ pos 1) u
+  none_back u m none at c above below = by_lt_z m c.unix_time (λ over. none c over below) (λ up. at c (omega (arith, ints, above, up)))
+
+  -- the change at the end is the first one
+  pub is_following : (u m : ℤ) (c : Change) → u <ℤ m → HasNoChange z u m → c.unix_time ≡ m → IsChange z c → IsFollowing z u c
+  is_following u m c order none at change = record { is = change; above = omega (arith, ints, order, at); least = λ d above below. none d above (omega (arith, ints, at, below)) }
+
+  pub is_preceding : (u m : ℤ) (c : Change) → m <ℤ u → HasNoChange z m u → c.unix_time ≡ m → IsChange z c → IsPreceding z u c
+  is_preceding u m c order none at change = record { is = change; below = omega (arith, ints, order, at); greatest = λ d above below. none d (omega (arith, ints, at, above)) below }
+
+  -- after a span without one comes the one after it
+  pub following_later : (u s : ℤ) (c : Change) → u ≤ℤ s → HasNoChange z u (s +ℤ pos 1) → IsFollowing z s c → IsFollowing z u c
+  following_later u s c order none found = record {
+    is = found.is;
+    above = omega (arith, ints, order, found.above);
+    least = λ d above below. by_lt_z s d.unix_time (λ over. found.least d over below) (λ up. none d above (omega (arith, ints, up)));
+  }
+
+  pub no_following_later : (u s : ℤ) → HasNoChange z u (s +ℤ pos 1) → HasNoFollowing z s → HasNoFollowing z u
+  no_following_later u s none behind c above = by_lt_z s c.unix_time (behind c) (λ up. none c above (omega (arith, ints, up)))
+
+  pub preceding_earlier : (u w : ℤ) (c : Change) → w ≤ℤ u → HasNoChange z (w -ℤ pos 1) u → IsPreceding z w c → IsPreceding z u c
+  preceding_earlier u w c order none found = record {
+    is = found.is;
+    below = omega (arith, ints, order, found.below);
+    greatest = λ d above below. by_lt_z d.unix_time w (λ under. found.greatest d above under) (λ from. none d (omega (arith, ints, from)) below);
+  }
+
+  -- the ends of 64 bits
+  pub none_to_end : (u last : ℤ) → last ≡ pos 9223372036854775807 → HasNoChange z u (last +ℤ pos 1) → HasNoFollowing z u
+  none_to_end u last end none c above change = none c above (omega (arith, ints, end, change.up_to)) change
+
+  pub none_from_start : (low u : ℤ) → low ≤ℤ negsuc 9223372036854775807 → HasNoChange z low u → HasNoPreceding z u
+  none_from_start low u start none c below change = none c (omega (arith, ints, start, change.not_least)) below change
+
+  -- a type that is held to the end of a segment was held through what is spread up to its beginning
+  pub spread_over : (since time last : ℤ) (t : LocalTimeType) → time ≤ℤ last → IsSpread z time since time → ((v : ℤ) → time ≤ℤ v → v ≤ℤ last → IsClock z v t) → (v : ℤ) → since ≤ℤ v → v ≤ℤ last → IsClock z v t
+  spread_over since time last t order spread holds v from to =
+      by_lt_z v time (λ before. spread v t from (omega (arith, ints, before)) (holds time (omega (arith, ints)) order)) (λ up. holds v up to)
+
+  pub spread_back : (until time from : ℤ) (t : LocalTimeType) → from ≤ℤ time → IsSpread z time time until → ((v : ℤ) → from ≤ℤ v → v ≤ℤ time → IsClock z v t) → (v : ℤ) → from ≤ℤ v → v ≤ℤ until → IsClock z v t
+  spread_back until time from t order spread holds v low high =
+      by_lt_z time v (λ over. spread v t (omega (arith, ints, over)) high (holds time order (omega (arith, ints)))) (λ up. holds v low up)
+
+  -- it goes on over the next instant, where that has the same type
+  pub spread_on : (since next : ℤ) (t : LocalTimeType) (after : Option (Bor LocalTimeType)) → ((v : ℤ) → since ≤ℤ v → v <ℤ next → IsClock z v t) → IfSome after (λ b. t ≡ b.now)
+      → MatchOption after (HasNoType z next) (λ b. IsClock z next b.now) → IsSpread z next since next
+  spread_on since next t None holds same is v s from to clock = absurd (is s clock)
+  spread_on since next t (Some b) holds same is v s from to clock =
+      by_lt_z v next (λ before. subst (λ (x : LocalTimeType). IsClock z v x) (same ∙ one_type z next b.now s is clock) (holds v from before))
+      (λ up. let e : next ≡ v = omega (arith, ints, up, to) in subst (λ (w : ℤ). IsClock z w s) e clock)
+
+  pub spread_before : (until before : ℤ) (t : LocalTimeType) (type : Option (Bor LocalTimeType)) → ((v : ℤ) → before <ℤ v → v ≤ℤ until → IsClock z v t) → IfSome type (λ a. a.now ≡ t)
+      → MatchOption type (HasNoType z before) (λ a. IsClock z before a.now) → IsSpread z before before until
+  spread_before until before t None holds same is v s from to clock = absurd (is s clock)
+  spread_before until before t (Some a) holds same is v s from to clock =
+      by_lt_z before v (λ over. subst (λ (x : LocalTimeType). IsClock z v x) (sym same ∙ one_type z before a.now s is clock) (holds v over to))
+      (λ up. let e : before ≡ v = omega (arith, ints, up, from) in subst (λ (w : ℤ). IsClock z w s) e clock)
+
+  pub spread_at : (u : ℤ) → IsSpread z u u u
+  spread_at u v t from to clock = let e : u ≡ v = omega (arith, ints, from, to) in subst (λ (w : ℤ). IsClock z w t) e clock
+
+-- the clock of a zone that has a rule and no transitions
+module _ (z : Zone) (none : z.transitions ≡ []) (rule : TransitionRule) (is : z.extra_rule ≡ Some rule) where
+  pub clock_of_rule : (v : ℤ) (t : LocalTimeType) → IsRuleType rule v t → IsClock z v t
+  clock_of_rule v t type = inl (none, subst (λ (o : Option TransitionRule). IsTypeWithout z o v t) (sym is) type)
+
+  pub rule_of_clock : (v : ℤ) (t : LocalTimeType) → IsClock z v t → IsRuleType rule v t
+  rule_of_clock v t clock = subst (λ (o : Option TransitionRule). IsTypeWithout z o v t) is ((clock_without z none v t).1 clock)
+
+  pub clock_if_rule : (v : ℤ) (type : Option (Bor LocalTimeType)) → MatchOption type ((t : LocalTimeType) → ¬ IsRuleType rule v t) (λ t. IsRuleType rule v t.now)
+      → MatchOption type (HasNoType z v) (λ t. IsClock z v t.now)
+  clock_if_rule v (Some t) h = clock_of_rule v t.now h
+  clock_if_rule v None h = λ t clock. h t (rule_of_clock v t clock)
+
+  -- where the rule has one type there is no change
+  pub none_if_one : (t : LocalTimeType) → ((v : ℤ) (other : LocalTimeType) → IsRuleType rule v other → other ≡ t) → (c : Change) → ¬ IsChange z c
+  none_if_one t all c change =
+      change.differ (all (c.unix_time -ℤ pos 1) c.before (rule_of_clock (c.unix_time -ℤ pos 1) c.before change.before_is) ∙ sym (all c.unix_time c.after (rule_of_clock c.unix_time c.after change.after_is)))
+
+-- what an option holds that is known to hold something
+pub if_some : {X : Type 0} (o : Option X) (P : Type 0) → is_some o ≡ true → ((x : X) → o ≡ Some x → P) → P
+if_some (Some x) P e f = f x refl
+if_some None P e f = absurd (false≢true e)
+
+pub some_held : {X : Type 0} (o : Option X) (x : X) (P : X → Type 0) → o ≡ Some x → IfSome o P → P x
+some_held {X = X} o x P is h = subst (λ (p : Option X). IfSome p P) is h
+
+pub none_held : {X : Type 0} (o : Option X) (P : Type 0) (Q : X → Type 0) → o ≡ None → MatchOption o P Q → P
+none_held o P Q is h = subst (λ p. MatchOption p P Q) is h

@@ -1,0 +1,222 @@
+-- Places between two others, and the clock where transitions are to one type.
+use Rattle.std.proofs.Common.{◌≡◌, ◌≢◌, ◌∙◌, ℕ, zero, suc, ◌+◌, ◌-◌, ◌<◌, ◌≤◌, inl, inr, refl, sym, ap, subst, arith, ℤ, pos, negsuc, ◌-ℤ◌, ◌≤ℤ◌, ◌<ℤ◌, List, [], ◌∷◌, length, get_or, Option, Some, None}
+use Rattle.std.specs.Prelude.{slice_get, MatchOption}
+use Rattle.std.specs.Borrow.{Bor}
+use Rattle.std.proofs.lemmas.Int.{ints, by_lt_z}
+use Rattle.std.proofs.lemmas.Bool.{cases_lt}
+use Rattle.std.proofs.lemmas.Option.{slice_get_within, slice_get-get_or, same_Some}
+use Rattle.tz_rule.specs.LocalTimeType.{LocalTimeType}
+use Rattle.tz_zone.specs.Table.{Transition, Zone}
+use Rattle.tz_zone.specs.LeapTime.{IsLeapTimeRefused, IsLeapTime, IsTimeReached, IsMomentOf}
+use Rattle.tz_zone.specs.Clock.{AreReached, AreAhead, IsPlaceAt, IsTypeAt, IsTypeOfLast, IsTypeAfter, IsClock, HasNoType}
+use Rattle.tz_zone.specs.ClockSegments.{from_start, IsReachedAt}
+use Rattle.tz_zone.specs.ValidZone.{IsRising, IsSoundTable}
+use Rattle.tz_zone.specs.Changes.{HasNoChange, HasNoPreceding}
+use Rattle.tz_zone.proofs.LeapTimes.{leap_time_mono, leap_time_unique, one_leap_time}
+use Rattle.tz_zone.proofs.RisingTimes.{ahead_from, reached_through, transitions_rise}
+use Rattle.tz_zone.proofs.Clocks.{one_type, clock_from_last, type_after_from_clock}
+use Rattle.tz_zone.proofs.Places.{clock_at_place}
+use Rattle.tz_zone.proofs.TypesAtCursors.{plain_leap, leap_unless_refused, answered_between, answered_from_moment, reached_from_moment, moment_ahead}
+use Rattle.tz_zone.proofs.ChangeSpans.{HasOneType, one_type_of, none_down, none_from_start}
+
+-- an instant at which the clock has a type has a leap time
+pub leap_of_clock : (z : Zone) → z.transitions ≢ [] → (v : ℤ) (t : LocalTimeType) → IsClock z v t → (l : ℤ) × IsLeapTime z.leap_seconds v l
+leap_of_clock z some v t (inl (none, type)) = absurd (some none)
+leap_of_clock z some v t (inr (last, is_last, (l, leap, side))) = (l, leap)
+
+pub some_transitions : (list : List Transition) (i : ℕ) → i < length list → list ≢ []
+some_transitions [] i within none = absurd (omega (arith, within))
+some_transitions (x ∷ rest) i within none = absurd (omega (arith, ap length none))
+
+-- a zone has one type at a place
+pub one_type_of_last : (z : Zone) (k : ℕ) (a b : LocalTimeType) → IsTypeOfLast z k a → IsTypeOfLast z k b → a ≡ b
+one_type_of_last z k a b (inl (none, first)) (inl (none', second)) = same_Some a b (sym first ∙ second)
+one_type_of_last z k a b (inl (none, first)) (inr (some, change, at, second)) = absurd (some none)
+one_type_of_last z k a b (inr (some, change, at, first)) (inl (none, second)) = absurd (some none)
+one_type_of_last z k a b (inr (some, change, at, first)) (inr (some', change', at', second)) =
+    same_Some a b (sym first ∙ ap (λ (x : Transition). slice_get z.types x.type_index) (same_Some change change' (sym at ∙ at')) ∙ second)
+
+module _ (z : Zone) (sound : IsSoundTable z) where
+  rising : IsRising z.transitions
+  rising i = (sound.transitions_are i).1
+
+  -- a leap time at which the transitions before one place are reached, and those from another one on are ahead, lies at a place between them
+  place_between : (l : ℤ) (d k : ℕ) → k + d ≤ length z.transitions → AreReached z.transitions l k → AreAhead z.transitions l (k + d) → (p : ℕ) × (k ≤ p) × (p ≤ k + d) × IsPlaceAt z.transitions l p
+  place_between l zero k within reached ahead = (k, omega arith, omega arith, (reached, λ i change from at. ahead i change (omega (arith, from)) at))
+  place_between l (suc d) k within reached ahead =
+      let change = get_or z.transitions (k + d) from_start in
+      let at = slice_get-get_or z.transitions (k + d) from_start (omega (arith, within)) in
+      by_lt_z l change.unix_leap_time
+      (λ before. let found = place_between l d k (omega (arith, within)) reached (ahead_from z.transitions rising l (k + d) change at before) in (found.0, found.1, omega (arith, found.2), found.3))
+      (λ from. (
+        k + suc d,
+        omega arith,
+        omega arith,
+        ((λ i other less at_i. reached_through z.transitions rising l (k + d) change at from i other (omega (arith, less)) at_i), ahead),
+      ))
+
+  -- where all places from one up to another have the same type, the clock has it from the first up to the transition after the second
+  clock_between : (k i : ℕ) (t : LocalTimeType) (v l : ℤ) → k ≤ i → i < length z.transitions → ((j : ℕ) → k ≤ j → j ≤ i → IsTypeOfLast z j t)
+      → IsLeapTime z.leap_seconds v l → AreReached z.transitions l k → AreAhead z.transitions l i → IsClock z v t
+  clock_between k i t v l order inside types leap reached ahead =
+      let back : k + (i - k) ≡ i = omega (arith, order) in
+      let found = place_between l (i - k) k (omega (arith, order, inside)) reached (subst (λ (j : ℕ). AreAhead z.transitions l j) (sym back) ahead) in
+      clock_at_place z sound found.0 v t (omega (arith, found.2, back, inside)) (record { time = l; time_is = leap; reached = found.3.0; ahead = found.3.1 })
+      (types found.0 found.1 (omega (arith, found.2, back)))
+
+  -- so it does from an instant at the first place until the transition after the second is reached
+  module _ (k end : ℕ) (since : ℤ) (t : LocalTimeType) (change : Transition) (at : IsReachedAt z since k) (order : k ≤ end) (at_end : slice_get z.transitions end ≡ Some change)
+      (types : (j : ℕ) → k ≤ j → j ≤ end → IsTypeOfLast z j t) where
+    pub clock_until : (v l : ℤ) → since ≤ℤ v → IsLeapTime z.leap_seconds v l → l <ℤ change.unix_leap_time → IsClock z v t
+    clock_until v l from leap before =
+        clock_between k end t v l order (slice_get_within z.transitions end change at_end) types leap
+        (λ i other less at_i. omega (arith, ints, at.reached i other less at_i, leap_time_mono z.leap_seconds sound.leap_seconds_are since v at.time l from at.time_is leap))
+        (ahead_from z.transitions rising l end change at_end before)
+
+    pub one_type_until : (last : ℤ) → ((v : ℤ) → v ≤ℤ last → ¬ IsTimeReached z.leap_seconds change.unix_leap_time v) → HasOneType z since last
+    one_type_until last ahead = one_type_of z since last t (λ v s from to clock.
+        let leap = leap_of_clock z (some_transitions z.transitions end (slice_get_within z.transitions end change at_end)) v s clock in
+        one_type z v s t clock (clock_until v leap.0 from leap.1 (by_lt_z leap.0 change.unix_leap_time (λ h. h) (λ h. absurd (ahead v to (leap.0, leap.1, h))))))
+
+    -- where it takes effect comes later
+    pub effect_later : (m : ℤ) → IsMomentOf z.leap_seconds change.unix_leap_time m → since <ℤ m
+    effect_later m moment = moment_ahead z.leap_seconds sound.leap_seconds_are since change.unix_leap_time m at.time_is.not_refused
+        (λ reached. absurd (omega (arith, ints, reached.2, at.ahead end change order at_end, leap_time_unique z.leap_seconds sound.leap_seconds_are since at.time reached.0 at.time_is reached.1)))
+        moment
+
+    -- and right before that it still has the type
+    pub clock_before_effect : (m : ℤ) → IsMomentOf z.leap_seconds change.unix_leap_time m → ¬ IsLeapTimeRefused z.leap_seconds m → IsClock z (m -ℤ pos 1) t
+    clock_before_effect m moment answered =
+        let later = effect_later m moment in
+        let leap = leap_unless_refused z.leap_seconds sound.leap_seconds_are (m -ℤ pos 1)
+        (answered_between z.leap_seconds sound.leap_seconds_are since m (m -ℤ pos 1) at.time_is.not_refused answered (omega (arith, ints, later)) (omega (arith, ints))) in
+        clock_until (m -ℤ pos 1) leap.0 (omega (arith, ints, later)) leap.1
+        (by_lt_z leap.0 change.unix_leap_time (λ h. h) (λ h. absurd (omega (arith, ints, moment.least (m -ℤ pos 1) (leap.0, leap.1, h)))))
+
+  -- right before a transition takes effect the place comes before it
+  pub place_earlier : (start : ℕ) (m : ℤ) (change : Transition) → 0 < start → slice_get z.transitions (start - 1) ≡ Some change → IsMomentOf z.leap_seconds change.unix_leap_time m
+      → (e : ℕ) → IsReachedAt z (m -ℤ pos 1) e → e < start
+  place_earlier start m change some at_start moment e at = elim (cases_lt e start) [
+    | inl less ↦ less
+    | inr more ↦ absurd (omega (arith, ints, moment.least (m -ℤ pos 1) (at.time, at.time_is, at.reached (start - 1) change (omega (arith, some, more)) at_start)))
+  ]
+
+  -- before the first transition there is no change
+  pub none_at_front : z.transitions ≢ [] → (w u : ℤ) → IsReachedAt z w 0 → HasNoChange z w u → HasNoPreceding z u
+  none_at_front some w u at none = none_from_start z (negsuc 9223372036854775807) u (omega (arith, ints)) (none_down z u (negsuc 9223372036854775807) w none (λ v v' s s' a b d e first second.
+      let (t, is) = type_0 z.types refl in
+      one_type z v s t first (at_front v s t b is first) ∙ one_type z v' t s' (at_front v' s' t e is second) second))
+    where
+      some_length : (list : List Transition) → list ≢ [] → 0 < length list
+      some_length [] some = absurd (some refl)
+      some_length (x ∷ rest) some = omega arith
+
+      type_0 : (types : List LocalTimeType) → z.types ≡ types → (t : LocalTimeType) × IsTypeAt z 0 t
+      type_0 [] none = absurd (sound.has_types none)
+      type_0 (t ∷ types) is = (t, ap (λ (xs : List LocalTimeType). slice_get xs 0) is)
+
+      at_front : (v : ℤ) (s t : LocalTimeType) → v ≤ℤ w → IsTypeAt z 0 t → IsClock z v s → IsClock z v t
+      at_front v s t to type clock =
+          let leap = leap_of_clock z some v s clock in
+          clock_at_place z sound 0 v t (some_length z.transitions some) (record {
+            time = leap.0;
+            time_is = leap.1;
+            reached = λ i change less at_i. absurd (omega (arith, less));
+            ahead = λ i change above at_i. omega (arith, ints, at.ahead i change above at_i, leap_time_mono z.leap_seconds sound.leap_seconds_are v w leap.0 at.time to leap.1 at.time_is);
+          }) (inl (refl, type))
+
+  -- back from an instant at a place to where a transition before it took effect, that transition is reached
+  module _ (start k : ℕ) (w m : ℤ) (change : Transition) (at : IsReachedAt z w k) (some : 0 < start) (order : start ≤ k) (at_start : slice_get z.transitions (start - 1) ≡ Some change)
+      (moment : IsMomentOf z.leap_seconds change.unix_leap_time m) where
+    before_now : change.unix_leap_time ≤ℤ at.time
+    before_now = at.reached (start - 1) change (omega (arith, some, order)) at_start
+
+    pub effect_up_to : m ≤ℤ w
+    effect_up_to = moment.least w (at.time, at.time_is, before_now)
+
+    leap_since : (v : ℤ) → m ≤ℤ v → v ≤ℤ w → (l : ℤ) × IsLeapTime z.leap_seconds v l × (change.unix_leap_time ≤ℤ l)
+    leap_since v from to =
+        let leap = leap_unless_refused z.leap_seconds sound.leap_seconds_are v (answered_from_moment z.leap_seconds sound.leap_seconds_are w at.time at.time_is change.unix_leap_time m v moment from to) in
+        (leap.0, leap.1, reached_from_moment z.leap_seconds sound.leap_seconds_are w at.time at.time_is change.unix_leap_time m v leap.0 moment before_now from leap.1)
+
+    reached_since : (v : ℤ) (from : m ≤ℤ v) (to : v ≤ℤ w) → AreReached z.transitions (leap_since v from to).0 start
+    reached_since v from to i other less at_i = reached_through z.transitions rising (leap_since v from to).0 (start - 1) change at_start (leap_since v from to).2 i other (omega (arith, less, some)) at_i
+
+    -- where all are reached at the later instant, and none comes after, they are from there on
+    pub place_since : start ≡ length z.transitions → (v : ℤ) → m ≤ℤ v → v ≤ℤ w → IsReachedAt z v start
+    place_since all v from to = record {
+      time = (leap_since v from to).0;
+      time_is = (leap_since v from to).1;
+      reached = reached_since v from to;
+      ahead = λ i other above at_i. absurd (omega (arith, all, above, slice_get_within z.transitions i other at_i));
+    }
+
+    -- and where the places in between have one type, the clock has it
+    pub clock_since : (t : LocalTimeType) → k < length z.transitions → ((j : ℕ) → start ≤ j → j ≤ k → IsTypeOfLast z j t) → (v : ℤ) → m ≤ℤ v → v ≤ℤ w → IsClock z v t
+    clock_since t inside types v from to =
+        let leap = leap_since v from to in
+        clock_between start k t v leap.0 order inside types leap.1 (reached_since v from to)
+        (λ i other above at_i. omega (arith, ints, at.ahead i other above at_i, leap_time_mono z.leap_seconds sound.leap_seconds_are v w leap.0 at.time to leap.1 at.time_is))
+
+    pub answered_at_effect : ¬ IsLeapTimeRefused z.leap_seconds m
+    answered_at_effect = answered_from_moment z.leap_seconds sound.leap_seconds_are w at.time at.time_is change.unix_leap_time m m moment (omega (arith, ints)) effect_up_to
+
+    -- the type at the first of these places is that of all
+    module _ (inside : k < length z.transitions) (run : (t : LocalTimeType) × ((j : ℕ) → start ≤ j → j ≤ k → IsTypeOfLast z j t)) where
+      pub clock_of_run : (s : LocalTimeType) → IsTypeOfLast z start s → (v : ℤ) → m ≤ℤ v → v ≤ℤ w → IsClock z v s
+      clock_of_run s type v from to = subst (λ (x : LocalTimeType). IsClock z v x) (one_type_of_last z start run.0 s (run.1 start (omega arith) order) type) (clock_since run.0 inside run.1 v from to)
+
+      -- and no change comes after it took effect
+      pub none_in_run : (u : ℤ) → HasNoChange z w u → HasNoChange z m u
+      none_in_run u none = none_down z u m w none (one_type_of z m w run.0 (λ v s from to clock. one_type z v s run.0 clock (clock_since run.0 inside run.1 v from to)))
+
+-- after a transition its type holds
+pub type_after : (z : Zone) (i : ℕ) (change : Transition) (t : LocalTimeType) → slice_get z.transitions i ≡ Some change → IsTypeAt z change.type_index t → IsTypeOfLast z (i + 1) t
+type_after z i change t at type =
+    let back : i ≡ i + 1 - 1 = omega arith in
+    inr ((λ none. absurd (omega (arith, none))), change, subst (λ (j : ℕ). slice_get z.transitions j ≡ Some change) back at, type)
+
+-- what holds at places in turn, and at the next or the one before
+pub types_on : (z : Zone) (k end : ℕ) (t : LocalTimeType) → ((i : ℕ) → k ≤ i → i ≤ end → IsTypeOfLast z i t) → IsTypeOfLast z (end + 1) t → (i : ℕ) → k ≤ i → i ≤ end + 1 → IsTypeOfLast z i t
+types_on z k end t types next i from to = elim (cases_lt i (end + 1)) [
+  | inl less ↦ types i from (omega (arith, less))
+  | inr more ↦ let e : end + 1 ≡ i = omega (arith, more, to) in subst (λ (j : ℕ). IsTypeOfLast z j t) e next
+]
+
+pub types_back : (z : Zone) (start k : ℕ) (t : LocalTimeType) → ((i : ℕ) → start ≤ i → i ≤ k → IsTypeOfLast z i t) → IsTypeOfLast z (start - 1) t → (i : ℕ) → start - 1 ≤ i → i ≤ k → IsTypeOfLast z i t
+types_back z start k t types before i from to = elim (cases_lt i start) [
+  | inl less ↦ let e : start - 1 ≡ i = omega (arith, less, from) in subst (λ (j : ℕ). IsTypeOfLast z j t) e before
+  | inr more ↦ types i (omega (arith, more)) to
+]
+
+-- without leap seconds the effect of a transition lies right after it
+pub plain_place : (z : Zone) → IsSoundTable z → z.leap_seconds ≡ [] → (i : ℕ) (m : ℤ) (change : Transition) → slice_get z.transitions i ≡ Some change → IsMomentOf z.leap_seconds change.unix_leap_time m → IsReachedAt z m (i + 1)
+plain_place z sound none i m change at moment = record {
+  time = m;
+  time_is = plain_leap z.leap_seconds none m;
+  reached = reached_through z.transitions rising m i change at (omega (arith, ints, reached.2, one_leap_time z.leap_seconds m reached.0 m reached.1 (plain_leap z.leap_seconds none m)));
+  ahead = λ j later above at_j. omega (arith, ints, up_to, transitions_rise z.transitions rising i j change later (omega (arith, above)) at at_j);
+}
+  where
+    rising : IsRising z.transitions
+    rising j = (sound.transitions_are j).1
+
+    reached : IsTimeReached z.leap_seconds change.unix_leap_time m
+    reached = moment.reached (plain_leap z.leap_seconds none m).not_refused
+
+    up_to : m ≤ℤ change.unix_leap_time
+    up_to = moment.least change.unix_leap_time (change.unix_leap_time, plain_leap z.leap_seconds none change.unix_leap_time, omega (arith, ints))
+
+-- where all transitions are reached the clock has the type after the last one, or none
+pub clock_from_end : (z : Zone) → IsSoundTable z → 0 < length z.transitions → (u : ℤ) → IsReachedAt z u (length z.transitions) → (t : LocalTimeType) → (IsTypeAfter z.extra_rule u t → IsClock z u t) × (IsClock z u t → IsTypeAfter z.extra_rule u t)
+clock_from_end z sound some u at t =
+    let last = get_or z.transitions (length z.transitions - 1) from_start in
+    let is_last = slice_get-get_or z.transitions (length z.transitions - 1) from_start (omega (arith, some)) in
+    let from = at.reached (length z.transitions - 1) last (omega (arith, some)) is_last in
+    (clock_from_last z sound.leap_seconds_are last is_last u at.time at.time_is t from, type_after_from_clock z sound.leap_seconds_are last is_last u at.time at.time_is t from)
+
+pub types_from_last : (z : Zone) → IsSoundTable z → 0 < length z.transitions → (u : ℤ) → IsReachedAt z u (length z.transitions)
+    → (type : Option (Bor LocalTimeType)) → MatchOption type ((t : LocalTimeType) → ¬ IsTypeAfter z.extra_rule u t) (λ t. IsTypeAfter z.extra_rule u t.now)
+    → MatchOption type (HasNoType z u) (λ t. IsClock z u t.now)
+types_from_last z sound some u at (Some t) is = (clock_from_end z sound some u at t.now).0 is
+types_from_last z sound some u at None is = λ t clock. is t ((clock_from_end z sound some u at t).1 clock)
