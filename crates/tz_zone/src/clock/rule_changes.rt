@@ -46,7 +46,7 @@ pub(super) fn following_by_rule<'a>(parts: OtherParts<'a>, unix_time: i64) -> Op
     requires { IsSoundTable (zone_seen [] parts) }
     ensures { MatchOption result (HasNoFollowing (zone_seen [] parts.entry) unix_time) (λ c. IsFollowing (zone_seen [] parts.entry) unix_time (change_of c)) }
 {
-    let rule = parts.extra_rule?;
+    let rule = parts.extra_rule.lent()?;
     let mut since = unix_time;
     let mut time = unix_time;
     loop {
@@ -76,7 +76,7 @@ pub(super) fn preceding_by_rule<'a>(parts: OtherParts<'a>, unix_time: i64) -> Op
     requires not_least { negsuc 9223372036854775807 <ℤ unix_time }
     ensures { MatchOption result (HasNoPreceding (zone_seen [] parts.entry) unix_time) (λ c. IsPreceding (zone_seen [] parts.entry) unix_time (change_of c)) }
 {
-    let rule = parts.extra_rule?;
+    let rule = parts.extra_rule.lent()?;
     let mut until = unix_time - 1;
     let mut time = until;
     loop {
