@@ -49,6 +49,11 @@ pub fn is_reading(reading: i64) -> bool
 
 impl Fields {
     /// Whether the fields are those of a date time; second 60 is one of every minute.
+    ///
+    /// # Errors
+    ///
+    /// The variant of the first field that is out of range, in the order of the fields, or else [`DateTimeError::InvalidMonthDay`] if the month does
+    /// not have the day.
     pub fn check(&self) -> Result<(), DateTimeError>
         ensures ok { OnOk result (IsValid self.now) }
         ensures err { IfErr result (IsFirstFault self.now) }

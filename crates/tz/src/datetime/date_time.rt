@@ -120,11 +120,14 @@ impl DateTime {
     ghost use Rattle.tz_zone.specs.ZoneRef.{zone_of};
     ghost use Rattle.tz.specs.DateTimes.{fields_of, DateTime, IsDateTime, ShowsInstant, IsShowFault, IsLocalFault, total_of, IsNearTotal, IsForwards, IsBackwards, ShowsByClock, IsClockFault, IsTotalFault, IsTotalClockFault, ShowsTotal, ShowsTotalByClock};
 
-    /// The date time with these fields, which the type shows: the month from 1 to 12, the day of the month from 1, the hour from 0
-    /// to 23, the minute from 0 to 59, the second from 0 to 60 and the nanoseconds below 10^9.
+    /// The date time with these fields, which the type shows: the month from 1 to 12, the day of the month from 1, the hour from 0 to 23, the minute
+    /// from 0 to 59, the second from 0 to 60 and the nanoseconds below 10^9.
     ///
-    /// The fields are checked in this order, and then that the month has the day (`InvalidMonthDay`). `OutOfRange`: the year in UTC does
-    /// not fit an `i32`.
+    /// # Errors
+    ///
+    /// - [`TzError::DateTime`] with the first field that is out of range, in the order of the arguments, or else with `InvalidMonthDay` if the month
+    ///   does not have the day;
+    /// - [`TzError::OutOfRange`] if the year in UTC does not fit an `i32`.
     pub fn new(
         year: i32,
         month: u8,
@@ -191,7 +194,10 @@ impl DateTime {
 
     /// The date time that the type shows at a Unix time, with nanoseconds below 10^9.
     ///
-    /// `OutOfRange`: the year that it shows does not fit an `i32`.
+    /// # Errors
+    ///
+    /// - [`TzError::DateTime`] with [`DateTimeError::InvalidNanoseconds`] if there are 10^9 nanoseconds or more;
+    /// - [`TzError::OutOfRange`] if the year that the type shows does not fit an `i32`.
     pub fn from_timespec_and_local(
         unix_time: i64,
         nanoseconds: u32,
@@ -231,9 +237,6 @@ impl DateTime {
 
     /// The date time that the zone's clock shows at a Unix time, with nanoseconds below 10^9.
     ///
-    /// The errors are, in this order: `InvalidNanoseconds`; those of [`TimeZoneRef::find_local_time_type`] if the zone's clock has no
-    /// type at the instant (`NoAvailableLocalTimeType`, `OutOfRange`); and `OutOfRange` if the year does not fit an `i32`.
-    ///
     /// What clocks of a zone show at a Unix time, and the name of their time:
     ///
     /// ```rust
@@ -247,6 +250,13 @@ impl DateTime {
     ///     Ok(format!(in alloc; "{date_time} {name}")?)
     /// }
     /// ```
+    ///
+    /// # Errors
+    ///
+    /// - [`TzError::DateTime`] with [`DateTimeError::InvalidNanoseconds`] if there are 10^9 nanoseconds or more;
+    /// - [`TzError::NoAvailableLocalTimeType`] or [`TzError::OutOfRange`] of [`TimeZoneRef::find_local_time_type`] if the clock has no type at the
+    ///   instant;
+    /// - [`TzError::OutOfRange`] if the year that the clock shows does not fit an `i32`.
     #[inline(always)]
     pub fn from_timespec(
         unix_time: i64,
@@ -266,7 +276,9 @@ impl DateTime {
 
     /// The date time that the type shows a number of nanoseconds after 1970-01-01T00:00:00Z, or before it if the number is negative.
     ///
-    /// `OutOfRange`: the year that it shows does not fit an `i32`.
+    /// # Errors
+    ///
+    /// [`TzError::OutOfRange`] if the year that the type shows does not fit an `i32`.
     pub fn from_total_nanoseconds_and_local(
         total_nanoseconds: i128,
         local_time_type: LocalTimeType,
@@ -282,7 +294,10 @@ impl DateTime {
 
     /// The date time that the zone's clock shows a number of nanoseconds after 1970-01-01T00:00:00Z, or before it if the number is negative.
     ///
-    /// `OutOfRange`: the seconds do not fit an `i64`. Otherwise the errors are those of [`DateTime::from_timespec`].
+    /// # Errors
+    ///
+    /// - [`TzError::OutOfRange`] if the seconds do not fit an `i64`;
+    /// - those of [`DateTime::from_timespec`] at an instant with valid nanoseconds.
     pub fn from_total_nanoseconds(
         total_nanoseconds: i128,
         time_zone_ref: TimeZoneRef<'_>,
@@ -296,7 +311,11 @@ impl DateTime {
         DateTime::from_timespec(unix_time, nanoseconds, time_zone_ref)
     }
 
-    /// What the zone's clock shows at this instant. The errors are those of [`DateTime::from_timespec`].
+    /// What the zone's clock shows at this instant.
+    ///
+    /// # Errors
+    ///
+    /// Those of [`DateTime::from_timespec`] at an instant with valid nanoseconds.
     pub fn project(&self, time_zone_ref: TimeZoneRef<'_>) -> Result<Self, TzError>
         ensures ok { IfOk result (ShowsByClock (zone_of time_zone_ref.entry) self.now.unix_time self.now.fields.nanoseconds) }
         ensures err { IfErr result (IsClockFault (zone_of time_zone_ref.entry) self.now.unix_time self.now.fields.nanoseconds) }
@@ -304,8 +323,7 @@ impl DateTime {
         DateTime::from_timespec(self.unix_time, self.fields.nanoseconds, time_zone_ref)
     }
 
-    /// What the zone's clock shows at the current time, which the caller passes as Unix seconds and nanoseconds below a second. The errors are
-    /// those of [`DateTime::from_timespec`].
+    /// What the zone's clock shows at the current time, which the caller passes as Unix seconds and nanoseconds below a second.
     ///
     /// What clocks of a zone show now, by the system's clock:
     ///
@@ -316,6 +334,10 @@ impl DateTime {
     ///     Ok(DateTime::now(seconds, since_1970.subsec_nanos(), zone)?)
     /// }
     /// ```
+    ///
+    /// # Errors
+    ///
+    /// Those of [`DateTime::from_timespec`].
     pub fn now(
         unix_time: i64,
         nanoseconds: u32,
@@ -414,7 +436,11 @@ impl DateTime {
         calendar::total_nanoseconds(self.unix_time, self.fields.nanoseconds)
     }
 
-    /// The duration from an earlier date time to this one, or `Err` with the duration in the other direction if that one is later.
+    /// The duration from an earlier date time to this one.
+    ///
+    /// # Errors
+    ///
+    /// The duration from this date time to the other one, if that one is later.
     pub fn duration_since(&self, earlier: Self) -> Result<Duration, Duration>
         ensures ok { IfOk result (IsForwards (total_of earlier) (total_of self.now)) }
         ensures err { IfErr result (IsBackwards (total_of earlier) (total_of self.now)) }

@@ -67,12 +67,17 @@ impl DateTime {
 
     /// All date times at which the zone's clock shows the fields, and the forward jumps over them, in order of Unix time.
     ///
-    /// The month is from 1 to 12, the day of the month from 1, the hour from 0 to 23, the minute from 0 to 59, the second from 0 to
-    /// 60 and the nanoseconds below 10^9. They are checked in this order, and then that the month has the day (`InvalidMonthDay`).
+    /// The month is from 1 to 12, the day of the month from 1, the hour from 0 to 23, the minute from 0 to 59, the second from 0 to 60 and the
+    /// nanoseconds below 10^9. A date time keeps the fields that were passed, second 60 included.
     ///
-    /// A date time keeps the fields that were passed, second 60 included. `OutOfRange`: an entry lies outside the years of an `i32`, as
-    /// only the local time before or after a jump can. This cannot happen 200 years or more from both ends of these years, nor three
-    /// years or more from them if all offsets of the zone are above -25 and below 26 hours. `Memory`: an allocation for the list failed.
+    /// # Errors
+    ///
+    /// - [`TzError::DateTime`] with the first field that is out of range, in the order of the arguments, or else with `InvalidMonthDay` if the month
+    ///   does not have the day;
+    /// - [`TzError::OutOfRange`] if an entry is outside the years of an `i32`, as only the local time before or after a jump can be. This cannot
+    ///   happen 200 years or more from both ends of these years, nor three years or more from them if all offsets of the zone are above -25 and below
+    ///   26 hours;
+    /// - [`TzError::Memory`] if an allocation for the list fails.
     pub fn find<A: Allocator + Copy>(
         alloc: A,
         year: i32,
@@ -102,16 +107,15 @@ impl DateTime {
         find_fields(alloc, &fields, time_zone_ref)
     }
 
-    /// Writes what [`DateTime::find`] returns to the slots of a buffer, as far as they go, and counts all entries. The other slots stay
-    /// as they are.
+    /// Writes what [`DateTime::find`] returns to the slots of a buffer, as far as they go, and counts all entries. The other slots stay as they are.
+    /// This call does not allocate.
     ///
-    /// The month is from 1 to 12, the day of the month from 1, the hour from 0 to 23, the minute from 0 to 59, the second from 0 to
-    /// 60 and the nanoseconds below 10^9. They are checked in this order, and then that the month has the day (`InvalidMonthDay`). If one
-    /// is invalid, nothing is written.
+    /// The month is from 1 to 12, the day of the month from 1, the hour from 0 to 23, the minute from 0 to 59, the second from 0 to 60 and the
+    /// nanoseconds below 10^9. A date time keeps the fields that were passed, second 60 included.
     ///
-    /// A date time keeps the fields that were passed, second 60 included. `OutOfRange`: an entry lies outside the years of an `i32`, as
-    /// only the local time before or after a jump can. This cannot happen 200 years or more from both ends of these years, nor three
-    /// years or more from them if all offsets of the zone are above -25 and below 26 hours. This call does not allocate.
+    /// # Errors
+    ///
+    /// Those of [`DateTime::find`] but `Memory`. If a field is invalid, nothing is written.
     pub fn find_n<'a>(
         buf: &'a mut [Option<FoundDateTimeKind>],
         year: i32,
@@ -150,10 +154,14 @@ impl DateTime {
         }
     }
 
-    /// What [`DateTime::find_n`] returns, with its errors, and how many transitions were read.
+    /// What [`DateTime::find_n`] returns, and how many transitions were read.
     ///
-    /// If a zone has n transitions, of which w take effect in the window of the local time, a search reads at most 2 b + w + 4, where b is
-    /// the number of binary digits of n. The count saturates at `u64::MAX`.
+    /// If a zone has n transitions, of which w take effect in the window of the local time, a search reads at most 2 b + w + 4, where b is the number
+    /// of binary digits of n. The count saturates at `u64::MAX`.
+    ///
+    /// # Errors
+    ///
+    /// Those of [`DateTime::find_n`].
     pub fn find_n_counted<'a>(
         buf: &'a mut [Option<FoundDateTimeKind>],
         year: i32,

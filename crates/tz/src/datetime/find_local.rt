@@ -41,6 +41,11 @@ impl DateTime {
     ///     })
     /// }
     /// ```
+    ///
+    /// # Errors
+    ///
+    /// - [`TzError::OutOfRange`] as for [`DateTime::find`];
+    /// - [`TzError::Memory`] if an allocation for the list fails.
     pub fn find_local<A: Allocator + Copy>(
         alloc: A,
         local: UtcDateTime,
@@ -64,6 +69,10 @@ impl DateTime {
     ///     Ok(DateTime::find_n_local(&mut slots, local, zone)?.count())
     /// }
     /// ```
+    ///
+    /// # Errors
+    ///
+    /// [`TzError::OutOfRange`] as for [`DateTime::find`].
     pub fn find_n_local<'a>(
         buf: &'a mut [Option<FoundDateTimeKind>],
         local: UtcDateTime,

@@ -28,7 +28,11 @@ impl<A: Allocator + Copy> FoundDateTimeList<A> {
         }
     }
 
-    /// A copy of the list, on the same allocator. `Memory`: an allocation failed.
+    /// A copy of the list, on the same allocator.
+    ///
+    /// # Errors
+    ///
+    /// [`TzError::Memory`] if an allocation fails.
     pub fn try_clone(&self) -> Result<Self, TzError>
         ensures ok { IfOk result (λ list. found_of list ≡ found_of self.now) }
         ensures err { IfErr result (λ e. e ≡ TzError.Memory alloc_error) }
@@ -37,7 +41,7 @@ impl<A: Allocator + Copy> FoundDateTimeList<A> {
         Ok(FoundDateTimeList { found })
     }
 
-    /// The date time, where exactly one was found and no jump.
+    /// The date time, if exactly one was found and no jump, and otherwise `None`.
     pub fn unique(&self) -> Option<DateTime>
         ensures { result ≡ unique_of (found_of self.now) }
     {
@@ -47,7 +51,7 @@ impl<A: Allocator + Copy> FoundDateTimeList<A> {
         }
     }
 
-    /// The earliest date time; of a jump the side before it.
+    /// The earliest date time; of a jump the side before it. `None` if nothing was found.
     pub fn earliest(&self) -> Option<DateTime>
         ensures { result ≡ earliest_of (found_of self.now) }
     {
@@ -55,7 +59,7 @@ impl<A: Allocator + Copy> FoundDateTimeList<A> {
         Some(first.first_side())
     }
 
-    /// The latest date time; of a jump the side after it.
+    /// The latest date time; of a jump the side after it. `None` if nothing was found.
     pub fn latest(&self) -> Option<DateTime>
         ensures { result ≡ latest_of (found_of self.now) }
     {

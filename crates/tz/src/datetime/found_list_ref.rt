@@ -64,7 +64,7 @@ impl<'a> FoundDateTimeListRefMut<'a> {
         self.count <= self.buf.len()
     }
 
-    /// The earliest date time that was written; of a jump the side before it.
+    /// The earliest date time that was written; of a jump the side before it. `None` if nothing was written.
     pub fn earliest(&self) -> Option<DateTime>
         ensures { result ≡ earliest_slot (written_of (slots_of self.now) (count_of self.now)) }
     {
@@ -74,7 +74,7 @@ impl<'a> FoundDateTimeListRefMut<'a> {
         }
     }
 
-    /// The latest date time that was written; of a jump the side after it.
+    /// The latest date time that was written; of a jump the side after it. `None` if nothing was written.
     pub fn latest(&self) -> Option<DateTime>
         ensures { result ≡ latest_slot (written_of (slots_of self.now) (count_of self.now)) }
     {
@@ -84,7 +84,7 @@ impl<'a> FoundDateTimeListRefMut<'a> {
         }
     }
 
-    /// The date time, where exactly one was found and no jump, and there was a slot for it.
+    /// The date time, if exactly one was found and no jump, and there was a slot for it, and otherwise `None`.
     pub fn unique(&self) -> Option<DateTime>
         ensures exhaustive { count_of self.now ≤ length (slots_of self.now) → result ≡ unique_slot (written_of (slots_of self.now) (count_of self.now)) }
         ensures short { length (slots_of self.now) < count_of self.now → result ≡ None }

@@ -88,11 +88,16 @@ impl DateTime {
     ghost use Rattle.tz.specs.Found.{EachCanBeMade};
     ghost use Rattle.tz.specs.Meanings.{IsMeaning, IsMeaningFault};
 
-    /// The one date time that a local time means, or `None` if the zone's clock neither shows it nor is set forward over it, or if
-    /// `Reject` rejects it.
+    /// The one date time that a local time means, or `None` if the zone's clock neither shows it nor is set forward over it, or if `Reject` rejects
+    /// it.
     ///
-    /// The fields are checked as by [`DateTime::find`]. If clocks are set forward over the local time, the result is what the clock shows
-    /// at another instant, with the errors of [`DateTime::from_timespec`]. This call does not allocate.
+    /// The fields are in the ranges of [`DateTime::find`]. If the choice means a jump over the local time, the result is what the clock shows at
+    /// another instant, earlier or later. This call does not allocate.
+    ///
+    /// # Errors
+    ///
+    /// - those of [`DateTime::find`] but `Memory`;
+    /// - those of [`DateTime::from_timespec`] at that other instant, if the choice means a jump.
     pub fn find_one(
         year: i32,
         month: u8,
@@ -124,7 +129,7 @@ impl DateTime {
     /// The one date time that a local time means. The local time is passed as a [`UtcDateTime`] with its fields, which serves here as a
     /// date and a time of day without a zone.
     ///
-    /// The result is that of [`DateTime::find_one`] for these fields, which are valid.
+    /// The result is that of [`DateTime::find_one`] for these fields.
     ///
     /// When a daily job at a local time runs next after an instant:
     ///
@@ -150,6 +155,10 @@ impl DateTime {
     ///     Ok(None)
     /// }
     /// ```
+    ///
+    /// # Errors
+    ///
+    /// Those of [`DateTime::find_one`] for fields that are valid.
     pub fn from_local(
         local: UtcDateTime,
         disambiguation: Disambiguation,

@@ -90,9 +90,12 @@ impl DateTime {
 
     /// What the fields mean in the zone: how often clocks show them, and whether they are set forward over them. This call does not allocate.
     ///
-    /// The month is from 1 to 12, the day of the month from 1, the hour from 0 to 23, the minute from 0 to 59, the second from 0 to
-    /// 60 and the nanoseconds below 10^9. They are checked in this order, and then that the month has the day (`InvalidMonthDay`).
-    /// `OutOfRange` is as for [`DateTime::find`].
+    /// The month is from 1 to 12, the day of the month from 1, the hour from 0 to 23, the minute from 0 to 59, the second from 0 to 60 and the
+    /// nanoseconds below 10^9.
+    ///
+    /// # Errors
+    ///
+    /// Those of [`DateTime::find`] but `Memory`.
     pub fn meaning(
         year: i32,
         month: u8,
@@ -126,7 +129,9 @@ impl DateTime {
 
     /// What the local time means in the zone. The `UtcDateTime` is read as a local time, without an offset. This call does not allocate.
     ///
-    /// `OutOfRange` is as for [`DateTime::find`].
+    /// # Errors
+    ///
+    /// [`TzError::OutOfRange`] as for [`DateTime::find`].
     pub fn meaning_local(
         local: UtcDateTime,
         time_zone_ref: TimeZoneRef<'_>,

@@ -141,11 +141,14 @@ impl UtcDateTime {
         unix_time: 67_767_976_233_532_799,
     };
 
-    /// The date time with these fields: the month from 1 to 12, the day of the month from 1, the hour from 0 to 23, the minute
-    /// from 0 to 59, the second from 0 to 60 and the nanoseconds below a second.
+    /// The date time with these fields: the month from 1 to 12, the day of the month from 1, the hour from 0 to 23, the minute from 0 to 59, the
+    /// second from 0 to 60 and the nanoseconds below a second.
     ///
-    /// Second 60 of the last minute of `i32::MAX` is `OutOfRange`. Else the first field out of range is named, in this order, and after
-    /// them `InvalidMonthDay` where the month has no such day.
+    /// # Errors
+    ///
+    /// - [`TzError::OutOfRange`] for second 60 of the last minute of the year `i32::MAX`, whatever the nanoseconds;
+    /// - [`TzError::DateTime`] with the first field that is out of range, in the order of the arguments, or else with `InvalidMonthDay` if the month
+    ///   does not have the day.
     pub fn new(
         year: i32,
         month: u8,
@@ -211,7 +214,10 @@ impl UtcDateTime {
 
     /// The date time of a Unix time and nanoseconds below a second.
     ///
-    /// `InvalidNanoseconds`: 10^9 or more. Then `OutOfRange`: the year does not fit an `i32`.
+    /// # Errors
+    ///
+    /// - [`TzError::DateTime`] with [`DateTimeError::InvalidNanoseconds`] if there are 10^9 nanoseconds or more;
+    /// - [`TzError::OutOfRange`] if the year does not fit an `i32`.
     pub fn from_timespec(unix_time: i64, nanoseconds: u32) -> Result<Self, TzError>
         ensures ok { IfOk result (IsCivil unix_time nanoseconds) }
         ensures instant { OnOk result (IsReading unix_time) }
@@ -226,8 +232,11 @@ impl UtcDateTime {
         Ok(UtcDateTime::at(unix_time, nanoseconds))
     }
 
-    /// The date time a number of nanoseconds after [`UtcDateTime::UNIX_EPOCH`], or before it if the number is negative. `OutOfRange`: its year
-    /// does not fit an `i32`.
+    /// The date time a number of nanoseconds after [`UtcDateTime::UNIX_EPOCH`], or before it if the number is negative.
+    ///
+    /// # Errors
+    ///
+    /// [`TzError::OutOfRange`] if its year does not fit an `i32`.
     pub fn from_total_nanoseconds(total_nanoseconds: i128) -> Result<Self, TzError>
         ensures ok { IfOk result (IsUtcAt total_nanoseconds) }
         ensures err { IfErr result (λ e. (e ≡ TzError.OutOfRange) × ¬ IsUtcTotal total_nanoseconds) }
@@ -244,8 +253,11 @@ impl UtcDateTime {
         Some(UtcDateTime::at(unix_time, nanoseconds))
     }
 
-    /// The date time of the current time, which the caller passes as Unix seconds and nanoseconds below a second. The errors are those of
-    /// [`UtcDateTime::from_timespec`].
+    /// The date time of the current time, which the caller passes as Unix seconds and nanoseconds below a second.
+    ///
+    /// # Errors
+    ///
+    /// Those of [`UtcDateTime::from_timespec`].
     pub fn now(unix_time: i64, nanoseconds: u32) -> Result<Self, TzError>
         ensures ok { IfOk result (IsCivil unix_time nanoseconds) }
         ensures err { IfErr result (IsShowFault unix_time nanoseconds) }
@@ -368,7 +380,7 @@ impl UtcDateTime {
         calendar::total_nanoseconds(self.unix_time(), self.fields.nanoseconds)
     }
 
-    /// What the zone's clock shows at this instant. The errors are those of [`DateTime::from_timespec`].
+    /// What the zone's clock shows at this instant.
     ///
     /// What clocks an hour behind UTC show at the beginning of 2024 in UTC:
     ///
@@ -378,6 +390,10 @@ impl UtcDateTime {
     ///     UtcDateTime::new(2024, 1, 1, 0, 0, 0, 0)?.project(zone.as_ref())
     /// }
     /// ```
+    ///
+    /// # Errors
+    ///
+    /// Those of [`DateTime::from_timespec`] at an instant with valid nanoseconds.
     pub fn project(&self, time_zone_ref: TimeZoneRef<'_>) -> Result<DateTime, TzError>
         ensures ok { IfOk result (ShowsByClock (zone_of time_zone_ref.entry) (reading self.now) self.now.nanoseconds) }
         ensures err { IfErr result (IsClockFault (zone_of time_zone_ref.entry) (reading self.now) self.now.nanoseconds) }
@@ -385,7 +401,7 @@ impl UtcDateTime {
         DateTime::from_timespec(self.unix_time(), self.fields.nanoseconds, time_zone_ref)
     }
 
-    /// The date time later by a duration, or `None` where that is past [`UtcDateTime::MAX`].
+    /// The date time later by a duration, or `None` if that is past [`UtcDateTime::MAX`].
     ///
     /// A meeting at one local time each week. Weeks are added to the local time, not to the first instant: an hour may be lost or
     /// gained between.
@@ -417,7 +433,7 @@ impl UtcDateTime {
         Some(UtcDateTime::at(unix_time, nanoseconds))
     }
 
-    /// The date time earlier by a duration, or `None` where that is before [`UtcDateTime::MIN`].
+    /// The date time earlier by a duration, or `None` if that is before [`UtcDateTime::MIN`].
     pub fn checked_sub(&self, duration: Duration) -> Option<Self>
         ensures in_range { IsSome result ↔ IsUtcTotal (utc_total self.now -ℤ pos (as_nanos duration)) }
         ensures some { IfSome result (IsUtcAt (utc_total self.now -ℤ pos (as_nanos duration))) }
@@ -427,7 +443,11 @@ impl UtcDateTime {
         Some(UtcDateTime::at(unix_time, nanoseconds))
     }
 
-    /// The duration from an earlier date time to this one, or `Err` with the duration in the other direction if that one is later.
+    /// The duration from an earlier date time to this one.
+    ///
+    /// # Errors
+    ///
+    /// The duration from this date time to the other one, if that one is later.
     pub fn duration_since(&self, earlier: Self) -> Result<Duration, Duration>
         ensures ok { IfOk result (IsForwards (utc_total earlier) (utc_total self.now)) }
         ensures err { IfErr result (IsBackwards (utc_total earlier) (utc_total self.now)) }
@@ -500,7 +520,11 @@ impl SubAssign<Duration> for UtcDateTime {
     }
 }
 
-/// The UTC date time of the same instant; `OutOfRange` where its year does not fit 32 bits.
+/// The UTC date time of the same instant.
+///
+/// # Errors
+///
+/// [`TzError::OutOfRange`] if its year does not fit an `i32`.
 impl TryFrom<DateTime> for UtcDateTime {
     ghost use Rattle.std.specs.Prelude.{◌≡◌, IfOk, IfErr};
     ghost use Rattle.tz_base.specs.Fields.{IsCivil, IsReading};

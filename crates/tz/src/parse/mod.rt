@@ -51,7 +51,11 @@ impl ParsedDateTime {
     ghost use Rattle.std.specs.Prelude.{ℤ, Some, None, IfSome, IfNone};
     ghost use Rattle.tz_base.specs.Fields.{reading};
 
-    /// Reads a text.
+    /// Reads a date and a time in the form of RFC 3339, with years and offsets as `Display` prints them, and with or without an offset.
+    ///
+    /// # Errors
+    ///
+    /// [`ParseDateTimeError`] with the first part that the text does not have, and its place.
     pub fn parse(text: &[u8]) -> Result<Self, ParseDateTimeError>
         ensures ok { IfOk result (λ p. IsDateTimeText text.now p) }
         ensures err { IfErr result (λ e. IsDateTimeTextFault text.now e) }
@@ -72,14 +76,14 @@ impl ParsedDateTime {
         self.local
     }
 
-    /// The offset from UTC in seconds, if the text has one; 0 for `Z`.
+    /// The offset from UTC in seconds, 0 for `Z`, or `None` if the text has none.
     pub fn ut_offset(&self) -> Option<i32>
         ensures { result ≡ self.now.ut_offset }
     {
         self.ut_offset
     }
 
-    /// The Unix time of the local time at the offset, if the text has one. Second 60 counts as the next minute's second 0.
+    /// The Unix time of the local time at the offset, or `None` if the text has no offset. Second 60 counts as the next minute's second 0.
     pub fn unix_time(&self) -> Option<i64>
         ensures some { IfSome result (λ u. (offset : ℤ) × (self.now.ut_offset ≡ Some offset) × (u ≡ reading self.now.local -ℤ offset)) }
         ensures none { IfNone result (self.now.ut_offset ≡ None) }

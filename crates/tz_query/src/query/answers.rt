@@ -169,6 +169,10 @@ impl<'a, A: Allocator + Copy> Answers<'a, A> {
 /// a jump. `W c y mo d h mi s n` is that search in each of c weeks, for the date that lies as many weeks later: its answer is `W` and c, and
 /// that of an `F` line for each week. A query that fails is answered by `E ` and the name of the error, any other line by `E Line`. Lines and
 /// answers end in LF; the last line may lack it.
+///
+/// # Errors
+///
+/// [`TzError::Memory`] if an allocation fails.
 pub fn answer<A: Allocator + Copy>(
     alloc: A,
     zone: TimeZoneRef<'_>,

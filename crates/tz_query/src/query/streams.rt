@@ -31,7 +31,15 @@ const FIRST_ROOM: usize = 262_144;
 
 /// Reads the input to its end, and then writes the answers of its lines over a zone, as [`answer`] makes them.
 ///
-/// A run that fails before it writes leaves the writer as it was; after [`RunFault::Write`] a prefix of the answers may have been written.
+/// # Errors
+///
+/// The first of these:
+///
+/// - [`RunFault::Read`] if a read of the queries fails;
+/// - [`RunFault::Memory`] if an allocation for the queries or their answers fails;
+/// - [`RunFault::Write`] if a write of the answers fails, or accepts no byte.
+///
+/// After the first two the writer is as it was; after the last a prefix of the answers may have been written.
 pub fn run<A: Allocator + Copy, R: Read, W: Write>(
     alloc: A,
     zone: TimeZoneRef<'_>,

@@ -13,13 +13,16 @@ use tz::{TimeZone, TzError};
 
 /// Answers query bytes over the zone that the bytes of a TZif file denote, as [`answer`](super::answer) does. (RFC 8536)
 ///
-/// If the bytes are not such a file, it returns the error of [`TimeZone::from_tz_data`] before it reads a query.
-///
 /// ```rust
 /// pub fn answer_lines(alloc: Global, file: &[u8], lines: &[u8]) -> Result<Vec<u8>, TzError> {
 ///     query::answer_tzif(alloc, file, lines)
 /// }
 /// ```
+///
+/// # Errors
+///
+/// - those of [`TimeZone::from_tz_data`], before a query is read;
+/// - [`TzError::Memory`] if an allocation fails.
 pub fn answer_tzif<A: Allocator + Copy>(
     alloc: A,
     tz_bytes: &[u8],

@@ -44,8 +44,16 @@ impl AlternateTime {
     /// The rule with these parts. Times are seconds from 00:00 of the local day; the start's is in standard time and the end's in daylight saving
     /// time. (POSIX.1-2017, Base Definitions, 8.3)
     ///
-    /// Offsets are above -25 and below 26 hours, and times less than a week either way. The first error is returned: `InvalidStdUtcOffset`,
-    /// `InvalidDstUtcOffset`, `InvalidDstStartEndTime`, and `InconsistentRule` where start and end change their order from one year to another.
+    /// Offsets are above -25 and below 26 hours, and times less than a week either way.
+    ///
+    /// # Errors
+    ///
+    /// The first of these:
+    ///
+    /// - [`TransitionRuleError::InvalidStdUtcOffset`] if the offset of standard time is out of range;
+    /// - [`TransitionRuleError::InvalidDstUtcOffset`] if that of daylight saving time is;
+    /// - [`TransitionRuleError::InvalidDstStartEndTime`] if one of the two times is;
+    /// - [`TransitionRuleError::InconsistentRule`] if start and end change their order from one year to another.
     pub fn new(
         std: LocalTimeType,
         dst: LocalTimeType,
@@ -68,8 +76,8 @@ impl AlternateTime {
         })
     }
 
-    /// Why parts in range make no rule: two years x and y and a distance k in years, such that the start of x comes after the end of x + k,
-    /// and the start of y before the end of y + k. `None` where they make one, or are out of range.
+    /// Why parts in range make no rule: two years x and y and a distance k in years, such that the start of x comes after the end of x + k, and the
+    /// start of y before the end of y + k. `None` if they make one, or are out of range.
     pub fn conflict(
         std: LocalTimeType,
         dst: LocalTimeType,

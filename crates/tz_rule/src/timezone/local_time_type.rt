@@ -171,7 +171,13 @@ impl LocalTimeType {
 
     /// The type with this offset in seconds, this daylight flag and this name of 1 to 7 bytes of `0-9A-Za-z+-`. (RFC 8536, section 3.2)
     ///
-    /// The first error is returned: `InvalidUtcOffset` for `i32::MIN`, `InvalidTimeZoneDesignationLength`, `InvalidTimeZoneDesignationChar`.
+    /// # Errors
+    ///
+    /// The first of these:
+    ///
+    /// - [`LocalTimeTypeError::InvalidUtcOffset`] if the offset is `i32::MIN`;
+    /// - [`LocalTimeTypeError::InvalidTimeZoneDesignationLength`] if the name does not have 1 to 7 bytes;
+    /// - [`LocalTimeTypeError::InvalidTimeZoneDesignationChar`] if it has any other byte.
     pub fn new(
         ut_offset: i32,
         is_dst: bool,
@@ -206,7 +212,11 @@ impl LocalTimeType {
         }
     }
 
-    /// The type with this offset in seconds, without a name. `i32::MIN` is `InvalidUtcOffset`.
+    /// The type with this offset in seconds, without a name.
+    ///
+    /// # Errors
+    ///
+    /// [`LocalTimeTypeError::InvalidUtcOffset`] if the offset is `i32::MIN`.
     pub fn with_ut_offset(ut_offset: i32) -> Result<Self, LocalTimeTypeError>
         ensures value { IfOk result (λ t. t ≡ plain_type ut_offset) }
         ensures ok { OnOk result (IsOffset ut_offset) }
@@ -230,7 +240,7 @@ impl LocalTimeType {
         self.is_dst
     }
 
-    /// The name, empty where there is none.
+    /// The name, empty if there is none.
     pub fn time_zone_designation(&self) -> &str
         ensures text { result.now ≡ designation_text self.now }
         ensures name { IfSome self.now.designation IsDesignation }

@@ -53,7 +53,11 @@ impl Model for Julian1WithoutLeap {
 }
 
 impl Julian1WithoutLeap {
-    /// The day with this number, from 1 to 365. Any other is `InvalidRuleDayJulianDay`.
+    /// The day with this number, from 1 to 365.
+    ///
+    /// # Errors
+    ///
+    /// [`TransitionRuleError::InvalidRuleDayJulianDay`] for any other number.
     pub fn new(julian_day_1: u16) -> Result<Self, TransitionRuleError>
         ensures value { IfOk result (λ d. d ≡ julian_day_1) }
         ensures ok { OnOk result (IsJulianDay julian_day_1) }
@@ -111,7 +115,11 @@ impl Model for Julian0WithLeap {
 }
 
 impl Julian0WithLeap {
-    /// The day with this number, from 0 to 365. Any other is `InvalidRuleDayJulianDay`.
+    /// The day with this number, from 0 to 365.
+    ///
+    /// # Errors
+    ///
+    /// [`TransitionRuleError::InvalidRuleDayJulianDay`] for any other number.
     pub fn new(julian_day_0: u16) -> Result<Self, TransitionRuleError>
         ensures value { IfOk result (λ d. d ≡ julian_day_0) }
         ensures ok { OnOk result (IsZeroBasedDay julian_day_0) }
@@ -165,7 +173,13 @@ impl MonthWeekDay {
 
     /// The week day of a month: the month from 1 to 12, the week from 1 to 5, where 5 is the last, and the week day from 0 (Sunday) to 6.
     ///
-    /// The first number out of range is reported: `InvalidRuleDayMonth`, `InvalidRuleDayWeek`, `InvalidRuleDayWeekDay`.
+    /// # Errors
+    ///
+    /// The first of these:
+    ///
+    /// - [`TransitionRuleError::InvalidRuleDayMonth`] if the month is out of range;
+    /// - [`TransitionRuleError::InvalidRuleDayWeek`] if the week is;
+    /// - [`TransitionRuleError::InvalidRuleDayWeekDay`] if the week day is.
     pub fn new(month: u8, week: u8, week_day: u8) -> Result<Self, TransitionRuleError>
         ensures value { IfOk result (λ d. d ≡ month_week month week week_day) }
         ensures ok { OnOk result (IsMonthWeek (month_week month week week_day)) }

@@ -116,8 +116,12 @@ fn open_fault(error: io::Error) -> ReadFault
 
 /// The bytes of the file at the path, read to its end.
 ///
-/// A file that cannot be opened or read, such as a directory, is `Failed`; an allocation failure for its bytes is `Memory`. With the runtime
-/// passed in by a closure, this is a reader for [`TimeZoneSettings`](super::TimeZoneSettings).
+/// With the runtime passed in by a closure, this is a reader for [`TimeZoneSettings`](super::TimeZoneSettings).
+///
+/// # Errors
+///
+/// - [`ReadFault::Failed`] if the file cannot be opened or read, such as a directory;
+/// - [`ReadFault::Memory`] if an allocation for its bytes fails.
 pub fn read_file<R: Files>(rt: &R, alloc: Global, path: &str) -> Result<Vec<u8>, ReadFault>
     ensures { IfOk result (λ bytes. IsReadOut R.File.remaining bytes.items) }
 {
@@ -129,9 +133,12 @@ pub fn read_file<R: Files>(rt: &R, alloc: Global, path: &str) -> Result<Vec<u8>,
 
 /// The bytes of the file at the path, read to its end, if there are at most `limit` of them.
 ///
-/// A longer file is `Failed` with a text that says so, after one byte more than the limit was read; other errors are those of [`read_file`]. So a
-/// file that someone else chooses takes no more memory than the limit needs. Files of time zones are shorter than 10000 bytes, or with leap
+/// So a file that someone else chooses takes no more memory than the limit needs. Files of time zones are shorter than 10000 bytes, or with leap
 /// seconds and all their history than 100000.
+///
+/// # Errors
+///
+/// Those of [`read_file`], and [`ReadFault::Failed`] with a text that says so if the file is longer, after one byte more than the limit was read.
 pub fn read_file_up_to<R: Files>(
     rt: &R,
     alloc: Global,

@@ -272,7 +272,11 @@ impl<'a, F: Fn(&str) -> Result<Vec<u8>, ReadFault>> TimeZoneSettings<'a, F> {
 
     /// The machine's local time zone, from `/etc/localtime`.
     ///
-    /// Fails if that file cannot be read (`Io`) or is not a TZif file (`Tz`), or if an allocation fails (`Tz(Memory)`).
+    /// # Errors
+    ///
+    /// - [`Error::Io`] with the reader's error if that file cannot be read;
+    /// - [`Error::Tz`] with an error of [`TimeZone::from_tz_data`] if the file is not a TZif file;
+    /// - [`Error::Tz`] of [`TzError::Memory`] if an allocation fails, in this call or in the reader.
     #[inline(never)]
     pub fn parse_local<A: Allocator + Copy>(&self, alloc: A) -> Result<TimeZone<A>, Error>
         requires { F.IsAlwaysCallable (reader_of self.now) }
@@ -285,11 +289,17 @@ impl<'a, F: Fn(&str) -> Result<Vec<u8>, ReadFault>> TimeZoneSettings<'a, F> {
 
     /// The time zone of a string. (POSIX.1-2017, Base Definitions, 8.3)
     ///
-    /// `localtime` is the machine's local time. A string that begins with `:` names a file in one of the directories, or, if a `/` follows,
-    /// by its path. Any other string names a file, or is a TZ string if there is no such file.
+    /// `localtime` is the machine's local time. A string that begins with `:` names a file in one of the directories, or, if a `/` follows, by its
+    /// path. Any other string names a file, or is a TZ string if there is no such file.
     ///
-    /// Fails if the string is empty or not a TZ string (`Tz(TzString)`, `Tz(LocalTimeType)`, `Tz(TransitionRule)`), if the file is not a TZif
-    /// file (`Tz`), if the file of `localtime` or of a name after `:` cannot be read (`Io`), or if an allocation fails (`Tz(Memory)`).
+    /// # Errors
+    ///
+    /// - [`Error::Tz`] of [`TzError::TzString`] with `Empty` if the string is empty;
+    /// - [`Error::Io`] if the file of `localtime` or of a name after `:` cannot be read;
+    /// - [`Error::Tz`] of [`TzError::TzString`], [`TzError::LocalTimeType`] or [`TzError::TransitionRule`] if any other string names no file that can
+    ///   be read, and is not a TZ string or does not make a rule;
+    /// - [`Error::Tz`] with an error of [`TimeZone::from_tz_data`] if the file is not a TZif file;
+    /// - [`Error::Tz`] of [`TzError::Memory`] if an allocation fails, in this call or in the reader.
     pub fn parse_posix_tz<A: Allocator + Copy>(
         &self,
         alloc: A,
@@ -366,8 +376,6 @@ impl<A: Allocator + Copy> TimeZone<A> {
 
     /// The machine's local time zone: that of the TZif file at `/etc/localtime`, whose bytes the reader returns for this path.
     ///
-    /// Fails if the file cannot be read (`Io`) or is not a TZif file (`Tz`), or if an allocation fails (`Tz(Memory)`).
-    ///
     /// With the reader of the machine's files:
     ///
     /// ```rust
@@ -375,6 +383,10 @@ impl<A: Allocator + Copy> TimeZone<A> {
     ///     TimeZone::local(alloc, |path: &str| timezone::read_file(rt, alloc, path))
     /// }
     /// ```
+    ///
+    /// # Errors
+    ///
+    /// Those of [`TimeZoneSettings::parse_local`].
     pub fn local<F: Fn(&str) -> Result<Vec<u8>, ReadFault> + Drop>(
         alloc: A,
         reader: F,
@@ -391,9 +403,8 @@ impl<A: Allocator + Copy> TimeZone<A> {
     /// The time zone of a string, with the [usual directories](DEFAULT_DIRECTORIES) and this function that reads a file. (POSIX.1-2017, Base
     /// Definitions, 8.3)
     ///
-    /// `localtime` is the machine's local time. A string that begins with `:` names a file in one of the directories, or, if a `/` follows,
-    /// by its path. Any other string names a file, or is a TZ string if there is no such file. The errors are those of
-    /// [`TimeZoneSettings::parse_posix_tz`].
+    /// `localtime` is the machine's local time. A string that begins with `:` names a file in one of the directories, or, if a `/` follows, by its
+    /// path. Any other string names a file, or is a TZ string if there is no such file.
     ///
     /// The zone of a name such as `Europe/Paris`, or of a TZ string such as `CET-1CEST,M3.5.0,M10.5.0/3`:
     ///
@@ -403,6 +414,10 @@ impl<A: Allocator + Copy> TimeZone<A> {
     ///     TimeZone::from_posix_tz(alloc, reader, setting)
     /// }
     /// ```
+    ///
+    /// # Errors
+    ///
+    /// Those of [`TimeZoneSettings::parse_posix_tz`].
     pub fn from_posix_tz<F: Fn(&str) -> Result<Vec<u8>, ReadFault> + Drop>(
         alloc: A,
         reader: F,
@@ -420,12 +435,14 @@ impl<A: Allocator + Copy> TimeZone<A> {
     /// The time zone with the name, such as `Europe/Paris`, in the database of the system. (tz database, Timezone identifiers)
     ///
     /// A name has parts of ASCII letters, digits, `.`, `_`, `+` and `-`, with `/` between them; no part is `.` or `..`. For a name the reader is
-    /// asked in each of the [usual directories](DEFAULT_DIRECTORIES) in turn until it returns bytes or `ReadFault::Memory`, and for any other
-    /// text it is not asked. So no file outside of these directories is read, even if a user chooses the name. A name is never read as a TZ
-    /// string.
+    /// asked in each of the [usual directories](DEFAULT_DIRECTORIES) in turn until it returns bytes or `ReadFault::Memory`, and for any other text it
+    /// is not asked. So no file outside of these directories is read, even if a user chooses the name. A name is never read as a TZ string.
     ///
-    /// Fails if the text is not a name or no directory has a file with it (`Io`, whose text says which, and has the name), if the file is not a
-    /// TZif file (`Tz`), or if an allocation fails (`Tz(Memory)`).
+    /// # Errors
+    ///
+    /// - [`Error::Io`] if the text is not a name, or if no directory has a file with it; the error's text says which, and has the name;
+    /// - [`Error::Tz`] with an error of [`TimeZone::from_tz_data`] if the file is not a TZif file;
+    /// - [`Error::Tz`] of [`TzError::Memory`] if an allocation fails, in this call or in the reader.
     pub fn named<F: Fn(&str) -> Result<Vec<u8>, ReadFault> + Drop>(
         alloc: A,
         reader: F,

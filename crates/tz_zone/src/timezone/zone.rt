@@ -61,10 +61,21 @@ impl<A: Allocator + Copy> TimeZone<A> {
 
     /// The zone with these parts. (RFC 8536, section 3.2)
     ///
-    /// The parts are checked in this order: `NoLocalTimeType`; for each transition in turn `InvalidLocalTimeTypeIndex` and
-    /// `InvalidTransition`, as times must rise; `InvalidLeapSecond`. If there are a rule and a transition, and the last transition is not
-    /// before the leap-second table begins, the rule must have that transition's type where it takes effect: `OutOfRange` if it never
-    /// does or the rule has no type there, `InconsistentExtraRule` if the types differ. On an error the lists are dropped.
+    /// # Errors
+    ///
+    /// The first of these:
+    ///
+    /// - [`TzError::TimeZone`] with `NoLocalTimeType` if there is no local time type;
+    /// - [`TzError::TimeZone`] for the first transition that names no type (`InvalidLocalTimeTypeIndex`), or that names one and is not before the
+    ///   next transition (`InvalidTransition`);
+    /// - [`TzError::TimeZone`] with `InvalidLeapSecond` if the first leap second is before 0, or if another one is less than 28 days less a second
+    ///   after the one before it, or does not change the correction by one second; the last record may instead repeat the correction, at any later
+    ///   time, at which the table expires;
+    /// - [`TzError::OutOfRange`] if the last transition takes effect at no instant, or the rule has no type at that instant;
+    /// - [`TzError::TimeZone`] with `InconsistentExtraRule` if the rule's type there is not that of the transition.
+    ///
+    /// The last two are checked only if there are a rule and a transition, and the last transition is not before the leap-second table begins. On an
+    /// error the lists are dropped.
     pub fn new(
         transitions: Vec<Transition, A>,
         local_time_types: Vec<LocalTimeType, A>,
@@ -116,7 +127,11 @@ impl<A: Allocator + Copy> TimeZone<A> {
         })
     }
 
-    /// The zone that has UTC's type alone. `Memory`: an allocation failed.
+    /// The zone that has UTC's type alone. [`TimeZoneRef::utc`] makes it without allocating.
+    ///
+    /// # Errors
+    ///
+    /// [`TzError::Memory`] if an allocation fails.
     pub fn utc(alloc: A) -> Result<Self, TzError>
         ensures ok { IfOk result (λ z. own_zone_of z ≡ zone_of_type (plain_type (pos 0))) }
         ensures err { IfErr result (λ e. e ≡ TzError.Memory alloc_error) }
@@ -126,7 +141,10 @@ impl<A: Allocator + Copy> TimeZone<A> {
 
     /// The zone that has one type alone, with this offset from UTC in seconds.
     ///
-    /// `InvalidUtcOffset`: the offset is `i32::MIN`, which is checked before anything is allocated. `Memory`: an allocation failed.
+    /// # Errors
+    ///
+    /// - [`TzError::LocalTimeType`] with `InvalidUtcOffset` if the offset is `i32::MIN`, which is checked before anything is allocated;
+    /// - [`TzError::Memory`] if an allocation fails.
     pub fn fixed(alloc: A, ut_offset: i32) -> Result<Self, TzError>
         ensures ok { IfOk result (λ z. IsOffset ut_offset × (own_zone_of z ≡ zone_of_type (plain_type ut_offset))) }
         ensures err { IfErr result (λ e. ((e ≡ TzError.LocalTimeType faults.InvalidUtcOffset) × ¬ IsOffset ut_offset) ⊎ ((e ≡ TzError.Memory alloc_error) × IsOffset ut_offset)) }
@@ -152,7 +170,11 @@ impl<A: Allocator + Copy> TimeZone<A> {
         })
     }
 
-    /// A copy of the zone, on the same allocator. `Memory`: an allocation failed.
+    /// A copy of the zone, on the same allocator.
+    ///
+    /// # Errors
+    ///
+    /// [`TzError::Memory`] if an allocation fails.
     pub fn try_clone(&self) -> Result<Self, TzError>
         ensures ok { IfOk result (λ z. own_zone_of z ≡ own_zone_of self.now) }
         ensures err { IfErr result (λ e. e ≡ TzError.Memory alloc_error) }
@@ -184,10 +206,16 @@ impl<A: Allocator + Copy> TimeZone<A> {
         )
     }
 
-    /// The clock's type at an instant. (RFC 8536, section 3.2)
+    /// The clock's type at an instant, in Unix seconds. (RFC 8536, section 3.2)
     ///
-    /// From the last transition on the extra rule determines it; without a rule there is none (`NoAvailableLocalTimeType`).
-    /// `OutOfRange`: the instant has no leap time, or lies in a year in which the rule is not defined.
+    /// Before the last transition, the transitions determine it, from there on the extra rule.
+    ///
+    /// # Errors
+    ///
+    /// - [`TzError::NoAvailableLocalTimeType`] if the last transition has taken effect and there is no rule;
+    /// - [`TzError::OutOfRange`] if the rule is needed and is not defined in that year: an alternate rule is defined from the year `i32::MIN + 2` to
+    ///   `i32::MAX - 2` in UTC; or if the zone has transitions and the instant has no leap time, because it is before a leap-second table that begins
+    ///   late, or because the leap time does not fit an `i64`.
     pub fn find_local_time_type(&self, unix_time: i64) -> Result<&LocalTimeType, TzError>
         ensures ok { IfOk result (λ t. IsClock (own_zone_of self.now) unix_time t.now) }
         ensures err { IfErr result (IsLookupFault (own_zone_of self.now) unix_time) }
@@ -195,8 +223,11 @@ impl<A: Allocator + Copy> TimeZone<A> {
         self.as_ref().find_local_time_type(unix_time)
     }
 
-    /// The clock's type at the current time, which the caller passes as Unix seconds. The errors are those of
-    /// [`TimeZone::find_local_time_type`].
+    /// The clock's type at the current time, which the caller passes as Unix seconds.
+    ///
+    /// # Errors
+    ///
+    /// Those of [`TimeZone::find_local_time_type`].
     pub fn find_current_local_time_type(&self, unix_time: i64) -> Result<&LocalTimeType, TzError>
         ensures ok { IfOk result (λ t. IsClock (own_zone_of self.now) unix_time t.now) }
         ensures err { IfErr result (IsLookupFault (own_zone_of self.now) unix_time) }

@@ -17,8 +17,6 @@ use tz_base::error::timezone::TimeZoneError;
 impl<A: Allocator + Copy> TimeZone<A> {
     /// The zone that the bytes of a TZif file denote. (RFC 8536)
     ///
-    /// Fails if the bytes are not a file of version 1 to 4 (`TzFile`, or `TzString` for the string in the footer), if parts do not make a
-    /// local time type, rule or zone (`LocalTimeType`, `TransitionRule`, `TimeZone`, `OutOfRange`), or if an allocation fails (`Memory`).
     /// All parts of the file are located before anything is allocated, so a count that exceeds the file allocates nothing.
     ///
     /// What clocks show at a Unix time in the zone of a file whose bytes were read:
@@ -29,6 +27,16 @@ impl<A: Allocator + Copy> TimeZone<A> {
     ///     DateTime::from_timespec(unix_time, 0, zone.as_ref())
     /// }
     /// ```
+    ///
+    /// # Errors
+    ///
+    /// - [`TzError::TzFile`] if the bytes are not a file of version 1 to 4, of which headers and blocks are checked first;
+    /// - [`TzError::LocalTimeType`] if a record does not make a local time type;
+    /// - [`TzError::TzString`], [`TzError::LocalTimeType`] or [`TzError::TransitionRule`] if the text of the footer is not a TZ string, or does not
+    ///   make a rule;
+    /// - [`TzError::TimeZone`] with `InvalidLeapSecond` if the version does not allow the leap-second table, and otherwise the errors of
+    ///   [`TimeZone::new`], once all else is valid;
+    /// - [`TzError::Memory`] if an allocation fails.
     pub fn from_tz_data(alloc: A, bytes: &[u8]) -> Result<Self, TzError>
         ensures ok { IfOk result (λ zone. IsTzFile bytes.now (own_zone_of zone)) }
         ensures only { (zone : Zone) → IsTzFile bytes.now zone → MatchResult result (λ made. own_zone_of made ≡ zone) (λ e. e ≡ TzError.Memory alloc_error) }

@@ -12,10 +12,16 @@ use tz_base::error::TzError;
 use tz_rule::timezone::LocalTimeType;
 
 impl<'a> TimeZoneRef<'a> {
-    /// The clock's type at an instant. (RFC 8536, section 3.2)
+    /// The clock's type at an instant, in Unix seconds. (RFC 8536, section 3.2)
     ///
-    /// From the last transition on the extra rule determines it; without a rule there is none (`NoAvailableLocalTimeType`).
-    /// `OutOfRange`: the instant has no leap time, or lies in a year in which the rule is not defined.
+    /// Before the last transition, the transitions determine it, from there on the extra rule.
+    ///
+    /// # Errors
+    ///
+    /// - [`TzError::NoAvailableLocalTimeType`] if the last transition has taken effect and there is no rule;
+    /// - [`TzError::OutOfRange`] if the rule is needed and is not defined in that year: an alternate rule is defined from the year `i32::MIN + 2` to
+    ///   `i32::MAX - 2` in UTC; or if the zone has transitions and the instant has no leap time, because it is before a leap-second table that begins
+    ///   late, or because the leap time does not fit an `i64`.
     #[inline(always)]
     pub fn find_local_time_type(&self, unix_time: i64) -> Result<&'a LocalTimeType, TzError>
         ensures ok { IfOk result (λ t. IsClock (zone_of self.now) unix_time t.now) }
@@ -26,6 +32,10 @@ impl<'a> TimeZoneRef<'a> {
     }
 
     /// The clock's type at an instant, and how many transitions were read. The count saturates at `u64::MAX`.
+    ///
+    /// # Errors
+    ///
+    /// Those of [`TimeZoneRef::find_local_time_type`].
     pub fn find_local_time_type_counted(
         &self,
         unix_time: i64,

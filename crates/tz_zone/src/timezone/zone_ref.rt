@@ -66,11 +66,6 @@ impl<'a> TimeZoneRef<'a> {
 
     /// The zone with these parts. (RFC 8536, section 3.2)
     ///
-    /// The parts are checked in this order: `NoLocalTimeType`; for each transition in turn `InvalidLocalTimeTypeIndex` and
-    /// `InvalidTransition`, as times must rise; `InvalidLeapSecond`. If there are a rule and a transition, and the last transition is not
-    /// before the leap-second table begins, the rule must have that transition's type where it takes effect: `OutOfRange` if it never
-    /// does or the rule has no type there, `InconsistentExtraRule` if the types differ.
-    ///
     /// A zone from parts, without allocating: clocks were an hour ahead of UTC until the year 2000, and are two hours ahead from then on.
     ///
     /// ```rust
@@ -84,6 +79,21 @@ impl<'a> TimeZoneRef<'a> {
     ///     DateTime::from_timespec(unix_time, 0, zone)
     /// }
     /// ```
+    ///
+    /// # Errors
+    ///
+    /// The first of these:
+    ///
+    /// - [`TzError::TimeZone`] with `NoLocalTimeType` if there is no local time type;
+    /// - [`TzError::TimeZone`] for the first transition that names no type (`InvalidLocalTimeTypeIndex`), or that names one and is not before the
+    ///   next transition (`InvalidTransition`);
+    /// - [`TzError::TimeZone`] with `InvalidLeapSecond` if the first leap second is before 0, or if another one is less than 28 days less a second
+    ///   after the one before it, or does not change the correction by one second; the last record may instead repeat the correction, at any later
+    ///   time, at which the table expires;
+    /// - [`TzError::OutOfRange`] if the last transition takes effect at no instant, or the rule has no type at that instant;
+    /// - [`TzError::TimeZone`] with `InconsistentExtraRule` if the rule's type there is not that of the transition.
+    ///
+    /// The last two are checked only if there are a rule and a transition, and the last transition is not before the leap-second table begins.
     pub fn new(
         transitions: &'a [Transition],
         local_time_types: &'a [LocalTimeType],
@@ -166,7 +176,8 @@ impl<'a> TimeZoneRef<'a> {
         self.leap_seconds
     }
 
-    /// The leap time at which the leap-second table expires: that of a last record that repeats the correction before it.
+    /// The leap time at which the leap-second table expires: that of a last record that repeats the correction before it. `None` if there is no such
+    /// record.
     pub fn leap_expiry(&self) -> Option<i64>
         ensures some { IfSome result (ExpiresAt (zone_of self.now).leap_seconds) }
         ensures none { IfNone result ((time : ℤ) → ¬ ExpiresAt (zone_of self.now).leap_seconds time) }
