@@ -1,5 +1,5 @@
-//! What the crates above use, and no part of the public surface: fields, text, the search for them, date times as plain
-//! data, and how bytes are read.
+//! For the crates above and their tests, and no part of the public surface: fields, text, the search for them, date times as plain data, and how
+//! bytes are read.
 
 pub use crate::datetime::date_time::{fields_of, local_reading};
 pub use crate::datetime::entries::Entries;

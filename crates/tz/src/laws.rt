@@ -1,5 +1,7 @@
-//! Laws of date times. A function here does nothing, or calls the laws on which it rests, or makes one call that the law is about. Its contract
-//! is the law, stated like the contracts of [`crate::UtcDateTime`] and [`crate::DateTime`].
+//! Laws of date times, for proofs of programs that use them: a call of a law makes its contract known.
+//!
+//! A function here does nothing, or calls the laws on which it rests, or makes one call that the law is about. Its contract is the law, stated like
+//! the contracts of [`crate::UtcDateTime`] and [`crate::DateTime`].
 
 ghost use Rattle.std.specs.Prelude.{◌≡◌, ◌≢◌, ℕ, ◌<◌, true, pos, ℤ, ◌+ℤ◌, ◌↔◌, ◌≤◌, ◌≤ℤ◌, length, List, [], Option, ⊤, alloc_error, FitsSigned};
 ghost use Rattle.std.specs.List.{Contains};

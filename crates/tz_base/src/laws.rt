@@ -1,4 +1,7 @@
-//! Laws of the calendar, over every whole year, and of the constants. Each function does nothing; its contract is the law.
+//! Laws of the calendar, over every whole year, and of the constants, for proofs of programs that use them: a call of a law makes its contract
+//! known.
+//!
+//! Each function does nothing; its contract is the law.
 
 ghost use Rattle.std.specs.Prelude.{◌≡◌, ℕ, ◌*◌, ℤ, pos, ◌+ℤ◌, ◌<ℤ◌, [], ◌∷◌};
 ghost use Rattle.tz_base.specs.Days.{is_leap, year_length, first_day, day_number, week_day_of, IsDay, IsEarlierDate};

@@ -1,5 +1,7 @@
-//! Laws of query lines and their answers. A function here does nothing, or calls the laws on which it rests. Its contract is the
-//! law, in the words of the contract of [`crate::query::answer`].
+//! Laws of query lines and their answers, for proofs of programs that use them: a call of a law makes its contract known.
+//!
+//! A function here does nothing, or calls the laws on which it rests. Its contract is the law, in the words of the contract of
+//! [`crate::query::answer`].
 
 ghost use Rattle.std.specs.Prelude.{◌≡◌, ℕ, ℤ, List, [], ◌∷◌, ◌++◌, All};
 ghost use Rattle.std.specs.List.{AllZip, flat_map};

@@ -1,4 +1,5 @@
-//! What the crates above use, and no part of the public surface: the clock of a rule, rules as plain data, and the parts of UTC's zone.
+//! For the crates above and their tests, and no part of the public surface: the clock of a rule, rules as plain data, and the parts of
+//! UTC's zone.
 
 pub use crate::timezone::alternate_clock::AlternateClock;
 pub use crate::timezone::day_data::DayData;

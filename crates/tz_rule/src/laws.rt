@@ -1,4 +1,6 @@
-//! Laws of rules. Each function does nothing; its contract is the law.
+//! Laws of rules, for proofs of programs that use them: a call of a law makes its contract known.
+//!
+//! Each function does nothing, or calls the laws on which it rests; its contract is the law.
 
 ghost use Rattle.std.specs.Prelude.{◌≡◌, ℤ, pos, ◌+ℤ◌, ◌≤ℤ◌, ◌<ℤ◌};
 ghost use Rattle.tz_rule.specs.Alternate.{AlternateTime, start_of, end_of, IsNearYear, IsUtcYear, IsInRuleYears, IsAlternateType, IsUnchanged};

@@ -1,5 +1,5 @@
-//! What the crates above use, and no part of the public surface: the clock of a zone over a view of its transitions, leap times, and what is
-//! read of a zone.
+//! For the crates above and their tests, and no part of the public surface: the clock of a zone over a view of its transitions, leap times, and what
+//! is read of a zone.
 
 pub use crate::clock::{
     ClockSegment, WindowTypes, clock_segment_after, clock_segment_at, clock_segment_from,

@@ -1,4 +1,6 @@
-//! Laws of zones. A function here does nothing, or looks at each type of a zone. Its contract is the law.
+//! Laws of zones, for proofs of programs that use them: a call of a law makes its contract known.
+//!
+//! A function here does nothing, or looks at each type of a zone. Its contract is the law.
 
 ghost use Rattle.std.specs.Prelude.{◌≡◌, ℕ, ℤ, ◌≤ℤ◌, List, [], ◌∷◌, ◌++◌, ◌↔◌, Some, slice_get, map, codes, FitsSigned};
 ghost use Rattle.std.specs.Int.{w32};

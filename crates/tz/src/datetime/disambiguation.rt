@@ -2,11 +2,19 @@
 
 /// Which date time a local time means if clocks are set forward over it or show it more than once.
 ///
-/// If clocks show a local time exactly once and are not set forward over it, all choices mean that.
+/// | choice | in a fold, where they show it twice | in a gap, where they skip it |
+/// |---|---|---|
+/// | `Compatible` | the first instant | as much later as clocks are set forward: 2:30 becomes 3:30 |
+/// | `Earlier` | the first instant | as much earlier: 2:30 becomes 1:30 |
+/// | `Later` | the last instant | as much later: 2:30 becomes 3:30 |
+/// | `Reject` | none | none |
+///
+/// If clocks show a local time exactly once and are not set forward over it, all choices mean that. If they do both, as when they are set back soon
+/// after, `Compatible` means an instant at which they show it, `Earlier` and `Later` the first and the last entry of
+/// [`DateTime::find`](super::DateTime::find), and `Reject` none.
 #[derive(Clone, Copy, Debug, PartialEq, Eq)]
 pub enum Disambiguation {
-    /// The first instant at which clocks show it. If they are only set forward over it, as much later as they are set forward: what
-    /// calendars do. (RFC 5545, 3.3.5)
+    /// The first instant at which clocks show it, or, in a gap, as much later as clocks are set forward: what calendars do. (RFC 5545, 3.3.5)
     Compatible,
     /// The first entry: an instant at which clocks show it, or, in a gap, as much earlier as clocks are set forward.
     Earlier,

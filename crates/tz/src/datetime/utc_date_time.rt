@@ -456,7 +456,8 @@ impl UtcDateTime {
     }
 }
 
-/// The sum must not be past [`UtcDateTime::MAX`]; [`UtcDateTime::checked_add`] tests that.
+/// The date time later by a duration. That it is not past [`UtcDateTime::MAX`] is a requirement that is checked at compile time; there is no panic.
+/// [`UtcDateTime::checked_add`] has no such requirement.
 impl Add<Duration> for UtcDateTime {
     ghost use Rattle.std.specs.Prelude.{pos, ◌+ℤ◌};
     ghost use Rattle.std.specs.Duration.{as_nanos};
@@ -473,7 +474,8 @@ impl Add<Duration> for UtcDateTime {
     }
 }
 
-/// The difference must not be before [`UtcDateTime::MIN`]; [`UtcDateTime::checked_sub`] tests that.
+/// The date time earlier by a duration. That it is not before [`UtcDateTime::MIN`] is a requirement that is checked at compile time; there is no
+/// panic. [`UtcDateTime::checked_sub`] has no such requirement.
 impl Sub<Duration> for UtcDateTime {
     ghost use Rattle.std.specs.Prelude.{pos, ◌-ℤ◌};
     ghost use Rattle.std.specs.Duration.{as_nanos};
@@ -490,7 +492,7 @@ impl Sub<Duration> for UtcDateTime {
     }
 }
 
-/// The sum must not be past [`UtcDateTime::MAX`], as for `+`.
+/// Adds a duration, with the requirement of `+`: the sum is not past [`UtcDateTime::MAX`].
 impl AddAssign<Duration> for UtcDateTime {
     ghost use Rattle.std.specs.Prelude.{pos, ◌+ℤ◌};
     ghost use Rattle.std.specs.Duration.{as_nanos};
@@ -505,7 +507,7 @@ impl AddAssign<Duration> for UtcDateTime {
     }
 }
 
-/// The difference must not be before [`UtcDateTime::MIN`], as for `-`.
+/// Subtracts a duration, with the requirement of `-`: the difference is not before [`UtcDateTime::MIN`].
 impl SubAssign<Duration> for UtcDateTime {
     ghost use Rattle.std.specs.Prelude.{pos, ◌-ℤ◌};
     ghost use Rattle.std.specs.Duration.{as_nanos};

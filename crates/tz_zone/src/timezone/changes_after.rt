@@ -3,9 +3,9 @@
 use super::{Change, TimeZoneRef};
 use std::iter::FusedIterator;
 
-/// The changes of a clock after an instant, each one after the one before. Takes no memory.
+/// The changes of a clock after an instant, each one after the one before. Does not allocate.
 ///
-/// After `None` each call answers `None`.
+/// After `None` each call returns `None`.
 #[derive(Clone, Debug, Drop)]
 pub struct ChangesAfter<'a> {
     zone: TimeZoneRef<'a>,

@@ -3,9 +3,9 @@
 use super::{Change, TimeZoneRef};
 use std::iter::FusedIterator;
 
-/// The changes of a clock before an instant, each one before the one that came before it. Takes no memory.
+/// The changes of a clock before an instant, each one before the one that came before it. Does not allocate.
 ///
-/// After `None` each call answers `None`.
+/// After `None` each call returns `None`.
 #[derive(Clone, Debug, Drop)]
 pub struct ChangesBefore<'a> {
     zone: TimeZoneRef<'a>,

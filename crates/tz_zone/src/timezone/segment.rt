@@ -5,6 +5,9 @@ ghost use Rattle.std.specs.Prelude.{◌≡◌, ◌↔◌, ◌≤ℤ◌, IsTrue, 
 use super::LocalTimeType;
 
 /// A span of time through which the clock of a zone has one type, or none.
+///
+/// The next segment may have the same type: a segment also ends at a transition to an equal type. A [`Change`](super::Change) is an instant at which
+/// the type differs.
 #[derive(Clone, Copy, Debug, PartialEq, Eq)]
 pub struct Segment<'a> {
     from: i64,
@@ -40,14 +43,14 @@ impl<'a> Segment<'a> {
         self.last
     }
 
-    /// The type that the clock has throughout the segment, or `None` where it has none.
+    /// The type that the clock has throughout the segment, or `None` if it has none.
     pub fn local_time_type(&self) -> Option<&'a LocalTimeType>
         ensures { option_copied result ≡ (segment_of self.now).local_time_type }
     {
         self.local_time_type
     }
 
-    /// Whether an instant, in Unix seconds, lies in the segment.
+    /// Whether an instant, in Unix seconds, is in the segment.
     pub fn contains(&self, unix_time: i64) -> bool
         ensures { IsTrue result ↔ (((segment_of self.now).from ≤ℤ unix_time) × (unix_time ≤ℤ (segment_of self.now).last)) }
     {

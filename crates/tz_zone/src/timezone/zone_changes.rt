@@ -15,7 +15,7 @@ impl<'a> TimeZoneRef<'a> {
 
     /// The segment around an instant, in Unix seconds. Does not allocate.
     ///
-    /// The next segment is the one around `last() + 1`. It may have the same type, if a transition to an equal type lies between.
+    /// The next segment is the one around `last() + 1`. It may have the same type, as after a transition to an equal type.
     ///
     /// What clocks show at a Unix time of a log, with the segment cached for the next entry:
     ///
@@ -46,9 +46,11 @@ impl<'a> TimeZoneRef<'a> {
 
     /// The first change after an instant, in Unix seconds, or `None` if the clock does not change any more. Does not allocate.
     ///
-    /// A transition to an equal type is not a change, nor is the point where a clock begins or ceases to have a type. The dearest calls compare
-    /// the types of a run of transitions to equal types, one by one, or follow a rule that keeps one type through 400 years, at up to 800 starts
-    /// and ends.
+    /// A transition to an equal type is not a change, nor is the point where a clock begins or ceases to have a type.
+    ///
+    /// If the next transition, or the next start or end of daylight saving time, is a change, this costs about as much as a lookup. It costs most
+    /// over a run of transitions to equal types, all of which are read, and for a rule that never changes the type, of which 400 years are read, with
+    /// up to 800 starts and ends.
     ///
     /// When clocks are set next, and by how many seconds forward:
     ///
@@ -84,7 +86,7 @@ impl<'a> TimeZoneRef<'a> {
 
     /// The last change before an instant, in Unix seconds, or `None` if the clock has not changed before. Does not allocate.
     ///
-    /// A transition to an equal type is not a change, nor is the point where a clock begins or ceases to have a type. It passes as much as
+    /// A transition to an equal type is not a change, nor is the point where a clock begins or ceases to have a type. The cost is that of
     /// [`TimeZoneRef::following`].
     pub fn preceding(&self, unix_time: i64) -> Option<Change<'a>>
         ensures { MatchOption result (HasNoPreceding (zone_of self.now) unix_time) (λ c. IsPreceding (zone_of self.now) unix_time (change_of c)) }
@@ -106,8 +108,11 @@ impl<'a> TimeZoneRef<'a> {
         clock::preceding(self.transitions(), other_parts(self), unix_time, likely)
     }
 
-    /// The changes after an instant, in Unix seconds, in the order of time: the one that `following` answers, and so on from each. Takes no
-    /// memory.
+    /// The changes after an instant, in Unix seconds, in the order of time: the one that `following` returns, and so on from each. Does not
+    /// allocate.
+    ///
+    /// A step costs about as much as a call of [`TimeZoneRef::following`]. It first looks at the transition after that of the last change, and so
+    /// rarely searches the table.
     ///
     /// The changes of a zone in the 20 years before an instant and at it, and the next two after it:
     ///
@@ -138,8 +143,10 @@ impl<'a> TimeZoneRef<'a> {
         ChangesAfter::new(*self, unix_time)
     }
 
-    /// The changes before an instant, in Unix seconds, from the last one back: the one that `preceding` answers, and so on from each. Takes
-    /// no memory.
+    /// The changes before an instant, in Unix seconds, from the last one back: the one that `preceding` returns, and so on from each. Does not
+    /// allocate.
+    ///
+    /// The cost of a step is that of [`TimeZoneRef::changes_after`].
     pub fn changes_before(&self, unix_time: i64) -> ChangesBefore<'a>
         ensures { place_before result ≡ record { zone = zone_of self.now; unix_time = unix_time } }
     {
@@ -177,14 +184,14 @@ impl<A: Allocator + Copy> TimeZone<A> {
         self.as_ref().preceding(unix_time)
     }
 
-    /// The changes after an instant, as `TimeZoneRef::changes_after` has them.
+    /// The changes after an instant, as [`TimeZoneRef::changes_after`] returns them.
     pub fn changes_after(&self, unix_time: i64) -> ChangesAfter<'_>
         ensures { place_after result ≡ record { zone = own_zone_of self.now; unix_time = unix_time } }
     {
         self.as_ref().changes_after(unix_time)
     }
 
-    /// The changes before an instant, as `TimeZoneRef::changes_before` has them.
+    /// The changes before an instant, as [`TimeZoneRef::changes_before`] returns them.
     pub fn changes_before(&self, unix_time: i64) -> ChangesBefore<'_>
         ensures { place_before result ≡ record { zone = own_zone_of self.now; unix_time = unix_time } }
     {
