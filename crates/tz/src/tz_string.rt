@@ -293,6 +293,17 @@ impl TzString {
     /// The string is extended only if the rule has a time of day below 0:00 or above 24:59:59. Names of three letters or more are written
     /// without angle brackets. Minutes and seconds that are zero, the time of day 2:00, and a daylight offset of an hour more than the
     /// standard one are omitted. (POSIX.1-2017, Base Definitions, 8.3; RFC 8536, section 3.3.1)
+    ///
+    /// The TZ string of the rule of a zone, if it has one:
+    ///
+    /// ```rust
+    /// pub fn rule_text(zone: TimeZoneRef<'_>) -> Option<TzString> {
+    ///     match zone.extra_rule() {
+    ///         Some(rule) => TzString::from_rule(rule),
+    ///         None => None,
+    ///     }
+    /// }
+    /// ```
     pub fn from_rule(rule: &TransitionRule) -> Option<TzString>
         ensures text { IfSome result (λ text. text ≡ tz_text rule.now) }
         ensures denotes { IfSome result (λ text. IsTzText (is_extended rule.now) text rule.now) }

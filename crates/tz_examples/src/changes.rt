@@ -48,3 +48,19 @@ pub fn show_entry<'a>(
         .ok_or(TzError::NoAvailableLocalTimeType)?;
     DateTime::from_timespec_and_local(unix_time, 0, *local_time_type)
 }
+
+/// How many seconds ago clocks changed last.
+pub fn since_last_change(zone: TimeZoneRef<'_>, now: i64) -> Option<u64> {
+    let change = zone.preceding(now)?;
+    Some(now.abs_diff(change.unix_time()))
+}
+
+/// When clocks were last set forward before an instant.
+pub fn last_set_forward(zone: TimeZoneRef<'_>, now: i64) -> Option<i64> {
+    for change in zone.changes_before(now) {
+        if change.before().ut_offset() < change.after().ut_offset() {
+            return Some(change.unix_time());
+        }
+    }
+    None
+}

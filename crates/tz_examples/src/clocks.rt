@@ -2,7 +2,7 @@
 
 use std::alloc::{Allocator, Global};
 use std::time::{Clock, SystemTime, UNIX_EPOCH};
-use tz::{DateTime, TimeZone, TimeZoneRef, TzError, UtcDateTime};
+use tz::{DateTime, LocalTimeType, TimeZone, TimeZoneRef, TzError, UtcDateTime};
 
 /// What clocks an hour behind UTC show at the beginning of 2024 in UTC.
 pub fn new_year_an_hour_behind(alloc: Global) -> Result<DateTime, TzError> {
@@ -26,4 +26,15 @@ pub fn show_now<C: Clock>(clock: &C, zone: TimeZoneRef<'_>) -> anyhow::Result<Da
     let since_1970 = SystemTime::now(clock)?.duration_since(UNIX_EPOCH)?;
     let seconds = i64::try_from(since_1970.as_secs())?;
     Ok(DateTime::now(seconds, since_1970.subsec_nanos(), zone)?)
+}
+
+/// The Moon landing, in UTC.
+pub fn moon_landing() -> Result<UtcDateTime, TzError> {
+    UtcDateTime::new(1969, 7, 20, 20, 17, 40, 0)
+}
+
+/// The date time that clocks nine hours ahead of UTC show on 2024-05-01 at 8:30.
+pub fn morning_in_tokyo() -> Result<DateTime, TzError> {
+    let tokyo = LocalTimeType::with_ut_offset(32_400)?;
+    DateTime::new(2024, 5, 1, 8, 30, 0, 0, tokyo)
 }

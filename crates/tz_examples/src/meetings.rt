@@ -91,3 +91,21 @@ pub fn next_monday_at_nine(zone: TimeZoneRef<'_>, now: i64) -> Result<Option<Dat
     }
     Ok(None)
 }
+
+/// Noon of a date in a zone.
+pub fn noon(
+    zone: TimeZoneRef<'_>,
+    year: i32,
+    month: u8,
+    month_day: u8,
+) -> Result<Option<DateTime>, TzError> {
+    let choice = Disambiguation::Compatible;
+    DateTime::find_one(year, month, month_day, 12, 0, 0, 0, choice, zone)
+}
+
+/// The Unix time of a local time that is in no gap and no fold, found without allocating: one slot is enough, as all entries are counted.
+pub fn plain_instant(zone: TimeZoneRef<'_>, local: UtcDateTime) -> Result<Option<i64>, TzError> {
+    let mut slots = [None; 1];
+    let found = DateTime::find_n_local(&mut slots, local, zone)?;
+    Ok(found.unique().map(|date_time| date_time.unix_time()))
+}

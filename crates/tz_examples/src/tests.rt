@@ -1,13 +1,21 @@
 //! One test for each example.
 
-use crate::changes::{changes_around, next_change, show_entry};
-use crate::clocks::{new_year_an_hour_behind, print_instant, show_now};
+use crate::changes::{
+    changes_around, last_set_forward, next_change, show_entry, since_last_change,
+};
+use crate::clocks::{
+    moon_landing, morning_in_tokyo, new_year_an_hour_behind, print_instant, show_now,
+};
 use crate::expect::expect_eq;
 use crate::meetings::{
-    alarm, count_meanings, next_daily_run, next_monday_at_nine, weekly_meetings,
+    alarm, count_meanings, next_daily_run, next_monday_at_nine, noon, plain_instant,
+    weekly_meetings,
 };
 use crate::queries::answer_lines;
-use crate::zones::{local_time, local_zone, moved_ahead_in_2000, zone_of_setting};
+use crate::zones::{
+    local_time, local_zone, moved_ahead_in_2000, new_york_rule, rule_text, summer_time,
+    zone_of_rule, zone_of_setting,
+};
 use std::alloc::{AllocError, Global};
 use std::fmt::Display;
 use std::process::Abort;
@@ -303,5 +311,82 @@ fn changes_are_found(rt: HostRuntime) -> Result<(), Fail> {
     expect_entries(&rt, alloc, zone.as_ref())?;
     let zone = zone_of_setting(&rt, alloc, "UTC0")?;
     expect_eq(&rt, &next_change(zone.as_ref(), 0)?.is_none(), &true);
+    Ok(())
+}
+
+#[test]
+fn date_times_are_made_of_fields(rt: HostRuntime) -> Result<(), Fail> {
+    const MORNING: i64 = utc!(2024-04-30 23:30:00);
+    let landing = moon_landing()?;
+    // A Sunday, 164 days, 3 hours, 42 minutes and 20 seconds before 1970.
+    expect_eq(&rt, &landing.week_day(), &0);
+    expect_eq(&rt, &landing.unix_time(), &-14_182_940);
+    let morning = morning_in_tokyo()?;
+    expect_eq(&rt, &morning.unix_time(), &MORNING);
+    expect_shown(
+        &rt,
+        rt.alloc(),
+        &morning,
+        "2024-05-01T08:30:00.000000000+09:00",
+    )?;
+    Ok(())
+}
+
+#[test]
+fn rules_are_made_of_parts(rt: HostRuntime) -> Result<(), Fail> {
+    let summer = summer_time()?;
+    expect_eq(&rt, &summer.ut_offset(), &7200);
+    expect_eq(&rt, &summer.time_zone_designation(), &"CEST");
+    let alloc = rt.alloc();
+    let zone = zone_of_rule(alloc, new_york_rule()?)?;
+    let text = rule_text(zone.as_ref());
+    assert!(rt; text.is_some());
+    for text in text.iter() {
+        // The footer of America/New_York in the tz database.
+        expect_eq(&rt, &text.as_str(), &"EST5EDT,M3.2.0,M11.1.0");
+    }
+    expect_eq(&rt, &rule_text(TimeZoneRef::utc()).is_none(), &true);
+    expect_instant(
+        &rt,
+        alloc,
+        zone.as_ref(),
+        utc!(2026-03-08 07:00:00),
+        "2026-03-08T03:00:00.000000000-04:00 EDT",
+    )?;
+    Ok(())
+}
+
+/// Noon and midnight of a day in central Europe have one instant, and local times in a fold and in a gap have not.
+fn expect_one_instant(rt: &impl Abort, zone: TimeZoneRef<'_>) -> Result<(), TzError> {
+    const NOON: i64 = utc!(2000-07-01 10:00:00);
+    const MIDNIGHT: i64 = utc!(2000-06-30 22:00:00);
+    let shown = noon(zone, 2000, 7, 1)?;
+    expect_eq(rt, &shown.map(|noon| noon.unix_time()), &Some(NOON));
+    let midnight = UtcDateTime::new(2000, 7, 1, 0, 0, 0, 0)?;
+    expect_eq(rt, &plain_instant(zone, midnight)?, &Some(MIDNIGHT));
+    // Clocks go back from 3:00 to 2:00, and so show 2:30 twice; they go forward from 2:00 to 3:00, and skip it.
+    let twice = UtcDateTime::new(2000, 10, 29, 2, 30, 0, 0)?;
+    expect_eq(rt, &plain_instant(zone, twice)?, &None);
+    let skipped = UtcDateTime::new(2000, 3, 26, 2, 30, 0, 0)?;
+    expect_eq(rt, &plain_instant(zone, skipped)?, &None);
+    Ok(())
+}
+
+#[test]
+fn one_instant_is_found(rt: HostRuntime) -> Result<(), Fail> {
+    let zone = zone_of_setting(&rt, rt.alloc(), CENTRAL_EUROPE)?;
+    expect_one_instant(&rt, zone.as_ref())?;
+    Ok(())
+}
+
+#[test]
+fn earlier_changes_are_found(rt: HostRuntime) -> Result<(), Fail> {
+    const WEEK_LATER: i64 = utc!(2000-04-02 01:00:00);
+    const WINTER: i64 = utc!(2000-12-01 00:00:00);
+    let zone = zone_of_setting(&rt, rt.alloc(), CENTRAL_EUROPE)?;
+    let zone = zone.as_ref();
+    expect_eq(&rt, &since_last_change(zone, WEEK_LATER), &Some(604_800));
+    expect_eq(&rt, &last_set_forward(zone, WINTER), &Some(SPRING_2000));
+    expect_eq(&rt, &since_last_change(TimeZoneRef::utc(), WINTER), &None);
     Ok(())
 }

@@ -2,8 +2,10 @@
 
 use std::alloc::Global;
 use std::fs::Files;
-use tz::timezone::{self, LocalTimeType, Transition, TransitionRule};
-use tz::{DateTime, Error, TimeZone, TimeZoneRef, TzError};
+use tz::timezone::{
+    self, AlternateTime, LocalTimeType, MonthWeekDay, RuleDay, Transition, TransitionRule,
+};
+use tz::{DateTime, Error, TimeZone, TimeZoneRef, TzError, TzString};
 
 /// The zone that the machine is set to, as `/etc/localtime` tells.
 pub fn local_zone<R: Files>(rt: &R, alloc: Global) -> Result<TimeZone, Error> {
@@ -31,4 +33,33 @@ pub fn moved_ahead_in_2000(unix_time: i64) -> Result<DateTime, TzError> {
     let rule = Some(TransitionRule::Fixed(after));
     let zone = TimeZoneRef::new(&transitions, &types, &[], &rule)?;
     DateTime::from_timespec(unix_time, 0, zone)
+}
+
+/// Central European summer time, two hours ahead of UTC.
+pub fn summer_time() -> Result<LocalTimeType, TzError> {
+    Ok(LocalTimeType::new(7200, true, Some(b"CEST"))?)
+}
+
+/// The rule of New York: daylight saving time from 2:00 on the second Sunday of March to 2:00 on the first Sunday of November.
+pub fn new_york_rule() -> Result<AlternateTime, TzError> {
+    let std = LocalTimeType::new(-18_000, false, Some(b"EST"))?;
+    let dst = LocalTimeType::new(-14_400, true, Some(b"EDT"))?;
+    let start = RuleDay::MonthWeekDay(MonthWeekDay::new(3, 2, 0)?);
+    let end = RuleDay::MonthWeekDay(MonthWeekDay::new(11, 1, 0)?);
+    Ok(AlternateTime::new(std, dst, start, 7200, end, 7200)?)
+}
+
+/// A zone with a rule and no transitions.
+pub fn zone_of_rule(alloc: Global, rule: AlternateTime) -> Result<TimeZone, TzError> {
+    let types = Vec::from_array(alloc, [*rule.std(), *rule.dst()])?;
+    let rule = Some(TransitionRule::Alternate(rule));
+    TimeZone::new(Vec::new(alloc), types, Vec::new(alloc), rule)
+}
+
+/// The TZ string of a zone's rule.
+pub fn rule_text(zone: TimeZoneRef<'_>) -> Option<TzString> {
+    match zone.extra_rule() {
+        Some(rule) => TzString::from_rule(rule),
+        None => None,
+    }
 }

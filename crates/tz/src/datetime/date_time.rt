@@ -123,6 +123,15 @@ impl DateTime {
     /// The date time with these fields, which the type shows: the month from 1 to 12, the day of the month from 1, the hour from 0 to 23, the minute
     /// from 0 to 59, the second from 0 to 60 and the nanoseconds below 10^9.
     ///
+    /// The date time that clocks nine hours ahead of UTC show on 2024-05-01 at 8:30:
+    ///
+    /// ```rust
+    /// pub fn morning_in_tokyo() -> Result<DateTime, TzError> {
+    ///     let tokyo = LocalTimeType::with_ut_offset(32_400)?;
+    ///     DateTime::new(2024, 5, 1, 8, 30, 0, 0, tokyo)
+    /// }
+    /// ```
+    ///
     /// # Errors
     ///
     /// - [`TzError::DateTime`] with the first field that is out of range, in the order of the arguments, or else with `InvalidMonthDay` if the month

@@ -7,6 +7,16 @@ use std::fmt;
 ///
 /// All are counted, and the first of them are in the buffer's first slots. Lists are equal where all slots of the buffers are, and the
 /// counts are.
+///
+/// The Unix time of a local time that is in no gap and no fold. One slot is enough, as all entries are counted:
+///
+/// ```rust
+/// pub fn plain_instant(zone: TimeZoneRef<'_>, local: UtcDateTime) -> Result<Option<i64>, TzError> {
+///     let mut slots = [None; 1];
+///     let found = DateTime::find_n_local(&mut slots, local, zone)?;
+///     Ok(found.unique().map(|date_time| date_time.unix_time()))
+/// }
+/// ```
 #[derive(Drop)]
 pub struct FoundDateTimeListRefMut<'a> {
     buf: &'a mut [Option<FoundDateTimeKind>],

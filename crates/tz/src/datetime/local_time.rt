@@ -94,6 +94,20 @@ impl DateTime {
     /// The fields are in the ranges of [`DateTime::find`]. If the choice means a jump over the local time, the result is what the clock shows at
     /// another instant, earlier or later. This call does not allocate.
     ///
+    /// Noon of a date in a zone:
+    ///
+    /// ```rust
+    /// pub fn noon(
+    ///     zone: TimeZoneRef<'_>,
+    ///     year: i32,
+    ///     month: u8,
+    ///     month_day: u8,
+    /// ) -> Result<Option<DateTime>, TzError> {
+    ///     let choice = Disambiguation::Compatible;
+    ///     DateTime::find_one(year, month, month_day, 12, 0, 0, 0, choice, zone)
+    /// }
+    /// ```
+    ///
     /// # Errors
     ///
     /// - those of [`DateTime::find`] but `Memory`;

@@ -144,6 +144,14 @@ impl UtcDateTime {
     /// The date time with these fields: the month from 1 to 12, the day of the month from 1, the hour from 0 to 23, the minute from 0 to 59, the
     /// second from 0 to 60 and the nanoseconds below a second.
     ///
+    /// The Moon landing, in UTC:
+    ///
+    /// ```rust
+    /// pub fn moon_landing() -> Result<UtcDateTime, TzError> {
+    ///     UtcDateTime::new(1969, 7, 20, 20, 17, 40, 0)
+    /// }
+    /// ```
+    ///
     /// # Errors
     ///
     /// - [`TzError::OutOfRange`] for second 60 of the last minute of the year `i32::MAX`, whatever the nanoseconds;

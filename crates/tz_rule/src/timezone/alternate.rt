@@ -46,6 +46,18 @@ impl AlternateTime {
     ///
     /// Offsets are above -25 and below 26 hours, and times less than a week either way.
     ///
+    /// The rule of New York, with daylight saving time from 2:00 on the second Sunday of March to 2:00 on the first Sunday of November:
+    ///
+    /// ```rust
+    /// pub fn new_york_rule() -> Result<AlternateTime, TzError> {
+    ///     let std = LocalTimeType::new(-18_000, false, Some(b"EST"))?;
+    ///     let dst = LocalTimeType::new(-14_400, true, Some(b"EDT"))?;
+    ///     let start = RuleDay::MonthWeekDay(MonthWeekDay::new(3, 2, 0)?);
+    ///     let end = RuleDay::MonthWeekDay(MonthWeekDay::new(11, 1, 0)?);
+    ///     Ok(AlternateTime::new(std, dst, start, 7200, end, 7200)?)
+    /// }
+    /// ```
+    ///
     /// # Errors
     ///
     /// The first of these:

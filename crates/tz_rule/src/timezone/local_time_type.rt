@@ -171,6 +171,14 @@ impl LocalTimeType {
 
     /// The type with this offset in seconds, this daylight flag and this name of 1 to 7 bytes of `0-9A-Za-z+-`. (RFC 8536, section 3.2)
     ///
+    /// Central European summer time, two hours ahead of UTC:
+    ///
+    /// ```rust
+    /// pub fn summer_time() -> Result<LocalTimeType, TzError> {
+    ///     Ok(LocalTimeType::new(7200, true, Some(b"CEST"))?)
+    /// }
+    /// ```
+    ///
     /// # Errors
     ///
     /// The first of these:

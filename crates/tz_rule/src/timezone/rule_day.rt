@@ -173,6 +173,8 @@ impl MonthWeekDay {
 
     /// The week day of a month: the month from 1 to 12, the week from 1 to 5, where 5 is the last, and the week day from 0 (Sunday) to 6.
     ///
+    /// The second Sunday of March is the day 3, 2, 0. See the example at [`AlternateTime::new`](super::AlternateTime::new).
+    ///
     /// # Errors
     ///
     /// The first of these:

@@ -61,6 +61,16 @@ impl<A: Allocator + Copy> TimeZone<A> {
 
     /// The zone with these parts. (RFC 8536, section 3.2)
     ///
+    /// A zone with a rule and no transitions:
+    ///
+    /// ```rust
+    /// pub fn zone_of_rule(alloc: Global, rule: AlternateTime) -> Result<TimeZone, TzError> {
+    ///     let types = Vec::from_array(alloc, [*rule.std(), *rule.dst()])?;
+    ///     let rule = Some(TransitionRule::Alternate(rule));
+    ///     TimeZone::new(Vec::new(alloc), types, Vec::new(alloc), rule)
+    /// }
+    /// ```
+    ///
     /// # Errors
     ///
     /// The first of these:

@@ -88,6 +88,15 @@ impl<'a> TimeZoneRef<'a> {
     ///
     /// A transition to an equal type is not a change, nor is the point where a clock begins or ceases to have a type. The cost is that of
     /// [`TimeZoneRef::following`].
+    ///
+    /// How many seconds ago clocks changed last:
+    ///
+    /// ```rust
+    /// pub fn since_last_change(zone: TimeZoneRef<'_>, now: i64) -> Option<u64> {
+    ///     let change = zone.preceding(now)?;
+    ///     Some(now.abs_diff(change.unix_time()))
+    /// }
+    /// ```
     pub fn preceding(&self, unix_time: i64) -> Option<Change<'a>>
         ensures { MatchOption result (HasNoPreceding (zone_of self.now) unix_time) (λ c. IsPreceding (zone_of self.now) unix_time (change_of c)) }
     {
@@ -147,6 +156,19 @@ impl<'a> TimeZoneRef<'a> {
     /// allocate.
     ///
     /// The cost of a step is that of [`TimeZoneRef::changes_after`].
+    ///
+    /// When clocks were last set forward before an instant:
+    ///
+    /// ```rust
+    /// pub fn last_set_forward(zone: TimeZoneRef<'_>, now: i64) -> Option<i64> {
+    ///     for change in zone.changes_before(now) {
+    ///         if change.before().ut_offset() < change.after().ut_offset() {
+    ///             return Some(change.unix_time());
+    ///         }
+    ///     }
+    ///     None
+    /// }
+    /// ```
     pub fn changes_before(&self, unix_time: i64) -> ChangesBefore<'a>
         ensures { place_before result ≡ record { zone = zone_of self.now; unix_time = unix_time } }
     {
