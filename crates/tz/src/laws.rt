@@ -38,15 +38,15 @@ pub fn utc_date_times_come_back()
     ensures err { (f : Fields) (e : TzError) → IsUtc f → ¬ IsShowFault (reading f) f.nanoseconds e }
 {}
 
-/// Where [`UtcDateTime::checked_add`] returns a date time, [`UtcDateTime::duration_since`] returns the duration.
+/// If [`UtcDateTime::checked_add`] returns a date time, [`UtcDateTime::duration_since`] returns the duration.
 pub fn added_durations_come_back()
     ensures ok { (f g : Fields) (d e : Duration) → IsUtcAt (utc_total f +ℤ pos (as_nanos d)) g → IsForwards (utc_total f) (utc_total g) e
         → as_nanos e ≡ as_nanos d }
     ensures err { (f g : Fields) (d e : Duration) → IsUtcAt (utc_total f +ℤ pos (as_nanos d)) g → ¬ IsBackwards (utc_total f) (utc_total g) e }
 {}
 
-/// Date times of local time types are equal where they have one Unix time and the same nanoseconds, and are in order as their
-/// total nanoseconds are; nothing else of them counts.
+/// Date times of local time types are equal if they have one Unix time and the same nanoseconds, and are in the order of their total nanoseconds;
+/// nothing else of them counts.
 pub fn date_times_compare_by_instant()
     ensures equal { (a b : DateTime) → (moment_eq a b ≡ true) ↔ ((a.unix_time ≡ b.unix_time) × (a.fields.nanoseconds ≡ b.fields.nanoseconds)) }
     ensures order { (a b : DateTime) → IsDateTime a → IsDateTime b → moment_cmp a b ≡ int_cmp (total_of a) (total_of b) }
@@ -96,7 +96,7 @@ pub fn meanings_are_unique()
     ensures refused { (z : Zone) (choice : Disambiguation) (f : Fields) (e e' : TzError) → IsMeaningFault z choice f e → IsMeaningFault z choice f e' → e ≡ e' }
 {}
 
-/// No local time is lost: where the clock has a type at each instant of a reading's window, it shows the reading there or is set forward over it.
+/// No local time is lost: if the clock has a type at each instant of a reading's window, it shows the reading there or is set forward over it.
 pub fn no_local_time_is_lost()
     ensures { (z : Zone) (f : Fields) (low high : ℤ) (found : List FoundDateTimeKind) → IsValid f → IsWindow z.types z.extra_rule (reading f) low high
         → ((u : ℤ) → low ≤ℤ u → u ≤ℤ high → (t : LocalTimeType) × IsClock z u t) → IsFound (IsClock z) f found → found ≢ [] }
@@ -118,7 +118,7 @@ pub fn shown_date_times_are_found()
         → EachCanBeMade (IsClock z) f }
 {}
 
-/// Where the list of a search in a zone is promised, each of its entries can be made.
+/// If the list of a search in a zone is promised, each of its entries can be made.
 pub fn promised_entries_can_be_made(zone: &TimeZoneRef<'_>)
     ensures { (f : Fields) → IsValid f → IsPromised (zone_of zone.now) f.year → EachCanBeMade (IsClock (zone_of zone.now)) f }
 {
@@ -127,7 +127,7 @@ pub fn promised_entries_can_be_made(zone: &TimeZoneRef<'_>)
 }
 
 /// The number of transitions that take effect in a window is the length of a rising list that holds just these: at most w take effect
-/// there exactly where that length is at most w.
+/// there exactly if that length is at most w.
 pub fn transitions_in_a_window_are_counted()
     ensures { (z : Zone) (low high : ℤ) (places : List ℕ) → AreRising places → ((i : ℕ) → TakesEffectIn z low high i ↔ Contains places i)
         → (w : ℕ) → AtMostTakeEffectIn z low high w ↔ (length places ≤ w) }

@@ -5,7 +5,7 @@ use std::fmt;
 
 /// The date times that a search found, by rising Unix time, as far as a buffer goes.
 ///
-/// All are counted, and the first of them are in the buffer's first slots. Lists are equal where all slots of the buffers are, and the
+/// All are counted, and the first of them are in the buffer's first slots. Lists are equal if all slots of the buffers are, and the
 /// counts are.
 ///
 /// The Unix time of a local time that is in no gap and no fold. One slot is enough, as all entries are counted:

@@ -32,7 +32,7 @@ pub enum TzError {
     /// The fields do not make a date time.
     #[error("invalid date time: {0}")]
     DateTime(DateTimeError),
-    /// A value lies outside the range of its type.
+    /// A value is outside the range of its type.
     #[error("out of range operation")]
     OutOfRange,
     /// The zone has no clock at the instant.

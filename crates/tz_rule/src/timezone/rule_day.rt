@@ -97,7 +97,7 @@ impl Julian1WithoutLeap {
     }
 }
 
-/// The day that lies n days after January 1st, from 0 to 365. In a year that is not leap 365 is the next January 1st. (POSIX.1-2017, 8.3: `n`.)
+/// The day n days after January 1st, from 0 to 365. In a year that is not leap 365 is the next January 1st. (POSIX.1-2017, 8.3: `n`.)
 #[derive(Clone, Copy, Debug, PartialEq, Eq)]
 pub struct Julian0WithLeap(u16);
 
