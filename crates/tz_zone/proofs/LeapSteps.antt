@@ -105,6 +105,62 @@ module _ (n : ℕ) (t c : ℕ → ℤ) (steps : AreSteps n t c) where
                 omega (arith, ints, ap c same)
           ]
 
+  -- over some places the corrections grow by a second each at most
+  corrections_grow : (k j : ℕ) → k + j ≤ n → (c (k + j) -ℤ c k) ≤ℤ pos j
+  corrections_grow k zero h =
+      let same : k + 0 ≡ k = omega arith in
+      omega (arith, ints, ap c same)
+  corrections_grow k (suc j) h =
+      let next : k + j + 1 ≡ k + suc j = omega arith in
+      omega (arith, ints, ap c next, corrections_grow k j (omega arith), steps.step (k + j) (omega arith))
+
+  -- and, but for the last place, the times by four weeks, less a second
+  times_apart : (k j : ℕ) → k + j + 1 < n → (t k +ℤ pos (2419199 * j)) ≤ℤ t (k + j)
+  times_apart k zero h =
+      let same : k + 0 ≡ k = omega arith in
+      omega (arith, ints, ap t same)
+  times_apart k (suc j) h =
+      let next : k + j + 1 ≡ k + suc j = omega arith in
+      omega (arith, ints, ap t next, times_apart k j (omega arith), steps.apart (k + j) (omega arith))
+
+  -- to the next place that is reached the corrections grow by twice the seconds at most
+  speed_to : (u w : ℤ) (k j : ℕ) → k + j < n → (u +ℤ c k) <ℤ t k → t (k + j) ≤ℤ (w +ℤ c (k + j)) → (c (k + j + 1) -ℤ c k) ≤ℤ ((w -ℤ u) +ℤ (w -ℤ u))
+  speed_to u w k zero h beyond reached =
+      let same : k + 0 ≡ k = omega arith in
+      let next : k + 0 + 1 ≡ k + 1 = omega arith in
+      omega (arith, ints, ap t same, ap c same, ap c next, steps.step k (omega arith))
+  speed_to u w k (suc j) h beyond reached =
+      let place : k + j + 1 ≡ k + suc j = omega arith in
+      let next : k + suc j + 1 ≡ k + j + 1 + 1 = omega arith in
+      let grown = corrections_grow k j (omega arith) in
+      let apart = times_apart k j (omega arith) in
+      let rise = steps.rise (k + j) (omega arith) in
+      let step = steps.step (k + j) (omega arith) in
+      let last = steps.step (k + j + 1) (omega arith) in
+      omega (arith, ints, ap t place, ap c place, ap c next)
+
+  -- leap time grows by no more than three times the seconds
+  pub leap_speed : (u w : ℤ) (k m : ℕ) → u ≤ℤ w → IsCount n t c u k → IsCount n t c w m → (c m -ℤ c k) ≤ℤ ((w -ℤ u) +ℤ (w -ℤ u))
+  leap_speed u w k m h a b =
+      by_counts k m (count_mono u w k m h a b) a b
+    where
+      by_counts : (k m : ℕ) → k ≤ m → IsCount n t c u k → IsCount n t c w m → (c m -ℤ c k) ≤ℤ ((w -ℤ u) +ℤ (w -ℤ u))
+      by_counts k zero more a b =
+          let same : k ≡ zero = omega arith in
+          omega (arith, ints, ap c same)
+      by_counts k (suc m) more a b =
+          elim (cases_lt k (suc m)) [
+            | inl less ↦
+                let next : k + (m - k) + 1 ≡ suc m = omega arith in
+                let place : k + (m - k) ≡ m = omega arith in
+                let reached = b.reached m (omega arith) in
+                let grown = speed_to u w k (m - k) (omega (arith, b.within)) (a.beyond k (omega arith) (omega (arith, b.within))) (omega (arith, ints, ap t place, ap c place)) in
+                omega (arith, ints, ap c next)
+            | inr more' ↦
+                let same : k ≡ suc m = omega arith in
+                omega (arith, ints, ap c same)
+          ]
+
 -- just the first k times are at most v
 pub record IsTimeCount (n : ℕ) (t : ℕ → ℤ) (v : ℤ) (k : ℕ) : Type 0 where
   pub within : k ≤ n

@@ -1,12 +1,12 @@
 -- Leap times and effects of a list of leap seconds: values, refusals, order, and that each has one value.
-use Rattle.std.proofs.Common.{◌≡◌, ℕ, zero, suc, ◌+◌, ◌<◌, ◌⊎◌, inl, inr, refl, sym, ap, ◌∙◌, arith, ℤ, pos, negsuc, ◌+ℤ◌, ◌≤ℤ◌, ◌<ℤ◌, List, length, slice_get, ◌↔◌}
+use Rattle.std.proofs.Common.{◌≡◌, ℕ, zero, suc, ◌+◌, ◌<◌, ◌⊎◌, inl, inr, refl, sym, ap, ◌∙◌, arith, ℤ, pos, negsuc, ◌+ℤ◌, ◌-ℤ◌, ◌≤ℤ◌, ◌<ℤ◌, List, length, slice_get, ◌↔◌}
 use Rattle.std.proofs.lemmas.Int.{ints, by_lt_z}
 use Rattle.std.proofs.lemmas.Bool.{cases_lt}
 use Rattle.std.proofs.lemmas.Option.{slice_get_within, same_Some}
 use Rattle.tz_zone.specs.Table.{LeapSecond}
 use Rattle.tz_zone.specs.LeapTime.{IsInstant, IsStart, correction_before, IsReached, IsBeforeStart, IsPastInstants, IsLeapTimeRefused, IsCorrection, IsLeapTime, IsTimeReached, IsEffect}
 use Rattle.tz_zone.specs.ValidZone.{AreLeapSeconds, HasBegunAt}
-use Rattle.tz_zone.proofs.LeapSteps.{AreSteps, correction_bound, time_bound, leap_mono, leap_from_start, IsTimeCount, IsMoment, moment_reached, moment_least, reached_down}
+use Rattle.tz_zone.proofs.LeapSteps.{AreSteps, correction_bound, time_bound, leap_mono, leap_speed, leap_from_start, IsTimeCount, IsMoment, moment_reached, moment_least, reached_down}
 use Rattle.tz_zone.proofs.LeapLists.{time_at, time_at-is, correction_before-suc, correction_without_start, correction_at_truncated, IsReachedCount, AreSteps-from_leaps, IsReached-at, IsReached-below, IsCorrection-from_count, correction_from_count, count_exists}
 
 -- instants are the numbers of 64 bits
@@ -70,6 +70,14 @@ module _ (leaps : List LeapSecond) (are : AreLeapSeconds leaps) where
       let there = count_exists leaps are w in
       let order = leap_mono (length leaps) (time_at leaps) (correction_before leaps) steps u w here.0 there.0 h here.1 there.1 in
       rw (leap_time_from_count u v here.0 here.1 a, leap_time_from_count w v' there.0 there.1 b) order
+
+  -- and they grow by three times the seconds at most
+  pub leap_time_speed : (u w v v' : ℤ) → u ≤ℤ w → IsLeapTime leaps u v → IsLeapTime leaps w v' → v' ≤ℤ (v +ℤ (w -ℤ u) +ℤ (w -ℤ u) +ℤ (w -ℤ u))
+  leap_time_speed u w v v' h a b =
+      let here = count_exists leaps are u in
+      let there = count_exists leaps are w in
+      let speed = leap_speed (length leaps) (time_at leaps) (correction_before leaps) steps u w here.0 there.0 h here.1 there.1 in
+      omega (arith, ints, leap_time_from_count u v here.0 here.1 a, leap_time_from_count w v' there.0 there.1 b, speed)
 
   -- a correction that leaves the instants leaves them above
   refused_above : (u : ℤ) (i : ℕ) (l : LeapSecond) → IsReached leaps i l u → ¬ IsInstant (u +ℤ l.correction) → pos 9223372036854775807 <ℤ (u +ℤ l.correction)

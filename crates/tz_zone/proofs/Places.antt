@@ -69,6 +69,15 @@ module _ (z : Zone) (sound : IsSoundTable z) where
     ahead = ahead_from z.transitions rising l (k + 1) later after before;
   }
 
+  -- while leap time stays before the next transition the clock has one type
+  pub type_while_before : (k : ℕ) (low high : ℤ) → IsReachedAt z low k → (next : Transition) (t : LocalTimeType) → slice_get z.transitions k ≡ Some next
+      → ((v : ℤ) → low ≤ℤ v → v ≤ℤ high → (l : ℤ) × IsLeapTime z.leap_seconds v l × (l <ℤ next.unix_leap_time)) → IsTypeOfLast z k t
+      → (v : ℤ) → low ≤ℤ v → v ≤ℤ high → IsClock z v t
+  type_while_before k low high at next t at_next before type v from to =
+      let here = before v from to in
+      clock_at_place k v t (slice_get_within z.transitions k next at_next)
+      (place_later k low v here.0 at from here.1 (λ other at_k. rw (same_Some other next (sym at_k ∙ at_next)) here.2)) type
+
   module _ (k : ℕ) (low high h : ℤ) (at : IsReachedAt z low k) (leap : IsLeapTime z.leap_seconds high h) where
     -- instants between two that have a leap time have one
     leap_between : (v : ℤ) → low ≤ℤ v → v ≤ℤ high → (l : ℤ) × IsLeapTime z.leap_seconds v l × (l ≤ℤ h)

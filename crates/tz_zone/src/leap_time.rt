@@ -1,6 +1,7 @@
 //! Leap times. (RFC 8536, section 2)
 
 ghost use Rattle.std.specs.Prelude.{◌≡◌, ◌<◌, ◌≤◌, ◌+◌, ◌+ℤ◌, ◌≤ℤ◌, ◌<ℤ◌, ◌-ℤ◌, ◌⊎◌, ℕ, length, slice_get, ℤ, pos, negsuc, IfOk, IfErr, IfSome, IfNone, MatchBool, MatchOption, Some};
+ghost use Rattle.std.specs.Bool.{OnTrue};
 ghost use Rattle.tz_zone.specs.Table.{LeapSecond};
 ghost use Rattle.tz_zone.specs.LeapTime.{IsInstant, IsStart, correction_at_start as correction_of_start, correction_before as correction_at_place, IsReached, IsBeforeStart, IsPastInstants, IsLeapTimeRefused, IsLeapTime};
 ghost use Rattle.tz_zone.specs.ValidZone.{AreLeapSeconds, HasBegunAt, ExpiresAt, IsPlainTable};
@@ -251,27 +252,61 @@ pub(crate) fn shifted(leap_seconds: &[LeapSecond], unix_time: i64) -> i64
     unix_time + i64::from(correction_before(leap_seconds, reached))
 }
 
+/// The leap time of an instant, if it has one, by the leap seconds that are reached.
+#[inline(never)]
+fn leap_time_by_seconds(leap_seconds: &[LeapSecond], unix_time: i64) -> Option<i64>
+    requires { AreLeapSeconds leap_seconds.now }
+    ensures { MatchOption result (IsLeapTimeRefused leap_seconds.now unix_time) (λ v. IsLeapTime leap_seconds.now unix_time v) }
+{
+    if !has_leap_time(leap_seconds, unix_time) {
+        return None;
+    }
+    Some(shifted(leap_seconds, unix_time))
+}
+
+/// The leap time of an instant, if it has one. Mostly there are no leap seconds, and it is the instant itself.
+#[inline(always)]
+pub(crate) fn leap_time(leap_seconds: &[LeapSecond], unix_time: i64) -> Option<i64>
+    requires { AreLeapSeconds leap_seconds.now }
+    ensures { MatchOption result (IsLeapTimeRefused leap_seconds.now unix_time) (λ v. IsLeapTime leap_seconds.now unix_time v) }
+{
+    if leap_seconds.is_empty() {
+        return Some(unix_time);
+    }
+    leap_time_by_seconds(leap_seconds, unix_time)
+}
+
 /// The leap time of an instant. (RFC 8536, section 2)
 pub fn leap(leap_seconds: &[LeapSecond], unix_time: i64) -> Result<i64, TzError>
     requires { AreLeapSeconds leap_seconds.now }
     ensures ok { IfOk result (λ v. IsLeapTime leap_seconds.now unix_time v) }
     ensures err { IfErr result (λ e. (e ≡ TzError.OutOfRange) × IsLeapTimeRefused leap_seconds.now unix_time) }
 {
-    if !has_leap_time(leap_seconds, unix_time) {
-        return Err(TzError::OutOfRange);
+    match leap_time_by_seconds(leap_seconds, unix_time) {
+        Some(unix_leap_time) => Ok(unix_leap_time),
+        None => Err(TzError::OutOfRange),
     }
-    Ok(shifted(leap_seconds, unix_time))
 }
 
-/// The leap time of an instant. Mostly there are no leap seconds, and it is the instant itself.
+/// Whether each instant of a window has a leap time before another one, by the leap time of its first instant alone.
+///
+/// From one instant to another a leap time grows by no more than three times the seconds between them, and mostly by just these. So a window that
+/// ends long before the other leap time needs no second look at the leap seconds. Without leap seconds the first look costs nothing.
 #[inline(always)]
-pub(crate) fn leap_time(leap_seconds: &[LeapSecond], unix_time: i64) -> Result<i64, TzError>
-    requires { AreLeapSeconds leap_seconds.now }
-    ensures ok { IfOk result (λ v. IsLeapTime leap_seconds.now unix_time v) }
-    ensures err { IfErr result (λ e. (e ≡ TzError.OutOfRange) × IsLeapTimeRefused leap_seconds.now unix_time) }
+pub(crate) fn stay_before(
+    leap_seconds: &[LeapSecond],
+    low: i64,
+    low_leap_time: i64,
+    high: i64,
+    unix_leap_time: i64,
+) -> bool
+    requires leaps { AreLeapSeconds leap_seconds.now }
+    requires low { IsLeapTime leap_seconds.now low low_leap_time }
+    ensures { OnTrue result ((u : ℤ) → low ≤ℤ u → u ≤ℤ high → (v : ℤ) × IsLeapTime leap_seconds.now u v × (v <ℤ unix_leap_time)) }
 {
-    if leap_seconds.is_empty() {
-        return Ok(unix_time);
+    if high > SURELY_ANSWERED {
+        return false;
     }
-    leap(leap_seconds, unix_time)
+    let seconds = i128::from(high) - i128::from(low);
+    i128::from(low_leap_time) + 3 * seconds < i128::from(unix_leap_time)
 }

@@ -1,7 +1,7 @@
 //! Places among a zone's transitions: how many of them are reached.
 
 ghost use Rattle.std.specs.Prelude.{◌≡◌, ℕ, ◌+◌, ◌-◌, ◌^◌, ◌<◌, ◌≤◌, ◌⊎◌, length, slice_get, Some, IfNone, MatchOption};
-ghost use Rattle.tz_zone.specs.Clock.{AreReached, AreAhead, IsPlaceAt, IsTypeOfLast};
+ghost use Rattle.tz_zone.specs.Clock.{AreReached, AreAhead, IsLast, IsPlaceAt, IsTypeOfLast};
 ghost use Rattle.tz_zone.specs.ClockSegments.{IsBefore, IsReachedAt};
 ghost use Rattle.tz_zone.specs.LeapTime.{IsLeapTimeRefused};
 ghost use Rattle.tz_zone.specs.ValidZone.{IsRising, IsSoundTable};
@@ -74,6 +74,28 @@ pub(super) fn place_before<V: Transitions>(view: &mut V, unix_leap_time: i64) ->
     place
 }
 
+/// The place at which a leap time lies. If the last transition is reached, no other one is looked at.
+#[inline(always)]
+pub(super) fn place_of<V: Transitions>(
+    view: &mut V,
+    last: Transition,
+    unix_leap_time: i64,
+) -> usize
+    requires rising { IsRising (V.list view.old) }
+    requires last { IsLast (V.list view.old) last }
+    requires at_least_one { 0 < length (V.list view.old) }
+    ensures same { V.list view.new ≡ V.list view.old }
+    ensures within { result ≤ length (V.list view.old) }
+    ensures at { IsPlaceAt (V.list view.old) unix_leap_time result }
+    ensures kept { V.looks view.old ≤ V.looks view.new }
+    ensures at_most { (b : ℕ) → length (V.list view.old) < 2 ^ b → V.looks view.new ≤ V.looks view.old + b }
+{
+    if last.unix_leap_time() <= unix_leap_time {
+        return view.len();
+    }
+    place_before(view, unix_leap_time)
+}
+
 /// The place at which an instant lies: how many transitions are reached. There is none if the instant has no leap time.
 ///
 /// The last transition is looked at first: if it is reached, no other one is looked at.
@@ -94,13 +116,10 @@ pub(super) fn place_at<V: Transitions>(
 {
     let count = view.len();
     let last = view.look(count - 1);
-    let Ok(unix_leap_time) = leap_time(parts.leap_seconds, unix_time) else {
+    let Some(unix_leap_time) = leap_time(parts.leap_seconds, unix_time) else {
         return None;
     };
-    if last.unix_leap_time() <= unix_leap_time {
-        return Some(count);
-    }
-    Some(place_before(view, unix_leap_time))
+    Some(place_of(view, last, unix_leap_time))
 }
 
 /// The last transition before a place. Where there is none, it is one from the least leap time on, to type number 0.

@@ -204,7 +204,7 @@ fn segment_behind<'a, V: Transitions>(
         → TakesEffectAt (zone_seen (V.list view.old) parts.entry) unix_time i) }
     ensures end { IfNone result.cursor (result.last ≡ pos 9223372036854775807) }
 {
-    let Ok(unix_leap_time) = leap_time(parts.leap_seconds, unix_time) else {
+    let Some(unix_leap_time) = leap_time(parts.leap_seconds, unix_time) else {
         return refused_segment(parts.leap_seconds, unix_time);
     };
     let cursor = moved_on(view, cursor, unix_leap_time);

@@ -1,17 +1,16 @@
 //! The types that the clock has in a window of instants, where these are one or two.
 
 ghost use Rattle.std.specs.Prelude.{◌≡◌, ◌≢◌, ◌==◌, ℕ, ℤ, ◌+◌, ◌^◌, ◌<◌, ◌≤◌, ◌≤ℤ◌, ◌<ℤ◌, [], length, Some, IfSome, MatchOption};
-ghost use Rattle.tz_zone.specs.Clock.{IsClock, IsTypeAfterTable};
-ghost use Rattle.tz_zone.specs.ClockSegments.{IsReachedAt};
+ghost use Rattle.tz_zone.specs.Clock.{IsClock, IsPlaceAt, IsTypeAfterTable};
 ghost use Rattle.tz_zone.specs.LeapTime.{IsLeapTime};
 ghost use Rattle.tz_zone.specs.ValidZone.{IsSoundTable};
 ghost use Rattle.tz_zone.specs.WindowTypes.{AreTypesIn, IfMore, IsPlaceOf};
 ghost use Rattle.tz_zone.specs.ZoneSeen.{zone_seen};
 
 use super::after_table::after_table;
-use super::place::{place_at, type_before, type_of};
+use super::place::{place_of, type_before, type_of};
 use crate::effect::start_of;
-use crate::leap_time::leap_time;
+use crate::leap_time::{leap_time, stay_before};
 use crate::table::{OtherParts, Transitions};
 use tz_rule::timezone::LocalTimeType;
 
@@ -82,21 +81,22 @@ fn types_after_table<'a>(
     }
 }
 
-/// The types in a window that begins at a place before the last transition, by the leap time of its last instant.
+/// The types in a window that begins at a place before the last transition, whose first instant has a leap time.
 #[inline(always)]
 fn types_at_place<'a, V: Transitions>(
     view: &mut V,
     parts: OtherParts<'a>,
     place: usize,
+    low: i64,
+    low_leap_time: i64,
     high: i64,
-    unix_leap_time: i64,
 ) -> WindowTypes<'a>
     requires sound { IsSoundTable (zone_seen (V.list view.old) parts) }
     requires place { place < length (V.list view.old) }
-    requires leap { IsLeapTime parts.leap_seconds.now high unix_leap_time }
+    requires leap { IsLeapTime parts.leap_seconds.now low low_leap_time }
+    requires at { IsPlaceAt (V.list view.old) low_leap_time place }
     ensures same { V.list view.new ≡ V.list view.old }
-    ensures types { (low : ℤ) → IsReachedAt (zone_seen (V.list view.old) parts.entry) low place
-        → AreTypesIn (IsClock (zone_seen (V.list view.old) parts.entry)) low high result }
+    ensures types { AreTypesIn (IsClock (zone_seen (V.list view.old) parts.entry)) low high result }
     ensures kept { V.looks view.old ≤ V.looks view.new }
     ensures at_most { V.looks view.new ≤ V.looks view.old + 3 }
     ensures more { IfMore result (λ from. (from ≡ Some place) × (V.looks view.new ≤ V.looks view.old + 2)) }
@@ -104,6 +104,14 @@ fn types_at_place<'a, V: Transitions>(
     let count = view.len();
     let next = view.look(place);
     let since = next.unix_leap_time();
+    if !parts.leap_seconds.is_empty()
+        && stay_before(parts.leap_seconds, low, low_leap_time, high, since)
+    {
+        return WindowTypes::One(type_before(view, parts, place));
+    }
+    let Some(unix_leap_time) = leap_time(parts.leap_seconds, high) else {
+        return WindowTypes::More(Some(place));
+    };
     if unix_leap_time < since {
         return WindowTypes::One(type_before(view, parts, place));
     }
@@ -149,15 +157,17 @@ pub fn window_types<'a, V: Transitions>(
 {
     let count = view.len();
     if count > 0 {
-        let Some(place) = place_at(view, parts, low) else {
+        let last = view.look(count - 1);
+        let Some(low_leap_time) = leap_time(parts.leap_seconds, low) else {
             return WindowTypes::More(None);
         };
-        let Ok(unix_leap_time) = leap_time(parts.leap_seconds, high) else {
+        let place = place_of(view, last, low_leap_time);
+        if place < count {
+            return types_at_place(view, parts, place, low, low_leap_time, high);
+        }
+        let Some(_) = leap_time(parts.leap_seconds, high) else {
             return WindowTypes::More(Some(place));
         };
-        if place < count {
-            return types_at_place(view, parts, place, high, unix_leap_time);
-        }
     }
     types_after_table(parts, count, low, high)
 }

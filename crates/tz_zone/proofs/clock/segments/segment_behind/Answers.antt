@@ -30,9 +30,9 @@ pub moved_on-cursor-requires-clause-before : goal.moved_on-cursor-requires-claus
 moved_on-cursor-requires-clause-before g c =
     let z = zone_seen (g.V.Transitions.list c.args.view.now) c.args.parts in
     let u = c.args.unix_time in
-    let l = c.in-Ok.unix_leap_time in
+    let l = c.in-Some.unix_leap_time in
     let fits : SFits w64 l = search rules in
-    let leap = rw (to_z-of_z w64 u c.ranges.unix_time) at c.in-Ok.ensures.ok in
+    let leap = rw (to_z-of_z w64 u c.ranges.unix_time) at c.in-Some.ensures in
     let before = c.requires.reached in
     rw (to_z-of_z w64 l fits) (before_later z c.requires.sound c.args.cursor c.requires.cursor before.0 u l (omega (arith, ints, before.1)) c.ranges.unix_time before.3 leap)
 
@@ -49,9 +49,9 @@ pub returns-clause-effects : goal.returns-clause-effects
 returns-clause-effects g c =
     let z = zone_seen (g.V.Transitions.list c.args.view.now) c.args.parts in
     let u = c.args.unix_time in
-    let l = c.in-Ok.unix_leap_time in
+    let l = c.in-Some.unix_leap_time in
     let fits : SFits w64 l = search rules in
-    let leap = rw (to_z-of_z w64 u c.ranges.unix_time) at c.in-Ok.ensures.ok in
+    let leap = rw (to_z-of_z w64 u c.ranges.unix_time) at c.in-Some.ensures in
     let before = c.requires.reached in
     let bounds = instant_bounds u c.ranges.unix_time in
     let instant = IsInstant-from_bounds before.0 before.2 (omega (arith, ints, before.1, bounds.1)) in
