@@ -27,3 +27,5 @@ pub mod UniqueMeanings
 pub mod PlacedSlots
 pub mod TextFronts
 pub mod TextValues
+pub mod UniqueTexts
+pub mod ReadBack

@@ -16,7 +16,7 @@ digit_of_value : (b : ℕ) → digit_value b < 10 → (48 ≤ b) × (b ≤ 57)
 digit_of_value b is = (grind (arith, nat_tests), grind (arith, nat_tests))
 
 -- the last digits of a number are digits, as many as asked for, with its value
-last_digits_all : (width n : ℕ) → AllDigits 10 (last_digits width n)
+pub last_digits_all : (width n : ℕ) → AllDigits 10 (last_digits width n)
 last_digits_all zero n = tt
 last_digits_all (suc width) n = pushed (last_digits width (n / 10)) (last_digits_all width (n / 10))
   where
@@ -24,11 +24,11 @@ last_digits_all (suc width) n = pushed (last_digits width (n / 10)) (last_digits
     pushed [] all = (omega (arith, (is_digit (48 + n % 10) (omega arith) (omega arith)).1), tt)
     pushed (d ∷ ds) all = (all.0, pushed ds all.1)
 
-last_digits_length : (width n : ℕ) → length (last_digits width n) ≡ width
+pub last_digits_length : (width n : ℕ) → length (last_digits width n) ≡ width
 last_digits_length zero n = refl
 last_digits_length (suc width) n = omega (arith, length-append (last_digits width (n / 10)) ((48 + n % 10) ∷ []), last_digits_length width (n / 10))
 
-last_digits_value : (width n : ℕ) → n < 10 ^ width → digits_value 10 (last_digits width n) ≡ n
+pub last_digits_value : (width n : ℕ) → n < 10 ^ width → digits_value 10 (last_digits width n) ≡ n
 last_digits_value zero n few = omega (arith, few)
 last_digits_value (suc width) n few =
     let more = last_digits_value width (n / 10) (omega (arith, few, pow-suc 10 width)) in

@@ -121,7 +121,7 @@ no_year_without_digits (inl many) = omega (arith, many)
 no_year_without_digits (inr is) = let none : length (decimal 0) ≡ 1 = ap length (decimal_digit 0 (omega arith)) in omega (arith, none, ap length is)
 
 -- a year that begins with a minus, and one that does not
-no_digits_at_minus : (text unsigned digits rest : List ℕ) → text ≡ 45 ∷ unsigned → IsDigits text digits rest → ¬ AreYearDigits digits
+pub no_digits_at_minus : (text unsigned digits rest : List ℕ) → text ≡ 45 ∷ unsigned → IsDigits text digits rest → ¬ AreYearDigits digits
 no_digits_at_minus text unsigned [] rest minus front = no_year_without_digits
 no_digits_at_minus text unsigned (d ∷ digits) rest minus front =
     let same : d ≡ 45 = cc (minus, front.whole) in

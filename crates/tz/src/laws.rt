@@ -3,7 +3,7 @@
 //! A function here does nothing, or calls the laws on which it rests, or makes one call that the law is about. Its contract is the law, stated like
 //! the contracts of [`crate::UtcDateTime`] and [`crate::DateTime`].
 
-ghost use Rattle.std.specs.Prelude.{◌≡◌, ◌≢◌, ℕ, ◌<◌, true, pos, ℤ, ◌+ℤ◌, ◌↔◌, ◌≤◌, ◌≤ℤ◌, length, List, [], Option, ⊤, alloc_error, FitsSigned};
+ghost use Rattle.std.specs.Prelude.{◌≡◌, ◌≢◌, ℕ, ◌<◌, true, pos, ℤ, Some, ◌+ℤ◌, ◌↔◌, ◌≤◌, ◌≤ℤ◌, length, List, [], Option, ⊤, alloc_error, FitsSigned};
 ghost use Rattle.std.specs.List.{Contains};
 ghost use Rattle.std.specs.Duration.{as_nanos};
 ghost use Rattle.std.specs.Int.{w32};
@@ -15,7 +15,7 @@ ghost use Rattle.tz_base.specs.declared.fields.Fields.{Fields};
 ghost use Rattle.tz_base.specs.declared.error.TzError.{TzError};
 ghost use Rattle.tz_base.specs.declared.error.TzError.TheVariants.{Memory};
 ghost use Rattle.tz_base.specs.declared.error.datetime.DateTimeError.{DateTimeError};
-ghost use Rattle.tz_rule.specs.LocalTimeType.{LocalTimeType};
+ghost use Rattle.tz_rule.specs.LocalTimeType.{IsOffset, LocalTimeType};
 ghost use Rattle.tz_zone.specs.Clock.{IsClock};
 ghost use Rattle.tz_zone.specs.Table.{Zone};
 ghost use Rattle.tz_zone.specs.ZoneRef.{zone_of};
@@ -23,11 +23,15 @@ ghost use Rattle.tz.specs.FindFaults.{IsPromised, IsFindFault};
 ghost use Rattle.tz.specs.Found.{EachCanBeMade, IsFound};
 ghost use Rattle.tz.specs.Meanings.{IsMeaning, IsMeaningFault};
 ghost use Rattle.tz.specs.Windows.{IsWindow, TakesEffectIn, AreRising, AtMostTakeEffectIn};
+ghost use Rattle.tz.specs.PrintedText.{printed_text};
+ghost use Rattle.tz.specs.DateTimeText.{IsDateTimeText, IsDateTimeTextFault};
+ghost use Rattle.tz.specs.declared.parse.ParsedDateTime.{ParsedDateTime};
+ghost use Rattle.tz.specs.declared.parse.error.ParseDateTimeError.{ParseDateTimeError};
 ghost use Rattle.tz.specs.declared.datetime.disambiguation.Disambiguation.{Disambiguation};
 ghost use Rattle.tz.specs.declared.datetime.found.FoundDateTimeKind.{FoundDateTimeKind};
 ghost use Rattle.tz.specs.declared.datetime.found.FoundDateTimeKind.TheVariants.{Normal as normal};
 ghost use Rattle.tz.specs.contracts.datetime.utc_date_time.UtcDateTimeOrd.TheImpl as utc_order;
-ghost use Rattle.tz.specs.DateTimes.{DateTime, IsDateTime, IsUtc, IsUtcAt, IsShowFault, IsClockFault, IsForwards, IsBackwards, ShowsByClock, utc_total, total_of, moment_eq, moment_cmp};
+ghost use Rattle.tz.specs.DateTimes.{DateTime, IsDateTime, IsUtc, IsUtcAt, IsPastTheEnd, IsShowFault, IsClockFault, IsForwards, IsBackwards, ShowsByClock, utc_total, total_of, moment_eq, moment_cmp};
 
 use crate::{DateTime, TimeZoneRef};
 use tz_zone::laws::shown_types_are_sound;
@@ -131,4 +135,19 @@ pub fn promised_entries_can_be_made(zone: &TimeZoneRef<'_>)
 pub fn transitions_in_a_window_are_counted()
     ensures { (z : Zone) (low high : ℤ) (places : List ℕ) → AreRising places → ((i : ℕ) → TakesEffectIn z low high i ↔ Contains places i)
         → (w : ℕ) → AtMostTakeEffectIn z low high w ↔ (length places ≤ w) }
+{}
+
+/// [`crate::ParsedDateTime::parse`] has one result for a text: one local time and offset, or one error.
+pub fn parsed_texts_have_one_result()
+    ensures read { (text : List ℕ) (p q : ParsedDateTime) → IsDateTimeText text p → IsDateTimeText text q → p ≡ q }
+    ensures refused { (text : List ℕ) (e e' : ParseDateTimeError) → IsDateTimeTextFault text e → IsDateTimeTextFault text e' → e ≡ e' }
+    ensures either { (text : List ℕ) (p : ParsedDateTime) (e : ParseDateTimeError) → IsDateTimeText text p → ¬ IsDateTimeTextFault text e }
+{}
+
+/// What [`DateTime`] and [`crate::UtcDateTime`] print, [`crate::ParsedDateTime::parse`] reads as its fields and its offset: for all fields of a date
+/// time but second 60 of the last minute of all, which no UTC date time has, and for the offset of every local time type.
+pub fn printed_texts_are_read()
+    ensures read { (f : Fields) (offset : ℤ) → IsValid f → ¬ IsPastTheEnd f → FitsSigned w32 f.year → FitsSigned w32 offset → IsOffset offset
+        → IsDateTimeText (printed_text f offset) (record { local = f; ut_offset = Some offset }) }
+    ensures utc { (f : Fields) → IsUtc f → ¬ IsPastTheEnd f }
 {}

@@ -1,0 +1,210 @@
+-- A text of a date time has one reading, or one part that is missing first, and not both: each part has, and so have parts in turn.
+use Rattle.std.proofs.Common.{◌≡◌, ◌≢◌, ℕ, pos, neg_ℤ, Some, None, ◌+◌, ◌-◌, ◌*◌, ◌^◌, ◌⊎◌, inl, inr, List, [], ◌∷◌, length, drop, refl, sym, ap, ◌∙◌, subst, arith}
+use Rattle.std.specs.Str.Parse.{digits_value}
+use Rattle.tz_base.specs.declared.fields.Fields.{Fields}
+use Rattle.tz_base.specs.Days.{is_leap, month_length}
+use Rattle.tz.specs.DateTimes.{fields_of}
+use Rattle.tz.specs.Grammars.{Grammar, one, ◌▸◌, done}
+use Rattle.tz.specs.DateTimeText.{IsByte, IsDigits, IsEnd, IsFraction, IsHours, IsMark, IsMinutes, IsPair, IsSecond, IsSeconds, IsSeparator, IsYear, byte, date, time, duration, after_mark, offset, date_time, IsDateTimeText, IsDateTimeTextFault}
+use Rattle.tz.specs.declared.parse.ParsedDateTime.{ParsedDateTime}
+use Rattle.tz.specs.declared.parse.error.ParseDateTimeError.{ParseDateTimeError}
+use Rattle.tz.specs.declared.parse.error.DateTimePart.{DateTimePart}
+use Rattle.tz.specs.declared.parse.error.DateTimePart.TheVariants as parts
+use Rattle.tz.specs.declared.parse.offset.OffsetMark.{OffsetMark}
+use Rattle.tz.specs.declared.parse.offset.OffsetMark.TheVariants.{Absent, Utc, Ahead, Behind}
+use Rattle.tz.proofs.TextFronts.{digits_unique, no_digits_at_minus, pair_unique}
+
+-- at most one value and one rest
+abbrev IsUnique : {A : Type 0} → (List ℕ → A → List ℕ → Type 0) → Type 0
+IsUnique {A} begins = (text : List ℕ) (v w : A) (rest rest' : List ℕ) → begins text v rest → begins text w rest' → (v ≡ w) × (rest ≡ rest')
+
+record IsExact {A : Type 0} (g : Grammar A) : Type 0 where
+  read : IsUnique g.reads
+  missing : (text : List ℕ) (e e' : DateTimePart) (rest rest' : List ℕ) → g.misses text e rest → g.misses text e' rest' → (e ≡ e') × (rest ≡ rest')
+  either : (text : List ℕ) (v : A) (e : DateTimePart) (rest rest' : List ℕ) → g.reads text v rest → ¬ g.misses text e rest'
+
+exact_one : {A : Type 0} (part : DateTimePart) (begins : List ℕ → A → List ℕ → Type 0) → IsUnique begins → IsExact (one part begins)
+exact_one part begins unique = record {
+  read = unique;
+  missing = λ text e e' rest rest' m m'. (m.0 ∙ sym m'.0, m.1 ∙ sym m'.1);
+  either = λ text v e rest rest' reads m. m.2 v rest reads;
+}
+
+exact_done : {A : Type 0} (v : A) → IsExact (done v)
+exact_done v = record {
+  read = λ text w w' rest rest' reads reads'. (reads.0 ∙ sym reads'.0, reads.1 ∙ sym reads'.1);
+  missing = λ text e e' rest rest' m m'. absurd m;
+  either = λ text w e rest rest' reads m. absurd m;
+}
+
+-- what follows the second reading of a part follows the first
+moved : {A B : Type 0} (next : A → Grammar B) (v v' : A) (after after' : List ℕ) → (v ≡ v') × (after ≡ after') → (P : Grammar B → List ℕ → Type 0) → P (next v') after' → P (next v) after
+moved next v v' after after' same P holds = subst (λ x. P (next x) after) (sym same.0) (subst (P (next v')) (sym same.1) holds)
+
+exact_then : {A B : Type 0} (first : Grammar A) (next : A → Grammar B) → IsExact first → ((v : A) → IsExact (next v)) → IsExact (first ▸ next)
+exact_then {A} {B} first next exact exacts = record { read = read; missing = missing; either = either }
+  where
+    read : IsUnique (first ▸ next).reads
+    read text w w' rest rest' (v, after, is, more) (v', after', is', more') =
+        let same = exact.read text v v' after after' is is' in
+        (exacts v).read after w w' rest rest' more (moved next v v' after after' same (λ g behind. g.reads behind w' rest') more')
+
+    missing : (text : List ℕ) (e e' : DateTimePart) (rest rest' : List ℕ) → (first ▸ next).misses text e rest → (first ▸ next).misses text e' rest' → (e ≡ e') × (rest ≡ rest')
+    missing text e e' rest rest' (inl m) (inl m') = exact.missing text e e' rest rest' m m'
+    missing text e e' rest rest' (inl m) (inr (v, after, is, m')) = absurd (exact.either text v e after rest is m)
+    missing text e e' rest rest' (inr (v, after, is, m)) (inl m') = absurd (exact.either text v e' after rest' is m')
+    missing text e e' rest rest' (inr (v, after, is, m)) (inr (v', after', is', m')) =
+        let same = exact.read text v v' after after' is is' in
+        (exacts v).missing after e e' rest rest' m (moved next v v' after after' same (λ g behind. g.misses behind e' rest') m')
+
+    either : (text : List ℕ) (w : B) (e : DateTimePart) (rest rest' : List ℕ) → (first ▸ next).reads text w rest → ¬ (first ▸ next).misses text e rest'
+    either text w e rest rest' (v, after, is, more) (inl m) = exact.either text v e after rest' is m
+    either text w e rest rest' (v, after, is, more) (inr (v', after', is', m')) =
+        let same = exact.read text v v' after after' is is' in
+        (exacts v).either after w e rest rest' more (moved next v v' after after' same (λ g behind. g.misses behind e rest') m')
+
+byte_exact : (part : DateTimePart) (b : ℕ) → IsExact (byte part b)
+byte_exact part b = exact_one part (IsByte b) (λ text v w rest rest' is is'. (refl, cc (is, is')))
+
+pair_exact : (part : DateTimePart) (least greatest : ℕ) → IsExact (one part (IsPair least greatest))
+pair_exact part least greatest = exact_one part (IsPair least greatest) (λ text v w rest rest' is is'. pair_unique rest rest' is is')
+
+year_unique : IsUnique IsYear
+year_unique text y y' rest rest' (digits, are, fits, inl (front, value)) (digits', are', fits', inl (front', value')) =
+    let same = digits_unique front front' in
+    (value ∙ ap (λ ds. pos (digits_value 10 ds)) same.0 ∙ sym value', same.1)
+year_unique text y y' rest rest' (digits, are, fits, inr (unsigned, minus, front, value)) (digits', are', fits', inr (unsigned', minus', front', value')) =
+    let behind : unsigned' ≡ unsigned = cc (minus, minus') in
+    let same = digits_unique front (subst (λ bs. IsDigits bs digits' rest') behind front') in
+    (value ∙ ap (λ ds. neg_ℤ (pos (digits_value 10 ds))) same.0 ∙ sym value', same.1)
+year_unique text y y' rest rest' (digits, are, fits, inl (front, value)) (digits', are', fits', inr (unsigned', minus', front', value')) = absurd (no_digits_at_minus text unsigned' digits rest minus' front are)
+year_unique text y y' rest rest' (digits, are, fits, inr (unsigned, minus, front, value)) (digits', are', fits', inl (front', value')) = absurd (no_digits_at_minus text unsigned digits' rest' minus front' are')
+
+date_exact : IsExact date
+date_exact =
+    exact_then _ _ (exact_one parts.Year IsYear year_unique) (λ year.
+    exact_then _ _ (byte_exact parts.Hyphen 45) (λ _.
+    exact_then _ _ (pair_exact parts.Month 1 12) (λ month.
+    exact_then _ _ (byte_exact parts.Hyphen 45) (λ _.
+    exact_then _ _ (pair_exact parts.MonthDay 1 (month_length (is_leap year) month)) (λ month_day.
+    exact_done (fields_of year month month_day 0 0 0 0))))))
+
+fraction_unique : IsUnique IsFraction
+fraction_unique text n n' rest rest' (inl is) (inl is') = (is.1 ∙ sym is'.1, is.2 ∙ sym is'.2)
+fraction_unique text n n' rest rest' (inl is) (inr (after, digits, point, front, some, few, value)) = absurd (is.0 (after, point))
+fraction_unique text n n' rest rest' (inr (after, digits, point, front, some, few, value)) (inl is') = absurd (is'.0 (after, point))
+fraction_unique text n n' rest rest' (inr (after, digits, point, front, some, few, value)) (inr (after', digits', point', front', some', few', value')) =
+    let behind : after' ≡ after = cc (point, point') in
+    let same = digits_unique front (subst (λ bs. IsDigits bs digits' rest') behind front') in
+    (value ∙ ap (λ ds. digits_value 10 ds * 10 ^ (9 - length ds)) same.0 ∙ sym value', same.1)
+
+time_exact : (f : Fields) → IsExact (time f)
+time_exact f =
+    exact_then _ _ (pair_exact parts.Hour 0 23) (λ hour.
+    exact_then _ _ (byte_exact parts.Colon 58) (λ _.
+    exact_then _ _ (pair_exact parts.Minute 0 59) (λ minute.
+    exact_then _ _ (byte_exact parts.Colon 58) (λ _.
+    exact_then _ _ (exact_one parts.Second (IsSecond f hour minute) (λ text v w rest rest' is is'. pair_unique rest rest' is.0 is'.0)) (λ second.
+    exact_then _ _ (exact_one parts.Fraction IsFraction fraction_unique) (λ nanoseconds.
+    exact_done (fields_of f.year f.month f.month_day hour minute second nanoseconds)))))))
+
+hours_unique : IsUnique IsHours
+hours_unique text h h' rest rest' (digits, front, some, value, below) (digits', front', some', value', below') =
+    let same = digits_unique front front' in
+    (value ∙ ap (digits_value 10) same.0 ∙ sym value', same.1)
+
+seconds_unique : (hours minutes : ℕ) → IsUnique (IsSeconds hours minutes)
+seconds_unique hours minutes text s s' rest rest' (inl is, below) (inl is', below') = (is.1 ∙ sym is'.1, is.2 ∙ sym is'.2)
+seconds_unique hours minutes text s s' rest rest' (inl is, below) (inr (after, colon, is'), below') = absurd (is.0 (after, colon))
+seconds_unique hours minutes text s s' rest rest' (inr (after, colon, is), below) (inl is', below') = absurd (is'.0 (after, colon))
+seconds_unique hours minutes text s s' rest rest' (inr (after, colon, is), below) (inr (after', colon', is'), below') =
+    let behind : after' ≡ after = cc (colon, colon') in
+    pair_unique rest rest' is (subst (λ bs. IsPair 0 59 bs s' rest') behind is')
+
+duration_exact : IsExact duration
+duration_exact =
+    exact_then _ _ (exact_one parts.OffsetHour IsHours hours_unique) (λ hours.
+    exact_then _ _ (byte_exact parts.Colon 58) (λ _.
+    exact_then _ _ (exact_one parts.OffsetMinute (IsMinutes hours) (λ text v w rest rest' is is'. pair_unique rest rest' is.0 is'.0)) (λ minutes.
+    exact_then _ _ (exact_one parts.OffsetSecond (IsSeconds hours minutes) (seconds_unique hours minutes)) (λ seconds.
+    exact_done (3600 * hours + 60 * minutes + seconds)))))
+
+-- a mark is its byte, and nothing is none
+apart : (text rest rest' : List ℕ) (b b' : ℕ) → b ≢ b' → text ≡ b ∷ rest → text ≡ b' ∷ rest' → ⊥
+apart text rest rest' b b' other is is' = let same : b ≡ b' = cc (is, is') in other same
+
+behind : (text rest rest' : List ℕ) (b b' : ℕ) → text ≡ b ∷ rest → text ≡ b' ∷ rest' → rest ≡ rest'
+behind text rest rest' b b' is is' = cc (is, is')
+
+nothing : (text rest : List ℕ) (b : ℕ) → text ≡ [] → text ≡ b ∷ rest → ⊥
+nothing text rest b is is' = omega (arith, ap length is, ap length is')
+
+mark_unique : IsUnique IsMark
+mark_unique text Absent Absent rest rest' is is' = (refl, is.1 ∙ sym is'.1)
+mark_unique text Absent Utc rest rest' is (inl is') = absurd (nothing text rest' 90 is.0 is')
+mark_unique text Absent Utc rest rest' is (inr is') = absurd (nothing text rest' 122 is.0 is')
+mark_unique text Absent Ahead rest rest' is is' = absurd (nothing text rest' 43 is.0 is')
+mark_unique text Absent Behind rest rest' is is' = absurd (nothing text rest' 45 is.0 is')
+mark_unique text Utc Absent rest rest' (inl is) is' = absurd (nothing text rest 90 is'.0 is)
+mark_unique text Utc Absent rest rest' (inr is) is' = absurd (nothing text rest 122 is'.0 is)
+mark_unique text Utc Utc rest rest' (inl is) (inl is') = (refl, behind text rest rest' 90 90 is is')
+mark_unique text Utc Utc rest rest' (inl is) (inr is') = (refl, behind text rest rest' 90 122 is is')
+mark_unique text Utc Utc rest rest' (inr is) (inl is') = (refl, behind text rest rest' 122 90 is is')
+mark_unique text Utc Utc rest rest' (inr is) (inr is') = (refl, behind text rest rest' 122 122 is is')
+mark_unique text Utc Ahead rest rest' (inl is) is' = absurd (apart text rest rest' 90 43 (λ e. omega (arith, e)) is is')
+mark_unique text Utc Ahead rest rest' (inr is) is' = absurd (apart text rest rest' 122 43 (λ e. omega (arith, e)) is is')
+mark_unique text Utc Behind rest rest' (inl is) is' = absurd (apart text rest rest' 90 45 (λ e. omega (arith, e)) is is')
+mark_unique text Utc Behind rest rest' (inr is) is' = absurd (apart text rest rest' 122 45 (λ e. omega (arith, e)) is is')
+mark_unique text Ahead Absent rest rest' is is' = absurd (nothing text rest 43 is'.0 is)
+mark_unique text Ahead Utc rest rest' is (inl is') = absurd (apart text rest' rest 90 43 (λ e. omega (arith, e)) is' is)
+mark_unique text Ahead Utc rest rest' is (inr is') = absurd (apart text rest' rest 122 43 (λ e. omega (arith, e)) is' is)
+mark_unique text Ahead Ahead rest rest' is is' = (refl, behind text rest rest' 43 43 is is')
+mark_unique text Ahead Behind rest rest' is is' = absurd (apart text rest rest' 43 45 (λ e. omega (arith, e)) is is')
+mark_unique text Behind Absent rest rest' is is' = absurd (nothing text rest 45 is'.0 is)
+mark_unique text Behind Utc rest rest' is (inl is') = absurd (apart text rest' rest 90 45 (λ e. omega (arith, e)) is' is)
+mark_unique text Behind Utc rest rest' is (inr is') = absurd (apart text rest' rest 122 45 (λ e. omega (arith, e)) is' is)
+mark_unique text Behind Ahead rest rest' is is' = absurd (apart text rest' rest 43 45 (λ e. omega (arith, e)) is' is)
+mark_unique text Behind Behind rest rest' is is' = (refl, behind text rest rest' 45 45 is is')
+
+offset_exact : IsExact offset
+offset_exact = exact_then _ _ (exact_one parts.Offset IsMark mark_unique) after
+  where
+    after : (mark : OffsetMark) → IsExact (after_mark mark)
+    after Absent = exact_done None
+    after Utc = exact_done (Some (pos 0))
+    after Ahead = exact_then _ _ duration_exact (λ seconds. exact_done (Some (pos seconds)))
+    after Behind = exact_then _ _ duration_exact (λ seconds. exact_done (Some (neg_ℤ (pos seconds))))
+
+separator_unique : IsUnique IsSeparator
+separator_unique text v w rest rest' is is' = (refl, after text rest is ∙ sym (after text rest' is'))
+  where
+    after : (text rest : List ℕ) → (text ≡ 84 ∷ rest) ⊎ (text ≡ 116 ∷ rest) ⊎ (text ≡ 32 ∷ rest) → rest ≡ drop 1 text
+    after text rest (inl is) = sym (ap (drop 1) is)
+    after text rest (inr (inl is)) = sym (ap (drop 1) is)
+    after text rest (inr (inr is)) = sym (ap (drop 1) is)
+
+date_time_exact : IsExact date_time
+date_time_exact =
+    exact_then _ _ date_exact (λ f.
+    exact_then _ _ (exact_one parts.Separator IsSeparator separator_unique) (λ _.
+    exact_then _ _ (time_exact f) (λ local.
+    exact_then _ _ offset_exact (λ ut_offset.
+    exact_then _ _ (exact_one parts.End IsEnd (λ text v w rest rest' is is'. (refl, is.1 ∙ sym is'.1))) (λ _.
+    exact_done (record { local = local; ut_offset = ut_offset }))))))
+
+pub text_unique : (text : List ℕ) (p q : ParsedDateTime) → IsDateTimeText text p → IsDateTimeText text q → p ≡ q
+text_unique text p q is is' = (date_time_exact.read text p q [] [] is is').0
+
+errors_same : (e e' : ParseDateTimeError) → e.expected ≡ e'.expected → e.position ≡ e'.position → e ≡ e'
+errors_same e e' part place =
+    let first : e ≡ record { expected = e'.expected; position = e.position } = ap (λ (p : DateTimePart). record { expected = p; position = e.position }) part in
+    first ∙ ap (λ (k : ℕ). record { expected = e'.expected; position = k }) place
+
+pub text_fault_unique : (text : List ℕ) (e e' : ParseDateTimeError) → IsDateTimeTextFault text e → IsDateTimeTextFault text e' → e ≡ e'
+text_fault_unique text e e' (rest, m, at) (rest', m', at') =
+    let same = date_time_exact.missing text e.expected e'.expected rest rest' m m' in
+    let place : e.position ≡ e'.position = omega (arith, at, at', ap length same.1) in
+    errors_same e e' same.0 place
+
+pub text_or_fault : (text : List ℕ) (p : ParsedDateTime) (e : ParseDateTimeError) → IsDateTimeText text p → ¬ IsDateTimeTextFault text e
+text_or_fault text p e is (rest, m, at) = date_time_exact.either text p e.expected [] rest is m
