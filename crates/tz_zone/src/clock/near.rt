@@ -89,7 +89,7 @@ pub(super) fn place_of(
     if transitions.is_empty() {
         return Some(0);
     }
-    let Ok(unix_leap_time) = leap_time(parts.leap_seconds, unix_time) else {
+    let Some(unix_leap_time) = leap_time(parts.leap_seconds, unix_time) else {
         return None;
     };
     Some(place_near(transitions, unix_leap_time, likely))
