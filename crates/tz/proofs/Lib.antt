@@ -12,8 +12,6 @@ pub mod NoneLost
 pub mod UniqueLists
 pub mod DigitPairs
 pub mod PrintedDigits
-pub mod NineDigits
-pub mod PageLines
 pub mod TzStringTexts
 pub mod TzStringParts
 pub mod TzStringNames

@@ -13,8 +13,6 @@ pub mod FindFaults
 pub mod PrintedText
 pub mod Grammars
 pub mod DateTimeText
-pub mod Nanoseconds
-pub mod Pages
 pub mod TzStrings
 pub mod UtcConstants
 pub mod Lists

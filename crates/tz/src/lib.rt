@@ -76,11 +76,8 @@
 pub mod datetime;
 pub mod inner;
 pub mod laws;
-mod nanoseconds;
-mod page;
 mod parse;
 mod printed;
-mod suffixes;
 mod text;
 mod tz_string;
 

@@ -6,7 +6,9 @@ pub mod AnswerTexts
 pub mod UniqueAnswers
 pub mod JoinedPieces
 pub mod FastNumbers
+pub mod NineDigits
 pub mod OtherNanoseconds
+pub mod PageLines
 pub mod EntryLines
 pub mod LineMeanings
 pub mod WeekAnswers

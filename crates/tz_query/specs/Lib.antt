@@ -1,7 +1,9 @@
 pub use Rattle.tz.specs.DateTimes
 pub use Rattle.tz.specs.PrintedText
 pub mod Lines
+pub mod Nanoseconds
 pub mod Numbers
+pub mod Pages
 pub mod Queries
 pub mod MeetingDates
 pub mod Answers

@@ -6,9 +6,12 @@ ghost use Rattle.tz_query.specs.Answers.{AreAnswers};
 
 use super::lines::{Query, after_line, read_query, read_usual_search_line, read_usual_time_line};
 use super::meaning::Meaning;
+use super::nanoseconds::Nanoseconds;
 use super::output::Output;
+use super::page::Page;
+use super::suffixes::{Suffix, Suffixes};
 use std::alloc::{AllocError, Allocator};
-use tz::inner::{Nanoseconds, Page, Suffix, Suffixes, search_zone, window_of};
+use tz::inner::{search_zone, window_of};
 use tz::{LocalTimeType, TimeZoneRef, TzError};
 
 /// 30 days in seconds: lines whose instants are less than this apart are taken as lines in order.

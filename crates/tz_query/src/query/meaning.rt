@@ -29,7 +29,11 @@ impl<'a> Entries<'a> for Meaning<'a> {
     ghost refuses = { λ fault e. ⊥ };
 
     #[inline(always)]
-    fn shown(&mut self, _unix_time: i64, local_time_type: &'a LocalTimeType) -> Result<(), TzError> {
+    fn shown(
+        &mut self,
+        _unix_time: i64,
+        local_time_type: &'a LocalTimeType,
+    ) -> Result<(), TzError> {
         *self = match *self {
             Meaning::Nothing => Meaning::Once(local_time_type),
             Meaning::Once(before) => Meaning::Twice(before, local_time_type),

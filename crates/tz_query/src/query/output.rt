@@ -4,10 +4,11 @@ ghost use Rattle.std.specs.Prelude.{◌≡◌, ◌+◌, ◌<◌, ◌≤◌, ◌�
 ghost use Rattle.std.specs.Fmt.{decimal};
 ghost use Rattle.tz_query.specs.Lines.{ended, line_feed};
 ghost use Rattle.tz_query.specs.Numbers.{space};
-ghost use Rattle.tz.specs.Pages.{HasRoom};
+ghost use Rattle.tz_query.specs.Pages.{HasRoom};
 
+use super::page::Page;
 use std::alloc::{AllocError, Allocator};
-use tz::inner::{Page, TextBuffer};
+use tz::inner::TextBuffer;
 
 /// Where answers are written: onto a page, which is appended to the answers before it when it has no room for one more.
 #[derive(Drop)]

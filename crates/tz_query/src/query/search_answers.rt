@@ -6,10 +6,11 @@ ghost use Rattle.std.specs.List.{All};
 use super::answers::Answers;
 use super::meaning::Meaning;
 use super::names::field_fault_name;
+use super::nanoseconds::Nanoseconds;
 use super::time_answers::shown_fields;
 use std::alloc::{AllocError, Allocator};
 use tz::datetime::FoundDateTimeKind;
-use tz::inner::{self, Fields, Nanoseconds, fields_of};
+use tz::inner::{self, Fields, fields_of};
 use tz::{LocalTimeType, TzError};
 
 impl<'a, A: Allocator + Copy> Answers<'a, A> {
@@ -22,7 +23,7 @@ impl<'a, A: Allocator + Copy> Answers<'a, A> {
     ghost use Rattle.tz_query.specs.Entries.{HasNanoseconds};
     ghost use Rattle.tz_query.specs.Lines.{ended, line_feed};
     ghost use Rattle.tz_query.specs.Numbers.{space};
-    ghost use Rattle.tz.specs.Nanoseconds.{number_of, with_nanoseconds};
+    ghost use Rattle.tz_query.specs.Nanoseconds.{number_of, with_nanoseconds};
     ghost use Rattle.tz_query.specs.Outputs.{Adds, IsAnswered, IsSound};
     ghost use Rattle.tz_query.specs.declared.query.lines.Query.TheVariants.{Search};
 

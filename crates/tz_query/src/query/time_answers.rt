@@ -5,10 +5,12 @@ ghost use Rattle.tz_base.specs.Fields.{IsCivil, IsReading};
 
 use super::answers::Answers;
 use super::names::fault_name;
+use super::nanoseconds::Nanoseconds;
 use super::output::Output;
+use super::suffixes::Suffix;
 use std::alloc::{AllocError, Allocator};
 use tz::constants::NANOSECONDS_PER_SECOND;
-use tz::inner::{Fields, Nanoseconds, Suffix, local_reading};
+use tz::inner::{Fields, local_reading};
 
 /// What a clock with this offset from UTC shows at a Unix time, if its year is one of 32 bits.
 #[inline(always)]
@@ -26,7 +28,7 @@ impl<A: Allocator> Output<A> {
     ghost use Rattle.tz_zone.specs.Table.{Zone};
     ghost use Rattle.tz_query.specs.Answers.{IsTimeAnswer};
     ghost use Rattle.tz_query.specs.Lines.{ended};
-    ghost use Rattle.tz.specs.Nanoseconds.{number_of};
+    ghost use Rattle.tz_query.specs.Nanoseconds.{number_of};
     ghost use Rattle.tz_query.specs.Outputs.{written};
 
     /// Writes the answer of an instant by the type that the clock has there, whose suffix this is.
@@ -52,7 +54,7 @@ impl<A: Allocator> Output<A> {
 impl<'a, A: Allocator + Copy> Answers<'a, A> {
     ghost use Rattle.std.specs.Prelude.{IfOk};
     ghost use Rattle.tz_query.specs.declared.query.lines.Query.TheVariants.{Time};
-    ghost use Rattle.tz.specs.Nanoseconds.{number_of};
+    ghost use Rattle.tz_query.specs.Nanoseconds.{number_of};
     ghost use Rattle.tz_query.specs.Outputs.{IsAnswered, IsSound};
 
     /// Answers an instant.

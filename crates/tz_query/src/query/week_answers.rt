@@ -4,9 +4,10 @@ ghost use Rattle.std.specs.Prelude.{IfOk};
 
 use super::answers::Answers;
 use super::names::field_fault_name;
+use super::nanoseconds::Nanoseconds;
 use super::week_dates::{first_day_begins, week_of};
 use std::alloc::{AllocError, Allocator};
-use tz::inner::{Fields, Nanoseconds};
+use tz::inner::Fields;
 
 impl<'a, A: Allocator + Copy> Answers<'a, A> {
     ghost use Rattle.tz_query.specs.Outputs.{IsAnswered, IsSound};

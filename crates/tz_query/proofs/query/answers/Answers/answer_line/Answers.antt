@@ -5,7 +5,7 @@ use Rattle.std.proofs.lemmas.List.{take_rest}
 use mir.Syntax.{w64}
 use mir.Val.{SFits}
 use Rattle.tz_query.specs.Lines.{IsFirstLine}
-use Rattle.tz.specs.Nanoseconds.{number_of}
+use Rattle.tz_query.specs.Nanoseconds.{number_of}
 use Rattle.tz_query.specs.declared.query.lines.Query.TheVariants.{Time, Search}
 use Rattle.tz_query.proofs.query.answers.Answers.answer_line.Goals as goal
 

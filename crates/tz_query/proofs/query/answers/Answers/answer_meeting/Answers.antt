@@ -8,7 +8,7 @@ use Rattle.tz_base.specs.declared.fields.Fields.{Fields}
 use Rattle.tz_zone.specs.ZoneRef.{zone_of}
 use Rattle.tz_query.specs.Lines.{ended}
 use Rattle.tz_query.specs.Answers.{IsSearchAnswer, IsWeekAnswer, field_fault_text, meeting_lines}
-use Rattle.tz.specs.Nanoseconds.{number_of, with_nanoseconds}
+use Rattle.tz_query.specs.Nanoseconds.{number_of, with_nanoseconds}
 use Rattle.tz_query.specs.Outputs.{Adds, written}
 use Rattle.tz_query.proofs.AddedText.{adds_both, with_text}
 use Rattle.tz_query.proofs.OtherNanoseconds.{same_fields}

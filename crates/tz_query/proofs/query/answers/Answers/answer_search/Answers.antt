@@ -8,7 +8,7 @@ use Rattle.tz_zone.specs.Clock.{IsClock}
 use Rattle.tz_zone.specs.ZoneRef.{zone_of}
 use Rattle.tz.specs.DateTimes.{DateTime, moment_of}
 use Rattle.tz.specs.Entries.{AreEntries, Jump, Shown}
-use Rattle.tz.specs.Nanoseconds.{number_of, with_nanoseconds}
+use Rattle.tz_query.specs.Nanoseconds.{number_of, with_nanoseconds}
 use Rattle.tz.specs.PrintedText.{moment_text}
 use Rattle.tz.specs.declared.datetime.found.FoundDateTimeKind.TheVariants.{Normal, Skipped}
 use Rattle.tz_query.specs.Answers.{found_lines, IsSearchAnswer}

@@ -8,7 +8,7 @@ use Rattle.tz_zone.specs.Clock.{IsClock, IsLookupFault}
 use Rattle.tz_zone.specs.ZoneRef.{zone_of}
 use Rattle.tz_query.specs.Answers.{IsTimeAnswer}
 use Rattle.tz_query.specs.Lines.{ended}
-use Rattle.tz.specs.Nanoseconds.{number_of}
+use Rattle.tz_query.specs.Nanoseconds.{number_of}
 use Rattle.tz_query.specs.Outputs.{written}
 use Rattle.tz_query.proofs.AnswerLines.{clock_fault_text}
 use Rattle.tz_query.proofs.query.answers.Answers.answer_time.Goals as goal

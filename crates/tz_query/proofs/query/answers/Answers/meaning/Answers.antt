@@ -1,5 +1,5 @@
 -- The window lies in the span that is kept, or all entries in it are found.
-use Rattle.std.proofs.Common.{◌≡◌, ◌≤ℤ◌, ◌-ℤ◌, [], ◌∷◌, refl, sym, subst, rules, arith}
+use Rattle.std.proofs.Common.{◌≤ℤ◌, ◌-ℤ◌, [], ◌∷◌, refl, sym, subst, rules, arith}
 use Rattle.std.proofs.lemmas.Int.{ints, to_z-of_z}
 use mir.Syntax.{w64}
 use mir.Val.{SFits}

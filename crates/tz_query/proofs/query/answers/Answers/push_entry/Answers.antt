@@ -9,7 +9,7 @@ use Rattle.tz_query.specs.Entries.{HasNanoseconds}
 use Rattle.tz_query.specs.Lines.{ended}
 use Rattle.tz_query.proofs.AddedText.{with_text}
 use Rattle.tz_query.proofs.EntryLines.{made_again}
-use Rattle.tz.specs.Nanoseconds.{number_of}
+use Rattle.tz_query.specs.Nanoseconds.{number_of}
 use Rattle.tz_query.proofs.query.answers.Answers.push_entry.Goals as goal
 
 pub returns-in-Normal : goal.returns-in-Normal

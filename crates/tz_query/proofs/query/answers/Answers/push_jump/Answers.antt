@@ -10,7 +10,7 @@ use Rattle.tz.specs.PrintedText.{moment_text}
 use Rattle.tz_query.proofs.AddedText.{with_text}
 use Rattle.tz_query.proofs.OtherNanoseconds.{civil_with}
 use Rattle.tz_query.proofs.EntryLines.{lines_of_jump}
-use Rattle.tz.specs.Nanoseconds.{number_of}
+use Rattle.tz_query.specs.Nanoseconds.{number_of}
 use Rattle.tz_query.proofs.query.answers.Answers.push_jump.Goals as goal
 
 pub returns : goal.returns

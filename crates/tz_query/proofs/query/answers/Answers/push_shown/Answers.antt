@@ -2,7 +2,7 @@
 use Rattle.std.proofs.Common.{◌++◌, ◌∷◌, [], refl, sym, ap, ◌∙◌, append_assoc}
 use Rattle.tz.specs.DateTimes.{moment_of}
 use Rattle.tz.specs.PrintedText.{moment_text}
-use Rattle.tz.specs.Nanoseconds.{number_of}
+use Rattle.tz_query.specs.Nanoseconds.{number_of}
 use Rattle.tz_query.proofs.query.answers.Answers.push_shown.Goals as goal
 
 pub returns : goal.returns

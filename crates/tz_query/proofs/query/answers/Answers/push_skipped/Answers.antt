@@ -2,7 +2,7 @@
 use Rattle.std.proofs.Common.{◌≡◌, ℕ, List, ◌++◌, ◌∷◌, [], refl, sym, ap, ◌∙◌, append_assoc, arith}
 use Rattle.tz.specs.DateTimes.{moment_of}
 use Rattle.tz.specs.PrintedText.{moment_text}
-use Rattle.tz.specs.Nanoseconds.{number_of}
+use Rattle.tz_query.specs.Nanoseconds.{number_of}
 use Rattle.tz_query.proofs.query.answers.Answers.push_skipped.Goals as goal
 
 -- a line whose LF is taken away, a space and a second line make the line of a jump

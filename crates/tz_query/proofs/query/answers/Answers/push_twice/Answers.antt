@@ -6,7 +6,7 @@ use Rattle.tz.specs.DateTimes.{DateTime, moment_of}
 use Rattle.tz.specs.PrintedText.{moment_text}
 use Rattle.tz_query.proofs.AddedText.{adds_both, with_text}
 use Rattle.tz_query.proofs.EntryLines.{lines_of_two}
-use Rattle.tz.specs.Nanoseconds.{number_of}
+use Rattle.tz_query.specs.Nanoseconds.{number_of}
 use Rattle.tz_query.proofs.query.answers.Answers.push_twice.Goals as goal
 
 pub returns : goal.returns
