@@ -8,6 +8,7 @@ ghost use Rattle.tz_rule.specs.Pairing.{IsConflict, IsInconsistent};
 
 use super::alternate_clock::AlternateClock;
 use super::day_data::DayData;
+use super::parts::Parts;
 use super::{LocalTimeType, RuleDay};
 use std::fmt;
 use std::marker::Model;
@@ -78,11 +79,22 @@ impl AlternateTime {
         ensures ok { OnOk result (IsConsistentRule (alternate_of std dst dst_start dst_start_time dst_end dst_end_time)) }
         ensures err { IfErr result (IsFirstRuleFault (alternate_of std dst dst_start dst_start_time dst_end dst_end_time)) }
     {
-        let start = DayData::of(&dst_start);
-        let end = DayData::of(&dst_end);
-        let clock = AlternateClock::new(std, dst, start, dst_start_time, end, dst_end_time)?;
+        let parts = Parts {
+            std,
+            dst,
+            dst_start: DayData::of(&dst_start),
+            dst_start_time,
+            dst_end: DayData::of(&dst_end),
+            dst_end_time,
+        };
+        parts.check_range()?;
+        let starts = parts.starts(&dst_start);
+        let ends = parts.ends(&dst_end);
+        let Some(ends_next_year) = starts.order(&ends) else {
+            return Err(TransitionRuleError::InconsistentRule);
+        };
         Ok(AlternateTime {
-            clock,
+            clock: AlternateClock::of_tables(parts, starts, ends, ends_next_year),
             dst_start,
             dst_end,
         })

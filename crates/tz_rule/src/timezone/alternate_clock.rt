@@ -46,6 +46,9 @@ impl Model for AlternateClock {
 }
 
 impl AlternateClock {
+    ghost use Rattle.tz_rule.specs.Parts.{rule_of};
+    ghost use Rattle.tz_rule.specs.YearTables.{start_table, end_table, ComesFirst, ChangesOrder};
+
     /// The clock of the rule with these parts, as `AlternateTime::new` makes it.
     #[inline(always)]
     pub fn new(
@@ -69,17 +72,38 @@ impl AlternateClock {
             dst_end_time,
         };
         parts.check_range()?;
-        let (starts, ends) = parts.tables();
+        let starts = parts.starts(&dst_start.day());
+        let ends = parts.ends(&dst_end.day());
         let Some(ends_next_year) = starts.order(&ends) else {
             return Err(TransitionRuleError::InconsistentRule);
         };
-        Ok(AlternateClock {
+        Ok(AlternateClock::of_tables(parts, starts, ends, ends_next_year))
+    }
+
+    /// The clock of parts in range with their tables, whose starts and ends keep their order.
+    #[inline(always)]
+    pub(super) fn of_tables(
+        parts: Parts,
+        starts: YearTable,
+        ends: YearTable,
+        ends_next_year: bool,
+    ) -> Self
+        requires range { IsInRuleRange (rule_of parts) }
+        requires days { AreRuleDays (rule_of parts) }
+        requires starts { starts.0 ≡ start_table (rule_of parts) }
+        requires ends { ends.0 ≡ end_table (rule_of parts) }
+        requires order { ¬ ChangesOrder starts.0 ends.0 }
+        requires first { MatchBool ends_next_year (ComesFirst ends.0 starts.0) (¬ ComesFirst ends.0 starts.0) }
+        ensures value { result ≡ rule_of parts }
+        ensures ok { IsConsistentRule (rule_of parts) }
+    {
+        AlternateClock {
             parts,
             ends_next_year,
             has_inner_turns: starts.is_inner() && ends.is_inner(),
             starts,
             ends,
-        })
+        }
     }
 
     /// Why parts in range make no rule, as `AlternateTime::conflict` says it.
@@ -109,7 +133,8 @@ impl AlternateClock {
             dst_end_time,
         };
         parts.check_range().ok()?;
-        let (starts, ends) = parts.tables();
+        let starts = parts.starts(&dst_start.day());
+        let ends = parts.ends(&dst_end.day());
         starts.conflict(&ends)
     }
 

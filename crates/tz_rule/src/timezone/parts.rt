@@ -1,11 +1,11 @@
 //! The parts of an alternate rule, their ranges, and the tables that they make.
 
 ghost use Rattle.std.specs.Prelude.{◌≡◌, OnOk, IfErr, MatchBool};
-ghost use Rattle.tz_rule.specs.Alternate.{IsRuleOffset, IsRuleTime, IsInRuleRange, IsRangeFault, AreRuleDays};
+ghost use Rattle.tz_rule.specs.Alternate.{IsRuleOffset, IsRuleTime, IsInRuleRange, IsRangeFault};
 
-use super::LocalTimeType;
 use super::day_data::DayData;
 use super::year_table::YearTable;
+use super::{LocalTimeType, RuleDay};
 use tz_base::error::timezone::TransitionRuleError;
 
 /// Whether the offset is above -25 and below 26 hours.
@@ -36,6 +36,7 @@ pub(super) struct Parts {
 
 impl Parts {
     ghost use Rattle.tz_rule.specs.Parts.{rule_of};
+    ghost use Rattle.tz_rule.specs.RuleDays.{IsRuleDay};
     ghost use Rattle.tz_rule.specs.YearTables.{start_table, end_table};
 
     /// Checks the offsets and the times, in the order of their errors.
@@ -55,21 +56,26 @@ impl Parts {
         Ok(())
     }
 
-    /// How many seconds after 00:00 UTC of January 1st daylight saving time starts and ends, by the kind of the year.
-    pub(super) fn tables(&self) -> (YearTable, YearTable)
-        requires { IsInRuleRange (rule_of self.now) }
-        ensures starts { result.0.0 ≡ start_table (rule_of self.now) }
-        ensures ends { result.1.0 ≡ end_table (rule_of self.now) }
-        ensures days { AreRuleDays (rule_of self.now) }
+    /// How many seconds after 00:00 UTC of January 1st daylight saving time starts, on this day, by the kind of
+    /// the year.
+    #[inline(always)]
+    pub(super) fn starts(&self, day: &RuleDay) -> YearTable
+        requires range { IsInRuleRange (rule_of self.now) }
+        requires day { day.now ≡ (rule_of self.now).dst_start }
+        ensures table { result.0 ≡ start_table (rule_of self.now) }
+        ensures day { IsRuleDay (rule_of self.now).dst_start }
     {
-        let starts = YearTable::of_day(
-            &self.dst_start.day(),
-            self.dst_start_time - self.std.ut_offset(),
-        );
-        let ends = YearTable::of_day(
-            &self.dst_end.day(),
-            self.dst_end_time - self.dst.ut_offset(),
-        );
-        (starts, ends)
+        YearTable::of_day(day, self.dst_start_time - self.std.ut_offset())
+    }
+
+    /// How many seconds after 00:00 UTC of January 1st it ends, on this day, by the kind of the year.
+    #[inline(always)]
+    pub(super) fn ends(&self, day: &RuleDay) -> YearTable
+        requires range { IsInRuleRange (rule_of self.now) }
+        requires day { day.now ≡ (rule_of self.now).dst_end }
+        ensures table { result.0 ≡ end_table (rule_of self.now) }
+        ensures day { IsRuleDay (rule_of self.now).dst_end }
+    {
+        YearTable::of_day(day, self.dst_end_time - self.dst.ut_offset())
     }
 }
