@@ -410,7 +410,7 @@ tz_code tz_find_one(const tz_fields *fields, uint8_t choice, const tz_zone *zone
 /* Each of these calls answers a whole column. Place i of `codes` gets the code that the call for one value would return: if it is TZ_OK, place i of
    the column that is written to gets the value, and else stays as it is. All columns have one length: if they differ the call returns
    TZ_BUFFER_LENGTH, and nothing is written. Instants may come in any order. Those in order are fastest, since a span of instants in which the clock
-   does not change is searched once. */
+   does not change is searched once, and the date of a day is found once. */
 
 /* The offsets of the zone's clock at instants, in seconds. Returns TZ_OK or TZ_BUFFER_LENGTH, and writes the codes of `tz_zone_type_at`. */
 tz_code tz_column_offsets(const int64_t *unix_times, size_t unix_times_length, const tz_zone *zone, int32_t *offsets, size_t offsets_length,

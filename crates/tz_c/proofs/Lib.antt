@@ -1,2 +1,3 @@
 pub mod AnswersInTurn
 pub mod ClockPlaces
+pub mod DaySeconds

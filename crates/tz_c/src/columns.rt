@@ -1,21 +1,23 @@
 //! Whole columns in one call.
 
-ghost use Rattle.std.specs.Prelude.{◌≡◌, ◌≢◌, ◌≤ℤ◌, length, IfOk, IfErr};
+ghost use Rattle.std.specs.Prelude.{◌≡◌, ◌≢◌, ◌<◌, ◌≤ℤ◌, ◌+ℤ◌, pos, length, IfOk, IfErr};
+ghost use Rattle.tz_base.specs.Fields.{IsCivil, IsReading};
 ghost use Rattle.tz.specs.DateTimes.{IsClockFault, ShowsByClock};
 ghost use Rattle.tz_zone.specs.Changes.{IsTrueSegment, segment_of};
 ghost use Rattle.tz_zone.specs.Clock.{IsClock, IsLookupFault};
 ghost use Rattle.tz_zone.specs.ZoneViewed.{zone_viewed};
 ghost use Rattle.tz.specs.declared.datetime.disambiguation.Disambiguation.{Disambiguation};
 ghost use Rattle.tz_c.specs.Codes.{IsAnswer, IsAnswerOr, buffer_length};
-ghost use Rattle.tz_c.specs.Columns.{AreAnswers, AreInstantsBy, AreOfLength, IsDateTimeAt, IsInstantAnswer, IsInstantAt, IsOffset, IsOffsetAt};
+ghost use Rattle.tz_c.specs.Columns.{AreAnswers, AreInstantsBy, AreOfLength, IsDateTimeAt, IsDay, IsInDay, IsInstantAnswer, IsInstantAt, IsOffset, IsOffsetAt};
 ghost use Rattle.tz_c.specs.DateTimes.{IsDateTimeDataOf, choice_of};
 
-use crate::codes::{BUFFER_LENGTH, INVALID_NANOSECONDS, NO_DATE_TIME, OK, UNKNOWN_CHOICE, code_of};
+use crate::codes::{
+    BUFFER_LENGTH, INVALID_NANOSECONDS, NO_DATE_TIME, OK, OUT_OF_RANGE, UNKNOWN_CHOICE, code_of,
+};
 use crate::searches::choice_of;
-use tz::DateTime;
 use tz::datetime::Disambiguation;
-use tz::inner::{DateTimeData, Fields, find_one};
-use tz_base::constants::NANOSECONDS_PER_SECOND;
+use tz::inner::{DateTimeData, Fields, find_one, local_reading};
+use tz_base::constants::{NANOSECONDS_PER_SECOND, SECONDS_PER_DAY};
 use tz_base::error::TzError;
 use tz_rule::timezone::LocalTimeType;
 use tz_zone::inner::ZoneView;
@@ -70,17 +72,94 @@ fn offset_in(zone: &ZoneView<'_>, segment: &Segment<'_>, unix_time: i64, out: &m
     }
 }
 
-/// What the zone's clock shows at an instant of a segment.
+/// A day, by its date, and its first reading.
+#[derive(Clone, Copy)]
+struct Day {
+    year: i32,
+    month: u8,
+    month_day: u8,
+    start: i64,
+}
+
+/// The day of a reading.
+#[inline(never)]
+fn day_of(reading: i64) -> Day
+    requires { IsReading reading }
+    ensures day { IsDay result }
+    ensures within { IsInDay result reading }
+{
+    let date = Fields::from_reading(reading, 0);
+    let second_of_day = 3600 * u32::from(date.hour)
+        + 60 * u32::from(date.minute)
+        + u32::from(date.second);
+    Day {
+        year: date.year,
+        month: date.month,
+        month_day: date.month_day,
+        start: reading - i64::from(second_of_day),
+    }
+}
+
+/// The day of a reading: the one before, if the reading is one of that.
+#[inline(always)]
+fn day_around(before: Day, reading: i64) -> Day
+    requires day { IsDay before }
+    requires in_range { IsReading reading }
+    ensures day { IsDay result }
+    ensures within { IsInDay result reading }
+{
+    if before.start <= reading && reading - before.start < SECONDS_PER_DAY {
+        before
+    } else {
+        day_of(reading)
+    }
+}
+
+/// The second of the day at a reading of it.
+#[inline(always)]
+fn second_in(day: &Day, reading: i64) -> u32
+    requires day { IsDay day.now }
+    requires in_range { IsReading reading }
+    requires within { IsInDay day.now reading }
+    ensures value { day.now.start +ℤ pos result ≡ reading }
+    ensures below { result < 86400 }
+{
+    (reading - day.start) as u32
+}
+
+/// The fields at a second of a day.
+#[inline(always)]
+fn fields_in(day: &Day, second_of_day: u32, nanoseconds: u32) -> Fields
+    requires day { IsDay day.now }
+    requires within { second_of_day < 86400 }
+    requires part { nanoseconds < 1000000000 }
+    ensures { IsCivil (day.now.start +ℤ pos second_of_day) nanoseconds result }
+{
+    Fields {
+        year: day.year,
+        month: day.month,
+        month_day: day.month_day,
+        hour: (second_of_day / 3600) as u8,
+        minute: (second_of_day % 3600 / 60) as u8,
+        second: (second_of_day % 60) as u8,
+        nanoseconds,
+    }
+}
+
+/// What the zone's clock shows at an instant of a segment. The day is that of the instant before, and then that of this one.
 #[inline(always)]
 fn date_time_in(
     zone: &ZoneView<'_>,
     segment: &Segment<'_>,
+    day: &mut Day,
     unix_time: i64,
     nanoseconds: u32,
     out: &mut DateTimeData,
 ) -> u32
     requires segment { IsTrueSegment (zone_viewed zone.now) (segment_of segment.now) }
     requires within { ((segment_of segment.now).from ≤ℤ unix_time) × (unix_time ≤ℤ (segment_of segment.now).last) }
+    requires day { IsDay day.old }
+    ensures day { IsDay day.new }
     ensures answer { IsAnswer result (IsDateTimeDataOf (ShowsByClock (zone_viewed zone.now) unix_time nanoseconds) out.new)
         (IsClockFault (zone_viewed zone.now) unix_time nanoseconds) }
     ensures kept { result ≢ 0 → out.new ≡ out.old }
@@ -92,13 +171,16 @@ fn date_time_in(
         Ok(local_time_type) => local_time_type,
         Err(error) => return code_of(&error),
     };
-    match DateTime::from_timespec_and_local(unix_time, nanoseconds, *local_time_type) {
-        Ok(date_time) => {
-            *out = DateTimeData::of(&date_time);
-            OK
-        }
-        Err(error) => code_of(&error),
-    }
+    let Some(reading) = local_reading(unix_time, local_time_type.ut_offset()) else {
+        return OUT_OF_RANGE;
+    };
+    *day = day_around(*day, reading);
+    *out = DateTimeData {
+        fields: fields_in(day, second_in(day, reading), nanoseconds),
+        local_time_type: *local_time_type,
+        unix_time,
+    };
+    OK
 }
 
 /// The instant that fields mean by a choice.
@@ -169,11 +251,13 @@ pub extern "C" fn tz_column_date_times(
         return BUFFER_LENGTH;
     }
     let mut segment = zone.segment_at(unix_times.first().copied().unwrap_or(0));
+    let mut day = day_of(0);
     for i in 0..unix_times.len() {
         segment = segment_around(zone, segment, unix_times[i]);
         codes[i] = date_time_in(
             zone,
             &segment,
+            &mut day,
             unix_times[i],
             nanoseconds[i],
             &mut date_times[i],

@@ -1,11 +1,11 @@
--- The type is the clock's at the instant that was passed, and the faults are the lookup's or those of what the type shows.
-use Rattle.std.proofs.Common.{◌<◌, ◌≤◌, inl, inr, refl, rules}
+-- The type is the clock's at the instant that was passed, and the faults are the lookup's, or what the type shows is no reading.
+use Rattle.std.proofs.Common.{◌≡◌, ◌<◌, ◌≤◌, inl, inr, refl, rules, ◌+ℤ◌}
 use Rattle.std.proofs.lemmas.Int.{to_z-of_z}
+use Rattle.tz_base.specs.Fields.{IsCivil, IsReading}
 use Rattle.tz_base.specs.declared.error.TzError.TheVariants as faults
 use Rattle.tz_base.specs.declared.error.datetime.DateTimeError.TheVariants as field_faults
-use Rattle.tz.specs.DateTimes.{IsClockFault}
-use Rattle.tz_zone.specs.ZoneViewed.{zone_viewed}
-use mir.Syntax.{w64}
+use mir.Syntax.{w32, w64}
+use mir.Val.{SFits}
 use Rattle.tz_c.proofs.columns.date_time_in.Goals as goal
 
 pub returns-then-nanoseconds-ge-NANOSECONDS_PER_SECOND-clause-answer : goal.returns-then-nanoseconds-ge-NANOSECONDS_PER_SECOND-clause-answer
@@ -19,19 +19,26 @@ returns-in-Err-clause-answer c =
     let fault = rw (to_z-of_z w64 c.args.unix_time c.ranges.unix_time) at c.in-Err.ensures.err in
     inr (c.in-Err.error, c.code_of.ensures, inr (inl (few, fault)))
 
-pub returns-in-Ok-from_timespec_and_local-clause-answer : goal.returns-in-Ok-from_timespec_and_local-clause-answer
-returns-in-Ok-from_timespec_and_local-clause-answer c =
+pub returns-in_default-clause-answer : goal.returns-in_default-clause-answer
+returns-in_default-clause-answer c =
+    let few : c.args.nanoseconds < 1000000000 = search rules in
+    let t = c.in-Ok.local_time_type.now in
     let is_clock = rw (to_z-of_z w64 c.args.unix_time c.ranges.unix_time) at c.in-Ok.ensures.ok in
-    let shows = rw (to_z-of_z w64 c.args.unix_time c.ranges.unix_time) at c.in-Ok-from_timespec_and_local.ensures.ok in
-    rw c.of.ensures.value (inl (refl, (c.of.ensures.sound, (c.in-Ok.local_time_type.now, is_clock, shows))))
+    let fits : SFits w32 c.ut_offset.result = search rules in
+    let none : ¬ IsReading (c.args.unix_time +ℤ t.ut_offset) =
+    rw (to_z-of_z w64 c.args.unix_time c.ranges.unix_time, to_z-of_z w32 c.ut_offset.result fits, c.ut_offset.ensures.value) at c.in_default.ensures.none in
+    inr (faults.OutOfRange, refl, inr (inr (refl, few, (t, is_clock, none))))
 
-pub returns-in-Err-from_timespec_and_local-clause-answer : goal.returns-in-Err-from_timespec_and_local-clause-answer
-returns-in-Err-from_timespec_and_local-clause-answer c =
-    let error = c.in-Err-from_timespec_and_local.error in
+pub returns-clause-answer : goal.returns-clause-answer
+returns-clause-answer c =
+    let t = c.in-Ok.local_time_type.now in
+    let reading = c.in-Some.reading in
     let is_clock = rw (to_z-of_z w64 c.args.unix_time c.ranges.unix_time) at c.in-Ok.ensures.ok in
-    let fault : IsClockFault (zone_viewed c.args.zone.now) c.args.unix_time c.args.nanoseconds error =
-    elim (rw (to_z-of_z w64 c.args.unix_time c.ranges.unix_time) at c.in-Err-from_timespec_and_local.ensures.err) [
-      | inl many ↦ inl many
-      | inr (is, few, none) ↦ inr (inr (is, few, (c.in-Ok.local_time_type.now, is_clock, none)))
-    ] in
-    inr (error, c.code_of-in-Err-from_timespec_and_local.ensures, fault)
+    let offset_fits : SFits w32 c.ut_offset.result = search rules in
+    let shown : reading ≡ c.args.unix_time +ℤ t.ut_offset =
+    rw (to_z-of_z w64 c.args.unix_time c.ranges.unix_time, to_z-of_z w32 c.ut_offset.result offset_fits, c.ut_offset.ensures.value) at c.in-Some.ensures.some.0 in
+    let reading_fits : SFits w64 reading = search rules in
+    let value = rw (to_z-of_z w64 reading reading_fits, shown) at c.second_in.ensures.value in
+    let civil : IsCivil (c.args.unix_time +ℤ t.ut_offset) c.args.nanoseconds c.fields_in.result = rw value at c.fields_in.ensures in
+    rw (to_z-of_z w64 c.args.unix_time c.ranges.unix_time)
+    (inl (refl, (record { valid = civil.valid; reads = civil.reads }, (t, is_clock, record { civil = civil; type_is = refl; instant_is = refl }))))

@@ -21,7 +21,8 @@ loop-i-preserved c =
     let rest : slice_index_or nanoseconds i 0 ≡ n = get_or_from_slice_get nanoseconds i n 0 at_n in
     rw (to_z-of_z w64 (slice_index_or unix_times i (pos 0)) fits, seconds, rest) at c.date_time_in.ensures.answer in (
       c.segment_around-segment.ensures.segment,
-      one_more answer_at c.args.date_times.now c.loop-i.date_times c.loop-i.codes i c.date_time_in.result c.date_time_in.new.out _ c.loop-i.invariant.1
+      c.date_time_in.ensures.day,
+      one_more answer_at c.args.date_times.now c.loop-i.date_times c.loop-i.codes i c.date_time_in.result c.date_time_in.new.out _ c.loop-i.invariant.2
           (omega (arith, c.if-date_times-unix_times.false, c.loop-i-test.true)) answer c.date_time_in.ensures.kept,
     )
 
@@ -29,5 +30,5 @@ pub returns-clause-answer : goal.returns-clause-answer
 returns-clause-answer c =
     let all : length c.args.date_times.now ≤ c.loop-i.i = omega (arith, c.if-date_times-unix_times.false, c.loop-i-test.false) in
     let answers = all_of (IsDateTimeAt (zone_viewed c.args.zone.now) c.args.unix_times.now c.args.nanoseconds.now) c.args.date_times.now c.loop-i.date_times c.loop-i.codes c.loop-i.i
-    c.loop-i.invariant.1 all in
+    c.loop-i.invariant.2 all in
     inl (refl, (c.if-nanoseconds-unix_times.false, (c.if-date_times-unix_times.false, c.if-codes-unix_times.false), answers))
