@@ -165,6 +165,8 @@ def words(how, zone, count, seed):
         'instants': lambda: lines.random_instants(rng, count, *(within or (1902, LAST))),
         'instants of local years': lambda: lines.random_instants(rng, count, FIRST, LAST),
         'sorted instants': lambda: lines.log_instants(rng, count),
+        # As many as a column of 10^6 instants in order has over these years.
+        'dense instants': lambda: [f'T {946684800 + 2745 * n} 0' for n in range(count)],
         'far instants': lambda: lines.random_instants(rng, count, 2100, 3000),
         'local times': lambda: lines.random_readings(rng, count, *(within or (FIRST, LAST))),
         'far local times': lambda: lines.random_readings(rng, count, 2100, 3000),
@@ -207,6 +209,7 @@ def calls(zones, count, seed=SEED):
     yield row('`DateTime::from_local`, random, Paris', 'from_local', paris, 'instants of local years')
     yield row('place of a column of offsets, sorted, Paris', 'column_offsets', paris, 'sorted instants')
     yield row('place of a column of offsets, random, Paris', 'column_offsets', paris, 'instants')
+    yield row('place of a column of date times, one in 45 minutes, Paris', 'column_date_times', paris, 'dense instants')
     yield row('place of a column of date times, sorted, Paris', 'column_date_times', paris, 'sorted instants')
     yield row('place of a column of date times, random, Paris', 'column_date_times', paris, 'instants')
     yield row('place of a column of instants, random, Paris', 'column_instants', paris, 'local times')
