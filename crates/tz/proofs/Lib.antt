@@ -11,6 +11,7 @@ pub mod CivilFields
 pub mod NoneLost
 pub mod UniqueLists
 pub mod DigitPairs
+pub mod LastDigits
 pub mod PrintedDigits
 pub mod TzStringTexts
 pub mod TzStringParts
