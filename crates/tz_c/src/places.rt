@@ -44,7 +44,9 @@ fn place_of(zone: &ZoneView<'_>, local_time_type: &LocalTimeType) -> usize
     let parts = zone.other_parts();
     match place_in(parts.local_time_types, local_time_type) {
         Some(place) => place,
-        None => { parts.local_time_types.len() + place_in_rule(parts.extra_rule.lent(), local_time_type) }
+        None => {
+            parts.local_time_types.len() + place_in_rule(parts.extra_rule.lent(), local_time_type)
+        }
     }
 }
 

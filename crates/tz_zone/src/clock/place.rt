@@ -76,11 +76,7 @@ pub(super) fn place_before<V: Transitions>(view: &mut V, unix_leap_time: i64) ->
 
 /// The place at which a leap time lies. If the last transition is reached, no other one is looked at.
 #[inline(always)]
-pub(super) fn place_of<V: Transitions>(
-    view: &mut V,
-    last: Transition,
-    unix_leap_time: i64,
-) -> usize
+pub(super) fn place_of<V: Transitions>(view: &mut V, last: Transition, unix_leap_time: i64) -> usize
     requires rising { IsRising (V.list view.old) }
     requires last { IsLast (V.list view.old) last }
     requires at_least_one { 0 < length (V.list view.old) }
