@@ -1,4 +1,5 @@
-//! The boundary to the proved library: types of one layout on both sides, the declarations of its exports, and safe functions over them.
+//! The boundary to the proved library: types of one layout on both sides, with those of `plain.rs`, the declarations of its exports, and safe
+//! functions over them.
 //!
 //! This is the one file with `unsafe`. What the library relies on, and where it comes from:
 //!
@@ -15,9 +16,12 @@ use crate::datetime::{DateTime, Disambiguation, Fields, FoundDateTimeKind, UtcDa
 use crate::error::parse::TzFileError;
 use crate::error::timezone::{LocalTimeTypeError, TransitionRuleError};
 use crate::error::{ColumnError, TzError};
+use crate::plain::{
+    AlternateClock, Asked, Conflict, Day, FILE, FIRST_DAY, LOCAL_TIME, NO_CLOCK, NO_RULE, Rule,
+    Sizes, number_of,
+};
 use crate::timezone::{
-    AlternateTime, Change, Julian0WithLeap, Julian1WithoutLeap, LeapSecond, LocalTimeType,
-    MonthWeekDay, RuleDay, Segment, Transition, TransitionRule,
+    AlternateTime, Change, LeapSecond, LocalTimeType, RuleDay, Segment, Transition, TransitionRule,
 };
 use std::marker::PhantomData;
 use std::mem::{MaybeUninit, align_of, offset_of, size_of};
@@ -102,130 +106,6 @@ struct Zone<'a> {
     parts: Parts<'a>,
     offsets: Offsets,
 }
-
-/// A day of a rule.
-#[repr(C)]
-#[derive(Clone, Copy)]
-struct Day {
-    number: u16,
-    kind: u8,
-    month: u8,
-    week: u8,
-    week_day: u8,
-}
-
-const JULIAN_0: u8 = 0;
-const JULIAN_1: u8 = 1;
-const MONTH_WEEK_DAY: u8 = 2;
-
-/// The day 0 of each year: all zeros.
-const FIRST_DAY: Day = Day {
-    number: 0,
-    kind: JULIAN_0,
-    month: 0,
-    week: 0,
-    week_day: 0,
-};
-
-/// An alternate rule without its two days as Rust has them, and with tables over the years.
-#[repr(C)]
-#[derive(Clone, Copy)]
-pub(crate) struct AlternateClock {
-    types: [LocalTimeType; 2],
-    dst_start: Day,
-    dst_start_time: i32,
-    dst_end: Day,
-    dst_end_time: i32,
-    ends_next_year: bool,
-    has_inner_turns: bool,
-    starts: [i32; 14],
-    ends: [i32; 14],
-}
-
-/// All zeros.
-const NO_CLOCK: AlternateClock = AlternateClock {
-    types: [LocalTimeType::utc(); 2],
-    dst_start: FIRST_DAY,
-    dst_start_time: 0,
-    dst_end: FIRST_DAY,
-    dst_end_time: 0,
-    ends_next_year: false,
-    has_inner_turns: false,
-    starts: [0; 14],
-    ends: [0; 14],
-};
-
-impl AlternateClock {
-    /// The type of standard time.
-    #[inline]
-    pub(crate) const fn std(&self) -> &LocalTimeType {
-        &self.types[0]
-    }
-
-    /// The type of daylight saving time.
-    #[inline]
-    pub(crate) const fn dst(&self) -> &LocalTimeType {
-        &self.types[1]
-    }
-
-    /// When daylight saving time starts on its day, in seconds from 00:00.
-    #[inline]
-    pub(crate) const fn dst_start_time(&self) -> i32 {
-        self.dst_start_time
-    }
-
-    /// When daylight saving time ends on its day, in seconds from 00:00.
-    #[inline]
-    pub(crate) const fn dst_end_time(&self) -> i32 {
-        self.dst_end_time
-    }
-}
-
-/// At most one rule.
-#[repr(C)]
-struct Rule {
-    kind: u32,
-    fixed: LocalTimeType,
-    alternate: AlternateClock,
-}
-
-const FIXED: u32 = 1;
-const ALTERNATE: u32 = 2;
-
-/// All zeros.
-const NO_RULE: Rule = Rule {
-    kind: 0,
-    fixed: LocalTimeType::utc(),
-    alternate: NO_CLOCK,
-};
-
-/// Two years and a distance that show that parts make no rule.
-#[repr(C)]
-struct Conflict {
-    first_year: i32,
-    second_year: i32,
-    distance: i32,
-}
-
-/// How many of each a file has, and how many bytes its footer.
-#[repr(C)]
-struct Sizes {
-    transitions: usize,
-    types: usize,
-    leap_seconds: usize,
-    footer: usize,
-}
-
-/// What a setting asks for, and of which bytes.
-#[repr(C)]
-struct Asked {
-    kind: u32,
-    from: usize,
-    until: usize,
-}
-
-const LOCAL_TIME: u32 = 0;
-const FILE: u32 = 1;
 
 // The places are those of C on a machine of 64 bits, the only one for which there is an archive.
 const _: () = {
@@ -492,63 +372,6 @@ pub(crate) fn check_month_week_day(
     day.map(drop)
 }
 
-impl From<&RuleDay> for Day {
-    fn from(day: &RuleDay) -> Self {
-        match day {
-            RuleDay::Julian1WithoutLeap(day) => Day {
-                number: day.get(),
-                kind: JULIAN_1,
-                ..FIRST_DAY
-            },
-            RuleDay::Julian0WithLeap(day) => Day {
-                number: day.get(),
-                kind: JULIAN_0,
-                ..FIRST_DAY
-            },
-            RuleDay::MonthWeekDay(day) => Day {
-                number: 0,
-                kind: MONTH_WEEK_DAY,
-                month: day.month(),
-                week: day.week(),
-                week_day: day.week_day(),
-            },
-        }
-    }
-}
-
-impl From<&Day> for RuleDay {
-    fn from(day: &Day) -> Self {
-        match day.kind {
-            JULIAN_0 => RuleDay::Julian0WithLeap(Julian0WithLeap(day.number)),
-            JULIAN_1 => RuleDay::Julian1WithoutLeap(Julian1WithoutLeap(day.number)),
-            _ => RuleDay::MonthWeekDay(MonthWeekDay {
-                month: day.month,
-                week: day.week,
-                week_day: day.week_day,
-            }),
-        }
-    }
-}
-
-impl AlternateClock {
-    /// The rule, with its days as Rust has them.
-    fn rule(self) -> AlternateTime {
-        let (start, end) = (RuleDay::from(&self.dst_start), RuleDay::from(&self.dst_end));
-        AlternateTime::with_parts(self, start, end)
-    }
-}
-
-impl Rule {
-    /// The rule as Rust has it.
-    fn rule(self) -> Option<TransitionRule> {
-        match self.kind {
-            FIXED => Some(TransitionRule::Fixed(self.fixed)),
-            ALTERNATE => Some(TransitionRule::Alternate(self.alternate.rule())),
-            _ => None,
-        }
-    }
-}
-
 /// The two lists of a rule, of which at most one has an entry.
 #[inline]
 const fn lists(rule: Option<&TransitionRule>) -> (&[LocalTimeType], &[AlternateClock]) {
@@ -800,16 +623,6 @@ pub(crate) fn date_time_to_utc(date_time: &DateTime) -> Result<UtcDateTime, TzEr
     written(UtcDateTime::UNWRITTEN, error, |out| {
         tz_date_time_to_utc(date_time, out)
     })
-}
-
-/// The number of a choice.
-const fn number_of(choice: Disambiguation) -> u8 {
-    match choice {
-        Disambiguation::Compatible => 0,
-        Disambiguation::Earlier => 1,
-        Disambiguation::Later => 2,
-        Disambiguation::Reject => 3,
-    }
 }
 
 /// How many slots a search has on the stack. There are more entries only in zones that are set back again and again.

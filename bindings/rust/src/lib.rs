@@ -7,6 +7,7 @@ pub mod datetime;
 pub mod error;
 #[allow(unsafe_code)]
 mod ffi;
+mod plain;
 mod system_time;
 pub mod timezone;
 mod tz_string;

@@ -2,7 +2,8 @@
 
 use super::{LocalTimeType, RuleDay};
 use crate::error::timezone::TransitionRuleError;
-use crate::ffi::{self, AlternateClock};
+use crate::ffi;
+use crate::plain::AlternateClock;
 use std::fmt;
 
 /// Standard time and daylight saving time, and when each begins in every year.
