@@ -28,3 +28,4 @@ pub mod TextFronts
 pub mod TextValues
 pub mod UniqueTexts
 pub mod ReadBack
+pub mod PrintedBytes

@@ -132,25 +132,25 @@ utc_not_past f utc past =
     absurd (omega (arith, ints, day, hour, minute, second, max_is_utc.1, utc.reads))
 
 -- the parts of a printed text, from the last to the first
-after_second : Fields → ℤ → List ℕ
+unfoldable pub after_second : Fields → ℤ → List ℕ
 after_second f z = 46 ∷ (nine_digits f.nanoseconds ++ offset_text z)
 
-after_minute : Fields → ℤ → List ℕ
+unfoldable pub after_minute : Fields → ℤ → List ℕ
 after_minute f z = 58 ∷ (two_digits f.second ++ after_second f z)
 
-after_hour : Fields → ℤ → List ℕ
+unfoldable pub after_hour : Fields → ℤ → List ℕ
 after_hour f z = 58 ∷ (two_digits f.minute ++ after_minute f z)
 
-after_date : Fields → ℤ → List ℕ
+unfoldable pub after_date : Fields → ℤ → List ℕ
 after_date f z = 84 ∷ (two_digits f.hour ++ after_hour f z)
 
-after_month : Fields → ℤ → List ℕ
+unfoldable pub after_month : Fields → ℤ → List ℕ
 after_month f z = 45 ∷ (two_digits f.month_day ++ after_date f z)
 
-after_year : Fields → ℤ → List ℕ
+unfoldable pub after_year : Fields → ℤ → List ℕ
 after_year f z = 45 ∷ (two_digits f.month ++ after_month f z)
 
-in_parts : (f : Fields) (z : ℤ) → printed_text f z ≡ signed_decimal f.year ++ after_year f z
+pub in_parts : (f : Fields) (z : ℤ) → printed_text f z ≡ signed_decimal f.year ++ after_year f z
 unfolding printed_text date_text time_text after_year after_month after_date after_hour after_minute after_second
 in_parts f z = simp append_assoc
 

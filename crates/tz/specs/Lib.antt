@@ -13,6 +13,7 @@ pub mod FindFaults
 pub mod PrintedText
 pub mod Grammars
 pub mod DateTimeText
+pub mod PrintedBytes
 pub mod TzStrings
 pub mod UtcConstants
 pub mod Lists

@@ -4,6 +4,7 @@ mod error;
 mod fields;
 mod number;
 mod offset;
+mod printed;
 
 ghost use Rattle.std.specs.Prelude.{◌≡◌, ◌-ℤ◌, List, ℕ, [], Option, IfOk, IfErr, MatchResult};
 ghost use Rattle.tz.specs.DateTimeText.{date_time, IsDateTimeText, IsDateTimeTextFault};
@@ -13,6 +14,7 @@ use error::Missing;
 pub use error::{DateTimePart, ParseDateTimeError};
 use fields::{after_separator, read_date, read_time};
 use offset::read_offset;
+use printed::read_printed;
 
 /// The local time and the offset of a text.
 #[derive(Clone, Copy, Debug, PartialEq, Eq)]
@@ -60,6 +62,12 @@ impl ParsedDateTime {
         ensures ok { IfOk result (λ p. IsDateTimeText text.now p) }
         ensures err { IfErr result (λ e. IsDateTimeTextFault text.now e) }
     {
+        if let Some((fields, ut_offset)) = read_printed(text) {
+            return Ok(ParsedDateTime {
+                local: UtcDateTime::of_fields(fields),
+                ut_offset: Some(ut_offset),
+            });
+        }
         match read_date_time(text) {
             Ok(parsed) => Ok(parsed),
             Err(missing) => Err(ParseDateTimeError {
