@@ -13,12 +13,12 @@ use tz_base::fields::Fields;
 /// The least byte at each place from the year to the minute, and the greatest.
 static LEAST: [u8; 16] = *b"1000-00-00T00:00";
 
-static GREATEST: [u8; 16] = *b"9999-19-39T29:59";
+static GREATEST: [u8; 16] = *b"9999-99-99T99:99";
 
 /// The least byte at each place from the colon before the minute to the nanoseconds, and the greatest.
 static LEAST_OF_TIME: [u8; 16] = *b":00:00.000000000";
 
-static GREATEST_OF_TIME: [u8; 16] = *b":59:59.999999999";
+static GREATEST_OF_TIME: [u8; 16] = *b":99:99.999999999";
 
 /// Whether each of 16 bytes from a place on is in a range.
 #[inline(always)]
@@ -123,6 +123,9 @@ pub(super) fn read_printed(text: &[u8]) -> Option<(Fields, i32)>
     let (month, month_day) = (pair_at(text, 5), pair_at(text, 8));
     let (hour, minute, second) = (pair_at(text, 11), pair_at(text, 14), pair_at(text, 17));
     if month < 1 || month > 12 || month_day < 1 || hour > 23 {
+        return None;
+    }
+    if minute > 59 || second > 59 {
         return None;
     }
     if month_day > days_in_month(year, month) {

@@ -14,11 +14,11 @@ returns-clause-text c =
     let last = c.are_between-else-not-are_between.ensures c.if-not-are_between-2.false in
     let p = c.pair_at.ensures (digit_byte _ 49 57 (omega arith) (omega arith) (first 0 (omega arith))) (digit_byte _ 48 57 (omega arith) (omega arith) (first 1 (omega arith))) in
     let q = c.pair_at-2.ensures (digit_byte _ 48 57 (omega arith) (omega arith) (first 2 (omega arith))) (digit_byte _ 48 57 (omega arith) (omega arith) (first 3 (omega arith))) in
-    let month = c.pair_at-month.ensures (digit_byte _ 48 49 (omega arith) (omega arith) (first 5 (omega arith))) (digit_byte _ 48 57 (omega arith) (omega arith) (first 6 (omega arith))) in
-    let month_day = c.pair_at-month_day.ensures (digit_byte _ 48 51 (omega arith) (omega arith) (first 8 (omega arith))) (digit_byte _ 48 57 (omega arith) (omega arith) (first 9 (omega arith))) in
-    let hour = c.pair_at-hour.ensures (digit_byte _ 48 50 (omega arith) (omega arith) (first 11 (omega arith))) (digit_byte _ 48 57 (omega arith) (omega arith) (first 12 (omega arith))) in
-    let minute = c.pair_at-minute.ensures (digit_byte _ 48 53 (omega arith) (omega arith) (first 14 (omega arith))) (digit_byte _ 48 57 (omega arith) (omega arith) (first 15 (omega arith))) in
-    let second = c.pair_at-second.ensures (digit_byte _ 48 53 (omega arith) (omega arith) (last 4 (omega arith))) (digit_byte _ 48 57 (omega arith) (omega arith) (last 5 (omega arith))) in
+    let month = c.pair_at-month.ensures (digit_byte _ 48 57 (omega arith) (omega arith) (first 5 (omega arith))) (digit_byte _ 48 57 (omega arith) (omega arith) (first 6 (omega arith))) in
+    let month_day = c.pair_at-month_day.ensures (digit_byte _ 48 57 (omega arith) (omega arith) (first 8 (omega arith))) (digit_byte _ 48 57 (omega arith) (omega arith) (first 9 (omega arith))) in
+    let hour = c.pair_at-hour.ensures (digit_byte _ 48 57 (omega arith) (omega arith) (first 11 (omega arith))) (digit_byte _ 48 57 (omega arith) (omega arith) (first 12 (omega arith))) in
+    let minute = c.pair_at-minute.ensures (digit_byte _ 48 57 (omega arith) (omega arith) (first 14 (omega arith))) (digit_byte _ 48 57 (omega arith) (omega arith) (first 15 (omega arith))) in
+    let second = c.pair_at-second.ensures (digit_byte _ 48 57 (omega arith) (omega arith) (last 4 (omega arith))) (digit_byte _ 48 57 (omega arith) (omega arith) (last 5 (omega arith))) in
     printed_from_places text _ _ (record {
       year = year_at text c.pair_at.result c.pair_at-2.result _ (omega (arith, p.2, (first 0 (omega arith)))) p.0 q.0 p.1 q.1 (omega (arith, ints, p.0, q.0, c.from.ensures, c.from-2.ensures));
       hyphen = only_byte text 4 45 (omega (arith, c.if-text-lt30.false)) (first 4 (omega arith));
@@ -47,11 +47,11 @@ returns-clause-valid c =
     let last = c.are_between-else-not-are_between.ensures c.if-not-are_between-2.false in
     let p = c.pair_at.ensures (digit_byte _ 49 57 (omega arith) (omega arith) (first 0 (omega arith))) (digit_byte _ 48 57 (omega arith) (omega arith) (first 1 (omega arith))) in
     let q = c.pair_at-2.ensures (digit_byte _ 48 57 (omega arith) (omega arith) (first 2 (omega arith))) (digit_byte _ 48 57 (omega arith) (omega arith) (first 3 (omega arith))) in
-    let month = c.pair_at-month.ensures (digit_byte _ 48 49 (omega arith) (omega arith) (first 5 (omega arith))) (digit_byte _ 48 57 (omega arith) (omega arith) (first 6 (omega arith))) in
-    let month_day = c.pair_at-month_day.ensures (digit_byte _ 48 51 (omega arith) (omega arith) (first 8 (omega arith))) (digit_byte _ 48 57 (omega arith) (omega arith) (first 9 (omega arith))) in
-    let hour = c.pair_at-hour.ensures (digit_byte _ 48 50 (omega arith) (omega arith) (first 11 (omega arith))) (digit_byte _ 48 57 (omega arith) (omega arith) (first 12 (omega arith))) in
-    let minute = c.pair_at-minute.ensures (digit_byte _ 48 53 (omega arith) (omega arith) (first 14 (omega arith))) (digit_byte _ 48 57 (omega arith) (omega arith) (first 15 (omega arith))) in
-    let second = c.pair_at-second.ensures (digit_byte _ 48 53 (omega arith) (omega arith) (last 4 (omega arith))) (digit_byte _ 48 57 (omega arith) (omega arith) (last 5 (omega arith))) in
+    let month = c.pair_at-month.ensures (digit_byte _ 48 57 (omega arith) (omega arith) (first 5 (omega arith))) (digit_byte _ 48 57 (omega arith) (omega arith) (first 6 (omega arith))) in
+    let month_day = c.pair_at-month_day.ensures (digit_byte _ 48 57 (omega arith) (omega arith) (first 8 (omega arith))) (digit_byte _ 48 57 (omega arith) (omega arith) (first 9 (omega arith))) in
+    let hour = c.pair_at-hour.ensures (digit_byte _ 48 57 (omega arith) (omega arith) (first 11 (omega arith))) (digit_byte _ 48 57 (omega arith) (omega arith) (first 12 (omega arith))) in
+    let minute = c.pair_at-minute.ensures (digit_byte _ 48 57 (omega arith) (omega arith) (first 14 (omega arith))) (digit_byte _ 48 57 (omega arith) (omega arith) (first 15 (omega arith))) in
+    let second = c.pair_at-second.ensures (digit_byte _ 48 57 (omega arith) (omega arith) (last 4 (omega arith))) (digit_byte _ 48 57 (omega arith) (omega arith) (last 5 (omega arith))) in
     let days : c.days_in_month.result ≤ 31 = subst (λ n. n ≤ 31) (sym c.days_in_month.ensures) (month_length-le _ _) in
     let valid : IsValid (record { year = to_z w32 (100 * c.from.result + c.from-2.result); month = c.pair_at-month.result; month_day = c.pair_at-month_day.result; hour = c.pair_at-hour.result; minute = c.pair_at-minute.result; second = c.pair_at-second.result; nanoseconds = c.nanoseconds_at.result }) =
     record {
@@ -59,13 +59,13 @@ returns-clause-valid c =
         month = (c.if-month-lt1.false, c.if-month-gt12.false);
         month_day = (c.if-month_day-lt1.false, omega (arith, days, c.if-month_day-days_in_month.false));
         hour = c.if-hour-gt23.false;
-        minute = omega (arith, minute.2, (first 14 (omega arith)), (first 15 (omega arith)));
-        second = omega (arith, second.2, (last 4 (omega arith)), (last 5 (omega arith)));
+        minute = c.if-minute-gt59.false;
+        second = omega (arith, c.if-second-gt59.false);
         nanoseconds = c.nanoseconds_at.ensures.0;
       };
       in_month = subst (λ n. c.pair_at-month_day.result ≤ n) c.days_in_month.ensures c.if-month_day-days_in_month.false;
     } in (
       valid,
-      omega (arith, second.2, (last 4 (omega arith)), (last 5 (omega arith))),
+      omega (arith, c.if-second-gt59.false),
       rw (to_z-of_z w32 c.in_ok-ut_offset.ut_offset (search rules)) c.in_ok-ut_offset.ensures.range,
     )
