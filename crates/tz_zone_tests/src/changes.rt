@@ -1,5 +1,7 @@
 //! Segments of clocks and their changes, by rows and beside a walk second by second.
 
+mod walks;
+
 use crate::clocks::{
     AUTUMN_2024, SPRING_2024, SPRING_2025, leap_seconds_from_the_fifth, leap_seconds_of_both_signs,
     three_types, transitions_near_leap_seconds,
