@@ -1,5 +1,5 @@
 -- What is missing stands within the text.
-use Rattle.std.proofs.Common.{◌≡◌, Some, arith, rules, subst, sym}
+use Rattle.std.proofs.Common.{Some, arith, rules, subst, sym}
 use Rattle.std.proofs.lemmas.Int.{to_z-of_z}
 use Rattle.std.specs.Int.{w32}
 use Rattle.std.specs.Prelude.{FitsSigned}

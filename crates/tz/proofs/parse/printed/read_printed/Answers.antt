@@ -1,10 +1,10 @@
 -- Each part stands at its place.
-use Rattle.std.proofs.Common.{◌≡◌, ◌∷◌, ◌++◌, ◌∙◌, ◌+◌, ◌*◌, ◌<◌, ◌≤◌, ℕ, drop, get_or, ap, arith, rules, ℤ, pos, to_z, subst, sym, refl}
+use Rattle.std.proofs.Common.{◌+◌, ◌*◌, ◌≤◌, arith, rules, to_z, subst, sym}
 use Rattle.std.specs.Int.{w32}
 use Rattle.tz_base.proofs.CivilReadings.{month_length-le}
 use Rattle.std.proofs.lemmas.Int.{ints, to_z-of_z}
 use Rattle.tz_base.specs.Fields.{IsValid}
-use Rattle.tz.proofs.PrintedBytes.{PrintedAt, byte_at, digit_byte, only_byte, printed_from_places, year_at}
+use Rattle.tz.proofs.PrintedBytes.{digit_byte, only_byte, printed_from_places, year_at}
 use Rattle.tz.proofs.parse.printed.read_printed.Goals as goal
 
 pub returns-clause-text : goal.returns-clause-text
