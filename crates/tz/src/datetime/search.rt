@@ -159,6 +159,7 @@ fn walk_from<'a, E: Entries<'a>, V: Transitions>(
 }
 
 /// Gives all that a reading has in its window, in order, by the segments from the place on at which it begins.
+#[cold]
 #[inline(never)]
 fn walk<'a, E: Entries<'a>, V: Transitions>(
     entries: &mut E,
