@@ -176,7 +176,7 @@ fn expect_ends(rt: &impl Abort, alloc: Global, len: usize) -> Result<Range, TzEr
     Ok(range)
 }
 
-/// The last transition is read twice if that is enough, and at most three are read beside two bisections.
+/// The last transition is read twice if that is enough. Otherwise one is read at each step of one halving, and at most three after it.
 #[test]
 fn tables_around_powers_of_two(rt: HostRuntime) -> Result<(), Fail> {
     // Numbers of transitions, and the least and the greatest number of looks.
@@ -184,18 +184,18 @@ fn tables_around_powers_of_two(rt: HostRuntime) -> Result<(), Fail> {
         (0, 0, 0),
         (1, 2, 3),
         (2, 2, 5),
-        (3, 2, 7),
-        (4, 2, 7),
-        (5, 2, 9),
-        (7, 2, 9),
-        (8, 2, 9),
-        (9, 2, 11),
-        (31, 2, 13),
-        (32, 2, 13),
-        (33, 2, 15),
-        (127, 2, 17),
-        (128, 2, 17),
-        (129, 2, 19),
+        (3, 2, 6),
+        (4, 2, 6),
+        (5, 2, 7),
+        (7, 2, 7),
+        (8, 2, 7),
+        (9, 2, 8),
+        (31, 2, 9),
+        (32, 2, 9),
+        (33, 2, 10),
+        (127, 2, 11),
+        (128, 2, 11),
+        (129, 2, 12),
     ];
     for row in &ROWS {
         let (len, ..) = *row;
