@@ -159,7 +159,7 @@ def reading_of(word):
 def words(how, zone, count, seed):
     """The words of a row: the same for two calls of the same kind over the same zone."""
     rng = lines.generator(f'{seed} {how} {zone.name}')
-    # Within the tables, where these have no rule behind them.
+    # Within the tables, where these have no rule after them.
     within = {'100000 transitions': (2016, 2024), 'leap seconds': (FIRST, zone.end - 1)}.get(zone.name)
     rows = {
         'instants': lambda: lines.random_instants(rng, count, *(within or (1902, LAST))),

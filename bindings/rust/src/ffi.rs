@@ -839,7 +839,7 @@ impl<'a> View<'a> {
         Ok(count)
     }
 
-    /// The entries of a search behind the first slots.
+    /// The entries of a search after the first slots.
     #[cold]
     fn find_more(
         &self,
@@ -1025,7 +1025,7 @@ pub(crate) struct Tables(NonNull<Kept>);
 // SAFETY: the parts are owned, and plain data.
 unsafe impl Send for Tables {}
 
-// SAFETY: nothing is written behind a shared reference.
+// SAFETY: nothing is written through a shared reference.
 unsafe impl Sync for Tables {}
 
 impl Tables {

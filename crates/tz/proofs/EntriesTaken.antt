@@ -12,7 +12,7 @@ first_of_grown : (before : List FoundDateTimeKind) (e : FoundDateTimeKind) → f
 first_of_grown [] e = refl
 first_of_grown (first ∷ before) e = refl
 
--- the entry behind a list stands at its length
+-- the entry after a list stands at its length
 behind : (before : List FoundDateTimeKind) (e : FoundDateTimeKind) → slice_get (before ++ e ∷ []) (length before) ≡ Some e
 behind [] e = refl
 behind (first ∷ before) e = behind before e

@@ -80,7 +80,7 @@ module _ {M : Type 1} {𝓤 : Ura M} {𝓛 : Logic 𝓤} {K : Type 0} {Γ : List
   pub heard_first : K → (φ : Type 0) (P : SProp 𝓤) → (φ → Seq K 𝓛 (raw P ∷ Γ) G) → Seq K 𝓛 (raw (sep 𝓤 (fact 𝓤 φ) P) ∷ Γ) G
   heard_first t φ P k = use1 𝓛 (raw (fact 𝓤 φ) ⊛ raw P) (id⊢ 𝓤 (sep 𝓤 (fact 𝓤 φ) P)) $ split t $ heard t φ k
 
-  -- what is owned is one machine value, which its value tells
+  -- what is owned is one machine value, which its value determines
   pub told : K → (R : RattleType) (val : R.Denot → Val) → Tells R (Is R) (λ y. val y ∷ []) → (x : R.Denot) (vs : List Val)
       → (vs ≡ val x ∷ [] → Is R x (val x ∷ []) → Seq K 𝓛 (‵ (R.own_val x (val x ∷ [])) ∷ Γ) G) → Seq K 𝓛 (‵ (R.own_val x vs) ∷ Γ) G
   told t R val tells x vs k = peeks t R (Is R) (shows 𝓛 R) x vs (λ is. rewrite t 0 (λ (us : List Val). ‵ (R.own_val x us)) (tells x vs is) refl $

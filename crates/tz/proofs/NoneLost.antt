@@ -38,7 +38,7 @@ module _ (clock : Clock) (r low high : ℤ) (has : (u : ℤ) → low ≤ℤ u �
       (λ not_over. met_from n (u +ℤ pos 1) next.0 (omega (arith, ints, end)) (omega (arith, ints, from)) next.1 not_over))
       (λ reached. inl (u, t, (holds, omega (arith, ints, below, reached))))
 
--- and an entry tells it
+-- and an entry determines it
 entry_of : (clock : Clock) (f : Fields) → IsValid f → IsMet clock (reading f) → (e : FoundDateTimeKind) × IsFoundBy clock f e
 entry_of clock f valid (inl (u, t, shows)) = (Normal (record { fields = f; local_time_type = t; unix_time = u }), (refl, shows))
 entry_of clock f valid (inr (u, a, b, passes)) =

@@ -44,7 +44,7 @@ stayed =
     let b = stay_dropped byte yes in
     (stay_dropped lent_slots no, (stay_dropped year yes, (b, (b, (b, (b, (b, (stay_dropped nanoseconds yes, (stay_dropped zone_slot yes, tt)))))))))
 
--- each has one machine value, which its value tells
+-- each has one machine value, which its value determines
 abbrev pub spelled : (κs : Lfts 2) → Spells (types_at params κs)
 spelled κs =
     let b = uint_vals w8 in

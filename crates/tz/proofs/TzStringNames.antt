@@ -20,7 +20,7 @@ use Rattle.tz_zone.specs.TzText.{Begins, IsNumber, is_in_brackets, IsName, IsDay
 use Rattle.tz.specs.TzStrings.{is_bare, name_text, day_text, time_of_day_text, turn_text, plain_time_text, signed_time_text, is_extended_time}
 use Rattle.tz.proofs.TzStringParts.{Stops, first_of, run_before, IsBehind, no_byte_behind, no_digit_behind, no_letter_byte, decimal_read, time_of, plain_time_read, signed_time_read, time_up_to}
 
--- a name with no letter behind it
+-- a name with no letter after it
 other_byte : (b : ℕ) → b ≢ closing_bracket → is_in_brackets b ≡ true
 other_byte b other = ap not (ne_eqb b closing_bracket other)
 

@@ -1,4 +1,4 @@
--- The numbers, times, names and days of a TZ string are read back, whatever stands behind them that none of them goes on with.
+-- The numbers, times, names and days of a TZ string are read back, whatever stands after them that none of them goes on with.
 use Rattle.std.proofs.Common.{◌≡◌, ◌≢◌, ◌⊎◌, inl, inr, ℕ, suc, ◌+◌, ◌*◌, ◌/◌, ◌%◌, ◌^◌, ◌<◌, ◌≤◌, Bool, true, false, cond, List, [], ◌∷◌, ◌++◌, length, refl, sym, ap, ◌∙◌, subst, arith, append_assoc, ℤ, pos, negsuc, ◌<ℤ◌}
 use Rattle.std.specs.Prelude.{◌==◌, ◌&&◌, ◌||◌, neg_ℤ, nat_le, if◌then◌else◌}
 use Rattle.std.specs.Char.{is_ascii_digit, is_ascii_alphabetic}
@@ -39,7 +39,7 @@ longest_run test (b ∷ bs) rest pass stops =
 pub run_before : (test : ℕ → Bool) (run rest : List ℕ) → list_all test run ≡ true → Stops test rest → IsRun test (run ++ rest) run rest
 run_before test run rest pass stops = record { longest = longest_run test run rest pass stops; parts = refl }
 
--- behind a time or a day stands neither a digit nor a colon nor a slash
+-- after a time or a day stands neither a digit nor a colon nor a slash
 abbrev pub IsBehind : List ℕ → Type 0
 IsBehind [] = Unit {0}
 IsBehind (b ∷ bs) = (b < 47) ⊎ (58 < b)

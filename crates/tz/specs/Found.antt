@@ -21,7 +21,7 @@ last_side (Skipped before after) = after
 abbrev pub instant_of : FoundDateTimeKind → ℤ
 instant_of found = (first_side found).unix_time
 
--- a clock tells at which instants a type holds
+-- a clock determines at which instants a type holds
 abbrev pub Clock : Type 1
 Clock = ℤ → LocalTimeType → Type 0
 

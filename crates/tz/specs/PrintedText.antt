@@ -59,6 +59,6 @@ type_name_text t = unwrap_or t.designation (45 ∷ [])
 unfoldable pub moment_text : DateTime → List ℕ
 moment_text d = printed_text d.fields d.local_time_type.ut_offset ++ 32 ∷ type_name_text d.local_time_type
 
--- what a line has behind the nanoseconds: the offset, a space, the name of the type, and LF
+-- what a line has after the nanoseconds: the offset, a space, the name of the type, and LF
 unfoldable pub suffix_text : LocalTimeType → List ℕ
 suffix_text t = offset_text t.ut_offset ++ (32 ∷ type_name_text t ++ 10 ∷ [])

@@ -12,11 +12,11 @@ use Rattle.tz_c.specs.declared.rules.ConflictData.{ConflictData}
 abbrev pub name_if : Bool → List ℕ → Option (List ℕ)
 name_if has_name name = if has_name then Some name else None
 
--- the local time type is written, or its first fault is told
+-- the local time type is written, or its first fault is named
 abbrev pub IsTypeAnswer : LocalTimeType → ℕ → LocalTimeType → Type 0
 IsTypeAnswer t code written = IsAnswerBy type_code code (IsLocalTimeType t × (written ≡ t)) (IsFirstTypeFault t)
 
--- the rule is written, or its first fault is told
+-- the rule is written, or its first fault is named
 abbrev pub IsAlternateAnswer : AlternateTime → ℕ → AlternateTime → Type 0
 IsAlternateAnswer r code written = IsAnswerBy rule_code code (IsConsistentRule r × (written ≡ r)) (IsFirstRuleFault r)
 

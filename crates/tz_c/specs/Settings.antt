@@ -5,7 +5,7 @@ use Rattle.tz_zone.specs.Settings.{local_time}
 use Rattle.tz_zone.specs.TzText.{Begins}
 use Rattle.tz_c.specs.declared.settings.SettingData.{SettingData}
 
--- the machine's local time, the file of the name behind a colon, or a file of this name or this TZ string
+-- the machine's local time, the file of the name after a colon, or a file of this name or this TZ string
 abbrev pub IsSetting : List ℕ → SettingData → Type 0
 IsSetting text s =
     ((text ≡ local_time) × (s ≡ record { kind = 0; from = 0; until = 0 }))

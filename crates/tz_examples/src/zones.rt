@@ -7,7 +7,7 @@ use tz::timezone::{
 };
 use tz::{DateTime, Error, TimeZone, TimeZoneRef, TzError, TzString};
 
-/// The zone that the machine is set to, as `/etc/localtime` tells.
+/// The zone that the machine is set to, as `/etc/localtime` says.
 pub fn local_zone<R: Files>(rt: &R, alloc: Global) -> Result<TimeZone, Error> {
     TimeZone::local(alloc, |path: &str| timezone::read_file(rt, alloc, path))
 }

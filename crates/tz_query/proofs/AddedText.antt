@@ -8,7 +8,7 @@ module _ {A : Type 0} {a b : Answers A} {x : List ℕ} where
   pub with_text : {y : List ℕ} → x ≡ y → Adds a b x → Adds a b y
   with_text same adds = subst (Adds a b) same adds
 
-  -- a text, and then another behind it
+  -- a text, and then another after it
   pub adds_both : {c : Answers A} {y : List ℕ} → Adds a b x → Adds b c y → Adds a c (x ++ y)
   adds_both {c} {y} first second = record {
     zone_is = second.zone_is ∙ first.zone_is;

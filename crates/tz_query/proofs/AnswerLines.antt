@@ -35,7 +35,7 @@ no_lines (line ∷ lines) are = absurd (cases are.cut)
         nothing_behind [] ys e = e
         nothing_behind (x ∷ xs) ys e = cc
 
--- a line in front of the lines of the rest
+-- a line before the lines of the rest
 pub AreLines-cons : (bytes line rest : List ℕ) (lines : List (List ℕ)) → 0 < length bytes → IsFirstLine bytes line rest → AreLines rest lines → AreLines bytes (line ∷ lines)
 AreLines-cons bytes line rest lines some first are = record { cut = cases first.end are.cut; without_ends = All-cons IsLine line lines first.without_end are.without_ends }
   where
@@ -54,7 +54,7 @@ AreLines-cons bytes line rest lines some first are = record { cut = cases first.
         let whole : bytes ≡ line = first.cut ∙ ap (λ t. line ++ t) end.0 ∙ append-nil line in
         inr ([], line, ap (λ ls. line ∷ ls) none, (λ e. absurd (omega (arith, some, ap length (whole ∙ e)))), whole)
 
--- fewer bytes are left behind a line
+-- fewer bytes are left after a line
 pub rest_is_shorter : (bytes line rest : List ℕ) → IsFirstLine bytes line rest → 0 < length bytes → length rest < length bytes
 rest_is_shorter bytes line rest first some = cases first.end
   where
@@ -65,7 +65,7 @@ rest_is_shorter bytes line rest first some = cases first.end
 pub AreAnswers-nil : (z : Zone) → AreAnswers z [] []
 AreAnswers-nil z = record { lines = []; answers = []; cut = record { cut = inl refl; without_ends = All-nil IsLine }; each = tt; written = refl }
 
--- an answer in front of those of the rest
+-- an answer before those of the rest
 pub AreAnswers-cons : (z : Zone) (bytes line rest more : List ℕ) (answer : List (List ℕ)) → 0 < length bytes → IsFirstLine bytes line rest → IsAnswer z line answer → AreAnswers z rest more → AreAnswers z bytes (ended answer ++ more)
 AreAnswers-cons z bytes line rest more answer some first is are =
     record { lines = line ∷ are.lines; answers = answer ∷ are.answers; cut = AreLines-cons bytes line rest are.lines some first are.cut; each = (is, are.each); written = ap (λ bs. ended answer ++ bs) are.written }

@@ -76,7 +76,7 @@ module _ (bs : List ℕ) (place end : ℕ) (within : place ≤ length bs) (end_i
       let same : value ≡ digits_value 10 (slice_range bs place end) = omega (arith, is, small) in
       (same, omega (arith, same, small))
 
--- the digits in front of some bytes are those in front of all, where they end among them
+-- the digits at the front of some bytes are those before all, where they end among them
 digits_of_window : (xs : List ℕ) (n k : ℕ) → k ≡ digits_len (take n xs) → k < n → k ≡ digits_len xs
 digits_of_window xs zero k is few = absurd (omega (arith, few))
 digits_of_window [] (suc n) k is few = is

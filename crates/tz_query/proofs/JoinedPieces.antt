@@ -14,7 +14,7 @@ ended-append : (xs ys : List (List ℕ)) → ended (xs ++ ys) ≡ ended xs ++ en
 ended-append [] ys = refl
 ended-append (x ∷ xs) ys = ap (λ bs. x ++ line_feed ∷ bs) (ended-append xs ys) ∙ sym (append_assoc x (line_feed ∷ ended xs) (ended ys))
 
--- behind the last LF of bytes that end in one there is nothing
+-- after the last LF of bytes that end in one there is nothing
 none_behind : (xs ys : List ℕ) → xs ++ ys ≡ [] → ys ≡ []
 none_behind [] ys e = e
 none_behind (x ∷ xs) ys e = cc

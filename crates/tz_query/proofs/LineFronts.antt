@@ -63,7 +63,7 @@ numbers_are_line text [] are = subst IsLine (sym are) (All-nil (λ b. b ≢ line
 numbers_are_line text (n ∷ numbers) (number, rest, whole, is, are) =
     subst IsLine (sym whole) (All-cons (λ b. b ≢ line_feed) space (number ++ rest) (λ e. absurd (omega (arith, e))) (All-append (λ b. b ≢ line_feed) number rest (number_is_line number n is) (numbers_are_line rest numbers are)))
 
--- numbers in front of the end of a line are that line, and the numbers of the first line stand in front
+-- numbers before the end of a line are that line, and the numbers of the first line stand in front
 pub line_of_parts : (bytes : List ℕ) (numbers : List ℤ) (tail rest : List ℕ) → ArePartsFront bytes numbers tail → IsLineEnd tail rest → (line : List ℕ) × IsFirstLine bytes line rest × AreNumbers line numbers
 line_of_parts bytes numbers tail rest are end =
     let (line, cut, is) = numbers_from_parts bytes numbers tail are in
@@ -115,7 +115,7 @@ line_from_front letter numbers bytes after tail rest plain is are end =
     let (line, first, numbers_are) = line_of_parts after numbers tail rest are end in
     line_from_numbers letter bytes after line rest numbers plain is first numbers_are
 
--- the first line behind its letter
+-- the first line after its letter
 behind_letter : (letter b : ℕ) (bytes after line rest : List ℕ) (numbers : List ℤ) → bytes ≡ b ∷ after → IsFirstLine bytes line rest → IsLineOf letter numbers line → (letter ≡ b) × (parts : List ℕ) × IsFirstLine after parts rest × AreNumbers parts numbers
 behind_letter letter b bytes after line rest numbers is first of =
     let parts = of.parts in

@@ -1,11 +1,11 @@
--- The number in front of bytes is one alone, and so are numbers after spaces.
+-- The number at the front of bytes is one alone, and so are numbers after spaces.
 use Rattle.std.proofs.Common.{◌≡◌, ℕ, ◌<◌, ◌≤◌, ◌⊎◌, inl, inr, ℤ, pos, neg_ℤ, List, [], ◌∷◌, ◌++◌, length, drop, refl, sym, ap, ◌∙◌, subst, arith, append_assoc, append-nil, length-append}
 use Rattle.std.specs.Prelude.{FitsSigned, Option, Some, None, IfNone}
 use Rattle.std.specs.Int.{w64}
 use Rattle.std.specs.Str.Parse.{AllDigits, digits_value}
 use Rattle.tz_query.specs.Numbers.{hyphen, space, IsNumber, IsNumberFront, IsDigitsFront, EndsDigits, AreNumbers, IsPartFront, ArePartsFront}
 
--- digits in front of bytes are a number, and so they are after a minus
+-- digits at the front of bytes are a number, and so they are after a minus
 pub plain_number : (bytes digits rest : List ℕ) → IsDigitsFront bytes digits rest → 0 < length digits → IsNumberFront bytes (pos (digits_value 10 digits)) rest
 plain_number bytes digits rest front some =
     record { text = digits; whole = front.whole; is_number = (digits, (some, front.all_digits), inl (refl, refl)); ends = front.ends }
@@ -33,7 +33,7 @@ digits_front_unique (d ∷ digits) (d' ∷ digits') rest rest' all all' ends end
     let (more, after) = digits_front_unique digits digits' rest rest' all.1 all'.1 ends ends' rest_same in
     (cc, after)
 
--- what stands in front of bytes that have no digit there, or a minus
+-- what stands at the front of bytes that have no digit there, or a minus
 digits_stand_first : (bytes digits rest : List ℕ) → IsDigitsFront bytes digits rest → 0 < length digits → EndsDigits bytes → ⊥
 digits_stand_first bytes [] rest front some ends = absurd (omega arith)
 digits_stand_first bytes (d ∷ digits) rest front some ends = subst EndsDigits front.whole ends front.all_digits.0
@@ -41,7 +41,7 @@ digits_stand_first bytes (d ∷ digits) rest front some ends = subst EndsDigits 
 minus_stands_first : (bytes after digits rest : List ℕ) → bytes ≡ hyphen ∷ after → IsDigitsFront bytes digits rest → 0 < length digits → ⊥
 minus_stands_first bytes after digits rest minus front some = digits_stand_first bytes digits rest front some (subst EndsDigits (sym minus) (λ digit. absurd (omega (arith, digit))))
 
--- a number in front of bytes is plain, or has a minus
+-- a number at the front of bytes is plain, or has a minus
 abbrev IsPlainFront : List ℕ → ℤ → List ℕ → Type 0
 IsPlainFront bytes n rest = (digits : List ℕ) × IsDigitsFront bytes digits rest × (0 < length digits) × (n ≡ pos (digits_value 10 digits))
 
@@ -61,7 +61,7 @@ digits_unique : (bytes digits digits' rest rest' : List ℕ) → IsDigitsFront b
 digits_unique bytes digits digits' rest rest' front front' =
     digits_front_unique digits digits' rest rest' front.all_digits front'.all_digits front.ends front'.ends (sym front.whole ∙ front'.whole)
 
--- the number in front of bytes, and what follows it, are these alone
+-- the number at the front of bytes, and what follows it, are these alone
 pub number_front_unique : (bytes : List ℕ) (n n' : ℤ) (rest rest' : List ℕ) → IsNumberFront bytes n rest → IsNumberFront bytes n' rest' → (n ≡ n') × (rest ≡ rest')
 number_front_unique bytes n n' rest rest' front front' = both (number_front_cases bytes n rest front) (number_front_cases bytes n' rest' front')
   where
@@ -96,7 +96,7 @@ pub IfNone-anyway : {T P : Type 0} (o : Option T) → P → IfNone o P
 IfNone-anyway None holds = holds
 IfNone-anyway (Some x) holds = tt
 
--- a text that is a number is one in front of nothing
+-- a text that is a number is one before nothing
 pub number_front_whole : (text : List ℕ) (n : ℤ) → IsNumber text n → IsNumberFront text n []
 number_front_whole text n is = record { text = text; whole = sym (append-nil text); is_number = is; ends = tt }
 
@@ -136,7 +136,7 @@ pub parts_more : (bytes : List ℕ) (numbers : List ℤ) (rest : List ℕ) (n : 
 parts_more bytes [] rest n after are next = (after, subst (λ bs. IsPartFront bs n after) (sym are) next, refl)
 parts_more bytes (m ∷ numbers) rest n after (behind, first, are) next = (behind, first, parts_more behind numbers rest n after are next)
 
--- numbers stand in front of what follows them, if no digit does
+-- numbers stand before what follows them, if no digit does
 EndsDigits-parts : (text : List ℕ) (numbers : List ℤ) (tail : List ℕ) → AreNumbers text numbers → EndsDigits tail → EndsDigits (text ++ tail)
 EndsDigits-parts text [] tail are ends = subst (λ t. EndsDigits (t ++ tail)) (sym are) ends
 EndsDigits-parts text (n ∷ numbers) tail (number, rest, whole, is, are) ends = subst (λ t. EndsDigits (t ++ tail)) (sym whole) (λ digit. absurd (omega (arith, digit)))

@@ -24,7 +24,7 @@ line_text f n t u =
     ∙ ap (λ line. date ++ (84 ∷ time ++ line)) (append_assoc offset name (10 ∷ []))
     ∙ append_assoc (signed_decimal f.year) day (84 ∷ time ++ (offset ++ (name ++ 10 ∷ []))))
 
--- three pieces that are copied one behind the other
+-- three pieces that are copied one after the other
 pub three_pieces : (page prefix nine suffix : List ℕ) (at len : ℕ) → at + 57 ≤ length page → length prefix ≡ 16 → length nine ≡ 9 → length suffix ≡ 32 → len ≤ 32 →
     take (at + 25 + len) (put_mid (at + 25) 32 (put_mid (at + 16) 9 (put_mid at 16 page prefix) nine) suffix) ≡ take at page ++ (prefix ++ (nine ++ take len suffix))
 three_pieces page prefix nine suffix at len room prefix_len nine_len suffix_len few =

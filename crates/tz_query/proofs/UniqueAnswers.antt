@@ -152,7 +152,7 @@ fields_from numbers = record {
 fields_unique : (f g : Fields) → numbers_of f ≡ numbers_of g → f ≡ g
 fields_unique f g same = ap fields_from same
 
--- the numbers behind the first
+-- the numbers after the first
 behind : List ℤ → List ℤ
 behind [] = []
 behind (n ∷ numbers) = numbers

@@ -35,7 +35,7 @@ weeks_more z f k [] answer are is = (subst (λ n. IsWeekAnswer z f n answer) (le
 weeks_more z f k (week ∷ weeks) answer are is =
     (are.0, weeks_more z f (k + 1) weeks answer are.1 (subst (λ n. IsWeekAnswer z f n answer) (let e : k + length (week ∷ weeks) ≡ k + 1 + length weeks = omega arith in e) is))
 
--- behind the line with their number the lines of all weeks are those of the meeting
+-- after the line with their number the lines of all weeks are those of the meeting
 pub meeting_written : (was : List ℕ) (weeks : List (List (List ℕ))) (count : ℕ) → length weeks ≡ count →
     (was ++ ended ((meeting_letter ∷ space ∷ decimal count) ∷ [])) ++ flat_map ended weeks ≡ was ++ ended (meeting_lines weeks)
 meeting_written was weeks count many =

@@ -32,7 +32,7 @@ field_fault_text InvalidMinute = codes "InvalidMinute"
 field_fault_text InvalidSecond = codes "InvalidSecond"
 field_fault_text InvalidNanoseconds = codes "InvalidNanoseconds"
 
--- a refusal that an answer tells has its innermost variant's name
+-- a refusal that an answer names has its innermost variant's name
 abbrev pub IsFaultText : TzError → List ℕ → Type 0
 IsFaultText (FieldFault fault) text = text ≡ field_fault_text fault
 IsFaultText OutOfRange text = text ≡ codes "OutOfRange"
@@ -102,7 +102,7 @@ pub record AreAnswers (z : Zone) (queries bytes : List ℕ) : Type 0 where
   pub each : AllZip (IsAnswer z) lines answers
   pub written : bytes ≡ flat_map ended answers
 
--- a line that tells of no lines after it: neither `F` nor `W` begins it, with a space
+-- a line that announces no lines after it: neither `F` nor `W` begins it, with a space
 abbrev pub IsSingle : List ℕ → Type 0
 IsSingle text = ((rest : List ℕ) → text ≢ codes "F " ++ rest) × ((rest : List ℕ) → text ≢ codes "W " ++ rest)
 

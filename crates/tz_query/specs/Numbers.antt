@@ -21,13 +21,13 @@ abbrev pub EndsDigits : List ℕ → Type 0
 EndsDigits [] = Unit {0}
 EndsDigits (b ∷ bytes) = ¬ (digit_value b < 10)
 
--- the digits in front of the bytes are all there are, and what follows them
+-- the digits at the front of the bytes are all there are, and what follows them
 pub record IsDigitsFront (bytes digits rest : List ℕ) : Type 0 where
   pub whole : bytes ≡ digits ++ rest
   pub all_digits : AllDigits 10 digits
   pub ends : EndsDigits rest
 
--- the number in front of the bytes, and what follows it
+-- the number at the front of the bytes, and what follows it
 pub record IsNumberFront (bytes : List ℕ) (n : ℤ) (rest : List ℕ) : Type 0 where
   pub text : List ℕ
   pub whole : bytes ≡ text ++ rest
@@ -40,7 +40,7 @@ AreNumbers text [] = text ≡ []
 AreNumbers text (n ∷ numbers) =
     (number : List ℕ) × (rest : List ℕ) × (text ≡ space ∷ (number ++ rest)) × IsNumber number n × AreNumbers rest numbers
 
--- the number after one space in front of the bytes, and what follows it
+-- the number after one space at the front of the bytes, and what follows it
 abbrev pub IsPartFront : List ℕ → ℤ → List ℕ → Type 0
 IsPartFront bytes n rest = (after : List ℕ) × (bytes ≡ space ∷ after) × IsNumberFront after n rest
 

@@ -8,7 +8,7 @@ use Rattle.tz_query.specs.declared.query.answers.Answers.{Answers}
 use Rattle.tz_query.specs.declared.query.lines.Query.{Query}
 use Rattle.tz_query.specs.declared.query.output.Output.{Output}
 
--- the answers so far, and behind them those on the page
+-- the answers so far, and after them those on the page
 abbrev pub written : {A : Type 0} → Output A → List ℕ
 written output = output.answers.items ++ output.page
 
@@ -24,12 +24,12 @@ pub record Leaves {A : Type 0} (before after : Answers A) : Type 0 where
   pub sound : IsSound before → IsSound after
   pub output_is : after.output ≡ before.output
 
--- these bytes stand behind what was written, and the zone is the same
+-- these bytes stand after what was written, and the zone is the same
 pub record Adds {A : Type 0} (before after : Answers A) (text : List ℕ) : Type 0 where
   pub zone_is : after.zone ≡ before.zone
   pub sound : IsSound before → IsSound after
   pub text_is : written after.output ≡ written before.output ++ text
 
--- the answer lines of a query stand behind what was written
+-- the answer lines of a query stand after what was written
 abbrev pub IsAnswered : {A : Type 0} → Query → Answers A → Answers A → Type 0
 IsAnswered query before after = (answer : List (List ℕ)) × IsQueryAnswer (zone_of before.zone) query answer × Adds before after (ended answer)

@@ -49,7 +49,7 @@ impl Write for FailingWriter {
     }
 }
 
-/// Is interrupted at as many calls as it is told, and then reads bytes of memory.
+/// Is interrupted at so many calls, and then reads bytes of memory.
 #[derive(Drop)]
 pub struct InterruptedReader<'a> {
     pub bytes: &'a [u8],

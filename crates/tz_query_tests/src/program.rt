@@ -95,7 +95,7 @@ fn expect_outcome_around(
     expect_outcome(rt, alloc, arguments, b"T 0 0\n", want.as_str())
 }
 
-/// The program does what stands behind ` | ` in a row, between two texts, where its arguments are the option and the value before it.
+/// The program does what stands after ` | ` in a row, between two texts, where its arguments are the option and the value before it.
 fn expect_row_around(
     rt: &impl Abort,
     alloc: Global,

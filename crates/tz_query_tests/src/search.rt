@@ -338,7 +338,7 @@ fn what_is_shown_at_the_ends_is_found(rt: HostRuntime) -> Result<(), Fail> {
     )
 }
 
-/// A jump from the last day of all to the year behind it can't be listed, nor can one from the year before the first day.
+/// A jump from the last day of all to the year after it can't be listed, nor can one from the year before the first day.
 #[test]
 fn jumps_past_the_ends_are_out_of_range(rt: HostRuntime) -> Result<(), Fail> {
     static ZONE: ZoneRow = ZoneRow {

@@ -1,4 +1,4 @@
--- A number of eight bytes has the bytes as its digits, so what keeps a name is told by its word.
+-- A number of eight bytes has the bytes as its digits, so what keeps a name is determined by its word.
 use Rattle.std.proofs.Common.{◌≡◌, ℕ, zero, suc, ◌-◌, ◌<◌, ◌≤◌, List, ◌∷◌, [], ◌++◌, ◌∙◌, refl, ap, sym, subst, arith, length, get_or, take, replicate, All, length-append}
 use Rattle.std.specs.Int.{w64, to_le_bytes}
 use Rattle.std.proofs.Math.Seq.{take-append_seam, get_or-append_seam}

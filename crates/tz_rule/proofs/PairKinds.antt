@@ -10,7 +10,7 @@ use Rattle.tz_rule.specs.Kinds.{week_day_of_year, kind_of, year_kind, is_leap_ki
 use Rattle.tz_rule.proofs.Weeks.{week_day_of_year-is, week_day_of_year-next, week_day_of_year-moved}
 use Rattle.tz_rule.proofs.YearKinds.{any_below, found_below, first_week_day, like_model}
 
--- a kind tells whether its years are leap, and the week day of their January 1st
+-- a kind determines whether its years are leap, and the week day of their January 1st
 
 kind_of-parts : (leap : Bool) (week_day : ℕ) → week_day < 7 → (kind_of leap week_day < 14) × (is_leap_kind (kind_of leap week_day) ≡ leap) × (week_day_of_kind (kind_of leap week_day) ≡ week_day)
 kind_of-parts true week_day h = (omega arith, grind (arith, nat_tests), omega arith)

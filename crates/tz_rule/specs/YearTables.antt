@@ -20,7 +20,7 @@ instant_in table year = pos 86400 *ℤ first_day year +ℤ entry table (year_kin
 abbrev pub IsNear : ℤ → Type 0
 IsNear distance = (negsuc 0 ≤ℤ distance) × (distance ≤ℤ pos 1)
 
--- the table tells for every whole year how long after 00:00 UTC of January 1st its instant lies
+-- the table determines for every whole year how long after 00:00 UTC of January 1st its instant lies
 pub record IsTableOf (instants : ℤ → ℤ) (table : List ℤ) : Type 0 where
   pub size : length table ≡ 14
   pub entries : (year : ℤ) → entry table (year_kind year) ≡ instants year -ℤ pos 86400 *ℤ first_day year

@@ -32,7 +32,7 @@ fault_without z none u e is never = inr (is, no_type, not_over)
     not_over : ¬ IsOver z u
     not_over (last, l, is_last, leap, from, rule) = some_from_last z.transitions last is_last none
 
--- the count of transitions that are reached tells the last one that is
+-- the count of transitions that are reached determines the last one that is
 pub transition_type_of_last : (z : Zone) (l : ℤ) (k : ℕ) (t : LocalTimeType) → AreReached z.transitions l k → AreAhead z.transitions l k → IsTypeOfLast z k t → IsTransitionType z l t
 transition_type_of_last z l k t reached ahead (inl (none, type)) = inl ((λ i change at. ahead i change (omega (arith, none)) at), type)
 transition_type_of_last z l k t reached ahead (inr (some, change, at, type)) =

@@ -30,7 +30,7 @@ module _ (leaps : List LeapSecond) (expiry : LeapSecond) (time : ℤ) (are : Are
   correction_in_front zero h = ap correction_at_start (place_in_front leaps expiry 0 (omega (arith, last_is)))
   correction_in_front (suc k) h = ap correction_at (place_in_front leaps expiry k (omega arith))
 
-  -- behind the expiry the correction is that before it
+  -- after the expiry the correction is that before it
   correction_at_end : correction_before whole (suc (length leaps)) ≡ correction_before whole (length leaps)
   correction_at_end =
       let place : length leaps ≡ expires.0 + 1 = omega (arith, last_is) in

@@ -39,7 +39,7 @@ effect_refused leaps are v m moment (inr past) u effect =
 pub effect_found : (leaps : List LeapSecond) (v m : ℤ) → v ≢ negsuc 9223372036854775807 → IsMomentOf leaps v m → IsInstant m → ¬ IsLeapTimeRefused leaps m → IsEffect leaps v m
 effect_found leaps v m high moment instant answered = record { not_least = high; instant = instant; reached = moment.reached answered; least = moment.least }
 
--- where the record behind those reached comes after the leap time of a later instant, no more of them are reached there
+-- where the record after those reached comes after the leap time of a later instant, no more of them are reached there
 count_later : (leaps : List LeapSecond) → AreLeapSeconds leaps → (u w : ℤ) (k : ℕ) → u ≤ℤ w → IsReachedCount leaps u k → ((l : LeapSecond) → slice_get leaps k ≡ Some l → (w +ℤ correction_before leaps k) <ℤ l.unix_leap_time) → IsReachedCount leaps w k
 count_later leaps are u w k order count next = record {
   within = count.within;

@@ -13,7 +13,7 @@ use Rattle.tz_zone.specs.ValidZone.{MayBeFirst, FollowsAt, AreLeapSeconds, HasTy
 pub item_read : {X : Type 0} (xs : List X) (i : ℕ) (x y : X) → i < length xs → x ≡ get_or xs i x → slice_get xs i ≡ Some y → x ≡ y
 item_read xs i x y within is at = same_Some x y (sym (slice_get_read xs (length xs) i x refl within is) ∙ at)
 
--- what is tested of the items read at a place and behind it holds of those that stand there
+-- what is tested of the items read at a place and after it holds of those that stand there
 pub pair_test : {X : Type 0} (xs : List X) (i : ℕ) (a b : X) (R : X → X → Type 0) (r : Bool) → i + 1 < length xs → a ≡ get_or xs i a → b ≡ get_or xs (i + 1) b → MatchBool r (R a b) (¬ R a b)
     → MatchBool r ((x y : X) → slice_get xs i ≡ Some x → slice_get xs (i + 1) ≡ Some y → R x y) (¬ ((x y : X) → slice_get xs i ≡ Some x → slice_get xs (i + 1) ≡ Some y → R x y))
 pair_test xs i a b R true within a_is b_is h = λ x y at_x at_y. rw (sym (item_read xs i a x (omega arith) a_is at_x), sym (item_read xs (i + 1) b y within b_is at_y)) h

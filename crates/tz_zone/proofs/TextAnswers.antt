@@ -19,14 +19,14 @@ use Rattle.tz_zone.specs.TzTextFault.{IsOffsetFault, IsNameFault, IsDaylightFaul
 pub bad_name : (text name rest : List ℕ) (f : LocalTimeTypeError) → IsName text name rest → IsFirstTypeFault (type_of (pos 0) false (Some name)) f → IsNameFault text (TypeFault f)
 bad_name text name rest f is fault = inr (name, rest, is, (f, refl, fault))
 
--- behind the standard name, and behind its offset
+-- after the standard name, and after its offset
 pub offset_fails : (extended : Bool) (text name rest : List ℕ) (f : TzStringError) → IsName text name rest → IsOffsetFault rest f → IsTzTextFault extended text (TzString f)
 offset_fails extended text name rest f is fault = inr (inl (name, rest, is, inl (f, refl, fault)))
 
 pub daylight_fails : (extended : Bool) (text name rest : List ℕ) (offset : WrittenTime) (left : List ℕ) (e : TzError) → IsName text name rest → IsSignedTime rest offset left → left ≢ [] → IsDaylightFault extended left e → IsTzTextFault extended text e
 daylight_fails extended text name rest offset left e name_is offset_is more fault = inr (inl (name, rest, name_is, inr (offset, left, offset_is, (more, fault))))
 
--- behind the daylight name and its offset
+-- after the daylight name and its offset
 pub rules_fail : (extended : Bool) (text name after_name : List ℕ) (offset : Option WrittenTime) (rules : List ℕ) (e : TzError) → IsName text name after_name → IsDaylightOffset after_name offset (comma ∷ rules) → IsRulesFault extended rules e → IsDaylightFault extended text e
 rules_fail extended text name after_name offset rules e name_is offset_is fault = inr (name, after_name, name_is, inr (inr (offset, comma ∷ rules, offset_is, inr (not_over, inr (rules, refl, fault)))))
   where

@@ -1,4 +1,4 @@
--- Digits that are cut out of a text are text, and `parse` gives their number or tells that none of its type stands there.
+-- Digits that are cut out of a text are text, and `parse` gives their number or says that none of its type stands there.
 use Rattle.std.proofs.Common.{◌≡◌, ◌≢◌, ℕ, leb, le-leb, ◌+◌, ◌*◌, ◌^◌, ◌<◌, ◌≤◌, ◌&&◌, Bool, true, false, cond, List, [], ◌∷◌, length, Result, sym, ap, ◌∙◌, subst, refl, inl, inr, arith, ℤ, pos}
 use Rattle.std.proofs.lemmas.Bool.{cases_lt}
 use Rattle.std.proofs.lemmas.List.{get_or_past}

@@ -17,7 +17,7 @@ use Rattle.tz_zone.specs.TzText.{IsRun, IsNumber, is_in_brackets, IsName, IsPart
 abbrev pub IsOne : {A : Type 0} → (List ℕ → A → List ℕ → Type 0) → Type 0
 IsOne {A} reads = (text : List ℕ) (x y : A) (rest more : List ℕ) → reads text x rest → reads text y more → (x ≡ y) × (rest ≡ more)
 
--- the byte at the front, and the bytes behind it, are those of the text
+-- the byte at the front, and the bytes after it, are those of the text
 pub same_byte : {a b : ℕ} {text xs ys : List ℕ} → text ≡ a ∷ xs → text ≡ b ∷ ys → a ≡ b
 same_byte e f = cc
 
@@ -37,7 +37,7 @@ number_is_one text n m rest more a b =
     let same = run_is_one a.run b.run in
     (a.value ∙ ap (digits_value 10) same.0 ∙ sym b.value, same.1)
 
--- two numbers behind the same byte
+-- two numbers after the same byte
 pub number_behind_is_one : {b : ℕ} {text xs ys : List ℕ} (n m : ℕ) (rest more : List ℕ) → text ≡ b ∷ xs → text ≡ b ∷ ys → IsNumber xs n rest → IsNumber ys m more → (n ≡ m) × (rest ≡ more)
 number_behind_is_one {xs = xs} {ys = ys} n m rest more e f a b =
     let P : List ℕ → Type 0 = λ front. IsNumber front n rest in
@@ -101,7 +101,7 @@ hms_is_one text t u rest more sign a b =
     let seconds = part_is_one b.after_minutes t.seconds u.seconds rest more (subst Seconds minutes.1 a.seconds_are) b.seconds_are in
     (same_time t u sign hours.0 minutes.0 seconds.0, seconds.1)
 
--- a sign, and the time behind it
+-- a sign, and the time after it
 pub behind_sign_is_one : (text : List ℕ) (signs : List ℕ → Bool → List ℕ → Type 0) → IsOne signs → (t u : WrittenTime) (rest more : List ℕ)
     → (unsigned : List ℕ) × signs text t.minus unsigned × IsHms unsigned t rest → (unsigned : List ℕ) × signs text u.minus unsigned × IsHms unsigned u more → (t ≡ u) × (rest ≡ more)
 behind_sign_is_one text signs one t u rest more a b =

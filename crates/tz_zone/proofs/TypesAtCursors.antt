@@ -63,7 +63,7 @@ module _ (leaps : List LeapSecond) (are : AreLeapSeconds leaps) where
       let bounds = instant_bounds _ (leap_time_fits leaps are u count.0 count.1 fits leap.not_refused) in
       omega (arith, ints, bounds.0, leap_time_from_count leaps are u l count.0 count.1 leap)
 
-  -- what is refused behind an instant that is not is so from there on
+  -- what is refused after an instant that is not is so from there on
   pub refused_from : (u m v : ℤ) → ¬ IsLeapTimeRefused leaps u → u ≤ℤ m → IsLeapTimeRefused leaps m → m ≤ℤ v → IsLeapTimeRefused leaps v
   refused_from u m v answered low (inl before) high = absurd (begun_later leaps are u m low (λ h. answered (inl h)) before)
   refused_from u m v answered low (inr past) high = inr (past_later leaps are m v high past)
@@ -139,7 +139,7 @@ module _ (z : Zone) (sound : IsSoundTable z) (c : Cursor) (cursor : IsCursor z.t
   rising : IsRising z.transitions
   rising i = (sound.transitions_are i).1
 
-  -- a cursor stands among the transitions or behind them
+  -- a cursor stands among the transitions or after them
   pub place_within : c.place ≤ length z.transitions
   place_within = by_next c.next cursor.next
     where
@@ -306,7 +306,7 @@ refused_segment_is z some u s within refused begun type cursor = record {
     fresh_none None P e h = h
     fresh_none (Some x) P e h = tt
 
--- where no cursor stands at a segment's end the leap seconds have begun behind it
+-- where no cursor stands at a segment's end the leap seconds have begun after it
 pub begun_behind : (z : Zone) (u : ℤ) (s : ClockSegment) → IsSegmentAt z u s → s.cursor ≡ None → s.last <ℤ pos 9223372036854775807 → z.transitions ≢ [] → ¬ IsBeforeStart z.leap_seconds (s.last +ℤ pos 1)
 begun_behind z u s segment none ends some = begun (subst (λ (o : Option Cursor). IfNone o ((z.transitions ≡ []) ⊎ ¬ IsBeforeStart z.leap_seconds (s.last +ℤ pos 1))) none (segment.fresh ends))
   where

@@ -32,7 +32,7 @@ holds_from_tables p t has may = rw has.leap_seconds at may
 pub tables_from_holds : {A : Type 0} (p : Part) (t : Tables A) → HasTables p t → HoldsLeapSeconds p → MayHold p.version t.leap_seconds.items
 tables_from_holds p t has holds = rw has.leap_seconds holds
 
--- the rule behind the part is that of the file
+-- the rule after the part is that of the file
 pub rule_of_file : (bytes : List ℕ) (p : Part) (footer : Option (List ℕ)) (extended : Bool) (rule : Option TransitionRule) → p ≡ part_of bytes → extended ≡ is_extended p → footer ≡ footer_of bytes → IsExtraRule extended footer rule → IsExtraRule (is_extended (part_of bytes)) (footer_of bytes) rule
 rule_of_file bytes p footer extended rule same extended_same footer_same is =
     subst (λ (f : Option (List ℕ)). IsExtraRule (is_extended (part_of bytes)) f rule) footer_same

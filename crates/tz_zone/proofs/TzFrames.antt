@@ -17,7 +17,7 @@ pub footer_of_first : (bytes : List ℕ) → IsFirstVersion bytes → footer_of 
 unfolding footer_of
 footer_of_first bytes version = cond-true (eqb (slice_index bytes 4) 0) None (Some (behind w64 (behind w32 bytes))) (eq-eqb (slice_index bytes 4) 0 version)
 
--- in later versions the second one, and what stands behind it
+-- in later versions the second one, and what stands after it
 pub part_of_later : (bytes : List ℕ) → ¬ IsFirstVersion bytes → part_of bytes ≡ part_with w64 (behind w32 bytes)
 unfolding part_of
 part_of_later bytes version = cond-false (eqb (slice_index bytes 4) 0) (part_with w32 bytes) (part_with w64 (behind w32 bytes)) (ne_eqb (slice_index bytes 4) 0 version)

@@ -7,7 +7,7 @@ use Rattle.tz_zone.specs.declared.clock.change.Change.{Change as KeptChange}
 use Rattle.tz_zone.specs.declared.timezone.changes_after.ChangesAfter.{ChangesAfter}
 use Rattle.tz_zone.specs.declared.timezone.changes_before.ChangesBefore.{ChangesBefore}
 
--- what contracts see of changes one after the other: the zone, and the instant behind or before which the next one is looked for
+-- what contracts see of changes one after the other: the zone, and the instant after or before which the next one is looked for
 pub record Place : Type 0 where
   pub zone : Zone
   pub unix_time : ℤ

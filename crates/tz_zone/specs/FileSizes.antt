@@ -8,7 +8,7 @@ abbrev pub footer_length : Option (List ℕ) → ℕ
 footer_length None = 0
 footer_length (Some footer) = length footer
 
--- the sizes are those of the unit that is read, and of the footer behind it
+-- the sizes are those of the unit that is read, and of the footer after it
 pub record AreSizesOf (bytes : List ℕ) (sizes : FileSizes) : Type 0 where
   pub transitions_are : sizes.transitions ≡ (part_of bytes).counts.transition
   pub types_are : sizes.local_time_types ≡ (part_of bytes).counts.local_type

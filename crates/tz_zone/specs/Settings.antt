@@ -87,7 +87,7 @@ OpensOrReads text (Err (Failed fault)) answer = IsTextAnswer text answer
 abbrev pub IsLocalAnswer : (List ℕ → Read → Type 0) → Answer → Type 0
 IsLocalAnswer reads answer = (found : Read) × reads local_time_file found × Opens found answer
 
--- the answer for a name behind a colon
+-- the answer for a name after a colon
 abbrev pub IsNamedAnswer : (List ℕ → Read → Type 0) → List (List ℕ) → List ℕ → Answer → Type 0
 IsNamedAnswer reads directories name answer = (found : Read) × Finds reads directories name found × Opens found answer
 
@@ -103,6 +103,6 @@ IsSettingsAnswer reads directories text answer =
     ⊎ ((name : List ℕ) × (text ≡ colon ∷ name) × IsNamedAnswer reads directories name answer)
     ⊎ ((text ≢ []) × (text ≢ local_time) × ¬ Begins colon text × IsNamedOrTextAnswer reads directories text answer)
 
--- the texts behind references
+-- the texts that are referred to
 abbrev pub texts_of : List (Bor (List ℕ)) → List (List ℕ)
 texts_of texts = map (λ text. text.now) texts

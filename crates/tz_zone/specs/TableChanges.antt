@@ -7,7 +7,7 @@ use Rattle.tz_zone.specs.Table.{LeapSecond, Zone}
 use Rattle.tz_zone.specs.LeapTime.{IsBeforeStart}
 use Rattle.tz_zone.specs.ClockSegments.{IsReachedAt, TakesEffectAt}
 
--- all transitions are reached at an instant, so that the rule tells the type
+-- all transitions are reached at an instant, so that the rule determines the type
 abbrev pub IsAfterTransitions : Zone → ℤ → Type 0
 IsAfterTransitions z u = (z.transitions ≡ []) ⊎ IsReachedAt z u (length z.transitions)
 

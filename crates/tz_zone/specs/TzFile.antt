@@ -78,7 +78,7 @@ pub record IsHeader (bytes : List ℕ) : Type 0 where
   pub version : IsVersion (slice_index bytes 4)
   pub counts : AreCounts (counts_of bytes)
 
--- where the parts of the block begin behind their header, and where the block ends, if times have this width (section 3.2)
+-- where the parts of the block begin after their header, and where the block ends, if times have this width (section 3.2)
 abbrev pub indexes_at : Width → Counts → ℕ
 indexes_at w n = header_len + n.transition * byte_len w
 
@@ -110,7 +110,7 @@ pub record Block : Type 0 where
   pub std_walls : List ℕ
   pub ut_locals : List ℕ
 
--- those of the block behind the header at the front
+-- those of the block after the header at the front
 unfoldable pub block_with : Width → Counts → List ℕ → Block
 block_with w n bytes = record {
   times = slice_range bytes header_len (indexes_at w n);
@@ -127,7 +127,7 @@ pub record IsUnit (w : Width) (bytes : List ℕ) : Type 0 where
   pub header : IsHeader bytes
   pub whole : end_at w (counts_of bytes) ≤ length bytes
 
--- the bytes behind them
+-- the bytes after them
 unfoldable pub behind : Width → List ℕ → List ℕ
 behind w bytes = drop (end_at w (counts_of bytes)) bytes
 
@@ -191,7 +191,7 @@ pub record IsContent (block : Block) (count : ℕ) : Type 0 where
   pub types : (i : ℕ) → i < count → IsTypeRecord block i
   pub indicators : (i : ℕ) → i < count → HasIndicators block i
 
--- the unit whose content is read, and what lies behind it
+-- the unit whose content is read, and what lies after it
 pub record Part : Type 0 where
   pub width : Width
   pub version : ℕ
@@ -212,7 +212,7 @@ part_with w bytes = record {
 abbrev pub IsFirstVersion : List ℕ → Type 0
 IsFirstVersion bytes = slice_index bytes 4 ≡ version_1
 
--- headers and blocks: nothing stands behind the first unit in version 1, and a second unit in later ones
+-- headers and blocks: nothing stands after the first unit in version 1, and a second unit in later ones
 pub record IsFramed (bytes : List ℕ) : Type 0 where
   pub first : IsUnit w32 bytes
   pub nothing_behind : IsFirstVersion bytes → behind w32 bytes ≡ []
@@ -222,7 +222,7 @@ pub record IsFramed (bytes : List ℕ) : Type 0 where
 unfoldable pub part_of : List ℕ → Part
 part_of bytes = if slice_index bytes 4 == version_1 then part_with w32 bytes else part_with w64 (behind w32 bytes)
 
--- what stands behind the second one is the footer (section 3.3)
+-- what stands after the second one is the footer (section 3.3)
 unfoldable pub footer_of : List ℕ → Option (List ℕ)
 footer_of bytes = if slice_index bytes 4 == version_1 then None else Some (behind w64 (behind w32 bytes))
 
@@ -251,7 +251,7 @@ abbrev pub IsTextRule : Bool → List ℕ → Option TransitionRule → Type 0
 IsTextRule extended text None = text ≡ []
 IsTextRule extended text (Some rule) = (text ≢ []) × IsTzText extended text rule
 
--- the rule behind the tables: none in version 1
+-- the rule after the tables: none in version 1
 abbrev pub IsExtraRule : Bool → Option (List ℕ) → Option TransitionRule → Type 0
 IsExtraRule extended None rule = rule ≡ None
 IsExtraRule extended (Some footer) rule = IsFooter footer × IsTextRule extended (trimmed footer) rule

@@ -58,7 +58,7 @@ FooterFails footer (Utf8 _) = ¬ IsUtf8 footer
 FooterFails footer InvalidFooter = ¬ (IsBetweenLineFeeds footer × MayBeText (trimmed footer))
 FooterFails _ _ = ⊥
 
--- of the rule behind the tables
+-- of the rule after the tables
 abbrev pub ExtraRuleFails : Bool → Option (List ℕ) → TzError → Type 0
 ExtraRuleFails extended None e = ⊥
 ExtraRuleFails extended (Some footer) e =

@@ -25,7 +25,7 @@ counts_view n = record {
   char = n.char;
 }
 
--- the bytes behind the slices
+-- the bytes after the slices
 abbrev pub block_view : BlockSlices → Block
 block_view b = record {
   times = b.times.now;

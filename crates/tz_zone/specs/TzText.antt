@@ -1,5 +1,5 @@
 -- The grammar of TZ strings, and the rules that they denote. (POSIX.1-2017, Base Definitions, 8.3: the TZ variable. RFC 8536, section 3.3.1: extended day times.)
--- A part of the grammar is a relation of a text, of what is read at its front, and of the bytes behind.
+-- A part of the grammar is a relation of a text, of what is read at its front, and of the bytes after.
 -- Runs are the longest ones, and the reading asks for no range.
 use Rattle.std.specs.Prelude.{◌≡◌, ◌≢◌, ℕ, ◌+◌, ◌*◌, ◌≤◌, ◌==◌, Bool, true, false, not, ◌⊎◌, ℤ, pos, neg_ℤ, ◌+ℤ◌, List, [], ◌∷◌, ◌++◌, take_while, Option, Some, None, IfSome, if◌then◌else◌}
 use Rattle.std.specs.Char.{is_ascii_digit, is_ascii_alphabetic}

@@ -19,7 +19,7 @@ use Rattle.tz_zone.specs.Bytes.{capital_j, capital_m, colon, comma, dot, opening
 use Rattle.tz_zone.specs.declared.parse.tz_string.time.WrittenTime.{WrittenTime}
 use Rattle.tz_zone.specs.TzText.{Begins, IsRun, IsNumber, is_in_brackets, IsName, IsPart, IsSign, IsSignedTime, IsDayTimeSign, IsDay, IsRuleText, IsDaylightOffset, AlternateText, IsAlternateText, IsAlternateInRange, offset_hours, day_time_hours, rule_of}
 
--- something is read at the front, and this holds of it and of the bytes behind
+-- something is read at the front, and this holds of it and of the bytes after
 abbrev pub Reached : {A : Type 0} → (List ℕ → A → List ℕ → Type 0) → List ℕ → (A → List ℕ → Type 0) → Type 0
 Reached {A} reads text holds = (x : A) × (rest : List ℕ) × reads text x rest × holds x rest
 
@@ -54,7 +54,7 @@ IsNumberFault limit named text e =
     (IsParseInt e × HasNoNumber 31 text)
     ⊎ ((e ≡ named) × Reached IsNumber text (λ n rest. limit < n))
 
--- the same of minutes or seconds behind a colon
+-- the same of minutes or seconds after a colon
 abbrev pub IsPartFault : TzStringError → List ℕ → TzStringError → Type 0
 IsPartFault named text e = (number : List ℕ) × (text ≡ colon ∷ number) × IsNumberFault 59 named number e
 
@@ -105,13 +105,13 @@ IsDayFault text e =
     ⊎ ((number : List ℕ) × (text ≡ capital_j ∷ number) × IsDayNumberFault 16 IsJulianDay InvalidRuleDayJulianDay number e)
     ⊎ ((month : List ℕ) × (text ≡ capital_m ∷ month) × IsMonthWeekDayFault month e)
 
--- a day, or the time behind a slash
+-- a day, or the time after a slash
 abbrev pub IsRuleTextFault : Bool → List ℕ → TzError → Type 0
 IsRuleTextFault extended text e =
     IsDayFault text e
     ⊎ Reached IsDay text (λ day after_day. (time : List ℕ) × (after_day ≡ slash ∷ time) × InText e (IsDayTimeFault extended time))
 
--- the last rule, and nothing behind it
+-- the last rule, and nothing after it
 abbrev pub IsLastRuleFault : Bool → List ℕ → TzError → Type 0
 IsLastRuleFault extended text e =
     IsRuleTextFault extended text e

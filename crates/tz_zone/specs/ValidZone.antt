@@ -43,7 +43,7 @@ MayBeFirst l = (pos 0 ≤ℤ l.unix_leap_time) × FitsSigned w32 l.correction
 abbrev pub MayFollow : LeapSecond → LeapSecond → Type 0
 MayFollow l next = ((l.unix_leap_time +ℤ pos 2419199) ≤ℤ next.unix_leap_time) × IsOneSecond (next.correction -ℤ l.correction)
 
--- the record behind place i is the table's expiry: the last one, with the correction before it
+-- the record after place i is the table's expiry: the last one, with the correction before it
 abbrev pub IsExpiry : List LeapSecond → ℕ → LeapSecond → LeapSecond → Type 0
 IsExpiry leaps i l next = (i + 2 ≡ length leaps) × (next.correction ≡ l.correction)
 
@@ -57,7 +57,7 @@ ExpiresAt leaps time =
 abbrev pub IsPlainTable : List LeapSecond → Type 0
 IsPlainTable leaps = ((l : LeapSecond) → ¬ IsStart leaps l) × ((time : ℤ) → ¬ ExpiresAt leaps time)
 
--- the record behind place i comes later and, but for an expiry, is a leap second that may follow
+-- the record after place i comes later and, but for an expiry, is a leap second that may follow
 abbrev pub Follows : List LeapSecond → ℕ → LeapSecond → LeapSecond → Type 0
 Follows leaps i l next = (l.unix_leap_time <ℤ next.unix_leap_time) × (¬ IsExpiry leaps i l next → MayFollow l next)
 

@@ -147,7 +147,7 @@ fn first_not_reached(leap_seconds: &[LeapSecond], from: usize, unix_time: i64) -
     place
 }
 
-/// The place behind the last leap second before another place that is reached, or 0.
+/// The place after the last leap second before another place that is reached, or 0.
 fn after_last_reached(leap_seconds: &[LeapSecond], until: usize, unix_time: i64) -> usize
     requires within { until ≤ length leap_seconds.now }
     requires ahead { until < length leap_seconds.now → ¬ ((l : LeapSecond) × IsReached leap_seconds.now until l unix_time) }

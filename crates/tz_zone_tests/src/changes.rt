@@ -36,7 +36,7 @@ fn daylight_all_year() -> Result<TransitionRule, TzError> {
     )?))
 }
 
-/// What a change tells.
+/// The parts of a change.
 fn row_of(change: Option<Change<'_>>) -> Option<Row> {
     let change = change?;
     Some((
@@ -64,7 +64,7 @@ fn expect_changes(rt: &impl Abort, zone: &TimeZoneRef<'_>, low: i64, high: i64, 
     }
 }
 
-/// There is no change up to an instant, and none behind another, however often they are asked for.
+/// There is no change up to an instant, and none after another, however often they are asked for.
 fn expect_no_others(rt: &impl Abort, zone: &TimeZoneRef<'_>, first: i64, last: i64) {
     expect_eq(rt, &row_of(zone.preceding(first)), &None);
     expect_eq(rt, &row_of(zone.following(last)), &None);

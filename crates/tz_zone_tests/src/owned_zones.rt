@@ -98,7 +98,7 @@ fn the_current_type_is_that_of_the_moment_given(rt: HostRuntime) -> Result<(), F
     Ok(())
 }
 
-/// What the zone of the two transitions prints behind the name of its type.
+/// What the zone of the two transitions prints after the name of its type.
 const PARTS: &str = "{ transitions: [Transition { unix_leap_time: 0, local_time_type_index: 1 }, \
     Transition { unix_leap_time: 7200, local_time_type_index: 0 }], \
     local_time_types: [LocalTimeType { ut_offset: 0, is_dst: false, time_zone_designation: None }, \

@@ -140,7 +140,7 @@ fn memory_is_refused(rt: HostRuntime) -> Result<(), Fail> {
     expect_memory(&rt, rt.alloc(), &utc_v1_leap(rt.alloc())?)
 }
 
-/// One type of two hours east in both blocks, a transition in the second one, and a footer behind it.
+/// One type of two hours east in both blocks, a transition in the second one, and a footer after it.
 fn with_footer(alloc: Global, version: u8, footer: &[u8]) -> Result<Vec<u8>, AllocError> {
     let mut bytes = Vec::new(alloc);
     push_header(&mut bytes, b'3', &[0, 0, 0, 0, 1, 4])?;

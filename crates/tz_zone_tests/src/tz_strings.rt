@@ -408,7 +408,7 @@ fn parts_of(row: &str) -> Result<(&str, &str), Fail> {
     Ok(row.split_once(" | ").ok_or("no ` | ` in a row")?)
 }
 
-/// The text of each line denotes the rule behind ` | `.
+/// The text of each line denotes the rule after ` | `.
 fn expect_rules(rt: &impl Abort, alloc: Global, rows: &str, extended: bool) -> Result<(), Fail> {
     for row in rows.lines() {
         let (text, expected) = parts_of(row)?;

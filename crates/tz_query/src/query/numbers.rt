@@ -124,7 +124,7 @@ pub fn read_usual_number(bytes: &[u8], place: usize) -> Option<(i64, usize)>
     Some((size as i64, end))
 }
 
-/// Copies the number of up to nine digits after a space at a place, with zeros in front of it, and returns the index after it. Nine digits
+/// Copies the number of up to nine digits after a space at a place, with zeros before it, and returns the index after it. Nine digits
 /// are taken where LF follows.
 #[inline(always)]
 pub fn read_nanoseconds(bytes: &[u8], place: usize, nine: &mut [u8; 9]) -> Option<usize>

@@ -27,7 +27,7 @@ impl<'a, A: Allocator + Copy> Answers<'a, A> {
     ghost use Rattle.tz_query.specs.Outputs.{Adds, IsAnswered, IsSound};
     ghost use Rattle.tz_query.specs.declared.query.lines.Query.TheVariants.{Search};
 
-    /// Writes the line of fields that a type shows, behind what stands before it.
+    /// Writes the line of fields that a type shows, after what stands before it.
     #[inline(always)]
     pub fn push_shown(
         &mut self,
@@ -48,7 +48,7 @@ impl<'a, A: Allocator + Copy> Answers<'a, A> {
         Ok(())
     }
 
-    /// Writes the line of a jump, behind what stands before it: what is shown before the jump, and after it.
+    /// Writes the line of a jump, after what stands before it: what is shown before the jump, and after it.
     #[inline(always)]
     pub fn push_skipped(
         &mut self,

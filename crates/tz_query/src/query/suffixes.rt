@@ -1,4 +1,4 @@
-//! Suffixes of printed lines. A line of an answer has the same text behind its nanoseconds for all date times of a local time type. So that text is
+//! Suffixes of printed lines. A line of an answer has the same text after its nanoseconds for all date times of a local time type. So that text is
 //! made once for each type, and copied onto each line.
 
 ghost use Rattle.std.specs.Prelude.{◌≡◌, ◌+◌, ◌<◌, ◌≤◌, ◌++◌, length, take};
@@ -10,7 +10,7 @@ use tz::inner::TextBuffer;
 /// How many suffixes are kept. More types share these indices.
 const COUNT: usize = 16;
 
-/// What a line has behind its nanoseconds if a local time type shows the date time: the offset, a space, the type's name and LF.
+/// What a line has after its nanoseconds if a local time type shows the date time: the offset, a space, the type's name and LF.
 #[derive(Clone, Copy)]
 pub struct Suffix {
     bytes: [u8; 32],

@@ -155,7 +155,7 @@ impl AlternateClock {
         }
     }
 
-    /// The segment around an instant, where the rule's turns lie so that the likely year always tells it.
+    /// The segment around an instant, where the rule's turns lie so that the likely year always determines it.
     #[inline(always)]
     fn inner_segment(&self, unix_time: i64) -> Option<AlternateSegment>
         ensures of { IfSome result (λ segment. IsWholeSegment self.now segment) }
@@ -168,7 +168,7 @@ impl AlternateClock {
         Some(self.segment_of_years(unix_time, years))
     }
 
-    /// The segment around an instant, where the likely year tells it.
+    /// The segment around an instant, where the likely year determines it.
     #[inline(always)]
     fn likely_segment(&self, unix_time: i64) -> Option<AlternateSegment>
         ensures of { IfSome result (λ segment. IsWholeSegment self.now segment) }

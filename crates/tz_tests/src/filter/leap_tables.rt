@@ -41,7 +41,7 @@ fn entries_around(
     Ok(entries)
 }
 
-/// Transitions before, at and behind the start, at leap times counted from it, and at the ends of 64 bits.
+/// Transitions before, at and after the start, at leap times counted from it, and at the ends of 64 bits.
 static TRANSITIONS: [&[(i64, usize)]; 9] = [
     &[],
     &[(-1, 1)],

@@ -5,7 +5,7 @@ use super::*;
 /// The leap time at which the tables of these tests begin.
 const START: i64 = utc!(2017-01-01 00:00:00) + 26;
 
-/// The last second before the table begins is not found, and a jump behind it is.
+/// The last second before the table begins is not found, and a jump after it is.
 #[test]
 fn a_table_from_2016(rt: HostRuntime) -> Result<(), Fail> {
     static ZONE: ZoneRow = ZoneRow {

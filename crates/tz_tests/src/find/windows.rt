@@ -360,7 +360,7 @@ fn a_jump_each_second(rt: HostRuntime) -> Result<(), Fail> {
     Ok(())
 }
 
-/// The leap-second table begins in the window, and behind its start jumps lie ten minutes apart.
+/// The leap-second table begins in the window, and after its start jumps lie ten minutes apart.
 #[test]
 fn jumps_behind_the_start_of_a_table(rt: HostRuntime) -> Result<(), Fail> {
     static ZONE: ZoneRow = ZoneRow {

@@ -39,7 +39,7 @@ pub(super) fn cursor_at<V: Transitions>(view: &mut V, place: usize) -> Cursor
     }
 }
 
-/// The cursor behind the transition at a place.
+/// The cursor after the transition at a place.
 fn cursor_behind<V: Transitions>(view: &mut V, place: usize, change: Transition) -> Cursor
     requires { slice_get (V.list view.old) place ≡ Some change }
     ensures same { V.list view.new ≡ V.list view.old }

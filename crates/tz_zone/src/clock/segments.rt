@@ -184,7 +184,7 @@ pub fn clock_segment_at<'a, V: Transitions>(
     clock_segment_from(view, parts, place, unix_time)
 }
 
-/// The segment around an instant right behind one at which a cursor stands.
+/// The segment around an instant right after one at which a cursor stands.
 fn segment_behind<'a, V: Transitions>(
     view: &mut V,
     parts: OtherParts<'a>,

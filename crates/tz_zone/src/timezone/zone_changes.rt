@@ -71,7 +71,7 @@ impl<'a> TimeZoneRef<'a> {
         Some(change)
     }
 
-    /// The first change after an instant, and a place among the transitions that is likely to be the one behind it.
+    /// The first change after an instant, and a place among the transitions that is likely to be the one after it.
     #[inline(always)]
     pub(crate) fn following_from(
         &self,
@@ -104,7 +104,7 @@ impl<'a> TimeZoneRef<'a> {
         Some(change)
     }
 
-    /// The last change before an instant, and a place among the transitions that is likely to be the one in front of it.
+    /// The last change before an instant, and a place among the transitions that is likely to be the one before it.
     #[inline(always)]
     pub(crate) fn preceding_from(
         &self,

@@ -1,4 +1,4 @@
-//! The block behind a header. (RFC 8536, section 3.2)
+//! The block after a header. (RFC 8536, section 3.2)
 
 ghost use Rattle.std.specs.Prelude.{◌≡◌, ◌≤◌, length, IfOk, OnOk, IfErr};
 ghost use Rattle.tz_zone.specs.TzFile.{indexes_at, types_at, names_at, leaps_at, std_walls_at, ut_locals_at, end_at, block_with, part_with, IsUnit};
@@ -9,7 +9,7 @@ use super::header::{Counts, HEADER_LEN, read_header};
 use super::number::TimeSize;
 use tz_base::error::parse::{ParseDataError, TzFileError};
 
-/// Where the parts of a block begin behind their header, and where it ends.
+/// Where the parts of a block begin after their header, and where it ends.
 #[derive(Clone, Copy)]
 struct Layout {
     indexes: usize,
@@ -65,7 +65,7 @@ pub(super) struct Block<'a> {
     pub(super) ut_locals: &'a [u8],
 }
 
-/// A header's counts, its block, and the bytes behind it.
+/// A header's counts, its block, and the bytes after it.
 #[derive(Clone, Copy)]
 pub(crate) struct Part<'a> {
     pub(super) size: TimeSize,
@@ -75,7 +75,7 @@ pub(crate) struct Part<'a> {
     pub(super) behind: &'a [u8],
 }
 
-/// Cuts the block behind the header into its parts.
+/// Cuts the block after the header into its parts.
 #[inline(always)]
 #[tactic(auto, unfolding(crate::specs::TzFile::block_with))]
 fn cut_block(size: TimeSize, counts: Counts, bytes: &[u8]) -> Block<'_>

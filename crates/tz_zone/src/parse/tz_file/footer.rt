@@ -1,4 +1,4 @@
-//! The footer behind the second block: a TZ string between two line feeds. (RFC 8536, section 3.3)
+//! The footer after the second block: a TZ string between two line feeds. (RFC 8536, section 3.3)
 
 ghost use Rattle.std.specs.Prelude.{◌≡◌, ◌≢◌, ◌-◌, [], Some, Contains, length, option_copied, slice_get, IfOk, IfErr, OnOk, MatchBool};
 ghost use Rattle.tz_zone.specs.TzFile.{trimmed, IsBetweenLineFeeds, MayBeText, IsFooter, IsExtraRule};

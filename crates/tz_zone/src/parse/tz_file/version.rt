@@ -16,7 +16,7 @@ pub(super) fn is_version(byte: u8) -> bool
 }
 
 impl Part<'_> {
-    /// Whether a TZ string behind the block is an extended one. (RFC 8536, section 3.3.1)
+    /// Whether a TZ string after the block is an extended one. (RFC 8536, section 3.3.1)
     pub(crate) fn is_extended(&self) -> bool
         ensures { result ≡ is_extended (part_view self.now) }
     {

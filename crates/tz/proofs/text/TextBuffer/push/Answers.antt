@@ -1,4 +1,4 @@
--- A text with an ASCII byte behind it is a text.
+-- A text with an ASCII byte after it is a text.
 use Rattle.std.proofs.Common.{◌<◌, [], ◌∷◌, length, rules}
 use Rattle.std.proofs.lemmas.List.{take_more_set}
 use Rattle.std.proofs.lemmas.Str.{IsUtf8-had, IsUtf8-append, IsUtf8-from_ascii}

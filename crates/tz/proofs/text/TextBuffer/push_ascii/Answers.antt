@@ -1,4 +1,4 @@
--- A text with ASCII bytes behind it is a text.
+-- A text with ASCII bytes after it is a text.
 use Rattle.std.proofs.Common.{◌≡◌, ◌+◌, ◌≤◌, ◌++◌, ◌∙◌, ap, length, List, ℕ, arith, rules}
 use Rattle.std.proofs.lemmas.List.{length-append}
 use Rattle.std.proofs.lemmas.Slice.{take-put_mid}

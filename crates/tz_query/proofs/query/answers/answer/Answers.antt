@@ -1,4 +1,4 @@
--- Each line's answer stands behind those before it, and in the end no line is left.
+-- Each line's answer stands after those before it, and in the end no line is left.
 use Rattle.std.proofs.Common.{◌≡◌, ◌++◌, ◌<◌, [], length, sym, ap, ◌∙◌, subst, rules, append_assoc, append-nil}
 use Rattle.tz_zone.specs.ZoneRef.{zone_of}
 use Rattle.tz_query.specs.Lines.{ended}

@@ -1,4 +1,4 @@
--- What answers the rest, behind what was written, answers all.
+-- What answers the rest, after what was written, answers all.
 use Rattle.std.proofs.Common.{ℕ, List, ◌++◌, length}
 use Rattle.tz_zone.specs.ZoneRef.{zone_of}
 use Rattle.tz_query.specs.Answers.{AreAnswers}

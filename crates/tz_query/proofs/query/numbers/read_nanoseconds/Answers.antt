@@ -1,4 +1,4 @@
--- The digits are copied, behind zeros where they are fewer than nine.
+-- The digits are copied, after zeros where they are fewer than nine.
 use Rattle.std.proofs.Common.{◌≡◌, ◌+◌, ◌-◌, ◌<◌, ◌≤◌, ◌++◌, replicate, length, drop, set, refl, ap, ◌∙◌, arith, rules}
 use Rattle.std.specs.Prelude.{slice_range}
 use Rattle.std.specs.Str.Parse.{digits_value}

@@ -1,4 +1,4 @@
--- Behind an instant that has no leap time, and is not before a truncated start, none has one.
+-- After an instant that has no leap time, and is not before a truncated start, none has one.
 use Rattle.std.proofs.Common.{◌≡◌, arith, pos, ◌+ℤ◌, ◌-ℤ◌, rules}
 use Rattle.std.proofs.lemmas.Int.{ints, by_lt_z, to_z-of_z}
 use mir.Syntax.{w64}

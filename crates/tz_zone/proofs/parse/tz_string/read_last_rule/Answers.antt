@@ -1,4 +1,4 @@
--- A rule with nothing behind it is the last one; else what is left is the fault.
+-- A rule with nothing after it is the last one; else what is left is the fault.
 use Rattle.std.proofs.Common.{ℕ, List, refl, subst, inl, inr}
 use Rattle.tz_zone.specs.TzText.{IsRuleText}
 use Rattle.tz_zone.proofs.TextEnds.{is_over, goes_on}

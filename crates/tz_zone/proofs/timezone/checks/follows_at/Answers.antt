@@ -1,4 +1,4 @@
--- What is tested of the record and the one behind it.
+-- What is tested of the record and the one after it.
 use Rattle.std.proofs.Common.{◌+◌, arith, rules}
 use Rattle.std.proofs.lemmas.Int.{ints}
 use Rattle.std.proofs.lemmas.Option.{slice_get_within}

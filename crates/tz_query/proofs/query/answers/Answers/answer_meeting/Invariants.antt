@@ -1,4 +1,4 @@
--- The weeks so far have their answers behind the line with their number.
+-- The weeks so far have their answers after the line with their number.
 use Rattle.std.proofs.Common.{◌≡◌, ℕ, List, length}
 use Rattle.std.specs.List.{flat_map}
 use Rattle.tz_zone.specs.ZoneRef.{zone_of}

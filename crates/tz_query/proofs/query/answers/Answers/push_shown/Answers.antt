@@ -1,4 +1,4 @@
--- The line stands behind what comes before it.
+-- The line stands after what comes before it.
 use Rattle.std.proofs.Common.{◌++◌, ◌∷◌, [], refl, sym, ap, ◌∙◌, append_assoc}
 use Rattle.tz.specs.DateTimes.{moment_of}
 use Rattle.tz.specs.PrintedText.{moment_text}

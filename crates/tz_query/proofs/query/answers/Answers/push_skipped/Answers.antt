@@ -1,4 +1,4 @@
--- The second date time stands in the place of the LF behind the first.
+-- The second date time stands in the place of the LF after the first.
 use Rattle.std.proofs.Common.{◌≡◌, ℕ, List, ◌++◌, ◌∷◌, [], refl, sym, ap, ◌∙◌, append_assoc, arith}
 use Rattle.tz.specs.DateTimes.{moment_of}
 use Rattle.tz.specs.PrintedText.{moment_text}

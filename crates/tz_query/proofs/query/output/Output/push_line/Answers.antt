@@ -1,4 +1,4 @@
--- The two pieces and LF stand behind what was written.
+-- The two pieces and LF stand after what was written.
 use Rattle.std.proofs.Common.{[], ◌∷◌, ◌++◌, sym, ap, ◌∙◌, append_assoc}
 use Rattle.tz_query.proofs.query.output.Output.push_line.Goals as goal
 

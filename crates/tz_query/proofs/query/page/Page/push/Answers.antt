@@ -1,4 +1,4 @@
--- The bytes stand behind what was there.
+-- The bytes stand after what was there.
 use Rattle.std.proofs.Common.{◌≡◌, ◌+◌, ◌≤◌, ◌++◌, ◌∙◌, ap, length, List, ℕ, arith, rules}
 use Rattle.std.proofs.lemmas.List.{length-append}
 use Rattle.std.proofs.lemmas.Slice.{take-put_mid}

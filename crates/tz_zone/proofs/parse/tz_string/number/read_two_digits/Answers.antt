@@ -1,4 +1,4 @@
--- Two digits with none behind are a number.
+-- Two digits with none after are a number.
 use Rattle.tz_zone.proofs.TextNumbers.{two_digits}
 use Rattle.tz_zone.proofs.parse.tz_string.number.read_two_digits.Goals as goal
 
