@@ -6,6 +6,8 @@ mod changes;
 #[cfg(test)]
 mod clocks;
 #[cfg(test)]
+mod converter;
+#[cfg(test)]
 mod expect;
 #[cfg(test)]
 mod meetings;

@@ -6,6 +6,7 @@ use crate::changes::{
 use crate::clocks::{
     moon_landing, morning_in_tokyo, new_year_an_hour_behind, print_instant, show_now,
 };
+use crate::converter::{convert, utc_of};
 use crate::expect::expect_eq;
 use crate::meetings::{
     alarm, count_meanings, next_daily_run, next_monday_at_nine, noon, plain_instant,
@@ -14,12 +15,13 @@ use crate::meetings::{
 use crate::queries::answer_lines;
 use crate::zones::{
     local_time, local_zone, moved_ahead_in_2000, new_york_rule, rule_text, summer_time,
-    zone_of_rule, zone_of_setting,
+    zone_of_name, zone_of_rule, zone_of_setting,
 };
 use std::alloc::{AllocError, Global};
 use std::fmt::Display;
 use std::process::Abort;
 use std::test::Fail;
+use tz::datetime::Disambiguation;
 use tz::{Error, TimeZoneRef, TzError, UtcDateTime};
 use tz_samples::files::JERUSALEM_V3;
 use tz_samples::utc;
@@ -389,4 +391,86 @@ fn earlier_changes_are_found(rt: HostRuntime) -> Result<(), Fail> {
     expect_eq(&rt, &last_set_forward(zone, WINTER), &Some(SPRING_2000));
     expect_eq(&rt, &since_last_change(TimeZoneRef::utc(), WINTER), &None);
     Ok(())
+}
+
+/// The text by a choice, in UTC or with what is wrong.
+fn expect_converted(
+    rt: &impl Abort,
+    alloc: Global,
+    zone: TimeZoneRef<'_>,
+    row: &(&str, Disambiguation, &str),
+) -> Result<(), AllocError> {
+    let (text, choice, expected) = *row;
+    match utc_of(text, zone, choice) {
+        Ok(utc) => expect_shown(rt, alloc, &utc, expected),
+        Err(error) => expect_shown(rt, alloc, &error, expected),
+    }
+}
+
+#[test]
+fn local_times_are_converted(rt: HostRuntime) -> Result<(), Fail> {
+    // Clocks go forward from 2:00 to 3:00 on March 29th, and back from 3:00 to 2:00 on October 25th.
+    static ROWS: [(&str, Disambiguation, &str); 7] = [
+        (
+            "2026-03-29T02:30:00",
+            Disambiguation::Compatible,
+            "2026-03-29T01:30:00.000000000Z",
+        ),
+        (
+            "2026-03-29T02:30:00",
+            Disambiguation::Earlier,
+            "2026-03-29T00:30:00.000000000Z",
+        ),
+        (
+            "2026-03-29T02:30:00",
+            Disambiguation::Reject,
+            "clocks show this local time more than once, or never",
+        ),
+        (
+            "2026-10-25 02:30:00.5",
+            Disambiguation::Later,
+            "2026-10-25T01:30:00.500000000Z",
+        ),
+        (
+            "2026-10-25 02:30:00.5",
+            Disambiguation::Compatible,
+            "2026-10-25T00:30:00.500000000Z",
+        ),
+        (
+            "2026-07-01T12:00:00+05:30",
+            Disambiguation::Reject,
+            "2026-07-01T06:30:00.000000000Z",
+        ),
+        (
+            "2026-02-30T12:00:00",
+            Disambiguation::Reject,
+            "expected a day of the month at byte 8",
+        ),
+    ];
+    let zone = zone_of_setting(&rt, rt.alloc(), CENTRAL_EUROPE)?;
+    for row in &ROWS {
+        expect_converted(&rt, rt.alloc(), zone.as_ref(), row)?;
+    }
+    Ok(())
+}
+
+#[test]
+fn a_text_that_is_no_name_is_refused_by_it(rt: HostRuntime) -> Result<(), Fail> {
+    let alloc = rt.alloc();
+    match zone_of_name(&rt, alloc, "../Paris") {
+        Ok(_) => panic!(rt; "no name"),
+        Err(error) => expect_shown(&rt, alloc, &error, "not a time zone name: ../Paris")?,
+    }
+    Ok(())
+}
+
+#[test]
+fn each_line_is_converted_or_says_what_is_wrong(rt: HostRuntime) {
+    static LINES: &str = "2026-07-01T12:00:00\n2026-07-01T12:00:00 ../Paris\n";
+    static CONVERTED: &str = "2026-07-01T12:00:00: no zone is named\n\
+        2026-07-01T12:00:00 ../Paris: not a time zone name: ../Paris\n";
+    match convert(&rt, rt.alloc(), LINES, Disambiguation::Compatible) {
+        Ok(converted) => expect_eq(&rt, &converted.as_str(), &CONVERTED),
+        Err(error) => panic!(rt; "{error}"),
+    }
 }

@@ -12,6 +12,12 @@ pub fn local_zone<R: Files>(rt: &R, alloc: Global) -> Result<TimeZone, Error> {
     TimeZone::local(alloc, |path: &str| timezone::read_file(rt, alloc, path))
 }
 
+/// The zone of a name such as `Europe/Paris`. A misspelt one is refused by its name.
+pub fn zone_of_name<R: Files>(rt: &R, alloc: Global, name: &str) -> Result<TimeZone, Error> {
+    let reader = |path: &str| timezone::read_file_up_to(rt, alloc, 65_536, path);
+    TimeZone::named(alloc, reader, name)
+}
+
 /// The zone of a name such as `Europe/Paris`, or of a TZ string such as `CET-1CEST,M3.5.0,M10.5.0/3`.
 pub fn zone_of_setting<R: Files>(rt: &R, alloc: Global, setting: &str) -> Result<TimeZone, Error> {
     let reader = |path: &str| timezone::read_file(rt, alloc, path);
