@@ -148,3 +148,12 @@ some_held {X = X} o x P is h = subst (λ (p : Option X). IfSome p P) is h
 
 pub none_held : {X : Type 0} (o : Option X) (P : Type 0) (Q : X → Type 0) → o ≡ None → MatchOption o P Q → P
 none_held o P Q is h = subst (λ p. MatchOption p P Q) is h
+
+-- and of what is known of it by cases, more follows
+pub if_some_held : {X : Type 0} (o : Option X) (P : Type 0) (Q R : X → Type 0) → MatchOption o P Q → ((x : X) → Q x → R x) → IfSome o R
+if_some_held (Some x) P Q R is each = each x is
+if_some_held None P Q R is each = tt
+
+pub match_mapped : {X : Type 0} (o : Option X) (P P' : Type 0) (Q Q' : X → Type 0) → MatchOption o P Q → (P → P') → ((x : X) → Q x → Q' x) → MatchOption o P' Q'
+match_mapped (Some x) P P' Q Q' is on each = each x is
+match_mapped None P P' Q Q' is on each = on is

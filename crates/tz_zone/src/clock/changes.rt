@@ -3,13 +3,13 @@
 //! Up to the last transition a walk goes from place to place. It reads the types of transitions, and looks for the instant at which one takes
 //! effect only where its type is another than the one before. From the last one on the rule has the changes.
 
-ghost use Rattle.std.specs.Prelude.{◌≡◌, ◌≢◌, ℕ, ◌<◌, ◌≤◌, ℤ, pos, negsuc, ◌+ℤ◌, ◌≤ℤ◌, ◌<ℤ◌, [], length, slice_get, Some, MatchOption};
+ghost use Rattle.std.specs.Prelude.{◌≡◌, ◌≢◌, ℕ, ◌<◌, ◌≤◌, ℤ, pos, negsuc, ◌+ℤ◌, ◌≤ℤ◌, ◌<ℤ◌, [], length, slice_get, Some, IfSome, MatchOption};
 ghost use Rattle.tz_rule.specs.LocalTimeType.{LocalTimeType};
 ghost use Rattle.tz_zone.specs.Clock.{IsClock, HasNoType, IsLast, IsTypeOfLast, IsTypeAfter};
 ghost use Rattle.tz_zone.specs.ClockSegments.{IsReachedAt};
 ghost use Rattle.tz_zone.specs.Changes.{change_of, IsFollowing, IsPreceding, HasNoChange, HasNoFollowing, HasNoPreceding};
 ghost use Rattle.tz_zone.specs.LeapTime.{IsBeforeStart, IsLeapTimeRefused, IsTimeReached, IsMomentOf};
-ghost use Rattle.tz_zone.specs.Runs.{IsSeam, IsWalkedUp, IsWalkedDown, HasNoneAfterSeam};
+ghost use Rattle.tz_zone.specs.Runs.{IsSeam, LiesAt, IsWalkedUp, IsWalkedDown, HasNoneAfterSeam};
 ghost use Rattle.tz_zone.specs.Table.{Transition};
 ghost use Rattle.tz_zone.specs.ValidZone.{AreLeapSeconds, IsSoundTable};
 ghost use Rattle.tz_zone.specs.ZoneSeen.{zone_seen};
@@ -188,21 +188,43 @@ fn first_place(
     Some((first, place))
 }
 
-/// The first change of the clock after an instant, and the place after it.
-///
-/// A place at which the instant is likely to lie is tried first: a wrong one costs time and no more.
+/// The change at the next transition after an instant that lies at a place, if there are no leap seconds, that transition is to another type, and it is
+/// not the last one. Mostly it is so, and then nothing is walked.
 #[inline(always)]
-pub fn following<'a>(
+fn change_at_next<'a>(
     transitions: &[Transition],
     parts: OtherParts<'a>,
     unix_time: i64,
-    likely: Option<usize>,
+    place: usize,
+) -> Option<Change<'a>>
+    requires sound { IsSoundTable (zone_seen transitions.now parts) }
+    requires at { LiesAt (zone_seen transitions.now parts) unix_time place }
+    ensures { IfSome result (λ c. IsFollowing (zone_seen transitions.now parts.entry) unix_time (change_of c)) }
+{
+    if !parts.leap_seconds.is_empty() || transitions.len() <= place + 1 {
+        return None;
+    }
+    let next = transitions[place];
+    let before = type_before(&mut Uncounted::new(transitions), parts, place);
+    let after = type_of(parts, next);
+    change_at(next.unix_leap_time(), Some(before), Some(after))
+}
+
+/// The first change of the clock after an instant that lies at a place, and the place after it.
+#[inline(never)]
+fn following_from<'a>(
+    transitions: &[Transition],
+    parts: OtherParts<'a>,
+    unix_time: i64,
+    place: usize,
 ) -> Option<(Change<'a>, usize)>
-    requires { IsSoundTable (zone_seen transitions.now parts) }
+    requires sound { IsSoundTable (zone_seen transitions.now parts) }
+    requires at { LiesAt (zone_seen transitions.now parts) unix_time place }
     ensures { MatchOption result (HasNoFollowing (zone_seen transitions.now parts.entry) unix_time)
         (λ found. IsFollowing (zone_seen transitions.now parts.entry) unix_time (change_of found.0)) }
 {
-    let (mut since, mut place) = first_place(transitions, parts, unix_time, likely)?;
+    let mut since = unix_time;
+    let mut place = place;
     while place < transitions.len() {
         let before = type_before(&mut Uncounted::new(transitions), parts, place);
         let end = end_of_run(transitions, parts, place, before);
@@ -217,6 +239,27 @@ pub fn following<'a>(
     }
     let change = following_by_rule(parts, since)?;
     Some((change, place))
+}
+
+/// The first change of the clock after an instant, and the place after it.
+///
+/// A place at which the instant is likely to lie is tried first: a wrong one costs time and no more.
+#[inline(always)]
+pub fn following<'a>(
+    transitions: &[Transition],
+    parts: OtherParts<'a>,
+    unix_time: i64,
+    likely: Option<usize>,
+) -> Option<(Change<'a>, usize)>
+    requires { IsSoundTable (zone_seen transitions.now parts) }
+    ensures { MatchOption result (HasNoFollowing (zone_seen transitions.now parts.entry) unix_time)
+        (λ found. IsFollowing (zone_seen transitions.now parts.entry) unix_time (change_of found.0)) }
+{
+    let (since, place) = first_place(transitions, parts, unix_time, likely)?;
+    if let Some(change) = change_at_next(transitions, parts, since, place) {
+        return Some((change, place + 1));
+    }
+    following_from(transitions, parts, since, place)
 }
 
 /// The last instant before another one that has a leap time, and the place at which it lies. In a zone without transitions it is the one right before.
@@ -296,6 +339,68 @@ fn first_of_run(transitions: &[Transition], parts: OtherParts<'_>, place: usize)
     start_of_run(transitions, parts, place, local_time_type)
 }
 
+/// The change at the last transition up to an instant that lies at a place, if there are no leap seconds, that transition is from another type, and
+/// it is not the last one of all. Mostly it is so, and then nothing is walked.
+#[inline(always)]
+fn change_at_last<'a>(
+    transitions: &[Transition],
+    parts: OtherParts<'a>,
+    unix_time: i64,
+    place: usize,
+) -> Option<Change<'a>>
+    requires sound { IsSoundTable (zone_seen transitions.now parts) }
+    requires at { LiesAt (zone_seen transitions.now parts) unix_time place }
+    ensures change { IfSome result (λ c. IsPreceding (zone_seen transitions.now parts.entry) (unix_time +ℤ pos 1) (change_of c)) }
+    ensures place { IfSome result (λ c. 1 ≤ place) }
+{
+    if !parts.leap_seconds.is_empty() || place == 0 || transitions.len() <= place {
+        return None;
+    }
+    let last = transitions[place - 1];
+    let time = last.unix_leap_time();
+    if time == i64::MIN {
+        return None;
+    }
+    let before = type_before(&mut Uncounted::new(transitions), parts, place - 1);
+    let after = type_of(parts, last);
+    change_at(time, Some(before), Some(after))
+}
+
+/// The last change of the clock before an instant, and the place before it. From another one on, which lies at a place, there is none.
+#[inline(never)]
+fn preceding_from<'a>(
+    transitions: &[Transition],
+    parts: OtherParts<'a>,
+    unix_time: i64,
+    last: i64,
+    place: usize,
+) -> Option<(Change<'a>, usize)>
+    requires sound { IsSoundTable (zone_seen transitions.now parts) }
+    requires walked { IsWalkedDown (zone_seen transitions.now parts) unix_time last place }
+    ensures { MatchOption result (HasNoPreceding (zone_seen transitions.now parts.entry) unix_time)
+        (λ found. IsPreceding (zone_seen transitions.now parts.entry) unix_time (change_of found.0)) }
+{
+    if let Some(change) = preceding_after_table(transitions, parts, place, last) {
+        return Some((change, place));
+    }
+    let mut place = place;
+    while place > 0 {
+        let start = first_of_run(transitions, parts, place);
+        let effect = start_of(parts.leap_seconds, transitions[start - 1].unix_leap_time());
+        if effect == i64::MIN {
+            return None;
+        }
+        let earlier = place_of(transitions, parts, effect - 1, Some(start - 1))?;
+        let before = type_before(&mut Uncounted::new(transitions), parts, earlier);
+        let after = type_at(transitions, parts, start, effect);
+        if let Some(change) = change_at(effect, Some(before), after) {
+            return Some((change, earlier));
+        }
+        place = earlier;
+    }
+    None
+}
+
 /// The last change of the clock before an instant, and the place before it.
 ///
 /// A place at which the second before the instant is likely to lie is tried first: a wrong one costs time and no more.
@@ -313,23 +418,9 @@ pub fn preceding<'a>(
     if unix_time == i64::MIN {
         return None;
     }
-    let (last, mut place) = last_place(transitions, parts, unix_time, likely)?;
-    if let Some(change) = preceding_after_table(transitions, parts, place, last) {
-        return Some((change, place));
+    let (last, place) = last_place(transitions, parts, unix_time, likely)?;
+    if let Some(change) = change_at_last(transitions, parts, last, place) {
+        return Some((change, place - 1));
     }
-    while place > 0 {
-        let start = first_of_run(transitions, parts, place);
-        let effect = start_of(parts.leap_seconds, transitions[start - 1].unix_leap_time());
-        if effect == i64::MIN {
-            return None;
-        }
-        let earlier = place_of(transitions, parts, effect - 1, Some(start - 1))?;
-        let before = type_before(&mut Uncounted::new(transitions), parts, earlier);
-        let after = type_at(transitions, parts, start, effect);
-        if let Some(change) = change_at(effect, Some(before), after) {
-            return Some((change, earlier));
-        }
-        place = earlier;
-    }
-    None
+    preceding_from(transitions, parts, unix_time, last, place)
 }

@@ -2,7 +2,7 @@
 use Rattle.std.proofs.Common.{ℤ}
 use Rattle.tz_zone.specs.Runs.{IsWalkedDown, HasNoneAfterSeam}
 use Rattle.tz_zone.specs.ZoneSeen.{zone_seen}
-use Rattle.tz_zone.proofs.clock.changes.preceding.Given as goal
+use Rattle.tz_zone.proofs.clock.changes.preceding_from.Given as goal
 
 abbrev pub invariant-loop-place : goal.invariant-loop-place
 invariant-loop-place l = record {

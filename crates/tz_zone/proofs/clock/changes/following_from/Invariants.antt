@@ -2,7 +2,7 @@
 use Rattle.std.proofs.Common.{◌-◌, length}
 use Rattle.tz_zone.specs.Runs.{IsWalkedUp}
 use Rattle.tz_zone.specs.ZoneSeen.{zone_seen}
-use Rattle.tz_zone.proofs.clock.changes.following.Given as goal
+use Rattle.tz_zone.proofs.clock.changes.following_from.Given as goal
 
 abbrev pub invariant-loop-place : goal.invariant-loop-place
 invariant-loop-place l = IsWalkedUp (zone_seen l.transitions l.parts) l.unix_time l.since l.place
