@@ -77,8 +77,15 @@ def of_a_line(program, arguments, row):
     return round((counted[1] - counted[0]) / (many - few))
 
 
+def program_of(program, call):
+    """The program that makes a call: the one beside it, if there is one, for the calls that are apart."""
+    apart = f'{program}_apart'
+    return apart if call in rows.APART_CALLS and os.path.exists(apart) else program
+
+
 def of_calls(program, arguments, row):
     """The instructions of a row's call with its loop, how many calls were made, and the sum that it printed."""
+    program = program_of(program, row.call)
     few, many = (LONG_FEW, LONG_MANY) if row.is_long else (FEW, MANY)
     given = input_of(row.words)
     some = 2 if row.is_long else 20

@@ -40,6 +40,10 @@ GOALS = {
 APART = ('`DateTime::from_timespec`, fixed offset', '`DateTime::find_n`, fixed offset', '`TimeZoneRef::following`, rule without a change')
 
 
+# Calls that make a function which another call makes too, so that the compiler would keep it out of line for both: a program of its own makes them.
+APART_CALLS = ('meaning', 'kept_segment', 'parse')
+
+
 # Calls over whole columns, which the bindings alone have, and the call of tz whose answers those of each place are, if there is one.
 COLUMN_CALLS = {'column_offsets': None, 'column_date_times': 'from_timespec', 'column_instants': 'find_one'}
 
