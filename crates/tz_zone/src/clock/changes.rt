@@ -18,7 +18,7 @@ use super::after_table::after_table;
 use super::change::{Change, change_at};
 use super::near::{place_near, place_of};
 use super::place::{type_before, type_of};
-use super::rule_changes::{following_by_rule, last_by_rule, next_by_rule, preceding_by_rule};
+use super::rule_changes::{following_by_rule, preceding_by_rule};
 use crate::effect::{moment, start_of};
 use crate::leap_time::{first_instant, has_begun, last_instant_up_to, shifted};
 use crate::table::{LeapSecond, OtherParts, Transition, Uncounted};
@@ -259,11 +259,6 @@ pub fn following<'a>(
     if let Some(change) = change_at_next(transitions, parts, since, place) {
         return Some((change, place + 1));
     }
-    if place == transitions.len() {
-        if let Some(change) = next_by_rule(parts, since) {
-            return Some((change, place));
-        }
-    }
     following_from(transitions, parts, since, place)
 }
 
@@ -371,29 +366,6 @@ fn change_at_last<'a>(
     change_at(time, Some(before), Some(after))
 }
 
-/// The change of the rule where the segment around an instant begins that lies at a place, if it comes after all transitions.
-#[inline(always)]
-fn change_after_seam<'a>(
-    transitions: &[Transition],
-    parts: OtherParts<'a>,
-    place: usize,
-    last: i64,
-) -> Option<Change<'a>>
-    requires sound { IsSoundTable (zone_seen transitions.now parts) }
-    requires not_greatest { last <ℤ pos 9223372036854775807 }
-    requires at { LiesAt (zone_seen transitions.now parts) last place }
-    ensures { IfSome result (λ c. IsPreceding (zone_seen transitions.now parts.entry) (last +ℤ pos 1) (change_of c)) }
-{
-    if place < transitions.len() {
-        return None;
-    }
-    let change = last_by_rule(parts, last + 1)?;
-    if seam(transitions, parts.leap_seconds) >= change.unix_time() {
-        return None;
-    }
-    Some(change)
-}
-
 /// The last change of the clock before an instant, and the place before it. From another one on, which lies at a place, there is none.
 #[inline(never)]
 fn preceding_from<'a>(
@@ -449,9 +421,6 @@ pub fn preceding<'a>(
     let (last, place) = last_place(transitions, parts, unix_time, likely)?;
     if let Some(change) = change_at_last(transitions, parts, last, place) {
         return Some((change, place - 1));
-    }
-    if let Some(change) = change_after_seam(transitions, parts, place, last) {
-        return Some((change, place));
     }
     preceding_from(transitions, parts, unix_time, last, place)
 }

@@ -1,6 +1,6 @@
 //! Where the clock of a rule changes. It is that of a zone with the rule and without transitions.
 
-ghost use Rattle.std.specs.Prelude.{◌≡◌, ℤ, pos, negsuc, ◌≤ℤ◌, ◌<ℤ◌, [], IsTrue, IfSome, MatchOption};
+ghost use Rattle.std.specs.Prelude.{◌≡◌, ℤ, pos, negsuc, ◌≤ℤ◌, ◌<ℤ◌, [], IsTrue, MatchOption};
 ghost use Rattle.tz_rule.specs.LocalTimeType.{LocalTimeType};
 ghost use Rattle.tz_rule.specs.Rule.{IsRuleType};
 ghost use Rattle.tz_rule.specs.RuleRef.{rule_seen};
@@ -38,38 +38,6 @@ fn type_of_rule<'a>(rule: RuleRef<'a>, unix_time: i64) -> Option<&'a LocalTimeTy
         Ok(local_time_type) => Some(local_time_type),
         Err(_) => None,
     }
-}
-
-/// The change of a rule where the segment around an instant ends, if it is one. Mostly it is, and then nothing is walked.
-#[inline(always)]
-pub(super) fn next_by_rule<'a>(parts: OtherParts<'a>, unix_time: i64) -> Option<Change<'a>>
-    requires { IsSoundTable (zone_seen [] parts) }
-    ensures { IfSome result (λ c. IsFollowing (zone_seen [] parts.entry) unix_time (change_of c)) }
-{
-    let rule = parts.extra_rule.lent()?;
-    let segment = tz_rule::inner::segment_at(rule, unix_time);
-    if segment.last == i64::MAX {
-        return None;
-    }
-    let next = segment.last + 1;
-    let after = type_of_rule(rule, next);
-    change_at(next, segment.local_time_type, after)
-}
-
-/// The change of a rule where the segment around the second before an instant begins, if it is one. Mostly it is.
-#[inline(always)]
-pub(super) fn last_by_rule<'a>(parts: OtherParts<'a>, unix_time: i64) -> Option<Change<'a>>
-    requires sound { IsSoundTable (zone_seen [] parts) }
-    requires not_least { negsuc 9223372036854775807 <ℤ unix_time }
-    ensures { IfSome result (λ c. IsPreceding (zone_seen [] parts.entry) unix_time (change_of c)) }
-{
-    let rule = parts.extra_rule.lent()?;
-    let segment = tz_rule::inner::segment_at(rule, unix_time - 1);
-    if segment.from == i64::MIN {
-        return None;
-    }
-    let before = type_of_rule(rule, segment.from - 1);
-    change_at(segment.from, before, segment.local_time_type)
 }
 
 /// The first change of a rule after an instant. A rule that keeps one type is followed through 400 years.

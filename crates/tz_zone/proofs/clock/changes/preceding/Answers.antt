@@ -18,13 +18,3 @@ returns-in-Some c =
     let walked = rw (to_z-of_z w64 u c.ranges.unix_time) at (match_some c.last_place.result (last, c.in_ok-last.place) _ _ c.in_ok-last.was c.last_place.ensures) in
     let found = rw (to_z-of_z w64 last fits) at c.in-Some.ensures.change in
     preceding_earlier z u (last +ℤ pos 1) (change_of c.in-Some.change) (omega (arith, ints, walked.0)) (λ d above below. walked.2 d (omega (arith, ints, above)) below) found
-
-pub returns-in-Some-change_after_seam : goal.returns-in-Some-change_after_seam
-returns-in-Some-change_after_seam c =
-    let z = zone_seen c.args.transitions.now c.args.parts in
-    let u = c.args.unix_time in
-    let last = c.in_ok-last.last in
-    let fits : SFits w64 last = search rules in
-    let walked = rw (to_z-of_z w64 u c.ranges.unix_time) at (match_some c.last_place.result (last, c.in_ok-last.place) _ _ c.in_ok-last.was c.last_place.ensures) in
-    let found = rw (to_z-of_z w64 last fits) at c.in-Some-change_after_seam.ensures in
-    preceding_earlier z u (last +ℤ pos 1) (change_of c.in-Some-change_after_seam.change) (omega (arith, ints, walked.0)) (λ d above below. walked.2 d (omega (arith, ints, above)) below) found
