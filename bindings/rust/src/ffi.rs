@@ -12,7 +12,9 @@
 //! - **References.** Pointers come from references and slices, so they are aligned, point to live values, and those that are written are not shared.
 
 use crate::codes::{Code, error, local_time_type_error, transition_rule_error, unknown};
-use crate::datetime::{DateTime, Disambiguation, Fields, FoundDateTimeKind, UtcDateTime};
+use crate::datetime::{
+    DateTime, Disambiguation, Fields, FoundDateTimeKind, FoundDateTimeList, UtcDateTime,
+};
 use crate::error::parse::TzFileError;
 use crate::error::timezone::{LocalTimeTypeError, TransitionRuleError};
 use crate::error::{ColumnError, TzError};
@@ -309,6 +311,13 @@ fn written<T, E>(
     }
 }
 
+/// The error of a code.
+#[cold]
+#[inline(never)]
+fn refused<T>(code: Code) -> Result<T, TzError> {
+    Err(error(code))
+}
+
 /// Ends the program if a call is refused that its contract does not refuse.
 #[inline(always)]
 fn expect_ok(code: Code) {
@@ -469,16 +478,12 @@ pub(crate) struct Text<const N: usize> {
 }
 
 impl<const N: usize> Text<N> {
-    /// The text that `f` writes into a room, unless it fails.
+    /// No text yet.
     #[inline]
-    fn written(f: impl FnOnce(*mut u8, usize, &mut usize) -> Code) -> Result<Self, Code> {
-        let mut text = Text {
+    pub(crate) const fn empty() -> Self {
+        Text {
             bytes: [0; N],
             length: 0,
-        };
-        match f(text.bytes.as_mut_ptr(), N, &mut text.length) {
-            OK => Ok(text),
-            code => Err(code),
         }
     }
 
@@ -492,47 +497,45 @@ impl<const N: usize> Text<N> {
     }
 }
 
-/// The text of a UTC date time.
+/// The text of a UTC date time, in this room.
 #[inline]
-pub(crate) fn utc_text(utc: &UtcDateTime) -> Text<53> {
-    Text::written(|text, room, length| {
-        // SAFETY: the pointer and the length are those of the room.
-        unsafe { tz_utc_text(utc, text, room, length) }
-    })
-    .unwrap_or_else(|code| unknown(code))
+pub(crate) fn utc_text<'a>(utc: &UtcDateTime, text: &'a mut Text<53>) -> &'a str {
+    let Text { bytes, length } = text;
+    // SAFETY: the pointer and the length are those of the room.
+    expect_ok(unsafe { tz_utc_text(utc, bytes.as_mut_ptr(), bytes.len(), length) });
+    text.as_str()
 }
 
-/// The text of a date time.
+/// The text of a date time, in this room.
 #[inline]
-pub(crate) fn date_time_text(date_time: &DateTime) -> Text<53> {
-    Text::written(|text, room, length| {
-        // SAFETY: the pointer and the length are those of the room.
-        unsafe { tz_date_time_text(date_time, text, room, length) }
-    })
-    .unwrap_or_else(|code| unknown(code))
+pub(crate) fn date_time_text<'a>(date_time: &DateTime, text: &'a mut Text<53>) -> &'a str {
+    let Text { bytes, length } = text;
+    // SAFETY: the pointer and the length are those of the room.
+    expect_ok(unsafe { tz_date_time_text(date_time, bytes.as_mut_ptr(), bytes.len(), length) });
+    text.as_str()
 }
 
 /// The TZ string of a rule, if there is one.
 pub(crate) fn rule_text(rule: &TransitionRule) -> Option<Text<114>> {
     let (fixed, alternate) = lists(Some(rule));
-    let text = Text::written(|text, room, length| {
-        // SAFETY: each pointer and length are those of a slice or of the room.
-        unsafe {
-            tz_rule_text(
-                fixed.as_ptr(),
-                fixed.len(),
-                alternate.as_ptr(),
-                alternate.len(),
-                text,
-                room,
-                length,
-            )
-        }
-    });
-    match text {
-        Ok(text) => Some(text),
-        Err(NO_TZ_STRING) => None,
-        Err(code) => unknown(code),
+    let mut text = Text::empty();
+    let Text { bytes, length } = &mut text;
+    // SAFETY: each pointer and length are those of a slice or of the room.
+    let code = unsafe {
+        tz_rule_text(
+            fixed.as_ptr(),
+            fixed.len(),
+            alternate.as_ptr(),
+            alternate.len(),
+            bytes.as_mut_ptr(),
+            bytes.len(),
+            length,
+        )
+    };
+    match code {
+        OK => Some(text),
+        NO_TZ_STRING => None,
+        code => unknown(code),
     }
 }
 
@@ -787,36 +790,48 @@ impl<'a> View<'a> {
         skip: usize,
         slots: *mut FoundDateTimeKind,
         length: usize,
-    ) -> Result<usize, TzError> {
-        written(0, error, |count| {
-            // SAFETY: the caller's, and all zeros are an entry: number 0 is that of `Normal`.
-            unsafe { tz_find_n(fields, &self.zone, skip, slots, length, count) }
-        })
+        count: &mut usize,
+    ) -> Code {
+        // SAFETY: the caller's, and all zeros are an entry: number 0 is that of `Normal`.
+        unsafe { tz_find_n(fields, &self.zone, skip, slots, length, count) }
     }
 
     /// `DateTime::find`.
-    #[inline]
-    pub(crate) fn find(&self, fields: &Fields) -> Result<Vec<FoundDateTimeKind>, TzError> {
+    #[inline(never)]
+    pub(crate) fn find(&self, fields: &Fields) -> Result<FoundDateTimeList, TzError> {
         let mut slots = Slots::zeros();
+        let mut count = 0;
         // SAFETY: the pointer is that of the slots.
-        let count = unsafe { self.search(fields, 0, slots.first(), SLOTS)? };
-        match slots.entries().get(..count) {
-            Some(entries) => Ok(entries.to_vec()),
-            None => self.find_many(fields, count),
+        let code = unsafe { self.search(fields, 0, slots.first(), SLOTS, &mut count) };
+        if code != OK {
+            return refused(code);
+        }
+        let [first, second] = slots.entries();
+        match count {
+            0 => Ok(FoundDateTimeList::of(Vec::new())),
+            1 => Ok(FoundDateTimeList::of(vec![*first])),
+            2 => Ok(FoundDateTimeList::of(vec![*first, *second])),
+            _ => self.find_many(fields, count),
         }
     }
 
     /// The entries of a search, of which there are so many.
     #[cold]
-    fn find_many(&self, fields: &Fields, count: usize) -> Result<Vec<FoundDateTimeKind>, TzError> {
+    fn find_many(&self, fields: &Fields, count: usize) -> Result<FoundDateTimeList, TzError> {
         let mut entries = Vec::with_capacity(count);
+        let mut again = 0;
         // SAFETY: there is room for the slots, which hold zeros before the call, and entries or zeros after it: zeros are an entry too.
-        unsafe {
+        let code = unsafe {
             ptr::write_bytes(entries.as_mut_ptr(), 0, count);
-            self.search(fields, 0, entries.as_mut_ptr(), count)?;
+            let code = self.search(fields, 0, entries.as_mut_ptr(), count, &mut again);
             entries.set_len(count);
+            code
+        };
+        if code == OK {
+            Ok(FoundDateTimeList::of(entries))
+        } else {
+            refused(code)
         }
-        Ok(entries)
     }
 
     /// `DateTime::find_n`: how many entries there are, of which the first are in the buffer.
@@ -827,8 +842,12 @@ impl<'a> View<'a> {
         buf: &mut [Option<FoundDateTimeKind>],
     ) -> Result<usize, TzError> {
         let mut slots = Slots::zeros();
+        let mut count = 0;
         // SAFETY: the pointer is that of the slots.
-        let count = unsafe { self.search(fields, 0, slots.first(), SLOTS)? };
+        let code = unsafe { self.search(fields, 0, slots.first(), SLOTS, &mut count) };
+        if code != OK {
+            return refused(code);
+        }
         for (entry, found) in buf.iter_mut().zip(slots.entries()).take(count) {
             *entry = Some(*found);
         }
@@ -848,8 +867,13 @@ impl<'a> View<'a> {
     ) -> Result<(), TzError> {
         for (number, entries) in buf.chunks_mut(SLOTS).enumerate().skip(1) {
             let mut slots = Slots::zeros();
+            let mut count = 0;
             // SAFETY: the pointer is that of the slots.
-            unsafe { self.search(fields, number * SLOTS, slots.first(), SLOTS)? };
+            let code =
+                unsafe { self.search(fields, number * SLOTS, slots.first(), SLOTS, &mut count) };
+            if code != OK {
+                return refused(code);
+            }
             for (entry, found) in entries.iter_mut().zip(slots.entries()) {
                 *entry = Some(*found);
             }
@@ -1019,6 +1043,24 @@ struct Kept {
     extra_rule: Option<TransitionRule>,
 }
 
+impl Kept {
+    /// The parts of a zone, whose view is made once the library has checked them.
+    fn of(
+        transitions: Vec<Transition>,
+        local_time_types: Vec<LocalTimeType>,
+        leap_seconds: Vec<LeapSecond>,
+        extra_rule: Option<TransitionRule>,
+    ) -> Box<Self> {
+        Box::new(Kept {
+            view: View::UTC,
+            transitions,
+            local_time_types,
+            leap_seconds,
+            extra_rule,
+        })
+    }
+}
+
 /// The parts of a zone that the library has checked. They stay at one place, so that the view of them is made once.
 pub(crate) struct Tables(NonNull<Kept>);
 
@@ -1029,21 +1071,9 @@ unsafe impl Send for Tables {}
 unsafe impl Sync for Tables {}
 
 impl Tables {
-    /// Parts with their end offsets.
-    fn of(
-        transitions: Vec<Transition>,
-        local_time_types: Vec<LocalTimeType>,
-        leap_seconds: Vec<LeapSecond>,
-        extra_rule: Option<TransitionRule>,
-        offsets: Offsets,
-    ) -> Self {
-        let place = NonNull::from(Box::leak(Box::new(Kept {
-            view: View::UTC,
-            transitions,
-            local_time_types,
-            leap_seconds,
-            extra_rule,
-        })));
+    /// Parts with their end offsets. Their view is made here.
+    fn of(kept: Box<Kept>, offsets: Offsets) -> Self {
+        let place = NonNull::from(Box::leak(kept));
         // SAFETY: the parts lie at this place until `drop`, and nothing writes them. The view alone is written, here, and `view` lends it for no longer.
         unsafe {
             let kept: &'static Kept = place.as_ref();
@@ -1069,15 +1099,15 @@ impl Tables {
         leap_seconds: Vec<LeapSecond>,
         extra_rule: Option<TransitionRule>,
     ) -> Result<Self, TzError> {
-        let parts = parts_of(&transitions, &local_time_types, &leap_seconds, &extra_rule);
+        let kept = Kept::of(transitions, local_time_types, leap_seconds, extra_rule);
+        let parts = parts_of(
+            &kept.transitions,
+            &kept.local_time_types,
+            &kept.leap_seconds,
+            &kept.extra_rule,
+        );
         let offsets = checked(&parts)?;
-        Ok(Self::of(
-            transitions,
-            local_time_types,
-            leap_seconds,
-            extra_rule,
-            offsets,
-        ))
+        Ok(Self::of(kept, offsets))
     }
 
     /// A zone of one type, whose offset is the least and the greatest.
@@ -1088,24 +1118,28 @@ impl Tables {
             greatest: ut_offset,
         };
         let types = vec![local_time_type];
-        Self::of(Vec::new(), types, Vec::new(), None, offsets)
+        Self::of(Kept::of(Vec::new(), types, Vec::new(), None), offsets)
     }
 
     /// The parts of a TZif file.
     pub(crate) fn read(bytes: &[u8]) -> Result<Self, TzError> {
-        let none = Sizes {
+        let mut sizes = Sizes {
             transitions: 0,
             types: 0,
             leap_seconds: 0,
             footer: 0,
         };
-        let sizes = written(none, error, |out| {
-            // SAFETY: the pointer and the length are those of a slice.
-            unsafe { tz_file_sizes(bytes.as_ptr(), bytes.len(), out) }
-        })?;
-        let mut transitions = Vec::with_capacity(sizes.transitions);
-        let mut local_time_types = vec![LocalTimeType::utc(); sizes.types];
-        let mut leap_seconds = Vec::with_capacity(sizes.leap_seconds);
+        // SAFETY: the pointer and the length are those of a slice.
+        let code = unsafe { tz_file_sizes(bytes.as_ptr(), bytes.len(), &mut sizes) };
+        if code != OK {
+            return refused(code);
+        }
+        let mut kept = Kept::of(
+            Vec::with_capacity(sizes.transitions),
+            vec![LocalTimeType::utc(); sizes.types],
+            Vec::with_capacity(sizes.leap_seconds),
+            None,
+        );
         let mut rule = NO_RULE;
         let mut offsets = NO_OFFSETS;
         // SAFETY: each pointer and length are those of a slice, or of the room of a vector. What is in the room of transitions and leap seconds
@@ -1114,11 +1148,11 @@ impl Tables {
             tz_file_read(
                 bytes.as_ptr(),
                 bytes.len(),
-                transitions.as_mut_ptr(),
+                kept.transitions.as_mut_ptr(),
                 sizes.transitions,
-                local_time_types.as_mut_ptr(),
+                kept.local_time_types.as_mut_ptr(),
                 sizes.types,
-                leap_seconds.as_mut_ptr(),
+                kept.leap_seconds.as_mut_ptr(),
                 sizes.leap_seconds,
                 &mut rule,
                 &mut offsets,
@@ -1127,21 +1161,15 @@ impl Tables {
         match code {
             OK => {}
             FILE_UTF8 => return Err(footer_error(bytes, sizes.footer)),
-            code => return Err(error(code)),
+            code => return refused(code),
         }
         // SAFETY: the call has written as many as there is room for.
         unsafe {
-            transitions.set_len(sizes.transitions);
-            leap_seconds.set_len(sizes.leap_seconds);
+            kept.transitions.set_len(sizes.transitions);
+            kept.leap_seconds.set_len(sizes.leap_seconds);
         }
-        let rule = rule.rule();
-        Ok(Self::of(
-            transitions,
-            local_time_types,
-            leap_seconds,
-            rule,
-            offsets,
-        ))
+        kept.extra_rule = rule.rule();
+        Ok(Self::of(kept, offsets))
     }
 
     /// The parts, borrowed.
@@ -1155,13 +1183,13 @@ impl Tables {
 impl Clone for Tables {
     fn clone(&self) -> Self {
         let view = self.view();
-        Self::of(
+        let kept = Kept::of(
             view.transitions().to_vec(),
             view.local_time_types().to_vec(),
             view.leap_seconds().to_vec(),
             *view.extra_rule(),
-            view.zone.offsets,
-        )
+        );
+        Self::of(kept, view.zone.offsets)
     }
 }
 

@@ -5,7 +5,7 @@ use super::{
     Disambiguation, FoundDateTimeKind, FoundDateTimeList, FoundDateTimeListRefMut, UtcDateTime,
 };
 use crate::error::TzError;
-use crate::ffi;
+use crate::ffi::{self, Text};
 use crate::system_time;
 use crate::timezone::{LocalTimeType, TimeZoneRef};
 use std::cmp::Ordering;
@@ -102,8 +102,7 @@ impl DateTime {
             second,
             nanoseconds,
         };
-        let found = time_zone_ref.view().find(&fields)?;
-        Ok(FoundDateTimeList::of(found))
+        time_zone_ref.view().find(&fields)
     }
 
     /// Everything that a local time means in a zone, as far as a buffer goes. This call does not allocate.
@@ -350,6 +349,6 @@ impl fmt::Debug for DateTime {
 /// Prints `year-MM-DDThh:mm:ss.nnnnnnnnn` and `Z` or the offset, whatever the format's width. (ISO 8601-1, 5.4.2)
 impl fmt::Display for DateTime {
     fn fmt(&self, f: &mut fmt::Formatter<'_>) -> fmt::Result {
-        f.write_str(ffi::date_time_text(self).as_str())
+        f.write_str(ffi::date_time_text(self, &mut Text::empty()))
     }
 }

@@ -46,7 +46,8 @@ pub struct FoundDateTimeList(Vec<FoundDateTimeKind>);
 
 impl FoundDateTimeList {
     /// The list of these entries.
-    pub(super) fn of(entries: Vec<FoundDateTimeKind>) -> Self {
+    #[inline]
+    pub(crate) fn of(entries: Vec<FoundDateTimeKind>) -> Self {
         Self(entries)
     }
 

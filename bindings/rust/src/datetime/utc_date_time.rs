@@ -3,7 +3,7 @@
 use super::DateTime;
 use super::fields::{Fields, getters, timespec};
 use crate::error::TzError;
-use crate::ffi;
+use crate::ffi::{self, Text};
 use crate::system_time;
 use crate::timezone::TimeZoneRef;
 use std::fmt;
@@ -236,6 +236,6 @@ impl fmt::Debug for UtcDateTime {
 /// Prints `year-MM-DDThh:mm:ss.nnnnnnnnnZ`, whatever the format's width. (ISO 8601-1, 5.4.2)
 impl fmt::Display for UtcDateTime {
     fn fmt(&self, f: &mut fmt::Formatter<'_>) -> fmt::Result {
-        f.write_str(ffi::utc_text(self).as_str())
+        f.write_str(ffi::utc_text(self, &mut Text::empty()))
     }
 }
