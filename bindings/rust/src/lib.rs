@@ -1,5 +1,6 @@
 #![deny(missing_docs)]
 #![deny(unsafe_code)]
+#![deny(clippy::undocumented_unsafe_blocks)]
 #![doc = include_str!("../README.md")]
 
 mod codes;
