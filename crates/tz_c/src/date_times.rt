@@ -9,9 +9,10 @@ ghost use Rattle.tz_zone.specs.ZoneViewed.{zone_viewed};
 ghost use Rattle.tz_c.specs.Codes.{IsAnswer};
 ghost use Rattle.tz_c.specs.DateTimes.{IsDateTimeDataOf, IsUtcDataOf, shown_by};
 
-use crate::codes::{OK, code_of};
-use tz::inner::{DateTimeData, Fields, UtcData, from_timespec};
+use crate::codes::{INVALID_NANOSECONDS, OK, OUT_OF_RANGE, code_of};
+use tz::inner::{DateTimeData, Fields, UtcData, local_reading};
 use tz::{DateTime, UtcDateTime};
+use tz_base::constants::NANOSECONDS_PER_SECOND;
 use tz_rule::timezone::LocalTimeType;
 use tz_zone::inner::ZoneView;
 
@@ -76,13 +77,22 @@ pub extern "C" fn tz_date_time_from_timespec(
         (IsClockFault (zone_viewed zone.now) unix_time nanoseconds) }
     ensures kept { result ≢ 0 → out.new ≡ out.old }
 {
-    match from_timespec(unix_time, nanoseconds, zone) {
-        Ok(date_time) => {
-            *out = DateTimeData::of(&date_time);
-            OK
-        }
-        Err(error) => code_of(&error),
+    if nanoseconds >= NANOSECONDS_PER_SECOND {
+        return INVALID_NANOSECONDS;
     }
+    let local_time_type = match zone.find_local_time_type(unix_time) {
+        Ok(local_time_type) => local_time_type,
+        Err(error) => return code_of(&error),
+    };
+    let Some(reading) = local_reading(unix_time, local_time_type.ut_offset()) else {
+        return OUT_OF_RANGE;
+    };
+    *out = DateTimeData {
+        fields: Fields::from_reading(reading, nanoseconds),
+        local_time_type: *local_time_type,
+        unix_time,
+    };
+    OK
 }
 
 /// The date time of UTC at the same instant.

@@ -74,25 +74,25 @@ impl DateTimeData {
 }
 
 impl FoundData {
-    /// The data of what is found.
+    /// Becomes the data of what is found.
     #[inline(always)]
-    pub fn of(found: &FoundDateTimeKind) -> Self
-        ensures { result ≡ found_data found.now }
+    pub(super) fn set(&mut self, found: &FoundDateTimeKind)
+        ensures { self.new ≡ found_data found.now }
     {
         match found {
-            FoundDateTimeKind::Normal(date_time) => FoundData {
-                is_skipped: false,
-                before: DateTimeData::of(date_time),
-                after: DateTimeData::of(date_time),
-            },
+            FoundDateTimeKind::Normal(date_time) => {
+                self.is_skipped = false;
+                self.before = DateTimeData::of(date_time);
+                self.after = DateTimeData::of(date_time);
+            }
             FoundDateTimeKind::Skipped {
                 before_transition,
                 after_transition,
-            } => FoundData {
-                is_skipped: true,
-                before: DateTimeData::of(before_transition),
-                after: DateTimeData::of(after_transition),
-            },
+            } => {
+                self.is_skipped = true;
+                self.before = DateTimeData::of(before_transition);
+                self.after = DateTimeData::of(after_transition);
+            }
         }
     }
 }

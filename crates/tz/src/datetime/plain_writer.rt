@@ -50,7 +50,7 @@ impl<'a> PlainWriter<'a> {
         if self.skip <= self.count {
             let place = self.count - self.skip;
             if place < self.slots.len() {
-                self.slots[place] = FoundData::of(found);
+                self.slots[place].set(found);
             }
         }
         // A list has less than 2^33 entries, so the count never comes to its end.

@@ -67,6 +67,17 @@ fn is_far_from_ends(year: i32) -> bool
     -2_147_483_448 <= year && year <= 2_147_483_447
 }
 
+/// Searches without writing anything. It is a call, so that the search that writes stays small.
+#[cold]
+#[inline(never)]
+fn check_by_search(fields: &Fields, zone: &ZoneView<'_>) -> Result<(), TzError>
+    requires { IsValid fields.now }
+    ensures made { OnOk result (EachCanBeMade (IsClock (zone_viewed zone.now)) fields.now) }
+    ensures err { IfErr result (IsSearchFault ⊥ (IsClock (zone_viewed zone.now)) fields.now) }
+{
+    search_view(&mut Choice::new(), fields, zone)
+}
+
 /// Searches for fields near the ends of the years, so that a search that is refused is refused before anything is written.
 #[inline(always)]
 fn check_entries(fields: &Fields, zone: &ZoneView<'_>) -> Result<(), TzError>
@@ -78,7 +89,7 @@ fn check_entries(fields: &Fields, zone: &ZoneView<'_>) -> Result<(), TzError>
     if is_far_from_ends(fields.year) {
         return Ok(());
     }
-    search_view(&mut Choice::new(), fields, zone)
+    check_by_search(fields, zone)
 }
 
 /// Writes what is found of fields whose entries can all be made.
