@@ -438,7 +438,7 @@ pub(crate) fn rule_of_text(text: &str) -> Result<Option<TransitionRule>, TzError
         // SAFETY: the pointer and the length are those of a string.
         unsafe { tz_string_read(text.as_ptr(), text.len(), false, out) }
     });
-    rule.map(Rule::rule)
+    rule.map(|rule| rule.rule())
 }
 
 /// What a setting asks for.
@@ -1043,24 +1043,6 @@ struct Kept {
     extra_rule: Option<TransitionRule>,
 }
 
-impl Kept {
-    /// The parts of a zone, whose view is made once the library has checked them.
-    fn of(
-        transitions: Vec<Transition>,
-        local_time_types: Vec<LocalTimeType>,
-        leap_seconds: Vec<LeapSecond>,
-        extra_rule: Option<TransitionRule>,
-    ) -> Box<Self> {
-        Box::new(Kept {
-            view: View::UTC,
-            transitions,
-            local_time_types,
-            leap_seconds,
-            extra_rule,
-        })
-    }
-}
-
 /// The parts of a zone that the library has checked. They stay at one place, so that the view of them is made once.
 pub(crate) struct Tables(NonNull<Kept>);
 
@@ -1071,20 +1053,32 @@ unsafe impl Send for Tables {}
 unsafe impl Sync for Tables {}
 
 impl Tables {
-    /// Parts with their end offsets. Their view is made here.
-    fn of(kept: Box<Kept>, offsets: Offsets) -> Self {
-        let place = NonNull::from(Box::leak(kept));
-        // SAFETY: the parts lie at this place until `drop`, and nothing writes them. The view alone is written, here, and `view` lends it for no longer.
+    /// Parts with their end offsets.
+    #[inline(always)]
+    fn of(
+        transitions: Vec<Transition>,
+        local_time_types: Vec<LocalTimeType>,
+        leap_seconds: Vec<LeapSecond>,
+        extra_rule: Option<TransitionRule>,
+        offsets: Offsets,
+    ) -> Self {
+        let place = NonNull::from(Box::leak(Box::<Kept>::new_uninit())).cast::<Kept>();
+        let at = place.as_ptr();
+        // SAFETY: each field is written before it is read. The parts lie at this place until `drop`, and nothing writes them from here on: `view`
+        // lends the view of them for no longer.
         unsafe {
-            let kept: &'static Kept = place.as_ref();
+            (&raw mut (*at).transitions).write(transitions);
+            (&raw mut (*at).local_time_types).write(local_time_types);
+            (&raw mut (*at).leap_seconds).write(leap_seconds);
+            (&raw mut (*at).extra_rule).write(extra_rule);
+            let extra_rule = &(*at).extra_rule;
             let parts = parts_of(
-                &kept.transitions,
-                &kept.local_time_types,
-                &kept.leap_seconds,
-                &kept.extra_rule,
+                &(*at).transitions,
+                &(*at).local_time_types,
+                &(*at).leap_seconds,
+                extra_rule,
             );
-            let extra_rule = &kept.extra_rule;
-            (&raw mut (*place.as_ptr()).view).write(View {
+            (&raw mut (*at).view).write(View {
                 zone: Zone { parts, offsets },
                 extra_rule,
             });
@@ -1099,15 +1093,15 @@ impl Tables {
         leap_seconds: Vec<LeapSecond>,
         extra_rule: Option<TransitionRule>,
     ) -> Result<Self, TzError> {
-        let kept = Kept::of(transitions, local_time_types, leap_seconds, extra_rule);
-        let parts = parts_of(
-            &kept.transitions,
-            &kept.local_time_types,
-            &kept.leap_seconds,
-            &kept.extra_rule,
-        );
+        let parts = parts_of(&transitions, &local_time_types, &leap_seconds, &extra_rule);
         let offsets = checked(&parts)?;
-        Ok(Self::of(kept, offsets))
+        Ok(Self::of(
+            transitions,
+            local_time_types,
+            leap_seconds,
+            extra_rule,
+            offsets,
+        ))
     }
 
     /// A zone of one type, whose offset is the least and the greatest.
@@ -1118,7 +1112,7 @@ impl Tables {
             greatest: ut_offset,
         };
         let types = vec![local_time_type];
-        Self::of(Kept::of(Vec::new(), types, Vec::new(), None), offsets)
+        Self::of(Vec::new(), types, Vec::new(), None, offsets)
     }
 
     /// The parts of a TZif file.
@@ -1134,12 +1128,9 @@ impl Tables {
         if code != OK {
             return refused(code);
         }
-        let mut kept = Kept::of(
-            Vec::with_capacity(sizes.transitions),
-            vec![LocalTimeType::utc(); sizes.types],
-            Vec::with_capacity(sizes.leap_seconds),
-            None,
-        );
+        let mut transitions = Vec::with_capacity(sizes.transitions);
+        let mut local_time_types = vec![LocalTimeType::utc(); sizes.types];
+        let mut leap_seconds = Vec::with_capacity(sizes.leap_seconds);
         let mut rule = NO_RULE;
         let mut offsets = NO_OFFSETS;
         // SAFETY: each pointer and length are those of a slice, or of the room of a vector. What is in the room of transitions and leap seconds
@@ -1148,11 +1139,11 @@ impl Tables {
             tz_file_read(
                 bytes.as_ptr(),
                 bytes.len(),
-                kept.transitions.as_mut_ptr(),
+                transitions.as_mut_ptr(),
                 sizes.transitions,
-                kept.local_time_types.as_mut_ptr(),
+                local_time_types.as_mut_ptr(),
                 sizes.types,
-                kept.leap_seconds.as_mut_ptr(),
+                leap_seconds.as_mut_ptr(),
                 sizes.leap_seconds,
                 &mut rule,
                 &mut offsets,
@@ -1165,11 +1156,16 @@ impl Tables {
         }
         // SAFETY: the call has written as many as there is room for.
         unsafe {
-            kept.transitions.set_len(sizes.transitions);
-            kept.leap_seconds.set_len(sizes.leap_seconds);
+            transitions.set_len(sizes.transitions);
+            leap_seconds.set_len(sizes.leap_seconds);
         }
-        kept.extra_rule = rule.rule();
-        Ok(Self::of(kept, offsets))
+        Ok(Self::of(
+            transitions,
+            local_time_types,
+            leap_seconds,
+            rule.rule(),
+            offsets,
+        ))
     }
 
     /// The parts, borrowed.
@@ -1183,13 +1179,13 @@ impl Tables {
 impl Clone for Tables {
     fn clone(&self) -> Self {
         let view = self.view();
-        let kept = Kept::of(
+        Self::of(
             view.transitions().to_vec(),
             view.local_time_types().to_vec(),
             view.leap_seconds().to_vec(),
             *view.extra_rule(),
-        );
-        Self::of(kept, view.zone.offsets)
+            view.zone.offsets,
+        )
     }
 }
 

@@ -170,15 +170,17 @@ impl From<&Day> for RuleDay {
 
 impl AlternateClock {
     /// The rule, with its days as Rust has them.
-    pub(crate) fn rule(self) -> AlternateTime {
+    #[inline]
+    pub(crate) fn rule(&self) -> AlternateTime {
         let (start, end) = (RuleDay::from(&self.dst_start), RuleDay::from(&self.dst_end));
-        AlternateTime::with_parts(self, start, end)
+        AlternateTime::with_parts(*self, start, end)
     }
 }
 
 impl Rule {
     /// The rule as Rust has it.
-    pub(crate) fn rule(self) -> Option<TransitionRule> {
+    #[inline]
+    pub(crate) fn rule(&self) -> Option<TransitionRule> {
         match self.kind {
             FIXED => Some(TransitionRule::Fixed(self.fixed)),
             ALTERNATE => Some(TransitionRule::Alternate(self.alternate.rule())),
