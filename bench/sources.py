@@ -53,10 +53,11 @@ def built_program(folder, name, uses, text, is_over_libraries):
     crate = f'{folder}/copy/crates/{name}'
     if is_over_libraries:
         copied(f'{folder}/copy')
-    os.makedirs(f'{crate}/src')
+    if not os.path.exists(crate):
+        os.makedirs(f'{crate}/src')
+        with open(f'{folder}/copy/crates.txt', 'a') as crates:
+            crates.write(f'{name}: {uses}\n')
     shutil.copy(text, f'{crate}/src/main.rt')
-    with open(f'{folder}/copy/crates.txt', 'a') as crates:
-        crates.write(f'{name}: {uses}\n')
     # rt builds a program by running it, here without arguments, where it only says how to use it.
     subprocess.run(['rt', 'run'], cwd=crate, stdin=subprocess.DEVNULL, stdout=sys.stderr)
     if not os.path.exists(f'{crate}/out/{name}'):

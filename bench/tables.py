@@ -148,7 +148,10 @@ def of_sizes():
             crate = TOP / 'crates' / name
             sizes = [lines_of(crate.glob(found)) for found in ('src/**/*.rt', 'specs/**/*.antt', 'proofs/**/*.antt')]
             sizes.append(len(list(crate.glob('must-fail/*.edit'))))
-            shown = 'tests' if name.endswith(('_tests', '_samples', '_examples')) else f'`{name}`'
+            if name.endswith(('_tests', '_samples', '_examples')):
+                shown = 'tests'
+            else:
+                shown = 'programs that count and compare' if name in ('tz_calls', 'tz_changes') else f'`{name}`'
             crates[shown] = [more + had for more, had in zip(sizes, crates.get(shown, [0] * 4))]
     return table(['crate', 'code', 'definitions', 'proofs', 'edits'], [[name, *sizes] for name, sizes in crates.items()])
 

@@ -298,7 +298,8 @@ fn meaning(locals: &[Local], zone: TimeZoneRef<'_>) -> Result<u64, TzError> {
             Meaning::Once(date_time) => Some(date_time),
             Meaning::Twice { first, .. } => Some(first),
             Meaning::Skipped {
-                before_transition, ..
+                before_transition,
+                ..
             } => Some(before_transition),
             Meaning::Nothing | Meaning::More(_) => None,
         };
