@@ -54,7 +54,7 @@ OWN_LINES = ('W, ten weeks, Paris',)
 
 # Why tz takes more than the best peer, and the rows in which it may: a row says so where it does.
 REASONS = {
-    'a': 'checks the fields, and makes date times, at jumps two, with fields, offset and name, where the others return seconds (date without a check);',
+    'a': 'checks the fields, and makes date times, two at a jump, with fields, offset and name, where the others return seconds (date without a check);',
     'b': 'allocates a list of them: `find_n` uses slots of the caller, and the peers return one or two values;',
     'c': 'looks for a file of that name in three directories, as tz-rs does, by a call of the kit that clears 4096 bytes each time;',
     'd': 'makes tables of the starts and ends of a rule, which its lookups read; and jiff does not check that both keep their order in all years;',

@@ -96,7 +96,9 @@ def of_zones(versions):
         named.setdefault(version, []).append(name)
     if len(named) == 1:
         return f'Zones are those of tzdata {next(iter(named))}.'
-    return 'Zones are those of ' + ', '.join(f'tzdata {version} for {" and ".join(names)}' for version, names in named.items()) + '.'
+    most = max(named, key=lambda version: len(named[version]))
+    few = [f'tzdata {version} for {" and ".join(names)}' for version, names in named.items() if version != most]
+    return f'Zones are those of {", ".join(few)}, and tzdata {most} for the others.'
 
 
 def of_versions(kept):
@@ -104,7 +106,7 @@ def of_versions(kept):
     version = {name: row['version'] for name, row in kept.rows('versions').items() if name != 'tzdata'}
     zones = of_zones(kept.rows('versions')['tzdata'])
     days = days_of(['tz'], kept) + days_of(PEERS, kept)
-    shown = 'Lines were counted, calls were, and times were taken on {}, {} and {} for tz, and on {}, {} and {} for the others.'.format(*days)
+    shown = 'The figures of tz are of {} (lines), {} (calls) and {} (times), those of the others of {}, {} and {}.'.format(*days)
     if len(set(days)) == 1:
         shown = f'All was measured on {days[0]}.'
     text = (f'The peers are tz-rs {version["tz-rs"]}, then glibc {version["glibc"]}, Abseil {version["Abseil"]}, cctz {version["cctz"]}, Hinnant\'s date '

@@ -50,7 +50,7 @@ enum {
   TZ_NO_TZ_STRING = 6,
   /* The parts make an alternate rule, or are out of range: there are no years that show a conflict. */
   TZ_NO_CONFLICT = 7,
-  /* A buffer is too short, or has not the length that is asked. */
+  /* A buffer is too short, or does not have the required length. */
   TZ_BUFFER_LENGTH = 8,
   /* The number is not one of the four choices. */
   TZ_UNKNOWN_CHOICE = 9,
@@ -302,7 +302,7 @@ tz_code tz_month_week_day_new(uint8_t month, uint8_t week, uint8_t week_day, tz_
 tz_code tz_alternate_new(const tz_local_time_type *std, const tz_local_time_type *dst, const tz_day *dst_start, int32_t dst_start_time,
                          const tz_day *dst_end, int32_t dst_end_time, tz_alternate *out);
 
-/* Why parts in range make no rule. TZ_NO_CONFLICT. */
+/* Why parts in range make no rule. TZ_NO_CONFLICT if they make one, or if a part is out of range. */
 tz_code tz_alternate_conflict(const tz_local_time_type *std, const tz_local_time_type *dst, const tz_day *dst_start, int32_t dst_start_time,
                               const tz_day *dst_end, int32_t dst_end_time, tz_conflict *out);
 
@@ -333,7 +333,7 @@ tz_code tz_string_read(const char *text, size_t text_length, bool is_extended, t
 /* What a setting asks for. TZ_STRING_EMPTY. */
 tz_code tz_setting_read(const char *text, size_t text_length, tz_setting *out);
 
-/* Checks that parts make a zone, and writes its least and greatest offset.
+/* Checks that parts make a zone, and writes its least and greatest offset. A zone of a rule needs a type in `types`, too.
    TZ_NO_LOCAL_TIME_TYPE, for each transition in turn TZ_INVALID_LOCAL_TIME_TYPE_INDEX and TZ_INVALID_TRANSITION, TZ_INVALID_LEAP_SECOND,
    TZ_OUT_OF_RANGE or TZ_INCONSISTENT_EXTRA_RULE, in this order. */
 tz_code tz_zone_check(const tz_parts *parts, tz_offsets *offsets);
@@ -344,7 +344,7 @@ tz_code tz_zone_check(const tz_parts *parts, tz_offsets *offsets);
 tz_code tz_zone_type_at(const tz_zone *zone, int64_t unix_time, tz_local_time_type *out);
 
 /* The place of that type: below `types_length` that of a type of the list, `types_length` for the fixed type or standard time of the rule, and
-   one more for its daylight saving time. */
+   one more for its daylight saving time. TZ_NO_AVAILABLE_LOCAL_TIME_TYPE, TZ_OUT_OF_RANGE. */
 tz_code tz_zone_place_at(const tz_zone *zone, int64_t unix_time, size_t *place);
 
 /* The segment around an instant. Returns TZ_OK. */

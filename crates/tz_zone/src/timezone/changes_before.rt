@@ -3,7 +3,7 @@
 use super::{Change, TimeZoneRef};
 use std::iter::FusedIterator;
 
-/// The changes of a clock before an instant, each one before the one that came before it. Does not allocate.
+/// The changes of a clock before an instant, from the latest back. Does not allocate.
 ///
 /// After `None` each call returns `None`.
 #[derive(Clone, Debug, Drop)]
