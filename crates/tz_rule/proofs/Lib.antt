@@ -21,7 +21,9 @@ pub mod DaylightSpans
 pub mod InnerTurns
 pub mod ChangePoints
 pub mod RuleTypes
-pub mod RulePeriods
 pub mod RuleSegments
+pub mod RuleTurns
+pub mod RulesOfOneType
+pub mod RuleWalks
 pub mod KeptEquality
 pub mod Casts

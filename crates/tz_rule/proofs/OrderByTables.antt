@@ -53,7 +53,7 @@ module _ (f g : ℤ → ℤ) (a b : List ℤ) (ta : IsTableOf f a) (tb : IsTable
   comes_before_next-year : ComesBeforeNext a b → (y : ℤ) × (f y <ℤ g (y +ℤ pos 1))
   comes_before_next-year (pair, below, h) = let occurs = pair_occurs pair below in (occurs.0, omega (arith, ints, pair_entries occurs.0 pair occurs.1, h))
 
-  comes_before_next-from : (y : ℤ) → f y <ℤ g (y +ℤ pos 1) → ComesBeforeNext a b
+  pub comes_before_next-from : (y : ℤ) → f y <ℤ g (y +ℤ pos 1) → ComesBeforeNext a b
   comes_before_next-from y h = let pair = pair_of y in (pair.0, pair.1.below, omega (arith, ints, pair_entries y pair.0 pair.1))
 
   comes_after_next-year : ComesAfterNext a b → (y : ℤ) × (g (y +ℤ pos 1) <ℤ f y)

@@ -1,9 +1,14 @@
 -- What follows from a clause on an answer follows for the answer.
-use Rattle.std.proofs.Common.{◌≡◌, Bool, true, false, Option, Some, None, MatchBool, refl, sym, arith, ℤ, ◌≤ℤ◌, ◌<ℤ◌}
+use Rattle.std.proofs.Common.{◌≡◌, Bool, true, false, not, Option, Some, None, MatchBool, refl, sym, arith, ℤ, ◌≤ℤ◌, ◌<ℤ◌}
+use Rattle.std.specs.Bool.{OnTrue}
 use Rattle.std.specs.Int.Signed.{le_z, lt_z}
-use Rattle.std.specs.Option.{IfNone, is_some}
+use Rattle.std.specs.Option.{IfNone, IfSome, is_some}
 use Rattle.std.proofs.lemmas.Bool.{false≢true}
 use Rattle.std.proofs.lemmas.Int.{ints}
+
+pub IfSome-weaker : {T : Type 0} {P Q : T → Type 0} (o : Option T) → ((x : T) → P x → Q x) → IfSome o P → IfSome o Q
+IfSome-weaker None f h = tt
+IfSome-weaker (Some x) f h = f x h
 
 pub IfNone-weaker : {T P Q : Type 0} (o : Option T) → (P → Q) → IfNone o P → IfNone o Q
 IfNone-weaker None f h = f h
@@ -17,6 +22,10 @@ IfNone-no_value (Some x) e h = absurd (false≢true (sym e))
 pub MatchBool-weaker : {P P' Q Q' : Type 0} (b : Bool) → (P → P') → (Q → Q') → MatchBool b P Q → MatchBool b P' Q'
 MatchBool-weaker true f g h = f h
 MatchBool-weaker false f g h = g h
+
+pub OnTrue-not : {P Q : Type 0} (b : Bool) → (¬ P → Q) → MatchBool b P (¬ P) → OnTrue (not b) Q
+OnTrue-not true f h = tt
+OnTrue-not false f h = f h
 
 pub le_z-true : (a b : ℤ) → le_z a b ≡ true → a ≤ℤ b
 le_z-true a b e = grind (arith, ints)

@@ -21,6 +21,7 @@ pub mod RuleRef
 pub mod AlternateSegments
 pub mod InnerTurns
 pub mod RuleSegments
+pub mod RuleChanges
 pub mod Same
 pub mod SameDay
 pub mod SameRule

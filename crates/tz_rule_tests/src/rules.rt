@@ -1,5 +1,6 @@
 //! Rules from outside: their starts, their types at instants, and which of them are refused.
 
+mod changes;
 mod consistency;
 mod segments;
 

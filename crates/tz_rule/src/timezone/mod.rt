@@ -11,6 +11,7 @@ mod pair_kinds;
 mod pairing;
 mod parts;
 mod rule;
+pub(crate) mod rule_changes;
 pub(crate) mod rule_clock;
 pub(crate) mod rule_data;
 mod rule_day;

@@ -21,7 +21,7 @@ impl YearTable {
     }
 
     /// Whether the instant of some year comes before the other one of the next year.
-    fn comes_before_next(&self, other: &YearTable) -> bool
+    pub(super) fn comes_before_next(&self, other: &YearTable) -> bool
         ensures { MatchBool result (ComesBeforeNext self.now.0 other.now.0) (¬ ComesBeforeNext self.now.0 other.now.0) }
     {
         for pair in 0..PAIR_KINDS {

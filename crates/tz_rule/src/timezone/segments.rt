@@ -36,7 +36,7 @@ const NEAR_YEARS: u8 = 5;
 
 /// The year of an instant in UTC, or the neighbour of that year whose end lies less than two days away, moved by cycles of 400 years.
 #[inline(always)]
-fn likely_years(unix_time: i64) -> Option<u64>
+pub(super) fn likely_years(unix_time: i64) -> Option<u64>
     ensures year { IfSome result (λ years. IsTriedYear (moved_back years)) }
     ensures likely { IfSome result (λ years. IsLikelyYear unix_time (moved_back years)) }
 {
@@ -100,7 +100,7 @@ fn cut(segment: AlternateSegment, unix_time: i64, turn: i64) -> AlternateSegment
 impl AlternateClock {
     /// The instant at which daylight saving time starts, or ends, in a moved year.
     #[inline(always)]
-    fn turn_in_moved(&self, is_end: bool, years: u64) -> i64
+    pub(super) fn turn_in_moved(&self, is_end: bool, years: u64) -> i64
         requires { IsRuleYear (moved_back years) }
         ensures { result ≡ turn_of self.now is_end (moved_back years) }
     {
@@ -204,7 +204,7 @@ impl AlternateClock {
 
     /// The type of daylight saving time, or that of standard time.
     #[inline(always)]
-    fn type_by(&self, is_daylight: bool) -> &LocalTimeType
+    pub(super) fn type_by(&self, is_daylight: bool) -> &LocalTimeType
         ensures { result.now ≡ type_by self.now is_daylight }
     {
         if is_daylight { self.dst() } else { self.std() }

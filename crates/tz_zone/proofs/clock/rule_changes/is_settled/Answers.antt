@@ -2,7 +2,7 @@
 use Rattle.std.proofs.Common.{arith, pos, ◌+ℤ◌, ◌≤ℤ◌}
 use Rattle.std.proofs.lemmas.Int.{ints}
 use Rattle.tz_rule.specs.RuleRef.{rule_seen}
-use Rattle.tz_rule.proofs.RulePeriods.{rule_type_of_a_period}
+use Rattle.tz_zone.proofs.RulePeriods.{rule_type_of_a_period}
 use Rattle.tz_zone.proofs.clock.rule_changes.is_settled.Goals as goal
 
 pub returns : goal.returns

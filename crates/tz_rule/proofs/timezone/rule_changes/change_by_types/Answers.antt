@@ -1,0 +1,17 @@
+-- Between two types that are the same there is no change.
+use Rattle.std.proofs.Common.{◌∙◌, sym, subst, ℤ, pos, ◌-ℤ◌}
+use Rattle.tz_rule.specs.Rule.{IsRuleType}
+use Rattle.tz_rule.specs.Same.{Decides-same_type}
+use Rattle.tz_rule.proofs.RuleTypes.{rule_type_unique}
+use Rattle.tz_rule.proofs.timezone.rule_changes.change_by_types.Goals as goal
+
+pub returns-then-eq : goal.returns-then-eq
+returns-then-eq c = λ rule low before after change at is.
+    let u = c.args.unix_time in
+    let a = c.in_ok-before.before in
+    let b = c.in_ok-after.after in
+    let same = (Decides-same_type a.now b.now).0 (sym c.eq.ensures ∙ c.if-eq.true) in
+    let before_is = subst (λ (v : ℤ). IsRuleType rule (v -ℤ pos 1) change.before) at is.before_is in
+    let after_is = subst (λ (v : ℤ). IsRuleType rule v change.after) at is.after_is in
+    is.differ (rule_type_unique rule (u -ℤ pos 1) change.before a.now before_is (rw c.in_ok-before.was at before) ∙ same
+    ∙ sym (rule_type_unique rule u change.after b.now after_is (rw c.in_ok-after.was at after)))

@@ -1,0 +1,299 @@
+//! Where a rule changes its type: the first change after an instant, and the last one up to it.
+//!
+//! Mostly that is the start or the end of daylight saving time next to the instant, which the tables' entries of its likely year, or of that year and
+//! one neighbour, determine. Otherwise, as near some New Years, if a start and an end coincide, or where the rule ceases to answer, a walk goes on from
+//! segment to segment. A rule without a change is known by its types and tables, and is not walked over.
+
+ghost use Rattle.std.specs.Prelude.{◌≡◌, ◌≢◌, not, ℤ, pos, negsuc, ◌+ℤ◌, ◌-ℤ◌, ◌≤ℤ◌, ◌<ℤ◌, IfSome, MatchBool, MatchOption};
+ghost use Rattle.std.specs.Bool.{OnTrue};
+ghost use Rattle.tz_rule.specs.Alternate.{start_of, end_of};
+ghost use Rattle.tz_rule.specs.AlternateSegments.{type_by, IsTriedYear, moved_back};
+ghost use Rattle.tz_rule.specs.InnerTurns.{HasInnerTurns, IsLikelyYear};
+ghost use Rattle.tz_rule.specs.LocalTimeType.{LocalTimeType};
+ghost use Rattle.tz_rule.specs.Pairing.{EndsNextYear};
+ghost use Rattle.tz_rule.specs.Rule.{IsRuleType};
+ghost use Rattle.tz_rule.specs.RuleChanges.{TypeChange, type_change_of, IsTypeChange, IsChangeAfter, IsChangeUpTo, HasNoChangeAfter, HasNoChangeUpTo, HasOneType, IsTurnAfter, IsTurnUpTo};
+ghost use Rattle.tz_rule.specs.RuleRef.{rule_seen};
+ghost use Rattle.tz_rule.specs.declared.timezone.rule.TransitionRule.{TransitionRule};
+ghost use Rattle.tz_rule.specs.declared.timezone.rule.TransitionRule.TheVariants.{Alternate};
+
+use super::LocalTimeType;
+use super::alternate_clock::AlternateClock;
+use super::rule_ref::RuleRef;
+use super::segments::likely_years;
+
+/// A change of a rule, from one type to another.
+#[derive(Clone, Copy)]
+pub struct RuleChange<'a> {
+    /// The first instant with the new type.
+    pub unix_time: i64,
+    /// The type at the instant before.
+    pub before: &'a LocalTimeType,
+    /// The type from the instant on.
+    pub after: &'a LocalTimeType,
+}
+
+/// A start or an end of daylight saving time at which the rule has the other type than at the instant before.
+#[derive(Clone, Copy)]
+struct Turn {
+    unix_time: i64,
+    is_start: bool,
+}
+
+/// The turn, unless another one comes at the same instant.
+#[inline(always)]
+fn turn_between(unix_time: i64, is_start: bool, earlier: i64, later: i64) -> Option<Turn>
+    ensures { IfSome result (λ turn. (turn.unix_time ≡ unix_time) × (turn.is_start ≡ is_start) × (earlier <ℤ later)) }
+{
+    if earlier < later {
+        return Some(Turn {
+            unix_time,
+            is_start,
+        });
+    }
+    None
+}
+
+/// The change at an instant, by the types at the instant before and at it.
+#[inline(always)]
+fn change_by_types<'a>(
+    unix_time: i64,
+    before: Option<&'a LocalTimeType>,
+    after: Option<&'a LocalTimeType>,
+) -> Option<RuleChange<'a>>
+    ensures { (rule : TransitionRule) → negsuc 9223372036854775807 <ℤ unix_time
+        → MatchOption before.entry ((t : LocalTimeType) → ¬ IsRuleType rule (unix_time -ℤ pos 1) t) (λ t. IsRuleType rule (unix_time -ℤ pos 1) t.now)
+        → MatchOption after.entry ((t : LocalTimeType) → ¬ IsRuleType rule unix_time t) (λ t. IsRuleType rule unix_time t.now)
+        → MatchOption result ((c : TypeChange) → c.unix_time ≡ unix_time → ¬ IsTypeChange rule c) (λ c. ((type_change_of c).unix_time ≡ unix_time) × IsTypeChange rule (type_change_of c)) }
+{
+    let before = before?;
+    let after = after?;
+    if before == after {
+        return None;
+    }
+    Some(RuleChange {
+        unix_time,
+        before,
+        after,
+    })
+}
+
+impl AlternateClock {
+    /// The start or the end next after an instant near the moved year, where a year's end comes first, or its start.
+    ///
+    /// The second one of a year never meets the first one of the next year, since both lie far inside their years.
+    #[inline(always)]
+    fn turn_after_by_order(&self, end_is_first: bool, unix_time: i64, years: u64) -> Option<Turn>
+        requires order { MatchBool end_is_first (EndsNextYear (start_of self.now) (end_of self.now)) (¬ EndsNextYear (start_of self.now) (end_of self.now)) }
+        requires year { IsTriedYear (moved_back years) }
+        requires inner { HasInnerTurns self.now }
+        requires likely { IsLikelyYear unix_time (moved_back years) }
+        ensures { IfSome result (λ turn. IsTurnAfter self.now unix_time turn.unix_time turn.is_start) }
+    {
+        self.parts_are_sound();
+        let first = self.turn_in_moved(end_is_first, years);
+        let second = self.turn_in_moved(!end_is_first, years);
+        if unix_time < first {
+            return turn_between(first, !end_is_first, first, second);
+        }
+        if unix_time < second {
+            return Some(Turn {
+                unix_time: second,
+                is_start: end_is_first,
+            });
+        }
+        let next = self.turn_in_moved(end_is_first, years + 1);
+        let last = self.turn_in_moved(!end_is_first, years + 1);
+        turn_between(next, !end_is_first, next, last)
+    }
+
+    /// The last start or end up to an instant near the moved year, where a year's end comes first, or its start.
+    #[inline(always)]
+    fn turn_up_to_by_order(&self, end_is_first: bool, unix_time: i64, years: u64) -> Option<Turn>
+        requires order { MatchBool end_is_first (EndsNextYear (start_of self.now) (end_of self.now)) (¬ EndsNextYear (start_of self.now) (end_of self.now)) }
+        requires year { IsTriedYear (moved_back years) }
+        requires inner { HasInnerTurns self.now }
+        requires likely { IsLikelyYear unix_time (moved_back years) }
+        ensures { IfSome result (λ turn. IsTurnUpTo self.now unix_time turn.unix_time turn.is_start) }
+    {
+        self.parts_are_sound();
+        let first = self.turn_in_moved(end_is_first, years);
+        let second = self.turn_in_moved(!end_is_first, years);
+        if second <= unix_time {
+            return turn_between(second, end_is_first, first, second);
+        }
+        if first <= unix_time {
+            return Some(Turn {
+                unix_time: first,
+                is_start: !end_is_first,
+            });
+        }
+        let earlier = self.turn_in_moved(end_is_first, years - 1);
+        let last = self.turn_in_moved(!end_is_first, years - 1);
+        turn_between(last, end_is_first, earlier, last)
+    }
+
+    /// The year near an instant that determines the turns next to it, if the types differ and the turns lie so that one does.
+    #[inline(always)]
+    fn determining_years(&self, unix_time: i64) -> Option<u64>
+        ensures differ { IfSome result (λ _. self.now.std ≢ self.now.dst) }
+        ensures inner { IfSome result (λ _. HasInnerTurns self.now) }
+        ensures year { IfSome result (λ years. IsTriedYear (moved_back years)) }
+        ensures likely { IfSome result (λ years. IsLikelyYear unix_time (moved_back years)) }
+    {
+        if !self.has_inner_turns() || self.std() == self.dst() {
+            return None;
+        }
+        likely_years(unix_time)
+    }
+
+    /// The change at a turn.
+    #[inline(always)]
+    fn change_at(&self, turn: Turn) -> RuleChange<'_>
+        ensures time { result.unix_time ≡ turn.unix_time }
+        ensures before { result.before.now ≡ type_by self.now (not turn.is_start) }
+        ensures after { result.after.now ≡ type_by self.now turn.is_start }
+    {
+        RuleChange {
+            unix_time: turn.unix_time,
+            before: self.type_by(!turn.is_start),
+            after: self.type_by(turn.is_start),
+        }
+    }
+
+    /// The turn next after an instant, if the likely year determines it.
+    #[inline(always)]
+    fn turn_after(&self, unix_time: i64) -> Option<Turn>
+        ensures differ { IfSome result (λ _. self.now.std ≢ self.now.dst) }
+        ensures turn { IfSome result (λ turn. IsTurnAfter self.now unix_time turn.unix_time turn.is_start) }
+    {
+        let years = self.determining_years(unix_time)?;
+        if self.ends_next_year() {
+            self.turn_after_by_order(true, unix_time, years)
+        } else {
+            self.turn_after_by_order(false, unix_time, years)
+        }
+    }
+
+    /// The last turn up to an instant, if the likely year determines it.
+    #[inline(always)]
+    fn turn_up_to(&self, unix_time: i64) -> Option<Turn>
+        ensures differ { IfSome result (λ _. self.now.std ≢ self.now.dst) }
+        ensures turn { IfSome result (λ turn. IsTurnUpTo self.now unix_time turn.unix_time turn.is_start) }
+    {
+        let years = self.determining_years(unix_time)?;
+        if self.ends_next_year() {
+            self.turn_up_to_by_order(true, unix_time, years)
+        } else {
+            self.turn_up_to_by_order(false, unix_time, years)
+        }
+    }
+
+    /// Whether the rule is known to have no change: its types are equal, or daylight saving time never begins before it ends, or never ends before it
+    /// begins again.
+    fn has_one_type(&self) -> bool
+        ensures { OnTrue result (HasOneType (Alternate self.now)) }
+    {
+        self.parts_are_sound();
+        if self.std() == self.dst() {
+            return true;
+        }
+        let (starts, ends) = (self.turns(false), self.turns(true));
+        if self.ends_next_year() {
+            return !starts.comes_before_next(ends);
+        }
+        !starts.comes_first(ends) || !ends.comes_before_next(starts)
+    }
+
+    /// The first change after an instant, from segment to segment.
+    #[inline(never)]
+    fn outer_change_after(&self, unix_time: i64) -> Option<RuleChange<'_>>
+        ensures { MatchOption result (HasNoChangeAfter (Alternate self.now) unix_time) (λ c. IsChangeAfter (Alternate self.now) unix_time (type_change_of c)) }
+    {
+        if self.has_one_type() {
+            return None;
+        }
+        let mut segment = self.segment(unix_time);
+        while segment.last < i64::MAX {
+            let next = segment.last + 1;
+            let after = self.segment(next);
+            if let Some(change) = change_by_types(
+                next,
+                segment.local_time_type,
+                after.local_time_type,
+            ) {
+                return Some(change);
+            }
+            segment = after;
+        }
+        None
+    }
+
+    /// The last change up to an instant, from segment to segment.
+    #[inline(never)]
+    fn outer_change_up_to(&self, unix_time: i64) -> Option<RuleChange<'_>>
+        ensures { MatchOption result (HasNoChangeUpTo (Alternate self.now) unix_time) (λ c. IsChangeUpTo (Alternate self.now) unix_time (type_change_of c)) }
+    {
+        if self.has_one_type() {
+            return None;
+        }
+        let mut segment = self.segment(unix_time);
+        while segment.from > i64::MIN {
+            let from = segment.from;
+            let before = self.segment(from - 1);
+            if let Some(change) = change_by_types(
+                from,
+                before.local_time_type,
+                segment.local_time_type,
+            ) {
+                return Some(change);
+            }
+            segment = before;
+        }
+        None
+    }
+
+    /// The first change after an instant. It is a call, so that walks over a zone's transitions stay small.
+    #[inline(never)]
+    fn change_after(&self, unix_time: i64) -> Option<RuleChange<'_>>
+        ensures { MatchOption result (HasNoChangeAfter (Alternate self.now) unix_time) (λ c. IsChangeAfter (Alternate self.now) unix_time (type_change_of c)) }
+    {
+        match self.turn_after(unix_time) {
+            Some(turn) => Some(self.change_at(turn)),
+            None => self.outer_change_after(unix_time),
+        }
+    }
+
+    /// The last change up to an instant, as a call too.
+    #[inline(never)]
+    fn change_up_to(&self, unix_time: i64) -> Option<RuleChange<'_>>
+        ensures { MatchOption result (HasNoChangeUpTo (Alternate self.now) unix_time) (λ c. IsChangeUpTo (Alternate self.now) unix_time (type_change_of c)) }
+    {
+        match self.turn_up_to(unix_time) {
+            Some(turn) => Some(self.change_at(turn)),
+            None => self.outer_change_up_to(unix_time),
+        }
+    }
+}
+
+/// The first change of a rule after an instant.
+#[inline(always)]
+pub fn change_after<'a>(rule: RuleRef<'a>, unix_time: i64) -> Option<RuleChange<'a>>
+    ensures { MatchOption result (HasNoChangeAfter (rule_seen rule.entry) unix_time) (λ c. IsChangeAfter (rule_seen rule.entry) unix_time (type_change_of c)) }
+{
+    match rule {
+        RuleRef::Fixed(_) => None,
+        RuleRef::Alternate(rule) => rule.change_after(unix_time),
+    }
+}
+
+/// The last change of a rule up to an instant.
+#[inline(always)]
+pub fn change_up_to<'a>(rule: RuleRef<'a>, unix_time: i64) -> Option<RuleChange<'a>>
+    ensures { MatchOption result (HasNoChangeUpTo (rule_seen rule.entry) unix_time) (λ c. IsChangeUpTo (rule_seen rule.entry) unix_time (type_change_of c)) }
+{
+    match rule {
+        RuleRef::Fixed(_) => None,
+        RuleRef::Alternate(rule) => rule.change_up_to(unix_time),
+    }
+}
