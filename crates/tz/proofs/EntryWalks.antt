@@ -9,8 +9,6 @@ use Rattle.tz_rule.specs.LocalTimeType.{LocalTimeType}
 use Rattle.std.specs.Borrow.{Bor}
 use Rattle.std.specs.Prelude.{MatchOption}
 use Rattle.tz_zone.specs.Clock.{IsClock, HasNoType}
-use Rattle.tz_zone.specs.ClockSegments.{IsSegmentAt}
-use Rattle.tz_zone.specs.declared.clock.segment.ClockSegment.{ClockSegment}
 use Rattle.tz_zone.specs.Table.{Zone}
 use Rattle.tz_zone.specs.ValidZone.{AreLeapSeconds}
 use Rattle.tz_zone.proofs.Clocks.{clock_unique}
@@ -88,7 +86,7 @@ module _ (clock : Clock) (low high r : ℤ) (offsets : AreOffsetsAround clock lo
   }
 
   -- and after it there is none
-  pub entries_at_last : (es : List Entry) (until : ℤ) → until ≡ high +ℤ pos 1 → AreEntriesBefore clock r until es → AreEntries clock r es
+  pub entries_at_last : (es : List Entry) (until : ℤ) → high <ℤ until → AreEntriesBefore clock r until es → AreEntries clock r es
   entries_at_last es until end are = record {
     sound = All-weaker (λ e. IsEntryIn clock r e × (instant_of e <ℤ until)) (IsEntryIn clock r) (λ e h. h.0) es are.sound;
     in_order = are.in_order;
@@ -176,53 +174,42 @@ holds_at z leaps u t clock s = ((λ other. ap Some (clock_unique z u t s leaps c
 pub holds_none : (clock : Clock) (u : ℤ) → ((t : LocalTimeType) → ¬ clock u t) → HoldsAt clock u None
 holds_none clock u none t = ((λ is. absurd (none t is)), (λ same. absurd (none-some t same)))
 
--- a walk has come to a span
-pub record IsWalkedTo (clock : Clock) (r low high : ℤ) (before : Option LocalTimeType) (since : ℤ) (type : Option LocalTimeType) (last : ℤ) (es : List Entry) : Type 0 where
+-- a walk has come to an instant: it took all entries before that, and the type just before it is known
+pub record IsWalkedTo (clock : Clock) (r low : ℤ) (before : Option LocalTimeType) (since : ℤ) (es : List Entry) : Type 0 where
   pub so_far : AreEntriesBefore clock r since es
   pub just_before : IsJustBefore clock low since before
-  pub holds : HoldsTo clock since last type
-  pub low_is : low ≤ℤ since
-  pub high_is : since ≤ℤ high
-  pub last_is : since ≤ℤ last
 
--- the walk begins with the window, goes on to the next span, and ends with the window
 module _ (clock : Clock) (low high r : ℤ) (offsets : AreOffsetsAround clock low high r) where
-  pub walked_to_first : (type : Option LocalTimeType) (last : ℤ) → low ≤ℤ high → low ≤ℤ last → HoldsTo clock low last type → IsWalkedTo clock r low high None low type last []
-  walked_to_first type last order within holds = record {
-    so_far = entries_at_first clock low high r offsets;
-    just_before = inl (refl, refl);
-    holds = holds;
-    low_is = omega (arith, ints);
-    high_is = order;
-    last_is = within;
-  }
-
-  module _ (before : Option LocalTimeType) (since : ℤ) (type : Option LocalTimeType) (last : ℤ) (es : List Entry) (way : IsWalkedTo clock r low high before since type last es) where
-    holds_up_to : (to : ℤ) → to ≤ℤ last → HoldsTo clock since to type
-    holds_up_to to order u from until = way.holds u from (omega (arith, ints, until, order))
-
-    pub refused_there : (to : ℤ) → since ≤ℤ to → to ≤ℤ last → (e : Entry) → IsEntryOf r before since type to e → IsEntryIn clock r e
-    refused_there to some order e of = (entry_in clock low high r offsets before since type to way.just_before (holds_up_to to order) some e of).0
-
-    pub walked_to_next : (new : List Entry) (next : Option LocalTimeType) (from end : ℤ) → last <ℤ high → IsGiven r before since type last new → from ≡ last +ℤ pos 1 → from ≤ℤ end → HoldsTo clock from end next →
-        IsWalkedTo clock r low high type from next end (es ++ new)
-    walked_to_next new next from end more given at order holds = record {
-      so_far = entries_after clock low high r offsets before since type last way.just_before way.holds way.last_is es new from at way.so_far given;
-      just_before = inr (way.holds (from -ℤ pos 1) (omega (arith, ints, at, way.last_is)) (omega (arith, ints, at)));
-      holds = holds;
-      low_is = omega (arith, ints, at, way.low_is, way.last_is);
-      high_is = omega (arith, ints, at, more);
-      last_is = order;
+  -- past a span the walk comes to the second after it
+  module _ (before : Option LocalTimeType) (since : ℤ) (es : List Entry) (way : IsWalkedTo clock r low before since es)
+      (type : Option LocalTimeType) (last : ℤ) (holds : HoldsTo clock since last type) (some : since ≤ℤ last) where
+    pub walked_on : (new : List Entry) → IsGiven r before since type last new → (until : ℤ) → until ≡ last +ℤ pos 1 → IsWalkedTo clock r low type until (es ++ new)
+    walked_on new given until at = record {
+      so_far = entries_after clock low high r offsets before since type last way.just_before holds some es new until at way.so_far given;
+      just_before = inr (holds (until -ℤ pos 1) (omega (arith, ints, at, some)) (omega (arith, ints, at)));
     }
 
-    pub walked_to_end : (new : List Entry) → high ≤ℤ last → IsGiven r before since type high new → AreEntries clock r (es ++ new)
-    walked_to_end new over given =
-        entries_at_last clock low high r offsets (es ++ new) (high +ℤ pos 1) refl
-        (entries_after clock low high r offsets before since type high way.just_before (holds_up_to high over) way.high_is es new (high +ℤ pos 1) refl way.so_far given)
+    pub refused_there : (e : Entry) → IsEntryOf r before since type last e → IsEntryIn clock r e
+    refused_there e of = (entry_in clock low high r offsets before since type last way.just_before holds some e of).0
 
--- throughout a segment the clock has its type
-pub segment_holds : (z : Zone) → AreLeapSeconds z.leap_seconds → (at : ℤ) (s : ClockSegment) → IsSegmentAt z at s → (from : ℤ) → s.from ≤ℤ from → HoldsTo (IsClock z) from s.last (lent_type s.local_time_type)
-segment_holds z leaps at s is from order u since until = by_type s.local_time_type (is.holds u (omega (arith, ints, order, since)) until)
+  -- it begins with the window, or later if the clock has no type before that
+  pub walked_to_first : (first : ℤ) → low ≤ℤ first → ((u : ℤ) → low ≤ℤ u → u <ℤ first → (t : LocalTimeType) → ¬ clock u t) → IsWalkedTo clock r low None first []
+  walked_to_first first order never = by_lt_z low first
+      (λ later. walked_on None low [] begin None (first -ℤ pos 1) (λ u from to. holds_none clock u (never u from (omega (arith, ints, to)))) (omega (arith, ints, later))
+      [] (inl (refl, none_without r None low None (first -ℤ pos 1) refl)) first (omega (arith, ints)))
+      (λ same. let at : low ≡ first = omega (arith, ints, same, order) in subst (λ v. IsWalkedTo clock r low None v []) at begin)
+    where
+      begin : IsWalkedTo clock r low None low []
+      begin = record { so_far = entries_at_first clock low high r offsets; just_before = inl (refl, refl) }
+
+  -- and ends after the window
+  pub walked_to_end : (before : Option LocalTimeType) (since : ℤ) (es : List Entry) → IsWalkedTo clock r low before since es → high <ℤ since → AreEntries clock r es
+  walked_to_end before since es way over = entries_at_last clock low high r offsets es since over way.so_far
+
+-- throughout a span the clock has its type
+pub span_holds : (z : Zone) → AreLeapSeconds z.leap_seconds → (since last : ℤ) (type : Option (Bor LocalTimeType))
+    → ((u : ℤ) → since ≤ℤ u → u ≤ℤ last → MatchOption type (HasNoType z u) (λ t. IsClock z u t.now)) → HoldsTo (IsClock z) since last (lent_type type)
+span_holds z leaps since last type holds u from to = by_type type (holds u from to)
   where
     by_type : (type : Option (Bor LocalTimeType)) → MatchOption type (HasNoType z u) (λ t. IsClock z u t.now) → HoldsAt (IsClock z) u (lent_type type)
     by_type None none = holds_none (IsClock z) u none
@@ -236,7 +223,7 @@ entries_once z leaps r low high t u order offsets through at =
     let offset = offsets low t (through low (omega (arith, ints)) order) in
     let holds : HoldsTo clock low high (Some t) = λ v from to. holds_at z leaps v t (through v from to) in
     let given = given_shown r None low (Some t) high t u refl at (omega (arith, ints, at, offset.1)) (omega (arith, ints, at, offset.0)) in
-    entries_at_last clock low high r offsets (Shown u t ∷ []) (high +ℤ pos 1) refl
+    entries_at_last clock low high r offsets (Shown u t ∷ []) (high +ℤ pos 1) (omega (arith, ints))
     (entries_after clock low high r offsets None low (Some t) high (inl (refl, refl)) holds order [] (Shown u t ∷ []) (high +ℤ pos 1) refl (entries_at_first clock low high r offsets) (inr (Shown u t, given, refl)))
 
 -- it has one type up to a jump, and another from there on
@@ -273,10 +260,10 @@ module _ (z : Zone) (r jump : ℤ) (a b : LocalTimeType) (has : HasTwoTypes z r 
   entries_around es fs first second =
       let clock = IsClock z in
       let before = entries_after clock has.low has.high r has.offsets_are None has.low (Some a) (jump -ℤ pos 1) begins first_holds first_some [] es jump (omega (arith, ints)) (entries_at_first clock has.low has.high r has.offsets_are) first in
-      entries_at_last clock has.low has.high r has.offsets_are (es ++ fs) (has.high +ℤ pos 1) refl
+      entries_at_last clock has.low has.high r has.offsets_are (es ++ fs) (has.high +ℤ pos 1) (omega (arith, ints))
       (entries_after clock has.low has.high r has.offsets_are (Some a) jump (Some b) has.high goes_on second_holds has.types_are.1 es fs (has.high +ℤ pos 1) refl before second)
 
--- how many instants lie between the end of a segment and that of the window
+-- how many instants are left of the window
 abbrev pub room : ℤ → ℕ
 room (pos n) = n
 room (negsuc n) = 0

@@ -5,7 +5,7 @@ pub mod DatedEntries
 pub mod ClockTypes
 pub mod ReadingWindows
 pub mod EntryWalks
-pub mod SegmentLooks
+pub mod WalkLooks
 pub mod PromisedLists
 pub mod CivilFields
 pub mod NoneLost

@@ -5,7 +5,6 @@ use Rattle.tz_rule.specs.LocalTimeType.{LocalTimeType}
 use Rattle.tz_rule.specs.declared.timezone.rule.TransitionRule.{TransitionRule}
 use Rattle.tz_zone.specs.Table.{Transition, Zone}
 use Rattle.tz_zone.specs.LeapTime.{IsEffect}
-use Rattle.tz_zone.specs.declared.clock.cursor.Cursor.{Cursor}
 use Rattle.tz_zone.specs.Offsets.{IsLeastOffset, IsGreatestOffset}
 use Rattle.tz_zone.specs.ValidZone.{IsSoundTable}
 use Rattle.tz.specs.Reached.{AreOffsetsOf}
@@ -45,11 +44,6 @@ AtMostTakeEffectIn z low high w = (places : List ℕ) → AreRising places → A
 -- no more than this many take effect in the window of a reading
 abbrev pub AtMostTakeEffectAround : Zone → ℤ → ℕ → Type 0
 AtMostTakeEffectAround z r w = (low : ℤ) × (high : ℤ) × IsWindow z.types z.extra_rule r low high × AtMostTakeEffectIn z low high w
-
--- the looks that a walk takes to find its place, by the bits of the number of transitions: none from a cursor on
-abbrev pub halvings : Option Cursor → ℕ → ℕ
-halvings None b = b + 3
-halvings (Some c) b = 0
 
 -- the looks with which a walk begins in the segment at a place: at the transitions on both sides of it, or the halving of a walk that begins without one
 abbrev pub first_looks : Option ℕ → ℕ → ℕ

@@ -19,6 +19,7 @@ pub mod Places
 pub mod WindowTypes
 pub mod SegmentEnds
 pub mod LeapReached
+pub mod SegmentPlaces
 pub mod SegmentTypes
 pub mod TzFileLaws
 pub mod TzNames
@@ -40,4 +41,5 @@ pub mod SettingsAnswers
 pub mod ChangeSpans
 pub mod PlaceRuns
 pub mod RulePeriods
+pub mod ClockStages
 pub mod RuleChanges

@@ -2,7 +2,7 @@
 use Rattle.std.proofs.Common.{◌≡◌, ◌≢◌, ℕ, zero, suc, ◌+◌, ◌-◌, ◌<◌, ◌∙◌, inl, inr, eqb, refl, sym, ap, subst, arith, ℤ, ◌≤ℤ◌, ◌<ℤ◌, List, [], ◌∷◌, length, get_or, Option, Some, None}
 use Rattle.std.proofs.Math.Dec.{eqb-suc-zero}
 use Rattle.std.proofs.lemmas.List.{nil_from_length}
-use Rattle.std.specs.Prelude.{slice_get, IfSome, MatchOption}
+use Rattle.std.specs.Prelude.{slice_get, MatchOption}
 use Rattle.std.proofs.lemmas.Int.{ints, by_lt_z}
 use Rattle.std.proofs.lemmas.Option.{slice_get_within, slice_get-get_or, same_Some, none-some}
 use Rattle.tz_base.specs.declared.error.TzError.{TzError}
@@ -10,17 +10,16 @@ use Rattle.tz_base.specs.declared.error.TzError.TheVariants.{OutOfRange, NoAvail
 use Rattle.tz_rule.specs.LocalTimeType.{LocalTimeType}
 use Rattle.tz_rule.specs.declared.timezone.rule.TransitionRule.{TransitionRule}
 use Rattle.tz_zone.specs.Table.{Transition, Zone}
-use Rattle.tz_zone.specs.LeapTime.{IsInstant, IsLeapTime, IsMomentOf}
+use Rattle.tz_zone.specs.LeapTime.{IsLeapTime, IsMomentOf}
 use Rattle.tz_zone.specs.Clock.{IsTypeAt, IsTypeOfLast, IsLast, IsTypeAfter, IsTypeWithout, IsTypeAfterTable, IsFaultAfter, IsClock, IsLookupFault}
 use Rattle.tz_zone.specs.ValidZone.{IsRising, IsSoundTable}
-use Rattle.tz_zone.specs.ClockSegments.{from_start, IsReachedAt, IsCursor, IsAtCursor}
+use Rattle.tz_zone.specs.ClockSegments.{from_start, IsReachedAt, IsBefore}
 use Rattle.tz_zone.specs.ZoneSeen.{zone_seen}
-use Rattle.tz_zone.specs.declared.clock.cursor.Cursor.{Cursor}
 use Rattle.tz_zone.specs.declared.table.parts.OtherParts.{OtherParts}
 use Rattle.tz_zone.proofs.LeapTimes.{leap_time_mono}
 use Rattle.tz_zone.proofs.RisingTimes.{ahead_from, reached_through}
 use Rattle.tz_zone.proofs.Clocks.{transition_type_of_last, clock_before_last, clock_from_last, fault_from_last, fault_without}
-use Rattle.tz_zone.proofs.TypesAtCursors.{by_count, leap_unless_refused, answered_between, reached_from_moment, moment_up_to, before_later}
+use Rattle.tz_zone.proofs.TypesAtCursors.{by_count, leap_unless_refused, answered_between, reached_from_moment, moment_up_to}
 
 module _ (z : Zone) (sound : IsSoundTable z) where
   rising : IsRising z.transitions
@@ -29,6 +28,19 @@ module _ (z : Zone) (sound : IsSoundTable z) where
   -- the last transition
   last : 0 < length z.transitions → (last : Transition) × IsLast z.transitions last
   last some = (get_or z.transitions (length z.transitions - 1) from_start, slice_get-get_or z.transitions (length z.transitions - 1) from_start (omega (arith, some)))
+
+  -- the transition before a place has a type of the zone, which is that at the place
+  pub names_type : (k : ℕ) (before : Transition) → IsBefore z.transitions k before → before.type_index < length z.types
+  names_type k before (inl (none, is)) = omega (arith, ap (λ (change : Transition). change.type_index) is, some_types z.types sound.has_types)
+    where
+      some_types : (types : List LocalTimeType) → types ≢ [] → 0 < length types
+      some_types [] some = absurd (some refl)
+      some_types (t ∷ types) some = omega arith
+  names_type k before (inr (some, at)) = (sound.transitions_are (k - 1)).0 before at
+
+  pub type_of_before : (k : ℕ) (before : Transition) (t : LocalTimeType) → IsBefore z.transitions k before → IsTypeAt z before.type_index t → IsTypeOfLast z k t
+  type_of_before k before t (inl (none, is)) type = inl (none, subst (λ (change : Transition). IsTypeAt z change.type_index t) is type)
+  type_of_before k before t (inr (some, at)) type = inr (some, before, at, type)
 
   -- before the last transition the clock has the type of the last one that is reached
   pub clock_at_place : (k : ℕ) (v : ℤ) (t : LocalTimeType) → k < length z.transitions → IsReachedAt z v k → IsTypeOfLast z k t → IsClock z v t
@@ -123,14 +135,6 @@ module _ (z : Zone) (sound : IsSoundTable z) where
           let here_next : slice_get z.transitions (k + 1 - 1) ≡ Some next = subst (λ (i : ℕ). slice_get z.transitions i ≡ Some next) back at_next in
           clock_at_place (k + 1) v after (slice_get_within z.transitions (k + 1) later at_later) (place_after k v here.0 next later here.1 at_next since at_later (omega (arith, ints, here.2, ahead)))
           (inr ((λ none. absurd (omega (arith, none))), next, here_next, type))
-
-  -- an instant that lies at the place of a cursor lies between the transitions on both sides of it
-  pub at_cursor : (c : Cursor) → IsCursor z.transitions c → (u : ℤ) → IsInstant u → IsReachedAt z u c.place → IsAtCursor z.leap_seconds c u
-  at_cursor c cursor u fits at = (at.time, at.time_is, (before_later z sound c cursor u u at.time (omega (arith, ints)) fits at at.time_is, by_next c.next cursor.next))
-    where
-      by_next : (o : Option Transition) → MatchOption o (c.place ≡ length z.transitions) (λ next. slice_get z.transitions c.place ≡ Some next) → IfSome o (λ next. at.time <ℤ next.unix_leap_time)
-      by_next (Some next) at_next = at.ahead c.place next (omega arith) at_next
-      by_next None all = tt
 
 -- the type after the table is that of the clock where all transitions are reached, and of one that has none
 pub clock_after_table : (list : List Transition) (parts : OtherParts) → IsSoundTable (zone_seen list parts) → (count : ℕ) → count ≡ length list → (v : ℤ) (t : LocalTimeType)

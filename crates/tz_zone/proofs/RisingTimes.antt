@@ -1,14 +1,13 @@
 -- Lists of items whose times rise: what is up to a time is the front of the list.
-use Rattle.std.proofs.Common.{◌≡◌, ℕ, zero, suc, ◌+◌, ◌-◌, ◌<◌, ◌≤◌, arith, ap, sym, ◌∙◌, ℤ, ◌≤ℤ◌, ◌<ℤ◌, List, length, get_or, Option, Some, None, inl, inr}
-use Rattle.std.specs.Prelude.{slice_get, IfSome, MatchOption}
+use Rattle.std.proofs.Common.{◌≡◌, ℕ, zero, suc, ◌+◌, ◌-◌, ◌<◌, ◌≤◌, arith, ap, sym, ◌∙◌, ℤ, ◌≤ℤ◌, ◌<ℤ◌, List, length, get_or, Some, inl, inr}
+use Rattle.std.specs.Prelude.{slice_get}
 use Rattle.std.proofs.lemmas.Int.{ints, by_lt_z}
 use Rattle.std.proofs.lemmas.Bool.{cases_lt}
 use Rattle.std.proofs.lemmas.Option.{slice_get_within, slice_get-get_or, same_Some}
 use Rattle.tz_zone.specs.Table.{Transition, LeapSecond}
 use Rattle.tz_zone.specs.Clock.{AreReached, AreAhead}
 use Rattle.tz_zone.specs.ValidZone.{AreLeapSeconds, IsRising}
-use Rattle.tz_zone.specs.ClockSegments.{IsCursor}
-use Rattle.tz_zone.specs.declared.clock.cursor.Cursor.{Cursor}
+use Rattle.tz_zone.specs.ClockSegments.{IsBefore}
 use Rattle.tz_zone.proofs.LeapSteps.{times_rise}
 use Rattle.tz_zone.proofs.LeapLists.{time_at, time_at-is, AreSteps-from_leaps}
 
@@ -80,20 +79,10 @@ ahead_from transitions rising v k change at ahead i x h at' =
 pub ahead_later : (transitions : List Transition) (v : ℤ) (k m : ℕ) → k ≤ m → AreAhead transitions v k → AreAhead transitions v m
 ahead_later transitions v k m order ahead i change from at = ahead i change (omega (arith, order, from)) at
 
--- where the transition before a cursor is reached, all before its place are, and where the next one is ahead, all from there on are
-module _ (transitions : List Transition) (rising : IsRising transitions) (c : Cursor) (cursor : IsCursor transitions c) where
-  pub reached_before_cursor : (l : ℤ) → c.before.unix_leap_time ≤ℤ l → AreReached transitions l c.place
-  reached_before_cursor l before i change less at = elim cursor.before [
-    | inl (none, is) ↦ absurd (omega (arith, none, less))
-    | inr (some, at_before) ↦ reached_through transitions rising l (c.place - 1) c.before at_before before i change (omega (arith, less, some)) at
-  ]
-
-  pub ahead_at_cursor : (l : ℤ) → IfSome c.next (λ next. l <ℤ next.unix_leap_time) → AreAhead transitions l c.place
-  ahead_at_cursor l = by_next c.next cursor.next
-    where
-      by_next : (o : Option Transition) → MatchOption o (c.place ≡ length transitions) (λ next. slice_get transitions c.place ≡ Some next) → IfSome o (λ next. l <ℤ next.unix_leap_time) → AreAhead transitions l c.place
-      by_next (Some next) at ahead = ahead_from transitions rising l c.place next at ahead
-      by_next None all ahead = λ i change above at. absurd (omega (arith, all, above, slice_get_within transitions i change at))
+-- where the transition before a place is reached, all before it are
+pub reached_before : (transitions : List Transition) → IsRising transitions → (k : ℕ) (before : Transition) → IsBefore transitions k before → (v : ℤ) → before.unix_leap_time ≤ℤ v → AreReached transitions v k
+reached_before transitions rising k before (inl (none, is)) v reached i change less at = absurd (omega (arith, none, less))
+reached_before transitions rising k before (inr (some, at_before)) v reached i change less at = reached_through transitions rising v (k - 1) before at_before reached i change (omega (arith, less, some)) at
 
 -- and those of leap seconds
 pub leap_seconds_rise : (leaps : List LeapSecond) → AreLeapSeconds leaps → Rise (λ (l : LeapSecond). l.unix_leap_time) leaps

@@ -1,17 +1,17 @@
 -- Where a segment of the clock begins and ends the tables change.
-use Rattle.std.proofs.Common.{◌≡◌, ◌≢◌, ◌∙◌, ◌-◌, ◌⊎◌, inl, inr, false, eqb, refl, sym, ap, subst, arith, ℤ, pos, negsuc, ◌+ℤ◌, ◌-ℤ◌, ◌≤ℤ◌, ◌<ℤ◌, List, [], ◌∷◌, length, Option, Some, None}
-use Rattle.std.specs.Prelude.{slice_get, unsigned_abs, IfSome, MatchOption}
+use Rattle.std.proofs.Common.{◌≡◌, ◌≢◌, ◌∙◌, ℕ, ◌-◌, ◌⊎◌, inl, inr, false, eqb, refl, sym, ap, subst, arith, ℤ, pos, negsuc, ◌+ℤ◌, ◌-ℤ◌, ◌≤ℤ◌, ◌<ℤ◌, List, [], ◌∷◌, length, Option, Some, None}
+use Rattle.std.specs.Prelude.{slice_get, unsigned_abs}
 use Rattle.std.proofs.lemmas.Int.{ints, by_lt_z}
 use Rattle.std.proofs.lemmas.Bool.{cases_lt, false≢true}
-use Rattle.std.proofs.lemmas.Option.{none-some, same_Some}
+use Rattle.std.proofs.lemmas.Option.{slice_get_within, none-some, same_Some}
 use Rattle.tz_zone.specs.Table.{Transition, LeapSecond, Zone}
-use Rattle.tz_zone.specs.LeapTime.{IsInstant, IsBeforeStart, IsPastInstants, IsLeapTimeRefused, IsMomentOf}
+use Rattle.tz_zone.specs.LeapTime.{IsInstant, IsBeforeStart, IsPastInstants, IsLeapTimeRefused, IsTimeReached, IsMomentOf}
 use Rattle.tz_zone.specs.ValidZone.{AreLeapSeconds, IsSoundTable}
-use Rattle.tz_zone.specs.ClockSegments.{IsReachedAt, IsCursor, IsAtCursor}
+use Rattle.tz_zone.specs.ClockSegments.{IsReachedAt, IsBefore}
 use Rattle.tz_zone.specs.TableChanges.{IsChangeByRule, IsTableChange, IsFar, HasTableEnds}
-use Rattle.tz_zone.specs.declared.clock.cursor.Cursor.{Cursor}
+use Rattle.tz_zone.proofs.RisingTimes.{reached_before}
 use Rattle.tz_zone.proofs.LeapTimes.{one_leap_time, leap_time_mono, past_later, begun_later, not_past_within, not_refused_within, IsInstant-from_bounds, instant_bounds}
-use Rattle.tz_zone.proofs.TypesAtCursors.{plain_leap, leap_unless_refused, leap_time_low, moment_up_to, answered_from_moment, reached_at}
+use Rattle.tz_zone.proofs.TypesAtCursors.{plain_leap, leap_unless_refused, leap_time_low, moment_up_to, answered_from_moment}
 
 -- an instant lies before a truncated start or it does not
 pub before_start_or_not : (leaps : List LeapSecond) (u : ℤ) → IsBeforeStart leaps u ⊎ ¬ IsBeforeStart leaps u
@@ -65,38 +65,45 @@ plain_moment leaps none v low = record {
 pub far_if_past : (leaps : List LeapSecond) → AreLeapSeconds leaps → (u : ℤ) → IsPastInstants leaps u → IsFar leaps u
 far_if_past leaps are u past = (some_if_refused leaps u (inr past), by_lt_z (pos 80000000000000000) u (λ h. h) (λ h. absurd (not_past_within leaps are u h past)))
 
-module _ (z : Zone) (sound : IsSoundTable z) (c : Cursor) (cursor : IsCursor z.transitions c) (u : ℤ) (fits : IsInstant u) (at : IsAtCursor z.leap_seconds c u) where
+module _ (z : Zone) (sound : IsSoundTable z) (u : ℤ) (k : ℕ) (fits : IsInstant u) (at : IsReachedAt z u k) (before : Transition) (is : IsBefore z.transitions k before) where
   are : AreLeapSeconds z.leap_seconds
   are = sound.leap_seconds_are
 
-  -- where the leap time of the transition before the cursor is first reached it takes effect, or the leap-second table begins
-  pub change_at_moment : (m : ℤ) → IsMomentOf z.leap_seconds c.before.unix_leap_time m → m ≢ negsuc 9223372036854775807 → IsTableChange z m
-  change_at_moment m moment not_least = by_lt_z (negsuc 9223372036854775807) c.before.unix_leap_time effect least
+  -- the transition before the place of an instant is reached there
+  pub before_reached : before.unix_leap_time ≤ℤ at.time
+  before_reached = elim is [
+    | inl (none, first) ↦ omega (arith, ints, leap_time_low z.leap_seconds are u at.time fits at.time_is, ap (λ (t : Transition). t.unix_leap_time) first)
+    | inr (some, at_before) ↦ at.reached (k - 1) before (omega (arith, some)) at_before
+  ]
+
+  -- where its leap time is first reached it takes effect, or the leap-second table begins
+  pub change_at_moment : (m : ℤ) → IsMomentOf z.leap_seconds before.unix_leap_time m → m ≢ negsuc 9223372036854775807 → IsTableChange z m
+  change_at_moment m moment not_least = by_lt_z (negsuc 9223372036854775807) before.unix_leap_time effect least
     where
       up_to : m ≤ℤ u
-      up_to = moment_up_to z.leap_seconds are u at.0 at.1 c.before.unix_leap_time m moment at.2.0
+      up_to = moment_up_to z.leap_seconds are u at.time at.time_is before.unix_leap_time m moment before_reached
 
-      effect : negsuc 9223372036854775807 <ℤ c.before.unix_leap_time → IsTableChange z m
-      effect above = elim cursor.before [
-        | inl (none, is) ↦ absurd (omega (arith, ints, above, ap (λ (t : Transition). t.unix_leap_time) is))
+      effect : negsuc 9223372036854775807 <ℤ before.unix_leap_time → IsTableChange z m
+      effect above = elim is [
+        | inl (none, first) ↦ absurd (omega (arith, ints, above, ap (λ (t : Transition). t.unix_leap_time) first))
         | inr (some, at_before) ↦ inl (
-          c.place - 1,
+          k - 1,
           (
-            c.before,
+            before,
             at_before,
             record {
               not_least = λ e. absurd (omega (arith, ints, above, e));
               instant = IsInstant-from_bounds m moment.low (omega (arith, ints, up_to, (instant_bounds u fits).1));
-              reached = moment.reached (answered_from_moment z.leap_seconds are u at.0 at.1 c.before.unix_leap_time m m moment (omega (arith, ints)) up_to);
+              reached = moment.reached (answered_from_moment z.leap_seconds are u at.time at.time_is before.unix_leap_time m m moment (omega (arith, ints)) up_to);
               least = moment.least;
             },
           ),
         )
       ]
 
-      least : c.before.unix_leap_time ≤ℤ negsuc 9223372036854775807 → IsTableChange z m
+      least : before.unix_leap_time ≤ℤ negsuc 9223372036854775807 → IsTableChange z m
       least low = elim (before_start_or_not z.leap_seconds (m -ℤ pos 1)) [
-        | inl before ↦ inr (inr (before, moment.begun))
+        | inl early ↦ inr (inr (early, moment.begun))
         | inr begun ↦
             let above : negsuc 9223372036854775807 <ℤ m = by_lt_z (negsuc 9223372036854775807) m (λ h. h) (λ h. absurd (not_least (omega (arith, ints, h, moment.low)))) in
             let instant = IsInstant-from_bounds (m -ℤ pos 1) (omega (arith, ints, above)) (omega (arith, ints, up_to, (instant_bounds u fits).1)) in
@@ -106,20 +113,20 @@ module _ (z : Zone) (sound : IsSoundTable z) (c : Cursor) (cursor : IsCursor z.t
       ]
         where
           answered : ¬ IsBeforeStart z.leap_seconds (m -ℤ pos 1) → ¬ IsLeapTimeRefused z.leap_seconds (m -ℤ pos 1)
-          answered begun (inl before) = begun before
-          answered begun (inr past) = at.1.not_refused (inr (past_later z.leap_seconds are (m -ℤ pos 1) u (omega (arith, ints, up_to)) past))
+          answered begun (inl early) = begun early
+          answered begun (inr past) = at.time_is.not_refused (inr (past_later z.leap_seconds are (m -ℤ pos 1) u (omega (arith, ints, up_to)) past))
 
-  -- where the leap time of the transition after the cursor is first reached that takes effect, or leap times may leave 64 bits
-  pub change_at_next : (next : Transition) → c.next ≡ Some next → (m : ℤ) → m ≤ℤ pos 9223372036854775807 → IsMomentOf z.leap_seconds next.unix_leap_time m → IsTableChange z m ⊎ IsFar z.leap_seconds m
-  change_at_next next is m high moment = elim (far_or_answered z.leap_seconds are m moment.begun) [
+  -- where the leap time of the transition after the place is first reached that takes effect, or leap times may leave 64 bits
+  pub change_at_next : (next : Transition) → slice_get z.transitions k ≡ Some next → (m : ℤ) → m ≤ℤ pos 9223372036854775807 → IsMomentOf z.leap_seconds next.unix_leap_time m → IsTableChange z m ⊎ IsFar z.leap_seconds m
+  change_at_next next at_next m high moment = elim (far_or_answered z.leap_seconds are m moment.begun) [
     | inl far ↦ inr far
     | inr answered ↦ inl (inl (
-      c.place,
+      k,
       (
         next,
-        subst (λ (o : Option Transition). MatchOption o (c.place ≡ length z.transitions) (λ x. slice_get z.transitions c.place ≡ Some x)) is cursor.next,
+        at_next,
         record {
-          not_least = λ e. absurd (omega (arith, ints, e, ahead, leap_time_low z.leap_seconds are u at.0 fits at.1));
+          not_least = λ e. absurd (omega (arith, ints, e, at.ahead k next (omega arith) at_next, leap_time_low z.leap_seconds are u at.time fits at.time_is));
           instant = IsInstant-from_bounds m moment.low high;
           reached = moment.reached answered;
           least = moment.least;
@@ -127,57 +134,50 @@ module _ (z : Zone) (sound : IsSoundTable z) (c : Cursor) (cursor : IsCursor z.t
       ),
     ))
   ]
-    where
-      ahead : at.0 <ℤ next.unix_leap_time
-      ahead = subst (λ (o : Option Transition). IfSome o (λ x. at.0 <ℤ x.unix_leap_time)) is at.2.1
 
   -- so the ends of a segment between two transitions are changes of the tables
-  pub ends_between : (next : Transition) → c.next ≡ Some next → (from last : ℤ) → last ≤ℤ pos 9223372036854775807 → IsMomentOf z.leap_seconds c.before.unix_leap_time from
+  pub ends_between : (next : Transition) → slice_get z.transitions k ≡ Some next → (from last : ℤ) → last ≤ℤ pos 9223372036854775807 → IsMomentOf z.leap_seconds before.unix_leap_time from
       → (last ≢ pos 9223372036854775807 → IsPastInstants z.leap_seconds (last +ℤ pos 1) ⊎ IsMomentOf z.leap_seconds next.unix_leap_time (last +ℤ pos 1)) → HasTableEnds z from last
-  ends_between next is from last high moment behind = record {
+  ends_between next at_next from last high moment after = record {
     from_is = λ not_least. inl (change_at_moment from moment not_least);
-    last_is = λ not_greatest. elim (behind not_greatest) [
+    last_is = λ not_greatest. elim (after not_greatest) [
       | inl past ↦ inr (far_if_past z.leap_seconds are (last +ℤ pos 1) past)
-      | inr next_moment ↦ change_at_next next is (last +ℤ pos 1) (one_more last high not_greatest) next_moment
+      | inr next_moment ↦ change_at_next next at_next (last +ℤ pos 1) (one_more last high not_greatest) next_moment
     ];
   }
     where
       one_more : (n : ℤ) → n ≤ℤ pos 9223372036854775807 → n ≢ pos 9223372036854775807 → (n +ℤ pos 1) ≤ℤ pos 9223372036854775807
       one_more n high other = by_lt_z n (pos 9223372036854775807) (λ h. omega (arith, ints, h)) (λ h. absurd (other (omega (arith, ints, h, high))))
 
-  -- a change of the rule, once all transitions are reached, is one of the tables
-  pub change_by_rule : c.next ≡ None → (v : ℤ) → IsAtCursor z.leap_seconds c v → IsChangeByRule z.extra_rule v → IsTableChange z v
-  change_by_rule is v at_v change = inr (inl (change, inr (subst (IsReachedAt z v) all (reached_at z sound c cursor v at_v))))
-    where
-      all : c.place ≡ length z.transitions
-      all = subst (λ (o : Option Transition). MatchOption o (c.place ≡ length z.transitions) (λ x. slice_get z.transitions c.place ≡ Some x)) is cursor.next
+  -- where the last transition is reached all are
+  pub all_reached : k ≡ length z.transitions → (v : ℤ) → IsTimeReached z.leap_seconds before.unix_leap_time v → IsReachedAt z v (length z.transitions)
+  all_reached all v (l, leap, reached) = subst (IsReachedAt z v) all (record {
+    time = l;
+    time_is = leap;
+    reached = reached_before z.transitions (λ i. (sound.transitions_are i).1) k before is l reached;
+    ahead = λ i change above at_i. absurd (omega (arith, all, above, slice_get_within z.transitions i change at_i));
+  })
 
-  -- from the last transition on each later instant that has a leap time lies at the cursor too
-  at_cursor_later : c.next ≡ None → (v w : ℤ) → v ≤ℤ w → IsAtCursor z.leap_seconds c v → ¬ IsLeapTimeRefused z.leap_seconds w → IsAtCursor z.leap_seconds c w
-  at_cursor_later is v w h (l, leap, between) answered =
-      let there = leap_unless_refused z.leap_seconds are w answered in
-      (there.0, there.1, (omega (arith, ints, between.0, leap_time_mono z.leap_seconds are v w l there.0 h leap there.1), subst (λ (o : Option Transition). IfSome o (λ next. there.0 <ℤ next.unix_leap_time)) (sym is) tt))
-
-  -- and the ends of a segment after all transitions are, too
-  pub ends_after_all : c.next ≡ None → (from last : ℤ) → from ≤ℤ last → ((v : ℤ) → from ≤ℤ v → v ≤ℤ last → IsAtCursor z.leap_seconds c v)
-      → (IsMomentOf z.leap_seconds c.before.unix_leap_time from ⊎ IsChangeByRule z.extra_rule from)
+  -- and the ends of a segment after all transitions are changes, too
+  pub ends_after_all : k ≡ length z.transitions → (from last : ℤ) → from ≤ℤ last → ((v : ℤ) → from ≤ℤ v → v ≤ℤ last → IsTimeReached z.leap_seconds before.unix_leap_time v)
+      → (IsMomentOf z.leap_seconds before.unix_leap_time from ⊎ IsChangeByRule z.extra_rule from)
       → (last ≢ pos 9223372036854775807 → IsPastInstants z.leap_seconds (last +ℤ pos 1) ⊎ IsChangeByRule z.extra_rule (last +ℤ pos 1)) → HasTableEnds z from last
-  ends_after_all is from last order at_all begin behind = record {
+  ends_after_all all from last order reached begin after = record {
     from_is = λ not_least. inl (elim begin [
       | inl moment ↦ change_at_moment from moment not_least
-      | inr change ↦ change_by_rule is from (at_all from (omega (arith, ints)) order) change
+      | inr change ↦ inr (inl (change, inr (all_reached all from (reached from (omega (arith, ints)) order))))
     ]);
-    last_is = λ not_greatest. elim (behind not_greatest) [
+    last_is = λ not_greatest. elim (after not_greatest) [
       | inl past ↦ inr (far_if_past z.leap_seconds are (last +ℤ pos 1) past)
-      | inr change ↦ elim (far_or_answered z.leap_seconds are (last +ℤ pos 1) begun) [
+      | inr change ↦ elim (far_or_answered z.leap_seconds are (last +ℤ pos 1) (begun_later z.leap_seconds are last (last +ℤ pos 1) (omega (arith, ints)) (λ early. at_last.1.not_refused (inl early)))) [
         | inl far ↦ inr far
-        | inr answered ↦ inl (change_by_rule is (last +ℤ pos 1) (at_cursor_later is last (last +ℤ pos 1) (omega (arith, ints)) at_last answered) change)
+        | inr answered ↦
+            let there = leap_unless_refused z.leap_seconds are (last +ℤ pos 1) answered in
+            let later = leap_time_mono z.leap_seconds are last (last +ℤ pos 1) at_last.0 there.0 (omega (arith, ints)) at_last.1 there.1 in
+            inl (inr (inl (change, inr (all_reached all (last +ℤ pos 1) (there.0, there.1, omega (arith, ints, at_last.2, later))))))
       ]
     ];
   }
     where
-      at_last : IsAtCursor z.leap_seconds c last
-      at_last = at_all last order (omega (arith, ints))
-
-      begun : ¬ IsBeforeStart z.leap_seconds (last +ℤ pos 1)
-      begun = begun_later z.leap_seconds are last (last +ℤ pos 1) (omega (arith, ints)) (λ before. at_last.1.not_refused (inl before))
+      at_last : IsTimeReached z.leap_seconds before.unix_leap_time last
+      at_last = reached last order (omega (arith, ints))

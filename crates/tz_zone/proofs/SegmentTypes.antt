@@ -37,6 +37,9 @@ pub match_none : {X : Type 0} (o : Option X) (P : Type 0) (Q : X → Type 0) →
 match_none None P Q e h = h
 match_none (Some x) P Q e h = absurd (none-some x (sym e))
 
+pub match_at_none : {X : Type 0} (o : Option X) (P : Type 0) (Q : X → Type 0) → o ≡ None → MatchOption o P Q → P
+match_at_none o P Q e h = subst (λ p. MatchOption p P Q) e h
+
 -- what an option holds
 pub match_some : {X : Type 0} (o : Option X) (x : X) (P : Type 0) (Q : X → Type 0) → o ≡ Some x → MatchOption o P Q → Q x
 match_some {X = X} o x P Q e h = subst (λ (p : Option X). MatchOption p P Q) e h

@@ -12,6 +12,7 @@ pub mod ZoneRef
 pub mod ZoneSeen
 pub mod ZoneViewed
 pub mod ClockSegments
+pub mod ClockSpans
 pub mod WindowTypes
 pub mod TableChanges
 pub mod Changes

@@ -1,9 +1,9 @@
 -- The types that a clock has in a window of instants. (RFC 8536, section 3.2: transition times and types; 3.3: the footer.)
-use Rattle.std.specs.Prelude.{◌≡◌, ◌⊎◌, ◌≤◌, ⊤, ℕ, ℤ, ◌≤ℤ◌, ◌<ℤ◌, [], length, Option, MatchOption}
+use Rattle.std.specs.Prelude.{◌≢◌, ⊤, ℕ, ℤ, ◌≤ℤ◌, ◌<ℤ◌, [], Option, MatchOption}
 use Rattle.tz_rule.specs.LocalTimeType.{LocalTimeType}
 use Rattle.tz_zone.specs.Table.{Zone}
 use Rattle.tz_zone.specs.LeapTime.{IsLeapTimeRefused}
-use Rattle.tz_zone.specs.ClockSegments.{IsReachedAt}
+use Rattle.tz_zone.specs.Runs.{LiesAt}
 use Rattle.tz_zone.specs.declared.clock.window.WindowTypes.{WindowTypes}
 use Rattle.tz_zone.specs.declared.clock.window.WindowTypes.TheVariants.{One, Two, More}
 
@@ -14,11 +14,9 @@ AreTypesIn clock low high (Two jump before after) =
     (low <ℤ jump) × (jump ≤ℤ high) × ((v : ℤ) → low ≤ℤ v → v <ℤ jump → clock v before.now) × ((v : ℤ) → jump ≤ℤ v → v ≤ℤ high → clock v after.now)
 AreTypesIn clock low high (More place) = ⊤
 
--- the place at which an instant lies, if it has a leap time; without transitions it may be any
+-- the place at which an instant lies, if it has a leap time; without transitions it is 0
 abbrev pub IsPlaceOf : Zone → ℤ → Option ℕ → Type 0
-IsPlaceOf z u place =
-    (z.transitions ≡ [])
-    ⊎ MatchOption place (IsLeapTimeRefused z.leap_seconds u) (λ k. (k ≤ length z.transitions) × IsReachedAt z u k)
+IsPlaceOf z u place = MatchOption place ((z.transitions ≢ []) × IsLeapTimeRefused z.leap_seconds u) (LiesAt z u)
 
 -- a fact of the place where the types are not known
 abbrev pub IfMore : WindowTypes → (Option ℕ → Type 0) → Type 0

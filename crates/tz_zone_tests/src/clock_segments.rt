@@ -1,6 +1,5 @@
 //! Segments of clocks beside the lookup, second by second around each instant at which a clock may change, and one after the other.
 
-ghost use Rattle.std.specs.Prelude.{ℤ, pos, ◌+ℤ◌, ◌<ℤ◌};
 ghost use Rattle.tz_zone.specs.ClockSegments.{IsSegmentAt};
 ghost use Rattle.tz_zone.specs.ZoneRef.{zone_of};
 
@@ -15,7 +14,7 @@ use std::test::Fail;
 use tz_base::error::TzError;
 use tz_samples::rules::central_europe;
 use tz_samples::utc;
-use tz_zone::inner::{ClockSegment, Counted, clock_segment_after, clock_segment_at, other_parts};
+use tz_zone::inner::{ClockSegment, Counted, clock_segment_at, other_parts};
 use tz_zone::timezone::{
     AlternateTime, LeapSecond, LocalTimeType, MonthWeekDay, RuleDay, TimeZoneRef, Transition,
     TransitionRule,
@@ -43,26 +42,6 @@ fn segment_at<'a>(zone: &TimeZoneRef<'a>, unix_time: i64) -> (ClockSegment<'a>, 
     let mut view = Counted::new(zone.transitions());
     let segment = clock_segment_at(&mut view, other_parts(zone), unix_time);
     (segment, view.looks())
-}
-
-/// The segment after another one, which ends, and how many looks it took.
-fn segment_after<'a>(zone: &TimeZoneRef<'a>, segment: &ClockSegment<'a>) -> (ClockSegment<'a>, u64)
-    requires segment { (u : ℤ) × IsSegmentAt (zone_of zone.now) u segment.now }
-    requires last { segment.now.last <ℤ pos 9223372036854775807 }
-    ensures { IsSegmentAt (zone_of zone.entry.now) (segment.now.last +ℤ pos 1) result.0 }
-{
-    let mut view = Counted::new(zone.transitions());
-    let after = clock_segment_after(&mut view, other_parts(zone), segment);
-    (after, view.looks())
-}
-
-/// The segment after that around an instant, unless this one is the last, and how many looks it took.
-fn next_segment<'a>(zone: &TimeZoneRef<'a>, unix_time: i64) -> Option<(ClockSegment<'a>, u64)> {
-    let found = segment_at(zone, unix_time);
-    if found.0.last == i64::MAX {
-        return None;
-    }
-    Some(segment_after(zone, &found.0))
 }
 
 /// The offset of a segment's type.
@@ -114,16 +93,11 @@ fn expect_segment(rt: &impl Abort, zone: &TimeZoneRef<'_>, unix_time: i64) {
         let (before, _) = segment_at(zone, segment.from - 1);
         expect_eq_at(rt, &unix_time, &before.last, &(segment.from - 1));
     }
-    let Some((after, _)) = next_segment(zone, unix_time) else {
-        return;
-    };
-    let from = segment.last.saturating_add(1);
-    let (next, _) = segment_at(zone, from);
     expect_ends(rt, zone, segment.last, segment.from, segment.last);
-    expect_eq_at(rt, &unix_time, &after.from, &from);
-    expect_eq_at(rt, &unix_time, &next.from, &from);
-    expect_eq_at(rt, &unix_time, &after.last, &next.last);
-    expect_eq_at(rt, &unix_time, &offset_of(&after), &offset_of(&next));
+    if segment.last < i64::MAX {
+        let (after, _) = segment_at(zone, segment.last + 1);
+        expect_eq_at(rt, &unix_time, &after.from, &(segment.last + 1));
+    }
 }
 
 /// So it is second by second around each of these instants.
@@ -135,31 +109,23 @@ fn expect_segments_around(rt: &impl Abort, zone: &TimeZoneRef<'_>, instants: &[i
     }
 }
 
-/// From an instant on, this number of segments follow one another up to the greatest instant, with no more looks in all than allowed.
-fn expect_walk(
-    rt: &impl Abort,
-    zone: &TimeZoneRef<'_>,
-    unix_time: i64,
-    segments: u64,
-    most_looks: u64,
-) {
-    let (mut segment, mut looks) = segment_at(zone, unix_time);
+/// From an instant on, this number of segments follow one another up to the greatest instant.
+fn expect_walk(rt: &impl Abort, zone: &TimeZoneRef<'_>, unix_time: i64, segments: u64) {
+    let (mut segment, _) = segment_at(zone, unix_time);
     let mut found: u64 = 1;
     for _ in 1..segments {
         expect_type(rt, zone, &segment, segment.from);
         if segment.last == i64::MAX {
             break;
         }
-        let (after, more) = segment_after(zone, &segment);
-        expect_eq_at(rt, &unix_time, &after.from, &segment.last.saturating_add(1));
-        segment = after;
-        looks = looks.saturating_add(more);
+        let from = segment.last + 1;
+        segment = segment_at(zone, from).0;
+        expect_eq_at(rt, &unix_time, &segment.from, &from);
         found = found.saturating_add(1);
     }
     expect_type(rt, zone, &segment, segment.from);
     expect_eq_at(rt, &unix_time, &segment.last, &i64::MAX);
     expect_eq_at(rt, &unix_time, &found, &segments);
-    assert!(rt; looks <= most_looks, "{looks}");
 }
 
 /// A New Year, and the first moment after the years of 32 bits.
@@ -206,7 +172,7 @@ fn segments_without_transitions(rt: HostRuntime) -> Result<(), TzError> {
     }
     let zone = TimeZoneRef::new(&[], &types, &truncated, &None)?;
     expect_ends(&rt, &zone, 0, i64::MIN, i64::MAX);
-    expect_walk(&rt, &zone, i64::MIN, 1, 0);
+    expect_walk(&rt, &zone, i64::MIN, 1);
     Ok(())
 }
 
@@ -240,7 +206,7 @@ fn segments_of_transitions_and_a_rule(rt: HostRuntime) -> Result<(), TzError> {
         expect_ends(&rt, &zone, 1_000_000_000, 1_000_000_000, 1_000_000_000);
     }
     let zone = TimeZoneRef::new(&transitions, &types, &[], &None)?;
-    expect_walk(&rt, &zone, i64::MIN, 5, 8);
+    expect_walk(&rt, &zone, i64::MIN, 5);
 
     let rule = Some(TransitionRule::Alternate(to_january()?));
     let transitions = [
@@ -272,9 +238,15 @@ fn segments_of_transitions_at_both_ends(rt: HostRuntime) -> Result<(), TzError> 
         expect_ends(&rt, &zone, i64::MIN, i64::MIN, i64::MIN);
     }
     let zone = TimeZoneRef::new(&transitions, &types, &[], &None)?;
-    expect_walk(&rt, &zone, i64::MIN, 3, 6);
+    expect_walk(&rt, &zone, i64::MIN, 3);
     expect_ends(&rt, &zone, i64::MAX, i64::MAX, i64::MAX);
     expect_ends(&rt, &zone, 0, i64::MIN + 1, i64::MAX - 1);
+
+    // The last transition takes effect at the last instant that has a leap time.
+    let leap_seconds = [LeapSecond::new(0, 1)];
+    let zone = TimeZoneRef::new(&transitions, &types, &leap_seconds, &None)?;
+    expect_ends(&rt, &zone, i64::MAX - 1, i64::MAX - 1, i64::MAX - 1);
+    expect_ends(&rt, &zone, i64::MAX, i64::MAX, i64::MAX);
     Ok(())
 }
 
@@ -315,14 +287,14 @@ fn segments_with_a_truncated_start(rt: HostRuntime) -> Result<(), TzError> {
     expect_segments_around(&rt, &zone, &instants);
     expect_ends(&rt, &zone, 0, i64::MIN, 78_796_794);
     let (before, looks) = segment_at(&zone, 0);
-    assert!(rt; before.local_time_type.is_none() && before.cursor.is_none());
+    assert!(rt; before.local_time_type.is_none());
     expect_eq_at(&rt, &0, &looks, &1);
 
     // All instants lie before a start.
     let leap_seconds = [LeapSecond::new(i64::MAX, -5)];
     let zone = TimeZoneRef::new(&transitions, &types, &leap_seconds, &None)?;
     expect_segments_around(&rt, &zone, &instants);
-    expect_walk(&rt, &zone, i64::MIN, 1, 1);
+    expect_walk(&rt, &zone, i64::MIN, 1);
     Ok(())
 }
 
@@ -364,24 +336,20 @@ fn few_segments_follow_far_from_1970(rt: HostRuntime) -> Result<(), TzError> {
         ),
     ] {
         let zone = TimeZoneRef::new(&transitions, &types, &leap_seconds, &None)?;
-        expect_walk(&rt, &zone, 0, segments, 4);
+        expect_walk(&rt, &zone, 0, segments);
         let zone = TimeZoneRef::new(&one, &types, &leap_seconds, &rule)?;
-        expect_walk(&rt, &zone, 67_900_000_000_000_000, last_segments, 2);
+        expect_walk(&rt, &zone, 67_900_000_000_000_000, last_segments);
     }
     Ok(())
 }
 
-/// The segment around an instant takes no more looks than allowed, and the next one takes one at most.
+/// The segment around an instant takes no more looks than allowed.
 fn expect_few_looks(rt: &impl Abort, zone: &TimeZoneRef<'_>, unix_time: i64, most_looks: u64) {
     let (_, looks) = segment_at(zone, unix_time);
     assert!(rt; 1 <= looks && looks <= most_looks, "{unix_time}: {looks}");
-    if let Some((_, looks)) = next_segment(zone, unix_time) {
-        assert!(rt; looks <= 1, "{unix_time}: {looks}");
-    }
 }
 
-/// Segments among this number of transitions take no more looks than allowed, and one look for each transition on the way from one to the
-/// next.
+/// Segments among this number of transitions take no more looks than allowed.
 fn expect_few_looks_among(
     rt: &impl Abort,
     alloc: Global,
@@ -398,8 +366,7 @@ fn expect_few_looks_among(
         expect_few_looks(rt, &zone, i64::from(place) * 1000 - 500, most_looks);
         expect_few_looks(rt, &zone, i64::from(place) * 1000, most_looks);
     }
-    let most_on_the_way = most_looks.saturating_add(u64::from(count));
-    expect_walk(rt, &zone, i64::MIN, u64::from(count) + 1, most_on_the_way);
+    expect_walk(rt, &zone, i64::MIN, u64::from(count) + 1);
     Ok(())
 }
 

@@ -20,6 +20,8 @@ mod owned_zones;
 #[cfg(test)]
 mod settings;
 #[cfg(test)]
+mod spans;
+#[cfg(test)]
 mod tz_files;
 #[cfg(test)]
 mod tz_strings;

@@ -5,6 +5,7 @@ use crate::clocks::{
     transitions_near_leap_seconds,
 };
 use crate::expect::{expect_eq, expect_eq_at};
+use crate::spans::expect_spans;
 use std::alloc::Global;
 use std::process::Abort;
 use std::test::Fail;
@@ -50,7 +51,10 @@ fn expect_window(rt: &impl Abort, zone: &TimeZoneRef<'_>, low: i64, high: i64) -
             expect_through(rt, zone, unix_time, high.saturating_add(1), after);
             2
         }
-        WindowTypes::More(_) => 0,
+        WindowTypes::More(_) => {
+            expect_spans(rt, zone, low, high);
+            0
+        }
     }
 }
 
@@ -130,7 +134,7 @@ fn windows_with_a_truncated_start(rt: HostRuntime) -> Result<(), TzError> {
 }
 
 /// A run of transitions that take effect at one instant, and two after it.
-fn transitions_of_a_run(alloc: Global, count: u32) -> Result<Vec<Transition>, Fail> {
+pub(crate) fn transitions_of_a_run(alloc: Global, count: u32) -> Result<Vec<Transition>, Fail> {
     let mut transitions = Vec::new(alloc);
     for i in 0..count {
         transitions.push(Transition::new(i64::from(i), i as usize % 3))?;

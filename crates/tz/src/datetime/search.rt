@@ -4,7 +4,6 @@ ghost use Rattle.std.specs.Prelude.{◌≡◌, ◌+◌, ◌*◌, ◌^◌, ◌<�
 ghost use Rattle.tz_base.specs.Fields.{IsValid, reading as reading_of};
 ghost use Rattle.tz_zone.specs.Table.{Zone};
 ghost use Rattle.tz_zone.specs.Clock.{IsClock};
-ghost use Rattle.tz_zone.specs.ClockSegments.{IsSegmentAt};
 ghost use Rattle.tz_zone.specs.Offsets.{AreEndOffsets};
 ghost use Rattle.tz_zone.specs.ValidZone.{AreLeapSeconds, IsSoundTable};
 ghost use Rattle.tz_zone.specs.WindowTypes.{AreTypesIn, IsPlaceOf};
@@ -14,7 +13,7 @@ ghost use Rattle.tz.specs.Entries.{Entry, AreEntries, Finds, HasTwoTypes, IsEntr
 ghost use Rattle.tz.specs.FindFaults.{IsSearchFault};
 ghost use Rattle.tz.specs.Found.{EachCanBeMade, IsFound};
 ghost use Rattle.tz.specs.Reached.{AreOffsetsOf};
-ghost use Rattle.tz.specs.Windows.{AtMostTakeEffectIn, AtMostTakeEffectAround, IsSearchable, IsSmall, first_looks, halvings};
+ghost use Rattle.tz.specs.Windows.{AtMostTakeEffectIn, AtMostTakeEffectAround, IsSearchable, IsSmall, first_looks};
 ghost use Rattle.tz.specs.declared.datetime.found.FoundDateTimeKind.{FoundDateTimeKind};
 
 use super::date_time_list::DateTimeList;
@@ -25,8 +24,8 @@ use super::window::window;
 use tz_base::error::TzError;
 use tz_base::fields::Fields;
 use tz_zone::inner::{
-    ClockSegment, OtherParts, Transitions, Uncounted, WindowTypes, clock_segment_after,
-    clock_segment_from, other_parts, window_types,
+    OtherParts, Transitions, Uncounted, WindowTypes, first_stage, other_parts, span_from,
+    window_types,
 };
 use tz_zone::timezone::{LocalTimeType, TimeZoneRef};
 
@@ -107,58 +106,7 @@ fn give_around<'a, E: Entries<'a>>(
     entries.shown(second, after)
 }
 
-/// Gives all that a reading has in its window, in order, by the segments from that in which it begins.
-#[inline(always)]
-fn walk_from<'a, E: Entries<'a>, V: Transitions>(
-    entries: &mut E,
-    reading: i64,
-    view: &mut V,
-    parts: OtherParts<'a>,
-    segment: &mut ClockSegment<'a>,
-    low: i64,
-    high: i64,
-) -> Result<(), TzError>
-    requires searchable { IsSearchable (zone_seen (V.list view.old) parts) reading low high }
-    requires taker { IsTaker E.gains E.takes }
-    requires takes { E.takes entries.old reading }
-    requires first { IsSegmentAt (zone_seen (V.list view.old) parts) low segment.old }
-    ensures ok { OnOk result (Finds E.gains (IsClock (zone_seen (V.list view.old) parts.entry)) reading entries.old entries.new) }
-    ensures err { IfErr result (IsRefused E.refuses (IsClock (zone_seen (V.list view.old) parts.entry)) reading) }
-    ensures kept { V.looks view.old ≤ V.looks view.new }
-    ensures at_most { OnOk result ((b w : ℕ) → length (V.list view.old) < 2 ^ b
-        → AtMostTakeEffectIn (zone_seen (V.list view.old) parts.entry) low high w
-        → V.looks view.new ≤ V.looks view.old + (halvings segment.old.cursor b + w)) }
-    ensures still { high ≤ℤ segment.old.last → V.looks view.new ≡ V.looks view.old }
-    ensures none { OnOk result (length (V.list view.old) ≡ 0 → V.looks view.new ≡ V.looks view.old) }
-{
-    // These reads tell the proof that both ends are instants of 64 bits.
-    let (_from, _last) = (segment.from, segment.last);
-    let mut before = None;
-    let mut since = low;
-    while segment.last < high {
-        give(
-            entries,
-            reading,
-            before,
-            since,
-            segment.local_time_type,
-            segment.last,
-        )?;
-        before = segment.local_time_type;
-        *segment = clock_segment_after(view, parts, segment);
-        since = segment.from;
-    }
-    give(
-        entries,
-        reading,
-        before,
-        since,
-        segment.local_time_type,
-        high,
-    )
-}
-
-/// Gives all that a reading has in its window, in order, by the segments from the place on at which it begins.
+/// Gives all that a reading has in its window, in order, by the spans of the clock from the place on at which the window begins.
 #[cold]
 #[inline(never)]
 fn walk<'a, E: Entries<'a>, V: Transitions>(
@@ -182,8 +130,29 @@ fn walk<'a, E: Entries<'a>, V: Transitions>(
         → V.looks view.new ≤ V.looks view.old + (first_looks place b + w)) }
     ensures none { OnOk result (length (V.list view.old) ≡ 0 → V.looks view.new ≡ V.looks view.old) }
 {
-    let mut first = clock_segment_from(view, parts, place, low);
-    walk_from(entries, reading, view, parts, &mut first, low, high)
+    let Some((first, stage)) = first_stage(view, parts, place, low) else {
+        return Ok(());
+    };
+    let mut before = None;
+    let (mut since, mut stage) = (first, stage);
+    while since <= high {
+        let span = span_from(view, parts, stage, since, high);
+        stage = span.next;
+        // Where two transitions take effect at the same instant the span between them is empty.
+        if since <= span.last {
+            give(
+                entries,
+                reading,
+                before,
+                since,
+                span.local_time_type,
+                span.last,
+            )?;
+            before = span.local_time_type;
+            since = span.last + 1;
+        }
+    }
+    Ok(())
 }
 
 /// Gives all that a reading has in its window, in order, by the types that the clock has there.

@@ -1,6 +1,6 @@
 //! What comes after the last transition.
 
-ghost use Rattle.std.specs.Prelude.{◌≡◌, ◌≢◌, ℤ, pos, negsuc, ◌+ℤ◌, ◌≤ℤ◌, [], None, MatchOption};
+ghost use Rattle.std.specs.Prelude.{◌≡◌, ◌≢◌, ℤ, pos, negsuc, ◌+ℤ◌, ◌≤ℤ◌, [], MatchOption};
 ghost use Rattle.tz_rule.specs.LocalTimeType.{LocalTimeType};
 ghost use Rattle.tz_zone.specs.Clock.{IsTypeAfterTable};
 ghost use Rattle.tz_zone.specs.TableChanges.{IsChangeByRule};
@@ -25,7 +25,6 @@ pub(super) fn after_table<'a>(
         (λ t. IsTypeAfterTable is_empty (zone_seen [] parts.entry) v t.now) }
     ensures from { result.from ≢ negsuc 9223372036854775807 → IsChangeByRule (zone_seen [] parts.entry).extra_rule result.from }
     ensures last { result.last ≢ pos 9223372036854775807 → IsChangeByRule (zone_seen [] parts.entry).extra_rule (result.last +ℤ pos 1) }
-    ensures cursor { result.cursor ≡ None }
 {
     let Some(rule) = parts.extra_rule.lent() else {
         return ClockSegment {
@@ -36,7 +35,6 @@ pub(super) fn after_table<'a>(
             } else {
                 None
             },
-            cursor: None,
         };
     };
     let segment = tz_rule::inner::segment_at(rule, unix_time);
@@ -44,7 +42,6 @@ pub(super) fn after_table<'a>(
         from: segment.from,
         last: segment.last,
         local_time_type: segment.local_time_type,
-        cursor: None,
     }
 }
 

@@ -26,7 +26,7 @@ use tz_rule::timezone::LocalTimeType;
 
 /// The first instant from another one on that does not lie before a truncated start, if there is one.
 #[inline(always)]
-fn first_begun(leap_seconds: &[LeapSecond], unix_time: i64) -> Option<i64>
+pub(super) fn first_begun(leap_seconds: &[LeapSecond], unix_time: i64) -> Option<i64>
     ensures { MatchOption result ((u : ℤ) → unix_time ≤ℤ u → u ≤ℤ pos 9223372036854775807 → IsBeforeStart leap_seconds.now u)
         (λ first. (unix_time ≤ℤ first) × (¬ IsBeforeStart leap_seconds.now first) × ((u : ℤ) → unix_time ≤ℤ u → u <ℤ first → IsBeforeStart leap_seconds.now u)) }
 {

@@ -3,18 +3,19 @@
 mod after_table;
 mod change;
 mod changes;
-mod cursor;
 mod lookup;
 mod near;
 mod place;
 mod rule_changes;
 mod segment;
 mod segments;
+mod spans;
 mod window;
 
 pub use change::Change;
 pub use changes::{following, preceding};
 pub use lookup::find_local_time_type;
 pub use segment::ClockSegment;
-pub use segments::{clock_segment_after, clock_segment_at, clock_segment_from};
+pub use segments::clock_segment_at;
+pub use spans::{Span, Stage, first_stage, span_from};
 pub use window::{WindowTypes, window_types};

@@ -126,6 +126,7 @@ pub(super) fn before<V: Transitions>(view: &mut V, place: usize) -> Transition
     ensures before { IsBefore (V.list view.old) place result }
     ensures kept { V.looks view.old ≤ V.looks view.new }
     ensures at_most { V.looks view.new ≤ V.looks view.old + 1 }
+    ensures first { place ≡ 0 → V.looks view.new ≡ V.looks view.old }
 {
     if place == 0 {
         return Transition::new(i64::MIN, 0);
@@ -155,6 +156,7 @@ pub(super) fn type_before<'a, V: Transitions>(
     ensures value { IsTypeOfLast (zone_seen (V.list view.old) parts.entry) place result.now }
     ensures kept { V.looks view.old ≤ V.looks view.new }
     ensures at_most { V.looks view.new ≤ V.looks view.old + 1 }
+    ensures first { place ≡ 0 → V.looks view.new ≡ V.looks view.old }
 {
     let change = before(view, place);
     type_of(parts, change)

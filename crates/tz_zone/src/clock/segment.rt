@@ -1,6 +1,5 @@
 //! A span of time through which the clock of a zone has one type, or none.
 
-use super::cursor::Cursor;
 use tz_rule::timezone::LocalTimeType;
 
 /// A span of time through which the clock of a zone has one type, or none.
@@ -12,7 +11,4 @@ pub struct ClockSegment<'a> {
     pub last: i64,
     /// The type, where the clock has one.
     pub local_time_type: Option<&'a LocalTimeType>,
-    /// The place among the transitions, from which on the next segment is found. There is none without transitions, and where
-    /// instants have no leap time.
-    pub cursor: Option<Cursor>,
 }

@@ -12,7 +12,7 @@ use Rattle.tz_zone.specs.ZoneSeen.{zone_seen}
 use Rattle.tz.specs.Entries.{HasTwoTypes, Shown}
 use Rattle.tz.specs.Windows.{first_looks}
 use Rattle.tz.proofs.EntryWalks.{entries_once, few_entries}
-use Rattle.tz.proofs.SegmentLooks.{on_ok_both}
+use Rattle.tz.proofs.WalkLooks.{on_ok_both}
 use Rattle.tz.proofs.datetime.search.search_window.Goals as goal
 
 pub shown-requires : goal.shown-requires

@@ -1,5 +1,5 @@
 -- After the table the types are those of the rule, or of the first type where there are no transitions.
-use Rattle.std.proofs.Common.{◌≡◌, ◌+◌, ◌^◌, ◌<◌, ◌≤◌, ℕ, ℤ, ◌≤ℤ◌, Some, [], length, eqb, inl, inr, refl, sym, subst, arith, rules}
+use Rattle.std.proofs.Common.{◌≡◌, ◌+◌, ◌^◌, ◌<◌, ◌≤◌, ℕ, ℤ, ◌≤ℤ◌, Some, [], length, eqb, refl, sym, subst, arith, rules}
 use Rattle.std.specs.Prelude.{MatchOption}
 use Rattle.std.proofs.lemmas.Int.{to_z-of_z}
 use Rattle.std.proofs.lemmas.List.{nil_from_length}
@@ -31,7 +31,8 @@ returns-then-place-count-clause-place g c =
     let leap = rw (to_z-of_z w64 low c.ranges.low) at c.in-Some.ensures in
     let found = rw (c.look-last.ensures.same, to_z-of_z w64 l fits) at c.place_of-place.ensures in
     let at : IsReachedAt z low c.place_of-place.result = record { time = l; time_is = leap; reached = found.at.0; ahead = found.at.1 } in
-    more_weaker c.types_at_place.result _ (IsPlaceOf z low) (λ place is. subst (IsPlaceOf z low) (sym is.0) (inr (found.within, at))) c.types_at_place.ensures.more
+    let lies : IsPlaceOf z low (Some c.place_of-place.result) = (found.within, λ some. at) in
+    more_weaker c.types_at_place.result _ (IsPlaceOf z low) (λ place is. subst (IsPlaceOf z low) (sym is.0) lies) c.types_at_place.ensures.more
 
 pub returns-then-place-count-clause-more : goal.returns-then-place-count-clause-more
 returns-then-place-count-clause-more g c =
@@ -52,7 +53,7 @@ returns-in_default-leap_time-clause-place g c =
     let fits : SFits w64 l = search rules in
     let leap = rw (to_z-of_z w64 low c.ranges.low) at c.in-Some.ensures in
     let found = rw (c.look-last.ensures.same, to_z-of_z w64 l fits) at c.place_of-place.ensures in
-    inr (found.within, record { time = l; time_is = leap; reached = found.at.0; ahead = found.at.1 })
+    (found.within, λ some. record { time = l; time_is = leap; reached = found.at.0; ahead = found.at.1 })
 
 pub returns-clause-types : goal.returns-clause-types
 returns-clause-types g c =
@@ -94,7 +95,7 @@ returns-clause-place g c =
           let found = rw (w.look-last.ensures.same, to_z-of_z w64 l fits) at w.place_of-place.ensures in
           let at : IsReachedAt z low w.place_of-place.result = record { time = l; time_is = leap; reached = found.at.0; ahead = found.at.1 } in
           let all : w.place_of-place.result ≡ c.len-count.result = omega (arith, found.within, w.if-place-count.false, count) in
-          inr (omega (arith, count), subst (λ (k : ℕ). IsReachedAt z low k) all at)
-      | else-count-gt0 w ↦ inl (nil_from_length list (omega (arith, w.if-count-gt0.false, count)))
+          (omega (arith, count), λ some. subst (λ (k : ℕ). IsReachedAt z low k) all at)
+      | else-count-gt0 w ↦ (omega (arith, count), λ some. absurd (some (nil_from_length list (omega (arith, w.if-count-gt0.false, count)))))
     ] in
     more_weaker c.types_after_table.result _ (IsPlaceOf z low) (λ place is. subst (IsPlaceOf z low) (sym is) at) c.types_after_table.ensures.more

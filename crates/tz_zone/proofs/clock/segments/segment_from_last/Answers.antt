@@ -1,37 +1,30 @@
 -- From the later one of the last transition's start and of the rule's segment on, up to the rule's end, as long as there are leap times.
-use Rattle.std.proofs.Common.{◌≡◌, ◌≢◌, ◌⊎◌, inl, inr, sym, subst, arith, rules, ℤ, pos, ◌+ℤ◌, ◌≤ℤ◌, ◌<ℤ◌, List, Option, None, negsuc}
-use Rattle.std.specs.Prelude.{IfSome}
+use Rattle.std.proofs.Common.{◌≡◌, ◌≢◌, ◌⊎◌, inl, inr, subst, arith, rules, ℤ, pos, ◌+ℤ◌, ◌≤ℤ◌, ◌<ℤ◌, List, Option, negsuc}
 use Rattle.std.specs.Int.{int_max}
 use Rattle.std.proofs.lemmas.Int.{ints, by_lt_z, to_z-of_z}
 use mir.Syntax.{w64}
 use mir.Val.{SFits}
 use Rattle.tz_rule.specs.declared.timezone.rule.TransitionRule.{TransitionRule}
-use Rattle.tz_zone.specs.Table.{Transition, LeapSecond}
-use Rattle.tz_zone.specs.LeapTime.{IsPastInstants, IsTimeReached, IsMomentOf}
+use Rattle.tz_zone.specs.Table.{LeapSecond}
+use Rattle.tz_zone.specs.LeapTime.{IsPastInstants, IsLeapTimeRefused, IsTimeReached, IsMomentOf}
 use Rattle.tz_zone.specs.ValidZone.{AreLeapSeconds}
 use Rattle.tz_zone.specs.ZoneSeen.{rule_kept}
-use Rattle.tz_zone.specs.ClockSegments.{IsAtCursor}
 use Rattle.tz_zone.specs.TableChanges.{IsChangeByRule}
-use Rattle.tz_zone.specs.declared.clock.cursor.Cursor.{Cursor}
 use Rattle.tz_zone.proofs.LeapTimes.{instant_bounds}
 use Rattle.tz_zone.proofs.LeapMoments.{int_max-one}
-use Rattle.tz_zone.proofs.LeapReached.{up_to_last, answered_up_to}
-use Rattle.tz_zone.proofs.TypesAtCursors.{moment_up_to, at_cursor_within}
-use Rattle.tz_zone.proofs.clock.segments.segment_after_transitions.Goals as goal
+use Rattle.tz_zone.proofs.LeapReached.{up_to_last, answered_up_to, reached_from}
+use Rattle.tz_zone.proofs.TypesAtCursors.{answered_from_moment}
+use Rattle.tz_zone.proofs.clock.segments.segment_from_last.Goals as goal
 
--- from the start of the last transition on the instants with a leap time lie at the cursor
-module _ (leaps : List LeapSecond) (are : AreLeapSeconds leaps) (cursor : Cursor) (u : ℤ) (at : IsAtCursor leaps cursor u) (m : ℤ) (moment : IsMomentOf leaps cursor.before.unix_leap_time m) where
-  start_up_to : m ≤ℤ u
-  start_up_to = moment_up_to leaps are u at.0 at.1 cursor.before.unix_leap_time m moment at.2.0
-
-  all_at : cursor.next ≡ None → (last : ℤ) → ((w : ℤ) → w ≤ℤ last → ¬ IsPastInstants leaps w) → (v : ℤ) → m ≤ℤ v → v ≤ℤ last → IsAtCursor leaps cursor v
-  all_at is last within = at_cursor_within leaps are u at.0 at.1 cursor at.2 m last moment (λ v low high. answered_up_to leaps are u v at.1.not_refused low (within v high)) none
-    where
-      none : IfSome cursor.next (λ next. (v : ℤ) → v ≤ℤ last → ¬ IsTimeReached leaps next.unix_leap_time v)
-      none = subst (λ (o : Option Transition). IfSome o (λ next. (v : ℤ) → v ≤ℤ last → ¬ IsTimeReached leaps next.unix_leap_time v)) (sym is) tt
+-- from the start of the last transition on it is reached, as long as there are leap times
+module _ (leaps : List LeapSecond) (are : AreLeapSeconds leaps) (v u : ℤ) (reached : IsTimeReached leaps v u) (m : ℤ) (moment : IsMomentOf leaps v m) where
+  answered_until : (last w : ℤ) → ((x : ℤ) → x ≤ℤ last → ¬ IsPastInstants leaps x) → m ≤ℤ w → w ≤ℤ last → ¬ IsLeapTimeRefused leaps w
+  answered_until last w within low high = by_lt_z w u
+      (λ h. answered_from_moment leaps are u reached.0 reached.1 v m w moment low (omega (arith, ints, h)))
+      (λ h. answered_up_to leaps are u w reached.1.not_refused h (within w high))
 
   last_from : (last high : ℤ) → u ≤ℤ high → ((w : ℤ) → last <ℤ w → w ≤ℤ high → IsPastInstants leaps w) → u ≤ℤ last
-  last_from last high within past = up_to_last leaps are last high u past within (λ gone. at.1.not_refused (inr gone))
+  last_from last high within past = up_to_last leaps are last high u past within (λ gone. reached.1.not_refused (inr gone))
 
 -- if the rule's segment begins later than the transition starts it begins with a change of the rule
 begin_is : (leaps : List LeapSecond) (rule : Option TransitionRule) (v from first cut : ℤ) → IsMomentOf leaps v from → cut ≡ int_max from first → from ≤ℤ cut
@@ -70,20 +63,19 @@ returns-clause-within c =
     let moment = rw (to_z-of_z w64 c.unix_leap_time.result before, c.unix_leap_time.ensures) at c.start_of-from.ensures in
     let greatest = rw (to_z-of_z w64 c.start_of-from.result from, to_z-of_z w64 s.from first) at c.max.ensures in
     let cut = rw (to_z-of_z w64 s.last end) at c.last_instant_up_to.ensures in
-    let begin = start_up_to leaps c.requires.leaps c.args.cursor u c.requires.at c.start_of-from.result moment in
+    let begin = moment.least u c.requires.reached in
     let max_up_to : c.max.result ≤ℤ u = elim (int_max-one c.start_of-from.result s.from) [
       | inl e ↦ omega (arith, ints, greatest.value, e, begin)
       | inr e ↦ omega (arith, ints, greatest.value, e, within.0)
     ] in
     rw (to_z-of_z w64 c.max.result max, to_z-of_z w64 c.last_instant_up_to.result last) (
       max_up_to,
-      last_from leaps c.requires.leaps c.args.cursor u c.requires.at c.start_of-from.result moment c.last_instant_up_to.result s.last within.1 cut.past,
+      last_from leaps c.requires.leaps _ u c.requires.reached c.start_of-from.result moment c.last_instant_up_to.result s.last within.1 cut.past,
     )
 
-pub returns-clause-at : goal.returns-clause-at
-returns-clause-at c =
+pub returns-clause-reached : goal.returns-clause-reached
+returns-clause-reached c =
     let leaps = c.args.parts.leap_seconds.now in
-    let u = c.args.unix_time in
     let before : SFits w64 c.unix_leap_time.result = search rules in
     let from : SFits w64 c.start_of-from.result = search rules in
     let max : SFits w64 c.max.result = search rules in
@@ -91,7 +83,9 @@ returns-clause-at c =
     let moment = rw (to_z-of_z w64 c.unix_leap_time.result before, c.unix_leap_time.ensures) at c.start_of-from.ensures in
     let low = rw (to_z-of_z w64 c.start_of-from.result from) at c.max.ensures.self_bound in
     rw (to_z-of_z w64 c.max.result max, to_z-of_z w64 c.last_instant_up_to.result last)
-    (λ v from_v up_to. all_at leaps c.requires.leaps c.args.cursor u c.requires.at c.start_of-from.result moment c.requires.next c.last_instant_up_to.result c.last_instant_up_to.ensures.within v (omega (arith, ints, low, from_v)) up_to)
+    (λ w from_w up_to.
+    let since : c.start_of-from.result ≤ℤ w = omega (arith, ints, low, from_w) in
+    reached_from leaps c.requires.leaps _ c.start_of-from.result w moment (answered_until leaps c.requires.leaps _ c.args.unix_time c.requires.reached c.start_of-from.result moment c.last_instant_up_to.result w c.last_instant_up_to.ensures.within since up_to) since)
 
 pub returns-clause-holds : goal.returns-clause-holds
 returns-clause-holds c =

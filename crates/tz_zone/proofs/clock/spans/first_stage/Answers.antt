@@ -1,0 +1,47 @@
+-- Before a truncated start the clock has no type, and none once leap times have left 64 bits.
+use Rattle.std.proofs.Common.{inl, ap, arith, rules, length}
+use Rattle.std.proofs.lemmas.Int.{by_lt_z, to_z-of_z}
+use mir.Syntax.{w64}
+use mir.Val.{SFits}
+use Rattle.tz_zone.specs.ZoneSeen.{zone_seen}
+use Rattle.tz_zone.proofs.SegmentTypes.{match_none, match_at_none, match_some}
+use Rattle.tz_zone.proofs.TypesAtCursors.{no_type_refused, past_from}
+use Rattle.tz_zone.proofs.clock.spans.first_stage.Goals as goal
+
+pub returns-in-Some-clause-none : goal.returns-in-Some-clause-none
+returns-in-Some-clause-none g c = λ none.
+    let lies = match_some c.args.place c.in-Some.place _ _ c.in-Some.is c.requires.place in
+    c.type_before-local_time_type.ensures.first (omega (arith, lies.0, ap length none))
+
+pub returns-in_err-place-clause-stage : goal.returns-in_err-place-clause-stage
+returns-in_err-place-clause-stage g c =
+    let z = zone_seen (g.V.Transitions.list c.args.view.now) c.args.parts in
+    let u = c.args.unix_time in
+    let first = c.in_ok-first.first in
+    let fits : SFits w64 first = search rules in
+    let some = (match_at_none c.args.place _ _ c.in_default.is c.requires.place).0 in
+    let begun = rw (to_z-of_z w64 u c.ranges.unix_time) at (match_some c.first_begun.result first _ _ c.in_ok-first.was c.first_begun.ensures) in
+    let refused = rw (to_z-of_z w64 first fits) at (match_at_none c.place_at.result _ _ c.in_err-place.was c.place_at.ensures.place) in
+    match_none c.from_residual-in_err-place.result _ _ c.from_residual-in_err-place.ensures
+    (λ v low high. no_type_refused z some v (by_lt_z v first (λ before. inl (begun.2 v low before)) (λ from. past_from z.leap_seconds c.requires.sound.leap_seconds_are first v begun.1 refused from)))
+
+pub returns-clause-stage : goal.returns-clause-stage
+returns-clause-stage g c =
+    let z = zone_seen (g.V.Transitions.list c.args.view.now) c.args.parts in
+    let u = c.args.unix_time in
+    let first = c.in_ok-first.first in
+    let fits : SFits w64 first = search rules in
+    let some = (match_at_none c.args.place _ _ c.in_default.is c.requires.place).0 in
+    let begun = rw (to_z-of_z w64 u c.ranges.unix_time) at (match_some c.first_begun.result first _ _ c.in_ok-first.was c.first_begun.ensures) in
+    let (within, at) = rw (to_z-of_z w64 first fits) at (match_some c.place_at.result c.in_ok-place.place _ _ c.in_ok-place.was c.place_at.ensures.place) in
+    rw (to_z-of_z w64 first fits) (
+      begun.0,
+      record {
+        within = within;
+        type_is = rw c.place_at.ensures.same at c.type_before-local_time_type-2.ensures.value;
+        instant = fits;
+        ahead = λ some. (at.time, at.time_is, at.ahead);
+        reached = λ some. (at.time, at.time_is, at.reached);
+      },
+      λ v low before. no_type_refused z some v (inl (begun.2 v low before)),
+    )
