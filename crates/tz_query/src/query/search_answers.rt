@@ -183,7 +183,7 @@ impl<'a, A: Allocator + Copy> Answers<'a, A> {
         self.push_skipped(b"F 1\nS ", &first, before, &second, after, nanoseconds)
     }
 
-    /// Answers fields with these nanoseconds: by what they mean, if they are valid and have one or two entries, else by a search for them.
+    /// Answers fields with these nanoseconds: by what they mean, if they are valid and have two entries at most, else by a search for them.
     #[inline(always)]
     pub fn answer_search(
         &mut self,
@@ -204,7 +204,8 @@ impl<'a, A: Allocator + Copy> Answers<'a, A> {
             Meaning::Skipped(unix_time, before, after) => {
                 self.push_jump(fields, nanoseconds, unix_time, before, after)
             }
-            Meaning::Nothing | Meaning::More => self.answer_by_search(fields, nanoseconds),
+            Meaning::Nothing => self.output.push_count(b'F', 0),
+            Meaning::More => self.answer_by_search(fields, nanoseconds),
         }
     }
 

@@ -82,11 +82,28 @@ returns-in-Skipped g c =
 
 pub returns-in-Nothing : goal.returns-in-Nothing
 returns-in-Nothing g c =
+    let z = zone_of c.args.self.now.zone in
+    let f = c.args.fields.now in
+    let nanoseconds = c.args.nanoseconds.now in
+    let r = c.reading.result in
+    let fits : SFits w64 r = record { sfits = c.reading.type_inv } in
+    let (es, are, is) = rw (to_z-of_z w64 r fits) at c.in-Nothing.ensures.means in
+    let all : AreEntries (IsClock z) r [] = subst (AreEntries (IsClock z) r) is are in
+    IfOk-weaker c.push_count.result _ _
+    (λ done items. (
+      found_lines [],
+      answered_by z f (number_of nanoseconds) r [] [] nanoseconds.below c.in-Ok.ensures.ok (sym c.reading.ensures.value) all tt,
+      then_adds c.meaning.ensures.kept (record { zone_is = refl; sound = λ s. s; text_is = items }),
+    ))
+    c.push_count.ensures
+
+pub returns-in-More : goal.returns-in-More
+returns-in-More g c =
     let kept = c.meaning.ensures.kept in
-    IfOk-weaker c.answer_by_search-in-Nothing.result _ _
+    IfOk-weaker c.answer_by_search-in-More.result _ _
     (λ done (answer, is, adds). (
       answer,
       subst (λ zone. IsSearchAnswer (zone_of zone) (with_nanoseconds c.args.fields.now c.args.nanoseconds.now) answer) kept.zone_is is,
       then_adds kept adds,
     ))
-    c.answer_by_search-in-Nothing.ensures
+    c.answer_by_search-in-More.ensures
