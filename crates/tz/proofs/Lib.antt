@@ -20,7 +20,7 @@ pub mod TzStringRules
 pub mod ComparisonsByParts
 pub mod FieldOrder
 pub mod TimespecTotals
-pub mod EntriesTaken
+pub mod Summaries
 pub mod UniqueResults
 pub mod UniqueMeanings
 pub mod PlacedSlots

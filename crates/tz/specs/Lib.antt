@@ -4,6 +4,7 @@ pub use Rattle.tz_rule.specs.LocalTimeType
 pub mod DateTimes
 pub mod Found
 pub mod Slots
+pub mod Growth
 pub mod Buffers
 pub mod Entries
 pub mod EntryDateTimes
@@ -21,7 +22,6 @@ pub mod LentSlots
 pub mod SlotEquality
 pub mod Meanings
 pub mod LocalMeanings
-pub mod MeantSlots
-pub mod Choices
+pub mod Summaries
 pub mod Plain
 pub mod PlainSlots

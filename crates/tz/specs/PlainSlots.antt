@@ -1,6 +1,7 @@
 -- A list in slots of plain data: its count, and the slots when its entries from a number on were written.
-use Rattle.std.specs.Prelude.{◌≡◌, ◌^◌, ◌<◌, List, [], ◌++◌, length}
-use Rattle.std.proofs.Common.{refl, sym, ◌∙◌, subst, arith, append_assoc, append-nil, length-append}
+use Rattle.std.specs.Prelude.{◌≡◌, List, [], ◌++◌, length}
+use Rattle.std.proofs.Common.{refl, ◌∙◌}
+use Rattle.tz.specs.Growth.{HoldsMore, holds_more, holds_none}
 use Rattle.tz.specs.Plain.{entries_from, placed}
 use Rattle.tz.specs.declared.datetime.found.FoundDateTimeKind.{FoundDateTimeKind}
 use Rattle.tz.specs.declared.datetime.plain.FoundData.{FoundData}
@@ -10,22 +11,15 @@ use Rattle.tz.specs.declared.datetime.plain_writer.PlainWriter.{PlainWriter}
 abbrev pub IsHolding : PlainWriter → List FoundData → List FoundDateTimeKind → Type 0
 IsHolding list slots found = (list.count ≡ length found) × (list.slots.now ≡ placed slots (entries_from list.skip found))
 
--- whatever the slots held, they now hold that list with more at its end; a count has 64 bits
+-- whatever the slots held, they now hold that list with more at its end
 abbrev pub GrowsBy : PlainWriter → PlainWriter → List FoundDateTimeKind → Type 0
 GrowsBy list grown found =
     (grown.slots.ghost_name ≡ list.slots.ghost_name) × (grown.skip ≡ list.skip)
-    × ((slots : List FoundData) (before : List FoundDateTimeKind) → length (before ++ found) < 2 ^ 64 → IsHolding list slots before → IsHolding grown slots (before ++ found))
+    × ((slots : List FoundData) → HoldsMore (λ writer held. IsHolding writer slots held) list grown found)
 
 pub grows_by_none : (list : PlainWriter) → GrowsBy list list []
-grows_by_none list = (refl, refl, λ slots before fits holding. subst (λ (found : List FoundDateTimeKind). IsHolding list slots found) (sym (append-nil before)) holding)
+grows_by_none list = (refl, refl, λ slots. holds_none (λ writer held. IsHolding writer slots held) list)
 
 pub grows_by_more : (list middle grown : PlainWriter) (es fs : List FoundDateTimeKind) → GrowsBy list middle es → GrowsBy middle grown fs → GrowsBy list grown (es ++ fs)
-grows_by_more list middle grown es fs (same, skip, first) (same', skip', second) = (
-  same' ∙ same,
-  skip' ∙ skip,
-  λ slots before fits holding.
-      let whole : (before ++ es) ++ fs ≡ before ++ (es ++ fs) = append_assoc before es fs in
-      let size : length ((before ++ es) ++ fs) < 2 ^ 64 = rw whole fits in
-      let front : length (before ++ es) < 2 ^ 64 = omega (arith, length-append (before ++ es) fs) in
-      subst (λ (found : List FoundDateTimeKind). IsHolding grown slots found) whole (second slots (before ++ es) size (first slots before front holding)),
-)
+grows_by_more list middle grown es fs (same, skip, first) (same', skip', second) =
+    (same' ∙ same, skip' ∙ skip, λ slots. holds_more (λ writer held. IsHolding writer slots held) list middle grown es fs (first slots) (second slots))

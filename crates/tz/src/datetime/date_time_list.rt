@@ -1,10 +1,10 @@
 //! Lists that grow by what a search finds.
 
 use super::FoundDateTimeKind;
-use super::choice::Choice;
 use super::found_list::FoundDateTimeList;
 use super::plain_writer::PlainWriter;
 use super::slot_writer::SlotWriter;
+use super::summary::Summary;
 use std::alloc::{AllocError, Allocator};
 
 /// A list that a search writes to.
@@ -88,17 +88,18 @@ impl DateTimeList for PlainWriter<'_> {
     }
 }
 
-impl DateTimeList for Choice {
-    ghost use Rattle.tz.specs.Choices.{ChoosesMore, chooses_none, chooses_more};
+impl DateTimeList for Summary {
+    ghost use Rattle.tz.specs.Summaries.{SummarizesMore, summarizes_none, summarizes_more};
 
-    ghost gains = { ChoosesMore };
+    ghost gains = { SummarizesMore };
 
     ghost takes_memory = { ⊥ };
 
-    ghost none = { chooses_none };
+    ghost none = { summarizes_none };
 
-    ghost more = { chooses_more };
+    ghost more = { summarizes_more };
 
+    #[inline(always)]
     fn push(&mut self, found: FoundDateTimeKind) -> Result<(), AllocError> {
         self.add(found);
         Ok(())

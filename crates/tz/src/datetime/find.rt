@@ -1,13 +1,16 @@
 //! The date times at which the clock of a zone shows given fields.
 
-ghost use Rattle.std.specs.Prelude.{◌≡◌, ◌≢◌, ⊤, IfOk, IfErr, OnOk};
-ghost use Rattle.tz_base.specs.Fields.{IsValid};
+ghost use Rattle.std.specs.Prelude.{◌≡◌, ◌≢◌, ◌⊎◌, ◌+◌, ◌*◌, ◌^◌, ◌<◌, ◌≤◌, ℕ, List, length, ⊤, IfOk, IfErr, OnOk};
+ghost use Rattle.tz_base.specs.Fields.{IsValid, reading};
 ghost use Rattle.tz_zone.specs.Clock.{IsClock};
 ghost use Rattle.tz_zone.specs.ZoneRef.{zone_of};
 ghost use Rattle.tz.specs.Found.{EachCanBeMade, IsFound};
 ghost use Rattle.tz.specs.Lists.{found_of};
 ghost use Rattle.tz.specs.FindFaults.{IsFindFault, IsPromised};
+ghost use Rattle.tz.specs.Windows.{AtMostTakeEffectAround};
+ghost use Rattle.tz.specs.declared.datetime.found.FoundDateTimeKind.{FoundDateTimeKind};
 
+use super::date_time_list::DateTimeList;
 use super::found_list::FoundDateTimeList;
 use super::found_list_ref::FoundDateTimeListRefMut;
 use super::search::search;
@@ -16,14 +19,14 @@ use super::{DateTime, FoundDateTimeKind};
 use std::alloc::Allocator;
 use tz_base::error::TzError;
 use tz_base::fields::Fields;
-use tz_zone::inner::{Counted, OtherParts, Transitions, Uncounted, offsets, other_parts};
+use tz_zone::inner::{Counted, Transitions, Uncounted, offsets, other_parts};
 use tz_zone::timezone::TimeZoneRef;
 
 /// A search that failed, and the buffer as it left it.
 #[derive(Drop)]
-struct Refused<'a> {
+pub(super) struct Refused<'a> {
     buf: &'a mut [Option<FoundDateTimeKind>],
-    fault: TzError,
+    pub(super) fault: TzError,
 }
 
 /// What [`DateTime::find`] finds of the fields.
@@ -38,13 +41,38 @@ pub fn find_fields<A: Allocator + Copy>(
     ensures promised { IsPromised (zone_of time_zone_ref.entry) fields.now.year → IfErr result (λ e. e ≢ TzError.OutOfRange) }
     ensures err { IfErr result (IsFindFault ⊤ (IsClock (zone_of time_zone_ref.entry)) fields.now) }
 {
-    fields.check()?;
     let mut list = FoundDateTimeList::new_in(alloc);
     let mut view = Uncounted::new(time_zone_ref.transitions());
+    find_in(&mut list, fields, &mut view, time_zone_ref)?;
+    Ok(list)
+}
+
+/// Adds what [`DateTime::find`] finds of the fields to a list, through a view of the zone's transitions.
+#[inline(always)]
+pub(super) fn find_in<L: DateTimeList, V: Transitions>(
+    list: &mut L,
+    fields: &Fields,
+    view: &mut V,
+    time_zone_ref: TimeZoneRef<'_>,
+) -> Result<(), TzError>
+    requires { V.list view.old ≡ (zone_of time_zone_ref).transitions }
+    ensures ok { OnOk result ((found : List FoundDateTimeKind) × L.gains list.old list.new found
+        × IsFound (IsClock (zone_of time_zone_ref.entry)) fields.now found × (length found ≤ 2 ^ 33)) }
+    ensures valid { OnOk result (IsValid fields.now) }
+    ensures made { OnOk result (EachCanBeMade (IsClock (zone_of time_zone_ref.entry)) fields.now) }
+    ensures untouched { IsValid fields.now ⊎ (list.new ≡ list.old) }
+    ensures promised { IsPromised (zone_of time_zone_ref.entry) fields.now.year → IfErr result (λ e. e ≢ TzError.OutOfRange) }
+    ensures err { IfErr result (IsFindFault L.takes_memory (IsClock (zone_of time_zone_ref.entry)) fields.now) }
+    ensures at_most { OnOk result ((b w : ℕ) → length (zone_of time_zone_ref.entry).transitions < 2 ^ b
+        → AtMostTakeEffectAround (zone_of time_zone_ref.entry) (reading fields.now) w
+        → V.looks view.new ≤ V.looks view.old + (2 * b + w + 4)) }
+    ensures at_least_one { OnOk result (0 < length (zone_of time_zone_ref.entry).transitions → V.next (V.looks view.old) ≤ V.looks view.new) }
+    ensures none { OnOk result (length (zone_of time_zone_ref.entry).transitions ≡ 0 → V.looks view.new ≡ V.looks view.old) }
+{
+    fields.check()?;
     let (least, greatest) = offsets(&time_zone_ref);
     let parts = other_parts(&time_zone_ref);
-    search(&mut list, fields, &mut view, parts, least, greatest)?;
-    Ok(list)
+    search(list, fields, view, parts, least, greatest)
 }
 
 impl DateTime {
@@ -52,11 +80,8 @@ impl DateTime {
     ghost use Rattle.std.specs.Borrow.{sem};
     ghost use Rattle.tz_base.specs.Fields.{IsValid, reading};
     ghost use Rattle.tz_zone.specs.Clock.{IsClock};
-    ghost use Rattle.tz_zone.specs.Offsets.{AreEndOffsets};
-    ghost use Rattle.tz_zone.specs.ValidZone.{IsSoundTable};
     ghost use Rattle.tz_zone.specs.ZoneRef.{zone_of};
     ghost use Rattle.tz.specs.DateTimes.{fields_of};
-    ghost use Rattle.tz_zone.specs.ZoneSeen.{zone_seen};
     ghost use Rattle.tz.specs.Windows.{AtMostTakeEffectAround};
     ghost use Rattle.tz.specs.Found.{EachCanBeMade, IsFound};
     ghost use Rattle.tz.specs.Lists.{found_of, slots_of, count_of, reference_of};
@@ -238,12 +263,7 @@ impl DateTime {
             nanoseconds,
         };
         let mut view = Uncounted::new(time_zone_ref.transitions());
-        let (least, greatest) = offsets(&time_zone_ref);
-        let parts = other_parts(&time_zone_ref);
-        match DateTime::fill(buf, &fields, &mut view, parts, least, greatest) {
-            Ok(count) => Ok(FoundDateTimeListRefMut::counted(buf, count)),
-            Err(fault) => Err(Refused { buf, fault }),
-        }
+        DateTime::listed_in(buf, &fields, &mut view, time_zone_ref)
     }
 
     /// What [`DateTime::find_n_counted`] returns, or the buffer and the error.
@@ -284,42 +304,65 @@ impl DateTime {
             nanoseconds,
         };
         let mut view = Counted::new(time_zone_ref.transitions());
-        let (least, greatest) = offsets(&time_zone_ref);
-        let parts = other_parts(&time_zone_ref);
-        match DateTime::fill(buf, &fields, &mut view, parts, least, greatest) {
-            Ok(count) => Ok((FoundDateTimeListRefMut::counted(buf, count), view.looks())),
+        let list = DateTime::listed_in(buf, &fields, &mut view, time_zone_ref)?;
+        Ok((list, view.looks()))
+    }
+
+    /// What [`DateTime::find_n`] returns for the fields, through a view of the zone's transitions, or the buffer and the error.
+    #[inline(always)]
+    pub(super) fn listed_in<'a, V: Transitions>(
+        buf: &'a mut [Option<FoundDateTimeKind>],
+        fields: &Fields,
+        view: &mut V,
+        time_zone_ref: TimeZoneRef<'_>,
+    ) -> Result<FoundDateTimeListRefMut<'a>, Refused<'a>>
+        requires { V.list view.old ≡ (zone_of time_zone_ref).transitions }
+        ensures same_reference { IfOk result (λ list. reference_of list ≡ buf.entry.ghost_name) }
+        ensures ok { IfOk result (λ list. (found : List FoundDateTimeKind) × IsFound (IsClock (zone_of time_zone_ref.entry)) fields.now found
+            × (count_of list ≡ length found) × (slots_of list ≡ filled buf.old found)) }
+        ensures valid { OnOk result (IsValid fields.now) }
+        ensures made { OnOk result (EachCanBeMade (IsClock (zone_of time_zone_ref.entry)) fields.now) }
+        ensures refused_reference { IfErr result (λ refused. refused.buf.ghost_name ≡ buf.entry.ghost_name) }
+        ensures untouched { IfErr result (λ refused. IsValid fields.now ⊎ (refused.buf.now ≡ buf.old)) }
+        ensures promised { IsPromised (zone_of time_zone_ref.entry) fields.now.year → IfErr result (λ refused. refused.fault ≢ TzError.OutOfRange) }
+        ensures err { IfErr result (λ refused. IsFindFault ⊥ (IsClock (zone_of time_zone_ref.entry)) fields.now refused.fault) }
+        ensures at_most { OnOk result ((b w : ℕ) → length (zone_of time_zone_ref.entry).transitions < 2 ^ b
+            → AtMostTakeEffectAround (zone_of time_zone_ref.entry) (reading fields.now) w
+            → V.looks view.new ≤ V.looks view.old + (2 * b + w + 4)) }
+        ensures at_least_one { OnOk result (0 < length (zone_of time_zone_ref.entry).transitions → V.next (V.looks view.old) ≤ V.looks view.new) }
+        ensures none { OnOk result (length (zone_of time_zone_ref.entry).transitions ≡ 0 → V.looks view.new ≡ V.looks view.old) }
+    {
+        match DateTime::fill(buf, fields, view, time_zone_ref) {
+            Ok(count) => Ok(FoundDateTimeListRefMut::counted(buf, count)),
             Err(fault) => Err(Refused { buf, fault }),
         }
     }
 
     /// Writes what is found of the fields to the slots, as far as they go, and counts all entries.
+    #[inline(always)]
     fn fill<V: Transitions>(
         buf: &mut [Option<FoundDateTimeKind>],
         fields: &Fields,
         view: &mut V,
-        parts: OtherParts<'_>,
-        least: i32,
-        greatest: i32,
+        time_zone_ref: TimeZoneRef<'_>,
     ) -> Result<usize, TzError>
-        requires sound { IsSoundTable (zone_seen (V.list view.old) parts) }
-        requires offsets { AreEndOffsets (zone_seen (V.list view.old) parts) least greatest }
+        requires { V.list view.old ≡ (zone_of time_zone_ref).transitions }
         ensures ok { IfOk result (λ count. (found : List FoundDateTimeKind)
-            × IsFound (IsClock (zone_seen (V.list view.old) parts.entry)) fields.now found
+            × IsFound (IsClock (zone_of time_zone_ref.entry)) fields.now found
             × (count ≡ length found) × (buf.new ≡ filled buf.old found)) }
         ensures valid { OnOk result (IsValid fields.now) }
-        ensures made { OnOk result (EachCanBeMade (IsClock (zone_seen (V.list view.old) parts.entry)) fields.now) }
+        ensures made { OnOk result (EachCanBeMade (IsClock (zone_of time_zone_ref.entry)) fields.now) }
         ensures untouched { IsValid fields.now ⊎ (buf.new ≡ buf.old) }
-        ensures promised { IsPromised (zone_seen (V.list view.old) parts.entry) fields.now.year → IfErr result (λ e. e ≢ TzError.OutOfRange) }
-        ensures err { IfErr result (IsFindFault ⊥ (IsClock (zone_seen (V.list view.old) parts.entry)) fields.now) }
-        ensures at_most { OnOk result ((b w : ℕ) → length (V.list view.old) < 2 ^ b
-            → AtMostTakeEffectAround (zone_seen (V.list view.old) parts.entry) (reading fields.now) w
+        ensures promised { IsPromised (zone_of time_zone_ref.entry) fields.now.year → IfErr result (λ e. e ≢ TzError.OutOfRange) }
+        ensures err { IfErr result (IsFindFault ⊥ (IsClock (zone_of time_zone_ref.entry)) fields.now) }
+        ensures at_most { OnOk result ((b w : ℕ) → length (zone_of time_zone_ref.entry).transitions < 2 ^ b
+            → AtMostTakeEffectAround (zone_of time_zone_ref.entry) (reading fields.now) w
             → V.looks view.new ≤ V.looks view.old + (2 * b + w + 4)) }
-        ensures at_least_one { OnOk result (0 < length (V.list view.old) → V.next (V.looks view.old) ≤ V.looks view.new) }
-        ensures none { OnOk result (length (V.list view.old) ≡ 0 → V.looks view.new ≡ V.looks view.old) }
+        ensures at_least_one { OnOk result (0 < length (zone_of time_zone_ref.entry).transitions → V.next (V.looks view.old) ≤ V.looks view.new) }
+        ensures none { OnOk result (length (zone_of time_zone_ref.entry).transitions ≡ 0 → V.looks view.new ≡ V.looks view.old) }
     {
-        Fields::check(fields)?;
         let mut writer = SlotWriter::new(buf);
-        search(&mut writer, fields, view, parts, least, greatest)?;
+        find_in(&mut writer, fields, view, time_zone_ref)?;
         Ok(writer.count())
     }
 }

@@ -13,6 +13,7 @@ use super::find::find_fields;
 use super::{DateTime, FoundDateTimeKind, FoundDateTimeList, FoundDateTimeListRefMut, UtcDateTime};
 use std::alloc::Allocator;
 use tz_base::error::TzError;
+use tz_zone::inner::Uncounted;
 use tz_zone::timezone::TimeZoneRef;
 
 impl DateTime {
@@ -85,16 +86,10 @@ impl DateTime {
         ensures promised { IsPromised (zone_of time_zone_ref.entry) local.year → IfErr result (λ e. e ≢ TzError.OutOfRange) }
         ensures err { IfErr result (IsFindFault ⊥ (IsClock (zone_of time_zone_ref.entry)) local) }
     {
-        DateTime::find_n(
-            buf,
-            local.year(),
-            local.month(),
-            local.month_day(),
-            local.hour(),
-            local.minute(),
-            local.second(),
-            local.nanoseconds(),
-            time_zone_ref,
-        )
+        let mut view = Uncounted::new(time_zone_ref.transitions());
+        match DateTime::listed_in(buf, local.fields(), &mut view, time_zone_ref) {
+            Ok(list) => Ok(list),
+            Err(refused) => Err(refused.fault),
+        }
     }
 }

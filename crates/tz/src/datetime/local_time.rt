@@ -8,12 +8,12 @@ ghost use Rattle.tz.specs.Found.{EachCanBeMade};
 ghost use Rattle.tz.specs.Meanings.{IsMeaning, IsMeaningFault, IsMeantBy, IsMeantFault, instant_meant};
 ghost use Rattle.tz_base.specs.Fields.{reading as reading_of};
 
-use super::choice::Choice;
-use super::search::search;
+use super::find::find_in;
+use super::summary::Summary;
 use super::{DateTime, Disambiguation, FoundDateTimeKind, UtcDateTime};
 use tz_base::error::TzError;
 use tz_base::fields::Fields;
-use tz_zone::inner::{Uncounted, offsets, other_parts};
+use tz_zone::inner::Uncounted;
 use tz_zone::timezone::TimeZoneRef;
 
 /// The one date time that fields mean, if there is one.
@@ -27,13 +27,10 @@ fn meant(
     ensures made { OnOk result (EachCanBeMade (IsClock (zone_of time_zone_ref.entry)) fields.now) }
     ensures err { IfErr result (IsMeaningFault (zone_of time_zone_ref.entry) disambiguation fields.now) }
 {
-    fields.check()?;
-    let mut choice = Choice::new();
+    let mut summary = Summary::Nothing;
     let mut view = Uncounted::new(time_zone_ref.transitions());
-    let (least, greatest) = offsets(&time_zone_ref);
-    let parts = other_parts(&time_zone_ref);
-    search(&mut choice, fields, &mut view, parts, least, greatest)?;
-    let Some(entry) = choice.entry(disambiguation) else {
+    find_in(&mut summary, fields, &mut view, time_zone_ref)?;
+    let Some(entry) = summary.entry(disambiguation) else {
         return Ok(None);
     };
     Ok(Some(date_time_of(&entry, fields, disambiguation, time_zone_ref)?))

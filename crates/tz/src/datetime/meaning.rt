@@ -1,12 +1,21 @@
 //! What a local time means in a zone, without a list.
 
-ghost use Rattle.std.specs.Prelude.{◌≡◌, ◌≢◌, List, [], ◌∷◌, length, IfOk, IfErr, OnOk};
-ghost use Rattle.tz.specs.LocalMeanings.{meaning_of};
-ghost use Rattle.tz.specs.MeantSlots.{AreFirstTwo};
+ghost use Rattle.std.specs.Prelude.{◌≡◌, ◌≢◌, ◌≤◌, List, [], ◌∷◌, Some, length, IfOk, IfErr, OnOk};
+ghost use Rattle.tz_base.specs.Fields.{IsValid};
+ghost use Rattle.tz_zone.specs.Clock.{IsClock};
+ghost use Rattle.tz_zone.specs.ZoneRef.{zone_of};
+ghost use Rattle.tz.specs.FindFaults.{IsFindFault, IsPromised};
+ghost use Rattle.tz.specs.Found.{EachCanBeMade};
+ghost use Rattle.tz.specs.LocalMeanings.{HasMeaning, meaning_of};
+ghost use Rattle.tz.specs.Meanings.{first_entry, last_entry};
 ghost use Rattle.tz.specs.declared.datetime.found.FoundDateTimeKind.{FoundDateTimeKind};
 
+use super::find::find_in;
+use super::summary::Summary;
 use super::{DateTime, FoundDateTimeKind, UtcDateTime};
 use tz_base::error::TzError;
+use tz_base::fields::Fields;
+use tz_zone::inner::Uncounted;
 use tz_zone::timezone::TimeZoneRef;
 
 /// What a local time means in a zone: the instants at which clocks show it, and the jumps over it.
@@ -35,7 +44,7 @@ pub enum Meaning {
 }
 
 /// The meaning of one entry.
-fn meaning_of_one(found: &FoundDateTimeKind) -> Meaning
+pub(super) fn meaning_of_one(found: &FoundDateTimeKind) -> Meaning
     ensures { result ≡ meaning_of (found.now ∷ []) }
 {
     match *found {
@@ -63,20 +72,33 @@ fn meaning_of_two(first: &FoundDateTimeKind, second: &FoundDateTimeKind) -> Mean
     }
 }
 
-/// The meaning of this number of entries, the first two of which are in the slots.
-fn meaning_of(slots: &[Option<FoundDateTimeKind>], count: usize) -> Meaning
-    ensures { (found : List FoundDateTimeKind) → count ≡ length found → AreFirstTwo found slots.now → result ≡ meaning_of found }
+/// The meaning of two entries or more: so many, with this first one and this last one.
+pub(super) fn meaning_of_several(
+    count: usize,
+    first: &FoundDateTimeKind,
+    last: &FoundDateTimeKind,
+) -> Meaning
+    ensures { (found : List FoundDateTimeKind) → count ≡ length found → 2 ≤ length found → first_entry found ≡ Some first.now
+        → last_entry found ≡ Some last.now → result ≡ meaning_of found }
 {
-    if slots.len() < count {
-        return Meaning::More(count);
+    if count == 2 {
+        return meaning_of_two(first, last);
     }
-    let Some(Some(first)) = slots.first() else {
-        return Meaning::Nothing;
-    };
-    match slots.get(1) {
-        Some(Some(second)) => meaning_of_two(first, second),
-        _ => meaning_of_one(first),
-    }
+    Meaning::More(count)
+}
+
+/// What fields mean in a zone.
+fn meant(fields: &Fields, time_zone_ref: TimeZoneRef<'_>) -> Result<Meaning, TzError>
+    ensures ok { IfOk result (HasMeaning (zone_of time_zone_ref.entry) fields.now) }
+    ensures valid { OnOk result (IsValid fields.now) }
+    ensures made { OnOk result (EachCanBeMade (IsClock (zone_of time_zone_ref.entry)) fields.now) }
+    ensures promised { IsPromised (zone_of time_zone_ref.entry) fields.now.year → IfErr result (λ e. e ≢ TzError.OutOfRange) }
+    ensures err { IfErr result (IsFindFault ⊥ (IsClock (zone_of time_zone_ref.entry)) fields.now) }
+{
+    let mut summary = Summary::Nothing;
+    let mut view = Uncounted::new(time_zone_ref.transitions());
+    find_in(&mut summary, fields, &mut view, time_zone_ref)?;
+    Ok(summary.meaning())
 }
 
 impl DateTime {
@@ -112,9 +134,7 @@ impl DateTime {
         ensures promised { IsPromised (zone_of time_zone_ref.entry) year → IfErr result (λ e. e ≢ TzError.OutOfRange) }
         ensures err { IfErr result (IsFindFault ⊥ (IsClock (zone_of time_zone_ref.entry)) (fields_of year month month_day hour minute second nanoseconds)) }
     {
-        let mut slots = [None; 2];
-        let found = DateTime::find_n(
-            &mut slots,
+        let fields = Fields {
             year,
             month,
             month_day,
@@ -122,9 +142,8 @@ impl DateTime {
             minute,
             second,
             nanoseconds,
-            time_zone_ref,
-        )?;
-        Ok(meaning_of(found.data(), found.count()))
+        };
+        meant(&fields, time_zone_ref)
     }
 
     /// What the local time means in the zone. The `UtcDateTime` is read as a local time, without an offset. This call does not allocate.
@@ -141,15 +160,6 @@ impl DateTime {
         ensures promised { IsPromised (zone_of time_zone_ref.entry) local.year → IfErr result (λ e. e ≢ TzError.OutOfRange) }
         ensures err { IfErr result (IsFindFault ⊥ (IsClock (zone_of time_zone_ref.entry)) local) }
     {
-        DateTime::meaning(
-            local.year(),
-            local.month(),
-            local.month_day(),
-            local.hour(),
-            local.minute(),
-            local.second(),
-            local.nanoseconds(),
-            time_zone_ref,
-        )
+        meant(local.fields(), time_zone_ref)
     }
 }

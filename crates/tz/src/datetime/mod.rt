@@ -1,6 +1,5 @@
 //! Date times.
 
-mod choice;
 pub(crate) mod date_time;
 mod date_time_list;
 mod dated;
@@ -18,6 +17,7 @@ pub(crate) mod plain;
 mod plain_writer;
 pub(crate) mod search;
 mod slot_writer;
+mod summary;
 mod totals;
 pub(crate) mod utc_date_time;
 pub(crate) mod view;

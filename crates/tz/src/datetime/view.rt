@@ -11,12 +11,12 @@ ghost use Rattle.tz.specs.Meanings.{IsMeaning, IsMeaningFault, IsMeantBy, IsMean
 ghost use Rattle.tz.specs.Plain.{entries_from, placed};
 ghost use Rattle.tz.specs.declared.datetime.found.FoundDateTimeKind.{FoundDateTimeKind};
 
-use super::choice::Choice;
 use super::date_time_list::DateTimeList;
 use super::local_time::instant;
 use super::plain::FoundData;
 use super::plain_writer::PlainWriter;
 use super::search::search;
+use super::summary::Summary;
 use super::{DateTime, Disambiguation, FoundDateTimeKind};
 use tz_base::constants::NANOSECONDS_PER_SECOND;
 use tz_base::error::TzError;
@@ -75,7 +75,7 @@ fn check_by_search(fields: &Fields, zone: &ZoneView<'_>) -> Result<(), TzError>
     ensures made { OnOk result (EachCanBeMade (IsClock (zone_viewed zone.now)) fields.now) }
     ensures err { IfErr result (IsSearchFault ⊥ (IsClock (zone_viewed zone.now)) fields.now) }
 {
-    search_view(&mut Choice::new(), fields, zone)
+    search_view(&mut Summary::Nothing, fields, zone)
 }
 
 /// Searches for fields near the ends of the years, so that a search that is refused is refused before anything is written.
@@ -162,9 +162,9 @@ pub fn find_one(
     ensures err { IfErr result (IsMeaningFault (zone_viewed zone.now) disambiguation fields.now) }
 {
     fields.check()?;
-    let mut choice = Choice::new();
-    search_view(&mut choice, fields, zone)?;
-    let Some(entry) = choice.entry(disambiguation) else {
+    let mut summary = Summary::Nothing;
+    search_view(&mut summary, fields, zone)?;
+    let Some(entry) = summary.entry(disambiguation) else {
         return Ok(None);
     };
     Ok(Some(date_time_of(&entry, fields, disambiguation, zone)?))

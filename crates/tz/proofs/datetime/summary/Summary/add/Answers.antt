@@ -1,0 +1,18 @@
+-- The entry stands at the end of the list.
+use Rattle.std.proofs.Common.{◌∙◌, sym, ap, subst, arith, [], ◌∷◌, Some, length-append}
+use Rattle.std.specs.Option.{option_or}
+use Rattle.tz.specs.Summaries.{IsSummaryOf, shown_entry_of}
+use Rattle.tz.proofs.Summaries.{first_of_grown, last_of_grown, shown_of_grown}
+use Rattle.tz.proofs.datetime.summary.Summary.add.Goals as goal
+
+pub returns-in-Several : goal.returns-in-Several
+returns-in-Several c before fits of =
+    let e = c.args.found in
+    let size = length-append before (e ∷ []) in
+    let (count, several, first, last, shown) = subst (IsSummaryOf before) c.in-Several.is of in (
+      omega (arith, size, count, c.saturating_add.ensures),
+      omega (arith, size, several),
+      first_of_grown before e ∙ ap (λ x. option_or x (Some e)) first,
+      last_of_grown before e,
+      shown_of_grown before e ∙ ap (λ x. option_or x (shown_entry_of e)) shown ∙ sym (c.or-in-Several.ensures ∙ ap (λ x. option_or c.in-Several.shown x) c.shown_entry-in-Several.ensures),
+    )

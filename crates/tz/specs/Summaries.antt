@@ -1,0 +1,30 @@
+-- What is kept of a list of found date times, from which one or what they mean is taken.
+use Rattle.std.specs.Prelude.{◌≡◌, ◌≤◌, List, [], ◌∷◌, ◌++◌, Option, Some, None, length}
+use Rattle.tz.specs.Growth.{HoldsMore, holds_more, holds_none}
+use Rattle.tz.specs.Meanings.{first_entry, last_entry, first_shown}
+use Rattle.tz.specs.declared.datetime.summary.Summary.{Summary}
+use Rattle.tz.specs.declared.datetime.summary.Summary.TheVariants.{Nothing, One, Several}
+use Rattle.tz.specs.declared.datetime.found.FoundDateTimeKind.{FoundDateTimeKind}
+use Rattle.tz.specs.declared.datetime.found.FoundDateTimeKind.TheVariants.{Normal, Skipped}
+
+-- the entry, if the clock shows its date time
+abbrev pub shown_entry_of : FoundDateTimeKind → Option FoundDateTimeKind
+shown_entry_of (Normal d) = Some (Normal d)
+shown_entry_of (Skipped before after) = None
+
+-- the list has no entry, this one, or so many with these as the first, the last and the first one that is shown
+abbrev pub IsSummaryOf : List FoundDateTimeKind → Summary → Type 0
+IsSummaryOf found Nothing = found ≡ []
+IsSummaryOf found (One e) = found ≡ e ∷ []
+IsSummaryOf found (Several count first last shown) =
+    (count ≡ length found) × (2 ≤ length found) × (first_entry found ≡ Some first) × (last_entry found ≡ Some last) × (first_shown found ≡ shown)
+
+-- whatever list the first was of, the second is of that list with these at its end
+abbrev pub SummarizesMore : Summary → Summary → List FoundDateTimeKind → Type 0
+SummarizesMore = HoldsMore (λ summary found. IsSummaryOf found summary)
+
+pub summarizes_none : (summary : Summary) → SummarizesMore summary summary []
+summarizes_none = holds_none (λ summary found. IsSummaryOf found summary)
+
+pub summarizes_more : (summary middle grown : Summary) (es fs : List FoundDateTimeKind) → SummarizesMore summary middle es → SummarizesMore middle grown fs → SummarizesMore summary grown (es ++ fs)
+summarizes_more = holds_more (λ summary found. IsSummaryOf found summary)
