@@ -11,7 +11,7 @@ use super::output::Output;
 use super::page::Page;
 use super::suffixes::{Suffix, Suffixes};
 use std::alloc::{AllocError, Allocator};
-use tz::inner::{search_zone, window_of};
+use tz::inner::search_zone;
 use tz::{LocalTimeType, TimeZoneRef, TzError};
 
 /// 30 days in seconds: lines whose instants are less than this apart are taken as lines in order.
@@ -35,7 +35,7 @@ pub struct Answers<'a, A: Allocator + Copy> {
 
 impl<'a, A: Allocator + Copy> Answers<'a, A> {
     ghost use Rattle.tz.specs.Entries.{Entry, AreEntries};
-    ghost use Rattle.tz.specs.Windows.{IsSmall};
+    ghost use Rattle.tz.specs.Windows.{IsSearchable};
     ghost use Rattle.tz_zone.specs.Clock.{IsClock};
     ghost use Rattle.tz_query.specs.Answers.{IsAnswer};
     ghost use Rattle.tz_query.specs.Lines.{IsFirstLine, ended};
@@ -100,18 +100,14 @@ impl<'a, A: Allocator + Copy> Answers<'a, A> {
         }
     }
 
-    /// What a reading means to the zone's clock.
+    /// What a reading means to the zone's clock, by a search in its window.
     #[inline(always)]
-    pub fn meaning(&mut self, reading: i64) -> Meaning<'a>
-        requires small { IsSmall reading }
+    pub fn meaning(&mut self, reading: i64, low: i64, high: i64) -> Meaning<'a>
+        requires searchable { IsSearchable (zone_of self.old.zone) reading low high }
         requires sound { IsSound self.old }
         ensures means { (es : List Entry) × AreEntries (IsClock (zone_of self.old.zone)) reading es × IsMeaningOf es result }
         ensures kept { Leaves self.old self.new }
     {
-        let (low, high) = window_of(self.zone, reading);
-        if self.has(low, high) {
-            return Meaning::Once(self.local_time_type);
-        }
         self.follow(low);
         let mut meaning = Meaning::Nothing;
         match search_zone(&mut meaning, reading, self.zone, low, high) {

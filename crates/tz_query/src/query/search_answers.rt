@@ -1,26 +1,63 @@
 //! Answers of fields.
 
-ghost use Rattle.std.specs.Prelude.{◌≡◌, ◌≤◌, ◌⊎◌, ◌∷◌, ◌++◌, [], ℕ, ℤ, length, IfOk};
+ghost use Rattle.std.specs.Prelude.{◌≡◌, ◌≤◌, ◌⊎◌, ◌∷◌, ◌++◌, [], ℕ, ℤ, List, length, IfOk};
 ghost use Rattle.std.specs.List.{All};
 
 use super::answers::Answers;
 use super::meaning::Meaning;
 use super::names::field_fault_name;
 use super::nanoseconds::Nanoseconds;
+use super::output::Output;
+use super::suffixes::Suffix;
 use super::time_answers::shown_fields;
 use std::alloc::{AllocError, Allocator};
 use tz::datetime::FoundDateTimeKind;
-use tz::inner::{self, Fields, fields_of};
+use tz::inner::{self, Fields, fields_of, window_of};
 use tz::{LocalTimeType, TzError};
 
-impl<'a, A: Allocator + Copy> Answers<'a, A> {
+impl<A: Allocator> Output<A> {
+    ghost use Rattle.std.specs.Prelude.{◌≡◌, ◌≤◌, ◌∷◌, ◌++◌, [], ℤ, length, IfOk};
     ghost use Rattle.tz_base.specs.Fields.{IsValid};
+    ghost use Rattle.tz.specs.DateTimes.{moment_of};
+    ghost use Rattle.tz.specs.PrintedText.{moment_text};
+    ghost use Rattle.tz_query.specs.Lines.{line_feed};
+    ghost use Rattle.tz_query.specs.Nanoseconds.{with_nanoseconds};
+    ghost use Rattle.tz_query.specs.Outputs.{written};
+
+    /// Writes the line of fields that the type of a suffix shows, after what stands before it.
+    #[inline(always)]
+    fn push_shown(
+        &mut self,
+        front: &[u8],
+        fields: &Fields,
+        suffix: &Suffix,
+        nanoseconds: &Nanoseconds,
+    ) -> Result<(), AllocError>
+        requires front { length front.now ≤ 6 }
+        requires valid { IsValid fields.now }
+        ensures { IfOk result (λ _. (u : ℤ) → written self.new ≡ written self.old ++ (front.now
+            ++ (moment_text (moment_of (with_nanoseconds fields.now nanoseconds.now) suffix.now.local_time_type u) ++ line_feed ∷ []))) }
+    {
+        self.make_room()?;
+        self.page.push(front);
+        self.page.push_moment(fields, nanoseconds, suffix);
+        Ok(())
+    }
+}
+
+impl<'a, A: Allocator + Copy> Answers<'a, A> {
+    ghost use Rattle.tz_base.specs.Fields.{IsValid, reading as reading_of};
+    ghost use Rattle.tz_zone.specs.Clock.{IsClock};
+    ghost use Rattle.tz_zone.specs.ZoneRef.{zone_of};
     ghost use Rattle.tz.specs.DateTimes.{DateTime, ShowsInstant, moment_of};
+    ghost use Rattle.tz.specs.Entries.{Entry, AreEntries};
     ghost use Rattle.tz.specs.Found.{CanBeMade};
     ghost use Rattle.tz.specs.PrintedText.{moment_text};
+    ghost use Rattle.tz.specs.Windows.{IsSearchable};
     ghost use Rattle.tz.specs.declared.datetime.found.FoundDateTimeKind.TheVariants.{Normal as Shown, Skipped as SkippedKind};
     ghost use Rattle.tz_query.specs.Answers.{entry_text, found_lines};
     ghost use Rattle.tz_query.specs.Entries.{HasNanoseconds};
+    ghost use Rattle.tz_query.specs.LineMeanings.{IsMeaningOf};
     ghost use Rattle.tz_query.specs.Lines.{ended, line_feed};
     ghost use Rattle.tz_query.specs.Numbers.{space};
     ghost use Rattle.tz_query.specs.Nanoseconds.{number_of, with_nanoseconds};
@@ -41,11 +78,8 @@ impl<'a, A: Allocator + Copy> Answers<'a, A> {
         ensures { IfOk result (λ _. (u : ℤ) → Adds self.old self.new (front.now
             ++ (moment_text (moment_of (with_nanoseconds fields.now nanoseconds.now) local_time_type.now u) ++ line_feed ∷ []))) }
     {
-        self.output.make_room()?;
-        self.output.page.push(front);
         let suffix = self.suffixes.of(local_time_type);
-        self.output.page.push_moment(fields, nanoseconds, suffix);
-        Ok(())
+        self.output.push_shown(front, fields, suffix, nanoseconds)
     }
 
     /// Writes the line of a jump, after what stands before it: what is shown before the jump, and after it.
@@ -183,7 +217,55 @@ impl<'a, A: Allocator + Copy> Answers<'a, A> {
         self.push_skipped(b"F 1\nS ", &first, before, &second, after, nanoseconds)
     }
 
-    /// Answers fields with these nanoseconds: by what they mean, if they are valid and have two entries at most, else by a search for them.
+    /// Answers fields with these nanoseconds by what they mean. It is a call, since most fields mean one date time, which is written without it.
+    #[inline(never)]
+    fn answer_meaning(
+        &mut self,
+        fields: &Fields,
+        nanoseconds: &Nanoseconds,
+        meaning: Meaning<'a>,
+    ) -> Result<(), AllocError>
+        requires valid { IsValid fields.now }
+        requires means { (es : List Entry) × AreEntries (IsClock (zone_of self.old.zone)) (reading_of fields.now) es × IsMeaningOf es meaning }
+        ensures { IfOk result (λ _. IsAnswered (Search (with_nanoseconds fields.now nanoseconds.now)) self.old self.new) }
+    {
+        match meaning {
+            Meaning::Nothing => self.output.push_count(b'F', 0),
+            Meaning::Once(local_time_type) => {
+                self.push_shown(b"F 1\nN ", fields, local_time_type, nanoseconds)
+            }
+            Meaning::Twice(before, after) => self.push_twice(fields, nanoseconds, before, after),
+            Meaning::Skipped(unix_time, before, after) => {
+                self.push_jump(fields, nanoseconds, unix_time, before, after)
+            }
+            Meaning::More => self.answer_by_search(fields, nanoseconds),
+        }
+    }
+
+    /// Answers fields with these nanoseconds by a search in the window of their reading.
+    #[inline(never)]
+    fn answer_in_window(
+        &mut self,
+        fields: &Fields,
+        nanoseconds: &Nanoseconds,
+        reading: i64,
+        low: i64,
+        high: i64,
+    ) -> Result<(), AllocError>
+        requires valid { IsValid fields.now }
+        requires reading { reading ≡ reading_of fields.now }
+        requires searchable { IsSearchable (zone_of self.old.zone) reading low high }
+        requires sound { IsSound self.old }
+        ensures { IfOk result (λ _. IsAnswered (Search (with_nanoseconds fields.now nanoseconds.now)) self.old self.new) }
+    {
+        let meaning = self.meaning(reading, low, high);
+        if let Meaning::Once(local_time_type) = meaning {
+            return self.push_shown(b"F 1\nN ", fields, local_time_type, nanoseconds);
+        }
+        self.answer_meaning(fields, nanoseconds, meaning)
+    }
+
+    /// Answers fields with these nanoseconds: by the type that is kept, if the clock has it throughout their window, or by a search there.
     #[inline(always)]
     pub fn answer_search(
         &mut self,
@@ -196,17 +278,14 @@ impl<'a, A: Allocator + Copy> Answers<'a, A> {
         let Ok(()) = fields.check() else {
             return self.answer_by_search(fields, nanoseconds);
         };
-        match self.meaning(fields.reading()) {
-            Meaning::Once(local_time_type) => {
-                self.push_shown(b"F 1\nN ", fields, local_time_type, nanoseconds)
-            }
-            Meaning::Twice(before, after) => self.push_twice(fields, nanoseconds, before, after),
-            Meaning::Skipped(unix_time, before, after) => {
-                self.push_jump(fields, nanoseconds, unix_time, before, after)
-            }
-            Meaning::Nothing => self.output.push_count(b'F', 0),
-            Meaning::More => self.answer_by_search(fields, nanoseconds),
+        let reading = fields.reading();
+        let (low, high) = window_of(self.zone, reading);
+        if self.has(low, high) {
+            return self
+                .output
+                .push_shown(b"F 1\nN ", fields, &self.suffix, nanoseconds);
         }
+        self.answer_in_window(fields, nanoseconds, reading, low, high)
     }
 
     /// Answers any fields.
