@@ -6,6 +6,7 @@ pub mod Table
 pub mod LeapTime
 pub mod Looks
 pub mod Clock
+pub mod PlacesLeft
 pub mod ValidZone
 pub mod Offsets
 pub mod ZoneRef

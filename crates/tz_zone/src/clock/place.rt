@@ -4,12 +4,16 @@ ghost use Rattle.std.specs.Prelude.{◌≡◌, ℕ, ◌+◌, ◌-◌, ◌^◌, �
 ghost use Rattle.tz_zone.specs.Clock.{AreReached, AreAhead, IsLast, IsPlaceAt, IsTypeOfLast};
 ghost use Rattle.tz_zone.specs.ClockSegments.{IsBefore, IsReachedAt};
 ghost use Rattle.tz_zone.specs.LeapTime.{IsLeapTimeRefused};
+ghost use Rattle.tz_zone.specs.PlacesLeft.{IsAmongPlaces};
 ghost use Rattle.tz_zone.specs.ValidZone.{IsRising, IsSoundTable};
 ghost use Rattle.tz_zone.specs.ZoneSeen.{zone_seen};
 
 use crate::leap_time::leap_time;
 use crate::table::{OtherParts, Transition, Transitions};
 use tz_rule::timezone::LocalTimeType;
+
+/// How many places the last seven looks of a halving choose from.
+const BLOCK: usize = 128;
 
 /// The greatest power of two up to a number.
 #[inline(always)]
@@ -46,9 +50,73 @@ fn place_after_look<V: Transitions>(
     }
 }
 
+/// The place among twice as many from one on, which comes to be among so many, by a look at the transition in the middle.
+#[inline(always)]
+fn half<V: Transitions>(view: &mut V, place: usize, count: usize, unix_leap_time: i64) -> usize
+    requires rising { IsRising (V.list view.old) }
+    requires some { 0 < count }
+    requires among { IsAmongPlaces (V.list view.old) unix_leap_time place (count + count) }
+    ensures same { V.list view.new ≡ V.list view.old }
+    ensures rising { IsRising (V.list view.new) }
+    ensures among { IsAmongPlaces (V.list view.new) unix_leap_time result count }
+    ensures kept { V.looks view.old ≤ V.looks view.new }
+    ensures at_most { V.looks view.new ≤ V.looks view.old + 1 }
+{
+    // This read tells the proof that the sum fits.
+    let _len = view.len();
+    place_after_look(view, place, place + count, unix_leap_time)
+}
+
+/// The place among as many as a power of two, which comes to be among as many as a smaller power of two.
+///
+/// A step of the halving compares once, needs no branch for the last step, and moves one number.
+#[inline(always)]
+fn halved<V: Transitions>(
+    view: &mut V,
+    place: usize,
+    count: usize,
+    least: usize,
+    unix_leap_time: i64,
+) -> usize
+    requires rising { IsRising (V.list view.old) }
+    requires powers { (e f : ℕ) × (count ≡ 2 ^ e) × (least ≡ 2 ^ f) × (f ≤ e) }
+    requires among { IsAmongPlaces (V.list view.old) unix_leap_time place count }
+    ensures same { V.list view.new ≡ V.list view.old }
+    ensures among { IsAmongPlaces (V.list view.new) unix_leap_time result least }
+    ensures kept { V.looks view.old ≤ V.looks view.new }
+    ensures at_most { (e f : ℕ) → count ≡ 2 ^ e → least ≡ 2 ^ f → f ≤ e → V.looks view.new + f ≤ V.looks view.old + e }
+{
+    let mut place = place;
+    let mut left = count;
+    while left != least {
+        left /= 2;
+        place = half(view, place, left, unix_leap_time);
+    }
+    place
+}
+
+/// The place among 128 of them, by seven looks. Each distance is a constant, so a step takes five instructions and no branch.
+#[inline(always)]
+fn place_in_block<V: Transitions>(view: &mut V, place: usize, unix_leap_time: i64) -> usize
+    requires rising { IsRising (V.list view.old) }
+    requires among { IsAmongPlaces (V.list view.old) unix_leap_time place 128 }
+    ensures same { V.list view.new ≡ V.list view.old }
+    ensures among { IsAmongPlaces (V.list view.new) unix_leap_time result 1 }
+    ensures kept { V.looks view.old ≤ V.looks view.new }
+    ensures at_most { V.looks view.new ≤ V.looks view.old + 7 }
+{
+    let among_64 = half(view, place, 64, unix_leap_time);
+    let among_32 = half(view, among_64, 32, unix_leap_time);
+    let among_16 = half(view, among_32, 16, unix_leap_time);
+    let among_8 = half(view, among_16, 8, unix_leap_time);
+    let among_4 = half(view, among_8, 4, unix_leap_time);
+    let among_2 = half(view, among_4, 2, unix_leap_time);
+    half(view, among_2, 1, unix_leap_time)
+}
+
 /// The place at which a leap time before the last transition lies, by halving.
 ///
-/// The places that are left are as many as a power of two, so a step of the halving compares once, needs no branch, and moves one number.
+/// The first look leaves as many places as a power of two.
 #[inline(always)]
 pub(super) fn place_before<V: Transitions>(view: &mut V, unix_leap_time: i64) -> usize
     requires rising { IsRising (V.list view.old) }
@@ -65,13 +133,12 @@ pub(super) fn place_before<V: Transitions>(view: &mut V, unix_leap_time: i64) ->
         return 0;
     }
     let power = power_up_to(count - 1);
-    let mut place = place_after_look(view, 0, count - power, unix_leap_time);
-    let mut step = power / 2;
-    while step > 0 {
-        place = place_after_look(view, place, place + step, unix_leap_time);
-        step /= 2;
+    let first = place_after_look(view, 0, count - power, unix_leap_time);
+    if power < BLOCK {
+        return halved(view, first, power, 1, unix_leap_time);
     }
-    place
+    let block = halved(view, first, power, BLOCK, unix_leap_time);
+    place_in_block(view, block, unix_leap_time)
 }
 
 /// The place at which a leap time lies. If the last transition is reached, no other one is looked at.

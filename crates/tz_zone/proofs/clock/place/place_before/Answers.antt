@@ -1,42 +1,26 @@
--- A look leaves the lower half of the places, or the upper one.
-use Rattle.std.proofs.Common.{refl, ◌+◌, ◌∙◌, arith, subst, List}
-use Rattle.std.proofs.lemmas.Int.{to_z-of_z}
-use mir.Syntax.{w64}
-use Rattle.tz_zone.specs.Table.{Transition}
-use Rattle.tz_zone.proofs.PowerSteps.{IsAfterLook, steps_after_first_look, steps_after_look}
+-- The looks are one more than the exponent of the greatest power of two below the number of transitions.
+use Rattle.std.proofs.Common.{◌<◌, ◌^◌, refl, arith, length}
+use Rattle.tz_zone.proofs.PowerSteps.{exponent_less, exponent_up_to}
 use Rattle.tz_zone.proofs.clock.place.place_before.Goals as goal
 
-pub loop-step-init : goal.loop-step-init
-loop-step-init g c =
-    let l = c.args.unix_leap_time in
-    let time_is = to_z-of_z w64 l c.ranges.unix_leap_time in
-    let transitions = g.V.Transitions.list c.args.view.now in
+pub returns-then-power-lt-BLOCK-clause-at_most : goal.returns-then-power-lt-BLOCK-clause-at_most
+returns-then-power-lt-BLOCK-clause-at_most g c = λ b bits.
+    let power = c.power_up_to-power.ensures in
+    let (e, is) = power.power in
     let count = c.len-count.ensures in
-    let power = c.power_up_to-power.result in
-    let power_is = c.power_up_to-power.ensures in
-    let after = rw (time_is, count) at c.place_after_look-place.ensures.place in
-    let looks = g.V.Transitions.looks c.place_after_look-place.new.view in
-    rw (time_is, c.place_after_look-place.ensures.same) (record {
-      same = refl;
-      left = steps_after_first_look transitions l c.place_after_look-place.result looks power power_is.power.0 c.requires.ahead power_is.power.1
-          (omega (arith, power_is.within, count, c.requires.at_least_one)) (omega (arith, power_is.next, count)) after;
-      kept = omega arith;
-    })
+    let below : 2 ^ e < length (g.V.Transitions.list c.args.view.now) = omega (arith, is, power.within, count, c.requires.at_least_one) in
+    omega (arith, c.halved.ensures.at_most e 0 is refl (omega arith), c.place_after_look-first.ensures.at_most, exponent_less e b _ below bits)
 
-pub loop-step-preserved : goal.loop-step-preserved
-loop-step-preserved g c =
-    let l = c.args.unix_leap_time in
-    let time_is = to_z-of_z w64 l c.ranges.unix_leap_time in
-    let looks = g.V.Transitions.looks in
-    let transitions = g.V.Transitions.list c.place_after_look-place.new.view in
-    let inv = rw time_is at c.loop-step.invariant in
-    let place = c.loop-step.place in
-    let step = c.loop-step.step in
-    let moved = c.place_after_look-place-in-loop-step.ensures in
-    let result = c.place_after_look-place-in-loop-step.result in
-    let after : IsAfterLook transitions l place (place + step) result = subst (λ (list : List Transition). IsAfterLook list l place (place + step) result) inv.same (rw time_is at moved.place) in
-    rw time_is (record {
-      same = moved.same ∙ inv.same;
-      left = steps_after_look transitions l place result (looks c.place_after_look-place.new.view) (looks c.loop-step.view) (looks c.place_after_look-place-in-loop-step.new.view) step c.loop-step-test.true inv.left moved.at_most after;
-      kept = omega (arith, inv.kept, moved.kept);
-    })
+pub halved-block-requires-clause-powers : goal.halved-block-requires-clause-powers
+halved-block-requires-clause-powers g c =
+    let (e, is) = c.power_up_to-power.ensures.power in
+    (e, 7, is, refl, exponent_up_to 7 e (omega (arith, is, c.if-power-lt-BLOCK.false)))
+
+pub returns-clause-at_most : goal.returns-clause-at_most
+returns-clause-at_most g c = λ b bits.
+    let power = c.power_up_to-power.ensures in
+    let (e, is) = power.power in
+    let count = c.len-count.ensures in
+    let below : 2 ^ e < length (g.V.Transitions.list c.args.view.now) = omega (arith, is, power.within, count, c.requires.at_least_one) in
+    let order = exponent_up_to 7 e (omega (arith, is, c.if-power-lt-BLOCK.false)) in
+    omega (arith, c.halved-block.ensures.at_most e 7 is refl order, c.place_in_block.ensures.at_most, c.place_after_look-first.ensures.at_most, exponent_less e b _ below bits)

@@ -1,0 +1,52 @@
+-- A power of two that is not another one up to it is twice a power of two, which is not less than that one.
+use Rattle.std.proofs.Common.{◌≡◌, ◌∙◌, ℕ, ◌+◌, ◌/◌, sym, subst, arith}
+use Rattle.std.proofs.lemmas.Int.{to_z-of_z}
+use Rattle.std.proofs.Math.Pow.{pow_mono}
+use mir.Syntax.{w64}
+use Rattle.tz_zone.specs.PlacesLeft.{IsAmongPlaces}
+use Rattle.tz_zone.proofs.PowerSteps.{half_power}
+use Rattle.tz_zone.proofs.clock.place.halved.Goals as goal
+
+pub half-place-requires-clause-some : goal.half-place-requires-clause-some
+half-place-requires-clause-some g c =
+    let (e, f, count_is, least_is, order) = c.requires.powers in
+    let (k, left_is, least_within, looks) = c.loop-left.invariant.steps e f count_is least_is order in
+    let half = half_power c.loop-left.left k f left_is (λ same. c.loop-left-test.true (same ∙ sym least_is)) least_within in
+    omega (arith, half.2, pow_mono {i = 0} {j = half.0} (omega arith))
+
+pub half-place-requires-clause-among : goal.half-place-requires-clause-among
+half-place-requires-clause-among g c =
+    let time_is = to_z-of_z w64 c.args.unix_leap_time c.ranges.unix_leap_time in
+    let (e, f, count_is, least_is, order) = c.requires.powers in
+    let (k, left_is, least_within, looks) = c.loop-left.invariant.steps e f count_is least_is order in
+    let half = half_power c.loop-left.left k f left_is (λ same. c.loop-left-test.true (same ∙ sym least_is)) least_within in
+    let whole : c.loop-left.left ≡ c.loop-left.left / 2 + c.loop-left.left / 2 = omega (arith, half.2, half.3) in
+    rw time_is (subst (λ (n : ℕ). IsAmongPlaces (g.V.Transitions.list c.loop-left.view) c.args.unix_leap_time c.loop-left.place n) whole (rw time_is at c.loop-left.invariant.among))
+
+pub loop-left-preserved : goal.loop-left-preserved
+loop-left-preserved g c =
+    let time_is = to_z-of_z w64 c.args.unix_leap_time c.ranges.unix_leap_time in
+    let inv = c.loop-left.invariant in
+    let moved = c.half-place.ensures in
+    rw time_is (record {
+      same = moved.same ∙ inv.same;
+      among = rw time_is at moved.among;
+      steps = λ e f count_is least_is order.
+          let (k, left_is, least_within, looks) = inv.steps e f count_is least_is order in
+          let half = half_power c.loop-left.left k f left_is (λ same. c.loop-left-test.true (same ∙ sym least_is)) least_within in
+          (half.0, half.2, half.4, omega (arith, looks, moved.at_most, half.1));
+      kept = omega (arith, inv.kept, moved.kept);
+    })
+
+pub returns-clause-among : goal.returns-clause-among
+returns-clause-among g c =
+    let (e, f, count_is, least_is, order) = c.requires.powers in
+    let (k, left_is, least_within, looks) = c.loop-left.invariant.steps e f count_is least_is order in
+    let time_is = to_z-of_z w64 c.args.unix_leap_time c.ranges.unix_leap_time in
+    let all : c.loop-left.left ≡ c.args.least = omega (arith, c.loop-left-test.false) in
+    subst (λ (n : ℕ). IsAmongPlaces (g.V.Transitions.list c.loop-left.view) c.args.unix_leap_time c.loop-left.place n) all (rw time_is at c.loop-left.invariant.among)
+
+pub returns-clause-at_most : goal.returns-clause-at_most
+returns-clause-at_most g c = λ e f count_is least_is order.
+    let (k, left_is, least_within, looks) = c.loop-left.invariant.steps e f count_is least_is order in
+    omega (arith, looks, least_within)
