@@ -796,7 +796,7 @@ impl<'a> View<'a> {
         unsafe { tz_find_n(fields, &self.zone, skip, slots, length, count) }
     }
 
-    /// `DateTime::find`.
+    /// `DateTime::find`. It is a call, so that its own callers hand over the fields by their place.
     #[inline(never)]
     pub(crate) fn find(&self, fields: &Fields) -> Result<FoundDateTimeList, TzError> {
         let mut slots = Slots::zeros();
