@@ -213,6 +213,28 @@ fn instants_of(zone: &ours::Zone, most: usize) -> BTreeSet<i64> {
     centres.into_iter().flat_map(beside).collect()
 }
 
+/// The first changes of a zone's clock, so many at most, each with the offsets before and after it.
+fn jumps_of(zone: &ours::Zone, most: usize) -> Vec<(i64, i32, i32)> {
+    zone.changes_after(i64::MIN)
+        .take(most)
+        .map(|change| {
+            let (before, after) = (change.before().ut_offset(), change.after().ut_offset());
+            (change.unix_time(), before, after)
+        })
+        .collect()
+}
+
+/// The local times at both ends of a jump, and those beside them.
+fn locals_around((at, before, after): (i64, i32, i32)) -> impl Iterator<Item = Local> {
+    [before, after]
+        .into_iter()
+        .flat_map(move |offset| {
+            let end = at.saturating_add(offset.into());
+            [end.saturating_sub(1), end]
+        })
+        .filter_map(|reading| Local::from_reading(reading, 0))
+}
+
 /// Local times at which something may be shown, skipped or shown twice: those of instants by each offset.
 fn locals_of(
     random: &Random,
@@ -351,6 +373,12 @@ fn compare_zone(
             number % 4 != keep
         });
     }
+    let mut locals = locals_of(random, zone, &instants, most * 2);
+    // At each jump, whatever was left out above.
+    for jump in jumps_of(zone, most) {
+        instants.extend([jump.0.saturating_sub(1), jump.0]);
+        locals.extend(locals_around(jump));
+    }
     for &at in &instants {
         let nanoseconds = random.pick(&[0, 1, 999_999_999]);
         report.same(
@@ -361,7 +389,7 @@ fn compare_zone(
             || reasons::of_instant(rule.as_ref(), at),
         );
     }
-    for local in locals_of(random, zone, &instants, most * 2) {
+    for local in locals {
         let case = || format!("{}, {local:?}", case());
         report.same(
             "local times in a zone",
