@@ -68,7 +68,6 @@ impl TextBuffer {
     }
 
     /// Appends hh:mm, and :ss unless the seconds are zero.
-    #[inline(always)]
     fn push_duration(&mut self, seconds: u32)
         requires { length self.old + 16 ≤ 128 }
         ensures text { self.new ≡ self.old ++ duration_text seconds }
