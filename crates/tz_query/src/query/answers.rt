@@ -87,9 +87,9 @@ impl<'a, A: Allocator + Copy> Answers<'a, A> {
         }
     }
 
-    /// Keeps the segment around an instant if the lines seem to be in order. It is a call, since lines in order need it seldom.
-    #[inline(never)]
-    pub fn follow(&mut self, unix_time: i64)
+    /// Keeps the segment around an instant if the lines seem to be in order.
+    #[inline(always)]
+    fn keep_if_near(&mut self, unix_time: i64)
         requires { IsSound self.old }
         ensures { Leaves self.old self.new }
     {
@@ -100,6 +100,15 @@ impl<'a, A: Allocator + Copy> Answers<'a, A> {
         }
     }
 
+    /// Keeps it likewise. It is a call, since `T` lines in order need it seldom.
+    #[inline(never)]
+    pub fn follow(&mut self, unix_time: i64)
+        requires { IsSound self.old }
+        ensures { Leaves self.old self.new }
+    {
+        self.keep_if_near(unix_time);
+    }
+
     /// What a reading means to the zone's clock, by a search in its window.
     #[inline(always)]
     pub fn meaning(&mut self, reading: i64, low: i64, high: i64) -> Meaning<'a>
@@ -108,7 +117,7 @@ impl<'a, A: Allocator + Copy> Answers<'a, A> {
         ensures means { (es : List Entry) × AreEntries (IsClock (zone_of self.old.zone)) reading es × IsMeaningOf es result }
         ensures kept { Leaves self.old self.new }
     {
-        self.follow(low);
+        self.keep_if_near(low);
         let mut meaning = Meaning::Nothing;
         match search_zone(&mut meaning, reading, self.zone, low, high) {
             Ok(()) => meaning,

@@ -223,13 +223,13 @@ impl<'a, A: Allocator + Copy> Answers<'a, A> {
         &mut self,
         fields: &Fields,
         nanoseconds: &Nanoseconds,
-        meaning: Meaning<'a>,
+        meaning: &Meaning<'a>,
     ) -> Result<(), AllocError>
         requires valid { IsValid fields.now }
-        requires means { (es : List Entry) × AreEntries (IsClock (zone_of self.old.zone)) (reading_of fields.now) es × IsMeaningOf es meaning }
+        requires means { (es : List Entry) × AreEntries (IsClock (zone_of self.old.zone)) (reading_of fields.now) es × IsMeaningOf es meaning.now }
         ensures { IfOk result (λ _. IsAnswered (Search (with_nanoseconds fields.now nanoseconds.now)) self.old self.new) }
     {
-        match meaning {
+        match *meaning {
             Meaning::Nothing => self.output.push_count(b'F', 0),
             Meaning::Once(local_time_type) => {
                 self.push_shown(b"F 1\nN ", fields, local_time_type, nanoseconds)
@@ -262,7 +262,7 @@ impl<'a, A: Allocator + Copy> Answers<'a, A> {
         if let Meaning::Once(local_time_type) = meaning {
             return self.push_shown(b"F 1\nN ", fields, local_time_type, nanoseconds);
         }
-        self.answer_meaning(fields, nanoseconds, meaning)
+        self.answer_meaning(fields, nanoseconds, &meaning)
     }
 
     /// Answers fields with these nanoseconds: by the type that is kept, if the clock has it throughout their window, or by a search there.

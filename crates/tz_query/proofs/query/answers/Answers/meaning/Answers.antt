@@ -14,11 +14,11 @@ search_zone-requires g c κs =
     let r = c.args.reading in
     let low = c.args.low in
     let high = c.args.high in
-    let window = subst (λ zone. IsSearchable (zone_of zone) r low high) (sym c.follow.ensures.zone_is) c.requires.searchable in
+    let window = subst (λ zone. IsSearchable (zone_of zone) r low high) (sym c.keep_if_near.ensures.zone_is) c.requires.searchable in
     rw (to_z-of_z w64 r c.ranges.reading, to_z-of_z w64 low c.ranges.low, to_z-of_z w64 high c.ranges.high) ((refl, tt), (window, (takes_all, tt)))
 
 pub returns-clause-means : goal.returns-clause-means
 returns-clause-means g c =
     let r = c.args.reading in
     let (es, gains, are, few) = rw (to_z-of_z w64 r c.ranges.reading) at c.in-Ok.ensures.ok in
-    (es, subst (λ zone. AreEntries (IsClock (zone_of zone)) r es) c.follow.ensures.zone_is are, gains [] refl)
+    (es, subst (λ zone. AreEntries (IsClock (zone_of zone)) r es) c.keep_if_near.ensures.zone_is are, gains [] refl)
