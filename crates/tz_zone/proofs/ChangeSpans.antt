@@ -6,6 +6,7 @@ use Rattle.std.proofs.lemmas.Int.{ints, by_lt_z}
 use Rattle.std.proofs.lemmas.Bool.{false≢true}
 use Rattle.tz_rule.specs.LocalTimeType.{LocalTimeType}
 use Rattle.tz_rule.specs.Rule.{IsRuleType}
+use Rattle.tz_rule.specs.RuleChanges.{TypeChange, IsTypeChange, IsChangeAfter, IsChangeUpTo, HasNoChangeAfter, HasNoChangeUpTo}
 use Rattle.tz_rule.specs.declared.timezone.rule.TransitionRule.{TransitionRule}
 use Rattle.tz_zone.specs.Table.{Zone}
 use Rattle.tz_zone.specs.Clock.{IsTypeWithout, IsClock, HasNoType}
@@ -16,10 +17,6 @@ use Rattle.tz_zone.proofs.TypesAtCursors.{clock_without}
 -- from one instant up to another the clock has no two types
 abbrev pub HasOneType : Zone → ℤ → ℤ → Type 0
 HasOneType z low last = (v w : ℤ) (s t : LocalTimeType) → low ≤ℤ v → v ≤ℤ last → low ≤ℤ w → w ≤ℤ last → IsClock z v s → IsClock z w t → s ≡ t
-
--- what the clock has at one instant, it has from another one up to a third
-abbrev pub IsSpread : Zone → ℤ → ℤ → ℤ → Type 0
-IsSpread z at low last = (v : ℤ) (t : LocalTimeType) → low ≤ℤ v → v ≤ℤ last → IsClock z at t → IsClock z v t
 
 -- the clock has the type, if there is one, or none, from one instant up to another
 abbrev pub Holds : Zone → ℤ → ℤ → Option (Bor LocalTimeType) → Type 0
@@ -93,33 +90,6 @@ module _ (z : Zone) where
   pub none_from_start : (low u : ℤ) → low ≤ℤ negsuc 9223372036854775807 → HasNoChange z low u → HasNoPreceding z u
   none_from_start low u start none c below change = none c (omega (arith, ints, start, change.not_least)) below change
 
-  -- a type that is held to the end of a segment was held through what is spread up to its beginning
-  pub spread_over : (since time last : ℤ) (t : LocalTimeType) → time ≤ℤ last → IsSpread z time since time → ((v : ℤ) → time ≤ℤ v → v ≤ℤ last → IsClock z v t) → (v : ℤ) → since ≤ℤ v → v ≤ℤ last → IsClock z v t
-  spread_over since time last t order spread holds v from to =
-      by_lt_z v time (λ before. spread v t from (omega (arith, ints, before)) (holds time (omega (arith, ints)) order)) (λ up. holds v up to)
-
-  pub spread_back : (until time from : ℤ) (t : LocalTimeType) → from ≤ℤ time → IsSpread z time time until → ((v : ℤ) → from ≤ℤ v → v ≤ℤ time → IsClock z v t) → (v : ℤ) → from ≤ℤ v → v ≤ℤ until → IsClock z v t
-  spread_back until time from t order spread holds v low high =
-      by_lt_z time v (λ over. spread v t (omega (arith, ints, over)) high (holds time order (omega (arith, ints)))) (λ up. holds v low up)
-
-  -- it goes on over the next instant, where that has the same type
-  pub spread_on : (since next : ℤ) (t : LocalTimeType) (after : Option (Bor LocalTimeType)) → ((v : ℤ) → since ≤ℤ v → v <ℤ next → IsClock z v t) → IfSome after (λ b. t ≡ b.now)
-      → MatchOption after (HasNoType z next) (λ b. IsClock z next b.now) → IsSpread z next since next
-  spread_on since next t None holds same is v s from to clock = absurd (is s clock)
-  spread_on since next t (Some b) holds same is v s from to clock =
-      by_lt_z v next (λ before. subst (λ (x : LocalTimeType). IsClock z v x) (same ∙ one_type z next b.now s is clock) (holds v from before))
-      (λ up. let e : next ≡ v = omega (arith, ints, up, to) in subst (λ (w : ℤ). IsClock z w s) e clock)
-
-  pub spread_before : (until before : ℤ) (t : LocalTimeType) (type : Option (Bor LocalTimeType)) → ((v : ℤ) → before <ℤ v → v ≤ℤ until → IsClock z v t) → IfSome type (λ a. a.now ≡ t)
-      → MatchOption type (HasNoType z before) (λ a. IsClock z before a.now) → IsSpread z before before until
-  spread_before until before t None holds same is v s from to clock = absurd (is s clock)
-  spread_before until before t (Some a) holds same is v s from to clock =
-      by_lt_z before v (λ over. subst (λ (x : LocalTimeType). IsClock z v x) (sym same ∙ one_type z before a.now s is clock) (holds v over to))
-      (λ up. let e : before ≡ v = omega (arith, ints, up, from) in subst (λ (w : ℤ). IsClock z w s) e clock)
-
-  pub spread_at : (u : ℤ) → IsSpread z u u u
-  spread_at u v t from to clock = let e : u ≡ v = omega (arith, ints, from, to) in subst (λ (w : ℤ). IsClock z w t) e clock
-
 -- the clock of a zone that has a rule and no transitions
 module _ (z : Zone) (none : z.transitions ≡ []) (rule : TransitionRule) (is : z.extra_rule ≡ Some rule) where
   pub clock_of_rule : (v : ℤ) (t : LocalTimeType) → IsRuleType rule v t → IsClock z v t
@@ -128,15 +98,51 @@ module _ (z : Zone) (none : z.transitions ≡ []) (rule : TransitionRule) (is : 
   pub rule_of_clock : (v : ℤ) (t : LocalTimeType) → IsClock z v t → IsRuleType rule v t
   rule_of_clock v t clock = subst (λ (o : Option TransitionRule). IsTypeWithout z o v t) is ((clock_without z none v t).1 clock)
 
-  pub clock_if_rule : (v : ℤ) (type : Option (Bor LocalTimeType)) → MatchOption type ((t : LocalTimeType) → ¬ IsRuleType rule v t) (λ t. IsRuleType rule v t.now)
-      → MatchOption type (HasNoType z v) (λ t. IsClock z v t.now)
-  clock_if_rule v (Some t) h = clock_of_rule v t.now h
-  clock_if_rule v None h = λ t clock. h t (rule_of_clock v t clock)
+  -- its changes are those of the rule
 
-  -- where the rule has one type there is no change
-  pub none_if_one : (t : LocalTimeType) → ((v : ℤ) (other : LocalTimeType) → IsRuleType rule v other → other ≡ t) → (c : Change) → ¬ IsChange z c
-  none_if_one t all c change =
-      change.differ (all (c.unix_time -ℤ pos 1) c.before (rule_of_clock (c.unix_time -ℤ pos 1) c.before change.before_is) ∙ sym (all c.unix_time c.after (rule_of_clock c.unix_time c.after change.after_is)))
+  abbrev pub zone_change : TypeChange → Change
+  zone_change c = record { unix_time = c.unix_time; before = c.before; after = c.after }
+
+  of_rule : (c : TypeChange) → IsTypeChange rule c → IsChange z (zone_change c)
+  of_rule c change = record {
+    not_least = change.not_least;
+    up_to = change.up_to;
+    before_is = clock_of_rule (c.unix_time -ℤ pos 1) c.before change.before_is;
+    after_is = clock_of_rule c.unix_time c.after change.after_is;
+    differ = change.differ;
+  }
+
+  abbrev rule_change : Change → TypeChange
+  rule_change c = record { unix_time = c.unix_time; before = c.before; after = c.after }
+
+  to_rule : (c : Change) → IsChange z c → IsTypeChange rule (rule_change c)
+  to_rule c change = record {
+    not_least = change.not_least;
+    up_to = change.up_to;
+    before_is = rule_of_clock (c.unix_time -ℤ pos 1) c.before change.before_is;
+    after_is = rule_of_clock c.unix_time c.after change.after_is;
+    differ = change.differ;
+  }
+
+  pub following_of_rule : (u : ℤ) (c : TypeChange) → IsChangeAfter rule u c → IsFollowing z u (zone_change c)
+  following_of_rule u c found = record {
+    is = of_rule c found.is;
+    above = found.above;
+    least = λ d over under change. found.least (rule_change d) over (omega (arith, ints, under)) (to_rule d change);
+  }
+
+  pub no_following_of_rule : (u : ℤ) → HasNoChangeAfter rule u → HasNoFollowing z u
+  no_following_of_rule u none c above change = none (rule_change c) above (to_rule c change)
+
+  pub preceding_of_rule : (u : ℤ) (c : TypeChange) → IsChangeUpTo rule u c → IsPreceding z (u +ℤ pos 1) (zone_change c)
+  preceding_of_rule u c found = record {
+    is = of_rule c found.is;
+    below = omega (arith, ints, found.up_to);
+    greatest = λ d over under change. found.greatest (rule_change d) over (omega (arith, ints, under)) (to_rule d change);
+  }
+
+  pub no_preceding_of_rule : (u : ℤ) → HasNoChangeUpTo rule u → HasNoPreceding z (u +ℤ pos 1)
+  no_preceding_of_rule u none c below change = none (rule_change c) (omega (arith, ints, below)) (to_rule c change)
 
 -- what an option holds that is known to hold something
 pub if_some : {X : Type 0} (o : Option X) (P : Type 0) → is_some o ≡ true → ((x : X) → o ≡ Some x → P) → P

@@ -40,6 +40,5 @@ pub mod Directories
 pub mod SettingsAnswers
 pub mod ChangeSpans
 pub mod PlaceRuns
-pub mod RulePeriods
 pub mod ClockStages
 pub mod RuleChanges

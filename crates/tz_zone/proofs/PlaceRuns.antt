@@ -220,3 +220,15 @@ pub types_from_last : (z : Zone) → IsSoundTable z → 0 < length z.transitions
     → MatchOption type (HasNoType z u) (λ t. IsClock z u t.now)
 types_from_last z sound some u at (Some t) is = (clock_from_end z sound some u at t.now).0 is
 types_from_last z sound some u at None is = λ t clock. is t ((clock_from_end z sound some u at t).1 clock)
+
+-- and right before its time an instant lies at the place before it
+pub plain_place_before : (z : Zone) → IsSoundTable z → z.leap_seconds ≡ [] → (i : ℕ) (change : Transition) → slice_get z.transitions i ≡ Some change → IsReachedAt z (change.unix_leap_time -ℤ pos 1) i
+plain_place_before z sound none i change at = record {
+  time = change.unix_leap_time -ℤ pos 1;
+  time_is = plain_leap z.leap_seconds none (change.unix_leap_time -ℤ pos 1);
+  reached = λ j other less at_j. omega (arith, ints, transitions_rise z.transitions rising j i other change less at_j at);
+  ahead = ahead_from z.transitions rising (change.unix_leap_time -ℤ pos 1) i change at (omega (arith, ints));
+}
+  where
+    rising : IsRising z.transitions
+    rising j = (sound.transitions_are j).1

@@ -3,7 +3,7 @@
 //! Up to the last transition a walk goes from place to place. It reads the types of transitions, and looks for the instant at which one takes
 //! effect only where its type is another than the one before. From the last one on the rule has the changes.
 
-ghost use Rattle.std.specs.Prelude.{◌≡◌, ◌≢◌, ℕ, ◌<◌, ◌≤◌, ℤ, pos, negsuc, ◌+ℤ◌, ◌≤ℤ◌, ◌<ℤ◌, [], length, slice_get, Some, IfSome, MatchOption};
+ghost use Rattle.std.specs.Prelude.{◌≡◌, ◌≢◌, ℕ, ◌<◌, ◌≤◌, ℤ, pos, negsuc, ◌+ℤ◌, ◌-ℤ◌, ◌≤ℤ◌, ◌<ℤ◌, [], length, slice_get, Some, IfSome, MatchOption};
 ghost use Rattle.tz_rule.specs.LocalTimeType.{LocalTimeType};
 ghost use Rattle.tz_zone.specs.Clock.{IsClock, HasNoType, IsLast, IsTypeOfLast, IsTypeAfter};
 ghost use Rattle.tz_zone.specs.ClockSegments.{IsReachedAt};
@@ -241,6 +241,28 @@ fn following_from<'a>(
     Some((change, place))
 }
 
+/// The change at the transition after a place, if the one before the place takes effect at the instant. That one compare shows that the instant lies
+/// there, since times rise.
+#[inline(always)]
+fn change_after_last<'a>(
+    transitions: &[Transition],
+    parts: OtherParts<'a>,
+    unix_time: i64,
+    place: usize,
+) -> Option<Change<'a>>
+    requires { IsSoundTable (zone_seen transitions.now parts) }
+    ensures change { IfSome result (λ c. IsFollowing (zone_seen transitions.now parts.entry) unix_time (change_of c)) }
+    ensures place { IfSome result (λ c. place < length transitions.now) }
+{
+    if place == 0 || transitions.len() <= place || !parts.leap_seconds.is_empty() {
+        return None;
+    }
+    if transitions[place - 1].unix_leap_time() != unix_time {
+        return None;
+    }
+    change_at_next(transitions, parts, unix_time, place)
+}
+
 /// The first change of the clock after an instant, and the place after it.
 ///
 /// A place at which the instant is likely to lie is tried first: a wrong one costs time and no more.
@@ -256,6 +278,10 @@ pub fn following<'a>(
         (λ found. IsFollowing (zone_seen transitions.now parts.entry) unix_time (change_of found.0)) }
 {
     let (since, place) = first_place(transitions, parts, unix_time, likely)?;
+    if place == transitions.len() {
+        let change = following_by_rule(parts, since)?;
+        return Some((change, place));
+    }
     if let Some(change) = change_at_next(transitions, parts, since, place) {
         return Some((change, place + 1));
     }
@@ -308,7 +334,6 @@ fn preceding_after_table<'a>(
 ) -> Option<Change<'a>>
     requires sound { IsSoundTable (zone_seen transitions.now parts) }
     requires within { place ≤ length transitions.now }
-    requires not_greatest { last <ℤ pos 9223372036854775807 }
     requires at { transitions.now ≢ [] → IsReachedAt (zone_seen transitions.now parts) last place }
     ensures { MatchOption result (HasNoneAfterSeam (zone_seen transitions.now parts.entry) place (last +ℤ pos 1))
         (λ c. IsPreceding (zone_seen transitions.now parts.entry) (last +ℤ pos 1) (change_of c)) }
@@ -316,7 +341,7 @@ fn preceding_after_table<'a>(
     if place < transitions.len() {
         return None;
     }
-    let change = preceding_by_rule(parts, last + 1)?;
+    let change = preceding_by_rule(parts, last)?;
     if change.unix_time() <= seam(transitions, parts.leap_seconds) {
         return None;
     }
@@ -339,8 +364,8 @@ fn first_of_run(transitions: &[Transition], parts: OtherParts<'_>, place: usize)
     start_of_run(transitions, parts, place, local_time_type)
 }
 
-/// The change at the last transition up to an instant that lies at a place, if there are no leap seconds, that transition is from another type, and
-/// it is not the last one of all. Mostly it is so, and then nothing is walked.
+/// The change at the last transition before an instant, if the second before lies at a place, there are no leap seconds, that transition is from
+/// another type, and it is not the last one of all. Mostly it is so, and then nothing is walked.
 #[inline(always)]
 fn change_at_last<'a>(
     transitions: &[Transition],
@@ -349,8 +374,8 @@ fn change_at_last<'a>(
     place: usize,
 ) -> Option<Change<'a>>
     requires sound { IsSoundTable (zone_seen transitions.now parts) }
-    requires at { LiesAt (zone_seen transitions.now parts) unix_time place }
-    ensures change { IfSome result (λ c. IsPreceding (zone_seen transitions.now parts.entry) (unix_time +ℤ pos 1) (change_of c)) }
+    requires at { LiesAt (zone_seen transitions.now parts) (unix_time -ℤ pos 1) place }
+    ensures change { IfSome result (λ c. IsPreceding (zone_seen transitions.now parts.entry) unix_time (change_of c)) }
     ensures place { IfSome result (λ c. 1 ≤ place) }
 {
     if !parts.leap_seconds.is_empty() || place == 0 || transitions.len() <= place {
@@ -364,6 +389,27 @@ fn change_at_last<'a>(
     let before = type_before(&mut Uncounted::new(transitions), parts, place - 1);
     let after = type_of(parts, last);
     change_at(time, Some(before), Some(after))
+}
+
+/// The change at the transition before a place, if the one after the place takes effect at the instant. Then the second before lies there.
+#[inline(always)]
+fn change_before_next<'a>(
+    transitions: &[Transition],
+    parts: OtherParts<'a>,
+    unix_time: i64,
+    place: usize,
+) -> Option<Change<'a>>
+    requires { IsSoundTable (zone_seen transitions.now parts) }
+    ensures change { IfSome result (λ c. IsPreceding (zone_seen transitions.now parts.entry) unix_time (change_of c)) }
+    ensures place { IfSome result (λ c. 1 ≤ place) }
+{
+    if place == 0 || transitions.len() <= place || !parts.leap_seconds.is_empty() {
+        return None;
+    }
+    if transitions[place].unix_leap_time() != unix_time {
+        return None;
+    }
+    change_at_last(transitions, parts, unix_time, place)
 }
 
 /// The last change of the clock before an instant, and the place before it. From another one on, which lies at a place, there is none.
@@ -418,9 +464,83 @@ pub fn preceding<'a>(
     if unix_time == i64::MIN {
         return None;
     }
+    if transitions.is_empty() {
+        let change = preceding_by_rule(parts, unix_time - 1)?;
+        return Some((change, 0));
+    }
     let (last, place) = last_place(transitions, parts, unix_time, likely)?;
-    if let Some(change) = change_at_last(transitions, parts, last, place) {
+    if let Some(change) = change_at_last(transitions, parts, last + 1, place) {
         return Some((change, place - 1));
     }
     preceding_from(transitions, parts, unix_time, last, place)
+}
+
+/// The first change of the clock after an instant, and the place after it. It is a call, so that a step from change to change stays small.
+#[inline(never)]
+fn following_near<'a>(
+    transitions: &[Transition],
+    parts: OtherParts<'a>,
+    unix_time: i64,
+    place: usize,
+) -> Option<(Change<'a>, usize)>
+    requires { IsSoundTable (zone_seen transitions.now parts) }
+    ensures { MatchOption result (HasNoFollowing (zone_seen transitions.now parts.entry) unix_time)
+        (λ found. IsFollowing (zone_seen transitions.now parts.entry) unix_time (change_of found.0)) }
+{
+    following(transitions, parts, unix_time, Some(place))
+}
+
+/// The first change of the clock after an instant, and the place after it.
+///
+/// If the last change was at the instant, and the given place comes after it, mostly nothing is looked for. A wrong place costs time and no more.
+#[inline(always)]
+pub fn following_change<'a>(
+    transitions: &[Transition],
+    parts: OtherParts<'a>,
+    unix_time: i64,
+    place: usize,
+) -> Option<(Change<'a>, usize)>
+    requires { IsSoundTable (zone_seen transitions.now parts) }
+    ensures { MatchOption result (HasNoFollowing (zone_seen transitions.now parts.entry) unix_time)
+        (λ found. IsFollowing (zone_seen transitions.now parts.entry) unix_time (change_of found.0)) }
+{
+    if let Some(change) = change_after_last(transitions, parts, unix_time, place) {
+        return Some((change, place + 1));
+    }
+    following_near(transitions, parts, unix_time, place)
+}
+
+/// The last change of the clock before an instant, and the place before it, as a call too.
+#[inline(never)]
+fn preceding_near<'a>(
+    transitions: &[Transition],
+    parts: OtherParts<'a>,
+    unix_time: i64,
+    place: usize,
+) -> Option<(Change<'a>, usize)>
+    requires { IsSoundTable (zone_seen transitions.now parts) }
+    ensures { MatchOption result (HasNoPreceding (zone_seen transitions.now parts.entry) unix_time)
+        (λ found. IsPreceding (zone_seen transitions.now parts.entry) unix_time (change_of found.0)) }
+{
+    preceding(transitions, parts, unix_time, Some(place))
+}
+
+/// The last change of the clock before an instant, and the place before it.
+///
+/// If the last change was at the instant, and the given place comes before it, mostly nothing is looked for. A wrong place costs time and no more.
+#[inline(always)]
+pub fn preceding_change<'a>(
+    transitions: &[Transition],
+    parts: OtherParts<'a>,
+    unix_time: i64,
+    place: usize,
+) -> Option<(Change<'a>, usize)>
+    requires { IsSoundTable (zone_seen transitions.now parts) }
+    ensures { MatchOption result (HasNoPreceding (zone_seen transitions.now parts.entry) unix_time)
+        (λ found. IsPreceding (zone_seen transitions.now parts.entry) unix_time (change_of found.0)) }
+{
+    if let Some(change) = change_before_next(transitions, parts, unix_time, place) {
+        return Some((change, place - 1));
+    }
+    preceding_near(transitions, parts, unix_time, place)
 }

@@ -13,7 +13,7 @@ mod spans;
 mod window;
 
 pub use change::Change;
-pub use changes::{following, preceding};
+pub use changes::{following, following_change, preceding, preceding_change};
 pub use lookup::find_local_time_type;
 pub use segment::ClockSegment;
 pub use segments::clock_segment_at;

@@ -42,7 +42,7 @@ impl<'a> Iterator for ChangesAfter<'a> {
     ghost remaining = { λ s. at_most (unsigned_abs (pos 9223372036854775807 -ℤ s.unix_time)) };
 
     fn next(&mut self) -> Option<Change<'a>> {
-        let (change, place) = self.zone.following_from(self.unix_time, Some(self.place))?;
+        let (change, place) = self.zone.following_from(self.unix_time, self.place)?;
         self.unix_time = change.unix_time();
         self.place = place;
         Some(change)

@@ -42,7 +42,7 @@ impl<'a> Iterator for ChangesBefore<'a> {
     ghost remaining = { λ s. at_most (unsigned_abs (s.unix_time -ℤ negsuc 9223372036854775807)) };
 
     fn next(&mut self) -> Option<Change<'a>> {
-        let (change, place) = self.zone.preceding_from(self.unix_time, Some(self.place))?;
+        let (change, place) = self.zone.preceding_from(self.unix_time, self.place)?;
         self.unix_time = change.unix_time();
         self.place = place;
         Some(change)

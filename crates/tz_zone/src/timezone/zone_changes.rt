@@ -48,9 +48,9 @@ impl<'a> TimeZoneRef<'a> {
     ///
     /// A transition to an equal type is not a change, nor is the point where a clock begins or ceases to have a type.
     ///
-    /// If the next transition, or the next start or end of daylight saving time, is a change, this costs about as much as a lookup. It costs most
-    /// over a run of transitions to equal types, all of which are read, and for a rule that never changes the type, of which 400 years are read, with
-    /// up to 800 starts and ends.
+    /// If the next transition, or the next start or end of daylight saving time, is a change, this costs about as much as a lookup, and for a rule
+    /// that never changes the type a few times as much. It costs most over a run of transitions to equal types, all of which are read, and for a rule
+    /// whose start and end coincide in most years, of which all are read up to one in which they differ.
     ///
     /// When clocks are set next, and by how many seconds forward:
     ///
@@ -67,21 +67,18 @@ impl<'a> TimeZoneRef<'a> {
     pub fn following(&self, unix_time: i64) -> Option<Change<'a>>
         ensures { MatchOption result (HasNoFollowing (zone_of self.now) unix_time) (λ c. IsFollowing (zone_of self.now) unix_time (change_of c)) }
     {
-        let (change, _) = self.following_from(unix_time, None)?;
+        let (change, _) = clock::following(self.transitions(), other_parts(self), unix_time, None)?;
         Some(change)
     }
 
-    /// The first change after an instant, and a place among the transitions that is likely to be the one after it.
+    /// The first change after an instant, and a place among the transitions that is likely to be the one after it. The given one is likely to be that
+    /// after a change at the instant.
     #[inline(always)]
-    pub(crate) fn following_from(
-        &self,
-        unix_time: i64,
-        likely: Option<usize>,
-    ) -> Option<(Change<'a>, usize)>
+    pub(crate) fn following_from(&self, unix_time: i64, place: usize) -> Option<(Change<'a>, usize)>
         ensures { MatchOption result (HasNoFollowing (zone_of self.now) unix_time)
             (λ found. IsFollowing (zone_of self.now) unix_time (change_of found.0)) }
     {
-        clock::following(self.transitions(), other_parts(self), unix_time, likely)
+        clock::following_change(self.transitions(), other_parts(self), unix_time, place)
     }
 
     /// The last change before an instant, in Unix seconds, or `None` if the clock has not changed before. Does not allocate.
@@ -100,21 +97,18 @@ impl<'a> TimeZoneRef<'a> {
     pub fn preceding(&self, unix_time: i64) -> Option<Change<'a>>
         ensures { MatchOption result (HasNoPreceding (zone_of self.now) unix_time) (λ c. IsPreceding (zone_of self.now) unix_time (change_of c)) }
     {
-        let (change, _) = self.preceding_from(unix_time, None)?;
+        let (change, _) = clock::preceding(self.transitions(), other_parts(self), unix_time, None)?;
         Some(change)
     }
 
-    /// The last change before an instant, and a place among the transitions that is likely to be the one before it.
+    /// The last change before an instant, and a place among the transitions that is likely to be the one before it. The given one is likely to be that
+    /// before a change at the instant.
     #[inline(always)]
-    pub(crate) fn preceding_from(
-        &self,
-        unix_time: i64,
-        likely: Option<usize>,
-    ) -> Option<(Change<'a>, usize)>
+    pub(crate) fn preceding_from(&self, unix_time: i64, place: usize) -> Option<(Change<'a>, usize)>
         ensures { MatchOption result (HasNoPreceding (zone_of self.now) unix_time)
             (λ found. IsPreceding (zone_of self.now) unix_time (change_of found.0)) }
     {
-        clock::preceding(self.transitions(), other_parts(self), unix_time, likely)
+        clock::preceding_change(self.transitions(), other_parts(self), unix_time, place)
     }
 
     /// The changes after an instant, in Unix seconds, in the order of time: the one that `following` returns, and so on from each. Does not

@@ -1,6 +1,5 @@
 -- Without leap seconds the last transition has taken effect at its time, and the second before lies at the place before it.
-use Rattle.std.proofs.Common.{◌≡◌, ℕ, ◌+◌, ◌-◌, ◌<◌, ◌≤◌, refl, subst, arith, rules, ℤ, pos, negsuc, ◌+ℤ◌, ◌-ℤ◌, ◌<ℤ◌, length, Option, Some, None}
-use Rattle.std.specs.Prelude.{IfSome, MatchOption, slice_get}
+use Rattle.std.proofs.Common.{◌≡◌, ℕ, ◌+◌, ◌-◌, ◌<◌, ◌≤◌, refl, subst, arith, rules, pos, negsuc, ◌-ℤ◌, ◌<ℤ◌, length}
 use Rattle.std.proofs.lemmas.Int.{ints, to_z-of_z}
 use Rattle.std.proofs.lemmas.Option.{slice_get_read}
 use mir.Syntax.{w64}
@@ -8,15 +7,13 @@ use mir.Val.{SFits}
 use Rattle.tz_zone.specs.Changes.{change_of, HasNoChange}
 use Rattle.tz_zone.specs.Clock.{IsTypeOfLast}
 use Rattle.tz_zone.specs.ClockSegments.{IsReachedAt}
-use Rattle.tz_zone.specs.ValidZone.{IsRising}
 use Rattle.tz_zone.specs.ZoneSeen.{zone_seen}
 use Rattle.tz_zone.proofs.LeapTimes.{instant_bounds}
 use Rattle.tz_zone.proofs.Places.{clock_at_place}
-use Rattle.tz_zone.proofs.RisingTimes.{ahead_from, transitions_rise}
 use Rattle.tz_zone.proofs.SegmentEnds.{plain_moment}
-use Rattle.tz_zone.proofs.TypesAtCursors.{plain_leap, none_if_empty}
+use Rattle.tz_zone.proofs.TypesAtCursors.{none_if_empty}
 use Rattle.tz_zone.proofs.ChangeSpans.{is_preceding, if_some_held}
-use Rattle.tz_zone.proofs.PlaceRuns.{some_transitions, effect_up_to, none_in_run, plain_place, type_after}
+use Rattle.tz_zone.proofs.PlaceRuns.{some_transitions, effect_up_to, none_in_run, plain_place, plain_place_before, type_after}
 use Rattle.tz_zone.proofs.clock.changes.change_at_last.Goals as goal
 
 pub type_of-after-requires : goal.type_of-after-requires
@@ -31,7 +28,8 @@ returns-clause-change c =
     let list = c.args.transitions.now in
     let z = zone_seen list c.args.parts in
     let sound = c.requires.sound in
-    let u = c.args.unix_time in
+    let until = c.args.unix_time in
+    let u = until -ℤ pos 1 in
     let k = c.args.place in
     let leaps = c.args.parts.leap_seconds.now in
     let none = none_if_empty leaps c.if-not-is_empty.ensures in
@@ -40,19 +38,13 @@ returns-clause-change c =
     let last = c.index-transitions-place.result in
     let at_last = slice_get_read list _ (k - 1) last refl (omega (arith, inside)) c.index-transitions-place.is in
     let at = c.requires.at.1 (some_transitions list k inside) in
-    let rising : IsRising list = λ i. (sound.transitions_are i).1 in
     let time : SFits w64 c.unix_leap_time-time.result = search rules in
     let m = last.unix_leap_time in
     let fits : SFits w64 m = rw c.unix_leap_time-time.ensures at time in
     let low : negsuc 9223372036854775807 <ℤ m = omega (arith, ints, c.if-time.false, c.unix_leap_time-time.ensures, to_z-of_z w64 c.unix_leap_time-time.result time, (instant_bounds m fits).0) in
     let moment = plain_moment leaps none m (instant_bounds m fits).0 in
     let up_to = effect_up_to z sound k k u m last at some (omega arith) at_last moment in
-    let earlier : IsReachedAt z (m -ℤ pos 1) (k - 1) = record {
-      time = m -ℤ pos 1;
-      time_is = plain_leap leaps none (m -ℤ pos 1);
-      reached = λ i other less at_i. omega (arith, ints, transitions_rise list rising i (k - 1) other last less at_i at_last);
-      ahead = ahead_from list rising (m -ℤ pos 1) (k - 1) last at_last (omega (arith, ints));
-    } in
+    let earlier = plain_place_before z sound none (k - 1) last at_last in
     let t = c.type_before-before.result.now in
     let before = clock_at_place z sound (k - 1) (m -ℤ pos 1) t (omega (arith, inside)) earlier (rw c.new.ensures at c.type_before-before.ensures.value) in
     let s = c.type_of-after.result.now in
@@ -61,6 +53,6 @@ returns-clause-change c =
     let here : IsReachedAt z m k = subst (λ (i : ℕ). IsReachedAt z m i) back (plain_place z sound none (k - 1) m last at_last moment) in
     let after = clock_at_place z sound k m s inside here type in
     let types : (j : ℕ) → k ≤ j → j ≤ k → IsTypeOfLast z j s = λ j from to. let e : k ≡ j = omega (arith, from, to) in subst (λ (i : ℕ). IsTypeOfLast z i s) e type in
-    let no_change : HasNoChange z m (u +ℤ pos 1) = none_in_run z sound k k u m last at some (omega arith) at_last moment inside (s, types) (u +ℤ pos 1) (λ d above below. absurd (omega (arith, ints, above, below))) in
+    let no_change : HasNoChange z m until = none_in_run z sound k k u m last at some (omega arith) at_last moment inside (s, types) until (λ d above below. absurd (omega (arith, ints, above, below))) in
     let found = (rw (to_z-of_z w64 c.unix_leap_time-time.result time, c.unix_leap_time-time.ensures) at c.change_at.ensures.change) z sound low before after in
-    if_some_held c.change_at.result _ _ _ found (λ x is. is_preceding z (u +ℤ pos 1) m (change_of x) (omega (arith, ints, up_to)) no_change is.0 is.1)
+    if_some_held c.change_at.result _ _ _ found (λ x is. is_preceding z until m (change_of x) (omega (arith, ints, up_to)) no_change is.0 is.1)

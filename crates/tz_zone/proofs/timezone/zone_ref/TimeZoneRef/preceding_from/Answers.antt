@@ -11,6 +11,6 @@ use Rattle.tz_zone.proofs.timezone.zone_ref.TimeZoneRef.preceding_from.Goals as 
 pub returns : goal.returns
 returns c =
     let u = c.args.unix_time in
-    let Seen : Zone → Type 0 = λ z. MatchOption c.preceding.result (HasNoPreceding z u) (λ x. IsPreceding z u (change_of x.0)) in
+    let Seen : Zone → Type 0 = λ z. MatchOption c.preceding_change.result (HasNoPreceding z u) (λ x. IsPreceding z u (change_of x.0)) in
     subst Seen (ap (λ transitions. zone_seen transitions c.other_parts.result) c.transitions.ensures ∙ c.other_parts.ensures)
-    (rw (to_z-of_z w64 u c.ranges.unix_time) at c.preceding.ensures)
+    (rw (to_z-of_z w64 u c.ranges.unix_time) at c.preceding_change.ensures)
