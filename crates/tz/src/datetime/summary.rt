@@ -66,7 +66,10 @@ impl Summary {
             Summary::Nothing => Meaning::Nothing,
             Summary::One(found) => meaning_of_one(&found),
             Summary::Several {
-                count, first, last, ..
+                count,
+                first,
+                last,
+                ..
             } => meaning_of_several(count, &first, &last),
         }
     }
@@ -83,7 +86,10 @@ impl Summary {
                 _ => Some(found),
             },
             Summary::Several {
-                first, last, shown, ..
+                first,
+                last,
+                shown,
+                ..
             } => match disambiguation {
                 Disambiguation::Compatible => shown.or(Some(last)),
                 Disambiguation::Earlier => Some(first),
