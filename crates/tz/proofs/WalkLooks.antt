@@ -3,8 +3,8 @@ use Rattle.std.proofs.Common.{◌≡◌, ◌≢◌, ℕ, zero, suc, ◌+◌, ◌
 use Rattle.std.specs.Prelude.{slice_get, IfSome, OnOk}
 use Rattle.std.proofs.lemmas.Int.{ints, by_lt_z}
 use Rattle.std.proofs.lemmas.Option.{slice_get-get_or}
-use Rattle.tz_zone.specs.Table.{Transition, LeapSecond, Zone}
-use Rattle.tz_zone.specs.LeapTime.{IsInstant, IsLeapTimeRefused, IsLeapTime, IsTimeReached, IsEffect}
+use Rattle.tz_zone.specs.Table.{LeapSecond, Zone}
+use Rattle.tz_zone.specs.LeapTime.{IsInstant, IsLeapTime, IsTimeReached, IsEffect}
 use Rattle.tz_zone.specs.ClockSegments.{from_start}
 use Rattle.tz_zone.specs.ClockSpans.{IsStage}
 use Rattle.tz_zone.specs.ValidZone.{AreLeapSeconds, IsSoundTable}
