@@ -3,7 +3,7 @@
 //! Up to the last transition a walk goes from place to place. It reads the types of transitions, and looks for the instant at which one takes
 //! effect only where its type is another than the one before. From the last one on the rule has the changes.
 
-ghost use Rattle.std.specs.Prelude.{◌≡◌, ◌≢◌, ℕ, ◌<◌, ◌≤◌, ℤ, pos, negsuc, ◌+ℤ◌, ◌-ℤ◌, ◌≤ℤ◌, ◌<ℤ◌, [], length, slice_get, Some, IfSome, MatchOption};
+ghost use Rattle.std.specs.Prelude.{◌≡◌, ◌≢◌, ℕ, ◌<◌, ◌≤◌, ℤ, pos, negsuc, ◌+ℤ◌, ◌-ℤ◌, ◌≤ℤ◌, ◌<ℤ◌, [], length, slice_get, Some, IfSome, IsTrue, MatchOption};
 ghost use Rattle.tz_rule.specs.LocalTimeType.{LocalTimeType};
 ghost use Rattle.tz_zone.specs.Clock.{IsClock, HasNoType, IsLast, IsTypeOfLast, IsTypeAfter};
 ghost use Rattle.tz_zone.specs.ClockSegments.{IsReachedAt};
@@ -244,7 +244,7 @@ fn following_from<'a>(
 /// The change at the transition after a place, if the one before the place takes effect at the instant. That one compare shows that the instant lies
 /// there, since times rise.
 #[inline(always)]
-fn change_after_last<'a>(
+pub fn change_after_last<'a>(
     transitions: &[Transition],
     parts: OtherParts<'a>,
     unix_time: i64,
@@ -393,7 +393,7 @@ fn change_at_last<'a>(
 
 /// The change at the transition before a place, if the one after the place takes effect at the instant. Then the second before lies there.
 #[inline(always)]
-fn change_before_next<'a>(
+pub fn change_before_next<'a>(
     transitions: &[Transition],
     parts: OtherParts<'a>,
     unix_time: i64,
@@ -475,9 +475,25 @@ pub fn preceding<'a>(
     preceding_from(transitions, parts, unix_time, last, place)
 }
 
-/// The first change of the clock after an instant, and the place after it. It is a call, so that a step from change to change stays small.
+/// Whether an instant comes after all transitions, if there are no leap seconds or no transitions.
+#[inline(always)]
+fn is_after_all(transitions: &[Transition], parts: OtherParts<'_>, unix_time: i64) -> bool
+    requires { IsSoundTable (zone_seen transitions.now parts) }
+    ensures { IsTrue result → LiesAt (zone_seen transitions.now parts.entry) unix_time (length transitions.now) }
+{
+    let count = transitions.len();
+    if count == 0 {
+        return true;
+    }
+    if !parts.leap_seconds.is_empty() {
+        return false;
+    }
+    transitions[count - 1].unix_leap_time() <= unix_time
+}
+
+/// The first change of the clock after an instant, and the place after it, as a call.
 #[inline(never)]
-fn following_near<'a>(
+fn following_anew<'a>(
     transitions: &[Transition],
     parts: OtherParts<'a>,
     unix_time: i64,
@@ -490,29 +506,9 @@ fn following_near<'a>(
     following(transitions, parts, unix_time, Some(place))
 }
 
-/// The first change of the clock after an instant, and the place after it.
-///
-/// If the last change was at the instant, and the given place comes after it, mostly nothing is looked for. A wrong place costs time and no more.
-#[inline(always)]
-pub fn following_change<'a>(
-    transitions: &[Transition],
-    parts: OtherParts<'a>,
-    unix_time: i64,
-    place: usize,
-) -> Option<(Change<'a>, usize)>
-    requires { IsSoundTable (zone_seen transitions.now parts) }
-    ensures { MatchOption result (HasNoFollowing (zone_seen transitions.now parts.entry) unix_time)
-        (λ found. IsFollowing (zone_seen transitions.now parts.entry) unix_time (change_of found.0)) }
-{
-    if let Some(change) = change_after_last(transitions, parts, unix_time, place) {
-        return Some((change, place + 1));
-    }
-    following_near(transitions, parts, unix_time, place)
-}
-
-/// The last change of the clock before an instant, and the place before it, as a call too.
+/// The last change of the clock before an instant, and the place before it, as a call.
 #[inline(never)]
-fn preceding_near<'a>(
+fn preceding_anew<'a>(
     transitions: &[Transition],
     parts: OtherParts<'a>,
     unix_time: i64,
@@ -525,11 +521,30 @@ fn preceding_near<'a>(
     preceding(transitions, parts, unix_time, Some(place))
 }
 
-/// The last change of the clock before an instant, and the place before it.
-///
-/// If the last change was at the instant, and the given place comes before it, mostly nothing is looked for. A wrong place costs time and no more.
+/// The first change of the clock after an instant, and the place after it. If the given place is that after all transitions, one compare decides
+/// whether the rule has the change. Another wrong place costs time and no more.
 #[inline(always)]
-pub fn preceding_change<'a>(
+pub fn following_near<'a>(
+    transitions: &[Transition],
+    parts: OtherParts<'a>,
+    unix_time: i64,
+    place: usize,
+) -> Option<(Change<'a>, usize)>
+    requires { IsSoundTable (zone_seen transitions.now parts) }
+    ensures { MatchOption result (HasNoFollowing (zone_seen transitions.now parts.entry) unix_time)
+        (λ found. IsFollowing (zone_seen transitions.now parts.entry) unix_time (change_of found.0)) }
+{
+    if place == transitions.len() && is_after_all(transitions, parts, unix_time) {
+        let change = following_by_rule(parts, unix_time)?;
+        return Some((change, place));
+    }
+    following_anew(transitions, parts, unix_time, place)
+}
+
+/// The last change of the clock before an instant, and the place before it. If the given place is that after all transitions, the rule is asked first.
+/// A wrong place costs time and no more.
+#[inline(always)]
+pub fn preceding_near<'a>(
     transitions: &[Transition],
     parts: OtherParts<'a>,
     unix_time: i64,
@@ -539,8 +554,14 @@ pub fn preceding_change<'a>(
     ensures { MatchOption result (HasNoPreceding (zone_seen transitions.now parts.entry) unix_time)
         (λ found. IsPreceding (zone_seen transitions.now parts.entry) unix_time (change_of found.0)) }
 {
-    if let Some(change) = change_before_next(transitions, parts, unix_time, place) {
-        return Some((change, place - 1));
+    if unix_time == i64::MIN {
+        return None;
     }
-    preceding_near(transitions, parts, unix_time, place)
+    let last = unix_time - 1;
+    if place == transitions.len() && is_after_all(transitions, parts, last) {
+        if let Some(change) = preceding_after_table(transitions, parts, place, last) {
+            return Some((change, place));
+        }
+    }
+    preceding_anew(transitions, parts, unix_time, place)
 }

@@ -13,7 +13,9 @@ mod spans;
 mod window;
 
 pub use change::Change;
-pub use changes::{following, following_change, preceding, preceding_change};
+pub use changes::{
+    change_after_last, change_before_next, following, following_near, preceding, preceding_near,
+};
 pub use lookup::find_local_time_type;
 pub use segment::ClockSegment;
 pub use segments::clock_segment_at;

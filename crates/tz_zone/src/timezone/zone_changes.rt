@@ -78,7 +78,24 @@ impl<'a> TimeZoneRef<'a> {
         ensures { MatchOption result (HasNoFollowing (zone_of self.now) unix_time)
             (λ found. IsFollowing (zone_of self.now) unix_time (change_of found.0)) }
     {
-        clock::following_change(self.transitions(), other_parts(self), unix_time, place)
+        if let Some(change) = clock::change_after_last(
+            self.transitions(),
+            other_parts(self),
+            unix_time,
+            place,
+        ) {
+            return Some((change, place + 1));
+        }
+        self.following_near(unix_time, place)
+    }
+
+    /// The same, if it is not the next transition. It is a call, so that a step from one transition to the next stays small.
+    #[inline(never)]
+    fn following_near(&self, unix_time: i64, place: usize) -> Option<(Change<'a>, usize)>
+        ensures { MatchOption result (HasNoFollowing (zone_of self.now) unix_time)
+            (λ found. IsFollowing (zone_of self.now) unix_time (change_of found.0)) }
+    {
+        clock::following_near(self.transitions(), other_parts(self), unix_time, place)
     }
 
     /// The last change before an instant, in Unix seconds, or `None` if the clock has not changed before. Does not allocate.
@@ -108,7 +125,24 @@ impl<'a> TimeZoneRef<'a> {
         ensures { MatchOption result (HasNoPreceding (zone_of self.now) unix_time)
             (λ found. IsPreceding (zone_of self.now) unix_time (change_of found.0)) }
     {
-        clock::preceding_change(self.transitions(), other_parts(self), unix_time, place)
+        if let Some(change) = clock::change_before_next(
+            self.transitions(),
+            other_parts(self),
+            unix_time,
+            place,
+        ) {
+            return Some((change, place - 1));
+        }
+        self.preceding_near(unix_time, place)
+    }
+
+    /// The same, if it is not the transition before, as a call too.
+    #[inline(never)]
+    fn preceding_near(&self, unix_time: i64, place: usize) -> Option<(Change<'a>, usize)>
+        ensures { MatchOption result (HasNoPreceding (zone_of self.now) unix_time)
+            (λ found. IsPreceding (zone_of self.now) unix_time (change_of found.0)) }
+    {
+        clock::preceding_near(self.transitions(), other_parts(self), unix_time, place)
     }
 
     /// The changes after an instant, in Unix seconds, in the order of time: the one that `following` returns, and so on from each. Does not
