@@ -154,7 +154,8 @@ typedef struct tz_alternate {
   int32_t ends[14];
 } tz_alternate;
 
-/* At most one rule. 192 bytes. `kind == TZ_FIXED` is the length of the list `fixed` of a zone's parts, `kind == TZ_ALTERNATE` that of `alternate`. */
+/* At most one rule. 192 bytes. In a zone's parts `fixed` points to the rule's and has the length 1 if the kind is
+   TZ_FIXED, and else 0; so does `alternate` for TZ_ALTERNATE. */
 typedef struct tz_rule {
   uint32_t kind; /* TZ_NONE, TZ_FIXED, TZ_ALTERNATE */
   tz_local_time_type fixed;
@@ -203,7 +204,7 @@ typedef struct tz_offsets {
   int32_t greatest;
 } tz_offsets;
 
-/* A zone. 88 bytes. It points into the memory of its parts, a `tz_rule` among them: a function that returns a zone returns that memory too. */
+/* A zone. 88 bytes. It points into the memory of its parts, a `tz_rule` among them, which has to live as long as the zone is used. */
 typedef struct tz_zone {
   tz_parts parts;
   tz_offsets offsets;
@@ -279,7 +280,8 @@ enum {
   TZ_FILE_OR_STRING = 2 /* that file, and if there is none the TZ string, which `tz_string_read` reads without white space at its ends */
 };
 
-/* Which date time a local time means. */
+/* Which date time a local time means. In a fold, where clocks go back: the first by TZ_COMPATIBLE and TZ_EARLIER, the last by TZ_LATER. In a gap, over
+   which they jump: as much later as they jump by TZ_COMPATIBLE and TZ_LATER, as much earlier by TZ_EARLIER. By TZ_REJECT none, TZ_NO_DATE_TIME, in both. */
 enum { TZ_COMPATIBLE = 0, TZ_EARLIER = 1, TZ_LATER = 2, TZ_REJECT = 3 };
 
 /* ---- Local time types and rules ------------------------------------------------------------------------------------------------------- */
