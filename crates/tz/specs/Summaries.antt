@@ -1,4 +1,4 @@
--- What is kept of a list of found date times, from which one or what they mean is taken.
+-- What is kept of a list of found date times, from which one is taken.
 use Rattle.std.specs.Prelude.{◌≡◌, ◌≤◌, List, [], ◌∷◌, ◌++◌, Option, Some, None, length}
 use Rattle.tz.specs.Growth.{HoldsMore, holds_more, holds_none}
 use Rattle.tz.specs.Meanings.{first_entry, last_entry, first_shown}
@@ -12,12 +12,12 @@ abbrev pub shown_entry_of : FoundDateTimeKind → Option FoundDateTimeKind
 shown_entry_of (Normal d) = Some (Normal d)
 shown_entry_of (Skipped before after) = None
 
--- the list has no entry, this one, or so many with these as the first, the last and the first one that is shown
+-- the list has no entry, this one, or several with these as the first, the last and the first one that is shown
 abbrev pub IsSummaryOf : List FoundDateTimeKind → Summary → Type 0
 IsSummaryOf found Nothing = found ≡ []
 IsSummaryOf found (One e) = found ≡ e ∷ []
-IsSummaryOf found (Several count first last shown) =
-    (count ≡ length found) × (2 ≤ length found) × (first_entry found ≡ Some first) × (last_entry found ≡ Some last) × (first_shown found ≡ shown)
+IsSummaryOf found (Several first last shown) =
+    (2 ≤ length found) × (first_entry found ≡ Some first) × (last_entry found ≡ Some last) × (first_shown found ≡ shown)
 
 -- whatever list the first was of, the second is of that list with these at its end
 abbrev pub SummarizesMore : Summary → Summary → List FoundDateTimeKind → Type 0

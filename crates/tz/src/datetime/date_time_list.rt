@@ -1,10 +1,10 @@
 //! Lists that grow by what a search finds.
 
-use super::FoundDateTimeKind;
 use super::found_list::FoundDateTimeList;
 use super::plain_writer::PlainWriter;
 use super::slot_writer::SlotWriter;
 use super::summary::Summary;
+use super::{FoundDateTimeKind, Meaning};
 use std::alloc::{AllocError, Allocator};
 
 /// A list that a search writes to.
@@ -98,6 +98,24 @@ impl DateTimeList for Summary {
     ghost none = { summarizes_none };
 
     ghost more = { summarizes_more };
+
+    #[inline(always)]
+    fn push(&mut self, found: FoundDateTimeKind) -> Result<(), AllocError> {
+        self.add(found);
+        Ok(())
+    }
+}
+
+impl DateTimeList for Meaning {
+    ghost use Rattle.tz.specs.LocalMeanings.{MeansMore, means_none, means_more};
+
+    ghost gains = { MeansMore };
+
+    ghost takes_memory = { ⊥ };
+
+    ghost none = { means_none };
+
+    ghost more = { means_more };
 
     #[inline(always)]
     fn push(&mut self, found: FoundDateTimeKind) -> Result<(), AllocError> {

@@ -1,17 +1,15 @@
 //! What a local time means in a zone, without a list.
 
-ghost use Rattle.std.specs.Prelude.{◌≡◌, ◌≢◌, ◌≤◌, List, [], ◌∷◌, Some, length, IfOk, IfErr, OnOk};
+ghost use Rattle.std.specs.Prelude.{◌≡◌, ◌≢◌, [], ◌∷◌, IfOk, IfErr, OnOk};
 ghost use Rattle.tz_base.specs.Fields.{IsValid};
 ghost use Rattle.tz_zone.specs.Clock.{IsClock};
 ghost use Rattle.tz_zone.specs.ZoneRef.{zone_of};
 ghost use Rattle.tz.specs.FindFaults.{IsFindFault, IsPromised};
 ghost use Rattle.tz.specs.Found.{EachCanBeMade};
-ghost use Rattle.tz.specs.LocalMeanings.{HasMeaning, meaning_of};
-ghost use Rattle.tz.specs.Meanings.{first_entry, last_entry};
-ghost use Rattle.tz.specs.declared.datetime.found.FoundDateTimeKind.{FoundDateTimeKind};
+ghost use Rattle.tz.specs.LocalMeanings.{HasMeaning, MeansMore, meaning_of};
+ghost use Rattle.tz.specs.declared.datetime.found.FoundDateTimeKind.TheVariants.{Normal};
 
 use super::find::find_in;
-use super::summary::Summary;
 use super::{DateTime, FoundDateTimeKind, UtcDateTime};
 use tz_base::error::TzError;
 use tz_base::fields::Fields;
@@ -44,7 +42,8 @@ pub enum Meaning {
 }
 
 /// The meaning of one entry.
-pub(super) fn meaning_of_one(found: &FoundDateTimeKind) -> Meaning
+#[inline(always)]
+fn meaning_of_one(found: &FoundDateTimeKind) -> Meaning
     ensures { result ≡ meaning_of (found.now ∷ []) }
 {
     match *found {
@@ -59,32 +58,44 @@ pub(super) fn meaning_of_one(found: &FoundDateTimeKind) -> Meaning
     }
 }
 
-/// The meaning of two entries.
-fn meaning_of_two(first: &FoundDateTimeKind, second: &FoundDateTimeKind) -> Meaning
-    ensures { result ≡ meaning_of (first.now ∷ second.now ∷ []) }
+/// The meaning of a date time that clocks show, and another entry.
+fn meaning_of_two(first: &DateTime, second: &FoundDateTimeKind) -> Meaning
+    ensures { result ≡ meaning_of (Normal first.now ∷ second.now ∷ []) }
 {
-    match (first, second) {
-        (FoundDateTimeKind::Normal(first), FoundDateTimeKind::Normal(last)) => Meaning::Twice {
+    match second {
+        FoundDateTimeKind::Normal(last) => Meaning::Twice {
             first: *first,
             last: *last,
         },
-        _ => Meaning::More(2),
+        FoundDateTimeKind::Skipped { .. } => Meaning::More(2),
     }
 }
 
-/// The meaning of two entries or more: so many, with this first one and this last one.
-pub(super) fn meaning_of_several(
-    count: usize,
-    first: &FoundDateTimeKind,
-    last: &FoundDateTimeKind,
-) -> Meaning
-    ensures { (found : List FoundDateTimeKind) → count ≡ length found → 2 ≤ length found → first_entry found ≡ Some first.now
-        → last_entry found ≡ Some last.now → result ≡ meaning_of found }
+/// The meaning of a list that has one more entry.
+#[inline(always)]
+fn meaning_with(meaning: &Meaning, found: &FoundDateTimeKind) -> Meaning
+    ensures { MeansMore meaning.now result (found.now ∷ []) }
 {
-    if count == 2 {
-        return meaning_of_two(first, last);
+    match meaning {
+        Meaning::Nothing => meaning_of_one(found),
+        Meaning::Once(first) => meaning_of_two(first, found),
+        Meaning::Skipped { .. } => Meaning::More(2),
+        Meaning::Twice { .. } => Meaning::More(3),
+        // A list has less than 2^33 entries, so the count never comes to its end.
+        Meaning::More(count) => Meaning::More(count.saturating_add(1)),
     }
-    Meaning::More(count)
+}
+
+impl Meaning {
+    ghost use Rattle.tz.specs.LocalMeanings.{MeansMore};
+
+    /// Takes one more entry into account.
+    #[inline(always)]
+    pub(super) fn add(&mut self, found: FoundDateTimeKind)
+        ensures { MeansMore self.old self.new (found ∷ []) }
+    {
+        *self = meaning_with(self, &found);
+    }
 }
 
 /// What fields mean in a zone.
@@ -95,10 +106,10 @@ fn meant(fields: &Fields, time_zone_ref: TimeZoneRef<'_>) -> Result<Meaning, TzE
     ensures promised { IsPromised (zone_of time_zone_ref.entry) fields.now.year → IfErr result (λ e. e ≢ TzError.OutOfRange) }
     ensures err { IfErr result (IsFindFault ⊥ (IsClock (zone_of time_zone_ref.entry)) fields.now) }
 {
-    let mut summary = Summary::Nothing;
+    let mut meaning = Meaning::Nothing;
     let mut view = Uncounted::new(time_zone_ref.transitions());
-    find_in(&mut summary, fields, &mut view, time_zone_ref)?;
-    Ok(summary.meaning())
+    find_in(&mut meaning, fields, &mut view, time_zone_ref)?;
+    Ok(meaning)
 }
 
 impl DateTime {

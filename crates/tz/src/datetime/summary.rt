@@ -1,21 +1,19 @@
-//! What is kept of the entries of a search, without a list.
+//! What is kept of the entries of a search to choose one, without a list.
 
 ghost use Rattle.std.specs.Prelude.{◌≡◌};
 ghost use Rattle.tz.specs.Summaries.{shown_entry_of};
 
-use super::meaning::{meaning_of_one, meaning_of_several};
-use super::{Disambiguation, FoundDateTimeKind, Meaning};
+use super::{Disambiguation, FoundDateTimeKind};
 
-/// The entries of a search, as far as what a local time means depends on them.
+/// The entries of a search, as far as the one that is meant depends on them.
 #[derive(Clone, Copy)]
 pub(crate) enum Summary {
     /// There is none.
     Nothing,
     /// There is one.
     One(FoundDateTimeKind),
-    /// There are several: how many, the first, the last, and the first that is shown.
+    /// There are several: the first, the last, and the first that is shown.
     Several {
-        count: usize,
         first: FoundDateTimeKind,
         last: FoundDateTimeKind,
         shown: Option<FoundDateTimeKind>,
@@ -24,7 +22,6 @@ pub(crate) enum Summary {
 
 impl Summary {
     ghost use Rattle.std.specs.Prelude.{List, [], ◌∷◌};
-    ghost use Rattle.tz.specs.LocalMeanings.{meaning_of};
     ghost use Rattle.tz.specs.Meanings.{entry_meant};
     ghost use Rattle.tz.specs.Summaries.{IsSummaryOf, SummarizesMore};
     ghost use Rattle.tz.specs.declared.datetime.found.FoundDateTimeKind.{FoundDateTimeKind};
@@ -37,41 +34,16 @@ impl Summary {
         *self = match *self {
             Summary::Nothing => Summary::One(found),
             Summary::One(first) => Summary::Several {
-                count: 2,
                 first,
                 last: found,
                 shown: shown_entry(&first).or(shown_entry(&found)),
             },
-            Summary::Several {
-                count,
-                first,
-                shown,
-                ..
-            } => Summary::Several {
-                // A list has less than 2^33 entries, so the count never comes to its end.
-                count: count.saturating_add(1),
+            Summary::Several { first, shown, .. } => Summary::Several {
                 first,
                 last: found,
                 shown: shown.or(shown_entry(&found)),
             },
         };
-    }
-
-    /// What the entries mean.
-    #[inline(always)]
-    pub(super) fn meaning(&self) -> Meaning
-        ensures { (found : List FoundDateTimeKind) → IsSummaryOf found self.now → result ≡ meaning_of found }
-    {
-        match *self {
-            Summary::Nothing => Meaning::Nothing,
-            Summary::One(found) => meaning_of_one(&found),
-            Summary::Several {
-                count,
-                first,
-                last,
-                ..
-            } => meaning_of_several(count, &first, &last),
-        }
     }
 
     /// The entry that is meant, if there is one.
@@ -85,12 +57,7 @@ impl Summary {
                 Disambiguation::Reject => shown_entry(&found),
                 _ => Some(found),
             },
-            Summary::Several {
-                first,
-                last,
-                shown,
-                ..
-            } => match disambiguation {
+            Summary::Several { first, last, shown } => match disambiguation {
                 Disambiguation::Compatible => shown.or(Some(last)),
                 Disambiguation::Earlier => Some(first),
                 Disambiguation::Later => Some(last),

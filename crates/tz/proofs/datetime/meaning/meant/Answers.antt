@@ -5,4 +5,4 @@ use Rattle.tz.proofs.datetime.meaning.meant.Goals as goal
 pub returns-clause-ok : goal.returns-clause-ok
 returns-clause-ok c =
     let ok = c.in_ok-find_in.ensures.ok in
-    (ok.0, ok.2, c.meaning.ensures ok.0 (ok.1 [] (omega (arith, ok.3)) refl))
+    (ok.0, ok.2, ok.1 [] (omega (arith, ok.3)) refl)

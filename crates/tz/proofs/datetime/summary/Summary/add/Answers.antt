@@ -9,8 +9,7 @@ pub returns-in-Several : goal.returns-in-Several
 returns-in-Several c before fits of =
     let e = c.args.found in
     let size = length-append before (e ∷ []) in
-    let (count, several, first, last, shown) = subst (IsSummaryOf before) c.in-Several.is of in (
-      omega (arith, size, count, c.saturating_add.ensures),
+    let (several, first, last, shown) = subst (IsSummaryOf before) c.in-Several.is of in (
       omega (arith, size, several),
       first_of_grown before e ∙ ap (λ x. option_or x (Some e)) first,
       last_of_grown before e,
