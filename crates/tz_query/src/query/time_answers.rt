@@ -2,6 +2,8 @@
 
 ghost use Rattle.std.specs.Prelude.{◌≡◌, ◌+ℤ◌, IfSome, IfNone};
 ghost use Rattle.tz_base.specs.Fields.{IsCivil, IsReading};
+ghost use Rattle.tz_zone.specs.Clock.{IsClock};
+ghost use Rattle.tz_zone.specs.ZoneRef.{zone_of};
 
 use super::answers::Answers;
 use super::names::fault_name;
@@ -11,6 +13,7 @@ use super::suffixes::Suffix;
 use std::alloc::{AllocError, Allocator};
 use tz::constants::NANOSECONDS_PER_SECOND;
 use tz::inner::{Fields, local_reading};
+use tz::{LocalTimeType, TimeZoneRef};
 
 /// What a clock with this offset from UTC shows at a Unix time, if its year is one of 32 bits.
 #[inline(always)]
@@ -20,6 +23,17 @@ pub fn shown_fields(unix_time: i64, ut_offset: i32) -> Option<Fields>
 {
     let reading = local_reading(unix_time, ut_offset)?;
     Some(Fields::from_reading(reading, 0))
+}
+
+/// The type of a zone's clock at an instant, if it has one. It is a call, since a lookup is too long to stand where lines are answered.
+#[inline(never)]
+fn type_at<'a>(zone: &TimeZoneRef<'a>, unix_time: i64) -> Option<&'a LocalTimeType>
+    ensures { IfSome result (λ t. IsClock (zone_of zone.now) unix_time t.now) }
+{
+    match zone.find_local_time_type(unix_time) {
+        Ok(local_time_type) => Some(local_time_type),
+        Err(_) => None,
+    }
 }
 
 impl<A: Allocator> Output<A> {
@@ -73,6 +87,23 @@ impl<'a, A: Allocator + Copy> Answers<'a, A> {
                 .push_instant(unix_time, nanoseconds, &self.suffix);
         }
         self.follow(unix_time);
+        let Some(local_time_type) = type_at(&self.zone, unix_time) else {
+            return self.answer_by_lookup(unix_time, nanoseconds);
+        };
+        let suffix = self.suffixes.of(local_time_type);
+        self.output.push_instant(unix_time, nanoseconds, suffix)
+    }
+
+    /// Answers an instant by a lookup, whose error is the answer if there is no type.
+    #[cold]
+    #[inline(never)]
+    fn answer_by_lookup(
+        &mut self,
+        unix_time: i64,
+        nanoseconds: &Nanoseconds,
+    ) -> Result<(), AllocError>
+        ensures { IfOk result (λ _. IsAnswered (Time unix_time (number_of nanoseconds.now)) self.old self.new) }
+    {
         match self.zone.find_local_time_type(unix_time) {
             Ok(local_time_type) => {
                 let suffix = self.suffixes.of(local_time_type);

@@ -1,0 +1,46 @@
+-- The type of a lookup, or its error.
+use Rattle.std.proofs.Common.{◌++◌, ◌∷◌, [], inl, inr, refl, sym, subst, arith}
+use Rattle.std.specs.Prelude.{codes}
+use Rattle.std.proofs.lemmas.Int.{to_z-of_z}
+use Rattle.std.proofs.lemmas.Result.{IfOk-weaker}
+use mir.Syntax.{w64}
+use Rattle.tz_zone.specs.Clock.{IsClock, IsLookupFault}
+use Rattle.tz_zone.specs.ZoneRef.{zone_of}
+use Rattle.tz_query.specs.Nanoseconds.{number_of}
+use Rattle.tz_query.proofs.AnswerLines.{clock_fault_text}
+use Rattle.tz_query.proofs.query.answers.Answers.answer_by_lookup.Goals as goal
+
+pub fault_name-requires : goal.fault_name-requires
+fault_name-requires g c =
+    let z = zone_of c.args.self.now.zone in
+    let u = c.args.unix_time in
+    let fault : IsLookupFault z u c.in-Err.error = rw (to_z-of_z w64 u c.ranges.unix_time) at c.in-Err.ensures.err in
+    clock_fault_text z u 0 c.in-Err.error (inr (inl (omega arith, fault)))
+
+pub returns-in-Ok : goal.returns-in-Ok
+returns-in-Ok g c =
+    let z = zone_of c.args.self.now.zone in
+    let u = c.args.unix_time in
+    let n = number_of c.args.nanoseconds.now in
+    IfOk-weaker c.push_instant.result _ _
+    (λ done (text, is, items). (
+      text ∷ [],
+      (text, is, refl),
+      record { zone_is = refl; sound = λ s. s; text_is = items },
+    ))
+    (rw (to_z-of_z w64 u c.ranges.unix_time) at (c.push_instant.ensures z (subst (IsClock z _) (sym c.of-suffix.ensures) c.in-Ok.ensures.ok)))
+
+pub returns-in-Err : goal.returns-in-Err
+returns-in-Err g c =
+    let z = zone_of c.args.self.now.zone in
+    let u = c.args.unix_time in
+    let fault : IsLookupFault z u c.in-Err.error = rw (to_z-of_z w64 u c.ranges.unix_time) at c.in-Err.ensures.err in
+    let n = number_of c.args.nanoseconds.now in
+    let text = codes "E " ++ c.fault_name.result.now in
+    IfOk-weaker c.push_error.result _ _
+    (λ done items. (
+      text ∷ [],
+      (text, (inr (c.in-Err.error, c.fault_name.result.now, inr (inl (c.args.nanoseconds.now.below, fault)), c.fault_name.ensures.text, refl)), refl),
+      record { zone_is = refl; sound = λ s. s; text_is = items },
+    ))
+    c.push_error.ensures
