@@ -93,7 +93,8 @@ def of_zones(versions):
     """The versions of the zones' files, by library where they differ."""
     named = {}
     for name, version in versions.items():
-        named.setdefault(version, []).append(name)
+        if not name.startswith('through-'):
+            named.setdefault(version, []).append(name)
     if len(named) == 1:
         return f'Zones are those of tzdata {next(iter(named))}.'
     most = max(named, key=lambda version: len(named[version]))
