@@ -1,7 +1,7 @@
 -- The table of pairs has the tens and the ones of each number.
 use Rattle.std.proofs.Common.{◌≡◌, ℕ, zero, suc, ◌+◌, ◌-◌, ◌*◌, ◌/◌, ◌%◌, ◌<◌, ◌≤◌, Bool, true, ◌&&◌, eqb, T, eqb→eq, get_or, inl, inr, eq-zero-or-pos, arith, refl, ap, ◌∙◌, List, [], ◌∷◌, length, take, drop}
 use lib.Ieee.Fits.{and_l, and_r}
-use Rattle.tz.specs.declared.text.TheConstants.{PAIRS}
+use Rattle.tz.specs.declared.text_buffer.TheConstants.{PAIRS}
 
 abbrev is_pair : ℕ → Bool
 is_pair n = eqb (get_or PAIRS (n * 2) 0) (48 + n / 10) && eqb (get_or PAIRS (n * 2 + 1) 0) (48 + n % 10)

@@ -77,8 +77,8 @@ pub mod datetime;
 pub mod inner;
 pub mod laws;
 mod parse;
-mod printed;
-mod text;
+mod print;
+mod text_buffer;
 mod tz_string;
 
 pub use crate::datetime::{DateTime, UtcDateTime};

@@ -10,7 +10,7 @@ ghost use Rattle.tz_zone.specs.Bytes.{comma};
 ghost use Rattle.tz_zone.specs.TzText.{IsTzText};
 ghost use Rattle.tz.specs.TzStrings.{minutes_text, plain_time_text, signed_time_text, offset_of_text, is_bare, name_text, day_text, time_of_day_text, turn_text, daylight_offset_text, name_and_offset_text, daylight_text, tz_text, IsShortOffset, IsStandardText, IsDaylightText, IsWritable, AreNamed, is_extended};
 
-use crate::text::TextBuffer;
+use crate::text_buffer::TextBuffer;
 use std::fmt;
 use std::marker::Model;
 use tz_rule::laws::rule_parts_are_sound;

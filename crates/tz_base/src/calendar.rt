@@ -11,7 +11,7 @@ ghost use Rattle.tz_base.specs.Fields.{IsMonth, total_nanoseconds_of, IsTimespec
 use crate::constants::{
     CUMUL_DAYS_IN_MONTHS_LEAP_YEAR, CUMUL_DAYS_IN_MONTHS_NORMAL_YEAR, NANOSECONDS_PER_SECOND,
 };
-use crate::year::{
+use crate::moved_year::{
     ADDED_DAYS, days_before_moved_year, is_moved_year_leap, moved_year, year_of_moved,
 };
 

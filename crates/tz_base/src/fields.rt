@@ -12,7 +12,7 @@ use crate::calendar::{
 };
 use crate::constants::{NANOSECONDS_PER_SECOND, SECONDS_PER_DAY};
 use crate::error::datetime::DateTimeError;
-use crate::year::moved_seconds;
+use crate::moved_year::moved_seconds;
 
 /// The seven fields of a date time, in the order in which they are compared.
 #[repr(C)]

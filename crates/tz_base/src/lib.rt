@@ -6,4 +6,4 @@ pub mod constants;
 pub mod error;
 pub mod fields;
 pub mod laws;
-pub mod year;
+pub mod moved_year;

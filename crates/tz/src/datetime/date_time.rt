@@ -4,7 +4,7 @@ ghost use Rattle.std.specs.Prelude.{◌≡◌, ◌+ℤ◌, IfSome, IfNone};
 ghost use Rattle.tz_base.specs.Fields.{IsReading, IsValid};
 
 use super::totals::duration_between;
-use crate::text::TextBuffer;
+use crate::text_buffer::TextBuffer;
 use std::cmp::Ordering;
 use std::fmt;
 use std::marker::Model;

@@ -10,7 +10,7 @@ mod find_local;
 mod found;
 mod found_list;
 mod found_list_ref;
-mod local_time;
+mod find_one;
 mod meaning;
 mod offsets;
 pub(crate) mod plain;
@@ -20,7 +20,7 @@ mod slot_writer;
 mod summary;
 mod totals;
 pub(crate) mod utc_date_time;
-pub(crate) mod view;
+pub(crate) mod zone_view;
 mod window;
 
 pub use date_time::DateTime;

@@ -5,7 +5,7 @@ ghost use Rattle.tz.specs.DateTimes.{IsPastTheEnd};
 
 use super::DateTime;
 use super::totals::{duration_between, timespec_after, timespec_before, utc_timespec};
-use crate::text::TextBuffer;
+use crate::text_buffer::TextBuffer;
 use std::fmt;
 use std::marker::Model;
 use std::ops::{Add, AddAssign, Sub, SubAssign};

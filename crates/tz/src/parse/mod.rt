@@ -4,7 +4,7 @@ mod error;
 mod fields;
 mod number;
 mod offset;
-mod printed;
+mod usual;
 
 ghost use Rattle.std.specs.Prelude.{◌≡◌, ◌-ℤ◌, List, ℕ, [], Option, IfOk, IfErr, MatchResult};
 ghost use Rattle.tz.specs.DateTimeText.{date_time, IsDateTimeText, IsDateTimeTextFault};
@@ -14,7 +14,7 @@ use error::Missing;
 pub use error::{DateTimePart, ParseDateTimeError};
 use fields::{after_separator, read_date, read_time};
 use offset::read_offset;
-use printed::read_printed;
+use usual::read_printed;
 
 /// The local time and the offset of a text.
 #[derive(Clone, Copy, Debug, PartialEq, Eq)]

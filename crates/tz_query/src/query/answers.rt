@@ -5,7 +5,7 @@ ghost use Rattle.tz_zone.specs.ZoneRef.{zone_of};
 ghost use Rattle.tz_query.specs.Answers.{AreAnswers};
 
 use super::lines::{Query, after_line, read_query, read_usual_search_line, read_usual_time_line};
-use super::meaning::Meaning;
+use super::line_meaning::Meaning;
 use super::nanoseconds::Nanoseconds;
 use super::output::Output;
 use super::page::Page;

@@ -2,8 +2,8 @@
 
 mod answers;
 mod lines;
-mod meaning;
-mod names;
+mod line_meaning;
+mod error_names;
 mod nanoseconds;
 mod numbers;
 mod output;

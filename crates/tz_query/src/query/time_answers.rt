@@ -6,7 +6,7 @@ ghost use Rattle.tz_zone.specs.Clock.{IsClock};
 ghost use Rattle.tz_zone.specs.ZoneRef.{zone_of};
 
 use super::answers::Answers;
-use super::names::fault_name;
+use super::error_names::fault_name;
 use super::nanoseconds::Nanoseconds;
 use super::output::Output;
 use super::suffixes::Suffix;

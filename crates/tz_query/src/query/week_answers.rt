@@ -3,7 +3,7 @@
 ghost use Rattle.std.specs.Prelude.{IfOk};
 
 use super::answers::Answers;
-use super::names::field_fault_name;
+use super::error_names::field_fault_name;
 use super::nanoseconds::Nanoseconds;
 use super::week_dates::{first_day_begins, week_of};
 use std::alloc::{AllocError, Allocator};

@@ -8,7 +8,7 @@ ghost use Rattle.tz_rule.specs.Pairing.{IsConflict, IsInconsistent};
 
 use super::alternate_clock::AlternateClock;
 use super::day_data::DayData;
-use super::parts::Parts;
+use super::rule_parts::Parts;
 use super::{LocalTimeType, RuleDay};
 use std::fmt;
 use std::marker::Model;

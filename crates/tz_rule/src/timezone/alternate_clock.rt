@@ -12,7 +12,7 @@ ghost use Rattle.tz_rule.specs.ZeroRule.{zero_rule};
 
 use super::LocalTimeType;
 use super::day_data::DayData;
-use super::parts::Parts;
+use super::rule_parts::Parts;
 use super::year_table::YearTable;
 use std::marker::Model;
 use tz_base::error::timezone::TransitionRuleError;

@@ -3,13 +3,13 @@
 mod alternate;
 pub(crate) mod alternate_clock;
 mod alternate_segment;
-mod conflict_years;
+mod inconsistent_years;
 pub(crate) mod day_data;
 mod daylight;
 mod local_time_type;
 mod pair_kinds;
-mod pairing;
-mod parts;
+mod order_over_years;
+mod rule_parts;
 mod rule;
 pub(crate) mod rule_changes;
 pub(crate) mod rule_clock;

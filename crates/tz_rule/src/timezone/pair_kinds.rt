@@ -7,7 +7,7 @@ ghost use Rattle.tz_base.specs.Days.{first_day};
 ghost use Rattle.tz_rule.specs.Kinds.{kind_of as kind_by, year_kind, first_kind as first_kind_of, second_kind as second_kind_of, first_days as first_days_of};
 
 use tz_base::constants::SECONDS_PER_DAY;
-use tz_base::year::{ADDED_DAYS, days_before_moved_year, is_moved_year_leap};
+use tz_base::moved_year::{ADDED_DAYS, days_before_moved_year, is_moved_year_leap};
 
 /// How many kinds of years there are.
 pub(super) const KINDS: usize = 14;

@@ -23,7 +23,7 @@ use super::rule_segment::RuleSegment;
 use tz_base::calendar;
 use tz_base::constants::SECONDS_PER_DAY;
 use tz_base::error::TzError;
-use tz_base::year::moved_seconds;
+use tz_base::moved_year::moved_seconds;
 
 /// How far from 1970 an instant may lie: the two years before its year and the two after it are years in which a rule answers.
 const GREATEST_DISTANCE: i64 = 60_000_000_000_000_000;

@@ -8,7 +8,7 @@ ghost use Rattle.tz_rule.specs.YearTables.{instant_in, entry, next_entry, day_ta
 use super::RuleDay;
 use super::pair_kinds::{self, KINDS, moved_year_start};
 use tz_base::constants::SECONDS_PER_DAY;
-use tz_base::year::moved_year;
+use tz_base::moved_year::moved_year;
 
 /// How many seconds after 00:00 UTC of January 1st an instant of the year lies, for each kind of years.
 #[repr(C)]

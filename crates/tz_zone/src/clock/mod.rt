@@ -6,7 +6,7 @@ mod changes;
 mod lookup;
 mod near;
 mod place;
-mod rule_changes;
+mod changes_by_rule;
 mod segment;
 mod segments;
 mod spans;

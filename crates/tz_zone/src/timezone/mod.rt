@@ -3,13 +3,13 @@
 mod changes_after;
 mod changes_before;
 mod checks;
-pub(crate) mod file;
+pub(crate) mod file_reader;
 mod offsets;
 mod segment;
 mod settings;
 mod zone;
 mod zone_changes;
-mod zone_data;
+mod zone_of_file;
 mod zone_lookup;
 mod zone_name;
 pub(crate) mod zone_parts;
@@ -20,7 +20,7 @@ pub use crate::clock::Change;
 pub use crate::table::{LeapSecond, Transition};
 pub use changes_after::ChangesAfter;
 pub use changes_before::ChangesBefore;
-pub use file::{read_file, read_file_up_to};
+pub use file_reader::{read_file, read_file_up_to};
 pub use segment::Segment;
 pub use settings::{DEFAULT_DIRECTORIES, TimeZoneSettings};
 pub use tz_rule::timezone::{

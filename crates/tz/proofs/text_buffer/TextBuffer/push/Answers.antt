@@ -1,0 +1,14 @@
+-- A text with an ASCII byte after it is a text.
+use Rattle.std.proofs.Common.{◌<◌, [], ◌∷◌, length, rules}
+use Rattle.std.proofs.lemmas.List.{take_more_set}
+use Rattle.std.proofs.lemmas.Str.{IsUtf8-had, IsUtf8-append, IsUtf8-from_ascii}
+use Rattle.std.proofs.lemmas.Str.Ascii.{IsAscii-nil, IsAscii-cons}
+use Rattle.tz.proofs.text_buffer.TextBuffer.push.Goals as goal
+
+pub invariant_of-self : goal.invariant_of-self
+invariant_of-self c =
+    let line = c.self.inside in
+    let within : line.len < length line.bytes = search rules in (
+      search rules,
+      ∣ rw (take_more_set line.bytes line.len c.args.byte within) (IsUtf8-append _ _ (IsUtf8-had _ c.self.invariant.1) (IsUtf8-from_ascii (c.args.byte ∷ []) (IsAscii-cons c.args.byte [] c.requires.ascii IsAscii-nil))) ∣₁,
+    )

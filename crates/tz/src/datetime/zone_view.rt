@@ -1,0 +1,171 @@
+//! Date times and searches in zones of plain data.
+
+ghost use Rattle.std.specs.Prelude.{◌≡◌, ◌≤◌, ◌^◌, List, length, MatchBool, IfOk, IfErr, OnOk};
+ghost use Rattle.tz_base.specs.Fields.{IsValid};
+ghost use Rattle.tz_zone.specs.Clock.{IsClock};
+ghost use Rattle.tz_zone.specs.ZoneViewed.{zone_viewed};
+ghost use Rattle.tz.specs.DateTimes.{ShowsByClock, IsClockFault};
+ghost use Rattle.tz.specs.FindFaults.{IsFarFromEnds, IsFindFault, IsSearchFault};
+ghost use Rattle.tz.specs.Found.{EachCanBeMade, IsFound};
+ghost use Rattle.tz.specs.Meanings.{IsMeaning, IsMeaningFault, IsMeantBy, IsMeantFault};
+ghost use Rattle.tz.specs.Plain.{entries_from, placed};
+ghost use Rattle.tz.specs.declared.datetime.found.FoundDateTimeKind.{FoundDateTimeKind};
+
+use super::date_time_list::DateTimeList;
+use super::find_one::instant;
+use super::plain::FoundData;
+use super::plain_writer::PlainWriter;
+use super::search::search;
+use super::summary::Summary;
+use super::{DateTime, Disambiguation, FoundDateTimeKind};
+use tz_base::constants::NANOSECONDS_PER_SECOND;
+use tz_base::error::TzError;
+use tz_base::error::datetime::DateTimeError;
+use tz_base::fields::Fields;
+use tz_zone::inner::{Uncounted, ZoneView};
+
+/// What the zone's clock shows at a Unix time, as [`DateTime::from_timespec`] answers it.
+#[inline(always)]
+pub fn from_timespec(
+    unix_time: i64,
+    nanoseconds: u32,
+    zone: &ZoneView<'_>,
+) -> Result<DateTime, TzError>
+    ensures ok { IfOk result (ShowsByClock (zone_viewed zone.now) unix_time nanoseconds) }
+    ensures err { IfErr result (IsClockFault (zone_viewed zone.now) unix_time nanoseconds) }
+{
+    if nanoseconds >= NANOSECONDS_PER_SECOND {
+        return Err(TzError::DateTime(DateTimeError::InvalidNanoseconds));
+    }
+    let local_time_type = zone.find_local_time_type(unix_time)?;
+    DateTime::shown_by(unix_time, nanoseconds, *local_time_type)
+}
+
+/// Adds all that is found of valid fields to the list, in order.
+#[inline(always)]
+fn search_view<L: DateTimeList>(
+    list: &mut L,
+    fields: &Fields,
+    zone: &ZoneView<'_>,
+) -> Result<(), TzError>
+    requires { IsValid fields.now }
+    ensures ok { OnOk result ((found : List FoundDateTimeKind) × L.gains list.old list.new found
+        × IsFound (IsClock (zone_viewed zone.now)) fields.now found × (length found ≤ 2 ^ 33)) }
+    ensures made { OnOk result (EachCanBeMade (IsClock (zone_viewed zone.now)) fields.now) }
+    ensures err { IfErr result (IsSearchFault L.takes_memory (IsClock (zone_viewed zone.now)) fields.now) }
+{
+    let mut view = Uncounted::new(zone.transitions());
+    let (least, greatest) = zone.offsets();
+    let parts = zone.other_parts();
+    search(list, fields, &mut view, parts, least, greatest)
+}
+
+/// Whether the year is 200 years or more from both ends of 32 bits.
+fn is_far_from_ends(year: i32) -> bool
+    ensures { MatchBool result (IsFarFromEnds year) (¬ IsFarFromEnds year) }
+{
+    -2_147_483_448 <= year && year <= 2_147_483_447
+}
+
+/// Searches without writing anything. It is a call, so that the search that writes stays small.
+#[cold]
+#[inline(never)]
+fn check_by_search(fields: &Fields, zone: &ZoneView<'_>) -> Result<(), TzError>
+    requires { IsValid fields.now }
+    ensures made { OnOk result (EachCanBeMade (IsClock (zone_viewed zone.now)) fields.now) }
+    ensures err { IfErr result (IsSearchFault ⊥ (IsClock (zone_viewed zone.now)) fields.now) }
+{
+    search_view(&mut Summary::Nothing, fields, zone)
+}
+
+/// Searches for fields near the ends of the years, so that a search that is refused is refused before anything is written.
+#[inline(always)]
+fn check_entries(fields: &Fields, zone: &ZoneView<'_>) -> Result<(), TzError>
+    requires { IsValid fields.now }
+    ensures made { OnOk result (EachCanBeMade (IsClock (zone_viewed zone.now)) fields.now) }
+    ensures err { IfErr result (IsSearchFault ⊥ (IsClock (zone_viewed zone.now)) fields.now) }
+{
+    let (_least, _greatest) = zone.offsets();
+    if is_far_from_ends(fields.year) {
+        return Ok(());
+    }
+    check_by_search(fields, zone)
+}
+
+/// Writes what is found of fields whose entries can all be made.
+#[inline(always)]
+fn fill(slots: &mut [FoundData], skip: usize, fields: &Fields, zone: &ZoneView<'_>) -> usize
+    requires valid { IsValid fields.now }
+    requires made { EachCanBeMade (IsClock (zone_viewed zone.now)) fields.now }
+    ensures { (found : List FoundDateTimeKind) × IsFound (IsClock (zone_viewed zone.now)) fields.now found
+        × (result ≡ length found) × (slots.new ≡ placed slots.old (entries_from skip found)) }
+{
+    let mut writer = PlainWriter::new(slots, skip);
+    match search_view(&mut writer, fields, zone) {
+        Ok(()) => writer.count(),
+        // No entry is refused.
+        Err(_) => 0,
+    }
+}
+
+/// Writes what is found of the fields, from one of the entries on, to the slots, as far as they go, and counts all entries.
+pub fn find_into(
+    slots: &mut [FoundData],
+    skip: usize,
+    fields: &Fields,
+    zone: &ZoneView<'_>,
+) -> Result<usize, TzError>
+    ensures ok { IfOk result (λ count. (found : List FoundDateTimeKind) × IsFound (IsClock (zone_viewed zone.now)) fields.now found
+        × (count ≡ length found) × (slots.new ≡ placed slots.old (entries_from skip found))) }
+    ensures valid { OnOk result (IsValid fields.now) }
+    ensures made { OnOk result (EachCanBeMade (IsClock (zone_viewed zone.now)) fields.now) }
+    ensures kept { IfErr result (λ _. slots.new ≡ slots.old) }
+    ensures err { IfErr result (IsFindFault ⊥ (IsClock (zone_viewed zone.now)) fields.now) }
+{
+    fields.check()?;
+    check_entries(fields, zone)?;
+    Ok(fill(slots, skip, fields, zone))
+}
+
+/// The date time that is meant by an entry.
+fn date_time_of(
+    entry: &FoundDateTimeKind,
+    fields: &Fields,
+    disambiguation: Disambiguation,
+    zone: &ZoneView<'_>,
+) -> Result<DateTime, TzError>
+    requires { IsValid fields.now }
+    ensures ok { IfOk result (IsMeantBy (zone_viewed zone.now) disambiguation fields.now entry.now) }
+    ensures err { IfErr result (IsMeantFault (zone_viewed zone.now) disambiguation fields.now entry.now) }
+{
+    match entry {
+        FoundDateTimeKind::Normal(date_time) => Ok(*date_time),
+        FoundDateTimeKind::Skipped {
+            before_transition,
+            after_transition,
+        } => {
+            let unix_time = instant(fields, disambiguation, before_transition, after_transition);
+            from_timespec(unix_time, fields.nanoseconds, zone)
+        }
+    }
+}
+
+/// The one date time that fields mean, as [`DateTime::find_one`] answers it.
+pub fn find_one(
+    fields: &Fields,
+    disambiguation: Disambiguation,
+    zone: &ZoneView<'_>,
+) -> Result<Option<DateTime>, TzError>
+    ensures ok { IfOk result (IsMeaning (zone_viewed zone.now) disambiguation fields.now) }
+    ensures valid { OnOk result (IsValid fields.now) }
+    ensures made { OnOk result (EachCanBeMade (IsClock (zone_viewed zone.now)) fields.now) }
+    ensures err { IfErr result (IsMeaningFault (zone_viewed zone.now) disambiguation fields.now) }
+{
+    fields.check()?;
+    let mut summary = Summary::Nothing;
+    search_view(&mut summary, fields, zone)?;
+    let Some(entry) = summary.entry(disambiguation) else {
+        return Ok(None);
+    };
+    Ok(Some(date_time_of(&entry, fields, disambiguation, zone)?))
+}
