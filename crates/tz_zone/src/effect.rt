@@ -43,7 +43,7 @@ pub(crate) fn moment(leap_seconds: &[LeapSecond], unix_leap_time: i64) -> i128
     }
 }
 
-/// The moment of a leap time that is reached at some instant, which is one too.
+/// The moment of a leap time that is reached at some instant: then the moment is itself an instant, of 64 bits.
 #[inline(always)]
 pub(crate) fn start_of(leap_seconds: &[LeapSecond], unix_leap_time: i64) -> i64
     requires leaps { AreLeapSeconds leap_seconds.now }

@@ -288,10 +288,10 @@ pub fn leap(leap_seconds: &[LeapSecond], unix_time: i64) -> Result<i64, TzError>
     }
 }
 
-/// Whether each instant of a window has a leap time before another one, by the leap time of its first instant alone.
+/// Whether all instants of a window have a leap time before a given one, by the leap time of the window's first instant alone.
 ///
 /// From one instant to another a leap time grows by no more than three times the seconds between them, and mostly by just these. So a window that
-/// ends long before the other leap time needs no second look at the leap seconds. Without leap seconds the first look costs nothing.
+/// ends long before the given leap time needs no second look at the leap seconds. Without leap seconds the first look costs nothing.
 #[inline(always)]
 pub(crate) fn stay_before(
     leap_seconds: &[LeapSecond],

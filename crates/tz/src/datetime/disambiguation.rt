@@ -1,5 +1,12 @@
 //! Choices between the date times of a local time.
 
+ghost use Rattle.std.specs.Prelude.{◌≡◌};
+ghost use Rattle.tz_base.specs.Fields.{IsValid, reading as reading_of};
+ghost use Rattle.tz.specs.Meanings.{instant_meant};
+
+use super::DateTime;
+use tz_base::fields::Fields;
+
 /// Which date time a local time means if clocks are set forward over it or show it more than once.
 ///
 /// | choice | in a fold, where they show it twice | in a gap, where they skip it |
@@ -22,4 +29,21 @@ pub enum Disambiguation {
     Later,
     /// The only instant at which clocks show it, or none if there are several or if clocks are also set forward over it.
     Reject,
+}
+
+/// The instant that is meant where clocks are set forward over the fields.
+pub(super) fn instant(
+    fields: &Fields,
+    disambiguation: Disambiguation,
+    before: &DateTime,
+    after: &DateTime,
+) -> i64
+    requires { IsValid fields.now }
+    ensures { result ≡ instant_meant disambiguation (reading_of fields.now) before.now after.now }
+{
+    let side = match disambiguation {
+        Disambiguation::Earlier => after,
+        _ => before,
+    };
+    fields.reading() - i64::from(side.local_time_type().ut_offset())
 }

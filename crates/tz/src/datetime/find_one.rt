@@ -1,13 +1,13 @@
 //! The one date time that a local time means.
 
-ghost use Rattle.std.specs.Prelude.{◌≡◌, ◌-ℤ◌, IfOk, IfErr, OnOk};
+ghost use Rattle.std.specs.Prelude.{IfOk, IfErr, OnOk};
 ghost use Rattle.tz_base.specs.Fields.{IsValid};
 ghost use Rattle.tz_zone.specs.Clock.{IsClock};
 ghost use Rattle.tz_zone.specs.ZoneRef.{zone_of};
 ghost use Rattle.tz.specs.Found.{EachCanBeMade};
-ghost use Rattle.tz.specs.Meanings.{IsMeaning, IsMeaningFault, IsMeantBy, IsMeantFault, instant_meant};
-ghost use Rattle.tz_base.specs.Fields.{reading as reading_of};
+ghost use Rattle.tz.specs.Meanings.{IsMeaning, IsMeaningFault, IsMeantBy, IsMeantFault};
 
+use super::disambiguation::instant;
 use super::find::find_in;
 use super::summary::Summary;
 use super::{DateTime, Disambiguation, FoundDateTimeKind, UtcDateTime};
@@ -57,23 +57,6 @@ fn date_time_of(
             DateTime::from_timespec(unix_time, fields.nanoseconds, time_zone_ref)
         }
     }
-}
-
-/// The instant that is meant where clocks are set forward over the fields.
-pub(super) fn instant(
-    fields: &Fields,
-    disambiguation: Disambiguation,
-    before: &DateTime,
-    after: &DateTime,
-) -> i64
-    requires { IsValid fields.now }
-    ensures { result ≡ instant_meant disambiguation (reading_of fields.now) before.now after.now }
-{
-    let side = match disambiguation {
-        Disambiguation::Earlier => after,
-        _ => before,
-    };
-    fields.reading() - i64::from(side.local_time_type().ut_offset())
 }
 
 impl DateTime {

@@ -1,4 +1,4 @@
-//! The search for a reading in the clock of a zone.
+//! The search for a reading in the clock of a zone: in its window, the instants among which it finds all that the reading means.
 
 ghost use Rattle.std.specs.Prelude.{◌≡◌, ◌+◌, ◌*◌, ◌^◌, ◌<◌, ◌≤◌, ℕ, ℤ, pos, List, ◌+ℤ◌, ◌-ℤ◌, ◌≤ℤ◌, ◌<ℤ◌, OnOk, IfErr, length};
 ghost use Rattle.tz_base.specs.Fields.{IsValid, reading as reading_of};
@@ -19,8 +19,6 @@ ghost use Rattle.tz.specs.declared.datetime.found.FoundDateTimeKind.{FoundDateTi
 use super::date_time_list::DateTimeList;
 use super::dated::Dated;
 use super::entries::Entries;
-use super::offsets::offsets;
-use super::window::window;
 use tz_base::error::TzError;
 use tz_base::fields::Fields;
 use tz_zone::inner::{
@@ -187,6 +185,28 @@ fn search_window<'a, E: Entries<'a>, V: Transitions>(
         } => give_around(entries, reading, unix_time, before, after),
         WindowTypes::More(place) => walk(entries, reading, view, parts, place, low, high),
     }
+}
+
+/// Two offsets between which those of all types lie that the clock has.
+fn offsets(zone: TimeZoneRef<'_>) -> (i32, i32)
+    ensures order { result.0 ≤ℤ result.1 }
+    ensures between { AreOffsetsOf (zone_of zone.entry) result.0 result.1 }
+{
+    tz_zone::inner::offsets(&zone)
+}
+
+/// The instants between which a clock with offsets from the least to the greatest one can show a reading, or be set forward over it,
+/// both counted.
+fn window(reading: i64, least: i32, greatest: i32) -> (i64, i64)
+    requires small { IsSmall reading }
+    requires order { least ≤ℤ greatest }
+    ensures low { result.0 ≡ reading -ℤ greatest }
+    ensures high { result.1 ≡ reading -ℤ least }
+    ensures order { result.0 ≤ℤ result.1 }
+    ensures width { (result.1 -ℤ result.0) ≤ℤ pos (2 ^ 32) }
+    ensures reach { result.1 ≤ℤ pos 80000000000000000 }
+{
+    (reading - i64::from(greatest), reading - i64::from(least))
 }
 
 /// The first and the last instant of a reading's window, by the least and the greatest offset of a zone.

@@ -12,7 +12,7 @@ ghost use Rattle.tz.specs.Plain.{entries_from, placed};
 ghost use Rattle.tz.specs.declared.datetime.found.FoundDateTimeKind.{FoundDateTimeKind};
 
 use super::date_time_list::DateTimeList;
-use super::find_one::instant;
+use super::disambiguation::instant;
 use super::plain::FoundData;
 use super::plain_writer::PlainWriter;
 use super::search::search;

@@ -4,8 +4,8 @@ ghost use Rattle.std.specs.Prelude.{◌≡◌, ◌≤◌, ◌≤ℤ◌, ℕ, Lis
 ghost use Rattle.tz_zone.specs.ZoneRef.{zone_of};
 ghost use Rattle.tz_query.specs.Answers.{AreAnswers};
 
-use super::lines::{Query, after_line, read_query, read_usual_search_line, read_usual_time_line};
 use super::line_meaning::Meaning;
+use super::lines::{Query, after_line, read_query, read_usual_search_line, read_usual_time_line};
 use super::nanoseconds::Nanoseconds;
 use super::output::Output;
 use super::page::Page;
@@ -28,7 +28,7 @@ pub struct Answers<'a, A: Allocator + Copy> {
     /// The suffix of the span's type.
     pub suffix: Suffix,
     pub suffixes: Suffixes,
-    /// The last instant that did not lie in the span.
+    /// The last instant that was not in the span, 0 if there was none.
     missed: i64,
     pub output: Output<A>,
 }
@@ -100,7 +100,7 @@ impl<'a, A: Allocator + Copy> Answers<'a, A> {
         }
     }
 
-    /// Keeps it likewise. It is a call, since `T` lines in order need it seldom.
+    /// [`Answers::keep_if_near`] as a call, since `T` lines in order seldom need it.
     #[inline(never)]
     pub fn follow(&mut self, unix_time: i64)
         requires { IsSound self.old }
@@ -191,6 +191,7 @@ pub fn answer<A: Allocator + Copy>(
 {
     let answers = Vec::with_capacity(alloc, queries.len().saturating_mul(2))?;
     let mut answers = Answers::new(alloc, zone, answers);
+    // Any segment of the clock will do: the first line replaces it if it lies elsewhere.
     answers.keep_segment(0);
     let mut rest = queries;
     while !rest.is_empty() {

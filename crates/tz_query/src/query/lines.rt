@@ -73,7 +73,7 @@ pub fn read_query(queries: &[u8]) -> Option<(Query, &[u8])>
 
 /// The instant of the first line, if it is a `T` line of usual numbers, and the bytes after it. Its nanoseconds are copied.
 ///
-/// Lines that end in the last bytes of the queries are none: so no read tests where the bytes end.
+/// A line that begins in the last 47 bytes is left to [`read_query`]: so no read here has to test where the queries end.
 #[inline(always)]
 pub fn read_usual_time_line<'a>(queries: &'a [u8], nine: &mut [u8; 9]) -> Option<(i64, &'a [u8])>
     ensures line { IfSome result (λ r. (n : ℕ) × (n < 1000000000) × (nine.new ≡ nine_digits n)

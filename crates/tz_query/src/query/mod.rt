@@ -1,9 +1,9 @@
 //! Queries, a line each, and their answers.
 
 mod answers;
-mod lines;
-mod line_meaning;
 mod error_names;
+mod line_meaning;
+mod lines;
 mod nanoseconds;
 mod numbers;
 mod output;

@@ -4,8 +4,8 @@ ghost use Rattle.std.specs.Prelude.{◌≡◌, ◌≤◌, ◌⊎◌, ◌∷◌, 
 ghost use Rattle.std.specs.List.{All};
 
 use super::answers::Answers;
-use super::line_meaning::Meaning;
 use super::error_names::field_fault_name;
+use super::line_meaning::Meaning;
 use super::nanoseconds::Nanoseconds;
 use super::output::Output;
 use super::suffixes::Suffix;

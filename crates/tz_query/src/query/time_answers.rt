@@ -94,7 +94,7 @@ impl<'a, A: Allocator + Copy> Answers<'a, A> {
         self.output.push_instant(unix_time, nanoseconds, suffix)
     }
 
-    /// Answers an instant by a lookup, whose error is the answer if there is no type.
+    /// Looks an instant up once more, for the error: [`type_at`] keeps none.
     #[cold]
     #[inline(never)]
     fn answer_by_lookup(

@@ -1,6 +1,6 @@
 //! Finds two years that show why parts are inconsistent: the start and the end have different orders in them.
 //!
-//! Nothing is refused here. `alternate.rt` refuses such parts, by the checks in `parts.rt` (ranges) and `pairing.rt` (the order over all years).
+//! `order_over_years.rt` determines whether there are such years.
 
 ghost use Rattle.std.specs.Prelude.{ℤ, pos, ◌+ℤ◌, ◌≤ℤ◌, ◌<ℤ◌, IfSome, IfNone};
 ghost use Rattle.tz_rule.specs.Pairing.{IsConflict};

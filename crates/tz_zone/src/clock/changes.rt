@@ -16,9 +16,9 @@ ghost use Rattle.tz_zone.specs.ZoneSeen.{zone_seen};
 
 use super::after_table::after_table;
 use super::change::{Change, change_at};
+use super::changes_by_rule::{following_by_rule, preceding_by_rule};
 use super::near::{place_near, place_of};
 use super::place::{type_before, type_of};
-use super::changes_by_rule::{following_by_rule, preceding_by_rule};
 use crate::effect::{moment, start_of};
 use crate::leap_time::{first_instant, has_begun, last_instant_up_to, shifted};
 use crate::table::{LeapSecond, OtherParts, Transition, Uncounted};

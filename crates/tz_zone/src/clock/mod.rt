@@ -3,10 +3,10 @@
 mod after_table;
 mod change;
 mod changes;
+mod changes_by_rule;
 mod lookup;
 mod near;
 mod place;
-mod changes_by_rule;
 mod segment;
 mod segments;
 mod spans;

@@ -50,7 +50,7 @@ fn place_after_look<V: Transitions>(
     }
 }
 
-/// The place among twice as many from one on, which comes to be among so many, by a look at the transition in the middle.
+/// Of twice `count` places from one on, the first of the `count` among which the leap time's place is, by a look at the transition in the middle.
 #[inline(always)]
 fn half<V: Transitions>(view: &mut V, place: usize, count: usize, unix_leap_time: i64) -> usize
     requires rising { IsRising (V.list view.old) }
@@ -62,14 +62,14 @@ fn half<V: Transitions>(view: &mut V, place: usize, count: usize, unix_leap_time
     ensures kept { V.looks view.old ≤ V.looks view.new }
     ensures at_most { V.looks view.new ≤ V.looks view.old + 1 }
 {
-    // This read tells the proof that the sum fits.
+    // By this read the proof knows that the sum fits.
     let _len = view.len();
     place_after_look(view, place, place + count, unix_leap_time)
 }
 
-/// The place among as many as a power of two, which comes to be among as many as a smaller power of two.
+/// Halves `count` places from one on until `least` of them are left, both powers of two, and returns the first of these.
 ///
-/// A step of the halving compares once, needs no branch for the last step, and moves one number.
+/// A step compares once, needs no branch for the last step, and changes one number.
 #[inline(always)]
 fn halved<V: Transitions>(
     view: &mut V,
@@ -95,7 +95,7 @@ fn halved<V: Transitions>(
     place
 }
 
-/// The place among 128 of them, by seven looks. Each distance is a constant, so a step takes five instructions and no branch.
+/// The place of a leap time among 128, by seven looks. Each distance is a constant, so a step takes five instructions and no branch.
 #[inline(always)]
 fn place_in_block<V: Transitions>(view: &mut V, place: usize, unix_leap_time: i64) -> usize
     requires rising { IsRising (V.list view.old) }
@@ -185,7 +185,7 @@ pub(super) fn place_at<V: Transitions>(
     Some(place_of(view, last, unix_leap_time))
 }
 
-/// The last transition before a place. Where there is none, it is one from the least leap time on, to type number 0.
+/// The last transition before a place. If there is none, one at the least leap time, to the first type.
 #[inline(always)]
 pub(super) fn before<V: Transitions>(view: &mut V, place: usize) -> Transition
     requires { place ≤ length (V.list view.old) }
@@ -210,7 +210,7 @@ pub(super) fn type_of<'a>(parts: OtherParts<'a>, change: Transition) -> &'a Loca
     &parts.local_time_types[change.local_time_type_index()]
 }
 
-/// The type of the last transition before a place, or type number 0 where there is none.
+/// The type of the last transition before a place, or the first type if there is none.
 #[inline(always)]
 pub(super) fn type_before<'a, V: Transitions>(
     view: &mut V,

@@ -17,16 +17,16 @@ use tz_rule::timezone::LocalTimeType;
 /// How far a walk along a clock has come.
 #[derive(Clone, Copy)]
 pub struct Stage<'a> {
-    /// So many transitions are reached. The next one may be reached, too: then its span is empty.
+    /// So many transitions are reached. The next one is reached too if two take effect at one instant: the span between them is empty.
     pub place: usize,
-    /// The type of the last one of them, or type number 0.
+    /// The type of the last of them, or the first type.
     pub local_time_type: &'a LocalTimeType,
 }
 
 /// A span of time through which a clock has one type, or none.
 #[derive(Clone, Copy)]
 pub struct Span<'a> {
-    /// The last instant. The span is empty if that comes before the instant at which it begins.
+    /// The last instant, which is before the first one in an empty span.
     pub last: i64,
     /// The type, where the clock has one.
     pub local_time_type: Option<&'a LocalTimeType>,
@@ -34,8 +34,8 @@ pub struct Span<'a> {
     pub next: Stage<'a>,
 }
 
-/// The first instant from another one on that has a leap time, and the stage of a walk that begins there. The place of the other one is known, if it
-/// has a leap time itself.
+/// The first instant from `unix_time` on that has a leap time, and the stage of a walk that begins there. `place` is that of `unix_time`, if it has a
+/// leap time itself.
 #[inline(always)]
 pub fn first_stage<'a, V: Transitions>(
     view: &mut V,

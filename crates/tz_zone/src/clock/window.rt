@@ -19,7 +19,7 @@ use tz_rule::timezone::LocalTimeType;
 pub enum WindowTypes<'a> {
     /// One type throughout.
     One(&'a LocalTimeType),
-    /// One type up to a jump, and another from there on.
+    /// One type up to an instant, and another from there on.
     Two {
         /// The instant from which on the clock has the second type.
         unix_time: i64,

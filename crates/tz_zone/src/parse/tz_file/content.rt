@@ -16,7 +16,7 @@ use tz_base::error::TzError;
 use tz_base::error::parse::TzFileError;
 use tz_rule::timezone::LocalTimeType;
 
-/// The transition of a record, whose time has a size that the caller knows.
+/// The transition of a record. The size of its time is an argument, so that a caller with a constant has a loop of its own without a test.
 #[inline(always)]
 #[tactic(auto, unfolding(crate::specs::TzFile::change_at))]
 fn transition_at(size: TimeSize, part: &Part<'_>, index: u32) -> Transition
@@ -31,7 +31,7 @@ fn transition_at(size: TimeSize, part: &Part<'_>, index: u32) -> Transition
     Transition::new(unix_leap_time, usize::from(local_time_type_index))
 }
 
-/// Whether those before it are in order, and the transition comes after the last of them and names one of the types, whose number is given.
+/// Whether those before it are in order, and the transition comes after the last of them and names one of so many types.
 #[inline(always)]
 fn is_in_order(are_in_order: bool, last: Transition, transition: Transition, types: usize) -> bool
     ensures { IsTrue result → IsTrue are_in_order × (last.unix_leap_time <ℤ transition.unix_leap_time) × (transition.type_index < types) }
@@ -114,14 +114,14 @@ fn read_type(part: &Part<'_>, index: u32) -> Result<LocalTimeType, TzError>
     Ok(local_time_type)
 }
 
-/// Transitions, and whether they are known to name types and to come in order.
+/// Transitions, and whether they are known to name types and to come in order: if not, the check of the zone looks at each.
 #[derive(Drop)]
 pub(super) struct Transitions<A: Allocator + Copy> {
     pub(super) items: Vec<Transition, A>,
     pub(super) are_in_order: bool,
 }
 
-/// The transitions, in their order, whose times have a size that the caller knows. Each is looked at once, while it is read.
+/// The transitions, in their order, with times of a size that the caller knows. Each is looked at once, while it is read.
 #[inline(always)]
 fn read_transitions_of<A: Allocator + Copy>(
     alloc: A,
