@@ -58,12 +58,6 @@ returns-then-unix_time-first-clause-within c = λ inner likely.
     let from = over_before_likely last c.args.unix_time y likely (inner (not c.args.end_is_first)) in
     (omega (arith, ints, to_z-of_z w64 c.turn_in_moved.result from_fits, c.turn_in_moved.ensures, ap last year_before, from), omega (arith, ints, to_z-of_z w64 c.turn_in_moved-first.result until_fits, c.if-unix_time-first.true))
 
-pub returns-then-unix_time-second-clause-within : goal.returns-then-unix_time-second-clause-within
-returns-then-unix_time-second-clause-within c = λ inner likely.
-    let from_fits : SFits w64 c.turn_in_moved-first.result = search rules in
-    let until_fits : SFits w64 c.turn_in_moved-second.result = search rules in
-    (omega (arith, ints, to_z-of_z w64 c.turn_in_moved-first.result from_fits, c.if-unix_time-first.false), omega (arith, ints, to_z-of_z w64 c.turn_in_moved-second.result until_fits, c.if-unix_time-second.true))
-
 pub returns-clause-within : goal.returns-clause-within
 returns-clause-within c = λ inner likely.
     let n = c.args.years in

@@ -31,9 +31,6 @@ loop-index-init c =
       is_daylight = refl;
     }
 
-pub cut-segment-requires : goal.cut-segment-requires
-cut-segment-requires c = c.loop-index.invariant.segment.within
-
 pub loop-index-preserved : goal.loop-index-preserved
 loop-index-preserved c =
     let r = c.args.self.now in
@@ -73,6 +70,3 @@ returns-clause-of c =
     let starts = in_five_years (λ x. IsNotInside s (start_of r x)) y c.loop-index.index c.loop-index-test.false (rw year at i.starts) in
     let ends = in_five_years (λ x. IsNotInside s (end_of r x)) y c.loop-index.index c.loop-index-test.false (rw year at i.ends) in
     type_within r sound.rule.in_range sound.days u y c.requires.0 s segment starts ends (rw i.is_daylight (rw unix at c.is_daylight.ensures))
-
-pub returns-clause-within : goal.returns-clause-within
-returns-clause-within c = rw (to_z-of_z w64 c.args.unix_time c.ranges.unix_time) at c.loop-index.invariant.segment.within

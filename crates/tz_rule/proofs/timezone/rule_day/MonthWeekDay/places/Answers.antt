@@ -1,5 +1,5 @@
 -- The place in the month is added to the days before the month.
-use Rattle.std.proofs.Common.{◌≡◌, ◌∙◌, ℕ, ◌+◌, ◌-◌, ◌%◌, ◌≤◌, refl, sym, ap, inl, inr, get_or, arith, rules}
+use Rattle.std.proofs.Common.{◌≡◌, ◌∙◌, ◌+◌, ◌-◌, ◌%◌, ◌≤◌, refl, sym, ap, inl, inr, get_or, arith, rules}
 use Rattle.std.proofs.lemmas.Bool.{cases_lt}
 use Rattle.std.proofs.lemmas.Grind.{get_or-set_at}
 use Rattle.std.proofs.lemmas.List.{get_or-set_other}
@@ -31,25 +31,6 @@ returns-clause-bound c = λ w below.
 
 pub overflow_sub-days : goal.overflow_sub-days
 overflow_sub-days c = omega (arith, c.days_of_month-days.ensures, (month_length-bounds c.args.leap c.self.inside.month).0)
-
-pub loop-week_day-init : goal.loop-week_day-init
-loop-week_day-init c =
-    let d = c.self.inside in
-    let before = c.days_before_month-before.result in
-    let days = c.days_of_month-days.result in
-    let bounds = month_length-bounds c.args.leap d.month in
-    let low : 28 ≤ days = omega (arith, c.days_of_month-days.ensures, bounds.0) in
-    let high : days ≤ 31 = omega (arith, c.days_of_month-days.ensures, bounds.1) in
-    let first = (d.week_day + 7 - before % 7) % 7 in
-    let place : c.nth_place.result ≡ nth_place first days d.week = c.nth_place.ensures.value in
-    let within = place_within first days d.week (omega arith) low high c.self.invariant.week_is.0 c.self.invariant.week_is.1 in
-    let same : first ≡ (d.week_day + 7 - (0 + before) % 7) % 7 = omega arith in
-    rw (← c.self.view_is) (record {
-      size = refl;
-      within = rw (c.from.ensures, c.min.ensures, c.from-2.ensures, place) (moved_within before (nth_place first days d.week) (least_place days d.week) within);
-      next = rw (c.from-2.ensures, place) (ap (λ (n : ℕ). before + nth_place n days d.week) same);
-      made = λ k below. absurd (omega (arith, below));
-    })
 
 pub loop-week_day-preserved : goal.loop-week_day-preserved
 loop-week_day-preserved c =
