@@ -9,9 +9,8 @@ pub returns : goal.returns
 returns c =
     let s = c.args.segment in
     let within = c.requires.within in
-    let from_fits : SFits w64 s.from = search rules in
     let until_fits : SFits w64 s.until = search rules in
-    let from = to_z-of_z w64 s.from from_fits in
+    let from = to_z-of_z w64 s.from (search rules) in
     let until = to_z-of_z w64 s.until until_fits in
     let last : to_z w64 (of_z w64 (to_z w64 (of_z w64 s.until) -ℤ pos 1)) ≡ s.until -ℤ pos 1 = omega (arith, ints, until, until_fits, within.1) in
     let past : s.until -ℤ pos 1 +ℤ pos 1 ≡ s.until = omega (arith, ints) in

@@ -2,7 +2,6 @@
 use Rattle.std.proofs.Common.{◌∙◌, rules}
 use Rattle.std.proofs.lemmas.Int.{to_z-of_z}
 use mir.Syntax.{w32, w64}
-use mir.Val.{SFits}
 use Rattle.tz_rule.specs.Alternate.{turn_of}
 use Rattle.tz_rule.proofs.YearlyInstants.{IsYearly-turn_of, near_year}
 use Rattle.tz_rule.proofs.YearsApart.{instant_in-is}
@@ -10,9 +9,8 @@ use Rattle.tz_rule.proofs.timezone.alternate_clock.AlternateClock.turn_in.Goals 
 
 pub returns-clause-value : goal.returns-clause-value
 returns-clause-value c =
-    let fits : SFits w64 c.in_year.result = search rules in
     let found = rw (to_z-of_z w32 c.args.year c.ranges.year) at c.in_year.ensures in
-    rw (to_z-of_z w64 c.in_year.result fits) (found ∙ instant_in-is _ _ c.turns.ensures c.args.year)
+    rw (to_z-of_z w64 c.in_year.result (search rules)) (found ∙ instant_in-is _ _ c.turns.ensures c.args.year)
 
 pub returns-clause-bound : goal.returns-clause-bound
 returns-clause-bound c =
