@@ -19,12 +19,12 @@ module _ (f : ℤ → ℤ) (u year : ℤ) (likely : IsLikelyYear u year) (inner 
   pub over_before_likely : f (year -ℤ pos 1) ≤ℤ u
   over_before_likely =
       let last = inner (year -ℤ pos 1) in
-      omega (arith, ints, last.1, likely.0, first_day-mono (year -ℤ pos 1) year 1 (omega (arith, ints)))
+      omega (arith, ints, last.1, likely.0, first_day-mono (year -ℤ pos 1) year (omega (arith, ints)))
 
   pub to_come_after_likely : u <ℤ f (year +ℤ pos 1)
   to_come_after_likely =
       let next = inner (year +ℤ pos 1) in
-      omega (arith, ints, next.0, likely.1, first_day-mono year (year +ℤ pos 1) 1 refl)
+      omega (arith, ints, next.0, likely.1, first_day-mono year (year +ℤ pos 1) (omega (arith, ints)))
 
 -- the bounds of one kind more
 pub least_entry-next : (table : List ℤ) (kinds : ℕ) → least_entry table (kinds + 1) ≡ int_min (least_entry table kinds) (entry table kinds)

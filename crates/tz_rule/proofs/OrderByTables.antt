@@ -12,7 +12,7 @@ use Rattle.tz_rule.specs.Pairing.{IsConflict, IsInconsistent}
 use Rattle.tz_rule.specs.YearTables.{IsTableOf, entry, next_entry, seconds_in_kind, day_table, start_table, end_table, ComesFirst, ComesBeforeNext, ComesAfterNext, ChangesOrder}
 use Rattle.tz_rule.specs.declared.timezone.rule_day.RuleDay.{RuleDay}
 use Rattle.tz_rule.proofs.PairKinds.{year_kind-below, year_kind-leap, year_kind-week_day, pair_of, pair_occurs, kind_occurs}
-use Rattle.tz_rule.proofs.YearlyInstants.{IsYearly, place_of, local_instant, local_instant-is, IsYearly-start_of, IsYearly-end_of, consistent_from_near}
+use Rattle.tz_rule.proofs.YearlyInstants.{IsYearly, place_of, local_instant, local_instant-is, IsYearly-start_of, IsYearly-end_of, consistent_from_near, none_near}
 
 -- the tables that are made are those of starts and ends
 
@@ -84,7 +84,7 @@ module _ (f g : ℤ → ℤ) (a b : List ℤ) (ta : IsTableOf f a) (tb : IsTable
       (x.0 +ℤ pos 1, y.0 +ℤ pos 1, negsuc 0, (omega (arith, ints, ap g y_back, y.1), omega (arith, ints, ap g x_back, x.1)))
 
   pub consistent_by_tables : IsYearly f → IsYearly g → ¬ ChangesOrder a b → ¬ IsInconsistent f g
-  consistent_by_tables yf yg none = consistent_from_near f g yf yg same after before
+  consistent_by_tables yf yg none = consistent_from_near f g yf yg (none_near f g same after before)
     where
       same : (x y : ℤ) → ¬ IsConflict f g x y (pos 0)
       same x y (first, last) =

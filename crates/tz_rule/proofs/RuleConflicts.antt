@@ -1,6 +1,5 @@
 -- The years in which the tables of a rule conflict are those in which its starts and ends do.
-use Rattle.std.proofs.Common.{◌≡◌, arith, ℤ, pos, negsuc, List, Option}
-use Rattle.std.proofs.lemmas.Int.{ints}
+use Rattle.std.proofs.Common.{◌≡◌, ℤ, List, Option}
 use Rattle.std.proofs.lemmas.Option.{IfSome_then}
 use Rattle.std.specs.Option.{IfSome, IfNone}
 use Rattle.tz_rule.specs.Alternate.{AlternateTime, start_of, end_of, IsInRuleRange, AreRuleDays}
@@ -24,9 +23,7 @@ module _ (r : AlternateTime) (days : AreRuleDays r) (starts ends : List ℤ) (st
   consistent_by_years : ((k : ℤ) → IsNear k → (x y : ℤ) → ¬ IsConflict (instant_in starts) (instant_in ends) x y k) → IsInRuleRange r → ¬ IsInconsistent (start_of r) (end_of r)
   consistent_by_years none range =
       consistent_from_near (start_of r) (end_of r) (IsYearly-start_of r range days.start_is) (IsYearly-end_of r range days.end_is)
-      (λ x y c. none (pos 0) (omega (arith, ints)) x y (conflict_by_tables (start_of r) (end_of r) starts ends starts_tell ends_tell x y (pos 0) c))
-      (λ x y c. none (pos 1) (omega (arith, ints)) x y (conflict_by_tables (start_of r) (end_of r) starts ends starts_tell ends_tell x y (pos 1) c))
-      (λ x y c. none (negsuc 0) (omega (arith, ints)) x y (conflict_by_tables (start_of r) (end_of r) starts ends starts_tell ends_tell x y (negsuc 0) c))
+      (λ k near x y c. none k near x y (conflict_by_tables (start_of r) (end_of r) starts ends starts_tell ends_tell x y k c))
 
   pub no_rule_conflict : IfNone found ((k : ℤ) → IsNear k → (x y : ℤ) → ¬ IsConflict (instant_in starts) (instant_in ends) x y k) → IfNone found (¬ (IsInRuleRange r × IsInconsistent (start_of r) (end_of r)))
   no_rule_conflict = IfNone-weaker found (λ none (range, inconsistent). consistent_by_years none range inconsistent)

@@ -1,5 +1,5 @@
 -- Where a rule's turns lie far inside their years, the turns of the likely year and of one neighbour determine the next change and the last one.
-use Rattle.std.proofs.Common.{◌≡◌, refl, sym, arith, Bool, true, false, not, MatchBool, ℤ, pos, negsuc, ◌+ℤ◌, ◌-ℤ◌, ◌≤ℤ◌, ◌<ℤ◌}
+use Rattle.std.proofs.Common.{◌≡◌, refl, arith, Bool, true, false, not, MatchBool, ℤ, pos, negsuc, ◌+ℤ◌, ◌-ℤ◌, ◌≤ℤ◌, ◌<ℤ◌}
 use Rattle.std.proofs.lemmas.Int.{ints}
 use Rattle.tz_base.proofs.DateOrder.{first_day-mono}
 use Rattle.tz_rule.specs.Alternate.{AlternateTime, start_of, end_of, turn_of, IsInRuleRange, AreRuleDays}
@@ -41,14 +41,14 @@ module _ (r : AlternateTime) (range : IsInRuleRange r) (days : AreRuleDays r) (i
 
   -- from the second one of a year up to the first one of the next
   between : (last next : ℤ) → next ≡ last +ℤ pos 1 → negsuc 2147483644 ≤ℤ last → next ≤ℤ pos 2147483644 → IsWholeSegment r (record { from = second last; until = first next; is_daylight = b })
-  between last next follows low high = segment_between_years r range days last next (second last) (first next) (low, omega (arith, ints, follows, high)) (omega (arith, ints, follows, low), high) b order refl refl follows
+  between last next follows low high = segment_between_years r range days b order last next (low, omega (arith, ints, follows, high)) (omega (arith, ints, follows, low), high) follows
 
   within : (year : ℤ) → negsuc 2147483644 ≤ℤ year → year ≤ℤ pos 2147483644 → IsWholeSegment r (record { from = first year; until = second year; is_daylight = not b })
-  within year low high = segment_in_year r range days year (first year) (second year) (low, high) b order refl refl
+  within year low high = segment_in_year r range days b order year (low, high)
 
   -- all turns of a year come before those of the next
   apart : (last next : ℤ) → next ≡ last +ℤ pos 1 → second last <ℤ first next
-  apart last next follows = omega (arith, ints, (inner (not b) last).1, (inner b next).0, first_day-mono last next 1 (sym follows))
+  apart last next follows = omega (arith, ints, (inner (not b) last).1, (inner b next).0, first_day-mono last next (omega (arith, ints, follows)))
 
   pub turn_before_first : u <ℤ first y → first y <ℤ second y → IsTurnAfter r u (first y) (not b)
   turn_before_first here next =

@@ -6,7 +6,7 @@ use mir.Val.{SFits}
 use Rattle.tz_base.specs.Fields.{IsCivil, IsReading}
 use Rattle.tz_base.specs.declared.fields.Fields.{Fields}
 use Rattle.tz_base.proofs.DaysOfYears.{day_in_year, first_day_bounds}
-use Rattle.tz_base.proofs.DateOrder.{first_day-mono, gap_between}
+use Rattle.tz_base.proofs.DateOrder.{first_day-mono}
 use Rattle.tz_rule.specs.Alternate.{IsUtcYear, IsRuleYear}
 
 pub IsUtcYear-from_civil : (u : ℤ) (n : ℕ) (f : Fields) → IsCivil u n f → IsUtcYear u f.year
@@ -20,9 +20,7 @@ utc_year_unique u x y a b =
     by_lt_z x y (λ h. absurd (apart x y h a b)) (λ h. by_lt_z y x (λ h'. absurd (apart y x h' b a)) (λ h'. omega (arith, ints)))
   where
     apart : (x y : ℤ) → x <ℤ y → IsUtcYear u x → IsUtcYear u y → ⊥
-    apart x y h a b =
-        let gap = gap_between x y h in
-        omega (arith, ints, a.1, b.0, first_day-mono (x +ℤ pos 1) y gap.0 gap.1)
+    apart x y h a b = omega (arith, ints, a.1, b.0, first_day-mono (x +ℤ pos 1) y (omega (arith, ints)))
 
 SFits-from_rule_year : (y : ℤ) → IsRuleYear y → SFits w32 y
 SFits-from_rule_year (pos n) h = record { sfits = omega (arith, ints) }

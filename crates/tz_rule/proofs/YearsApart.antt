@@ -88,12 +88,3 @@ module _ (f g : ℤ → ℤ) (a b : List ℤ) (ta : IsTableOf f a) (tb : IsTable
     omega (arith, ints, first, instant_in-is f a ta y, instant_in-is g b tb (y +ℤ k)),
     omega (arith, ints, last, instant_in-is f a ta x, instant_in-is g b tb (x +ℤ k)),
   )
-
--- the three distances are all that are near
-pub none_near : (f g : ℤ → ℤ) → ((x y : ℤ) → ¬ IsConflict f g x y (pos 0)) → ((x y : ℤ) → ¬ IsConflict f g x y (pos 1)) → ((x y : ℤ) → ¬ IsConflict f g x y (negsuc 0))
-    → (k : ℤ) → IsNear k → (x y : ℤ) → ¬ IsConflict f g x y k
-none_near f g same after before (pos zero) near = same
-none_near f g same after before (pos (suc zero)) near = after
-none_near f g same after before (pos (suc (suc n))) near = absurd (omega (arith, ints, near.1))
-none_near f g same after before (negsuc zero) near = before
-none_near f g same after before (negsuc (suc n)) near = absurd (omega (arith, ints, near.0))
