@@ -1,11 +1,11 @@
 -- The number of a day, counted from the March 1st before it.
-use Rattle.std.proofs.Common.{◌*ℤ◌, ◌≡◌, ℕ, ◌+◌, ◌-◌, ◌<◌, ◌≤◌, Bool, true, false, cond, inl, inr, ap, arith, ℤ, pos, negsuc, ◌+ℤ◌, ◌-ℤ◌, ◌≤ℤ◌}
+use Rattle.std.proofs.Common.{◌≡◌, ℕ, ◌+◌, ◌-◌, ◌<◌, ◌≤◌, Bool, cond, inl, inr, ap, arith, ℤ, pos, negsuc, ◌+ℤ◌, ◌-ℤ◌, ◌≤ℤ◌}
 use Rattle.std.proofs.lemmas.Int.{ints}
 use Rattle.std.proofs.lemmas.Bool.{cases_lt}
 use mir.Syntax.{w32}
 use mir.Val.{SFits}
 use Rattle.tz_base.specs.Cycles.{days_of_march_years}
-use Rattle.tz_base.specs.Days.{is_leap, year_length, months_length, day_number}
+use Rattle.tz_base.specs.Days.{is_leap, months_length, day_number}
 use Rattle.tz_base.proofs.YearStarts.{is_leap-moved, first_day-moved}
 use Rattle.tz_base.proofs.MarchYears.{days_of_years-next, days_of_years-same}
 use Rattle.tz_base.proofs.MonthsFromMarch.{months_length-bound}
