@@ -22,14 +22,17 @@ abbrev pub HasTypeOrNone : TransitionRule → ℤ → Option (Bor LocalTimeType)
 HasTypeOrNone rule v type = MatchOption type ((t : LocalTimeType) → ¬ IsRuleType rule v t) (λ t. IsRuleType rule v t.now)
 
 module _ (rule : TransitionRule) where
-  -- no change lies inside a span of one type, or of none
-  pub none_within : (low high : ℤ) (type : Option (Bor LocalTimeType)) → ((v : ℤ) → low ≤ℤ v → v ≤ℤ high → HasTypeOrNone rule v type) → HasNoTypeChange rule low high
-  none_within low high (Some t) holds c above up_to change =
+  -- no change is inside a span of one type, or of none
+  none_of_type : (low high : ℤ) (t : LocalTimeType) → ((v : ℤ) → low ≤ℤ v → v ≤ℤ high → IsRuleType rule v t) → HasNoTypeChange rule low high
+  none_of_type low high t holds c above up_to change =
       let v = c.unix_time -ℤ pos 1 in
-      let before = rule_type_unique rule v c.before t.now change.before_is (holds v (omega (arith, ints, above)) (omega (arith, ints, up_to))) in
-      let after = rule_type_unique rule c.unix_time c.after t.now change.after_is (holds c.unix_time (omega (arith, ints, above)) up_to) in
+      let before = rule_type_unique rule v c.before t change.before_is (holds v (omega (arith, ints, above)) (omega (arith, ints, up_to))) in
+      let after = rule_type_unique rule c.unix_time c.after t change.after_is (holds c.unix_time (omega (arith, ints, above)) up_to) in
       change.differ (before ∙ sym after)
-  none_within low high None holds c above up_to change = holds (c.unix_time -ℤ pos 1) (omega (arith, ints, above)) (omega (arith, ints, up_to)) c.before change.before_is
+
+  pub none_within : (low high : ℤ) (type : Option (Bor LocalTimeType)) → ((v : ℤ) → low ≤ℤ v → v ≤ℤ high → HasTypeOrNone rule v type) → HasNoTypeChange rule low high
+  none_within low high (Some t) holds = none_of_type low high t.now holds
+  none_within low high None holds = λ c above up_to change. holds (c.unix_time -ℤ pos 1) (omega (arith, ints, above)) (omega (arith, ints, up_to)) c.before change.before_is
 
   -- nor where a span goes on at an instant without one
   pub none_joined : (low last next high : ℤ) → next ≡ last +ℤ pos 1 → HasNoTypeChange rule low last → ((c : TypeChange) → c.unix_time ≡ next → ¬ IsTypeChange rule c) → HasNoTypeChange rule next high → HasNoTypeChange rule low high
@@ -98,16 +101,12 @@ module _ (r : AlternateTime) (differ : r.std ≢ r.dst) (turn : ℤ) (is_start :
   turn_is_change_after u up_to at = record {
     is = is_change up_to (at.before_is (turn -ℤ pos 1) (omega (arith, ints, at.above)) (omega (arith, ints))) at.after_is;
     above = at.above;
-    least = λ d above below found. found.differ (
-        rule_type_unique (Alternate r) (d.unix_time -ℤ pos 1) d.before (type_by r (not is_start)) found.before_is (at.before_is (d.unix_time -ℤ pos 1) (omega (arith, ints, above)) (omega (arith, ints, below)))
-        ∙ sym (rule_type_unique (Alternate r) d.unix_time d.after (type_by r (not is_start)) found.after_is (at.before_is d.unix_time (omega (arith, ints, above)) (omega (arith, ints, below)))));
+    least = none_of_type (Alternate r) u (turn -ℤ pos 1) (type_by r (not is_start)) (λ v low high. at.before_is v low (omega (arith, ints, high)));
   }
 
   pub turn_is_change_up_to : (u : ℤ) → u ≤ℤ pos 9223372036854775807 → IsTurnUpTo r u turn is_start → IsChangeUpTo (Alternate r) u change
   turn_is_change_up_to u high at = record {
     is = is_change (omega (arith, ints, at.up_to, high)) at.before_is (at.after_is turn (omega (arith, ints)) at.up_to);
     up_to = at.up_to;
-    greatest = λ d above below found. found.differ (
-        rule_type_unique (Alternate r) (d.unix_time -ℤ pos 1) d.before (type_by r is_start) found.before_is (at.after_is (d.unix_time -ℤ pos 1) (omega (arith, ints, above)) (omega (arith, ints, below)))
-        ∙ sym (rule_type_unique (Alternate r) d.unix_time d.after (type_by r is_start) found.after_is (at.after_is d.unix_time (omega (arith, ints, above)) below)));
+    greatest = none_of_type (Alternate r) turn u (type_by r is_start) at.after_is;
   }

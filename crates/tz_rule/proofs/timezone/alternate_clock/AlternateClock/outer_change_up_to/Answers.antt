@@ -32,15 +32,6 @@ returns-in-Some c =
     let found = (rw (to_z-of_z w64 s.from fits) at c.in-Some.ensures) rule (omega (arith, ints, c.loop-segment-test.true, fits)) (before.holds (s.from -ℤ pos 1) before.within.0 before.within.1) so_far.type in
     is_change_up_to rule c.args.unix_time s.from (type_change_of c.in-Some.change) so_far.order so_far.none found.0 found.1
 
-pub loop-segment-smaller : goal.loop-segment-smaller
-loop-segment-smaller c =
-    let s = c.loop-segment.segment in
-    let b = c.segment-before.result in
-    let fits = c.loop-segment.invariant.fits in
-    let before_fits : SFits w64 b.from = search rules in
-    let earlier : to_z w64 (of_z w64 (to_z w64 (of_z w64 s.from) -ℤ pos 1)) ≡ s.from -ℤ pos 1 = omega (arith, ints, c.loop-segment-test.true, fits) in
-    omega (arith, ints, earlier, c.segment-before.ensures.within.0, fits, before_fits)
-
 pub loop-segment-preserved : goal.loop-segment-preserved
 loop-segment-preserved c =
     let rule = Alternate c.args.self.now in
