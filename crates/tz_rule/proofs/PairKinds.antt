@@ -1,5 +1,5 @@
 -- Each year has one of 14 kinds, and with the next year one of 21 pair kinds, and each of these occurs.
-use Rattle.std.proofs.Common.{◌≡◌, ℕ, ◌+◌, ◌%◌, ◌<◌, Bool, true, false, cond, ltb, eqb, ◌&&◌, not, refl, sym, ap, ◌∙◌, arith, ℤ, pos, ◌+ℤ◌}
+use Rattle.std.proofs.Common.{◌≡◌, ℕ, ◌+◌, ◌%◌, ◌<◌, Bool, true, false, cond, ltb, eqb, ◌&&◌, refl, sym, ap, ◌∙◌, arith, ℤ, pos, ◌+ℤ◌}
 use Rattle.std.proofs.lemmas.Bool.Decides.{nat_tests, Decides-eqb, Decides-and}
 use Rattle.std.proofs.lemmas.Int.{ints}
 use Rattle.tz_base.specs.Cycles.{days_of_years}
@@ -12,7 +12,7 @@ use Rattle.tz_rule.proofs.YearKinds.{any_below, found_below, first_week_day, lik
 
 -- a kind determines whether its years are leap, and the week day of their January 1st
 
-kind_of-parts : (leap : Bool) (week_day : ℕ) → week_day < 7 → (kind_of leap week_day < 14) × (is_leap_kind (kind_of leap week_day) ≡ leap) × (week_day_of_kind (kind_of leap week_day) ≡ week_day)
+pub kind_of-parts : (leap : Bool) (week_day : ℕ) → week_day < 7 → (kind_of leap week_day < 14) × (is_leap_kind (kind_of leap week_day) ≡ leap) × (week_day_of_kind (kind_of leap week_day) ≡ week_day)
 kind_of-parts true week_day h = (omega arith, grind (arith, nat_tests), omega arith)
 kind_of-parts false week_day h = (omega arith, grind (arith, nat_tests), omega arith)
 
@@ -30,22 +30,12 @@ year_kind-week_day year = (kind_of-parts (is_leap year) (week_day_of_year year) 
 
 -- no two leap years follow one another
 
-not_both_leap : ℕ → Bool
-not_both_leap place = not (is_leap (pos (1972 + place)) && is_leap (pos (1973 + place)))
-
-never_both_leap : all_below not_both_leap 28 ≡ true
-unfolding all_below not_both_leap is_leap
-never_both_leap = refl
-
-leap_alone : (a b : Bool) → not (a && b) ≡ true → a ≡ true → b ≡ true → ⊥
-leap_alone a b h p q = cc
+leap_alone : (n : ℕ) → is_leap (pos n) ≡ true → is_leap (pos (n + 1)) ≡ true → ⊥
+unfolding is_leap
+leap_alone n here there = grind (arith, nat_tests)
 
 no_leap_after_leap : (year : ℤ) → is_leap year ≡ true → is_leap (year +ℤ pos 1) ≡ true → ⊥
-unfolding not_both_leap
-no_leap_after_leap year here there =
-    let like = like_model year in
-    let next : pos (1972 + like.0) +ℤ pos 1 ≡ pos (1973 + like.0) = omega (arith, ints) in
-    leap_alone (is_leap (pos (1972 + like.0))) (is_leap (pos (1973 + like.0))) (passes_at not_both_leap 28 like.0 never_both_leap like.1) (sym like.2.leap ∙ here) (sym (ap is_leap next) ∙ sym like.2.next_leap ∙ there)
+no_leap_after_leap year here there = let like = like_model year in leap_alone (1972 + like.0) (sym like.2.leap ∙ here) (sym like.2.next_leap ∙ there)
 
 -- the pair kind of a year and the next one
 

@@ -34,7 +34,7 @@ answered_from_years u (year, is, within) =
     (omega (arith, ints, is.0, first_day-mono (negsuc 2147483645) year within.0), omega (arith, ints, is.1, first_day-mono (year +ℤ pos 1) (pos 2147483646) (omega (arith, ints, within.1))))
 
 -- years whose neighbours are rule years
-abbrev IsInnerYear : ℤ → Type 0
+abbrev pub IsInnerYear : ℤ → Type 0
 IsInnerYear year = (negsuc 2147483644 ≤ℤ year) × (year ≤ℤ pos 2147483644)
 
 -- rules answer between the instants of such years

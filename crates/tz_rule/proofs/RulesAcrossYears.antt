@@ -11,6 +11,7 @@ use Rattle.tz_rule.specs.Pairing.{EndsNextYear}
 use Rattle.tz_rule.specs.YearTables.{entry, is_inner, start_table, end_table, ComesFirst, ChangesOrder}
 use Rattle.tz_rule.specs.declared.timezone.alternate_clock.AlternateClock.TheInside.{Inside}
 use Rattle.tz_rule.proofs.OrderByTables.{IsTableOf-start_of, IsTableOf-end_of, comes_first-year, comes_first-from, rule_is_consistent}
+use Rattle.tz_rule.proofs.WeakerClauses.{MatchBool-by_test}
 
 Decides-lt_z : (a b : ℤ) → Decides (lt_z a b) (a <ℤ b)
 Decides-lt_z a b = (λ e. grind (arith, ints), λ h. grind (arith, ints))
@@ -22,13 +23,12 @@ Decides-ends_come_first r =
     (λ k. Decides-lt_z (entry (end_table r) k) (entry (start_table r) k)) refl (λ _. refl) 14
 
 pub MatchBool-ends_come_first : (r : AlternateTime) → AreRuleDays r → MatchBool (ends_come_first r) (EndsNextYear (start_of r) (end_of r)) (¬ EndsNextYear (start_of r) (end_of r))
-MatchBool-ends_come_first r days = by_test (ends_come_first r) refl
-  where
-    by_test : (b : Bool) → ends_come_first r ≡ b → MatchBool b (EndsNextYear (start_of r) (end_of r)) (¬ EndsNextYear (start_of r) (end_of r))
-    by_test true e =
-        comes_first-year (end_of r) (start_of r) (end_table r) (start_table r) (IsTableOf-end_of r (end_table r) refl days.end_is) (IsTableOf-start_of r (start_table r) refl days.start_is) ((Decides-ends_come_first r).0 e)
-    by_test false e =
-        λ (y, h). false≢true (sym e ∙ (Decides-ends_come_first r).1 (comes_first-from (end_of r) (start_of r) (end_table r) (start_table r) (IsTableOf-end_of r (end_table r) refl days.end_is) (IsTableOf-start_of r (start_table r) refl days.start_is) y h))
+MatchBool-ends_come_first r days =
+    let starts = IsTableOf-start_of r (start_table r) refl days.start_is in
+    let ends = IsTableOf-end_of r (end_table r) refl days.end_is in
+    MatchBool-by_test (ends_come_first r)
+    (λ e. comes_first-year (end_of r) (start_of r) (end_table r) (start_table r) ends starts ((Decides-ends_come_first r).0 e))
+    (λ e (y, h). false≢true (sym e ∙ (Decides-ends_come_first r).1 (comes_first-from (end_of r) (start_of r) (end_table r) (start_table r) ends starts y h)))
 
 -- what is found is what is kept
 pub ends_come_first-is : (r : AlternateTime) (b : Bool) → MatchBool b (ComesFirst (end_table r) (start_table r)) (¬ ComesFirst (end_table r) (start_table r)) → b ≡ ends_come_first r

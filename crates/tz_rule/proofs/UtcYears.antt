@@ -1,5 +1,5 @@
 -- The year of an instant in UTC.
-use Rattle.std.proofs.Common.{◌≡◌, ℕ, arith, ℤ, pos, negsuc, ◌+ℤ◌, ◌<ℤ◌}
+use Rattle.std.proofs.Common.{◌≤ℤ◌, ◌≡◌, ℕ, arith, ℤ, pos, negsuc, ◌+ℤ◌, ◌<ℤ◌}
 use Rattle.std.proofs.lemmas.Int.{ints, by_lt_z}
 use mir.Syntax.{w32}
 use mir.Val.{SFits}
@@ -22,12 +22,13 @@ utc_year_unique u x y a b =
     apart : (x y : ℤ) → x <ℤ y → IsUtcYear u x → IsUtcYear u y → ⊥
     apart x y h a b = omega (arith, ints, a.1, b.0, first_day-mono (x +ℤ pos 1) y (omega (arith, ints)))
 
-SFits-from_rule_year : (y : ℤ) → IsRuleYear y → SFits w32 y
-SFits-from_rule_year (pos n) h = record { sfits = omega (arith, ints) }
-SFits-from_rule_year (negsuc n) h = record { sfits = omega (arith, ints) }
+-- the years of 32 bits
+pub year_fits : (y : ℤ) → negsuc 2147483647 ≤ℤ y → y ≤ℤ pos 2147483647 → SFits w32 y
+year_fits (pos n) low high = record { sfits = omega (arith, ints) }
+year_fits (negsuc n) low high = record { sfits = omega (arith, ints) }
 
 -- an instant of such a year is a reading
 pub IsReading-from_rule_year : (u y : ℤ) → IsUtcYear u y → IsRuleYear y → IsReading u
 IsReading-from_rule_year u y is h =
-    let bounds = first_day_bounds y (SFits-from_rule_year y h) in
+    let bounds = first_day_bounds y (year_fits y (omega (arith, ints, h.0)) (omega (arith, ints, h.1))) in
     (omega (arith, ints, is.0, bounds.0), omega (arith, ints, is.1, bounds.1))

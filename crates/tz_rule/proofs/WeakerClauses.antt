@@ -27,28 +27,12 @@ pub OnTrue-not : {P Q : Type 0} (b : Bool) → (¬ P → Q) → MatchBool b P (�
 OnTrue-not true f h = tt
 OnTrue-not false f h = f h
 
-pub le_z-true : (a b : ℤ) → le_z a b ≡ true → a ≤ℤ b
-le_z-true a b e = grind (arith, ints)
-
-pub le_z-false : (a b : ℤ) → le_z a b ≡ false → b <ℤ a
-le_z-false a b e = grind (arith, ints)
+pub MatchBool-by_test : {P Q : Type 0} (b : Bool) → (b ≡ true → P) → (b ≡ false → Q) → MatchBool b P Q
+MatchBool-by_test true if_true if_false = if_true refl
+MatchBool-by_test false if_true if_false = if_false refl
 
 pub MatchBool-le_z : {P Q : Type 0} (a b : ℤ) → (a ≤ℤ b → P) → (b <ℤ a → Q) → MatchBool (le_z a b) P Q
-MatchBool-le_z {P} {Q} a b if_true if_false = by_test (le_z a b) refl
-  where
-    by_test : (t : Bool) → le_z a b ≡ t → MatchBool t P Q
-    by_test true e = if_true (le_z-true a b e)
-    by_test false e = if_false (le_z-false a b e)
-
-lt_z-true : (a b : ℤ) → lt_z a b ≡ true → a <ℤ b
-lt_z-true a b e = grind (arith, ints)
-
-lt_z-false : (a b : ℤ) → lt_z a b ≡ false → b ≤ℤ a
-lt_z-false a b e = grind (arith, ints)
+MatchBool-le_z a b if_true if_false = MatchBool-by_test (le_z a b) (λ e. if_true (grind (arith, ints))) (λ e. if_false (grind (arith, ints)))
 
 pub MatchBool-lt_z : {P Q : Type 0} (a b : ℤ) → (a <ℤ b → P) → (b ≤ℤ a → Q) → MatchBool (lt_z a b) P Q
-MatchBool-lt_z {P} {Q} a b if_true if_false = by_test (lt_z a b) refl
-  where
-    by_test : (t : Bool) → lt_z a b ≡ t → MatchBool t P Q
-    by_test true e = if_true (lt_z-true a b e)
-    by_test false e = if_false (lt_z-false a b e)
+MatchBool-lt_z a b if_true if_false = MatchBool-by_test (lt_z a b) (λ e. if_true (grind (arith, ints))) (λ e. if_false (grind (arith, ints)))

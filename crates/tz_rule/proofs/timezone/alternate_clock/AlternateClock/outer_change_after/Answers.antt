@@ -2,7 +2,6 @@
 use Rattle.std.proofs.Common.{◌≡◌, refl, subst, arith, rules, ℤ, pos, ◌+ℤ◌, ◌-ℤ◌, to_z, of_z}
 use Rattle.std.proofs.lemmas.Int.{ints, to_z-of_z}
 use mir.Syntax.{w64}
-use mir.Val.{SFits}
 use Rattle.tz_rule.specs.RuleChanges.{type_change_of}
 use Rattle.tz_rule.specs.declared.timezone.rule.TransitionRule.TheVariants.{Alternate}
 use Rattle.tz_rule.proofs.RuleWalks.{HasTypeOrNone, none_within, none_joined, is_change_after}

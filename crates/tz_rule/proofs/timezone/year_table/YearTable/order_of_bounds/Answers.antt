@@ -2,7 +2,6 @@
 use Rattle.std.proofs.Common.{inl, inr, arith, rules}
 use Rattle.std.proofs.lemmas.Int.{ints, to_z-of_z}
 use mir.Syntax.{w32}
-use mir.Val.{SFits}
 use Rattle.tz_rule.specs.YearTables.{ComesFirst}
 use Rattle.tz_rule.proofs.ApartBounds.{never_first, comes_first, no_order_changes}
 use Rattle.tz_rule.proofs.timezone.year_table.YearTable.order_of_bounds.Goals as goal
