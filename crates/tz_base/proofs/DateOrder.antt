@@ -69,7 +69,7 @@ day_number-mono y m d y' m' d' day day' (inr (same, inr (month, later))) =
     let place : months_length (is_leap y) (m - 1) ≡ months_length (is_leap y') (m' - 1) = cc in
     rw (day_number-is y m d, day_number-is y' m' d') (omega (arith, ints))
 
--- neither of two dates is earlier than the other where they are one
+-- neither of two dates is earlier than the other if they are one
 same_day : (y : ℤ) (m d : ℕ) (y' : ℤ) (m' d' : ℕ) → y ≡ y' → m ≡ m' → (IsEarlierDate y m d y' m' d' → ⊥) → (IsEarlierDate y' m' d' y m d → ⊥) → d ≡ d'
 same_day y m d y' m' d' same month f g =
     elim (cases_lt d d') [

@@ -20,7 +20,7 @@ day_in_early year n month month_day days moved from_march =
     let march = days_of_years-next n in
     rw (day_number-is year month month_day) (omega (arith, ints))
 
--- the other months lie in the year that begins with their March
+-- the other months are in the year that begins with their March
 day_in_late : (year : ℤ) (n month month_day days : ℕ) → year +ℤ pos 2147484000 ≡ pos n → days + cond (is_leap year) 60 59 ≡ months_length (is_leap year) (month - 1)
     → pos (days_of_march_years n + days + month_day) -ℤ pos 784353144339 ≡ day_number year month month_day
 day_in_late year n month month_day days moved from_march =

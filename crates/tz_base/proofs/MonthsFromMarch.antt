@@ -56,7 +56,7 @@ unfolding all_below is_right_march_place month_length months_length
 right_march false = refl
 right_march true = refl
 
--- how many days lie between March 1st and the first of the month at a place, counted from January
+-- how many days there are between March 1st and the first of the month at a place, counted from January
 pub record IsFromMarch (leap : Bool) (place days : ℕ) : Type 0 where
   pub early : place < 2 → days ≡ 306 + months_length leap place
   pub late : 2 ≤ place → days + cond leap 60 59 ≡ months_length leap place
@@ -68,7 +68,7 @@ days_from_march-is leap place h =
     let right = passes_at (is_right_march_place leap) 12 place (right_march leap) h in
     record { early = λ small. grind (arith, nat_tests); late = λ large. grind (arith, nat_tests); bound = grind (arith, nat_tests) }
 
--- a day before January lies in the month that is found, after the months before it
+-- a day before January is in the month that is found, after the months before it
 is_right_before_january : Bool → ℕ → Bool
 is_right_before_january leap day =
     let m = march_month day in

@@ -134,7 +134,7 @@ rule_day-month d year first valid e below =
     rw (length-kept day (λ day. int_eq (week_day_of day) (pos d.week_day)) kept days test)
     (day_at-kept day (λ day. int_eq (week_day_of day) (pos d.week_day)) kept days (kept_at days first d.week_day d.week) (week_day_place first days d.week d.week_day) test fits)
 
--- the place of a week day lies in its month
+-- the place of a week day is in its month
 pub week_day_place-bound : (first days week week_day : ℕ) → 28 ≤ days → days ≤ 31 → 1 ≤ week → week ≤ 5 → week_day_place first days week week_day < days
 unfolding week_day_place
 week_day_place-bound first days week week_day low high w w' = grind (arith, nat_tests)

@@ -1,4 +1,4 @@
--- The tables of starts and ends tell what their years tell: which comes first, and whether the order changes.
+-- The tables of starts and ends determine what their years determine: which comes first, and whether the order changes.
 use Rattle.std.proofs.Common.{◌≡◌, inl, inr, ℕ, sym, ap, ◌∙◌, subst, arith, ℤ, pos, negsuc, ◌+ℤ◌, ◌-ℤ◌, ◌<ℤ◌, List}
 use Rattle.std.proofs.lemmas.Int.{ints}
 use Rattle.std.proofs.lemmas.List.FromFn.{length-map-range_with_len, get_or-map-range_with_len}
@@ -62,7 +62,7 @@ module _ (f g : ℤ → ℤ) (a b : List ℤ) (ta : IsTableOf f a) (tb : IsTable
   comes_after_next-from : (y : ℤ) → g (y +ℤ pos 1) <ℤ f y → ComesAfterNext a b
   comes_after_next-from y h = let pair = pair_of y in (pair.0, pair.1.below, omega (arith, ints, pair_entries y pair.0 pair.1))
 
--- the order changes exactly where the tables say so
+-- the order changes exactly if the tables say so
 
 module _ (f g : ℤ → ℤ) (a b : List ℤ) (ta : IsTableOf f a) (tb : IsTableOf g b) where
   pub inconsistent_by_tables : ChangesOrder a b → IsInconsistent f g
@@ -103,17 +103,17 @@ module _ (f g : ℤ → ℤ) (a b : List ℤ) (ta : IsTableOf f a) (tb : IsTable
 
 -- the check of a rule by the tables of its starts and ends
 module _ (r : AlternateTime) (days : AreRuleDays r) (starts ends : List ℤ) (starts_are : starts ≡ start_table r) (ends_are : ends ≡ end_table r) where
-  abbrev starts_tell : IsTableOf (start_of r) starts
-  starts_tell = IsTableOf-start_of r starts starts_are days.start_is
+  abbrev starts_table : IsTableOf (start_of r) starts
+  starts_table = IsTableOf-start_of r starts starts_are days.start_is
 
-  abbrev ends_tell : IsTableOf (end_of r) ends
-  ends_tell = IsTableOf-end_of r ends ends_are days.end_is
+  abbrev ends_table : IsTableOf (end_of r) ends
+  ends_table = IsTableOf-end_of r ends ends_are days.end_is
 
   pub rule_is_consistent : IsInRuleRange r → ¬ ChangesOrder starts ends → IsConsistentRule r
   rule_is_consistent range none = record {
     in_range = range;
-    consistent = consistent_by_tables (start_of r) (end_of r) starts ends starts_tell ends_tell (IsYearly-start_of r range days.start_is) (IsYearly-end_of r range days.end_is) none;
+    consistent = consistent_by_tables (start_of r) (end_of r) starts ends starts_table ends_table (IsYearly-start_of r range days.start_is) (IsYearly-end_of r range days.end_is) none;
   }
 
   pub rule_is_inconsistent : ChangesOrder starts ends → IsInconsistent (start_of r) (end_of r)
-  rule_is_inconsistent changes = inconsistent_by_tables (start_of r) (end_of r) starts ends starts_tell ends_tell changes
+  rule_is_inconsistent changes = inconsistent_by_tables (start_of r) (end_of r) starts ends starts_table ends_table changes

@@ -83,13 +83,13 @@ pair_occurs pair below =
     let first = eqb (kind_of (is_leap (pos (1972 + place))) (first_week_day (1972 + place))) (first_kind pair) in
     let second = eqb (kind_of (is_leap (pos (1973 + place))) (first_week_day (1973 + place))) (second_kind pair) in
     let days = eqb (cond (is_leap (pos (1972 + place))) 366 365) (first_days pair) in
-    let told = (Decides-and first (second && days) (Decides-eqb _ _) (Decides-and second days (Decides-eqb _ _) (Decides-eqb _ _))).0 found.2 in (
+    let means = (Decides-and first (second && days) (Decides-eqb _ _) (Decides-and second days (Decides-eqb _ _) (Decides-eqb _ _))).0 found.2 in (
       pos (1972 + place),
       record {
         below = below;
-        first_is = year_kind-model (1972 + place) ∙ told.0;
-        second_is = ap year_kind next ∙ year_kind-model (1973 + place) ∙ told.1.0;
-        days_are = year_length-is (pos (1972 + place)) ∙ told.1.1;
+        first_is = year_kind-model (1972 + place) ∙ means.0;
+        second_is = ap year_kind next ∙ year_kind-model (1973 + place) ∙ means.1.0;
+        days_are = year_length-is (pos (1972 + place)) ∙ means.1.1;
       },
     )
 

@@ -1,11 +1,11 @@
--- The kinds of years tell whether a rule ends in the next year.
+-- The kinds of years determine whether a rule ends in the next year.
 use Rattle.std.proofs.Common.{◌≡◌, ◌&&◌, Bool, true, false, refl, sym, arith, ℤ, ◌<ℤ◌, Decides, ◌∙◌, MatchBool}
 use Rattle.std.specs.Int.Signed.{lt_z}
 use Rattle.std.proofs.lemmas.Bool.{false≢true}
 use Rattle.std.proofs.lemmas.Bool.Decides.{Decides-below_or}
 use Rattle.std.proofs.lemmas.Int.{ints}
 use Rattle.tz_rule.specs.Alternate.{AlternateTime, start_of, end_of, IsInRuleRange, AreRuleDays}
-use Rattle.tz_rule.specs.KeptRule.{ends_first_in, ends_come_first, turns_are_inner, IsKeptRule}
+use Rattle.tz_rule.specs.KeptRule.{ends_first_in, ends_come_first, switches_are_inner, IsKeptRule}
 use Rattle.tz_rule.specs.Parts.{rule_of}
 use Rattle.tz_rule.specs.Pairing.{EndsNextYear}
 use Rattle.tz_rule.specs.YearTables.{entry, is_inner, start_table, end_table, ComesFirst, ChangesOrder}
@@ -43,15 +43,15 @@ ends_come_first-is r b h = same (ends_come_first r) b h (Decides-ends_come_first
 -- what passed the check may be kept
 pub kept_from : (i : Inside) → IsInRuleRange (rule_of i.parts) → AreRuleDays (rule_of i.parts) → i.starts.0 ≡ start_table (rule_of i.parts) → i.ends.0 ≡ end_table (rule_of i.parts)
     → ¬ ChangesOrder i.starts.0 i.ends.0 → MatchBool i.ends_next_year (ComesFirst i.ends.0 i.starts.0) (¬ ComesFirst i.ends.0 i.starts.0)
-    → i.has_inner_turns ≡ (is_inner i.starts.0 && is_inner i.ends.0) → IsKeptRule i
-unfolding turns_are_inner
+    → i.has_inner_switches ≡ (is_inner i.starts.0 && is_inner i.ends.0) → IsKeptRule i
+unfolding switches_are_inner
 kept_from i range days starts ends none first inner =
     let r = rule_of i.parts in
     record {
       is_consistent = rule_is_consistent r days i.starts.0 i.ends.0 starts ends range none;
       are_days = days;
       pairing = ends_come_first-is r i.ends_next_year (rw (starts, ends) at first);
-      inner_turns = rw (starts, ends) at inner;
+      inner_switches = rw (starts, ends) at inner;
       starts_are = IsTableOf-start_of r i.starts.0 starts days.start_is;
       ends_are = IsTableOf-end_of r i.ends.0 ends days.end_is;
       starts_made = starts;

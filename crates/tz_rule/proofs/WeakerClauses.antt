@@ -1,4 +1,4 @@
--- What follows from a clause on an answer follows for the answer.
+-- What follows from a clause on a result holds for the result.
 use Rattle.std.proofs.Common.{◌≡◌, Bool, true, false, not, Option, Some, None, MatchBool, refl, sym, arith, ℤ, ◌≤ℤ◌, ◌<ℤ◌}
 use Rattle.std.specs.Bool.{OnTrue}
 use Rattle.std.specs.Int.Signed.{le_z, lt_z}
@@ -14,7 +14,7 @@ pub IfNone-weaker : {T P Q : Type 0} (o : Option T) → (P → Q) → IfNone o P
 IfNone-weaker None f h = f h
 IfNone-weaker (Some x) f h = h
 
--- what a clause says of no value, where the test for a value failed
+-- what a clause says of no value, if the test for a value failed
 pub IfNone-no_value : {T P : Type 0} (o : Option T) → is_some o ≡ false → IfNone o P → P
 IfNone-no_value None e h = h
 IfNone-no_value (Some x) e h = absurd (false≢true (sym e))

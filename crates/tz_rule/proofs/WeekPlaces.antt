@@ -26,7 +26,7 @@ IsPlaceBefore place next least = (place ≡ least → next ≡ least + 6) × (le
 place_before_is : (first next days week : ℕ) → first < 7 → 28 ≤ days → days ≤ 31 → 1 ≤ week → week ≤ 5 → IsBefore first next → IsPlaceBefore (nth_place first days week) (nth_place next days week) (least_place days week)
 place_before_is first next days week f low high w w' before = (λ e. grind (arith, nat_tests), λ l. grind (arith, nat_tests))
 
--- the first day of the month is a week day later where the year's is
+-- the first day of the month is a week day later if the year's is
 pub first_before : (week_day before i : ℕ) → week_day ≤ 6 → IsBefore ((week_day + 7 - (i + before) % 7) % 7) ((week_day + 7 - (i + 1 + before) % 7) % 7)
 first_before week_day before i h = elim (cases_lt 0 ((week_day + 7 - (i + before) % 7) % 7)) [ inl more ↦ inr (omega arith) | inr none ↦ inl (omega arith, omega arith) ]
 

@@ -49,9 +49,9 @@ week_day_in_cycle : (n : ℕ) → first_week_day (n % 400) ≡ first_week_day n
 unfolding first_week_day days_of_years
 week_day_in_cycle n = omega arith
 
-told_like : (n place : ℕ) → is_like n place ≡ true → (is_leap (pos n) ≡ is_leap (pos (1972 + place))) × (is_leap (pos (n + 1)) ≡ is_leap (pos (1973 + place))) × (first_week_day n ≡ first_week_day (1972 + place))
+alike_from_test : (n place : ℕ) → is_like n place ≡ true → (is_leap (pos n) ≡ is_leap (pos (1972 + place))) × (is_leap (pos (n + 1)) ≡ is_leap (pos (1973 + place))) × (first_week_day n ≡ first_week_day (1972 + place))
 unfolding is_like
-told_like n place h =
+alike_from_test n place h =
     let parts = (Decides-and (beq (is_leap (pos n)) (is_leap (pos (1972 + place)))) _ (Decides-beq (is_leap (pos n)) (is_leap (pos (1972 + place))))
     (Decides-and (beq (is_leap (pos (n + 1))) (is_leap (pos (1973 + place)))) (eqb (first_week_day n) (first_week_day (1972 + place))) (Decides-beq (is_leap (pos (n + 1))) (is_leap (pos (1973 + place)))) (Decides-eqb (first_week_day n) (first_week_day (1972 + place))))).0 h in
     (parts.0, parts.1.0, parts.1.1)
@@ -68,13 +68,13 @@ like_model year =
     let n = moved.1 in
     let found = found_below (is_like (n % 400)) 28 (passes_at (λ n. any_below (is_like n) 28) 400 (n % 400) all_are_like (omega arith)) in
     let place = found.0 in
-    let told = told_like (n % 400) place found.2 in
+    let means = alike_from_test (n % 400) place found.2 in
     let after : 1973 + place ≡ 1972 + place + 1 = omega arith in (
       place,
       found.1,
       record {
-        leap = is_leap-moved year n k moved.2 ∙ sym (leap_in_cycle n) ∙ told.0;
-        next_leap = is_leap-moved (year +ℤ pos 1) (n + 1) k (omega (arith, ints, moved.2)) ∙ sym (next_leap_in_cycle n) ∙ told.1 ∙ ap (λ y. is_leap (pos y)) after;
-        week_day = week_day_of_year-moved year n k moved.2 ∙ sym (week_day_in_cycle n) ∙ told.2 ∙ sym (week_day_of_year-moved (pos (1972 + place)) (1972 + place) 0 (omega (arith, ints)));
+        leap = is_leap-moved year n k moved.2 ∙ sym (leap_in_cycle n) ∙ means.0;
+        next_leap = is_leap-moved (year +ℤ pos 1) (n + 1) k (omega (arith, ints, moved.2)) ∙ sym (next_leap_in_cycle n) ∙ means.1 ∙ ap (λ y. is_leap (pos y)) after;
+        week_day = week_day_of_year-moved year n k moved.2 ∙ sym (week_day_in_cycle n) ∙ means.2 ∙ sym (week_day_of_year-moved (pos (1972 + place)) (1972 + place) 0 (omega (arith, ints)));
       },
     )

@@ -3,7 +3,7 @@ use Rattle.std.proofs.Common.{◌≤ℤ◌, ◌≡◌, ℕ, zero, suc, ◌*◌, 
 use Rattle.std.proofs.lemmas.Int.{ints, by_lt_z}
 use Rattle.tz_base.specs.Days.{is_leap, first_day}
 use Rattle.tz_base.proofs.DateOrder.{first_day-mono, first_day-period, is_leap-period}
-use Rattle.tz_rule.specs.Alternate.{AlternateTime, start_of, end_of, turn_of, AreRuleDays, IsRuleOffset, IsRuleTime, IsInRuleRange, IsNearYear}
+use Rattle.tz_rule.specs.Alternate.{AlternateTime, start_of, end_of, switch_of, AreRuleDays, IsRuleOffset, IsRuleTime, IsInRuleRange, IsNearYear}
 use Rattle.tz_rule.specs.RuleDays.{rule_day, IsRuleDay}
 use Rattle.tz_rule.specs.Kinds.{week_day_of_year}
 use Rattle.tz_rule.specs.Places.{place_in_year}
@@ -60,9 +60,9 @@ pub IsYearly-end_of : (r : AlternateTime) → IsInRuleRange r → IsRuleDay r.ds
 unfolding end_of
 IsYearly-end_of r range valid = IsYearly-local r.dst_end r.dst_end_time r.dst.ut_offset valid range.end_is range.dst_is
 
-pub IsYearly-turn_of : (r : AlternateTime) → IsInRuleRange r → AreRuleDays r → (is_end : Bool) → IsYearly (turn_of r is_end)
-IsYearly-turn_of r range days true = IsYearly-end_of r range days.end_is
-IsYearly-turn_of r range days false = IsYearly-start_of r range days.start_is
+pub IsYearly-switch_of : (r : AlternateTime) → IsInRuleRange r → AreRuleDays r → (is_end : Bool) → IsYearly (switch_of r is_end)
+IsYearly-switch_of r range days true = IsYearly-end_of r range days.end_is
+IsYearly-switch_of r range days false = IsYearly-start_of r range days.start_is
 
 -- two years later everything is later
 two_years_later : (f g : ℤ → ℤ) → IsYearly f → IsYearly g → (x y : ℤ) → (x +ℤ pos 2) ≤ℤ y → f x <ℤ g y

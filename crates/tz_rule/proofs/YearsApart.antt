@@ -1,4 +1,4 @@
--- How far an instant of a year by one table lies from that of a year near by, by another table: as far as for one of the years from 1972 to 2000.
+-- How far an instant of a year by one table is from that of a year near by, by another table: as far as for one of the years from 1972 to 2000.
 use Rattle.std.proofs.Common.{◌≡◌, ℕ, zero, suc, ◌+◌, ◌%◌, ◌<◌, cond, sym, ap, ◌∙◌, arith, ℤ, pos, negsuc, ◌+ℤ◌, ◌-ℤ◌, ◌≤ℤ◌, List}
 use Rattle.std.proofs.lemmas.Int.{ints}
 use Rattle.tz_base.specs.Days.{is_leap, year_length}
@@ -35,7 +35,7 @@ same_place_next table x y a =
     let place = same_place table (x +ℤ pos 1) (y +ℤ pos 1) (year_kind-alike (x +ℤ pos 1) (y +ℤ pos 1) a.next_leap week_day) in
     omega (arith, ints, place, length, first_day-next x, first_day-next y)
 
--- how far the second instant lies after the first, in a year that lies at the distance
+-- how far the second instant is after the first, in a year that is at the distance
 abbrev apart : List ℤ → List ℤ → ℤ → ℤ → ℤ
 apart a b year distance = instant_in b (year +ℤ distance) -ℤ instant_in a year
 

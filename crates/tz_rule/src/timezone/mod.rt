@@ -2,7 +2,6 @@
 
 mod alternate;
 pub(crate) mod alternate_clock;
-mod alternate_segment;
 mod conflict_years;
 pub(crate) mod day_data;
 mod daylight;

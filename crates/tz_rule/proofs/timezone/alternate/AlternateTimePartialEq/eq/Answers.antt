@@ -1,4 +1,4 @@
--- Rules are equal where all six parts are.
+-- Rules are equal if all six parts are.
 use Rattle.std.proofs.Common.{◌≡◌, ◌&&◌, Bool, true, false, refl, ap, sym, ◌∙◌, rules}
 use Rattle.std.specs.Ordering.{int_eq}
 use Rattle.std.proofs.lemmas.Bool.{false≢true}
@@ -9,7 +9,7 @@ use Rattle.tz_rule.specs.SameDay.{same_day}
 use Rattle.tz_rule.proofs.timezone.alternate.AlternateTimePartialEq.eq.Goals as goal
 use Rattle.tz_rule.proofs.timezone.alternate.AlternateTimePartialEq.eq.Goals.{then-eq, else-eq, then-eq-2, else-eq-2}
 
--- where the first tests hold, the last decide
+-- if the first tests hold, the last decide
 last_decide : (s d x z t u v : Bool) → u ≡ (s && d) → v ≡ (u && (x && z)) → v ≡ true → t ≡ (s && (d && (x && (z && t))))
 last_decide s d x z t u v one two holds = by_tests s d x z (sym (two ∙ ap (λ b. b && (x && z)) one) ∙ holds)
   where

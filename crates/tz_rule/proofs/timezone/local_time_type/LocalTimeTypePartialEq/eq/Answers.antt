@@ -1,4 +1,4 @@
--- Types are equal where all that is kept is.
+-- Types are equal if all that is stored is.
 use Rattle.std.proofs.Common.{rules, arith, ◌≡◌, ◌∙◌, sym}
 use Rattle.std.proofs.lemmas.Bool.{eqb-true}
 use Rattle.std.proofs.lemmas.Int.{ints}

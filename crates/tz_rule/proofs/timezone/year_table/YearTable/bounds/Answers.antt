@@ -6,7 +6,7 @@ use mir.Syntax.{w32}
 use mir.Val.{SFits}
 use Rattle.tz_rule.specs.YearTables.{entry, least_entry, greatest_entry}
 use Rattle.tz_rule.proofs.Below.{below_next}
-use Rattle.tz_rule.proofs.InnerTurns.{least_entry-next, greatest_entry-next}
+use Rattle.tz_rule.proofs.InnerSwitches.{least_entry-next, greatest_entry-next}
 use Rattle.tz_rule.proofs.timezone.year_table.YearTable.bounds.Goals as goal
 
 pub loop-kind-init : goal.loop-kind-init

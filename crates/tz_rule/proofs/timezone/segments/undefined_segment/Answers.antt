@@ -1,10 +1,10 @@
--- Rules answer in all of their years and in no others.
+-- Rules are defined in all of their years and in no others.
 use Rattle.std.proofs.Common.{◌≡◌, inl, inr, refl, arith, pos, ◌-ℤ◌, ◌≤ℤ◌, to_z, of_z}
 use Rattle.std.proofs.lemmas.Int.{ints, by_lt_z}
 use mir.Syntax.{w64}
 use Rattle.tz_rule.specs.Rule.{IsRuleType}
-use Rattle.tz_rule.proofs.RuleSegments.{answered_between, answered_from_years}
-use Rattle.tz_rule.proofs.timezone.segments.unanswered.Goals as goal
+use Rattle.tz_rule.proofs.RuleSegments.{IsInRuleYears-between, IsInRuleYears-bounds}
+use Rattle.tz_rule.proofs.timezone.segments.undefined_segment.Goals as goal
 
 pub returns-then-unix_time-first : goal.returns-then-unix_time-first
 unfolding IsRuleType
@@ -15,7 +15,7 @@ returns-then-unix_time-first c =
     let before = c.if-unix_time-first.true in
     λ rule. record {
       within = (omega (arith, ints), omega (arith, ints, last, before));
-      holds = λ v from to t is. omega (arith, ints, first.value, last, to, (answered_from_years v is.0).0);
+      holds = λ v from to t is. omega (arith, ints, first.value, last, to, (IsInRuleYears-bounds v is.0).0);
       from_is = λ later. absurd (later refl);
       last_is = λ _. inr (inl (omega (arith, ints, first.value, last)));
     }
@@ -29,10 +29,10 @@ returns c =
     let from : to_z w64 (of_z w64 c.new_year.result) ≡ c.new_year.result = omega (arith, ints, end.bound) in
     let begun = c.if-unix_time-first.false in
     let over : c.new_year.result ≤ℤ u = by_lt_z u c.new_year.result
-    (λ less. absurd (c.requires (answered_between u (omega (arith, ints, first.value, begun)) (omega (arith, ints, end.value, less))))) (λ h. h) in
+    (λ less. absurd (c.requires (IsInRuleYears-between u (omega (arith, ints, first.value, begun)) (omega (arith, ints, end.value, less))))) (λ h. h) in
     λ rule. record {
       within = (omega (arith, ints, from, over), omega (arith, ints));
-      holds = λ v low high t is. omega (arith, ints, end.value, from, low, (answered_from_years v is.0).1);
+      holds = λ v low high t is. omega (arith, ints, end.value, from, low, (IsInRuleYears-bounds v is.0).1);
       from_is = λ _. inr (inr (omega (arith, ints, end.value, from)));
       last_is = λ earlier. absurd (earlier refl);
     }
