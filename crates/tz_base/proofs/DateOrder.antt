@@ -10,7 +10,7 @@ use Rattle.tz_base.proofs.YearStarts.{first_day-moved, is_leap-moved}
 use Rattle.tz_base.proofs.DaysOfYears.{day_number-is, day_in_year}
 
 -- some cycles of 400 years make two years not negative
-moved_together : (a b : ℤ) → (k m n : ℕ) × (a +ℤ pos (400 * k) ≡ pos m) × (b +ℤ pos (400 * k) ≡ pos n)
+pub moved_together : (a b : ℤ) → (k m n : ℕ) × (a +ℤ pos (400 * k) ≡ pos m) × (b +ℤ pos (400 * k) ≡ pos n)
 moved_together (pos a) (pos b) = (0, a, b, omega (arith, ints), omega (arith, ints))
 moved_together (pos a) (negsuc b) = (b + 1, a + 400 * (b + 1), 399 * (b + 1), omega (arith, ints), omega (arith, ints))
 moved_together (negsuc a) (pos b) = (a + 1, 399 * (a + 1), b + 400 * (a + 1), omega (arith, ints), omega (arith, ints))

@@ -1,5 +1,5 @@
 -- From one start or end up to the next a rule has one type. Starts and ends rise from year to year, so those of five years determine the nearest ones.
-use Rattle.std.proofs.Common.{◌≡◌, ◌⊎◌, inl, inr, ℕ, zero, suc, ◌+◌, ◌<◌, ◌≤◌, Bool, true, false, not, MatchBool, refl, ap, arith, ℤ, pos, negsuc, ◌+ℤ◌, ◌-ℤ◌, ◌≤ℤ◌, ◌<ℤ◌}
+use Rattle.std.proofs.Common.{◌≡◌, ◌⊎◌, inl, inr, ℕ, zero, suc, ◌<◌, ◌≤◌, Bool, true, false, not, MatchBool, refl, ap, arith, ℤ, pos, negsuc, ◌+ℤ◌, ◌-ℤ◌, ◌≤ℤ◌, ◌<ℤ◌}
 use Rattle.std.proofs.lemmas.Int.{ints, by_lt_z}
 use Rattle.tz_base.proofs.DateOrder.{first_day-mono, gap_between}
 use Rattle.tz_rule.specs.Alternate.{AlternateTime, start_of, end_of, switch_of, IsInRuleRange, AreRuleDays, IsUtcYear, IsInRuleYears, IsAlternateType, IsUnchanged}
@@ -115,38 +115,31 @@ cut_segment r u switch s t whole is within from until inside = record {
 pub not_inside_smaller : (s t : AlternateSegment) (x : ℤ) → (s.from ≤ℤ t.from) × (t.until ≤ℤ s.until) → IsNotInside s x → IsNotInside t x
 not_inside_smaller s t x inside none after before = none (omega (arith, ints, inside.0, after)) (omega (arith, ints, inside.1, before))
 
--- five years, counted from the first one
-pub in_five_years : (P : ℤ → Type 0) (year : ℤ) (n : ℕ) → 5 ≤ n → ((k : ℕ) → k < n → P (year -ℤ pos 2 +ℤ pos k)) → (y : ℤ) → (year -ℤ pos 2) ≤ℤ y → y ≤ℤ (year +ℤ pos 2) → P y
-in_five_years P year n enough all y low high = by_lt_z y (year -ℤ pos 1)
-    (λ before. at 0 (omega arith) (omega (arith, ints)))
-    (λ from. let gap = gap_between (year -ℤ pos 2) y (omega (arith, ints, from)) in at (gap.0 + 1) (omega (arith, ints, gap.1, high)) (omega (arith, ints, gap.1)))
-  where
-    at : (k : ℕ) → k < n → year -ℤ pos 2 +ℤ pos k ≡ y → P y
-    at k below e = rw e at (all k below)
-
--- if none of five years' instants is inside a segment around an instant of the middle one, no year's does
+-- if none of five years' instants is inside a segment around an instant of the middle one, no year's is
 none_around : (f : ℤ → ℤ) → IsYearly f → (u year : ℤ) (s : AlternateSegment) → IsUtcYear u year → (s.from ≤ℤ u) × (u <ℤ s.until) →
-    ((y : ℤ) → (year -ℤ pos 2) ≤ℤ y → y ≤ℤ (year +ℤ pos 2) → IsNotInside s (f y)) → (y : ℤ) → IsNotInside s (f y)
-none_around f yf u year s is within near y after before =
+    (n : ℕ) → 5 ≤ n → ((k : ℕ) → k < n → IsNotInside s (f (year -ℤ pos 2 +ℤ pos k))) → (y : ℤ) → IsNotInside s (f y)
+none_around f yf u year s is within n enough near y after before =
     by_lt_z y (year -ℤ pos 2)
     (λ early.
-    let ended = over f yf u year (year -ℤ pos 2) is (omega (arith, ints)) in
-    let not_after = yf.rises y (year -ℤ pos 2) (omega (arith, ints, early)) in
-    near (year -ℤ pos 2) (omega (arith, ints)) (omega (arith, ints)) (omega (arith, ints, after, not_after)) (omega (arith, ints, ended, within.1)))
+    let ended = over f yf u year (year -ℤ pos 2 +ℤ pos 0) is (omega (arith, ints)) in
+    let not_after = yf.rises y (year -ℤ pos 2 +ℤ pos 0) (omega (arith, ints, early)) in
+    near 0 (omega arith) (omega (arith, ints, after, not_after)) (omega (arith, ints, ended, within.1)))
     (λ from. by_lt_z (year +ℤ pos 2) y
     (λ late.
-    let coming = to_come f yf u year (year +ℤ pos 2) is (omega (arith, ints)) in
-    let not_before = yf.rises (year +ℤ pos 2) y (omega (arith, ints, late)) in
-    near (year +ℤ pos 2) (omega (arith, ints)) (omega (arith, ints)) (omega (arith, ints, coming, within.0)) (omega (arith, ints, before, not_before)))
-    (λ until. near y from until after before))
+    let coming = to_come f yf u year (year -ℤ pos 2 +ℤ pos 4) is (omega (arith, ints)) in
+    let not_before = yf.rises (year -ℤ pos 2 +ℤ pos 4) y (omega (arith, ints, late)) in
+    near 4 (omega arith) (omega (arith, ints, coming, within.0)) (omega (arith, ints, before, not_before)))
+    (λ until.
+    let gap = gap_between (year -ℤ pos 3) y (omega (arith, ints, from)) in
+    let same : year -ℤ pos 2 +ℤ pos gap.0 ≡ y = omega (arith, ints, gap.1) in
+    (rw same at (near gap.0 (omega (arith, ints, gap.1, until)))) after before))
 
 module _ (r : AlternateTime) (range : IsInRuleRange r) (days : AreRuleDays r) (u year : ℤ) (is : IsUtcYear u year) (s : AlternateSegment) (segment : IsCutSegment r u s)
-    (near_starts : (y : ℤ) → (year -ℤ pos 2) ≤ℤ y → y ≤ℤ (year +ℤ pos 2) → IsNotInside s (start_of r y))
-    (near_ends : (y : ℤ) → (year -ℤ pos 2) ≤ℤ y → y ≤ℤ (year +ℤ pos 2) → IsNotInside s (end_of r y)) where
+    (n : ℕ) (enough : 5 ≤ n) (near_starts : (k : ℕ) → k < n → IsNotInside s (start_of r (year -ℤ pos 2 +ℤ pos k))) (near_ends : (k : ℕ) → k < n → IsNotInside s (end_of r (year -ℤ pos 2 +ℤ pos k))) where
   unchanged_within : (v w : ℤ) → s.from ≤ℤ v → w <ℤ s.until → IsUnchanged r v w
   unchanged_within v w from to = record {
-    no_start = λ y after before. none_around (start_of r) (IsYearly-start_of r range days.start_is) u year s is segment.within near_starts y (omega (arith, ints, from, after)) (omega (arith, ints, to, before));
-    no_end = λ y after before. none_around (end_of r) (IsYearly-end_of r range days.end_is) u year s is segment.within near_ends y (omega (arith, ints, from, after)) (omega (arith, ints, to, before));
+    no_start = λ y after before. none_around (start_of r) (IsYearly-start_of r range days.start_is) u year s is segment.within n enough near_starts y (omega (arith, ints, from, after)) (omega (arith, ints, to, before));
+    no_end = λ y after before. none_around (end_of r) (IsYearly-end_of r range days.end_is) u year s is segment.within n enough near_ends y (omega (arith, ints, from, after)) (omega (arith, ints, to, before));
   }
 
   -- then the type of the instant is that of all of the segment

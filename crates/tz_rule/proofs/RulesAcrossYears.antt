@@ -1,8 +1,8 @@
 -- The kinds of years determine whether a rule ends in the next year.
-use Rattle.std.proofs.Common.{◌≡◌, ◌&&◌, Bool, true, false, refl, sym, arith, ℤ, ◌<ℤ◌, Decides, ◌∙◌, MatchBool}
+use Rattle.std.proofs.Common.{◌≡◌, ◌&&◌, Bool, refl, sym, arith, ℤ, ◌<ℤ◌, Decides, ◌∙◌, MatchBool}
 use Rattle.std.specs.Int.Signed.{lt_z}
 use Rattle.std.proofs.lemmas.Bool.{false≢true}
-use Rattle.std.proofs.lemmas.Bool.Decides.{Decides-below_or}
+use Rattle.std.proofs.lemmas.Bool.Decides.{Decides-below_or, same_from_decides}
 use Rattle.std.proofs.lemmas.Int.{ints}
 use Rattle.tz_rule.specs.Alternate.{AlternateTime, start_of, end_of, IsInRuleRange, AreRuleDays}
 use Rattle.tz_rule.specs.KeptRule.{ends_first_in, ends_come_first, switches_are_inner, IsKeptRule}
@@ -11,7 +11,7 @@ use Rattle.tz_rule.specs.Pairing.{EndsNextYear}
 use Rattle.tz_rule.specs.YearTables.{entry, is_inner, start_table, end_table, ComesFirst, ChangesOrder}
 use Rattle.tz_rule.specs.declared.timezone.alternate_clock.AlternateClock.TheInside.{Inside}
 use Rattle.tz_rule.proofs.OrderByTables.{IsTableOf-start_of, IsTableOf-end_of, comes_first-year, comes_first-from, rule_is_consistent}
-use Rattle.tz_rule.proofs.WeakerClauses.{MatchBool-by_test}
+use Rattle.tz_rule.proofs.WeakerClauses.{Decides-from_clause, MatchBool-by_test}
 
 Decides-lt_z : (a b : ℤ) → Decides (lt_z a b) (a <ℤ b)
 Decides-lt_z a b = (λ e. grind (arith, ints), λ h. grind (arith, ints))
@@ -32,13 +32,7 @@ MatchBool-ends_come_first r days =
 
 -- what is found is what is kept
 pub ends_come_first-is : (r : AlternateTime) (b : Bool) → MatchBool b (ComesFirst (end_table r) (start_table r)) (¬ ComesFirst (end_table r) (start_table r)) → b ≡ ends_come_first r
-ends_come_first-is r b h = same (ends_come_first r) b h (Decides-ends_come_first r)
-  where
-    same : (c b : Bool) → MatchBool b (ComesFirst (end_table r) (start_table r)) (¬ ComesFirst (end_table r) (start_table r)) → Decides c (ComesFirst (end_table r) (start_table r)) → b ≡ c
-    same true true h d = refl
-    same true false h d = absurd (h (d.0 refl))
-    same false true h d = sym (d.1 h)
-    same false false h d = refl
+ends_come_first-is r b h = same_from_decides b (ends_come_first r) (Decides-from_clause b h) (Decides-ends_come_first r)
 
 -- what passed the check may be kept
 pub kept_from : (i : Inside) → IsInRuleRange (rule_of i.parts) → AreRuleDays (rule_of i.parts) → i.starts.0 ≡ start_table (rule_of i.parts) → i.ends.0 ≡ end_table (rule_of i.parts)

@@ -1,8 +1,8 @@
 -- What follows from a clause on a result holds for the result.
-use Rattle.std.proofs.Common.{◌≡◌, Bool, true, false, not, Option, Some, None, MatchBool, refl, sym, arith, ℤ, ◌≤ℤ◌, ◌<ℤ◌}
+use Rattle.std.proofs.Common.{Decides, ◌≡◌, Bool, true, false, not, Option, Some, None, MatchBool, refl, arith, ℤ, ◌≤ℤ◌, ◌<ℤ◌}
 use Rattle.std.specs.Bool.{OnTrue}
 use Rattle.std.specs.Int.Signed.{le_z, lt_z}
-use Rattle.std.specs.Option.{IfNone, IfSome, is_some}
+use Rattle.std.specs.Option.{IfNone, IfSome}
 use Rattle.std.proofs.lemmas.Bool.{false≢true}
 use Rattle.std.proofs.lemmas.Int.{ints}
 
@@ -14,11 +14,6 @@ pub IfNone-weaker : {T P Q : Type 0} (o : Option T) → (P → Q) → IfNone o P
 IfNone-weaker None f h = f h
 IfNone-weaker (Some x) f h = h
 
--- what a clause says of no value, if the test for a value failed
-pub IfNone-no_value : {T P : Type 0} (o : Option T) → is_some o ≡ false → IfNone o P → P
-IfNone-no_value None e h = h
-IfNone-no_value (Some x) e h = absurd (false≢true (sym e))
-
 pub MatchBool-weaker : {P P' Q Q' : Type 0} (b : Bool) → (P → P') → (Q → Q') → MatchBool b P Q → MatchBool b P' Q'
 MatchBool-weaker true f g h = f h
 MatchBool-weaker false f g h = g h
@@ -26,6 +21,10 @@ MatchBool-weaker false f g h = g h
 pub OnTrue-not : {P Q : Type 0} (b : Bool) → (¬ P → Q) → MatchBool b P (¬ P) → OnTrue (not b) Q
 OnTrue-not true f h = tt
 OnTrue-not false f h = f h
+
+pub Decides-from_clause : {P : Type 0} (b : Bool) → MatchBool b P (¬ P) → Decides b P
+Decides-from_clause true h = (λ _. h, λ _. refl)
+Decides-from_clause false h = (λ e. absurd (false≢true e), λ p. absurd (h p))
 
 pub MatchBool-by_test : {P Q : Type 0} (b : Bool) → (b ≡ true → P) → (b ≡ false → Q) → MatchBool b P Q
 MatchBool-by_test true if_true if_false = if_true refl

@@ -5,7 +5,7 @@ use mir.Syntax.{w32, w64}
 use Rattle.tz_rule.specs.Alternate.{start_of, end_of}
 use Rattle.tz_rule.specs.RuleSegments.{IsNotInside}
 use Rattle.tz_rule.proofs.Below.{below_next}
-use Rattle.tz_rule.proofs.RuleSegments.{IsInRuleYears-bounds, cut_segment, not_inside_smaller, in_five_years, type_within}
+use Rattle.tz_rule.proofs.RuleSegments.{IsInRuleYears-bounds, cut_segment, not_inside_smaller, type_within}
 use Rattle.tz_rule.proofs.timezone.alternate_clock.AlternateClock.segment_in_year.Goals as goal
 
 pub loop-index-init : goal.loop-index-init
@@ -58,15 +58,9 @@ loop-index-preserved c =
 
 pub returns-clause-of : goal.returns-clause-of
 returns-clause-of c =
-    let r = c.args.self.now in
-    let u = c.args.unix_time in
-    let y = c.args.year in
     let sound = c.parts_are_sound.ensures in
     let i = c.loop-index.invariant in
-    let s = c.loop-index.segment in
-    let unix = to_z-of_z w64 u c.ranges.unix_time in
-    let year = to_z-of_z w32 y c.ranges.year in
-    let segment = rw unix at i.segment in
-    let starts = in_five_years (λ x. IsNotInside s (start_of r x)) y c.loop-index.index c.loop-index-test.false (rw year at i.starts) in
-    let ends = in_five_years (λ x. IsNotInside s (end_of r x)) y c.loop-index.index c.loop-index-test.false (rw year at i.ends) in
-    type_within r sound.rule.in_range sound.days u y c.requires.0 s segment starts ends (rw i.is_daylight (rw unix at c.is_daylight.ensures))
+    let unix = to_z-of_z w64 c.args.unix_time c.ranges.unix_time in
+    let year = to_z-of_z w32 c.args.year c.ranges.year in
+    type_within c.args.self.now sound.rule.in_range sound.days c.args.unix_time c.args.year c.requires.0 c.loop-index.segment (rw unix at i.segment)
+    c.loop-index.index c.loop-index-test.false (rw year at i.starts) (rw year at i.ends) (rw i.is_daylight (rw unix at c.is_daylight.ensures))
