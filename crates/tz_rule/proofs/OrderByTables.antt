@@ -103,17 +103,12 @@ module _ (f g : ℤ → ℤ) (a b : List ℤ) (ta : IsTableOf f a) (tb : IsTable
 
 -- the check of a rule by the tables of its starts and ends
 module _ (r : AlternateTime) (days : AreRuleDays r) (starts ends : List ℤ) (starts_are : starts ≡ start_table r) (ends_are : ends ≡ end_table r) where
-  abbrev starts_table : IsTableOf (start_of r) starts
-  starts_table = IsTableOf-start_of r starts starts_are days.start_is
-
-  abbrev ends_table : IsTableOf (end_of r) ends
-  ends_table = IsTableOf-end_of r ends ends_are days.end_is
-
   pub rule_is_consistent : IsInRuleRange r → ¬ ChangesOrder starts ends → IsConsistentRule r
   rule_is_consistent range none = record {
     in_range = range;
-    consistent = consistent_by_tables (start_of r) (end_of r) starts ends starts_table ends_table (IsYearly-start_of r range days.start_is) (IsYearly-end_of r range days.end_is) none;
+    consistent = consistent_by_tables (start_of r) (end_of r) starts ends (IsTableOf-start_of r starts starts_are days.start_is) (IsTableOf-end_of r ends ends_are days.end_is)
+        (IsYearly-start_of r range days.start_is) (IsYearly-end_of r range days.end_is) none;
   }
 
   pub rule_is_inconsistent : ChangesOrder starts ends → IsInconsistent (start_of r) (end_of r)
-  rule_is_inconsistent changes = inconsistent_by_tables (start_of r) (end_of r) starts ends starts_table ends_table changes
+  rule_is_inconsistent = inconsistent_by_tables (start_of r) (end_of r) starts ends (IsTableOf-start_of r starts starts_are days.start_is) (IsTableOf-end_of r ends ends_are days.end_is)

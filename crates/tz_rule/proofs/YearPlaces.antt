@@ -1,5 +1,6 @@
 -- The place of a rule day in its year is that of all years of one kind.
-use Rattle.std.proofs.Common.{◌≡◌, ℕ, true, false, suc, ◌+◌, ◌-◌, ◌%◌, ◌<◌, ◌≤◌, Bool, cond, ap, ◌∙◌, arith, ℤ, pos, ◌+ℤ◌}
+use Rattle.std.proofs.Common.{◌≡◌, ℕ, suc, ◌+◌, ◌-◌, ◌%◌, ◌≤◌, Bool, ap, ◌∙◌, arith, ℤ, pos, ◌+ℤ◌}
+use Rattle.std.proofs.lemmas.Bool.Decides.{nat_tests}
 use Rattle.std.proofs.lemmas.Int.{ints}
 use Rattle.tz_base.specs.Days.{is_leap, month_length, months_length, first_day, day_number, week_day_of}
 use Rattle.tz_base.proofs.CivilReadings.{month_length-ge, month_length-le}
@@ -21,11 +22,7 @@ place_in_month-bound leap first d valid =
     let same : suc (d.month - 1) ≡ d.month = omega (arith, valid.month_is) in
     let months = rw same at (months_length-le_year leap (d.month - 1) (omega (arith, valid.month_is))) in
     let below = week_day_place-bound first (month_length leap d.month) d.week d.week_day (month_length-ge leap d.month) (month_length-le leap d.month) valid.week_is.0 valid.week_is.1 in
-    by_leap leap _ _ _ months below
-  where
-    by_leap : (leap : Bool) (a b c : ℕ) → a + b ≤ cond leap 366 365 → c < b → a + c ≤ 365
-    by_leap true a b c h h' = omega arith
-    by_leap false a b c h h' = omega arith
+    grind (arith, nat_tests)
 
 pub place_in_year-bound : (d : RuleDay) (leap : Bool) (first : ℕ) → IsRuleDay d → place_in_year d leap first ≤ 365
 unfolding place_in_year
