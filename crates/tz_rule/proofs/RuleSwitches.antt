@@ -1,5 +1,6 @@
 -- If a rule's switches are far inside their years, the switches of the likely year and of one neighbour determine the next change and the last one.
-use Rattle.std.proofs.Common.{◌≡◌, refl, arith, Bool, true, false, not, MatchBool, ℤ, pos, ◌+ℤ◌, ◌-ℤ◌, ◌≤ℤ◌, ◌<ℤ◌}
+use Rattle.std.proofs.Common.{sym, ◌≡◌, refl, arith, Bool, not, MatchBool, ℤ, pos, ◌+ℤ◌, ◌-ℤ◌, ◌≤ℤ◌, ◌<ℤ◌}
+use Rattle.std.proofs.Math.Bool.{not-not}
 use Rattle.std.proofs.lemmas.Int.{ints}
 use Rattle.tz_base.proofs.DateOrder.{first_day-mono}
 use Rattle.tz_rule.specs.Alternate.{AlternateTime, start_of, end_of, switch_of, IsInRuleRange, AreRuleDays}
@@ -10,10 +11,6 @@ use Rattle.tz_rule.specs.RuleChanges.{IsSwitchAfter, IsSwitchUpTo}
 use Rattle.tz_rule.specs.RuleSegments.{IsWholeSegment}
 use Rattle.tz_rule.proofs.InnerSwitches.{over_before_likely, to_come_after_likely}
 use Rattle.tz_rule.proofs.RuleSegments.{IsInnerYear, inner_years_around, segment_between_years, segment_in_year}
-
-twice_not : (b : Bool) → b ≡ not (not b)
-twice_not true = refl
-twice_not false = refl
 
 module _ (r : AlternateTime) (from switch until u : ℤ) (was is : Bool) (switches : was ≡ not is)
     (before : IsWholeSegment r (record { from = from; until = switch; is_daylight = was })) (after : IsWholeSegment r (record { from = switch; until = until; is_daylight = is })) where
@@ -58,20 +55,20 @@ module _ (r : AlternateTime) (range : IsInRuleRange r) (days : AreRuleDays r) (i
   apart last next follows = omega (arith, ints, (inner (not b) last).1, (inner b next).0, first_day-mono last next (omega (arith, ints, follows)))
 
   pub switch_before_first : u <ℤ first y → first y <ℤ second y → IsSwitchAfter r u (first y) (not b)
-  switch_before_first here next = switch_after r (second (y -ℤ pos 1)) (first y) (second y) u b (not b) (twice_not b) up_to_first (within y years.1) (over_before_likely second u y likely (inner (not b))) here next
+  switch_before_first here next = switch_after r (second (y -ℤ pos 1)) (first y) (second y) u b (not b) (sym (not-not b)) up_to_first (within y years.1) (over_before_likely second u y likely (inner (not b))) here next
 
   pub switch_before_second : first y ≤ℤ u → u <ℤ second y → IsSwitchAfter r u (second y) b
   switch_before_second past here = switch_after r (first y) (second y) (first (y +ℤ pos 1)) u (not b) b refl (within y years.1) from_second past here (apart y (y +ℤ pos 1) refl)
 
   pub switch_of_next_year : second y ≤ℤ u → first (y +ℤ pos 1) <ℤ second (y +ℤ pos 1) → IsSwitchAfter r u (first (y +ℤ pos 1)) (not b)
   switch_of_next_year past next =
-      switch_after r (second y) (first (y +ℤ pos 1)) (second (y +ℤ pos 1)) u b (not b) (twice_not b) from_second (within (y +ℤ pos 1) years.2) past (to_come_after_likely first u y likely (inner b)) next
+      switch_after r (second y) (first (y +ℤ pos 1)) (second (y +ℤ pos 1)) u b (not b) (sym (not-not b)) from_second (within (y +ℤ pos 1) years.2) past (to_come_after_likely first u y likely (inner b)) next
 
   pub switch_from_second : second y ≤ℤ u → first y <ℤ second y → IsSwitchUpTo r u (second y) b
   switch_from_second past last = switch_up_to r (first y) (second y) (first (y +ℤ pos 1)) u (not b) b refl (within y years.1) from_second last past (to_come_after_likely first u y likely (inner b))
 
   pub switch_from_first : first y ≤ℤ u → u <ℤ second y → IsSwitchUpTo r u (first y) (not b)
-  switch_from_first past here = switch_up_to r (second (y -ℤ pos 1)) (first y) (second y) u b (not b) (twice_not b) up_to_first (within y years.1) (apart (y -ℤ pos 1) y (omega (arith, ints))) past here
+  switch_from_first past here = switch_up_to r (second (y -ℤ pos 1)) (first y) (second y) u b (not b) (sym (not-not b)) up_to_first (within y years.1) (apart (y -ℤ pos 1) y (omega (arith, ints))) past here
 
   pub switch_of_last_year : u <ℤ first y → first (y -ℤ pos 1) <ℤ second (y -ℤ pos 1) → IsSwitchUpTo r u (second (y -ℤ pos 1)) b
   switch_of_last_year here last =
