@@ -39,24 +39,19 @@ no_leap_after_leap year here there = let like = like_model year in leap_alone (1
 
 -- the pair kind of a year and the next one
 
-record IsPairBy (leap next_leap : Bool) (week_day next_week_day length pair : ℕ) : Type 0 where
-  below : pair < 21
-  first_is : kind_of leap week_day ≡ first_kind pair
-  second_is : kind_of next_leap next_week_day ≡ second_kind pair
-  days_are : length ≡ first_days pair
-
-pair_by : (leap next_leap : Bool) (week_day next_week_day length : ℕ) → week_day < 7 → next_week_day ≡ (week_day + length) % 7 → length ≡ cond leap 366 365 → (leap ≡ true → next_leap ≡ true → ⊥) → (pair : ℕ) × IsPairBy leap next_leap week_day next_week_day length pair
+pair_by : (leap next_leap : Bool) (week_day next_week_day length : ℕ) → week_day < 7 → next_week_day ≡ (week_day + length) % 7 → length ≡ cond leap 366 365 → (leap ≡ true → next_leap ≡ true → ⊥)
+    → (pair : ℕ) × (pair < 21) × (kind_of leap week_day ≡ first_kind pair) × (kind_of next_leap next_week_day ≡ second_kind pair) × (length ≡ first_days pair)
 unfolding first_kind second_kind first_days
-pair_by false false w n l h next days alone = (w, record { below = omega arith; first_is = grind (arith, nat_tests); second_is = grind (arith, nat_tests); days_are = grind (arith, nat_tests) })
-pair_by false true w n l h next days alone = (7 + w, record { below = omega arith; first_is = grind (arith, nat_tests); second_is = grind (arith, nat_tests); days_are = grind (arith, nat_tests) })
-pair_by true false w n l h next days alone = (14 + w, record { below = omega arith; first_is = grind (arith, nat_tests); second_is = grind (arith, nat_tests); days_are = grind (arith, nat_tests) })
+pair_by false false w n l h next days alone = (w, omega arith, grind (arith, nat_tests), grind (arith, nat_tests), grind (arith, nat_tests))
+pair_by false true w n l h next days alone = (7 + w, omega arith, grind (arith, nat_tests), grind (arith, nat_tests), grind (arith, nat_tests))
+pair_by true false w n l h next days alone = (14 + w, omega arith, grind (arith, nat_tests), grind (arith, nat_tests), grind (arith, nat_tests))
 pair_by true true w n l h next days alone = absurd (alone refl refl)
 
 pub pair_of : (year : ℤ) → (pair : ℕ) × IsPairOf year pair
 unfolding year_kind
 pair_of year =
     let found = pair_by (is_leap year) (is_leap (year +ℤ pos 1)) (week_day_of_year year) (week_day_of_year (year +ℤ pos 1)) (year_length year) (week_day_of_year-is year).1 (week_day_of_year-next year) (year_length-is year) (no_leap_after_leap year) in
-    (found.0, record { below = found.1.below; first_is = found.1.first_is; second_is = found.1.second_is; days_are = found.1.days_are })
+    (found.0, record { below = found.1; first_is = found.2; second_is = found.3; days_are = found.4 })
 
 -- each pair kind is that of some year from 1972 on and the next one
 
