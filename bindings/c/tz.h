@@ -149,7 +149,7 @@ typedef struct tz_alternate {
   tz_day dst_end;
   int32_t dst_end_time; /* seconds from 00:00 of daylight saving time */
   bool ends_next_year;
-  bool has_inner_turns;
+  bool has_inner_switches;
   int32_t starts[14];
   int32_t ends[14];
 } tz_alternate;

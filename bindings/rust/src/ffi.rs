@@ -121,7 +121,7 @@ const _: () = {
     assert!(offset_of!(AlternateClock, dst_end) == 44);
     assert!(offset_of!(AlternateClock, dst_end_time) == 52);
     assert!(offset_of!(AlternateClock, ends_next_year) == 56);
-    assert!(offset_of!(AlternateClock, has_inner_turns) == 57);
+    assert!(offset_of!(AlternateClock, has_inner_switches) == 57);
     assert!(offset_of!(AlternateClock, starts) == 60 && offset_of!(AlternateClock, ends) == 116);
     assert!(size_of::<Rule>() == 192);
     assert!(offset_of!(Rule, fixed) == 4 && offset_of!(Rule, alternate) == 20);

@@ -40,7 +40,7 @@ pub(crate) struct AlternateClock {
     pub(crate) dst_end: Day,
     pub(crate) dst_end_time: i32,
     pub(crate) ends_next_year: bool,
-    pub(crate) has_inner_turns: bool,
+    pub(crate) has_inner_switches: bool,
     pub(crate) starts: [i32; 14],
     pub(crate) ends: [i32; 14],
 }
@@ -53,7 +53,7 @@ pub(crate) const NO_CLOCK: AlternateClock = AlternateClock {
     dst_end: FIRST_DAY,
     dst_end_time: 0,
     ends_next_year: false,
-    has_inner_turns: false,
+    has_inner_switches: false,
     starts: [0; 14],
     ends: [0; 14],
 };

@@ -33,8 +33,8 @@ year_fits (negsuc n) low high = record { sfits = omega (arith, ints) }
 -- far from the ends all that is less than 2^32 seconds, which are 136.1 years, from a reading lies in years of 32 bits
 far_from_ends : (f : Fields) → IsValid f → IsFarFromEnds f.year → (x : ℤ) → (reading f -ℤ pos 4294967296) <ℤ x → x <ℤ (reading f +ℤ pos 4294967296) → IsReading x
 far_from_ends f valid far x from until =
-    let before = first_day-mono (f.year -ℤ pos 200) f.year 200 (omega (arith, ints)) in
-    let after = first_day-mono (f.year +ℤ pos 1) (f.year +ℤ pos 199 +ℤ pos 1) 199 (omega (arith, ints)) in
+    let before = first_day-mono (f.year -ℤ pos 200) f.year (omega (arith, ints)) in
+    let after = first_day-mono (f.year +ℤ pos 1) (f.year +ℤ pos 199 +ℤ pos 1) (omega (arith, ints)) in
     let first = first_day_bounds (f.year -ℤ pos 200) (year_fits (f.year -ℤ pos 200) (omega (arith, ints, far.0)) (omega (arith, ints, far.1))) in
     let last = first_day_bounds (f.year +ℤ pos 199) (year_fits (f.year +ℤ pos 199) (omega (arith, ints, far.0)) (omega (arith, ints, far.1))) in
     let r = valid.in_range in
@@ -45,8 +45,8 @@ far_from_ends f valid far x from until =
 -- up to near the ends all within three days of one does
 inside_ends : (f : Fields) → IsValid f → IsInsideEnds f.year → (x : ℤ) → (reading f -ℤ pos 259200) ≤ℤ x → x ≤ℤ (reading f +ℤ pos 259200) → IsReading x
 inside_ends f valid inside x from until =
-    let before = first_day-mono (f.year -ℤ pos 2) f.year 2 (omega (arith, ints)) in
-    let after = first_day-mono (f.year +ℤ pos 1) (f.year +ℤ pos 2 +ℤ pos 1) 2 (omega (arith, ints)) in
+    let before = first_day-mono (f.year -ℤ pos 2) f.year (omega (arith, ints)) in
+    let after = first_day-mono (f.year +ℤ pos 1) (f.year +ℤ pos 2 +ℤ pos 1) (omega (arith, ints)) in
     let first = first_day_bounds (f.year -ℤ pos 2) (year_fits (f.year -ℤ pos 2) (omega (arith, ints, inside.0)) (omega (arith, ints, inside.1))) in
     let last = first_day_bounds (f.year +ℤ pos 2) (year_fits (f.year +ℤ pos 2) (omega (arith, ints, inside.0)) (omega (arith, ints, inside.1))) in
     let r = valid.in_range in

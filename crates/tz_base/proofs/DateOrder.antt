@@ -1,5 +1,5 @@
 -- Day numbers rise with the dates, so that a day has one date, and a reading one list of civil fields.
-use Rattle.std.proofs.Common.{◌≡◌, ℕ, zero, suc, ◌+◌, ◌-◌, ◌*◌, ◌%◌, ◌<◌, ◌≤◌, inl, inr, Bool, refl, sym, ap, ◌∙◌, arith, lit<, ℤ, pos, negsuc, ◌+ℤ◌, ◌≤ℤ◌, ◌<ℤ◌}
+use Rattle.std.proofs.Common.{◌-ℤ◌, ◌*ℤ◌, ◌≡◌, ℕ, zero, suc, ◌+◌, ◌-◌, ◌*◌, ◌%◌, ◌<◌, ◌≤◌, inl, inr, Bool, refl, sym, ap, ◌∙◌, arith, lit<, ℤ, pos, negsuc, ◌+ℤ◌, ◌≤ℤ◌, ◌<ℤ◌}
 use Rattle.std.proofs.lemmas.Int.{ints, by_lt_z, int_rem_euclid_is}
 use Rattle.std.proofs.lemmas.Bool.{cases_lt}
 use Rattle.tz_base.specs.Cycles.{days_of_years}
@@ -10,7 +10,7 @@ use Rattle.tz_base.proofs.YearStarts.{first_day-moved, is_leap-moved}
 use Rattle.tz_base.proofs.DaysOfYears.{day_number-is, day_in_year}
 
 -- some cycles of 400 years make two years not negative
-moved_together : (a b : ℤ) → (k m n : ℕ) × (a +ℤ pos (400 * k) ≡ pos m) × (b +ℤ pos (400 * k) ≡ pos n)
+pub moved_together : (a b : ℤ) → (k m n : ℕ) × (a +ℤ pos (400 * k) ≡ pos m) × (b +ℤ pos (400 * k) ≡ pos n)
 moved_together (pos a) (pos b) = (0, a, b, omega (arith, ints), omega (arith, ints))
 moved_together (pos a) (negsuc b) = (b + 1, a + 400 * (b + 1), 399 * (b + 1), omega (arith, ints), omega (arith, ints))
 moved_together (negsuc a) (pos b) = (a + 1, 399 * (a + 1), b + 400 * (a + 1), omega (arith, ints), omega (arith, ints))
@@ -20,15 +20,14 @@ days_of_years-mono : (m n : ℕ) → m ≤ n → days_of_years m + 365 * (n - m)
 unfolding days_of_years
 days_of_years-mono m n h = omega arith
 
--- this many years have at least 365 days each
-pub first_day-mono : (a b : ℤ) (n : ℕ) → (a +ℤ pos n) ≡ b → (first_day a +ℤ pos (365 * n)) ≤ℤ first_day b
-first_day-mono a b n e =
+-- the years between have at least 365 days each
+pub first_day-mono : (a b : ℤ) → a ≤ℤ b → (first_day a +ℤ pos 365 *ℤ (b -ℤ a)) ≤ℤ first_day b
+first_day-mono a b up =
     let moved = moved_together a b in
     let first = first_day-moved a moved.1 moved.0 moved.3 in
     let second = first_day-moved b moved.2 moved.0 moved.4 in
-    let same : n ≡ moved.2 - moved.1 = omega (arith, ints, moved.3, moved.4) in
     let rise = days_of_years-mono moved.1 moved.2 (omega (arith, ints, moved.3, moved.4)) in
-    omega (arith, ints)
+    omega (arith, ints, moved.3, moved.4)
 
 months_length-mono : (leap : Bool) (a n : ℕ) → months_length leap a ≤ months_length leap (a + n)
 unfolding months_length
@@ -55,10 +54,9 @@ gap_between (negsuc a) (negsuc b) h = (a - b - 1, omega (arith, ints))
 -- an earlier date has a smaller number
 pub day_number-mono : (y : ℤ) (m d : ℕ) (y' : ℤ) (m' d' : ℕ) → IsDay y m d → IsDay y' m' d' → IsEarlierDate y m d y' m' d' → day_number y m d <ℤ day_number y' m' d'
 day_number-mono y m d y' m' d' day day' (inl year) =
-    let gap = gap_between y y' year in
     let low = day_in_year y m d day.month_is.0 day.month_is.1 day.month_day_is.0 day.month_day_is.1 in
     let high = day_in_year y' m' d' day'.month_is.0 day'.month_is.1 day'.month_day_is.0 day'.month_day_is.1 in
-    omega (arith, ints, first_day-mono (y +ℤ pos 1) y' gap.0 gap.1)
+    omega (arith, ints, first_day-mono (y +ℤ pos 1) y' (omega (arith, ints, year)))
 day_number-mono y m d y' m' d' day day' (inr (same, inl month)) =
     let leap = ap is_leap same in
     let first = ap first_day same in
@@ -71,7 +69,7 @@ day_number-mono y m d y' m' d' day day' (inr (same, inr (month, later))) =
     let place : months_length (is_leap y) (m - 1) ≡ months_length (is_leap y') (m' - 1) = cc in
     rw (day_number-is y m d, day_number-is y' m' d') (omega (arith, ints))
 
--- neither of two dates is earlier than the other where they are one
+-- neither of two dates is earlier than the other if they are one
 same_day : (y : ℤ) (m d : ℕ) (y' : ℤ) (m' d' : ℕ) → y ≡ y' → m ≡ m' → (IsEarlierDate y m d y' m' d' → ⊥) → (IsEarlierDate y' m' d' y m d → ⊥) → d ≡ d'
 same_day y m d y' m' d' same month f g =
     elim (cases_lt d d') [

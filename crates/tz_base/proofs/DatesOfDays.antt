@@ -8,7 +8,7 @@ use Rattle.tz_base.proofs.DaysOfYears.{day_number-is}
 use Rattle.tz_base.proofs.MarchYears.{days_of_years-next, days_of_years-same}
 use Rattle.tz_base.proofs.MonthsFromMarch.{IsBeforeJanuary, IsFromJanuary, month_before_january, month_from_january}
 
--- the days of the years of 32 bits lie in these years
+-- the days of the years of 32 bits are in these years
 pub year_before_january : (n d day : ℕ) → days_of_march_years n + d ≡ day - 60 → 128565 ≤ day → day ≤ 1568704721174 → d < 306 → (352 ≤ n) × (n ≤ 4294967647)
 unfolding days_of_march_years
 year_before_january n d day found low high early = (omega arith, omega arith)

@@ -1,4 +1,4 @@
--- Where the days of a year lie.
+-- The place of a year's days among all days.
 use Rattle.std.proofs.Common.{◌≡◌, ℕ, suc, ◌+◌, ◌-◌, ◌*◌, ◌<◌, ◌≤◌, Bool, true, false, cond, leb, refl, arith, ℤ, pos, negsuc, ◌+ℤ◌, ◌-ℤ◌, ◌≤ℤ◌}
 use Rattle.std.proofs.lemmas.Bool.Decides.{nat_tests}
 use Rattle.std.proofs.lemmas.Int.{ints}
@@ -45,7 +45,7 @@ first_day-next (negsuc n) =
     let length = year_length-moved (negsuc n) (399 * (n + 1)) (n + 1) (omega (arith, ints)) in
     omega (arith, ints, days_of_years-suc (399 * (n + 1)))
 
--- a valid day lies before the next year
+-- a valid day is before the next year
 pub day_in_year : (year : ℤ) (month month_day : ℕ) → 1 ≤ month → month ≤ 12 → 1 ≤ month_day → month_day ≤ month_length (is_leap year) month
     → (first_day year ≤ℤ day_number year month month_day) × ((day_number year month month_day +ℤ pos 1) ≤ℤ first_day (year +ℤ pos 1))
 day_in_year year month month_day low high day_low day_high =

@@ -1,4 +1,4 @@
--- Where valid fields of a year of 32 bits read: all but the very last second 60 read in such a year.
+-- What valid fields of a year of 32 bits read: all but the very last second 60 read in such a year.
 use Rattle.std.proofs.Common.{◌≡◌, ◌+◌, ◌*◌, ◌⊎◌, inl, inr, arith, rules, pos, negsuc, ◌≤ℤ◌}
 use Rattle.std.proofs.lemmas.Int.{ints, by_lt_z}
 use Rattle.std.proofs.lemmas.Bool.{cases_lt}

@@ -24,19 +24,19 @@ right_leap : all_below (is_right_entry true leap_table) 12 ≡ true
 unfolding all_below is_right_entry month_length months_length
 right_leap = refl
 
-told_entry : (leap : Bool) (table : List ℤ) (index : ℕ) → is_right_entry leap table index ≡ true
+entry_from_test : (leap : Bool) (table : List ℤ) (index : ℕ) → is_right_entry leap table index ≡ true
     → (slice_index_or table index (pos 0) ≡ pos (months_length leap index)) × (months_length leap index ≤ 335)
 unfolding is_right_entry
-told_entry leap table index h =
+entry_from_test leap table index h =
     let entry = slice_index_or table index (pos 0) in
     let same : int_eq entry (pos (months_length leap index)) ≡ true = grind (arith, nat_tests) in
     ((Decides-int_eq entry (pos (months_length leap index))).0 same, grind (arith, nat_tests))
 
 pub months_length-normal : (index : ℕ) → index < 12 → (slice_index_or normal_table index (pos 0) ≡ pos (months_length false index)) × (months_length false index ≤ 335)
-months_length-normal index h = told_entry false normal_table index (passes_at (is_right_entry false normal_table) 12 index right_normal h)
+months_length-normal index h = entry_from_test false normal_table index (passes_at (is_right_entry false normal_table) 12 index right_normal h)
 
 pub months_length-leap : (index : ℕ) → index < 12 → (slice_index_or leap_table index (pos 0) ≡ pos (months_length true index)) × (months_length true index ≤ 335)
-months_length-leap index h = told_entry true leap_table index (passes_at (is_right_entry true leap_table) 12 index right_leap h)
+months_length-leap index h = entry_from_test true leap_table index (passes_at (is_right_entry true leap_table) 12 index right_leap h)
 
 pub months_length-bound : (leap : Bool) (index : ℕ) → index < 12 → months_length leap index ≤ 335
 months_length-bound false index h = (months_length-normal index h).1
@@ -56,7 +56,7 @@ unfolding all_below is_right_march_place month_length months_length
 right_march false = refl
 right_march true = refl
 
--- how many days lie between March 1st and the first of the month at a place, counted from January
+-- how many days there are between March 1st and the first of the month at a place, counted from January
 pub record IsFromMarch (leap : Bool) (place days : ℕ) : Type 0 where
   pub early : place < 2 → days ≡ 306 + months_length leap place
   pub late : 2 ≤ place → days + cond leap 60 59 ≡ months_length leap place
@@ -68,7 +68,7 @@ days_from_march-is leap place h =
     let right = passes_at (is_right_march_place leap) 12 place (right_march leap) h in
     record { early = λ small. grind (arith, nat_tests); late = λ large. grind (arith, nat_tests); bound = grind (arith, nat_tests) }
 
--- a day before January lies in the month that is found, after the months before it
+-- a day before January is in the month that is found, after the months before it
 is_right_before_january : Bool → ℕ → Bool
 is_right_before_january leap day =
     let m = march_month day in
@@ -122,10 +122,10 @@ from_january false day h last = passes_at (is_right_from_january false) 59 day f
     below : (day : ℕ) → day < 60 → (day ≡ 59 → false ≡ true) → day < 59
     below day h last = grind arith
 
-told_from_january : (leap : Bool) (d day : ℕ) → 306 + d ≡ day → is_right_from_january leap d ≡ true → IsFromJanuary leap day
+IsFromJanuary-from_test : (leap : Bool) (d day : ℕ) → 306 + d ≡ day → is_right_from_january leap d ≡ true → IsFromJanuary leap day
 unfolding is_right_from_january
-told_from_january leap d day same right = rw (← same) (grind (arith, nat_tests))
+IsFromJanuary-from_test leap d day same right = rw (← same) (grind (arith, nat_tests))
 
 pub month_from_january : (leap : Bool) (day : ℕ) → 306 ≤ day → day ≤ 365 → (day ≡ 365 → leap ≡ true) → IsFromJanuary leap day
 month_from_january leap day low high last =
-    told_from_january leap (day - 306) day (omega arith) (from_january leap (day - 306) (omega arith) (λ e. last (omega arith)))
+    IsFromJanuary-from_test leap (day - 306) day (omega arith) (from_january leap (day - 306) (omega arith) (λ e. last (omega arith)))

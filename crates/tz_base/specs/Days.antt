@@ -37,7 +37,7 @@ unfoldable pub years_length_before_1970 : ℕ → ℕ
 years_length_before_1970 zero = 0
 years_length_before_1970 (suc years) = years_length_before_1970 years + year_length (pos 1969 -ℤ pos years)
 
--- the number of the day that lies this many years after January 1st of 1970, or before it
+-- the number of the day that is this many years after January 1st of 1970, or before it
 abbrev pub first_day_after : ℤ → ℤ
 first_day_after (pos years) = pos (years_length_from_1970 years)
 first_day_after (negsuc years) = neg_ℤ (pos (years_length_before_1970 (suc years)))

@@ -13,7 +13,7 @@ IsMonth month = (1 ≤ month) × (month ≤ 12)
 abbrev pub IsMonthDay : ℕ → Type 0
 IsMonthDay day = (1 ≤ day) × (day ≤ 31)
 
--- each field lies in its range, but the day may lie past the end of its month; second 60 is a second of any minute
+-- each field is in its range, but the day may be past the end of its month; second 60 is a second of any minute
 pub record IsInRange (f : Fields) : Type 0 where
   pub month : IsMonth f.month
   pub month_day : IsMonthDay f.month_day
@@ -31,7 +31,7 @@ pub record IsValid (f : Fields) : Type 0 where
   pub in_range : IsInRange f
   pub in_month : f.month_day ≤ length_of_month f
 
--- the fault that is named where there are several: the first in this order, and last of all a day past the end of its month
+-- the fault that is named if there are several: the first in this order, and last of all a day past the end of its month
 abbrev pub IsFirstFault : Fields → DateTimeError → Type 0
 IsFirstFault f InvalidMonth = ¬ IsMonth f.month
 IsFirstFault f InvalidMonthDay = IsMonth f.month × (¬ IsMonthDay f.month_day ⊎ (IsInRange f × (length_of_month f < f.month_day)))
@@ -55,7 +55,7 @@ pub record IsCivil (x : ℤ) (nanoseconds : ℕ) (f : Fields) : Type 0 where
   pub reads : reading f ≡ x
   pub nanoseconds_are : f.nanoseconds ≡ nanoseconds
 
--- the reading lies in a year of 32 bits
+-- the reading is in a year of 32 bits
 abbrev pub IsReading : ℤ → Type 0
 IsReading x = (negsuc 67768100567971199 ≤ℤ x) × (x ≤ℤ pos 67767976233532799)
 

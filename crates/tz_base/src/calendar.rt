@@ -93,7 +93,7 @@ fn days_from_march(month: u8) -> u64
     u64::from(DAYS_FROM_MARCH[index])
 }
 
-/// The year, moved as by `moved_year`, on whose March 1st the year begins in which the month lies.
+/// The year, moved as by `moved_year`, on whose March 1st the year begins in which the month is.
 fn moved_march_year(year: i32, month: u8) -> u64
     ensures early { month < 3 → pos result +ℤ pos 1 ≡ year +ℤ pos 2147484000 }
     ensures late { 3 ≤ month → pos result ≡ year +ℤ pos 2147484000 }

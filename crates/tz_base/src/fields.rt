@@ -40,7 +40,7 @@ const FIRST_READING: i64 = -67_768_100_567_971_200;
 /// The reading of their last second.
 const LAST_READING: i64 = 67_767_976_233_532_799;
 
-/// Whether the reading lies in a year of 32 bits.
+/// Whether the reading is in a year of 32 bits.
 pub fn is_reading(reading: i64) -> bool
     ensures { MatchBool result (IsReading reading) (¬ IsReading reading) }
 {

@@ -1,4 +1,4 @@
--- Two tables whose bounds over all kinds lie apart never change their order.
+-- Two tables whose bounds over all kinds are apart never change their order.
 use Rattle.std.proofs.Common.{◌⊎◌, inl, inr, lit<, arith, ℤ, pos, ◌+ℤ◌, ◌≤ℤ◌, ◌<ℤ◌, List}
 use Rattle.std.proofs.lemmas.Int.{ints}
 use Rattle.tz_rule.specs.Kinds.{first_kind, second_kind}

@@ -1,4 +1,4 @@
--- A function that casts a `&` to one to another type meets its contract, where the first holds what the second does. Assumes `Logic`.
+-- A function that casts a `&` to one to another type meets its contract, if the first holds what the second does. Assumes `Logic`.
 use Rattle.std.proofs.Common.{◌≡◌, ℕ, List, [], ◌∷◌, refl}
 use Rattle.std.proofs.raw_atomic.Walks.{proved}
 use seplogic.Ra.Ura.{Ura}

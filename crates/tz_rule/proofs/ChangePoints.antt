@@ -1,5 +1,5 @@
 -- The type of a rule changes at starts and ends alone, and repeats after 400 years.
-use Rattle.std.proofs.Common.{◌≡◌, inl, inr, sym, ap, ◌∙◌, arith, ℤ, pos, ◌+ℤ◌, ◌-ℤ◌, ◌≤ℤ◌, ◌<ℤ◌}
+use Rattle.std.proofs.Common.{◌≡◌, inl, inr, ap, arith, ℤ, pos, negsuc, ◌+ℤ◌, ◌≤ℤ◌, ◌<ℤ◌}
 use Rattle.std.proofs.lemmas.Int.{ints, by_lt_z}
 use Rattle.tz_rule.specs.LocalTimeType.{LocalTimeType}
 use Rattle.tz_rule.specs.Alternate.{AlternateTime, start_of, end_of, IsAlternateType, IsUnchanged}
@@ -26,28 +26,20 @@ alternate_type_was r u v t up none (inl (day, e)) = inl (daylight_was (start_of 
 alternate_type_was r u v t up none (inr (day, e)) = inr (λ earlier. day (daylight_stays (start_of r) (end_of r) u v up none.no_end earlier), e)
 
 module _ (f g : ℤ → ℤ) (yf : IsYearly f) (yg : IsYearly g) (u : ℤ) where
-  pub daylight_repeats : IsDaylight f g u → IsDaylight f g (u +ℤ pos 12622780800)
-  daylight_repeats (y, end, pair, from, to) = (y +ℤ pos 400, end +ℤ pos 12622780800, paired pair, omega (arith, ints, yf.period y), omega (arith, ints))
+  daylight_shifted : (v years seconds : ℤ) → ((y : ℤ) → f (y +ℤ years) ≡ f y +ℤ seconds) → ((y : ℤ) → g (y +ℤ years) ≡ g y +ℤ seconds) → IsDaylight f g v → IsDaylight f g (v +ℤ seconds)
+  daylight_shifted v years seconds pf pg (y, end, pair, from, to) = (y +ℤ years, end +ℤ seconds, paired pair, omega (arith, ints, pf y), omega (arith, ints))
     where
-      paired : IsPairedEnd f g y end → IsPairedEnd f g (y +ℤ pos 400) (end +ℤ pos 12622780800)
-      paired (inl (across, e)) =
-          let next : y +ℤ pos 400 +ℤ pos 1 ≡ y +ℤ pos 1 +ℤ pos 400 = omega (arith, ints) in
-          inl (across, ap (λ x. x +ℤ pos 12622780800) e ∙ sym (yg.period (y +ℤ pos 1)) ∙ ap g (sym next))
-      paired (inr (in_order, e)) = inr (in_order, ap (λ x. x +ℤ pos 12622780800) e ∙ sym (yg.period y))
+      paired : IsPairedEnd f g y end → IsPairedEnd f g (y +ℤ years) (end +ℤ seconds)
+      paired (inl (across, e)) = let next : y +ℤ years +ℤ pos 1 ≡ y +ℤ pos 1 +ℤ years = omega (arith, ints) in inl (across, omega (arith, ints, e, pg (y +ℤ pos 1), ap g next))
+      paired (inr (in_order, e)) = inr (in_order, omega (arith, ints, e, pg y))
+
+  pub daylight_repeats : IsDaylight f g u → IsDaylight f g (u +ℤ pos 12622780800)
+  daylight_repeats = daylight_shifted u (pos 400) (pos 12622780800) yf.period yg.period
 
   pub daylight_repeated : IsDaylight f g (u +ℤ pos 12622780800) → IsDaylight f g u
-  daylight_repeated (y, end, pair, from, to) = (y -ℤ pos 400, end -ℤ pos 12622780800, paired pair, omega (arith, ints, yf.period (y -ℤ pos 400), ap f back), omega (arith, ints))
+  daylight_repeated later =
+      let same : u +ℤ pos 12622780800 +ℤ negsuc 12622780799 ≡ u = omega (arith, ints) in
+      rw same at (daylight_shifted (u +ℤ pos 12622780800) (negsuc 399) (negsuc 12622780799) (earlier f yf) (earlier g yg) later)
     where
-      back : y -ℤ pos 400 +ℤ pos 400 ≡ y
-      back = omega (arith, ints)
-
-      earlier : (z : ℤ) → g z ≡ end → g (z -ℤ pos 400) ≡ end -ℤ pos 12622780800
-      earlier z e =
-          let here : z -ℤ pos 400 +ℤ pos 400 ≡ z = omega (arith, ints) in
-          omega (arith, ints, yg.period (z -ℤ pos 400), ap g here)
-
-      paired : IsPairedEnd f g y end → IsPairedEnd f g (y -ℤ pos 400) (end -ℤ pos 12622780800)
-      paired (inl (across, e)) =
-          let next : y -ℤ pos 400 +ℤ pos 1 ≡ y +ℤ pos 1 -ℤ pos 400 = omega (arith, ints) in
-          inl (across, sym (earlier (y +ℤ pos 1) (sym e)) ∙ ap g (sym next))
-      paired (inr (in_order, e)) = inr (in_order, sym (earlier y (sym e)))
+      earlier : (h : ℤ → ℤ) → IsYearly h → (y : ℤ) → h (y +ℤ negsuc 399) ≡ h y +ℤ negsuc 12622780799
+      earlier h yh y = let back : y +ℤ negsuc 399 +ℤ pos 400 ≡ y = omega (arith, ints) in omega (arith, ints, yh.period (y +ℤ negsuc 399), ap h back)

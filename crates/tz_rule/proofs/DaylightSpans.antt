@@ -1,117 +1,85 @@
 -- The spans that begin or end in the year of an instant or in its neighbours decide whether it is in daylight saving time.
-use Rattle.std.proofs.Common.{◌≡◌, ◌⊎◌, inl, inr, ℕ, zero, suc, ◌+◌, ◌-◌, ◌≤◌, refl, sym, ap, arith, ℤ, pos, negsuc, ◌+ℤ◌, ◌-ℤ◌, ◌≤ℤ◌, ◌<ℤ◌}
+use Rattle.std.proofs.Common.{◌≡◌, ◌⊎◌, inl, inr, zero, suc, Bool, true, false, MatchBool, refl, arith, ℤ, pos, negsuc, ◌+ℤ◌, ◌-ℤ◌, ◌≤ℤ◌, ◌<ℤ◌}
 use Rattle.std.proofs.lemmas.Int.{ints, by_lt_z}
-use Rattle.tz_base.proofs.DateOrder.{first_day-mono, gap_between}
-use Rattle.tz_rule.specs.Alternate.{IsUtcYear}
+use Rattle.tz_base.proofs.DateOrder.{first_day-mono}
+use Rattle.tz_rule.specs.Alternate.{AlternateTime, start_of, end_of, IsInRuleRange, AreRuleDays, IsUtcYear}
 use Rattle.tz_rule.specs.Daylight.{IsInSpan}
-use Rattle.tz_rule.specs.Pairing.{EndsNextYear, IsDaylight}
-use Rattle.tz_rule.proofs.YearlyInstants.{IsYearly}
+use Rattle.tz_rule.specs.Pairing.{EndsNextYear, IsPairedEnd, IsDaylight}
+use Rattle.tz_rule.proofs.YearlyInstants.{IsYearly, IsYearly-start_of, IsYearly-end_of}
 
 -- two years before the year of an instant everything is over
-pub over : (f : ℤ → ℤ) → IsYearly f → (u year y : ℤ) (n : ℕ) → IsUtcYear u year → y +ℤ pos n ≡ year → 2 ≤ n → f y ≤ℤ u
-over f yf u year y n is e h = omega (arith, ints, yf.high y, first_day-mono y year n e, is.0)
+pub over : (f : ℤ → ℤ) → IsYearly f → (u year y : ℤ) → IsUtcYear u year → (y +ℤ pos 2) ≤ℤ year → f y ≤ℤ u
+over f yf u year y is h = omega (arith, ints, yf.high y, first_day-mono y year (omega (arith, ints)), is.0)
 
 -- two years after it everything is yet to come
-pub to_come : (f : ℤ → ℤ) → IsYearly f → (u year y : ℤ) (n : ℕ) → IsUtcYear u year → year +ℤ pos n ≡ y → 2 ≤ n → u <ℤ f y
-to_come f yf u year y n is e h =
-    omega (arith, ints, yf.low y, first_day-mono (year +ℤ pos 1) y (n - 1) (omega (arith, ints, e)), is.1)
+pub to_come : (f : ℤ → ℤ) → IsYearly f → (u year y : ℤ) → IsUtcYear u year → (year +ℤ pos 2) ≤ℤ y → u <ℤ f y
+to_come f yf u year y is h = omega (arith, ints, yf.low y, first_day-mono (year +ℤ pos 1) y (omega (arith, ints)), is.1)
 
-pub far_over : (f : ℤ → ℤ) → IsYearly f → (u year y : ℤ) → IsUtcYear u year → (y +ℤ pos 2) ≤ℤ year → f y ≤ℤ u
-far_over f yf u year y is h =
-    let before : (y +ℤ pos 1) <ℤ year = omega (arith, ints) in
-    let gap = gap_between (y +ℤ pos 1) year before in
-    over f yf u year y (gap.0 + 2) is (omega (arith, ints, gap.1)) (omega arith)
+-- the end of the span that starts in a year: the next year's, or the same year's
+abbrev pub paired_end : Bool → (ℤ → ℤ) → ℤ → ℤ
+paired_end true g y = g (y +ℤ pos 1)
+paired_end false g y = g y
 
-pub far_to_come : (f : ℤ → ℤ) → IsYearly f → (u year y : ℤ) → IsUtcYear u year → (year +ℤ pos 2) ≤ℤ y → u <ℤ f y
-far_to_come f yf u year y is h =
-    let before : (year +ℤ pos 1) <ℤ y = omega (arith, ints) in
-    let gap = gap_between (year +ℤ pos 1) y before in
-    to_come f yf u year y (gap.0 + 2) is (omega (arith, ints, gap.1)) (omega arith)
+module _ (f g : ℤ → ℤ) where
+  is_paired : (b : Bool) → MatchBool b (EndsNextYear f g) (¬ EndsNextYear f g) → (y : ℤ) → IsPairedEnd f g y (paired_end b g y)
+  is_paired true across y = inl (across, refl)
+  is_paired false in_order y = inr (in_order, refl)
 
-module _ (f g : ℤ → ℤ) (yf : IsYearly f) (yg : IsYearly g) (u year : ℤ) (is : IsUtcYear u year) where
-  decide_span : (y z : ℤ) → IsInSpan f g u y z ⊎ ¬ IsInSpan f g u y z
-  decide_span y z =
-      by_lt_z u (f y) (λ h. inr (λ span. omega (arith, ints, span.0)))
-      (λ h. by_lt_z u (g z) (λ k. inl (h, k)) (λ k. inr (λ span. omega (arith, ints, span.1))))
+  pub paired_end-unique : (b : Bool) → MatchBool b (EndsNextYear f g) (¬ EndsNextYear f g) → (y end : ℤ) → IsPairedEnd f g y end → end ≡ paired_end b g y
+  paired_end-unique true across y end (inl (_, e)) = e
+  paired_end-unique true across y end (inr (in_order, _)) = absurd (in_order across)
+  paired_end-unique false in_order y end (inl (across, _)) = absurd (in_order across)
+  paired_end-unique false in_order y end (inr (_, e)) = e
 
-  -- where each start has the end of its year
-  pub daylight_in_order : ¬ EndsNextYear f g → (y : ℤ) → IsInSpan f g u y y → IsDaylight f g u
-  daylight_in_order in_order y span = (y, g y, inr (in_order, refl), span.0, span.1)
+module _ (g : ℤ → ℤ) (yg : IsYearly g) where
+  paired_end-rises : (b : Bool) (x y : ℤ) → x ≤ℤ y → paired_end b g x ≤ℤ paired_end b g y
+  paired_end-rises true x y up = yg.rises (x +ℤ pos 1) (y +ℤ pos 1) (omega (arith, ints))
+  paired_end-rises false x y up = yg.rises x y up
 
-  pub no_daylight_in_order : ¬ EndsNextYear f g → ¬ IsInSpan f g u (year -ℤ pos 1) (year -ℤ pos 1) → ¬ IsInSpan f g u year year → ¬ IsInSpan f g u (year +ℤ pos 1) (year +ℤ pos 1) → ¬ IsDaylight f g u
-  no_daylight_in_order in_order before here after (y, end, inl (across, e), from, to) = in_order across
-  no_daylight_in_order in_order before here after (y, end, inr (_, e), from, to) = by_distance (y -ℤ year) (omega (arith, ints)) (from, rw e at to)
-    where
-      by_distance : (d : ℤ) → y ≡ year +ℤ d → IsInSpan f g u y y → ⊥
-      by_distance (pos zero) e span = let same : y ≡ year = omega (arith, ints) in here (rw same at span)
-      by_distance (pos (suc zero)) e span = after (rw e at span)
-      by_distance (pos (suc (suc n))) e span = omega (arith, ints, span.0, to_come f yf u year y (n + 2) is (omega (arith, ints)) (omega arith))
-      by_distance (negsuc zero) e span = let same : y ≡ year -ℤ pos 1 = omega (arith, ints) in before (rw same at span)
-      by_distance (negsuc (suc n)) e span = omega (arith, ints, span.1, over g yg u year y (n + 2) is (omega (arith, ints)) (omega arith))
+  paired_end-le_next : (b : Bool) (y : ℤ) → paired_end b g y ≤ℤ g (y +ℤ pos 1)
+  paired_end-le_next true y = omega (arith, ints)
+  paired_end-le_next false y = yg.rises y (y +ℤ pos 1) (omega (arith, ints))
 
-  pub decide_in_order : ¬ EndsNextYear f g → IsDaylight f g u ⊎ ¬ IsDaylight f g u
-  decide_in_order in_order =
-      elim (decide_span (year -ℤ pos 1) (year -ℤ pos 1)) [
-        | inl span ↦ inl (daylight_in_order in_order (year -ℤ pos 1) span)
-        | inr before ↦ elim (decide_span year year) [
-          | inl span ↦ inl (daylight_in_order in_order year span)
-          | inr here ↦ elim (decide_span (year +ℤ pos 1) (year +ℤ pos 1)) [
-            | inl span ↦ inl (daylight_in_order in_order (year +ℤ pos 1) span)
-            | inr after ↦ inr (no_daylight_in_order in_order before here after)
-          ]
-        ]
-      ]
+module _ (r : AlternateTime) (range : IsInRuleRange r) (days : AreRuleDays r) (b : Bool) (order : MatchBool b (EndsNextYear (start_of r) (end_of r)) (¬ EndsNextYear (start_of r) (end_of r))) where
+  abbrev starts : IsYearly (start_of r)
+  starts = IsYearly-start_of r range days.start_is
 
-  -- where each start has the end of the next year
-  pub daylight_across_years : EndsNextYear f g → (y z : ℤ) → y +ℤ pos 1 ≡ z → IsInSpan f g u y z → IsDaylight f g u
-  daylight_across_years across y z e span = (y, g z, inl (across, ap g (sym e)), span.0, span.1)
+  abbrev ends : IsYearly (end_of r)
+  ends = IsYearly-end_of r range days.end_is
 
-  -- the span of the year before last has begun
-  pub daylight_to_end : EndsNextYear f g → u <ℤ g (year -ℤ pos 1) → IsDaylight f g u
-  daylight_to_end across h =
-      let e : year -ℤ pos 2 +ℤ pos 1 ≡ year -ℤ pos 1 = omega (arith, ints) in
-      daylight_across_years across (year -ℤ pos 2) (year -ℤ pos 1) e (over f yf u year (year -ℤ pos 2) 2 is (omega (arith, ints)) (omega arith), h)
+  abbrev IsSpan : ℤ → ℤ → Type 0
+  IsSpan u y = IsInSpan (start_of r) (paired_end b (end_of r)) u y y
 
-  -- the span of the next year has not ended
-  pub daylight_from_start : EndsNextYear f g → f (year +ℤ pos 1) ≤ℤ u → IsDaylight f g u
-  daylight_from_start across h =
-      let e : year +ℤ pos 1 +ℤ pos 1 ≡ year +ℤ pos 2 = omega (arith, ints) in
-      daylight_across_years across (year +ℤ pos 1) (year +ℤ pos 2) e (h, to_come g yg u year (year +ℤ pos 2) 2 is refl (omega arith))
+  pub daylight_in_span : (u y : ℤ) → IsSpan u y → IsDaylight (start_of r) (end_of r) u
+  daylight_in_span u y (from, to) = (y, paired_end b (end_of r) y, is_paired (start_of r) (end_of r) b order y, from, to)
 
-  pub no_daylight_across_years : EndsNextYear f g → ¬ (u <ℤ g (year -ℤ pos 1)) → ¬ IsInSpan f g u (year -ℤ pos 1) year → ¬ IsInSpan f g u year (year +ℤ pos 1) → ¬ (f (year +ℤ pos 1) ≤ℤ u) → ¬ IsDaylight f g u
-  no_daylight_across_years across last before here after (y, end, inr (in_order, e), from, to) = in_order across
-  no_daylight_across_years across last before here after (y, end, inl (_, e), from, to) = by_distance (y -ℤ year) (omega (arith, ints)) from (rw e at to)
-    where
-      by_distance : (d : ℤ) → y ≡ year +ℤ d → f y ≤ℤ u → u <ℤ g (y +ℤ pos 1) → ⊥
-      by_distance (pos zero) e from to = let same : y ≡ year = omega (arith, ints) in here (rw same at from, rw same at to)
-      by_distance (pos (suc zero)) e from to = after (rw e at from)
-      by_distance (pos (suc (suc n))) e from to = omega (arith, ints, from, to_come f yf u year y (n + 2) is (omega (arith, ints)) (omega arith))
-      by_distance (negsuc zero) e from to =
-          let same : y ≡ year -ℤ pos 1 = omega (arith, ints) in
-          let next : y +ℤ pos 1 ≡ year = omega (arith, ints) in
-          before (rw same at from, rw next at to)
-      by_distance (negsuc (suc zero)) e from to = let next : y +ℤ pos 1 ≡ year -ℤ pos 1 = omega (arith, ints) in last (rw next at to)
-      by_distance (negsuc (suc (suc n))) e from to = omega (arith, ints, to, over g yg u year (y +ℤ pos 1) (n + 2) is (omega (arith, ints)) (omega arith))
+  -- from the end of a span up to the next start
+  pub no_daylight_between_spans : (u last next : ℤ) → next ≡ last +ℤ pos 1 → paired_end b (end_of r) last ≤ℤ u → u <ℤ start_of r next → ¬ IsDaylight (start_of r) (end_of r) u
+  no_daylight_between_spans u last next follows from to (y, end, pair, start, before) =
+      let end_is = paired_end-unique (start_of r) (end_of r) b order y end pair in
+      by_lt_z last y
+      (λ more. omega (arith, ints, to, start, starts.rises next y (omega (arith, ints, follows, more))))
+      (λ up. omega (arith, ints, from, before, end_is, paired_end-rises (end_of r) ends b y last up))
 
-  decide_ended : (u <ℤ g (year -ℤ pos 1)) ⊎ ¬ (u <ℤ g (year -ℤ pos 1))
-  decide_ended = by_lt_z u (g (year -ℤ pos 1)) (λ h. inl h) (λ h. inr (λ less. omega (arith, ints)))
+  module _ (u year : ℤ) (is : IsUtcYear u year) where
+    pub no_daylight_in_spans : ¬ IsSpan u (year -ℤ pos 2) → ¬ IsSpan u (year -ℤ pos 1) → ¬ IsSpan u year → ¬ IsSpan u (year +ℤ pos 1) → ¬ IsDaylight (start_of r) (end_of r) u
+    no_daylight_in_spans before_last last here next (y, end, pair, from, to) =
+        by_distance y (y -ℤ year) (omega (arith, ints)) (from, rw (paired_end-unique (start_of r) (end_of r) b order y end pair) at to)
+      where
+        by_distance : (y d : ℤ) → y ≡ year +ℤ d → ¬ IsSpan u y
+        by_distance y (pos zero) e = let same : y ≡ year = omega (arith, ints) in rw same here
+        by_distance y (pos (suc zero)) e = rw e next
+        by_distance y (pos (suc (suc n))) e = λ span. omega (arith, ints, span.0, to_come (start_of r) starts u year y is (omega (arith, ints)))
+        by_distance y (negsuc zero) e = let same : y ≡ year -ℤ pos 1 = omega (arith, ints) in rw same last
+        by_distance y (negsuc (suc zero)) e = let same : y ≡ year -ℤ pos 2 = omega (arith, ints) in rw same before_last
+        by_distance y (negsuc (suc (suc n))) e = λ span.
+            omega (arith, ints, span.1, paired_end-le_next (end_of r) ends b y, over (end_of r) ends u year (y +ℤ pos 1) is (omega (arith, ints)))
 
-  decide_begun : (f (year +ℤ pos 1) ≤ℤ u) ⊎ ¬ (f (year +ℤ pos 1) ≤ℤ u)
-  decide_begun = by_lt_z u (f (year +ℤ pos 1)) (λ h. inr (λ more. omega (arith, ints))) (λ h. inl h)
-
-  pub decide_across_years : EndsNextYear f g → IsDaylight f g u ⊎ ¬ IsDaylight f g u
-  decide_across_years across =
-      let next : year -ℤ pos 1 +ℤ pos 1 ≡ year = omega (arith, ints) in
-      elim decide_ended [
-        | inl last ↦ inl (daylight_to_end across last)
-        | inr last ↦ elim (decide_span (year -ℤ pos 1) year) [
-          | inl span ↦ inl (daylight_across_years across (year -ℤ pos 1) year next span)
-          | inr before ↦ elim (decide_span year (year +ℤ pos 1)) [
-            | inl span ↦ inl (daylight_across_years across year (year +ℤ pos 1) refl span)
-            | inr here ↦ elim decide_begun [
-              | inl begun ↦ inl (daylight_from_start across begun)
-              | inr after ↦ inr (no_daylight_across_years across last before here after)
-            ]
-          ]
-        ]
-      ]
+    pub decide_daylight : IsDaylight (start_of r) (end_of r) u ⊎ ¬ IsDaylight (start_of r) (end_of r) u
+    decide_daylight =
+        span_or (year -ℤ pos 2) (λ before_last. span_or (year -ℤ pos 1) (λ last. span_or year (λ here. span_or (year +ℤ pos 1) (λ next. inr (no_daylight_in_spans before_last last here next)))))
+      where
+        span_or : (y : ℤ) → (¬ IsSpan u y → IsDaylight (start_of r) (end_of r) u ⊎ ¬ IsDaylight (start_of r) (end_of r) u) → IsDaylight (start_of r) (end_of r) u ⊎ ¬ IsDaylight (start_of r) (end_of r) u
+        span_or y otherwise =
+            by_lt_z u (start_of r y) (λ early. otherwise (λ span. omega (arith, ints, span.0)))
+            (λ from. by_lt_z u (paired_end b (end_of r) y) (λ to. inl (daylight_in_span u y (from, to))) (λ late. otherwise (λ span. omega (arith, ints, span.1))))

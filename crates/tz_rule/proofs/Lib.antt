@@ -18,11 +18,11 @@ pub mod RulesAcrossYears
 pub mod ZeroRules
 pub mod UtcYears
 pub mod DaylightSpans
-pub mod InnerTurns
+pub mod InnerSwitches
 pub mod ChangePoints
 pub mod RuleTypes
 pub mod RuleSegments
-pub mod RuleTurns
+pub mod RuleSwitches
 pub mod RulesOfOneType
 pub mod RuleWalks
 pub mod KeptEquality

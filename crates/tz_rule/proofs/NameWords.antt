@@ -56,8 +56,8 @@ first_seven xs x l = ap (λ n. take n (xs ++ x ∷ [])) (sym l) ∙ take-append_
 eighth : (xs : List ℕ) (x : ℕ) → length xs ≡ 7 → get_or (xs ++ x ∷ []) 7 0 ≡ x
 eighth xs x l = ap (λ n. get_or (xs ++ x ∷ []) n 0) (sym l) ∙ get_or-append_seam xs x [] 0
 
-pub told_by_word : (d e : Designation) → IsKept d → IsKept e → word_of d ≡ word_of e → d ≡ e
-told_by_word d e k l p =
+pub same_word : (d e : Designation) → IsKept d → IsKept e → word_of d ≡ word_of e → d ≡ e
+same_word d e k l p =
     let eight : d.bytes ++ d.len ∷ [] ≡ e.bytes ++ e.len ∷ [] = sym (digits d k) ∙ ap (to_le_bytes w64) p ∙ digits e l in
     let bytes : d.bytes ≡ e.bytes = sym (first_seven d.bytes d.len (seven_bytes d k)) ∙ ap (take 7) eight ∙ first_seven e.bytes e.len (seven_bytes e l) in
     let len : d.len ≡ e.len = sym (eighth d.bytes d.len (seven_bytes d k)) ∙ ap (λ xs. get_or xs 7 0) eight ∙ eighth e.bytes e.len (seven_bytes e l) in

@@ -1,4 +1,4 @@
--- The tables of starts and ends tell what their years tell: which comes first, and whether the order changes.
+-- The tables of starts and ends determine what their years determine: which comes first, and whether the order changes.
 use Rattle.std.proofs.Common.{◌≡◌, inl, inr, ℕ, sym, ap, ◌∙◌, subst, arith, ℤ, pos, negsuc, ◌+ℤ◌, ◌-ℤ◌, ◌<ℤ◌, List}
 use Rattle.std.proofs.lemmas.Int.{ints}
 use Rattle.std.proofs.lemmas.List.FromFn.{length-map-range_with_len, get_or-map-range_with_len}
@@ -12,7 +12,7 @@ use Rattle.tz_rule.specs.Pairing.{IsConflict, IsInconsistent}
 use Rattle.tz_rule.specs.YearTables.{IsTableOf, entry, next_entry, seconds_in_kind, day_table, start_table, end_table, ComesFirst, ComesBeforeNext, ComesAfterNext, ChangesOrder}
 use Rattle.tz_rule.specs.declared.timezone.rule_day.RuleDay.{RuleDay}
 use Rattle.tz_rule.proofs.PairKinds.{year_kind-below, year_kind-leap, year_kind-week_day, pair_of, pair_occurs, kind_occurs}
-use Rattle.tz_rule.proofs.YearlyInstants.{IsYearly, place_of, local_instant, local_instant-is, IsYearly-start_of, IsYearly-end_of, consistent_from_near}
+use Rattle.tz_rule.proofs.YearlyInstants.{IsYearly, place_of, local_instant, local_instant-is, IsYearly-start_of, IsYearly-end_of, consistent_from_near, none_near}
 
 -- the tables that are made are those of starts and ends
 
@@ -62,7 +62,7 @@ module _ (f g : ℤ → ℤ) (a b : List ℤ) (ta : IsTableOf f a) (tb : IsTable
   comes_after_next-from : (y : ℤ) → g (y +ℤ pos 1) <ℤ f y → ComesAfterNext a b
   comes_after_next-from y h = let pair = pair_of y in (pair.0, pair.1.below, omega (arith, ints, pair_entries y pair.0 pair.1))
 
--- the order changes exactly where the tables say so
+-- the order changes exactly if the tables say so
 
 module _ (f g : ℤ → ℤ) (a b : List ℤ) (ta : IsTableOf f a) (tb : IsTableOf g b) where
   pub inconsistent_by_tables : ChangesOrder a b → IsInconsistent f g
@@ -84,7 +84,7 @@ module _ (f g : ℤ → ℤ) (a b : List ℤ) (ta : IsTableOf f a) (tb : IsTable
       (x.0 +ℤ pos 1, y.0 +ℤ pos 1, negsuc 0, (omega (arith, ints, ap g y_back, y.1), omega (arith, ints, ap g x_back, x.1)))
 
   pub consistent_by_tables : IsYearly f → IsYearly g → ¬ ChangesOrder a b → ¬ IsInconsistent f g
-  consistent_by_tables yf yg none = consistent_from_near f g yf yg same after before
+  consistent_by_tables yf yg none = consistent_from_near f g yf yg (none_near f g same after before)
     where
       same : (x y : ℤ) → ¬ IsConflict f g x y (pos 0)
       same x y (first, last) =
@@ -103,17 +103,12 @@ module _ (f g : ℤ → ℤ) (a b : List ℤ) (ta : IsTableOf f a) (tb : IsTable
 
 -- the check of a rule by the tables of its starts and ends
 module _ (r : AlternateTime) (days : AreRuleDays r) (starts ends : List ℤ) (starts_are : starts ≡ start_table r) (ends_are : ends ≡ end_table r) where
-  abbrev starts_tell : IsTableOf (start_of r) starts
-  starts_tell = IsTableOf-start_of r starts starts_are days.start_is
-
-  abbrev ends_tell : IsTableOf (end_of r) ends
-  ends_tell = IsTableOf-end_of r ends ends_are days.end_is
-
   pub rule_is_consistent : IsInRuleRange r → ¬ ChangesOrder starts ends → IsConsistentRule r
   rule_is_consistent range none = record {
     in_range = range;
-    consistent = consistent_by_tables (start_of r) (end_of r) starts ends starts_tell ends_tell (IsYearly-start_of r range days.start_is) (IsYearly-end_of r range days.end_is) none;
+    consistent = consistent_by_tables (start_of r) (end_of r) starts ends (IsTableOf-start_of r starts starts_are days.start_is) (IsTableOf-end_of r ends ends_are days.end_is)
+        (IsYearly-start_of r range days.start_is) (IsYearly-end_of r range days.end_is) none;
   }
 
   pub rule_is_inconsistent : ChangesOrder starts ends → IsInconsistent (start_of r) (end_of r)
-  rule_is_inconsistent changes = inconsistent_by_tables (start_of r) (end_of r) starts ends starts_tell ends_tell changes
+  rule_is_inconsistent = inconsistent_by_tables (start_of r) (end_of r) starts ends (IsTableOf-start_of r starts starts_are days.start_is) (IsTableOf-end_of r ends ends_are days.end_is)

@@ -1,5 +1,5 @@
 -- Each year has one of 14 kinds, and with the next year one of 21 pair kinds, and each of these occurs.
-use Rattle.std.proofs.Common.{◌≡◌, ℕ, ◌+◌, ◌%◌, ◌<◌, Bool, true, false, cond, ltb, eqb, ◌&&◌, not, refl, sym, ap, ◌∙◌, arith, ℤ, pos, ◌+ℤ◌}
+use Rattle.std.proofs.Common.{◌≡◌, ℕ, ◌+◌, ◌%◌, ◌<◌, Bool, true, false, cond, ltb, eqb, ◌&&◌, refl, sym, ap, ◌∙◌, arith, ℤ, pos, ◌+ℤ◌}
 use Rattle.std.proofs.lemmas.Bool.Decides.{nat_tests, Decides-eqb, Decides-and}
 use Rattle.std.proofs.lemmas.Int.{ints}
 use Rattle.tz_base.specs.Cycles.{days_of_years}
@@ -12,7 +12,7 @@ use Rattle.tz_rule.proofs.YearKinds.{any_below, found_below, first_week_day, lik
 
 -- a kind determines whether its years are leap, and the week day of their January 1st
 
-kind_of-parts : (leap : Bool) (week_day : ℕ) → week_day < 7 → (kind_of leap week_day < 14) × (is_leap_kind (kind_of leap week_day) ≡ leap) × (week_day_of_kind (kind_of leap week_day) ≡ week_day)
+pub kind_of-parts : (leap : Bool) (week_day : ℕ) → week_day < 7 → (kind_of leap week_day < 14) × (is_leap_kind (kind_of leap week_day) ≡ leap) × (week_day_of_kind (kind_of leap week_day) ≡ week_day)
 kind_of-parts true week_day h = (omega arith, grind (arith, nat_tests), omega arith)
 kind_of-parts false week_day h = (omega arith, grind (arith, nat_tests), omega arith)
 
@@ -30,43 +30,28 @@ year_kind-week_day year = (kind_of-parts (is_leap year) (week_day_of_year year) 
 
 -- no two leap years follow one another
 
-not_both_leap : ℕ → Bool
-not_both_leap place = not (is_leap (pos (1972 + place)) && is_leap (pos (1973 + place)))
-
-never_both_leap : all_below not_both_leap 28 ≡ true
-unfolding all_below not_both_leap is_leap
-never_both_leap = refl
-
-leap_alone : (a b : Bool) → not (a && b) ≡ true → a ≡ true → b ≡ true → ⊥
-leap_alone a b h p q = cc
+leap_alone : (n : ℕ) → is_leap (pos n) ≡ true → is_leap (pos (n + 1)) ≡ true → ⊥
+unfolding is_leap
+leap_alone n here there = grind (arith, nat_tests)
 
 no_leap_after_leap : (year : ℤ) → is_leap year ≡ true → is_leap (year +ℤ pos 1) ≡ true → ⊥
-unfolding not_both_leap
-no_leap_after_leap year here there =
-    let like = like_model year in
-    let next : pos (1972 + like.0) +ℤ pos 1 ≡ pos (1973 + like.0) = omega (arith, ints) in
-    leap_alone (is_leap (pos (1972 + like.0))) (is_leap (pos (1973 + like.0))) (passes_at not_both_leap 28 like.0 never_both_leap like.1) (sym like.2.leap ∙ here) (sym (ap is_leap next) ∙ sym like.2.next_leap ∙ there)
+no_leap_after_leap year here there = let like = like_model year in leap_alone (1972 + like.0) (sym like.2.leap ∙ here) (sym like.2.next_leap ∙ there)
 
 -- the pair kind of a year and the next one
 
-record IsPairBy (leap next_leap : Bool) (week_day next_week_day length pair : ℕ) : Type 0 where
-  below : pair < 21
-  first_is : kind_of leap week_day ≡ first_kind pair
-  second_is : kind_of next_leap next_week_day ≡ second_kind pair
-  days_are : length ≡ first_days pair
-
-pair_by : (leap next_leap : Bool) (week_day next_week_day length : ℕ) → week_day < 7 → next_week_day ≡ (week_day + length) % 7 → length ≡ cond leap 366 365 → (leap ≡ true → next_leap ≡ true → ⊥) → (pair : ℕ) × IsPairBy leap next_leap week_day next_week_day length pair
+pair_by : (leap next_leap : Bool) (week_day next_week_day length : ℕ) → week_day < 7 → next_week_day ≡ (week_day + length) % 7 → length ≡ cond leap 366 365 → (leap ≡ true → next_leap ≡ true → ⊥)
+    → (pair : ℕ) × (pair < 21) × (kind_of leap week_day ≡ first_kind pair) × (kind_of next_leap next_week_day ≡ second_kind pair) × (length ≡ first_days pair)
 unfolding first_kind second_kind first_days
-pair_by false false w n l h next days alone = (w, record { below = omega arith; first_is = grind (arith, nat_tests); second_is = grind (arith, nat_tests); days_are = grind (arith, nat_tests) })
-pair_by false true w n l h next days alone = (7 + w, record { below = omega arith; first_is = grind (arith, nat_tests); second_is = grind (arith, nat_tests); days_are = grind (arith, nat_tests) })
-pair_by true false w n l h next days alone = (14 + w, record { below = omega arith; first_is = grind (arith, nat_tests); second_is = grind (arith, nat_tests); days_are = grind (arith, nat_tests) })
+pair_by false false w n l h next days alone = (w, omega arith, grind (arith, nat_tests), grind (arith, nat_tests), grind (arith, nat_tests))
+pair_by false true w n l h next days alone = (7 + w, omega arith, grind (arith, nat_tests), grind (arith, nat_tests), grind (arith, nat_tests))
+pair_by true false w n l h next days alone = (14 + w, omega arith, grind (arith, nat_tests), grind (arith, nat_tests), grind (arith, nat_tests))
 pair_by true true w n l h next days alone = absurd (alone refl refl)
 
 pub pair_of : (year : ℤ) → (pair : ℕ) × IsPairOf year pair
 unfolding year_kind
 pair_of year =
     let found = pair_by (is_leap year) (is_leap (year +ℤ pos 1)) (week_day_of_year year) (week_day_of_year (year +ℤ pos 1)) (year_length year) (week_day_of_year-is year).1 (week_day_of_year-next year) (year_length-is year) (no_leap_after_leap year) in
-    (found.0, record { below = found.1.below; first_is = found.1.first_is; second_is = found.1.second_is; days_are = found.1.days_are })
+    (found.0, record { below = found.1; first_is = found.2; second_is = found.3; days_are = found.4 })
 
 -- each pair kind is that of some year from 1972 on and the next one
 
@@ -93,13 +78,13 @@ pair_occurs pair below =
     let first = eqb (kind_of (is_leap (pos (1972 + place))) (first_week_day (1972 + place))) (first_kind pair) in
     let second = eqb (kind_of (is_leap (pos (1973 + place))) (first_week_day (1973 + place))) (second_kind pair) in
     let days = eqb (cond (is_leap (pos (1972 + place))) 366 365) (first_days pair) in
-    let told = (Decides-and first (second && days) (Decides-eqb _ _) (Decides-and second days (Decides-eqb _ _) (Decides-eqb _ _))).0 found.2 in (
+    let means = (Decides-and first (second && days) (Decides-eqb _ _) (Decides-and second days (Decides-eqb _ _) (Decides-eqb _ _))).0 found.2 in (
       pos (1972 + place),
       record {
         below = below;
-        first_is = year_kind-model (1972 + place) ∙ told.0;
-        second_is = ap year_kind next ∙ year_kind-model (1973 + place) ∙ told.1.0;
-        days_are = year_length-is (pos (1972 + place)) ∙ told.1.1;
+        first_is = year_kind-model (1972 + place) ∙ means.0;
+        second_is = ap year_kind next ∙ year_kind-model (1973 + place) ∙ means.1.0;
+        days_are = year_length-is (pos (1972 + place)) ∙ means.1.1;
       },
     )
 

@@ -4,7 +4,6 @@ use Rattle.std.proofs.lemmas.Bool.Decides.{nat_tests, Decides-eqb}
 use Rattle.tz_base.proofs.TestsBelow.{all_below, passes_at}
 use Rattle.tz_rule.specs.Kinds.{first_kind, second_kind, first_days}
 use Rattle.tz_rule.specs.declared.timezone.pair_kinds.TheConstants.{FIRST_KINDS, SECOND_KINDS}
-use Rattle.tz_rule.proofs.PairKinds.{year_kind-below, pair_occurs}
 
 are_first_kinds : all_below (λ pair. eqb (get_or FIRST_KINDS pair 0) (first_kind pair)) 21 ≡ true
 unfolding all_below first_kind
@@ -21,7 +20,8 @@ pub second_kind-at : (pair : ℕ) → pair < 21 → get_or SECOND_KINDS pair 0 �
 second_kind-at pair below = (Decides-eqb _ _).0 (passes_at (λ pair. eqb (get_or SECOND_KINDS pair 0) (second_kind pair)) 21 pair are_second_kinds below)
 
 pub first_kind-below : (pair : ℕ) → pair < 21 → first_kind pair < 14
-first_kind-below pair below = let occurs = pair_occurs pair below in omega (arith, occurs.1.first_is, year_kind-below occurs.0)
+unfolding first_kind
+first_kind-below pair below = grind (arith, nat_tests)
 
 pub second_kind-below : (pair : ℕ) → pair < 21 → second_kind pair < 14
 unfolding second_kind

@@ -1,14 +1,13 @@
 -- A rule has one type at an instant, and an alternate rule has one in all its years. It repeats after 400 years.
-use Rattle.std.proofs.Common.{◌≡◌, ◌⊎◌, inl, inr, ◌∙◌, refl, sym, ℤ, pos, ◌+ℤ◌, Bool, true, false, MatchBool}
+use Rattle.std.proofs.Common.{◌≡◌, inl, inr, ◌∙◌, refl, sym, ℤ, pos, ◌+ℤ◌}
 use Rattle.tz_rule.specs.LocalTimeType.{LocalTimeType}
 use Rattle.tz_rule.specs.Alternate.{AlternateTime, start_of, end_of, IsInRuleRange, AreRuleDays, IsUtcYear, IsInRuleYears, IsAlternateType}
 use Rattle.tz_rule.specs.KeptRule.{ends_come_first}
 use Rattle.tz_rule.specs.Rule.{IsRuleType, IsSoundRule}
-use Rattle.tz_rule.specs.Pairing.{EndsNextYear, IsDaylight}
 use Rattle.tz_rule.specs.declared.timezone.rule.TransitionRule.{TransitionRule}
 use Rattle.tz_rule.specs.declared.timezone.rule.TransitionRule.TheVariants.{Fixed, Alternate as Two}
 use Rattle.tz_rule.proofs.ChangePoints.{daylight_repeats, daylight_repeated}
-use Rattle.tz_rule.proofs.DaylightSpans.{decide_in_order, decide_across_years}
+use Rattle.tz_rule.proofs.DaylightSpans.{decide_daylight}
 use Rattle.tz_rule.proofs.RulesAcrossYears.{MatchBool-ends_come_first}
 use Rattle.tz_rule.proofs.YearlyInstants.{IsYearly-start_of, IsYearly-end_of}
 
@@ -24,16 +23,9 @@ rule_type_unique (Fixed fixed) u t t' a b = a ∙ sym b
 rule_type_unique (Two r) u t t' a b = alternate_type_unique r u t t' a.1 b.1
 
 module _ (r : AlternateTime) (range : IsInRuleRange r) (days : AreRuleDays r) where
-  decide_daylight : (u year : ℤ) → IsUtcYear u year → IsDaylight (start_of r) (end_of r) u ⊎ ¬ IsDaylight (start_of r) (end_of r) u
-  decide_daylight u year is = by_pairing (ends_come_first r) (MatchBool-ends_come_first r days)
-    where
-      by_pairing : (b : Bool) → MatchBool b (EndsNextYear (start_of r) (end_of r)) (¬ EndsNextYear (start_of r) (end_of r)) → IsDaylight (start_of r) (end_of r) u ⊎ ¬ IsDaylight (start_of r) (end_of r) u
-      by_pairing true h = decide_across_years (start_of r) (end_of r) (IsYearly-start_of r range days.start_is) (IsYearly-end_of r range days.end_is) u year is h
-      by_pairing false h = decide_in_order (start_of r) (end_of r) (IsYearly-start_of r range days.start_is) (IsYearly-end_of r range days.end_is) u year is h
-
   pub alternate_type_total : (u year : ℤ) → IsUtcYear u year → (t : LocalTimeType) × IsAlternateType r u t
   alternate_type_total u year is =
-      elim (decide_daylight u year is) [
+      elim (decide_daylight r range days (ends_come_first r) (MatchBool-ends_come_first r days) u year is) [
         | inl day ↦ (r.dst, inl (day, refl))
         | inr none ↦ (r.std, inr (none, refl))
       ]

@@ -1,20 +1,18 @@
--- How the next change of a rule is found from segment to segment, or by the turn next to an instant.
+-- How the next change of a rule is found from segment to segment, or by the switch next to an instant.
 use Rattle.std.proofs.Common.{◌≡◌, ◌≢◌, ◌∙◌, sym, arith, rules, Bool, true, false, not, ℤ, pos, negsuc, ◌+ℤ◌, ◌-ℤ◌, ◌≤ℤ◌, ◌<ℤ◌, Option, Some, None}
 use Rattle.std.specs.Prelude.{MatchOption}
 use Rattle.std.specs.Borrow.{Bor}
 use Rattle.std.proofs.lemmas.Int.{ints, by_lt_z}
-use mir.Syntax.{w32}
-use mir.Val.{SFits}
 use Rattle.tz_base.specs.Days.{first_day}
 use Rattle.tz_base.proofs.DaysOfYears.{first_day_bounds}
 use Rattle.tz_rule.specs.LocalTimeType.{LocalTimeType}
 use Rattle.tz_rule.specs.Alternate.{AlternateTime}
 use Rattle.tz_rule.specs.AlternateSegments.{type_by}
 use Rattle.tz_rule.specs.Rule.{IsRuleType}
-use Rattle.tz_rule.specs.RuleChanges.{TypeChange, IsTypeChange, HasNoTypeChange, IsChangeAfter, IsChangeUpTo, HasNoChangeAfter, HasNoChangeUpTo, HasOneType, IsTurnAfter, IsTurnUpTo}
+use Rattle.tz_rule.specs.RuleChanges.{TypeChange, IsTypeChange, HasNoTypeChange, IsChangeAfter, IsChangeUpTo, HasNoChangeAfter, HasNoChangeUpTo, HasOneType, IsSwitchAfter, IsSwitchUpTo}
 use Rattle.tz_rule.specs.declared.timezone.rule.TransitionRule.{TransitionRule}
 use Rattle.tz_rule.specs.declared.timezone.rule.TransitionRule.TheVariants.{Fixed, Alternate}
-use Rattle.tz_rule.proofs.RuleSegments.{answered_from_years}
+use Rattle.tz_rule.proofs.RuleSegments.{IsInRuleYears-bounds}
 use Rattle.tz_rule.proofs.RuleTypes.{rule_type_unique}
 
 -- the rule has the type at an instant, if there is one, or none
@@ -22,16 +20,19 @@ abbrev pub HasTypeOrNone : TransitionRule → ℤ → Option (Bor LocalTimeType)
 HasTypeOrNone rule v type = MatchOption type ((t : LocalTimeType) → ¬ IsRuleType rule v t) (λ t. IsRuleType rule v t.now)
 
 module _ (rule : TransitionRule) where
-  -- no change lies inside a span of one type, or of none
-  pub none_within : (low high : ℤ) (type : Option (Bor LocalTimeType)) → ((v : ℤ) → low ≤ℤ v → v ≤ℤ high → HasTypeOrNone rule v type) → HasNoTypeChange rule low high
-  none_within low high (Some t) holds c above up_to change =
+  -- no change is inside a span of one type, or of none
+  none_of_type : (low high : ℤ) (t : LocalTimeType) → ((v : ℤ) → low ≤ℤ v → v ≤ℤ high → IsRuleType rule v t) → HasNoTypeChange rule low high
+  none_of_type low high t holds c above up_to change =
       let v = c.unix_time -ℤ pos 1 in
-      let before = rule_type_unique rule v c.before t.now change.before_is (holds v (omega (arith, ints, above)) (omega (arith, ints, up_to))) in
-      let after = rule_type_unique rule c.unix_time c.after t.now change.after_is (holds c.unix_time (omega (arith, ints, above)) up_to) in
+      let before = rule_type_unique rule v c.before t change.before_is (holds v (omega (arith, ints, above)) (omega (arith, ints, up_to))) in
+      let after = rule_type_unique rule c.unix_time c.after t change.after_is (holds c.unix_time (omega (arith, ints, above)) up_to) in
       change.differ (before ∙ sym after)
-  none_within low high None holds c above up_to change = holds (c.unix_time -ℤ pos 1) (omega (arith, ints, above)) (omega (arith, ints, up_to)) c.before change.before_is
 
-  -- nor where a span goes on at an instant without one
+  pub none_within : (low high : ℤ) (type : Option (Bor LocalTimeType)) → ((v : ℤ) → low ≤ℤ v → v ≤ℤ high → HasTypeOrNone rule v type) → HasNoTypeChange rule low high
+  none_within low high (Some t) holds = none_of_type low high t.now holds
+  none_within low high None holds = λ c above up_to change. holds (c.unix_time -ℤ pos 1) (omega (arith, ints, above)) (omega (arith, ints, up_to)) c.before change.before_is
+
+  -- nor inside spans that meet at an instant without one
   pub none_joined : (low last next high : ℤ) → next ≡ last +ℤ pos 1 → HasNoTypeChange rule low last → ((c : TypeChange) → c.unix_time ≡ next → ¬ IsTypeChange rule c) → HasNoTypeChange rule next high → HasNoTypeChange rule low high
   none_joined low last next high follows before here after c above up_to =
       by_lt_z last c.unix_time
@@ -67,25 +68,24 @@ pub none_of_fixed : (t : LocalTimeType) (c : TypeChange) → ¬ IsTypeChange (Fi
 unfolding IsRuleType
 none_of_fixed t = none_of_one_type (Fixed t) (λ u v a b is is'. is ∙ sym is')
 
-module _ (r : AlternateTime) (differ : r.std ≢ r.dst) (turn : ℤ) (is_start : Bool) (before after : LocalTimeType) (was : before ≡ type_by r (not is_start)) (is : after ≡ type_by r is_start) where
+module _ (r : AlternateTime) (differ : r.std ≢ r.dst) (switch : ℤ) (is_start : Bool) (before after : LocalTimeType) (was : before ≡ type_by r (not is_start)) (is : after ≡ type_by r is_start) where
   abbrev change : TypeChange
-  change = record { unix_time = turn; before = before; after = after }
+  change = record { unix_time = switch; before = before; after = after }
 
   types_differ : (b : Bool) → type_by r (not b) ≢ type_by r b
   types_differ true = differ
   types_differ false = λ e. differ (sym e)
 
-  -- rules answer far from the least instant
-  bound : IsRuleType (Alternate r) (turn -ℤ pos 1) before → negsuc 9223372036854775807 <ℤ turn
+  -- rules are defined far from the least instant
+  bound : IsRuleType (Alternate r) (switch -ℤ pos 1) before → negsuc 9223372036854775807 <ℤ switch
   unfolding IsRuleType
   bound here =
-      let fits : SFits w32 (negsuc 2147483645) = search rules in
-      let first : negsuc 784353015832 ≤ℤ first_day (negsuc 2147483645) = (first_day_bounds (negsuc 2147483645) fits).0 in
-      omega (arith, ints, (answered_from_years (turn -ℤ pos 1) here.0).0, first)
+      let first : negsuc 784353015832 ≤ℤ first_day (negsuc 2147483645) = (first_day_bounds (negsuc 2147483645) (search rules)).0 in
+      omega (arith, ints, (IsInRuleYears-bounds (switch -ℤ pos 1) here.0).0, first)
 
-  is_change : turn ≤ℤ pos 9223372036854775807 → IsRuleType (Alternate r) (turn -ℤ pos 1) (type_by r (not is_start)) → IsRuleType (Alternate r) turn (type_by r is_start) → IsTypeChange (Alternate r) change
+  is_change : switch ≤ℤ pos 9223372036854775807 → IsRuleType (Alternate r) (switch -ℤ pos 1) (type_by r (not is_start)) → IsRuleType (Alternate r) switch (type_by r is_start) → IsTypeChange (Alternate r) change
   is_change up_to before_is after_is =
-      let held : IsRuleType (Alternate r) (turn -ℤ pos 1) before = rw was before_is in
+      let held : IsRuleType (Alternate r) (switch -ℤ pos 1) before = rw was before_is in
       record {
         not_least = bound held;
         up_to = up_to;
@@ -94,20 +94,16 @@ module _ (r : AlternateTime) (differ : r.std ≢ r.dst) (turn : ℤ) (is_start :
         differ = λ e. types_differ is_start (sym was ∙ e ∙ is);
       }
 
-  pub turn_is_change_after : (u : ℤ) → turn ≤ℤ pos 9223372036854775807 → IsTurnAfter r u turn is_start → IsChangeAfter (Alternate r) u change
-  turn_is_change_after u up_to at = record {
-    is = is_change up_to (at.before_is (turn -ℤ pos 1) (omega (arith, ints, at.above)) (omega (arith, ints))) at.after_is;
+  pub switch_is_change_after : (u : ℤ) → switch ≤ℤ pos 9223372036854775807 → IsSwitchAfter r u switch is_start → IsChangeAfter (Alternate r) u change
+  switch_is_change_after u up_to at = record {
+    is = is_change up_to (at.before_is (switch -ℤ pos 1) (omega (arith, ints, at.above)) (omega (arith, ints))) at.after_is;
     above = at.above;
-    least = λ d above below found. found.differ (
-        rule_type_unique (Alternate r) (d.unix_time -ℤ pos 1) d.before (type_by r (not is_start)) found.before_is (at.before_is (d.unix_time -ℤ pos 1) (omega (arith, ints, above)) (omega (arith, ints, below)))
-        ∙ sym (rule_type_unique (Alternate r) d.unix_time d.after (type_by r (not is_start)) found.after_is (at.before_is d.unix_time (omega (arith, ints, above)) (omega (arith, ints, below)))));
+    least = none_of_type (Alternate r) u (switch -ℤ pos 1) (type_by r (not is_start)) (λ v low high. at.before_is v low (omega (arith, ints, high)));
   }
 
-  pub turn_is_change_up_to : (u : ℤ) → u ≤ℤ pos 9223372036854775807 → IsTurnUpTo r u turn is_start → IsChangeUpTo (Alternate r) u change
-  turn_is_change_up_to u high at = record {
-    is = is_change (omega (arith, ints, at.up_to, high)) at.before_is (at.after_is turn (omega (arith, ints)) at.up_to);
+  pub switch_is_change_up_to : (u : ℤ) → u ≤ℤ pos 9223372036854775807 → IsSwitchUpTo r u switch is_start → IsChangeUpTo (Alternate r) u change
+  switch_is_change_up_to u high at = record {
+    is = is_change (omega (arith, ints, at.up_to, high)) at.before_is (at.after_is switch (omega (arith, ints)) at.up_to);
     up_to = at.up_to;
-    greatest = λ d above below found. found.differ (
-        rule_type_unique (Alternate r) (d.unix_time -ℤ pos 1) d.before (type_by r is_start) found.before_is (at.after_is (d.unix_time -ℤ pos 1) (omega (arith, ints, above)) (omega (arith, ints, below)))
-        ∙ sym (rule_type_unique (Alternate r) d.unix_time d.after (type_by r is_start) found.after_is (at.after_is d.unix_time (omega (arith, ints, above)) below)));
+    greatest = none_of_type (Alternate r) switch u (type_by r is_start) at.after_is;
   }

@@ -1,5 +1,5 @@
 -- A rule whose daylight saving time never begins before it ends, or never ends before it begins again, has one type.
-use Rattle.std.proofs.Common.{◌≡◌, ◌∙◌, inl, inr, refl, sym, arith, ℕ, zero, suc, ℤ, pos, ◌+ℤ◌, ◌-ℤ◌, ◌≤ℤ◌, ◌<ℤ◌, List}
+use Rattle.std.proofs.Common.{◌≡◌, ◌∙◌, inl, inr, refl, sym, true, false, arith, ℕ, zero, suc, ℤ, pos, ◌+ℤ◌, ◌-ℤ◌, ◌≤ℤ◌, ◌<ℤ◌, List}
 use Rattle.std.proofs.lemmas.Int.{ints, by_lt_z}
 use Rattle.tz_rule.specs.Alternate.{AlternateTime, start_of, end_of, IsInRuleRange, AreRuleDays, IsInRuleYears}
 use Rattle.tz_rule.specs.Pairing.{EndsNextYear, IsDaylight}
@@ -7,7 +7,7 @@ use Rattle.tz_rule.specs.Rule.{IsRuleType}
 use Rattle.tz_rule.specs.RuleChanges.{HasOneType}
 use Rattle.tz_rule.specs.YearTables.{IsTableOf, ComesFirst, ComesBeforeNext}
 use Rattle.tz_rule.specs.declared.timezone.rule.TransitionRule.TheVariants.{Alternate}
-use Rattle.tz_rule.proofs.DaylightSpans.{over, to_come}
+use Rattle.tz_rule.proofs.DaylightSpans.{over, to_come, paired_end-unique}
 use Rattle.tz_rule.proofs.OrderByTables.{comes_first-from, comes_before_next-from}
 use Rattle.tz_rule.proofs.YearlyInstants.{IsYearly, IsYearly-start_of, IsYearly-end_of}
 
@@ -34,26 +34,20 @@ module _ (r : AlternateTime) where
   module _ (starts ends : List ℤ) (ts : IsTableOf (start_of r) starts) (te : IsTableOf (end_of r) ends) where
     -- each start has the end of the next year, and none comes before it
     pub one_type_across_years : EndsNextYear (start_of r) (end_of r) → ¬ ComesBeforeNext starts ends → HasOneType (Alternate r)
-    one_type_across_years across never = one_type_if_never no_daylight
-      where
-        no_daylight : (v : ℤ) → ¬ IsDaylight (start_of r) (end_of r) v
-        no_daylight v (y, end, inr (in_order, e), from, to) = in_order across
-        no_daylight v (y, end, inl (_, e), from, to) = never (comes_before_next-from (start_of r) (end_of r) starts ends ts te y (omega (arith, ints, from, rw e at to)))
+    one_type_across_years across never = one_type_if_never (λ v (y, end, pair, from, to).
+        never (comes_before_next-from (start_of r) (end_of r) starts ends ts te y (omega (arith, ints, from, to, paired_end-unique (start_of r) (end_of r) true across y end pair))))
 
     -- each start has the end of its own year, and none comes before it
     pub one_type_in_order : ¬ EndsNextYear (start_of r) (end_of r) → ¬ ComesFirst starts ends → HasOneType (Alternate r)
-    one_type_in_order in_order never = one_type_if_never no_daylight
-      where
-        no_daylight : (v : ℤ) → ¬ IsDaylight (start_of r) (end_of r) v
-        no_daylight v (y, end, inl (across, e), from, to) = in_order across
-        no_daylight v (y, end, inr (_, e), from, to) = never (comes_first-from (start_of r) (end_of r) starts ends ts te y (omega (arith, ints, from, rw e at to)))
+    one_type_in_order in_order never = one_type_if_never (λ v (y, end, pair, from, to).
+        never (comes_first-from (start_of r) (end_of r) starts ends ts te y (omega (arith, ints, from, to, paired_end-unique (start_of r) (end_of r) false in_order y end pair))))
 
     -- no end comes before the next year's start
     pub one_type_without_gap : IsInRuleRange r → AreRuleDays r → ¬ EndsNextYear (start_of r) (end_of r) → ¬ ComesBeforeNext ends starts → HasOneType (Alternate r)
     one_type_without_gap range days in_order never = one_type_if_always (λ v (year, is, _).
         let first = year -ℤ pos 2 in
         let last : first +ℤ pos 4 ≡ year +ℤ pos 2 = omega (arith, ints) in
-        joined v 4 first (over (start_of r) starts_are v year first 2 is (omega (arith, ints)) (omega arith)) (rw last (to_come (end_of r) ends_are v year (year +ℤ pos 2) 2 is refl (omega arith))))
+        joined v 4 first (over (start_of r) starts_are v year first is (omega (arith, ints))) (rw last (to_come (end_of r) ends_are v year (year +ℤ pos 2) is (omega (arith, ints)))))
       where
         starts_are : IsYearly (start_of r)
         starts_are = IsYearly-start_of r range days.start_is

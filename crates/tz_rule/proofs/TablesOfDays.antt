@@ -1,24 +1,15 @@
 -- The table of a day is made of its places in the years of each kind.
-use Rattle.std.proofs.Common.{◌≡◌, ℕ, ◌+◌, ◌-◌, ◌*◌, ◌<◌, true, false, inl, inr, length, get_or, sym, ap, ◌∙◌, arith, ℤ, pos, ◌+ℤ◌, List}
+use Rattle.std.proofs.Common.{◌≡◌, ℕ, ◌+◌, ◌-◌, ◌*◌, ◌<◌, Bool, true, false, refl, inl, inr, length, get_or, sym, ap, ◌∙◌, arith, ℤ, pos, ◌+ℤ◌, List}
 use Rattle.std.proofs.lemmas.Bool.{cases_lt}
-use Rattle.std.proofs.lemmas.Bool.Decides.{nat_tests}
 use Rattle.std.proofs.lemmas.List.FromFn.{fill_by_all}
-use Rattle.tz_rule.specs.Kinds.{is_leap_kind, week_day_of_kind}
+use Rattle.tz_rule.specs.Kinds.{kind_of}
 use Rattle.tz_rule.specs.Places.{place_in_year}
 use Rattle.tz_rule.specs.YearTables.{entry, seconds_in_kind, day_table}
 use Rattle.tz_rule.specs.declared.timezone.rule_day.RuleDay.{RuleDay}
+use Rattle.tz_rule.proofs.PairKinds.{kind_of-parts}
 
-seconds_in_kind-normal : (d : RuleDay) (seconds : ℤ) (w : ℕ) → w < 7 → seconds_in_kind d seconds w ≡ pos (86400 * place_in_year d false w) +ℤ seconds
-seconds_in_kind-normal d seconds w below =
-    let leap : is_leap_kind w ≡ false = grind (arith, nat_tests) in
-    let week_day : week_day_of_kind w ≡ w = omega arith in
-    ap (λ b. pos (86400 * place_in_year d b (week_day_of_kind w)) +ℤ seconds) leap ∙ ap (λ n. pos (86400 * place_in_year d false n) +ℤ seconds) week_day
-
-seconds_in_kind-leap : (d : RuleDay) (seconds : ℤ) (w : ℕ) → w < 7 → seconds_in_kind d seconds (7 + w) ≡ pos (86400 * place_in_year d true w) +ℤ seconds
-seconds_in_kind-leap d seconds w below =
-    let leap : is_leap_kind (7 + w) ≡ true = grind (arith, nat_tests) in
-    let week_day : week_day_of_kind (7 + w) ≡ w = omega arith in
-    ap (λ b. pos (86400 * place_in_year d b (week_day_of_kind (7 + w))) +ℤ seconds) leap ∙ ap (λ n. pos (86400 * place_in_year d true n) +ℤ seconds) week_day
+seconds_in_kind-is : (d : RuleDay) (seconds : ℤ) (leap : Bool) (w : ℕ) → w < 7 → seconds_in_kind d seconds (kind_of leap w) ≡ pos (86400 * place_in_year d leap w) +ℤ seconds
+seconds_in_kind-is d seconds leap w below = let parts = kind_of-parts leap w below in rw (parts.1, parts.2) refl
 
 pub day_table-from : (d : RuleDay) (seconds : ℤ) (entries : List ℤ) (normal leap : List ℕ) → length entries ≡ 14
     → ((k : ℕ) → k < 7 → entry entries k ≡ pos (86400 * get_or normal k 0) +ℤ seconds)
@@ -35,10 +26,10 @@ day_table-from d seconds entries normal leap size normal_made leap_made normal_i
 
     each : (k : ℕ) → k < 14 → entry entries k ≡ seconds_in_kind d seconds k
     each k below = elim (cases_lt k 7) [
-      | inl h ↦ normal_made k h ∙ ap scaled (normal_is k h) ∙ sym (seconds_in_kind-normal d seconds k h)
+      | inl h ↦ normal_made k h ∙ ap scaled (normal_is k h) ∙ sym (seconds_in_kind-is d seconds false k h)
       | inr h ↦
           let w = k - 7 in
           let small : w < 7 = omega (arith, h, below) in
           let same : k ≡ 7 + w = omega (arith, h) in
-          ap (entry entries) same ∙ leap_made w small ∙ ap scaled (leap_is w small) ∙ sym (seconds_in_kind-leap d seconds w small) ∙ ap (seconds_in_kind d seconds) (sym same)
+          ap (entry entries) same ∙ leap_made w small ∙ ap scaled (leap_is w small) ∙ sym (seconds_in_kind-is d seconds true w small) ∙ ap (seconds_in_kind d seconds) (sym same)
     ]

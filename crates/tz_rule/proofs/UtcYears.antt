@@ -1,12 +1,12 @@
 -- The year of an instant in UTC.
-use Rattle.std.proofs.Common.{◌≡◌, ℕ, arith, ℤ, pos, negsuc, ◌+ℤ◌, ◌<ℤ◌}
+use Rattle.std.proofs.Common.{◌≤ℤ◌, ◌≡◌, ℕ, arith, ℤ, pos, negsuc, ◌+ℤ◌, ◌<ℤ◌}
 use Rattle.std.proofs.lemmas.Int.{ints, by_lt_z}
 use mir.Syntax.{w32}
 use mir.Val.{SFits}
 use Rattle.tz_base.specs.Fields.{IsCivil, IsReading}
 use Rattle.tz_base.specs.declared.fields.Fields.{Fields}
 use Rattle.tz_base.proofs.DaysOfYears.{day_in_year, first_day_bounds}
-use Rattle.tz_base.proofs.DateOrder.{first_day-mono, gap_between}
+use Rattle.tz_base.proofs.DateOrder.{first_day-mono}
 use Rattle.tz_rule.specs.Alternate.{IsUtcYear, IsRuleYear}
 
 pub IsUtcYear-from_civil : (u : ℤ) (n : ℕ) (f : Fields) → IsCivil u n f → IsUtcYear u f.year
@@ -20,16 +20,15 @@ utc_year_unique u x y a b =
     by_lt_z x y (λ h. absurd (apart x y h a b)) (λ h. by_lt_z y x (λ h'. absurd (apart y x h' b a)) (λ h'. omega (arith, ints)))
   where
     apart : (x y : ℤ) → x <ℤ y → IsUtcYear u x → IsUtcYear u y → ⊥
-    apart x y h a b =
-        let gap = gap_between x y h in
-        omega (arith, ints, a.1, b.0, first_day-mono (x +ℤ pos 1) y gap.0 gap.1)
+    apart x y h a b = omega (arith, ints, a.1, b.0, first_day-mono (x +ℤ pos 1) y (omega (arith, ints)))
 
-SFits-from_rule_year : (y : ℤ) → IsRuleYear y → SFits w32 y
-SFits-from_rule_year (pos n) h = record { sfits = omega (arith, ints) }
-SFits-from_rule_year (negsuc n) h = record { sfits = omega (arith, ints) }
+-- the years of 32 bits
+pub year_fits : (y : ℤ) → negsuc 2147483647 ≤ℤ y → y ≤ℤ pos 2147483647 → SFits w32 y
+year_fits (pos n) low high = record { sfits = omega (arith, ints) }
+year_fits (negsuc n) low high = record { sfits = omega (arith, ints) }
 
 -- an instant of such a year is a reading
 pub IsReading-from_rule_year : (u y : ℤ) → IsUtcYear u y → IsRuleYear y → IsReading u
 IsReading-from_rule_year u y is h =
-    let bounds = first_day_bounds y (SFits-from_rule_year y h) in
+    let bounds = first_day_bounds y (year_fits y (omega (arith, ints, h.0)) (omega (arith, ints, h.1))) in
     (omega (arith, ints, is.0, bounds.0), omega (arith, ints, is.1, bounds.1))

@@ -1,8 +1,8 @@
--- What follows from a clause on an answer follows for the answer.
-use Rattle.std.proofs.Common.{◌≡◌, Bool, true, false, not, Option, Some, None, MatchBool, refl, sym, arith, ℤ, ◌≤ℤ◌, ◌<ℤ◌}
+-- What follows from a clause on a result holds for the result.
+use Rattle.std.proofs.Common.{Decides, ◌≡◌, Bool, true, false, not, Option, Some, None, MatchBool, refl, arith, ℤ, ◌≤ℤ◌, ◌<ℤ◌}
 use Rattle.std.specs.Bool.{OnTrue}
 use Rattle.std.specs.Int.Signed.{le_z, lt_z}
-use Rattle.std.specs.Option.{IfNone, IfSome, is_some}
+use Rattle.std.specs.Option.{IfNone, IfSome}
 use Rattle.std.proofs.lemmas.Bool.{false≢true}
 use Rattle.std.proofs.lemmas.Int.{ints}
 
@@ -14,11 +14,6 @@ pub IfNone-weaker : {T P Q : Type 0} (o : Option T) → (P → Q) → IfNone o P
 IfNone-weaker None f h = f h
 IfNone-weaker (Some x) f h = h
 
--- what a clause says of no value, where the test for a value failed
-pub IfNone-no_value : {T P : Type 0} (o : Option T) → is_some o ≡ false → IfNone o P → P
-IfNone-no_value None e h = h
-IfNone-no_value (Some x) e h = absurd (false≢true (sym e))
-
 pub MatchBool-weaker : {P P' Q Q' : Type 0} (b : Bool) → (P → P') → (Q → Q') → MatchBool b P Q → MatchBool b P' Q'
 MatchBool-weaker true f g h = f h
 MatchBool-weaker false f g h = g h
@@ -27,28 +22,16 @@ pub OnTrue-not : {P Q : Type 0} (b : Bool) → (¬ P → Q) → MatchBool b P (�
 OnTrue-not true f h = tt
 OnTrue-not false f h = f h
 
-pub le_z-true : (a b : ℤ) → le_z a b ≡ true → a ≤ℤ b
-le_z-true a b e = grind (arith, ints)
+pub Decides-from_clause : {P : Type 0} (b : Bool) → MatchBool b P (¬ P) → Decides b P
+Decides-from_clause true h = (λ _. h, λ _. refl)
+Decides-from_clause false h = (λ e. absurd (false≢true e), λ p. absurd (h p))
 
-pub le_z-false : (a b : ℤ) → le_z a b ≡ false → b <ℤ a
-le_z-false a b e = grind (arith, ints)
+pub MatchBool-by_test : {P Q : Type 0} (b : Bool) → (b ≡ true → P) → (b ≡ false → Q) → MatchBool b P Q
+MatchBool-by_test true if_true if_false = if_true refl
+MatchBool-by_test false if_true if_false = if_false refl
 
 pub MatchBool-le_z : {P Q : Type 0} (a b : ℤ) → (a ≤ℤ b → P) → (b <ℤ a → Q) → MatchBool (le_z a b) P Q
-MatchBool-le_z {P} {Q} a b if_true if_false = by_test (le_z a b) refl
-  where
-    by_test : (t : Bool) → le_z a b ≡ t → MatchBool t P Q
-    by_test true e = if_true (le_z-true a b e)
-    by_test false e = if_false (le_z-false a b e)
-
-lt_z-true : (a b : ℤ) → lt_z a b ≡ true → a <ℤ b
-lt_z-true a b e = grind (arith, ints)
-
-lt_z-false : (a b : ℤ) → lt_z a b ≡ false → b ≤ℤ a
-lt_z-false a b e = grind (arith, ints)
+MatchBool-le_z a b if_true if_false = MatchBool-by_test (le_z a b) (λ e. if_true (grind (arith, ints))) (λ e. if_false (grind (arith, ints)))
 
 pub MatchBool-lt_z : {P Q : Type 0} (a b : ℤ) → (a <ℤ b → P) → (b ≤ℤ a → Q) → MatchBool (lt_z a b) P Q
-MatchBool-lt_z {P} {Q} a b if_true if_false = by_test (lt_z a b) refl
-  where
-    by_test : (t : Bool) → lt_z a b ≡ t → MatchBool t P Q
-    by_test true e = if_true (lt_z-true a b e)
-    by_test false e = if_false (lt_z-false a b e)
+MatchBool-lt_z a b if_true if_false = MatchBool-by_test (lt_z a b) (λ e. if_true (grind (arith, ints))) (λ e. if_false (grind (arith, ints)))

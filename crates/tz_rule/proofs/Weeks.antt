@@ -36,14 +36,11 @@ week_day_of_year-is year =
     let same : unsigned_abs (week_day_of (first_day year)) ≡ r.0 % 7 = ap unsigned_abs r.1 in
     (r.1 ∙ ap pos (sym same), omega arith)
 
-week_day_of_year-from : (year : ℤ) (w : ℕ) → week_day_of (first_day year) ≡ pos w → week_day_of_year year ≡ w
-unfolding week_day_of_year
-week_day_of_year-from year w e = ap unsigned_abs e
-
 -- the next year begins as many days later as the year has
 pub week_day_of_year-next : (year : ℤ) → week_day_of_year (year +ℤ pos 1) ≡ (week_day_of_year year + year_length year) % 7
+unfolding week_day_of_year
 week_day_of_year-next year =
-    week_day_of_year-from (year +ℤ pos 1) _ (ap week_day_of (first_day-next year) ∙ week_day_of-add (first_day year) (week_day_of_year year) (year_length year) (week_day_of_year-is year).0)
+    ap unsigned_abs (ap week_day_of (first_day-next year) ∙ week_day_of-add (first_day year) (week_day_of_year year) (year_length year) (week_day_of_year-is year).0)
 
 week_day_of-moved : (day : ℤ) (d k : ℕ) → day +ℤ pos (719528 + 146097 * k) ≡ pos d → week_day_of day ≡ pos ((d + 6) % 7)
 unfolding week_day_of
@@ -52,8 +49,8 @@ week_day_of-moved day d k e =
 
 -- by the closed form: n is the year, moved by cycles of 400 years
 pub week_day_of_year-moved : (year : ℤ) (n k : ℕ) → year +ℤ pos (400 * k) ≡ pos n → week_day_of_year year ≡ (days_of_years n + 6) % 7
-week_day_of_year-moved year n k e =
-    week_day_of_year-from year _ (week_day_of-moved (first_day year) (days_of_years n) k (first_day-moved year n k e))
+unfolding week_day_of_year
+week_day_of_year-moved year n k e = ap unsigned_abs (week_day_of-moved (first_day year) (days_of_years n) k (first_day-moved year n k e))
 
 -- after 400 years
 pub week_day_of_year-period : (year : ℤ) → week_day_of_year (year +ℤ pos 400) ≡ week_day_of_year year

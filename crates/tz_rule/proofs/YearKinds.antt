@@ -1,5 +1,5 @@
 -- Each year has the kind of one of 1972 to 1999, and so has the year after it.
-use Rattle.std.proofs.Common.{◌≡◌, ℕ, zero, suc, ◌+◌, ◌*◌, ◌/◌, ◌%◌, ◌<◌, Bool, true, false, eqb, ◌&&◌, ◌||◌, refl, sym, ap, ◌∙◌, arith, ℤ, pos, negsuc, ◌+ℤ◌}
+use Rattle.std.proofs.Common.{◌≡◌, ℕ, zero, suc, ◌+◌, ◌/◌, ◌%◌, ◌<◌, Bool, true, false, eqb, ◌&&◌, ◌||◌, refl, sym, ap, ◌∙◌, arith, ℤ, pos, ◌+ℤ◌}
 use Rattle.std.specs.Bool.{beq}
 use Rattle.std.proofs.lemmas.Bool.Decides.{Decides-eqb, Decides-and, Decides-below_or}
 use Rattle.std.proofs.lemmas.Int.{ints}
@@ -7,6 +7,7 @@ use Rattle.tz_base.specs.Cycles.{days_of_years}
 use Rattle.tz_base.specs.Days.{is_leap}
 use Rattle.tz_base.proofs.TestsBelow.{all_below, passes_at}
 use Rattle.tz_base.proofs.YearStarts.{is_leap-moved}
+use Rattle.tz_base.proofs.DateOrder.{moved_together}
 use Rattle.tz_rule.specs.Same.{Decides-beq}
 use Rattle.tz_rule.specs.Kinds.{week_day_of_year}
 use Rattle.tz_rule.proofs.Weeks.{week_day_of_year-moved}
@@ -49,32 +50,28 @@ week_day_in_cycle : (n : ℕ) → first_week_day (n % 400) ≡ first_week_day n
 unfolding first_week_day days_of_years
 week_day_in_cycle n = omega arith
 
-told_like : (n place : ℕ) → is_like n place ≡ true → (is_leap (pos n) ≡ is_leap (pos (1972 + place))) × (is_leap (pos (n + 1)) ≡ is_leap (pos (1973 + place))) × (first_week_day n ≡ first_week_day (1972 + place))
+alike_from_test : (n place : ℕ) → is_like n place ≡ true → (is_leap (pos n) ≡ is_leap (pos (1972 + place))) × (is_leap (pos (n + 1)) ≡ is_leap (pos (1973 + place))) × (first_week_day n ≡ first_week_day (1972 + place))
 unfolding is_like
-told_like n place h =
+alike_from_test n place h =
     let parts = (Decides-and (beq (is_leap (pos n)) (is_leap (pos (1972 + place)))) _ (Decides-beq (is_leap (pos n)) (is_leap (pos (1972 + place))))
     (Decides-and (beq (is_leap (pos (n + 1))) (is_leap (pos (1973 + place)))) (eqb (first_week_day n) (first_week_day (1972 + place))) (Decides-beq (is_leap (pos (n + 1))) (is_leap (pos (1973 + place)))) (Decides-eqb (first_week_day n) (first_week_day (1972 + place))))).0 h in
     (parts.0, parts.1.0, parts.1.1)
 
-moved_year : (year : ℤ) → (k n : ℕ) × (year +ℤ pos (400 * k) ≡ pos n)
-moved_year (pos n) = (0, n, omega (arith, ints))
-moved_year (negsuc n) = (n + 1, 399 * n + 399, omega (arith, ints))
-
 pub like_model : (year : ℤ) → (place : ℕ) × (place < 28) × IsAlike year (pos (1972 + place))
 unfolding first_week_day
 like_model year =
-    let moved = moved_year year in
+    let moved = moved_together year year in
     let k = moved.0 in
     let n = moved.1 in
     let found = found_below (is_like (n % 400)) 28 (passes_at (λ n. any_below (is_like n) 28) 400 (n % 400) all_are_like (omega arith)) in
     let place = found.0 in
-    let told = told_like (n % 400) place found.2 in
+    let means = alike_from_test (n % 400) place found.2 in
     let after : 1973 + place ≡ 1972 + place + 1 = omega arith in (
       place,
       found.1,
       record {
-        leap = is_leap-moved year n k moved.2 ∙ sym (leap_in_cycle n) ∙ told.0;
-        next_leap = is_leap-moved (year +ℤ pos 1) (n + 1) k (omega (arith, ints, moved.2)) ∙ sym (next_leap_in_cycle n) ∙ told.1 ∙ ap (λ y. is_leap (pos y)) after;
-        week_day = week_day_of_year-moved year n k moved.2 ∙ sym (week_day_in_cycle n) ∙ told.2 ∙ sym (week_day_of_year-moved (pos (1972 + place)) (1972 + place) 0 (omega (arith, ints)));
+        leap = is_leap-moved year n k moved.3 ∙ sym (leap_in_cycle n) ∙ means.0;
+        next_leap = is_leap-moved (year +ℤ pos 1) (n + 1) k (omega (arith, ints, moved.3)) ∙ sym (next_leap_in_cycle n) ∙ means.1 ∙ ap (λ y. is_leap (pos y)) after;
+        week_day = week_day_of_year-moved year n k moved.3 ∙ sym (week_day_in_cycle n) ∙ means.2 ∙ sym (week_day_of_year-moved (pos (1972 + place)) (1972 + place) 0 (omega (arith, ints)));
       },
     )

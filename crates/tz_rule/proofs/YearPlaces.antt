@@ -1,14 +1,16 @@
 -- The place of a rule day in its year is that of all years of one kind.
-use Rattle.std.proofs.Common.{◌≡◌, ℕ, true, false, suc, ◌+◌, ◌-◌, ◌%◌, ◌<◌, ◌≤◌, Bool, cond, ap, ◌∙◌, arith, ℤ, pos, ◌+ℤ◌}
+use Rattle.std.proofs.Common.{◌≡◌, ℕ, suc, ◌+◌, ◌-◌, ◌%◌, ◌≤◌, Bool, ap, ◌∙◌, arith, ℤ, pos, ◌+ℤ◌}
+use Rattle.std.proofs.lemmas.Bool.Decides.{nat_tests}
 use Rattle.std.proofs.lemmas.Int.{ints}
 use Rattle.tz_base.specs.Days.{is_leap, month_length, months_length, first_day, day_number, week_day_of}
+use Rattle.tz_base.proofs.CivilReadings.{month_length-ge, month_length-le}
 use Rattle.tz_base.proofs.DaysOfYears.{day_number-is, months_length-le_year}
 use Rattle.tz_rule.specs.RuleDays.{rule_day, IsRuleDay}
 use Rattle.tz_rule.specs.MonthWeek.{MonthWeek, IsMonthWeek}
 use Rattle.tz_rule.specs.Places.{week_day_place, place_in_year}
 use Rattle.tz_rule.specs.declared.timezone.rule_day.RuleDay.{RuleDay}
 use Rattle.tz_rule.specs.declared.timezone.rule_day.RuleDay.TheVariants.{Julian1WithoutLeap, Julian0WithLeap, MonthWeekDay}
-use Rattle.tz_rule.proofs.DayPlaces.{rule_day-julian, rule_day-zero_based, rule_day-month, julian_place-bound, week_day_place-bound, month_length-bounds}
+use Rattle.tz_rule.proofs.DayPlaces.{rule_day-julian, rule_day-zero_based, rule_day-month, julian_place-bound, week_day_place-bound}
 use Rattle.tz_rule.specs.Kinds.{week_day_of_year}
 use Rattle.tz_rule.proofs.Weeks.{week_day_of_year-is, week_day_of-add}
 
@@ -19,13 +21,8 @@ place_in_month-bound : (leap : Bool) (first : ℕ) (d : MonthWeek) → IsMonthWe
 place_in_month-bound leap first d valid =
     let same : suc (d.month - 1) ≡ d.month = omega (arith, valid.month_is) in
     let months = rw same at (months_length-le_year leap (d.month - 1) (omega (arith, valid.month_is))) in
-    let bounds = month_length-bounds leap d.month in
-    let below = week_day_place-bound first (month_length leap d.month) d.week d.week_day bounds.0 bounds.1 valid.week_is.0 valid.week_is.1 in
-    by_leap leap _ _ _ months below
-  where
-    by_leap : (leap : Bool) (a b c : ℕ) → a + b ≤ cond leap 366 365 → c < b → a + c ≤ 365
-    by_leap true a b c h h' = omega arith
-    by_leap false a b c h h' = omega arith
+    let below = week_day_place-bound first (month_length leap d.month) d.week d.week_day (month_length-ge leap d.month) (month_length-le leap d.month) valid.week_is.0 valid.week_is.1 in
+    grind (arith, nat_tests)
 
 pub place_in_year-bound : (d : RuleDay) (leap : Bool) (first : ℕ) → IsRuleDay d → place_in_year d leap first ≤ 365
 unfolding place_in_year

@@ -1,14 +1,14 @@
 -- What the starts and the ends of a rule have in common, and what follows for their order.
-use Rattle.std.proofs.Common.{◌≡◌, ℕ, zero, suc, ◌+◌, ◌*◌, ◌≤◌, Bool, true, false, cond, lit≤, refl, ap, ◌∙◌, arith, ℤ, pos, negsuc, ◌+ℤ◌, ◌-ℤ◌, ◌*ℤ◌, ◌<ℤ◌}
-use Rattle.std.proofs.lemmas.Int.{ints}
+use Rattle.std.proofs.Common.{◌≤ℤ◌, ◌≡◌, ℕ, zero, suc, ◌*◌, ◌≤◌, Bool, true, false, ap, ◌∙◌, arith, ℤ, pos, negsuc, ◌+ℤ◌, ◌-ℤ◌, ◌*ℤ◌, ◌<ℤ◌}
+use Rattle.std.proofs.lemmas.Int.{ints, by_lt_z}
 use Rattle.tz_base.specs.Days.{is_leap, first_day}
-use Rattle.tz_base.proofs.DaysOfYears.{first_day-next, year_length-is}
 use Rattle.tz_base.proofs.DateOrder.{first_day-mono, first_day-period, is_leap-period}
-use Rattle.tz_rule.specs.Alternate.{AlternateTime, start_of, end_of, turn_of, AreRuleDays, IsRuleOffset, IsRuleTime, IsInRuleRange, IsNearYear}
+use Rattle.tz_rule.specs.Alternate.{AlternateTime, start_of, end_of, switch_of, AreRuleDays, IsRuleOffset, IsRuleTime, IsInRuleRange, IsNearYear}
 use Rattle.tz_rule.specs.RuleDays.{rule_day, IsRuleDay}
 use Rattle.tz_rule.specs.Kinds.{week_day_of_year}
 use Rattle.tz_rule.specs.Places.{place_in_year}
 use Rattle.tz_rule.specs.Pairing.{IsConflict, IsInconsistent}
+use Rattle.tz_rule.specs.YearTables.{IsNear}
 use Rattle.tz_rule.specs.declared.timezone.rule_day.RuleDay.{RuleDay}
 use Rattle.tz_rule.proofs.Weeks.{week_day_of_year-period}
 use Rattle.tz_rule.proofs.YearPlaces.{place_in_year-bound, rule_day-place}
@@ -17,10 +17,11 @@ use Rattle.tz_rule.proofs.YearPlaces.{place_in_year-bound, rule_day-place}
 abbrev pub year_start : ℤ → ℤ
 year_start year = pos 86400 *ℤ first_day year
 
--- an instant of each year that lies less than ten days outside it, and as far from its beginning 400 years later
+-- an instant of each year, less than ten days outside it, that does not fall from year to year, and as far from its beginning 400 years later
 pub record IsYearly (f : ℤ → ℤ) : Type 0 where
   pub low : (y : ℤ) → year_start y <ℤ (f y +ℤ pos 864000)
   pub high : (y : ℤ) → f y <ℤ (year_start y +ℤ pos 32400000)
+  pub rises : (x y : ℤ) → x ≤ℤ y → f x ≤ℤ f y
   pub period : (y : ℤ) → f (y +ℤ pos 400) ≡ f y +ℤ pos 12622780800
 
 -- a rule day's local time
@@ -42,11 +43,14 @@ unfolding place_of
 place_of-alike d x y leap week_day = ap (λ b. place_in_year d b (week_day_of_year x)) leap ∙ ap (place_in_year d (is_leap y)) week_day
 
 IsYearly-local : (d : RuleDay) (time offset : ℤ) → IsRuleDay d → IsRuleTime time → IsRuleOffset offset → IsYearly (local_instant d time offset)
-IsYearly-local d time offset valid t o = record {
-  low = λ y. let is = local_instant-is d time offset y valid in omega (arith, ints, is.0, is.1);
-  high = λ y. let is = local_instant-is d time offset y valid in omega (arith, ints, is.0, is.1);
-  period = λ y. let here = local_instant-is d time offset y valid in let there = local_instant-is d time offset (y +ℤ pos 400) valid in omega (arith, ints, here.0, there.0, first_day-period y 1, place_of-alike d (y +ℤ pos 400) y (is_leap-period y 1) (week_day_of_year-period y));
-}
+IsYearly-local d time offset valid t o =
+    let is = λ (y : ℤ). local_instant-is d time offset y valid in
+    record {
+      low = λ y. omega (arith, ints, is y);
+      high = λ y. omega (arith, ints, is y);
+      rises = λ x y up. by_lt_z x y (λ less. omega (arith, ints, is x, is y, first_day-mono x y up)) (λ past. let same : x ≡ y = omega (arith, ints) in omega (arith, ints, ap (local_instant d time offset) same));
+      period = λ y. omega (arith, ints, is y, is (y +ℤ pos 400), first_day-period y 1, place_of-alike d (y +ℤ pos 400) y (is_leap-period y 1) (week_day_of_year-period y));
+    }
 
 pub IsYearly-start_of : (r : AlternateTime) → IsInRuleRange r → IsRuleDay r.dst_start → IsYearly (start_of r)
 unfolding start_of
@@ -56,31 +60,32 @@ pub IsYearly-end_of : (r : AlternateTime) → IsInRuleRange r → IsRuleDay r.ds
 unfolding end_of
 IsYearly-end_of r range valid = IsYearly-local r.dst_end r.dst_end_time r.dst.ut_offset valid range.end_is range.dst_is
 
-pub IsYearly-turn_of : (r : AlternateTime) → IsInRuleRange r → AreRuleDays r → (is_end : Bool) → IsYearly (turn_of r is_end)
-IsYearly-turn_of r range days true = IsYearly-end_of r range days.end_is
-IsYearly-turn_of r range days false = IsYearly-start_of r range days.start_is
+pub IsYearly-switch_of : (r : AlternateTime) → IsInRuleRange r → AreRuleDays r → (is_end : Bool) → IsYearly (switch_of r is_end)
+IsYearly-switch_of r range days true = IsYearly-end_of r range days.end_is
+IsYearly-switch_of r range days false = IsYearly-start_of r range days.start_is
 
 -- two years later everything is later
-pub two_years_later : (f g : ℤ → ℤ) → IsYearly f → IsYearly g → (x y : ℤ) (n : ℕ) → x +ℤ pos n ≡ y → 2 ≤ n → f x <ℤ g y
-two_years_later f g yf yg x y n e h = omega (arith, ints, yf.high x, yg.low y, first_day-mono x y n e)
+two_years_later : (f g : ℤ → ℤ) → IsYearly f → IsYearly g → (x y : ℤ) → (x +ℤ pos 2) ≤ℤ y → f x <ℤ g y
+two_years_later f g yf yg x y h = omega (arith, ints, yf.high x, yg.low y, first_day-mono x y (omega (arith, ints)))
 
 -- so a conflict has a distance of at most one year
-pub consistent_from_near : (f g : ℤ → ℤ) → IsYearly f → IsYearly g → ((x y : ℤ) → ¬ IsConflict f g x y (pos 0)) → ((x y : ℤ) → ¬ IsConflict f g x y (pos 1)) → ((x y : ℤ) → ¬ IsConflict f g x y (negsuc 0)) → ¬ IsInconsistent f g
-consistent_from_near f g yf yg same after before = λ i. by_distance i.0 i.1 i.2 i.3
-  where
-    by_distance : (x y k : ℤ) → IsConflict f g x y k → ⊥
-    by_distance x y (pos zero) c = same x y c
-    by_distance x y (pos (suc zero)) c = after x y c
-    by_distance x y (pos (suc (suc n))) c = omega (arith, ints, c.1, two_years_later f g yf yg x (x +ℤ pos (suc (suc n))) (suc (suc n)) refl (omega arith))
-    by_distance x y (negsuc zero) c = before x y c
-    by_distance x y (negsuc (suc n)) c = omega (arith, ints, c.0, two_years_later g f yg yf (y +ℤ negsuc (suc n)) y (n + 2) (omega (arith, ints)) (omega arith))
+pub consistent_from_near : (f g : ℤ → ℤ) → IsYearly f → IsYearly g → ((k : ℤ) → IsNear k → (x y : ℤ) → ¬ IsConflict f g x y k) → ¬ IsInconsistent f g
+consistent_from_near f g yf yg none (x, y, k, c) =
+    by_lt_z (pos 1) k
+    (λ after. omega (arith, ints, c.1, two_years_later f g yf yg x (x +ℤ k) (omega (arith, ints, after))))
+    (λ high. by_lt_z k (negsuc 0)
+    (λ before. omega (arith, ints, c.0, two_years_later g f yg yf (y +ℤ k) y (omega (arith, ints, before))))
+    (λ low. none k (low, high) x y c))
+
+-- the three distances are all that are near
+pub none_near : (f g : ℤ → ℤ) → ((x y : ℤ) → ¬ IsConflict f g x y (pos 0)) → ((x y : ℤ) → ¬ IsConflict f g x y (pos 1)) → ((x y : ℤ) → ¬ IsConflict f g x y (negsuc 0))
+    → (k : ℤ) → IsNear k → (x y : ℤ) → ¬ IsConflict f g x y k
+none_near f g same after before (pos zero) near = same
+none_near f g same after before (pos (suc zero)) near = after
+none_near f g same after before (pos (suc (suc n))) near = absurd (omega (arith, ints, near.1))
+none_near f g same after before (negsuc zero) near = before
+none_near f g same after before (negsuc (suc n)) near = absurd (omega (arith, ints, near.0))
 
 -- less than ten days outside the year
 pub near_year : (f : ℤ → ℤ) → IsYearly f → (y : ℤ) → IsNearYear (f y) y
-near_year f yf y =
-    let length = by_leap (is_leap y) in
-    (yf.low y, omega (arith, ints, yf.high y, first_day-next y, year_length-is y))
-  where
-    by_leap : (leap : Bool) → 365 ≤ cond leap 366 365
-    by_leap true = lit≤ tt
-    by_leap false = lit≤ tt
+near_year f yf y = (yf.low y, omega (arith, ints, yf.high y, first_day-mono y (y +ℤ pos 1) (omega (arith, ints))))

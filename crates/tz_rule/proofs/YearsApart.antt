@@ -1,4 +1,4 @@
--- How far an instant of a year by one table lies from that of a year near by, by another table: as far as for one of the years from 1972 to 2000.
+-- How far an instant of a year by one table is from that of a year near by, by another table: as far as for one of the years from 1972 to 2000.
 use Rattle.std.proofs.Common.{◌≡◌, ℕ, zero, suc, ◌+◌, ◌%◌, ◌<◌, cond, sym, ap, ◌∙◌, arith, ℤ, pos, negsuc, ◌+ℤ◌, ◌-ℤ◌, ◌≤ℤ◌, List}
 use Rattle.std.proofs.lemmas.Int.{ints}
 use Rattle.tz_base.specs.Days.{is_leap, year_length}
@@ -16,13 +16,11 @@ unfolding instant_in
 instant_in-is f table is year = omega (arith, ints, is.entries year)
 
 -- years that are alike are of one kind
-year_kind-alike : (x y : ℤ) → is_leap x ≡ is_leap y → week_day_of_year x ≡ week_day_of_year y → year_kind x ≡ year_kind y
-unfolding year_kind
-year_kind-alike x y leap week_day = ap (λ b. kind_of b (week_day_of_year x)) leap ∙ ap (kind_of (is_leap y)) week_day
-
-same_place : (table : List ℤ) (x y : ℤ) → year_kind x ≡ year_kind y → instant_in table x -ℤ year_start x ≡ instant_in table y -ℤ year_start y
-unfolding instant_in
-same_place table x y same = omega (arith, ints, ap (entry table) same)
+same_place : (table : List ℤ) (x y : ℤ) → is_leap x ≡ is_leap y → week_day_of_year x ≡ week_day_of_year y → instant_in table x -ℤ year_start x ≡ instant_in table y -ℤ year_start y
+unfolding instant_in year_kind
+same_place table x y leap week_day =
+    let kind = ap (λ b. kind_of b (week_day_of_year x)) leap ∙ ap (kind_of (is_leap y)) week_day in
+    omega (arith, ints, ap (entry table) kind)
 
 year_length-alike : (x y : ℤ) → is_leap x ≡ is_leap y → year_length x ≡ year_length y
 year_length-alike x y leap = year_length-is x ∙ ap (λ b. cond b 366 365) leap ∙ sym (year_length-is y)
@@ -32,10 +30,10 @@ same_place_next : (table : List ℤ) (x y : ℤ) → IsAlike x y → instant_in 
 same_place_next table x y a =
     let length = year_length-alike x y a.leap in
     let week_day = week_day_of_year-next x ∙ ap (λ w. (w + year_length x) % 7) a.week_day ∙ ap (λ n. (week_day_of_year y + n) % 7) length ∙ sym (week_day_of_year-next y) in
-    let place = same_place table (x +ℤ pos 1) (y +ℤ pos 1) (year_kind-alike (x +ℤ pos 1) (y +ℤ pos 1) a.next_leap week_day) in
+    let place = same_place table (x +ℤ pos 1) (y +ℤ pos 1) a.next_leap week_day in
     omega (arith, ints, place, length, first_day-next x, first_day-next y)
 
--- how far the second instant lies after the first, in a year that lies at the distance
+-- how far the second instant is after the first, in a year that is at the distance
 abbrev apart : List ℤ → List ℤ → ℤ → ℤ → ℤ
 apart a b year distance = instant_in b (year +ℤ distance) -ℤ instant_in a year
 
@@ -45,13 +43,11 @@ years_apart a b (pos zero) near year =
     let model = pos (1972 + like.0) in
     let here : year +ℤ pos 0 ≡ year = omega (arith, ints) in
     let there : model +ℤ pos 0 ≡ model = omega (arith, ints) in
-    let kind = year_kind-alike year model like.2.leap like.2.week_day in
-    (like.0, omega (arith, like.1), omega (arith, ints, ap (instant_in b) here, ap (instant_in b) there, same_place a year model kind, same_place b year model kind))
+    (like.0, omega (arith, like.1), omega (arith, ints, ap (instant_in b) here, ap (instant_in b) there, same_place a year model like.2.leap like.2.week_day, same_place b year model like.2.leap like.2.week_day))
 years_apart a b (pos (suc zero)) near year =
     let like = like_model year in
     let model = pos (1972 + like.0) in
-    let kind = year_kind-alike year model like.2.leap like.2.week_day in
-    (like.0, omega (arith, like.1), omega (arith, ints, same_place a year model kind, same_place_next b year model like.2))
+    (like.0, omega (arith, like.1), omega (arith, ints, same_place a year model like.2.leap like.2.week_day, same_place_next b year model like.2))
 years_apart a b (pos (suc (suc n))) near year = absurd (omega (arith, ints, near.1))
 years_apart a b (negsuc zero) near year =
     let before = year +ℤ negsuc 0 in
@@ -60,8 +56,7 @@ years_apart a b (negsuc zero) near year =
     let here : before +ℤ pos 1 ≡ year = omega (arith, ints) in
     let there : model +ℤ pos 1 ≡ pos (1972 + (like.0 + 1)) = omega (arith, ints) in
     let back : pos (1972 + (like.0 + 1)) +ℤ negsuc 0 ≡ model = omega (arith, ints) in
-    let kind = year_kind-alike before model like.2.leap like.2.week_day in
-    (like.0 + 1, omega (arith, like.1), omega (arith, ints, ap (instant_in a) here, ap (instant_in a) there, ap (instant_in b) back, same_place b before model kind, same_place_next a before model like.2))
+    (like.0 + 1, omega (arith, like.1), omega (arith, ints, ap (instant_in a) here, ap (instant_in a) there, ap (instant_in b) back, same_place b before model like.2.leap like.2.week_day, same_place_next a before model like.2))
 years_apart a b (negsuc (suc n)) near year = absurd (omega (arith, ints, near.0))
 
 -- an order in each of those years holds in all years
@@ -88,12 +83,3 @@ module _ (f g : ℤ → ℤ) (a b : List ℤ) (ta : IsTableOf f a) (tb : IsTable
     omega (arith, ints, first, instant_in-is f a ta y, instant_in-is g b tb (y +ℤ k)),
     omega (arith, ints, last, instant_in-is f a ta x, instant_in-is g b tb (x +ℤ k)),
   )
-
--- the three distances are all that are near
-pub none_near : (f g : ℤ → ℤ) → ((x y : ℤ) → ¬ IsConflict f g x y (pos 0)) → ((x y : ℤ) → ¬ IsConflict f g x y (pos 1)) → ((x y : ℤ) → ¬ IsConflict f g x y (negsuc 0))
-    → (k : ℤ) → IsNear k → (x y : ℤ) → ¬ IsConflict f g x y k
-none_near f g same after before (pos zero) near = same
-none_near f g same after before (pos (suc zero)) near = after
-none_near f g same after before (pos (suc (suc n))) near = absurd (omega (arith, ints, near.1))
-none_near f g same after before (negsuc zero) near = before
-none_near f g same after before (negsuc (suc n)) near = absurd (omega (arith, ints, near.0))

@@ -32,9 +32,9 @@ is_outer : false ≡ (is_inner zeros && is_inner zeros)
 unfolding least_entry greatest_entry
 is_outer = refl
 
-pub zeros_kept : IsKeptRule (record { parts = parts_of zero_rule; ends_next_year = false; has_inner_turns = false; starts = record { 0 = zeros }; ends = record { 0 = zeros } })
+pub zeros_kept : IsKeptRule (record { parts = parts_of zero_rule; ends_next_year = false; has_inner_switches = false; starts = record { 0 = zeros }; ends = record { 0 = zeros } })
 zeros_kept =
-    kept_from (record { parts = parts_of zero_rule; ends_next_year = false; has_inner_turns = false; starts = record { 0 = zeros }; ends = record { 0 = zeros } })
+    kept_from (record { parts = parts_of zero_rule; ends_next_year = false; has_inner_switches = false; starts = record { 0 = zeros }; ends = record { 0 = zeros } })
     (record { std_is = (omega (arith, ints), omega (arith, ints)); dst_is = (omega (arith, ints), omega (arith, ints)); start_is = (omega (arith, ints), omega (arith, ints)); end_is = (omega (arith, ints), omega (arith, ints)) })
     (record { start_is = omega arith; end_is = omega arith })
     starts_are ends_are

@@ -35,8 +35,8 @@ unfoldable pub end_of : AlternateTime → ℤ → ℤ
 end_of r year = pos 86400 *ℤ rule_day r.dst_end year +ℤ r.dst_end_time -ℤ r.dst.ut_offset
 
 -- one of the two
-abbrev pub turn_of : AlternateTime → Bool → ℤ → ℤ
-turn_of r is_end year = if is_end then end_of r year else start_of r year
+abbrev pub switch_of : AlternateTime → Bool → ℤ → ℤ
+switch_of r is_end year = if is_end then end_of r year else start_of r year
 
 -- above -25 and below 26 hours
 abbrev pub IsRuleOffset : ℤ → Type 0
@@ -58,7 +58,7 @@ pub record IsConsistentRule (r : AlternateTime) : Type 0 where
   pub in_range : IsInRuleRange r
   pub consistent : ¬ IsInconsistent (start_of r) (end_of r)
 
--- the fault that is named where several are out of range: the standard offset's, the daylight offset's, and then that of a time
+-- the fault that is named if several are out of range: the standard offset's, the daylight offset's, and then that of a time
 abbrev pub IsRangeFault : AlternateTime → TransitionRuleError → Type 0
 IsRangeFault r InvalidStdUtcOffset = ¬ IsRuleOffset r.std.ut_offset
 IsRangeFault r InvalidDstUtcOffset = IsRuleOffset r.std.ut_offset × ¬ IsRuleOffset r.dst.ut_offset
@@ -78,7 +78,7 @@ IsUtcYear u year = ((pos 86400 *ℤ first_day year) ≤ℤ u) × (u <ℤ (pos 86
 abbrev pub IsRuleYear : ℤ → Type 0
 IsRuleYear year = (negsuc 2147483645 ≤ℤ year) × (year ≤ℤ pos 2147483645)
 
--- instants at which a rule answers, by their year in UTC
+-- instants at which a rule is defined, by their year in UTC
 abbrev pub IsInRuleYears : ℤ → Type 0
 IsInRuleYears u = (year : ℤ) × IsUtcYear u year × IsRuleYear year
 
@@ -90,7 +90,7 @@ IsNearYear u year = ((pos 86400 *ℤ first_day year) <ℤ (u +ℤ pos 864000)) �
 abbrev pub IsAlternateType : AlternateTime → ℤ → LocalTimeType → Type 0
 IsAlternateType r u t = (IsDaylight (start_of r) (end_of r) u × (t ≡ r.dst)) ⊎ (¬ IsDaylight (start_of r) (end_of r) u × (t ≡ r.std))
 
--- no start and no end lies after the first instant, up to the second
+-- no start and no end is after the first instant, up to the second
 pub record IsUnchanged (r : AlternateTime) (u v : ℤ) : Type 0 where
   pub no_start : (y : ℤ) → u <ℤ start_of r y → start_of r y ≤ℤ v → ⊥
   pub no_end : (y : ℤ) → u <ℤ end_of r y → end_of r y ≤ℤ v → ⊥

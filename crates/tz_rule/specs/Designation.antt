@@ -39,7 +39,7 @@ pub record IsKept (d : Designation) : Type 0 where
 abbrev pub word_of : Designation → ℕ
 word_of d = from_le_bytes w64 (d.bytes ++ d.len ∷ [])
 
--- what keeps names is equal where the words are
+-- what keeps names is equal if the words are
 abbrev pub same_designation : Designation → Designation → Bool
 same_designation d e = word_of d == word_of e
 

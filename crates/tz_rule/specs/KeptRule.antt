@@ -1,4 +1,4 @@
--- How an alternate rule is kept: its parts, whether it ends in the next year, whether its starts and ends lie far inside their years, and the
+-- How an alternate rule is kept: its parts, whether it ends in the next year, whether its starts and ends are far inside their years, and the
 -- tables of these.
 use Rattle.std.specs.Prelude.{◌≡◌, ℕ, zero, suc, ◌&&◌, ◌||◌, Bool, false}
 use Rattle.std.specs.Int.Signed.{lt_z}
@@ -14,20 +14,20 @@ unfoldable pub ends_first_in : AlternateTime → ℕ → Bool
 ends_first_in r zero = false
 ends_first_in r (suc kinds) = lt_z (entry (end_table r) kinds) (entry (start_table r) kinds) || ends_first_in r kinds
 
--- the fourteen kinds tell whether some year's end comes before its start
+-- the fourteen kinds determine whether some year's end comes before its start
 unfoldable pub ends_come_first : AlternateTime → Bool
 ends_come_first r = ends_first_in r 14
 
--- the fourteen kinds tell whether all starts and ends lie ten days or more from the ends of their years
-unfoldable pub turns_are_inner : AlternateTime → Bool
-turns_are_inner r = is_inner (start_table r) && is_inner (end_table r)
+-- the fourteen kinds determine whether all starts and ends are ten days or more from the ends of their years
+unfoldable pub switches_are_inner : AlternateTime → Bool
+switches_are_inner r = is_inner (start_table r) && is_inner (end_table r)
 
 -- what keeps a rule
 pub record IsKeptRule (r : Inside) : Type 0 where
   pub is_consistent : IsConsistentRule (rule_of r.parts)
   pub are_days : AreRuleDays (rule_of r.parts)
   pub pairing : r.ends_next_year ≡ ends_come_first (rule_of r.parts)
-  pub inner_turns : r.has_inner_turns ≡ turns_are_inner (rule_of r.parts)
+  pub inner_switches : r.has_inner_switches ≡ switches_are_inner (rule_of r.parts)
   pub starts_are : IsTableOf (start_of (rule_of r.parts)) r.starts.0
   pub ends_are : IsTableOf (end_of (rule_of r.parts)) r.ends.0
   pub starts_made : r.starts.0 ≡ start_table (rule_of r.parts)
@@ -38,13 +38,13 @@ parts_of r = record { std = r.std; dst = r.dst; dst_start = r.dst_start; dst_sta
 
 -- what is kept of a rule
 abbrev pub kept_of : AlternateTime → Inside
-kept_of r = record { parts = parts_of r; ends_next_year = ends_come_first r; has_inner_turns = turns_are_inner r; starts = record { 0 = start_table r }; ends = record { 0 = end_table r } }
+kept_of r = record { parts = parts_of r; ends_next_year = ends_come_first r; has_inner_switches = switches_are_inner r; starts = record { 0 = start_table r }; ends = record { 0 = end_table r } }
 
 pub kept_rule : (r : Inside) → IsKeptRule r → kept_of (rule_of r.parts) ≡ r
 kept_rule r k =
     let made_starts = start_table (rule_of r.parts) in
     let made_ends = end_table (rule_of r.parts) in
     ap (λ b. let kept : Inside = record (kept_of (rule_of r.parts)) { ends_next_year = b } in kept) (sym k.pairing)
-    ∙ ap (λ b. let kept : Inside = record r { has_inner_turns = b; starts = record { 0 = made_starts }; ends = record { 0 = made_ends } } in kept) (sym k.inner_turns)
+    ∙ ap (λ b. let kept : Inside = record r { has_inner_switches = b; starts = record { 0 = made_starts }; ends = record { 0 = made_ends } } in kept) (sym k.inner_switches)
     ∙ ap (λ table. let kept : Inside = record r { starts = record { 0 = table }; ends = record { 0 = made_ends } } in kept) (sym k.starts_made)
     ∙ ap (λ table. let kept : Inside = record r { ends = record { 0 = table } } in kept) (sym k.ends_made)

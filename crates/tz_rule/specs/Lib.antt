@@ -19,7 +19,7 @@ pub mod Daylight
 pub mod Rule
 pub mod RuleRef
 pub mod AlternateSegments
-pub mod InnerTurns
+pub mod InnerSwitches
 pub mod RuleSegments
 pub mod RuleChanges
 pub mod Same

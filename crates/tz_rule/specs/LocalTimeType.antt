@@ -35,7 +35,7 @@ pub record IsLocalTimeType (t : LocalTimeType) : Type 0 where
   pub offset_is : IsOffset t.ut_offset
   pub designation_is : IfSome t.designation IsDesignation
 
--- the fault that is named where there are several: the offset's, the length's, and then that of a byte
+-- the fault that is named if there are several: the offset's, the length's, and then that of a byte
 abbrev pub IsFirstTypeFault : LocalTimeType → LocalTimeTypeError → Type 0
 IsFirstTypeFault t InvalidUtcOffset = ¬ IsOffset t.ut_offset
 IsFirstTypeFault t InvalidTimeZoneDesignationLength = IsOffset t.ut_offset × ¬ IfSome t.designation IsDesignationLength

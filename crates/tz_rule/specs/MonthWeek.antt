@@ -28,7 +28,7 @@ pub record IsMonthWeek (d : MonthWeek) : Type 0 where
   pub week_is : IsRuleWeek d.week
   pub week_day_is : IsRuleWeekDay d.week_day
 
--- the fault that is named where there are several: the month's, the week's, and then the week day's
+-- the fault that is named if there are several: the month's, the week's, and then the week day's
 abbrev pub IsFirstMonthWeekFault : MonthWeek → TransitionRuleError → Type 0
 IsFirstMonthWeekFault d InvalidRuleDayMonth = ¬ IsRuleMonth d.month
 IsFirstMonthWeekFault d InvalidRuleDayWeek = IsRuleMonth d.month × ¬ IsRuleWeek d.week

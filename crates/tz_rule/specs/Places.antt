@@ -4,7 +4,7 @@ use Rattle.tz_base.specs.Days.{month_length, months_length}
 use Rattle.tz_rule.specs.declared.timezone.rule_day.RuleDay.{RuleDay}
 use Rattle.tz_rule.specs.declared.timezone.rule_day.RuleDay.TheVariants.{Julian1WithoutLeap, Julian0WithLeap, MonthWeekDay}
 
--- how many days after January 1st the n-th day lies that is not February 29th
+-- how many days after January 1st the n-th day is that is not February 29th
 unfoldable pub julian_place : Bool → ℕ → ℕ
 julian_place leap n = if leap && nat_lt 59 n then n else n - 1
 
@@ -18,7 +18,7 @@ nth_place first days week =
 unfoldable pub week_day_place : ℕ → ℕ → ℕ → ℕ → ℕ
 week_day_place first days week week_day = nth_place ((week_day + 7 - first) % 7) days week
 
--- how many days after January 1st of its year a rule day lies, where the year is leap or not and its January 1st has the week day
+-- how many days after January 1st of its year a rule day is, if the year is leap or not and its January 1st has the week day
 unfoldable pub place_in_year : RuleDay → Bool → ℕ → ℕ
 place_in_year (Julian1WithoutLeap n) leap week_day = julian_place leap n
 place_in_year (Julian0WithLeap n) leap week_day = n

@@ -54,13 +54,13 @@ abbrev pub HasOneType : TransitionRule → Type 0
 HasOneType rule = (u v : ℤ) (s t : LocalTimeType) → IsRuleType rule u s → IsRuleType rule v t → s ≡ t
 
 -- daylight saving time starts or ends at an instant after another one, and the rule has one type from that one up to it
-pub record IsTurnAfter (r : AlternateTime) (u turn : ℤ) (is_start : Bool) : Type 0 where
-  pub above : u <ℤ turn
-  pub before_is : (v : ℤ) → u ≤ℤ v → v <ℤ turn → IsRuleType (Alternate r) v (type_by r (not is_start))
-  pub after_is : IsRuleType (Alternate r) turn (type_by r is_start)
+pub record IsSwitchAfter (r : AlternateTime) (u switch : ℤ) (is_start : Bool) : Type 0 where
+  pub above : u <ℤ switch
+  pub before_is : (v : ℤ) → u ≤ℤ v → v <ℤ switch → IsRuleType (Alternate r) v (type_by r (not is_start))
+  pub after_is : IsRuleType (Alternate r) switch (type_by r is_start)
 
 -- daylight saving time starts or ends at an instant up to another one, and the rule has one type from it up to that one
-pub record IsTurnUpTo (r : AlternateTime) (u turn : ℤ) (is_start : Bool) : Type 0 where
-  pub up_to : turn ≤ℤ u
-  pub before_is : IsRuleType (Alternate r) (turn -ℤ pos 1) (type_by r (not is_start))
-  pub after_is : (v : ℤ) → turn ≤ℤ v → v ≤ℤ u → IsRuleType (Alternate r) v (type_by r is_start)
+pub record IsSwitchUpTo (r : AlternateTime) (u switch : ℤ) (is_start : Bool) : Type 0 where
+  pub up_to : switch ≤ℤ u
+  pub before_is : IsRuleType (Alternate r) (switch -ℤ pos 1) (type_by r (not is_start))
+  pub after_is : (v : ℤ) → switch ≤ℤ v → v ≤ℤ u → IsRuleType (Alternate r) v (type_by r is_start)

@@ -1,4 +1,4 @@
--- The rule that plain data gives, or none.
+-- The rule of plain data, or none.
 use Rattle.std.specs.Prelude.{ℕ, zero, suc, Option, Some, None}
 use Rattle.tz_rule.specs.Alternate.{AlternateTime}
 use Rattle.tz_rule.specs.LocalTimeType.{LocalTimeType}

@@ -29,7 +29,7 @@ days_of_month year month = days_from (day_number year month 1) (month_length (is
 abbrev pub is_leap_day : ℤ → ℤ → Bool
 is_leap_day year day = is_leap year && int_eq day (day_number year 2 29)
 
--- the day at a place of a list, from 0; the first day of all where there is no such place
+-- the day at a place of a list, from 0; the first day of all if there is no such place
 abbrev pub day_at : List ℤ → ℕ → ℤ
 day_at days place = slice_index_or days place (pos 0)
 

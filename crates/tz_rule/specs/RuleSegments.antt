@@ -8,19 +8,19 @@ use Rattle.tz_rule.specs.AlternateSegments.{IsAlternateSegment}
 use Rattle.tz_rule.specs.declared.timezone.rule.TransitionRule.{TransitionRule}
 use Rattle.tz_rule.specs.declared.timezone.rule.TransitionRule.TheVariants.{Fixed, Alternate}
 use Rattle.tz_rule.specs.declared.timezone.rule_segment.RuleSegment.{RuleSegment}
-use Rattle.tz_rule.specs.declared.timezone.alternate_segment.AlternateSegment.{AlternateSegment}
+use Rattle.tz_rule.specs.declared.timezone.segments.AlternateSegment.{AlternateSegment}
 
 -- some year's start or end
-abbrev pub IsTurn : AlternateTime → ℤ → Type 0
-IsTurn r u = (y : ℤ) × ((u ≡ start_of r y) ⊎ (u ≡ end_of r y))
+abbrev pub IsSwitch : AlternateTime → ℤ → Type 0
+IsSwitch r u = (y : ℤ) × ((u ≡ start_of r y) ⊎ (u ≡ end_of r y))
 
--- an instant at which a rule may change its type, begins to answer or ceases to answer
+-- an instant at which a rule may change its type, begins to be defined or ceases to be defined
 abbrev pub IsRuleChange : TransitionRule → ℤ → Type 0
 IsRuleChange (Fixed fixed) u = ⊥
 IsRuleChange (Alternate r) u =
-    IsTurn r u ⊎ (u ≡ pos 86400 *ℤ first_day (negsuc 2147483645)) ⊎ (u ≡ pos 86400 *ℤ first_day (pos 2147483646))
+    IsSwitch r u ⊎ (u ≡ pos 86400 *ℤ first_day (negsuc 2147483645)) ⊎ (u ≡ pos 86400 *ℤ first_day (pos 2147483646))
 
--- a segment holds the instant, lies between two changes of the rule or the ends of 64 bits, and the rule has its type, or none, at each of its instants
+-- a segment holds the instant, is between two changes of the rule or the ends of 64 bits, and the rule has its type, or none, at each of its instants
 pub record IsRuleSegment (rule : TransitionRule) (u : ℤ) (s : RuleSegment) : Type 0 where
   pub within : (s.from ≤ℤ u) × (u ≤ℤ s.last)
   pub holds : (v : ℤ) → s.from ≤ℤ v → v ≤ℤ s.last
@@ -28,7 +28,7 @@ pub record IsRuleSegment (rule : TransitionRule) (u : ℤ) (s : RuleSegment) : T
   pub from_is : s.from ≢ negsuc 9223372036854775807 → IsRuleChange rule s.from
   pub last_is : s.last ≢ pos 9223372036854775807 → IsRuleChange rule (s.last +ℤ pos 1)
 
--- the rule has the type throughout a segment that lies between two of its changes
+-- the rule has the type throughout a segment that is between two of its changes
 pub record IsWholeSegment (r : AlternateTime) (s : AlternateSegment) : Type 0 where
   pub from_is : IsRuleChange (Alternate r) s.from
   pub until_is : IsRuleChange (Alternate r) s.until

@@ -1,4 +1,4 @@
--- Tables of the fourteen kinds of years: for each kind, how many seconds after 00:00 UTC of January 1st an instant of the year lies.
+-- Tables of the fourteen kinds of years: for each kind, how many seconds after 00:00 UTC of January 1st an instant of the year is.
 use Rattle.std.specs.Prelude.{◌≡◌, ◌⊎◌, ℕ, zero, suc, ◌*◌, ◌<◌, Bool, ◌&&◌, ℤ, pos, negsuc, ◌+ℤ◌, ◌-ℤ◌, ◌*ℤ◌, ◌≤ℤ◌, ◌<ℤ◌, List, length, map, slice_index_or, int_le, int_lt}
 use Rattle.std.specs.Int.{int_min, int_max}
 use Rattle.std.specs.List.{range_with_len}
@@ -20,7 +20,7 @@ instant_in table year = pos 86400 *ℤ first_day year +ℤ entry table (year_kin
 abbrev pub IsNear : ℤ → Type 0
 IsNear distance = (negsuc 0 ≤ℤ distance) × (distance ≤ℤ pos 1)
 
--- the table determines for every whole year how long after 00:00 UTC of January 1st its instant lies
+-- the table determines for every whole year how long after 00:00 UTC of January 1st its instant is
 pub record IsTableOf (instants : ℤ → ℤ) (table : List ℤ) : Type 0 where
   pub size : length table ≡ 14
   pub entries : (year : ℤ) → entry table (year_kind year) ≡ instants year -ℤ pos 86400 *ℤ first_day year
@@ -39,7 +39,7 @@ start_table r = day_table r.dst_start (r.dst_start_time -ℤ r.std.ut_offset)
 unfoldable pub end_table : AlternateTime → List ℤ
 end_table r = day_table r.dst_end (r.dst_end_time -ℤ r.dst.ut_offset)
 
--- no kind's seconds lie below the one number or above the other
+-- no kind's seconds are below the one number or above the other
 abbrev pub AreBounds : List ℤ → ℤ → ℤ → Type 0
 AreBounds table least greatest = (kind : ℕ) → kind < 14 → (least ≤ℤ entry table kind) × (entry table kind ≤ℤ greatest)
 
@@ -52,7 +52,7 @@ unfoldable pub greatest_entry : List ℤ → ℕ → ℤ
 greatest_entry table zero = negsuc 2147483647
 greatest_entry table (suc kinds) = int_max (greatest_entry table kinds) (entry table kinds)
 
--- in all years the instant lies ten days or more from the ends of the year, also where that has 365 days
+-- in all years the instant is ten days or more from the ends of the year, also if that has 365 days
 abbrev pub is_inner : List ℤ → Bool
 is_inner table = int_le (pos 864000) (least_entry table 14) && int_lt (greatest_entry table 14) (pos 30672000)
 

@@ -32,12 +32,12 @@ pub fn rule_types_are_total(rule: &TransitionRule)
     rule_parts_are_sound(rule);
 }
 
-/// Where no start and no end lies after an instant, up to a later one, the rule has one type at both.
+/// If no start and no end is after an instant, up to a later one, the rule has one type at both.
 pub fn rule_types_change_at_starts_and_ends()
     ensures { (r : AlternateTime) (u v : ℤ) (t : LocalTimeType) → u ≤ℤ v → IsUnchanged r u v → IsAlternateType r u t → IsAlternateType r v t }
 {}
 
-/// Each start and each end lies less than ten days outside its year.
+/// Each start and each end is less than ten days outside its year.
 pub fn starts_and_ends_are_near(rule: &AlternateTime)
     ensures starts { (year : ℤ) → IsNearYear (start_of rule.now year) year }
     ensures ends { (year : ℤ) → IsNearYear (end_of rule.now year) year }

@@ -10,7 +10,7 @@ use Rattle.tz_rule.specs.LocalTimeType.{LocalTimeType}
 use Rattle.tz_rule.specs.Rule.{IsRuleType}
 use Rattle.tz_rule.specs.declared.timezone.rule.TransitionRule.{TransitionRule}
 use Rattle.tz_rule.specs.declared.timezone.rule.TransitionRule.TheVariants.{Fixed, Alternate}
-use Rattle.tz_rule.proofs.RuleSegments.{answered_from_years}
+use Rattle.tz_rule.proofs.RuleSegments.{IsInRuleYears-bounds}
 use Rattle.tz_zone.specs.Table.{Transition, LeapSecond, Zone}
 use Rattle.tz_zone.specs.LeapTime.{IsBeforeStart, IsPastInstants, IsLeapTimeRefused, IsLeapTime, IsTimeReached}
 use Rattle.tz_zone.specs.Clock.{IsLast, IsTypeWithout, IsTypeAfter, IsClock}
@@ -34,7 +34,7 @@ rule_change_bound (Fixed fixed) a b u before after differ = absurd (differ (befo
 rule_change_bound (Alternate rule) a b u before after differ =
     let fits : SFits w32 (pos 2147483645) = search rules in
     let last : first_day (pos 2147483646) ≤ℤ pos 784351576777 = (first_day_bounds (pos 2147483645) fits).1 in
-    omega (arith, ints, (answered_from_years u after.0).1, last)
+    omega (arith, ints, (IsInRuleYears-bounds u after.0).1, last)
 
 -- there are transitions, or there are none
 pub none_or_some : (list : List Transition) → (list ≡ []) ⊎ (list ≢ [])

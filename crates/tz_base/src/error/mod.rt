@@ -32,10 +32,10 @@ pub enum TzError {
     /// The fields do not make a date time.
     #[error("invalid date time: {0}")]
     DateTime(DateTimeError),
-    /// A value is outside the range of its type.
+    /// A value is outside the range of its type, or an instant outside the years of a zone's rule, or before a leap-second table that begins late.
     #[error("out of range operation")]
     OutOfRange,
-    /// The zone has no clock at the instant.
+    /// The zone's last transition has taken effect, and the zone has no rule for later instants.
     #[error("no local time type is available for the specified timestamp")]
     NoAvailableLocalTimeType,
     /// Out of memory: an allocation failed.

@@ -1,7 +1,7 @@
 //! Rules of standard time and daylight saving time.
 
-ghost use Rattle.std.specs.Prelude.{◌≡◌, ◌&&◌, OnOk, IfOk, IfErr, IfSome, IfNone};
-ghost use Rattle.tz_rule.specs.Alternate.{start_of, end_of, alternate_of, IsInRuleRange, IsFirstRuleFault, IsConsistentRule};
+ghost use Rattle.std.specs.Prelude.{◌≡◌, ◌&&◌, OnOk, IfOk, IfErr, IfSome, IfNone, MatchBool};
+ghost use Rattle.tz_rule.specs.Alternate.{start_of, end_of, alternate_of, IsRuleOffset, IsRuleTime, IsInRuleRange, IsFirstRuleFault, IsConsistentRule};
 ghost use Rattle.std.specs.Ordering.{int_eq};
 ghost use Rattle.tz_rule.specs.SameDay.{same_day};
 ghost use Rattle.tz_rule.specs.Pairing.{IsConflict, IsInconsistent};
@@ -14,10 +14,24 @@ use std::fmt;
 use std::marker::Model;
 use tz_base::error::timezone::TransitionRuleError;
 
+/// Whether the offset is above -25 and below 26 hours.
+pub(super) fn is_rule_offset(offset: i32) -> bool
+    ensures { MatchBool result (IsRuleOffset offset) (¬ IsRuleOffset offset) }
+{
+    -90_000 < offset && offset < 93_600
+}
+
+/// Whether the time is less than a week either way.
+pub(super) fn is_rule_time(time: i32) -> bool
+    ensures { MatchBool result (IsRuleTime time) (¬ IsRuleTime time) }
+{
+    -604_800 < time && time < 604_800
+}
+
 /// Standard time and daylight saving time, and when each begins in every year.
 ///
-/// A start and an end never change their order from one year to another, at any distance in years. Where some year's end comes before its start,
-/// daylight saving time lasts from each start to the next year's end, and else to the end of the same year.
+/// A start and an end never change their order from one year to another, at any distance in years. If some year's end comes before its start,
+/// daylight saving time lasts from each start to the next year's end, and otherwise to the end of the same year.
 #[derive(Clone, Copy)]
 pub struct AlternateTime {
     clock: AlternateClock,

@@ -1,11 +1,11 @@
-//! The clock of an alternate rule: its parts, and the tables by which it answers, as plain data.
+//! The clock of an alternate rule: its parts, and the tables that its lookups read, as plain data.
 //!
 //! A caller in another language can hold it. All zeros are a valid one.
 
 ghost use Rattle.std.specs.Prelude.{◌≡◌, OnOk, IfOk, IfErr, IfSome, IfNone, MatchBool};
 ghost use Rattle.std.specs.Bool.{OnTrue};
-ghost use Rattle.tz_rule.specs.Alternate.{start_of, end_of, turn_of, alternate_of, IsInRuleRange, IsFirstRuleFault, IsConsistentRule, AreRuleDays, IsNearYear};
-ghost use Rattle.tz_rule.specs.InnerTurns.{HasInnerTurns};
+ghost use Rattle.tz_rule.specs.Alternate.{start_of, end_of, switch_of, alternate_of, IsInRuleRange, IsFirstRuleFault, IsConsistentRule, AreRuleDays, IsNearYear};
+ghost use Rattle.tz_rule.specs.InnerSwitches.{HasInnerSwitches};
 ghost use Rattle.tz_rule.specs.YearTables.{IsTableOf};
 ghost use Rattle.tz_rule.specs.Pairing.{IsConflict, IsInconsistent, EndsNextYear};
 ghost use Rattle.tz_rule.specs.ZeroRule.{zero_rule};
@@ -23,7 +23,7 @@ use tz_base::error::timezone::TransitionRuleError;
 pub struct AlternateClock {
     parts: Parts,
     ends_next_year: bool,
-    has_inner_turns: bool,
+    has_inner_switches: bool,
     starts: YearTable,
     ends: YearTable,
 }
@@ -100,7 +100,7 @@ impl AlternateClock {
         AlternateClock {
             parts,
             ends_next_year,
-            has_inner_turns: starts.is_inner() && ends.is_inner(),
+            has_inner_switches: starts.is_inner() && ends.is_inner(),
             starts,
             ends,
         }
@@ -153,7 +153,7 @@ impl AlternateClock {
         AlternateClock {
             parts,
             ends_next_year: false,
-            has_inner_turns: false,
+            has_inner_switches: false,
             starts: YearTable::zeros(),
             ends: YearTable::zeros(),
         }
@@ -203,19 +203,19 @@ impl AlternateClock {
 
     /// The table of the starts of daylight saving time, or of its ends.
     #[inline(always)]
-    pub(super) fn turns(&self, is_end: bool) -> &YearTable
-        ensures { IsTableOf (turn_of self.now is_end) result.now.0 }
+    pub(super) fn switches(&self, is_end: bool) -> &YearTable
+        ensures { IsTableOf (switch_of self.now is_end) result.now.0 }
     {
         if is_end { &self.ends } else { &self.starts }
     }
 
     /// The instant at which daylight saving time starts, or ends, in a year.
-    pub(crate) fn turn_in(&self, is_end: bool, year: i32) -> i64
-        ensures value { result ≡ turn_of self.now is_end year }
+    pub(crate) fn switch_in(&self, is_end: bool, year: i32) -> i64
+        ensures value { result ≡ switch_of self.now is_end year }
         ensures bound { IsNearYear result year }
     {
         self.parts_are_sound();
-        self.turns(is_end).in_year(year)
+        self.switches(is_end).in_year(year)
     }
 
     /// Whether each start has the end of the next year.
@@ -226,12 +226,12 @@ impl AlternateClock {
         self.ends_next_year
     }
 
-    /// Whether each start and each end lies ten days or more from the ends of its year.
+    /// Whether each start and each end is ten days or more from the ends of its year.
     #[inline(always)]
-    pub(super) fn has_inner_turns(&self) -> bool
-        ensures { OnTrue result (HasInnerTurns self.now) }
+    pub(super) fn has_inner_switches(&self) -> bool
+        ensures { OnTrue result (HasInnerSwitches self.now) }
     {
-        self.has_inner_turns
+        self.has_inner_switches
     }
 
     /// The parts are those of a valid rule. This does nothing; its contract is what holds of every value.

@@ -30,16 +30,16 @@ pub(super) fn rule_year(unix_time: i64) -> Option<i32>
 }
 
 impl AlternateClock {
-    /// Whether the instant lies from one year's start up to, not including, a year's end.
+    /// Whether the instant is in the span from one year's start up to, not including, a year's end.
     fn is_in_span(&self, unix_time: i64, start_year: i32, end_year: i32) -> bool
         ensures { MatchBool result
             (IsInSpan (start_of self.now) (end_of self.now) unix_time start_year end_year)
             (¬ IsInSpan (start_of self.now) (end_of self.now) unix_time start_year end_year) }
     {
-        self.turn_in(false, start_year) <= unix_time && unix_time < self.turn_in(true, end_year)
+        self.switch_in(false, start_year) <= unix_time && unix_time < self.switch_in(true, end_year)
     }
 
-    /// Whether the instant is in daylight saving time, where each start has the end of its own year.
+    /// Whether the instant is in daylight saving time, if each start has the end of its own year.
     fn is_daylight_in_order(&self, unix_time: i64, year: i32) -> bool
         requires in_order { ¬ EndsNextYear (start_of self.now) (end_of self.now) }
         requires year { IsUtcYear unix_time year × IsRuleYear year }
@@ -57,7 +57,7 @@ impl AlternateClock {
         self.is_in_span(unix_time, year + 1, year + 1)
     }
 
-    /// Whether the instant is in daylight saving time, where each start has the end of the next year.
+    /// Whether the instant is in daylight saving time, if each start has the end of the next year.
     fn is_daylight_across_years(&self, unix_time: i64, year: i32) -> bool
         requires across { EndsNextYear (start_of self.now) (end_of self.now) }
         requires year { IsUtcYear unix_time year × IsRuleYear year }
@@ -66,7 +66,7 @@ impl AlternateClock {
             (¬ IsDaylight (start_of self.now) (end_of self.now) unix_time) }
     {
         self.parts_are_sound();
-        if unix_time < self.turn_in(true, year - 1) {
+        if unix_time < self.switch_in(true, year - 1) {
             return true;
         }
         if self.is_in_span(unix_time, year - 1, year) {
@@ -75,7 +75,7 @@ impl AlternateClock {
         if self.is_in_span(unix_time, year, year + 1) {
             return true;
         }
-        self.turn_in(false, year + 1) <= unix_time
+        self.switch_in(false, year + 1) <= unix_time
     }
 
     /// Whether the instant of a year in UTC is in daylight saving time.

@@ -15,7 +15,7 @@ const FIRST_MODEL_YEAR: i32 = 1972;
 const MODEL_YEARS: u8 = 29;
 
 impl YearTable {
-    /// A year in which the instant comes before the other one of the year that lies at the distance.
+    /// A year in which the instant comes before the other one of the year that is at the distance.
     fn year_before(&self, other: &YearTable, distance: i32) -> Option<i32>
         requires { IsNear distance }
         ensures some { IfSome result (λ y. instant_in self.now.0 y <ℤ instant_in other.now.0 (y +ℤ distance)) }

@@ -2,7 +2,6 @@
 
 mod alternate;
 pub(crate) mod alternate_clock;
-mod alternate_segment;
 pub(crate) mod day_data;
 mod daylight;
 mod inconsistent_years;

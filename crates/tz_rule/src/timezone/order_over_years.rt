@@ -58,7 +58,7 @@ impl YearTable {
         self.comes_before_next(other) && self.comes_after_next(other)
     }
 
-    /// Whether ends come before starts, of which this is the table, where the bounds of both lie apart and so no order changes.
+    /// Whether ends come before starts, of which this is the table, if the bounds of both are apart and so no order changes.
     fn order_of_bounds(&self, ends: &YearTable) -> Option<bool>
         ensures { IfSome result (λ first. (¬ ChangesOrder self.now.0 ends.now.0)
             × MatchBool first (ComesFirst ends.now.0 self.now.0) (¬ ComesFirst ends.now.0 self.now.0)) }
@@ -80,7 +80,7 @@ impl YearTable {
         None
     }
 
-    /// Whether the end of some year comes before its start. `None` where starts, of which this is the table, and ends change their order.
+    /// Whether the end of some year comes before its start. `None` if starts, of which this is the table, and ends change their order.
     pub(super) fn order(&self, ends: &YearTable) -> Option<bool>
         ensures some { IfSome result (λ first. (¬ ChangesOrder self.now.0 ends.now.0)
             × MatchBool first (ComesFirst ends.now.0 self.now.0) (¬ ComesFirst ends.now.0 self.now.0)) }

@@ -1,18 +1,18 @@
-//! Where a rule changes its type: the first change after an instant, and the last one up to it.
+//! The changes of a rule's type: the first one after an instant, and the last one up to it.
 //!
 //! Mostly that is the start or the end of daylight saving time next to the instant, which the tables' entries of its likely year, or of that year and
-//! one neighbour, determine. Otherwise, as near some New Years, if a start and an end coincide, or where the rule ceases to answer, a walk goes on from
+//! one neighbour, determine. Otherwise, as near some New Years, if a start and an end coincide, or at the ends of the rule's years, a walk goes on from
 //! segment to segment. A rule without a change is known by its types and tables, and is not walked over.
 
 ghost use Rattle.std.specs.Prelude.{◌≡◌, ◌≢◌, not, ℤ, pos, negsuc, ◌+ℤ◌, ◌-ℤ◌, ◌≤ℤ◌, ◌<ℤ◌, IfSome, MatchBool, MatchOption};
 ghost use Rattle.std.specs.Bool.{OnTrue};
 ghost use Rattle.tz_rule.specs.Alternate.{start_of, end_of};
 ghost use Rattle.tz_rule.specs.AlternateSegments.{type_by, IsTriedYear, moved_back};
-ghost use Rattle.tz_rule.specs.InnerTurns.{HasInnerTurns, IsLikelyYear};
+ghost use Rattle.tz_rule.specs.InnerSwitches.{HasInnerSwitches, IsLikelyYear};
 ghost use Rattle.tz_rule.specs.LocalTimeType.{LocalTimeType};
 ghost use Rattle.tz_rule.specs.Pairing.{EndsNextYear};
 ghost use Rattle.tz_rule.specs.Rule.{IsRuleType};
-ghost use Rattle.tz_rule.specs.RuleChanges.{TypeChange, type_change_of, IsTypeChange, IsChangeAfter, IsChangeUpTo, HasNoChangeAfter, HasNoChangeUpTo, HasOneType, IsTurnAfter, IsTurnUpTo};
+ghost use Rattle.tz_rule.specs.RuleChanges.{TypeChange, type_change_of, IsTypeChange, IsChangeAfter, IsChangeUpTo, HasNoChangeAfter, HasNoChangeUpTo, HasOneType, IsSwitchAfter, IsSwitchUpTo};
 ghost use Rattle.tz_rule.specs.RuleRef.{rule_seen};
 ghost use Rattle.tz_rule.specs.declared.timezone.rule.TransitionRule.{TransitionRule};
 ghost use Rattle.tz_rule.specs.declared.timezone.rule.TransitionRule.TheVariants.{Alternate};
@@ -35,18 +35,18 @@ pub struct RuleChange<'a> {
 
 /// A start or an end of daylight saving time at which the rule has the other type than at the instant before.
 #[derive(Clone, Copy)]
-struct Turn {
+struct Switch {
     unix_time: i64,
     is_start: bool,
 }
 
-/// The turn, unless another one comes at the same instant.
+/// The switch, unless another one comes at the same instant.
 #[inline(always)]
-fn turn_between(unix_time: i64, is_start: bool, earlier: i64, later: i64) -> Option<Turn>
-    ensures { IfSome result (λ turn. (turn.unix_time ≡ unix_time) × (turn.is_start ≡ is_start) × (earlier <ℤ later)) }
+fn switch_between(unix_time: i64, is_start: bool, earlier: i64, later: i64) -> Option<Switch>
+    ensures { IfSome result (λ switch. (switch.unix_time ≡ unix_time) × (switch.is_start ≡ is_start) × (earlier <ℤ later)) }
 {
     if earlier < later {
-        return Some(Turn {
+        return Some(Switch {
             unix_time,
             is_start,
         });
@@ -79,113 +79,123 @@ fn change_by_types<'a>(
 }
 
 impl AlternateClock {
-    /// The start or the end next after an instant near the moved year, where a year's end comes first, or its start.
+    /// The start or the end next after an instant near the moved year, by whether a year's end comes first, or its start.
     ///
-    /// The second one of a year never meets the first one of the next year, since both lie far inside their years.
+    /// The second one of a year never meets the first one of the next year, since both are far inside their years.
     #[inline(always)]
-    fn turn_after_by_order(&self, end_is_first: bool, unix_time: i64, years: u64) -> Option<Turn>
+    fn switch_after_by_order(
+        &self,
+        end_is_first: bool,
+        unix_time: i64,
+        years: u64,
+    ) -> Option<Switch>
         requires order { MatchBool end_is_first (EndsNextYear (start_of self.now) (end_of self.now)) (¬ EndsNextYear (start_of self.now) (end_of self.now)) }
         requires year { IsTriedYear (moved_back years) }
-        requires inner { HasInnerTurns self.now }
+        requires inner { HasInnerSwitches self.now }
         requires likely { IsLikelyYear unix_time (moved_back years) }
-        ensures { IfSome result (λ turn. IsTurnAfter self.now unix_time turn.unix_time turn.is_start) }
+        ensures { IfSome result (λ switch. IsSwitchAfter self.now unix_time switch.unix_time switch.is_start) }
     {
         self.parts_are_sound();
-        let first = self.turn_in_moved(end_is_first, years);
-        let second = self.turn_in_moved(!end_is_first, years);
+        let first = self.switch_in_moved(end_is_first, years);
+        let second = self.switch_in_moved(!end_is_first, years);
         if unix_time < first {
-            return turn_between(first, !end_is_first, first, second);
+            return switch_between(first, !end_is_first, first, second);
         }
         if unix_time < second {
-            return Some(Turn {
+            return Some(Switch {
                 unix_time: second,
                 is_start: end_is_first,
             });
         }
-        let next = self.turn_in_moved(end_is_first, years + 1);
-        let last = self.turn_in_moved(!end_is_first, years + 1);
-        turn_between(next, !end_is_first, next, last)
+        let next = self.switch_in_moved(end_is_first, years + 1);
+        let last = self.switch_in_moved(!end_is_first, years + 1);
+        switch_between(next, !end_is_first, next, last)
     }
 
-    /// The last start or end up to an instant near the moved year, where a year's end comes first, or its start.
+    /// The last start or end up to an instant near the moved year, by whether a year's end comes first, or its start.
     #[inline(always)]
-    fn turn_up_to_by_order(&self, end_is_first: bool, unix_time: i64, years: u64) -> Option<Turn>
+    fn switch_up_to_by_order(
+        &self,
+        end_is_first: bool,
+        unix_time: i64,
+        years: u64,
+    ) -> Option<Switch>
         requires order { MatchBool end_is_first (EndsNextYear (start_of self.now) (end_of self.now)) (¬ EndsNextYear (start_of self.now) (end_of self.now)) }
         requires year { IsTriedYear (moved_back years) }
-        requires inner { HasInnerTurns self.now }
+        requires inner { HasInnerSwitches self.now }
         requires likely { IsLikelyYear unix_time (moved_back years) }
-        ensures { IfSome result (λ turn. IsTurnUpTo self.now unix_time turn.unix_time turn.is_start) }
+        ensures { IfSome result (λ switch. IsSwitchUpTo self.now unix_time switch.unix_time switch.is_start) }
     {
         self.parts_are_sound();
-        let first = self.turn_in_moved(end_is_first, years);
-        let second = self.turn_in_moved(!end_is_first, years);
+        let first = self.switch_in_moved(end_is_first, years);
+        let second = self.switch_in_moved(!end_is_first, years);
         if second <= unix_time {
-            return turn_between(second, end_is_first, first, second);
+            return switch_between(second, end_is_first, first, second);
         }
         if first <= unix_time {
-            return Some(Turn {
+            return Some(Switch {
                 unix_time: first,
                 is_start: !end_is_first,
             });
         }
-        let earlier = self.turn_in_moved(end_is_first, years - 1);
-        let last = self.turn_in_moved(!end_is_first, years - 1);
-        turn_between(last, end_is_first, earlier, last)
+        let earlier = self.switch_in_moved(end_is_first, years - 1);
+        let last = self.switch_in_moved(!end_is_first, years - 1);
+        switch_between(last, end_is_first, earlier, last)
     }
 
-    /// The year near an instant that determines the turns next to it, if the types differ and the turns lie so that one does.
+    /// The year near an instant that determines the switches next to it, if the types differ and the switches are such that one does.
     #[inline(always)]
     fn determining_years(&self, unix_time: i64) -> Option<u64>
         ensures differ { IfSome result (λ _. self.now.std ≢ self.now.dst) }
-        ensures inner { IfSome result (λ _. HasInnerTurns self.now) }
+        ensures inner { IfSome result (λ _. HasInnerSwitches self.now) }
         ensures year { IfSome result (λ years. IsTriedYear (moved_back years)) }
         ensures likely { IfSome result (λ years. IsLikelyYear unix_time (moved_back years)) }
     {
-        if !self.has_inner_turns() || self.std() == self.dst() {
+        if !self.has_inner_switches() || self.std() == self.dst() {
             return None;
         }
         likely_years(unix_time)
     }
 
-    /// The change at a turn.
+    /// The change at a switch.
     #[inline(always)]
-    fn change_at(&self, turn: Turn) -> RuleChange<'_>
-        ensures time { result.unix_time ≡ turn.unix_time }
-        ensures before { result.before.now ≡ type_by self.now (not turn.is_start) }
-        ensures after { result.after.now ≡ type_by self.now turn.is_start }
+    fn change_at(&self, switch: Switch) -> RuleChange<'_>
+        ensures time { result.unix_time ≡ switch.unix_time }
+        ensures before { result.before.now ≡ type_by self.now (not switch.is_start) }
+        ensures after { result.after.now ≡ type_by self.now switch.is_start }
     {
         RuleChange {
-            unix_time: turn.unix_time,
-            before: self.type_by(!turn.is_start),
-            after: self.type_by(turn.is_start),
+            unix_time: switch.unix_time,
+            before: self.type_by(!switch.is_start),
+            after: self.type_by(switch.is_start),
         }
     }
 
-    /// The turn next after an instant, if the likely year determines it.
+    /// The switch next after an instant, if the likely year determines it.
     #[inline(always)]
-    fn turn_after(&self, unix_time: i64) -> Option<Turn>
+    fn switch_after(&self, unix_time: i64) -> Option<Switch>
         ensures differ { IfSome result (λ _. self.now.std ≢ self.now.dst) }
-        ensures turn { IfSome result (λ turn. IsTurnAfter self.now unix_time turn.unix_time turn.is_start) }
+        ensures switch { IfSome result (λ switch. IsSwitchAfter self.now unix_time switch.unix_time switch.is_start) }
     {
         let years = self.determining_years(unix_time)?;
         if self.ends_next_year() {
-            self.turn_after_by_order(true, unix_time, years)
+            self.switch_after_by_order(true, unix_time, years)
         } else {
-            self.turn_after_by_order(false, unix_time, years)
+            self.switch_after_by_order(false, unix_time, years)
         }
     }
 
-    /// The last turn up to an instant, if the likely year determines it.
+    /// The last switch up to an instant, if the likely year determines it.
     #[inline(always)]
-    fn turn_up_to(&self, unix_time: i64) -> Option<Turn>
+    fn switch_up_to(&self, unix_time: i64) -> Option<Switch>
         ensures differ { IfSome result (λ _. self.now.std ≢ self.now.dst) }
-        ensures turn { IfSome result (λ turn. IsTurnUpTo self.now unix_time turn.unix_time turn.is_start) }
+        ensures switch { IfSome result (λ switch. IsSwitchUpTo self.now unix_time switch.unix_time switch.is_start) }
     {
         let years = self.determining_years(unix_time)?;
         if self.ends_next_year() {
-            self.turn_up_to_by_order(true, unix_time, years)
+            self.switch_up_to_by_order(true, unix_time, years)
         } else {
-            self.turn_up_to_by_order(false, unix_time, years)
+            self.switch_up_to_by_order(false, unix_time, years)
         }
     }
 
@@ -198,7 +208,7 @@ impl AlternateClock {
         if self.std() == self.dst() {
             return true;
         }
-        let (starts, ends) = (self.turns(false), self.turns(true));
+        let (starts, ends) = (self.switches(false), self.switches(true));
         if self.ends_next_year() {
             return !starts.comes_before_next(ends);
         }
@@ -258,8 +268,8 @@ impl AlternateClock {
     fn change_after(&self, unix_time: i64) -> Option<RuleChange<'_>>
         ensures { MatchOption result (HasNoChangeAfter (Alternate self.now) unix_time) (λ c. IsChangeAfter (Alternate self.now) unix_time (type_change_of c)) }
     {
-        match self.turn_after(unix_time) {
-            Some(turn) => Some(self.change_at(turn)),
+        match self.switch_after(unix_time) {
+            Some(switch) => Some(self.change_at(switch)),
             None => self.outer_change_after(unix_time),
         }
     }
@@ -269,8 +279,8 @@ impl AlternateClock {
     fn change_up_to(&self, unix_time: i64) -> Option<RuleChange<'_>>
         ensures { MatchOption result (HasNoChangeUpTo (Alternate self.now) unix_time) (λ c. IsChangeUpTo (Alternate self.now) unix_time (type_change_of c)) }
     {
-        match self.turn_up_to(unix_time) {
-            Some(turn) => Some(self.change_at(turn)),
+        match self.switch_up_to(unix_time) {
+            Some(switch) => Some(self.change_at(switch)),
             None => self.outer_change_up_to(unix_time),
         }
     }

@@ -33,7 +33,7 @@ pub fn start(rule: &AlternateTime, year: i32) -> i64
     ensures value { result ≡ start_of rule.now year }
     ensures bound { IsNearYear result year }
 {
-    rule.clock().turn_in(false, year)
+    rule.clock().switch_in(false, year)
 }
 
 /// The instant at which daylight saving time ends in a year.
@@ -41,7 +41,7 @@ pub fn end(rule: &AlternateTime, year: i32) -> i64
     ensures value { result ≡ end_of rule.now year }
     ensures bound { IsNearYear result year }
 {
-    rule.clock().turn_in(true, year)
+    rule.clock().switch_in(true, year)
 }
 
 /// The segment of the rule around an instant: the first and the last instant through which it has one type, or none.

@@ -10,8 +10,8 @@ use std::marker::Model;
 use tz_base::calendar;
 use tz_base::error::timezone::TransitionRuleError;
 
-/// How many days after its first day a month of this length has a week day for the w-th time, and for the fifth week for the last time, where
-/// it has the week day for the first time this many days after its first day.
+/// How many days after its first day a month of this length has a week day for the w-th time, and for the fifth week for the last time, if it has
+/// the week day for the first time this many days after its first day.
 #[inline(always)]
 fn nth_place(first: u8, days: u8, week: u8) -> u8
     requires first { first < 7 }
@@ -85,7 +85,7 @@ impl Julian1WithoutLeap {
         self.0
     }
 
-    /// How many days after January 1st the day lies, in a leap year or another one.
+    /// How many days after January 1st the day is, in a leap year or another one.
     #[tactic(auto, unfolding(crate::specs::Places::julian_place))]
     fn place(&self, leap: bool) -> u16
         ensures value { result ≡ julian_place leap self.now }
@@ -239,9 +239,9 @@ impl MonthWeekDay {
         self.week_day
     }
 
-    /// How many days after January 1st the day lies in leap years or in the others, for each week day of January 1st.
+    /// How many days after January 1st the day is in leap years or in the others, for each week day of January 1st.
     ///
-    /// One week day is counted. Where January 1st has the next week day, the day lies one day earlier, within the seven days of its week.
+    /// One week day is counted. If January 1st has the next week day, the day is one day earlier, within the seven days of its week.
     fn places(&self, leap: bool) -> [u16; 7]
         ensures value { (w : ℕ) → w < 7 → get_or result w 0 ≡ place_in_year (TheDays.MonthWeekDay self.now) leap w }
         ensures bound { (w : ℕ) → w < 7 → get_or result w 0 ≤ 365 }
@@ -301,7 +301,7 @@ impl Eq for RuleDay {
 impl RuleDay {
     ghost use Rattle.tz_rule.specs.RuleDays.{IsRuleDay};
 
-    /// How many days after January 1st the day lies in leap years or in the others, for each week day of January 1st.
+    /// How many days after January 1st the day is in leap years or in the others, for each week day of January 1st.
     pub(super) fn places(&self, leap: bool) -> [u16; 7]
         ensures value { (w : ℕ) → w < 7 → get_or result w 0 ≡ place_in_year self.now leap w }
         ensures bound { (w : ℕ) → w < 7 → get_or result w 0 ≤ 365 }

@@ -1,4 +1,4 @@
-//! A rule as a reference to the type or the clock that answers.
+//! A rule as a reference to the type or the clock that determines its types.
 
 ghost use Rattle.std.specs.Prelude.{◌≡◌};
 ghost use Rattle.tz_rule.specs.RuleRef.{rule_seen};

@@ -9,6 +9,6 @@ pub struct RuleSegment<'a> {
     pub from: i64,
     /// The last instant.
     pub last: i64,
-    /// The type, where the rule answers.
+    /// The type, if the rule is defined.
     pub local_time_type: Option<&'a LocalTimeType>,
 }

@@ -1,23 +1,22 @@
 //! The segment of an alternate rule around an instant, from one start or end of daylight saving time up to the next, and the type there.
 //!
-//! Two or three starts and ends of the likely year and of its neighbours tell both where all starts and ends lie ten days or more from the
-//! ends of their years, and mostly elsewhere. Where they do not, as near some New Years, those of five years do: the last one up to the
-//! instant can be that of two years before, and the next one that of two years after.
+//! Two or three starts and ends of the likely year and of its neighbours determine both if all starts and ends are ten days or more from the
+//! ends of their years, and mostly otherwise. Else, as near some New Years, those of five years do: the last one up to the instant can be that of
+//! two years before, and the next one that of two years after.
 
 ghost use Rattle.std.specs.Prelude.{◌≡◌, ◌≢◌, ◌⊎◌, ℤ, pos, negsuc, ◌+ℤ◌, ◌*ℤ◌, ◌≤ℤ◌, ◌<ℤ◌, IfOk, IfErr, IfSome, MatchBool, MatchOption};
 ghost use Rattle.tz_base.specs.Days.{first_day};
-ghost use Rattle.tz_rule.specs.Alternate.{AlternateTime, start_of, end_of, turn_of, IsUtcYear, IsRuleYear, IsInRuleYears, IsAlternateType};
+ghost use Rattle.tz_rule.specs.Alternate.{AlternateTime, start_of, end_of, switch_of, IsUtcYear, IsRuleYear, IsInRuleYears, IsAlternateType};
 ghost use Rattle.tz_rule.specs.LocalTimeType.{LocalTimeType};
 ghost use Rattle.tz_rule.specs.Rule.{IsRuleType};
 ghost use Rattle.tz_rule.specs.RuleSegments.{IsRuleChange, IsRuleSegment, IsWholeSegment, IsNotInside};
-ghost use Rattle.tz_rule.specs.InnerTurns.{HasInnerTurns, IsLikelyYear};
+ghost use Rattle.tz_rule.specs.InnerSwitches.{HasInnerSwitches, IsLikelyYear};
 ghost use Rattle.tz_rule.specs.AlternateSegments.{type_by, IsTriedYear, moved_back};
 ghost use Rattle.tz_rule.specs.Pairing.{EndsNextYear};
 ghost use Rattle.tz_rule.specs.declared.timezone.rule.TransitionRule.TheVariants.{Alternate};
 
 use super::LocalTimeType;
 use super::alternate_clock::AlternateClock;
-use super::alternate_segment::AlternateSegment;
 use super::daylight::{FIRST_YEAR, LAST_YEAR, rule_year};
 use super::rule_segment::RuleSegment;
 use tz_base::calendar;
@@ -25,7 +24,7 @@ use tz_base::constants::SECONDS_PER_DAY;
 use tz_base::error::TzError;
 use tz_base::moved_year::moved_seconds;
 
-/// How far from 1970 an instant may lie: the two years before its year and the two after it are years in which a rule answers.
+/// How far from 1970 an instant may be: the two years before its year and the two after it are years over which a rule is defined.
 const GREATEST_DISTANCE: i64 = 60_000_000_000_000_000;
 
 /// The seconds of a year, on the average of 400 years.
@@ -34,7 +33,18 @@ const SECONDS_PER_YEAR: u64 = 31_556_952;
 /// How many years have the starts and ends that may be next to an instant: its own, two before it and two after it.
 const NEAR_YEARS: u8 = 5;
 
-/// The year of an instant in UTC, or the neighbour of that year whose end lies less than two days away, moved by cycles of 400 years.
+/// A span of time through which an alternate rule has one type.
+#[derive(Clone, Copy)]
+struct AlternateSegment {
+    /// The first instant.
+    from: i64,
+    /// The first instant after it.
+    until: i64,
+    /// Whether its type is that of daylight saving time.
+    is_daylight: bool,
+}
+
+/// The year of an instant in UTC, or the neighbour of that year whose end is less than two days away, moved by cycles of 400 years.
 #[inline(always)]
 pub(super) fn likely_years(unix_time: i64) -> Option<u64>
     ensures year { IfSome result (λ years. IsTriedYear (moved_back years)) }
@@ -54,8 +64,8 @@ fn new_year(year: i32) -> i64
     SECONDS_PER_DAY * calendar::first_day_of_year(year)
 }
 
-/// The segment around an instant at which rules do not answer.
-fn unanswered<'a>(unix_time: i64) -> RuleSegment<'a>
+/// The segment around an instant at which rules are undefined.
+fn undefined_segment<'a>(unix_time: i64) -> RuleSegment<'a>
     requires { ¬ IsInRuleYears unix_time }
     ensures { (rule : AlternateTime) → IsRuleSegment (Alternate rule) unix_time result }
 {
@@ -74,21 +84,21 @@ fn unanswered<'a>(unix_time: i64) -> RuleSegment<'a>
     }
 }
 
-/// The segment around the instant, cut at a start or an end that lies inside it.
-fn cut(segment: AlternateSegment, unix_time: i64, turn: i64) -> AlternateSegment
+/// The segment around the instant, cut at a start or an end that is inside it.
+fn cut(segment: AlternateSegment, unix_time: i64, switch: i64) -> AlternateSegment
     requires { (segment.from ≤ℤ unix_time) × (unix_time <ℤ segment.until) }
     ensures within { (result.from ≤ℤ unix_time) × (unix_time <ℤ result.until) }
-    ensures from { (result.from ≡ segment.from) ⊎ (result.from ≡ turn) }
-    ensures until { (result.until ≡ segment.until) ⊎ (result.until ≡ turn) }
+    ensures from { (result.from ≡ segment.from) ⊎ (result.from ≡ switch) }
+    ensures until { (result.until ≡ segment.until) ⊎ (result.until ≡ switch) }
     ensures inside { (segment.from ≤ℤ result.from) × (result.until ≤ℤ segment.until) }
-    ensures outside { IsNotInside result turn }
+    ensures outside { IsNotInside result switch }
     ensures is_daylight { result.is_daylight ≡ segment.is_daylight }
 {
     let (mut from, mut until) = (segment.from, segment.until);
-    if turn > unix_time {
-        until = until.min(turn);
+    if switch > unix_time {
+        until = until.min(switch);
     } else {
-        from = from.max(turn);
+        from = from.max(switch);
     }
     AlternateSegment {
         from,
@@ -100,31 +110,31 @@ fn cut(segment: AlternateSegment, unix_time: i64, turn: i64) -> AlternateSegment
 impl AlternateClock {
     /// The instant at which daylight saving time starts, or ends, in a moved year.
     #[inline(always)]
-    pub(super) fn turn_in_moved(&self, is_end: bool, years: u64) -> i64
+    pub(super) fn switch_in_moved(&self, is_end: bool, years: u64) -> i64
         requires { IsRuleYear (moved_back years) }
-        ensures { result ≡ turn_of self.now is_end (moved_back years) }
+        ensures { result ≡ switch_of self.now is_end (moved_back years) }
     {
-        self.turns(is_end).in_moved_year(years)
+        self.switches(is_end).in_moved_year(years)
     }
 
-    /// The segment of the moved year or its neighbours that an instant near the year chooses, where a year's end comes first, or its start.
+    /// The segment of the moved year or its neighbours that an instant near the year chooses, by whether a year's end comes first, or its start.
     #[inline(always)]
     fn segment_by_order(&self, end_is_first: bool, unix_time: i64, years: u64) -> AlternateSegment
         requires order { MatchBool end_is_first (EndsNextYear (start_of self.now) (end_of self.now)) (¬ EndsNextYear (start_of self.now) (end_of self.now)) }
         requires year { IsTriedYear (moved_back years) }
         ensures of { IsWholeSegment self.now result }
-        ensures within { HasInnerTurns self.now → IsLikelyYear unix_time (moved_back years) → (result.from ≤ℤ unix_time) × (unix_time <ℤ result.until) }
+        ensures within { HasInnerSwitches self.now → IsLikelyYear unix_time (moved_back years) → (result.from ≤ℤ unix_time) × (unix_time <ℤ result.until) }
     {
         self.parts_are_sound();
-        let first = self.turn_in_moved(end_is_first, years);
+        let first = self.switch_in_moved(end_is_first, years);
         if unix_time < first {
             return AlternateSegment {
-                from: self.turn_in_moved(!end_is_first, years - 1),
+                from: self.switch_in_moved(!end_is_first, years - 1),
                 until: first,
                 is_daylight: end_is_first,
             };
         }
-        let second = self.turn_in_moved(!end_is_first, years);
+        let second = self.switch_in_moved(!end_is_first, years);
         if unix_time < second {
             return AlternateSegment {
                 from: first,
@@ -134,7 +144,7 @@ impl AlternateClock {
         }
         AlternateSegment {
             from: second,
-            until: self.turn_in_moved(end_is_first, years + 1),
+            until: self.switch_in_moved(end_is_first, years + 1),
             is_daylight: end_is_first,
         }
     }
@@ -146,7 +156,7 @@ impl AlternateClock {
     fn segment_of_years(&self, unix_time: i64, years: u64) -> AlternateSegment
         requires { IsTriedYear (moved_back years) }
         ensures of { IsWholeSegment self.now result }
-        ensures within { HasInnerTurns self.now → IsLikelyYear unix_time (moved_back years) → (result.from ≤ℤ unix_time) × (unix_time <ℤ result.until) }
+        ensures within { HasInnerSwitches self.now → IsLikelyYear unix_time (moved_back years) → (result.from ≤ℤ unix_time) × (unix_time <ℤ result.until) }
     {
         if self.ends_next_year() {
             self.segment_by_order(true, unix_time, years)
@@ -155,20 +165,20 @@ impl AlternateClock {
         }
     }
 
-    /// The segment around an instant, where the rule's turns lie so that the likely year always determines it.
+    /// The segment around an instant, if the rule's switches are such that the likely year always determines it.
     #[inline(always)]
     fn inner_segment(&self, unix_time: i64) -> Option<AlternateSegment>
         ensures of { IfSome result (λ segment. IsWholeSegment self.now segment) }
         ensures within { IfSome result (λ segment. (segment.from ≤ℤ unix_time) × (unix_time <ℤ segment.until)) }
     {
-        if !self.has_inner_turns() {
+        if !self.has_inner_switches() {
             return None;
         }
         let years = likely_years(unix_time)?;
         Some(self.segment_of_years(unix_time, years))
     }
 
-    /// The segment around an instant, where the likely year determines it.
+    /// The segment around an instant, if the likely year determines it.
     #[inline(always)]
     fn likely_segment(&self, unix_time: i64) -> Option<AlternateSegment>
         ensures of { IfSome result (λ segment. IsWholeSegment self.now segment) }
@@ -196,8 +206,8 @@ impl AlternateClock {
         };
         for index in 0..NEAR_YEARS {
             let near = year - 2 + i32::from(index);
-            segment = cut(segment, unix_time, self.turn_in(false, near));
-            segment = cut(segment, unix_time, self.turn_in(true, near));
+            segment = cut(segment, unix_time, self.switch_in(false, near));
+            segment = cut(segment, unix_time, self.switch_in(true, near));
         }
         segment
     }
@@ -224,7 +234,7 @@ impl AlternateClock {
         }
     }
 
-    /// The segment around an instant that the likely year does not always tell.
+    /// The segment around an instant that the likely year does not always determine.
     #[inline(never)]
     fn outer_segment(&self, unix_time: i64) -> RuleSegment<'_>
         ensures { IsRuleSegment (Alternate self.now) unix_time result }
@@ -234,11 +244,11 @@ impl AlternateClock {
         }
         match rule_year(unix_time) {
             Some(year) => self.rule_segment(unix_time, self.segment_in_year(unix_time, year)),
-            None => unanswered(unix_time),
+            None => undefined_segment(unix_time),
         }
     }
 
-    /// The segment around an instant: from one start or end of daylight saving time up to the next, or where rules do not answer.
+    /// The segment around an instant: from one start or end of daylight saving time up to the next, or outside the years of rules.
     #[inline(always)]
     pub(crate) fn segment(&self, unix_time: i64) -> RuleSegment<'_>
         ensures within { (result.from ≤ℤ unix_time) × (unix_time ≤ℤ result.last) }
@@ -254,7 +264,7 @@ impl AlternateClock {
         }
     }
 
-    /// The type at an instant that the likely year does not always tell.
+    /// The type at an instant that the likely year does not always determine.
     #[inline(never)]
     fn outer_type(&self, unix_time: i64) -> Result<&LocalTimeType, TzError>
         ensures ok { IfOk result (λ t. IsInRuleYears unix_time × IsAlternateType self.now unix_time t.now) }

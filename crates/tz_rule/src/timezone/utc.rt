@@ -86,7 +86,7 @@ struct PartsFields {
 struct ClockFields {
     parts: PartsFields,
     ends_next_year: bool,
-    has_inner_turns: bool,
+    has_inner_switches: bool,
     starts: YearTable,
     ends: YearTable,
 }

@@ -10,12 +10,12 @@ use super::pair_kinds::{self, KINDS, moved_year_start};
 use tz_base::constants::SECONDS_PER_DAY;
 use tz_base::moved_year::moved_year;
 
-/// How many seconds after 00:00 UTC of January 1st an instant of the year lies, for each kind of years.
+/// How many seconds after 00:00 UTC of January 1st an instant of the year is, for each kind of years.
 #[repr(C)]
 #[derive(Clone, Copy)]
 pub(super) struct YearTable([i32; KINDS]);
 
-/// Ten days after its beginning no start or end of the years before is yet to come: they lie less than that outside their years.
+/// Ten days after its beginning no start or end of the years before is yet to come: they are less than that outside their years.
 const INNER_START: i32 = 864_000;
 
 /// Ten days before the end of the shortest year.
@@ -55,7 +55,7 @@ impl YearTable {
         YearTable(entries)
     }
 
-    /// The seconds of a kind.
+    /// Seconds from New Year, 00:00 UTC, in years of this kind.
     #[inline(always)]
     pub(super) fn entry(&self, kind: usize) -> i64
         requires { kind < 14 }
@@ -106,7 +106,7 @@ impl YearTable {
         (least, greatest)
     }
 
-    /// Whether the instant of each year lies ten days or more from the ends of the year, also where that has 365 days.
+    /// Whether the instant of each year is ten days or more from the ends of the year, also if that has 365 days.
     pub(super) fn is_inner(&self) -> bool
         ensures { result ≡ is_inner self.now.0 }
     {

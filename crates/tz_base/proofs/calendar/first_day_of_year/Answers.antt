@@ -1,4 +1,4 @@
--- The closed form gives the number of January 1st.
+-- The closed form is the number of January 1st.
 use Rattle.std.proofs.Common.{arith}
 use Rattle.std.proofs.lemmas.Int.{ints}
 use Rattle.tz_base.proofs.YearStarts.{first_day-moved, days_of_years_bounds}

@@ -1,6 +1,6 @@
 -- Two years are more than twice ten days.
 use Rattle.tz_rule.specs.Alternate.{start_of, end_of}
-use Rattle.tz_rule.proofs.DaylightSpans.{far_over, far_to_come}
+use Rattle.tz_rule.proofs.DaylightSpans.{over, to_come}
 use Rattle.tz_rule.proofs.YearlyInstants.{IsYearly-start_of, IsYearly-end_of}
 use Rattle.tz_rule.proofs.laws.far_starts_and_ends_are_over_or_to_come.Goals as goal
 
@@ -11,6 +11,6 @@ returns c =
     let yf = IsYearly-start_of r sound.rule.in_range sound.days.start_is in
     let yg = IsYearly-end_of r sound.rule.in_range sound.days.end_is in
     record {
-      over = λ u year y is h. (far_over (start_of r) yf u year y is h, far_over (end_of r) yg u year y is h);
-      to_come = λ u year y is h. (far_to_come (start_of r) yf u year y is h, far_to_come (end_of r) yg u year y is h);
+      over = λ u year y is h. (over (start_of r) yf u year y is h, over (end_of r) yg u year y is h);
+      to_come = λ u year y is h. (to_come (start_of r) yf u year y is h, to_come (end_of r) yg u year y is h);
     }

@@ -1,4 +1,4 @@
--- A valid day lies in the years of 32 bits.
+-- A valid day is in the years of 32 bits.
 use Rattle.std.proofs.Common.{arith, rules}
 use Rattle.std.proofs.lemmas.Int.{ints, to_z-of_z}
 use mir.Syntax.{w32}

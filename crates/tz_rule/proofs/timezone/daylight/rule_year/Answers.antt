@@ -2,7 +2,6 @@
 use Rattle.std.proofs.Common.{arith, rules}
 use Rattle.std.proofs.lemmas.Int.{ints, to_z-of_z}
 use mir.Syntax.{w32, w64}
-use mir.Val.{SFits}
 use Rattle.tz_rule.proofs.UtcYears.{IsUtcYear-from_civil, utc_year_unique, IsReading-from_rule_year}
 use Rattle.tz_rule.proofs.timezone.daylight.rule_year.Goals as goal
 use Rattle.tz_rule.proofs.timezone.daylight.rule_year.Goals.{then-year-lt-FIRST_YEAR-via-then-year-lt-FIRST_YEAR, then-year-lt-FIRST_YEAR-via-else-year-lt-FIRST_YEAR+then-year-gt-LAST_YEAR}
@@ -26,5 +25,4 @@ returns-clause-some c =
     let u = c.args.unix_time in
     let civil = rw (to_z-of_z w64 u c.ranges.unix_time) at c.from_reading-year.ensures in
     let here = IsUtcYear-from_civil u 0 c.from_reading-year.result civil in
-    let fits : SFits w32 c.from_reading-year.result.year = search rules in
-    rw (to_z-of_z w32 c.from_reading-year.result.year fits) (here, (omega (arith, ints), omega (arith, ints)))
+    rw (to_z-of_z w32 c.from_reading-year.result.year (search rules)) (here, (omega (arith, ints), omega (arith, ints)))

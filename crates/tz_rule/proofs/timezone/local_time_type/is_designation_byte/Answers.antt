@@ -29,10 +29,10 @@ Decides-is_name_byte : (byte : ℕ) → Decides (is_name_byte byte) (IsDesignati
 Decides-is_name_byte byte =
     Decides-or _ _ (Decides-is_among 48 57 byte) (Decides-or _ _ (Decides-is_among 65 90 byte) (Decides-or _ _ (Decides-is_among 97 122 byte) (Decides-or _ _ (Decides-eqb byte 43) (Decides-eqb byte 45))))
 
-told : (byte : ℕ) → byte < 256 → IsTrue (has_bit byte) ↔ IsDesignationByte byte
-told byte below =
+means : (byte : ℕ) → byte < 256 → IsTrue (has_bit byte) ↔ IsDesignationByte byte
+means byte below =
     let same : has_bit byte ≡ is_name_byte byte = (Decides-beq (has_bit byte) (is_name_byte byte)).0 (passes_at (λ byte. beq (has_bit byte) (is_name_byte byte)) 256 byte bits_are below) in
     subst (λ (b : Bool). IsTrue b ↔ IsDesignationByte byte) (sym same) (Decides-is_name_byte byte)
 
 pub returns : goal.returns
-returns c = rw c.from.ensures (told c.args.byte (omega (arith, c.ranges.byte)))
+returns c = rw c.from.ensures (means c.args.byte (omega (arith, c.ranges.byte)))

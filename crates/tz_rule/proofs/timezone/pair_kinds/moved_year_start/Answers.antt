@@ -1,21 +1,12 @@
 -- By the closed form of the days before the year, which is moved by cycles of 400 years.
-use Rattle.std.proofs.Common.{◌≡◌, ℕ, ◌+◌, ◌%◌, ◌≤◌, ap, sym, ◌∙◌, arith, ℤ, pos, negsuc, ◌+ℤ◌, ◌-ℤ◌, ◌≤ℤ◌}
+use Rattle.std.proofs.Common.{◌≡◌, ◌+◌, ◌%◌, ap, sym, ◌∙◌, arith, pos, ◌+ℤ◌, ◌-ℤ◌}
 use Rattle.std.proofs.lemmas.Int.{ints}
-use mir.Syntax.{w32}
-use mir.Val.{SFits}
 use Rattle.tz_base.specs.Days.{is_leap}
 use Rattle.tz_base.proofs.YearStarts.{first_day-moved, is_leap-moved, days_of_years_bounds}
 use Rattle.tz_rule.specs.Kinds.{kind_of, year_kind}
 use Rattle.tz_rule.proofs.Weeks.{week_day_of_year-moved}
+use Rattle.tz_rule.proofs.UtcYears.{year_fits}
 use Rattle.tz_rule.proofs.timezone.pair_kinds.moved_year_start.Goals as goal
-
-fits_from : (y : ℤ) → negsuc 2147483647 ≤ℤ y → y ≤ℤ pos 2147483647 → SFits w32 y
-fits_from (pos n) low high = record { sfits = omega (arith, ints) }
-fits_from (negsuc n) low high = record { sfits = omega (arith, ints) }
-
--- the years of 32 bits
-year_fits : (n : ℕ) → (352 ≤ n) × (n ≤ 4294967647) → SFits w32 (pos n -ℤ pos 2147484000)
-year_fits n (low, high) = fits_from (pos n -ℤ pos 2147484000) (omega (arith, ints)) (omega (arith, ints))
 
 pub returns-clause-start : goal.returns-clause-start
 returns-clause-start c =
@@ -38,6 +29,5 @@ pub returns-clause-bound : goal.returns-clause-bound
 returns-clause-bound c =
     let n = c.args.years in
     let year = pos n -ℤ pos 2147484000 in
-    let fits : SFits w32 (pos n -ℤ pos 2147484000) = year_fits n c.requires in
-    let bounds = days_of_years_bounds year n fits (omega (arith, ints)) in
+    let bounds = days_of_years_bounds year n (year_fits year (omega (arith, ints, c.requires.0)) (omega (arith, ints, c.requires.1))) (omega (arith, ints)) in
     (omega (arith, ints, bounds, c.days_before_moved_year-days.ensures.value, c.days_before_moved_year-days.ensures.bound), omega (arith, ints, bounds, c.days_before_moved_year-days.ensures.value, c.days_before_moved_year-days.ensures.bound))

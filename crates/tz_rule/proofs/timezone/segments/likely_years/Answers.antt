@@ -1,7 +1,7 @@
 -- A year counted by the average length begins less than two days from the one that is meant.
 use Rattle.std.proofs.Common.{refl, arith}
 use Rattle.std.proofs.lemmas.Int.{ints}
-use Rattle.tz_rule.proofs.InnerTurns.{IsLikelyYear-by_average}
+use Rattle.tz_rule.proofs.InnerSwitches.{IsLikelyYear-by_average}
 use Rattle.tz_rule.proofs.timezone.segments.likely_years.Goals as goal
 
 pub returns-clause-likely : goal.returns-clause-likely

@@ -1,4 +1,4 @@
--- Where starts and ends change their order the rule is inconsistent.
+-- If starts and ends change their order, the rule is inconsistent.
 use Rattle.std.proofs.Common.{refl, inr}
 use Rattle.std.proofs.lemmas.Int.{to_z-of_z}
 use mir.Syntax.{w32}

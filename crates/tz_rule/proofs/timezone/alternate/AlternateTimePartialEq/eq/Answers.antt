@@ -1,16 +1,15 @@
--- Rules are equal where all six parts are.
+-- Rules are equal if all six parts are.
 use Rattle.std.proofs.Common.{◌≡◌, ◌&&◌, Bool, true, false, refl, ap, sym, ◌∙◌, rules}
 use Rattle.std.specs.Ordering.{int_eq}
 use Rattle.std.proofs.lemmas.Bool.{false≢true}
 use Rattle.std.proofs.lemmas.Int.{to_z-of_z}
 use mir.Syntax.{w32}
-use mir.Val.{SFits}
 use Rattle.tz_rule.specs.Same.{same_type}
 use Rattle.tz_rule.specs.SameDay.{same_day}
 use Rattle.tz_rule.proofs.timezone.alternate.AlternateTimePartialEq.eq.Goals as goal
 use Rattle.tz_rule.proofs.timezone.alternate.AlternateTimePartialEq.eq.Goals.{then-eq, else-eq, then-eq-2, else-eq-2}
 
--- where the first tests hold, the last decide
+-- if the first tests hold, the last decide
 last_decide : (s d x z t u v : Bool) → u ≡ (s && d) → v ≡ (u && (x && z)) → v ≡ true → t ≡ (s && (d && (x && (z && t))))
 last_decide s d x z t u v one two holds = by_tests s d x z (sym (two ∙ ap (λ b. b && (x && z)) one) ∙ holds)
   where
@@ -32,14 +31,10 @@ returns-then-is_same_switch c =
     ] in
     let two : c.if-eq-2.value ≡ (c.if-eq.value && (same_day a.dst_start b.dst_start && int_eq a.dst_start_time b.dst_start_time)) = elim c.if-eq-2.branch [
       | then-eq-2 w ↦
-          let fits_a : SFits w32 w.dst_start_time.result = search rules in
-          let fits_b : SFits w32 w.dst_start_time-then-eq-2.result = search rules in
-          let same = rw (to_z-of_z w32 w.dst_start_time.result fits_a, to_z-of_z w32 w.dst_start_time-then-eq-2.result fits_b, w.dst_start_time.ensures, w.dst_start_time-then-eq-2.ensures, c.self.invariant.start_is, c.other.invariant.start_is) at w.is_same_switch.ensures in
+          let same = rw (to_z-of_z w32 w.dst_start_time.result (search rules), to_z-of_z w32 w.dst_start_time-then-eq-2.result (search rules), w.dst_start_time.ensures, w.dst_start_time-then-eq-2.ensures, c.self.invariant.start_is, c.other.invariant.start_is) at w.is_same_switch.ensures in
           rw w.if-eq-2.true (w.value-is ∙ same)
       | else-eq-2 w ↦ rw w.if-eq-2.false (w.value-is ∙ w.if-eq-2.false)
     ] in
-    let fits_a : SFits w32 c.dst_end_time.result = search rules in
-    let fits_b : SFits w32 c.dst_end_time-then-is_same_switch.result = search rules in
-    let last = rw (to_z-of_z w32 c.dst_end_time.result fits_a, to_z-of_z w32 c.dst_end_time-then-is_same_switch.result fits_b, c.dst_end_time.ensures, c.dst_end_time-then-is_same_switch.ensures, c.self.invariant.end_is, c.other.invariant.end_is) at c.is_same_switch-then-is_same_switch.ensures in
+    let last = rw (to_z-of_z w32 c.dst_end_time.result (search rules), to_z-of_z w32 c.dst_end_time-then-is_same_switch.result (search rules), c.dst_end_time.ensures, c.dst_end_time-then-is_same_switch.ensures, c.self.invariant.end_is, c.other.invariant.end_is) at c.is_same_switch-then-is_same_switch.ensures in
     rw (← c.self.view_is, ← c.other.view_is)
     (last ∙ last_decide (same_type a.std b.std) (same_type a.dst b.dst) (same_day a.dst_start b.dst_start) (int_eq a.dst_start_time b.dst_start_time) (same_day a.dst_end b.dst_end && int_eq a.dst_end_time b.dst_end_time) c.if-eq.value c.if-eq-2.value one two c.if-is_same_switch.true)

@@ -1,15 +1,13 @@
--- The turn next to the instant is the change.
-use Rattle.std.proofs.Common.{arith, rules}
+-- The switch next to the instant is the change.
+use Rattle.std.proofs.Common.{arith}
 use Rattle.std.proofs.lemmas.Int.{ints, to_z-of_z}
 use mir.Syntax.{w64}
-use mir.Val.{SFits}
-use Rattle.tz_rule.proofs.RuleWalks.{turn_is_change_up_to}
+use Rattle.tz_rule.proofs.RuleWalks.{switch_is_change_up_to}
 use Rattle.tz_rule.proofs.timezone.alternate_clock.AlternateClock.change_up_to.Goals as goal
 
 pub returns-in-Some : goal.returns-in-Some
 returns-in-Some c =
-    let t = c.in-Some.turn in
+    let t = c.in-Some.switch in
     let k = c.change_at.result in
-    let at = rw (to_z-of_z w64 c.args.unix_time c.ranges.unix_time) at c.in-Some.ensures.turn in
-    let fits : SFits w64 t.unix_time = search rules in
-    rw c.change_at.ensures.time (turn_is_change_up_to c.args.self.now c.in-Some.ensures.differ t.unix_time t.is_start k.before.now k.after.now c.change_at.ensures.before c.change_at.ensures.after c.args.unix_time (omega (arith, ints, c.ranges.unix_time)) at)
+    let at = rw (to_z-of_z w64 c.args.unix_time c.ranges.unix_time) at c.in-Some.ensures.switch in
+    rw c.change_at.ensures.time (switch_is_change_up_to c.args.self.now c.in-Some.ensures.differ t.unix_time t.is_start k.before.now k.after.now c.change_at.ensures.before c.change_at.ensures.after c.args.unix_time (omega (arith, ints, c.ranges.unix_time)) at)

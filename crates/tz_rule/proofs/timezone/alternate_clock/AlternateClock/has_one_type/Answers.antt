@@ -12,13 +12,13 @@ returns-then-eq c =
 
 pub returns-then-ends_next_year : goal.returns-then-ends_next_year
 returns-then-ends_next_year c =
-    OnTrue-not c.comes_before_next.result (one_type_across_years c.args.self.now _ _ c.turns-starts.ensures c.turns-ends.ensures c.if-ends_next_year.ensures) c.comes_before_next.ensures
+    OnTrue-not c.comes_before_next.result (one_type_across_years c.args.self.now _ _ c.switches-starts.ensures c.switches-ends.ensures c.if-ends_next_year.ensures) c.comes_before_next.ensures
 
 pub returns-then-not-comes_first : goal.returns-then-not-comes_first
 returns-then-not-comes_first c =
-    OnTrue-not c.comes_first.result (one_type_in_order c.args.self.now _ _ c.turns-starts.ensures c.turns-ends.ensures c.if-ends_next_year.ensures) c.comes_first.ensures
+    OnTrue-not c.comes_first.result (one_type_in_order c.args.self.now _ _ c.switches-starts.ensures c.switches-ends.ensures c.if-ends_next_year.ensures) c.comes_first.ensures
 
 pub returns-else-not-comes_first : goal.returns-else-not-comes_first
 returns-else-not-comes_first c =
     let sound = c.parts_are_sound.ensures in
-    OnTrue-not c.comes_before_next-else-not-comes_first.result (one_type_without_gap c.args.self.now _ _ c.turns-starts.ensures c.turns-ends.ensures sound.rule.in_range sound.days c.if-ends_next_year.ensures) c.comes_before_next-else-not-comes_first.ensures
+    OnTrue-not c.comes_before_next-else-not-comes_first.result (one_type_without_gap c.args.self.now _ _ c.switches-starts.ensures c.switches-ends.ensures sound.rule.in_range sound.days c.if-ends_next_year.ensures) c.comes_before_next-else-not-comes_first.ensures

@@ -2,7 +2,6 @@
 use Rattle.std.proofs.Common.{◌≡◌, refl, subst, arith, rules, ℤ, pos, ◌+ℤ◌, ◌-ℤ◌, to_z, of_z}
 use Rattle.std.proofs.lemmas.Int.{ints, to_z-of_z}
 use mir.Syntax.{w64}
-use mir.Val.{SFits}
 use Rattle.tz_rule.specs.RuleChanges.{type_change_of}
 use Rattle.tz_rule.specs.declared.timezone.rule.TransitionRule.TheVariants.{Alternate}
 use Rattle.tz_rule.proofs.RuleWalks.{HasTypeOrNone, none_within, none_joined, is_change_after}
@@ -31,15 +30,6 @@ returns-in-Some c =
     let back : s.last ≡ s.last +ℤ pos 1 -ℤ pos 1 = omega (arith, ints) in
     let found = (rw next at c.in-Some.ensures) rule (omega (arith, ints, fits)) (subst (λ (v : ℤ). HasTypeOrNone rule v s.local_time_type) back so_far.type) (after.holds (s.last +ℤ pos 1) after.within.0 after.within.1) in
     is_change_after rule c.args.unix_time s.last (s.last +ℤ pos 1) (type_change_of c.in-Some.change) refl so_far.order so_far.none found.0 found.1
-
-pub loop-segment-smaller : goal.loop-segment-smaller
-loop-segment-smaller c =
-    let s = c.loop-segment.segment in
-    let a = c.segment-after.result in
-    let fits = c.loop-segment.invariant.fits in
-    let after_fits : SFits w64 a.last = search rules in
-    let next : to_z w64 (of_z w64 (to_z w64 (of_z w64 s.last) +ℤ pos 1)) ≡ s.last +ℤ pos 1 = omega (arith, ints, c.loop-segment-test.true, fits) in
-    omega (arith, ints, next, c.segment-after.ensures.within.1, fits, after_fits)
 
 pub loop-segment-preserved : goal.loop-segment-preserved
 loop-segment-preserved c =

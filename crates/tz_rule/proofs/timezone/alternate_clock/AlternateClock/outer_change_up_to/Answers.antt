@@ -2,7 +2,6 @@
 use Rattle.std.proofs.Common.{◌≡◌, arith, rules, pos, ◌-ℤ◌, to_z, of_z}
 use Rattle.std.proofs.lemmas.Int.{ints, to_z-of_z}
 use mir.Syntax.{w64}
-use mir.Val.{SFits}
 use Rattle.tz_rule.specs.RuleChanges.{type_change_of}
 use Rattle.tz_rule.specs.declared.timezone.rule.TransitionRule.TheVariants.{Alternate}
 use Rattle.tz_rule.proofs.RuleWalks.{none_within, none_joined, is_change_up_to}
@@ -31,15 +30,6 @@ returns-in-Some c =
     let before = rw earlier at c.segment-before.ensures in
     let found = (rw (to_z-of_z w64 s.from fits) at c.in-Some.ensures) rule (omega (arith, ints, c.loop-segment-test.true, fits)) (before.holds (s.from -ℤ pos 1) before.within.0 before.within.1) so_far.type in
     is_change_up_to rule c.args.unix_time s.from (type_change_of c.in-Some.change) so_far.order so_far.none found.0 found.1
-
-pub loop-segment-smaller : goal.loop-segment-smaller
-loop-segment-smaller c =
-    let s = c.loop-segment.segment in
-    let b = c.segment-before.result in
-    let fits = c.loop-segment.invariant.fits in
-    let before_fits : SFits w64 b.from = search rules in
-    let earlier : to_z w64 (of_z w64 (to_z w64 (of_z w64 s.from) -ℤ pos 1)) ≡ s.from -ℤ pos 1 = omega (arith, ints, c.loop-segment-test.true, fits) in
-    omega (arith, ints, earlier, c.segment-before.ensures.within.0, fits, before_fits)
 
 pub loop-segment-preserved : goal.loop-segment-preserved
 loop-segment-preserved c =

@@ -1,4 +1,4 @@
--- No change lies between the beginning of the segment to which the walk has come and the instant, and the rule has its type there.
+-- No change is between the beginning of the segment to which the walk has come and the instant, and the rule has its type there.
 use Rattle.std.proofs.Common.{negsuc, ◌-ℤ◌, ◌≤ℤ◌}
 use Rattle.std.specs.Prelude.{unsigned_abs}
 use mir.Syntax.{w64}

@@ -2,18 +2,15 @@
 use Rattle.std.proofs.Common.{◌≡◌, arith, rules, pos, ◌+ℤ◌, ◌-ℤ◌, to_z, of_z}
 use Rattle.std.proofs.lemmas.Int.{ints, to_z-of_z}
 use mir.Syntax.{w64}
-use mir.Val.{SFits}
 use Rattle.tz_rule.proofs.timezone.alternate_clock.AlternateClock.rule_segment.Goals as goal
 
 pub returns : goal.returns
 returns c =
     let s = c.args.segment in
     let within = c.requires.within in
-    let from_fits : SFits w64 s.from = search rules in
-    let until_fits : SFits w64 s.until = search rules in
-    let from = to_z-of_z w64 s.from from_fits in
-    let until = to_z-of_z w64 s.until until_fits in
-    let last : to_z w64 (of_z w64 (to_z w64 (of_z w64 s.until) -ℤ pos 1)) ≡ s.until -ℤ pos 1 = omega (arith, ints, until, until_fits, within.1) in
+    let from = to_z-of_z w64 s.from (search rules) in
+    let until = to_z-of_z w64 s.until (search rules) in
+    let last : to_z w64 (of_z w64 (to_z w64 (of_z w64 s.until) -ℤ pos 1)) ≡ s.until -ℤ pos 1 = omega (arith, ints, until, within.1) in
     let past : s.until -ℤ pos 1 +ℤ pos 1 ≡ s.until = omega (arith, ints) in
     record {
       within = (omega (arith, ints, from, within.0), omega (arith, ints, last, within.1));

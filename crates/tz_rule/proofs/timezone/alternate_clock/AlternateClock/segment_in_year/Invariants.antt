@@ -1,4 +1,4 @@
--- The segment holds the instant and lies between two changes, and no start or end of the years so far lies inside it.
+-- The segment holds the instant and is between two changes, and no start or end of the years so far is inside it.
 use Rattle.std.proofs.Common.{◌≡◌, ℕ, ◌<◌, pos, ◌+ℤ◌, ◌-ℤ◌}
 use Rattle.tz_rule.specs.Alternate.{start_of, end_of}
 use Rattle.tz_rule.specs.RuleSegments.{IsNotInside}

@@ -1,9 +1,8 @@
--- Types are equal where all that is kept is.
+-- Types are equal if all that is stored is.
 use Rattle.std.proofs.Common.{rules, arith, ◌≡◌, ◌∙◌, sym}
 use Rattle.std.proofs.lemmas.Bool.{eqb-true}
-use Rattle.std.proofs.lemmas.Int.{ints}
+use Rattle.std.proofs.lemmas.Int.{ints, to_z-of_z}
 use mir.Syntax.{w32}
-use mir.Val.{SFits}
 use Rattle.tz_rule.specs.Same.{Decides-beq}
 use Rattle.tz_rule.proofs.KeptEquality.{same_type-shown}
 use Rattle.tz_rule.proofs.timezone.local_time_type.LocalTimeTypePartialEq.eq.Goals as goal
@@ -13,12 +12,10 @@ pub returns-then-self-other-2 : goal.returns-then-self-other-2
 returns-then-self-other-2 c =
     let a = c.self.inside in
     let b = c.other.inside in
-    let fits_a : SFits w32 a.ut_offset = search rules in
-    let fits_b : SFits w32 b.ut_offset = search rules in
     elim c.if-self-other.branch [
       | then-self-other w ↦
           let same_bits = w.if-self-other.true in
-          let offset : a.ut_offset ≡ b.ut_offset = omega (arith, ints) in
+          let offset : a.ut_offset ≡ b.ut_offset = omega (arith, ints, to_z-of_z w32 a.ut_offset (search rules), to_z-of_z w32 b.ut_offset (search rules)) in
           let is_dst : a.is_dst ≡ b.is_dst = (Decides-beq a.is_dst b.is_dst).0 (sym w.value-is ∙ c.if-self-other-2.true) in
           rw (c.eq.ensures, ← c.self.view_is, ← c.other.view_is) (same_type-shown a b c.self.invariant c.other.invariant offset is_dst)
       | else-self-other w ↦ absurd (w.if-self-other.false (eqb-true _ _ (sym w.value-is ∙ c.if-self-other-2.true)))

@@ -1,20 +1,19 @@
 -- The place in the month is added to the days before the month.
-use Rattle.std.proofs.Common.{◌≡◌, ◌∙◌, ℕ, ◌+◌, ◌-◌, ◌%◌, ◌≤◌, refl, sym, ap, inl, inr, get_or, arith, rules}
+use Rattle.std.proofs.Common.{◌≡◌, ◌∙◌, ◌+◌, ◌-◌, ◌%◌, ◌≤◌, refl, sym, ap, inl, inr, get_or, arith, rules}
 use Rattle.std.proofs.lemmas.Bool.{cases_lt}
 use Rattle.std.proofs.lemmas.Grind.{get_or-set_at}
 use Rattle.std.proofs.lemmas.List.{get_or-set_other}
+use Rattle.tz_base.proofs.CivilReadings.{month_length-ge, month_length-le}
 use Rattle.tz_rule.specs.MonthWeek.{MonthWeek, IsMonthWeek, month_week}
 use Rattle.tz_rule.specs.Places.{nth_place, week_day_place, place_in_year}
 use Rattle.tz_rule.specs.declared.timezone.rule_day.RuleDay.TheVariants.{MonthWeekDay}
-use Rattle.tz_rule.proofs.DayPlaces.{month_length-bounds}
-use Rattle.tz_rule.proofs.WeekPlaces.{least_place, moved_within, place_within, place_before_is, first_before, placed}
+use Rattle.tz_rule.proofs.WeekPlaces.{least_place, place_within, place_before, first_before}
 use Rattle.tz_rule.proofs.YearPlaces.{place_in_year-bound}
 use Rattle.tz_rule.proofs.timezone.rule_day.MonthWeekDay.places.Goals as goal
 
 pub nth_place-requires-clause-days : goal.nth_place-requires-clause-days
 nth_place-requires-clause-days c =
-    let bounds = month_length-bounds c.args.leap c.self.inside.month in
-    (omega (arith, c.days_of_month-days.ensures), omega (arith, c.days_of_month-days.ensures))
+    (omega (arith, c.days_of_month-days.ensures, month_length-ge c.args.leap c.self.inside.month), omega (arith, c.days_of_month-days.ensures, month_length-le c.args.leap c.self.inside.month))
 
 pub returns-clause-value : goal.returns-clause-value
 unfolding place_in_year week_day_place
@@ -30,26 +29,7 @@ returns-clause-bound c = λ w below.
     omega (arith, is, place_in_year-bound (MonthWeekDay (month_week d.month d.week d.week_day)) c.args.leap w c.self.invariant)
 
 pub overflow_sub-days : goal.overflow_sub-days
-overflow_sub-days c = omega (arith, c.days_of_month-days.ensures, (month_length-bounds c.args.leap c.self.inside.month).0)
-
-pub loop-week_day-init : goal.loop-week_day-init
-loop-week_day-init c =
-    let d = c.self.inside in
-    let before = c.days_before_month-before.result in
-    let days = c.days_of_month-days.result in
-    let bounds = month_length-bounds c.args.leap d.month in
-    let low : 28 ≤ days = omega (arith, c.days_of_month-days.ensures, bounds.0) in
-    let high : days ≤ 31 = omega (arith, c.days_of_month-days.ensures, bounds.1) in
-    let first = (d.week_day + 7 - before % 7) % 7 in
-    let place : c.nth_place.result ≡ nth_place first days d.week = c.nth_place.ensures.value in
-    let within = place_within first days d.week (omega arith) low high c.self.invariant.week_is.0 c.self.invariant.week_is.1 in
-    let same : first ≡ (d.week_day + 7 - (0 + before) % 7) % 7 = omega arith in
-    rw (← c.self.view_is) (record {
-      size = refl;
-      within = rw (c.from.ensures, c.min.ensures, c.from-2.ensures, place) (moved_within before (nth_place first days d.week) (least_place days d.week) within);
-      next = rw (c.from-2.ensures, place) (ap (λ (n : ℕ). before + nth_place n days d.week) same);
-      made = λ k below. absurd (omega (arith, below));
-    })
+overflow_sub-days c = omega (arith, c.days_of_month-days.ensures, month_length-ge c.args.leap c.self.inside.month)
 
 pub loop-week_day-preserved : goal.loop-week_day-preserved
 loop-week_day-preserved c =
@@ -57,25 +37,21 @@ loop-week_day-preserved c =
     let d = c.args.self.now in
     let before = c.days_before_month-before.result in
     let days = c.days_of_month-days.result in
-    let bounds = month_length-bounds c.args.leap c.self.inside.month in
-    let low : 28 ≤ days = omega (arith, c.days_of_month-days.ensures, bounds.0) in
-    let high : days ≤ 31 = omega (arith, c.days_of_month-days.ensures, bounds.1) in
+    let low : 28 ≤ days = omega (arith, c.days_of_month-days.ensures, month_length-ge c.args.leap c.self.inside.month) in
+    let high : days ≤ 31 = omega (arith, c.days_of_month-days.ensures, month_length-le c.args.leap c.self.inside.month) in
     let week : c.self.inside.week ≡ d.week = ap (λ (w : MonthWeek). w.week) c.self.view_is in
     let i = c.loop-week_day.week_day in
     let kept = c.loop-week_day.invariant in
     let first = (d.week_day + 7 - (i + before) % 7) % 7 in
     let next = (d.week_day + 7 - (i + 1 + before) % 7) % 7 in
     let least : before + c.from.result ≡ before + least_place days d.week = rw (c.from.ensures, c.min.ensures, week) refl in
-    let is_before = first_before d.week_day before i valid.week_day_is in
     let is : c.place_before-place.result ≡ before + nth_place next days d.week =
-    placed before (nth_place first days d.week) (nth_place next days d.week) (least_place days d.week) c.loop-week_day.place (before + c.from.result) c.place_before-place.result kept.next least
-    (place_within first days d.week (omega arith) low high valid.week_is.0 valid.week_is.1)
-    (place_before_is first next days d.week (omega arith) low high valid.week_is.0 valid.week_is.1 is_before)
-    c.place_before-place.ensures.first
-    c.place_before-place.ensures.other in
+    place_before first next days d.week before c.loop-week_day.place (before + c.from.result) c.place_before-place.result (omega arith) low high valid.week_is.0 valid.week_is.1
+    (first_before d.week_day before i valid.week_day_is) kept.next least c.place_before-place.ensures.first c.place_before-place.ensures.other in
+    let within = place_within next days d.week (omega arith) low high valid.week_is.0 valid.week_is.1 in
     record {
       size = search rules;
-      within = rw (is, least) (moved_within before (nth_place next days d.week) (least_place days d.week) (place_within next days d.week (omega arith) low high valid.week_is.0 valid.week_is.1));
+      within = (omega (arith, is, least, within), omega (arith, is, least, within));
       next = is;
       made = λ k below. elim (cases_lt k i) [
         | inl h ↦ get_or-set_other c.loop-week_day.places i k c.loop-week_day.place 0 (omega arith) ∙ kept.made k h

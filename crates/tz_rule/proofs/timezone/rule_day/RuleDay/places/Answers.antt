@@ -1,4 +1,4 @@
--- Days that have a number of their own lie at one place, whatever the week day.
+-- Days that have a number of their own are at one place, whatever the week day.
 use Rattle.std.proofs.Common.{◌≡◌, ℕ, ◌<◌, [], ◌∷◌, get_or, ◌∙◌}
 use Rattle.std.proofs.lemmas.List.{get_or-replicate}
 use Rattle.tz_rule.specs.Places.{place_in_year}

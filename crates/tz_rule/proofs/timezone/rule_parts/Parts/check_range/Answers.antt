@@ -2,12 +2,6 @@
 use Rattle.std.proofs.Common.{rules}
 use Rattle.tz_rule.proofs.timezone.rule_parts.Parts.check_range.Goals as goal
 
-pub returns-then-not-is_rule_offset-clause-err : goal.returns-then-not-is_rule_offset-clause-err
-returns-then-not-is_rule_offset-clause-err c = search rules
-
-pub returns-then-not-is_rule_offset-2-clause-err : goal.returns-then-not-is_rule_offset-2-clause-err
-returns-then-not-is_rule_offset-2-clause-err c = search rules
-
 pub returns-then-not-is_rule_time-clause-err : goal.returns-then-not-is_rule_time-clause-err
 returns-then-not-is_rule_time-clause-err c = search rules
 

@@ -9,6 +9,3 @@ unfolding start_table
 returns-clause-table c =
     let p = c.args.self.now in
     (rw c.requires.day at c.of_day.ensures.table) ∙ ap (day_table p.dst_start) (omega (arith, ints, c.requires.range))
-
-pub returns-clause-day : goal.returns-clause-day
-returns-clause-day c = rw c.requires.day at c.of_day.ensures.day

@@ -3,10 +3,9 @@ use Rattle.std.proofs.Common.{◌≡◌, ◌≤ℤ◌, refl, sym, ap, ◌∙◌,
 use Rattle.std.specs.Int.{int_min, int_max}
 use Rattle.std.proofs.lemmas.Int.{ints, to_z-of_z}
 use mir.Syntax.{w32}
-use mir.Val.{SFits}
 use Rattle.tz_rule.specs.YearTables.{entry, least_entry, greatest_entry}
 use Rattle.tz_rule.proofs.Below.{below_next}
-use Rattle.tz_rule.proofs.InnerTurns.{least_entry-next, greatest_entry-next}
+use Rattle.tz_rule.proofs.InnerSwitches.{least_entry-next, greatest_entry-next}
 use Rattle.tz_rule.proofs.timezone.year_table.YearTable.bounds.Goals as goal
 
 pub loop-kind-init : goal.loop-kind-init
@@ -18,12 +17,9 @@ loop-kind-preserved c =
     let table = c.args.self.now.0 in
     let kind = c.loop-kind.kind in
     let i = c.loop-kind.invariant in
-    let least_fits : SFits w32 c.min-least.result = search rules in
-    let greatest_fits : SFits w32 c.max-greatest.result = search rules in
-    let least = to_z-of_z w32 c.min-least.result least_fits in
-    let greatest = to_z-of_z w32 c.max-greatest.result greatest_fits in
-    let entry_fits : SFits w32 (entry table kind) = search rules in
-    let read = to_z-of_z w32 (entry table kind) entry_fits in
+    let least = to_z-of_z w32 c.min-least.result (search rules) in
+    let greatest = to_z-of_z w32 c.max-greatest.result (search rules) in
+    let read = to_z-of_z w32 (entry table kind) (search rules) in
     let least_is : c.min-least.result ≡ int_min (least_entry table kind) (entry table kind) =
     c.min-least.ensures.value ∙ ap (int_min (to_z w32 c.loop-kind.least-bits)) read ∙ ap (λ x. int_min x (entry table kind)) i.least in
     let greatest_is : c.max-greatest.result ≡ int_max (greatest_entry table kind) (entry table kind) =

@@ -1,9 +1,0 @@
--- Rules of two kinds differ.
-use Rattle.std.proofs.Common.{rules}
-use Rattle.tz_rule.proofs.timezone.rule.TransitionRulePartialEq.eq.Goals as goal
-
-pub returns-in_default : goal.returns-in_default
-returns-in_default c = search rules
-
-pub returns-in_default-2 : goal.returns-in_default-2
-returns-in_default-2 c = search rules

@@ -1,9 +1,0 @@
--- The number is from 1 to 365.
-use Rattle.std.proofs.Common.{rules}
-use Rattle.tz_rule.proofs.timezone.rule_day.Julian1WithoutLeap.new.Goals as goal
-
-pub invariant_of-result : goal.invariant_of-result
-invariant_of-result c = search rules
-
-pub returns-clause-ok : goal.returns-clause-ok
-returns-clause-ok c = search rules
