@@ -1,58 +1,15 @@
-//! Days and readings from outside, and the plain program beside the calendar's.
-
-ghost use Rattle.std.specs.Prelude.{◌≡◌, ◌≤◌, negsuc, ◌≤ℤ◌, pos};
-ghost use Rattle.tz_base.specs.Days.{is_leap, year_length, years_length_from_1970, years_length_before_1970, first_day};
+//! Days and readings from outside.
 
 use crate::expect::expect_eq;
 use std::process::Abort;
-use tz_base::calendar::{days_in_month, is_leap_year, timespec, total_nanoseconds};
+use tz_base::calendar::{is_leap_year, timespec, total_nanoseconds};
 use tz_base::constants::NANOSECONDS_PER_SECOND;
 use tz_base::error::datetime::DateTimeError;
+use tz_base::error::datetime::DateTimeError::{
+    InvalidHour, InvalidMinute, InvalidMonth, InvalidMonthDay, InvalidNanoseconds, InvalidSecond,
+};
 use tz_base::fields::Fields;
 use tz_samples::date_times::{NOONS, Parts, fields_of};
-
-/// The days of the year.
-#[tactic(auto, unfolding(tz_base::specs::Days::year_length))]
-fn plain_year_length(year: i32) -> u16
-    ensures value { result ≡ year_length year }
-    ensures bound { result ≤ 366 }
-{
-    if is_leap_year(year) { 366 } else { 365 }
-}
-
-/// The days of a number of years from 1970 on, added up.
-fn plain_years_from_1970(years: u16) -> u32
-    ensures { result ≡ years_length_from_1970 years }
-{
-    let mut days = 0u32;
-    for n in 0..years {
-        days += u32::from(plain_year_length(1970 + i32::from(n)));
-    }
-    days
-}
-
-/// The days of a number of years before 1970, added up.
-fn plain_years_before_1970(years: u16) -> u32
-    ensures { result ≡ years_length_before_1970 years }
-{
-    let mut days = 0u32;
-    for n in 0..years {
-        days += u32::from(plain_year_length(1969 - i32::from(n)));
-    }
-    days
-}
-
-/// The number of January 1st, by adding up years.
-fn plain_first_day(year: i32) -> i64
-    requires { (negsuc 59999 ≤ℤ year) × (year ≤ℤ pos 60000) }
-    ensures { result ≡ first_day year }
-{
-    if year < 1970 {
-        -i64::from(plain_years_before_1970((1970 - year) as u16))
-    } else {
-        i64::from(plain_years_from_1970((year - 1970) as u16))
-    }
-}
 
 /// Fields at midnight.
 fn midnight(year: i32, month: u8, month_day: u8) -> Fields {
@@ -96,104 +53,86 @@ fn agrees(fields: Fields, day: i64, year_day: u16) -> bool {
         && civil(reading, 0) == Some(fields)
 }
 
-/// The first and the last day of each month: year, month, length, number of the first day.
-static MONTHS: [(i32, u8, u8, i64); 96] = [
-    (-2147483648, 1, 31, -784353015833),
-    (-2147483648, 2, 29, -784353015802),
-    (-2147483648, 3, 31, -784353015773),
-    (-2147483648, 4, 30, -784353015742),
-    (-2147483648, 5, 31, -784353015712),
-    (-2147483648, 6, 30, -784353015681),
-    (-2147483648, 7, 31, -784353015651),
-    (-2147483648, 8, 31, -784353015620),
-    (-2147483648, 9, 30, -784353015589),
-    (-2147483648, 10, 31, -784353015559),
-    (-2147483648, 11, 30, -784353015528),
-    (-2147483648, 12, 31, -784353015498),
-    (1600, 1, 31, -135140),
-    (1600, 2, 29, -135109),
-    (1600, 3, 31, -135080),
-    (1600, 4, 30, -135049),
-    (1600, 5, 31, -135019),
-    (1600, 6, 30, -134988),
-    (1600, 7, 31, -134958),
-    (1600, 8, 31, -134927),
-    (1600, 9, 30, -134896),
-    (1600, 10, 31, -134866),
-    (1600, 11, 30, -134835),
-    (1600, 12, 31, -134805),
-    (1700, 1, 31, -98615),
-    (1700, 2, 28, -98584),
-    (1700, 3, 31, -98556),
-    (1700, 4, 30, -98525),
-    (1700, 5, 31, -98495),
-    (1700, 6, 30, -98464),
-    (1700, 7, 31, -98434),
-    (1700, 8, 31, -98403),
-    (1700, 9, 30, -98372),
-    (1700, 10, 31, -98342),
-    (1700, 11, 30, -98311),
-    (1700, 12, 31, -98281),
-    (1999, 1, 31, 10592),
-    (1999, 2, 28, 10623),
-    (1999, 3, 31, 10651),
-    (1999, 4, 30, 10682),
-    (1999, 5, 31, 10712),
-    (1999, 6, 30, 10743),
-    (1999, 7, 31, 10773),
-    (1999, 8, 31, 10804),
-    (1999, 9, 30, 10835),
-    (1999, 10, 31, 10865),
-    (1999, 11, 30, 10896),
-    (1999, 12, 31, 10926),
-    (2000, 1, 31, 10957),
-    (2000, 2, 29, 10988),
-    (2000, 3, 31, 11017),
-    (2000, 4, 30, 11048),
-    (2000, 5, 31, 11078),
-    (2000, 6, 30, 11109),
-    (2000, 7, 31, 11139),
-    (2000, 8, 31, 11170),
-    (2000, 9, 30, 11201),
-    (2000, 10, 31, 11231),
-    (2000, 11, 30, 11262),
-    (2000, 12, 31, 11292),
-    (2004, 1, 31, 12418),
-    (2004, 2, 29, 12449),
-    (2004, 3, 31, 12478),
-    (2004, 4, 30, 12509),
-    (2004, 5, 31, 12539),
-    (2004, 6, 30, 12570),
-    (2004, 7, 31, 12600),
-    (2004, 8, 31, 12631),
-    (2004, 9, 30, 12662),
-    (2004, 10, 31, 12692),
-    (2004, 11, 30, 12723),
-    (2004, 12, 31, 12753),
-    (2100, 1, 31, 47482),
-    (2100, 2, 28, 47513),
-    (2100, 3, 31, 47541),
-    (2100, 4, 30, 47572),
-    (2100, 5, 31, 47602),
-    (2100, 6, 30, 47633),
-    (2100, 7, 31, 47663),
-    (2100, 8, 31, 47694),
-    (2100, 9, 30, 47725),
-    (2100, 10, 31, 47755),
-    (2100, 11, 30, 47786),
-    (2100, 12, 31, 47816),
-    (2147483647, 1, 31, 784351576412),
-    (2147483647, 2, 28, 784351576443),
-    (2147483647, 3, 31, 784351576471),
-    (2147483647, 4, 30, 784351576502),
-    (2147483647, 5, 31, 784351576532),
-    (2147483647, 6, 30, 784351576563),
-    (2147483647, 7, 31, 784351576593),
-    (2147483647, 8, 31, 784351576624),
-    (2147483647, 9, 30, 784351576655),
-    (2147483647, 10, 31, 784351576685),
-    (2147483647, 11, 30, 784351576716),
-    (2147483647, 12, 31, 784351576746),
+/// Years, and the numbers of the first days of their months and of the next year.
+static YEARS: [(i32, &[i64]); 8] = [
+    (
+        -2147483648,
+        &[
+            -784353015833,
+            -784353015802,
+            -784353015773,
+            -784353015742,
+            -784353015712,
+            -784353015681,
+            -784353015651,
+            -784353015620,
+            -784353015589,
+            -784353015559,
+            -784353015528,
+            -784353015498,
+            -784353015467,
+        ],
+    ),
+    (
+        1600,
+        &[
+            -135140, -135109, -135080, -135049, -135019, -134988, -134958, -134927, -134896,
+            -134866, -134835, -134805, -134774,
+        ],
+    ),
+    (
+        1700,
+        &[
+            -98615, -98584, -98556, -98525, -98495, -98464, -98434, -98403, -98372, -98342, -98311,
+            -98281, -98250,
+        ],
+    ),
+    (
+        1999,
+        &[
+            10592, 10623, 10651, 10682, 10712, 10743, 10773, 10804, 10835, 10865, 10896, 10926,
+            10957,
+        ],
+    ),
+    (
+        2000,
+        &[
+            10957, 10988, 11017, 11048, 11078, 11109, 11139, 11170, 11201, 11231, 11262, 11292,
+            11323,
+        ],
+    ),
+    (
+        2004,
+        &[
+            12418, 12449, 12478, 12509, 12539, 12570, 12600, 12631, 12662, 12692, 12723, 12753,
+            12784,
+        ],
+    ),
+    (
+        2100,
+        &[
+            47482, 47513, 47541, 47572, 47602, 47633, 47663, 47694, 47725, 47755, 47786, 47816,
+            47847,
+        ],
+    ),
+    (
+        2147483647,
+        &[
+            784351576412,
+            784351576443,
+            784351576471,
+            784351576502,
+            784351576532,
+            784351576563,
+            784351576593,
+            784351576624,
+            784351576655,
+            784351576685,
+            784351576716,
+            784351576746,
+            784351576777,
+        ],
+    ),
 ];
 
 /// The calendar finds the day by its number, and the number by the day.
@@ -204,20 +143,15 @@ fn expect_agrees(rt: &impl Abort, fields: Fields, day: i64, year_day: u16) {
 
 #[test]
 fn months_begin_and_end(rt: HostRuntime) {
-    let mut year_day = 0u16;
-    for (year, month, length, first) in MONTHS.iter() {
-        if *month == 1 {
-            year_day = 0;
+    for (year, firsts) in YEARS.iter() {
+        let mut year_day = 0u16;
+        for (month, (first, next)) in (1u8..).zip(firsts.iter().zip(firsts.iter().skip(1))) {
+            expect_agrees(&rt, midnight(*year, month, 1), *first, year_day);
+            let length = u8::try_from(next.wrapping_sub(*first)).unwrap_or(0);
+            let last = midnight(*year, month, length);
+            year_day = year_day.wrapping_add(u16::from(length));
+            expect_agrees(&rt, last, next.wrapping_sub(1), year_day.wrapping_sub(1));
         }
-        expect_agrees(&rt, midnight(*year, *month, 1), *first, year_day);
-        let next = first.wrapping_add(i64::from(*length));
-        year_day = year_day.wrapping_add(u16::from(*length));
-        expect_agrees(
-            &rt,
-            midnight(*year, *month, *length),
-            next.wrapping_sub(1),
-            year_day.wrapping_sub(1),
-        );
     }
 }
 
@@ -267,41 +201,32 @@ fn the_first_fault_is_named(rt: HostRuntime) {
     static CHECKED: [(Parts, Result<(), DateTimeError>); 11] = [
         (
             (2001, 13, 32, (24, 60, 61), 1_000_000_000),
-            Err(DateTimeError::InvalidMonth),
+            Err(InvalidMonth),
         ),
         (
             (2001, 2, 32, (24, 60, 61), 1_000_000_000),
-            Err(DateTimeError::InvalidMonthDay),
+            Err(InvalidMonthDay),
         ),
-        (
-            (2001, 2, 29, (24, 60, 61), 1_000_000_000),
-            Err(DateTimeError::InvalidHour),
-        ),
+        ((2001, 2, 29, (24, 60, 61), 1_000_000_000), Err(InvalidHour)),
         (
             (2001, 2, 29, (23, 60, 61), 1_000_000_000),
-            Err(DateTimeError::InvalidMinute),
+            Err(InvalidMinute),
         ),
         (
             (2001, 2, 29, (23, 59, 61), 1_000_000_000),
-            Err(DateTimeError::InvalidSecond),
+            Err(InvalidSecond),
         ),
         (
             (2001, 2, 29, (23, 59, 60), 1_000_000_000),
-            Err(DateTimeError::InvalidNanoseconds),
+            Err(InvalidNanoseconds),
         ),
         (
             (2001, 2, 29, (23, 59, 60), 999_999_999),
-            Err(DateTimeError::InvalidMonthDay),
+            Err(InvalidMonthDay),
         ),
-        ((2000, 0, 1, (0, 0, 0), 0), Err(DateTimeError::InvalidMonth)),
-        (
-            (2000, 1, 0, (0, 0, 0), 0),
-            Err(DateTimeError::InvalidMonthDay),
-        ),
-        (
-            (1900, 2, 29, (0, 0, 0), 0),
-            Err(DateTimeError::InvalidMonthDay),
-        ),
+        ((2000, 0, 1, (0, 0, 0), 0), Err(InvalidMonth)),
+        ((2000, 1, 0, (0, 0, 0), 0), Err(InvalidMonthDay)),
+        ((1900, 2, 29, (0, 0, 0), 0), Err(InvalidMonthDay)),
         ((2000, 2, 29, (0, 0, 0), 0), Ok(())),
     ];
     for (parts, checked) in &CHECKED {
@@ -309,45 +234,20 @@ fn the_first_fault_is_named(rt: HostRuntime) {
     }
 }
 
-/// Whether each day of the year is the one that is counted from the year's first day, to which days are added.
-fn year_agrees(year: i32, moved: i32, added: i64) -> bool
-    requires { (negsuc 59999 ≤ℤ year) × (year ≤ℤ pos 60000) }
-{
-    let mut day = plain_first_day(year).wrapping_add(added);
-    let mut year_day = 0u16;
-    for month in 1..13u8 {
-        for month_day in 1..=days_in_month(moved, month) {
-            if !agrees(midnight(moved, month, month_day), day, year_day) {
-                return false;
-            }
-            day = day.wrapping_add(1);
-            year_day = year_day.wrapping_add(1);
-        }
-    }
-    year_day == plain_year_length(year)
-}
-
 #[test]
-fn every_day_from_800_before_to_2800(rt: HostRuntime) {
-    for n in 0..3601u16 {
-        let year = i32::from(n) - 800;
-        assert!(rt; year_agrees(year, year, 0), "{year}");
-    }
-}
-
-/// Years near the ends, moved by whole cycles of 400 years, as the laws allow.
-#[test]
-fn days_at_both_ends(rt: HostRuntime) {
-    for n in 0..400u16 {
-        let n = i32::from(n);
-        assert!(rt;
-            year_agrees(1648 + n, i32::MAX - 399 + n, 146_097 * 5_368_704),
-            "{n}"
-        );
-        assert!(rt;
-            year_agrees(1952 + n, i32::MIN + n, -146_097 * 5_368_714),
-            "{n}"
-        );
+fn leap_years_are_multiples_of_4(rt: HostRuntime) {
+    static YEARS: [(i32, bool); 8] = [
+        (i32::MIN, true),
+        (-100, false),
+        (0, true),
+        (1999, false),
+        (2000, true),
+        (2004, true),
+        (2100, false),
+        (i32::MAX, false),
+    ];
+    for (year, is_leap) in &YEARS {
+        expect_eq(&rt, &(year, is_leap_year(*year)), &(year, *is_leap));
     }
 }
 

@@ -6,7 +6,29 @@ use std::fmt::Display;
 use std::process::Abort;
 use std::test::Fail;
 use tz_base::error::datetime::DateTimeError;
+use tz_base::error::datetime::DateTimeError::{
+    InvalidHour, InvalidMinute, InvalidMonth, InvalidMonthDay, InvalidNanoseconds, InvalidSecond,
+};
+use tz_base::error::parse::TzFileError::{
+    InvalidDstIndicator, InvalidFooter, InvalidHeader, InvalidMagicNumber, InvalidStdWallUtLocal,
+    InvalidTimeZoneDesignationCharIndex, RemainingDataV1, UnsupportedTzFileVersion,
+};
+use tz_base::error::parse::TzStringError::{
+    Empty, InvalidDayTimeHour, InvalidDayTimeMinute, InvalidDayTimeSecond, InvalidOffsetHour,
+    InvalidOffsetMinute, InvalidOffsetSecond, MissingDstStartEndRules, RemainingData,
+};
 use tz_base::error::parse::{ParseDataError, TzFileError, TzStringError};
+use tz_base::error::timezone::LocalTimeTypeError::{
+    InvalidTimeZoneDesignationChar, InvalidTimeZoneDesignationLength, InvalidUtcOffset,
+};
+use tz_base::error::timezone::TimeZoneError::{
+    InconsistentExtraRule, InvalidLeapSecond, InvalidLocalTimeTypeIndex, InvalidTransition,
+    NoLocalTimeType,
+};
+use tz_base::error::timezone::TransitionRuleError::{
+    InconsistentRule, InvalidDstStartEndTime, InvalidDstUtcOffset, InvalidRuleDayJulianDay,
+    InvalidRuleDayMonth, InvalidRuleDayWeek, InvalidRuleDayWeekDay, InvalidStdUtcOffset,
+};
 use tz_base::error::timezone::{LocalTimeTypeError, TimeZoneError, TransitionRuleError};
 use tz_base::error::{Error, ReadFault, TzError};
 
@@ -76,71 +98,50 @@ fn expect_data_text(
 #[test]
 fn part_errors_have_their_texts(rt: HostRuntime) -> Result<(), Fail> {
     static DATE_TIME_TEXTS: [(DateTimeError, &str); 6] = [
-        (DateTimeError::InvalidMonth, "invalid month"),
-        (DateTimeError::InvalidMonthDay, "invalid month day"),
-        (DateTimeError::InvalidHour, "invalid hour"),
-        (DateTimeError::InvalidMinute, "invalid minute"),
-        (DateTimeError::InvalidSecond, "invalid second"),
-        (DateTimeError::InvalidNanoseconds, "invalid nanoseconds"),
+        (InvalidMonth, "invalid month"),
+        (InvalidMonthDay, "invalid month day"),
+        (InvalidHour, "invalid hour"),
+        (InvalidMinute, "invalid minute"),
+        (InvalidSecond, "invalid second"),
+        (InvalidNanoseconds, "invalid nanoseconds"),
     ];
     static TYPE_TEXTS: [(LocalTimeTypeError, &str); 3] = [
         (
-            LocalTimeTypeError::InvalidTimeZoneDesignationLength,
+            InvalidTimeZoneDesignationLength,
             "time zone designation must have between 3 and 7 characters",
         ),
         (
-            LocalTimeTypeError::InvalidTimeZoneDesignationChar,
+            InvalidTimeZoneDesignationChar,
             "invalid characters in time zone designation",
         ),
-        (LocalTimeTypeError::InvalidUtcOffset, "invalid UTC offset"),
+        (InvalidUtcOffset, "invalid UTC offset"),
     ];
     static RULE_TEXTS: [(TransitionRuleError, &str); 8] = [
+        (InvalidRuleDayJulianDay, "invalid rule day julian day"),
+        (InvalidRuleDayMonth, "invalid rule day month"),
+        (InvalidRuleDayWeek, "invalid rule day week"),
+        (InvalidRuleDayWeekDay, "invalid rule day week day"),
+        (InvalidStdUtcOffset, "invalid standard time UTC offset"),
         (
-            TransitionRuleError::InvalidRuleDayJulianDay,
-            "invalid rule day julian day",
-        ),
-        (
-            TransitionRuleError::InvalidRuleDayMonth,
-            "invalid rule day month",
-        ),
-        (
-            TransitionRuleError::InvalidRuleDayWeek,
-            "invalid rule day week",
-        ),
-        (
-            TransitionRuleError::InvalidRuleDayWeekDay,
-            "invalid rule day week day",
-        ),
-        (
-            TransitionRuleError::InvalidStdUtcOffset,
-            "invalid standard time UTC offset",
-        ),
-        (
-            TransitionRuleError::InvalidDstUtcOffset,
+            InvalidDstUtcOffset,
             "invalid Daylight Saving Time UTC offset",
         ),
+        (InvalidDstStartEndTime, "invalid DST start or end time"),
         (
-            TransitionRuleError::InvalidDstStartEndTime,
-            "invalid DST start or end time",
-        ),
-        (
-            TransitionRuleError::InconsistentRule,
+            InconsistentRule,
             "DST transition rules are not consistent from one year to another",
         ),
     ];
     static ZONE_TEXTS: [(TimeZoneError, &str); 5] = [
         (
-            TimeZoneError::NoLocalTimeType,
+            NoLocalTimeType,
             "list of local time types must not be empty",
         ),
+        (InvalidLocalTimeTypeIndex, "invalid local time type index"),
+        (InvalidTransition, "invalid transition"),
+        (InvalidLeapSecond, "invalid leap second"),
         (
-            TimeZoneError::InvalidLocalTimeTypeIndex,
-            "invalid local time type index",
-        ),
-        (TimeZoneError::InvalidTransition, "invalid transition"),
-        (TimeZoneError::InvalidLeapSecond, "invalid leap second"),
-        (
-            TimeZoneError::InconsistentExtraRule,
+            InconsistentExtraRule,
             "extra transition rule is inconsistent with the last transition",
         ),
     ];
@@ -154,49 +155,34 @@ fn part_errors_have_their_texts(rt: HostRuntime) -> Result<(), Fail> {
 
 /// The errors of strings that are not made of others, and their texts.
 static STRING_TEXTS: [(TzStringError, &str); 9] = [
-    (TzStringError::InvalidOffsetHour, "invalid offset hour"),
-    (TzStringError::InvalidOffsetMinute, "invalid offset minute"),
-    (TzStringError::InvalidOffsetSecond, "invalid offset second"),
-    (TzStringError::InvalidDayTimeHour, "invalid day time hour"),
-    (
-        TzStringError::InvalidDayTimeMinute,
-        "invalid day time minute",
-    ),
-    (
-        TzStringError::InvalidDayTimeSecond,
-        "invalid day time second",
-    ),
-    (
-        TzStringError::MissingDstStartEndRules,
-        "missing DST start and end rules",
-    ),
-    (
-        TzStringError::RemainingData,
-        "remaining data after parsing TZ string",
-    ),
-    (TzStringError::Empty, "empty TZ string"),
+    (InvalidOffsetHour, "invalid offset hour"),
+    (InvalidOffsetMinute, "invalid offset minute"),
+    (InvalidOffsetSecond, "invalid offset second"),
+    (InvalidDayTimeHour, "invalid day time hour"),
+    (InvalidDayTimeMinute, "invalid day time minute"),
+    (InvalidDayTimeSecond, "invalid day time second"),
+    (MissingDstStartEndRules, "missing DST start and end rules"),
+    (RemainingData, "remaining data after parsing TZ string"),
+    (Empty, "empty TZ string"),
 ];
 
 /// The errors of files that are not made of others, and their texts.
 static FILE_TEXTS: [(TzFileError, &str); 8] = [
-    (TzFileError::InvalidMagicNumber, "invalid magic number"),
+    (InvalidMagicNumber, "invalid magic number"),
+    (UnsupportedTzFileVersion, "unsupported TZ file version"),
+    (InvalidHeader, "invalid header"),
+    (InvalidFooter, "invalid footer"),
+    (InvalidDstIndicator, "invalid DST indicator"),
     (
-        TzFileError::UnsupportedTzFileVersion,
-        "unsupported TZ file version",
-    ),
-    (TzFileError::InvalidHeader, "invalid header"),
-    (TzFileError::InvalidFooter, "invalid footer"),
-    (TzFileError::InvalidDstIndicator, "invalid DST indicator"),
-    (
-        TzFileError::InvalidTimeZoneDesignationCharIndex,
+        InvalidTimeZoneDesignationCharIndex,
         "invalid time zone designation char index",
     ),
     (
-        TzFileError::InvalidStdWallUtLocal,
+        InvalidStdWallUtLocal,
         "invalid couple of standard/wall and UT/local indicators",
     ),
     (
-        TzFileError::RemainingDataV1,
+        RemainingDataV1,
         "remaining data after the end of a TZif v1 data block",
     ),
 ];
@@ -238,27 +224,24 @@ fn whole_errors_have_their_texts(rt: HostRuntime) -> Result<(), Fail> {
     let alloc = rt.alloc();
     let texts = [
         (
-            TzError::from(TzFileError::InvalidFooter),
+            TzError::from(InvalidFooter),
             "invalid TZ file: invalid footer",
         ),
+        (TzError::from(Empty), "invalid TZ string: empty TZ string"),
         (
-            TzError::from(TzStringError::Empty),
-            "invalid TZ string: empty TZ string",
-        ),
-        (
-            TzError::from(LocalTimeTypeError::InvalidUtcOffset),
+            TzError::from(InvalidUtcOffset),
             "invalid local time type: invalid UTC offset",
         ),
         (
-            TzError::from(TransitionRuleError::InvalidRuleDayWeek),
+            TzError::from(InvalidRuleDayWeek),
             "invalid transition rule: invalid rule day week",
         ),
         (
-            TzError::from(TimeZoneError::InvalidTransition),
+            TzError::from(InvalidTransition),
             "invalid time zone: invalid transition",
         ),
         (
-            TzError::from(DateTimeError::InvalidMonth),
+            TzError::from(InvalidMonth),
             "invalid date time: invalid month",
         ),
         (TzError::OutOfRange, "out of range operation"),
@@ -278,29 +261,23 @@ fn part_errors_become_whole_ones(rt: HostRuntime) -> Result<(), Fail> {
     let alloc = rt.alloc();
     let texts = [
         (
-            Error::from(TzFileError::InvalidHeader),
+            Error::from(InvalidHeader),
             "invalid TZ file: invalid header",
         ),
+        (Error::from(Empty), "invalid TZ string: empty TZ string"),
         (
-            Error::from(TzStringError::Empty),
-            "invalid TZ string: empty TZ string",
-        ),
-        (
-            Error::from(LocalTimeTypeError::InvalidUtcOffset),
+            Error::from(InvalidUtcOffset),
             "invalid local time type: invalid UTC offset",
         ),
         (
-            Error::from(TransitionRuleError::InvalidRuleDayMonth),
+            Error::from(InvalidRuleDayMonth),
             "invalid transition rule: invalid rule day month",
         ),
         (
-            Error::from(TimeZoneError::InvalidLeapSecond),
+            Error::from(InvalidLeapSecond),
             "invalid time zone: invalid leap second",
         ),
-        (
-            Error::from(DateTimeError::InvalidHour),
-            "invalid date time: invalid hour",
-        ),
+        (Error::from(InvalidHour), "invalid date time: invalid hour"),
     ];
     expect_texts(&rt, alloc, &texts)?;
     Ok(())

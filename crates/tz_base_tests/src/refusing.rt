@@ -1,4 +1,4 @@
-//! The allocator that refuses, and what collections hold once it has refused.
+//! The allocator that refuses.
 
 use crate::expect::{expect_eq, expect_eq_at};
 use std::alloc::{AllocError, Allocator};
@@ -33,34 +33,6 @@ fn passes_on_as_many_as_it_was_given(rt: HostRuntime) {
         }
         expect_eq(&rt, &heap.refused(), &(6 - left));
     }
-}
-
-/// A vector with room for two numbers and no more.
-fn one_and_two<A: Allocator>(alloc: A) -> Result<Vec<u8, A>, AllocError> {
-    let mut v = Vec::with_capacity(alloc, 2)?;
-    v.push(1)?;
-    v.push(2)?;
-    Ok(v)
-}
-
-#[test]
-fn a_vec_keeps_its_items(rt: HostRuntime) -> Result<(), Fail> {
-    let heap = Refusing::new(rt.alloc(), 1);
-    let mut v = one_and_two(&heap)?;
-    assert!(rt; v.push(3).is_err());
-    expect_eq(&rt, &v.as_slice(), &[1, 2].as_slice());
-    expect_eq(&rt, &heap.refused(), &1);
-    Ok(())
-}
-
-#[test]
-fn a_string_keeps_its_text(rt: HostRuntime) -> Result<(), Fail> {
-    let heap = Refusing::new(rt.alloc(), 1);
-    let mut s = String::from_str(&heap, "ab")?;
-    assert!(rt; s.push_str("a longer text than the first").is_err());
-    expect_eq(&rt, &s.as_str(), &"ab");
-    expect_eq(&rt, &heap.refused(), &1);
-    Ok(())
 }
 
 #[test]

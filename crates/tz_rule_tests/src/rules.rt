@@ -297,6 +297,13 @@ fn expect_parts_of_all_year(rt: &impl Abort, made: &AlternateTime) {
     expect_ne(rt, made.dst_start(), made.dst_end());
 }
 
+/// Each rule is refused so.
+fn expect_refused(rt: &impl Abort, rows: &[Parts], fault: TransitionRuleError) {
+    for parts in rows {
+        expect_eq(rt, &rule(*parts).err(), &Some(Refusal::Rule(fault)));
+    }
+}
+
 #[test]
 fn parts_and_faults(rt: HostRuntime) {
     static OTHER: Parts = (-18_000, -14_400, (Z(0), 1), (J(365), 90_000));
@@ -307,96 +314,52 @@ fn parts_and_faults(rt: HostRuntime) {
     expect_ne(&rt, &made, &other);
     expect_parts_of_all_year(&rt, &made);
 
-    static FAULTS: [(Parts, TransitionRuleError); 15] = [
+    static FAULTS: [(TransitionRuleError, &[Parts]); 7] = [
         (
-            (-90_000, 93_600, (Z(0), 604_800), (Z(0), 0)),
             TransitionRuleError::InvalidStdUtcOffset,
+            &[
+                (-90_000, 93_600, (Z(0), 604_800), (Z(0), 0)),
+                (93_600, 0, (Z(0), 0), (J(200), 0)),
+            ],
         ),
         (
-            (93_600, 0, (Z(0), 0), (J(200), 0)),
-            TransitionRuleError::InvalidStdUtcOffset,
-        ),
-        (
-            (-89_999, 93_600, (Z(0), 604_800), (Z(0), 0)),
             TransitionRuleError::InvalidDstUtcOffset,
+            &[
+                (-89_999, 93_600, (Z(0), 604_800), (Z(0), 0)),
+                (0, -90_000, (Z(0), 0), (J(200), 0)),
+            ],
         ),
         (
-            (0, -90_000, (Z(0), 0), (J(200), 0)),
-            TransitionRuleError::InvalidDstUtcOffset,
-        ),
-        (
-            (-89_999, 93_599, (Z(0), 604_800), (Z(0), 0)),
             TransitionRuleError::InvalidDstStartEndTime,
+            &[
+                (-89_999, 93_599, (Z(0), 604_800), (Z(0), 0)),
+                (0, 0, (Z(0), 0), (Z(0), -604_800)),
+                (0, 0, (Z(0), i32::MIN), (J(200), 0)),
+                (0, 0, (Z(0), i32::MAX), (J(200), 0)),
+                (0, 0, (Z(0), 0), (J(200), i32::MIN)),
+                (0, 0, (Z(0), 0), (J(200), i32::MAX)),
+            ],
         ),
         (
-            (0, 0, (Z(0), 0), (Z(0), -604_800)),
-            TransitionRuleError::InvalidDstStartEndTime,
-        ),
-        (
-            (0, 0, (Z(0), i32::MIN), (J(200), 0)),
-            TransitionRuleError::InvalidDstStartEndTime,
-        ),
-        (
-            (0, 0, (Z(0), i32::MAX), (J(200), 0)),
-            TransitionRuleError::InvalidDstStartEndTime,
-        ),
-        (
-            (0, 0, (Z(0), 0), (J(200), i32::MIN)),
-            TransitionRuleError::InvalidDstStartEndTime,
-        ),
-        (
-            (0, 0, (Z(0), 0), (J(200), i32::MAX)),
-            TransitionRuleError::InvalidDstStartEndTime,
-        ),
-        (
-            (0, 0, (Z(366), 0), (Z(0), 0)),
             TransitionRuleError::InvalidRuleDayJulianDay,
+            &[(0, 0, (Z(366), 0), (Z(0), 0)), (0, 0, (J(0), 0), (Z(0), 0))],
         ),
         (
-            (0, 0, (J(0), 0), (Z(0), 0)),
-            TransitionRuleError::InvalidRuleDayJulianDay,
-        ),
-        (
-            (0, 0, (M(13, 0, 7), 0), (Z(0), 0)),
             TransitionRuleError::InvalidRuleDayMonth,
+            &[(0, 0, (M(13, 0, 7), 0), (Z(0), 0))],
         ),
         (
-            (0, 0, (M(12, 6, 7), 0), (Z(0), 0)),
             TransitionRuleError::InvalidRuleDayWeek,
+            &[(0, 0, (M(12, 6, 7), 0), (Z(0), 0))],
         ),
         (
-            (0, 0, (M(12, 5, 7), 0), (Z(0), 0)),
             TransitionRuleError::InvalidRuleDayWeekDay,
+            &[(0, 0, (M(12, 5, 7), 0), (Z(0), 0))],
         ),
     ];
-    for &(parts, fault) in FAULTS.iter() {
-        expect_eq(&rt, &rule(parts).err(), &Some(Refusal::Rule(fault)));
+    for (fault, rows) in &FAULTS {
+        expect_refused(&rt, rows, *fault);
     }
-}
-
-#[test]
-fn designations(rt: HostRuntime) {
-    static NAMES: [(&[u8], Option<LocalTimeTypeError>); 5] = [
-        (
-            b"",
-            Some(LocalTimeTypeError::InvalidTimeZoneDesignationLength),
-        ),
-        (
-            b"12345678",
-            Some(LocalTimeTypeError::InvalidTimeZoneDesignationLength),
-        ),
-        (
-            b"123\0\0\0",
-            Some(LocalTimeTypeError::InvalidTimeZoneDesignationChar),
-        ),
-        (b"1", None),
-        (b"1234567", None),
-    ];
-    for &(name, fault) in NAMES.iter() {
-        expect_eq(&rt, &LocalTimeType::new(0, false, Some(name)).err(), &fault);
-    }
-    let found = LocalTimeType::with_ut_offset(i32::MIN).err();
-    expect_eq(&rt, &found, &Some(LocalTimeTypeError::InvalidUtcOffset));
 }
 
 /// The days are the ones they were made of.

@@ -10,8 +10,6 @@ mod filter;
 #[cfg(test)]
 mod find;
 #[cfg(test)]
-mod local_meanings;
-#[cfg(test)]
 mod meanings;
 #[cfg(test)]
 mod memory;
@@ -23,5 +21,3 @@ mod printed;
 mod searches;
 #[cfg(test)]
 mod tz_strings;
-#[cfg(test)]
-mod zones;

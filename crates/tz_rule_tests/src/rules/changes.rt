@@ -1,6 +1,6 @@
-//! Changes of rules beside a plain walk from segment to segment.
+//! Changes of rules.
 
-use super::{ALL_YEAR, AUCKLAND, Parts, expect_made, rule};
+use super::{ALL_YEAR, Parts, expect_made, rule};
 use crate::expect::expect_eq;
 use std::process::Abort;
 use tz_rule::inner::{self, RuleChange, RuleRef};
@@ -24,147 +24,50 @@ fn found(change: Option<RuleChange<'_>>) -> Found {
     }
 }
 
-/// More segments than 400 years have. A rule that has no change through them has none.
-const SEGMENTS: u16 = 900;
-
-/// The first change after an instant, by the segments from there on.
-fn plain_after(rule: RuleRef<'_>, unix_time: i64) -> Found {
-    let mut segment = inner::segment_at(rule, unix_time);
-    for _ in 0..SEGMENTS {
-        if segment.last == i64::MAX {
-            return None;
-        }
-        let next = inner::segment_at(rule, segment.last.wrapping_add(1));
-        if let (Some(before), Some(after)) = (segment.local_time_type, next.local_time_type)
-            && before != after
-        {
-            return Some((next.from, before.is_dst(), after.is_dst()));
-        }
-        segment = next;
+/// The rule has these changes after instants.
+fn expect_changes_after(rt: &impl Abort, parts: Parts, rows: &[(i64, Found)]) {
+    let rule = TransitionRule::Alternate(expect_made(rt, rule(parts)));
+    for (unix_time, change) in rows {
+        let after = found(inner::change_after(RuleRef::of(&rule), *unix_time));
+        expect_eq(rt, &(unix_time, after), &(unix_time, *change));
     }
-    None
 }
 
-/// The last change up to an instant, by the segments up to there.
-fn plain_up_to(rule: RuleRef<'_>, unix_time: i64) -> Found {
-    let mut segment = inner::segment_at(rule, unix_time);
-    for _ in 0..SEGMENTS {
-        if segment.from == i64::MIN {
-            return None;
-        }
-        let last = inner::segment_at(rule, segment.from.wrapping_sub(1));
-        if let (Some(before), Some(after)) = (last.local_time_type, segment.local_time_type)
-            && before != after
-        {
-            return Some((segment.from, before.is_dst(), after.is_dst()));
-        }
-        segment = last;
-    }
-    None
-}
-
-/// The changes next to an instant are the plain ones.
-fn expect_plain_at(rt: &impl Abort, rule: &TransitionRule, unix_time: i64) {
+/// The rule has no change after an instant, and none up to it.
+fn expect_none(rt: &impl Abort, rule: &TransitionRule, unix_time: i64) {
     let rule = RuleRef::of(rule);
-    let after = found(inner::change_after(rule, unix_time));
-    expect_eq(
-        rt,
-        &(unix_time, after),
-        &(unix_time, plain_after(rule, unix_time)),
-    );
-    let up_to = found(inner::change_up_to(rule, unix_time));
-    expect_eq(
-        rt,
-        &(unix_time, up_to),
-        &(unix_time, plain_up_to(rule, unix_time)),
-    );
+    expect_eq(rt, &found(inner::change_after(rule, unix_time)), &None);
+    expect_eq(rt, &found(inner::change_up_to(rule, unix_time)), &None);
 }
 
-/// They are at an instant and at those beside it.
-fn expect_plain_around(rt: &impl Abort, rule: &TransitionRule, unix_time: i64) {
-    expect_plain_at(rt, rule, unix_time.wrapping_sub(1));
-    expect_plain_at(rt, rule, unix_time);
-    expect_plain_at(rt, rule, unix_time.wrapping_add(1));
-}
-
-/// They are around this many changes after an instant.
-fn expect_plain_from(rt: &impl Abort, rule: &TransitionRule, first: i64, changes: u8) {
-    let mut unix_time = first;
-    for _ in 0..changes {
-        expect_plain_around(rt, rule, unix_time);
-        let Some((next, _, _)) = plain_after(RuleRef::of(rule), unix_time) else {
-            return;
-        };
-        unix_time = next;
-    }
-}
-
-/// The ends of 64 bits, of the years in which rules answer, and of those in which the year of an instant is a quotient.
-static ENDS: [i64; 6] = [
-    i64::MIN + 1,
-    utc!(-2147483646-01-01 00:00:00),
-    -60_000_000_000_000_000,
-    60_000_000_000_000_000,
-    utc!(2147483646-01-01 00:00:00),
-    i64::MAX - 1,
-];
-
-/// The changes of a rule are the plain ones in near years and at all ends.
-fn expect_plain(rt: &impl Abort, rule: &TransitionRule, changes: u8) {
-    expect_plain_from(rt, rule, utc!(1995-01-01 00:00:00), changes);
-    for unix_time in &ENDS {
-        expect_plain_around(rt, rule, *unix_time);
-    }
-}
-
-/// Those of each rule are.
-fn expect_all_plain(rt: &impl Abort, rules: &[Parts], changes: u8) {
-    for parts in rules {
-        let rule = TransitionRule::Alternate(expect_made(rt, rule(*parts)));
-        expect_plain(rt, &rule, changes);
-    }
-}
-
-#[test]
-fn changes_of_two_seasons(rt: HostRuntime) {
-    static RULES: [Parts; 5] = [
-        // Paris, Auckland, Dublin.
-        (3600, 7200, (M(3, 5, 0), 7200), (M(10, 5, 0), 10_800)),
-        AUCKLAND,
-        (3600, 0, (M(10, 5, 0), 7200), (M(3, 5, 0), 3600)),
-        // Days that are near, and daylight saving time over the new year.
-        (0, 3600, (J(59), 0), (J(60), 0)),
-        (0, 3600, (J(60), 0), (J(59), 0)),
-    ];
-    expect_all_plain(&rt, &RULES, 20);
-}
-
-#[test]
-fn changes_near_new_year(rt: HostRuntime) {
-    static RULES: [Parts; 5] = [
-        (0, 3600, (Z(0), 0), (J(200), 0)),
-        (0, 3600, (J(200), 0), (Z(365), 0)),
-        (3600, -3600, (Z(365), 86_400), (M(1, 2, 0), 0)),
-        // Both belong to a neighbour's year.
-        (0, 3600, (J(365), 500_000), (J(365), 600_000)),
-        (0, 3600, (J(1), -600_000), (J(1), -500_000)),
-    ];
-    expect_all_plain(&rt, &RULES, 20);
-}
-
+/// Daylight saving time comes in some years alone: on February 29th, and on the days from October 1st before the first Sunday.
 #[test]
 fn changes_of_some_years(rt: HostRuntime) {
-    static RULES: [Parts; 5] = [
-        // A day in leap years: February 29th, and December 31st without daylight saving time.
-        (0, 0, (Z(59), 0), (J(60), 0)),
-        (0, 0, (Z(0), 0), (Z(365), 0)),
-        // Up to the first Sunday of October, or from it on, which can be the first day.
-        (0, 0, (J(274), 0), (M(10, 1, 0), 0)),
-        (0, 0, (M(10, 1, 0), 0), (J(274), 0)),
-        // The same near the new year.
-        (0, 0, (M(12, 5, 0), 0), (J(365), 0)),
+    static LEAP_DAY: Parts = (0, 0, (Z(59), 0), (J(60), 0));
+    static OF_LEAP_DAYS: [(i64, Found); 2] = [
+        (
+            utc!(1897-01-01 00:00:00),
+            Some((utc!(1904-02-29 00:00:00), false, true)),
+        ),
+        (
+            utc!(1904-02-29 00:00:00),
+            Some((utc!(1904-03-01 00:00:00), true, false)),
+        ),
     ];
-    expect_all_plain(&rt, &RULES, 20);
+    static TO_SUNDAY: Parts = (0, 0, (J(274), 0), (M(10, 1, 0), 0));
+    static BEFORE_SUNDAYS: [(i64, Found); 2] = [
+        (
+            utc!(2022-10-01 00:00:00),
+            Some((utc!(2022-10-02 00:00:00), true, false)),
+        ),
+        // October 1st of 2023 is a Sunday.
+        (
+            utc!(2022-10-02 00:00:00),
+            Some((utc!(2024-10-01 00:00:00), false, true)),
+        ),
+    ];
+    expect_changes_after(&rt, LEAP_DAY, &OF_LEAP_DAYS);
+    expect_changes_after(&rt, TO_SUNDAY, &BEFORE_SUNDAYS);
 }
 
 #[test]
@@ -178,7 +81,10 @@ fn rules_without_a_change(rt: HostRuntime) {
         (0, 0, (J(365), 86_400), (J(1), 0)),
         (0, 0, (J(365), 604_799), (J(1), 0)),
     ];
-    expect_all_plain(&rt, &RULES, 1);
+    for parts in &RULES {
+        let rule = TransitionRule::Alternate(expect_made(&rt, rule(*parts)));
+        expect_none(&rt, &rule, utc!(1995-01-01 00:00:00));
+    }
     // The types are the same.
     let utc = LocalTimeType::utc();
     let (Ok(start), Ok(end)) = (day_of(M(3, 5, 0)), day_of(M(10, 5, 0))) else {
@@ -187,8 +93,8 @@ fn rules_without_a_change(rt: HostRuntime) {
     let Ok(rule) = AlternateTime::new(utc, utc, start, 7200, end, 10_800) else {
         panic!(rt; "refused");
     };
-    expect_plain(&rt, &TransitionRule::Alternate(rule), 1);
-    expect_plain(&rt, &TransitionRule::Fixed(utc), 1);
+    expect_none(&rt, &TransitionRule::Alternate(rule), 0);
+    expect_none(&rt, &TransitionRule::Fixed(utc), 0);
 }
 
 #[test]
