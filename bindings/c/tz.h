@@ -36,7 +36,8 @@ typedef uint32_t tz_code;
 
 enum {
   TZ_OK = 0,
-  /* A value lies outside the range of its type: a year outside 32 bits, an instant without a leap time. */
+  /* A value is outside the range of its type: a year outside 32 bits, a year so near the ends of these that the zone's rule is undefined,
+     an instant without a leap time. */
   TZ_OUT_OF_RANGE = 1,
   /* The zone has no type at the instant: it has no rule, and its transitions have ended. */
   TZ_NO_AVAILABLE_LOCAL_TIME_TYPE = 2,

@@ -20,7 +20,7 @@ use Rattle.tz_c.specs.Codes.{code_of, no_date_time, unknown_choice}
 abbrev pub IsUtcDataOf : (Fields → Type 0) → UtcData → Type 0
 IsUtcDataOf holds written = IsUtcData written × holds written.fields
 
--- why a duration gives no date time: its nanoseconds are a second or more, or the total is that of none
+-- why a duration leads to no date time: its nanoseconds are a second or more, or the total is that of none
 abbrev pub IsMoveFault : ℤ → ℕ → TzError → Type 0
 IsMoveFault total nanoseconds e =
     ((e ≡ faults.DateTime field_faults.InvalidNanoseconds) × (1000000000 ≤ nanoseconds))

@@ -1,4 +1,4 @@
--- What calls answer that give a text to a buffer.
+-- What calls answer that write a text to a buffer.
 use Rattle.std.specs.Prelude.{◌≡◌, ◌⊎◌, ℕ, ◌<◌, ◌≤◌, Bool, List, ◌++◌, Option, Some, None, drop, length}
 use Rattle.tz_rule.specs.declared.timezone.rule.TransitionRule.{TransitionRule}
 use Rattle.tz_zone.specs.TzText.{IsTzText}

@@ -3,7 +3,7 @@
 ghost use Rattle.std.specs.Prelude.{◌≡◌, ◌≢◌, ◌≤◌, ◌++◌, ℕ, List, drop, length};
 
 use crate::codes::{BUFFER_LENGTH, UNKNOWN_CODE};
-use crate::texts::give;
+use crate::texts::write_text;
 use arrayvec::ArrayString;
 use std::alloc::AllocError;
 use std::fmt::Write;
@@ -141,14 +141,14 @@ pub extern "C" fn tz_error_text(code: u32, text: &mut [u8], len: &mut usize) -> 
     ensures len_kept { result ≢ 0 → len.new ≡ len.old }
 {
     if let Some(own) = own_text(code) {
-        return give(own.as_bytes(), text, len);
+        return write_text(own.as_bytes(), text, len);
     }
     let Some(error) = error_of(code) else {
         return UNKNOWN_CODE;
     };
     let mut line = ArrayString::<128>::new();
     match write!(line, "{error}") {
-        Ok(()) => give(line.as_str().as_bytes(), text, len),
+        Ok(()) => write_text(line.as_str().as_bytes(), text, len),
         Err(_) => BUFFER_LENGTH,
     }
 }

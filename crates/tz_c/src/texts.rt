@@ -12,9 +12,9 @@ use tz::{DateTime, TzString, UtcDateTime};
 use tz_rule::inner::AlternateClock;
 use tz_rule::timezone::LocalTimeType;
 
-/// Gives a text to a buffer, and its length, if there is room.
+/// Copies a text to a buffer and stores its length, if there is room.
 #[inline(always)]
-pub(crate) fn give(given: &[u8], text: &mut [u8], len: &mut usize) -> u32
+pub(crate) fn write_text(given: &[u8], text: &mut [u8], len: &mut usize) -> u32
     ensures answer { IsTextAnswer given.now result text.old text.new len.new }
     ensures text_kept { result ≢ 0 → text.new ≡ text.old }
     ensures len_kept { result ≢ 0 → len.new ≡ len.old }
@@ -36,7 +36,7 @@ pub extern "C" fn tz_utc_text(utc: &UtcDateTime, text: &mut [u8], len: &mut usiz
 {
     let mut line = TextBuffer::new();
     line.push_date_time(&UtcData::of(utc).fields, 0);
-    give(line.as_bytes(), text, len)
+    write_text(line.as_bytes(), text, len)
 }
 
 /// The date time as its `Display` prints it.
@@ -48,7 +48,7 @@ pub extern "C" fn tz_date_time_text(date_time: &DateTime, text: &mut [u8], len: 
 {
     let mut line = TextBuffer::new();
     line.push_local_date_time(date_time);
-    give(line.as_bytes(), text, len)
+    write_text(line.as_bytes(), text, len)
 }
 
 /// The TZ string of a rule, as `TzString::from_rule` writes it.
@@ -67,7 +67,7 @@ pub extern "C" fn tz_rule_text(
         return NO_RULE;
     };
     match TzString::from_rule(&rule.rule()) {
-        Some(string) => give(string.as_str().as_bytes(), text, len),
+        Some(string) => write_text(string.as_str().as_bytes(), text, len),
         None => NO_TZ_STRING,
     }
 }

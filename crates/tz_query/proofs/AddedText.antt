@@ -1,6 +1,15 @@
 -- What steps that follow one another add to the answers.
-use Rattle.std.proofs.Common.{◌≡◌, ℕ, List, ◌++◌, ap, subst, ◌∙◌, append_assoc}
-use Rattle.tz_query.specs.Outputs.{Adds, Leaves, written}
+use Rattle.std.proofs.Common.{◌≡◌, ℕ, ℤ, List, [], ◌∷◌, ◌++◌, refl, ap, subst, ◌∙◌, append_assoc}
+use Rattle.std.specs.Prelude.{Result, IfOk}
+use Rattle.std.proofs.lemmas.Result.{IfOk-weaker}
+use Rattle.tz_zone.specs.ZoneRef.{zone_of}
+use Rattle.tz_query.specs.Answers.{IsQueryAnswer, IsTimeAnswer}
+use Rattle.tz_query.specs.Lines.{ended}
+use Rattle.tz_query.specs.Outputs.{Adds, IsAnswered, Leaves, written}
+use Rattle.tz_query.specs.declared.query.lines.Query.{Query}
+use Rattle.tz_query.specs.declared.query.lines.Query.TheVariants.{Time}
+use Rattle.tz_query.specs.declared.query.output.Output.{Output}
+use Rattle.tz_query.specs.declared.query.suffixes.Suffixes.{Suffixes}
 use Rattle.tz_query.specs.declared.query.answers.Answers.{Answers}
 
 module _ {A : Type 0} {a b : Answers A} {x : List ℕ} where
@@ -23,3 +32,17 @@ module _ {A : Type 0} {a b : Answers A} {x : List ℕ} where
     sound = λ sound. more.sound (same.sound sound);
     text_is = more.text_is ∙ ap (λ output. written output ++ x) same.output_is;
   }
+
+-- the answer of a query, where it alone is written
+pub answer_written : {A T E : Type 0} (query : Query) (a : Answers A) (output : Output A) (r : Result T E) (answer : List (List ℕ)) → IsQueryAnswer (zone_of a.zone) query answer →
+    IfOk r (λ _. written output ≡ written a.output ++ ended answer) → IfOk r (λ _. IsAnswered query a (record a { output = output }))
+answer_written query a output r answer is text = IfOk-weaker r _ _ (λ done items. (answer, is, record { zone_is = refl; sound = λ s. s; text_is = items })) text
+
+pub time_answer_written : {A T E : Type 0} (u : ℤ) (n : ℕ) (a : Answers A) (suffixes : Suffixes) (output : Output A) (r : Result T E) →
+    IfOk r (λ _. (text : List ℕ) × IsTimeAnswer (zone_of a.zone) u n text × (written output ≡ written a.output ++ ended (text ∷ []))) → IfOk r (λ _. IsAnswered (Time u n) a (record a { suffixes = suffixes; output = output }))
+time_answer_written u n a suffixes output r text = IfOk-weaker r _ _ (λ done (line, is, items). (line ∷ [], (line, is, refl), record { zone_is = refl; sound = λ s. s; text_is = items })) text
+
+-- the answer of a query after nothing was written
+pub answered_after : {A T E : Type 0} {a b : Answers A} (c : Answers A) (query : Query) (r : Result T E) → Leaves a b → IfOk r (λ _. IsAnswered query b c) → IfOk r (λ _. IsAnswered query a c)
+answered_after c query r kept answered =
+    IfOk-weaker r _ _ (λ done (answer, is, adds). (answer, subst (λ zone. IsQueryAnswer (zone_of zone) query answer) kept.zone_is is, then_adds kept adds)) answered

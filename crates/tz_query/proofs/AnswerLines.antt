@@ -1,6 +1,6 @@
 -- Names and refusals as an answer has them, and one more line and its answer.
-use Rattle.std.proofs.Common.{◌≡◌, ℕ, zero, suc, ◌+◌, ◌<◌, ◌==◌, Bool, false, inl, inr, cond, ℤ, List, [], ◌∷◌, ◌++◌, length, take, get_or, refl, sym, ap, ◌∙◌, subst, arith, append_assoc, append-nil, length-append}
-use Rattle.std.specs.Prelude.{Result, Ok, Err, IfOk, is_ok, codes, map, ⊤}
+use Rattle.std.proofs.Common.{◌≡◌, ℕ, zero, suc, ◌+◌, ◌<◌, ◌==◌, Bool, false, inl, inr, ℤ, List, [], ◌∷◌, ◌++◌, length, take, get_or, refl, sym, ap, ◌∙◌, subst, arith, append_assoc, append-nil, length-append}
+use Rattle.std.specs.Prelude.{codes, map, ⊤}
 use Rattle.std.proofs.lemmas.List.{take_more, map-append}
 use Rattle.std.proofs.lemmas.List.Elements.{All-nil, All-cons}
 use Rattle.tz_base.specs.declared.fields.Fields.{Fields}
@@ -22,18 +22,23 @@ clock_fault_text z u n e (inr (inl (few, inl (is, over)))) = subst (λ fault. (t
 clock_fault_text z u n e (inr (inl (few, inr (is, none, not_over)))) = subst (λ fault. (text : List ℕ) × IsFaultText fault text) (sym is) (codes "OutOfRange", refl)
 clock_fault_text z u n e (inr (inr (is, few, out))) = subst (λ fault. (text : List ℕ) × IsFaultText fault text) (sym is) (codes "OutOfRange", refl)
 
+-- the lines of two lists of lines
+pub ended-append : (xs ys : List (List ℕ)) → ended (xs ++ ys) ≡ ended xs ++ ended ys
+ended-append [] ys = refl
+ended-append (x ∷ xs) ys = ap (λ bs. x ++ line_feed ∷ bs) (ended-append xs ys) ∙ sym (append_assoc x (line_feed ∷ ended xs) (ended ys))
+
 -- no line is left of no bytes
+pub nothing_after : (xs ys : List ℕ) → xs ++ ys ≡ [] → ys ≡ []
+nothing_after [] ys e = e
+nothing_after (x ∷ xs) ys e = cc
+
 pub no_lines : (lines : List (List ℕ)) → AreLines [] lines → lines ≡ []
 no_lines [] are = refl
 no_lines (line ∷ lines) are = absurd (cases are.cut)
   where
     cases : IsCut [] (line ∷ lines) → ⊥
-    cases (inl is) = let l : 0 ≡ length line + length (line_feed ∷ ended lines) = ap length is ∙ length-append line (line_feed ∷ ended lines) in omega (arith, l)
-    cases (inr (front, last, split, some, is)) = some (nothing_behind (ended front) last (sym is))
-      where
-        nothing_behind : (xs ys : List ℕ) → xs ++ ys ≡ [] → ys ≡ []
-        nothing_behind [] ys e = e
-        nothing_behind (x ∷ xs) ys e = cc
+    cases (inl is) = let none : line_feed ∷ ended lines ≡ [] = nothing_after line (line_feed ∷ ended lines) (sym is) in cc
+    cases (inr (front, last, split, some, is)) = some (nothing_after (ended front) last (sym is))
 
 -- a line before the lines of the rest
 pub AreLines-cons : (bytes line rest : List ℕ) (lines : List (List ℕ)) → 0 < length bytes → IsFirstLine bytes line rest → AreLines rest lines → AreLines bytes (line ∷ lines)
@@ -70,24 +75,10 @@ pub AreAnswers-cons : (z : Zone) (bytes line rest more : List ℕ) (answer : Lis
 AreAnswers-cons z bytes line rest more answer some first is are =
     record { lines = line ∷ are.lines; answers = answer ∷ are.answers; cut = AreLines-cons bytes line rest are.lines some first are.cut; each = (is, are.each); written = ap (λ bs. ended answer ++ bs) are.written }
 
--- what was appended, where nothing was refused
-pub appended : {T E : Type 0} (r : Result T E) (now was more : List ℕ) → now ≡ cond (is_ok r) (was ++ more) was → IfOk r (λ _. now ≡ was ++ more)
-appended (Ok x) now was more e = e
-appended (Err x) now was more e = tt
-
 -- bytes are left where a test finds them not empty
 pub some_left : (n : ℕ) (empty : Bool) → empty ≡ (n == 0) → empty ≡ false → 0 < n
 some_left zero empty is not = cc
 some_left (suc n) empty is not = omega arith
-
-pub none_from_length : (bytes : List ℕ) → length bytes ≡ 0 → bytes ≡ []
-none_from_length [] none = refl
-none_from_length (b ∷ bytes) none = absurd (omega arith)
-
--- one more line at the end
-ended_push : (lines : List (List ℕ)) (line : List ℕ) → ended (lines ++ line ∷ []) ≡ ended lines ++ (line ++ line_feed ∷ [])
-ended_push [] line = refl
-ended_push (first ∷ lines) line = ap (λ bs. first ++ line_feed ∷ bs) (ended_push lines line) ∙ sym (append_assoc first (line_feed ∷ ended lines) (line ++ line_feed ∷ []))
 
 -- the lines of one more entry
 pub entries_more : (found : List FoundDateTimeKind) (i : ℕ) (d : FoundDateTimeKind) → i < length found →
@@ -95,7 +86,7 @@ pub entries_more : (found : List FoundDateTimeKind) (i : ℕ) (d : FoundDateTime
 entries_more found i d within =
     ap (λ es. ended (map entry_text es)) (take_more found i d within)
     ∙ ap ended (map-append entry_text (take i found) (get_or found i d ∷ []))
-    ∙ ended_push (map entry_text (take i found)) (entry_text (get_or found i d))
+    ∙ ended-append (map entry_text (take i found)) (entry_text (get_or found i d) ∷ [])
 
 -- a search is refused for the fields' fault, out of range, or for an allocation failure
 pub told_field_fault : (clock : Clock) (f : Fields) (fault : DateTimeError) → IsFindFault ⊤ clock f (DateTime fault) → IsFindFault ⊥ clock f (DateTime fault)

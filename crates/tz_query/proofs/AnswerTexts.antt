@@ -1,11 +1,14 @@
 -- No answer line holds an LF, and no answer of one line begins as a group of more lines does.
-use Rattle.std.proofs.Common.{◌≡◌, ◌≢◌, ℕ, zero, suc, ◌+◌, ◌/◌, ◌%◌, ◌<◌, ◌≤◌, ◌⊎◌, inl, inr, Bool, true, false, cond, eqb, ltb, ℤ, pos, negsuc, Option, Some, None, List, [], ◌∷◌, ◌++◌, length, get_or, refl, sym, ap, ◌∙◌, subst, arith}
-use Rattle.std.specs.Prelude.{codes, map, unwrap_or, IfSome}
+use Rattle.std.proofs.Common.{◌≡◌, ◌≢◌, ℕ, zero, suc, ◌+◌, ◌/◌, ◌%◌, ◌<◌, ◌≤◌, inl, inr, Bool, true, false, cond, eqb, ltb, ℤ, pos, negsuc, Option, Some, None, List, [], ◌∷◌, ◌++◌, length, get_or, refl, sym, ap, subst, arith}
+use Rattle.std.specs.Prelude.{codes, map, unwrap_or, IfSome, not}
 use Rattle.std.specs.Fmt.{decimal, signed_decimal}
 use Rattle.core.specs.Fmt.{digit_glyph, digits, digits_onto}
-use Rattle.std.specs.List.{All, flat_map}
+use Rattle.std.specs.List.{All, flat_map, list_all}
+use Rattle.std.proofs.lemmas.Bool.{cond-true, cond_both}
 use Rattle.std.proofs.lemmas.Bool.Decides.{nat_tests}
-use Rattle.std.proofs.lemmas.List.Elements.{All-nil, All-cons, All-head, All-append, All-map}
+use Rattle.std.proofs.lemmas.List.Elements.{All-nil, All-cons, All-append, All-map, All-weaker}
+use Rattle.std.proofs.lemmas.List.Folds.{list_all-append}
+use Rattle.std.proofs.lemmas.List.Sums.{AllPass-from_list_all, list_all-from_AllPass}
 use Rattle.tz_base.specs.declared.fields.Fields.{Fields}
 use Rattle.tz_base.specs.declared.error.TzError.{TzError}
 use Rattle.tz_base.specs.declared.error.TzError.TheVariants.{DateTime as FieldFault, OutOfRange, NoAvailableLocalTimeType}
@@ -20,7 +23,7 @@ use Rattle.tz.specs.PrintedText.{last_digits, two_digits, nine_digits, two_digit
 use Rattle.tz.specs.declared.datetime.found.FoundDateTimeKind.{FoundDateTimeKind}
 use Rattle.tz.specs.declared.datetime.found.FoundDateTimeKind.TheVariants.{Normal, Skipped}
 use Rattle.tz_query.specs.Lines.{line_feed, IsLine}
-use Rattle.tz_query.specs.Numbers.{hyphen}
+use Rattle.tz_query.specs.Numbers.{hyphen, space}
 use Rattle.tz_query.specs.declared.query.lines.Query.TheVariants.{Time, Search, Meeting}
 use Rattle.tz_query.specs.Answers.{field_fault_text, IsFaultText, entry_text, IsTimeAnswer, IsSearchAnswer, IsWeekAnswer, AreWeekAnswers, IsAnswer, IsSingle}
 
@@ -29,187 +32,118 @@ abbrev IsDigit : ℕ → Type 0
 IsDigit b = (48 ≤ b) × (b ≤ 57)
 
 glyph_is_digit : (d : ℕ) → d < 10 → IsDigit (digit_glyph false d)
-glyph_is_digit d below = by_test (ltb d 10) (grind (arith, nat_tests))
-  where
-    by_test : (b : Bool) → b ≡ true → IsDigit (cond b (48 + d) (cond false (55 + d) (87 + d)))
-    by_test true e = (omega arith, omega arith)
-    by_test false e = cc
+glyph_is_digit d below = rw (cond-true (ltb d 10) (48 + d) (cond false (55 + d) (87 + d)) (grind (arith, nat_tests))) (omega arith, omega arith)
 
-either_digits : (b : Bool) (xs ys : List ℕ) → All IsDigit xs → All IsDigit ys → All IsDigit (cond b xs ys)
-either_digits true xs ys first second = first
-either_digits false xs ys first second = second
-
-either_long : (b : Bool) (xs ys : List ℕ) → 0 < length xs → 0 < length ys → 0 < length (cond b xs ys)
-either_long true xs ys first second = first
-either_long false xs ys first second = second
-
-digits_are : (k n : ℕ) (acc : List ℕ) → All IsDigit acc → All IsDigit (digits_onto k 10 false n acc)
-digits_are zero n acc all = all
-digits_are (suc k) n acc all =
+digits_are : (k n : ℕ) (acc : List ℕ) → 0 < k + length acc → All IsDigit acc → (0 < length (digits_onto k 10 false n acc)) × All IsDigit (digits_onto k 10 false n acc)
+digits_are zero n acc some all = (omega arith, all)
+digits_are (suc k) n acc some all =
+    let next = digit_glyph false (n % 10) ∷ acc in
     let more = All-cons IsDigit (digit_glyph false (n % 10)) acc (glyph_is_digit (n % 10) (omega arith)) all in
-    either_digits (eqb (n / 10) 0) _ _ more (digits_are k (n / 10) _ more)
+    cond_both (eqb (n / 10) 0) next (digits_onto k 10 false (n / 10) next) (λ ds. (0 < length ds) × All IsDigit ds) (λ last. (omega arith, more)) (λ goes_on. digits_are k (n / 10) next (omega arith) more)
 
-some_digits : (k n : ℕ) (acc : List ℕ) → 0 < k + length acc → 0 < length (digits_onto k 10 false n acc)
-some_digits zero n acc some = omega arith
-some_digits (suc k) n acc some = either_long (eqb (n / 10) 0) (digit_glyph false (n % 10) ∷ acc) _ (omega arith) (some_digits k (n / 10) (digit_glyph false (n % 10) ∷ acc) (omega arith))
-
-decimal_digits : (n : ℕ) → All IsDigit (decimal n)
+decimal_digits : (n : ℕ) → (0 < length (decimal n)) × All IsDigit (decimal n)
 unfolding digits
-decimal_digits n = digits_are 64 n [] (All-nil IsDigit)
+decimal_digits n = digits_are 64 n [] (omega arith) (All-nil IsDigit)
 
-decimal_some : (n : ℕ) → 0 < length (decimal n)
-unfolding digits
-decimal_some n = some_digits 64 n [] (omega arith)
+-- no LF is among the bytes, by a test
+abbrev is_other : ℕ → Bool
+is_other b = not (eqb b line_feed)
 
-digits_line : (text : List ℕ) → All IsDigit text → IsLine text
-digits_line text all k d within = let digit = all k d within in λ e. absurd (omega (arith, digit, e))
+abbrev HasNoFeed : List ℕ → Type 0
+HasNoFeed text = list_all is_other text ≡ true
 
-decimal_line : (n : ℕ) → IsLine (decimal n)
-decimal_line n = digits_line (decimal n) (decimal_digits n)
+line_by_test : (text : List ℕ) → HasNoFeed text → IsLine text
+line_by_test text none = All-weaker (λ b. is_other b ≡ true) (λ b. b ≢ line_feed) (λ b other same. let wrong : false ≡ true = subst (λ x. is_other x ≡ true) same other in cc) text (AllPass-from_list_all is_other text none)
 
--- no LF in a text of more bytes
-abbrev IsOther : ℕ → Type 0
-IsOther b = b ≢ line_feed
+by_bytes : (P : ℕ → Type 0) → ((b : ℕ) → P b → is_other b ≡ true) → (text : List ℕ) → All P text → HasNoFeed text
+by_bytes P other text all = list_all-from_AllPass is_other text (All-weaker P (λ b. is_other b ≡ true) other text all)
 
-nothing : IsLine []
-nothing = All-nil IsOther
+joined : (text more : List ℕ) → HasNoFeed text → HasNoFeed more → HasNoFeed (text ++ more)
+joined text more none none' = rw (list_all-append is_other text more, none) none'
 
-more : (b : ℕ) (text : List ℕ) → (b < 10) ⊎ (10 < b) → IsLine text → IsLine (b ∷ text)
-more b text (inl below) line = All-cons IsOther b text (λ e. absurd (omega (arith, below, e))) line
-more b text (inr above) line = All-cons IsOther b text (λ e. absurd (omega (arith, above, e))) line
+above : (b : ℕ) → line_feed < b → is_other b ≡ true
+above b is = grind (arith, nat_tests)
 
-above : (b : ℕ) (text : List ℕ) → 10 < b → IsLine text → IsLine (b ∷ text)
-above b text h line = more b text (inr h) line
+decimal_without_feed : (n : ℕ) → HasNoFeed (decimal n)
+decimal_without_feed n = by_bytes IsDigit (λ b digit. above b (omega (arith, digit))) (decimal n) (decimal_digits n).1
 
-joined : (text other : List ℕ) → IsLine text → IsLine other → IsLine (text ++ other)
-joined text other line line' = All-append IsOther text other line line'
+last_digits_without_feed : (width n : ℕ) → HasNoFeed (last_digits width n)
+last_digits_without_feed zero n = refl
+last_digits_without_feed (suc width) n =
+    joined (last_digits width (n / 10)) ((48 + n % 10) ∷ []) (last_digits_without_feed width (n / 10)) (rw (above (48 + n % 10) (omega arith)) refl)
 
-last_digits_line : (width n : ℕ) → IsLine (last_digits width n)
-last_digits_line zero n = nothing
-last_digits_line (suc width) n = joined (last_digits width (n / 10)) ((48 + n % 10) ∷ []) (last_digits_line width (n / 10)) (above (48 + n % 10) [] (omega arith) nothing)
-
-two_digits_line : (n : ℕ) → IsLine (two_digits n)
+two_digits_without_feed : (n : ℕ) → HasNoFeed (two_digits n)
 unfolding two_digits
-two_digits_line n = last_digits_line 2 n
+two_digits_without_feed n = last_digits_without_feed 2 n
 
-nine_digits_line : (n : ℕ) → IsLine (nine_digits n)
+nine_digits_without_feed : (n : ℕ) → HasNoFeed (nine_digits n)
 unfolding nine_digits
-nine_digits_line n = last_digits_line 9 n
+nine_digits_without_feed n = last_digits_without_feed 9 n
 
-either_line : (b : Bool) (xs ys : List ℕ) → IsLine xs → IsLine ys → IsLine (cond b xs ys)
-either_line true xs ys first second = first
-either_line false xs ys first second = second
+signed_without_feed : (z : ℤ) → HasNoFeed (signed_decimal z)
+signed_without_feed (pos n) = decimal_without_feed n
+signed_without_feed (negsuc n) = decimal_without_feed (suc n)
 
-two_digits_or_more_line : (n : ℕ) → IsLine (two_digits_or_more n)
-unfolding two_digits_or_more
-two_digits_or_more_line n = either_line (ltb n 100) (two_digits n) (decimal n) (two_digits_line n) (decimal_line n)
+duration_without_feed : (n : ℕ) → HasNoFeed (duration_text n)
+unfolding duration_text two_digits_or_more
+duration_without_feed n =
+    let hours = cond_both (ltb (n / 3600) 100) (two_digits (n / 3600)) (decimal (n / 3600)) HasNoFeed (λ few. two_digits_without_feed (n / 3600)) (λ many. decimal_without_feed (n / 3600)) in
+    let seconds = cond_both (eqb (n % 60) 0) [] (58 ∷ two_digits (n % 60)) HasNoFeed (λ zero. refl) (λ some. two_digits_without_feed (n % 60)) in
+    joined (two_digits_or_more (n / 3600)) _ hours (joined (two_digits ((n / 60) % 60)) (seconds_text (n % 60)) (two_digits_without_feed ((n / 60) % 60)) seconds)
 
-signed_line : (z : ℤ) → IsLine (signed_decimal z)
-signed_line (pos n) = decimal_line n
-signed_line (negsuc n) = above 45 (decimal (suc n)) (omega arith) (decimal_line (suc n))
-
-date_line : (f : Fields) → IsLine (date_text f)
-unfolding date_text
-date_line f = joined (signed_decimal f.year) _ (signed_line f.year) (above 45 _ (omega arith) (joined (two_digits f.month) _ (two_digits_line f.month) (above 45 _ (omega arith) (two_digits_line f.month_day))))
-
-time_line : (f : Fields) → IsLine (time_text f)
-unfolding time_text
-time_line f = joined (two_digits f.hour) _ (two_digits_line f.hour) (above 58 _ (omega arith) (joined (two_digits f.minute) _ (two_digits_line f.minute) (above 58 _ (omega arith) (joined (two_digits f.second) _ (two_digits_line f.second) (above 46 _ (omega arith) (nine_digits_line f.nanoseconds))))))
-
-seconds_line : (n : ℕ) → IsLine (seconds_text n)
-seconds_line n = either_line (eqb n 0) [] (58 ∷ two_digits n) nothing (above 58 (two_digits n) (omega arith) (two_digits_line n))
-
-duration_line : (n : ℕ) → IsLine (duration_text n)
-unfolding duration_text
-duration_line n = joined (two_digits_or_more (n / 3600)) _ (two_digits_or_more_line (n / 3600)) (above 58 _ (omega arith) (joined (two_digits ((n / 60) % 60)) (seconds_text (n % 60)) (two_digits_line ((n / 60) % 60)) (seconds_line (n % 60))))
-
-offset_line : (z : ℤ) → IsLine (offset_text z)
+offset_without_feed : (z : ℤ) → HasNoFeed (offset_text z)
 unfolding offset_text
-offset_line (pos zero) = above 90 [] (omega arith) nothing
-offset_line (pos (suc n)) = above 43 (duration_text (suc n)) (omega arith) (duration_line (suc n))
-offset_line (negsuc n) = above 45 (duration_text (suc n)) (omega arith) (duration_line (suc n))
+offset_without_feed (pos zero) = refl
+offset_without_feed (pos (suc n)) = duration_without_feed (suc n)
+offset_without_feed (negsuc n) = duration_without_feed (suc n)
 
-printed_line : (f : Fields) (offset : ℤ) → IsLine (printed_text f offset)
-unfolding printed_text
-printed_line f offset = joined (date_text f) _ (date_line f) (above 84 _ (omega arith) (joined (time_text f) (offset_text offset) (time_line f) (offset_line offset)))
+name_without_feed : (name : Option (List ℕ)) → IfSome name IsDesignation → HasNoFeed (unwrap_or name (hyphen ∷ []))
+name_without_feed (Some name) is = by_bytes IsDesignationByte (λ b byte. above b (omega (arith, byte))) name is.bytes_are
+name_without_feed None is = refl
 
--- nor in a name
-name_byte : (b : ℕ) → IsDesignationByte b → b ≢ line_feed
-name_byte b (inl digit) e = absurd (omega (arith, digit, e))
-name_byte b (inr (inl upper)) e = absurd (omega (arith, upper, e))
-name_byte b (inr (inr (inl lower))) e = absurd (omega (arith, lower, e))
-name_byte b (inr (inr (inr (inl plus)))) e = absurd (omega (arith, plus, e))
-name_byte b (inr (inr (inr (inr minus)))) e = absurd (omega (arith, minus, e))
+moment_without_feed : (d : DateTime) → IsLocalTimeType d.local_time_type → HasNoFeed (moment_text d)
+unfolding moment_text printed_text date_text time_text
+moment_without_feed d is =
+    let f = d.fields in
+    simp (list_all-append, signed_without_feed f.year, two_digits_without_feed f.month, two_digits_without_feed f.month_day, two_digits_without_feed f.hour, two_digits_without_feed f.minute, two_digits_without_feed f.second, nine_digits_without_feed f.nanoseconds, offset_without_feed d.local_time_type.ut_offset, name_without_feed d.local_time_type.designation is.designation_is)
 
-name_of_line : (name : Option (List ℕ)) → IfSome name IsDesignation → IsLine (unwrap_or name (hyphen ∷ []))
-name_of_line (Some name) is = λ k d within. name_byte (get_or name k d) (is.bytes_are k d within)
-name_of_line None is = above 45 [] (omega arith) nothing
+field_fault_without_feed : (fault : DateTimeError) → HasNoFeed (field_fault_text fault)
+field_fault_without_feed InvalidMonth = refl
+field_fault_without_feed InvalidMonthDay = refl
+field_fault_without_feed InvalidHour = refl
+field_fault_without_feed InvalidMinute = refl
+field_fault_without_feed InvalidSecond = refl
+field_fault_without_feed InvalidNanoseconds = refl
 
-name_line : (t : LocalTimeType) → IsLocalTimeType t → IsLine (type_name_text t)
-name_line t is = name_of_line t.designation is.designation_is
+fault_without_feed : (e : TzError) (text : List ℕ) → IsFaultText e text → HasNoFeed text
+fault_without_feed (FieldFault fault) text is = subst HasNoFeed (sym is) (field_fault_without_feed fault)
+fault_without_feed OutOfRange text is = subst HasNoFeed (sym is) refl
+fault_without_feed NoAvailableLocalTimeType text is = subst HasNoFeed (sym is) refl
+fault_without_feed _ text is = absurd is
 
-moment_line : (d : DateTime) → IsLocalTimeType d.local_time_type → IsLine (moment_text d)
-unfolding moment_text
-moment_line d is = joined (printed_text d.fields d.local_time_type.ut_offset) _ (printed_line d.fields d.local_time_type.ut_offset) (above 32 _ (omega arith) (name_line d.local_time_type is))
-
--- texts that are the same for every zone, by a test
-abbrev no_feed : List ℕ → Bool
-no_feed [] = true
-no_feed (b ∷ text) = cond (eqb b 10) false (no_feed text)
-
-line_from_first : (b : ℕ) (text : List ℕ) (t : Bool) → t ≡ eqb b 10 → (no_feed text ≡ true → IsLine text) → cond t false (no_feed text) ≡ true → IsLine (b ∷ text)
-line_from_first b text true is behind e = cc
-line_from_first b text false is behind e =
-    All-cons IsOther b text (λ same. let wrong : false ≡ true = subst (λ x. false ≡ eqb x 10) same is in cc) (behind e)
-
-line_by_test : (text : List ℕ) → no_feed text ≡ true → IsLine text
-line_by_test [] e = nothing
-line_by_test (b ∷ text) e = line_from_first b text (eqb b 10) refl (λ h. line_by_test text h) e
-
-field_fault_line : (fault : DateTimeError) → IsLine (field_fault_text fault)
-field_fault_line InvalidMonth = line_by_test (codes "InvalidMonth") refl
-field_fault_line InvalidMonthDay = line_by_test (codes "InvalidMonthDay") refl
-field_fault_line InvalidHour = line_by_test (codes "InvalidHour") refl
-field_fault_line InvalidMinute = line_by_test (codes "InvalidMinute") refl
-field_fault_line InvalidSecond = line_by_test (codes "InvalidSecond") refl
-field_fault_line InvalidNanoseconds = line_by_test (codes "InvalidNanoseconds") refl
-
-fault_line : (e : TzError) (text : List ℕ) → IsFaultText e text → IsLine text
-fault_line (FieldFault fault) text is = subst IsLine (sym is) (field_fault_line fault)
-fault_line OutOfRange text is = subst IsLine (sym is) (line_by_test (codes "OutOfRange") refl)
-fault_line NoAvailableLocalTimeType text is = subst IsLine (sym is) (line_by_test (codes "NoAvailableLocalTimeType") refl)
-fault_line _ text is = absurd is
-
-refused_line : (text : List ℕ) → IsLine text → IsLine (codes "E " ++ text)
-refused_line text line = joined (codes "E ") text (line_by_test (codes "E ") refl) line
-
-one_line : (text : List ℕ) (answer : List (List ℕ)) → IsLine text → answer ≡ text ∷ [] → All IsLine answer
-one_line text answer line is = subst (All IsLine) (sym is) (All-cons IsLine text [] line (All-nil IsLine))
+one_line : (text : List ℕ) (answer : List (List ℕ)) → HasNoFeed text → answer ≡ text ∷ [] → All IsLine answer
+one_line text answer none is = subst (All IsLine) (sym is) (All-cons IsLine text [] (line_by_test text none) (All-nil IsLine))
 
 module _ (z : Zone) (named : (u : ℤ) (t : LocalTimeType) → IsClock z u t → IsLocalTimeType t) where
-  time_answer_line : (u : ℤ) (n : ℕ) (text : List ℕ) → IsTimeAnswer z u n text → IsLine text
-  time_answer_line u n text (inl (d, (t, clock, shows), in_range, same)) = subst IsLine (sym same) (moment_line d (subst IsLocalTimeType (sym shows.type_is) (named u t clock)))
-  time_answer_line u n text (inr (e, name, fault, is, same)) = subst IsLine (sym same) (refused_line name (fault_line e name is))
+  time_answer_without_feed : (u : ℤ) (n : ℕ) (text : List ℕ) → IsTimeAnswer z u n text → HasNoFeed text
+  time_answer_without_feed u n text (inl (d, (t, clock, shows), in_range, same)) = subst HasNoFeed (sym same) (moment_without_feed d (subst IsLocalTimeType (sym shows.type_is) (named u t clock)))
+  time_answer_without_feed u n text (inr (e, name, fault, is, same)) = subst HasNoFeed (sym same) (fault_without_feed e name is)
 
   entry_line : (f : Fields) (e : FoundDateTimeKind) → IsFoundBy (IsClock z) f e → IsLine (entry_text e)
-  entry_line f (Normal d) (fields, shows) = joined (codes "N ") (moment_text d) (line_by_test (codes "N ") refl) (moment_line d (named d.unix_time d.local_time_type shows.0))
+  entry_line f (Normal d) (fields, shows) = line_by_test (entry_text (Normal d)) (moment_without_feed d (named d.unix_time d.local_time_type shows.0))
   entry_line f (Skipped before after) (u, a, b, passes, first, second) =
-      joined (codes "S ") _ (line_by_test (codes "S ") refl)
-      (joined (moment_text before) _ (moment_line before (subst IsLocalTimeType (sym first.type_is) (named _ a passes.0)))
-      (above 32 _ (omega arith) (moment_line after (subst IsLocalTimeType (sym second.type_is) (named u b passes.1)))))
-
-  entry_lines : (f : Fields) (found : List FoundDateTimeKind) → All (IsFoundBy (IsClock z) f) found → All IsLine (map entry_text found)
-  entry_lines f found sound = All-map IsLine entry_text found (λ k d within. entry_line f (get_or found k d) (sound k d within))
+      line_by_test (entry_text (Skipped before after)) (joined (moment_text before) (space ∷ moment_text after)
+      (moment_without_feed before (subst IsLocalTimeType (sym first.type_is) (named _ a passes.0))) (moment_without_feed after (subst IsLocalTimeType (sym second.type_is) (named u b passes.1))))
 
   search_lines : (f : Fields) (answer : List (List ℕ)) → IsSearchAnswer z f answer → All IsLine answer
   search_lines f answer (inl (found, valid, list, made, same)) =
-      subst (All IsLine) (sym same) (All-cons IsLine (codes "F " ++ decimal (length found)) (map entry_text found)
-      (joined (codes "F ") (decimal (length found)) (line_by_test (codes "F ") refl) (decimal_line (length found))) (entry_lines f found list.sound))
-  search_lines f answer (inr (e, text, fault, is, same)) = one_line (codes "E " ++ text) answer (refused_line text (fault_line e text is)) same
+      subst (All IsLine) (sym same) (All-cons IsLine (codes "F " ++ decimal (length found)) (map entry_text found) (line_by_test (codes "F " ++ decimal (length found)) (decimal_without_feed (length found)))
+      (All-map IsLine entry_text found (λ k d within. entry_line f (get_or found k d) (list.sound k d within))))
+  search_lines f answer (inr (e, text, fault, is, same)) = one_line (codes "E " ++ text) answer (fault_without_feed e text is) same
 
   week_lines : (f : Fields) (k : ℕ) (answer : List (List ℕ)) → IsWeekAnswer z f k answer → All IsLine answer
   week_lines f k answer (inl (g, inside, is, told)) = search_lines g answer told
-  week_lines f k answer (inr (outside, same)) = one_line (codes "E OutOfRange") answer (line_by_test (codes "E OutOfRange") refl) same
+  week_lines f k answer (inr (outside, same)) = one_line (codes "E OutOfRange") answer refl same
 
   weeks_lines : (f : Fields) (k : ℕ) (weeks : List (List (List ℕ))) → AreWeekAnswers z f k weeks → All IsLine (flat_map (λ (week : List (List ℕ)). week) weeks)
   weeks_lines f k [] are = All-nil IsLine
@@ -217,62 +151,41 @@ module _ (z : Zone) (named : (u : ℤ) (t : LocalTimeType) → IsClock z u t →
 
   -- an answer line holds no LF
   pub answer_lines : (line : List ℕ) (answer : List (List ℕ)) → IsAnswer z line answer → All IsLine answer
-  answer_lines line answer (inl (Time u n, is, (text, told, same))) = one_line text answer (time_answer_line u n text told) same
+  answer_lines line answer (inl (Time u n, is, (text, told, same))) = one_line text answer (time_answer_without_feed u n text told) same
   answer_lines line answer (inl (Search f, is, told)) = search_lines f answer told
   answer_lines line answer (inl (Meeting count f, is, inl (valid, weeks, many, are, same))) =
-      subst (All IsLine) (sym same) (All-cons IsLine (codes "W " ++ decimal (length weeks)) _
-      (joined (codes "W ") (decimal (length weeks)) (line_by_test (codes "W ") refl) (decimal_line (length weeks))) (weeks_lines f 0 weeks are))
-  answer_lines line answer (inl (Meeting count f, is, inr (fault, first, same))) =
-      one_line (codes "E " ++ field_fault_text fault) answer (refused_line (field_fault_text fault) (field_fault_line fault)) same
-  answer_lines line answer (inr (none, same)) = one_line (codes "E Line") answer (line_by_test (codes "E Line") refl) same
+      subst (All IsLine) (sym same) (All-cons IsLine (codes "W " ++ decimal (length weeks)) _ (line_by_test (codes "W " ++ decimal (length weeks)) (decimal_without_feed (length weeks))) (weeks_lines f 0 weeks are))
+  answer_lines line answer (inl (Meeting count f, is, inr (fault, first, same))) = one_line (codes "E " ++ field_fault_text fault) answer (field_fault_without_feed fault) same
+  answer_lines line answer (inr (none, same)) = one_line (codes "E Line") answer refl same
 
--- a text whose first byte is neither `F` nor `W` begins a group of one line
-single_from_first : (text : List ℕ) (b : ℕ) (rest : List ℕ) → text ≡ b ∷ rest → b ≢ 70 → b ≢ 87 → IsSingle text
-single_from_first text b rest is not_f not_w = (
-  (λ others e.
-      let same : b ∷ rest ≡ 70 ∷ 32 ∷ others = sym is ∙ e in
-      let first : b ≡ 70 = cc in
-      not_f first),
-  (λ others e.
-      let same : b ∷ rest ≡ 87 ∷ 32 ∷ others = sym is ∙ e in
-      let first : b ≡ 87 = cc in
-      not_w first),
+-- a text that begins with a byte before `F` is a group of one line
+single_from_first : (text : List ℕ) → get_or text 0 87 < 70 → IsSingle text
+single_from_first text below = (
+  (λ others e. let first : get_or text 0 87 ≡ 70 = ap (λ t. get_or t 0 87) e in omega (arith, below, first)),
+  (λ others e. let first : get_or text 0 87 ≡ 87 = ap (λ t. get_or t 0 87) e in omega (arith, below, first)),
 )
 
 pub single_refusal : (text : List ℕ) → IsSingle (codes "E " ++ text)
-single_refusal text = single_from_first (codes "E " ++ text) 69 (32 ∷ text) refl (λ e. absurd (omega (arith, e))) (λ e. absurd (omega (arith, e)))
+single_refusal text = single_from_first (codes "E " ++ text) (omega arith)
 
--- the first byte of a printed date time is a digit or `-`
+-- so does a printed date time, whose first byte is a digit or `-`
 abbrev BeginsYear : List ℕ → Type 0
-BeginsYear text = (b : ℕ) × (rest : List ℕ) × (text ≡ b ∷ rest) × (b ≤ 57)
-
-year_from_digits : (text : List ℕ) → 0 < length text → All IsDigit text → BeginsYear text
-year_from_digits [] some all = absurd (omega arith)
-year_from_digits (b ∷ rest) some all = (b, rest, refl, (All-head IsDigit b rest all).1)
+BeginsYear text = get_or text 0 87 < 70
 
 year_begins : (z : ℤ) → BeginsYear (signed_decimal z)
-year_begins (pos n) = year_from_digits (decimal n) (decimal_some n) (decimal_digits n)
-year_begins (negsuc n) = (45, decimal (suc n), refl, omega arith)
+year_begins (pos n) = let (some, all) = decimal_digits n in omega (arith, (all 0 87 some).1)
+year_begins (negsuc n) = omega arith
 
-in_front : (text behind : List ℕ) → BeginsYear text → BeginsYear (text ++ behind)
-in_front text behind (b, rest, is, below) = (b, rest ++ behind, ap (λ bs. bs ++ behind) is, below)
-
-date_begins : (f : Fields) → BeginsYear (date_text f)
-unfolding date_text
-date_begins f = in_front (signed_decimal f.year) _ (year_begins f.year)
-
-printed_begins : (f : Fields) (offset : ℤ) → BeginsYear (printed_text f offset)
-unfolding printed_text
-printed_begins f offset = in_front (date_text f) _ (date_begins f)
-
-moment_begins : (d : DateTime) → BeginsYear (moment_text d)
-unfolding moment_text
-moment_begins d = in_front (printed_text d.fields d.local_time_type.ut_offset) _ (printed_begins d.fields d.local_time_type.ut_offset)
+before_more : (text more : List ℕ) → BeginsYear text → BeginsYear (text ++ more)
+before_more [] more begins = absurd (omega arith)
+before_more (b ∷ text) more begins = begins
 
 single_moment : (d : DateTime) → IsSingle (moment_text d)
+unfolding moment_text printed_text date_text
 single_moment d =
-    let begins = moment_begins d in
-    single_from_first (moment_text d) begins.0 begins.1 begins.2 (λ e. absurd (omega (arith, begins.3, e))) (λ e. absurd (omega (arith, begins.3, e)))
+    let date = before_more (signed_decimal d.fields.year) (45 ∷ two_digits d.fields.month ++ (45 ∷ two_digits d.fields.month_day)) (year_begins d.fields.year) in
+    let printed = before_more (date_text d.fields) (84 ∷ time_text d.fields ++ offset_text d.local_time_type.ut_offset) date in
+    single_from_first (moment_text d) (before_more (printed_text d.fields d.local_time_type.ut_offset) (32 ∷ type_name_text d.local_time_type) printed)
 
 pub single_time_answer : (z : Zone) (u : ℤ) (n : ℕ) (text : List ℕ) → IsTimeAnswer z u n text → IsSingle text
 single_time_answer z u n text (inl (d, shows, in_range, same)) = subst IsSingle (sym same) (single_moment d)

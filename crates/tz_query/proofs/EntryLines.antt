@@ -10,13 +10,21 @@ use Rattle.tz_rule.specs.LocalTimeType.{LocalTimeType}
 use Rattle.tz_zone.specs.Clock.{IsClock}
 use Rattle.tz_zone.specs.Table.{Zone}
 use Rattle.tz.specs.DateTimes.{DateTime, moment_of}
-use Rattle.tz.specs.Entries.{Entry, AreEntries}
+use Rattle.tz.specs.Entries.{Entry, AreEntries, Shown}
 use Rattle.tz.specs.EntryDateTimes.{IsMadeOf}
 use Rattle.tz.specs.Found.{Clock, IsFound, IsFoundBy}
 use Rattle.tz.specs.declared.datetime.found.FoundDateTimeKind.{FoundDateTimeKind}
 use Rattle.tz.specs.declared.datetime.found.FoundDateTimeKind.TheVariants.{Normal, Skipped}
 use Rattle.tz.proofs.DatedEntries.{found_from_entries, made_from_entries}
+use Rattle.tz_zone.specs.ZoneRef.{zone_of}
+use Rattle.tz.specs.PrintedText.{moment_text}
 use Rattle.tz_query.specs.Answers.{found_lines, IsSearchAnswer}
+use Rattle.tz_query.specs.Nanoseconds.{number_of, with_nanoseconds}
+use Rattle.tz_query.specs.Outputs.{Adds, IsAnswered}
+use Rattle.tz_query.specs.declared.query.answers.Answers.{Answers}
+use Rattle.tz_query.specs.declared.query.lines.Query.TheVariants.{Search}
+use Rattle.tz_query.specs.declared.query.nanoseconds.Nanoseconds.{Nanoseconds}
+use Rattle.tz_query.proofs.AddedText.{with_text}
 use Rattle.tz_query.specs.Entries.{HasNanoseconds}
 use Rattle.tz_query.specs.Lines.{ended}
 use Rattle.tz_query.proofs.OtherNanoseconds.{same_fields, valid_with}
@@ -58,7 +66,12 @@ answered_by z f n r es found few valid is are made =
     let all : AreEntries (IsClock z) (reading g) es = subst (λ (x : ℤ). AreEntries (IsClock z) x es) (sym is) are in
     inl (found, valid_with f n few valid, found_from_entries (IsClock z) g es found all made, made_from_entries (IsClock z) g es found all made, refl)
 
--- what follows in either case
-pub either : (P Q R : Type 0) → (P → R) → (Q → R) → P ⊎ Q → R
-either P Q R first second (inl p) = first p
-either P Q R first second (inr q) = second q
+-- the line of the one date time that the fields mean is the answer
+pub shown_once : {A : Type 0} {a b : Answers A} (f : Fields) (nanoseconds : Nanoseconds) (r : ℤ) (t : LocalTimeType) (u : ℤ) → IsValid f → reading f ≡ r → AreEntries (IsClock (zone_of a.zone)) r (Shown u t ∷ []) →
+    Adds a b (codes "F 1" ++ 10 ∷ (codes "N " ++ (moment_text (moment_of (with_nanoseconds f nanoseconds) t u) ++ 10 ∷ []))) → IsAnswered (Search (with_nanoseconds f nanoseconds)) a b
+shown_once {a} f nanoseconds r t u valid is all adds =
+    let d = moment_of (with_nanoseconds f nanoseconds) t u in (
+      found_lines (Normal d ∷ []),
+      answered_by (zone_of a.zone) f (number_of nanoseconds) r (Shown u t ∷ []) (Normal d ∷ []) nanoseconds.below valid is all ((refl, tt), tt),
+      with_text (sym (lines_of_one (moment_text d))) adds,
+    )

@@ -1,19 +1,21 @@
 -- Digits that are read eight at once, and nine digits that are copied.
-use Rattle.std.proofs.Common.{◌≡◌, ℕ, zero, suc, ◌+◌, ◌-◌, ◌*◌, ◌/◌, ◌%◌, ◌^◌, ◌<◌, ◌≤◌, Bool, true, false, cond, pos, neg_ℤ, List, [], ◌∷◌, ◌++◌, length, take, drop, get_or, set, replicate, refl, sym, ap, ◌∙◌, subst, arith, inl, inr}
+use Rattle.std.proofs.Common.{◌≡◌, ℕ, zero, suc, ◌+◌, ◌-◌, ◌*◌, ◌/◌, ◌%◌, ◌^◌, ◌<◌, ◌≤◌, Bool, true, false, cond, pos, neg_ℤ, List, [], ◌∷◌, ◌++◌, length, take, drop, get_or, set, replicate, refl, sym, ap, ◌∙◌, subst, arith, inl}
 use Rattle.std.specs.Prelude.{slice_range}
 use Rattle.std.specs.Char.{digit_value, is_ascii_digit}
 use Rattle.std.specs.Str.Parse.{AllDigits, digits_value}
 use Rattle.std.specs.Float.Numeral.{digits_len}
 use Rattle.std.proofs.lemmas.Bool.Decides.{nat_tests}
 use Rattle.std.proofs.lemmas.Int.Digits.{digits_value-lt, digits_value_push}
-use Rattle.std.proofs.lemmas.List.{take-append-drop, drop-drop, drop-take, drop_more, length-drop, length-take-le, take-take, take_more}
+use Rattle.std.proofs.lemmas.List.{take_all, take-append-drop, drop-drop, drop-take, drop_more, length-drop, length-take-le, take-take, take_more}
 use Rattle.std.proofs.lemmas.List.Folds.{length-prefix_len}
 use Rattle.std.proofs.lemmas.List.Sums.{prefix_len-le-length}
+use Rattle.std.proofs.lemmas.Str.Parse.{digit_at}
 use Rattle.std.proofs.Math.Nat.{pow-le-pow_right}
 use mathlib.Core.Bool.{true≢false}
 use Rattle.core.proofs.dec2flt.DigitsLemmas.{digit_range, is_digit}
 use Rattle.tz.specs.PrintedText.{last_digits, nine_digits}
 use Rattle.tz_query.specs.Numbers.{IsNumberFront, IsDigitsFront, EndsDigits, IsPartFront}
+use Rattle.tz_query.proofs.NumberFronts.{plain_number, minus_number}
 
 -- a digit by its value, and by its byte
 value_of_digit : (b : ℕ) → is_ascii_digit b ≡ true → (digit_value b < 10) × (b ≡ 48 + digit_value b)
@@ -22,35 +24,25 @@ value_of_digit b is =
     let value = (is_digit b range.0 range.1).1 in
     (omega (arith, range, value), omega (arith, range, value))
 
-digit_of_value : (b : ℕ) → digit_value b < 10 → (48 ≤ b) × (b ≤ 57)
+pub digit_of_value : (b : ℕ) → digit_value b < 10 → (48 ≤ b) × (b ≤ 57)
 digit_of_value b is = (grind (arith, nat_tests), grind (arith, nat_tests))
 
-byte_of_value : (b : ℕ) → digit_value b < 10 → b ≡ 48 + digit_value b
-byte_of_value b is = let range = digit_of_value b is in (value_of_digit b (is_digit b range.0 range.1).0).1
-
--- this many digits stand in front
-all_in_front : (bs : List ℕ) → AllDigits 10 (take (digits_len bs) bs)
-all_in_front [] = tt
-all_in_front (b ∷ bs) = go (is_ascii_digit b) refl (all_in_front bs)
+-- this many digits are first, and no more
+first_digits : (bs : List ℕ) → AllDigits 10 (take (digits_len bs) bs) × EndsDigits (drop (digits_len bs) bs)
+first_digits [] = (tt, tt)
+first_digits (b ∷ bs) = go (is_ascii_digit b) refl (first_digits bs)
   where
-    go : (d : Bool) → is_ascii_digit b ≡ d → AllDigits 10 (take (digits_len bs) bs) → AllDigits 10 (take (cond d (1 + digits_len bs) 0) (b ∷ bs))
-    go true is more = let next : 1 + digits_len bs ≡ suc (digits_len bs) = omega arith in rw next ((value_of_digit b is).0, more)
-    go false is more = tt
-
-ends_behind : (bs : List ℕ) → EndsDigits (drop (digits_len bs) bs)
-ends_behind [] = tt
-ends_behind (b ∷ bs) = go (is_ascii_digit b) refl (ends_behind bs)
-  where
-    go : (d : Bool) → is_ascii_digit b ≡ d → EndsDigits (drop (digits_len bs) bs) → EndsDigits (drop (cond d (1 + digits_len bs) 0) (b ∷ bs))
-    go true is more = let next : 1 + digits_len bs ≡ suc (digits_len bs) = omega arith in rw next more
-    go false is more = λ digit. let range = digit_of_value b digit in true≢false (sym (is_digit b range.0 range.1).0 ∙ is)
+    go : (d : Bool) → is_ascii_digit b ≡ d → AllDigits 10 (take (digits_len bs) bs) × EndsDigits (drop (digits_len bs) bs) →
+        AllDigits 10 (take (cond d (1 + digits_len bs) 0) (b ∷ bs)) × EndsDigits (drop (cond d (1 + digits_len bs) 0) (b ∷ bs))
+    go true is (all, ends) = let next : 1 + digits_len bs ≡ suc (digits_len bs) = omega arith in rw next (((value_of_digit b is).0, all), ends)
+    go false is more = (tt, λ digit. let range = digit_of_value b digit in true≢false (sym (is_digit b range.0 range.1).0 ∙ is))
 
 digits_front_is : (bs : List ℕ) (n : ℕ) → n ≡ digits_len bs → IsDigitsFront bs (take n bs) (drop n bs)
 digits_front_is bs n is =
     record {
       whole = sym (take-append-drop n bs);
-      all_digits = rw is (all_in_front bs);
-      ends = rw is (ends_behind bs);
+      all_digits = rw is (first_digits bs).0;
+      ends = rw is (first_digits bs).1;
     }
 
 -- the digits from a place on to where they end
@@ -67,7 +59,7 @@ module _ (bs : List ℕ) (place end : ℕ) (within : place ≤ length bs) (end_i
   length_at = ap (λ n. length (take n (drop place bs))) count_is ∙ length-prefix_len is_ascii_digit (drop place bs) ∙ sym count_is
 
   -- up to 18 of them nothing wraps
-  pub value_at : (value : ℕ) → end ≤ place + 18 → value ≡ (0 * 10 ^ (end - place) + digits_value 10 (slice_range bs place end)) % 2 ^ 64 →
+  value_at : (value : ℕ) → end ≤ place + 18 → value ≡ (0 * 10 ^ (end - place) + digits_value 10 (slice_range bs place end)) % 2 ^ 64 →
       (value ≡ digits_value 10 (slice_range bs place end)) × (value < 1000000000000000000)
   value_at value few is =
       let below = digits_value-lt 10 (slice_range bs place end) front_at.all_digits in
@@ -75,6 +67,13 @@ module _ (bs : List ℕ) (place end : ℕ) (within : place ≤ length bs) (end_i
       let small : digits_value 10 (slice_range bs place end) < 1000000000000000000 = omega (arith, below, power) in
       let same : value ≡ digits_value 10 (slice_range bs place end) = omega (arith, is, small) in
       (same, omega (arith, same, small))
+
+  -- so they are a number
+  pub number_at : (value : ℕ) → place < end → end ≤ place + 18 → value ≡ (0 * 10 ^ (end - place) + digits_value 10 (slice_range bs place end)) % 2 ^ 64 →
+      ((digits : List ℕ) × IsDigitsFront (drop place bs) digits (drop end bs) × (0 < length digits) × (value ≡ digits_value 10 digits)) × (value < 1000000000000000000)
+  number_at value some few is =
+      let (same, below) = value_at value few is in
+      ((slice_range bs place end, front_at, omega (arith, length_at, some), same), below)
 
 -- the digits at the front of some bytes are those before all, where they end among them
 digits_of_window : (xs : List ℕ) (n k : ℕ) → k ≡ digits_len (take n xs) → k < n → k ≡ digits_len xs
@@ -132,11 +131,6 @@ digits_in_front ds zero all = tt
 digits_in_front [] (suc i) all = tt
 digits_in_front (d ∷ ds) (suc i) all = (all.0, digits_in_front ds i all.1)
 
-digit_at : (ds : List ℕ) (i : ℕ) → AllDigits 10 ds → i < length ds → digit_value (get_or ds i 0) < 10
-digit_at [] i all within = absurd (omega (arith, within))
-digit_at (d ∷ ds) zero all within = all.0
-digit_at (d ∷ ds) (suc i) all within = digit_at ds i all.1 (omega (arith, within))
-
 last_digits_are : (width : ℕ) (ds : List ℕ) → length ds ≡ width → AllDigits 10 ds → last_digits width (digits_value 10 ds) ≡ ds
 last_digits_are zero [] long all = refl
 last_digits_are zero (d ∷ ds) long all = absurd (omega (arith, long))
@@ -144,21 +138,17 @@ last_digits_are (suc width) ds long all =
     let front = take width ds in
     let last = get_or ds width 0 in
     let next : suc width ≡ width + 1 = omega arith in
-    let whole : take (width + 1) ds ≡ ds = ap (λ n. take n ds) (sym next ∙ sym long) ∙ take_all ds in
+    let whole : take (width + 1) ds ≡ ds = take_all (width + 1) ds (omega (arith, long)) in
     let split : ds ≡ front ++ last ∷ [] = sym whole ∙ take_more ds width 0 (omega (arith, long)) in
     let value : digits_value 10 ds ≡ digits_value 10 front * 10 + digit_value last = ap (digits_value 10) split ∙ digits_value_push 10 front last in
     let digit = digit_at ds width all (omega (arith, long)) in
-    let byte = byte_of_value last digit in
-    let tens : digits_value 10 ds / 10 ≡ digits_value 10 front = omega (arith, value, digit) in
+    let byte = (is_digit last digit.0 digit.1).1 in
+    let tens : digits_value 10 ds / 10 ≡ digits_value 10 front = omega (arith, value, digit, byte) in
     let ones : 48 + digits_value 10 ds % 10 ≡ last = omega (arith, value, digit, byte) in
     let before = last_digits_are width front (length-take-le width ds (omega (arith, long))) (digits_in_front ds width all) in
     rw (tens, ones, before) (sym split)
-  where
-    take_all : (xs : List ℕ) → take (length xs) xs ≡ xs
-    take_all [] = refl
-    take_all (x ∷ xs) = ap (λ ys. x ∷ ys) (take_all xs)
 
--- zeros in front change no value
+-- leading zeros change no value
 zeros_in_front : (k : ℕ) (ds : List ℕ) → digits_value 10 (replicate k 48 ++ ds) ≡ digits_value 10 ds
 zeros_in_front zero ds = refl
 zeros_in_front (suc k) ds = zeros_in_front k ds
@@ -171,7 +161,7 @@ length_with_zeros : (k : ℕ) (ds : List ℕ) → length (replicate k 48 ++ ds) 
 length_with_zeros zero ds = omega arith
 length_with_zeros (suc k) ds = omega (arith, length_with_zeros k ds)
 
--- nine digits, with zeros in front, are those of their value
+-- nine digits, with leading zeros, are those of their value
 pub nine_digits_are : (k : ℕ) (ds : List ℕ) → k + length ds ≡ 9 → AllDigits 10 ds → (replicate k 48 ++ ds ≡ nine_digits (digits_value 10 ds)) × (digits_value 10 ds < 1000000000)
 unfolding nine_digits
 nine_digits_are k ds long all =
@@ -182,21 +172,16 @@ nine_digits_are k ds long all =
 -- numbers after a space
 module _ (bytes digits rest : List ℕ) (front : IsDigitsFront bytes digits rest) (some : 0 < length digits) (all : List ℕ) where
   pub plain_part : all ≡ 32 ∷ bytes → IsPartFront all (pos (digits_value 10 digits)) rest
-  plain_part space =
-      (bytes, space, record { text = digits; whole = front.whole; is_number = (digits, (some, front.all_digits), inl (refl, refl)); ends = front.ends })
+  plain_part space = (bytes, space, plain_number bytes digits rest front some)
 
   pub minus_part : all ≡ 32 ∷ 45 ∷ bytes → IsPartFront all (neg_ℤ (pos (digits_value 10 digits))) rest
-  minus_part space = (
-    45 ∷ bytes,
-    space,
-    record { text = 45 ∷ digits; whole = ap (λ bs. 45 ∷ bs) front.whole; is_number = (digits, (some, front.all_digits), inr (refl, refl)); ends = front.ends },
-  )
+  minus_part space = (45 ∷ bytes, space, minus_number (45 ∷ bytes) bytes digits rest refl front some)
 
 -- a byte at a place, and what follows it
 pub byte_at : (bs : List ℕ) (place b : ℕ) → place < length bs → get_or bs place 0 ≡ b → drop place bs ≡ b ∷ drop (place + 1) bs
 byte_at bs place b within is = drop_more bs place 0 within ∙ ap (λ x. x ∷ drop (place + 1) bs) is
 
--- one more zero in front
+-- one more leading zero
 pub one_more_zero : (bs : List ℕ) (i : ℕ) → i < length bs → set (replicate i 48 ++ drop i bs) i 48 ≡ replicate (i + 1) 48 ++ drop (i + 1) bs
 one_more_zero [] i within = absurd (omega (arith, within))
 one_more_zero (b ∷ bs) zero within = refl

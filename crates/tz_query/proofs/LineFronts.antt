@@ -1,4 +1,4 @@
--- Where the first line ends, and that what a line asks for is what stands in front.
+-- Where the first line ends, and that a line asks for what its first bytes are.
 use Rattle.std.proofs.Common.{◌≡◌, ◌≢◌, ℕ, ◌+◌, ◌<◌, ◌^◌, inl, inr, ℤ, pos, negsuc, nat_abs, List, [], ◌∷◌, ◌++◌, length, take, drop, get_or, refl, sym, ap, ◌∙◌, subst, arith, append-nil, ◌-◌, ◌≤◌, append_assoc}
 use Rattle.std.specs.Prelude.{FitsSigned, All, Some, None, Result, Ok, Err, IfOk, IfErr, OkIff}
 use Rattle.std.specs.Result.{result_ok}
@@ -15,7 +15,7 @@ use Rattle.tz_query.specs.declared.query.lines.Query.TheVariants.{Time, Search, 
 use Rattle.tz_query.specs.Lines.{line_feed, IsLine, IsLineEnd, IsFirstLine}
 use Rattle.tz_query.specs.Numbers.{hyphen, space, IsNumber, EndsDigits, AreNumbers, IsPartFront, ArePartsFront}
 use Rattle.tz_query.specs.Queries.{time_letter, search_letter, meeting_letter, IsLineOf, IsQueryLine, AreFieldsOfBits, numbers_of}
-use Rattle.tz_query.proofs.NumberFronts.{parts_behind, parts_unique, parts_in_front, numbers_from_parts}
+use Rattle.tz_query.proofs.NumberFronts.{parts_after, parts_unique, parts_in_front, numbers_from_parts}
 
 -- the first line ends at an LF, or where the bytes end
 pub first_line_to_end : (bytes : List ℕ) (i : ℕ) → i < length bytes → IsLine (take i bytes) → get_or bytes i 0 ≡ line_feed → IsFirstLine bytes (take i bytes) (drop (i + 1) bytes)
@@ -26,8 +26,8 @@ pub whole_line : (bytes : List ℕ) → IsLine bytes → IsFirstLine bytes bytes
 whole_line bytes line = record { tail = []; cut = sym (append-nil bytes); end = inr (refl, refl); without_end = line }
 
 -- what follows the first line is the end of the bytes
-rest_behind : (bytes front rest : List ℕ) → bytes ≡ front ++ rest → (length rest ≤ length bytes) × (drop (length bytes - length rest) bytes ≡ rest)
-rest_behind bytes front rest whole =
+rest_after : (bytes front rest : List ℕ) → bytes ≡ front ++ rest → (length rest ≤ length bytes) × (drop (length bytes - length rest) bytes ≡ rest)
+rest_after bytes front rest whole =
     let long : length bytes ≡ length front + length rest = ap length whole ∙ length-append front rest in
     let place : length bytes - length rest ≡ length front = omega (arith, long) in
     (omega (arith, long), ap (λ k. drop k bytes) place ∙ ap (λ xs. drop (length front) xs) whole ∙ drop-append_seam front rest)
@@ -36,8 +36,8 @@ pub rest_of_line : (bytes line rest : List ℕ) → IsFirstLine bytes line rest 
 rest_of_line bytes line rest first = cases first.end
   where
     cases : IsLineEnd first.tail rest → (length rest ≤ length bytes) × (drop (length bytes - length rest) bytes ≡ rest)
-    cases (inl is) = rest_behind bytes (line ++ line_feed ∷ []) rest (first.cut ∙ ap (λ t. line ++ t) is ∙ sym (append_assoc line (line_feed ∷ []) rest))
-    cases (inr is) = rest_behind bytes line rest (first.cut ∙ ap (λ t. line ++ t) (is.0 ∙ sym is.1))
+    cases (inl is) = rest_after bytes (line ++ line_feed ∷ []) rest (first.cut ∙ ap (λ t. line ++ t) is ∙ sym (append_assoc line (line_feed ∷ []) rest))
+    cases (inr is) = rest_after bytes line rest (first.cut ∙ ap (λ t. line ++ t) (is.0 ∙ sym is.1))
 
 pub first_line_to_place : (bytes line rest : List ℕ) → IsFirstLine bytes line rest → IsFirstLine bytes line (drop (length bytes - length rest) bytes)
 first_line_to_place bytes line rest first = subst (IsFirstLine bytes line) (sym (rest_of_line bytes line rest first).1) first
@@ -63,7 +63,7 @@ numbers_are_line text [] are = subst IsLine (sym are) (All-nil (λ b. b ≢ line
 numbers_are_line text (n ∷ numbers) (number, rest, whole, is, are) =
     subst IsLine (sym whole) (All-cons (λ b. b ≢ line_feed) space (number ++ rest) (λ e. absurd (omega (arith, e))) (All-append (λ b. b ≢ line_feed) number rest (number_is_line number n is) (numbers_are_line rest numbers are)))
 
--- numbers before the end of a line are that line, and the numbers of the first line stand in front
+-- numbers before the end of a line are that line, and the numbers of the first line are at its start
 pub line_of_parts : (bytes : List ℕ) (numbers : List ℤ) (tail rest : List ℕ) → ArePartsFront bytes numbers tail → IsLineEnd tail rest → (line : List ℕ) × IsFirstLine bytes line rest × AreNumbers line numbers
 line_of_parts bytes numbers tail rest are end =
     let (line, cut, is) = numbers_from_parts bytes numbers tail are in
@@ -78,15 +78,15 @@ parts_of_line bytes line rest numbers first are =
 abbrev pub NoNumbers : ℕ → List ℕ → Type 0
 NoNumbers count bytes = (line : List ℕ) (numbers : List ℤ) (rest : List ℕ) → length numbers ≡ count → All (FitsSigned w64) numbers → IsFirstLine bytes line rest → ¬ AreNumbers line numbers
 
--- where fewer numbers are read than the first line has, the next one stands in front, and where as many are, the line ends
+-- if fewer numbers are read than the first line has, the next one follows, and if as many are, the line ends
 pub next_part : (bytes line rest after : List ℕ) (numbers others : List ℤ) → ArePartsFront bytes numbers after → length numbers < length others → All (FitsSigned w64) others → IsFirstLine bytes line rest → AreNumbers line others →
-    (n : ℤ) × (behind : List ℕ) × FitsSigned w64 n × IsPartFront after n behind
+    (n : ℤ) × (beyond : List ℕ) × FitsSigned w64 n × IsPartFront after n beyond
 next_part bytes line rest after numbers others are few fit first are' =
     let (tail, parts, end) = parts_of_line bytes line rest others first are' in
     let k = length numbers in
-    let later = parts_behind bytes numbers others after tail (omega (arith, few)) are parts in
-    let (behind, next, more) = subst (λ ns. ArePartsFront after ns tail) (drop_more others k (pos 0) few) later in
-    (get_or others k (pos 0), behind, fit k (pos 0) few, next)
+    let later = parts_after bytes numbers others after tail (omega (arith, few)) are parts in
+    let (beyond, next, more) = subst (λ ns. ArePartsFront after ns tail) (drop_more others k (pos 0) few) later in
+    (get_or others k (pos 0), beyond, fit k (pos 0) few, next)
 
 pub end_of_parts : (bytes line rest after : List ℕ) (numbers others : List ℤ) → ArePartsFront bytes numbers after → length numbers ≡ length others → IsFirstLine bytes line rest → AreNumbers line others → IsLineEnd after rest
 end_of_parts bytes line rest after numbers others are many first are' =
@@ -116,8 +116,8 @@ line_from_front letter numbers bytes after tail rest plain is are end =
     line_from_numbers letter bytes after line rest numbers plain is first numbers_are
 
 -- the first line after its letter
-behind_letter : (letter b : ℕ) (bytes after line rest : List ℕ) (numbers : List ℤ) → bytes ≡ b ∷ after → IsFirstLine bytes line rest → IsLineOf letter numbers line → (letter ≡ b) × (parts : List ℕ) × IsFirstLine after parts rest × AreNumbers parts numbers
-behind_letter letter b bytes after line rest numbers is first of =
+numbers_after_letter : (letter b : ℕ) (bytes after line rest : List ℕ) (numbers : List ℤ) → bytes ≡ b ∷ after → IsFirstLine bytes line rest → IsLineOf letter numbers line → (letter ≡ b) × (parts : List ℕ) × IsFirstLine after parts rest × AreNumbers parts numbers
+numbers_after_letter letter b bytes after line rest numbers is first of =
     let parts = of.parts in
     let same : b ∷ after ≡ letter ∷ (parts ++ first.tail) = sym is ∙ first.cut ∙ ap (λ l. l ++ first.tail) of.whole in
     let inside = All-tail (λ b. b ≢ line_feed) letter parts (subst IsLine of.whole first.without_end) in
@@ -130,21 +130,21 @@ NoQuery bytes = (line rest : List ℕ) (query : Query) → IsFirstLine bytes lin
 module _ (bytes after : List ℕ) where
   pub only_time : bytes ≡ time_letter ∷ after → ((line rest : List ℕ) (u : ℤ) (n : ℕ) → FitsSigned w64 u → n < 2 ^ 32 → IsFirstLine after line rest → ¬ AreNumbers line (u ∷ pos n ∷ [])) → NoQuery bytes
   only_time is none line rest (Time u n) first of =
-      let (same, parts, inside, are) = behind_letter time_letter time_letter bytes after line rest (u ∷ pos n ∷ []) is first of.line_is in none parts rest u n of.seconds_fit of.nanoseconds_fit inside are
-  only_time is none line rest (Search f) first of = omega (arith, (behind_letter search_letter time_letter bytes after line rest (numbers_of f) is first of.line_is).0)
-  only_time is none line rest (Meeting count f) first of = omega (arith, (behind_letter meeting_letter time_letter bytes after line rest (pos count ∷ numbers_of f) is first of.line_is).0)
+      let (same, parts, inside, are) = numbers_after_letter time_letter time_letter bytes after line rest (u ∷ pos n ∷ []) is first of.line_is in none parts rest u n of.seconds_fit of.nanoseconds_fit inside are
+  only_time is none line rest (Search f) first of = omega (arith, (numbers_after_letter search_letter time_letter bytes after line rest (numbers_of f) is first of.line_is).0)
+  only_time is none line rest (Meeting count f) first of = omega (arith, (numbers_after_letter meeting_letter time_letter bytes after line rest (pos count ∷ numbers_of f) is first of.line_is).0)
 
   pub only_search : bytes ≡ search_letter ∷ after → ((line rest : List ℕ) (f : Fields) → AreFieldsOfBits f → IsFirstLine after line rest → ¬ AreNumbers line (numbers_of f)) → NoQuery bytes
-  only_search is none line rest (Time u n) first of = omega (arith, (behind_letter time_letter search_letter bytes after line rest (u ∷ pos n ∷ []) is first of.line_is).0)
+  only_search is none line rest (Time u n) first of = omega (arith, (numbers_after_letter time_letter search_letter bytes after line rest (u ∷ pos n ∷ []) is first of.line_is).0)
   only_search is none line rest (Search f) first of =
-      let (same, parts, inside, are) = behind_letter search_letter search_letter bytes after line rest (numbers_of f) is first of.line_is in none parts rest f of.fields_fit inside are
-  only_search is none line rest (Meeting count f) first of = omega (arith, (behind_letter meeting_letter search_letter bytes after line rest (pos count ∷ numbers_of f) is first of.line_is).0)
+      let (same, parts, inside, are) = numbers_after_letter search_letter search_letter bytes after line rest (numbers_of f) is first of.line_is in none parts rest f of.fields_fit inside are
+  only_search is none line rest (Meeting count f) first of = omega (arith, (numbers_after_letter meeting_letter search_letter bytes after line rest (pos count ∷ numbers_of f) is first of.line_is).0)
 
   pub only_meeting : bytes ≡ meeting_letter ∷ after → ((line rest : List ℕ) (count : ℕ) (f : Fields) → count < 2 ^ 8 → AreFieldsOfBits f → IsFirstLine after line rest → ¬ AreNumbers line (pos count ∷ numbers_of f)) → NoQuery bytes
-  only_meeting is none line rest (Time u n) first of = omega (arith, (behind_letter time_letter meeting_letter bytes after line rest (u ∷ pos n ∷ []) is first of.line_is).0)
-  only_meeting is none line rest (Search f) first of = omega (arith, (behind_letter search_letter meeting_letter bytes after line rest (numbers_of f) is first of.line_is).0)
+  only_meeting is none line rest (Time u n) first of = omega (arith, (numbers_after_letter time_letter meeting_letter bytes after line rest (u ∷ pos n ∷ []) is first of.line_is).0)
+  only_meeting is none line rest (Search f) first of = omega (arith, (numbers_after_letter search_letter meeting_letter bytes after line rest (numbers_of f) is first of.line_is).0)
   only_meeting is none line rest (Meeting count f) first of =
-      let (same, parts, inside, are) = behind_letter meeting_letter meeting_letter bytes after line rest (pos count ∷ numbers_of f) is first of.line_is in none parts rest count f of.count_fits of.fields_fit inside are
+      let (same, parts, inside, are) = numbers_after_letter meeting_letter meeting_letter bytes after line rest (pos count ∷ numbers_of f) is first of.line_is in none parts rest count f of.count_fits of.fields_fit inside are
 
 -- the numbers of fields have 64 bits
 pub fields_fit : (f : Fields) → AreFieldsOfBits f → All (FitsSigned w64) (numbers_of f)
@@ -165,7 +165,7 @@ pub seven_numbers : (ns : List ℤ) → length ns ≡ 7 → let d = pos 0 in ns 
 seven_numbers (a ∷ b ∷ c ∷ d ∷ e ∷ f ∷ g ∷ []) long = refl
 seven_numbers _ long = absurd (omega (arith, long))
 
--- what a result gives as an option
+-- a result as an option
 pub none_if_not : {T E : Type 0} (r : Result T E) (P : Type 0) (v : T) → OkIff r P v → result_ok r ≡ None → ¬ P
 none_if_not (Ok x) P v is none = absurd (cc none)
 none_if_not (Err e) P v is none = is

@@ -1,17 +1,13 @@
 -- The nine digits of a number below 10^9 are nine bytes that are all digits, and have its value.
-use Rattle.std.proofs.Common.{◌≡◌, ℕ, ◌+◌, ◌-◌, ◌*◌, ◌%◌, ◌^◌, ◌<◌, ◌≤◌, cond, List, [], ◌∷◌, length, take, drop, refl, sym, ap, ◌∙◌, subst, arith}
+use Rattle.std.proofs.Common.{◌≡◌, ℕ, ◌+◌, ◌-◌, ◌*◌, ◌%◌, ◌^◌, ◌<◌, cond, List, [], ◌∷◌, length, take, drop, refl, sym, ap, ◌∙◌, subst, arith}
 use Rattle.std.specs.Prelude.{slice_range}
-use Rattle.std.specs.Char.{digit_value}
 use Rattle.std.specs.Str.Parse.{AllDigits, digits_value}
 use Rattle.std.specs.Float.Numeral.{digits_len}
-use Rattle.std.proofs.lemmas.Bool.Decides.{nat_tests}
 use Rattle.core.proofs.dec2flt.DigitsLemmas.{is_digit}
 use Rattle.tz.specs.PrintedText.{nine_digits}
+use Rattle.std.proofs.lemmas.List.{take_all}
+use Rattle.tz_query.proofs.FastNumbers.{digit_of_value}
 use Rattle.tz.proofs.LastDigits.{last_digits_all, last_digits_length, last_digits_value}
-
--- a byte whose value as a digit is below 10 is one of the ten digits
-digit_of_value : (b : ℕ) → digit_value b < 10 → (48 ≤ b) × (b ≤ 57)
-digit_of_value b is = (grind (arith, nat_tests), grind (arith, nat_tests))
 
 all_are_digits : (ds : List ℕ) → AllDigits 10 ds → digits_len ds ≡ length ds
 all_are_digits [] all = refl
@@ -27,13 +23,10 @@ value_of_nine n few nine is end value end_is value_is =
     let long : length nine ≡ 9 = ap length is ∙ last_digits_length 9 n in
     let all : AllDigits 10 nine = subst (AllDigits 10) (sym is) (last_digits_all 9 n) in
     let nine_is : end ≡ 9 = omega (arith, end_is, all_are_digits nine all, long) in
-    let whole : slice_range nine 0 end ≡ nine = ap (λ k. take k nine) (omega (arith, nine_is, long)) ∙ take_all nine in
+    let size : end - 0 ≡ 9 = omega (arith, nine_is) in
+    let whole : slice_range nine 0 end ≡ nine = ap (λ k. take k nine) size ∙ take_all 9 nine (omega (arith, long)) in
     let number : digits_value 10 nine ≡ n = ap (digits_value 10) is ∙ last_digits_value 9 n few in
     omega (arith, value_is, ap (digits_value 10) whole, number, few)
-  where
-    take_all : (xs : List ℕ) → take (length xs) xs ≡ xs
-    take_all [] = refl
-    take_all (x ∷ xs) = ap (λ ys. x ∷ ys) (take_all xs)
 
 -- nine digits have the value of the number that they are the digits of
 pub value_of_nine_digits : (n : ℕ) → n < 1000000000 → (nine : List ℕ) → nine ≡ nine_digits n → digits_value 10 nine ≡ n

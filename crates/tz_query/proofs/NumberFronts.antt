@@ -22,7 +22,7 @@ pub no_digits : (bytes digits rest : List ℕ) → IsDigitsFront bytes digits re
 no_digits bytes [] rest front all = subst EndsDigits (sym front.whole) front.ends
 no_digits bytes (d ∷ digits) rest front all = absurd (omega (arith, all, ap length front.whole ∙ length-append (d ∷ digits) rest))
 
--- all digits in front, and what follows them, are these alone
+-- all leading digits, and what follows them, are these alone
 pub digits_front_unique : (digits digits' rest rest' : List ℕ) → AllDigits 10 digits → AllDigits 10 digits' → EndsDigits rest → EndsDigits rest' → digits ++ rest ≡ digits' ++ rest' → (digits ≡ digits') × (rest ≡ rest')
 digits_front_unique [] [] rest rest' all all' ends ends' same = (refl, same)
 digits_front_unique [] (d ∷ digits') rest rest' all all' ends ends' same = absurd (subst EndsDigits same ends all'.0)
@@ -78,13 +78,13 @@ number_front_unique bytes n n' rest rest' front front' = both (number_front_case
 
 -- a number begins with a digit, or with a minus and a digit
 pub no_number : (bytes : List ℕ) → EndsDigits bytes → ((after : List ℕ) → bytes ≡ hyphen ∷ after → EndsDigits after) → (n : ℤ) (rest : List ℕ) → ¬ IsNumberFront bytes n rest
-no_number bytes ends ends_behind n rest front =
+no_number bytes ends ends_after n rest front =
     elim (number_front_cases bytes n rest front) [
       | inl is ↦ digits_stand_first bytes is.0 rest is.1 is.2 ends
-      | inr is ↦ digits_stand_first is.0 is.1 rest is.3 is.4 (ends_behind is.0 is.2)
+      | inr is ↦ digits_stand_first is.0 is.1 rest is.3 is.4 (ends_after is.0 is.2)
     ]
 
--- no number of 64 bits stands in front, as where that there is too great
+-- no number of 64 bits is first, as if the one there is too great
 abbrev pub NoNumber : List ℕ → Type 0
 NoNumber bytes = (n : ℤ) (rest : List ℕ) → FitsSigned w64 n → ¬ IsNumberFront bytes n rest
 
@@ -124,17 +124,17 @@ parts_unique bytes (n ∷ numbers) (m ∷ others) rest rest' same (after, first,
     (cc (head, tail), more.1)
 
 -- what follows some of the numbers is the others
-pub parts_behind : (bytes : List ℕ) (numbers others : List ℤ) (rest tail : List ℕ) → length numbers ≤ length others → ArePartsFront bytes numbers rest → ArePartsFront bytes others tail → ArePartsFront rest (drop (length numbers) others) tail
-parts_behind bytes [] others rest tail few are are' = subst (λ bs. ArePartsFront bs others tail) are are'
-parts_behind bytes (n ∷ numbers) [] rest tail few are are' = absurd (omega (arith, few))
-parts_behind bytes (n ∷ numbers) (m ∷ others) rest tail few (after, first, are) (after', first', are') =
+pub parts_after : (bytes : List ℕ) (numbers others : List ℤ) (rest tail : List ℕ) → length numbers ≤ length others → ArePartsFront bytes numbers rest → ArePartsFront bytes others tail → ArePartsFront rest (drop (length numbers) others) tail
+parts_after bytes [] others rest tail few are are' = subst (λ bs. ArePartsFront bs others tail) are are'
+parts_after bytes (n ∷ numbers) [] rest tail few are are' = absurd (omega (arith, few))
+parts_after bytes (n ∷ numbers) (m ∷ others) rest tail few (after, first, are) (after', first', are') =
     let one = part_unique bytes n m after after' first first' in
-    parts_behind after numbers others rest tail (omega (arith, few)) are (subst (λ bs. ArePartsFront bs others tail) (sym one.1) are')
+    parts_after after numbers others rest tail (omega (arith, few)) are (subst (λ bs. ArePartsFront bs others tail) (sym one.1) are')
 
--- one more number stands in front
+-- one more number
 pub parts_more : (bytes : List ℕ) (numbers : List ℤ) (rest : List ℕ) (n : ℤ) (after : List ℕ) → ArePartsFront bytes numbers rest → IsPartFront rest n after → ArePartsFront bytes (numbers ++ n ∷ []) after
 parts_more bytes [] rest n after are next = (after, subst (λ bs. IsPartFront bs n after) (sym are) next, refl)
-parts_more bytes (m ∷ numbers) rest n after (behind, first, are) next = (behind, first, parts_more behind numbers rest n after are next)
+parts_more bytes (m ∷ numbers) rest n after (beyond, first, are) next = (beyond, first, parts_more beyond numbers rest n after are next)
 
 -- numbers stand before what follows them, if no digit does
 EndsDigits-parts : (text : List ℕ) (numbers : List ℤ) (tail : List ℕ) → AreNumbers text numbers → EndsDigits tail → EndsDigits (text ++ tail)
@@ -152,7 +152,7 @@ parts_in_front text (n ∷ numbers) tail (number, rest, whole, is, are) ends =
 
 pub numbers_from_parts : (bytes : List ℕ) (numbers : List ℤ) (tail : List ℕ) → ArePartsFront bytes numbers tail → (text : List ℕ) × (bytes ≡ text ++ tail) × AreNumbers text numbers
 numbers_from_parts bytes [] tail are = ([], are, refl)
-numbers_from_parts bytes (n ∷ numbers) tail (after, (behind, spaced, front), are) =
+numbers_from_parts bytes (n ∷ numbers) tail (after, (beyond, spaced, front), are) =
     let more = numbers_from_parts after numbers tail are in
     let text = front.text in (
       space ∷ (text ++ more.0),

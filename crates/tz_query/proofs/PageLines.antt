@@ -37,11 +37,11 @@ three_pieces page prefix nine suffix at len room prefix_len nine_len suffix_len 
     let second_size : length second ≡ length (take (at + 16) first) + (length nine + length (drop 9 (drop (at + 16) first))) = length-append (take (at + 16) first) (nine ++ drop 9 (drop (at + 16) first)) ∙ ap (λ n. length (take (at + 16) first) + n) (length-append nine (drop 9 (drop (at + 16) first))) in
     let second_is : take (at + 25) second ≡ take (at + 16) first ++ nine = take-put_mid (at + 16) 9 first nine (at + 25) (omega (arith, nine_len)) (omega (arith, first_size, kept, prefix_len)) in
     let written : length (take (at + 25) second) ≡ at + 25 = ap length second_is ∙ length-append (take (at + 16) first) nine ∙ omega (arith, begun, nine_len) in
-    let behind = drop 32 (drop (at + 25) second) in
+    let beyond = drop 32 (drop (at + 25) second) in
     let place : at + 25 + len ≡ length (take (at + 25) second) + len = omega (arith, written) in
-    ap (λ n. take n (take (at + 25) second ++ (suffix ++ behind))) place
-    ∙ take-append-add (take (at + 25) second) (suffix ++ behind) len
-    ∙ ap (λ bytes. take (at + 25) second ++ bytes) (take-append-le len suffix behind (omega (arith, few, suffix_len)))
+    ap (λ n. take n (take (at + 25) second ++ (suffix ++ beyond))) place
+    ∙ take-append-add (take (at + 25) second) (suffix ++ beyond) len
+    ∙ ap (λ bytes. take (at + 25) second ++ bytes) (take-append-le len suffix beyond (omega (arith, few, suffix_len)))
     ∙ ap (λ bytes. bytes ++ take len suffix) (second_is ∙ ap (λ bytes. bytes ++ nine) first_is)
     ∙ append_assoc (take at page ++ prefix) nine (take len suffix)
     ∙ append_assoc (take at page) prefix (nine ++ take len suffix)

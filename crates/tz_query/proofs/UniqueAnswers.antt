@@ -1,8 +1,10 @@
 -- Bytes have one cut into lines, a line has a group of answer lines, and one answer.
-use Rattle.std.proofs.Common.{◌≡◌, ◌≢◌, ℕ, ◌+◌, ◌≤◌, ◌⊎◌, inl, inr, Bool, true, false, if◌then◌else◌, ◌==◌, ℤ, pos, negsuc, List, [], ◌∷◌, ◌++◌, length, get_or, refl, sym, ap, ◌∙◌, subst, arith, append_assoc}
+use Rattle.std.proofs.Common.{◌≡◌, ◌≢◌, ℕ, ◌+◌, ◌≤◌, ◌⊎◌, inl, inr, Bool, ℤ, pos, negsuc, List, [], ◌∷◌, ◌++◌, length, get_or, refl, sym, ap, ◌∙◌, subst, arith, append_assoc, length-append}
 use Rattle.std.specs.Prelude.{codes, map}
 use Rattle.std.specs.Fmt.{decimal}
 use Rattle.std.specs.List.{All, AllZip, flat_map}
+use Rattle.std.proofs.Math.Seq.{get_or-append_seam}
+use Rattle.std.proofs.lemmas.Bool.Decides.{nat_tests}
 use Rattle.std.proofs.lemmas.Int.{ints}
 use Rattle.std.proofs.lemmas.List.{length-map}
 use Rattle.std.proofs.lemmas.List.Elements.{All-nil, All-cons, All-head, All-tail}
@@ -32,10 +34,8 @@ use Rattle.tz_query.proofs.NumberFronts.{parts_in_front, parts_unique}
 
 -- a line has no LF
 pub no_end_within : (line front rest : List ℕ) → IsLine line → line ≡ front ++ line_feed ∷ rest → ⊥
-no_end_within [] [] rest is e = cc
-no_end_within [] (x ∷ front) rest is e = cc
-no_end_within (b ∷ line) [] rest is e = let same : b ≡ line_feed = cc in All-head (λ x. x ≢ line_feed) b line is same
-no_end_within (b ∷ line) (x ∷ front) rest is e = let same : line ≡ front ++ line_feed ∷ rest = cc in no_end_within line front rest (All-tail (λ x. x ≢ line_feed) b line is) same
+no_end_within line front rest is e =
+    is (length front) 0 (omega (arith, ap length e, length-append front (line_feed ∷ rest))) (ap (λ bs. get_or bs (length front) 0) e ∙ get_or-append_seam front line_feed rest 0)
 
 -- what stands before the first LF, and what stands after it
 first_line_unique : (line line' rest rest' : List ℕ) → IsLine line → IsLine line' → line ++ line_feed ∷ rest ≡ line' ++ line_feed ∷ rest' → (line ≡ line') × (rest ≡ rest')
@@ -44,19 +44,19 @@ first_line_unique [] (x ∷ line') rest rest' is is' e = let same : x ≡ line_f
 first_line_unique (b ∷ line) [] rest rest' is is' e = let same : b ≡ line_feed = cc in absurd (All-head (λ x. x ≢ line_feed) b line is same)
 first_line_unique (b ∷ line) (x ∷ line') rest rest' is is' e =
     let first : b ≡ x = cc in
-    let behind : line ++ line_feed ∷ rest ≡ line' ++ line_feed ∷ rest' = cc in
-    let more = first_line_unique line line' rest rest' (All-tail (λ y. y ≢ line_feed) b line is) (All-tail (λ y. y ≢ line_feed) x line' is') behind in
+    let beyond : line ++ line_feed ∷ rest ≡ line' ++ line_feed ∷ rest' = cc in
+    let more = first_line_unique line line' rest rest' (All-tail (λ y. y ≢ line_feed) b line is) (All-tail (λ y. y ≢ line_feed) x line' is') beyond in
     let front = more.0 in
     (cc, more.1)
 
 -- the first line ends at an LF, or it is all there is
-abbrev pub IsEnded : List ℕ → List ℕ → List (List ℕ) → Type 0
+abbrev IsEnded : List ℕ → List ℕ → List (List ℕ) → Type 0
 IsEnded bytes line lines = (rest : List ℕ) × (bytes ≡ line ++ line_feed ∷ rest) × IsCut rest lines
 
-abbrev pub IsLast : List ℕ → List ℕ → List (List ℕ) → Type 0
+abbrev IsLast : List ℕ → List ℕ → List (List ℕ) → Type 0
 IsLast bytes line lines = (lines ≡ []) × (bytes ≡ line)
 
-pub first_of_cut : (bytes line : List ℕ) (lines : List (List ℕ)) → IsCut bytes (line ∷ lines) → IsEnded bytes line lines ⊎ IsLast bytes line lines
+first_of_cut : (bytes line : List ℕ) (lines : List (List ℕ)) → IsCut bytes (line ∷ lines) → IsEnded bytes line lines ⊎ IsLast bytes line lines
 first_of_cut bytes line lines (inl is) = inl (ended lines, is, inl refl)
 first_of_cut bytes line lines (inr ([], last, split, full, is)) =
     let none : lines ≡ [] = cc in
@@ -64,10 +64,10 @@ first_of_cut bytes line lines (inr ([], last, split, full, is)) =
     inr (none, is ∙ same)
 first_of_cut bytes line lines (inr (x ∷ front, last, split, full, is)) =
     let same : x ≡ line = cc in
-    let behind : lines ≡ front ++ last ∷ [] = cc in
-    inl (ended front ++ last, is ∙ append_assoc x (line_feed ∷ ended front) last ∙ ap (λ l. l ++ line_feed ∷ (ended front ++ last)) same, inr (front, last, behind, full, refl))
+    let beyond : lines ≡ front ++ last ∷ [] = cc in
+    inl (ended front ++ last, is ∙ append_assoc x (line_feed ∷ ended front) last ∙ ap (λ l. l ++ line_feed ∷ (ended front ++ last)) same, inr (front, last, beyond, full, refl))
 
-pub nothing_of_cut : (bytes : List ℕ) → IsCut bytes [] → bytes ≡ []
+nothing_of_cut : (bytes : List ℕ) → IsCut bytes [] → bytes ≡ []
 nothing_of_cut bytes (inl is) = is
 nothing_of_cut bytes (inr ([], last, split, full, is)) = absurd cc
 nothing_of_cut bytes (inr (x ∷ front, last, split, full, is)) = absurd cc
@@ -87,7 +87,7 @@ lines_unique bytes (line ∷ lines) (other ∷ others) are are' = both (λ rest 
     both again (inl (rest, cut, more)) (inl (rest', cut', more')) =
         let same = first_line_unique line other rest rest' is is' (sym cut ∙ cut') in
         let first = same.0 in
-        let behind = again rest (record { cut = more; without_ends = All-tail IsLine line lines are.without_ends })
+        let beyond = again rest (record { cut = more; without_ends = All-tail IsLine line lines are.without_ends })
         (record { cut = subst (λ bs. IsCut bs others) (sym same.1) more'; without_ends = All-tail IsLine other others are'.without_ends }) in
         cc
     both again (inl (rest, cut, more)) (inr (none, whole)) = absurd (no_end_within other line rest is' (sym whole ∙ cut))
@@ -130,10 +130,10 @@ line_of_unique : (letter letter' : ℕ) (numbers others : List ℤ) (line : List
 line_of_unique letter letter' numbers others line is is' =
     let whole : letter ∷ is.parts ≡ letter' ∷ is'.parts = sym is.whole ∙ is'.whole in
     let first : letter ≡ letter' = cc in
-    let behind : is'.parts ≡ is.parts = cc in
-    (first, λ same. numbers_unique is.parts numbers others same is.are_numbers (subst (λ t. AreNumbers t others) behind is'.are_numbers))
+    let beyond : is'.parts ≡ is.parts = cc in
+    (first, λ same. numbers_unique is.parts numbers others same is.are_numbers (subst (λ t. AreNumbers t others) beyond is'.are_numbers))
 
--- the numbers of fields tell the fields
+-- the numbers of fields determine the fields
 abbrev size_of : ℤ → ℕ
 size_of (pos n) = n
 size_of (negsuc n) = 0
@@ -153,17 +153,17 @@ fields_unique : (f g : Fields) → numbers_of f ≡ numbers_of g → f ≡ g
 fields_unique f g same = ap fields_from same
 
 -- the numbers after the first
-behind : List ℤ → List ℤ
-behind [] = []
-behind (n ∷ numbers) = numbers
+beyond : List ℤ → List ℤ
+beyond [] = []
+beyond (n ∷ numbers) = numbers
 
--- the numbers of a meeting tell its weeks and its fields
+-- the numbers of a meeting determine its weeks and its fields
 meeting_unique : (count count' : ℕ) (f g : Fields) → pos count ∷ numbers_of f ≡ pos count' ∷ numbers_of g → Meeting count f ≡ Meeting count' g
-unfolding behind
+unfolding beyond
 meeting_unique count count' f g same =
     let first : pos count ≡ pos count' = cc in
     let counts : count ≡ count' = omega (arith, ints, first) in
-    ap (λ n. Meeting n f) counts ∙ ap (λ x. Meeting count' x) (fields_unique f g (ap behind same))
+    ap (λ n. Meeting n f) counts ∙ ap (λ x. Meeting count' x) (fields_unique f g (ap beyond same))
 
 -- a line asks for one thing
 query_unique : (line : List ℕ) (query query' : Query) → IsQueryLine line query → IsQueryLine line query' → query ≡ query'
@@ -204,14 +204,9 @@ pub record Laws : Type 0 where
   pub found_or_not : (z : Zone) (f : Fields) (e : TzError) → IsValid f → EachCanBeMade (IsClock z) f → ¬ IsFindFault ⊥ (IsClock z) f e
 
 -- no month has more than 31 days
-either_short : (b : Bool) (x y : ℕ) → x ≤ 31 → y ≤ 31 → (if b then x else y) ≤ 31
-either_short true x y first second = first
-either_short false x y first second = second
-
 short_month : (leap : Bool) (month : ℕ) → month_length leap month ≤ 31
 unfolding month_length
-short_month leap month =
-    either_short (month == 2) _ _ (either_short leap 29 28 (omega arith) (omega arith)) (either_short _ 30 31 (omega arith) (omega arith))
+short_month leap month = grind (arith, nat_tests)
 
 -- the first fields of a day
 abbrev at_midnight : Fields → Fields

@@ -11,6 +11,7 @@ use Rattle.tz_query.specs.Lines.{ended, line_feed}
 use Rattle.tz_query.specs.Numbers.{space}
 use Rattle.tz_query.specs.Queries.{meeting_letter}
 use Rattle.tz_query.specs.MeetingDates.{midnight}
+use Rattle.tz_query.proofs.AnswerLines.{ended-append}
 use Rattle.tz_query.specs.Answers.{AreWeekAnswers, IsWeekAnswer, meeting_lines}
 
 -- what shows the beginning of a day has its date
@@ -18,11 +19,6 @@ pub date_of_day : (day : ℤ) (d : Fields) → IsCivil (midnight day) 0 d → Is
 date_of_day day d civil =
     let range = civil.valid.in_range in
     record { month_is = range.month; month_day_is = (range.month_day.0, civil.valid.in_month); day_is = omega (arith, ints, civil.reads, civil.below_60, range.hour, range.minute) }
-
--- the lines of two lists of lines
-ended-append : (xs ys : List (List ℕ)) → ended (xs ++ ys) ≡ ended xs ++ ended ys
-ended-append [] ys = refl
-ended-append (x ∷ xs) ys = ap (λ bs. x ++ line_feed ∷ bs) (ended-append xs ys) ∙ sym (append_assoc x (line_feed ∷ ended xs) (ended ys))
 
 -- the lines of all weeks
 pub ended-weeks : (weeks : List (List (List ℕ))) → ended (flat_map (λ (week : List (List ℕ)). week) weeks) ≡ flat_map ended weeks

@@ -26,15 +26,15 @@ fixed_zone offset = zone_with [] (plain_type offset ∷ []) [] None
 abbrev pub usual_directories : List (List ℕ)
 usual_directories = codes "/usr/share/zoneinfo" ∷ codes "/share/zoneinfo" ∷ codes "/etc/zoneinfo" ∷ []
 
--- a number gives the fixed zone with this offset
+-- a number means the fixed zone with this offset
 abbrev pub IsZoneOfOffset : List ℕ → Zone → Type 0
 IsZoneOfOffset number zone = (offset : ℤ) × IsNumber number offset × FitsSigned w32 offset × (zone ≡ fixed_zone offset)
 
--- a path gives the zone that bytes denote which the reader can answer for it
+-- a path means the zone denoted by bytes that the reader can return for it
 abbrev pub IsZoneOfFile : (List ℕ → Read → Type 0) → List ℕ → Zone → Type 0
 IsZoneOfFile reads path zone = (bytes : Vec ℕ Global) × reads path (Ok bytes) × IsTzFile (vec_items bytes) zone
 
--- a TZ string gives the zone that the settings can answer for it
+-- a TZ string means the zone that the settings can return for it
 abbrev pub IsZoneOfText : (List ℕ → Read → Type 0) → List ℕ → Zone → Type 0
 IsZoneOfText reads text zone = IsSettingsAnswer reads usual_directories text (Ok zone)
 

@@ -28,7 +28,7 @@ pub struct Answers<'a, A: Allocator + Copy> {
     /// The suffix of the span's type.
     pub suffix: Suffix,
     pub suffixes: Suffixes,
-    /// The last instant that was not in the span, 0 if there was none.
+    /// The last instant outside the span, 0 if there was none.
     missed: i64,
     pub output: Output<A>,
 }
@@ -64,7 +64,7 @@ impl<'a, A: Allocator + Copy> Answers<'a, A> {
         }
     }
 
-    /// Whether instants from the first one to the second lie in the span.
+    /// Whether instants from the first one to the second are in the span.
     #[inline(always)]
     pub fn has(&self, low: i64, high: i64) -> bool
         ensures { IsTrue result → (self.now.from ≤ℤ low) × (high ≤ℤ self.now.last) }
@@ -128,7 +128,7 @@ impl<'a, A: Allocator + Copy> Answers<'a, A> {
 
     /// Answers the first line, whatever its numbers, and returns the place after that line.
     ///
-    /// A place is returned in a register, and so costs nothing where this is not called.
+    /// A place is returned in a register, and so costs nothing if this is not called.
     #[inline(never)]
     fn answer_any_line(&mut self, queries: &[u8]) -> Result<usize, AllocError>
         requires { IsSound self.old }
@@ -172,7 +172,7 @@ impl<'a, A: Allocator + Copy> Answers<'a, A> {
 /// Answers query bytes over a zone.
 ///
 /// A query is a letter and numbers, one space apart. `T u n` is the date time at the Unix time u with n nanoseconds: its answer is the
-/// date time and the name of its type, `-` where it has none. `F y mo d h mi s n` is the search of [`DateTime::find`] for these fields: its
+/// date time and the name of its type, `-` if it has none. `F y mo d h mi s n` is the search of [`DateTime::find`] for these fields: its
 /// answer is `F` and how many entries there are, and a line for each, `N` with a date time and its name, or `S` with those before and after
 /// a jump. `W c y mo d h mi s n` is that search in each of c weeks, for the date that lies as many weeks later: its answer is `W` and c, and
 /// that of an `F` line for each week. A query that fails is answered by `E ` and the name of the error, any other line by `E Line`. Lines and

@@ -124,8 +124,8 @@ pub fn read_usual_number(bytes: &[u8], place: usize) -> Option<(i64, usize)>
     Some((size as i64, end))
 }
 
-/// Copies the number of up to nine digits after a space at a place, with zeros before it, and returns the index after it. Nine digits
-/// are taken where LF follows.
+/// Copies the number of up to nine digits after a space at a place, left-padded with zeros; nine digits only before LF. Returns the index
+/// after them.
 #[inline(always)]
 pub fn read_nanoseconds(bytes: &[u8], place: usize, nine: &mut [u8; 9]) -> Option<usize>
     requires { place + 11 ≤ length bytes.now }

@@ -49,7 +49,7 @@ impl Page {
         }
     }
 
-    /// Tells whether one more answer of two date times fits onto the page.
+    /// Whether one more answer of two date times fits onto the page.
     #[inline(always)]
     pub fn has_room(&self) -> bool
         ensures { MatchBool result (HasRoom self.now) (¬ HasRoom self.now) }

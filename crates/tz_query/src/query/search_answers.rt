@@ -24,7 +24,7 @@ impl<A: Allocator> Output<A> {
     ghost use Rattle.tz_query.specs.Nanoseconds.{with_nanoseconds};
     ghost use Rattle.tz_query.specs.Outputs.{written};
 
-    /// Writes the line of fields that the type of a suffix shows, after what stands before it.
+    /// Writes `front` and the line of fields that the type of a suffix shows.
     #[inline(always)]
     fn push_shown(
         &mut self,
@@ -64,7 +64,7 @@ impl<'a, A: Allocator + Copy> Answers<'a, A> {
     ghost use Rattle.tz_query.specs.Outputs.{Adds, IsAnswered, IsSound};
     ghost use Rattle.tz_query.specs.declared.query.lines.Query.TheVariants.{Search};
 
-    /// Writes the line of fields that a type shows, after what stands before it.
+    /// Writes `front` and the line of fields that a type shows.
     #[inline(always)]
     pub fn push_shown(
         &mut self,
@@ -82,7 +82,7 @@ impl<'a, A: Allocator + Copy> Answers<'a, A> {
         self.output.push_shown(front, fields, suffix, nanoseconds)
     }
 
-    /// Writes the line of a jump, after what stands before it: what is shown before the jump, and after it.
+    /// Writes `front` and the line of a jump: what is shown before the jump, and after it.
     #[inline(always)]
     pub fn push_skipped(
         &mut self,
@@ -194,7 +194,7 @@ impl<'a, A: Allocator + Copy> Answers<'a, A> {
         self.push_shown(b"N ", fields, after, nanoseconds)
     }
 
-    /// Writes the answer lines of fields over which a clock is set forward, or finds them where a side of the jump is in no year of 32 bits.
+    /// Writes the answer lines of fields over which a clock is set forward, or searches for them if a side of the jump is in no year of 32 bits.
     #[inline(never)]
     fn push_jump(
         &mut self,

@@ -75,9 +75,9 @@ impl Suffix {
         }
     }
 
-    /// Makes a suffix that of another type.
+    /// Replaces the suffix by that of another type.
     #[inline(never)]
-    fn become_that_of(&mut self, local_time_type: &LocalTimeType)
+    fn set(&mut self, local_time_type: &LocalTimeType)
         ensures { self.new.local_time_type ≡ local_time_type.now }
     {
         *self = Suffix::new(*local_time_type);
@@ -123,7 +123,7 @@ impl Suffixes {
     {
         let index = index_of(local_time_type);
         if self.kept[index].local_time_type() != *local_time_type {
-            self.kept[index].become_that_of(local_time_type);
+            self.kept[index].set(local_time_type);
         }
         let kept = &self.kept;
         &kept[index]

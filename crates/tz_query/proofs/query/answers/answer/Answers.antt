@@ -1,10 +1,11 @@
 -- Each line's answer stands after those before it, and in the end no line is left.
 use Rattle.std.proofs.Common.{◌≡◌, ◌++◌, ◌<◌, [], length, sym, ap, ◌∙◌, subst, rules, append_assoc, append-nil}
+use Rattle.std.proofs.lemmas.List.{nil_from_length}
 use Rattle.tz_zone.specs.ZoneRef.{zone_of}
 use Rattle.tz_query.specs.Lines.{ended}
 use Rattle.tz_query.specs.Answers.{AreAnswers}
 use Rattle.tz_query.specs.Outputs.{written}
-use Rattle.tz_query.proofs.AnswerLines.{AreAnswers-nil, AreAnswers-cons, rest_is_shorter, some_left, none_from_length}
+use Rattle.tz_query.proofs.AnswerLines.{AreAnswers-nil, AreAnswers-cons, rest_is_shorter, some_left}
 use Rattle.tz_query.proofs.query.answers.answer.Goals as goal
 
 pub loop-rest-init : goal.loop-rest-init
@@ -37,7 +38,7 @@ returns-clause-ok g c =
     let none : length c.loop-rest.rest.now ≡ 0 = search rules in
     let end = c.loop-rest.answers in
     subst (AreAnswers (zone_of c.args.zone) c.args.queries.now) (append-nil (written end.output) ∙ sym c.in_ok-into_answers.ensures)
-    (c.loop-rest.invariant.1 [] (subst (λ rest. AreAnswers (zone_of end.zone) rest []) (sym (none_from_length c.loop-rest.rest.now none)) (AreAnswers-nil (zone_of end.zone))))
+    (c.loop-rest.invariant.1 [] (subst (λ rest. AreAnswers (zone_of end.zone) rest []) (sym (nil_from_length c.loop-rest.rest.now none)) (AreAnswers-nil (zone_of end.zone))))
 
 pub loop-rest-smaller : goal.loop-rest-smaller
 loop-rest-smaller g c =

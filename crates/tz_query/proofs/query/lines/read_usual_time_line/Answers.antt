@@ -1,4 +1,4 @@
--- `T`, two numbers and LF stand in front.
+-- `T`, two numbers and LF are the first line.
 use Rattle.std.proofs.Common.{◌+◌, ◌^◌, ◌<◌, pos, [], ◌∷◌, length, drop, inl, refl, sym, subst, arith, rules}
 use Rattle.std.proofs.lemmas.Int.{to_z-of_z}
 use Rattle.std.proofs.lemmas.List.{take_rest}

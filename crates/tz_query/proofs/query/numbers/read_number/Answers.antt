@@ -27,30 +27,30 @@ returns-in_err-digits-clause-none c =
 pub returns-then-rest-digits-clause-none : goal.returns-then-rest-digits-clause-none
 returns-then-rest-digits-clause-none c n rest fits =
     let bytes = c.args.bytes.now in
-    let behind = c.in_ok-digits.digits.now in
+    let beyond = c.in_ok-digits.digits.now in
     let (digits, front, size) = c.read_digits-size.ensures in
     let (digits', front', size') = c.read_digits-size-2.ensures in
     let ends = no_digits bytes digits c.read_digits-size.result.1.now front c.if-rest-bytes.false in
-    let ends' = no_digits behind digits' c.read_digits-size-2.result.1.now front' (omega (arith, c.if-rest-digits.true)) in
-    no_number bytes ends (λ after minus. let same : behind ≡ after = cc (minus, c.in_ok-digits.ensures) in subst EndsDigits same ends') n rest
+    let ends' = no_digits beyond digits' c.read_digits-size-2.result.1.now front' (omega (arith, c.if-rest-digits.true)) in
+    no_number bytes ends (λ after minus. let same : beyond ≡ after = cc (minus, c.in_ok-digits.ensures) in subst EndsDigits same ends') n rest
 
 pub returns-in_err-checked_sub_unsigned-clause-none : goal.returns-in_err-checked_sub_unsigned-clause-none
 returns-in_err-checked_sub_unsigned-clause-none c =
     let bytes = c.args.bytes.now in
-    let behind = c.in_ok-digits.digits.now in
+    let beyond = c.in_ok-digits.digits.now in
     let rest = c.read_digits-size-2.result.1.now in
     let (digits, front, size) = c.read_digits-size-2.ensures in
-    let number = minus_number bytes behind digits rest c.in_ok-digits.ensures front (some_digits behind digits rest front (omega (arith, c.if-rest-digits.false, ap length front.whole, length-append digits rest))) in
+    let number = minus_number bytes beyond digits rest c.in_ok-digits.ensures front (some_digits beyond digits rest front (omega (arith, c.if-rest-digits.false, ap length front.whole, length-append digits rest))) in
     IfNone-anyway {P = NoNumber bytes} _ (no_other_number bytes rest _ number (λ fits. c.in_err-checked_sub_unsigned.ensures (subst (FitsSigned w64) (omega (arith, ints, fits, size)) fits)))
 
 pub returns-2-clause-some : goal.returns-2-clause-some
 returns-2-clause-some c =
     let bytes = c.args.bytes.now in
-    let behind = c.in_ok-digits.digits.now in
+    let beyond = c.in_ok-digits.digits.now in
     let rest = c.read_digits-size-2.result.1.now in
     let (digits, front, size) = c.read_digits-size-2.ensures in
     let n = c.in_ok-checked_sub_unsigned.field-0 in
     let fits : SFits w64 n = search rules in
     let value : neg_ℤ (pos (digits_value 10 digits)) ≡ n = omega (arith, ints, fits, size, c.in_ok-checked_sub_unsigned.ensures.1) in
-    let number = minus_number bytes behind digits rest c.in_ok-digits.ensures front (some_digits behind digits rest front (omega (arith, c.if-rest-digits.false, ap length front.whole, length-append digits rest))) in
+    let number = minus_number bytes beyond digits rest c.in_ok-digits.ensures front (some_digits beyond digits rest front (omega (arith, c.if-rest-digits.false, ap length front.whole, length-append digits rest))) in
     rw (to_z-of_z w64 n fits) (subst (λ m. IsNumberFront bytes m rest) value number)

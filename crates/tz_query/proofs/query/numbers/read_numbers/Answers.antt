@@ -29,7 +29,7 @@ returns-in_err-number-clause-none g c =
     let read = take loop.place loop.numbers in
     let long : length read ≡ loop.place = length-take-le loop.place loop.numbers (omega (arith, loop.invariant.0, c.loop-place-test.true)) in
     IfNone-anyway {P = NoNumbers g.row.N c.args.bytes.now} _ (λ line numbers rest many fit first are.
-    let (n, behind, fits, (after, spaced, front)) = next_part c.args.bytes.now line rest loop.rest.now read numbers loop.invariant.1 (omega (arith, long, many, c.loop-place-test.true)) fit first are in
+    let (n, beyond, fits, (after, spaced, front)) = next_part c.args.bytes.now line rest loop.rest.now read numbers loop.invariant.1 (omega (arith, long, many, c.loop-place-test.true)) fit first are in
     c.in_err-number.ensures (after, spaced))
 
 pub returns-in_err-numbers-clause-none : goal.returns-in_err-numbers-clause-none
@@ -38,9 +38,9 @@ returns-in_err-numbers-clause-none g c =
     let read = take loop.place loop.numbers in
     let long : length read ≡ loop.place = length-take-le loop.place loop.numbers (omega (arith, loop.invariant.0, c.loop-place-test.true)) in
     IfNone-anyway {P = NoNumbers g.row.N c.args.bytes.now} _ (λ line numbers rest many fit first are.
-    let (n, behind, fits, (after, spaced, front)) = next_part c.args.bytes.now line rest loop.rest.now read numbers loop.invariant.1 (omega (arith, long, many, c.loop-place-test.true)) fit first are in
+    let (n, beyond, fits, (after, spaced, front)) = next_part c.args.bytes.now line rest loop.rest.now read numbers loop.invariant.1 (omega (arith, long, many, c.loop-place-test.true)) fit first are in
     let same : after ≡ c.in_ok-number.number.now = cc (spaced, c.in_ok-number.ensures) in
-    c.in_err-numbers.ensures.none n behind fits (subst (λ bs. IsNumberFront bs n behind) same front))
+    c.in_err-numbers.ensures.none n beyond fits (subst (λ bs. IsNumberFront bs n beyond) same front))
 
 pub returns-then-is_empty-clause-some : goal.returns-then-is_empty-clause-some
 returns-then-is_empty-clause-some g c =

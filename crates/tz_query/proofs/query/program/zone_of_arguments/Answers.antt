@@ -19,19 +19,20 @@ use Rattle.tz_query.specs.Program.{texts_of, fixed_zone, usual_directories, IsZo
 use Rattle.tz_query.proofs.query.program.zone_of_arguments.Goals as goal
 
 -- two arguments are an option and its value
+two_texts : (arguments : List (Bor (List ℕ))) (none : Bor (List ℕ)) → 2 ≤ length arguments → length arguments < 3 →
+    texts_of arguments ≡ (get_or arguments 0 none).now ∷ (get_or arguments 1 none).now ∷ []
+two_texts [] none least most = absurd (omega arith)
+two_texts (option ∷ []) none least most = absurd (omega arith)
+two_texts (option ∷ value ∷ []) none least most = refl
+two_texts (option ∷ value ∷ other ∷ more) none least most = absurd (omega arith)
+
 names : {reads : List ℕ → Read → Type 0} {zone : Zone} (arguments : List (Bor (List ℕ))) (none : Bor (List ℕ)) → 2 ≤ length arguments → length arguments < 3 →
     IsZoneOfOption reads (get_or arguments 0 none).now (get_or arguments 1 none).now zone → NamesZone reads (texts_of arguments) zone
-names [] none least most is = absurd (omega arith)
-names (option ∷ []) none least most is = absurd (omega arith)
-names (option ∷ value ∷ []) none least most is = (option.now, value.now, refl, is)
-names (option ∷ value ∷ other ∷ more) none least most is = absurd (omega arith)
+names arguments none least most is = ((get_or arguments 0 none).now, (get_or arguments 1 none).now, two_texts arguments none least most, is)
 
 refuses : {reads : List ℕ → Read → Type 0} (arguments : List (Bor (List ℕ))) (none : Bor (List ℕ)) → 2 ≤ length arguments → length arguments < 3 →
     IsRefusedOption reads (get_or arguments 0 none).now (get_or arguments 1 none).now → NamesRefusedZone reads (texts_of arguments)
-refuses [] none least most is = absurd (omega arith)
-refuses (option ∷ []) none least most is = absurd (omega arith)
-refuses (option ∷ value ∷ []) none least most is = (option.now, value.now, refl, is)
-refuses (option ∷ value ∷ other ∷ more) none least most is = absurd (omega arith)
+refuses arguments none least most is = ((get_or arguments 0 none).now, (get_or arguments 1 none).now, two_texts arguments none least most, is)
 
 value_in : {T : Type 0} (o : Option T) (x : T) (P : T → Type 0) → o ≡ Some x → IfSome o P → P x
 value_in o x P is known = subst (λ v. IfSome v P) is known

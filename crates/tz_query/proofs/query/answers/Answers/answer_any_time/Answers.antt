@@ -2,19 +2,19 @@
 use Rattle.std.proofs.Common.{◌≤◌, ◌∷◌, [], inl, inr, refl, arith}
 use Rattle.std.specs.Prelude.{codes}
 use Rattle.std.proofs.lemmas.Int.{to_z-of_z}
-use Rattle.std.proofs.lemmas.Result.{IfOk-weaker}
 use mir.Syntax.{w64}
 use Rattle.tz_base.specs.declared.error.TzError.TheVariants.{DateTime}
 use Rattle.tz_base.specs.declared.error.datetime.DateTimeError.TheVariants.{InvalidNanoseconds}
+use Rattle.tz_query.proofs.AddedText.{answer_written}
+use Rattle.tz_query.specs.declared.query.lines.Query.TheVariants.{Time}
 use Rattle.tz_query.proofs.query.answers.Answers.answer_any_time.Goals as goal
 
 pub returns-then-nanoseconds-ge-NANOSECONDS_PER_SECOND : goal.returns-then-nanoseconds-ge-NANOSECONDS_PER_SECOND
 returns-then-nanoseconds-ge-NANOSECONDS_PER_SECOND g c =
     let many : 1000000000 ≤ c.args.nanoseconds = omega (arith, c.if-nanoseconds-ge-NANOSECONDS_PER_SECOND.true) in
     let text = codes "E InvalidNanoseconds" in
-    IfOk-weaker c.push_error.result _ _
-    (λ done written. (text ∷ [], (text, inr (DateTime InvalidNanoseconds, codes "InvalidNanoseconds", inl (refl, many), refl, refl), refl), record { zone_is = refl; sound = λ s. s; text_is = written }))
-    c.push_error.ensures
+    answer_written (Time c.args.unix_time c.args.nanoseconds) c.args.self.now c.push_error.new.self c.push_error.result (text ∷ [])
+    (text, inr (DateTime InvalidNanoseconds, codes "InvalidNanoseconds", inl (refl, many), refl, refl), refl) c.push_error.ensures
 
 pub returns : goal.returns
 returns g c = rw (to_z-of_z w64 c.args.unix_time c.ranges.unix_time, c.new.ensures) at c.answer_time.ensures

@@ -2,12 +2,13 @@
 use Rattle.std.proofs.Common.{◌++◌, ◌∷◌, [], inl, inr, refl, sym, subst, arith}
 use Rattle.std.specs.Prelude.{codes}
 use Rattle.std.proofs.lemmas.Int.{to_z-of_z}
-use Rattle.std.proofs.lemmas.Result.{IfOk-weaker}
 use mir.Syntax.{w64}
 use Rattle.tz_zone.specs.Clock.{IsClock, IsLookupFault}
 use Rattle.tz_zone.specs.ZoneRef.{zone_of}
 use Rattle.tz_query.specs.Nanoseconds.{number_of}
 use Rattle.tz_query.proofs.AnswerLines.{clock_fault_text}
+use Rattle.tz_query.proofs.AddedText.{answer_written, time_answer_written}
+use Rattle.tz_query.specs.declared.query.lines.Query.TheVariants.{Time}
 use Rattle.tz_query.proofs.query.answers.Answers.answer_by_lookup.Goals as goal
 
 pub fault_name-requires : goal.fault_name-requires
@@ -21,26 +22,14 @@ pub returns-in-Ok : goal.returns-in-Ok
 returns-in-Ok g c =
     let z = zone_of c.args.self.now.zone in
     let u = c.args.unix_time in
-    let n = number_of c.args.nanoseconds.now in
-    IfOk-weaker c.push_instant.result _ _
-    (λ done (text, is, items). (
-      text ∷ [],
-      (text, is, refl),
-      record { zone_is = refl; sound = λ s. s; text_is = items },
-    ))
+    time_answer_written u (number_of c.args.nanoseconds.now) c.args.self.now _ c.push_instant.new.self c.push_instant.result
     (rw (to_z-of_z w64 u c.ranges.unix_time) at (c.push_instant.ensures z (subst (IsClock z _) (sym c.of-suffix.ensures) c.in-Ok.ensures.ok)))
 
 pub returns-in-Err : goal.returns-in-Err
 returns-in-Err g c =
-    let z = zone_of c.args.self.now.zone in
     let u = c.args.unix_time in
-    let fault : IsLookupFault z u c.in-Err.error = rw (to_z-of_z w64 u c.ranges.unix_time) at c.in-Err.ensures.err in
-    let n = number_of c.args.nanoseconds.now in
-    let text = codes "E " ++ c.fault_name.result.now in
-    IfOk-weaker c.push_error.result _ _
-    (λ done items. (
-      text ∷ [],
-      (text, (inr (c.in-Err.error, c.fault_name.result.now, inr (inl (c.args.nanoseconds.now.below, fault)), c.fault_name.ensures.text, refl)), refl),
-      record { zone_is = refl; sound = λ s. s; text_is = items },
-    ))
-    c.push_error.ensures
+    let fault : IsLookupFault (zone_of c.args.self.now.zone) u c.in-Err.error = rw (to_z-of_z w64 u c.ranges.unix_time) at c.in-Err.ensures.err in
+    let name = c.fault_name.result.now in
+    let text = codes "E " ++ name in
+    answer_written (Time u (number_of c.args.nanoseconds.now)) c.args.self.now c.push_error.new.self c.push_error.result (text ∷ [])
+    (text, inr (c.in-Err.error, name, inr (inl (c.args.nanoseconds.now.below, fault)), c.fault_name.ensures.text, refl), refl) c.push_error.ensures

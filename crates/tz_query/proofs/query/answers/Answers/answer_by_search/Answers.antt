@@ -11,10 +11,11 @@ use Rattle.tz_query.specs.Answers.{found_lines, field_fault_text}
 use Rattle.tz_query.specs.Entries.{HasNanoseconds}
 use Rattle.tz_query.specs.Lines.{ended}
 use Rattle.tz_query.specs.Nanoseconds.{number_of, with_nanoseconds}
-use Rattle.tz_query.specs.Outputs.{written}
 use Rattle.tz_query.proofs.AddedText.{with_text}
 use Rattle.tz_query.proofs.AnswerLines.{told_field_fault, told_out_of_range}
 use Rattle.tz_query.proofs.EntryLines.{found_nanoseconds}
+use Rattle.tz_query.proofs.AddedText.{answer_written}
+use Rattle.tz_query.specs.declared.query.lines.Query.TheVariants.{Search}
 use Rattle.tz_query.proofs.query.answers.Answers.answer_by_search.Goals as goal
 
 pub returns-in-Ok : goal.returns-in-Ok
@@ -30,29 +31,20 @@ returns-in-Ok g c =
 
 pub returns-in-Err-DateTime : goal.returns-in-Err-DateTime
 returns-in-Err-DateTime g c =
-    let was = written c.args.self.now.output in
+    let f = with_nanoseconds c.args.fields.now c.args.nanoseconds.now in
     let fault = c.in-Err-DateTime.fault in
     let error : c.in-Err-DateTime.field-0 ≡ DateTime fault = search rules in
-    let refused = rw (c.in-Err-DateTime.is, error, c.number.ensures) at c.find_fields.ensures.err in
-    IfOk-weaker c.push_error.result _ _
-    (λ done items. (
-      (codes "E " ++ field_fault_text fault) ∷ [],
-      inr (DateTime fault, field_fault_text fault, told_field_fault (IsClock (zone_of c.args.self.now.zone)) (with_nanoseconds c.args.fields.now c.args.nanoseconds.now) fault refused, refl, refl),
-      record { zone_is = refl; sound = λ s. s; text_is = items ∙ ap (λ name. was ++ ended ((codes "E " ++ name) ∷ [])) c.field_fault_name.ensures.text },
-    ))
-    c.push_error.ensures
+    let refused = told_field_fault (IsClock (zone_of c.args.self.now.zone)) f fault (rw (c.in-Err-DateTime.is, error, c.number.ensures) at c.find_fields.ensures.err) in
+    answer_written (Search f) c.args.self.now c.push_error.new.self c.push_error.result ((codes "E " ++ field_fault_text fault) ∷ [])
+    (inr (DateTime fault, field_fault_text fault, refused, refl, refl)) (rw c.field_fault_name.ensures.text at c.push_error.ensures)
 
 pub returns-in-Err-OutOfRange : goal.returns-in-Err-OutOfRange
 returns-in-Err-OutOfRange g c =
+    let f = with_nanoseconds c.args.fields.now c.args.nanoseconds.now in
+    let push_error = c.push_error-in-Err-OutOfRange in
     let error : c.in-Err-OutOfRange.field-0 ≡ OutOfRange = search rules in
-    let refused = rw (c.in-Err-OutOfRange.is, error, c.number.ensures) at c.find_fields.ensures.err in
-    IfOk-weaker c.push_error-in-Err-OutOfRange.result _ _
-    (λ done items. (
-      codes "E OutOfRange" ∷ [],
-      inr (OutOfRange, codes "OutOfRange", told_out_of_range (IsClock (zone_of c.args.self.now.zone)) (with_nanoseconds c.args.fields.now c.args.nanoseconds.now) refused, refl, refl),
-      record { zone_is = refl; sound = λ s. s; text_is = items },
-    ))
-    c.push_error-in-Err-OutOfRange.ensures
+    let refused = told_out_of_range (IsClock (zone_of c.args.self.now.zone)) f (rw (c.in-Err-OutOfRange.is, error, c.number.ensures) at c.find_fields.ensures.err) in
+    answer_written (Search f) c.args.self.now push_error.new.self push_error.result (codes "E OutOfRange" ∷ []) (inr (OutOfRange, codes "OutOfRange", refused, refl, refl)) push_error.ensures
 
 pub push_found-requires : goal.push_found-requires
 push_found-requires g c =

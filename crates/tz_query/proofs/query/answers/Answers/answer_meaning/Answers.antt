@@ -1,5 +1,6 @@
 -- The entries that the fields have are printed.
-use Rattle.std.proofs.Common.{◌∷◌, [], refl, sym, subst, rules}
+use Rattle.std.proofs.Common.{◌∷◌, [], refl, subst, rules}
+use Rattle.std.proofs.Math.Logic.{⊎_elim}
 use Rattle.std.proofs.lemmas.Int.{to_z-of_z}
 use Rattle.std.proofs.lemmas.Result.{IfOk-weaker}
 use mir.Syntax.{w64}
@@ -9,13 +10,13 @@ use Rattle.tz_zone.specs.Clock.{IsClock}
 use Rattle.tz_zone.specs.ZoneRef.{zone_of}
 use Rattle.tz.specs.DateTimes.{DateTime, moment_of}
 use Rattle.tz.specs.Entries.{AreEntries, Jump, Shown}
-use Rattle.tz.specs.PrintedText.{moment_text}
 use Rattle.tz.specs.declared.datetime.found.FoundDateTimeKind.TheVariants.{Normal, Skipped}
 use Rattle.tz_query.specs.Answers.{found_lines}
 use Rattle.tz_query.specs.LineMeanings.{IsMeaningOf}
 use Rattle.tz_query.specs.Nanoseconds.{number_of, with_nanoseconds}
-use Rattle.tz_query.proofs.AddedText.{with_text}
-use Rattle.tz_query.proofs.EntryLines.{answered_by, either, lines_of_one}
+use Rattle.tz_query.proofs.EntryLines.{answered_by, shown_once}
+use Rattle.tz_query.proofs.AddedText.{answer_written}
+use Rattle.tz_query.specs.declared.query.lines.Query.TheVariants.{Search}
 use Rattle.tz_query.proofs.query.answers.Answers.answer_meaning.Goals as goal
 
 pub returns-in-Nothing : goal.returns-in-Nothing
@@ -26,31 +27,17 @@ returns-in-Nothing g c =
     let (es, are, of) = c.requires.means in
     let is = subst (IsMeaningOf es) c.in-Nothing.is of in
     let all : AreEntries (IsClock z) (reading f) [] = subst (AreEntries (IsClock z) (reading f)) is are in
-    IfOk-weaker c.push_count.result _ _
-    (λ done items. (
-      found_lines [],
-      answered_by z f (number_of nanoseconds) (reading f) [] [] nanoseconds.below c.requires.valid refl all tt,
-      record { zone_is = refl; sound = λ s. s; text_is = items },
-    ))
-    c.push_count.ensures
+    answer_written (Search (with_nanoseconds f nanoseconds)) c.args.self.now c.push_count.new.self c.push_count.result (found_lines [])
+    (answered_by z f (number_of nanoseconds) (reading f) [] [] nanoseconds.below c.requires.valid refl all tt) c.push_count.ensures
 
 pub returns-in-Once : goal.returns-in-Once
 returns-in-Once g c =
-    let z = zone_of c.args.self.now.zone in
     let f = c.args.fields.now in
-    let nanoseconds = c.args.nanoseconds.now in
     let t = c.in-Once.local_time_type.now in
     let (es, are, of) = c.requires.means in
     let (u, is) = subst (IsMeaningOf es) c.in-Once.is of in
-    let all : AreEntries (IsClock z) (reading f) (Shown u t ∷ []) = subst (AreEntries (IsClock z) (reading f)) is are in
-    let d : DateTime = moment_of (with_nanoseconds f nanoseconds) t u in
-    IfOk-weaker c.push_shown.result _ _
-    (λ done adds. (
-      found_lines (Normal d ∷ []),
-      answered_by z f (number_of nanoseconds) (reading f) (Shown u t ∷ []) (Normal d ∷ []) nanoseconds.below c.requires.valid refl all ((refl, tt), tt),
-      with_text (sym (lines_of_one (moment_text d))) (adds u),
-    ))
-    c.push_shown.ensures
+    let all = subst (AreEntries (IsClock (zone_of c.args.self.now.zone)) (reading f)) is are in
+    IfOk-weaker c.push_shown.result _ _ (λ done adds. shown_once f c.args.nanoseconds.now (reading f) t u c.requires.valid refl all (adds u)) c.push_shown.ensures
 
 pub returns-in-Twice : goal.returns-in-Twice
 returns-in-Twice g c =
@@ -85,7 +72,7 @@ returns-in-Skipped g c =
     let is = subst (IsMeaningOf es) c.in-Skipped.is of in
     let all : AreEntries (IsClock z) (reading f) (Jump u a b ∷ []) = subst (AreEntries (IsClock z) (reading f)) is are in
     IfOk-weaker c.push_jump.result _ _
-    (λ done. either _ _ _
+    (λ done. ⊎_elim
     (λ (x, y, shows_x, shows_y, made, adds). (
       found_lines (Skipped x y ∷ []),
       answered_by z f (number_of nanoseconds) (reading f) (Jump u a b ∷ []) (Skipped x y ∷ []) nanoseconds.below c.requires.valid refl all (((x, y, refl, shows_x, shows_y), made), tt),

@@ -3,7 +3,6 @@ use Rattle.std.proofs.Common.{◌≡◌, ℕ, ◌+◌, ◌++◌, ◌∷◌, [], 
 use Rattle.std.specs.Prelude.{codes}
 use Rattle.std.specs.List.{flat_map}
 use Rattle.std.proofs.lemmas.List.{flat_map_more}
-use Rattle.std.proofs.lemmas.Result.{IfOk-weaker}
 use Rattle.tz_base.specs.declared.fields.Fields.{Fields}
 use Rattle.tz_zone.specs.ZoneRef.{zone_of}
 use Rattle.tz_query.specs.Lines.{ended}
@@ -13,6 +12,8 @@ use Rattle.tz_query.specs.Outputs.{Adds, written}
 use Rattle.tz_query.proofs.AddedText.{adds_both, with_text}
 use Rattle.tz_query.proofs.OtherNanoseconds.{same_fields}
 use Rattle.tz_query.proofs.WeekAnswers.{meeting_written, weeks_more}
+use Rattle.tz_query.proofs.AddedText.{answer_written}
+use Rattle.tz_query.specs.declared.query.lines.Query.TheVariants.{Meeting}
 use Rattle.tz_query.proofs.query.answers.Answers.answer_meeting.Goals.{in-Some+in_ok-answer_search-in-Some, in-None+in_ok-push_error-in-None}
 use Rattle.tz_query.proofs.query.answers.Answers.answer_meeting.Goals as goal
 
@@ -57,12 +58,6 @@ returns g c =
 
 pub returns-in-Err : goal.returns-in-Err
 returns-in-Err g c =
-    let was = written c.args.self.now.output in
     let fault = c.in-Err.fault in
-    IfOk-weaker c.push_error.result _ _
-    (λ done items. (
-      (codes "E " ++ field_fault_text fault) ∷ [],
-      inr (fault, c.in-Err.ensures.err, refl),
-      record { zone_is = refl; sound = λ s. s; text_is = items ∙ ap (λ name. was ++ ended ((codes "E " ++ name) ∷ [])) c.field_fault_name.ensures.text },
-    ))
-    c.push_error.ensures
+    answer_written (Meeting c.args.count c.args.first.now) c.args.self.now c.push_error.new.self c.push_error.result ((codes "E " ++ field_fault_text fault) ∷ [])
+    (inr (fault, c.in-Err.ensures.err, refl)) (rw c.field_fault_name.ensures.text at c.push_error.ensures)

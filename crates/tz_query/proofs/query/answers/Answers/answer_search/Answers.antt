@@ -6,22 +6,15 @@ use mir.Syntax.{w64}
 use mir.Val.{SFits}
 use Rattle.tz_zone.specs.Clock.{IsClock}
 use Rattle.tz_zone.specs.ZoneRef.{zone_of}
-use Rattle.tz.specs.DateTimes.{DateTime, moment_of}
 use Rattle.tz.specs.Entries.{AreEntries, Shown}
-use Rattle.tz.specs.PrintedText.{moment_text}
-use Rattle.tz.specs.declared.datetime.found.FoundDateTimeKind.TheVariants.{Normal}
 use Rattle.tz.proofs.EntryWalks.{entries_once}
-use Rattle.tz_query.specs.Answers.{found_lines}
-use Rattle.tz_query.specs.Nanoseconds.{number_of, with_nanoseconds}
-use Rattle.tz_query.proofs.AddedText.{with_text}
-use Rattle.tz_query.proofs.EntryLines.{answered_by, lines_of_one}
+use Rattle.tz_query.proofs.EntryLines.{shown_once}
 use Rattle.tz_query.proofs.query.answers.Answers.answer_search.Goals as goal
 
 pub returns-then-has : goal.returns-then-has
 returns-then-has g c =
     let z = zone_of c.args.self.now.zone in
     let f = c.args.fields.now in
-    let nanoseconds = c.args.nanoseconds.now in
     let r = c.reading-reading.result in
     let fits : SFits w64 r = record { sfits = c.reading-reading.type_inv } in
     let t = c.args.self.now.local_time_type.now in
@@ -35,11 +28,6 @@ returns-then-has g c =
     let after : c.args.self.now.from ≤ℤ low = within.0 in
     let before : high ≤ℤ c.args.self.now.last = within.1 in
     let all : AreEntries (IsClock z) r (Shown u t ∷ []) = entries_once z window.sound.leap_seconds_are r low high t u window.order window.offsets (λ v from until. c.requires.0 v (omega (arith, ints, after, from)) (omega (arith, ints, before, until))) refl in
-    let d : DateTime = moment_of (with_nanoseconds f nanoseconds) t u in
     IfOk-weaker c.push_shown.result _ _
-    (λ done adds. (
-      found_lines (Normal d ∷ []),
-      answered_by z f (number_of nanoseconds) r (Shown u t ∷ []) (Normal d ∷ []) nanoseconds.below c.in-Ok.ensures.ok (sym c.reading-reading.ensures.value) all ((refl, tt), tt),
-      with_text (sym (lines_of_one (moment_text d))) (record { zone_is = refl; sound = λ s. s; text_is = adds u }),
-    ))
+    (λ done adds. shown_once f c.args.nanoseconds.now r t u c.in-Ok.ensures.ok (sym c.reading-reading.ensures.value) all (record { zone_is = refl; sound = λ s. s; text_is = adds u }))
     (rw c.requires.1 at c.push_shown.ensures)
