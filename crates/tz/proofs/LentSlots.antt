@@ -1,27 +1,49 @@
--- Steps of the proofs by hand of `find_n` and `find_n_counted`: what a lent slice ends as, and the two cases of a `Result`.
+-- Steps of the proofs by hand of `find_n` and `find_n_counted`: what a lent slice ends as, and the two cases of a `Result`. The words of the logic that both take pass through here.
 use Rattle.std.proofs.Common.{◌≡◌, ◌∙◌, refl, sym, ap, subst, ℕ, ◌<◌, ◌^◌, true, ◌&&◌, T, List, [], ◌∷◌, ◌++◌, Ok, Err}
+pub use Rattle.std.proofs.ResultValues.{and_tt, ok_of, err_of}
+pub use Rattle.std.proofs.VecSteps.Shapes.{arm_body}
+pub use Rattle.std.proofs.raw_atomic.Walks.{proved}
 use Rattle.std.specs.Prelude.{Result, IfOk, IfErr, OnOk}
-use Rattle.std.proofs.ResultValues.{and_tt}
-use mathlib.Core.Option as maybe
-use seplogic.Ra.Ura.{Ura}
-use mir.Syntax.{Lifetime, Ty}
-use mir.Val.{Val, of_list, has_ty, WT}
-use base.Logic.{SProp, ent, sep, emp, wand, via, ex_i, id⊢, emp∗, mono∗}
+pub use Rattle.tz.specs.DateTimes.{fields_of}
+pub use Rattle.tz.specs.LentSlots.{slot_row, RestsIfInvalid}
+pub use Rattle.tz.specs.Lists.{reference_of}
+pub use Rattle.tz.specs.declared.datetime.find.Refused.{Refused}
+pub use Rattle.tz.specs.declared.datetime.found_list_ref.FoundDateTimeListRefMut.{FoundDateTimeListRefMut}
+pub use Rattle.tz_base.specs.declared.error.TzError.{TzError}
+pub use base.Fml.{Lft, Fml, feq, fex, fsep, fobs, fauth, GName, fres}
+pub use base.Logic.{ent, sep, emp, wand, via, ex_i, emp∗, mono∗, SProp, id⊢}
 use base.Stored.{coded_list}
-use base.Fml.{Lft, GName, Fml, feq, fex, fsep, fobs, fauth, fres}
-use types.Logic.{Logic, sem}
-use types.Kit.{Item, Goal, Seq, ‵, raw, ◌⊛◌, ◌$◌, ◌∵◌, !, qed, move, keep, drop, use1, split, rewrite, each, assume, fsplit, fjoin, fpick, fpack, feq_i, feq_l, done}
-use types.Match.{live}
+pub use contract.Lifetimes.{Lfts}
 use contract.Monad.{fact, fact_i}
-use denote.Laws.{Is, Tells, shows}
-use denote.Steps.{heard, peeks, only}
-use Rattle.std.specs.contracts.result.Result as result
-use denote.RattleType.{RattleType}
-use denote.Ref.{MutBor}
-use denote.Array.{Array}
-use denote.Slice.{MutSlice}
+pub use contract.Running.{tables}
+pub use denote.Array.{Array}
 use denote.Follow.{follows, follows_so, such_by, follows_by}
 use denote.FollowSlice.{heres_id}
+pub use denote.Laws.{Is, Tells, shows, valss, all_Typed}
+pub use denote.Memory.{lone}
+pub use denote.RattleType.{RattleType}
+use denote.Ref.{MutBor}
+pub use denote.Signature.{named_lft, types_at}
+use denote.Slice.{MutSlice}
+pub use denote.Steps.{peeks, only, heard, nothing}
+pub use denote.Triple.Call.{calls_at}
+pub use denote.Triple.Clauses.{Lasts, lasts, at_exit}
+pub use denote.Triple.Entry.{alive}
+pub use denote.Triple.Spec.{triple_of}
+pub use denote.Triple.Table.{framed}
+pub use denote.Triple.Walked.{walk_of, ends_at}
+pub use mir.Syntax.{Lifetime, Ty, named}
+pub use mir.Val.{has_ty, WT, Val, of_list}
+pub use prog.Wp.{Env, Wp, at_return, after_seq}
+use seplogic.Ra.Ura.{Ura}
+pub use types.ByLocal.{alloc_all, pass_all, free_all, look_at, look_in_at, get, get_in, get_tag, sets, sets_last, lands_as, env}
+pub use types.Kit.{Item, Goal, Seq, keep, each, assume, fpack, feq_i, feq_l, done, ‵, raw, ◌⊛◌, ◌$◌, ◌∵◌, !, qed, move, drop, use1, split, rewrite, fsplit, fjoin, fpick, Post, any_q, some, later, at_ret, by, use0, pick, await, group, frame, suffices}
+use types.Logic.{Logic, sem}
+pub use types.Match.{live, vrt, in_variant}
+pub use types.Part.{whole, sub, agg}
+pub use types.Run.{enter, of_opd, addr, from, fld, hop, stop, first, switches_on, exec, returns, no_more, and_then, lit}
+use mathlib.Core.Option as maybe
+use Rattle.std.specs.contracts.result.Result as result
 
 -- the two cases of a result, with what it then is
 pub by_result : {A E : Type 0} {X : Type 1} (r : Result A E) → ((x : A) → r ≡ Ok x → X) → ((e : E) → r ≡ Err e → X) → X

@@ -31,7 +31,7 @@ pub enum Disambiguation {
     Reject,
 }
 
-/// The instant that is meant where clocks are set forward over the fields.
+/// The instant that is meant if clocks are set forward over the fields.
 pub(super) fn instant(
     fields: &Fields,
     disambiguation: Disambiguation,

@@ -136,7 +136,7 @@ fn walk<'a, E: Entries<'a>, V: Transitions>(
     while since <= high {
         let span = span_from(view, parts, stage, since, high);
         stage = span.next;
-        // Where two transitions take effect at the same instant the span between them is empty.
+        // If two transitions take effect at the same instant, the span between them is empty.
         if since <= span.last {
             give(
                 entries,
@@ -187,7 +187,7 @@ fn search_window<'a, E: Entries<'a>, V: Transitions>(
     }
 }
 
-/// Two offsets between which those of all types lie that the clock has.
+/// Bounds of the offsets of all types that the clock has.
 fn offsets(zone: TimeZoneRef<'_>) -> (i32, i32)
     ensures order { result.0 ≤ℤ result.1 }
     ensures between { AreOffsetsOf (zone_of zone.entry) result.0 result.1 }

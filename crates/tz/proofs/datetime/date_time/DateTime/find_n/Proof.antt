@@ -1,42 +1,9 @@
 -- A search returns the slots under their name, or they are let go with the fault and end as they were left.
 use Rattle.std.proofs.Common.{refl, [], ◌∷◌, lit<, Ok, Err}
 use Rattle.std.specs.Prelude.{Result}
-use Rattle.std.proofs.raw_atomic.Walks.{proved}
-use Rattle.std.proofs.ResultValues.{ok_of, err_of}
-use Rattle.std.proofs.VecSteps.Shapes.{arm_body}
-use mir.Syntax.{named}
-use mir.Val.{Val, of_list}
-use base.Logic.{SProp, id⊢}
-use base.Fml.{GName, fres}
-use prog.Wp.{Env, Wp, at_return, after_seq}
-use types.Kit.{Post, any_q, ‵, raw, ◌⊛◌, some, later, at_ret, ◌$◌, ◌∵◌, !, qed, by, move, drop, use0, use1, split, fsplit, fjoin, fpick, pick, await, rewrite, group, frame, suffices}
-use types.Run.{enter, of_opd, addr, from, fld, hop, stop, first, switches_on, exec, returns, no_more, and_then, lit}
-use types.Part.{whole, sub, agg}
-use types.Match.{live, vrt, in_variant}
-use types.ByLocal.{alloc_all, pass_all, free_all, look_at, look_in_at, get, get_in, get_tag, sets, sets_last, lands_as, env}
-use contract.Lifetimes.{Lfts}
-use contract.Running.{tables}
-use denote.Array.{Array}
-use denote.Memory.{lone}
-use denote.RattleType.{RattleType}
-use denote.Laws.{valss, all_Typed}
-use denote.Signature.{named_lft, types_at}
-use denote.Steps.{heard, nothing}
-use denote.Triple.Call.{calls_at}
-use denote.Triple.Clauses.{Lasts, lasts, at_exit}
-use denote.Triple.Entry.{alive}
-use denote.Triple.Spec.{triple_of}
-use denote.Triple.Table.{framed}
-use denote.Triple.Walked.{walk_of, ends_at}
 use Rattle.std.specs.contracts.result.Result as result
 use Rattle.tz_base.specs.contracts.error.TzError as fault
-use Rattle.tz_base.specs.declared.error.TzError.{TzError}
 use Rattle.tz_base.proofs.error.TzError.TheLaws as fault_laws
-use Rattle.tz.specs.DateTimes.{fields_of}
-use Rattle.tz.specs.LentSlots.{slot_row, RestsIfInvalid}
-use Rattle.tz.specs.Lists.{reference_of}
-use Rattle.tz.specs.declared.datetime.find.Refused.{Refused}
-use Rattle.tz.specs.declared.datetime.found_list_ref.FoundDateTimeListRefMut.{FoundDateTimeListRefMut}
 use Rattle.tz.specs.contracts.datetime.find.Refused as refused
 use Rattle.tz.specs.contracts.datetime.found_list_ref.FoundDateTimeListRefMut as list
 use Rattle.tz.specs.contracts.datetime.date_time.DateTime.find_n as f
@@ -44,10 +11,13 @@ use Rattle.tz.specs.contracts.datetime.date_time.DateTime.listed as g
 use Rattle.tz.proofs.datetime.find.Refused.TheLaws as refused_laws
 use Rattle.tz.proofs.datetime.found_list_ref.FoundDateTimeListRefMut.TheLaws as list_laws
 use Rattle.tz.proofs.SearchParameters.{params, stayed, spelled, spelled_tells, gone, lawful}
-use Rattle.tz.proofs.LentSlots.{by_result, if_ok_at, on_ok_at, if_err_at, slice_ends, ends_in, ends_as, variant_typed, heard_first, told, ok_taken, err_taken, fact_and, fact_last}
 use Rattle.tz.proofs.datetime.date_time.DateTime.listed.Met.{met}
 use Rattle.tz.proofs.datetime.date_time.DateTime.find_n.Statement.{statement}
 use Rattle.tz.proofs.datetime.date_time.DateTime.find_n.Code as code
+use Rattle.tz.proofs.LentSlots.{by_result, if_ok_at, on_ok_at, if_err_at, slice_ends, ends_in, ends_as, variant_typed, heard_first, told, ok_taken, err_taken, fact_and, fact_last}
+use Rattle.tz.proofs.LentSlots.{proved, ok_of, err_of, arm_body, TzError, fields_of, slot_row, RestsIfInvalid, reference_of, Refused, FoundDateTimeListRefMut}
+use Rattle.tz.proofs.LentSlots.{named, Val, of_list, SProp, id⊢, GName, fres, Env, Wp, at_return, after_seq, Lfts, tables, Array, lone, RattleType, valss, all_Typed, named_lft, types_at, heard, nothing, calls_at, Lasts, lasts, at_exit, alive, triple_of, framed, walk_of, ends_at}
+use Rattle.tz.proofs.LentSlots.{Post, any_q, ‵, raw, ◌⊛◌, some, later, at_ret, ◌$◌, ◌∵◌, !, qed, by, move, drop, use0, use1, split, fsplit, fjoin, fpick, pick, await, rewrite, group, frame, suffices, enter, of_opd, addr, from, fld, hop, stop, first, switches_on, exec, returns, no_more, and_then, lit, whole, sub, agg, live, vrt, in_variant, alloc_all, pass_all, free_all, look_at, look_in_at, get, get_in, get_tag, sets, sets_last, lands_as, env}
 
 abbrev Found : Type 0
 Found = FoundDateTimeListRefMut
