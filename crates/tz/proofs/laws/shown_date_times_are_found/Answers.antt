@@ -15,9 +15,6 @@ returns-clause-found c z u n d found (t, clock, shows) is =
     let at = ap (λ (v : ℤ). v +ℤ d.local_time_type.ut_offset) shows.instant_is in
     is.complete (Normal d) (refl, (here, at ∙ sym reads ∙ sym shows.civil.reads))
 
-pub returns-clause-refused : goal.returns-clause-refused
-returns-clause-refused c z u n d e (t, clock, shows) made fault = only_memory_is_refused (IsClock z) d.fields shows.civil.valid e fault (not_out_of_range ⊤ (IsClock z) d.fields (λ valid. made) e fault)
-
 pub returns-clause-promised : goal.returns-clause-promised
 returns-clause-promised c z f fits valid promised =
     each_can_be_made z (negsuc 2147483647) (pos 2147483647) (λ u t clock. let offset = fits u t clock in (omega (arith, ints), omega (arith, ints))) (omega (arith, ints)) f valid promised

@@ -19,12 +19,6 @@ use Rattle.tz.specs.declared.datetime.found.FoundDateTimeKind.{FoundDateTimeKind
 use Rattle.tz.proofs.PromisedLists.{never_out_of_range}
 use Rattle.tz.proofs.datetime.find.find_in.Goals as goal
 
-pub search-requires-clause-sound : goal.search-requires-clause-sound
-search-requires-clause-sound g c =
-    let seen = zone_seen (g.V.Transitions.list c.args.view.now) c.other_parts-parts.result in
-    let same : seen ≡ zone_of c.args.time_zone_ref = ap (λ (xs : List Transition). zone_seen xs c.other_parts-parts.result) c.requires ∙ c.other_parts-parts.ensures in
-    subst IsSoundTable (sym same) c.args.time_zone_ref.sound
-
 pub search-requires-clause-offsets : goal.search-requires-clause-offsets
 search-requires-clause-offsets g c =
     let seen = zone_seen (g.V.Transitions.list c.args.view.now) c.other_parts-parts.result in
@@ -33,15 +27,6 @@ search-requires-clause-offsets g c =
     let fits_least : SFits w32 ends.result.0 = search rules in
     let fits_greatest : SFits w32 ends.result.1 = search rules in
     rw (to_z-of_z w32 ends.result.0 fits_least, to_z-of_z w32 ends.result.1 fits_greatest) (subst (λ (x : Zone). AreEndOffsets x ends.result.0 ends.result.1) (sym same) ends.ensures)
-
-pub returns-clause-ok : goal.returns-clause-ok
-returns-clause-ok g c =
-    let seen = zone_seen (g.V.Transitions.list c.args.view.now) c.other_parts-parts.result in
-    let same : seen ≡ zone_of c.args.time_zone_ref = ap (λ (xs : List Transition). zone_seen xs c.other_parts-parts.result) c.requires ∙ c.other_parts-parts.ensures in
-    subst (λ (x : Zone). OnOk c.search.result ((found : List FoundDateTimeKind) × g.L.DateTimeList.gains c.args.list.now c.search.new.list found × IsFound (IsClock x) c.args.fields.now found × (length found ≤ 2 ^ 33))) same c.search.ensures.ok
-
-pub returns-clause-untouched : goal.returns-clause-untouched
-returns-clause-untouched g c = inl c.in_ok-check.ensures.ok
 
 pub returns-clause-promised : goal.returns-clause-promised
 returns-clause-promised g c promised =

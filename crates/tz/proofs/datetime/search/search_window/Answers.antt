@@ -81,9 +81,6 @@ returns-in-Two g c =
 pub returns-in-More-clause-ok : goal.returns-in-More-clause-ok
 returns-in-More-clause-ok g c = rw (c.window_types.ensures.same, to_z-of_z w64 c.args.reading c.ranges.reading) at c.walk.ensures.ok
 
-pub returns-in-More-clause-err : goal.returns-in-More-clause-err
-returns-in-More-clause-err g c = rw (c.window_types.ensures.same, to_z-of_z w64 c.args.reading c.ranges.reading) at c.walk.ensures.err
-
 -- a zone with a transition has a bit or more of them
 some_bits : (n b : ℕ) → 0 < n → n < 2 ^ b → 1 ≤ b
 some_bits n zero some bits = absurd (omega (arith, some, bits))

@@ -24,9 +24,3 @@ invariant_of-result c =
 
 pub returns-clause-ok : goal.returns-clause-ok
 returns-clause-ok c = utc_fields c
-
-pub returns-in_err-check-clause-err : goal.returns-in_err-check-clause-err
-returns-in_err-check-clause-err c =
-    let before : IsPastTheEnd c.args.fields → ⊥ = search rules in
-    let p = err_from_is_err_and c.from_residual.result c.from_residual.ensures.1 in
-    rw (p.1, p.2) (inr (c.in_err-check.field-0.0, refl, before, c.in_err-check.ensures.err))
