@@ -15,7 +15,7 @@ nat_ranked x y = record { says = ranks x y }
 pub int_ranked : (x y : ℤ) → Ranked (int_cmp x y) (x <ℤ y) (x ≡ y) (y <ℤ x)
 int_ranked x y = record { says = int_ranks x y }
 
--- by the first part, and where it is equal by the second
+-- by the first part, and if it is equal by the second
 pub then_ranked : {r s : Ordering} {L E G L' E' G' : Type 0} → Ranked r L E G → Ranked s L' E' G' → Ranked (ordering_then r s) (L ⊎ (E × L')) (E × E') (G ⊎ (E × G'))
 then_ranked {r} {s} {L} {E} {G} {L'} {E'} {G'} first second = record { says = both r s first.says second.says }
   where

@@ -44,7 +44,7 @@ jump_outside clock f valid u a b passes outside =
     let y = side_exists u f.nanoseconds b valid.in_range.nanoseconds in
     (Skipped x.0 y.0, (u, a, b, passes, x.1, y.1), λ made. elim outside [ inl before ↦ before (subst IsReading x.1.civil.reads made.0) | inr after ↦ after (subst IsReading y.1.civil.reads made.1) ])
 
--- where an entry is refused, so is the search
+-- if an entry is refused, so is the search
 pub fault_from_refused : (clock : Clock) (f : Fields) → IsValid f → (takes_memory : Type 0) (fault : TzError) → IsRefused (IsDatedFault takes_memory) clock (reading f) fault → IsSearchFault takes_memory clock f fault
 fault_from_refused clock f valid takes_memory fault (e, is, inl memory) = inl memory
 fault_from_refused clock f valid takes_memory fault (Shown u t, is, inr (range, outside)) = absurd outside
@@ -77,7 +77,7 @@ module _ (clock : Clock) (f : Fields) where
     pub as_long : length found ≡ length es
     as_long = AllZip-long (IsMadeOf f) es found made
 
-    -- what stands for an entry where there is none
+    -- what stands for an entry if there is none
     no_entry : FoundDateTimeKind → Entry
     no_entry d = Shown (pos 0) (first_side d).local_time_type
 

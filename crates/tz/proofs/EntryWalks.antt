@@ -31,7 +31,7 @@ HoldsTo clock since last type = (u : ℤ) → since ≤ℤ u → u ≤ℤ last �
 same_offset : (type : Option LocalTimeType) (s t : LocalTimeType) → type ≡ Some s → type ≡ Some t → s.ut_offset ≡ t.ut_offset
 same_offset type s t is is' = ap (λ (x : LocalTimeType). x.ut_offset) (same_Some s t (sym is ∙ is'))
 
--- what a span gives, by the instants at which its type and the one before it show the reading
+-- the entry of a span, by the instants at which its type and the one before it show the reading
 module _ (r : ℤ) (before : Option LocalTimeType) (since : ℤ) (type : Option LocalTimeType) (last : ℤ) where
   pub given_shown : (t : LocalTimeType) (u : ℤ) → type ≡ Some t → u ≡ r -ℤ t.ut_offset → since ≤ℤ u → u ≤ℤ last → IsEntryOf r before since type last (Shown u t)
   given_shown t u is at from to = (is, (from, to), omega (arith, ints, at))
@@ -66,7 +66,7 @@ module _ (r : ℤ) (before : Option LocalTimeType) (since : ℤ) (type : Option 
       ap (λ w. Jump w a b) (at ∙ sym at') ∙ ap (λ s. Jump v s b) (same_Some a a' (sym was ∙ was')) ∙ ap (λ s. Jump v a' s) (same_Some b b' (sym is ∙ is'))
 
 module _ (clock : Clock) (low high r : ℤ) (offsets : AreOffsetsAround clock low high r) where
-  -- an entry lies in the window, with the instant before a jump
+  -- an entry is in the window, with the instant before a jump
   in_window : (e : Entry) → IsEntryIn clock r e → (low ≤ℤ instant_of e) × (instant_of e ≤ℤ high)
   in_window (Shown u t) shows = let offset = offsets u t shows.0 in (omega (arith, ints, shows.1, offset.1), omega (arith, ints, shows.1, offset.0))
   in_window (Jump u a b) passes =
@@ -140,7 +140,7 @@ module _ (clock : Clock) (low high r : ℤ) (offsets : AreOffsetsAround clock lo
               (at, (goes_on a).0 (subst (λ v. clock v a) here passes.0), is, passes.2, passes.3)
         ])
 
-    -- all entries before the span, and what it gives, are all before its end
+    -- all entries before the span, and its own entry, are all before its end
     pub entries_after : (es new : List Entry) (until : ℤ) → until ≡ last +ℤ pos 1 → AreEntriesBefore clock r since es → IsGiven r before since type last new → AreEntriesBefore clock r until (es ++ new)
     entries_after es new until end are (inl (is, none)) =
         subst (λ all. AreEntriesBefore clock r until all) (sym (ap (λ more. es ++ more) is ∙ append-nil es))
@@ -240,7 +240,7 @@ module _ (z : Zone) (r jump : ℤ) (a b : LocalTimeType) (has : HasTwoTypes z r 
   goes_on : IsJustBefore (IsClock z) has.low jump (Some a)
   goes_on = inr (first_holds (jump -ℤ pos 1) (omega (arith, ints, has.types_are.0)) (omega (arith, ints)))
 
-  -- the instants at which the types show the reading lie in the window
+  -- the instants at which the types show the reading are in the window
   pub from_low : (u : ℤ) → u ≡ r -ℤ a.ut_offset → has.low ≤ℤ u
   from_low u at = omega (arith, ints, at, (has.offsets_are has.low a (has.types_are.2 has.low (omega (arith, ints)) has.types_are.0)).1)
 

@@ -1,4 +1,4 @@
--- The order of fields, one after the other, is the order of their totals where the seconds are below 60.
+-- The order of fields, one after the other, is the order of their totals if the seconds are below 60.
 use Rattle.std.proofs.Common.{◌≡◌, ℕ, ◌+◌, ◌*◌, ◌<◌, ◌⊎◌, inl, inr, sym, arith, ◌<ℤ◌}
 use Rattle.std.proofs.lemmas.Int.{ints}
 use Rattle.std.specs.Cmp.{int_cmp_is}
@@ -39,7 +39,7 @@ earlier_time f g is (inr (h, inl m)) = let r = is.valid.in_range in omega (arith
 earlier_time f g is (inr (h, inr (m, inl s))) = let r = is.valid.in_range in omega (arith, h, m, s, r.nanoseconds)
 earlier_time f g is (inr (h, inr (m, inr (s, n)))) = omega (arith, h, m, s, n)
 
--- the times of a day lie below its end
+-- the times of a day are below its end
 time_below : (f : Fields) → IsBelow60 f → time_of f < 86400000000000
 time_below f is = let r = is.valid.in_range in omega (arith, r.hour, r.minute, is.below_60, r.nanoseconds)
 
@@ -65,7 +65,7 @@ IsSame f g = (f.year ≡ g.year) × ((f.month ≡ g.month) × ((f.month_day ≡ 
 same_total : (f g : Fields) → IsSame f g → utc_total f ≡ utc_total g
 same_total f g (y, (m, (d, (h, (i, (s, n)))))) = omega (arith, ints, same_date f g y m d, h, i, s, n)
 
--- what the comparison says where the first fields are later
+-- what the comparison says if the first fields are later
 abbrev IsLater : Fields → Fields → Type 0
 IsLater f g =
     (g.year <ℤ f.year)

@@ -22,7 +22,7 @@ filled_next [] found e h = absurd (omega arith)
 filled_next (slot ∷ slots) [] e h = ap (λ rest. Some e ∷ rest) (filled_none slots)
 filled_next (slot ∷ slots) (first ∷ found) e h = ap (λ rest. Some first ∷ rest) (filled_next slots found e (omega arith))
 
--- where there is none, the slots stay
+-- if there is none, the slots stay
 filled_full : (slots : Slots) (found : List FoundDateTimeKind) (e : FoundDateTimeKind) → length slots ≤ length found → filled slots (found ++ e ∷ []) ≡ filled slots found
 filled_full [] found e h = refl
 filled_full (slot ∷ slots) [] e h = absurd (omega arith)

@@ -1,4 +1,4 @@
--- Where a clock has a type all through the window of a reading, it shows the reading there or passes over it.
+-- If a clock has a type all through the window of a reading, it shows the reading there or passes over it.
 use Rattle.std.proofs.Common.{◌≡◌, ◌≢◌, ℕ, zero, suc, ◌+◌, ◌⊎◌, inl, inr, refl, subst, arith, ℤ, pos, ◌+ℤ◌, ◌-ℤ◌, ◌≤ℤ◌, List, []}
 use Rattle.std.specs.List.{Contains}
 use Rattle.std.proofs.lemmas.Int.{ints, by_lt_z}

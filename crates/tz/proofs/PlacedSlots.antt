@@ -23,7 +23,7 @@ placed_next [] xs x h = absurd (omega arith)
 placed_next (slot ∷ slots) [] x h = ap (λ rest. x ∷ rest) (placed_none slots)
 placed_next (slot ∷ slots) (first ∷ xs) x h = ap (λ rest. first ∷ rest) (placed_next slots xs x (omega arith))
 
--- where there is none, the slots stay
+-- if there is none, the slots stay
 placed_full : (slots xs : List FoundData) (x : FoundData) → length slots ≤ length xs → placed slots (xs ++ x ∷ []) ≡ placed slots xs
 placed_full [] xs x h = refl
 placed_full (slot ∷ slots) [] x h = absurd (omega arith)

@@ -1,4 +1,4 @@
--- Where the list is promised each entry can be made, so a search is never refused as out of range.
+-- If the list is promised, each entry can be made, so a search is never refused as out of range.
 use Rattle.std.proofs.Common.{◌≡◌, ◌≢◌, ◌+◌, ◌*◌, inl, inr, sym, ap, subst, ◌∙◌, arith, ℤ, pos, negsuc, ◌+ℤ◌, ◌-ℤ◌, ◌≤ℤ◌, ◌<ℤ◌, Some}
 use Rattle.std.proofs.lemmas.Int.{ints}
 use mir.Syntax.{w32}
@@ -30,7 +30,7 @@ year_fits : (y : ℤ) → negsuc 2147483647 ≤ℤ y → y ≤ℤ pos 2147483647
 year_fits (pos n) low high = record { sfits = omega (arith, ints) }
 year_fits (negsuc n) low high = record { sfits = omega (arith, ints) }
 
--- far from the ends all that is less than 2^32 seconds, which are 136.1 years, from a reading lies in years of 32 bits
+-- far from the ends all that is less than 2^32 seconds, which are 136.1 years, from a reading is in years of 32 bits
 far_from_ends : (f : Fields) → IsValid f → IsFarFromEnds f.year → (x : ℤ) → (reading f -ℤ pos 4294967296) <ℤ x → x <ℤ (reading f +ℤ pos 4294967296) → IsReading x
 far_from_ends f valid far x from until =
     let before = first_day-mono (f.year -ℤ pos 200) f.year 200 (omega (arith, ints)) in
@@ -73,7 +73,7 @@ plain_offsets z (types, rule) = offsets_from_types z (negsuc 89998) (pos 93599)
           (omega (arith, ints, same, std.0), omega (arith, ints, same, std.1))
     ]
 
--- where the list is promised, each entry can be made in a zone with offsets of 32 bits
+-- if the list is promised, each entry can be made in a zone with offsets of 32 bits
 pub each_can_be_made : (z : Zone) (least greatest : ℤ) → AreOffsetsOf z least greatest → (greatest -ℤ least) <ℤ pos 4294967296 → (f : Fields) → IsValid f → IsPromised z f.year → EachCanBeMade (IsClock z) f
 each_can_be_made z least greatest offsets width f valid promised (Normal d) by = tt
 each_can_be_made z least greatest offsets width f valid (inl far) (Skipped x y) (u, a, b, passes, shown_x, shown_y) =
@@ -89,7 +89,7 @@ each_can_be_made z least greatest offsets width f valid (inr (inside, plain)) (S
       subst IsReading (sym shown_y.civil.reads) (inside_ends f valid inside (u +ℤ b.ut_offset) (omega (arith, ints, passes.3)) (omega (arith, ints, passes.2, before.0, after.1))),
     )
 
--- and where each can be made, the search is not refused as out of range
+-- and if each can be made, the search is not refused as out of range
 pub not_out_of_range : (takes_memory : Type 0) (clock : Clock) (f : Fields) → (IsValid f → EachCanBeMade clock f) → (e : TzError) → IsFindFault takes_memory clock f e → e ≢ OutOfRange
 not_out_of_range takes_memory clock f made e (inl (fault, is, first)) out =
     let wrong = sym is ∙ out in
@@ -99,7 +99,7 @@ not_out_of_range takes_memory clock f made e (inr (valid, inl (is, takes))) out 
     cc
 not_out_of_range takes_memory clock f made e (inr (valid, inr (is, (found, by, cannot)))) out = cannot (made valid found by)
 
--- so it is not where the list is promised
+-- so it is not if the list is promised
 pub never_out_of_range : (takes_memory : Type 0) (z : Zone) (least greatest : ℤ) → AreEndOffsets z least greatest → SFits w32 least → SFits w32 greatest → (f : Fields) → IsPromised z f.year → (e : TzError) → IsFindFault takes_memory (IsClock z) f e → e ≢ OutOfRange
 never_out_of_range takes_memory z least greatest ends fits fits' f promised e fault =
     let width : (greatest -ℤ least) <ℤ pos 4294967296 = omega (arith, ints, fits.sfits, fits'.sfits) in

@@ -31,7 +31,7 @@ window_from_offsets types extra_rule r low high least greatest is_least is_great
     let last : least ≡ r -ℤ high = omega (arith, ints, high_is) in
     record { first = subst (IsGreatestOffset types extra_rule) first is_greatest; last = subst (IsLeastOffset types extra_rule) last is_least }
 
--- all offsets of the clock lie between the least and the greatest
+-- all offsets of the clock are between the least and the greatest
 pub clock_between : (z : Zone) (least greatest : ℤ) → IsLeastOffset z.types z.extra_rule least → IsGreatestOffset z.types z.extra_rule greatest → AreOffsetsOf z least greatest
 clock_between z least greatest is_least is_greatest =
     offsets_from_types z least greatest
@@ -41,7 +41,7 @@ clock_between z least greatest is_least is_greatest =
     between : (o : ℤ) → IsOffset z.types z.extra_rule o → (least ≤ℤ o) × (o ≤ℤ greatest)
     between o is = (is_least.1 o is, is_greatest.1 o is)
 
--- so they lie around a reading as the window does
+-- so they are around a reading as the window does
 pub offsets_around : (z : Zone) (r low high least greatest : ℤ) → IsLeastOffset z.types z.extra_rule least → IsGreatestOffset z.types z.extra_rule greatest →
     low ≡ r -ℤ greatest → high ≡ r -ℤ least → AreOffsetsOf z (r -ℤ high) (r -ℤ low)
 offsets_around z r low high least greatest is_least is_greatest low_is high_is u t clock =
@@ -101,7 +101,7 @@ as_many_as_listed z low high places rise just w = (
       omega (arith, bound, no_longer places others rise rise' within)),
 )
 
--- where those from one place up to another do, they are not more
+-- if those from one place up to another do, they are not more
 pub as_many_as_passed : (z : Zone) (low high : ℤ) (w : ℕ) → AtMostTakeEffectIn z low high w → (first place : ℕ) → first ≤ place → ((i : ℕ) → first ≤ i → i < place → TakesEffectIn z low high i) → place ≤ first + w
 as_many_as_passed z low high w most first place order effects =
     let count = place - first in

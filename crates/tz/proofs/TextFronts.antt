@@ -1,5 +1,8 @@
 -- Digits at the front of bytes, and a number of two digits there, are these alone, and so is what follows them.
 use Rattle.std.proofs.Common.{◌≡◌, ◌≢◌, min, ℕ, suc, zero, ◌+◌, ◌-◌, ◌*◌, ◌/◌, ◌%◌, ◌^◌, ◌<◌, ◌≤◌, inl, inr, ℤ, pos, neg_ℤ, List, [], ◌∷◌, ◌++◌, length, length-append, get_or, take, drop, refl, sym, ap, ◌∙◌, subst, arith}
+use Rattle.std.proofs.Math.Nat.{mul-lt-mul_of_pos_right, pow-suc}
+use Rattle.std.proofs.lemmas.Bool.{eqb-true}
+use Rattle.std.proofs.lemmas.Nat.{pow-add}
 use Rattle.std.proofs.lemmas.List.{take_all, length-drop, length-take}
 use Rattle.std.proofs.lemmas.Fmt.{decimal_digit, decimal-digits_value, length-decimal-le}
 use Rattle.std.proofs.lemmas.Int.Digits.{digits_value-lt}
@@ -7,7 +10,8 @@ use Rattle.std.proofs.lemmas.Str.Parse.{IsNumeralModel, digits_value_short, nume
 use Rattle.std.specs.Char.{digit_value}
 use Rattle.std.specs.Fmt.{decimal}
 use Rattle.std.specs.Int.{w32}
-use Rattle.std.specs.Prelude.{FitsSigned}
+use Rattle.std.specs.Prelude.{Bool, FitsSigned, ◌==◌}
+use Rattle.tz_base.proofs.TestsBelow.{all_below, passes_at}
 use Rattle.std.specs.Str.Parse.{AllDigits, digits_value}
 use Rattle.tz.specs.declared.parse.number.TheConstants.{POWERS}
 use Rattle.tz.specs.DateTimeText.{AreYearDigits, EndsDigits, IsDigits, IsFraction, IsPair, IsYear}
@@ -75,30 +79,21 @@ own = numerals_by_value (AllDigits 10) tells_digits
 
 -- ten to each power up to the eighth
 pub powers_are : (k : ℕ) → k ≤ 8 → get_or POWERS k 0 ≡ 10 ^ k
-powers_are zero few = refl
-powers_are (suc zero) few = refl
-powers_are (suc (suc zero)) few = refl
-powers_are (suc (suc (suc zero))) few = refl
-powers_are (suc (suc (suc (suc zero)))) few = refl
-powers_are (suc (suc (suc (suc (suc zero))))) few = refl
-powers_are (suc (suc (suc (suc (suc (suc zero)))))) few = refl
-powers_are (suc (suc (suc (suc (suc (suc (suc zero))))))) few = refl
-powers_are (suc (suc (suc (suc (suc (suc (suc (suc zero)))))))) few = refl
-powers_are (suc (suc (suc (suc (suc (suc (suc (suc (suc k))))))))) few = absurd (omega (arith, few))
+unfolding all_below
+powers_are k few =
+    let power : (k' : ℕ) → Bool = λ k'. get_or POWERS k' 0 == 10 ^ k' in
+    eqb-true (get_or POWERS k 0) (10 ^ k) (passes_at power 9 k refl (omega arith))
+
+power_pos : (k : ℕ) → 0 < 10 ^ k
+power_pos zero = omega arith
+power_pos (suc k) = omega (arith, pow-suc 10 k, power_pos k)
 
 -- a fraction of up to nine digits is below a second
 pub fraction_below : (k n : ℕ) → k ≤ 9 → n < 10 ^ (9 - k) → n * 10 ^ k < 1000000000
-fraction_below zero n few below = omega (arith, below)
-fraction_below (suc zero) n few below = omega (arith, below)
-fraction_below (suc (suc zero)) n few below = omega (arith, below)
-fraction_below (suc (suc (suc zero))) n few below = omega (arith, below)
-fraction_below (suc (suc (suc (suc zero)))) n few below = omega (arith, below)
-fraction_below (suc (suc (suc (suc (suc zero))))) n few below = omega (arith, below)
-fraction_below (suc (suc (suc (suc (suc (suc zero)))))) n few below = omega (arith, below)
-fraction_below (suc (suc (suc (suc (suc (suc (suc zero))))))) n few below = omega (arith, below)
-fraction_below (suc (suc (suc (suc (suc (suc (suc (suc zero)))))))) n few below = omega (arith, below)
-fraction_below (suc (suc (suc (suc (suc (suc (suc (suc (suc zero))))))))) n few below = omega (arith, below)
-fraction_below (suc (suc (suc (suc (suc (suc (suc (suc (suc (suc k)))))))))) n few below = absurd (omega (arith, few))
+fraction_below k n few below =
+    let nine : 9 - k + k ≡ 9 = omega arith in
+    let whole : 10 ^ (9 - k) * 10 ^ k ≡ 10 ^ 9 = sym (pow-add 10 (9 - k) k) ∙ ap (λ e. 10 ^ e) nine in
+    omega (arith, whole, mul-lt-mul_of_pos_right {k = 10 ^ k} below (power_pos k))
 
 -- digits without a leading zero, or one alone, are those of a number as it is printed
 pub printed_digits : (digits : List ℕ) → AllDigits 10 digits → 0 < length digits → length digits < 4 → (get_or digits 0 0 ≡ 48 → length digits ≡ 1) → AreYearDigits digits

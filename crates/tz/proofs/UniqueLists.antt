@@ -69,7 +69,7 @@ module _ {X : Type 0} (at : X → ℤ) where
       let more = rising_unique xs ys (rest_rises x xs rises) (rest_rises x ys rises-same) (rest_within x xs ys rises within-same) (rest_within x ys xs rises-same within-same') in
       ap (λ zs. x ∷ zs) more ∙ ap (λ z. z ∷ ys) (sym same)
 
--- where each entry of the list can be made, each entry can
+-- if each entry of the list can be made, each entry can
 pub each_from_list : (clock : Clock) (f : Fields) (found : List FoundDateTimeKind) → IsFound clock f found → All CanBeMade found → EachCanBeMade clock f
 each_from_list clock f found is made e by = All-contains CanBeMade found e made (is.complete e by)
 

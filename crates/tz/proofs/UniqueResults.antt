@@ -43,7 +43,7 @@ module _ (z : Zone) (u : ℤ) (n : ℕ) where
   clock_fault_unique e e' (inr (inr (is, few, out))) (inr (inl (few', inr (is', none, not_over)))) = is ∙ sym is'
   clock_fault_unique e e' (inr (inr (is, few, out))) (inr (inr (is', few', out'))) = is ∙ sym is'
 
-  -- where the clock shows a date time there is no refusal
+  -- if the clock shows a date time, there is no refusal
   pub no_fault_where_shown : (d : DateTime) (e : TzError) → ShowsByClock z u n d → IsReading (reading d.fields) → ¬ IsClockFault z u n e
   no_fault_where_shown d e (t, clock, shows) in_range (inl (is, many)) = omega (arith, many, shows.civil.valid.in_range.nanoseconds, shows.civil.nanoseconds_are)
   no_fault_where_shown d e (t, clock, shows) in_range (inr (inl (few, inl (is, over)))) = no_type_when_over over t clock
@@ -103,7 +103,7 @@ first_fault_unique f InvalidNanoseconds InvalidMinute is is' = absurd (omega (ar
 first_fault_unique f InvalidNanoseconds InvalidSecond is is' = absurd (omega (arith, is'.4, is.4))
 first_fault_unique f InvalidNanoseconds InvalidNanoseconds is is' = refl
 
--- why a search is refused, an allocation failure aside, is one reason where it is not both
+-- why a search is refused, an allocation failure aside, is one reason
 pub search_fault_unique : (z : Zone) (f : Fields) (e e' : TzError) → IsFindFault ⊥ (IsClock z) f e → IsFindFault ⊥ (IsClock z) f e' → e ≡ e'
 search_fault_unique z f e e' (inl (a, is, first)) (inl (b, is', first')) = is ∙ ap (λ x. FieldFault x) (first_fault_unique f a b first first') ∙ sym is'
 search_fault_unique z f e e' (inl (a, is, first)) (inr (valid, fault)) = absurd (valid_without_fault f valid a first)
@@ -112,7 +112,7 @@ search_fault_unique z f e e' (inr (valid, inl (is, none))) (inr fault) = absurd 
 search_fault_unique z f e e' (inr (valid, inr (is, near))) (inr (valid', inl (is', none))) = absurd none
 search_fault_unique z f e e' (inr (valid, inr (is, near))) (inr (valid', inr (is', near'))) = is ∙ sym is'
 
--- where each entry can be made, valid fields have an answer that is no refusal
+-- if each entry can be made, valid fields have an answer that is no refusal
 pub no_fault_where_made : (z : Zone) (f : Fields) → IsValid f → EachCanBeMade (IsClock z) f → (e : TzError) → ¬ IsFindFault ⊥ (IsClock z) f e
 no_fault_where_made z f valid made e (inl (fault, is, first)) = valid_without_fault f valid fault first
 no_fault_where_made z f valid made e (inr (valid', inl (is, none))) = none

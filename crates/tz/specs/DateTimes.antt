@@ -40,7 +40,7 @@ pub record ShowsInstant (u : ℤ) (nanoseconds : ℕ) (t : LocalTimeType) (d : D
   pub type_is : d.local_time_type ≡ t
   pub instant_is : d.unix_time ≡ u
 
--- the fields of a UTC date time: valid ones, whose reading lies in a year of 32 bits
+-- the fields of a UTC date time: valid ones, whose reading is in a year of 32 bits
 pub record IsUtc (f : Fields) : Type 0 where
   pub valid : IsValid f
   pub reads : IsReading (reading f)
@@ -85,7 +85,7 @@ IsNearTotal total = ((pos 1000000000 *ℤ negsuc 9223372036854775807) ≤ℤ tot
 abbrev pub IsUtcAt : ℤ → Fields → Type 0
 IsUtcAt total f = (seconds : ℤ) × IsTimespec total seconds f.nanoseconds × IsCivil seconds f.nanoseconds f
 
--- the difference of two totals, forwards, or backwards where the first is the greater one
+-- the difference of two totals, forwards, or backwards if the first is the greater one
 abbrev pub IsForwards : ℤ → ℤ → Duration → Type 0
 IsForwards earlier later d = pos (as_nanos d) ≡ later -ℤ earlier
 

@@ -42,7 +42,7 @@ pub record AreEntriesBefore (clock : Clock) (r until : ℤ) (es : List Entry) : 
   pub in_order : AllPairs IsEarlier es
   pub complete : (e : Entry) → IsEntryIn clock r e → instant_of e <ℤ until → Contains es e
 
--- how one who takes entries of a reading gains them: none where it stays, and one after the other
+-- how one who takes entries of a reading gains them: none if it stays, and one after the other
 pub record IsTaker {E : Type 0} (gains : E → E → List Entry → Type 0) (takes : E → ℤ → Type 0) : Type 0 where
   pub none : (taker : E) → gains taker taker []
   pub more : (taker middle grown : E) (es fs : List Entry) → gains taker middle es → gains middle grown fs → gains taker grown (es ++ fs)
@@ -56,7 +56,7 @@ Finds gains clock r taker grown = (es : List Entry) × gains taker grown es × A
 abbrev pub IsRefused : (TzError → Entry → Type 0) → Clock → ℤ → TzError → Type 0
 IsRefused refuses clock r fault = (e : Entry) × IsEntryIn clock r e × refuses fault e
 
--- a side of an entry lies outside the years of 32 bits
+-- a side of an entry is outside the years of 32 bits
 abbrev pub IsEntryOutside : Entry → Type 0
 IsEntryOutside (Shown u t) = ⊥
 IsEntryOutside (Jump u a b) = ¬ IsReading (u +ℤ a.ut_offset) ⊎ ¬ IsReading (u +ℤ b.ut_offset)

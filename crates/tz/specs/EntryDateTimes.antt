@@ -33,7 +33,7 @@ GainsDated gains dated grown es =
 abbrev pub TakesEntries : {L : Type 0} → Dated L → ℤ → Type 0
 TakesEntries dated r = IsValid dated.fields.now × (reading dated.fields.now ≡ r)
 
--- why a list refuses an entry: memory, or a side of it lies outside the years of 32 bits
+-- why a list refuses an entry: memory, or a side of it is outside the years of 32 bits
 abbrev pub IsDatedFault : Type 0 → TzError → Entry → Type 0
 IsDatedFault takes_memory fault e = ((fault ≡ faults.Memory alloc_error) × takes_memory) ⊎ ((fault ≡ faults.OutOfRange) × IsEntryOutside e)
 

@@ -1,4 +1,4 @@
--- Why a search for fields is refused, and where it is never out of range.
+-- Why a search for fields is refused, and when it is never out of range.
 use Rattle.std.specs.Prelude.{◌≡◌, ◌⊎◌, ℕ, ℤ, negsuc, pos, ◌≤ℤ◌, Option, Some, None, ⊤, alloc_error}
 use Rattle.tz_base.specs.declared.fields.Fields.{Fields}
 use Rattle.tz_base.specs.declared.error.TzError.{TzError}

@@ -1,5 +1,5 @@
 -- Grammars of texts. A grammar is read at the front of bytes: it says which value the bytes have there and which bytes follow, and,
--- where there is none, which part is the first that is missing and which bytes stand in its place.
+-- if there is none, which part is the first that is missing and which bytes stand in its place.
 use Rattle.std.specs.Prelude.{◌≡◌, ℕ, ◌⊎◌, List}
 use Rattle.tz.specs.declared.parse.error.DateTimePart.{DateTimePart}
 
@@ -8,7 +8,7 @@ pub record Grammar (A : Type 0) : Type 1 where
   pub reads : List ℕ → A → List ℕ → Type 0
   pub misses : List ℕ → DateTimePart → List ℕ → Type 0
 
--- one part: it is missing where bytes do not begin with it
+-- one part: it is missing if bytes do not begin with it
 abbrev pub one : {A : Type 0} → DateTimePart → (List ℕ → A → List ℕ → Type 0) → Grammar A
 one {A} part begins = record {
   reads = begins;

@@ -39,8 +39,8 @@ entry_meant Earlier found = first_entry found
 entry_meant Later found = last_entry found
 entry_meant Reject found = only_shown found
 
--- the instant that is meant where clocks are set forward over a reading: the reading in the offset after the jump, which lies
--- before the jump, or in the offset before the jump, which lies at the jump or after it
+-- the instant that is meant if clocks are set forward over a reading: the reading in the offset after the jump, which is
+-- before the jump, or in the offset before the jump, which is at the jump or after it
 abbrev pub instant_meant : Disambiguation → ℤ → DateTime → DateTime → ℤ
 instant_meant Earlier r before after = r -ℤ after.local_time_type.ut_offset
 instant_meant _ r before after = r -ℤ before.local_time_type.ut_offset
@@ -50,12 +50,12 @@ abbrev pub IsMeantBy : Zone → Disambiguation → Fields → FoundDateTimeKind 
 IsMeantBy z choice f (Normal shown) d = d ≡ shown
 IsMeantBy z choice f (Skipped before after) d = ShowsByClock z (instant_meant choice (reading f) before after) f.nanoseconds d
 
--- why an entry gives no date time: at the instant that is meant the clock shows none
+-- why an entry has no date time: at the instant that is meant the clock shows none
 abbrev pub IsMeantFault : Zone → Disambiguation → Fields → FoundDateTimeKind → TzError → Type 0
 IsMeantFault z choice f (Normal shown) e = ⊥
 IsMeantFault z choice f (Skipped before after) e = IsClockFault z (instant_meant choice (reading f) before after) f.nanoseconds e
 
--- the date time that is meant by an entry, or none where no entry is meant
+-- the date time that is meant by an entry, or none if no entry is meant
 abbrev pub IsMeantIn : Zone → Disambiguation → Fields → Option FoundDateTimeKind → Option DateTime → Type 0
 IsMeantIn z choice f (Some entry) (Some d) = IsMeantBy z choice f entry d
 IsMeantIn z choice f None None = ⊤

@@ -1,5 +1,5 @@
 -- How a date time is printed: ISO 8601-1, sections 5.4.2 (extended format, nine decimal digits) and 5.3.4 (UTC and offsets from it), with the year
--- as long as it is, and the seconds of an offset where there are any.
+-- as long as it is, and the seconds of an offset if there are any.
 use Rattle.std.specs.Prelude.{ℕ, zero, suc, ◌+◌, ◌/◌, ◌%◌, ◌==◌, nat_lt, if◌then◌else◌, ℤ, pos, negsuc, List, [], ◌∷◌, ◌++◌, unwrap_or}
 use Rattle.std.specs.Fmt.{decimal, signed_decimal}
 use Rattle.tz_base.specs.declared.fields.Fields.{Fields}

@@ -8,7 +8,7 @@ use Rattle.tz.specs.declared.datetime.found.FoundDateTimeKind.TheVariants.{Norma
 abbrev pub Slots : Type 0
 Slots = List (Option FoundDateTimeKind)
 
--- the slots that are written where this many were found: one for each, as far as they go
+-- the slots that are written if this many were found: one for each, as far as they go
 abbrev pub written_of : Slots → ℕ → Slots
 written_of slots count = take (min count (length slots)) slots
 
@@ -29,7 +29,7 @@ earliest_slot slots = first_side_of (content_of (slice_get slots 0))
 abbrev pub latest_slot : Slots → Option DateTime
 latest_slot slots = last_side_of (content_of (slice_get slots (length slots - 1)))
 
--- the one date time where one slot is written
+-- the one date time if one slot is written
 abbrev pub unique_slot : Slots → Option DateTime
 unique_slot (Some (Normal d) ∷ []) = Some d
 unique_slot _ = None

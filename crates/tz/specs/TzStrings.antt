@@ -22,7 +22,7 @@ minutes_text n = if n == 0 then [] else colon ∷ two_digits (n / 60) ++ seconds
 unfoldable pub plain_time_text : ℕ → List ℕ
 plain_time_text n = decimal (n / 3600) ++ minutes_text (n % 3600)
 
--- the same after a minus where the seconds are negative
+-- the same after a minus if the seconds are negative
 unfoldable pub signed_time_text : ℤ → List ℕ
 signed_time_text (pos n) = plain_time_text n
 signed_time_text (negsuc n) = minus_sign ∷ plain_time_text (suc n)
@@ -59,7 +59,7 @@ daylight_offset_text std dst = if int_eq dst (std +ℤ pos 3600) then [] else of
 abbrev pub name_and_offset_text : LocalTimeType → List ℕ
 name_and_offset_text t = name_text (designation_text t) ++ offset_of_text t.ut_offset
 
--- the daylight name and its offset, and the two turns after commas
+-- the daylight name and its offset, and the two switches after commas
 abbrev pub daylight_text : AlternateTime → List ℕ
 daylight_text r =
     name_text (designation_text r.dst)

@@ -36,7 +36,7 @@ const HOUR: u32 = 3600;
 /// Two o'clock, the default time of day of a start or an end in a TZ string.
 const DEFAULT_TIME: i32 = 7200;
 
-/// How far daylight saving time is ahead of standard time, in seconds, where a TZ string does not say.
+/// How far daylight saving time is ahead of standard time, in seconds, if a TZ string does not say.
 const DEFAULT_SAVING: i32 = 3600;
 
 /// The least offset in seconds that a TZ string cannot have.
@@ -100,7 +100,7 @@ fn is_short_offset(ut_offset: i32) -> bool
     -LONG_OFFSET < ut_offset && ut_offset < LONG_OFFSET
 }
 
-/// Appends an offset: the seconds that are taken off to have UTC.
+/// Appends an offset with POSIX's sign: west of Greenwich is positive.
 fn push_offset(buffer: &mut TextBuffer, ut_offset: i32)
     requires short { IsShortOffset ut_offset }
     requires room { length buffer.old + 17 ≤ 128 }
@@ -125,7 +125,7 @@ fn is_bare_name(name: &str) -> bool
     name.len() > 2 && are_letters(name.as_bytes())
 }
 
-/// Appends a name, in angle brackets where it needs them.
+/// Appends a name, in angle brackets if it needs them.
 #[tactic(auto, unfolding(crate::specs::TzStrings::name_text))]
 fn push_name(buffer: &mut TextBuffer, name: &str)
     requires short { length name.now ≤ 7 }

@@ -23,7 +23,7 @@ pub(crate) trait DateTimeList {
         ensures ok { OnOk result (gains self.old self.new (found ∷ [])) }
         ensures err { OnErr result (takes_memory × gains self.old self.new []) };
 
-    /// A list gains nothing where it stays as it is.
+    /// A list that stays as it is gains nothing.
     ghost none: { (list : Self) → gains list list [] };
 
     /// One gain after another is a gain.
@@ -43,7 +43,7 @@ impl<A: Allocator + Copy> DateTimeList for FoundDateTimeList<A> {
 
     ghost more = { Prim.search (rules, common_steps) };
 
-    /// The first one gets room for two, since a reading is found once, or twice where clocks are set back.
+    /// The first one gets room for two, since a reading is found once, or twice if clocks are set back over it.
     #[inline(always)]
     fn push(&mut self, found: FoundDateTimeKind) -> Result<(), AllocError> {
         if self.found.is_empty() {

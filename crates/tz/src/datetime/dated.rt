@@ -23,7 +23,7 @@ pub(super) struct Dated<'l, L> {
 
 /// A jump from the first type to the second, with the nanoseconds of the fields.
 ///
-/// `OutOfRange`: a side of it lies in no year of 32 bits.
+/// `OutOfRange`: a side of it is in no year of 32 bits.
 #[inline(always)]
 fn jump(
     fields: &Fields,

@@ -1,4 +1,4 @@
-//! What a search gives: instants that show a reading, and jumps over it.
+//! What a search finds: instants that show a reading, and jumps over it.
 
 use tz_base::error::TzError;
 use tz_zone::timezone::LocalTimeType;

@@ -36,7 +36,7 @@ fn meant(
     Ok(Some(date_time_of(&entry, fields, disambiguation, time_zone_ref)?))
 }
 
-/// The date time that is meant by an entry.
+/// Resolves an entry: the date time itself, or in a gap the one at the chosen instant.
 fn date_time_of(
     entry: &FoundDateTimeKind,
     fields: &Fields,
@@ -59,7 +59,7 @@ fn date_time_of(
     }
 }
 
-/// The instant that is meant where clocks are set forward over the fields.
+/// The instant that is meant if clocks are set forward over the fields.
 pub(super) fn instant(
     fields: &Fields,
     disambiguation: Disambiguation,

@@ -8,7 +8,7 @@ use super::{DateTime, FoundDateTimeKind, UtcDateTime};
 use tz_base::fields::Fields;
 use tz_rule::timezone::LocalTimeType;
 
-/// The data of a [`UtcDateTime`], which lies as that does.
+/// The data of a [`UtcDateTime`], laid out as that is.
 #[repr(C)]
 #[derive(Clone, Copy)]
 pub struct UtcData {
@@ -18,7 +18,7 @@ pub struct UtcData {
     pub unix_time: i64,
 }
 
-/// The data of a [`DateTime`], which lies as that does.
+/// The data of a [`DateTime`], laid out as that is.
 #[repr(C)]
 #[derive(Clone, Copy)]
 pub struct DateTimeData {

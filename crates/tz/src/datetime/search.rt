@@ -138,7 +138,7 @@ fn walk<'a, E: Entries<'a>, V: Transitions>(
     while since <= high {
         let span = span_from(view, parts, stage, since, high);
         stage = span.next;
-        // Where two transitions take effect at the same instant the span between them is empty.
+        // If two transitions take effect at the same instant, the span between them is empty.
         if since <= span.last {
             give(
                 entries,

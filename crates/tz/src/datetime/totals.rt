@@ -40,7 +40,7 @@ fn carried(seconds: i64, nanoseconds: u32) -> Option<(i64, u32)>
     }
 }
 
-/// The seconds and nanoseconds that lie a duration after others, if the seconds are those of a UTC date time.
+/// The seconds and nanoseconds a duration after others, if the seconds are those of a UTC date time.
 pub(super) fn timespec_after(
     seconds: i64,
     nanoseconds: u32,
@@ -62,7 +62,7 @@ pub(super) fn timespec_after(
     )
 }
 
-/// The seconds and nanoseconds that lie a duration before others, if the seconds are those of a UTC date time.
+/// The seconds and nanoseconds a duration before others, if the seconds are those of a UTC date time.
 pub(super) fn timespec_before(
     seconds: i64,
     nanoseconds: u32,

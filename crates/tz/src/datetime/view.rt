@@ -127,7 +127,7 @@ pub fn find_into(
     Ok(fill(slots, skip, fields, zone))
 }
 
-/// The date time that is meant by an entry.
+/// Resolves an entry: the date time itself, or in a gap the one at the chosen instant.
 fn date_time_of(
     entry: &FoundDateTimeKind,
     fields: &Fields,
