@@ -24,9 +24,7 @@ search-requires-clause-offsets g c =
     let seen = zone_seen (g.V.Transitions.list c.args.view.now) c.other_parts-parts.result in
     let same : seen ≡ zone_of c.args.time_zone_ref = ap (λ (xs : List Transition). zone_seen xs c.other_parts-parts.result) c.requires ∙ c.other_parts-parts.ensures in
     let ends = c.offsets-least in
-    let fits_least : SFits w32 ends.result.0 = search rules in
-    let fits_greatest : SFits w32 ends.result.1 = search rules in
-    rw (to_z-of_z w32 ends.result.0 fits_least, to_z-of_z w32 ends.result.1 fits_greatest) (subst (λ (x : Zone). AreEndOffsets x ends.result.0 ends.result.1) (sym same) ends.ensures)
+    rw (to_z-of_z w32 ends.result.0 (search rules), to_z-of_z w32 ends.result.1 (search rules)) (subst (λ (x : Zone). AreEndOffsets x ends.result.0 ends.result.1) (sym same) ends.ensures)
 
 pub returns-clause-promised : goal.returns-clause-promised
 returns-clause-promised g c promised =
@@ -44,11 +42,10 @@ returns-clause-promised g c promised =
 
 pub returns-clause-err : goal.returns-clause-err
 returns-clause-err g c =
-    let f = c.args.fields.now in
     let seen = zone_seen (g.V.Transitions.list c.args.view.now) c.other_parts-parts.result in
     let same : seen ≡ zone_of c.args.time_zone_ref = ap (λ (xs : List Transition). zone_seen xs c.other_parts-parts.result) c.requires ∙ c.other_parts-parts.ensures in
     IfErr-weaker c.search.result _ _
-    (λ e fault. inr (c.in_ok-check.ensures.ok, subst (λ (x : Zone). IsSearchFault g.L.DateTimeList.takes_memory (IsClock x) f e) same fault))
+    (λ e fault. inr (c.in_ok-check.ensures.ok, subst (λ (x : Zone). IsSearchFault g.L.DateTimeList.takes_memory (IsClock x) c.args.fields.now e) same fault))
     c.search.ensures.err
 
 pub returns-clause-at_most : goal.returns-clause-at_most

@@ -19,8 +19,7 @@ utc_fields c =
 
 pub invariant_of-result : goal.invariant_of-result
 invariant_of-result c =
-    let fits : SFits w64 c.reading-unix_time.result = search rules in
-    (utc_fields c, to_z-of_z w64 c.reading-unix_time.result fits ∙ c.reading-unix_time.ensures.value)
+    (utc_fields c, to_z-of_z w64 c.reading-unix_time.result (search rules) ∙ c.reading-unix_time.ensures.value)
 
 pub returns-clause-ok : goal.returns-clause-ok
 returns-clause-ok c = utc_fields c
