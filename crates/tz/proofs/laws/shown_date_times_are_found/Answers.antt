@@ -1,11 +1,10 @@
 -- A date time that the clock shows is one that a search finds.
 use Rattle.std.proofs.Common.{◌∙◌, refl, sym, ap, subst, arith, ℤ, pos, negsuc, ◌+ℤ◌}
 use Rattle.std.proofs.lemmas.Int.{ints}
-use Rattle.std.specs.Prelude.{⊤}
 use Rattle.tz_rule.specs.LocalTimeType.{LocalTimeType}
 use Rattle.tz_zone.specs.Clock.{IsClock}
 use Rattle.tz.specs.declared.datetime.found.FoundDateTimeKind.TheVariants.{Normal}
-use Rattle.tz.proofs.PromisedLists.{each_can_be_made, not_out_of_range, only_memory_is_refused}
+use Rattle.tz.proofs.PromisedLists.{each_can_be_made}
 use Rattle.tz.proofs.laws.shown_date_times_are_found.Goals as goal
 
 pub returns-clause-found : goal.returns-clause-found

@@ -1,5 +1,5 @@
 -- The zone that is seen is the zone.
-use Rattle.std.proofs.Common.{rules, ◌≡◌, ◌+◌, ◌*◌, ◌^◌, ◌<◌, ◌≤◌, ◌∙◌, inl, inr, sym, ap, subst, length, List, ℕ}
+use Rattle.std.proofs.Common.{rules, ◌≡◌, ◌+◌, ◌*◌, ◌^◌, ◌<◌, ◌≤◌, ◌∙◌, inr, sym, ap, subst, length, List, ℕ}
 use Rattle.std.specs.Prelude.{OnOk}
 use Rattle.std.proofs.lemmas.Int.{to_z-of_z}
 use Rattle.std.proofs.lemmas.Result.{IfErr-weaker}
@@ -9,13 +9,10 @@ use Rattle.tz_base.specs.Fields.{reading}
 use Rattle.tz_zone.specs.Clock.{IsClock}
 use Rattle.tz_zone.specs.Offsets.{AreEndOffsets}
 use Rattle.tz_zone.specs.Table.{Transition, Zone}
-use Rattle.tz_zone.specs.ValidZone.{IsSoundTable}
 use Rattle.tz_zone.specs.ZoneRef.{zone_of}
 use Rattle.tz_zone.specs.ZoneSeen.{zone_seen}
 use Rattle.tz.specs.FindFaults.{IsSearchFault}
-use Rattle.tz.specs.Found.{IsFound}
 use Rattle.tz.specs.Windows.{AtMostTakeEffectAround}
-use Rattle.tz.specs.declared.datetime.found.FoundDateTimeKind.{FoundDateTimeKind}
 use Rattle.tz.proofs.PromisedLists.{never_out_of_range}
 use Rattle.tz.proofs.datetime.find.find_in.Goals as goal
 

@@ -2,7 +2,6 @@
 use Rattle.std.proofs.Common.{[], inl, refl, ap, arith, rules, ◌≤ℤ◌, ◌<ℤ◌}
 use Rattle.std.proofs.lemmas.Int.{ints, to_z-of_z}
 use mir.Syntax.{w64}
-use mir.Val.{SFits}
 use Rattle.tz.specs.Entries.{lent_type}
 use Rattle.tz.proofs.EntryWalks.{none_first, none_late, none_over}
 use Rattle.tz.proofs.datetime.search.give.Goals as goal

@@ -2,7 +2,6 @@
 use Rattle.std.proofs.Common.{rules, arith}
 use Rattle.std.proofs.lemmas.Int.{ints, to_z-of_z}
 use mir.Syntax.{w32, w64}
-use mir.Val.{SFits}
 use Rattle.tz.proofs.datetime.search.window_of.Goals as goal
 
 pub returns : goal.returns

@@ -3,7 +3,6 @@ use Rattle.std.proofs.Common.{◌∙◌, rules}
 use Rattle.std.proofs.lemmas.Int.{to_z-of_z}
 use Rattle.std.proofs.lemmas.Result.{IfErr-weaker, IfOk-weaker}
 use mir.Syntax.{w64}
-use mir.Val.{SFits}
 use Rattle.tz.proofs.datetime.view.date_time_of.Goals as goal
 
 pub returns-in-Skipped-clause-ok : goal.returns-in-Skipped-clause-ok

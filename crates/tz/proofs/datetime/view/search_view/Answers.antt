@@ -2,7 +2,6 @@
 use Rattle.std.proofs.Common.{rules, ◌≡◌, ◌∙◌, sym, ap, subst, List}
 use Rattle.std.proofs.lemmas.Int.{to_z-of_z}
 use mir.Syntax.{w32}
-use mir.Val.{SFits}
 use Rattle.tz_zone.specs.Offsets.{AreEndOffsets}
 use Rattle.tz_zone.specs.Table.{Transition, Zone}
 use Rattle.tz_zone.specs.ZoneSeen.{zone_seen}

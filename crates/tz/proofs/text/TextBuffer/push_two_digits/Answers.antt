@@ -1,5 +1,4 @@
 -- The two digits are ASCII bytes.
-use Rattle.std.proofs.Common.{◌++◌, ap, ◌∙◌}
 use Rattle.tz.proofs.PrintedDigits.{two_digits-ascii}
 use Rattle.tz.proofs.text.TextBuffer.push_two_digits.Goals as goal
 

@@ -3,7 +3,6 @@ use Rattle.std.proofs.Common.{inr, rules}
 use Rattle.std.proofs.lemmas.Int.{to_z-of_z}
 use Rattle.std.proofs.lemmas.Result.{IfErr-weaker, IfOk-weaker}
 use mir.Syntax.{w64, w128}
-use mir.Val.{SFits}
 use Rattle.tz.proofs.datetime.date_time.DateTime.from_total_nanoseconds.Goals as goal
 
 pub returns-clause-ok : goal.returns-clause-ok

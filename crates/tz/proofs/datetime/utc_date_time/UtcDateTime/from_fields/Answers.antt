@@ -1,6 +1,5 @@
 -- Valid fields that are not past the end make a UTC date time.
-use Rattle.std.proofs.Common.{◌∙◌, inr, refl, rules}
-use Rattle.std.proofs.lemmas.Result.{err_from_is_err_and}
+use Rattle.std.proofs.Common.{◌∙◌, rules}
 use Rattle.std.proofs.lemmas.Int.{to_z-of_z}
 use mir.Syntax.{w32, w64}
 use mir.Val.{SFits}
