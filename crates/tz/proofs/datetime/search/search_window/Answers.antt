@@ -1,4 +1,4 @@
--- The clock has one type in the window, or two with a jump between them, or the segments tell.
+-- The clock has one type in the window, or two with a jump between them, or the segments determine what it has.
 use Rattle.std.proofs.Common.{◌≡◌, ◌∙◌, ℕ, zero, suc, ◌+◌, ◌*◌, ◌^◌, ◌<◌, ◌≤◌, Option, Some, None, [], ◌∷◌, length, inl, inr, refl, subst, arith, rules, ◌+ℤ◌, ◌-ℤ◌}
 use Rattle.std.specs.Prelude.{MatchOption}
 use Rattle.std.proofs.lemmas.Bool.{cases_lt}
