@@ -1,15 +1,14 @@
 -- If the list is promised, each entry can be made, so a search is never refused as out of range.
-use Rattle.std.proofs.Common.{◌≡◌, ◌≢◌, ◌+◌, ◌*◌, inl, inr, sym, ap, subst, ◌∙◌, arith, ℤ, pos, negsuc, ◌+ℤ◌, ◌-ℤ◌, ◌≤ℤ◌, ◌<ℤ◌, Some}
+use Rattle.std.proofs.Common.{◌≢◌, ◌+◌, ◌*◌, inl, inr, sym, ap, subst, ◌∙◌, arith, ℤ, pos, negsuc, ◌+ℤ◌, ◌-ℤ◌, ◌≤ℤ◌, ◌<ℤ◌, Some}
 use Rattle.std.proofs.lemmas.Int.{ints}
 use mir.Syntax.{w32}
 use mir.Val.{SFits}
-use Rattle.std.specs.Prelude.{⊤, alloc_error}
 use Rattle.tz_base.specs.declared.error.datetime.DateTimeError.{DateTimeError}
 use Rattle.tz_base.specs.declared.error.datetime.DateTimeError.TheVariants.{InvalidMonth, InvalidMonthDay, InvalidHour, InvalidMinute, InvalidSecond, InvalidNanoseconds}
 use Rattle.tz_base.specs.Fields.{IsValid, IsFirstFault, IsReading, reading}
 use Rattle.tz_base.specs.declared.fields.Fields.{Fields}
 use Rattle.tz_base.specs.declared.error.TzError.{TzError}
-use Rattle.tz_base.specs.declared.error.TzError.TheVariants.{OutOfRange, Memory}
+use Rattle.tz_base.specs.declared.error.TzError.TheVariants.{OutOfRange}
 use Rattle.tz_base.proofs.DaysOfYears.{day_in_year, first_day_bounds}
 use Rattle.tz_base.proofs.DateOrder.{first_day-mono}
 use Rattle.tz_rule.specs.LocalTimeType.{LocalTimeType}
@@ -114,9 +113,3 @@ valid_without_fault f valid InvalidHour first = absurd (omega (arith, first.2, v
 valid_without_fault f valid InvalidMinute first = absurd (omega (arith, first.3, valid.in_range.minute))
 valid_without_fault f valid InvalidSecond first = absurd (omega (arith, first.4, valid.in_range.second))
 valid_without_fault f valid InvalidNanoseconds first = absurd (omega (arith, first.5, valid.in_range.nanoseconds))
-
--- what a search for valid fields is refused for, if it is not out of range
-pub only_memory_is_refused : (clock : Clock) (f : Fields) → IsValid f → (e : TzError) → IsFindFault ⊤ clock f e → e ≢ OutOfRange → e ≡ Memory alloc_error
-only_memory_is_refused clock f valid e (inl (fault, is, first)) range = absurd (valid_without_fault f valid fault first)
-only_memory_is_refused clock f valid e (inr (valid', inl (is, takes))) range = is
-only_memory_is_refused clock f valid e (inr (valid', inr (is, near))) range = absurd (range is)

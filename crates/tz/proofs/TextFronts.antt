@@ -1,5 +1,5 @@
 -- Digits at the front of bytes, and a number of two digits there, are these alone, and so is what follows them.
-use Rattle.std.proofs.Common.{◌≡◌, ◌≢◌, min, ℕ, suc, zero, ◌+◌, ◌-◌, ◌*◌, ◌/◌, ◌%◌, ◌^◌, ◌<◌, ◌≤◌, inl, inr, ℤ, pos, neg_ℤ, List, [], ◌∷◌, ◌++◌, length, length-append, get_or, take, drop, refl, sym, ap, ◌∙◌, subst, arith}
+use Rattle.std.proofs.Common.{◌≡◌, ◌≢◌, min, ℕ, suc, zero, ◌+◌, ◌-◌, ◌*◌, ◌/◌, ◌%◌, ◌^◌, ◌<◌, ◌≤◌, inl, inr, ℤ, pos, neg_ℤ, List, [], ◌∷◌, ◌++◌, length, get_or, take, drop, refl, sym, ap, ◌∙◌, subst, arith}
 use Rattle.std.proofs.Math.Nat.{mul-lt-mul_of_pos_right, pow-suc}
 use Rattle.std.proofs.lemmas.Bool.{eqb-true}
 use Rattle.std.proofs.lemmas.Nat.{pow-add}
@@ -31,10 +31,6 @@ digits_front_unique (d ∷ digits) (d' ∷ digits') rest rest' all all' ends end
 pub digits_unique : {text digits digits' rest rest' : List ℕ} → IsDigits text digits rest → IsDigits text digits' rest' → (digits ≡ digits') × (rest ≡ rest')
 digits_unique {digits = digits} {digits' = digits'} {rest = rest} {rest' = rest'} front front' =
     digits_front_unique digits digits' rest rest' front.all_digits front'.all_digits front.ends front'.ends (sym front.whole ∙ front'.whole)
-
--- as many digits stand there as bytes are read
-pub digits_length : {text digits rest : List ℕ} → IsDigits text digits rest → length digits ≡ length text - length rest
-digits_length {text} {digits} {rest} front = omega (arith, ap length front.whole ∙ length-append digits rest)
 
 -- two digits are their tens and their ones
 pub two_digits_are : (n : ℕ) → n < 100 → two_digits n ≡ (48 + n / 10) ∷ (48 + n % 10) ∷ []

@@ -1,18 +1,12 @@
 -- What the parts of a TZ string are by their cases, and how long a number is.
-use Rattle.std.proofs.Common.{inl, inr, ◌≡◌, ◌≢◌, ℕ, ◌<◌, ◌≤◌, Bool, true, false, List, [], ◌∷◌, length, refl, sym, ap, ℤ, pos, negsuc, ◌+ℤ◌, ◌<ℤ◌, ◌≤ℤ◌, arith}
+use Rattle.std.proofs.Common.{inl, inr, ◌≡◌, ◌≢◌, ℕ, ◌<◌, ◌≤◌, Bool, false, [], ◌∷◌, length, refl, ap, ℤ, pos, negsuc, ◌+ℤ◌, ◌<ℤ◌, ◌≤ℤ◌, arith}
 use Rattle.std.specs.Prelude.{unsigned_abs, if◌then◌else◌}
-use Rattle.std.specs.Bool.{MatchBool}
-use Rattle.std.specs.Char.{is_ascii_alphabetic}
 use Rattle.std.specs.Fmt.{decimal}
-use Rattle.std.specs.List.{list_all, AllWithin, HoldsAt}
 use Rattle.std.specs.Ordering.{int_eq}
 use Rattle.std.proofs.lemmas.Bool.{cases_Bool}
 use Rattle.std.proofs.lemmas.Bool.Decides.{Decides-int_eq}
 use Rattle.std.proofs.lemmas.Fmt.{length-decimal-le}
 use Rattle.std.proofs.lemmas.Int.{ints}
-use Rattle.std.proofs.lemmas.List.Elements.{All-from_all_within}
-use Rattle.std.proofs.lemmas.List.Folds.{list_all_at}
-use Rattle.std.proofs.lemmas.List.Sums.{list_all-from_AllPass}
 use Rattle.tz_zone.specs.Bytes.{minus_sign, slash}
 use Rattle.tz.specs.TzStrings.{plain_time_text, signed_time_text, offset_of_text, time_of_day_text, daylight_offset_text}
 
@@ -53,10 +47,3 @@ daylight_offset_text-default std dst e = ap (λ (b : Bool). if b then [] else of
 pub daylight_offset_text-other : (std dst : ℤ) → dst ≢ std +ℤ pos 3600 → daylight_offset_text std dst ≡ offset_of_text dst
 unfolding daylight_offset_text
 daylight_offset_text-other std dst other = ap (λ (b : Bool). if b then [] else offset_of_text dst) (int_eq-other dst (std +ℤ pos 3600) other)
-
--- the answer of a walk through the bytes
-pub letters_tested : (r : Bool) (bytes : List ℕ)
-    → MatchBool r (AllWithin (λ b. is_ascii_alphabetic b ≡ true) bytes 0 (length bytes)) ((k : ℕ) × (k < length bytes) × HoldsAt (λ b. is_ascii_alphabetic b ≡ false) bytes k)
-    → r ≡ list_all is_ascii_alphabetic bytes
-letters_tested true bytes h = sym (list_all-from_AllPass is_ascii_alphabetic bytes (All-from_all_within (λ b. is_ascii_alphabetic b ≡ true) bytes h))
-letters_tested false bytes h = sym (list_all_at is_ascii_alphabetic bytes h.0 0 h.1 (h.2 0))

@@ -1,11 +1,10 @@
 -- A date time that the clock shows is one that a search finds.
 use Rattle.std.proofs.Common.{◌∙◌, refl, sym, ap, subst, arith, ℤ, pos, negsuc, ◌+ℤ◌}
 use Rattle.std.proofs.lemmas.Int.{ints}
-use Rattle.std.specs.Prelude.{⊤}
 use Rattle.tz_rule.specs.LocalTimeType.{LocalTimeType}
 use Rattle.tz_zone.specs.Clock.{IsClock}
 use Rattle.tz.specs.declared.datetime.found.FoundDateTimeKind.TheVariants.{Normal}
-use Rattle.tz.proofs.PromisedLists.{each_can_be_made, not_out_of_range, only_memory_is_refused}
+use Rattle.tz.proofs.PromisedLists.{each_can_be_made}
 use Rattle.tz.proofs.laws.shown_date_times_are_found.Goals as goal
 
 pub returns-clause-found : goal.returns-clause-found
@@ -14,9 +13,6 @@ returns-clause-found c z u n d found (t, clock, shows) is =
     let reads = ap (λ (s : LocalTimeType). u +ℤ s.ut_offset) (sym shows.type_is) in
     let at = ap (λ (v : ℤ). v +ℤ d.local_time_type.ut_offset) shows.instant_is in
     is.complete (Normal d) (refl, (here, at ∙ sym reads ∙ sym shows.civil.reads))
-
-pub returns-clause-refused : goal.returns-clause-refused
-returns-clause-refused c z u n d e (t, clock, shows) made fault = only_memory_is_refused (IsClock z) d.fields shows.civil.valid e fault (not_out_of_range ⊤ (IsClock z) d.fields (λ valid. made) e fault)
 
 pub returns-clause-promised : goal.returns-clause-promised
 returns-clause-promised c z f fits valid promised =

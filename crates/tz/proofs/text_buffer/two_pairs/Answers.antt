@@ -10,5 +10,4 @@ returns-clause-text c =
 
 pub returns-clause-ascii : goal.returns-clause-ascii
 returns-clause-ascii c =
-    let n = c.args.number in
-    rw (c.pair_of.ensures, c.pair_of-2.ensures) (two_digits-ascii (n / 100) (omega (arith, c.requires.1)), two_digits-ascii (n % 100) (omega arith))
+    rw (c.pair_of.ensures, c.pair_of-2.ensures) (two_digits-ascii (c.args.number / 100) (omega (arith, c.requires.1)), two_digits-ascii (c.args.number % 100) (omega arith))

@@ -1,5 +1,5 @@
 -- The zone that is seen is the zone.
-use Rattle.std.proofs.Common.{rules, ◌≡◌, ◌+◌, ◌*◌, ◌^◌, ◌<◌, ◌≤◌, ◌∙◌, inl, inr, sym, ap, subst, length, List, ℕ}
+use Rattle.std.proofs.Common.{rules, ◌≡◌, ◌+◌, ◌*◌, ◌^◌, ◌<◌, ◌≤◌, ◌∙◌, inr, sym, ap, subst, length, List, ℕ}
 use Rattle.std.specs.Prelude.{OnOk}
 use Rattle.std.proofs.lemmas.Int.{to_z-of_z}
 use Rattle.std.proofs.lemmas.Result.{IfErr-weaker}
@@ -9,39 +9,19 @@ use Rattle.tz_base.specs.Fields.{reading}
 use Rattle.tz_zone.specs.Clock.{IsClock}
 use Rattle.tz_zone.specs.Offsets.{AreEndOffsets}
 use Rattle.tz_zone.specs.Table.{Transition, Zone}
-use Rattle.tz_zone.specs.ValidZone.{IsSoundTable}
 use Rattle.tz_zone.specs.ZoneRef.{zone_of}
 use Rattle.tz_zone.specs.ZoneSeen.{zone_seen}
 use Rattle.tz.specs.FindFaults.{IsSearchFault}
-use Rattle.tz.specs.Found.{IsFound}
 use Rattle.tz.specs.Windows.{AtMostTakeEffectAround}
-use Rattle.tz.specs.declared.datetime.found.FoundDateTimeKind.{FoundDateTimeKind}
 use Rattle.tz.proofs.PromisedLists.{never_out_of_range}
 use Rattle.tz.proofs.datetime.find.find_in.Goals as goal
-
-pub search-requires-clause-sound : goal.search-requires-clause-sound
-search-requires-clause-sound g c =
-    let seen = zone_seen (g.V.Transitions.list c.args.view.now) c.other_parts-parts.result in
-    let same : seen ≡ zone_of c.args.time_zone_ref = ap (λ (xs : List Transition). zone_seen xs c.other_parts-parts.result) c.requires ∙ c.other_parts-parts.ensures in
-    subst IsSoundTable (sym same) c.args.time_zone_ref.sound
 
 pub search-requires-clause-offsets : goal.search-requires-clause-offsets
 search-requires-clause-offsets g c =
     let seen = zone_seen (g.V.Transitions.list c.args.view.now) c.other_parts-parts.result in
     let same : seen ≡ zone_of c.args.time_zone_ref = ap (λ (xs : List Transition). zone_seen xs c.other_parts-parts.result) c.requires ∙ c.other_parts-parts.ensures in
     let ends = c.offsets-least in
-    let fits_least : SFits w32 ends.result.0 = search rules in
-    let fits_greatest : SFits w32 ends.result.1 = search rules in
-    rw (to_z-of_z w32 ends.result.0 fits_least, to_z-of_z w32 ends.result.1 fits_greatest) (subst (λ (x : Zone). AreEndOffsets x ends.result.0 ends.result.1) (sym same) ends.ensures)
-
-pub returns-clause-ok : goal.returns-clause-ok
-returns-clause-ok g c =
-    let seen = zone_seen (g.V.Transitions.list c.args.view.now) c.other_parts-parts.result in
-    let same : seen ≡ zone_of c.args.time_zone_ref = ap (λ (xs : List Transition). zone_seen xs c.other_parts-parts.result) c.requires ∙ c.other_parts-parts.ensures in
-    subst (λ (x : Zone). OnOk c.search.result ((found : List FoundDateTimeKind) × g.L.DateTimeList.gains c.args.list.now c.search.new.list found × IsFound (IsClock x) c.args.fields.now found × (length found ≤ 2 ^ 33))) same c.search.ensures.ok
-
-pub returns-clause-untouched : goal.returns-clause-untouched
-returns-clause-untouched g c = inl c.in_ok-check.ensures.ok
+    rw (to_z-of_z w32 ends.result.0 (search rules), to_z-of_z w32 ends.result.1 (search rules)) (subst (λ (x : Zone). AreEndOffsets x ends.result.0 ends.result.1) (sym same) ends.ensures)
 
 pub returns-clause-promised : goal.returns-clause-promised
 returns-clause-promised g c promised =
@@ -59,11 +39,10 @@ returns-clause-promised g c promised =
 
 pub returns-clause-err : goal.returns-clause-err
 returns-clause-err g c =
-    let f = c.args.fields.now in
     let seen = zone_seen (g.V.Transitions.list c.args.view.now) c.other_parts-parts.result in
     let same : seen ≡ zone_of c.args.time_zone_ref = ap (λ (xs : List Transition). zone_seen xs c.other_parts-parts.result) c.requires ∙ c.other_parts-parts.ensures in
     IfErr-weaker c.search.result _ _
-    (λ e fault. inr (c.in_ok-check.ensures.ok, subst (λ (x : Zone). IsSearchFault g.L.DateTimeList.takes_memory (IsClock x) f e) same fault))
+    (λ e fault. inr (c.in_ok-check.ensures.ok, subst (λ (x : Zone). IsSearchFault g.L.DateTimeList.takes_memory (IsClock x) c.args.fields.now e) same fault))
     c.search.ensures.err
 
 pub returns-clause-at_most : goal.returns-clause-at_most

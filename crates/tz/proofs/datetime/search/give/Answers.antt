@@ -2,46 +2,37 @@
 use Rattle.std.proofs.Common.{[], inl, refl, ap, arith, rules, ◌≤ℤ◌, ◌<ℤ◌}
 use Rattle.std.proofs.lemmas.Int.{ints, to_z-of_z}
 use mir.Syntax.{w64}
-use mir.Val.{SFits}
 use Rattle.tz.specs.Entries.{lent_type}
 use Rattle.tz.proofs.EntryWalks.{none_first, none_late, none_over}
 use Rattle.tz.proofs.datetime.search.give.Goals as goal
 
 pub returns-else-unix_time-last-clause-ok : goal.returns-else-unix_time-last-clause-ok
 returns-else-unix_time-last-clause-ok g c =
-    let t = c.in-Some.after.now in
     let u = c.shown_at-unix_time.result in
-    let fits : SFits w64 u = search rules in
     let reading_is = to_z-of_z w64 c.args.reading c.ranges.reading in
     let at = rw reading_is at c.shown_at-unix_time.ensures in
-    let from : c.args.since ≤ℤ u = omega (arith, ints, c.if-since-unix_time.true, to_z-of_z w64 c.args.since c.ranges.since, to_z-of_z w64 u fits) in
-    let late : c.args.last <ℤ u = omega (arith, ints, c.if-unix_time-last.false, to_z-of_z w64 c.args.last c.ranges.last, to_z-of_z w64 u fits) in
-    let none = none_late c.args.reading (lent_type c.args.before) c.args.since (lent_type c.args.local_time_type) c.args.last t u (ap lent_type c.in-Some.is) at from late in
+    let from : c.args.since ≤ℤ u = omega (arith, ints, c.if-since-unix_time.true, to_z-of_z w64 c.args.since c.ranges.since, to_z-of_z w64 u (search rules)) in
+    let late : c.args.last <ℤ u = omega (arith, ints, c.if-unix_time-last.false, to_z-of_z w64 c.args.last c.ranges.last, to_z-of_z w64 u (search rules)) in
+    let none = none_late c.args.reading (lent_type c.args.before) c.args.since (lent_type c.args.local_time_type) c.args.last c.in-Some.after.now u (ap lent_type c.in-Some.is) at from late in
     ([], c.requires.taker.none c.args.entries.now, inl (refl, none))
 
 pub returns-in_default-before-clause-ok : goal.returns-in_default-before-clause-ok
 returns-in_default-before-clause-ok g c =
-    let t = c.in-Some.after.now in
     let u = c.shown_at-unix_time.result in
-    let fits : SFits w64 u = search rules in
     let reading_is = to_z-of_z w64 c.args.reading c.ranges.reading in
     let at = rw reading_is at c.shown_at-unix_time.ensures in
-    let early : u <ℤ c.args.since = omega (arith, ints, c.if-since-unix_time.false, to_z-of_z w64 c.args.since c.ranges.since, to_z-of_z w64 u fits) in
-    let none = none_first c.args.reading (lent_type c.args.before) c.args.since (lent_type c.args.local_time_type) c.args.last t u (ap lent_type c.in_default-before.is) (ap lent_type c.in-Some.is) at early in
+    let early : u <ℤ c.args.since = omega (arith, ints, c.if-since-unix_time.false, to_z-of_z w64 c.args.since c.ranges.since, to_z-of_z w64 u (search rules)) in
+    let none = none_first c.args.reading (lent_type c.args.before) c.args.since (lent_type c.args.local_time_type) c.args.last c.in-Some.after.now u (ap lent_type c.in_default-before.is) (ap lent_type c.in-Some.is) at early in
     ([], c.requires.taker.none c.args.entries.now, inl (refl, none))
 
 pub returns-clause-ok : goal.returns-clause-ok
 returns-clause-ok g c =
-    let s = c.in-Some-before.before.now in
-    let t = c.in-Some.after.now in
     let u = c.shown_at.result in
     let v = c.shown_at-unix_time.result in
-    let fits_u : SFits w64 u = search rules in
-    let fits_v : SFits w64 v = search rules in
     let reading_is = to_z-of_z w64 c.args.reading c.ranges.reading in
     let since_is = to_z-of_z w64 c.args.since c.ranges.since in
-    let early : v <ℤ c.args.since = omega (arith, ints, c.if-since-unix_time.false, since_is, to_z-of_z w64 v fits_v) in
-    let over : u <ℤ c.args.since = omega (arith, ints, c.if-since-shown_at.false, since_is, to_z-of_z w64 u fits_u) in
-    let none = none_over c.args.reading (lent_type c.args.before) c.args.since (lent_type c.args.local_time_type) c.args.last s t u v (ap lent_type c.in-Some-before.is) (ap lent_type c.in-Some.is)
+    let early : v <ℤ c.args.since = omega (arith, ints, c.if-since-unix_time.false, since_is, to_z-of_z w64 v (search rules)) in
+    let over : u <ℤ c.args.since = omega (arith, ints, c.if-since-shown_at.false, since_is, to_z-of_z w64 u (search rules)) in
+    let none = none_over c.args.reading (lent_type c.args.before) c.args.since (lent_type c.args.local_time_type) c.args.last c.in-Some-before.before.now c.in-Some.after.now u v (ap lent_type c.in-Some-before.is) (ap lent_type c.in-Some.is)
     (rw reading_is at c.shown_at.ensures) (rw reading_is at c.shown_at-unix_time.ensures) early over in
     ([], c.requires.taker.none c.args.entries.now, inl (refl, none))

@@ -25,12 +25,10 @@ search_window-requires g c κs =
     let low = c.window-low.result.0 in
     let high = c.window-low.result.1 in
     let fits_reading : SFits w64 r' = search rules in
-    let fits_low : SFits w64 low = search rules in
-    let fits_high : SFits w64 high = search rules in
     let reading_is = c.reading-reading.ensures.value in
     let low_is = end_is low r r' c.args.greatest fits_reading c.ranges.greatest c.window-low.ensures.low reading_is in
     let high_is = end_is high r r' c.args.least fits_reading c.ranges.least c.window-low.ensures.high reading_is in
-    rw (to_z-of_z w64 low fits_low, to_z-of_z w64 high fits_high, to_z-of_z w64 r' fits_reading) (
+    rw (to_z-of_z w64 low (search rules), to_z-of_z w64 high (search rules), to_z-of_z w64 r' fits_reading) (
       (refl, tt),
       (
         record {
@@ -56,9 +54,7 @@ pub returns-clause-ok : goal.returns-clause-ok
 returns-clause-ok g c =
     let z = zone_seen (g.V.Transitions.list c.args.view.now) c.args.parts in
     let f = c.args.fields.now in
-    let r' = c.reading-reading.result in
-    let fits_reading : SFits w64 r' = search rules in
-    let reading_is = to_z-of_z w64 r' fits_reading ∙ c.reading-reading.ensures.value in
+    let reading_is = to_z-of_z w64 c.reading-reading.result (search rules) ∙ c.reading-reading.ensures.value in
     on_ok_weaker c.search_window.result (λ given.
     let dated = given.1 in
     let found = dated.2 in
@@ -72,20 +68,14 @@ returns-clause-ok g c =
 pub returns-clause-made : goal.returns-clause-made
 returns-clause-made g c =
     let z = zone_seen (g.V.Transitions.list c.args.view.now) c.args.parts in
-    let f = c.args.fields.now in
-    let r' = c.reading-reading.result in
-    let fits_reading : SFits w64 r' = search rules in
-    let reading_is = to_z-of_z w64 r' fits_reading ∙ c.reading-reading.ensures.value in
-    on_ok_weaker c.search_window.result (λ given. made_from_entries (IsClock z) f given.0 given.1.2 given.2 given.1.4) (rw reading_is at c.search_window.ensures.ok)
+    let reading_is = to_z-of_z w64 c.reading-reading.result (search rules) ∙ c.reading-reading.ensures.value in
+    on_ok_weaker c.search_window.result (λ given. made_from_entries (IsClock z) c.args.fields.now given.0 given.1.2 given.2 given.1.4) (rw reading_is at c.search_window.ensures.ok)
 
 pub returns-clause-err : goal.returns-clause-err
 returns-clause-err g c =
     let z = zone_seen (g.V.Transitions.list c.args.view.now) c.args.parts in
-    let f = c.args.fields.now in
-    let r' = c.reading-reading.result in
-    let fits_reading : SFits w64 r' = search rules in
-    let reading_is = to_z-of_z w64 r' fits_reading ∙ c.reading-reading.ensures.value in
-    IfErr-weaker c.search_window.result _ _ (λ e refused. fault_from_refused (IsClock z) f c.requires.valid g.L.DateTimeList.takes_memory e refused) (rw reading_is at c.search_window.ensures.err)
+    let reading_is = to_z-of_z w64 c.reading-reading.result (search rules) ∙ c.reading-reading.ensures.value in
+    IfErr-weaker c.search_window.result _ _ (λ e refused. fault_from_refused (IsClock z) c.args.fields.now c.requires.valid g.L.DateTimeList.takes_memory e refused) (rw reading_is at c.search_window.ensures.err)
 
 pub returns-clause-at_most : goal.returns-clause-at_most
 returns-clause-at_most g c =
@@ -93,13 +83,10 @@ returns-clause-at_most g c =
     let r = reading c.args.fields.now in
     let low = c.window-low.result.0 in
     let high = c.window-low.result.1 in
-    let least = c.args.least in
     let greatest = c.args.greatest in
     let fits_reading : SFits w64 c.reading-reading.result = search rules in
-    let fits_low : SFits w64 low = search rules in
-    let fits_high : SFits w64 high = search rules in
     let low_is = end_is low r c.reading-reading.result greatest fits_reading c.ranges.greatest c.window-low.ensures.low c.reading-reading.ensures.value in
-    let high_is = end_is high r c.reading-reading.result least fits_reading c.ranges.least c.window-low.ensures.high c.reading-reading.ensures.value in
-    let window = window_from_offsets z.types z.extra_rule r low high least greatest c.requires.offsets.0 c.requires.offsets.1 low_is high_is in
-    let searched = rw (to_z-of_z w64 low fits_low, to_z-of_z w64 high fits_high) at c.search_window.ensures.at_most in
+    let high_is = end_is high r c.reading-reading.result c.args.least fits_reading c.ranges.least c.window-low.ensures.high c.reading-reading.ensures.value in
+    let window = window_from_offsets z.types z.extra_rule r low high c.args.least greatest c.requires.offsets.0 c.requires.offsets.1 low_is high_is in
+    let searched = rw (to_z-of_z w64 low (search rules), to_z-of_z w64 high (search rules)) at c.search_window.ensures.at_most in
     on_ok_weaker c.search_window.result (λ few b w bits around. few b w bits (most_in_window z r low high window w around)) searched

@@ -1,4 +1,4 @@
--- The clock has one type in the window, or two with a jump between them, or the segments tell.
+-- The clock has one type in the window, or two with a jump between them, or the segments determine what it has.
 use Rattle.std.proofs.Common.{◌≡◌, ◌∙◌, ℕ, zero, suc, ◌+◌, ◌*◌, ◌^◌, ◌<◌, ◌≤◌, Option, Some, None, [], ◌∷◌, length, inl, inr, refl, subst, arith, rules, ◌+ℤ◌, ◌-ℤ◌}
 use Rattle.std.specs.Prelude.{MatchOption}
 use Rattle.std.proofs.lemmas.Bool.{cases_lt}
@@ -6,7 +6,6 @@ use Rattle.std.proofs.lemmas.Int.{ints, to_z-of_z}
 use Rattle.std.proofs.lemmas.List.{nil_from_length}
 use Rattle.std.proofs.lemmas.Result.{IfErr-weaker, on_ok_weaker}
 use mir.Syntax.{w64}
-use mir.Val.{SFits}
 use Rattle.tz_zone.specs.Clock.{IsClock}
 use Rattle.tz_zone.specs.ZoneSeen.{zone_seen}
 use Rattle.tz.specs.Entries.{HasTwoTypes, Shown}
@@ -20,10 +19,9 @@ shown-requires g c =
     let r = c.args.reading in
     let t = c.in-One.local_time_type.now in
     let u = c.shown_at.result in
-    let fits : SFits w64 u = search rules in
     let at : u ≡ r -ℤ t.ut_offset = rw (to_z-of_z w64 r c.ranges.reading) at c.shown_at.ensures in
     let reads : r ≡ u +ℤ t.ut_offset = omega (arith, ints, at) in
-    rw (to_z-of_z w64 u fits) (λ k. ((refl, tt), subst (g.E.Entries.takes c.args.entries.now) reads c.requires.takes))
+    rw (to_z-of_z w64 u (search rules)) (λ k. ((refl, tt), subst (g.E.Entries.takes c.args.entries.now) reads c.requires.takes))
 
 pub walk-requires : goal.walk-requires
 walk-requires g c =
@@ -34,18 +32,15 @@ pub returns-in-One : goal.returns-in-One
 returns-in-One g c =
     let z = zone_seen (g.V.Transitions.list c.args.view.now) c.args.parts in
     let r = c.args.reading in
-    let low = c.args.low in
-    let high = c.args.high in
     let s = c.requires.searchable in
     let t = c.in-One.local_time_type.now in
     let u = c.shown_at.result in
-    let fits : SFits w64 u = search rules in
     let at : u ≡ r -ℤ t.ut_offset = rw (to_z-of_z w64 r c.ranges.reading) at c.shown_at.ensures in
-    let types = rw (to_z-of_z w64 low c.ranges.low, to_z-of_z w64 high c.ranges.high) at c.in-One.ensures.types in
-    let once = entries_once z s.sound.leap_seconds_are r low high t u s.order s.offsets types at in
+    let types = rw (to_z-of_z w64 c.args.low c.ranges.low, to_z-of_z w64 c.args.high c.ranges.high) at c.in-One.ensures.types in
+    let once = entries_once z s.sound.leap_seconds_are r c.args.low c.args.high t u s.order s.offsets types at in
     record {
-      ok = on_ok_weaker c.shown.result (λ gains. (Shown u t ∷ [], gains, once, omega arith)) (rw (to_z-of_z w64 u fits) at c.shown.ensures.ok);
-      err = IfErr-weaker c.shown.result _ _ (λ e refused. (Shown u t, once.sound 0 (Shown u t) (omega arith), refused)) (rw (to_z-of_z w64 u fits) at c.shown.ensures.err);
+      ok = on_ok_weaker c.shown.result (λ gains. (Shown u t ∷ [], gains, once, omega arith)) (rw (to_z-of_z w64 u (search rules)) at c.shown.ensures.ok);
+      err = IfErr-weaker c.shown.result _ _ (λ e refused. (Shown u t, once.sound 0 (Shown u t) (omega arith), refused)) (rw (to_z-of_z w64 u (search rules)) at c.shown.ensures.err);
       at_most = on_ok_weaker c.shown.result (λ gains b w bits most. omega (arith, c.window_types.ensures.at_most b bits)) c.shown.ensures.ok;
       at_least_one = on_ok_weaker c.shown.result (λ gains. c.window_types.ensures.at_least_one) c.shown.ensures.ok;
       none = on_ok_weaker c.shown.result (λ gains empty. c.window_types.ensures.none (nil_from_length (g.V.Transitions.list c.args.view.now) empty)) c.shown.ensures.ok;
@@ -59,9 +54,8 @@ returns-in-Two g c =
     let high = c.args.high in
     let s = c.requires.searchable in
     let jump = c.in-Two.unix_time in
-    let fits_jump : SFits w64 jump = search rules in
     let reading_is = to_z-of_z w64 r c.ranges.reading in
-    let jump_is = to_z-of_z w64 jump fits_jump in
+    let jump_is = to_z-of_z w64 jump (search rules) in
     let types = rw (to_z-of_z w64 low c.ranges.low, to_z-of_z w64 high c.ranges.high) at c.in-Two.ensures.types in
     let has : HasTwoTypes z r jump c.in-Two.before.now c.in-Two.after.now = record {
       leap_seconds_are = s.sound.leap_seconds_are;
@@ -80,9 +74,6 @@ returns-in-Two g c =
 
 pub returns-in-More-clause-ok : goal.returns-in-More-clause-ok
 returns-in-More-clause-ok g c = rw (c.window_types.ensures.same, to_z-of_z w64 c.args.reading c.ranges.reading) at c.walk.ensures.ok
-
-pub returns-in-More-clause-err : goal.returns-in-More-clause-err
-returns-in-More-clause-err g c = rw (c.window_types.ensures.same, to_z-of_z w64 c.args.reading c.ranges.reading) at c.walk.ensures.err
 
 -- a zone with a transition has a bit or more of them
 some_bits : (n b : ℕ) → 0 < n → n < 2 ^ b → 1 ≤ b

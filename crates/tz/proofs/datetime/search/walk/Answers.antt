@@ -40,9 +40,8 @@ loop-since-init g c =
 pub span_from-span-requires-clause-stage : goal.span_from-span-requires-clause-stage
 span_from-span-requires-clause-stage g c =
     let first = c.in-Some.first in
-    let fits : SFits w64 first = search rules in
     let high_is = to_z-of_z w64 c.args.high c.ranges.high in
-    let so_far = rw (c.first_stage.ensures.same, high_is, to_z-of_z w64 first fits, c.loop-since.since-is) at c.loop-since.invariant in
+    let so_far = rw (c.first_stage.ensures.same, high_is, to_z-of_z w64 first (search rules), c.loop-since.since-is) at c.loop-since.invariant in
     let inside : c.loop-since.since ≤ℤ c.args.high = omega (arith, ints, c.loop-since-test.true, c.loop-since.since-is, high_is) in
     rw (so_far.same, c.loop-since.since-is) (first, so_far.stage inside)
 
@@ -50,12 +49,10 @@ pub returns-in_err-give-clause-err : goal.returns-in_err-give-clause-err
 returns-in_err-give-clause-err g c =
     let z = zone_seen (g.V.Transitions.list c.args.view.now) c.args.parts in
     let s = c.requires.searchable in
-    let r = c.args.reading in
     let since = c.loop-since.since in
     let span = c.span_from-span.result in
-    let last_fits : SFits w64 span.last = search rules in
-    let reading_is = to_z-of_z w64 r c.ranges.reading in
-    let last_is = to_z-of_z w64 span.last last_fits in
+    let reading_is = to_z-of_z w64 c.args.reading c.ranges.reading in
+    let last_is = to_z-of_z w64 span.last (search rules) in
     let so_far = rw (c.first_stage.ensures.same, reading_is, to_z-of_z w64 c.args.low c.ranges.low, c.loop-since.since-is) at c.loop-since.invariant in
     let ensured = rw (so_far.same, c.loop-since.since-is) at c.span_from-span.ensures in
     let holds = span_holds z s.sound.leap_seconds_are since span.last span.local_time_type ensured.holds in
@@ -64,7 +61,7 @@ returns-in_err-give-clause-err g c =
     let p = err_from_is_err_and c.from_residual.result c.from_residual.ensures.1 in
     rw (p.1, p.2) (
       refused.0,
-      refused_there (IsClock z) c.args.low c.args.high r s.offsets (lent_type c.loop-since.before) since so_far.found.0 so_far.found.2 (lent_type span.local_time_type) span.last holds some refused.0 refused.1,
+      refused_there (IsClock z) c.args.low c.args.high c.args.reading s.offsets (lent_type c.loop-since.before) since so_far.found.0 so_far.found.2 (lent_type span.local_time_type) span.last holds some refused.0 refused.1,
       refused.2,
     )
 
@@ -91,19 +88,17 @@ pub loop-since-preserved-then-since-span : goal.loop-since-preserved-then-since-
 loop-since-preserved-then-since-span g c =
     let z = zone_seen (g.V.Transitions.list c.args.view.now) c.args.parts in
     let s = c.requires.searchable in
-    let r = c.args.reading in
     let low = c.args.low in
     let high = c.args.high in
     let first = c.in-Some.first in
     let since = c.loop-since.since in
     let span = c.span_from-span.result in
     let last = span.last in
-    let first_fits : SFits w64 first = search rules in
     let last_fits : SFits w64 last = search rules in
-    let reading_is = to_z-of_z w64 r c.ranges.reading in
+    let reading_is = to_z-of_z w64 c.args.reading c.ranges.reading in
     let low_is = to_z-of_z w64 low c.ranges.low in
     let high_is = to_z-of_z w64 high c.ranges.high in
-    let first_is = to_z-of_z w64 first first_fits in
+    let first_is = to_z-of_z w64 first (search rules) in
     let last_is = to_z-of_z w64 last last_fits in
     let since_is = c.loop-since.since-is in
     let begun = rw low_is at c.in-Some.ensures.stage in
@@ -122,7 +117,7 @@ loop-since-preserved-then-since-span g c =
       found = (
         so_far.found.0 ++ given.0,
         c.requires.taker.more c.args.entries.now c.loop-since.entries c.give.new.entries so_far.found.0 given.0 so_far.found.1 given.1,
-        walked_on (IsClock z) low high r s.offsets (lent_type c.loop-since.before) since so_far.found.0 so_far.found.2 (lent_type span.local_time_type) last holds some given.0 given.2 (last +ℤ pos 1) refl,
+        walked_on (IsClock z) low high c.args.reading s.offsets (lent_type c.loop-since.before) since so_far.found.0 so_far.found.2 (lent_type span.local_time_type) last holds some given.0 given.2 (last +ℤ pos 1) refl,
       );
       looks = looks_on z s.sound low high s.reach first begun.0 c.in-Some.stage begun.1 since c.loop-since.stage stage inside
           (g.V.Transitions.looks c.first_stage.new.view) (g.V.Transitions.looks c.loop-since.view) (g.V.Transitions.looks c.span_from-span.new.view) span.next.place
@@ -132,9 +127,8 @@ loop-since-preserved-then-since-span g c =
 pub loop-since-smaller : goal.loop-since-smaller
 loop-since-smaller g c =
     let span = c.span_from-span in
-    let last_fits : SFits w64 span.result.last = search rules in
     let ensured = rw (c.loop-since.invariant.same, c.loop-since.since-is) at span.ensures in
-    let past : span.result.last <ℤ c.loop-since.since = omega (arith, ints, c.if-since-span.false, c.loop-since.since-is, to_z-of_z w64 span.result.last last_fits) in
+    let past : span.result.last <ℤ c.loop-since.since = omega (arith, ints, c.if-since-span.false, c.loop-since.since-is, to_z-of_z w64 span.result.last (search rules)) in
     let one : span.result.next.place ≡ c.loop-since.stage.place + 1 = elim ensured.onward [
       | inl same ↦ absurd (omega (arith, ints, same.1, past))
       | inr one ↦ one
@@ -145,30 +139,27 @@ pub loop-since-preserved : goal.loop-since-preserved
 loop-since-preserved g c =
     let z = zone_seen (g.V.Transitions.list c.args.view.now) c.args.parts in
     let s = c.requires.searchable in
-    let low = c.args.low in
     let high = c.args.high in
     let first = c.in-Some.first in
     let since = c.loop-since.since in
     let span = c.span_from-span.result in
-    let first_fits : SFits w64 first = search rules in
-    let last_fits : SFits w64 span.last = search rules in
     let reading_is = to_z-of_z w64 c.args.reading c.ranges.reading in
-    let low_is = to_z-of_z w64 low c.ranges.low in
+    let low_is = to_z-of_z w64 c.args.low c.ranges.low in
     let high_is = to_z-of_z w64 high c.ranges.high in
-    let first_is = to_z-of_z w64 first first_fits in
+    let first_is = to_z-of_z w64 first (search rules) in
     let since_is = c.loop-since.since-is in
     let begun = rw low_is at c.in-Some.ensures.stage in
     let so_far = rw (c.first_stage.ensures.same, reading_is, low_is, high_is, first_is, since_is) at c.loop-since.invariant in
     let ensured = rw (so_far.same, high_is, since_is) at c.span_from-span.ensures in
     let inside : since ≤ℤ high = omega (arith, ints, c.loop-since-test.true, since_is, high_is) in
-    let past : span.last <ℤ since = omega (arith, ints, c.if-since-span.false, since_is, to_z-of_z w64 span.last last_fits) in
+    let past : span.last <ℤ since = omega (arith, ints, c.if-since-span.false, since_is, to_z-of_z w64 span.last (search rules)) in
     let stage = so_far.stage inside in
     rw (c.first_stage.ensures.same, reading_is, low_is, high_is, first_is, since_is) (record {
       same = ensured.same;
       fits = so_far.fits;
       stage = λ within. ensured.next first since stage (omega (arith, ints)) past within;
       found = so_far.found;
-      looks = looks_on z s.sound low high s.reach first begun.0 c.in-Some.stage begun.1 since c.loop-since.stage stage inside
+      looks = looks_on z s.sound c.args.low high s.reach first begun.0 c.in-Some.stage begun.1 since c.loop-since.stage stage inside
           (g.V.Transitions.looks c.first_stage.new.view) (g.V.Transitions.looks c.loop-since.view) (g.V.Transitions.looks c.span_from-span.new.view) span.next.place
           so_far.looks ensured.kept ensured.at_most ensured.onward ensured.within;
     })

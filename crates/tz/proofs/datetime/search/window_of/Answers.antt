@@ -2,15 +2,10 @@
 use Rattle.std.proofs.Common.{rules, arith}
 use Rattle.std.proofs.lemmas.Int.{ints, to_z-of_z}
 use mir.Syntax.{w32, w64}
-use mir.Val.{SFits}
 use Rattle.tz.proofs.datetime.search.window_of.Goals as goal
 
 pub returns : goal.returns
 returns c =
-    let least = c.offsets-least.result.0 in
-    let greatest = c.offsets-least.result.1 in
-    let fits_least : SFits w32 least = search rules in
-    let fits_greatest : SFits w32 greatest = search rules in
     let reading_is = to_z-of_z w64 c.args.reading c.ranges.reading in
     let window = c.window.ensures in
     record {
@@ -20,7 +15,7 @@ returns c =
       reach = window.reach;
       width = window.width;
       offsets = λ u t clock. let between = c.offsets-least.ensures.between u t clock in (
-        omega (arith, ints, between.0, window.high, reading_is, to_z-of_z w32 least fits_least),
-        omega (arith, ints, between.1, window.low, reading_is, to_z-of_z w32 greatest fits_greatest),
+        omega (arith, ints, between.0, window.high, reading_is, to_z-of_z w32 c.offsets-least.result.0 (search rules)),
+        omega (arith, ints, between.1, window.low, reading_is, to_z-of_z w32 c.offsets-least.result.1 (search rules)),
       );
     }

@@ -8,17 +8,15 @@ use Rattle.tz.proofs.datetime.totals.timespec_before.Goals as goal
 pub returns-clause-some : goal.returns-clause-some
 returns-clause-some c =
     let n = as_nanos c.args.duration in
-    let whole = c.as_secs-taken.ensures in
     let over = c.subsec_nanos.ensures in
     let small = below_a_second n c.subsec_nanos.result over in
-    timespec_earlier c.carried.result _ c.args.seconds c.args.nanoseconds n c.as_secs-taken.result c.subsec_nanos.result c.carried.ensures.some whole over
+    timespec_earlier c.carried.result _ c.args.seconds c.args.nanoseconds n c.as_secs-taken.result c.subsec_nanos.result c.carried.ensures.some c.as_secs-taken.ensures over
     (omega (arith, ints, c.requires.instant.0, c.requires.instant.1))
 
 pub returns-clause-in_range : goal.returns-clause-in_range
 returns-clause-in_range c =
     let n = as_nanos c.args.duration in
-    let whole = c.as_secs-taken.ensures in
     let over = c.subsec_nanos.ensures in
     let small = below_a_second n c.subsec_nanos.result over in
-    range_earlier c.carried.result _ c.args.seconds c.args.nanoseconds n c.as_secs-taken.result c.subsec_nanos.result c.carried.ensures.in_range whole over
+    range_earlier c.carried.result _ c.args.seconds c.args.nanoseconds n c.as_secs-taken.result c.subsec_nanos.result c.carried.ensures.in_range c.as_secs-taken.ensures over
     (omega (arith, ints, c.requires.instant.0, c.requires.instant.1))

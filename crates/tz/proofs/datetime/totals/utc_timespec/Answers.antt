@@ -1,5 +1,5 @@
 -- The seconds of a total in range fit 64 bits.
-use Rattle.std.proofs.Common.{arith, rules}
+use Rattle.std.proofs.Common.{arith}
 use Rattle.std.proofs.lemmas.Int.{ints, to_z-of_z}
 use mir.Syntax.{w64, w128}
 use mir.Val.{SFits}
@@ -17,6 +17,3 @@ returns-in_err-seconds-clause-in_range c =
           let fits : SFits w64 is.0 = IsInstant-from_bounds is.0 (omega (arith, ints, range.0, is.2.whole, is.2.part)) (omega (arith, ints, range.1, is.2.whole, is.2.part)) in
           absurd (far is.0 is.1 is.2 fits)),
     )
-
-pub returns-else-is_reading-clause-in_range : goal.returns-else-is_reading-clause-in_range
-returns-else-is_reading-clause-in_range c = search rules

@@ -15,7 +15,6 @@ returns-then-is_far_from_ends-clause-made c =
     let ends = c.offsets-least in
     let fits_least : SFits w32 ends.result.0 = search rules in
     let fits_greatest : SFits w32 ends.result.1 = search rules in
-    let fits_year : SFits w32 f.year = search rules in
     let width : (ends.result.1 -ℤ ends.result.0) <ℤ pos 4294967296 = omega (arith, ints, fits_least.sfits, fits_greatest.sfits) in
-    let far = rw (to_z-of_z w32 f.year fits_year) at c.if-is_far_from_ends.ensures in
+    let far = rw (to_z-of_z w32 f.year (search rules)) at c.if-is_far_from_ends.ensures in
     each_can_be_made z ends.result.0 ends.result.1 (clock_between z ends.result.0 ends.result.1 ends.ensures.0 ends.ensures.1) width f c.requires (inl far)

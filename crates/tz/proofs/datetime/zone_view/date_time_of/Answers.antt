@@ -3,17 +3,14 @@ use Rattle.std.proofs.Common.{◌∙◌, rules}
 use Rattle.std.proofs.lemmas.Int.{to_z-of_z}
 use Rattle.std.proofs.lemmas.Result.{IfErr-weaker, IfOk-weaker}
 use mir.Syntax.{w64}
-use mir.Val.{SFits}
 use Rattle.tz.proofs.datetime.zone_view.date_time_of.Goals as goal
 
 pub returns-in-Skipped-clause-ok : goal.returns-in-Skipped-clause-ok
 returns-in-Skipped-clause-ok c =
-    let fits : SFits w64 c.instant-unix_time.result = search rules in
-    let same = to_z-of_z w64 c.instant-unix_time.result fits ∙ c.instant-unix_time.ensures in
+    let same = to_z-of_z w64 c.instant-unix_time.result (search rules) ∙ c.instant-unix_time.ensures in
     rw c.in-Skipped.is (IfOk-weaker c.from_timespec.result _ _ (λ d h. h) (rw same at c.from_timespec.ensures.ok))
 
 pub returns-in-Skipped-clause-err : goal.returns-in-Skipped-clause-err
 returns-in-Skipped-clause-err c =
-    let fits : SFits w64 c.instant-unix_time.result = search rules in
-    let same = to_z-of_z w64 c.instant-unix_time.result fits ∙ c.instant-unix_time.ensures in
+    let same = to_z-of_z w64 c.instant-unix_time.result (search rules) ∙ c.instant-unix_time.ensures in
     rw c.in-Skipped.is (IfErr-weaker c.from_timespec.result _ _ (λ e h. h) (rw same at c.from_timespec.ensures.err))

@@ -2,7 +2,6 @@
 use Rattle.std.proofs.Common.{rules, ◌≡◌, ◌∙◌, sym, ap, subst, List}
 use Rattle.std.proofs.lemmas.Int.{to_z-of_z}
 use mir.Syntax.{w32}
-use mir.Val.{SFits}
 use Rattle.tz_zone.specs.Offsets.{AreEndOffsets}
 use Rattle.tz_zone.specs.Table.{Transition, Zone}
 use Rattle.tz_zone.specs.ZoneSeen.{zone_seen}
@@ -14,6 +13,4 @@ search-requires-clause-offsets g c =
     let seen = zone_seen c.new-view.result.transitions.now c.other_parts-parts.result in
     let same : seen ≡ zone_viewed c.args.zone.now = ap (λ (xs : List Transition). zone_seen xs c.other_parts-parts.result) (c.new-view.ensures ∙ c.transitions.ensures) ∙ c.other_parts-parts.ensures in
     let ends = c.offsets-least in
-    let fits_least : SFits w32 ends.result.0 = search rules in
-    let fits_greatest : SFits w32 ends.result.1 = search rules in
-    rw (to_z-of_z w32 ends.result.0 fits_least, to_z-of_z w32 ends.result.1 fits_greatest) (subst (λ (x : Zone). AreEndOffsets x ends.result.0 ends.result.1) (sym same) ends.ensures)
+    rw (to_z-of_z w32 ends.result.0 (search rules), to_z-of_z w32 ends.result.1 (search rules)) (subst (λ (x : Zone). AreEndOffsets x ends.result.0 ends.result.1) (sym same) ends.ensures)

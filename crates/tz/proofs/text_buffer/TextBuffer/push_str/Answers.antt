@@ -1,6 +1,5 @@
 -- A text after a text is a text.
-use Rattle.std.proofs.Common.{◌≡◌, ◌+◌, ◌≤◌, ◌++◌, ◌∙◌, ap, length, List, ℕ, arith, rules}
-use Rattle.std.proofs.lemmas.List.{length-append}
+use Rattle.std.proofs.Common.{◌≡◌, ◌+◌, ◌≤◌, ◌∙◌, ap, length, arith, rules}
 use Rattle.std.proofs.lemmas.Slice.{take-put_mid}
 use Rattle.std.proofs.lemmas.Str.{IsUtf8-had, IsUtf8-append}
 use Rattle.tz.proofs.text_buffer.TextBuffer.push_str.Goals as goal
@@ -15,15 +14,3 @@ invariant_of-self c =
       search rules,
       ∣ rw (take-put_mid line.len _ line.bytes c.copy_from_slice.new.self (line.len + length text) end within, copied) (IsUtf8-append _ _ (IsUtf8-had _ c.self.invariant.1) c.utf8.text) ∣₁,
     )
-
-pub returns-clause-text : goal.returns-clause-text
-returns-clause-text c =
-    let line = c.self.inside in
-    let text = c.args.text.now in
-    let within : line.len ≤ length line.bytes = search rules in
-    let copied : c.copy_from_slice.new.self ≡ text = c.copy_from_slice.ensures.after ∙ c.as_bytes.ensures.value in
-    let end : line.len + length text ≡ line.len + length c.copy_from_slice.new.self = omega (arith, ap length copied) in
-    rw (take-put_mid line.len _ line.bytes c.copy_from_slice.new.self (line.len + length text) end within, copied) (ap (λ (x : List ℕ). x ++ text) c.self.view_is)
-
-pub returns-clause-len : goal.returns-clause-len
-returns-clause-len c = ap (length {A = ℕ}) (returns-clause-text c) ∙ length-append c.args.self.now c.args.text.now

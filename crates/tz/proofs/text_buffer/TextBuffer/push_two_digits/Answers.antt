@@ -1,10 +1,6 @@
 -- The two digits are ASCII bytes.
-use Rattle.std.proofs.Common.{◌++◌, ap, ◌∙◌}
 use Rattle.tz.proofs.PrintedDigits.{two_digits-ascii}
 use Rattle.tz.proofs.text_buffer.TextBuffer.push_two_digits.Goals as goal
 
 pub push_ascii-requires-clause-ascii : goal.push_ascii-requires-clause-ascii
 push_ascii-requires-clause-ascii c = rw c.pair_of.ensures (two_digits-ascii c.args.number c.requires.below)
-
-pub returns-clause-text : goal.returns-clause-text
-returns-clause-text c = c.push_ascii.ensures.text ∙ ap (λ bytes. c.args.self.now ++ bytes) c.pair_of.ensures

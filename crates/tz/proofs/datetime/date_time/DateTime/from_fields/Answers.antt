@@ -1,7 +1,6 @@
 -- Checked fields are refused for their instant alone.
-use Rattle.std.proofs.Common.{◌≡◌, ◌<◌, ◌∙◌, inl, inr, refl, sym, ap, subst, arith, ℤ, pos, negsuc, ◌-ℤ◌, ◌≤ℤ◌}
+use Rattle.std.proofs.Common.{◌≡◌, ◌<◌, ◌∙◌, inr, refl, sym, ap, subst, arith, ℤ, pos, negsuc, ◌-ℤ◌, ◌≤ℤ◌}
 use Rattle.std.proofs.lemmas.Int.{ints}
-use Rattle.std.proofs.lemmas.Result.{err_from_is_err_and}
 use lib.Signed.{mag}
 use mir.Syntax.{w32, w64}
 use mir.Val.{to_z, of_z, SFits}
@@ -16,23 +15,6 @@ module _ (read reading at offset wide : ℤ) (bound : (negsuc 67768100567971199 
 
   instant_is : to_z w64 (of_z w64 (to_z w64 (of_z w64 read) -ℤ to_z w64 (of_z w64 wide))) ≡ reading -ℤ offset
   instant_is = omega (arith, ints)
-
-pub returns-in_err-check : goal.returns-in_err-check
-returns-in_err-check c =
-    let p = err_from_is_err_and c.from_residual.result c.from_residual.ensures.1 in
-    rw (p.1, p.2) (record { value = tt; ok = tt; instant = tt; err = inl (c.in_err-check.field-0.0, refl, c.in_err-check.ensures.err) })
-
-pub reading-requires : goal.reading-requires
-reading-requires c = c.in_ok-check.ensures.ok
-
-pub overflow_sub-unix_time : goal.overflow_sub-unix_time
-overflow_sub-unix_time c =
-    instant_fits c.reading.result _ c.ut_offset.result _ c.from.result c.reading.ensures.bound c.reading.ensures.value c.ut_offset.type_inv c.ut_offset.ensures.value c.from.ensures
-
-pub from_valid_fields-requires : goal.from_valid_fields-requires
-from_valid_fields-requires c =
-    let instant = instant_is c.reading.result _ c.ut_offset.result _ c.from.result c.reading.ensures.bound c.reading.ensures.value c.ut_offset.type_inv c.ut_offset.ensures.value c.from.ensures in
-    record { valid = c.in_ok-check.ensures.ok; instant = instant }
 
 pub returns-then-not-is_reading : goal.returns-then-not-is_reading
 returns-then-not-is_reading c =

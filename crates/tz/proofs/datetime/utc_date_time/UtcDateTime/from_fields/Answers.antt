@@ -1,6 +1,5 @@
 -- Valid fields that are not past the end make a UTC date time.
-use Rattle.std.proofs.Common.{◌∙◌, inr, refl, rules}
-use Rattle.std.proofs.lemmas.Result.{err_from_is_err_and}
+use Rattle.std.proofs.Common.{◌∙◌, rules}
 use Rattle.std.proofs.lemmas.Int.{to_z-of_z}
 use mir.Syntax.{w32, w64}
 use mir.Val.{SFits}
@@ -19,14 +18,7 @@ utc_fields c =
 
 pub invariant_of-result : goal.invariant_of-result
 invariant_of-result c =
-    let fits : SFits w64 c.reading-unix_time.result = search rules in
-    (utc_fields c, to_z-of_z w64 c.reading-unix_time.result fits ∙ c.reading-unix_time.ensures.value)
+    (utc_fields c, to_z-of_z w64 c.reading-unix_time.result (search rules) ∙ c.reading-unix_time.ensures.value)
 
 pub returns-clause-ok : goal.returns-clause-ok
 returns-clause-ok c = utc_fields c
-
-pub returns-in_err-check-clause-err : goal.returns-in_err-check-clause-err
-returns-in_err-check-clause-err c =
-    let before : IsPastTheEnd c.args.fields → ⊥ = search rules in
-    let p = err_from_is_err_and c.from_residual.result c.from_residual.ensures.1 in
-    rw (p.1, p.2) (inr (c.in_err-check.field-0.0, refl, before, c.in_err-check.ensures.err))

@@ -1,9 +1,0 @@
--- The duration between the totals.
-use Rattle.std.proofs.Common.{rules}
-use Rattle.tz.proofs.datetime.date_time.DateTime.duration_since.Goals as goal
-
-pub returns-clause-ok : goal.returns-clause-ok
-returns-clause-ok c = search rules
-
-pub returns-clause-err : goal.returns-clause-err
-returns-clause-err c = search rules

@@ -1,9 +1,0 @@
--- The line is the printed text.
-use Rattle.std.proofs.Common.{rules}
-use Rattle.tz.proofs.datetime.date_time.DateTimeDisplay.fmt.Goals as goal
-
-pub returns-clause-writes : goal.returns-clause-writes
-returns-clause-writes g c = search rules
-
-pub returns-clause-styled : goal.returns-clause-styled
-returns-clause-styled g c = search rules
