@@ -18,11 +18,16 @@ pub fn ordinary_rule(alloc: Global, text: &str) -> Result<Option<TransitionRule>
     Ok(*zone.as_ref().extra_rule())
 }
 
-/// The rule that a file of version 3 has in its footer, where day times are of up to a week.
-pub fn extended_rule(alloc: Global, text: &str) -> Result<Option<TransitionRule>, TzError> {
+/// The zone of a file of version 3 with one type, UTC, and this footer, where day times are of up to a week.
+pub fn extended_zone(alloc: Global, text: &str) -> Result<TimeZone, TzError> {
     let footer = format!(in alloc; "\n{text}\n")?;
     let bytes = without_transitions(alloc, b'3', footer.as_bytes())?;
-    let zone = TimeZone::from_tz_data(alloc, &bytes)?;
+    TimeZone::from_tz_data(alloc, &bytes)
+}
+
+/// The rule that such a file has in its footer.
+pub fn extended_rule(alloc: Global, text: &str) -> Result<Option<TransitionRule>, TzError> {
+    let zone = extended_zone(alloc, text)?;
     Ok(*zone.as_ref().extra_rule())
 }
 

@@ -6,7 +6,9 @@
 use crate::rules::{RuleRow, TypeRow, rule_of, type_of};
 use std::alloc::{AllocError, Global};
 use tz_base::error::TzError;
-use tz_zone::timezone::{LeapSecond, LocalTimeType, TimeZone, Transition, TransitionRule};
+use tz_zone::timezone::{
+    AlternateTime, LeapSecond, LocalTimeType, TimeZone, Transition, TransitionRule,
+};
 
 /// The rule after a zone's last transition.
 pub enum ExtraRule {
@@ -96,4 +98,32 @@ pub fn zone_with_rule(
 /// The zone of a row.
 pub fn zone_of(alloc: Global, row: &ZoneRow) -> Result<TimeZone, TzError> {
     zone_with_rule(alloc, row, extra_rule_of(&row.extra_rule)?)
+}
+
+/// The zone of types with these offsets alone, of transitions to the types at these places, and of a rule with an offset or none.
+pub fn plain_zone(
+    alloc: Global,
+    ut_offsets: &[i32],
+    transitions: &[(i64, usize)],
+    rule: Option<i32>,
+) -> Result<TimeZone, TzError> {
+    let mut types = Vec::new(alloc);
+    for ut_offset in ut_offsets {
+        types.push(LocalTimeType::with_ut_offset(*ut_offset)?)?;
+    }
+    let extra_rule = match rule {
+        Some(ut_offset) => Some(TransitionRule::Fixed(LocalTimeType::with_ut_offset(
+            ut_offset,
+        )?)),
+        None => None,
+    };
+    let transitions = transitions_of(alloc, transitions)?;
+    TimeZone::new(transitions, types, Vec::new(alloc), extra_rule)
+}
+
+/// The zone of a rule alone.
+pub fn zone_of_rule(alloc: Global, rule: AlternateTime) -> Result<TimeZone, TzError> {
+    let types = Vec::from_slice(alloc, &[*rule.std(), *rule.dst()])?;
+    let extra_rule = Some(TransitionRule::Alternate(rule));
+    TimeZone::new(Vec::new(alloc), types, Vec::new(alloc), extra_rule)
 }

@@ -9,8 +9,7 @@ use tz::datetime::{DateTime, FoundDateTimeKind, FoundDateTimeList, FoundDateTime
 use tz_base::error::TzError;
 use tz_base::error::datetime::DateTimeError;
 use tz_zone::timezone::{
-    AlternateTime, Julian0WithLeap, LeapSecond, LocalTimeType, RuleDay, TimeZone, TimeZoneRef,
-    Transition, TransitionRule,
+    AlternateTime, LocalTimeType, TimeZone, TimeZoneRef, Transition, TransitionRule,
 };
 
 mod ends;
@@ -22,11 +21,11 @@ mod texts;
 mod windows;
 
 use crate::expect::{expect_debug, expect_eq};
-use crate::searches::{Reading, Summary, find, summaries, summary};
+use crate::searches::{Reading, Summary, entries_of, find, parts_of, summaries, summary};
 use crate::zones::FAR_OFFSET;
 use tz_samples::rules::{Day, RuleRow, TypeRow, central_europe, rule_of};
 use tz_samples::utc;
-use tz_samples::zones::{CROSSING, ExtraRule, ZoneRow, zone_of};
+use tz_samples::zones::{CROSSING, ExtraRule, ZoneRow, plain_zone, zone_of, zone_of_rule};
 
 /// A Unix time and an offset.
 type Moment = (i64, i32);
@@ -143,7 +142,26 @@ fn expect_written(
     Ok(())
 }
 
-/// Both searches find these, `find_n` with no slot and with up to three.
+/// The counted search finds these, and leaves the slots past them as they were. Its looks.
+fn expect_counted(
+    rt: &impl Abort,
+    buf: &mut [Option<FoundDateTimeKind>],
+    zone: TimeZoneRef<'_>,
+    reading: Reading,
+    expected: &[Summary],
+) -> Result<u64, TzError> {
+    let slots = buf.len();
+    let (year, month, month_day, hour, minute, second) = reading;
+    let (list, looks) = DateTime::find_n_counted(
+        buf, year, month, month_day, hour, minute, second, 0, zone,
+    )?;
+    expect_eq(rt, &facts(&list), &facts_of(expected, slots));
+    assert!(rt; are_written(list.data(), expected));
+    expect_eq(rt, &(looks == 0), &zone.transitions().is_empty());
+    Ok(looks)
+}
+
+/// The searches find these, those into a buffer with no slot and with up to five.
 fn expect_found(
     rt: &impl Abort,
     alloc: Global,
@@ -153,35 +171,39 @@ fn expect_found(
 ) -> Result<(), TzError> {
     expect_list(rt, alloc, zone, reading, expected)?;
     let held = Some(held()?);
-    for slots in 0..=3usize {
-        let mut buf = [held, held, held];
+    for slots in 0..=5usize {
+        let mut buf = [held, held, held, held, held];
         expect_written(rt, &mut buf[..slots], zone, reading, expected)?;
+        let mut buf = [held, held, held, held, held];
+        let _looks = expect_counted(rt, &mut buf[..slots], zone, reading, expected)?;
     }
     Ok(())
 }
 
-/// Both searches find these of each reading.
-fn expect_all(
+/// The searches find the entries after ` | ` of the local time before it.
+fn expect_row(
     rt: &impl Abort,
     alloc: Global,
     zone: TimeZoneRef<'_>,
-    rows: &[(Reading, &[Summary])],
-) -> Result<(), TzError> {
-    for (reading, expected) in rows {
-        expect_found(rt, alloc, zone, *reading, expected)?;
-    }
+    row: &str,
+) -> Result<(), Fail> {
+    let (reading, entries) = parts_of(row)?;
+    let expected = entries_of(alloc, entries)?;
+    expect_found(rt, alloc, zone, reading, expected.as_slice())?;
     Ok(())
 }
 
-/// Both searches find these of each reading in the zone of the row.
-fn expect_all_in(
+/// The searches find the entries of each row, separated by `, `: each an instant with the offset there, or with the two offsets of a jump.
+fn expect_rows(
     rt: &impl Abort,
     alloc: Global,
-    row: &ZoneRow,
-    rows: &[(Reading, &[Summary])],
-) -> Result<(), TzError> {
-    let zone = zone_of(alloc, row)?;
-    expect_all(rt, alloc, zone.as_ref(), rows)
+    zone: TimeZoneRef<'_>,
+    rows: &str,
+) -> Result<(), Fail> {
+    for row in rows.lines() {
+        expect_row(rt, alloc, zone, row)?;
+    }
+    Ok(())
 }
 
 /// The jumps of the zone with jumps that cross.
@@ -191,150 +213,54 @@ const SECOND_JUMP: Summary = (28_800, -19_800, -16_200);
 
 #[test]
 fn jumps_that_cross(rt: HostRuntime) -> Result<(), Fail> {
-    static ROWS: [(Reading, &[Summary]); 17] = [
-        ((1970, 1, 1, 0, 0, 0), &[(0, 0, 0)]),
-        (
-            (1970, 1, 1, 1, 0, 0),
-            &[(3600, 0, 0), (14_400, -10_800, -10_800)],
-        ),
-        (
-            (1970, 1, 1, 1, 15, 0),
-            &[(4500, 0, 0), (15_300, -10_800, -10_800)],
-        ),
-        (
-            (1970, 1, 1, 1, 30, 0),
-            &[
-                (5400, 0, 0),
-                (16_200, -10_800, -10_800),
-                (25_200, -19_800, -19_800),
-            ],
-        ),
-        (
-            (1970, 1, 1, 1, 45, 0),
-            &[
-                (6300, 0, 0),
-                (17_100, -10_800, -10_800),
-                (26_100, -19_800, -19_800),
-            ],
-        ),
-        (
-            (1970, 1, 1, 2, 0, 0),
-            &[
-                FIRST_JUMP,
-                (18_000, -10_800, -10_800),
-                (27_000, -19_800, -19_800),
-            ],
-        ),
-        (
-            (1970, 1, 1, 2, 15, 0),
-            &[
-                FIRST_JUMP,
-                (18_900, -10_800, -10_800),
-                (27_900, -19_800, -19_800),
-            ],
-        ),
-        (
-            (1970, 1, 1, 2, 45, 0),
-            &[FIRST_JUMP, (20_700, -10_800, -10_800), SECOND_JUMP],
-        ),
-        (
-            (1970, 1, 1, 3, 0, 0),
-            &[(7200, 3600, 3600), (21_600, -10_800, -10_800), SECOND_JUMP],
-        ),
-        (
-            (1970, 1, 1, 3, 15, 0),
-            &[(8100, 3600, 3600), (22_500, -10_800, -10_800), SECOND_JUMP],
-        ),
-        (
-            (1970, 1, 1, 3, 30, 0),
-            &[
-                (9000, 3600, 3600),
-                (23_400, -10_800, -10_800),
-                (28_800, -16_200, -16_200),
-            ],
-        ),
-        (
-            (1970, 1, 1, 3, 45, 0),
-            &[
-                (9900, 3600, 3600),
-                (24_300, -10_800, -10_800),
-                (29_700, -16_200, -16_200),
-            ],
-        ),
-        (
-            (1970, 1, 1, 4, 0, 0),
-            &[(10_800, 3600, 3600), (30_600, -16_200, -16_200)],
-        ),
-        (
-            (1970, 1, 1, 4, 15, 0),
-            &[(11_700, 3600, 3600), (31_500, -16_200, -16_200)],
-        ),
-        ((1970, 1, 1, 4, 30, 0), &[(12_600, 3600, 3600)]),
-        ((1970, 1, 1, 4, 45, 0), &[(13_500, 3600, 3600)]),
-        ((1970, 1, 1, 23, 59, 0), &[]),
-    ];
-    expect_all_in(&rt, rt.alloc(), &CROSSING, &ROWS)?;
-    Ok(())
+    static ROWS: &str = "\
+1970-01-01T00:00:00 | 0 0
+1970-01-01T01:00:00 | 3600 0, 14400 -10800
+1970-01-01T01:15:00 | 4500 0, 15300 -10800
+1970-01-01T01:30:00 | 5400 0, 16200 -10800, 25200 -19800
+1970-01-01T01:45:00 | 6300 0, 17100 -10800, 26100 -19800
+1970-01-01T02:00:00 | 7200 0 3600, 18000 -10800, 27000 -19800
+1970-01-01T02:15:00 | 7200 0 3600, 18900 -10800, 27900 -19800
+1970-01-01T02:45:00 | 7200 0 3600, 20700 -10800, 28800 -19800 -16200
+1970-01-01T03:00:00 | 7200 3600, 21600 -10800, 28800 -19800 -16200
+1970-01-01T03:15:00 | 8100 3600, 22500 -10800, 28800 -19800 -16200
+1970-01-01T03:30:00 | 9000 3600, 23400 -10800, 28800 -16200
+1970-01-01T03:45:00 | 9900 3600, 24300 -10800, 29700 -16200
+1970-01-01T04:00:00 | 10800 3600, 30600 -16200
+1970-01-01T04:15:00 | 11700 3600, 31500 -16200
+1970-01-01T04:30:00 | 12600 3600
+1970-01-01T04:45:00 | 13500 3600
+1970-01-01T23:59:00 | nothing
+";
+    let zone = zone_of(rt.alloc(), &CROSSING)?;
+    expect_rows(&rt, rt.alloc(), zone.as_ref(), ROWS)
 }
 
 #[test]
 fn a_rule_goes_on_after_the_last_transition(rt: HostRuntime) -> Result<(), Fail> {
-    const HOUR_EAST: TypeRow = (3600, false, None);
-    static ROWS: [(ZoneRow, &[(Reading, &[Summary])]); 4] = [
+    // Transitions of a zone of one type, an hour east, and the offset of its rule.
+    static ROWS: [(&[(i64, usize)], Option<i32>, &str); 5] = [
+        (&[], None, "2000-01-01T00:00:00 | 1999-12-31T23:00:00Z 3600"),
         (
-            ZoneRow {
-                types: &[HOUR_EAST],
-                transitions: &[],
-                leap_seconds: &[],
-                extra_rule: None,
-            },
-            &[(
-                (2000, 1, 1, 0, 0, 0),
-                &[(utc!(1999-12-31 23:00:00), 3600, 3600)],
-            )],
+            &[],
+            Some(3600),
+            "2000-01-01T00:00:00 | 1999-12-31T23:00:00Z 3600",
         ),
         (
-            ZoneRow {
-                types: &[HOUR_EAST],
-                transitions: &[],
-                leap_seconds: &[],
-                extra_rule: Some(ExtraRule::Fixed(HOUR_EAST)),
-            },
-            &[(
-                (2000, 1, 1, 0, 0, 0),
-                &[(utc!(1999-12-31 23:00:00), 3600, 3600)],
-            )],
+            &[(0, 0)],
+            Some(3600),
+            "1960-01-01T00:00:00 | 1959-12-31T23:00:00Z 3600",
         ),
         (
-            ZoneRow {
-                types: &[HOUR_EAST],
-                transitions: &[(0, 0)],
-                leap_seconds: &[],
-                extra_rule: Some(ExtraRule::Fixed(HOUR_EAST)),
-            },
-            &[
-                (
-                    (1960, 1, 1, 0, 0, 0),
-                    &[(utc!(1959-12-31 23:00:00), 3600, 3600)],
-                ),
-                (
-                    (1980, 1, 1, 0, 0, 0),
-                    &[(utc!(1979-12-31 23:00:00), 3600, 3600)],
-                ),
-            ],
+            &[(0, 0)],
+            Some(3600),
+            "1980-01-01T00:00:00 | 1979-12-31T23:00:00Z 3600",
         ),
-        (
-            ZoneRow {
-                types: &[HOUR_EAST],
-                transitions: &[(0, 0)],
-                leap_seconds: &[],
-                extra_rule: None,
-            },
-            &[((1980, 1, 1, 0, 0, 0), &[])],
-        ),
+        (&[(0, 0)], None, "1980-01-01T00:00:00 | nothing"),
     ];
-    for (zone, rows) in &ROWS {
-        expect_all_in(&rt, rt.alloc(), zone, rows)?;
+    for (transitions, rule, row) in &ROWS {
+        let zone = plain_zone(rt.alloc(), &[3600], transitions, *rule)?;
+        expect_row(&rt, rt.alloc(), zone.as_ref(), row)?;
     }
     Ok(())
 }
@@ -502,42 +428,20 @@ fn refused_fields_write_nothing(rt: HostRuntime) -> Result<(), Fail> {
 /// A zone that is set back an hour after each hour, so that it shows half past midnight seven times.
 #[test]
 fn more_are_found_than_a_list_begins_with(rt: HostRuntime) -> Result<(), Fail> {
-    static ZONE: ZoneRow = ZoneRow {
-        types: &[
-            (0, false, None),
-            (-3600, false, None),
-            (-7200, false, None),
-            (-10_800, false, None),
-            (-14_400, false, None),
-            (-18_000, false, None),
-            (-21_600, false, None),
-        ],
-        transitions: &[
-            (0, 0),
-            (3600, 1),
-            (7200, 2),
-            (10_800, 3),
-            (14_400, 4),
-            (18_000, 5),
-            (21_600, 6),
-        ],
-        leap_seconds: &[],
-        extra_rule: Some(ExtraRule::Fixed((-21_600, false, None))),
-    };
-    static ROWS: [(Reading, &[Summary]); 1] = [(
-        (1970, 1, 1, 0, 30, 0),
-        &[
-            (1800, 0, 0),
-            (5400, -3600, -3600),
-            (9000, -7200, -7200),
-            (12_600, -10_800, -10_800),
-            (16_200, -14_400, -14_400),
-            (19_800, -18_000, -18_000),
-            (23_400, -21_600, -21_600),
-        ],
-    )];
-    expect_all_in(&rt, rt.alloc(), &ZONE, &ROWS)?;
-    Ok(())
+    static TRANSITIONS: [(i64, usize); 7] = [
+        (0, 0),
+        (3600, 1),
+        (7200, 2),
+        (10_800, 3),
+        (14_400, 4),
+        (18_000, 5),
+        (21_600, 6),
+    ];
+    static OFFSETS: [i32; 7] = [0, -3600, -7200, -10_800, -14_400, -18_000, -21_600];
+    static ROW: &str =
+        "1970-01-01T00:30:00 | 1800 0, 5400 -3600, 9000 -7200, 12600 -10800, 16200 -14400, 19800 -18000, 23400 -21600";
+    let zone = plain_zone(rt.alloc(), &OFFSETS, &TRANSITIONS, Some(-21_600))?;
+    expect_row(&rt, rt.alloc(), zone.as_ref(), ROW)
 }
 
 /// A clock that is set back a minute after each minute, as many times, and then stays so: it shows the first minute after each of them.
@@ -575,44 +479,7 @@ fn many_are_found(rt: HostRuntime) -> Result<(), Fail> {
     Ok(())
 }
 
-/// The zone of one rule alone.
-fn expect_found_by_rule(
-    rt: &impl Abort,
-    alloc: Global,
-    rule: AlternateTime,
-    rows: &[(Reading, &[Summary])],
-) -> Result<(), TzError> {
-    let types = [*rule.std(), *rule.dst()];
-    let rule = Some(TransitionRule::Alternate(rule));
-    let zone = TimeZoneRef::new(&[], &types, &[], &rule)?;
-    expect_all(rt, alloc, zone, rows)
-}
-
-/// The first of a year's days by a clock that is set forward from 2:00 to 3:00 and back from 3:30 to 2:30.
-macro_rules! morning_of {
-    ($year:literal) => {
-        [
-            (($year, 1, 1, 1, 45, 0), &[(utc!($year-01-01 01:45:00), 0, 0)]),
-            (($year, 1, 1, 2, 15, 0), &[(utc!($year-01-01 02:00:00), 0, 3600)]),
-            (
-                ($year, 1, 1, 2, 45, 0),
-                &[
-                    (utc!($year-01-01 02:00:00), 0, 3600),
-                    (utc!($year-01-01 02:45:00), 0, 0),
-                ],
-            ),
-            (
-                ($year, 1, 1, 3, 15, 0),
-                &[
-                    (utc!($year-01-01 02:15:00), 3600, 3600),
-                    (utc!($year-01-01 03:15:00), 0, 0),
-                ],
-            ),
-            (($year, 1, 1, 3, 45, 0), &[(utc!($year-01-01 03:45:00), 0, 0)]),
-        ]
-    };
-}
-
+/// The first of January by a clock that is set forward from 2:00 to 3:00 and back from 3:30 to 2:30.
 #[test]
 fn a_rule_of_one_morning(rt: HostRuntime) -> Result<(), Fail> {
     static RULE: RuleRow = (
@@ -621,83 +488,72 @@ fn a_rule_of_one_morning(rt: HostRuntime) -> Result<(), Fail> {
         (Day::Julian1(1), 7200),
         (Day::Julian1(1), 12_600),
     );
-    static IN_2000: [(Reading, &[Summary]); 5] = morning_of!(2000);
-    static IN_2010: [(Reading, &[Summary]); 5] = morning_of!(2010);
-    for rows in [&IN_2000, &IN_2010] {
-        expect_found_by_rule(&rt, rt.alloc(), rule_of(&RULE)?, rows)?;
-    }
-    Ok(())
+    static ROWS: &str = "\
+2000-01-01T01:45:00 | 2000-01-01T01:45:00Z 0
+2000-01-01T02:15:00 | 2000-01-01T02:00:00Z 0 3600
+2000-01-01T02:45:00 | 2000-01-01T02:00:00Z 0 3600, 2000-01-01T02:45:00Z 0
+2000-01-01T03:15:00 | 2000-01-01T02:15:00Z 3600, 2000-01-01T03:15:00Z 0
+2000-01-01T03:45:00 | 2000-01-01T03:45:00Z 0
+2010-01-01T01:45:00 | 2010-01-01T01:45:00Z 0
+2010-01-01T02:15:00 | 2010-01-01T02:00:00Z 0 3600
+2010-01-01T02:45:00 | 2010-01-01T02:00:00Z 0 3600, 2010-01-01T02:45:00Z 0
+2010-01-01T03:15:00 | 2010-01-01T02:15:00Z 3600, 2010-01-01T03:15:00Z 0
+2010-01-01T03:45:00 | 2010-01-01T03:45:00Z 0
+";
+    let zone = zone_of_rule(rt.alloc(), rule_of(&RULE)?)?;
+    expect_rows(&rt, rt.alloc(), zone.as_ref(), ROWS)
 }
 
-/// The jump over 68 years of the zone with a far offset.
-const FAR_JUMP: Summary = (3600, 0, 2_147_483_647);
-
-/// The first hours, and a time to which the jump leads.
+/// The first hours before and after a jump over 68 years, and a time to which it leads.
 #[test]
 fn the_morning_of_a_far_jump(rt: HostRuntime) -> Result<(), Fail> {
-    static ROWS: [(Reading, &[Summary]); 5] = [
-        ((1970, 1, 1, 0, 30, 0), &[(1800, 0, 0)]),
-        ((1970, 1, 1, 1, 30, 0), &[FAR_JUMP]),
-        ((1970, 1, 1, 2, 30, 0), &[FAR_JUMP, (9000, 0, 0)]),
-        ((1970, 1, 1, 4, 30, 0), &[FAR_JUMP, (12_600, 3600, 3600)]),
-        (
-            (2038, 1, 19, 5, 0, 0),
-            &[
-                (6353, 2_147_483_647, 2_147_483_647),
-                (utc!(2038-01-19 04:00:00), 3600, 3600),
-            ],
-        ),
-    ];
-    expect_all_in(&rt, rt.alloc(), &FAR_OFFSET, &ROWS)?;
-    Ok(())
+    static ROWS: &str = "\
+1970-01-01T00:30:00 | 1800 0
+1970-01-01T01:30:00 | 3600 0 2147483647
+1970-01-01T02:30:00 | 3600 0 2147483647, 9000 0
+1970-01-01T04:30:00 | 3600 0 2147483647, 12600 3600
+2038-01-19T05:00:00 | 6353 2147483647, 2038-01-19T04:00:00Z 3600
+";
+    let zone = zone_of(rt.alloc(), &FAR_OFFSET)?;
+    expect_rows(&rt, rt.alloc(), zone.as_ref(), ROWS)
 }
 
-/// Days of a year by a clock that is set back on March 31st and forward on October 27th, and what is found there before that year.
-macro_rules! days_of {
-    ($year:literal: $($before:expr)?) => {
-        [
-            (($year, 2, 1, 0, 0, 0), &[$($before,)? (utc!($year-01-31 23:00:00), 3600, 3600)]),
-            (
-                ($year, 3, 31, 0, 30, 0),
-                &[
-                    $($before,)?
-                    (utc!($year-03-30 23:30:00), 3600, 3600),
-                    (utc!($year-03-31 00:30:00), 0, 0),
-                ],
-            ),
-            (($year, 6, 1, 0, 0, 0), &[$($before,)? (utc!($year-06-01 00:00:00), 0, 0)]),
-            (($year, 10, 27, 0, 30, 0), &[$($before,)? (utc!($year-10-27 00:00:00), 0, 3600)]),
-            (($year, 11, 1, 0, 0, 0), &[$($before,)? (utc!($year-10-31 23:00:00), 3600, 3600)]),
-        ]
-    };
-}
-
-/// The rule holds in years that the jump passes over, and after it.
+/// The rule holds in years that the jump passes over, and after it: clocks are set back on March 31st and forward on October 27th.
 #[test]
 fn a_rule_under_and_after_a_far_jump(rt: HostRuntime) -> Result<(), Fail> {
-    static IN_1970: [(Reading, &[Summary]); 5] = days_of!(1970: FAR_JUMP);
-    static IN_2000: [(Reading, &[Summary]); 5] = days_of!(2000: FAR_JUMP);
-    static IN_2030: [(Reading, &[Summary]); 5] = days_of!(2030: FAR_JUMP);
-    static IN_2038: [(Reading, &[Summary]); 5] = days_of!(2038:);
-    for rows in [&IN_1970, &IN_2000, &IN_2030, &IN_2038] {
-        expect_all_in(&rt, rt.alloc(), &FAR_OFFSET, rows)?;
-    }
-    Ok(())
+    static ROWS: &str = "\
+1970-02-01T00:00:00 | 3600 0 2147483647, 1970-01-31T23:00:00Z 3600
+1970-03-31T00:30:00 | 3600 0 2147483647, 1970-03-30T23:30:00Z 3600, 1970-03-31T00:30:00Z 0
+1970-06-01T00:00:00 | 3600 0 2147483647, 1970-06-01T00:00:00Z 0
+1970-10-27T00:30:00 | 3600 0 2147483647, 1970-10-27T00:00:00Z 0 3600
+1970-11-01T00:00:00 | 3600 0 2147483647, 1970-10-31T23:00:00Z 3600
+2000-02-01T00:00:00 | 3600 0 2147483647, 2000-01-31T23:00:00Z 3600
+2000-03-31T00:30:00 | 3600 0 2147483647, 2000-03-30T23:30:00Z 3600, 2000-03-31T00:30:00Z 0
+2000-06-01T00:00:00 | 3600 0 2147483647, 2000-06-01T00:00:00Z 0
+2000-10-27T00:30:00 | 3600 0 2147483647, 2000-10-27T00:00:00Z 0 3600
+2000-11-01T00:00:00 | 3600 0 2147483647, 2000-10-31T23:00:00Z 3600
+2030-02-01T00:00:00 | 3600 0 2147483647, 2030-01-31T23:00:00Z 3600
+2030-03-31T00:30:00 | 3600 0 2147483647, 2030-03-30T23:30:00Z 3600, 2030-03-31T00:30:00Z 0
+2030-06-01T00:00:00 | 3600 0 2147483647, 2030-06-01T00:00:00Z 0
+2030-10-27T00:30:00 | 3600 0 2147483647, 2030-10-27T00:00:00Z 0 3600
+2030-11-01T00:00:00 | 3600 0 2147483647, 2030-10-31T23:00:00Z 3600
+2038-02-01T00:00:00 | 2038-01-31T23:00:00Z 3600
+2038-03-31T00:30:00 | 2038-03-30T23:30:00Z 3600, 2038-03-31T00:30:00Z 0
+2038-06-01T00:00:00 | 2038-06-01T00:00:00Z 0
+2038-10-27T00:30:00 | 2038-10-27T00:00:00Z 0 3600
+2038-11-01T00:00:00 | 2038-10-31T23:00:00Z 3600
+";
+    let zone = zone_of(rt.alloc(), &FAR_OFFSET)?;
+    expect_rows(&rt, rt.alloc(), zone.as_ref(), ROWS)
 }
 
 #[test]
 fn nothing_is_found_after_the_last_transition_without_a_rule(rt: HostRuntime) -> Result<(), Fail> {
-    static ZONE: ZoneRow = ZoneRow {
-        types: &[(0, false, None)],
-        transitions: &[(0, 0)],
-        leap_seconds: &[],
-        extra_rule: None,
-    };
-    static ROWS: [(Reading, &[Summary]); 3] = [
-        ((1969, 12, 31, 23, 59, 59), &[(-1, 0, 0)]),
-        ((1969, 12, 31, 23, 59, 60), &[]),
-        ((1970, 1, 1, 0, 0, 0), &[]),
-    ];
-    expect_all_in(&rt, rt.alloc(), &ZONE, &ROWS)?;
-    Ok(())
+    static ROWS: &str = "\
+1969-12-31T23:59:59 | -1 0
+1969-12-31T23:59:60 | nothing
+1970-01-01T00:00:00 | nothing
+";
+    let zone = plain_zone(rt.alloc(), &[0], &[(0, 0)], None)?;
+    expect_rows(&rt, rt.alloc(), zone.as_ref(), ROWS)
 }

@@ -10,8 +10,6 @@ mod filter;
 #[cfg(test)]
 mod find;
 #[cfg(test)]
-mod local_meanings;
-#[cfg(test)]
 mod meanings;
 #[cfg(test)]
 mod memory;

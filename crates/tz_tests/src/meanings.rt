@@ -1,19 +1,20 @@
-//! Local times whose one date time is known, by each choice.
+//! What local times mean: how often clocks show them or are set forward over them, and the one date time by each choice.
 
 use crate::expect::expect_eq;
-use crate::searches::{Reading, name};
+use crate::searches::{Reading, name, parts_of};
+use crate::zones::two_hours_forward_at;
 use std::alloc::Global;
 use std::process::Abort;
 use std::test::Fail;
-use tz::datetime::{DateTime, Disambiguation, UtcDateTime};
+use tz::datetime::{DateTime, Disambiguation, Meaning, UtcDateTime};
 use tz_base::error::TzError;
 use tz_base::error::datetime::DateTimeError;
-use tz_samples::rules::Day;
+use tz_samples::tz_strings::extended_zone;
 use tz_samples::utc;
-use tz_samples::zones::{CROSSING, ExtraRule, ZoneRow, zone_of};
-use tz_zone::timezone::TimeZoneRef;
+use tz_samples::zones::{CROSSING, plain_zone, zone_of};
+use tz_zone::timezone::{TimeZone, TimeZoneRef};
 
-/// The choices, in the order in which rows have what they mean.
+/// The choices, in the order in which rows have what they choose.
 static CHOICES: [Disambiguation; 4] = [
     Disambiguation::Compatible,
     Disambiguation::Earlier,
@@ -21,22 +22,49 @@ static CHOICES: [Disambiguation; 4] = [
     Disambiguation::Reject,
 ];
 
-/// What a call answers: a date time and the name of its type, `none`, or why there is no answer.
-fn text_of(alloc: Global, answer: Result<Option<DateTime>, TzError>) -> Result<String, TzError> {
+/// A date time and the name of its type.
+fn shown(alloc: Global, date_time: &DateTime) -> Result<String, TzError> {
+    let name = name(date_time);
+    Ok(format!(in alloc; "{date_time} {name}")?)
+}
+
+/// What a call chooses: a date time, `none`, or why there is no answer.
+fn choice_text(
+    alloc: Global,
+    answer: Result<Option<DateTime>, TzError>,
+) -> Result<String, TzError> {
     let text = match answer {
-        Ok(Some(date_time)) => {
-            let name = name(&date_time);
-            return Ok(format!(in alloc; "{date_time} {name};")?);
-        }
-        Ok(None) => "none;",
-        Err(TzError::OutOfRange) => "OutOfRange;",
-        Err(TzError::NoAvailableLocalTimeType) => "NoType;",
+        Ok(Some(date_time)) => return shown(alloc, &date_time),
+        Ok(None) => "none",
+        Err(TzError::OutOfRange) => "OutOfRange",
+        Err(TzError::NoAvailableLocalTimeType) => "NoType",
         Err(error) => return Err(error),
     };
     Ok(String::from_str(alloc, text)?)
 }
 
-/// What both calls answer to a local time and seven nanoseconds by each choice: the one that takes the fields, and the one that takes them as one value.
+/// A meaning: its date times or their number, or that there is no answer.
+fn meaning_text(alloc: Global, answer: &Result<Meaning, TzError>) -> Result<String, TzError> {
+    Ok(match answer {
+        Ok(Meaning::Nothing) => String::from_str(alloc, "no meaning")?,
+        Ok(Meaning::Once(date_time)) => {
+            let only = shown(alloc, date_time)?;
+            format!(in alloc; "once {only}")?
+        }
+        Ok(Meaning::Twice { first, last }) => format!(in alloc; "twice {first} {last}")?,
+        Ok(
+            Meaning::Skipped {
+                before_transition,
+                after_transition,
+            },
+        ) => format!(in alloc; "skipped {before_transition} {after_transition}")?,
+        Ok(Meaning::More(count)) => format!(in alloc; "more {count}")?,
+        Err(_) => String::from_str(alloc, "no list")?,
+    })
+}
+
+/// What both calls answer to a local time and seven nanoseconds, each answer ended by `;`: the one that takes the fields, and the one that takes them
+/// as one value. First its meaning, and then what each choice chooses.
 fn texts(
     alloc: Global,
     zone: TimeZoneRef<'_>,
@@ -44,270 +72,183 @@ fn texts(
 ) -> Result<(String, String), TzError> {
     let (year, month, month_day, hour, minute, second) = reading;
     let local = UtcDateTime::new(year, month, month_day, hour, minute, second, 7)?;
-    let (mut by_fields, mut by_value) = (String::new(alloc), String::new(alloc));
+    let meaning = DateTime::meaning(year, month, month_day, hour, minute, second, 7, zone);
+    let mut by_fields = meaning_text(alloc, &meaning)?;
+    let meaning = DateTime::meaning_local(local, zone);
+    let mut by_value = meaning_text(alloc, &meaning)?;
     for &choice in CHOICES.iter() {
         let answer = DateTime::find_one(
             year, month, month_day, hour, minute, second, 7, choice, zone,
         );
-        by_fields.push_str(text_of(alloc, answer)?.as_str())?;
+        by_fields.push(';')?;
+        by_fields.push_str(choice_text(alloc, answer)?.as_str())?;
         let answer = DateTime::from_local(local, choice, zone);
-        by_value.push_str(text_of(alloc, answer)?.as_str())?;
+        by_value.push(';')?;
+        by_value.push_str(choice_text(alloc, answer)?.as_str())?;
     }
     Ok((by_fields, by_value))
 }
 
-/// Both calls answer these to each local time in the zone of the row.
+/// Both calls answer what stands after ` | ` to the local time before it.
+fn expect_meaning(
+    rt: &impl Abort,
+    alloc: Global,
+    zone: TimeZoneRef<'_>,
+    row: &str,
+) -> Result<(), Fail> {
+    let (reading, expected) = parts_of(row)?;
+    let (by_fields, by_value) = texts(alloc, zone, reading)?;
+    expect_eq(rt, &by_fields.as_str(), &expected);
+    expect_eq(rt, &by_value, &by_fields);
+    Ok(())
+}
+
+/// So they do for each row.
 fn expect_meanings(
     rt: &impl Abort,
     alloc: Global,
-    row: &ZoneRow,
-    rows: &[(Reading, &str)],
-) -> Result<(), TzError> {
-    let zone = zone_of(alloc, row)?;
-    for (reading, expected) in rows {
-        let (by_fields, by_value) = texts(alloc, zone.as_ref(), *reading)?;
-        expect_eq(rt, &by_fields.as_str(), expected);
-        expect_eq(rt, &by_value, &by_fields);
+    zone: &TimeZone,
+    rows: &str,
+) -> Result<(), Fail> {
+    for row in rows.lines() {
+        expect_meaning(rt, alloc, zone.as_ref(), row)?;
     }
     Ok(())
 }
 
-/// Clocks are set forward at 2:00 on March 8th, and back at 2:00 on November 1st.
+/// Clocks are set forward at 2:00 on March 8th, and back at 2:00 on November 1st. Second 60 reads as the next second, over which clocks may be set
+/// forward; what they show elsewhere has no second 60.
 #[test]
 fn new_york_in_2026(rt: HostRuntime) -> Result<(), Fail> {
-    static ZONE: ZoneRow = ZoneRow {
-        types: &[(-18_000, false, Some(b"EST"))],
-        transitions: &[],
-        leap_seconds: &[],
-        extra_rule: Some(ExtraRule::Alternate((
-            (-18_000, false, Some(b"EST")),
-            (-14_400, true, Some(b"EDT")),
-            (Day::Month(3, 2, 0), 7200),
-            (Day::Month(11, 1, 0), 7200),
-        ))),
-    };
-    static ROWS: [(Reading, &str); 6] = [
-        (
-            (2026, 3, 8, 2, 30, 0),
-            "2026-03-08T03:30:00.000000007-04:00 EDT;2026-03-08T01:30:00.000000007-05:00 EST;\
-             2026-03-08T03:30:00.000000007-04:00 EDT;none;",
-        ),
-        (
-            (2026, 11, 1, 1, 30, 0),
-            "2026-11-01T01:30:00.000000007-04:00 EDT;2026-11-01T01:30:00.000000007-04:00 EDT;\
-             2026-11-01T01:30:00.000000007-05:00 EST;none;",
-        ),
-        (
-            (2026, 7, 1, 12, 0, 0),
-            "2026-07-01T12:00:00.000000007-04:00 EDT;2026-07-01T12:00:00.000000007-04:00 EDT;\
-             2026-07-01T12:00:00.000000007-04:00 EDT;2026-07-01T12:00:00.000000007-04:00 EDT;",
-        ),
-        // Second 60 reads as the next second, over which clocks are set forward. What they show elsewhere has no second 60.
-        (
-            (2026, 3, 8, 1, 59, 60),
-            "2026-03-08T03:00:00.000000007-04:00 EDT;2026-03-08T01:00:00.000000007-05:00 EST;\
-             2026-03-08T03:00:00.000000007-04:00 EDT;none;",
-        ),
-        (
-            (2026, 3, 8, 2, 59, 60),
-            "2026-03-08T02:59:60.000000007-04:00 EDT;2026-03-08T02:59:60.000000007-04:00 EDT;\
-             2026-03-08T02:59:60.000000007-04:00 EDT;2026-03-08T02:59:60.000000007-04:00 EDT;",
-        ),
-        (
-            (2026, 11, 1, 1, 30, 60),
-            "2026-11-01T01:30:60.000000007-04:00 EDT;2026-11-01T01:30:60.000000007-04:00 EDT;\
-             2026-11-01T01:30:60.000000007-05:00 EST;none;",
-        ),
-    ];
-    expect_meanings(&rt, rt.alloc(), &ZONE, &ROWS)?;
-    Ok(())
+    static ROWS: &str = "\
+2026-03-08T02:30:00 | skipped 2026-03-08T02:00:00.000000007-05:00 2026-03-08T03:00:00.000000007-04:00;\
+    2026-03-08T03:30:00.000000007-04:00 EDT;2026-03-08T01:30:00.000000007-05:00 EST;\
+    2026-03-08T03:30:00.000000007-04:00 EDT;none
+2026-11-01T01:30:00 | twice 2026-11-01T01:30:00.000000007-04:00 2026-11-01T01:30:00.000000007-05:00;\
+    2026-11-01T01:30:00.000000007-04:00 EDT;2026-11-01T01:30:00.000000007-04:00 EDT;\
+    2026-11-01T01:30:00.000000007-05:00 EST;none
+2026-07-01T12:00:00 | once 2026-07-01T12:00:00.000000007-04:00 EDT;\
+    2026-07-01T12:00:00.000000007-04:00 EDT;2026-07-01T12:00:00.000000007-04:00 EDT;\
+    2026-07-01T12:00:00.000000007-04:00 EDT;2026-07-01T12:00:00.000000007-04:00 EDT
+2026-03-08T01:59:60 | skipped 2026-03-08T02:00:00.000000007-05:00 2026-03-08T03:00:00.000000007-04:00;\
+    2026-03-08T03:00:00.000000007-04:00 EDT;2026-03-08T01:00:00.000000007-05:00 EST;\
+    2026-03-08T03:00:00.000000007-04:00 EDT;none
+2026-03-08T02:59:60 | once 2026-03-08T02:59:60.000000007-04:00 EDT;\
+    2026-03-08T02:59:60.000000007-04:00 EDT;2026-03-08T02:59:60.000000007-04:00 EDT;\
+    2026-03-08T02:59:60.000000007-04:00 EDT;2026-03-08T02:59:60.000000007-04:00 EDT
+2026-11-01T01:30:60 | twice 2026-11-01T01:30:60.000000007-04:00 2026-11-01T01:30:60.000000007-05:00;\
+    2026-11-01T01:30:60.000000007-04:00 EDT;2026-11-01T01:30:60.000000007-04:00 EDT;\
+    2026-11-01T01:30:60.000000007-05:00 EST;none
+";
+    let zone = extended_zone(rt.alloc(), "EST5EDT,M3.2.0,M11.1.0")?;
+    expect_meanings(&rt, rt.alloc(), &zone, ROWS)
 }
 
 /// Clocks are set forward at 2:00, over 2:45, and back at 3:30, and so come to show it.
 #[test]
 fn a_local_time_that_is_jumped_over_and_then_shown(rt: HostRuntime) -> Result<(), Fail> {
-    static ZONE: ZoneRow = ZoneRow {
-        types: &[(0, false, Some(b"AAA"))],
-        transitions: &[],
-        leap_seconds: &[],
-        extra_rule: Some(ExtraRule::Alternate((
-            (0, false, Some(b"AAA")),
-            (3600, true, Some(b"BBB")),
-            (Day::Julian1(1), 7200),
-            (Day::Julian1(1), 12_600),
-        ))),
-    };
-    static ROWS: [(Reading, &str); 1] = [(
-        (2000, 1, 1, 2, 45, 0),
-        "2000-01-01T02:45:00.000000007Z AAA;2000-01-01T01:45:00.000000007Z AAA;\
-         2000-01-01T02:45:00.000000007Z AAA;none;",
-    )];
-    expect_meanings(&rt, rt.alloc(), &ZONE, &ROWS)?;
-    Ok(())
+    static ROW: &str = "2000-01-01T02:45:00 | more 2;\
+        2000-01-01T02:45:00.000000007Z AAA;2000-01-01T01:45:00.000000007Z AAA;2000-01-01T02:45:00.000000007Z AAA;none";
+    let zone = extended_zone(rt.alloc(), "AAA0BBB,J1/2,J1/3:30")?;
+    expect_meanings(&rt, rt.alloc(), &zone, ROW)
 }
 
-/// Clocks show three of these local times three times, or are set forward over them.
+/// Clocks show a local time three times; are set forward over one and then show it twice; show one once between two jumps; show one twice before a
+/// jump; and have no type any more.
 #[test]
 fn three_instants_and_jumps(rt: HostRuntime) -> Result<(), Fail> {
-    static ROWS: [(Reading, &str); 5] = [
-        // Shown three times.
-        (
-            (1970, 1, 1, 1, 30, 0),
-            "1970-01-01T01:30:00.000000007Z -;1970-01-01T01:30:00.000000007Z -;\
-             1970-01-01T01:30:00.000000007-05:30 -;none;",
-        ),
-        // A jump, and then shown twice.
-        (
-            (1970, 1, 1, 2, 0, 0),
-            "1970-01-01T02:00:00.000000007-03:00 -;1970-01-01T01:00:00.000000007Z -;\
-             1970-01-01T02:00:00.000000007-05:30 -;none;",
-        ),
-        // Shown once, between two jumps.
-        (
-            (1970, 1, 1, 2, 45, 0),
-            "1970-01-01T02:45:00.000000007-03:00 -;1970-01-01T01:45:00.000000007Z -;\
-             1970-01-01T03:45:00.000000007-04:30 -;none;",
-        ),
-        // Shown twice, and then a jump.
-        (
-            (1970, 1, 1, 3, 0, 0),
-            "1970-01-01T03:00:00.000000007+01:00 -;1970-01-01T03:00:00.000000007+01:00 -;\
-             1970-01-01T04:00:00.000000007-04:30 -;none;",
-        ),
-        // The clock has no type any more.
-        ((1970, 1, 1, 23, 59, 0), "none;none;none;none;"),
-    ];
-    expect_meanings(&rt, rt.alloc(), &CROSSING, &ROWS)?;
-    Ok(())
+    static ROWS: &str = "\
+1970-01-01T01:30:00 | more 3;\
+    1970-01-01T01:30:00.000000007Z -;1970-01-01T01:30:00.000000007Z -;1970-01-01T01:30:00.000000007-05:30 -;none
+1970-01-01T02:00:00 | more 3;\
+    1970-01-01T02:00:00.000000007-03:00 -;1970-01-01T01:00:00.000000007Z -;1970-01-01T02:00:00.000000007-05:30 -;none
+1970-01-01T02:45:00 | more 3;\
+    1970-01-01T02:45:00.000000007-03:00 -;1970-01-01T01:45:00.000000007Z -;1970-01-01T03:45:00.000000007-04:30 -;none
+1970-01-01T03:00:00 | more 3;\
+    1970-01-01T03:00:00.000000007+01:00 -;1970-01-01T03:00:00.000000007+01:00 -;1970-01-01T04:00:00.000000007-04:30 -;none
+1970-01-01T23:59:00 | no meaning;none;none;none;none
+";
+    let zone = zone_of(rt.alloc(), &CROSSING)?;
+    expect_meanings(&rt, rt.alloc(), &zone, ROWS)
 }
 
 /// Clocks are set forward over 2:30 twice, and never show it.
 #[test]
 fn two_jumps_alone(rt: HostRuntime) -> Result<(), Fail> {
-    static ZONE: ZoneRow = ZoneRow {
-        types: &[
-            (0, false, None),
-            (3600, false, None),
-            (-10_800, false, None),
-            (-3600, false, None),
-        ],
-        transitions: &[(7200, 1), (14_400, 2), (16_200, 3)],
-        leap_seconds: &[],
-        extra_rule: Some(ExtraRule::Fixed((-3600, false, None))),
-    };
-    static ROWS: [(Reading, &str); 1] = [(
-        (1970, 1, 1, 2, 30, 0),
-        "1970-01-01T04:30:00.000000007-01:00 -;1970-01-01T01:30:00.000000007Z -;\
-         1970-01-01T04:30:00.000000007-01:00 -;none;",
-    )];
-    expect_meanings(&rt, rt.alloc(), &ZONE, &ROWS)?;
-    Ok(())
+    static TRANSITIONS: [(i64, usize); 3] = [(7200, 1), (14_400, 2), (16_200, 3)];
+    static ROW: &str = "1970-01-01T02:30:00 | more 2;\
+        1970-01-01T04:30:00.000000007-01:00 -;1970-01-01T01:30:00.000000007Z -;1970-01-01T04:30:00.000000007-01:00 -;none";
+    let zone = plain_zone(
+        rt.alloc(),
+        &[0, 3600, -10_800, -3600],
+        &TRANSITIONS,
+        Some(-3600),
+    )?;
+    expect_meanings(&rt, rt.alloc(), &zone, ROW)
 }
 
-/// What the clock shows at the instant that is meant lies past an end of the years of 32 bits, or the clock has no type there. The jump
-/// itself can be listed.
+/// What the clock shows at the instant that is meant lies past an end of the years of 32 bits, or the jump itself does, and then there is no list.
 #[test]
-fn nothing_is_shown_at_the_instant_that_is_meant(rt: HostRuntime) -> Result<(), Fail> {
-    static ROWS: [(ZoneRow, Reading, &str); 3] = [
-        // From 21:30 to 23:30 of the last day.
+fn jumps_near_the_ends(rt: HostRuntime) -> Result<(), Fail> {
+    // When clocks of UTC are set two hours forward.
+    static ROWS: [(i64, &str); 4] = [
         (
-            ZoneRow {
-                types: &[(0, false, None), (7200, false, None)],
-                transitions: &[(utc!(2147483647-12-31 21:30:00), 1)],
-                leap_seconds: &[],
-                extra_rule: Some(ExtraRule::Fixed((7200, false, None))),
-            },
-            (i32::MAX, 12, 31, 23, 0, 0),
-            "OutOfRange;2147483647-12-31T21:00:00.000000007Z -;OutOfRange;none;",
+            utc!(2147483647-12-31 21:30:00),
+            "2147483647-12-31T23:00:00 | \
+             skipped 2147483647-12-31T21:30:00.000000007Z 2147483647-12-31T23:30:00.000000007+02:00;\
+             OutOfRange;2147483647-12-31T21:00:00.000000007Z -;OutOfRange;none",
         ),
-        // From 0:30 to 2:30 of the first day.
         (
-            ZoneRow {
-                types: &[(0, false, None), (7200, false, None)],
-                transitions: &[(utc!(-2147483648-01-01 00:30:00), 1)],
-                leap_seconds: &[],
-                extra_rule: Some(ExtraRule::Fixed((7200, false, None))),
-            },
-            (i32::MIN, 1, 1, 1, 0, 0),
-            "-2147483648-01-01T03:00:00.000000007+02:00 -;OutOfRange;\
-             -2147483648-01-01T03:00:00.000000007+02:00 -;none;",
+            utc!(-2147483648-01-01 00:30:00),
+            "-2147483648-01-01T01:00:00 | \
+             skipped -2147483648-01-01T00:30:00.000000007Z -2147483648-01-01T02:30:00.000000007+02:00;\
+             -2147483648-01-01T03:00:00.000000007+02:00 -;OutOfRange;-2147483648-01-01T03:00:00.000000007+02:00 -;none",
         ),
-        // From 2:00 to 3:00, and then no type from 3:13:20 on.
         (
-            ZoneRow {
-                types: &[(0, false, None), (3600, false, None)],
-                transitions: &[(7200, 1), (8000, 0)],
-                leap_seconds: &[],
-                extra_rule: None,
-            },
-            (1970, 1, 1, 2, 30, 0),
-            "NoType;1970-01-01T01:30:00.000000007Z -;NoType;none;",
+            utc!(-2147483649-12-31 23:00:00),
+            "-2147483648-01-01T00:30:00 | no list;OutOfRange;OutOfRange;OutOfRange;OutOfRange",
+        ),
+        (
+            utc!(2147483647-12-31 23:00:00),
+            "2147483647-12-31T23:30:00 | no list;OutOfRange;OutOfRange;OutOfRange;OutOfRange",
         ),
     ];
-    for (zone, reading, expected) in &ROWS {
-        expect_meanings(&rt, rt.alloc(), zone, &[(*reading, *expected)])?;
+    for (forward, row) in &ROWS {
+        let zone = two_hours_forward_at(rt.alloc(), *forward)?;
+        expect_meanings(&rt, rt.alloc(), &zone, row)?;
     }
     Ok(())
 }
 
-/// Each choice is refused where the list of all that is found is: the local time before the jump, or that after it, lies past an end.
+/// Clocks are set forward from 2:00 to 3:00, and have no type from 3:13:20 on.
 #[test]
-fn lists_out_of_range(rt: HostRuntime) -> Result<(), Fail> {
-    const ALL: &str = "OutOfRange;OutOfRange;OutOfRange;OutOfRange;";
-    static ROWS: [(ZoneRow, Reading); 2] = [
-        (
-            ZoneRow {
-                types: &[(0, false, None), (7200, false, None)],
-                transitions: &[(utc!(-2147483649-12-31 23:00:00), 1)],
-                leap_seconds: &[],
-                extra_rule: Some(ExtraRule::Fixed((7200, false, None))),
-            },
-            (i32::MIN, 1, 1, 0, 30, 0),
-        ),
-        (
-            ZoneRow {
-                types: &[(0, false, None), (7200, false, None)],
-                transitions: &[(utc!(2147483647-12-31 23:00:00), 1)],
-                leap_seconds: &[],
-                extra_rule: Some(ExtraRule::Fixed((7200, false, None))),
-            },
-            (i32::MAX, 12, 31, 23, 30, 0),
-        ),
-    ];
-    for (zone, reading) in &ROWS {
-        expect_meanings(&rt, rt.alloc(), zone, &[(*reading, ALL)])?;
-    }
-    Ok(())
+fn the_clock_has_no_type_at_the_instant_that_is_meant(rt: HostRuntime) -> Result<(), Fail> {
+    static ROW: &str = "1970-01-01T02:30:00 | \
+        skipped 1970-01-01T02:00:00.000000007Z 1970-01-01T03:00:00.000000007+01:00;\
+        NoType;1970-01-01T01:30:00.000000007Z -;NoType;none";
+    let zone = plain_zone(rt.alloc(), &[0, 3600], &[(7200, 1), (8000, 0)], None)?;
+    expect_meanings(&rt, rt.alloc(), &zone, ROW)
 }
 
 /// What a clock shows once is what is meant, whichever year it is in UTC.
 #[test]
 fn date_times_past_the_ends_of_utc(rt: HostRuntime) -> Result<(), Fail> {
-    static ROWS: [(ZoneRow, Reading, &str); 2] = [
+    static ROWS: [(i32, &str, &str); 2] = [
         (
-            ZoneRow {
-                types: &[(3600, false, None)],
-                transitions: &[],
-                leap_seconds: &[],
-                extra_rule: None,
-            },
-            (i32::MIN, 1, 1, 0, 30, 0),
-            "-2147483648-01-01T00:30:00.000000007+01:00 -;",
+            3600,
+            "-2147483648-01-01T00:30:00",
+            "-2147483648-01-01T00:30:00.000000007+01:00 -",
         ),
         (
-            ZoneRow {
-                types: &[(-3600, false, None)],
-                transitions: &[],
-                leap_seconds: &[],
-                extra_rule: None,
-            },
-            (i32::MAX, 12, 31, 23, 30, 0),
-            "2147483647-12-31T23:30:00.000000007-01:00 -;",
+            -3600,
+            "2147483647-12-31T23:30:00",
+            "2147483647-12-31T23:30:00.000000007-01:00 -",
         ),
     ];
-    for (zone, reading, shown) in &ROWS {
-        let all = format!(in rt.alloc(); "{shown}{shown}{shown}{shown}")?;
-        expect_meanings(&rt, rt.alloc(), zone, &[(*reading, all.as_str())])?;
+    for (ut_offset, local, shown) in &ROWS {
+        let zone = TimeZone::fixed(rt.alloc(), *ut_offset)?;
+        let row = format!(in rt.alloc(); "{local} | once {shown};{shown};{shown};{shown};{shown}")?;
+        expect_meanings(&rt, rt.alloc(), &zone, row.as_str())?;
     }
     const PAST_ALL_YEARS: i64 = utc!(2147483648-01-01 00:00:00);
     let utc = TimeZoneRef::utc();
@@ -322,7 +263,7 @@ fn date_times_past_the_ends_of_utc(rt: HostRuntime) -> Result<(), Fail> {
 /// Month, day of the month, hour, minute, second, nanoseconds.
 type YearFields = (u8, u8, u8, u8, u8, u32);
 
-/// The first fault of the fields is named, whatever the choice.
+/// The first fault of the fields is named, by the meaning and whatever the choice.
 #[test]
 fn refused_fields(rt: HostRuntime) -> Result<(), Fail> {
     static ROWS: [(YearFields, DateTimeError); 8] = [
@@ -340,6 +281,18 @@ fn refused_fields(rt: HostRuntime) -> Result<(), Fail> {
     ];
     let utc = TimeZoneRef::utc();
     for ((month, month_day, hour, minute, second, nanoseconds), fault) in &ROWS {
+        let refused = DateTime::meaning(
+            2001,
+            *month,
+            *month_day,
+            *hour,
+            *minute,
+            *second,
+            *nanoseconds,
+            utc,
+        )
+        .err();
+        assert!(rt; matches!(refused, Some(TzError::DateTime(named)) if named == *fault));
         for &choice in CHOICES.iter() {
             let refused = DateTime::find_one(
                 2001,
@@ -355,6 +308,24 @@ fn refused_fields(rt: HostRuntime) -> Result<(), Fail> {
             .err();
             assert!(rt; matches!(refused, Some(TzError::DateTime(named)) if named == *fault));
         }
+    }
+    Ok(())
+}
+
+/// The calls by one value find what those by seven numbers find.
+#[test]
+fn searches_by_one_value(rt: HostRuntime) -> Result<(), Fail> {
+    let alloc = rt.alloc();
+    let zone = zone_of(alloc, &CROSSING)?;
+    for minute in 0..60u8 {
+        let local = UtcDateTime::new(1970, 1, 1, 2, minute, 0, 0)?;
+        let by_value = DateTime::find_local(alloc, local, zone.as_ref())?;
+        let by_fields = DateTime::find(alloc, 1970, 1, 1, 2, minute, 0, 0, zone.as_ref())?;
+        assert!(rt; by_value == by_fields);
+        let (mut slots, mut others) = ([None; 2], [None; 2]);
+        let by_value = DateTime::find_n_local(&mut slots, local, zone.as_ref())?;
+        let by_fields = DateTime::find_n(&mut others, 1970, 1, 1, 2, minute, 0, 0, zone.as_ref())?;
+        assert!(rt; by_value == by_fields);
     }
     Ok(())
 }

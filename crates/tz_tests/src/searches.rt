@@ -1,6 +1,8 @@
 //! What searches find, in short.
 
 use std::alloc::{AllocError, Allocator, Global};
+use std::test::Fail;
+use tz::ParsedDateTime;
 use tz::datetime::{DateTime, FoundDateTimeKind, FoundDateTimeList};
 use tz_base::error::TzError;
 use tz_zone::timezone::TimeZoneRef;
@@ -55,4 +57,51 @@ pub(crate) fn summaries<A: Allocator + Copy>(
         found.push(summary(kind))?;
     }
     Ok(found)
+}
+
+/// The local time of a text.
+fn reading_of(text: &str) -> Result<Reading, Fail> {
+    let local = ParsedDateTime::parse(text.as_bytes())?.local();
+    let (hour, minute, second) = (local.hour(), local.minute(), local.second());
+    let (year, month, month_day) = (local.year(), local.month(), local.month_day());
+    Ok((year, month, month_day, hour, minute, second))
+}
+
+/// The local time of a row, and what stands after ` | `: an empty text for `nothing`.
+pub(crate) fn parts_of(row: &str) -> Result<(Reading, &str), Fail> {
+    let (local, expected) = row.split_once(" | ").ok_or("no ` | ` in a row")?;
+    let expected = if expected == "nothing" { "" } else { expected };
+    Ok((reading_of(local)?, expected))
+}
+
+/// A Unix time, or that of a date time of UTC.
+fn instant_of(text: &str) -> Result<i64, Fail> {
+    if text.ends_with('Z') {
+        let parsed = ParsedDateTime::parse(text.as_bytes())?;
+        return Ok(parsed.unix_time().ok_or("no offset")?);
+    }
+    Ok(text.parse::<i64>()?)
+}
+
+/// An instant and the offset there, or the two offsets of a jump.
+fn entry_of(text: &str) -> Result<Summary, Fail> {
+    let (instant, offsets) = text.split_once(' ').ok_or("no offset in an entry")?;
+    let (before, after) = offsets.split_once(' ').unwrap_or((offsets, offsets));
+    Ok((
+        instant_of(instant)?,
+        before.parse::<i32>()?,
+        after.parse::<i32>()?,
+    ))
+}
+
+/// The entries that a text lists.
+pub(crate) fn entries_of(alloc: Global, text: &str) -> Result<Vec<Summary>, Fail> {
+    let mut entries = Vec::new(alloc);
+    if text.is_empty() {
+        return Ok(entries);
+    }
+    for entry in text.split(", ") {
+        entries.push(entry_of(entry)?)?;
+    }
+    Ok(entries)
 }

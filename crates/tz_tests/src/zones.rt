@@ -1,7 +1,10 @@
 //! Zones that several tests search in.
 
+use std::alloc::Global;
+use tz_base::error::TzError;
 use tz_samples::rules::{Day, RuleRow, TypeRow};
-use tz_samples::zones::{ExtraRule, ZoneRow};
+use tz_samples::zones::{ExtraRule, ZoneRow, plain_zone};
+use tz_zone::timezone::TimeZone;
 
 /// The types of the zone with a far offset.
 const FAR_TYPES: &[TypeRow] = &[
@@ -41,3 +44,8 @@ pub(crate) static ONE_EFFECT: ZoneRow = ZoneRow {
     leap_seconds: &[(100, 1)],
     extra_rule: Some(ExtraRule::Fixed((7200, false, None))),
 };
+
+/// A clock of UTC that is set two hours forward at an instant, and stays so.
+pub(crate) fn two_hours_forward_at(alloc: Global, unix_time: i64) -> Result<TimeZone, TzError> {
+    plain_zone(alloc, &[0, 7200], &[(unix_time, 1)], Some(7200))
+}

@@ -1,104 +1,44 @@
 //! Windows that two segments of a clock hold, at each second around the jump between them.
 
-use super::windows::expect_in_slots;
 use super::*;
+use tz_samples::zones::transitions_of;
 
-/// The offset before the instant 0 and the one from there on, and the zone of this clock.
-type JumpRow = (i32, Option<i32>, ZoneRow);
+/// The offset before the instant 0 and the one from there on, the offsets of types that the clock does not use, and the transitions.
+type JumpRow = (i32, Option<i32>, &'static [i32], &'static [(i64, usize)]);
 
 /// Jumps forward, back and to the same offset, with the offsets of the window and with wider ones, and one after which there is no type.
 static ROWS: [JumpRow; 8] = [
-    (
-        0,
-        Some(5),
-        ZoneRow {
-            types: &[(0, false, None), (5, true, None)],
-            transitions: &[(0, 1)],
-            leap_seconds: &[],
-            extra_rule: Some(ExtraRule::Fixed((5, true, None))),
-        },
-    ),
-    (
-        5,
-        Some(0),
-        ZoneRow {
-            types: &[(5, true, None), (0, false, None)],
-            transitions: &[(0, 1)],
-            leap_seconds: &[],
-            extra_rule: Some(ExtraRule::Fixed((0, false, None))),
-        },
-    ),
-    (
-        -4,
-        Some(-3),
-        ZoneRow {
-            types: &[
-                (-4, false, None),
-                (-3, false, None),
-                (-9, false, None),
-                (6, false, None),
-            ],
-            transitions: &[(0, 1)],
-            leap_seconds: &[],
-            extra_rule: Some(ExtraRule::Fixed((-3, false, None))),
-        },
-    ),
-    (
-        3,
-        Some(-2),
-        ZoneRow {
-            types: &[
-                (3, false, None),
-                (-2, false, None),
-                (-9, false, None),
-                (6, false, None),
-            ],
-            transitions: &[(0, 1)],
-            leap_seconds: &[],
-            extra_rule: Some(ExtraRule::Fixed((-2, false, None))),
-        },
-    ),
-    (
-        2,
-        Some(2),
-        ZoneRow {
-            types: &[(2, false, None), (2, true, None), (-4, false, None)],
-            transitions: &[(0, 1)],
-            leap_seconds: &[],
-            extra_rule: Some(ExtraRule::Fixed((2, true, None))),
-        },
-    ),
-    (
-        1,
-        None,
-        ZoneRow {
-            types: &[(1, false, None), (-7, false, None), (7, false, None)],
-            transitions: &[(0, 2)],
-            leap_seconds: &[],
-            extra_rule: None,
-        },
-    ),
-    (
-        -7,
-        Some(7),
-        ZoneRow {
-            types: &[(-7, false, None), (7, false, None)],
-            transitions: &[(0, 1), (13, 1)],
-            leap_seconds: &[],
-            extra_rule: Some(ExtraRule::Fixed((7, false, None))),
-        },
-    ),
-    (
-        7,
-        Some(-7),
-        ZoneRow {
-            types: &[(7, false, None), (-7, false, None)],
-            transitions: &[(-13, 0), (0, 1)],
-            leap_seconds: &[],
-            extra_rule: Some(ExtraRule::Fixed((-7, false, None))),
-        },
-    ),
+    (0, Some(5), &[], &[(0, 1)]),
+    (5, Some(0), &[], &[(0, 1)]),
+    (-4, Some(-3), &[-9, 6], &[(0, 1)]),
+    (3, Some(-2), &[-9, 6], &[(0, 1)]),
+    (2, Some(2), &[-4], &[(0, 1)]),
+    (1, None, &[-7, 7], &[(0, 2)]),
+    (-7, Some(7), &[], &[(0, 1), (13, 1)]),
+    (7, Some(-7), &[], &[(-13, 0), (0, 1)]),
 ];
+
+/// The zone of a row, whose second type is daylight saving time and goes on after the last transition, if there is one.
+fn zone_of_jump(alloc: Global, row: &JumpRow) -> Result<TimeZone, TzError> {
+    let (before, after, others, transitions) = row;
+    let mut types = Vec::new(alloc);
+    types.push(LocalTimeType::with_ut_offset(*before)?)?;
+    let mut rule = None;
+    if let Some(after) = after {
+        let after = LocalTimeType::new(*after, true, None)?;
+        types.push(after)?;
+        rule = Some(TransitionRule::Fixed(after));
+    }
+    for ut_offset in *others {
+        types.push(LocalTimeType::with_ut_offset(*ut_offset)?)?;
+    }
+    TimeZone::new(
+        transitions_of(alloc, transitions)?,
+        types,
+        Vec::new(alloc),
+        rule,
+    )
+}
 
 /// All entries for a reading, by a look at each instant of two minutes.
 fn entries(
@@ -134,13 +74,12 @@ fn fields_of(second: i64) -> Reading {
 
 /// The searches find what a filter of instants finds, at each second around the jump of the row.
 fn expect_around(rt: &impl Abort, alloc: Global, row: &JumpRow) -> Result<(), TzError> {
-    let (before, after, zone) = row;
-    let zone = zone_of(alloc, zone)?;
+    let (before, after, ..) = row;
+    let zone = zone_of_jump(alloc, row)?;
     for second in -20..=20i64 {
         let expected = entries(alloc, *before, *after, second)?;
         let reading = fields_of(second);
-        expect_list(rt, alloc, zone.as_ref(), reading, expected.as_slice())?;
-        expect_in_slots(rt, zone.as_ref(), reading, expected.as_slice())?;
+        expect_found(rt, alloc, zone.as_ref(), reading, expected.as_slice())?;
     }
     Ok(())
 }

@@ -2,55 +2,44 @@
 
 use super::*;
 
-/// The leap time at which the tables of these tests begin.
-const START: i64 = utc!(2017-01-01 00:00:00) + 26;
-
 /// The last second before the table begins is not found, and a jump after it is.
 #[test]
 fn a_table_from_2016(rt: HostRuntime) -> Result<(), Fail> {
     static ZONE: ZoneRow = ZoneRow {
         types: &[(0, false, Some(b"AAA")), (3600, false, Some(b"BBB"))],
         transitions: &[(1_500_000_027, 1)],
-        leap_seconds: &[(START, 27)],
+        leap_seconds: &[(utc!(2017-01-01 00:00:00) + 26, 27)],
         extra_rule: Some(ExtraRule::Fixed((3600, false, Some(b"BBB")))),
     };
-    static ROWS: [(Reading, &[Summary]); 3] = [
-        ((2016, 12, 31, 23, 59, 58), &[]),
-        (
-            (2016, 12, 31, 23, 59, 59),
-            &[(utc!(2016-12-31 23:59:59), 0, 0)],
-        ),
-        ((2017, 7, 14, 2, 40, 0), &[(1_500_000_000, 0, 3600)]),
-    ];
-    expect_all_in(&rt, rt.alloc(), &ZONE, &ROWS)?;
-    Ok(())
+    static ROWS: &str = "\
+2016-12-31T23:59:58 | nothing
+2016-12-31T23:59:59 | 2016-12-31T23:59:59Z 0
+2017-07-14T02:40:00 | 1500000000 0 3600
+";
+    let zone = zone_of(rt.alloc(), &ZONE)?;
+    expect_rows(&rt, rt.alloc(), zone.as_ref(), ROWS)
 }
 
 /// The table begins past all date times of the years of 32 bits.
 #[test]
 fn a_table_that_begins_too_late(rt: HostRuntime) -> Result<(), Fail> {
-    static ROWS: [(ZoneRow, &[(Reading, &[Summary])]); 2] = [
-        (
-            ZoneRow {
-                types: &[(0, false, None)],
-                transitions: &[(0, 0)],
-                leap_seconds: &[(i64::MAX, 3)],
-                extra_rule: Some(ExtraRule::Fixed((0, false, None))),
-            },
-            &[((2000, 1, 1, 0, 0, 0), &[])],
-        ),
-        (
-            ZoneRow {
-                types: &[(0, false, None)],
-                transitions: &[],
-                leap_seconds: &[(i64::MAX, 3)],
-                extra_rule: Some(ExtraRule::Fixed((0, false, None))),
-            },
-            &[((2000, 1, 1, 0, 0, 0), &[(utc!(2000-01-01 00:00:00), 0, 0)])],
-        ),
+    const LATE: ZoneRow = ZoneRow {
+        types: &[(0, false, None)],
+        transitions: &[],
+        leap_seconds: &[(i64::MAX, 3)],
+        extra_rule: Some(ExtraRule::Fixed((0, false, None))),
+    };
+    const WITH_TRANSITION: ZoneRow = ZoneRow {
+        transitions: &[(0, 0)],
+        ..LATE
+    };
+    static ROWS: [(ZoneRow, &str); 2] = [
+        (LATE, "2000-01-01T00:00:00 | 2000-01-01T00:00:00Z 0"),
+        (WITH_TRANSITION, "2000-01-01T00:00:00 | nothing"),
     ];
-    for (zone, rows) in &ROWS {
-        expect_all_in(&rt, rt.alloc(), zone, rows)?;
+    for (zone, row) in &ROWS {
+        let zone = zone_of(rt.alloc(), zone)?;
+        expect_row(&rt, rt.alloc(), zone.as_ref(), row)?;
     }
     Ok(())
 }

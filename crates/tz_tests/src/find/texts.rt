@@ -4,6 +4,8 @@ use super::*;
 use crate::expect::expect_eq;
 use crate::searches::name;
 use crate::zones::ONE_EFFECT;
+use tz_samples::files::JERUSALEM_V3;
+use tz_samples::tz_strings::extended_zone;
 
 /// An entry: its Unix time, and the text and the name of each side.
 fn text_of(alloc: Global, kind: &FoundDateTimeKind) -> Result<String, AllocError> {
@@ -59,68 +61,76 @@ fn texts_of_slots(
     Ok(text)
 }
 
-/// Both searches find these, `find_n` with no slot and with up to three.
+/// The searches find the text.
+pub(super) fn expect_text_at(
+    rt: &impl Abort,
+    alloc: Global,
+    zone: TimeZoneRef<'_>,
+    reading: Reading,
+    expected: &str,
+) -> Result<(), TzError> {
+    expect_eq(rt, &texts(alloc, zone, reading)?.as_str(), &expected);
+    let in_slots = texts_of_slots(alloc, zone, reading)?;
+    expect_eq(rt, &in_slots.as_str(), &expected);
+    let found = summaries(alloc, find(alloc, zone, reading)?)?;
+    expect_found(rt, alloc, zone, reading, &found)
+}
+
+/// The searches find the text after ` | ` of the local time before it.
+pub(super) fn expect_text(
+    rt: &impl Abort,
+    alloc: Global,
+    zone: TimeZoneRef<'_>,
+    row: &str,
+) -> Result<(), Fail> {
+    let (reading, expected) = parts_of(row)?;
+    expect_text_at(rt, alloc, zone, reading, expected)?;
+    Ok(())
+}
+
+/// The searches find the text of each row.
 pub(super) fn expect_texts(
     rt: &impl Abort,
     alloc: Global,
     zone: TimeZoneRef<'_>,
-    rows: &[(Reading, &str)],
-) -> Result<(), TzError> {
-    for (reading, expected) in rows {
-        expect_eq(rt, &texts(alloc, zone, *reading)?.as_str(), expected);
-        expect_eq(
-            rt,
-            &texts_of_slots(alloc, zone, *reading)?.as_str(),
-            expected,
-        );
-        let found = summaries(alloc, find(alloc, zone, *reading)?)?;
-        expect_found(rt, alloc, zone, *reading, &found)?;
+    rows: &str,
+) -> Result<(), Fail> {
+    for row in rows.lines() {
+        expect_text(rt, alloc, zone, row)?;
     }
     Ok(())
 }
 
-/// Both searches find these in the zone of one rule alone.
+/// They find them in the zone of a TZ string.
 pub(super) fn expect_texts_by_rule(
     rt: &impl Abort,
     alloc: Global,
-    rule: AlternateTime,
-    rows: &[(Reading, &str)],
-) -> Result<(), TzError> {
-    let types = [*rule.std(), *rule.dst()];
-    let rule = Some(TransitionRule::Alternate(rule));
-    let zone = TimeZoneRef::new(&[], &types, &[], &rule)?;
-    expect_texts(rt, alloc, zone, rows)
+    rule: &str,
+    rows: &str,
+) -> Result<(), Fail> {
+    let zone = extended_zone(alloc, rule)?;
+    expect_texts(rt, alloc, zone.as_ref(), rows)
 }
 
-/// Both searches find these in the zone of the row.
+/// They find them in the zone of the row.
 pub(super) fn expect_texts_in(
     rt: &impl Abort,
     alloc: Global,
     row: &ZoneRow,
-    rows: &[(Reading, &str)],
-) -> Result<(), TzError> {
+    rows: &str,
+) -> Result<(), Fail> {
     let zone = zone_of(alloc, row)?;
     expect_texts(rt, alloc, zone.as_ref(), rows)
 }
 
 #[test]
 fn an_hour_left_out_and_an_hour_twice(rt: HostRuntime) -> Result<(), Fail> {
-    static ROWS: [(Reading, &str); 3] = [
-        (
-            (2000, 3, 26, 2, 30, 0),
-            "S 954032400 2000-03-26T02:00:00.000000007+01:00 CET 2000-03-26T03:00:00.000000007+02:00 CEST;",
-        ),
-        (
-            (2000, 10, 29, 2, 30, 0),
-            "N 972779400 2000-10-29T02:30:00.000000007+02:00 CEST;N 972783000 2000-10-29T02:30:00.000000007+01:00 CET;",
-        ),
-        (
-            (2400, 3, 26, 2, 30, 0),
-            "S 13576813200 2400-03-26T02:00:00.000000007+01:00 CET 2400-03-26T03:00:00.000000007+02:00 CEST;",
-        ),
-    ];
-    expect_texts_by_rule(&rt, rt.alloc(), central_europe()?, &ROWS)?;
-    Ok(())
+    static ROWS: &str = "\
+2000-03-26T02:30:00 | S 954032400 2000-03-26T02:00:00.000000007+01:00 CET 2000-03-26T03:00:00.000000007+02:00 CEST;
+2000-10-29T02:30:00 | N 972779400 2000-10-29T02:30:00.000000007+02:00 CEST;N 972783000 2000-10-29T02:30:00.000000007+01:00 CET;
+2400-03-26T02:30:00 | S 13576813200 2400-03-26T02:00:00.000000007+01:00 CET 2400-03-26T03:00:00.000000007+02:00 CEST;
+";
+    expect_texts_by_rule(&rt, rt.alloc(), "CET-1CEST,M3.5.0,M10.5.0/3", ROWS)
 }
 
 #[test]
@@ -131,64 +141,47 @@ fn transitions_of_a_day(rt: HostRuntime) -> Result<(), Fail> {
         leap_seconds: &[],
         extra_rule: None,
     };
-    static ROWS: [(Reading, &str); 2] = [
-        (
-            (1970, 1, 2, 0, 30, 0),
-            "N 84600 1970-01-02T00:30:00.000000007+01:00 DST;N 88200 1970-01-02T00:30:00.000000007Z STD;",
-        ),
-        (
-            (1970, 1, 1, 1, 30, 0),
-            "S 3600 1970-01-01T01:00:00.000000007Z STD 1970-01-01T02:00:00.000000007+01:00 DST;",
-        ),
-    ];
-    expect_texts_in(&rt, rt.alloc(), &ZONE, &ROWS)?;
-    Ok(())
+    static ROWS: &str = "\
+1970-01-02T00:30:00 | N 84600 1970-01-02T00:30:00.000000007+01:00 DST;N 88200 1970-01-02T00:30:00.000000007Z STD;
+1970-01-01T01:30:00 | S 3600 1970-01-01T01:00:00.000000007Z STD 1970-01-01T02:00:00.000000007+01:00 DST;
+";
+    expect_texts_in(&rt, rt.alloc(), &ZONE, ROWS)
 }
 
 #[test]
 fn jumps_that_cross(rt: HostRuntime) -> Result<(), Fail> {
-    static ROWS: [(Reading, &str); 2] = [
-        (
-            (1970, 1, 1, 2, 30, 0),
-            "S 7200 1970-01-01T02:00:00.000000007Z - 1970-01-01T03:00:00.000000007+01:00 -;\
-             N 19800 1970-01-01T02:30:00.000000007-03:00 -;\
-             S 28800 1970-01-01T02:30:00.000000007-05:30 - 1970-01-01T03:30:00.000000007-04:30 -;",
-        ),
-        ((1970, 1, 1, 5, 0, 0), ""),
-    ];
-    expect_texts_in(&rt, rt.alloc(), &CROSSING, &ROWS)?;
-    Ok(())
+    static ROWS: &str = "\
+1970-01-01T02:30:00 | S 7200 1970-01-01T02:00:00.000000007Z - 1970-01-01T03:00:00.000000007+01:00 -;\
+    N 19800 1970-01-01T02:30:00.000000007-03:00 -;\
+    S 28800 1970-01-01T02:30:00.000000007-05:30 - 1970-01-01T03:30:00.000000007-04:30 -;
+1970-01-01T05:00:00 | nothing
+";
+    expect_texts_in(&rt, rt.alloc(), &CROSSING, ROWS)
 }
 
 #[test]
 fn a_jump_over_years(rt: HostRuntime) -> Result<(), Fail> {
-    static ROWS: [(Reading, &str); 1] = [(
-        (1970, 1, 1, 3, 30, 0),
-        "S 3600 1970-01-01T01:00:00.000000007Z - 2038-01-19T04:14:07.000000007+596523:14:07 -;\
-             S 10800 1970-01-01T03:00:00.000000007Z - 1970-01-01T04:00:00.000000007+01:00 -;",
-    )];
-    expect_texts_in(&rt, rt.alloc(), &FAR_OFFSET, &ROWS)?;
-    Ok(())
+    static ROWS: &str = "\
+1970-01-01T03:30:00 | S 3600 1970-01-01T01:00:00.000000007Z - 2038-01-19T04:14:07.000000007+596523:14:07 -;\
+    S 10800 1970-01-01T03:00:00.000000007Z - 1970-01-01T04:00:00.000000007+01:00 -;
+";
+    expect_texts_in(&rt, rt.alloc(), &FAR_OFFSET, ROWS)
 }
 
 #[test]
 fn two_transitions_at_one_instant(rt: HostRuntime) -> Result<(), Fail> {
-    static ROWS: [(Reading, &str); 1] = [(
-        (1970, 1, 1, 1, 8, 20),
-        "S 100 1970-01-01T00:01:40.000000007Z - 1970-01-01T02:01:40.000000007+02:00 -;",
-    )];
-    expect_texts_in(&rt, rt.alloc(), &ONE_EFFECT, &ROWS)?;
-    Ok(())
+    static ROWS: &str = "\
+1970-01-01T01:08:20 | S 100 1970-01-01T00:01:40.000000007Z - 1970-01-01T02:01:40.000000007+02:00 -;
+";
+    expect_texts_in(&rt, rt.alloc(), &ONE_EFFECT, ROWS)
 }
 
 #[test]
 fn second_60_is_printed(rt: HostRuntime) -> Result<(), Fail> {
-    static ROWS: [(Reading, &str); 1] = [(
-        (2016, 12, 31, 23, 59, 60),
-        "N 1483228800 2016-12-31T23:59:60.000000007Z -;",
-    )];
-    expect_texts(&rt, rt.alloc(), TimeZoneRef::utc(), &ROWS)?;
-    Ok(())
+    static ROWS: &str = "\
+2016-12-31T23:59:60 | N 1483228800 2016-12-31T23:59:60.000000007Z -;
+";
+    expect_texts(&rt, rt.alloc(), TimeZoneRef::utc(), ROWS)
 }
 
 /// Transitions and a rule with types of one offset, told apart by their names.
@@ -212,191 +205,75 @@ fn types_of_one_offset(rt: HostRuntime) -> Result<(), Fail> {
             (Day::Julian0(0), 14_400),
         ))),
     };
-    static ROWS: [(Reading, &str); 5] = [
-        (
-            (1970, 1, 1, 0, 30, 0),
-            "N 1800 1970-01-01T00:30:00.000000007Z STD1;",
-        ),
-        (
-            (1970, 1, 1, 1, 30, 0),
-            "N 5400 1970-01-01T01:30:00.000000007Z DST1;",
-        ),
-        (
-            (1970, 1, 1, 2, 30, 0),
-            "N 9000 1970-01-01T02:30:00.000000007Z STD2;",
-        ),
-        (
-            (1970, 1, 1, 3, 30, 0),
-            "N 12600 1970-01-01T03:30:00.000000007Z DST2;",
-        ),
-        (
-            (1970, 1, 1, 4, 30, 0),
-            "N 16200 1970-01-01T04:30:00.000000007Z STD2;",
-        ),
-    ];
-    expect_texts_in(&rt, rt.alloc(), &ZONE, &ROWS)?;
-    Ok(())
+    static ROWS: &str = "\
+1970-01-01T00:30:00 | N 1800 1970-01-01T00:30:00.000000007Z STD1;
+1970-01-01T01:30:00 | N 5400 1970-01-01T01:30:00.000000007Z DST1;
+1970-01-01T02:30:00 | N 9000 1970-01-01T02:30:00.000000007Z STD2;
+1970-01-01T03:30:00 | N 12600 1970-01-01T03:30:00.000000007Z DST2;
+1970-01-01T04:30:00 | N 16200 1970-01-01T04:30:00.000000007Z STD2;
+";
+    expect_texts_in(&rt, rt.alloc(), &ZONE, ROWS)
 }
-
-/// A TZif file of version 3: Israel from 2038 on, by a rule after one transition.
-static JERUSALEM: &[u8] =
-    b"TZif3\0\0\0\0\0\0\0\0\0\0\0\0\0\0\0\0\0\0\0\0\0\0\0\0\0\0\0\0\0\0\0\0\0\0\x01\0\0\0\x04\
-    \0\0\x1c\x20\0\0IST\0\
-    TZif3\0\0\0\0\0\0\0\0\0\0\0\0\0\0\0\0\0\0\x01\0\0\0\x01\0\0\0\0\0\0\0\x01\0\0\0\x01\0\0\0\x04\
-    \0\0\0\0\x7f\xe8\x17\x80\0\0\0\x1c\x20\0\0IST\0\x01\x01\
-    \nIST-2IDT,M3.4.4/26,M10.5.0\n";
 
 #[test]
 fn a_rule_of_a_file(rt: HostRuntime) -> Result<(), Fail> {
-    static ROWS: [(Reading, &str); 2] = [
-        (
-            (2040, 3, 23, 2, 30, 0),
-            "S 2216073600 2040-03-23T02:00:00.000000007+02:00 IST 2040-03-23T03:00:00.000000007+03:00 IDT;",
-        ),
-        (
-            (2037, 7, 1, 0, 0, 0),
-            "N 2130012000 2037-07-01T00:00:00.000000007+02:00 IST;",
-        ),
-    ];
-    expect_eq(&rt, &JERUSALEM.len(), &147);
-    let zone = TimeZone::from_tz_data(rt.alloc(), JERUSALEM)?;
-    expect_texts(&rt, rt.alloc(), zone.as_ref(), &ROWS)?;
-    Ok(())
+    static ROWS: &str = "\
+2040-03-23T02:30:00 | S 2216073600 2040-03-23T02:00:00.000000007+02:00 IST 2040-03-23T03:00:00.000000007+03:00 IDT;
+2037-07-01T00:00:00 | N 2130012000 2037-07-01T00:00:00.000000007+02:00 IST;
+";
+    let zone = TimeZone::from_tz_data(rt.alloc(), JERUSALEM_V3)?;
+    expect_texts(&rt, rt.alloc(), zone.as_ref(), ROWS)
 }
 
 #[test]
 fn a_rule_for_all_the_year(rt: HostRuntime) -> Result<(), Fail> {
-    static EASTERN: RuleRow = (
-        (-18_000, false, Some(b"EST")),
-        (-14_400, true, Some(b"EDT")),
-        (Day::Julian0(0), 0),
-        (Day::Julian1(365), 90_000),
-    );
-    static ROWS: [(Reading, &str); 1] = [(
-        (2000, 1, 1, 0, 30, 0),
-        "N 946701000 2000-01-01T00:30:00.000000007-04:00 EDT;",
-    )];
-    expect_texts_by_rule(&rt, rt.alloc(), rule_of(&EASTERN)?, &ROWS)?;
+    static ROWS: &str = "\
+2000-01-01T00:30:00 | N 946701000 2000-01-01T00:30:00.000000007-04:00 EDT;
+";
+    expect_texts_by_rule(&rt, rt.alloc(), "EST5EDT,0/0,J365/25", ROWS)?;
     // Each end comes a day after the next start.
-    static OVERLAPPING: RuleRow = (
-        (0, false, Some(b"A")),
-        (3600, true, Some(b"B")),
-        (Day::Julian1(1), 0),
-        (Day::Julian1(365), 172_800),
-    );
-    static OVERLAPPED: [(Reading, &str); 1] = [(
-        (2001, 1, 1, 0, 30, 0),
-        "N 978305400 2001-01-01T00:30:00.000000007+01:00 B;",
-    )];
-    expect_texts_by_rule(&rt, rt.alloc(), rule_of(&OVERLAPPING)?, &OVERLAPPED)?;
-    Ok(())
+    static OVERLAPPED: &str = "\
+2001-01-01T00:30:00 | N 978305400 2001-01-01T00:30:00.000000007+01:00 B;
+";
+    expect_texts_by_rule(&rt, rt.alloc(), "A0B,J1/0,J365/48", OVERLAPPED)
 }
 
 /// Each end that belongs to a start comes one second before it, so no daylight saving time has any length.
 #[test]
 fn a_rule_with_empty_spans(rt: HostRuntime) -> Result<(), Fail> {
-    static RULE: RuleRow = (
-        (0, false, Some(b"A")),
-        (3600, true, Some(b"B")),
-        (Day::Julian1(365), 89_999),
-        (Day::Julian0(0), 7198),
-    );
-    static ROWS: [(Reading, &str); 6] = [
-        (
-            (2001, 1, 1, 0, 59, 58),
-            "N 978310798 2001-01-01T00:59:58.000000007Z A;",
-        ),
-        (
-            (2001, 1, 1, 0, 59, 59),
-            "N 978310799 2001-01-01T00:59:59.000000007Z A;",
-        ),
-        (
-            (2001, 1, 1, 1, 30, 0),
-            "N 978312600 2001-01-01T01:30:00.000000007Z A;",
-        ),
-        (
-            (2001, 1, 1, 1, 59, 58),
-            "N 978314398 2001-01-01T01:59:58.000000007Z A;",
-        ),
-        (
-            (2001, 1, 1, 1, 59, 59),
-            "N 978314399 2001-01-01T01:59:59.000000007Z A;",
-        ),
-        (
-            (2000, 7, 1, 0, 0, 0),
-            "N 962409600 2000-07-01T00:00:00.000000007Z A;",
-        ),
-    ];
-    expect_texts_by_rule(&rt, rt.alloc(), rule_of(&RULE)?, &ROWS)?;
-    Ok(())
+    static ROWS: &str = "\
+2001-01-01T00:59:58 | N 978310798 2001-01-01T00:59:58.000000007Z A;
+2001-01-01T00:59:59 | N 978310799 2001-01-01T00:59:59.000000007Z A;
+2001-01-01T01:30:00 | N 978312600 2001-01-01T01:30:00.000000007Z A;
+2001-01-01T01:59:58 | N 978314398 2001-01-01T01:59:58.000000007Z A;
+2001-01-01T01:59:59 | N 978314399 2001-01-01T01:59:59.000000007Z A;
+2000-07-01T00:00:00 | N 962409600 2000-07-01T00:00:00.000000007Z A;
+";
+    expect_texts_by_rule(&rt, rt.alloc(), "A0B,J365/24:59:59,0/1:59:58", ROWS)
 }
 
 /// Each end comes an hour after the next start, so daylight saving time never ends.
 #[test]
 fn a_rule_with_overlapping_spans(rt: HostRuntime) -> Result<(), Fail> {
-    static RULE: RuleRow = (
-        (0, false, Some(b"A")),
-        (0, true, Some(b"B")),
-        (Day::Julian0(0), 0),
-        (Day::Julian1(365), 89_999),
-    );
-    static ROWS: [(Reading, &str); 7] = [
-        (
-            (2000, 12, 31, 23, 59, 59),
-            "N 978307199 2000-12-31T23:59:59.000000007Z B;",
-        ),
-        (
-            (2000, 12, 31, 23, 59, 60),
-            "N 978307200 2000-12-31T23:59:60.000000007Z B;",
-        ),
-        (
-            (2001, 1, 1, 0, 0, 0),
-            "N 978307200 2001-01-01T00:00:00.000000007Z B;",
-        ),
-        (
-            (2001, 1, 1, 0, 59, 58),
-            "N 978310798 2001-01-01T00:59:58.000000007Z B;",
-        ),
-        (
-            (2001, 1, 1, 0, 59, 59),
-            "N 978310799 2001-01-01T00:59:59.000000007Z B;",
-        ),
-        (
-            (2001, 1, 1, 1, 0, 0),
-            "N 978310800 2001-01-01T01:00:00.000000007Z B;",
-        ),
-        (
-            (2000, 7, 1, 0, 0, 0),
-            "N 962409600 2000-07-01T00:00:00.000000007Z B;",
-        ),
-    ];
-    expect_texts_by_rule(&rt, rt.alloc(), rule_of(&RULE)?, &ROWS)?;
-    Ok(())
+    static ROWS: &str = "\
+2000-12-31T23:59:59 | N 978307199 2000-12-31T23:59:59.000000007Z B;
+2000-12-31T23:59:60 | N 978307200 2000-12-31T23:59:60.000000007Z B;
+2001-01-01T00:00:00 | N 978307200 2001-01-01T00:00:00.000000007Z B;
+2001-01-01T00:59:58 | N 978310798 2001-01-01T00:59:58.000000007Z B;
+2001-01-01T00:59:59 | N 978310799 2001-01-01T00:59:59.000000007Z B;
+2001-01-01T01:00:00 | N 978310800 2001-01-01T01:00:00.000000007Z B;
+2000-07-01T00:00:00 | N 962409600 2000-07-01T00:00:00.000000007Z B;
+";
+    expect_texts_by_rule(&rt, rt.alloc(), "A0B0,0/0,J365/24:59:59", ROWS)
 }
 
 /// In years that are not leap both days are March 1st: the end is then paired with the start a year before, as in leap years.
 #[test]
 fn a_rule_with_a_tie(rt: HostRuntime) -> Result<(), Fail> {
-    static RULE: RuleRow = (
-        (0, false, Some(b"A")),
-        (0, true, Some(b"B")),
-        (Day::Julian1(60), 0),
-        (Day::Julian0(59), 0),
-    );
-    static ROWS: [(Reading, &str); 3] = [
-        (
-            (2001, 1, 1, 0, 0, 0),
-            "N 978307200 2001-01-01T00:00:00.000000007Z B;",
-        ),
-        (
-            (2001, 3, 1, 0, 0, 0),
-            "N 983404800 2001-03-01T00:00:00.000000007Z B;",
-        ),
-        (
-            (2000, 2, 29, 12, 0, 0),
-            "N 951825600 2000-02-29T12:00:00.000000007Z A;",
-        ),
-    ];
-    expect_texts_by_rule(&rt, rt.alloc(), rule_of(&RULE)?, &ROWS)?;
-    Ok(())
+    static ROWS: &str = "\
+2001-01-01T00:00:00 | N 978307200 2001-01-01T00:00:00.000000007Z B;
+2001-03-01T00:00:00 | N 983404800 2001-03-01T00:00:00.000000007Z B;
+2000-02-29T12:00:00 | N 951825600 2000-02-29T12:00:00.000000007Z A;
+";
+    expect_texts_by_rule(&rt, rt.alloc(), "A0B0,J60/0,59/0", ROWS)
 }
