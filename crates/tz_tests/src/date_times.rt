@@ -10,6 +10,9 @@ use std::time::Duration;
 use tz::datetime::{DateTime, UtcDateTime};
 use tz_base::error::TzError;
 use tz_base::error::datetime::DateTimeError;
+use tz_base::error::datetime::DateTimeError::{
+    InvalidHour, InvalidMinute, InvalidMonth, InvalidMonthDay, InvalidNanoseconds, InvalidSecond,
+};
 use tz_samples::date_times::{NOONS, Parts};
 use tz_samples::utc;
 use tz_zone::timezone::{LocalTimeType, TimeZone, TimeZoneRef, Transition};
@@ -261,7 +264,7 @@ fn no_date_time_is_past_the_ends(rt: HostRuntime) {
         expect_field_fault(
             &rt,
             UtcDateTime::from_timespec(unix_time, 1_000_000_000),
-            DateTimeError::InvalidNanoseconds,
+            InvalidNanoseconds,
         );
     }
 }
@@ -271,48 +274,23 @@ fn the_first_fault_of_fields_is_named(rt: HostRuntime) {
     let past_the_end = (i32::MAX, 12, 31, (23, 59, 60), 1_000_000_000);
     expect_out_of_range(&rt, utc_of(past_the_end));
     expect_out_of_range(&rt, utc_of((i32::MAX, 12, 31, (23, 59, 60), 0)));
-    expect_field_fault(
-        &rt,
-        local_of((past_the_end, 0)),
-        DateTimeError::InvalidNanoseconds,
-    );
+    expect_field_fault(&rt, local_of((past_the_end, 0)), InvalidNanoseconds);
     expect_out_of_range(&rt, local_of(((i32::MAX, 12, 31, (23, 59, 60), 0), 0)));
     static FAULTS: [(Parts, DateTimeError); 11] = [
-        (
-            (2001, 0, 0, (24, 60, 61), 1_000_000_000),
-            DateTimeError::InvalidMonth,
-        ),
-        (
-            (2001, 13, 0, (24, 60, 61), 1_000_000_000),
-            DateTimeError::InvalidMonth,
-        ),
-        (
-            (2001, 2, 0, (24, 60, 61), 1_000_000_000),
-            DateTimeError::InvalidMonthDay,
-        ),
-        (
-            (2001, 2, 32, (24, 60, 61), 1_000_000_000),
-            DateTimeError::InvalidMonthDay,
-        ),
-        (
-            (2001, 2, 29, (24, 60, 61), 1_000_000_000),
-            DateTimeError::InvalidHour,
-        ),
-        ((2001, 2, 29, (24, 0, 0), 0), DateTimeError::InvalidHour),
-        (
-            (2001, 2, 29, (23, 60, 61), 1_000_000_000),
-            DateTimeError::InvalidMinute,
-        ),
-        (
-            (2001, 2, 29, (23, 59, 61), 1_000_000_000),
-            DateTimeError::InvalidSecond,
-        ),
+        ((2001, 0, 0, (24, 60, 61), 1_000_000_000), InvalidMonth),
+        ((2001, 13, 0, (24, 60, 61), 1_000_000_000), InvalidMonth),
+        ((2001, 2, 0, (24, 60, 61), 1_000_000_000), InvalidMonthDay),
+        ((2001, 2, 32, (24, 60, 61), 1_000_000_000), InvalidMonthDay),
+        ((2001, 2, 29, (24, 60, 61), 1_000_000_000), InvalidHour),
+        ((2001, 2, 29, (24, 0, 0), 0), InvalidHour),
+        ((2001, 2, 29, (23, 60, 61), 1_000_000_000), InvalidMinute),
+        ((2001, 2, 29, (23, 59, 61), 1_000_000_000), InvalidSecond),
         (
             (2001, 2, 29, (23, 59, 60), 1_000_000_000),
-            DateTimeError::InvalidNanoseconds,
+            InvalidNanoseconds,
         ),
-        ((2001, 2, 29, (0, 0, 0), 0), DateTimeError::InvalidMonthDay),
-        ((1900, 2, 29, (0, 0, 0), 0), DateTimeError::InvalidMonthDay),
+        ((2001, 2, 29, (0, 0, 0), 0), InvalidMonthDay),
+        ((1900, 2, 29, (0, 0, 0), 0), InvalidMonthDay),
     ];
     for &(parts, fault) in FAULTS.iter() {
         expect_field_fault(&rt, utc_of(parts), fault);
@@ -336,7 +314,7 @@ fn local_years_end_where_utc_does(rt: HostRuntime) -> Result<(), Fail> {
     expect_field_fault(
         &rt,
         DateTime::from_timespec_and_local(i64::MAX, 1_000_000_000, west),
-        DateTimeError::InvalidNanoseconds,
+        InvalidNanoseconds,
     );
     expect_out_of_range(&rt, DateTime::from_timespec_and_local(i64::MIN, 0, west));
     const NOON: i64 = utc!(2000-02-29 12:01:06);
@@ -521,7 +499,7 @@ fn the_lookup_is_refused_before_the_year(rt: HostRuntime) -> Result<(), Fail> {
     expect_field_fault(
         &rt,
         DateTime::from_timespec(0, 1_000_000_000, zone),
-        DateTimeError::InvalidNanoseconds,
+        InvalidNanoseconds,
     );
     expect_out_of_range(&rt, DateTime::from_timespec(i64::MIN, 0, zone));
     Ok(())
