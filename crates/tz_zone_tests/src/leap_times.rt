@@ -1,6 +1,4 @@
-//! Leap times and effects around leap seconds of one second more and less, and at the ends of 64 bits.
-
-mod tables;
+//! Leap times and effects around leap seconds of one second more and less, of tables that begin later or expire, and at the ends of 64 bits.
 
 use crate::expect::{expect_eq, expect_eq_at};
 use std::process::Abort;
@@ -206,6 +204,48 @@ fn leap_seconds_of_both_kinds(rt: HostRuntime) {
         LeapSecond::new(2_419_202, 0),
         LeapSecond::new(4_838_401, 1),
         LeapSecond::new(7_257_600, 0),
+    ];
+    expect_leap_times(&rt, &leap_seconds, &LEAPS);
+    expect_effects(&rt, &leap_seconds, &EFFECTS);
+}
+
+/// The expiry is reached with the leap second before it.
+#[test]
+fn an_expiry_one_second_after(rt: HostRuntime) {
+    static LEAPS: [(i64, Option<i64>); 3] = [(-1, Some(-1)), (0, Some(1)), (1, Some(2))];
+    static EFFECTS: [(i64, Option<i64>); 4] = [
+        (-1, Some(-1)),
+        (0, Some(0)),
+        (1, Some(0)),
+        (2, Some(1)),
+    ];
+    let leap_seconds = [LeapSecond::new(0, 1), LeapSecond::new(1, 1)];
+    expect_leap_times(&rt, &leap_seconds, &LEAPS);
+    expect_effects(&rt, &leap_seconds, &EFFECTS);
+}
+
+/// Before the start of the table there is no leap time, and its first effect is at the start.
+#[test]
+fn a_table_that_begins_later(rt: HostRuntime) {
+    const NEW_YEAR: i64 = utc!(2017-01-01 00:00:00);
+    static LEAPS: [(i64, Option<i64>); 6] = [
+        (i64::MIN, None),
+        (0, None),
+        (NEW_YEAR - 2, None),
+        (NEW_YEAR - 1, Some(NEW_YEAR + 26)),
+        (NEW_YEAR, Some(NEW_YEAR + 27)),
+        (1_700_000_000, Some(1_700_000_000 + 27)),
+    ];
+    static EFFECTS: [(i64, Option<i64>); 5] = [
+        (i64::MIN, None),
+        (i64::MIN + 1, Some(NEW_YEAR - 1)),
+        (0, Some(NEW_YEAR - 1)),
+        (NEW_YEAR + 26, Some(NEW_YEAR - 1)),
+        (NEW_YEAR + 27, Some(NEW_YEAR)),
+    ];
+    let leap_seconds = [
+        LeapSecond::new(NEW_YEAR + 26, 27),
+        LeapSecond::new(1_700_000_000, 27),
     ];
     expect_leap_times(&rt, &leap_seconds, &LEAPS);
     expect_effects(&rt, &leap_seconds, &EFFECTS);

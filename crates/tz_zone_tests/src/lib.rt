@@ -6,8 +6,6 @@ mod borrowed_zones;
 #[cfg(test)]
 mod changes;
 #[cfg(test)]
-mod clock_segments;
-#[cfg(test)]
 mod clocks;
 #[cfg(test)]
 mod expect;
@@ -18,6 +16,8 @@ mod leap_times;
 #[cfg(test)]
 mod owned_zones;
 #[cfg(test)]
+mod segments;
+#[cfg(test)]
 mod settings;
 #[cfg(test)]
 mod spans;
@@ -25,7 +25,5 @@ mod spans;
 mod tz_files;
 #[cfg(test)]
 mod tz_strings;
-#[cfg(test)]
-mod windows;
 #[cfg(test)]
 mod zones;

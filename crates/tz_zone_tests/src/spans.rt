@@ -2,7 +2,6 @@
 
 use crate::clocks::three_types;
 use crate::expect::{expect_eq, expect_eq_at};
-use crate::windows::transitions_of_a_run;
 use std::process::Abort;
 use std::test::Fail;
 use tz_samples::rules::central_europe;
@@ -43,12 +42,7 @@ fn expect_through(
 
 /// The spans of a window follow one another from its first instant up to its last, unless its types are known without them, and the clock has the type
 /// of each. Returns how many of them hold an instant, and the looks.
-pub(crate) fn expect_spans(
-    rt: &impl Abort,
-    zone: &TimeZoneRef<'_>,
-    low: i64,
-    high: i64,
-) -> (u64, u64) {
+fn expect_spans(rt: &impl Abort, zone: &TimeZoneRef<'_>, low: i64, high: i64) -> (u64, u64) {
     if SURELY_ANSWERED < high {
         return (0, 0);
     }
@@ -126,19 +120,5 @@ fn spans_of_the_rule_follow_the_last_transition(rt: HostRuntime) -> Result<(), F
     let zone = TimeZoneRef::new(&[], &types, &[], &rule)?;
     let found = expect_spans(&rt, &zone, 1_715_000_000, 1_780_000_000);
     expect_eq(&rt, &found, &(5, 0));
-    Ok(())
-}
-
-#[test]
-fn transitions_before_a_table_are_passed_at_once(rt: HostRuntime) -> Result<(), Fail> {
-    let types = three_types()?;
-    let leap_seconds = [LeapSecond::new(78_796_800, 5)];
-    for (count, most_looks) in [(2, 6u64), (3, 7), (1000, 14)] {
-        let transitions = transitions_of_a_run(rt.alloc(), count)?;
-        let zone = TimeZoneRef::new(&transitions, &types, &leap_seconds, &None)?;
-        let (spans, looks) = expect_spans(&rt, &zone, 78_796_700, 78_796_899);
-        expect_eq_at(&rt, &count, &spans, &3);
-        assert!(rt; looks <= most_looks, "{count}: {looks}");
-    }
     Ok(())
 }

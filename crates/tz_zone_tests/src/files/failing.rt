@@ -1,8 +1,9 @@
 //! The reader of files, over readers in memory that fail.
 
-use crate::expect::{expect_eq, expect_eq_at};
+use crate::expect::expect_eq_at;
 use std::alloc::{Allocator, Global};
 use std::io::{self, Read};
+use std::process::Abort;
 use std::test::Fail;
 use tz_base::error::ReadFault;
 use tz_samples::refusing::Refusing;
@@ -58,34 +59,6 @@ fn a_reader_is_read_to_its_end_or_fails(rt: HostRuntime) -> Result<(), Fail> {
     Ok(())
 }
 
-#[test]
-fn each_growth_can_be_refused(rt: HostRuntime) -> Result<(), Fail> {
-    let alloc = rt.alloc();
-    let text = [b'a'; 500];
-    let mut refusals = 0u64;
-    for left in 0..30u64 {
-        let heap = Refusing::new(alloc, left);
-        let mut input = Input {
-            rest: &text,
-            calls_left: 100,
-        };
-        match read_to_end(&heap, &mut input, 0) {
-            Ok(bytes) => expect_eq(&rt, &bytes.as_slice(), &text.as_slice()),
-            Err(fault) => {
-                assert!(rt; matches!(fault, ReadFault::Memory(_)), "{left}");
-                refusals = left + 1;
-            }
-        }
-        expect_eq(
-            &rt,
-            &(heap.refused(), heap.held()),
-            &(u64::from(left < refusals), 0),
-        );
-    }
-    assert!(rt; (2..30).contains(&refusals));
-    Ok(())
-}
-
 /// How many of the bytes a reader over 23 bytes has left, and what was read of it, or the name of the fault.
 #[test]
 fn a_reader_is_read_up_to_a_limit(rt: HostRuntime) -> Result<(), Fail> {
@@ -114,30 +87,42 @@ fn a_reader_is_read_up_to_a_limit(rt: HostRuntime) -> Result<(), Fail> {
     Ok(())
 }
 
-#[test]
-fn each_growth_up_to_a_limit_can_be_refused(rt: HostRuntime) -> Result<(), Fail> {
-    let alloc = rt.alloc();
+/// A reader that holds 500 bytes is read whole by a call, or the growth that was refused is its fault. Says whether one was.
+fn is_refused(rt: &impl Abort, alloc: Global, left: u64, up_to: Option<usize>) -> bool {
     let text = [b'a'; 500];
-    let mut refusals = 0u64;
-    for left in 0..30u64 {
-        let heap = Refusing::new(alloc, left);
-        let mut input = Input {
-            rest: &text,
-            calls_left: 100,
-        };
-        match read_up_to(&heap, &mut input, 500) {
-            Ok(bytes) => expect_eq(&rt, &bytes.as_slice(), &text.as_slice()),
-            Err(fault) => {
-                assert!(rt; matches!(fault, ReadFault::Memory(_)), "{left}");
+    let heap = Refusing::new(alloc, left);
+    let mut input = Input {
+        rest: &text,
+        calls_left: 100,
+    };
+    let read = match up_to {
+        Some(limit) => read_up_to(&heap, &mut input, limit),
+        None => read_to_end(&heap, &mut input, 0),
+    };
+    let refused = match read {
+        Ok(bytes) => {
+            expect_eq_at(rt, &left, &bytes.as_slice(), &text.as_slice());
+            false
+        }
+        Err(fault) => {
+            assert!(rt; matches!(fault, ReadFault::Memory(_)), "{left}");
+            true
+        }
+    };
+    let counts = (heap.refused(), heap.held());
+    expect_eq_at(rt, &left, &counts, &(u64::from(refused), 0));
+    refused
+}
+
+#[test]
+fn each_growth_can_be_refused(rt: HostRuntime) {
+    for up_to in [None, Some(500)] {
+        let mut refusals = 0u64;
+        for left in 0..30u64 {
+            if is_refused(&rt, rt.alloc(), left, up_to) {
                 refusals = left + 1;
             }
         }
-        expect_eq(
-            &rt,
-            &(heap.refused(), heap.held()),
-            &(u64::from(left < refusals), 0),
-        );
+        assert!(rt; (2..30).contains(&refusals));
     }
-    assert!(rt; (2..30).contains(&refusals));
-    Ok(())
 }
