@@ -5,7 +5,11 @@ use std::alloc::{AllocError, Global};
 use std::process::Abort;
 use std::test::Fail;
 use tz_base::error::TzError;
+use tz_base::error::parse::ParseDataError::{InvalidData, UnexpectedEof};
+use tz_base::error::parse::TzFileError::{InvalidFooter, Utf8};
+use tz_base::error::parse::TzStringError::InvalidDayTimeHour;
 use tz_base::error::parse::{ParseDataError, TzFileError, TzStringError};
+use tz_base::error::timezone::TimeZoneError::InconsistentExtraRule;
 use tz_base::error::timezone::{LocalTimeTypeError, TimeZoneError};
 use tz_samples::faults::{Fault, named};
 use tz_samples::files::{push_header, utc_v1, without_transitions};
@@ -23,7 +27,7 @@ fn fault_of(alloc: Global, bytes: &[u8]) -> Option<Fault> {
 }
 
 /// Bytes are missing: a row of a table says so.
-const CUT: Option<Fault> = Some(Fault::File(TzFileError::ParseData(ParseDataError::UnexpectedEof)));
+const CUT: Option<Fault> = Some(Fault::File(TzFileError::ParseData(UnexpectedEof)));
 
 /// Bytes are missing.
 fn is_cut() -> Option<Fault> {
@@ -300,21 +304,15 @@ fn footers_are_read(rt: HostRuntime) -> Result<(), Fail> {
 #[test]
 fn footers_are_refused(rt: HostRuntime) -> Result<(), Fail> {
     static ROWS: [(&[u8], Option<Fault>); 7] = [
-        (b"", Some(Fault::File(TzFileError::InvalidFooter))),
-        (b"\nIST-2", Some(Fault::File(TzFileError::InvalidFooter))),
-        (b"IST-2\n", Some(Fault::File(TzFileError::InvalidFooter))),
-        (b"\n:x\n", Some(Fault::File(TzFileError::InvalidFooter))),
-        (
-            b"\nA\0\x30\n",
-            Some(Fault::File(TzFileError::InvalidFooter)),
-        ),
-        (
-            b"\nIST-3\n",
-            Some(Fault::Zone(TimeZoneError::InconsistentExtraRule)),
-        ),
+        (b"", Some(Fault::File(InvalidFooter))),
+        (b"\nIST-2", Some(Fault::File(InvalidFooter))),
+        (b"IST-2\n", Some(Fault::File(InvalidFooter))),
+        (b"\n:x\n", Some(Fault::File(InvalidFooter))),
+        (b"\nA\0\x30\n", Some(Fault::File(InvalidFooter))),
+        (b"\nIST-3\n", Some(Fault::Zone(InconsistentExtraRule))),
         (
             b"\nIST-2IDT,J1.J2\n",
-            Some(Fault::Text(TzStringError::ParseData(ParseDataError::InvalidData))),
+            Some(Fault::Text(TzStringError::ParseData(InvalidData))),
         ),
     ];
     for (footer, expected) in &ROWS {
@@ -323,7 +321,7 @@ fn footers_are_refused(rt: HostRuntime) -> Result<(), Fail> {
     }
     let bytes = with_footer(rt.alloc(), b'3', b"\n\xff\n")?;
     let refused = fault_of(rt.alloc(), &bytes);
-    assert!(rt; matches!(refused, Some(Fault::File(TzFileError::Utf8(_)))));
+    assert!(rt; matches!(refused, Some(Fault::File(Utf8(_)))));
     Ok(())
 }
 
@@ -361,7 +359,7 @@ fn the_second_header_extends_texts(rt: HostRuntime) -> Result<(), Fail> {
     let footer = b"\n<-03>3<-02>,M3.5.0/-2,M10.5.0/-1\n";
     expect_extended(&rt, rt.alloc(), footer, Fault::Number, &SIGNED)?;
     let footer = b"\nEST5EDT,0/0,J365/25\n";
-    let is_late = Fault::Text(TzStringError::InvalidDayTimeHour);
+    let is_late = Fault::Text(InvalidDayTimeHour);
     expect_extended(&rt, rt.alloc(), footer, is_late, &ALL_YEAR)?;
     Ok(())
 }

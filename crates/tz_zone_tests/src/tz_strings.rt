@@ -8,7 +8,19 @@ use std::alloc::{AllocError, Global};
 use std::process::Abort;
 use std::test::Fail;
 use tz_base::error::Error;
+use tz_base::error::parse::ParseDataError::{InvalidData, UnexpectedEof};
+use tz_base::error::parse::TzStringError::{
+    InvalidDayTimeHour, InvalidDayTimeMinute, InvalidDayTimeSecond, InvalidOffsetHour,
+    InvalidOffsetMinute, InvalidOffsetSecond, MissingDstStartEndRules, ParseData, RemainingData,
+};
 use tz_base::error::parse::{ParseDataError, TzStringError};
+use tz_base::error::timezone::LocalTimeTypeError::{
+    InvalidTimeZoneDesignationChar, InvalidTimeZoneDesignationLength,
+};
+use tz_base::error::timezone::TransitionRuleError::{
+    InconsistentRule, InvalidRuleDayJulianDay, InvalidRuleDayMonth, InvalidRuleDayWeek,
+    InvalidRuleDayWeekDay,
+};
 use tz_base::error::timezone::{LocalTimeTypeError, TransitionRuleError};
 use tz_samples::faults::{Fault, named, named_by_settings};
 use tz_samples::rules::{Day, day_of};
@@ -195,10 +207,7 @@ fn extended_texts_have_wider_day_times(rt: HostRuntime) -> Result<(), Fail> {
     ];
     static FAULTS: [(&str, Fault); 2] = [
         ("<-03>3<-02>,M3.5.0/-2,M10.5.0/-1", Fault::Number),
-        (
-            "EST5EDT,0/0,J365/25",
-            Fault::Text(TzStringError::InvalidDayTimeHour),
-        ),
+        ("EST5EDT,0/0,J365/25", Fault::Text(InvalidDayTimeHour)),
     ];
     expect_alternate_rules(&rt, rt.alloc(), &ROWS, true)?;
     expect_faults(&rt, rt.alloc(), &FAULTS);
@@ -206,7 +215,7 @@ fn extended_texts_have_wider_day_times(rt: HostRuntime) -> Result<(), Fail> {
     expect_eq(
         &rt,
         &inconsistent.err().map(named),
-        &Some(Fault::Rule(TransitionRuleError::InconsistentRule)),
+        &Some(Fault::Rule(InconsistentRule)),
     );
     Ok(())
 }
@@ -245,52 +254,22 @@ fn numbers_are_digits_that_fit(rt: HostRuntime) {
 #[test]
 fn numbers_are_in_range(rt: HostRuntime) {
     static ROWS: [(&str, Fault); 16] = [
-        ("A25", Fault::Text(TzStringError::InvalidOffsetHour)),
-        ("A2147483647", Fault::Text(TzStringError::InvalidOffsetHour)),
-        ("A0:60", Fault::Text(TzStringError::InvalidOffsetMinute)),
-        ("A0:0:60", Fault::Text(TzStringError::InvalidOffsetSecond)),
-        ("A0B25,0,1", Fault::Text(TzStringError::InvalidOffsetHour)),
-        ("A0B,0/25,1", Fault::Text(TzStringError::InvalidDayTimeHour)),
-        (
-            "A0B,0/0:60,1",
-            Fault::Text(TzStringError::InvalidDayTimeMinute),
-        ),
-        (
-            "A0B,0,1/0:0:60",
-            Fault::Text(TzStringError::InvalidDayTimeSecond),
-        ),
-        (
-            "A0B,J0,1",
-            Fault::Rule(TransitionRuleError::InvalidRuleDayJulianDay),
-        ),
-        (
-            "A0B,J366,1",
-            Fault::Rule(TransitionRuleError::InvalidRuleDayJulianDay),
-        ),
-        (
-            "A0B,366,1",
-            Fault::Rule(TransitionRuleError::InvalidRuleDayJulianDay),
-        ),
-        (
-            "A0B,M0.1.0,1",
-            Fault::Rule(TransitionRuleError::InvalidRuleDayMonth),
-        ),
-        (
-            "A0B,M13.1.0,1",
-            Fault::Rule(TransitionRuleError::InvalidRuleDayMonth),
-        ),
-        (
-            "A0B,M1.0.0,1",
-            Fault::Rule(TransitionRuleError::InvalidRuleDayWeek),
-        ),
-        (
-            "A0B,M1.6.0,1",
-            Fault::Rule(TransitionRuleError::InvalidRuleDayWeek),
-        ),
-        (
-            "A0B,M1.1.7,1",
-            Fault::Rule(TransitionRuleError::InvalidRuleDayWeekDay),
-        ),
+        ("A25", Fault::Text(InvalidOffsetHour)),
+        ("A2147483647", Fault::Text(InvalidOffsetHour)),
+        ("A0:60", Fault::Text(InvalidOffsetMinute)),
+        ("A0:0:60", Fault::Text(InvalidOffsetSecond)),
+        ("A0B25,0,1", Fault::Text(InvalidOffsetHour)),
+        ("A0B,0/25,1", Fault::Text(InvalidDayTimeHour)),
+        ("A0B,0/0:60,1", Fault::Text(InvalidDayTimeMinute)),
+        ("A0B,0,1/0:0:60", Fault::Text(InvalidDayTimeSecond)),
+        ("A0B,J0,1", Fault::Rule(InvalidRuleDayJulianDay)),
+        ("A0B,J366,1", Fault::Rule(InvalidRuleDayJulianDay)),
+        ("A0B,366,1", Fault::Rule(InvalidRuleDayJulianDay)),
+        ("A0B,M0.1.0,1", Fault::Rule(InvalidRuleDayMonth)),
+        ("A0B,M13.1.0,1", Fault::Rule(InvalidRuleDayMonth)),
+        ("A0B,M1.0.0,1", Fault::Rule(InvalidRuleDayWeek)),
+        ("A0B,M1.6.0,1", Fault::Rule(InvalidRuleDayWeek)),
+        ("A0B,M1.1.7,1", Fault::Rule(InvalidRuleDayWeekDay)),
     ];
     expect_faults(&rt, rt.alloc(), &ROWS);
 }
@@ -299,11 +278,11 @@ fn numbers_are_in_range(rt: HostRuntime) {
 fn names_are_designations(rt: HostRuntime) {
     static ROWS: [Refusals; 2] = [
         (
-            Fault::Type(LocalTimeTypeError::InvalidTimeZoneDesignationLength),
+            Fault::Type(InvalidTimeZoneDesignationLength),
             &["5", "<>5", "abcdefgh5", "A5abcdefgh,0,1"],
         ),
         (
-            Fault::Type(LocalTimeTypeError::InvalidTimeZoneDesignationChar),
+            Fault::Type(InvalidTimeZoneDesignationChar),
             &["<A_B>5", "A5<B B>,0,1"],
         ),
     ];
@@ -314,13 +293,13 @@ fn names_are_designations(rt: HostRuntime) {
 fn bytes_stand_where_they_have_to(rt: HostRuntime) {
     static ROWS: [Refusals; 4] = [
         (
-            Fault::Text(TzStringError::ParseData(ParseDataError::UnexpectedEof)),
+            Fault::Text(ParseData(UnexpectedEof)),
             &[
                 "<-03", "<", "A0<B", "A0B,M1", "A0B,M1.1", "A0B,J1", "A0B,J1/1",
             ],
         ),
         (
-            Fault::Text(TzStringError::ParseData(ParseDataError::InvalidData)),
+            Fault::Text(ParseData(InvalidData)),
             &[
                 "A0B1;",
                 "A0B1x",
@@ -331,11 +310,11 @@ fn bytes_stand_where_they_have_to(rt: HostRuntime) {
             ],
         ),
         (
-            Fault::Text(TzStringError::MissingDstStartEndRules),
+            Fault::Text(MissingDstStartEndRules),
             &["IST-1GMT0", "EET-2EEST", "A0<B>"],
         ),
         (
-            Fault::Text(TzStringError::RemainingData),
+            Fault::Text(RemainingData),
             &[
                 "EST5EDT,M3.2.0,M11.1.0x",
                 "EST5EDT,0,J365,",
@@ -350,24 +329,15 @@ fn bytes_stand_where_they_have_to(rt: HostRuntime) {
 /// are those of tz-rs.
 #[test]
 fn the_first_fault_that_is_met_is_named(rt: HostRuntime) {
-    const CUT: Fault = Fault::Text(TzStringError::ParseData(ParseDataError::UnexpectedEof));
+    const CUT: Fault = Fault::Text(ParseData(UnexpectedEof));
     static ROWS: [(&str, Fault); 7] = [
         ("<A_B>0C,0", CUT),
         ("A_B0", Fault::Number),
-        ("A25:60:60", Fault::Text(TzStringError::InvalidOffsetHour)),
-        ("A0:60:60", Fault::Text(TzStringError::InvalidOffsetMinute)),
-        (
-            "A0B,0/25:0:60,1",
-            Fault::Text(TzStringError::InvalidDayTimeHour),
-        ),
-        (
-            "A0B,0/0:60:60,1",
-            Fault::Text(TzStringError::InvalidDayTimeMinute),
-        ),
-        (
-            "A0B,M13.6.7,1x",
-            Fault::Rule(TransitionRuleError::InvalidRuleDayMonth),
-        ),
+        ("A25:60:60", Fault::Text(InvalidOffsetHour)),
+        ("A0:60:60", Fault::Text(InvalidOffsetMinute)),
+        ("A0B,0/25:0:60,1", Fault::Text(InvalidDayTimeHour)),
+        ("A0B,0/0:60:60,1", Fault::Text(InvalidDayTimeMinute)),
+        ("A0B,M13.6.7,1x", Fault::Rule(InvalidRuleDayMonth)),
     ];
     expect_faults(&rt, rt.alloc(), &ROWS);
 }

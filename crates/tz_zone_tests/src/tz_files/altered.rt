@@ -2,6 +2,15 @@
 
 use super::*;
 use crate::expect::{expect_eq, expect_eq_at};
+use tz_base::error::parse::TzFileError::{
+    InvalidDstIndicator, InvalidFooter, InvalidHeader, InvalidMagicNumber, InvalidStdWallUtLocal,
+    InvalidTimeZoneDesignationCharIndex, RemainingDataV1, UnsupportedTzFileVersion, Utf8,
+};
+use tz_base::error::parse::TzStringError::InvalidDayTimeHour;
+use tz_base::error::timezone::LocalTimeTypeError::{
+    InvalidTimeZoneDesignationChar, InvalidUtcOffset,
+};
+use tz_base::error::timezone::TimeZoneError::{InvalidLeapSecond, InvalidLocalTimeTypeIndex};
 
 /// The bytes are refused where some are missing at their end, and where one too many is there.
 fn expect_cut(rt: &impl Abort, alloc: Global, bytes: &[u8]) -> Result<(), AllocError> {
@@ -13,7 +22,7 @@ fn expect_cut(rt: &impl Abort, alloc: Global, bytes: &[u8]) -> Result<(), AllocE
     expect_eq(
         rt,
         &fault_of(alloc, &longer),
-        &Some(Fault::File(TzFileError::RemainingDataV1)),
+        &Some(Fault::File(RemainingDataV1)),
     );
     Ok(())
 }
@@ -41,7 +50,7 @@ fn expect_cut_footer(rt: &impl Abort, alloc: Global, bytes: &[u8]) {
         let expected = match len {
             0..=118 => is_cut(),
             120 => None,
-            _ => Some(Fault::File(TzFileError::InvalidFooter)),
+            _ => Some(Fault::File(InvalidFooter)),
         };
         expect_eq_at(rt, &len, &fault_of(alloc, &bytes[..len]), &expected);
     }
@@ -59,38 +68,26 @@ fn cut_later_files_are_refused(rt: HostRuntime) -> Result<(), Fail> {
 #[test]
 fn altered_bytes_are_refused(rt: HostRuntime) -> Result<(), Fail> {
     static ROWS: [Alteration; 13] = [
-        (2, b'j', Some(Fault::File(TzFileError::InvalidMagicNumber))),
-        (
-            4,
-            b'5',
-            Some(Fault::File(TzFileError::UnsupportedTzFileVersion)),
-        ),
-        (23, 2, Some(Fault::File(TzFileError::InvalidHeader))),
-        (27, 2, Some(Fault::File(TzFileError::InvalidHeader))),
-        (39, 0, Some(Fault::File(TzFileError::InvalidHeader))),
-        (43, 0, Some(Fault::File(TzFileError::InvalidHeader))),
-        (43, 3, Some(Fault::File(TzFileError::RemainingDataV1))),
-        (48, 2, Some(Fault::File(TzFileError::InvalidDstIndicator))),
+        (2, b'j', Some(Fault::File(InvalidMagicNumber))),
+        (4, b'5', Some(Fault::File(UnsupportedTzFileVersion))),
+        (23, 2, Some(Fault::File(InvalidHeader))),
+        (27, 2, Some(Fault::File(InvalidHeader))),
+        (39, 0, Some(Fault::File(InvalidHeader))),
+        (43, 0, Some(Fault::File(InvalidHeader))),
+        (43, 3, Some(Fault::File(RemainingDataV1))),
+        (48, 2, Some(Fault::File(InvalidDstIndicator))),
         (
             49,
             4,
-            Some(Fault::File(TzFileError::InvalidTimeZoneDesignationCharIndex)),
+            Some(Fault::File(InvalidTimeZoneDesignationCharIndex)),
         ),
         (
             53,
             b'x',
-            Some(Fault::File(TzFileError::InvalidTimeZoneDesignationCharIndex)),
+            Some(Fault::File(InvalidTimeZoneDesignationCharIndex)),
         ),
-        (
-            50,
-            b'_',
-            Some(Fault::Type(LocalTimeTypeError::InvalidTimeZoneDesignationChar)),
-        ),
-        (
-            44,
-            0x80,
-            Some(Fault::Type(LocalTimeTypeError::InvalidUtcOffset)),
-        ),
+        (50, b'_', Some(Fault::Type(InvalidTimeZoneDesignationChar))),
+        (44, 0x80, Some(Fault::Type(InvalidUtcOffset))),
         (43, 5, CUT),
     ];
     let bytes = utc_v1(rt.alloc())?;
@@ -102,22 +99,10 @@ fn altered_bytes_are_refused(rt: HostRuntime) -> Result<(), Fail> {
 fn altered_leap_seconds_are_refused(rt: HostRuntime) -> Result<(), Fail> {
     // The first time is negative, the first correction is 2, a time of UT goes with no standard time; one that goes with it is accepted.
     static ROWS: [Alteration; 5] = [
-        (
-            54,
-            0x80,
-            Some(Fault::Zone(TimeZoneError::InvalidLeapSecond)),
-        ),
-        (61, 2, Some(Fault::Zone(TimeZoneError::InvalidLeapSecond))),
-        (
-            271,
-            1,
-            Some(Fault::File(TzFileError::InvalidStdWallUtLocal)),
-        ),
-        (
-            270,
-            2,
-            Some(Fault::File(TzFileError::InvalidStdWallUtLocal)),
-        ),
+        (54, 0x80, Some(Fault::Zone(InvalidLeapSecond))),
+        (61, 2, Some(Fault::Zone(InvalidLeapSecond))),
+        (271, 1, Some(Fault::File(InvalidStdWallUtLocal))),
+        (270, 2, Some(Fault::File(InvalidStdWallUtLocal))),
         (270, 1, None),
     ];
     let bytes = utc_v1_leap(rt.alloc())?;
@@ -128,31 +113,15 @@ fn altered_leap_seconds_are_refused(rt: HostRuntime) -> Result<(), Fail> {
 #[test]
 fn altered_later_files_are_refused(rt: HostRuntime) -> Result<(), Fail> {
     static ROWS: [Alteration; 9] = [
-        (2, b'j', Some(Fault::File(TzFileError::InvalidMagicNumber))),
-        (4, 0, Some(Fault::File(TzFileError::RemainingDataV1))),
-        (56, b'j', Some(Fault::File(TzFileError::InvalidMagicNumber))),
-        (
-            58,
-            b'2',
-            Some(Fault::Text(TzStringError::InvalidDayTimeHour)),
-        ),
-        (58, 0, Some(Fault::Text(TzStringError::InvalidDayTimeHour))),
-        (
-            58,
-            b'5',
-            Some(Fault::File(TzFileError::UnsupportedTzFileVersion)),
-        ),
-        (
-            106,
-            1,
-            Some(Fault::Zone(TimeZoneError::InvalidLocalTimeTypeIndex)),
-        ),
-        (
-            117,
-            0,
-            Some(Fault::File(TzFileError::InvalidStdWallUtLocal)),
-        ),
-        (146, b' ', Some(Fault::File(TzFileError::InvalidFooter))),
+        (2, b'j', Some(Fault::File(InvalidMagicNumber))),
+        (4, 0, Some(Fault::File(RemainingDataV1))),
+        (56, b'j', Some(Fault::File(InvalidMagicNumber))),
+        (58, b'2', Some(Fault::Text(InvalidDayTimeHour))),
+        (58, 0, Some(Fault::Text(InvalidDayTimeHour))),
+        (58, b'5', Some(Fault::File(UnsupportedTzFileVersion))),
+        (106, 1, Some(Fault::Zone(InvalidLocalTimeTypeIndex))),
+        (117, 0, Some(Fault::File(InvalidStdWallUtLocal))),
+        (146, b' ', Some(Fault::File(InvalidFooter))),
     ];
     let bytes = jerusalem_v3(rt.alloc())?;
     expect_refusals(&rt, rt.alloc(), &bytes, &ROWS)?;
@@ -182,10 +151,10 @@ fn is_cut_and_altered(alloc: Global) -> Result<Option<Fault>, AllocError> {
 #[test]
 fn the_first_fault_that_is_met_is_named(rt: HostRuntime) -> Result<(), Fail> {
     let found = is_cut_and_altered(rt.alloc())?;
-    let is_no_file = Some(Fault::File(TzFileError::InvalidMagicNumber));
+    let is_no_file = Some(Fault::File(InvalidMagicNumber));
     expect_eq(&rt, &found, &is_no_file);
 
-    let has_no_flag = Some(Fault::File(TzFileError::InvalidDstIndicator));
+    let has_no_flag = Some(Fault::File(InvalidDstIndicator));
     // A flag of 2, and a name at place 9, where there is none.
     let found = fault_with_two(rt.alloc(), &utc_v1(rt.alloc())?, (48, 2), (49, 9))?;
     expect_eq(&rt, &found, &has_no_flag);
@@ -195,7 +164,7 @@ fn the_first_fault_that_is_met_is_named(rt: HostRuntime) -> Result<(), Fail> {
 
     let footer = with_footer(rt.alloc(), b'3', b"IST-2\xff")?;
     let refused = fault_of(rt.alloc(), &footer);
-    assert!(rt; matches!(refused, Some(Fault::File(TzFileError::Utf8(_)))));
+    assert!(rt; matches!(refused, Some(Fault::File(Utf8(_)))));
     Ok(())
 }
 
@@ -231,19 +200,9 @@ fn one_list_of_indicators(rt: HostRuntime) -> Result<(), Fail> {
     static ROWS: [(u32, u32, u8, Option<Fault>); 5] = [
         (0, 1, 0, None),
         (0, 1, 1, None),
-        (
-            0,
-            1,
-            2,
-            Some(Fault::File(TzFileError::InvalidStdWallUtLocal)),
-        ),
+        (0, 1, 2, Some(Fault::File(InvalidStdWallUtLocal))),
         (1, 0, 0, None),
-        (
-            1,
-            0,
-            1,
-            Some(Fault::File(TzFileError::InvalidStdWallUtLocal)),
-        ),
+        (1, 0, 1, Some(Fault::File(InvalidStdWallUtLocal))),
     ];
     for (ut_locals, std_walls, indicator, expected) in &ROWS {
         let bytes = utc_with_indicator(rt.alloc(), *ut_locals, *std_walls, *indicator)?;

@@ -3,6 +3,11 @@
 use super::altered::accepted_alterations;
 use super::*;
 use crate::expect::{expect_eq, expect_eq_at};
+use tz_base::error::parse::TzFileError::{
+    InvalidFooter, RemainingDataV1, UnsupportedTzFileVersion,
+};
+use tz_base::error::parse::TzStringError::InvalidDayTimeHour;
+use tz_base::error::timezone::TimeZoneError::InvalidLeapSecond;
 
 /// UTC with a table that begins at the end of 2016 and expires.
 fn utc_v4(alloc: Global) -> Result<Vec<u8>, AllocError> {
@@ -62,38 +67,14 @@ fn a_table_that_begins_later_and_expires(rt: HostRuntime) -> Result<(), Fail> {
 #[test]
 fn tables_that_are_refused(rt: HostRuntime) -> Result<(), Fail> {
     static ROWS: [Alteration; 8] = [
-        (4, 0, Some(Fault::File(TzFileError::RemainingDataV1))),
-        (
-            4,
-            b'5',
-            Some(Fault::File(TzFileError::UnsupportedTzFileVersion)),
-        ),
-        (58, 0, Some(Fault::Zone(TimeZoneError::InvalidLeapSecond))),
-        (
-            58,
-            b'2',
-            Some(Fault::Zone(TimeZoneError::InvalidLeapSecond)),
-        ),
-        (
-            58,
-            b'3',
-            Some(Fault::Zone(TimeZoneError::InvalidLeapSecond)),
-        ),
-        (
-            58,
-            b'5',
-            Some(Fault::File(TzFileError::UnsupportedTzFileVersion)),
-        ),
-        (
-            131,
-            0x1d,
-            Some(Fault::Zone(TimeZoneError::InvalidLeapSecond)),
-        ),
-        (
-            108,
-            0x80,
-            Some(Fault::Zone(TimeZoneError::InvalidLeapSecond)),
-        ),
+        (4, 0, Some(Fault::File(RemainingDataV1))),
+        (4, b'5', Some(Fault::File(UnsupportedTzFileVersion))),
+        (58, 0, Some(Fault::Zone(InvalidLeapSecond))),
+        (58, b'2', Some(Fault::Zone(InvalidLeapSecond))),
+        (58, b'3', Some(Fault::Zone(InvalidLeapSecond))),
+        (58, b'5', Some(Fault::File(UnsupportedTzFileVersion))),
+        (131, 0x1d, Some(Fault::Zone(InvalidLeapSecond))),
+        (108, 0x80, Some(Fault::Zone(InvalidLeapSecond))),
     ];
     let bytes = utc_v4(rt.alloc())?;
     expect_refusals(&rt, rt.alloc(), &bytes, &ROWS)?;
@@ -121,12 +102,8 @@ fn expect_before_version_4(
 fn earlier_versions_have_plain_tables(rt: HostRuntime) -> Result<(), Fail> {
     // The first and the last correction: of a table that begins later, of one that expires, and of a plain one.
     static ROWS: [(u8, u8, Option<Fault>); 3] = [
-        (
-            0x1b,
-            0x1c,
-            Some(Fault::Zone(TimeZoneError::InvalidLeapSecond)),
-        ),
-        (1, 1, Some(Fault::Zone(TimeZoneError::InvalidLeapSecond))),
+        (0x1b, 0x1c, Some(Fault::Zone(InvalidLeapSecond))),
+        (1, 1, Some(Fault::Zone(InvalidLeapSecond))),
         (1, 2, None),
     ];
     let bytes = utc_v4(rt.alloc())?;
@@ -141,8 +118,8 @@ fn earlier_versions_have_plain_tables(rt: HostRuntime) -> Result<(), Fail> {
 /// Of a table that the version may not hold and a footer that is none, the footer is named, as tz-rs does.
 #[test]
 fn a_footer_is_named_before_leap_seconds(rt: HostRuntime) -> Result<(), Fail> {
-    let is_no_table = Some(Fault::Zone(TimeZoneError::InvalidLeapSecond));
-    let is_no_footer = Some(Fault::File(TzFileError::InvalidFooter));
+    let is_no_table = Some(Fault::Zone(InvalidLeapSecond));
+    let is_no_footer = Some(Fault::File(InvalidFooter));
     let bytes = with_byte(rt.alloc(), &utc_v4(rt.alloc())?, 58, b'3')?;
     expect_eq(&rt, &fault_of(rt.alloc(), &bytes), &is_no_table);
     let bytes = with_byte(rt.alloc(), &bytes, 133, b' ')?;
@@ -161,7 +138,7 @@ fn footers_are_extended(rt: HostRuntime) -> Result<(), Fail> {
     expect_eq(
         &rt,
         &fault_of(rt.alloc(), &bytes),
-        &Some(Fault::Text(TzStringError::InvalidDayTimeHour)),
+        &Some(Fault::Text(InvalidDayTimeHour)),
     );
     Ok(())
 }
@@ -173,7 +150,7 @@ fn cut_tables_are_refused(rt: HostRuntime) -> Result<(), Fail> {
         let expected = match len {
             0..=131 => is_cut(),
             133 => None,
-            _ => Some(Fault::File(TzFileError::InvalidFooter)),
+            _ => Some(Fault::File(InvalidFooter)),
         };
         expect_eq_at(&rt, &len, &fault_of(rt.alloc(), &bytes[..len]), &expected);
     }
