@@ -79,7 +79,6 @@ fn expect_refusals(
 fn utc_is_read(rt: HostRuntime) -> Result<(), Fail> {
     let types = [LocalTimeType::new(0, false, Some(b"UTC"))?];
     let bytes = utc_v1(rt.alloc())?;
-    expect_eq(&rt, &bytes.len(), &54);
     let zone = TimeZone::from_tz_data(rt.alloc(), &bytes)?;
     let zone = zone.as_ref();
     expect_eq(&rt, &zone.local_time_types(), &types.as_slice());
@@ -103,7 +102,6 @@ fn expect_leap_seconds(rt: &impl Abort, leap_seconds: &[LeapSecond]) {
 fn leap_seconds_are_read(rt: HostRuntime) -> Result<(), Fail> {
     let types = [LocalTimeType::new(0, false, Some(b"UTC"))?];
     let bytes = utc_v1_leap(rt.alloc())?;
-    expect_eq(&rt, &bytes.len(), &272);
     let zone = TimeZone::from_tz_data(rt.alloc(), &bytes)?;
     let zone = zone.as_ref();
     expect_eq(&rt, &zone.local_time_types(), &types.as_slice());
@@ -243,7 +241,6 @@ fn jerusalem_is_read(rt: HostRuntime) -> Result<(), Fail> {
     // The first header's version and the first block's content make no difference, nor does a time of UT.
     static ALTERED: [(usize, u8); 4] = [(4, b'2'), (48, 7), (58, b'4'), (118, 0)];
     let bytes = jerusalem_v3(rt.alloc())?;
-    expect_eq(&rt, &bytes.len(), &147);
     expect_jerusalem(&rt, rt.alloc(), &bytes)?;
     for (place, byte) in &ALTERED {
         let altered = with_byte(rt.alloc(), &bytes, *place, *byte)?;
