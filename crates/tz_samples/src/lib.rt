@@ -4,6 +4,7 @@
 pub mod date_times;
 pub mod faults;
 pub mod files;
+pub mod footers;
 pub mod instants;
 pub mod refusing;
 pub mod rules;

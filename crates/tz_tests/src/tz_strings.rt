@@ -6,6 +6,7 @@ use std::process::Abort;
 use std::test::Fail;
 use tz::TzString;
 use tz_base::error::TzError;
+use tz_samples::footers::{extended_footers, ordinary_footers};
 use tz_samples::rules::{Day, RuleRow, TypeRow, rule_of, type_of};
 use tz_samples::tz_strings::{extended_rule, ordinary_rule};
 use tz_zone::timezone::TransitionRule;
@@ -18,18 +19,6 @@ fn fixed(row: &TypeRow) -> Result<TransitionRule, TzError> {
 /// The rule of two types.
 fn alternate(row: &RuleRow) -> Result<TransitionRule, TzError> {
     Ok(TransitionRule::Alternate(rule_of(row)?))
-}
-
-/// The offsets and names of standard time and of daylight saving time, when the latter starts and ends, and the text of the rule.
-type AlternateRow = (Named, Named, (Day, i32), (Day, i32), &'static str);
-
-type Named = (i32, &'static [u8]);
-
-/// The same rule as a row with daylight flags.
-fn rule_row(row: &AlternateRow) -> RuleRow {
-    let (std, dst, start, end, _) = *row;
-    let std = (std.0, false, Some(std.1));
-    (std, (dst.0, true, Some(dst.1)), start, end)
 }
 
 /// The rule has this text.
@@ -96,111 +85,56 @@ fn a_fixed_rule_is_a_name_and_an_offset(rt: HostRuntime) -> Result<(), Fail> {
 
 #[test]
 fn an_alternate_rule_has_its_names_offsets_and_turns(rt: HostRuntime) -> Result<(), Fail> {
-    static ROWS: [AlternateRow; 9] = [
-        (
-            (3600, b"CET"),
-            (7200, b"CEST"),
-            (Day::Month(3, 5, 0), 7200),
-            (Day::Month(10, 5, 0), 10_800),
-            "CET-1CEST,M3.5.0,M10.5.0/3",
-        ),
-        (
-            (3600, b"IST"),
-            (0, b"GMT"),
-            (Day::Month(10, 5, 0), 7200),
-            (Day::Month(3, 5, 0), 3600),
-            "IST-1GMT0,M10.5.0,M3.5.0/1",
-        ),
-        (
-            (-10_800, b"-03"),
-            (10_800, b"+03"),
-            (Day::Julian1(1), 7200),
-            (Day::Julian1(365), 7200),
-            "<-03>3<+03>-3,J1,J365",
-        ),
-        (
-            (-18_000, b"EST"),
-            (-14_400, b"EDT"),
-            (Day::Julian0(0), 0),
-            (Day::Julian1(365), 86_400),
-            "EST5EDT,0/0,J365/24",
-        ),
-        (
-            (45_900, b"+1245"),
-            (49_500, b"+1345"),
-            (Day::Month(9, 5, 0), 9900),
-            (Day::Month(4, 1, 0), 13_500),
-            "<+1245>-12:45<+1345>,M9.5.0/2:45,M4.1.0/3:45",
-        ),
-        (
-            (37_800, b"+1030"),
-            (39_600, b"+11"),
-            (Day::Month(10, 1, 0), 7200),
-            (Day::Month(4, 1, 0), 89_999),
-            "<+1030>-10:30<+11>-11,M10.1.0,M4.1.0/24:59:59",
-        ),
-        (
-            (-89_999, b"STD"),
-            (-86_399, b"DST"),
-            (Day::Julian1(1), 7200),
-            (Day::Julian0(364), 7201),
-            "STD24:59:59DST,J1,364/2:00:01",
-        ),
-        (
-            (89_999, b"STD"),
-            (93_599, b"DST"),
-            (Day::Julian1(1), 7200),
-            (Day::Julian1(365), 7200),
-            "STD-24:59:59DST,J1,J365",
-        ),
-        (
-            (0, b"AB"),
-            (3601, b"A"),
-            (Day::Julian1(60), 60),
-            (Day::Julian0(260), 1),
-            "<AB>0<A>-1:00:01,J60/0:01,260/0:00:01",
-        ),
-    ];
-    for row in &ROWS {
-        expect_ordinary(&rt, rt.alloc(), alternate(&rule_row(row))?, row.4)?;
+    static RULE: RuleRow = (
+        (37_800, false, Some(b"+1030")),
+        (39_600, true, Some(b"+11")),
+        (Day::Month(10, 1, 0), 7200),
+        (Day::Month(4, 1, 0), 10_800),
+    );
+    let rule = alternate(&RULE)?;
+    expect_ordinary(
+        &rt,
+        rt.alloc(),
+        rule,
+        "<+1030>-10:30<+11>-11,M10.1.0,M4.1.0/3",
+    )?;
+    static TEXTS: &str = "\
+CET-1CEST,M3.5.0,M10.5.0/3
+IST-1GMT0,M10.5.0,M3.5.0/1
+<-03>3<+03>-3,J1,J365
+EST5EDT,0/0,J365/24
+<+1245>-12:45<+1345>,M9.5.0/2:45,M4.1.0/3:45
+<+1030>-10:30<+11>-11,M10.1.0,M4.1.0/24:59:59
+STD24:59:59DST,J1,364/2:00:01
+STD-24:59:59DST,J1,J365
+<AB>0<A>-1:00:01,J60/0:01,260/0:00:01
+";
+    for text in TEXTS.lines() {
+        let rule = extended_rule(rt.alloc(), text)?.ok_or("no rule")?;
+        expect_ordinary(&rt, rt.alloc(), rule, text)?;
     }
     Ok(())
 }
 
 #[test]
 fn negative_and_late_times_of_day_are_extended(rt: HostRuntime) -> Result<(), Fail> {
-    static ROWS: [AlternateRow; 4] = [
-        (
-            (7200, b"IST"),
-            (10_800, b"IDT"),
-            (Day::Month(3, 4, 4), 93_600),
-            (Day::Month(10, 5, 0), 7200),
-            "IST-2IDT,M3.4.4/26,M10.5.0",
-        ),
-        (
-            (-7200, b"-02"),
-            (-3600, b"-01"),
-            (Day::Month(3, 5, 0), -3600),
-            (Day::Month(10, 5, 0), 0),
-            "<-02>2<-01>,M3.5.0/-1,M10.5.0/0",
-        ),
-        (
-            (0, b"AAA"),
-            (3600, b"BBB"),
-            (Day::Month(3, 4, 4), 604_799),
-            (Day::Month(10, 5, 0), -604_799),
-            "AAA0BBB,M3.4.4/167:59:59,M10.5.0/-167:59:59",
-        ),
-        (
-            (0, b"AAA"),
-            (3600, b"BBB"),
-            (Day::Month(3, 4, 4), 90_000),
-            (Day::Month(10, 5, 0), -1),
-            "AAA0BBB,M3.4.4/25,M10.5.0/-0:00:01",
-        ),
-    ];
-    for row in &ROWS {
-        expect_extended(&rt, rt.alloc(), alternate(&rule_row(row))?, row.4)?;
+    static RULE: RuleRow = (
+        (0, false, Some(b"AAA")),
+        (3600, true, Some(b"BBB")),
+        (Day::Month(3, 4, 4), 604_799),
+        (Day::Month(10, 5, 0), -604_799),
+    );
+    let rule = alternate(&RULE)?;
+    let text = "AAA0BBB,M3.4.4/167:59:59,M10.5.0/-167:59:59";
+    expect_extended(&rt, rt.alloc(), rule, text)?;
+    static TEXTS: &str = "\
+IST-2IDT,M3.4.4/26,M10.5.0
+<-02>2<-01>,M3.5.0/-1,M10.5.0/0
+AAA0BBB,M3.4.4/25,M10.5.0/-0:00:01
+";
+    for text in TEXTS.lines() {
+        let rule = extended_rule(rt.alloc(), text)?.ok_or("no rule")?;
+        expect_extended(&rt, rt.alloc(), rule, text)?;
     }
     Ok(())
 }
@@ -232,38 +166,20 @@ fn a_rule_that_no_text_denotes_has_none(rt: HostRuntime) -> Result<(), Fail> {
     Ok(())
 }
 
-/// The texts in the footers of the time zone database's files, as of 2025.
-static FOOTERS: &str = "\
-<+01>-1 <+02>-2 <+0330>-3:30 <+03>-3 <+0430>-4:30 <+04>-4 <+0530>-5:30 <+0545>-5:45 <+05>-5
-<+0630>-6:30 <+06>-6 <+07>-7 <+0845>-8:45 <+08>-8 <+09>-9 <+10>-10 <+11>-11 <+12>-12 <+13>-13
-<+14>-14 <-00>0 <-01>1 <-02>2 <-03>3 <-04>4 <-05>5 <-06>6 <-07>7 <-08>8 <-0930>9:30 <-09>9 <-10>10
-<-11>11 <-12>12 ACST-9:30 AEST-10 AST4 AWST-8 CAT-2 CET-1 CST-8 CST6 ChST-10 EAT-3 EET-2 EST5 GMT0
-HKT-8 HST10 IST-5:30 JST-9 KST-9 MSK-3 MST7 PKT-5 PST-8 SAST-2 SST11 UTC0 WAT-1 WIB-7 WIT-9 WITA-8
-<+00>0<+02>-2,M3.5.0/1,M10.5.0/3 <+1030>-10:30<+11>-11,M10.1.0,M4.1.0
-<+11>-11<+12>,M10.1.0,M4.1.0/3 <+1245>-12:45<+1345>,M9.5.0/2:45,M4.1.0/3:45
-<-01>1<+00>,M3.5.0/0,M10.5.0/1 <-03>3<-02>,M3.2.0,M11.1.0 <-04>4<-03>,M9.1.6/24,M4.1.6/24
-<-06>6<-05>,M9.1.6/22,M4.1.6/22 ACST-9:30ACDT,M10.1.0,M4.1.0/3 AEST-10AEDT,M10.1.0,M4.1.0/3
-AKST9AKDT,M3.2.0,M11.1.0 AST4ADT,M3.2.0,M11.1.0 CET-1CEST,M3.5.0,M10.5.0/3
-CST5CDT,M3.2.0/0,M11.1.0/1 CST6CDT,M3.2.0,M11.1.0 EET-2EEST,M3.5.0,M10.5.0/3
-EET-2EEST,M3.5.0/0,M10.5.0/0 EET-2EEST,M3.5.0/3,M10.5.0/4 EET-2EEST,M4.5.5/0,M10.5.4/24
-EST5EDT,M3.2.0,M11.1.0 GMT0BST,M3.5.0/1,M10.5.0 HST10HDT,M3.2.0,M11.1.0 IST-1GMT0,M10.5.0,M3.5.0/1
-MET-1MEST,M3.5.0,M10.5.0/3 MST7MDT,M3.2.0,M11.1.0 NST3:30NDT,M3.2.0,M11.1.0
-NZST-12NZDT,M9.5.0,M4.1.0/3 PST8PDT,M3.2.0,M11.1.0 WET0WEST,M3.5.0/1,M10.5.0
-<-02>2<-01>,M3.5.0/-1,M10.5.0/0 EET-2EEST,M3.4.4/50,M10.4.4/50 IST-2IDT,M3.4.4/26,M10.5.0
-";
+/// The text of each row comes back from its rule.
+fn expect_texts_back(rt: &impl Abort, alloc: Global, rows: &str) -> Result<(), Fail> {
+    for row in rows.lines() {
+        let (text, _) = row.split_once(" | ").ok_or("no ` | ` in a row")?;
+        let rule = extended_rule(alloc, text)?.ok_or("no rule")?;
+        expect_string(rt, &rule, text);
+    }
+    Ok(())
+}
 
 #[test]
 fn footers_come_back(rt: HostRuntime) -> Result<(), Fail> {
-    for text in FOOTERS.split_whitespace() {
-        let rule = extended_rule(rt.alloc(), text)?;
-        let string = rule.as_ref().and_then(|rule| TzString::from_rule(rule));
-        expect_eq(
-            &rt,
-            &string.as_ref().map(|string| string.as_str()),
-            &Some(text),
-        );
-    }
-    Ok(())
+    expect_texts_back(&rt, rt.alloc(), ordinary_footers())?;
+    expect_texts_back(&rt, rt.alloc(), extended_footers())
 }
 
 #[test]

@@ -13,7 +13,6 @@ use tz_base::error::parse::TzStringError::{
     InvalidDayTimeHour, InvalidDayTimeMinute, InvalidDayTimeSecond, InvalidOffsetHour,
     InvalidOffsetMinute, InvalidOffsetSecond, MissingDstStartEndRules, ParseData, RemainingData,
 };
-use tz_base::error::parse::{ParseDataError, TzStringError};
 use tz_base::error::timezone::LocalTimeTypeError::{
     InvalidTimeZoneDesignationChar, InvalidTimeZoneDesignationLength,
 };
@@ -21,14 +20,9 @@ use tz_base::error::timezone::TransitionRuleError::{
     InconsistentRule, InvalidRuleDayJulianDay, InvalidRuleDayMonth, InvalidRuleDayWeek,
     InvalidRuleDayWeekDay,
 };
-use tz_base::error::timezone::{LocalTimeTypeError, TransitionRuleError};
 use tz_samples::faults::{Fault, named, named_by_settings};
-use tz_samples::rules::{Day, day_of};
 use tz_samples::tz_strings::{extended_rule, ordinary_rule};
-use tz_zone::timezone::{
-    AlternateTime, Julian0WithLeap, Julian1WithoutLeap, LocalTimeType, MonthWeekDay, RuleDay,
-    TransitionRule,
-};
+use tz_zone::timezone::{LocalTimeType, RuleDay, TransitionRule};
 
 /// The rule that a text denotes.
 fn rule_of(alloc: Global, text: &str, extended: bool) -> Result<Option<TransitionRule>, Error> {
@@ -64,160 +58,38 @@ fn expect_refused(rt: &impl Abort, alloc: Global, rows: &[Refusals]) {
     }
 }
 
-/// The text denotes the rule.
-fn expect_rule(
-    rt: &impl Abort,
-    alloc: Global,
-    text: &str,
-    extended: bool,
-    rule: TransitionRule,
-) -> Result<(), Fail> {
-    expect_eq_at(rt, &text, &rule_of(alloc, text, extended)?, &Some(rule));
-    Ok(())
-}
+/// Ordinary texts, which denote the same as extended ones, and what they denote: the name and the offset from UTC of each type, and then the day and the
+/// time of day of each change, in seconds.
+static ORDINARY: &str = "\
+A0 | A 0
+abcdefg+00:00:01 | abcdefg -1
+<+0530>-5:30 | +0530 19800
+X24:59:59 | X -89999
+X-24:59:59 | X 89999
+<-03>+3<+03>-3,J1,J365 | -03 -10800, +03 10800, J1 7200, J365 7200
+NZST-12:00:00NZDT-13:00:00,M10.1.0/02:00:00,M3.3.0/02:00:00 | NZST 43200, NZDT 46800, M10.1.0 7200, M3.3.0 7200
+IST-1GMT0,M10.5.0,M3.5.0/1 | IST 3600, GMT 0, M10.5.0 7200, M3.5.0 3600
+EST5EDT,0/0,J365/24 | EST -18000, EDT -14400, 0 0, J365 86400
+STD24:59:59DST,J1,J365 | STD -89999, DST -86399, J1 7200, J365 7200
+STD-24:59:59DST,J1,J365 | STD 89999, DST 93599, J1 7200, J365 7200
+";
 
-/// The type with this name.
-fn local_type(name: &str, ut_offset: i32, is_dst: bool) -> Result<LocalTimeType, Fail> {
-    Ok(LocalTimeType::new(ut_offset, is_dst, Some(name.as_bytes()))?)
-}
-
-/// A text, then the name and the offset of standard time and of daylight saving time, then the day and the time of day at which
-/// the latter starts and ends.
-type AlternateRow = (
-    &'static str,
-    (&'static str, i32),
-    (&'static str, i32),
-    (Day, i32),
-    (Day, i32),
-);
-
-/// Each text denotes this alternate rule.
-fn expect_alternate_rules(
-    rt: &impl Abort,
-    alloc: Global,
-    rows: &[AlternateRow],
-    extended: bool,
-) -> Result<(), Fail> {
-    for (text, (std, std_offset), (dst, dst_offset), (start, start_time), (end, end_time)) in rows {
-        let rule = AlternateTime::new(
-            local_type(std, *std_offset, false)?,
-            local_type(dst, *dst_offset, true)?,
-            day_of(*start)?,
-            *start_time,
-            day_of(*end)?,
-            *end_time,
-        )?;
-        expect_rule(rt, alloc, text, extended, TransitionRule::Alternate(rule))?;
-    }
-    Ok(())
+#[test]
+fn ordinary_texts_are_rules(rt: HostRuntime) -> Result<(), Fail> {
+    expect_rules(&rt, rt.alloc(), ORDINARY, false)?;
+    expect_rules(&rt, rt.alloc(), ORDINARY, true)
 }
 
 #[test]
-fn a_name_and_an_offset_are_one_type(rt: HostRuntime) -> Result<(), Fail> {
-    static ROWS: [(&str, &str, i32); 7] = [
-        ("HST10", "HST", -36_000),
-        ("<-03>3", "-03", -10_800),
-        ("A0", "A", 0),
-        ("abcdefg+00:00:01", "abcdefg", -1),
-        ("<+0530>-5:30", "+0530", 19_800),
-        ("X24:59:59", "X", -89_999),
-        ("X-24:59:59", "X", 89_999),
-    ];
-    for (text, name, ut_offset) in &ROWS {
-        let rule = TransitionRule::Fixed(local_type(name, *ut_offset, false)?);
-        expect_rule(&rt, rt.alloc(), text, false, rule)?;
-        expect_rule(&rt, rt.alloc(), text, true, rule)?;
-    }
-    Ok(())
-}
-
-#[test]
-fn two_names_and_two_rules_are_an_alternate_rule(rt: HostRuntime) -> Result<(), Fail> {
-    static ROWS: [AlternateRow; 4] = [
-        (
-            "<-03>+3<+03>-3,J1,J365",
-            ("-03", -10_800),
-            ("+03", 10_800),
-            (Day::Julian1(1), 7200),
-            (Day::Julian1(365), 7200),
-        ),
-        (
-            "NZST-12:00:00NZDT-13:00:00,M10.1.0/02:00:00,M3.3.0/02:00:00",
-            ("NZST", 43_200),
-            ("NZDT", 46_800),
-            (Day::Month(10, 1, 0), 7200),
-            (Day::Month(3, 3, 0), 7200),
-        ),
-        (
-            "IST-1GMT0,M10.5.0,M3.5.0/1",
-            ("IST", 3600),
-            ("GMT", 0),
-            (Day::Month(10, 5, 0), 7200),
-            (Day::Month(3, 5, 0), 3600),
-        ),
-        (
-            "EST5EDT,0/0,J365/24",
-            ("EST", -18_000),
-            ("EDT", -14_400),
-            (Day::Julian0(0), 0),
-            (Day::Julian1(365), 86_400),
-        ),
-    ];
-    expect_alternate_rules(&rt, rt.alloc(), &ROWS, false)
-}
-
-#[test]
-fn daylight_saving_time_is_an_hour_ahead_by_default(rt: HostRuntime) -> Result<(), Fail> {
-    static ROWS: [AlternateRow; 2] = [
-        (
-            "STD24:59:59DST,J1,J365",
-            ("STD", -89_999),
-            ("DST", -86_399),
-            (Day::Julian1(1), 7200),
-            (Day::Julian1(365), 7200),
-        ),
-        (
-            "STD-24:59:59DST,J1,J365",
-            ("STD", 89_999),
-            ("DST", 93_599),
-            (Day::Julian1(1), 7200),
-            (Day::Julian1(365), 7200),
-        ),
-    ];
-    expect_alternate_rules(&rt, rt.alloc(), &ROWS, false)
-}
-
-#[test]
-fn extended_texts_have_wider_day_times(rt: HostRuntime) -> Result<(), Fail> {
-    static ROWS: [AlternateRow; 2] = [
-        (
-            "<-03>3<-02>,M3.5.0/-2,M10.5.0/-1",
-            ("-03", -10_800),
-            ("-02", -7200),
-            (Day::Month(3, 5, 0), -7200),
-            (Day::Month(10, 5, 0), -3600),
-        ),
-        (
-            "EST5EDT,0/0,J365/25",
-            ("EST", -18_000),
-            ("EDT", -14_400),
-            (Day::Julian0(0), 0),
-            (Day::Julian1(365), 90_000),
-        ),
-    ];
+fn extended_texts_have_wider_day_times(rt: HostRuntime) {
     static FAULTS: [(&str, Fault); 2] = [
         ("<-03>3<-02>,M3.5.0/-2,M10.5.0/-1", Fault::Number),
         ("EST5EDT,0/0,J365/25", Fault::Text(InvalidDayTimeHour)),
     ];
-    expect_alternate_rules(&rt, rt.alloc(), &ROWS, true)?;
     expect_faults(&rt, rt.alloc(), &FAULTS);
     let inconsistent = extended_rule(rt.alloc(), "A0B0,J59/0:0:1,J60/-24");
-    expect_eq(
-        &rt,
-        &inconsistent.err().map(named),
-        &Some(Fault::Rule(InconsistentRule)),
-    );
-    Ok(())
+    let fault = Fault::Rule(InconsistentRule);
+    expect_eq(&rt, &inconsistent.err().map(named), &Some(fault));
 }
 
 #[test]
@@ -378,11 +250,20 @@ fn parts_of(row: &str) -> Result<(&str, &str), Fail> {
     Ok(row.split_once(" | ").ok_or("no ` | ` in a row")?)
 }
 
+/// Whether the second of two types is daylight saving time, and no other.
+fn has_flags(rule: &TransitionRule) -> bool {
+    match rule {
+        TransitionRule::Fixed(local_time_type) => !local_time_type.is_dst(),
+        TransitionRule::Alternate(rule) => !rule.std().is_dst() && rule.dst().is_dst(),
+    }
+}
+
 /// The text of each line denotes the rule after ` | `.
 fn expect_rules(rt: &impl Abort, alloc: Global, rows: &str, extended: bool) -> Result<(), Fail> {
     for row in rows.lines() {
         let (text, expected) = parts_of(row)?;
         let rule = rule_of(alloc, text, extended)?.ok_or("no rule")?;
+        expect_eq_at(rt, &text, &has_flags(&rule), &true);
         let found = rule_text(alloc, &rule)?;
         expect_eq_at(rt, &text, &found.as_str(), &expected);
     }
