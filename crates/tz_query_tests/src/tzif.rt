@@ -1,6 +1,6 @@
 //! Answers over TZif files, by rows.
 
-use crate::expect::{expect_eq, expect_eq_at};
+use crate::expect::expect_eq_at;
 use crate::growths::{expect_answers_or_refusal, expect_growths};
 use std::alloc::{AllocError, Global};
 use std::process::Abort;
@@ -59,7 +59,6 @@ fn a_file_s_zone_answers(rt: HostRuntime) -> Result<(), Fail> {
         ),
     ];
     let alloc = rt.alloc();
-    expect_eq(&rt, &(UTC_V1.len(), JERUSALEM_V3.len()), &(54, 147));
     for (file, length, queries, answers) in &ROWS {
         let given = answered(alloc, front(file, *length), queries)?;
         expect_eq_at(&rt, queries, &given.as_str(), answers);
