@@ -9,37 +9,9 @@ use tz::{TimeZone, TimeZoneRef};
 use tz_query::query::answer;
 use tz_samples::files::JERUSALEM_V3;
 use tz_samples::rules::Day;
+use tz_samples::tz_strings::extended_zone;
 use tz_samples::utc;
-use tz_samples::zones::{CROSSING, ExtraRule, ZoneRow};
-
-/// The zone of `EST5EDT,0/0,J365/25`.
-static ALWAYS_EASTERN_DAYLIGHT: ZoneRow = ZoneRow {
-    types: &[
-        (-18_000, false, Some(b"EST")),
-        (-14_400, true, Some(b"EDT")),
-    ],
-    transitions: &[],
-    leap_seconds: &[],
-    extra_rule: Some(ExtraRule::Alternate((
-        (-18_000, false, Some(b"EST")),
-        (-14_400, true, Some(b"EDT")),
-        (Day::Julian0(0), 0),
-        (Day::Julian1(365), 90_000),
-    ))),
-};
-
-/// A zone of a rule alone whose daylight time goes on over the end of the year.
-static OVERLAPPING_YEARS: ZoneRow = ZoneRow {
-    types: &[(0, false, Some(b"A")), (3600, true, Some(b"B"))],
-    transitions: &[],
-    leap_seconds: &[],
-    extra_rule: Some(ExtraRule::Alternate((
-        (0, false, Some(b"A")),
-        (3600, true, Some(b"B")),
-        (Day::Julian1(1), 0),
-        (Day::Julian1(365), 172_800),
-    ))),
-};
+use tz_samples::zones::{CROSSING, ExtraRule, FAR_OFFSET, ONE_EFFECT, ZoneRow};
 
 #[test]
 fn a_rule_skips_and_repeats_an_hour(rt: HostRuntime) -> Result<(), Fail> {
@@ -61,19 +33,24 @@ fn a_rule_skips_and_repeats_an_hour(rt: HostRuntime) -> Result<(), Fail> {
 
 #[test]
 fn a_rule_for_all_the_year_never_jumps(rt: HostRuntime) -> Result<(), Fail> {
-    expect_answers_by_parts(
+    let zone = extended_zone(rt.alloc(), "EST5EDT,0/0,J365/25")?;
+    let answers = "F 1\nN 2000-01-01T00:30:00.000000000-04:00 EDT\n";
+    expect_answers(
         &rt,
         rt.alloc(),
-        &ALWAYS_EASTERN_DAYLIGHT,
+        zone.as_ref(),
         "F 2000 1 1 0 30 0 0\n",
-        "F 1\nN 2000-01-01T00:30:00.000000000-04:00 EDT\n",
+        answers,
     )?;
-    expect_answers_by_parts(
+    // Daylight saving time goes on over the end of the year.
+    let zone = extended_zone(rt.alloc(), "A0B,J1/0,J365/48")?;
+    let answers = "F 1\nN 2001-01-01T00:30:00.000000000+01:00 B\n";
+    expect_answers(
         &rt,
         rt.alloc(),
-        &OVERLAPPING_YEARS,
+        zone.as_ref(),
         "F 2001 1 1 0 30 0 0\n",
-        "F 1\nN 2001-01-01T00:30:00.000000000+01:00 B\n",
+        answers,
     )
 }
 
@@ -116,16 +93,10 @@ fn jumps_that_cross(rt: HostRuntime) -> Result<(), Fail> {
 
 #[test]
 fn transitions_that_take_effect_at_one_instant_make_one_jump(rt: HostRuntime) -> Result<(), Fail> {
-    static ZONE: ZoneRow = ZoneRow {
-        types: &[(0, false, None), (3600, false, None), (7200, false, None)],
-        transitions: &[(100, 1), (101, 2)],
-        leap_seconds: &[(100, 1)],
-        extra_rule: Some(ExtraRule::Fixed((7200, false, None))),
-    };
     expect_answers_by_parts(
         &rt,
         rt.alloc(),
-        &ZONE,
+        &ONE_EFFECT,
         "F 1970 1 1 1 8 20 0\n",
         "F 1\nS 1970-01-01T00:01:40.000000000Z - 1970-01-01T02:01:40.000000000+02:00 -\n",
     )
@@ -133,26 +104,10 @@ fn transitions_that_take_effect_at_one_instant_make_one_jump(rt: HostRuntime) ->
 
 #[test]
 fn an_offset_of_many_years(rt: HostRuntime) -> Result<(), Fail> {
-    static ZONE: ZoneRow = ZoneRow {
-        types: &[
-            (0, false, None),
-            // Many years ahead.
-            (i32::MAX, false, None),
-            (3600, false, None),
-        ],
-        transitions: &[(0, 0), (3600, 1), (7200, 0), (10_800, 2)],
-        leap_seconds: &[],
-        extra_rule: Some(ExtraRule::Alternate((
-            (0, false, None),
-            (3600, false, None),
-            (Day::Julian1(300), 0),
-            (Day::Julian1(90), 3600),
-        ))),
-    };
     expect_answers_by_parts(
         &rt,
         rt.alloc(),
-        &ZONE,
+        &FAR_OFFSET,
         "F 1970 1 1 3 30 0 0\n",
         "F 2\n\
          S 1970-01-01T01:00:00.000000000Z - 2038-01-19T04:14:07.000000000+596523:14:07 -\n\

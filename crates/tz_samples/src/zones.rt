@@ -3,7 +3,7 @@
 //! No proof walks through a static, which holds no type with a model, such as a transition. So tables of tests hold these rows, and functions make
 //! of them what they stand for.
 
-use crate::rules::{RuleRow, TypeRow, rule_of, type_of};
+use crate::rules::{Day, RuleRow, TypeRow, rule_of, type_of};
 use std::alloc::{AllocError, Global};
 use tz_base::error::TzError;
 use tz_zone::timezone::{
@@ -45,6 +45,45 @@ pub static CROSSING: ZoneRow = ZoneRow {
     ],
     leap_seconds: &[],
     extra_rule: None,
+};
+
+/// The types of the zone with a far offset.
+const FAR_TYPES: &[TypeRow] = &[
+    (0, false, None),
+    (2_147_483_647, false, None),
+    (3600, false, None),
+];
+
+/// The rule of the zone with a far offset.
+const FAR_RULE: RuleRow = (
+    (0, false, None),
+    (3600, false, None),
+    (Day::Julian1(300), 0),
+    (Day::Julian1(90), 3600),
+);
+
+/// A zone with an hour at an offset of 68 years, and a rule.
+pub static FAR_OFFSET: ZoneRow = ZoneRow {
+    types: FAR_TYPES,
+    transitions: &[(0, 0), (3600, 1), (7200, 0), (10_800, 2)],
+    leap_seconds: &[],
+    extra_rule: Some(ExtraRule::Alternate(FAR_RULE)),
+};
+
+/// A zone with that rule, but without the hour of the far offset.
+pub static WITHOUT_FAR_OFFSET: ZoneRow = ZoneRow {
+    types: FAR_TYPES,
+    transitions: &[(0, 0), (10_800, 2)],
+    leap_seconds: &[],
+    extra_rule: Some(ExtraRule::Alternate(FAR_RULE)),
+};
+
+/// A zone with two transitions that the leap second puts at one instant.
+pub static ONE_EFFECT: ZoneRow = ZoneRow {
+    types: &[(0, false, None), (3600, false, None), (7200, false, None)],
+    transitions: &[(100, 1), (101, 2)],
+    leap_seconds: &[(100, 1)],
+    extra_rule: Some(ExtraRule::Fixed((7200, false, None))),
 };
 
 /// The local time types of rows.
@@ -112,9 +151,7 @@ pub fn plain_zone(
         types.push(LocalTimeType::with_ut_offset(*ut_offset)?)?;
     }
     let extra_rule = match rule {
-        Some(ut_offset) => Some(TransitionRule::Fixed(LocalTimeType::with_ut_offset(
-            ut_offset,
-        )?)),
+        Some(ut_offset) => Some(TransitionRule::Fixed(LocalTimeType::with_ut_offset(ut_offset)?)),
         None => None,
     };
     let transitions = transitions_of(alloc, transitions)?;
@@ -126,4 +163,9 @@ pub fn zone_of_rule(alloc: Global, rule: AlternateTime) -> Result<TimeZone, TzEr
     let types = Vec::from_slice(alloc, &[*rule.std(), *rule.dst()])?;
     let extra_rule = Some(TransitionRule::Alternate(rule));
     TimeZone::new(Vec::new(alloc), types, Vec::new(alloc), extra_rule)
+}
+
+/// A clock of UTC that is set two hours forward at an instant, and stays so.
+pub fn two_hours_forward_at(alloc: Global, unix_time: i64) -> Result<TimeZone, TzError> {
+    plain_zone(alloc, &[0, 7200], &[(unix_time, 1)], Some(7200))
 }

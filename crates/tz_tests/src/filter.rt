@@ -4,7 +4,6 @@ ghost use Rattle.std.specs.Prelude.{◌<◌};
 
 use crate::expect::expect_eq;
 use crate::searches::{Summary, find, summaries};
-use crate::zones::WITHOUT_FAR_OFFSET;
 use std::alloc::{AllocError, Global};
 use std::process::Abort;
 use std::test::Fail;
@@ -13,7 +12,7 @@ use tz_base::error::TzError;
 use tz_base::error::timezone::LocalTimeTypeError;
 use tz_samples::rules::central_europe;
 use tz_samples::utc;
-use tz_samples::zones::{CROSSING, zone_of};
+use tz_samples::zones::{CROSSING, WITHOUT_FAR_OFFSET, zone_of};
 use tz_zone::timezone::{
     AlternateTime, Julian0WithLeap, LeapSecond, LocalTimeType, RuleDay, TimeZoneRef, Transition,
     TransitionRule,

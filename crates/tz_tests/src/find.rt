@@ -22,10 +22,11 @@ mod windows;
 
 use crate::expect::{expect_debug, expect_eq};
 use crate::searches::{Reading, Summary, entries_of, find, parts_of, summaries, summary};
-use crate::zones::FAR_OFFSET;
 use tz_samples::rules::{Day, RuleRow, TypeRow, central_europe, rule_of};
 use tz_samples::utc;
-use tz_samples::zones::{CROSSING, ExtraRule, ZoneRow, plain_zone, zone_of, zone_of_rule};
+use tz_samples::zones::{
+    CROSSING, ExtraRule, FAR_OFFSET, ZoneRow, plain_zone, zone_of, zone_of_rule,
+};
 
 /// A Unix time and an offset.
 type Moment = (i64, i32);

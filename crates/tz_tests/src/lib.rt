@@ -21,5 +21,3 @@ mod printed;
 mod searches;
 #[cfg(test)]
 mod tz_strings;
-#[cfg(test)]
-mod zones;

@@ -2,7 +2,6 @@
 
 use crate::expect::expect_eq;
 use crate::searches::{Reading, name, parts_of};
-use crate::zones::two_hours_forward_at;
 use std::alloc::Global;
 use std::process::Abort;
 use std::test::Fail;
@@ -11,7 +10,7 @@ use tz_base::error::TzError;
 use tz_base::error::datetime::DateTimeError;
 use tz_samples::tz_strings::extended_zone;
 use tz_samples::utc;
-use tz_samples::zones::{CROSSING, plain_zone, zone_of};
+use tz_samples::zones::{CROSSING, plain_zone, two_hours_forward_at, zone_of};
 use tz_zone::timezone::{TimeZone, TimeZoneRef};
 
 /// The choices, in the order in which rows have what they choose.

@@ -5,7 +5,7 @@ use super::texts::{
 };
 use super::*;
 use crate::expect::expect_eq;
-use crate::zones::two_hours_forward_at;
+use tz_samples::zones::two_hours_forward_at;
 
 /// The zone of a rule with the greatest and the least offset and the latest and the earliest times that a rule may have. No TZ string denotes it.
 fn widest(alloc: Global) -> Result<TimeZone, TzError> {

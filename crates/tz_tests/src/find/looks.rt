@@ -2,8 +2,8 @@
 
 use super::*;
 use crate::expect::expect_eq;
-use crate::zones::ONE_EFFECT;
 use tz::datetime::UtcDateTime;
+use tz_samples::zones::ONE_EFFECT;
 
 /// When the transition at a place takes effect.
 fn seconds_to(place: usize) -> i64 {

@@ -3,9 +3,9 @@
 use super::*;
 use crate::expect::expect_eq;
 use crate::searches::name;
-use crate::zones::ONE_EFFECT;
 use tz_samples::files::JERUSALEM_V3;
 use tz_samples::tz_strings::extended_zone;
+use tz_samples::zones::ONE_EFFECT;
 
 /// An entry: its Unix time, and the text and the name of each side.
 fn text_of(alloc: Global, kind: &FoundDateTimeKind) -> Result<String, AllocError> {
