@@ -11,7 +11,7 @@ use Rattle.tz_zone.specs.LeapTime.{IsInstant, IsReached, IsBeforeStart, IsLeapTi
 use Rattle.tz_zone.specs.Clock.{IsTypeWithout, IsClock, HasNoType}
 use Rattle.tz_zone.specs.ValidZone.{AreLeapSeconds}
 use Rattle.tz_zone.proofs.LeapLists.{count_exists}
-use Rattle.tz_zone.proofs.LeapTimes.{IsLeapTime-from_count, leap_time_from_count, leap_time_fits, leap_time_mono, past_later, begun_later, not_refused_within, instant_bounds}
+use Rattle.tz_zone.proofs.LeapTimes.{IsLeapTime-from_count, leap_time_from_count, leap_time_fits, leap_time_mono, one_leap_time, past_later, begun_later, not_refused_within, instant_bounds}
 use Rattle.tz_zone.proofs.Clocks.{some_from_last}
 
 -- without leap seconds the leap time is the instant
@@ -27,6 +27,15 @@ plain_leap leaps none u = subst (λ (ls : List LeapSecond). IsLeapTime ls u u) (
 
     plain : IsLeapTime [] u u
     plain = record { not_refused = not_refused; value = (pos 0, inl (refl, never), omega (arith, ints)) }
+
+-- without leap seconds each leap time is its own moment
+pub plain_moment : (leaps : List LeapSecond) → leaps ≡ [] → (v : ℤ) → negsuc 9223372036854775807 ≤ℤ v → IsMomentOf leaps v v
+plain_moment leaps none v low = record {
+  least = λ w reached. omega (arith, ints, reached.2, one_leap_time leaps w reached.0 w reached.1 (plain_leap leaps none w));
+  reached = λ answered. (v, plain_leap leaps none v, omega (arith, ints));
+  begun = λ before. (plain_leap leaps none v).not_refused (inl before);
+  low = low;
+}
 
 -- the test whether a list is empty
 pub none_if_empty : {X : Type 0} (xs : List X) → true ≡ eqb (length xs) 0 → xs ≡ []
