@@ -9,7 +9,7 @@ ghost use Rattle.tz_zone.specs.Clock.{IsClock, HasNoType, IsLast, IsTypeOfLast, 
 ghost use Rattle.tz_zone.specs.ClockSegments.{IsReachedAt};
 ghost use Rattle.tz_zone.specs.Changes.{change_of, IsFollowing, IsPreceding, HasNoChange, HasNoFollowing, HasNoPreceding};
 ghost use Rattle.tz_zone.specs.LeapTime.{IsBeforeStart, IsLeapTimeRefused, IsTimeReached, IsMomentOf};
-ghost use Rattle.tz_zone.specs.Runs.{IsSeam, LiesAt, IsWalkedUp, IsWalkedDown, HasNoneAfterSeam};
+ghost use Rattle.tz_zone.specs.Runs.{IsSeam, LiesAt, IsWalkedUp, IsWalkedDown, IsRunStart, HasNoneAfterSeam};
 ghost use Rattle.tz_zone.specs.Table.{Transition};
 ghost use Rattle.tz_zone.specs.ValidZone.{AreLeapSeconds, IsSoundTable};
 ghost use Rattle.tz_zone.specs.ZoneSeen.{zone_seen};
@@ -364,6 +364,19 @@ fn first_of_run(transitions: &[Transition], parts: OtherParts<'_>, place: usize)
     start_of_run(transitions, parts, place, local_time_type)
 }
 
+/// The first place of the run of a place, and the instant at which the transition before it takes effect.
+#[inline(always)]
+fn run_start(transitions: &[Transition], parts: OtherParts<'_>, place: usize) -> (usize, i64)
+    requires sound { IsSoundTable (zone_seen transitions.now parts) }
+    requires place { (0 < place) × (place ≤ length transitions.now) }
+    requires at { (w : ℤ) × (w ≤ℤ pos 9223372036854775807) × IsReachedAt (zone_seen transitions.now parts) w place }
+    ensures { IsRunStart (zone_seen transitions.now parts.entry) place result.0 result.1 }
+{
+    let start = first_of_run(transitions, parts, place);
+    let effect = start_of(parts.leap_seconds, transitions[start - 1].unix_leap_time());
+    (start, effect)
+}
+
 /// The change at the last transition before an instant, if the second before lies at a place, there are no leap seconds, that transition is from
 /// another type, and it is not the last one of all. Mostly it is so, and then nothing is walked.
 #[inline(always)]
@@ -431,8 +444,7 @@ fn preceding_from<'a>(
     }
     let mut place = place;
     while place > 0 {
-        let start = first_of_run(transitions, parts, place);
-        let effect = start_of(parts.leap_seconds, transitions[start - 1].unix_leap_time());
+        let (start, effect) = run_start(transitions, parts, place);
         if effect == i64::MIN {
             return None;
         }

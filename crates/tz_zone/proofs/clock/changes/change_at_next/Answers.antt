@@ -1,5 +1,5 @@
 -- Without leap seconds the next transition takes effect at its time, and the one after it is still ahead then.
-use Rattle.std.proofs.Common.{◌≡◌, ℕ, ◌+◌, ◌<◌, ◌≤◌, refl, subst, arith, rules, pos, negsuc, ◌-ℤ◌, ◌<ℤ◌, length}
+use Rattle.std.proofs.Common.{◌≡◌, ℕ, ◌+◌, ◌<◌, ◌≤◌, refl, subst, arith, rules, pos, ◌+ℤ◌, length}
 use Rattle.std.proofs.lemmas.Int.{ints, to_z-of_z}
 use Rattle.std.proofs.lemmas.Option.{slice_get_read}
 use mir.Syntax.{w64}
@@ -9,10 +9,9 @@ use Rattle.tz_zone.specs.Clock.{IsTypeOfLast}
 use Rattle.tz_zone.specs.ZoneSeen.{zone_seen}
 use Rattle.tz_zone.proofs.LeapTimes.{instant_bounds}
 use Rattle.tz_zone.proofs.Places.{clock_at_place}
-use Rattle.tz_zone.proofs.SegmentEnds.{plain_moment}
-use Rattle.tz_zone.proofs.TypesAtCursors.{plain_leap, none_if_empty}
-use Rattle.tz_zone.proofs.ChangeSpans.{none_until, is_following, if_some_held}
-use Rattle.tz_zone.proofs.PlaceRuns.{some_transitions, one_type_until, effect_later, clock_before_effect, plain_place, type_after}
+use Rattle.tz_zone.proofs.TypesAtCursors.{plain_moment, plain_leap, none_if_empty}
+use Rattle.tz_zone.proofs.ChangeSpans.{is_following, if_some_held}
+use Rattle.tz_zone.proofs.PlaceRuns.{some_transitions, until_effect, plain_place, type_after}
 use Rattle.tz_zone.proofs.clock.changes.change_at_next.Goals as goal
 
 pub type_of-after-requires : goal.type_of-after-requires
@@ -44,11 +43,8 @@ returns c =
     let fits : SFits w64 m = rw c.unix_leap_time.ensures at time in
     let moment = plain_moment leaps none m (instant_bounds m fits).0 in
     let answered = (plain_leap leaps none m).not_refused in
-    let later = effect_later z sound k k u t change at (omega arith) at_k types m moment in
-    let one = one_type_until z sound k k u t change at (omega arith) at_k types (m -ℤ pos 1) (λ v up_to reached. absurd (omega (arith, ints, up_to, moment.least v reached))) in
-    let no_change : HasNoChange z u m = none_until z u u m later (λ d above below. absurd (omega (arith, ints, above, below))) one in
-    let low : negsuc 9223372036854775807 <ℤ m = omega (arith, ints, (instant_bounds u c.ranges.unix_time).0, later) in
-    let before = clock_before_effect z sound k k u t change at (omega arith) at_k types m moment answered in
+    let none_yet : HasNoChange z u (u +ℤ pos 1) = λ d above below. absurd (omega (arith, ints, above, below)) in
+    let (later, low, no_change, before) = until_effect z sound k k u t change at (omega arith) at_k types m moment answered u (instant_bounds u c.ranges.unix_time).0 (omega (arith, ints)) none_yet in
     let after = clock_at_place z sound (k + 1) m s inside (plain_place z sound none k m change at_k moment) (type_after z k change s at_k c.type_of-after.ensures) in
     let found = (rw (to_z-of_z w64 c.unix_leap_time.result time, c.unix_leap_time.ensures) at c.change_at.ensures.change) z sound low before after in
-    if_some_held c.change_at.result _ _ _ found (λ x is. is_following z u m (change_of x) (omega (arith, ints, later)) no_change is.0 is.1)
+    if_some_held c.change_at.result _ _ _ found (λ x is. is_following z u m (change_of x) later no_change is.0 is.1)

@@ -1,19 +1,15 @@
 -- By the rule, and then from place to place, to the last change or to the first instant that has a leap time.
-use Rattle.std.proofs.Common.{◌≡◌, ◌∙◌, ◌-◌, ◌<◌, ℕ, inl, inr, refl, sym, ap, subst, arith, rules, ℤ, pos, negsuc, ◌+ℤ◌, ◌-ℤ◌, ◌<ℤ◌, length}
-use Rattle.std.specs.Prelude.{slice_get, Some}
-use Rattle.std.proofs.lemmas.Bool.{cases_lt}
+use Rattle.std.proofs.Common.{◌≡◌, ◌∙◌, ◌-◌, ℕ, inl, inr, refl, sym, ap, subst, arith, rules, ℤ, pos, negsuc, ◌+ℤ◌, ◌-ℤ◌, ◌<ℤ◌, length}
 use Rattle.std.proofs.lemmas.Int.{ints, to_z-of_z}
-use Rattle.std.proofs.lemmas.Option.{slice_get_read}
 use mir.Syntax.{w64}
 use mir.Val.{SFits, to_z, of_z}
 use Rattle.tz_zone.specs.ClockSegments.{IsReachedAt}
-use Rattle.tz_zone.specs.Changes.{change_of, HasNoChange}
+use Rattle.tz_zone.specs.Changes.{change_of}
 use Rattle.tz_zone.specs.ZoneSeen.{zone_seen}
 use Rattle.tz_zone.proofs.LeapTimes.{instant_bounds}
-use Rattle.tz_zone.proofs.Places.{clock_at_place}
-use Rattle.tz_zone.proofs.SegmentTypes.{match_none, match_some}
-use Rattle.tz_zone.proofs.ChangeSpans.{none_held, none_back, none_joined, none_from_start, is_preceding, preceding_earlier}
-use Rattle.tz_zone.proofs.PlaceRuns.{some_transitions, effect_up_to, answered_at_effect, place_since, clock_of_run, none_in_run, place_earlier, none_at_front}
+use Rattle.tz_zone.proofs.SegmentTypes.{match_none}
+use Rattle.tz_zone.proofs.ChangeSpans.{none_back, none_joined, none_from_start, is_preceding, preceding_earlier}
+use Rattle.tz_zone.proofs.PlaceRuns.{some_transitions, effect_up_to, clock_before_start, answered_at_start, place_at_start, clock_at_start, none_since, place_earlier, none_at_front}
 use Rattle.tz_zone.proofs.RuleChanges.{none_before_first, none_or_some}
 use Rattle.tz_zone.proofs.clock.changes.preceding_from.Goals as goal
 
@@ -33,269 +29,105 @@ returns-in-Some c =
 
 pub loop-place-init : goal.loop-place-init
 loop-place-init c =
-    let list = c.args.transitions.now in
-    let z = zone_seen list c.args.parts in
+    let z = zone_seen c.args.transitions.now c.args.parts in
     let u = c.args.unix_time in
     let last = c.args.last in
-    let fits = c.ranges.last in
     let walked = c.requires.walked in
-    let after = rw (to_z-of_z w64 last fits) at c.in_default.ensures in
+    let after = rw (to_z-of_z w64 last c.ranges.last) at c.in_default.ensures in
     rw (to_z-of_z w64 u c.ranges.unix_time) (record { walked = (last, walked); seam = λ all m seam. none_joined z m last u (after all m seam) walked.2 })
 
-pub start_of-effect-requires-clause-reached : goal.start_of-effect-requires-clause-reached
-start_of-effect-requires-clause-reached c =
-    let list = c.args.transitions.now in
-    let z = zone_seen list c.args.parts in
+pub run_start-start-requires-clause-at : goal.run_start-start-requires-clause-at
+run_start-start-requires-clause-at c =
     let u = c.args.unix_time in
-    let k = c.loop-place.place in
-    let so_far = rw (to_z-of_z w64 u c.ranges.unix_time) at c.loop-place.invariant in
-    let w = so_far.walked.0 in
-    let walked = so_far.walked.1 in
-    let some = some_transitions list (k - 1) (omega (arith, c.loop-place-test.true, walked.1.0)) in
-    let at = walked.1.1 some in
-    let start = c.first_of_run-start.result in
-    let bounds = c.first_of_run-start.ensures.within in
-    let change = c.index-transitions-start.result in
-    let at_start = slice_get_read list _ (start - 1) change refl (omega (arith, bounds, walked.1.0)) c.index-transitions-start.is in
-    let time : SFits w64 c.unix_leap_time.result = search rules in
-    rw (to_z-of_z w64 c.unix_leap_time.result time, c.unix_leap_time.ensures)
-    (w, omega (arith, ints, walked.0, (instant_bounds u c.ranges.unix_time).1), (at.time, at.time_is, at.reached (start - 1) change (omega (arith, bounds)) at_start))
+    let (w, walked) = (rw (to_z-of_z w64 u c.ranges.unix_time) at c.loop-place.invariant).walked in
+    let some = some_transitions c.args.transitions.now (c.loop-place.place - 1) (omega (arith, c.loop-place-test.true, walked.1.0)) in
+    (w, omega (arith, ints, walked.0, (instant_bounds u c.ranges.unix_time).1), walked.1.1 some)
 
 pub returns-then-effect : goal.returns-then-effect
 returns-then-effect c =
-    let list = c.args.transitions.now in
-    let z = zone_seen list c.args.parts in
+    let z = zone_seen c.args.transitions.now c.args.parts in
     let u = c.args.unix_time in
-    let k = c.loop-place.place in
     let so_far = rw (to_z-of_z w64 u c.ranges.unix_time) at c.loop-place.invariant in
-    let w = so_far.walked.0 in
-    let walked = so_far.walked.1 in
-    let some = some_transitions list (k - 1) (omega (arith, c.loop-place-test.true, walked.1.0)) in
-    let at = walked.1.1 some in
-    let start = c.first_of_run-start.result in
-    let bounds = c.first_of_run-start.ensures.within in
-    let change = c.index-transitions-start.result in
-    let at_start = slice_get_read list _ (start - 1) change refl (omega (arith, bounds, walked.1.0)) c.index-transitions-start.is in
-    let time : SFits w64 c.unix_leap_time.result = search rules in
-    let m = c.start_of-effect.result in
+    let (w, walked) = so_far.walked in
+    let (start, m) = c.run_start-start.result in
     let fits : SFits w64 m = search rules in
-    let moment = rw (to_z-of_z w64 c.unix_leap_time.result time, c.unix_leap_time.ensures) at c.start_of-effect.ensures in
-    let up_to = effect_up_to z c.requires.sound start k w m change at bounds.0 bounds.1 at_start moment in
-    let none : HasNoChange z m u = elim (cases_lt k (length list)) [
-      | inl inside ↦ none_in_run z c.requires.sound start k w m change at bounds.0 bounds.1 at_start moment inside (c.first_of_run-start.ensures.types inside) u walked.2
-      | inr end ↦
-          let all : k ≡ length list = omega (arith, end, walked.1.0) in
-          let last : start - 1 ≡ length list - 1 = omega (arith, all, c.first_of_run-start.ensures.all all) in
-          so_far.seam all m (inr (change, subst (λ (i : ℕ). slice_get list i ≡ Some change) last at_start, moment))
-    ] in
-    let answered = answered_at_effect z c.requires.sound start k w m change at bounds.0 bounds.1 at_start moment in
-    none_from_start z m u (omega (arith, ints, c.if-effect.true, to_z-of_z w64 m fits)) none
+    none_from_start z m u (omega (arith, ints, c.if-effect.true, to_z-of_z w64 m fits)) (none_since z c.requires.sound start _ m c.run_start-start.ensures w walked.1 u walked.2 so_far.seam)
 
 pub returns-in_err-earlier : goal.returns-in_err-earlier
 returns-in_err-earlier c =
-    let list = c.args.transitions.now in
-    let z = zone_seen list c.args.parts in
+    let z = zone_seen c.args.transitions.now c.args.parts in
     let u = c.args.unix_time in
-    let k = c.loop-place.place in
     let so_far = rw (to_z-of_z w64 u c.ranges.unix_time) at c.loop-place.invariant in
-    let w = so_far.walked.0 in
-    let walked = so_far.walked.1 in
-    let some = some_transitions list (k - 1) (omega (arith, c.loop-place-test.true, walked.1.0)) in
-    let at = walked.1.1 some in
-    let start = c.first_of_run-start.result in
-    let bounds = c.first_of_run-start.ensures.within in
-    let change = c.index-transitions-start.result in
-    let at_start = slice_get_read list _ (start - 1) change refl (omega (arith, bounds, walked.1.0)) c.index-transitions-start.is in
-    let time : SFits w64 c.unix_leap_time.result = search rules in
-    let m = c.start_of-effect.result in
+    let (w, walked) = so_far.walked in
+    let (start, m) = c.run_start-start.result in
+    let run = c.run_start-start.ensures in
     let fits : SFits w64 m = search rules in
-    let moment = rw (to_z-of_z w64 c.unix_leap_time.result time, c.unix_leap_time.ensures) at c.start_of-effect.ensures in
-    let up_to = effect_up_to z c.requires.sound start k w m change at bounds.0 bounds.1 at_start moment in
-    let none : HasNoChange z m u = elim (cases_lt k (length list)) [
-      | inl inside ↦ none_in_run z c.requires.sound start k w m change at bounds.0 bounds.1 at_start moment inside (c.first_of_run-start.ensures.types inside) u walked.2
-      | inr end ↦
-          let all : k ≡ length list = omega (arith, end, walked.1.0) in
-          let last : start - 1 ≡ length list - 1 = omega (arith, all, c.first_of_run-start.ensures.all all) in
-          so_far.seam all m (inr (change, subst (λ (i : ℕ). slice_get list i ≡ Some change) last at_start, moment))
-    ] in
-    let answered = answered_at_effect z c.requires.sound start k w m change at bounds.0 bounds.1 at_start moment in
-    let low : negsuc 9223372036854775807 <ℤ m = omega (arith, ints, c.if-effect.false, to_z-of_z w64 m fits, moment.low) in
-    let refused = rw (one_before m fits low) at (none_held c.place_of.result _ _ c.in_err-earlier.was c.place_of.ensures) in
+    let low : negsuc 9223372036854775807 <ℤ m = omega (arith, ints, c.if-effect.false, to_z-of_z w64 m fits, run.effect.low) in
+    let refused = rw (one_before m fits low) at c.in_err-earlier.ensures in
+    let some = some_transitions z.transitions (start - 1) (omega (arith, run.some, run.up_to, walked.1.0)) in
+    let none = none_since z c.requires.sound start _ m run w walked.1 u walked.2 so_far.seam in
     match_none c.from_residual.result _ _ c.from_residual.ensures
-    (none_before_first z c.requires.sound.leap_seconds_are some m u none answered refused.1)
+    (none_before_first z c.requires.sound.leap_seconds_are some m u none (answered_at_start z c.requires.sound start _ m run w walked.1) refused.1)
 
 pub type_at-after-requires-clause-before : goal.type_at-after-requires-clause-before
 type_at-after-requires-clause-before c = λ inside s type.
-    let list = c.args.transitions.now in
-    let z = zone_seen list c.args.parts in
-    let u = c.args.unix_time in
-    let k = c.loop-place.place in
-    let so_far = rw (to_z-of_z w64 u c.ranges.unix_time) at c.loop-place.invariant in
-    let w = so_far.walked.0 in
-    let walked = so_far.walked.1 in
-    let some = some_transitions list (k - 1) (omega (arith, c.loop-place-test.true, walked.1.0)) in
-    let at = walked.1.1 some in
-    let start = c.first_of_run-start.result in
-    let bounds = c.first_of_run-start.ensures.within in
-    let change = c.index-transitions-start.result in
-    let at_start = slice_get_read list _ (start - 1) change refl (omega (arith, bounds, walked.1.0)) c.index-transitions-start.is in
-    let time : SFits w64 c.unix_leap_time.result = search rules in
-    let m = c.start_of-effect.result in
+    let z = zone_seen c.args.transitions.now c.args.parts in
+    let (w, walked) = c.loop-place.invariant.walked in
+    let (start, m) = c.run_start-start.result in
     let fits : SFits w64 m = search rules in
-    let moment = rw (to_z-of_z w64 c.unix_leap_time.result time, c.unix_leap_time.ensures) at c.start_of-effect.ensures in
-    let up_to = effect_up_to z c.requires.sound start k w m change at bounds.0 bounds.1 at_start moment in
-    let none : HasNoChange z m u = elim (cases_lt k (length list)) [
-      | inl inside ↦ none_in_run z c.requires.sound start k w m change at bounds.0 bounds.1 at_start moment inside (c.first_of_run-start.ensures.types inside) u walked.2
-      | inr end ↦
-          let all : k ≡ length list = omega (arith, end, walked.1.0) in
-          let last : start - 1 ≡ length list - 1 = omega (arith, all, c.first_of_run-start.ensures.all all) in
-          so_far.seam all m (inr (change, subst (λ (i : ℕ). slice_get list i ≡ Some change) last at_start, moment))
-    ] in
-    let answered = answered_at_effect z c.requires.sound start k w m change at bounds.0 bounds.1 at_start moment in
-    let within : k < length list = elim (cases_lt k (length list)) [ inl less ↦ less | inr end ↦ let all : k ≡ length list = omega (arith, end, walked.1.0) in absurd (omega (arith, inside, all, c.first_of_run-start.ensures.all all)) ] in
-    rw (to_z-of_z w64 m fits) (clock_of_run z c.requires.sound start k w m change at bounds.0 bounds.1 at_start moment within (c.first_of_run-start.ensures.types within) s type m (omega (arith, ints)) up_to)
+    rw (to_z-of_z w64 m fits) (clock_at_start z c.requires.sound start _ m c.run_start-start.ensures w walked.1 inside s type)
 
 pub type_at-after-requires-clause-all : goal.type_at-after-requires-clause-all
 type_at-after-requires-clause-all c = λ all.
-    let list = c.args.transitions.now in
-    let z = zone_seen list c.args.parts in
-    let u = c.args.unix_time in
-    let k = c.loop-place.place in
-    let so_far = rw (to_z-of_z w64 u c.ranges.unix_time) at c.loop-place.invariant in
-    let w = so_far.walked.0 in
-    let walked = so_far.walked.1 in
-    let some = some_transitions list (k - 1) (omega (arith, c.loop-place-test.true, walked.1.0)) in
-    let at = walked.1.1 some in
-    let start = c.first_of_run-start.result in
-    let bounds = c.first_of_run-start.ensures.within in
-    let change = c.index-transitions-start.result in
-    let at_start = slice_get_read list _ (start - 1) change refl (omega (arith, bounds, walked.1.0)) c.index-transitions-start.is in
-    let time : SFits w64 c.unix_leap_time.result = search rules in
-    let m = c.start_of-effect.result in
+    let z = zone_seen c.args.transitions.now c.args.parts in
+    let (w, walked) = c.loop-place.invariant.walked in
+    let (start, m) = c.run_start-start.result in
     let fits : SFits w64 m = search rules in
-    let moment = rw (to_z-of_z w64 c.unix_leap_time.result time, c.unix_leap_time.ensures) at c.start_of-effect.ensures in
-    let up_to = effect_up_to z c.requires.sound start k w m change at bounds.0 bounds.1 at_start moment in
-    let none : HasNoChange z m u = elim (cases_lt k (length list)) [
-      | inl inside ↦ none_in_run z c.requires.sound start k w m change at bounds.0 bounds.1 at_start moment inside (c.first_of_run-start.ensures.types inside) u walked.2
-      | inr end ↦
-          let all : k ≡ length list = omega (arith, end, walked.1.0) in
-          let last : start - 1 ≡ length list - 1 = omega (arith, all, c.first_of_run-start.ensures.all all) in
-          so_far.seam all m (inr (change, subst (λ (i : ℕ). slice_get list i ≡ Some change) last at_start, moment))
-    ] in
-    let answered = answered_at_effect z c.requires.sound start k w m change at bounds.0 bounds.1 at_start moment in
-    rw (to_z-of_z w64 m fits) (place_since z c.requires.sound start k w m change at bounds.0 bounds.1 at_start moment all m (omega (arith, ints)) up_to)
+    rw (to_z-of_z w64 m fits) (place_at_start z c.requires.sound start _ m c.run_start-start.ensures w walked.1 all)
 
 pub returns-in-Some-change_at : goal.returns-in-Some-change_at
 returns-in-Some-change_at c =
-    let list = c.args.transitions.now in
-    let z = zone_seen list c.args.parts in
+    let z = zone_seen c.args.transitions.now c.args.parts in
     let u = c.args.unix_time in
-    let k = c.loop-place.place in
     let so_far = rw (to_z-of_z w64 u c.ranges.unix_time) at c.loop-place.invariant in
-    let w = so_far.walked.0 in
-    let walked = so_far.walked.1 in
-    let some = some_transitions list (k - 1) (omega (arith, c.loop-place-test.true, walked.1.0)) in
-    let at = walked.1.1 some in
-    let start = c.first_of_run-start.result in
-    let bounds = c.first_of_run-start.ensures.within in
-    let change = c.index-transitions-start.result in
-    let at_start = slice_get_read list _ (start - 1) change refl (omega (arith, bounds, walked.1.0)) c.index-transitions-start.is in
-    let time : SFits w64 c.unix_leap_time.result = search rules in
-    let m = c.start_of-effect.result in
+    let (w, walked) = so_far.walked in
+    let (start, m) = c.run_start-start.result in
+    let run = c.run_start-start.ensures in
     let fits : SFits w64 m = search rules in
-    let moment = rw (to_z-of_z w64 c.unix_leap_time.result time, c.unix_leap_time.ensures) at c.start_of-effect.ensures in
-    let up_to = effect_up_to z c.requires.sound start k w m change at bounds.0 bounds.1 at_start moment in
-    let none : HasNoChange z m u = elim (cases_lt k (length list)) [
-      | inl inside ↦ none_in_run z c.requires.sound start k w m change at bounds.0 bounds.1 at_start moment inside (c.first_of_run-start.ensures.types inside) u walked.2
-      | inr end ↦
-          let all : k ≡ length list = omega (arith, end, walked.1.0) in
-          let last : start - 1 ≡ length list - 1 = omega (arith, all, c.first_of_run-start.ensures.all all) in
-          so_far.seam all m (inr (change, subst (λ (i : ℕ). slice_get list i ≡ Some change) last at_start, moment))
-    ] in
-    let answered = answered_at_effect z c.requires.sound start k w m change at bounds.0 bounds.1 at_start moment in
-    let low : negsuc 9223372036854775807 <ℤ m = omega (arith, ints, c.if-effect.false, to_z-of_z w64 m fits, moment.low) in
-    let earlier = c.in_ok-earlier.earlier in
-    let place = rw (one_before m fits low) at (match_some c.place_of.result earlier _ _ c.in_ok-earlier.was c.place_of.ensures) in
-    let front = place_earlier z c.requires.sound start m change bounds.0 at_start moment earlier (place.1 some) in
-    let t = c.type_before-before.result.now in
-    let before = clock_at_place z c.requires.sound earlier (m -ℤ pos 1) t (omega (arith, front, bounds, walked.1.0)) (place.1 some) (rw c.new.ensures at c.type_before-before.ensures.value) in
-    let after = rw (to_z-of_z w64 m fits) at c.type_at-after.ensures in
-    let found = (rw (to_z-of_z w64 m fits) at c.in-Some-change_at.ensures.change) z c.requires.sound low before after in
-    is_preceding z u m (change_of c.in-Some-change_at.change) (omega (arith, ints, up_to, walked.0)) none found.0 found.1
+    let low : negsuc 9223372036854775807 <ℤ m = omega (arith, ints, c.if-effect.false, to_z-of_z w64 m fits, run.effect.low) in
+    let place = rw (one_before m fits low) at c.in_ok-earlier.ensures in
+    let before = clock_before_start z c.requires.sound start _ m run _ place c.type_before-before.result.now (rw c.new.ensures at c.type_before-before.ensures.value) in
+    let found = (rw (to_z-of_z w64 m fits) at c.in-Some-change_at.ensures.change) z c.requires.sound low before (rw (to_z-of_z w64 m fits) at c.type_at-after.ensures) in
+    is_preceding z u m (change_of c.in-Some-change_at.change) (omega (arith, ints, effect_up_to z c.requires.sound start _ m run w walked.1, walked.0)) (none_since z c.requires.sound start _ m run w walked.1 u walked.2 so_far.seam) found.0 found.1
 
 pub loop-place-smaller : goal.loop-place-smaller
 loop-place-smaller c =
-    let list = c.args.transitions.now in
-    let z = zone_seen list c.args.parts in
-    let u = c.args.unix_time in
-    let k = c.loop-place.place in
-    let so_far = rw (to_z-of_z w64 u c.ranges.unix_time) at c.loop-place.invariant in
-    let w = so_far.walked.0 in
-    let walked = so_far.walked.1 in
-    let some = some_transitions list (k - 1) (omega (arith, c.loop-place-test.true, walked.1.0)) in
-    let at = walked.1.1 some in
-    let start = c.first_of_run-start.result in
-    let bounds = c.first_of_run-start.ensures.within in
-    let change = c.index-transitions-start.result in
-    let at_start = slice_get_read list _ (start - 1) change refl (omega (arith, bounds, walked.1.0)) c.index-transitions-start.is in
-    let time : SFits w64 c.unix_leap_time.result = search rules in
-    let m = c.start_of-effect.result in
+    let z = zone_seen c.args.transitions.now c.args.parts in
+    let (start, m) = c.run_start-start.result in
+    let run = c.run_start-start.ensures in
     let fits : SFits w64 m = search rules in
-    let moment = rw (to_z-of_z w64 c.unix_leap_time.result time, c.unix_leap_time.ensures) at c.start_of-effect.ensures in
-    let up_to = effect_up_to z c.requires.sound start k w m change at bounds.0 bounds.1 at_start moment in
-    let none : HasNoChange z m u = elim (cases_lt k (length list)) [
-      | inl inside ↦ none_in_run z c.requires.sound start k w m change at bounds.0 bounds.1 at_start moment inside (c.first_of_run-start.ensures.types inside) u walked.2
-      | inr end ↦
-          let all : k ≡ length list = omega (arith, end, walked.1.0) in
-          let last : start - 1 ≡ length list - 1 = omega (arith, all, c.first_of_run-start.ensures.all all) in
-          so_far.seam all m (inr (change, subst (λ (i : ℕ). slice_get list i ≡ Some change) last at_start, moment))
-    ] in
-    let answered = answered_at_effect z c.requires.sound start k w m change at bounds.0 bounds.1 at_start moment in
-    let low : negsuc 9223372036854775807 <ℤ m = omega (arith, ints, c.if-effect.false, to_z-of_z w64 m fits, moment.low) in
-    let earlier = c.in_ok-earlier.earlier in
-    let place = rw (one_before m fits low) at (match_some c.place_of.result earlier _ _ c.in_ok-earlier.was c.place_of.ensures) in
-    let front = place_earlier z c.requires.sound start m change bounds.0 at_start moment earlier (place.1 some) in
-    omega (arith, front, bounds)
+    let low : negsuc 9223372036854775807 <ℤ m = omega (arith, ints, c.if-effect.false, to_z-of_z w64 m fits, run.effect.low) in
+    let place = rw (one_before m fits low) at c.in_ok-earlier.ensures in
+    omega (arith, run.up_to, place_earlier z c.requires.sound start _ m run _ place)
 
 pub loop-place-preserved : goal.loop-place-preserved
 loop-place-preserved c =
-    let list = c.args.transitions.now in
-    let z = zone_seen list c.args.parts in
+    let z = zone_seen c.args.transitions.now c.args.parts in
     let u = c.args.unix_time in
-    let k = c.loop-place.place in
     let so_far = rw (to_z-of_z w64 u c.ranges.unix_time) at c.loop-place.invariant in
-    let w = so_far.walked.0 in
-    let walked = so_far.walked.1 in
-    let some = some_transitions list (k - 1) (omega (arith, c.loop-place-test.true, walked.1.0)) in
-    let at = walked.1.1 some in
-    let start = c.first_of_run-start.result in
-    let bounds = c.first_of_run-start.ensures.within in
-    let change = c.index-transitions-start.result in
-    let at_start = slice_get_read list _ (start - 1) change refl (omega (arith, bounds, walked.1.0)) c.index-transitions-start.is in
-    let time : SFits w64 c.unix_leap_time.result = search rules in
-    let m = c.start_of-effect.result in
+    let (w, walked) = so_far.walked in
+    let (start, m) = c.run_start-start.result in
+    let run = c.run_start-start.ensures in
     let fits : SFits w64 m = search rules in
-    let moment = rw (to_z-of_z w64 c.unix_leap_time.result time, c.unix_leap_time.ensures) at c.start_of-effect.ensures in
-    let up_to = effect_up_to z c.requires.sound start k w m change at bounds.0 bounds.1 at_start moment in
-    let none : HasNoChange z m u = elim (cases_lt k (length list)) [
-      | inl inside ↦ none_in_run z c.requires.sound start k w m change at bounds.0 bounds.1 at_start moment inside (c.first_of_run-start.ensures.types inside) u walked.2
-      | inr end ↦
-          let all : k ≡ length list = omega (arith, end, walked.1.0) in
-          let last : start - 1 ≡ length list - 1 = omega (arith, all, c.first_of_run-start.ensures.all all) in
-          so_far.seam all m (inr (change, subst (λ (i : ℕ). slice_get list i ≡ Some change) last at_start, moment))
-    ] in
-    let answered = answered_at_effect z c.requires.sound start k w m change at bounds.0 bounds.1 at_start moment in
-    let low : negsuc 9223372036854775807 <ℤ m = omega (arith, ints, c.if-effect.false, to_z-of_z w64 m fits, moment.low) in
-    let earlier = c.in_ok-earlier.earlier in
-    let place = rw (one_before m fits low) at (match_some c.place_of.result earlier _ _ c.in_ok-earlier.was c.place_of.ensures) in
-    let front = place_earlier z c.requires.sound start m change bounds.0 at_start moment earlier (place.1 some) in
-    let t = c.type_before-before.result.now in
-    let before = clock_at_place z c.requires.sound earlier (m -ℤ pos 1) t (omega (arith, front, bounds, walked.1.0)) (place.1 some) (rw c.new.ensures at c.type_before-before.ensures.value) in
-    let after = rw (to_z-of_z w64 m fits) at c.type_at-after.ensures in
-    let none_at_m = (rw (to_z-of_z w64 m fits) at c.in_default-change_at.ensures.change) z c.requires.sound low before after in
+    let low : negsuc 9223372036854775807 <ℤ m = omega (arith, ints, c.if-effect.false, to_z-of_z w64 m fits, run.effect.low) in
+    let place = rw (one_before m fits low) at c.in_ok-earlier.ensures in
+    let before = clock_before_start z c.requires.sound start _ m run _ place c.type_before-before.result.now (rw c.new.ensures at c.type_before-before.ensures.value) in
+    let none_at_m = (rw (to_z-of_z w64 m fits) at c.in_default-change_at.ensures.change) z c.requires.sound low before (rw (to_z-of_z w64 m fits) at c.type_at-after.ensures) in
+    let none = none_since z c.requires.sound start _ m run w walked.1 u walked.2 so_far.seam in
+    let up_to = effect_up_to z c.requires.sound start _ m run w walked.1 in
     rw (to_z-of_z w64 u c.ranges.unix_time) (record {
       walked = (m -ℤ pos 1, (omega (arith, ints, up_to, walked.0), place, none_back z u m none none_at_m));
-      seam = λ all. absurd (omega (arith, all, front, bounds, walked.1.0));
+      seam = λ all. absurd (omega (arith, all, place_earlier z c.requires.sound start _ m run _ place, run.up_to, walked.1.0));
     })
 
 pub returns : goal.returns
@@ -304,8 +136,7 @@ returns c =
     let z = zone_seen list c.args.parts in
     let u = c.args.unix_time in
     let so_far = rw (to_z-of_z w64 u c.ranges.unix_time) at c.loop-place.invariant in
-    let w = so_far.walked.0 in
-    let walked = so_far.walked.1 in
+    let (w, walked) = so_far.walked in
     let front : c.loop-place.place ≡ 0 = omega (arith, c.loop-place-test.false) in
     elim (none_or_some list) [
       | inl none ↦ none_from_start z (negsuc 9223372036854775807) u (omega (arith, ints)) (so_far.seam (front ∙ sym (ap length none)) (negsuc 9223372036854775807) (inl (none, refl)))
