@@ -5,7 +5,7 @@ use Rattle.tz_zone.specs.Table.{LeapSecond}
 use Rattle.tz_zone.specs.LeapTime.{IsBeforeStart, IsPastInstants, IsLeapTimeRefused, IsTimeReached, IsMomentOf}
 use Rattle.tz_zone.specs.ValidZone.{AreLeapSeconds}
 use Rattle.tz_zone.proofs.LeapTimes.{one_leap_time, leap_time_mono, past_later, begun_later, not_past_within}
-use Rattle.tz_zone.proofs.TypesAtCursors.{plain_leap, plain_moment, leap_unless_refused}
+use Rattle.tz_zone.proofs.InstantsWithLeapTime.{plain_leap, plain_moment, leap_unless_refused}
 
 -- the last instant before a leap time: at none up to it the time is reached or lies past 64 bits, and after it comes the moment, or the end
 pub record IsLastBefore (leaps : List LeapSecond) (v last : ℤ) : Type 0 where

@@ -17,7 +17,7 @@ use Rattle.tz_zone.proofs.LeapTimes.{leap_time_mono, leap_time_unique, one_leap_
 use Rattle.tz_zone.proofs.RisingTimes.{ahead_from, reached_through, transitions_rise}
 use Rattle.tz_zone.proofs.Clocks.{one_type, clock_from_last, type_after_from_clock}
 use Rattle.tz_zone.proofs.Places.{clock_at_place}
-use Rattle.tz_zone.proofs.TypesAtCursors.{plain_leap, leap_unless_refused, answered_between, moment_ahead}
+use Rattle.tz_zone.proofs.InstantsWithLeapTime.{plain_leap, leap_unless_refused, answered_between, moment_ahead}
 use Rattle.tz_zone.proofs.LeapReached.{reached_between}
 use Rattle.tz_zone.proofs.ChangeSpans.{HasOneType, one_type_of, none_until, none_down, none_from_start}
 

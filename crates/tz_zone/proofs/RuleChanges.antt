@@ -22,7 +22,7 @@ use Rattle.tz_zone.specs.ZoneSeen.{zone_seen}
 use Rattle.tz_zone.specs.declared.table.parts.OtherParts.{OtherParts}
 use Rattle.tz_zone.proofs.LeapTimes.{past_later}
 use Rattle.tz_zone.proofs.Clocks.{some_from_last}
-use Rattle.tz_zone.proofs.TypesAtCursors.{clock_without, leap_unless_refused, answered_within, past_from}
+use Rattle.tz_zone.proofs.InstantsWithLeapTime.{clock_without, leap_unless_refused, answered_within, past_from}
 use Rattle.tz_zone.proofs.Places.{place_later}
 use Rattle.tz_zone.proofs.ChangeSpans.{rule_of_clock}
 use Rattle.tz_zone.proofs.PlaceRuns.{leap_of_clock, clock_from_end, place_at_start}

@@ -9,7 +9,7 @@ use Rattle.tz_zone.specs.ClockSegments.{IsReachedAt, IsBefore}
 use Rattle.tz_zone.proofs.RisingTimes.{ahead_from, reached_before}
 use Rattle.tz_zone.proofs.LeapReached.{reached_since}
 use Rattle.tz_zone.proofs.SegmentEnds.{before_reached}
-use Rattle.tz_zone.proofs.TypesAtCursors.{moment_up_to}
+use Rattle.tz_zone.proofs.InstantsWithLeapTime.{moment_up_to}
 
 module _ (z : Zone) (sound : IsSoundTable z) (u : ℤ) (k : ℕ) (fits : IsInstant u) (at : IsReachedAt z u k) (before : Transition) (is : IsBefore z.transitions k before) (m : ℤ)
     (moment : IsMomentOf z.leap_seconds before.unix_leap_time m) where

@@ -63,7 +63,7 @@ fn half<V: Transitions>(view: &mut V, place: usize, count: usize, unix_leap_time
     ensures kept { V.looks view.old ≤ V.looks view.new }
     ensures at_most { V.looks view.new ≤ V.looks view.old + 1 }
 {
-    // This read tells the proof that the sum fits.
+    // This read shows the proof that the sum fits.
     let _len = view.len();
     place_after_look(view, place, place + count, unix_leap_time)
 }

@@ -8,7 +8,7 @@ use Rattle.tz_zone.specs.ClockSegments.{IsReachedAt}
 use Rattle.tz_zone.specs.ZoneSeen.{zone_seen}
 use Rattle.tz_zone.proofs.LeapTimes.{instant_bounds}
 use Rattle.tz_zone.proofs.PlaceRuns.{plain_place}
-use Rattle.tz_zone.proofs.TypesAtCursors.{plain_moment, none_if_empty}
+use Rattle.tz_zone.proofs.InstantsWithLeapTime.{plain_moment, none_if_empty}
 use Rattle.tz_zone.proofs.clock.changes_after.change_after_last.Goals as goal
 
 pub change_at_next-requires-clause-at : goal.change_at_next-requires-clause-at

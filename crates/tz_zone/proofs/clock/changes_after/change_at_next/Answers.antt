@@ -9,7 +9,7 @@ use Rattle.tz_zone.specs.Clock.{IsTypeOfLast}
 use Rattle.tz_zone.specs.ZoneSeen.{zone_seen}
 use Rattle.tz_zone.proofs.LeapTimes.{instant_bounds}
 use Rattle.tz_zone.proofs.Places.{clock_at_place}
-use Rattle.tz_zone.proofs.TypesAtCursors.{plain_moment, plain_leap, none_if_empty}
+use Rattle.tz_zone.proofs.InstantsWithLeapTime.{plain_moment, plain_leap, none_if_empty}
 use Rattle.tz_zone.proofs.ChangeSpans.{is_following, if_some_held}
 use Rattle.tz_zone.proofs.PlaceRuns.{some_transitions, until_effect, plain_place, type_after}
 use Rattle.tz_zone.proofs.clock.changes_after.change_at_next.Goals as goal

@@ -7,7 +7,7 @@ use mir.Val.{SFits}
 use Rattle.tz_zone.specs.ZoneSeen.{zone_seen}
 use Rattle.tz_zone.proofs.LeapTimes.{leap_time_unique}
 use Rattle.tz_zone.proofs.PlaceRuns.{plain_place}
-use Rattle.tz_zone.proofs.TypesAtCursors.{none_if_empty}
+use Rattle.tz_zone.proofs.InstantsWithLeapTime.{none_if_empty}
 use Rattle.tz_zone.proofs.clock.changes_after.place_at_effect.Goals as goal
 
 pub returns-then-is_empty-clause-at : goal.returns-then-is_empty-clause-at

@@ -9,7 +9,7 @@ use Rattle.tz_zone.specs.Clock.{IsTypeOfLast}
 use Rattle.tz_zone.specs.Runs.{LiesAt, IsRunStart}
 use Rattle.tz_zone.specs.ZoneSeen.{zone_seen}
 use Rattle.tz_zone.proofs.LeapTimes.{instant_bounds}
-use Rattle.tz_zone.proofs.TypesAtCursors.{plain_moment, none_if_empty}
+use Rattle.tz_zone.proofs.InstantsWithLeapTime.{plain_moment, none_if_empty}
 use Rattle.tz_zone.proofs.ChangeSpans.{is_preceding, if_some_held}
 use Rattle.tz_zone.proofs.PlaceRuns.{effect_up_to, clock_before_start, clock_at_start, none_since, plain_place_before, type_after}
 use Rattle.tz_zone.proofs.clock.changes_before.change_at_last.Goals as goal

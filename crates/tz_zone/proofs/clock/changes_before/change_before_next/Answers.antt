@@ -7,7 +7,7 @@ use mir.Val.{SFits}
 use Rattle.tz_zone.specs.ClockSegments.{IsReachedAt}
 use Rattle.tz_zone.specs.ZoneSeen.{zone_seen}
 use Rattle.tz_zone.proofs.PlaceRuns.{plain_place_before}
-use Rattle.tz_zone.proofs.TypesAtCursors.{none_if_empty}
+use Rattle.tz_zone.proofs.InstantsWithLeapTime.{none_if_empty}
 use Rattle.tz_zone.proofs.clock.changes_before.change_before_next.Goals as goal
 
 pub change_at_last-requires-clause-at : goal.change_at_last-requires-clause-at

@@ -9,7 +9,7 @@ use Rattle.tz_zone.specs.ZoneSeen.{zone_seen}
 use Rattle.tz_zone.proofs.LeapTimes.{IsInstant-from_bounds, instant_bounds}
 use Rattle.tz_zone.proofs.SegmentTypes.{match_none, match_some}
 use Rattle.tz_zone.proofs.ChangeSpans.{none_held, preceding_earlier}
-use Rattle.tz_zone.proofs.TypesAtCursors.{none_if_empty}
+use Rattle.tz_zone.proofs.InstantsWithLeapTime.{none_if_empty}
 use Rattle.tz_zone.proofs.clock.changes_before.preceding.Goals as goal
 
 pub returns-in-Some : goal.returns-in-Some

@@ -7,7 +7,7 @@ use mir.Val.{SFits}
 use Rattle.tz_zone.specs.ZoneSeen.{zone_seen}
 use Rattle.tz_zone.proofs.PlaceRuns.{plain_end}
 use Rattle.tz_zone.proofs.RuleChanges.{length_of_some}
-use Rattle.tz_zone.proofs.TypesAtCursors.{none_if_empty}
+use Rattle.tz_zone.proofs.InstantsWithLeapTime.{none_if_empty}
 use Rattle.tz_zone.proofs.clock.near.is_after_all.Goals as goal
 
 pub returns-then-count-eq0 : goal.returns-then-count-eq0

@@ -5,7 +5,7 @@ use mir.Syntax.{w64}
 use mir.Val.{SFits}
 use Rattle.tz_zone.specs.ZoneSeen.{zone_seen}
 use Rattle.tz_zone.proofs.SegmentTypes.{match_none, match_at_none, match_some}
-use Rattle.tz_zone.proofs.TypesAtCursors.{no_type_refused, past_from}
+use Rattle.tz_zone.proofs.InstantsWithLeapTime.{no_type_refused, past_from}
 use Rattle.tz_zone.proofs.clock.spans.first_stage.Goals as goal
 
 pub returns-in-Some-clause-none : goal.returns-in-Some-clause-none

@@ -43,8 +43,8 @@ none_if_empty xs e = nil_from_length xs (eqb-true (length xs) 0 (sym e))
 
 -- a clause on that there are no transitions, or on that there are some, by the test of their number
 pub by_count : (count : ℕ) (transitions : List Transition) → count ≡ length transitions → (P Q R : Type 0) → (transitions ≡ [] → P → R) → (0 < length transitions → Q → R) → MatchBool (eqb count 0) P Q → R
-by_count zero transitions is P Q R empty behind types = empty (nil_from_length transitions (sym is)) types
-by_count (suc before) transitions is P Q R empty behind types = behind (omega (arith, is)) (rw (eqb-suc-zero before) at types)
+by_count zero transitions is P Q R empty after types = empty (nil_from_length transitions (sym is)) types
+by_count (suc before) transitions is P Q R empty after types = after (omega (arith, is)) (rw (eqb-suc-zero before) at types)
 
 -- a clause on what an option holds, or on that it holds nothing, from another one
 pub match_weaker : {X : Type 0} (o : Option X) (P P' : Type 0) (Q Q' : X → Type 0) → (P → P') → ((x : X) → Q x → Q' x) → MatchOption o P Q → MatchOption o P' Q'
