@@ -149,9 +149,6 @@ pub if_some : {X : Type 0} (o : Option X) (P : Type 0) → is_some o ≡ true �
 if_some (Some x) P e f = f x refl
 if_some None P e f = absurd (false≢true e)
 
-pub some_held : {X : Type 0} (o : Option X) (x : X) (P : X → Type 0) → o ≡ Some x → IfSome o P → P x
-some_held {X = X} o x P is h = subst (λ (p : Option X). IfSome p P) is h
-
 pub none_held : {X : Type 0} (o : Option X) (P : Type 0) (Q : X → Type 0) → o ≡ None → MatchOption o P Q → P
 none_held o P Q is h = subst (λ p. MatchOption p P Q) is h
 

@@ -67,15 +67,6 @@ module _ (leaps : List LeapSecond) (are : AreLeapSeconds leaps) where
   pub reached_between : (v m last u : ℤ) → IsMomentOf leaps v m → ¬ IsLeapTimeRefused leaps last → m ≤ℤ u → u ≤ℤ last → IsTimeReached leaps v u
   reached_between v m last u moment answered = reached_since v m last u moment (λ w up_to past. answered (inr (past_later leaps are w last up_to past)))
 
-  pub from_reached : (v m u : ℤ) → IsMomentOf leaps v m → IsTimeReached leaps v u → m ≤ℤ u
-  from_reached v m u moment reached = moment.least u reached
-
-  -- moments come in the order of their leap times
-  pub moment_order : (v w m n : ℤ) → v ≤ℤ w → IsMomentOf leaps v m → IsMomentOf leaps w n → ¬ IsLeapTimeRefused leaps n → m ≤ℤ n
-  moment_order v w m n h moment later answered =
-      let reached = later.reached answered in
-      moment.least n (reached.0, reached.1, omega (arith, ints, h, reached.2))
-
   -- up to an end an instant that is not past the last one that has a leap time is not after it, and conversely
   pub up_to_last : (last high u : ℤ) → ((w : ℤ) → last <ℤ w → w ≤ℤ high → IsPastInstants leaps w) → u ≤ℤ high → ¬ IsPastInstants leaps u → u ≤ℤ last
   up_to_last last high u past within answered = by_lt_z last u (λ h. absurd (answered (past u h within))) (λ h. h)
