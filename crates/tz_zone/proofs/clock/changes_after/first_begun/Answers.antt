@@ -6,12 +6,6 @@ use mir.Val.{SFits}
 use Rattle.tz_zone.proofs.LeapTimes.{IsInstant-from_bounds, instant_bounds}
 use Rattle.tz_zone.proofs.clock.changes_after.first_begun.Goals as goal
 
-pub returns-then-has_begun : goal.returns-then-has_begun
-returns-then-has_begun c =
-    let u = c.args.unix_time in
-    let begun = rw (to_z-of_z w64 u c.ranges.unix_time) at c.if-has_begun.ensures in
-    rw (to_z-of_z w64 u c.ranges.unix_time) (omega (arith, ints), begun, λ v low high. absurd (omega (arith, ints, low, high)))
-
 pub returns-in-Ok : goal.returns-in-Ok
 returns-in-Ok c =
     let u = c.args.unix_time in

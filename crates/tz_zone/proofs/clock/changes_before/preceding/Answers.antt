@@ -6,7 +6,7 @@ use mir.Val.{SFits}
 use Rattle.tz_zone.specs.Table.{Transition}
 use Rattle.tz_zone.specs.Changes.{change_of, IsPreceding, HasNoPreceding}
 use Rattle.tz_zone.specs.ZoneSeen.{zone_seen}
-use Rattle.tz_zone.proofs.LeapTimes.{IsInstant-from_bounds, instant_bounds}
+use Rattle.tz_zone.proofs.LeapTimes.{instant_bounds}
 use Rattle.tz_zone.proofs.SegmentTypes.{match_none, match_some}
 use Rattle.tz_zone.proofs.ChangeSpans.{none_held, preceding_earlier}
 use Rattle.tz_zone.proofs.InstantsWithLeapTime.{none_if_empty}
@@ -22,15 +22,6 @@ returns-in-Some c =
     let next : to_z w64 (of_z w64 (to_z w64 (of_z w64 last) +ℤ pos 1)) ≡ last +ℤ pos 1 = omega (arith, ints, walked.0, fits, c.ranges.unix_time) in
     let found = rw next at c.in-Some.ensures.change in
     preceding_earlier z u (last +ℤ pos 1) (change_of c.in-Some.change) (omega (arith, ints, walked.0)) (λ d above below. walked.2 d (omega (arith, ints, above)) below) found
-
-pub overflow_add-last : goal.overflow_add-last
-overflow_add-last c =
-    let u = c.args.unix_time in
-    let last = c.in_ok-last.last in
-    let fits : SFits w64 last = search rules in
-    let walked = rw (to_z-of_z w64 u c.ranges.unix_time) at (match_some c.last_place.result (last, c.in_ok-last.place) _ _ c.in_ok-last.was c.last_place.ensures) in
-    let same = to_z-of_z w64 last fits in
-    IsInstant-from_bounds (to_z w64 (of_z w64 last) +ℤ pos 1) (omega (arith, ints, same, (instant_bounds last fits).0)) (omega (arith, ints, same, walked.0, (instant_bounds u c.ranges.unix_time).1))
 
 pub change_at_last-requires-clause-at : goal.change_at_last-requires-clause-at
 change_at_last-requires-clause-at c =

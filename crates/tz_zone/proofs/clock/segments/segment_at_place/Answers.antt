@@ -23,13 +23,6 @@ next_ahead : (z : Zone) → IsSoundTable z → (u : ℤ) (k : ℕ) → IsReached
 next_ahead z sound u k at next at_next reached =
     absurd (omega (arith, ints, at.ahead k next (omega arith) at_next, reached.2, leap_time_unique z.leap_seconds sound.leap_seconds_are u at.time reached.0 at.time_is reached.1))
 
-pub segment_from_last-requires-clause-reached : goal.segment_from_last-requires-clause-reached
-segment_from_last-requires-clause-reached g c =
-    let z = zone_seen (g.V.Transitions.list c.args.view.now) c.args.parts in
-    let u = c.args.unix_time in
-    let at = c.requires.at in
-    rw (to_z-of_z w64 u c.ranges.unix_time) (at.time, at.time_is, before_reached z c.requires.sound u c.args.place c.ranges.unix_time at c.before-before.result c.before-before.ensures.before)
-
 pub returns-then-place-len : goal.returns-then-place-len
 returns-then-place-len g c =
     let list = g.V.Transitions.list c.args.view.now in
