@@ -11,7 +11,7 @@ use Rattle.tz_zone.specs.ValidZone.{AreLeapSeconds, IsSoundTable}
 use Rattle.tz_zone.specs.declared.clock.spans.Stage.{Stage}
 use Rattle.tz_zone.proofs.LeapTimes.{IsInstant-from_bounds, instant_bounds, leap_time_mono}
 use Rattle.tz_zone.proofs.PlaceRuns.{some_transitions}
-use Rattle.tz_zone.proofs.TypesAtCursors.{answered_between, leap_time_low, leap_unless_refused}
+use Rattle.tz_zone.proofs.InstantsWithLeapTime.{answered_between, leap_time_low, leap_unless_refused}
 use Rattle.tz.specs.Windows.{TakesEffectIn, AtMostTakeEffectIn, first_looks}
 use Rattle.tz.proofs.ReadingWindows.{as_many_as_passed}
 

@@ -12,7 +12,7 @@ use Rattle.tz_zone.specs.Table.{Zone}
 use Rattle.tz_zone.specs.Clock.{IsTypeWithout, IsClock, HasNoType}
 use Rattle.tz_zone.specs.Changes.{Change, IsChange, HasNoChange, HasNoFollowing, HasNoPreceding, IsFollowing, IsPreceding}
 use Rattle.tz_zone.proofs.Clocks.{one_type}
-use Rattle.tz_zone.proofs.TypesAtCursors.{clock_without}
+use Rattle.tz_zone.proofs.InstantsWithLeapTime.{clock_without}
 
 -- from one instant up to another the clock has no two types
 abbrev pub HasOneType : Zone → ℤ → ℤ → Type 0
@@ -74,7 +74,7 @@ module _ (z : Zone) where
   }
 
   pub no_following_later : (u s : ℤ) → HasNoChange z u (s +ℤ pos 1) → HasNoFollowing z s → HasNoFollowing z u
-  no_following_later u s none behind c above = by_lt_z s c.unix_time (behind c) (λ up. none c above (omega (arith, ints, up)))
+  no_following_later u s none after c above = by_lt_z s c.unix_time (after c) (λ up. none c above (omega (arith, ints, up)))
 
   pub preceding_earlier : (u w : ℤ) (c : Change) → w ≤ℤ u → HasNoChange z (w -ℤ pos 1) u → IsPreceding z w c → IsPreceding z u c
   preceding_earlier u w c order none found = record {
@@ -148,9 +148,6 @@ module _ (z : Zone) (none : z.transitions ≡ []) (rule : TransitionRule) (is : 
 pub if_some : {X : Type 0} (o : Option X) (P : Type 0) → is_some o ≡ true → ((x : X) → o ≡ Some x → P) → P
 if_some (Some x) P e f = f x refl
 if_some None P e f = absurd (false≢true e)
-
-pub some_held : {X : Type 0} (o : Option X) (x : X) (P : X → Type 0) → o ≡ Some x → IfSome o P → P x
-some_held {X = X} o x P is h = subst (λ (p : Option X). IfSome p P) is h
 
 pub none_held : {X : Type 0} (o : Option X) (P : Type 0) (Q : X → Type 0) → o ≡ None → MatchOption o P Q → P
 none_held o P Q is h = subst (λ p. MatchOption p P Q) is h

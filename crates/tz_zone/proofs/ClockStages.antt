@@ -21,7 +21,7 @@ use Rattle.tz_zone.proofs.RisingTimes.{ahead_from, reached_through}
 use Rattle.tz_zone.proofs.LeapReached.{IsLastBefore, reached_from}
 use Rattle.tz_zone.proofs.Places.{clock_at_place}
 use Rattle.tz_zone.proofs.PlaceRuns.{some_transitions, type_after, types_from_last}
-use Rattle.tz_zone.proofs.TypesAtCursors.{answered_within, clock_without, leap_unless_refused}
+use Rattle.tz_zone.proofs.InstantsWithLeapTime.{answered_within, clock_without, leap_unless_refused}
 
 -- the type after the table, or none, is that of the clock where all transitions are reached, and of one that has none
 pub types_after_table : (list : List Transition) (parts : OtherParts) → IsSoundTable (zone_seen list parts) → (count : ℕ) → count ≡ length list → (v : ℤ)

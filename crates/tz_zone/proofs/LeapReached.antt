@@ -5,8 +5,7 @@ use Rattle.tz_zone.specs.Table.{LeapSecond}
 use Rattle.tz_zone.specs.LeapTime.{IsBeforeStart, IsPastInstants, IsLeapTimeRefused, IsTimeReached, IsMomentOf}
 use Rattle.tz_zone.specs.ValidZone.{AreLeapSeconds}
 use Rattle.tz_zone.proofs.LeapTimes.{one_leap_time, leap_time_mono, past_later, begun_later, not_past_within}
-use Rattle.tz_zone.proofs.TypesAtCursors.{plain_leap, leap_unless_refused}
-use Rattle.tz_zone.proofs.SegmentEnds.{plain_moment}
+use Rattle.tz_zone.proofs.InstantsWithLeapTime.{plain_leap, plain_moment, leap_unless_refused}
 
 -- the last instant before a leap time: at none up to it the time is reached or lies past 64 bits, and after it comes the moment, or the end
 pub record IsLastBefore (leaps : List LeapSecond) (v last : ℤ) : Type 0 where
@@ -56,14 +55,17 @@ module _ (leaps : List LeapSecond) (are : AreLeapSeconds leaps) where
       answered_at (inl before) = moment.begun before
       answered_at (inr past) = answered (inr (past_later leaps are m u from past))
 
-  pub from_reached : (v m u : ℤ) → IsMomentOf leaps v m → IsTimeReached leaps v u → m ≤ℤ u
-  from_reached v m u moment reached = moment.least u reached
+  -- so it is up to an instant up to which none is past those with a leap time
+  pub reached_since : (v m last u : ℤ) → IsMomentOf leaps v m → ((w : ℤ) → w ≤ℤ last → ¬ IsPastInstants leaps w) → m ≤ℤ u → u ≤ℤ last → IsTimeReached leaps v u
+  reached_since v m last u moment within from up_to = reached_from v m u moment answered from
+    where
+      answered : ¬ IsLeapTimeRefused leaps u
+      answered (inl before) = begun_later leaps are m u from moment.begun before
+      answered (inr past) = within u up_to past
 
-  -- moments come in the order of their leap times
-  pub moment_order : (v w m n : ℤ) → v ≤ℤ w → IsMomentOf leaps v m → IsMomentOf leaps w n → ¬ IsLeapTimeRefused leaps n → m ≤ℤ n
-  moment_order v w m n h moment later answered =
-      let reached = later.reached answered in
-      moment.least n (reached.0, reached.1, omega (arith, ints, h, reached.2))
+  -- and up to an instant that has a leap time
+  pub reached_between : (v m last u : ℤ) → IsMomentOf leaps v m → ¬ IsLeapTimeRefused leaps last → m ≤ℤ u → u ≤ℤ last → IsTimeReached leaps v u
+  reached_between v m last u moment answered = reached_since v m last u moment (λ w up_to past. answered (inr (past_later leaps are w last up_to past)))
 
   -- up to an end an instant that is not past the last one that has a leap time is not after it, and conversely
   pub up_to_last : (last high u : ℤ) → ((w : ℤ) → last <ℤ w → w ≤ℤ high → IsPastInstants leaps w) → u ≤ℤ high → ¬ IsPastInstants leaps u → u ≤ℤ last

@@ -14,7 +14,7 @@ pub mod RuleChecks
 pub mod Clocks
 pub mod ShownTypes
 pub mod NearestChanges
-pub mod TypesAtCursors
+pub mod InstantsWithLeapTime
 pub mod Places
 pub mod WindowTypes
 pub mod SegmentEnds

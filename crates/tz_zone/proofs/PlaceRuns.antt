@@ -1,5 +1,5 @@
 -- Places between two others, and the clock where transitions are to one type.
-use Rattle.std.proofs.Common.{◌≡◌, ◌≢◌, ◌∙◌, ℕ, zero, suc, ◌+◌, ◌-◌, ◌<◌, ◌≤◌, inl, inr, refl, sym, ap, subst, arith, ℤ, pos, negsuc, ◌-ℤ◌, ◌≤ℤ◌, ◌<ℤ◌, List, [], ◌∷◌, length, get_or, Option, Some, None}
+use Rattle.std.proofs.Common.{◌≡◌, ◌≢◌, ◌∙◌, ℕ, zero, suc, ◌+◌, ◌-◌, ◌<◌, ◌≤◌, inl, inr, refl, sym, ap, subst, arith, ℤ, pos, negsuc, ◌+ℤ◌, ◌-ℤ◌, ◌≤ℤ◌, ◌<ℤ◌, List, [], ◌∷◌, length, get_or, Option, Some, None}
 use Rattle.std.specs.Prelude.{slice_get, MatchOption}
 use Rattle.std.specs.Borrow.{Bor}
 use Rattle.std.proofs.lemmas.Int.{ints, by_lt_z}
@@ -12,12 +12,14 @@ use Rattle.tz_zone.specs.Clock.{AreReached, AreAhead, IsPlaceAt, IsTypeAt, IsTyp
 use Rattle.tz_zone.specs.ClockSegments.{from_start, IsReachedAt}
 use Rattle.tz_zone.specs.ValidZone.{IsRising, IsSoundTable}
 use Rattle.tz_zone.specs.Changes.{HasNoChange, HasNoPreceding}
+use Rattle.tz_zone.specs.Runs.{LiesAt, IsRunStart, HasNoneAfterSeam}
 use Rattle.tz_zone.proofs.LeapTimes.{leap_time_mono, leap_time_unique, one_leap_time}
 use Rattle.tz_zone.proofs.RisingTimes.{ahead_from, reached_through, transitions_rise}
 use Rattle.tz_zone.proofs.Clocks.{one_type, clock_from_last, type_after_from_clock}
 use Rattle.tz_zone.proofs.Places.{clock_at_place}
-use Rattle.tz_zone.proofs.TypesAtCursors.{plain_leap, leap_unless_refused, answered_between, answered_from_moment, reached_from_moment, moment_ahead}
-use Rattle.tz_zone.proofs.ChangeSpans.{HasOneType, one_type_of, none_down, none_from_start}
+use Rattle.tz_zone.proofs.InstantsWithLeapTime.{plain_leap, leap_unless_refused, answered_between, moment_ahead}
+use Rattle.tz_zone.proofs.LeapReached.{reached_between}
+use Rattle.tz_zone.proofs.ChangeSpans.{HasOneType, one_type_of, none_until, none_down, none_from_start}
 
 -- an instant at which the clock has a type has a leap time
 pub leap_of_clock : (z : Zone) → z.transitions ≢ [] → (v : ℤ) (t : LocalTimeType) → IsClock z v t → (l : ℤ) × IsLeapTime z.leap_seconds v l
@@ -79,13 +81,13 @@ module _ (z : Zone) (sound : IsSoundTable z) where
         one_type z v s t clock (clock_until v leap.0 from leap.1 (by_lt_z leap.0 change.unix_leap_time (λ h. h) (λ h. absurd (ahead v to (leap.0, leap.1, h))))))
 
     -- where it takes effect comes later
-    pub effect_later : (m : ℤ) → IsMomentOf z.leap_seconds change.unix_leap_time m → since <ℤ m
+    effect_later : (m : ℤ) → IsMomentOf z.leap_seconds change.unix_leap_time m → since <ℤ m
     effect_later m moment = moment_ahead z.leap_seconds sound.leap_seconds_are since change.unix_leap_time m at.time_is.not_refused
         (λ reached. absurd (omega (arith, ints, reached.2, at.ahead end change order at_end, leap_time_unique z.leap_seconds sound.leap_seconds_are since at.time reached.0 at.time_is reached.1)))
         moment
 
     -- and right before that it still has the type
-    pub clock_before_effect : (m : ℤ) → IsMomentOf z.leap_seconds change.unix_leap_time m → ¬ IsLeapTimeRefused z.leap_seconds m → IsClock z (m -ℤ pos 1) t
+    clock_before_effect : (m : ℤ) → IsMomentOf z.leap_seconds change.unix_leap_time m → ¬ IsLeapTimeRefused z.leap_seconds m → IsClock z (m -ℤ pos 1) t
     clock_before_effect m moment answered =
         let later = effect_later m moment in
         let leap = leap_unless_refused z.leap_seconds sound.leap_seconds_are (m -ℤ pos 1)
@@ -93,13 +95,16 @@ module _ (z : Zone) (sound : IsSoundTable z) where
         clock_until (m -ℤ pos 1) leap.0 (omega (arith, ints, later)) leap.1
         (by_lt_z leap.0 change.unix_leap_time (λ h. h) (λ h. absurd (omega (arith, ints, moment.least (m -ℤ pos 1) (leap.0, leap.1, h)))))
 
-  -- right before a transition takes effect the place comes before it
-  pub place_earlier : (start : ℕ) (m : ℤ) (change : Transition) → 0 < start → slice_get z.transitions (start - 1) ≡ Some change → IsMomentOf z.leap_seconds change.unix_leap_time m
-      → (e : ℕ) → IsReachedAt z (m -ℤ pos 1) e → e < start
-  place_earlier start m change some at_start moment e at = elim (cases_lt e start) [
-    | inl less ↦ less
-    | inr more ↦ absurd (omega (arith, ints, moment.least (m -ℤ pos 1) (at.time, at.time_is, at.reached (start - 1) change (omega (arith, some, more)) at_start)))
-  ]
+    -- so no change comes until then, if none came up to the instant
+    pub until_effect : (m : ℤ) → IsMomentOf z.leap_seconds change.unix_leap_time m → ¬ IsLeapTimeRefused z.leap_seconds m → (u : ℤ) → negsuc 9223372036854775807 ≤ℤ u → u ≤ℤ since → HasNoChange z u (since +ℤ pos 1)
+        → (u <ℤ m) × (negsuc 9223372036854775807 <ℤ m) × HasNoChange z u m × IsClock z (m -ℤ pos 1) t
+    until_effect m moment answered u least up_to none =
+        let later = effect_later m moment in (
+          omega (arith, ints, up_to, later),
+          omega (arith, ints, least, up_to, later),
+          none_until z u since m later none (one_type_until (m -ℤ pos 1) (λ v until reached. absurd (omega (arith, ints, until, moment.least v reached)))),
+          clock_before_effect m moment answered,
+        )
 
   -- before the first transition there is no change
   pub none_at_front : z.transitions ≢ [] → (w u : ℤ) → IsReachedAt z w 0 → HasNoChange z w u → HasNoPreceding z u
@@ -125,50 +130,72 @@ module _ (z : Zone) (sound : IsSoundTable z) where
             ahead = λ i change above at_i. omega (arith, ints, at.ahead i change above at_i, leap_time_mono z.leap_seconds sound.leap_seconds_are v w leap.0 at.time to leap.1 at.time_is);
           }) (inl (refl, type))
 
-  -- back from an instant at a place to where a transition before it took effect, that transition is reached
-  module _ (start k : ℕ) (w m : ℤ) (change : Transition) (at : IsReachedAt z w k) (some : 0 < start) (order : start ≤ k) (at_start : slice_get z.transitions (start - 1) ≡ Some change)
-      (moment : IsMomentOf z.leap_seconds change.unix_leap_time m) where
-    before_now : change.unix_leap_time ≤ℤ at.time
-    before_now = at.reached (start - 1) change (omega (arith, some, order)) at_start
+  -- back from an instant at a place to where its run begins
+  module _ (start k : ℕ) (m : ℤ) (run : IsRunStart z k start m) where
+    some : z.transitions ≢ []
+    some = some_transitions z.transitions (start - 1) (slice_get_within z.transitions (start - 1) run.change run.change_is)
 
-    pub effect_up_to : m ≤ℤ w
-    effect_up_to = moment.least w (at.time, at.time_is, before_now)
+    -- right before that the place comes before the run
+    module _ (e : ℕ) (lies : LiesAt z (m -ℤ pos 1) e) where
+      pub place_earlier : e < start
+      place_earlier = elim (cases_lt e start) [
+        | inl less ↦ less
+        | inr more ↦
+            let at = lies.1 some in
+            absurd (omega (arith, ints, run.effect.least (m -ℤ pos 1) (at.time, at.time_is, at.reached (start - 1) run.change (omega (arith, run.some, more)) run.change_is)))
+      ]
 
-    leap_since : (v : ℤ) → m ≤ℤ v → v ≤ℤ w → (l : ℤ) × IsLeapTime z.leap_seconds v l × (change.unix_leap_time ≤ℤ l)
-    leap_since v from to =
-        let leap = leap_unless_refused z.leap_seconds sound.leap_seconds_are v (answered_from_moment z.leap_seconds sound.leap_seconds_are w at.time at.time_is change.unix_leap_time m v moment from to) in
-        (leap.0, leap.1, reached_from_moment z.leap_seconds sound.leap_seconds_are w at.time at.time_is change.unix_leap_time m v leap.0 moment before_now from leap.1)
+      pub clock_before_start : (t : LocalTimeType) → IsTypeOfLast z e t → IsClock z (m -ℤ pos 1) t
+      clock_before_start t type = clock_at_place z sound e (m -ℤ pos 1) t (omega (arith, place_earlier, slice_get_within z.transitions (start - 1) run.change run.change_is)) (lies.1 some) type
 
-    reached_since : (v : ℤ) (from : m ≤ℤ v) (to : v ≤ℤ w) → AreReached z.transitions (leap_since v from to).0 start
-    reached_since v from to i other less at_i = reached_through z.transitions rising (leap_since v from to).0 (start - 1) change at_start (leap_since v from to).2 i other (omega (arith, less, some)) at_i
+    module _ (w : ℤ) (lies : LiesAt z w k) where
+      at : IsReachedAt z w k
+      at = lies.1 some
 
-    -- where all are reached at the later instant, and none comes after, they are from there on
-    pub place_since : start ≡ length z.transitions → (v : ℤ) → m ≤ℤ v → v ≤ℤ w → IsReachedAt z v start
-    place_since all v from to = record {
-      time = (leap_since v from to).0;
-      time_is = (leap_since v from to).1;
-      reached = reached_since v from to;
-      ahead = λ i other above at_i. absurd (omega (arith, all, above, slice_get_within z.transitions i other at_i));
-    }
+      before_now : run.change.unix_leap_time ≤ℤ at.time
+      before_now = at.reached (start - 1) run.change (omega (arith, run.some, run.up_to)) run.change_is
 
-    -- and where the places in between have one type, the clock has it
-    pub clock_since : (t : LocalTimeType) → k < length z.transitions → ((j : ℕ) → start ≤ j → j ≤ k → IsTypeOfLast z j t) → (v : ℤ) → m ≤ℤ v → v ≤ℤ w → IsClock z v t
-    clock_since t inside types v from to =
-        let leap = leap_since v from to in
-        clock_between start k t v leap.0 order inside types leap.1 (reached_since v from to)
-        (λ i other above at_i. omega (arith, ints, at.ahead i other above at_i, leap_time_mono z.leap_seconds sound.leap_seconds_are v w leap.0 at.time to leap.1 at.time_is))
+      pub effect_up_to : m ≤ℤ w
+      effect_up_to = run.effect.least w (at.time, at.time_is, before_now)
 
-    pub answered_at_effect : ¬ IsLeapTimeRefused z.leap_seconds m
-    answered_at_effect = answered_from_moment z.leap_seconds sound.leap_seconds_are w at.time at.time_is change.unix_leap_time m m moment (omega (arith, ints)) effect_up_to
+      leap_since : (v : ℤ) → m ≤ℤ v → v ≤ℤ w → (l : ℤ) × IsLeapTime z.leap_seconds v l × AreReached z.transitions l start
+      leap_since v from to =
+          let (l, leap, reached) = reached_between z.leap_seconds sound.leap_seconds_are run.change.unix_leap_time m w v run.effect at.time_is.not_refused from to in
+          (l, leap, λ i other less at_i. reached_through z.transitions rising l (start - 1) run.change run.change_is reached i other (omega (arith, less, run.some)) at_i)
 
-    -- the type at the first of these places is that of all
-    module _ (inside : k < length z.transitions) (run : (t : LocalTimeType) × ((j : ℕ) → start ≤ j → j ≤ k → IsTypeOfLast z j t)) where
-      pub clock_of_run : (s : LocalTimeType) → IsTypeOfLast z start s → (v : ℤ) → m ≤ℤ v → v ≤ℤ w → IsClock z v s
-      clock_of_run s type v from to = subst (λ (x : LocalTimeType). IsClock z v x) (one_type_of_last z start run.0 s (run.1 start (omega arith) order) type) (clock_since run.0 inside run.1 v from to)
+      pub answered_at_start : ¬ IsLeapTimeRefused z.leap_seconds m
+      answered_at_start = (leap_since m (omega (arith, ints)) effect_up_to).1.not_refused
 
-      -- and no change comes after it took effect
-      pub none_in_run : (u : ℤ) → HasNoChange z w u → HasNoChange z m u
-      none_in_run u none = none_down z u m w none (one_type_of z m w run.0 (λ v s from to clock. one_type z v s run.0 clock (clock_since run.0 inside run.1 v from to)))
+      -- if all transitions are reached at the later instant, they are from there on
+      pub place_at_start : start ≡ length z.transitions → IsReachedAt z m start
+      place_at_start all =
+          let leap = leap_since m (omega (arith, ints)) effect_up_to in
+          record { time = leap.0; time_is = leap.1; reached = leap.2; ahead = λ i other above at_i. absurd (omega (arith, all, above, slice_get_within z.transitions i other at_i)) }
+
+      -- otherwise the clock has the type of the run, which is that at its first place
+      clock_since : (inside : k < length z.transitions) (v : ℤ) → m ≤ℤ v → v ≤ℤ w → IsClock z v (run.types inside).0
+      clock_since inside v from to =
+          let leap = leap_since v from to in
+          clock_between start k (run.types inside).0 v leap.0 run.up_to inside (run.types inside).1 leap.1 leap.2
+          (λ i other above at_i. omega (arith, ints, at.ahead i other above at_i, leap_time_mono z.leap_seconds sound.leap_seconds_are v w leap.0 at.time to leap.1 at.time_is))
+
+      inside : start < length z.transitions → k < length z.transitions
+      inside less = elim (cases_lt k (length z.transitions)) [ inl under ↦ under | inr over ↦ let all : k ≡ length z.transitions = omega (arith, over, lies.0) in absurd (omega (arith, less, all, run.all all)) ]
+
+      pub clock_at_start : start < length z.transitions → (s : LocalTimeType) → IsTypeOfLast z start s → IsClock z m s
+      clock_at_start less s type =
+          let (t, types) = run.types (inside less) in
+          subst (λ (x : LocalTimeType). IsClock z m x) (one_type_of_last z start t s (types start (omega arith) run.up_to) type) (clock_since (inside less) m (omega (arith, ints)) effect_up_to)
+
+      -- and no change comes after the start
+      pub none_since : (u : ℤ) → HasNoChange z w u → HasNoneAfterSeam z k u → HasNoChange z m u
+      none_since u none seam = elim (cases_lt k (length z.transitions)) [
+        | inl less ↦ none_down z u m w none (one_type_of z m w (run.types less).0 (λ v s from to clock. one_type z v s (run.types less).0 clock (clock_since less v from to)))
+        | inr over ↦
+            let all : k ≡ length z.transitions = omega (arith, over, lies.0) in
+            let last : start - 1 ≡ length z.transitions - 1 = omega (arith, all, run.all all) in
+            seam all m (inr (run.change, subst (λ (i : ℕ). slice_get z.transitions i ≡ Some run.change) last run.change_is, run.effect))
+      ]
 
 -- after a transition its type holds
 pub type_after : (z : Zone) (i : ℕ) (change : Transition) (t : LocalTimeType) → slice_get z.transitions i ≡ Some change → IsTypeAt z change.type_index t → IsTypeOfLast z (i + 1) t

@@ -19,7 +19,7 @@ use Rattle.tz_zone.specs.declared.table.parts.OtherParts.{OtherParts}
 use Rattle.tz_zone.proofs.LeapTimes.{leap_time_mono}
 use Rattle.tz_zone.proofs.RisingTimes.{ahead_from, reached_through}
 use Rattle.tz_zone.proofs.Clocks.{transition_type_of_last, clock_before_last, clock_from_last, fault_from_last, fault_without}
-use Rattle.tz_zone.proofs.TypesAtCursors.{by_count, leap_unless_refused, answered_between, reached_from_moment, moment_up_to}
+use Rattle.tz_zone.proofs.InstantsWithLeapTime.{by_count, leap_unless_refused, answered_between, reached_from_moment, moment_up_to}
 
 module _ (z : Zone) (sound : IsSoundTable z) where
   rising : IsRising z.transitions

@@ -4,7 +4,7 @@ use Rattle.std.proofs.Math.Nat.{pow-suc}
 use Rattle.std.proofs.Math.Pow.{pow_mono}
 use Rattle.std.proofs.lemmas.Bool.{cases_lt}
 use Rattle.tz_zone.specs.Table.{Transition}
-use Rattle.tz_zone.specs.Clock.{AreReached, AreAhead, IsPlaceAt}
+use Rattle.tz_zone.specs.Clock.{AreReached, AreAhead}
 use Rattle.tz_zone.specs.PlacesLeft.{IsAmongPlaces}
 use Rattle.tz_zone.proofs.RisingTimes.{ahead_later}
 
@@ -63,7 +63,3 @@ module _ (transitions : List Transition) (l : ℤ) where
     λ i change before here. absurd (omega (arith, at, before)),
     ahead_later transitions l (length transitions - power - 1) (result + power - 1) (omega (arith, at, less, most)) ahead,
   )
-
-  -- a leap time that lies among one place lies at it
-  pub place_of_one : (place : ℕ) → IsAmongPlaces transitions l place 1 → (place < length transitions) × IsPlaceAt transitions l place
-  place_of_one place among = (omega (arith, among.0), (among.1, ahead_later transitions l (place + 1 - 1) place (omega arith) among.2))

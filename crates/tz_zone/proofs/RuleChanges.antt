@@ -1,5 +1,5 @@
 -- The changes of a rule are those of a clock whose transitions are all reached.
-use Rattle.std.proofs.Common.{◌≡◌, ◌≢◌, ◌∙◌, ◌-◌, ◌<◌, inl, inr, refl, sym, ap, subst, arith, rules, ℤ, pos, negsuc, ◌+ℤ◌, ◌-ℤ◌, ◌≤ℤ◌, ◌<ℤ◌, ◌⊎◌, ◌≤◌, List, [], ◌∷◌, length, Option, Some, None}
+use Rattle.std.proofs.Common.{◌≡◌, ◌≢◌, ◌∙◌, ◌-◌, ◌<◌, inl, inr, refl, sym, ap, subst, arith, rules, ℤ, pos, negsuc, ◌+ℤ◌, ◌-ℤ◌, ◌≤ℤ◌, ◌<ℤ◌, ◌⊎◌, List, [], ◌∷◌, length, Option, Some, None}
 use Rattle.std.proofs.lemmas.Int.{ints, by_lt_z}
 use Rattle.std.proofs.lemmas.Option.{slice_get_within, same_Some}
 use mir.Syntax.{w32}
@@ -17,15 +17,15 @@ use Rattle.tz_zone.specs.Clock.{IsLast, IsTypeWithout, IsTypeAfter, IsClock}
 use Rattle.tz_zone.specs.ClockSegments.{IsReachedAt}
 use Rattle.tz_zone.specs.ValidZone.{AreLeapSeconds, IsSoundTable}
 use Rattle.tz_zone.specs.Changes.{Change, IsChange, IsFollowing, IsPreceding, HasNoChange, HasNoFollowing, HasNoPreceding}
-use Rattle.tz_zone.specs.Runs.{IsSeam}
+use Rattle.tz_zone.specs.Runs.{IsSeam, IsRunStart}
 use Rattle.tz_zone.specs.ZoneSeen.{zone_seen}
 use Rattle.tz_zone.specs.declared.table.parts.OtherParts.{OtherParts}
 use Rattle.tz_zone.proofs.LeapTimes.{past_later}
 use Rattle.tz_zone.proofs.Clocks.{some_from_last}
-use Rattle.tz_zone.proofs.TypesAtCursors.{clock_without, leap_unless_refused, answered_within, past_from}
+use Rattle.tz_zone.proofs.InstantsWithLeapTime.{clock_without, leap_unless_refused, answered_within, past_from}
 use Rattle.tz_zone.proofs.Places.{place_later}
 use Rattle.tz_zone.proofs.ChangeSpans.{rule_of_clock}
-use Rattle.tz_zone.proofs.PlaceRuns.{leap_of_clock, clock_from_end, place_since, effect_up_to}
+use Rattle.tz_zone.proofs.PlaceRuns.{leap_of_clock, clock_from_end, place_at_start}
 
 -- a rule has no other type after the years in which it answers, and so it does not change there
 rule_change_bound : (rule : TransitionRule) (a b : LocalTimeType) (u : ℤ) → IsRuleType rule (u -ℤ pos 1) a → IsRuleType rule u b → a ≢ b → u ≤ℤ pos 80000000000000000
@@ -139,10 +139,9 @@ module _ (list : List Transition) (parts : OtherParts) (sound : IsSoundTable (zo
 pub at_seam : (z : Zone) → IsSoundTable z → (w m : ℤ) → (z.transitions ≢ [] → IsReachedAt z w (length z.transitions)) → IsSeam z.transitions z.leap_seconds m → z.transitions ≢ [] → IsReachedAt z m (length z.transitions)
 at_seam z sound w m at (inl (none, least)) some = absurd (some none)
 at_seam z sound w m at (inr (last, is_last, moment)) some =
-    let order : length z.transitions ≤ length z.transitions = omega arith in
-    let there = length_of_some z.transitions some in
-    place_since z sound (length z.transitions) (length z.transitions) w m last (at some) there order is_last moment refl m (omega (arith, ints))
-    (effect_up_to z sound (length z.transitions) (length z.transitions) w m last (at some) there order is_last moment)
+    let count = length z.transitions in
+    let run : IsRunStart z count count m = record { some = length_of_some z.transitions some; up_to = omega arith; change = last; change_is = is_last; effect = moment; types = λ less. absurd (omega (arith, less)); all = λ e. refl } in
+    place_at_start z sound count count m run w (omega arith, at) refl
 
 -- there the last transition is reached, too
 pub seam_reached : (z : Zone) (w : ℤ) → w ≤ℤ pos 9223372036854775807 → (z.transitions ≢ [] → IsReachedAt z w (length z.transitions)) → (last : Transition) → IsLast z.transitions last → (u : ℤ) × (u ≤ℤ pos 9223372036854775807) × IsTimeReached z.leap_seconds last.unix_leap_time u

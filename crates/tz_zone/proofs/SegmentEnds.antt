@@ -10,8 +10,8 @@ use Rattle.tz_zone.specs.ValidZone.{AreLeapSeconds, IsSoundTable}
 use Rattle.tz_zone.specs.ClockSegments.{IsReachedAt, IsBefore}
 use Rattle.tz_zone.specs.TableChanges.{IsChangeByRule, IsTableChange, IsFar, HasTableEnds}
 use Rattle.tz_zone.proofs.RisingTimes.{reached_before}
-use Rattle.tz_zone.proofs.LeapTimes.{one_leap_time, leap_time_mono, past_later, begun_later, not_past_within, not_refused_within, IsInstant-from_bounds, instant_bounds}
-use Rattle.tz_zone.proofs.TypesAtCursors.{plain_leap, leap_unless_refused, leap_time_low, moment_up_to, answered_from_moment}
+use Rattle.tz_zone.proofs.LeapTimes.{leap_time_mono, past_later, begun_later, not_past_within, not_refused_within, IsInstant-from_bounds, instant_bounds}
+use Rattle.tz_zone.proofs.InstantsWithLeapTime.{plain_leap, leap_unless_refused, leap_time_low, moment_up_to, answered_from_moment}
 
 -- an instant lies before a truncated start or it does not
 pub before_start_or_not : (leaps : List LeapSecond) (u : ℤ) → IsBeforeStart leaps u ⊎ ¬ IsBeforeStart leaps u
@@ -51,15 +51,6 @@ some_if_refused leaps u refused none = (plain_leap leaps none u).not_refused ref
 far_or_answered : (leaps : List LeapSecond) → AreLeapSeconds leaps → (u : ℤ) → ¬ IsBeforeStart leaps u → IsFar leaps u ⊎ ¬ IsLeapTimeRefused leaps u
 far_or_answered [] are u begun = inr (plain_leap [] refl u).not_refused
 far_or_answered (l ∷ rest) are u begun = by_lt_z (pos 80000000000000000) u (λ h. inl ((λ e. absurd (omega (arith, ap length e))), h)) (λ h. inr (not_refused_within (l ∷ rest) are u begun h))
-
--- without leap seconds each leap time is its own moment
-pub plain_moment : (leaps : List LeapSecond) → leaps ≡ [] → (v : ℤ) → negsuc 9223372036854775807 ≤ℤ v → IsMomentOf leaps v v
-plain_moment leaps none v low = record {
-  least = λ w reached. omega (arith, ints, reached.2, one_leap_time leaps w reached.0 w reached.1 (plain_leap leaps none w));
-  reached = λ answered. (v, plain_leap leaps none v, omega (arith, ints));
-  begun = λ before. (plain_leap leaps none v).not_refused (inl before);
-  low = low;
-}
 
 -- where leap times have left 64 bits they may do so
 pub far_if_past : (leaps : List LeapSecond) → AreLeapSeconds leaps → (u : ℤ) → IsPastInstants leaps u → IsFar leaps u

@@ -1,15 +1,14 @@
 -- What the settings answer, from what was found.
-use Rattle.std.proofs.Common.{◌≡◌, ℕ, List, subst, sym, ◌∙◌, inl, inr, ◌⊎◌, Result, Ok, Err}
+use Rattle.std.proofs.Common.{◌≡◌, ℕ, List, subst, sym, inl, inr, ◌⊎◌, Result, Ok, Err}
 use Rattle.std.specs.Prelude.{alloc_error, Vec, vec_items}
 use Rattle.std.specs.Result.{MatchResult}
 use Rattle.std.specs.declared.alloc.Global.{Global}
-use Rattle.anyhow.specs.declared.error.Error.{Error as Fault}
 use Rattle.tz_base.specs.declared.error.Error.{Error}
 use Rattle.tz_base.specs.declared.error.Error.TheVariants.{Tz}
-use Rattle.tz_base.specs.declared.error.ReadFault.TheVariants.{Memory, Failed}
+use Rattle.tz_base.specs.declared.error.ReadFault.TheVariants.{Memory}
 use Rattle.tz_base.specs.declared.error.TzError.TheVariants.{Memory as NoMemory}
 use Rattle.tz_zone.specs.Table.{Zone}
-use Rattle.tz_zone.specs.Settings.{Read, Answer, Opens, IsFileAnswer, IsTextAnswer}
+use Rattle.tz_zone.specs.Settings.{Read, Answer, Opens, IsFileAnswer}
 
 -- an answer of this kind, or an allocation failure
 abbrev pub Answers : {T : Type 0} → (T → Zone) → Result T Error → (Answer → Type 0) → Type 0
@@ -37,11 +36,3 @@ opened_bytes view r found bytes b was same h =
     let P : Read → Type 0 = λ f. Answers view r (Opens f) in
     let B : List ℕ → Type 0 = λ x. Answers view r (IsFileAnswer x) in
     subst P (sym was) (subst B same h)
-
--- where nothing was found, the text is read
-pub read_as_text : {T : Type 0} (view : T → Zone) (found : Read) (fault : Fault) (r : Result T Error) (text : List ℕ) (Found : Read → Type 0) (Q : Answer → Type 0) → found ≡ Err (Failed fault) → (found ≡ Err (Memory alloc_error)) ⊎ Found found
-    → Answers view r (IsTextAnswer text) → ((answer : Answer) → Found (Err (Failed fault)) → IsTextAnswer text answer → Q answer) → Answers view r Q
-read_as_text view found fault r text Found Q failed was h wider = elim was [
-  | inl memory ↦ (let clash : Err (Failed fault) ≡ Err (Memory alloc_error) = sym failed ∙ memory in cc)
-  | inr is ↦ answers_too view r (IsTextAnswer text) Q h (λ answer. wider answer (subst Found failed is))
-]

@@ -8,7 +8,7 @@ use Rattle.tz_base.specs.declared.error.TzError.{TzError}
 use Rattle.tz_base.specs.declared.error.TzError.TheVariants.{TzString, LocalTimeType as TypeFault}
 use Rattle.tz_base.specs.declared.error.parse.TzStringError.{TzStringError}
 use Rattle.tz_base.specs.declared.error.timezone.LocalTimeTypeError.{LocalTimeTypeError}
-use Rattle.tz_rule.specs.Alternate.{IsRuleOffset, alternate_of}
+use Rattle.tz_rule.specs.Alternate.{alternate_of}
 use Rattle.tz_rule.specs.LocalTimeType.{LocalTimeType, IsFirstTypeFault, type_of}
 use Rattle.tz_zone.specs.Bytes.{comma}
 use Rattle.tz_zone.specs.declared.parse.tz_string.time.WrittenTime.{WrittenTime}
@@ -62,9 +62,6 @@ same_rule_of a std dst start end e f g h =
 -- a number of 32 bits, as it is passed to a function
 pub passed : (x other : ℤ) → FitsSigned w32 x → x ≡ other → to_z w32 (of_z w32 x) ≡ other
 passed x other fits e = to_z-of_z w32 x fits ∙ e
-
-pub offset_passed : (x : ℤ) → FitsSigned w32 x → IsRuleOffset x → IsRuleOffset (to_z w32 (of_z w32 x))
-offset_passed x fits is = rw (to_z-of_z w32 x fits) is
 
 -- a day time, which is within a week in each kind of text
 pub week_at_most : (extended : Bool) (t : WrittenTime) → IsTimeUpTo (day_time_hours extended) t → IsTimeUpTo 167 t

@@ -49,11 +49,11 @@ no_part_fault named text n rest e part within fault = elim part [
 no_hms_fault : (limit : ℕ) (faults : TimeFaults) (text : List ℕ) (t : WrittenTime) (rest : List ℕ) (e : TzStringError) → IsHms text t rest → IsTimeUpTo limit t → limit < 2 ^ 31 → IsHmsFault limit faults text e → ⊥
 no_hms_fault limit faults text t rest e time range fits fault = elim fault [
   | inl f ↦ no_number_fault limit faults.hour text t.hours time.after_hours e time.hours_are range.hours_are fits f
-  | inr f ↦ behind_hours (reached_once IsNumber number_is_one text t.hours time.after_hours time.hours_are (λ n after_hours. IsPartFault faults.minute after_hours e ⊎ Reached IsPart after_hours (λ m after_minutes. IsPartFault faults.second after_minutes e)) f)
+  | inr f ↦ after_hours (reached_once IsNumber number_is_one text t.hours time.after_hours time.hours_are (λ n after_hours. IsPartFault faults.minute after_hours e ⊎ Reached IsPart after_hours (λ m after_minutes. IsPartFault faults.second after_minutes e)) f)
 ]
   where
-    behind_hours : IsPartFault faults.minute time.after_hours e ⊎ Reached IsPart time.after_hours (λ m after_minutes. IsPartFault faults.second after_minutes e) → ⊥
-    behind_hours p = elim p [
+    after_hours : IsPartFault faults.minute time.after_hours e ⊎ Reached IsPart time.after_hours (λ m after_minutes. IsPartFault faults.second after_minutes e) → ⊥
+    after_hours p = elim p [
       | inl f ↦ no_part_fault faults.minute time.after_hours t.minutes time.after_minutes e time.minutes_are range.minutes_are f
       | inr f ↦ no_part_fault faults.second time.after_minutes t.seconds rest e time.seconds_are range.seconds_are
           (reached_once IsPart part_is_one time.after_hours t.minutes time.after_minutes time.minutes_are (λ m after_minutes. IsPartFault faults.second after_minutes e) f)
@@ -80,8 +80,8 @@ not_missing : (byte : ℕ) (rest : List ℕ) (f : ParseDataError) → IsMissingB
 not_missing byte rest UnexpectedEof missing = let none : byte ∷ rest ≡ [] = missing in cc
 not_missing byte rest InvalidData missing = missing.1 (rest, refl)
 
-pub fails_behind : (byte : ℕ) (rest : List ℕ) (e : TzError) (fails : List ℕ → Type 0) → FailsFrom byte (byte ∷ rest) e fails → fails rest
-fails_behind byte rest e fails h = elim h [
+pub fails_after : (byte : ℕ) (rest : List ℕ) (e : TzError) (fails : List ℕ → Type 0) → FailsFrom byte (byte ∷ rest) e fails → fails rest
+fails_after byte rest e fails h = elim h [
   | inl f ↦ absurd (not_missing byte rest f.0 f.2)
   | inr f ↦ subst fails (same_rest f.1 refl) f.2
 ]
@@ -95,14 +95,14 @@ no_day_number_fault bits in_range named text n rest e number range fits fault = 
 no_month_week_fault : (text : List ℕ) (d : MonthWeek) (rest : List ℕ) (e : TzError) → IsMonthWeekText text d rest → IsMonthWeek d → IsMonthWeekDayFault text e → ⊥
 no_month_week_fault text d rest e t range fault = elim fault [
   | inl f ↦ no_day_number_fault 8 IsRuleMonth InvalidRuleDayMonth text d.month (dot ∷ t.0) e t.2 range.month_is (let most = range.month_is.1 in omega arith) f
-  | inr f ↦ behind_month (fails_behind dot t.0 e _ (reached_once IsNumber number_is_one text d.month (dot ∷ t.0) t.2 _ f))
+  | inr f ↦ after_month (fails_after dot t.0 e _ (reached_once IsNumber number_is_one text d.month (dot ∷ t.0) t.2 _ f))
 ]
   where
-    behind_month : IsDayNumberFault 8 IsRuleWeek InvalidRuleDayWeek t.0 e ⊎ Reached IsNumber t.0 (λ week after_week. FailsFrom dot after_week e (λ day_text. IsDayNumberFault 8 IsRuleWeekDay InvalidRuleDayWeekDay day_text e)) → ⊥
-    behind_month p = elim p [
+    after_month : IsDayNumberFault 8 IsRuleWeek InvalidRuleDayWeek t.0 e ⊎ Reached IsNumber t.0 (λ week after_week. FailsFrom dot after_week e (λ day_text. IsDayNumberFault 8 IsRuleWeekDay InvalidRuleDayWeekDay day_text e)) → ⊥
+    after_month p = elim p [
       | inl f ↦ no_day_number_fault 8 IsRuleWeek InvalidRuleDayWeek t.0 d.week (dot ∷ t.1) e t.3 range.week_is (let most = range.week_is.1 in omega arith) f
       | inr f ↦ no_day_number_fault 8 IsRuleWeekDay InvalidRuleDayWeekDay t.1 d.week_day rest e t.4 range.week_day_is (let most = range.week_day_is in omega arith)
-          (fails_behind dot t.1 e _ (reached_once IsNumber number_is_one t.0 d.week (dot ∷ t.1) t.3 _ f))
+          (fails_after dot t.1 e _ (reached_once IsNumber number_is_one t.0 d.week (dot ∷ t.1) t.3 _ f))
     ]
 
 no_day_fault : (text : List ℕ) (d : RuleDay) (rest : List ℕ) (e : TzError) → IsDay text d rest → IsRuleDay d → IsDayFault text e → ⊥
@@ -126,11 +126,11 @@ no_day_fault text (MonthWeekDay d) rest e day range fault = elim fault [
 no_rule_text_fault : (extended : Bool) (text : List ℕ) (r : DayAndTime) (rest : List ℕ) (e : TzError) → IsRuleText extended text r rest → IsRuleInRange extended r → IsRuleTextFault extended text e → ⊥
 no_rule_text_fault extended text r rest e rule range fault = elim fault [
   | inl f ↦ no_day_fault text r.day rule.0 e rule.1 range.day_is f
-  | inr f ↦ behind_day (reached_once IsDay day_is_one text r.day rule.0 rule.1 _ f)
+  | inr f ↦ after_day (reached_once IsDay day_is_one text r.day rule.0 rule.1 _ f)
 ]
   where
-    behind_day : (time : List ℕ) × (rule.0 ≡ slash ∷ time) × InText e (IsDayTimeFault extended time) → ⊥
-    behind_day f = elim rule.2 [
+    after_day : (time : List ℕ) × (rule.0 ≡ slash ∷ time) × InText e (IsDayTimeFault extended time) → ⊥
+    after_day f = elim rule.2 [
       | inl t ↦ (let P : List ℕ → Type 0 = λ time. IsDayTimeFault extended time f.2.0 in no_day_time_fault extended t.0 r.time rest f.2.0 t.2 range.time_is (subst P (same_rest f.1 t.1) f.2.2))
       | inr t ↦ absurd (t.0 (f.0, f.1))
     ]
@@ -146,7 +146,7 @@ no_rules_fault : (extended : Bool) (text : List ℕ) (r : DayAndTime) (end_text 
 no_rules_fault extended text r end_text s e start start_range end end_range fault = elim fault [
   | inl f ↦ no_rule_text_fault extended text r (comma ∷ end_text) e start start_range f
   | inr f ↦ no_last_rule_fault extended end_text s e end end_range
-      (fails_behind comma end_text e (λ behind. IsLastRuleFault extended behind e) (reached_once (IsRuleText extended) (rule_text_is_one extended) text r (comma ∷ end_text) start _ f))
+      (fails_after comma end_text e (λ after. IsLastRuleFault extended after e) (reached_once (IsRuleText extended) (rule_text_is_one extended) text r (comma ∷ end_text) start _ f))
 ]
 
 no_type_fault : (name : List ℕ) (f : LocalTimeTypeError) → IsDesignation name → IsFirstTypeFault (type_of (pos 0) false (Some name)) f → ⊥
@@ -195,26 +195,26 @@ no_daylight_offset_fault text (Some t) rest e offset range bare fault = no_offse
 no_daylight_fault : (extended : Bool) (text : List ℕ) (a : AlternateText) (x : IsAlternateText extended text a) (e : TzError) → IsAlternateInRange extended a → IsDaylightFault extended x.after_std e → ⊥
 no_daylight_fault extended text a x e range fault = elim fault [
   | inl f ↦ no_name_fault x.after_std a.dst_name x.after_dst_name e x.dst_name_is range.dst_name_is f
-  | inr f ↦ behind_name (reached_once IsName name_is_one x.after_std a.dst_name x.after_dst_name x.dst_name_is _ f)
+  | inr f ↦ after_name (reached_once IsName name_is_one x.after_std a.dst_name x.after_dst_name x.dst_name_is _ f)
 ]
   where
     offset_there : x.after_dst_name ≡ [] → ⊥
     offset_there over = let P : List ℕ → Type 0 = λ front. IsDaylightOffset front a.dst_offset (comma ∷ x.start_text) in no_offset_at_end a.dst_offset (comma ∷ x.start_text) (subst P over x.dst_offset_is)
 
-    behind_offset : LacksRules (comma ∷ x.start_text) e ⊎ ((comma ∷ x.start_text ≢ []) × FailsFrom comma (comma ∷ x.start_text) e (λ rules. IsRulesFault extended rules e)) → ⊥
-    behind_offset p = elim p [
+    after_offset : LacksRules (comma ∷ x.start_text) e ⊎ ((comma ∷ x.start_text ≢ []) × FailsFrom comma (comma ∷ x.start_text) e (λ rules. IsRulesFault extended rules e)) → ⊥
+    after_offset p = elim p [
       | inl f ↦ let none = f.0 in cc
       | inr f ↦ no_rules_fault extended x.start_text a.start x.end_text a.end e x.start_is range.start_is x.end_is range.end_is
-          (fails_behind comma x.start_text e (λ rules. IsRulesFault extended rules e) f.1)
+          (fails_after comma x.start_text e (λ rules. IsRulesFault extended rules e) f.1)
     ]
 
-    behind_name : LacksRules x.after_dst_name e
+    after_name : LacksRules x.after_dst_name e
         ⊎ ((x.after_dst_name ≢ []) × ¬ Begins comma x.after_dst_name × InText e (IsOffsetFault x.after_dst_name))
         ⊎ Reached IsDaylightOffset x.after_dst_name (λ offset after_offset. LacksRules after_offset e ⊎ ((after_offset ≢ []) × FailsFrom comma after_offset e (λ rules. IsRulesFault extended rules e))) → ⊥
-    behind_name p = elim p [
+    after_name p = elim p [
       | inl f ↦ offset_there f.0
       | inr (inl f) ↦ no_daylight_offset_fault x.after_dst_name a.dst_offset (comma ∷ x.start_text) f.2.0 x.dst_offset_is range.dst_offset_is f.1 f.2.2
-      | inr (inr f) ↦ behind_offset (reached_once IsDaylightOffset daylight_offset_is_one x.after_dst_name a.dst_offset (comma ∷ x.start_text) x.dst_offset_is _ f)
+      | inr (inr f) ↦ after_offset (reached_once IsDaylightOffset daylight_offset_is_one x.after_dst_name a.dst_offset (comma ∷ x.start_text) x.dst_offset_is _ f)
     ]
 
 no_range_fault : (r : AlternateTime) (f : TransitionRuleError) → IsInRuleRange r → IsRangeFault r f → ⊥
@@ -230,10 +230,10 @@ no_rule_fault r f is fault = elim fault [ inl h ↦ no_range_fault r f is.in_ran
 no_std_fault : (text name : List ℕ) (t : WrittenTime) (rest : List ℕ) (e : TzError) (later : List ℕ → Type 0) → IsNameAndOffset text name t rest → IsTimeUpTo offset_hours t
     → Reached IsName text (λ name after_name. InText e (IsOffsetFault after_name) ⊎ Reached IsSignedTime after_name (λ offset after_offset. later after_offset)) → later rest
 no_std_fault text name t rest e later std range fault =
-    behind_name (reached_once IsName name_is_one text name std.after_name std.name_is _ fault)
+    after_name (reached_once IsName name_is_one text name std.after_name std.name_is _ fault)
   where
-    behind_name : InText e (IsOffsetFault std.after_name) ⊎ Reached IsSignedTime std.after_name (λ offset after_offset. later after_offset) → later rest
-    behind_name p = elim p [
+    after_name : InText e (IsOffsetFault std.after_name) ⊎ Reached IsSignedTime std.after_name (λ offset after_offset. later after_offset) → later rest
+    after_name p = elim p [
       | inl f ↦ absurd (no_offset_fault std.after_name t rest f.0 std.offset_is range f.2)
       | inr f ↦ reached_once IsSignedTime signed_time_is_one std.after_name t rest std.offset_is (λ offset after_offset. later after_offset) f
     ]
@@ -249,13 +249,13 @@ fixed_is_over extended text name t a std x =
 pub no_text_fault : (extended : Bool) (text : List ℕ) (rule : TransitionRule) (e : TzError) → IsTzText extended text rule → IsTzTextFault extended text e → ⊥
 no_text_fault extended text (Fixed type) e t fault = elim fault [
   | inl f ↦ no_name_fault text t.0 t.2.after_name e t.2.name_is t.3 f
-  | inr (inl f) ↦ (let behind = no_std_fault text t.0 t.1 [] e (λ rest. (rest ≢ []) × IsDaylightFault extended rest e) t.2 t.4 f in behind.0 refl)
+  | inr (inl f) ↦ (let after = no_std_fault text t.0 t.1 [] e (λ rest. (rest ≢ []) × IsDaylightFault extended rest e) t.2 t.4 f in after.0 refl)
   | inr (inr f) ↦ fixed_is_over extended text t.0 t.1 f.0 t.2 f.1
 ]
 no_text_fault extended text (Alternating rule) e t fault = elim fault [
   | inl f ↦ no_name_fault text t.0.std_name t.1.std_is.after_name e t.1.std_is.name_is t.2.std_name_is f
-  | inr (inl f) ↦ (let behind = no_std_fault text t.0.std_name t.0.std_offset t.1.after_std e (λ rest. (rest ≢ []) × IsDaylightFault extended rest e) t.1.std_is t.2.std_offset_is f in
-      no_daylight_fault extended text t.0 t.1 e t.2 behind.1)
+  | inr (inl f) ↦ (let after = no_std_fault text t.0.std_name t.0.std_offset t.1.after_std e (λ rest. (rest ≢ []) × IsDaylightFault extended rest e) t.1.std_is t.2.std_offset_is f in
+      no_daylight_fault extended text t.0 t.1 e t.2 after.1)
   | inr (inr f) ↦ (let P : AlternateText → Type 0 = λ a. IsFirstRuleFault (rule_of a) f.3 in no_rule_fault (rule_of t.0) f.3 t.3 (subst P (alternate_text_is_one extended text f.0 t.0 f.1 t.1) f.5))
 ]
 

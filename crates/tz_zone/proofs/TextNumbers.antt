@@ -46,7 +46,7 @@ has_length [] h = absurd (h refl)
 has_length (d ∷ ds) h = omega arith
 
 pub number_is_none : (bits : ℕ) (text digits rest : List ℕ) → IsRun is_ascii_digit text digits rest → ¬ ((0 < length digits) × (digits_value 10 digits < 2 ^ bits)) → HasNoNumber bits text
-number_is_none bits text digits rest run none n behind number = elim (cases_lt n (2 ^ bits)) [
+number_is_none bits text digits rest run none n after number = elim (cases_lt n (2 ^ bits)) [
   | inl fits ↦ absurd (none (subst (λ ds. (0 < length ds) × (digits_value 10 ds < 2 ^ bits)) same (has_length number.digits number.some, rw (sym number.value) fits)))
   | inr above ↦ above
 ]
@@ -74,11 +74,11 @@ run_of_digit : (d : ℕ) (rest : List ℕ) → d ≤ 9 → take_while is_ascii_d
 run_of_digit d rest small = take_while-cons is_ascii_digit (d + 48) rest ∙ ap (λ passes. cond passes ((d + 48) ∷ take_while is_ascii_digit rest) []) (digit_passes d small)
 
 -- a number of two digits
-pub two_digits : (text rest behind : List ℕ) (d e : ℕ) → d ≤ 9 → e ≤ 9 → text ≡ (d + 48) ∷ rest → rest ≡ (e + 48) ∷ behind → take_while is_ascii_digit behind ≡ [] → IsNumber text (10 * d + e) behind
-two_digits text rest behind d e small small_too front next over = record {
+pub two_digits : (text rest after : List ℕ) (d e : ℕ) → d ≤ 9 → e ≤ 9 → text ≡ (d + 48) ∷ rest → rest ≡ (e + 48) ∷ after → take_while is_ascii_digit after ≡ [] → IsNumber text (10 * d + e) after
+two_digits text rest after d e small small_too front next over = record {
   digits = (d + 48) ∷ (e + 48) ∷ [];
   run = record {
-    longest = sym (ap (take_while is_ascii_digit) front ∙ run_of_digit d rest small ∙ ap (λ more. (d + 48) ∷ more) (ap (take_while is_ascii_digit) next ∙ run_of_digit e behind small_too ∙ ap (λ more. (e + 48) ∷ more) over));
+    longest = sym (ap (take_while is_ascii_digit) front ∙ run_of_digit d rest small ∙ ap (λ more. (d + 48) ∷ more) (ap (take_while is_ascii_digit) next ∙ run_of_digit e after small_too ∙ ap (λ more. (e + 48) ∷ more) over));
     parts = front ∙ ap (λ more. (d + 48) ∷ more) next;
   };
   some = some_digits ((d + 48) ∷ (e + 48) ∷ []) (omega arith);

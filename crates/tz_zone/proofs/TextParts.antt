@@ -28,5 +28,5 @@ over text name (b ∷ bs) run unbroken =
 
 pub unclosed : (text quoted name rest : List ℕ) → text ≡ opening_bracket ∷ quoted → IsRun is_in_brackets quoted name rest → ¬ Begins closing_bracket rest → IsUnclosed text
 unclosed text quoted name rest e run unbroken =
-    let P : List ℕ → Type 0 = λ behind. IsRun is_in_brackets quoted name behind in
+    let P : List ℕ → Type 0 = λ after. IsRun is_in_brackets quoted name after in
     (quoted, name, e, subst P (over quoted name rest run unbroken) run)

@@ -38,8 +38,8 @@ number_is_one text n m rest more a b =
     (a.value ∙ ap (digits_value 10) same.0 ∙ sym b.value, same.1)
 
 -- two numbers after the same byte
-pub number_behind_is_one : {b : ℕ} {text xs ys : List ℕ} (n m : ℕ) (rest more : List ℕ) → text ≡ b ∷ xs → text ≡ b ∷ ys → IsNumber xs n rest → IsNumber ys m more → (n ≡ m) × (rest ≡ more)
-number_behind_is_one {xs = xs} {ys = ys} n m rest more e f a b =
+pub number_after_is_one : {b : ℕ} {text xs ys : List ℕ} (n m : ℕ) (rest more : List ℕ) → text ≡ b ∷ xs → text ≡ b ∷ ys → IsNumber xs n rest → IsNumber ys m more → (n ≡ m) × (rest ≡ more)
+number_after_is_one {xs = xs} {ys = ys} n m rest more e f a b =
     let P : List ℕ → Type 0 = λ front. IsNumber front n rest in
     number_is_one ys n m rest more (subst P (same_rest e f) a) b
 
@@ -54,7 +54,7 @@ number_begins text b bs n rest e number =
 
 pub part_is_one : IsOne IsPart
 part_is_one text n m rest more a b = elim a [
-  | inl x ↦ elim b [ inl y ↦ number_behind_is_one n m rest more x.1 y.1 x.2 y.2 | inr y ↦ absurd (y.0 (x.0, x.1)) ]
+  | inl x ↦ elim b [ inl y ↦ number_after_is_one n m rest more x.1 y.1 x.2 y.2 | inr y ↦ absurd (y.0 (x.0, x.1)) ]
   | inr x ↦ elim b [ inl y ↦ absurd (x.0 (y.0, y.1)) | inr y ↦ (x.1 ∙ sym y.1, x.2 ∙ sym y.2) ]
 ]
 
@@ -102,18 +102,18 @@ hms_is_one text t u rest more sign a b =
     (same_time t u sign hours.0 minutes.0 seconds.0, seconds.1)
 
 -- a sign, and the time after it
-pub behind_sign_is_one : (text : List ℕ) (signs : List ℕ → Bool → List ℕ → Type 0) → IsOne signs → (t u : WrittenTime) (rest more : List ℕ)
+pub after_sign_is_one : (text : List ℕ) (signs : List ℕ → Bool → List ℕ → Type 0) → IsOne signs → (t u : WrittenTime) (rest more : List ℕ)
     → (unsigned : List ℕ) × signs text t.minus unsigned × IsHms unsigned t rest → (unsigned : List ℕ) × signs text u.minus unsigned × IsHms unsigned u more → (t ≡ u) × (rest ≡ more)
-behind_sign_is_one text signs one t u rest more a b =
+after_sign_is_one text signs one t u rest more a b =
     let sign = one text t.minus u.minus a.0 b.0 a.1 b.1 in
     let P : List ℕ → Type 0 = λ front. IsHms front t rest in
     hms_is_one b.0 t u rest more sign.0 (subst P sign.1 a.2) b.2
 
 pub signed_time_is_one : IsOne IsSignedTime
-signed_time_is_one text t u rest more a b = behind_sign_is_one text IsSign sign_is_one t u rest more a b
+signed_time_is_one text t u rest more a b = after_sign_is_one text IsSign sign_is_one t u rest more a b
 
 pub day_time_is_one : (extended : Bool) → IsOne (IsDayTime extended)
-day_time_is_one extended text t u rest more a b = behind_sign_is_one text (IsDayTimeSign extended) (day_time_sign_is_one extended) t u rest more a b
+day_time_is_one extended text t u rest more a b = after_sign_is_one text (IsDayTimeSign extended) (day_time_sign_is_one extended) t u rest more a b
 
 pub month_week_is_one : IsOne IsMonthWeekText
 month_week_is_one text d e rest more a b =
@@ -131,7 +131,7 @@ no_digit text b bs n rest none e number = absurd (false≢true (sym none ∙ num
 
 pub day_is_one : IsOne IsDay
 day_is_one text (Julian1WithoutLeap n) (Julian1WithoutLeap m) rest more a b =
-    let same = number_behind_is_one n m rest more a.1 b.1 a.2 b.2 in (ap Julian1WithoutLeap same.0, same.1)
+    let same = number_after_is_one n m rest more a.1 b.1 a.2 b.2 in (ap Julian1WithoutLeap same.0, same.1)
 day_is_one text (Julian1WithoutLeap n) (Julian0WithLeap m) rest more a b = no_digit text capital_j a.0 m more refl a.1 b
 day_is_one text (Julian1WithoutLeap n) (MonthWeekDay d) rest more a b = let clash = same_byte a.1 b.1 in absurd (omega arith)
 day_is_one text (Julian0WithLeap n) (Julian1WithoutLeap m) rest more a b = no_digit text capital_j b.0 n rest refl b.1 a

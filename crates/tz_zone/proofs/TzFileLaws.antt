@@ -14,7 +14,7 @@ use Rattle.tz_rule.specs.LocalTimeType.{LocalTimeType, IsDesignation, IsDesignat
 use Rattle.tz_rule.specs.declared.timezone.rule.TransitionRule.{TransitionRule}
 use Rattle.tz_zone.specs.Table.{Zone, zone_with}
 use Rattle.tz_zone.specs.ValidZone.{IsFirstTransitionFault, IsValidZone, IsFirstZoneFault}
-use Rattle.tz_zone.specs.TzFile.{IsHeader, IsUnit, IsTypeRecord, IsContent, IsFramed, IsTzFile, Block, Part, type_at, behind, part_of, footer_of, trimmed, IsFooter, IsExtraRule, is_extended, MayHold, HoldsLeapSeconds, zone_of_part}
+use Rattle.tz_zone.specs.TzFile.{IsHeader, IsUnit, IsTypeRecord, IsContent, IsFramed, IsTzFile, Block, Part, type_at, after, part_of, footer_of, trimmed, IsFooter, IsExtraRule, is_extended, MayHold, HoldsLeapSeconds, zone_of_part}
 use Rattle.tz_zone.specs.TzFileFault.{HeaderFails, UnitFails, FrameFails, FooterFails, ExtraRuleFails, TypeFails, ContentFails, FileFails, IsReadFault}
 use Rattle.tz_zone.specs.TzText.{IsTzText}
 use Rattle.tz_zone.specs.TzParts.{HasTables}
@@ -63,8 +63,8 @@ unit_holds w bytes e u (inr (header, is, short)) = omega (arith, u.whole, short)
 
 frame_holds : (bytes : List ℕ) (e : TzFileError) → IsFramed bytes → FrameFails bytes e → ⊥
 frame_holds bytes e f (inl fault) = unit_holds w32 bytes e f.first fault
-frame_holds bytes e f (inr (inl (first, version, is, more))) = more (f.nothing_behind version)
-frame_holds bytes e f (inr (inr (first, version, fault))) = unit_holds w64 (behind w32 bytes) e (f.second version) fault
+frame_holds bytes e f (inr (inl (first, version, is, more))) = more (f.nothing_after version)
+frame_holds bytes e f (inr (inr (first, version, fault))) = unit_holds w64 (after w32 bytes) e (f.second version) fault
 
 footer_holds : (footer : List ℕ) (e : TzFileError) → IsFooter footer → FooterFails footer e → ⊥
 footer_holds footer (Utf8 _) f fault = fault f.utf8

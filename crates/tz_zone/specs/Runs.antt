@@ -1,8 +1,9 @@
 -- How walks from change to change stand: from which instant on a rule has the types, and how far a walk has come.
-use Rattle.std.specs.Prelude.{◌≡◌, ◌≢◌, ℕ, ◌≤◌, ◌⊎◌, ℤ, pos, negsuc, ◌+ℤ◌, ◌≤ℤ◌, ◌<ℤ◌, List, [], length}
+use Rattle.std.specs.Prelude.{◌≡◌, ◌≢◌, ℕ, ◌-◌, ◌<◌, ◌≤◌, ◌⊎◌, ℤ, pos, negsuc, ◌+ℤ◌, ◌≤ℤ◌, ◌<ℤ◌, List, [], length, Some, slice_get}
+use Rattle.tz_rule.specs.LocalTimeType.{LocalTimeType}
 use Rattle.tz_zone.specs.Table.{Transition, LeapSecond, Zone}
 use Rattle.tz_zone.specs.LeapTime.{IsMomentOf}
-use Rattle.tz_zone.specs.Clock.{IsLast}
+use Rattle.tz_zone.specs.Clock.{IsTypeOfLast, IsLast}
 use Rattle.tz_zone.specs.ClockSegments.{IsReachedAt}
 use Rattle.tz_zone.specs.Changes.{HasNoChange}
 
@@ -27,3 +28,14 @@ IsWalkedDown z u last k = (last <ℤ u) × LiesAt z last k × HasNoChange z last
 -- after all transitions, no change comes after the seam and before an instant
 abbrev pub HasNoneAfterSeam : Zone → ℕ → ℤ → Type 0
 HasNoneAfterSeam z k u = k ≡ length z.transitions → (m : ℤ) → IsSeam z.transitions z.leap_seconds m → HasNoChange z m u
+
+-- the places from one up to another are a run of one type, and the transition before the first one takes effect at an instant; the place after all
+-- transitions is a run of its own
+pub record IsRunStart (z : Zone) (k start : ℕ) (m : ℤ) : Type 0 where
+  pub some : 0 < start
+  pub up_to : start ≤ k
+  pub change : Transition
+  pub change_is : slice_get z.transitions (start - 1) ≡ Some change
+  pub effect : IsMomentOf z.leap_seconds change.unix_leap_time m
+  pub types : k < length z.transitions → (t : LocalTimeType) × ((i : ℕ) → start ≤ i → i ≤ k → IsTypeOfLast z i t)
+  pub all : k ≡ length z.transitions → start ≡ k

@@ -128,8 +128,8 @@ pub record IsUnit (w : Width) (bytes : List ℕ) : Type 0 where
   pub whole : end_at w (counts_of bytes) ≤ length bytes
 
 -- the bytes after them
-unfoldable pub behind : Width → List ℕ → List ℕ
-behind w bytes = drop (end_at w (counts_of bytes)) bytes
+unfoldable pub after : Width → List ℕ → List ℕ
+after w bytes = drop (end_at w (counts_of bytes)) bytes
 
 -- record i of each table
 unfoldable pub change_at : Width → Block → ℕ → Transition
@@ -197,7 +197,7 @@ pub record Part : Type 0 where
   pub version : ℕ
   pub counts : Counts
   pub block : Block
-  pub behind : List ℕ
+  pub after : List ℕ
 
 abbrev pub part_with : Width → List ℕ → Part
 part_with w bytes = record {
@@ -205,7 +205,7 @@ part_with w bytes = record {
   version = slice_index bytes 4;
   counts = counts_of bytes;
   block = block_with w (counts_of bytes) bytes;
-  behind = behind w bytes;
+  after = after w bytes;
 }
 
 -- a file of version 1
@@ -215,16 +215,16 @@ IsFirstVersion bytes = slice_index bytes 4 ≡ version_1
 -- headers and blocks: nothing stands after the first unit in version 1, and a second unit in later ones
 pub record IsFramed (bytes : List ℕ) : Type 0 where
   pub first : IsUnit w32 bytes
-  pub nothing_behind : IsFirstVersion bytes → behind w32 bytes ≡ []
-  pub second : ¬ IsFirstVersion bytes → IsUnit w64 (behind w32 bytes)
+  pub nothing_after : IsFirstVersion bytes → after w32 bytes ≡ []
+  pub second : ¬ IsFirstVersion bytes → IsUnit w64 (after w32 bytes)
 
 -- the unit whose content is read: the only one, or the second, whose times have eight bytes
 unfoldable pub part_of : List ℕ → Part
-part_of bytes = if slice_index bytes 4 == version_1 then part_with w32 bytes else part_with w64 (behind w32 bytes)
+part_of bytes = if slice_index bytes 4 == version_1 then part_with w32 bytes else part_with w64 (after w32 bytes)
 
 -- what stands after the second one is the footer (section 3.3)
 unfoldable pub footer_of : List ℕ → Option (List ℕ)
-footer_of bytes = if slice_index bytes 4 == version_1 then None else Some (behind w64 (behind w32 bytes))
+footer_of bytes = if slice_index bytes 4 == version_1 then None else Some (after w64 (after w32 bytes))
 
 -- bytes without the ASCII white space at their ends
 unfoldable pub trimmed_start : List ℕ → List ℕ

@@ -13,7 +13,7 @@ use Rattle.tz_rule.specs.LocalTimeType.{IsFirstTypeFault}
 use Rattle.tz_rule.specs.declared.timezone.rule.TransitionRule.{TransitionRule}
 use Rattle.tz_zone.specs.TzTextFault.{IsTzTextFault}
 use Rattle.tz_zone.specs.ValidZone.{IsFirstZoneFault}
-use Rattle.tz_zone.specs.TzFile.{header_len, HasMagic, IsVersion, AreCounts, counts_of, IsHeader, end_at, IsUnit, behind, Block, IsFlag, HasName, type_at, HasIndicators, IsContent, IsFirstVersion, IsFramed, part_of, footer_of, trimmed, IsBetweenLineFeeds, MayBeText, IsFooter, IsExtraRule, is_extended, zone_of_part, Part, HoldsLeapSeconds}
+use Rattle.tz_zone.specs.TzFile.{header_len, HasMagic, IsVersion, AreCounts, counts_of, IsHeader, end_at, IsUnit, after, Block, IsFlag, HasName, type_at, HasIndicators, IsContent, IsFirstVersion, IsFramed, part_of, footer_of, trimmed, IsBetweenLineFeeds, MayBeText, IsFooter, IsExtraRule, is_extended, zone_of_part, Part, HoldsLeapSeconds}
 
 -- faults of the header at the front
 abbrev pub HeaderFails : List ℕ → TzFileError → Type 0
@@ -31,8 +31,8 @@ UnitFails w bytes e = HeaderFails bytes e ⊎ (IsHeader bytes × (e ≡ ParseDat
 abbrev pub FrameFails : List ℕ → TzFileError → Type 0
 FrameFails bytes e =
     UnitFails w32 bytes e
-    ⊎ (IsUnit w32 bytes × IsFirstVersion bytes × (e ≡ RemainingDataV1) × (behind w32 bytes ≢ []))
-    ⊎ (IsUnit w32 bytes × ¬ IsFirstVersion bytes × UnitFails w64 (behind w32 bytes) e)
+    ⊎ (IsUnit w32 bytes × IsFirstVersion bytes × (e ≡ RemainingDataV1) × (after w32 bytes ≢ []))
+    ⊎ (IsUnit w32 bytes × ¬ IsFirstVersion bytes × UnitFails w64 (after w32 bytes) e)
 
 -- of type record i
 abbrev pub TypeFails : Block → ℕ → TzError → Type 0

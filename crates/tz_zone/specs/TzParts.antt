@@ -38,7 +38,7 @@ block_view b = record {
 }
 
 abbrev pub part_view : PartSlices → Part
-part_view p = record { width = width_of p.size; version = p.version; counts = counts_view p.counts; block = block_view p.block; behind = p.behind.now }
+part_view p = record { width = width_of p.size; version = p.version; counts = counts_view p.counts; block = block_view p.block; after = p.after.now }
 
 -- each table of a block with these counts has its records whole
 pub record HasSizes (w : Width) (n : Counts) (block : Block) : Type 0 where

@@ -2,13 +2,14 @@
 
 ghost use Rattle.std.specs.Prelude.{◌≡◌, ◌≢◌, ℤ, pos, negsuc, ◌+ℤ◌, ◌≤ℤ◌, [], MatchOption};
 ghost use Rattle.tz_rule.specs.LocalTimeType.{LocalTimeType};
-ghost use Rattle.tz_zone.specs.Clock.{IsTypeAfterTable};
+ghost use Rattle.tz_zone.specs.Clock.{IsTypeAfter, IsTypeAfterTable};
 ghost use Rattle.tz_zone.specs.TableChanges.{IsChangeByRule};
 ghost use Rattle.tz_zone.specs.ZoneSeen.{zone_seen};
 
 use super::segment::ClockSegment;
 use crate::table::OtherParts;
 use tz_base::error::TzError;
+use tz_rule::timezone::LocalTimeType;
 
 /// The segment around an instant of a clock whose transitions are all reached, or of one that has none: that of the extra rule. Without a rule
 /// there is no type, and type number 0 if there are no transitions.
@@ -43,6 +44,16 @@ pub(super) fn after_table<'a>(
         last: segment.last,
         local_time_type: segment.local_time_type,
     }
+}
+
+/// The type at an instant from the last transition on. It is a call, so that walks over places stay small.
+#[inline(never)]
+pub(super) fn type_from_last<'a>(parts: OtherParts<'a>, unix_time: i64) -> Option<&'a LocalTimeType>
+    requires { parts.local_time_types.now ≢ [] }
+    ensures { MatchOption result ((t : LocalTimeType) → ¬ IsTypeAfter (zone_seen [] parts.entry).extra_rule unix_time t)
+        (λ t. IsTypeAfter (zone_seen [] parts.entry).extra_rule unix_time t.now) }
+{
+    after_table(parts, false, unix_time).local_time_type
 }
 
 /// Why there is no type there: there is no rule, or it is not defined at the instant.

@@ -2,7 +2,8 @@
 
 mod after_table;
 mod change;
-mod changes;
+mod changes_after;
+mod changes_before;
 mod changes_by_rule;
 mod lookup;
 mod near;
@@ -13,9 +14,8 @@ mod spans;
 mod window;
 
 pub use change::Change;
-pub use changes::{
-    change_after_last, change_before_next, following, following_near, preceding, preceding_near,
-};
+pub use changes_after::{change_after_last, following, following_near};
+pub use changes_before::{change_before_next, preceding, preceding_near};
 pub use lookup::find_local_time_type;
 pub use segment::ClockSegment;
 pub use segments::clock_segment_at;

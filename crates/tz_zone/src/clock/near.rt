@@ -4,6 +4,7 @@ ghost use Rattle.std.specs.Prelude.{◌≢◌, ◌-◌, ◌<◌, ◌≤◌, [], 
 ghost use Rattle.tz_zone.specs.Clock.{AreReached, AreAhead, IsPlaceAt};
 ghost use Rattle.tz_zone.specs.ClockSegments.{IsReachedAt};
 ghost use Rattle.tz_zone.specs.LeapTime.{IsLeapTimeRefused};
+ghost use Rattle.tz_zone.specs.Runs.{LiesAt};
 ghost use Rattle.tz_zone.specs.ValidZone.{IsRising, IsSoundTable};
 ghost use Rattle.tz_zone.specs.ZoneSeen.{zone_seen};
 
@@ -93,4 +94,24 @@ pub(super) fn place_of(
         return None;
     };
     Some(place_near(transitions, unix_leap_time, likely))
+}
+
+/// Whether an instant comes after all transitions, if there are no leap seconds or no transitions.
+#[inline(always)]
+pub(super) fn is_after_all(
+    transitions: &[Transition],
+    parts: OtherParts<'_>,
+    unix_time: i64,
+) -> bool
+    requires { IsSoundTable (zone_seen transitions.now parts) }
+    ensures { IsTrue result → LiesAt (zone_seen transitions.now parts.entry) unix_time (length transitions.now) }
+{
+    let count = transitions.len();
+    if count == 0 {
+        return true;
+    }
+    if !parts.leap_seconds.is_empty() {
+        return false;
+    }
+    transitions[count - 1].unix_leap_time() <= unix_time
 }

@@ -1,15 +1,16 @@
 //! Places among a zone's transitions: how many of them are reached.
 
 ghost use Rattle.std.specs.Prelude.{◌≡◌, ℕ, ◌+◌, ◌-◌, ◌^◌, ◌<◌, ◌≤◌, ◌⊎◌, length, slice_get, Some, IfNone, MatchOption};
-ghost use Rattle.tz_zone.specs.Clock.{AreReached, AreAhead, IsLast, IsPlaceAt, IsTypeOfLast};
+ghost use Rattle.tz_zone.specs.Clock.{AreReached, AreAhead, IsLast, IsPlaceAt, IsTypeOfLast, IsClock, HasNoType};
 ghost use Rattle.tz_zone.specs.ClockSegments.{IsBefore, IsReachedAt};
 ghost use Rattle.tz_zone.specs.LeapTime.{IsLeapTimeRefused};
 ghost use Rattle.tz_zone.specs.PlacesLeft.{IsAmongPlaces};
 ghost use Rattle.tz_zone.specs.ValidZone.{IsRising, IsSoundTable};
 ghost use Rattle.tz_zone.specs.ZoneSeen.{zone_seen};
 
+use super::after_table::type_from_last;
 use crate::leap_time::leap_time;
-use crate::table::{OtherParts, Transition, Transitions};
+use crate::table::{OtherParts, Transition, Transitions, Uncounted};
 use tz_rule::timezone::LocalTimeType;
 
 /// How many places the last seven looks of a halving choose from.
@@ -227,4 +228,25 @@ pub(super) fn type_before<'a, V: Transitions>(
 {
     let change = before(view, place);
     type_of(parts, change)
+}
+
+/// The type at an instant that lies at a place, or at an earlier one of the same type.
+#[inline(always)]
+pub(super) fn type_at<'a>(
+    transitions: &[Transition],
+    parts: OtherParts<'a>,
+    place: usize,
+    unix_time: i64,
+) -> Option<&'a LocalTimeType>
+    requires sound { IsSoundTable (zone_seen transitions.now parts) }
+    requires within { place ≤ length transitions.now }
+    requires at_least_one { 0 < length transitions.now }
+    requires before { place < length transitions.now → (t : LocalTimeType) → IsTypeOfLast (zone_seen transitions.now parts) place t → IsClock (zone_seen transitions.now parts) unix_time t }
+    requires all { place ≡ length transitions.now → IsReachedAt (zone_seen transitions.now parts) unix_time place }
+    ensures { MatchOption result (HasNoType (zone_seen transitions.now parts.entry) unix_time) (λ t. IsClock (zone_seen transitions.now parts.entry) unix_time t.now) }
+{
+    if place == transitions.len() {
+        return type_from_last(parts, unix_time);
+    }
+    Some(type_before(&mut Uncounted::new(transitions), parts, place))
 }

@@ -4,7 +4,7 @@ use Rattle.std.proofs.lemmas.Int.{ints, to_z-of_z}
 use mir.Syntax.{w64}
 use mir.Val.{SFits}
 use Rattle.tz_zone.proofs.LeapTimes.{IsInstant-from_bounds, instant_bounds}
-use Rattle.tz_zone.proofs.TypesAtCursors.{none_if_empty}
+use Rattle.tz_zone.proofs.InstantsWithLeapTime.{none_if_empty}
 use Rattle.tz_zone.proofs.LeapReached.{not_least, plain_last_before}
 use Rattle.tz_zone.proofs.effect.last_before.Goals as goal
 

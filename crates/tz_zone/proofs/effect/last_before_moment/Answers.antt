@@ -7,7 +7,7 @@ use mir.Val.{SFits, to_z, of_z}
 use Rattle.tz_zone.specs.LeapTime.{IsInstant}
 use Rattle.tz_zone.proofs.LeapTimes.{IsInstant-from_bounds}
 use Rattle.tz_zone.proofs.OffsetBounds.{int_min_either}
-use Rattle.tz_zone.proofs.TypesAtCursors.{moment_ahead}
+use Rattle.tz_zone.proofs.InstantsWithLeapTime.{moment_ahead}
 use Rattle.tz_zone.proofs.LeapReached.{IsLastBefore, last_before_moment}
 use Rattle.tz_zone.proofs.effect.last_before_moment.Goals as goal
 

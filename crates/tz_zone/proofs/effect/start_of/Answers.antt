@@ -5,8 +5,8 @@ use mir.Syntax.{w64, w128}
 use mir.Val.{SFits}
 use Rattle.tz_zone.specs.LeapTime.{IsInstant, IsMomentOf}
 use Rattle.tz_zone.proofs.LeapTimes.{IsInstant-from_bounds, instant_bounds}
-use Rattle.tz_zone.proofs.TypesAtCursors.{none_if_empty}
-use Rattle.tz_zone.proofs.SegmentEnds.{plain_moment}
+use Rattle.tz_zone.proofs.InstantsWithLeapTime.{none_if_empty}
+use Rattle.tz_zone.proofs.InstantsWithLeapTime.{plain_moment}
 use Rattle.tz_zone.proofs.effect.start_of.Goals as goal
 
 moment_of : (c : goal.After-moment) → IsMomentOf c.args.leap_seconds.now c.args.unix_leap_time c.moment.result

@@ -7,9 +7,3 @@ returns-clause-following c = one_following
 
 pub returns-clause-preceding : goal.returns-clause-preceding
 returns-clause-preceding c = one_preceding
-
-pub returns-clause-none_following : goal.returns-clause-none_following
-returns-clause-none_following c = λ z u change is none. none change is.above is.is
-
-pub returns-clause-none_preceding : goal.returns-clause-none_preceding
-returns-clause-none_preceding c = λ z u change is none. none change is.below is.is

@@ -2,7 +2,7 @@
 use Rattle.std.proofs.Common.{◌≡◌, []}
 use Rattle.std.proofs.lemmas.Int.{to_z-of_z}
 use mir.Syntax.{w64}
-use Rattle.tz_zone.proofs.TypesAtCursors.{none_if_empty, plain_leap}
+use Rattle.tz_zone.proofs.InstantsWithLeapTime.{none_if_empty, plain_leap}
 use Rattle.tz_zone.proofs.leap_time.leap_time.Goals as goal
 
 pub returns-then-is_empty : goal.returns-then-is_empty

@@ -5,7 +5,7 @@ use mir.Syntax.{w64, w128}
 use mir.Val.{SFits, to_z, of_z}
 use Rattle.tz_rule.proofs.WeakerClauses.{MatchBool-lt_z}
 use Rattle.tz_zone.proofs.LeapTimes.{leap_time_speed}
-use Rattle.tz_zone.proofs.TypesAtCursors.{leap_unless_refused, answered_within}
+use Rattle.tz_zone.proofs.InstantsWithLeapTime.{leap_unless_refused, answered_within}
 use Rattle.tz_zone.proofs.leap_time.stay_before.Goals as goal
 
 cast : (h f : ℤ) → SFits w64 h → f ≡ to_z w64 (of_z w64 h) → to_z w128 (of_z w128 f) ≡ h

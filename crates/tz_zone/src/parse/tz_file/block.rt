@@ -72,7 +72,7 @@ pub(crate) struct Part<'a> {
     pub(crate) version: u8,
     pub(super) counts: Counts,
     pub(super) block: Block<'a>,
-    pub(super) behind: &'a [u8],
+    pub(super) after: &'a [u8],
 }
 
 /// Cuts the block after the header into its parts.
@@ -97,7 +97,7 @@ fn cut_block(size: TimeSize, counts: Counts, bytes: &[u8]) -> Block<'_>
 
 /// Reads the header at the front, and cuts its block.
 #[inline(always)]
-#[tactic(auto, unfolding(crate::specs::TzFile::behind))]
+#[tactic(auto, unfolding(crate::specs::TzFile::after))]
 pub(super) fn read_unit(size: TimeSize, bytes: &[u8]) -> Result<Part<'_>, TzFileError>
     ensures value { IfOk result (λ part. part_view part ≡ part_with (width_of size) bytes.now) }
     ensures sizes { IfOk result IsSized }
@@ -114,6 +114,6 @@ pub(super) fn read_unit(size: TimeSize, bytes: &[u8]) -> Result<Part<'_>, TzFile
         version: bytes[4],
         counts,
         block: cut_block(size, counts, bytes),
-        behind: &bytes[end..],
+        after: &bytes[end..],
     })
 }

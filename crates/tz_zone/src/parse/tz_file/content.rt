@@ -116,7 +116,7 @@ fn read_type(part: &Part<'_>, index: u32) -> Result<LocalTimeType, TzError>
 
 /// Transitions, and whether they are known to name types and to come in order: if not, the check of the zone looks at each.
 #[derive(Drop)]
-pub(super) struct Transitions<A: Allocator + Copy> {
+pub(super) struct ReadTransitions<A: Allocator + Copy> {
     pub(super) items: Vec<Transition, A>,
     pub(super) are_in_order: bool,
 }
@@ -127,7 +127,7 @@ fn read_transitions_of<A: Allocator + Copy>(
     alloc: A,
     size: TimeSize,
     part: &Part<'_>,
-) -> Result<Transitions<A>, AllocError>
+) -> Result<ReadTransitions<A>, AllocError>
     requires size { size ≡ part.now.size }
     requires sized { IsSized part.now }
     ensures items { IfOk result (λ t. t.items.items ≡ transitions_of (width_of part.now.size) (block_view part.now.block) part.now.counts.transition) }
@@ -143,7 +143,7 @@ fn read_transitions_of<A: Allocator + Copy>(
         last = transition;
         items.push_reserved(transition);
     }
-    Ok(Transitions {
+    Ok(ReadTransitions {
         items,
         are_in_order,
     })
@@ -153,7 +153,7 @@ fn read_transitions_of<A: Allocator + Copy>(
 pub(super) fn read_transitions<A: Allocator + Copy>(
     alloc: A,
     part: &Part<'_>,
-) -> Result<Transitions<A>, AllocError>
+) -> Result<ReadTransitions<A>, AllocError>
     requires { IsSized part.now }
     ensures items { IfOk result (λ t. t.items.items ≡ transitions_of (width_of part.now.size) (block_view part.now.block) part.now.counts.transition) }
     ensures order { IfOk result (λ t. IsTrue t.are_in_order → (i : ℕ) → HasTypeAtPlace t.items.items part.now.counts.local_type i × RisesAtPlace t.items.items i) }

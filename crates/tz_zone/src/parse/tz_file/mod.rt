@@ -43,7 +43,7 @@ pub(crate) fn read_frame(bytes: &[u8]) -> Result<Frame<'_>, TzFileError>
 {
     let first = read_unit(TimeSize::Four, bytes)?;
     if first.version == 0 {
-        if !first.behind.is_empty() {
+        if !first.after.is_empty() {
             return Err(TzFileError::RemainingDataV1);
         }
         return Ok(Frame {
@@ -51,10 +51,10 @@ pub(crate) fn read_frame(bytes: &[u8]) -> Result<Frame<'_>, TzFileError>
             footer: None,
         });
     }
-    let second = read_unit(TimeSize::Eight, first.behind)?;
+    let second = read_unit(TimeSize::Eight, first.after)?;
     Ok(Frame {
         part: second,
-        footer: Some(second.behind),
+        footer: Some(second.after),
     })
 }
 

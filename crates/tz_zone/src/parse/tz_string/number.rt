@@ -27,12 +27,12 @@ pub(super) fn read_two_digits(text: &[u8]) -> Option<(u8, &[u8])>
     ensures { IfSome result (λ p. IsNumber text.now p.0 p.1.now) }
 {
     let (first, rest) = after_digit(text)?;
-    let Some((second, behind)) = after_digit(rest) else {
+    let Some((second, after)) = after_digit(rest) else {
         return Some((first, rest));
     };
-    match after_digit(behind) {
+    match after_digit(after) {
         Some(_) => None,
-        None => Some((10 * first + second, behind)),
+        None => Some((10 * first + second, after)),
     }
 }
 

@@ -45,8 +45,3 @@ returns-clause-among g c =
     let time_is = to_z-of_z w64 c.args.unix_leap_time c.ranges.unix_leap_time in
     let all : c.loop-left.left ≡ c.args.least = omega (arith, c.loop-left-test.false) in
     subst (λ (n : ℕ). IsAmongPlaces (g.V.Transitions.list c.loop-left.view) c.args.unix_leap_time c.loop-left.place n) all (rw time_is at c.loop-left.invariant.among)
-
-pub returns-clause-at_most : goal.returns-clause-at_most
-returns-clause-at_most g c = λ e f count_is least_is order.
-    let (k, left_is, least_within, looks) = c.loop-left.invariant.steps e f count_is least_is order in
-    omega (arith, looks, least_within)

@@ -20,40 +20,16 @@ module _ (leaps : List LeapSecond) (u first : ℤ) (early : IsBeforeStart leaps 
   fits_before : SFits w64 u → SFits w64 first → SFits w64 (first -ℤ pos 1)
   fits_before fits_u fits = IsInstant-from_bounds (first -ℤ pos 1) (omega (arith, ints, later, instant_bounds u fits_u)) (omega (arith, ints, instant_bounds first fits))
 
-pub returns-in_default-clause-before : goal.returns-in_default-clause-before
-returns-in_default-clause-before c =
-    let u = c.args.unix_time in
-    let all = rw (to_z-of_z w64 u c.ranges.unix_time) at c.in_default.ensures in
-    λ v up_to. by_lt_z v u (λ h. all_before c.args.leap_seconds.now u v c.requires (omega (arith, ints, h))) (λ h. all v h up_to)
-
-pub overflow_sub-result : goal.overflow_sub-result
-overflow_sub-result c =
-    let first = c.in-Some.first in
-    let fits : SFits w64 first = search rules in
-    let found = rw (to_z-of_z w64 c.args.unix_time c.ranges.unix_time) at c.in-Some.ensures in
-    rw (to_z-of_z w64 first fits) (fits_before c.args.leap_seconds.now c.args.unix_time first c.requires found c.ranges.unix_time fits)
-
-pub returns-clause-from : goal.returns-clause-from
-returns-clause-from c =
-    let first = c.in-Some.first in
-    let fits : SFits w64 first = search rules in
-    let found = rw (to_z-of_z w64 c.args.unix_time c.ranges.unix_time) at c.in-Some.ensures in
-    let after = later c.args.leap_seconds.now c.args.unix_time first c.requires found in
-    rw (to_z-of_z w64 first fits, to_z-of_z w64 (first -ℤ pos 1) (fits_before c.args.leap_seconds.now c.args.unix_time first c.requires found c.ranges.unix_time fits)) (omega (arith, ints, after))
-
-pub returns-clause-before : goal.returns-clause-before
-returns-clause-before c =
+pub returns : goal.returns
+returns c =
+    let leaps = c.args.leap_seconds.now in
     let u = c.args.unix_time in
     let first = c.in-Some.first in
     let fits : SFits w64 first = search rules in
     let found = rw (to_z-of_z w64 u c.ranges.unix_time) at c.in-Some.ensures in
-    rw (to_z-of_z w64 first fits, to_z-of_z w64 (first -ℤ pos 1) (fits_before c.args.leap_seconds.now u first c.requires found c.ranges.unix_time fits))
-    (λ v up_to. by_lt_z v u (λ h. all_before c.args.leap_seconds.now u v c.requires (omega (arith, ints, h))) (λ h. found.2 v h (omega (arith, ints, up_to))))
-
-pub returns-clause-begun : goal.returns-clause-begun
-returns-clause-begun c =
-    let first = c.in-Some.first in
-    let fits : SFits w64 first = search rules in
-    let found = rw (to_z-of_z w64 c.args.unix_time c.ranges.unix_time) at c.in-Some.ensures in
     let back : first -ℤ pos 1 +ℤ pos 1 ≡ first = omega (arith, ints) in
-    rw (to_z-of_z w64 first fits, to_z-of_z w64 (first -ℤ pos 1) (fits_before c.args.leap_seconds.now c.args.unix_time first c.requires found c.ranges.unix_time fits)) (λ inside. rw back found.1)
+    rw (to_z-of_z w64 first fits, to_z-of_z w64 (first -ℤ pos 1) (fits_before leaps u first c.requires found c.ranges.unix_time fits)) (record {
+      from = omega (arith, ints, later leaps u first c.requires found);
+      before = λ v up_to. by_lt_z v u (λ h. all_before leaps u v c.requires (omega (arith, ints, h))) (λ h. found.2 v h (omega (arith, ints, up_to)));
+      begun = λ inside. rw back found.1;
+    })

@@ -4,7 +4,6 @@ use Rattle.std.proofs.lemmas.Int.{ints, by_lt_z, to_z-of_z}
 use mir.Syntax.{w64}
 use mir.Val.{SFits}
 use Rattle.tz_zone.proofs.LeapTimes.{instant_bounds}
-use Rattle.tz_zone.proofs.SegmentEnds.{some_if_refused}
 use Rattle.tz_zone.proofs.clock.segments.refused_segment.Goals as goal
 
 pub returns-then-has_begun-clause-refused : goal.returns-then-has_begun-clause-refused
@@ -14,11 +13,6 @@ returns-then-has_begun-clause-refused c =
 
 pub first_past-requires-clause-refused : goal.first_past-requires-clause-refused
 first_past-requires-clause-refused c = rw (to_z-of_z w64 c.args.unix_time c.ranges.unix_time) c.requires.refused
-
-pub returns-then-has_begun-clause-from : goal.returns-then-has_begun-clause-from
-returns-then-has_begun-clause-from c =
-    let from : SFits w64 c.first_past.result = search rules in
-    rw (to_z-of_z w64 c.first_past.result from) (λ not_least. (some_if_refused c.args.leap_seconds.now c.args.unix_time c.requires.refused, c.first_past.ensures.far))
 
 pub returns-clause-last : goal.returns-clause-last
 returns-clause-last c =

@@ -23,37 +23,31 @@ next_ahead : (z : Zone) → IsSoundTable z → (u : ℤ) (k : ℕ) → IsReached
 next_ahead z sound u k at next at_next reached =
     absurd (omega (arith, ints, at.ahead k next (omega arith) at_next, reached.2, leap_time_unique z.leap_seconds sound.leap_seconds_are u at.time reached.0 at.time_is reached.1))
 
-pub segment_from_last-requires-clause-reached : goal.segment_from_last-requires-clause-reached
-segment_from_last-requires-clause-reached g c =
-    let z = zone_seen (g.V.Transitions.list c.args.view.now) c.args.parts in
+pub returns-then-place-len : goal.returns-then-place-len
+returns-then-place-len g c =
+    let list = g.V.Transitions.list c.args.view.now in
+    let z = zone_seen list c.args.parts in
     let u = c.args.unix_time in
+    let k = c.args.place in
     let at = c.requires.at in
-    rw (to_z-of_z w64 u c.ranges.unix_time) (at.time, at.time_is, before_reached z c.requires.sound u c.args.place c.ranges.unix_time at c.before-before.result c.before-before.ensures.before)
-
-pub returns-then-place-len-clause-at : goal.returns-then-place-len-clause-at
-returns-then-place-len-clause-at g c =
-    let list = g.V.Transitions.list c.args.view.now in
-    let z = zone_seen list c.args.parts in
-    let u = c.args.unix_time in
-    let s = c.segment_from_last in
-    let all : c.args.place ≡ length list = omega (arith, c.if-place-len.true, c.len.ensures, ap length c.before-before.ensures.same) in
+    let before = c.before-before.result in
+    let is = c.before-before.ensures.before in
+    let s = c.segment_from_last.result in
+    let from_last = c.segment_from_last.ensures in
+    let all : k ≡ length list = omega (arith, c.if-place-len.true, c.len.ensures, ap length c.before-before.ensures.same) in
+    let within = rw (to_z-of_z w64 u c.ranges.unix_time) at from_last.within in
     record {
-      within = rw (to_z-of_z w64 u c.ranges.unix_time) at s.ensures.within;
-      holds = λ v low high.
-          let reached = all_reached z c.requires.sound u c.args.place c.ranges.unix_time c.requires.at c.before-before.result c.before-before.ensures.before all v (s.ensures.reached v low high) in
-          types_from_last z c.requires.sound c.requires.at_least_one v reached s.result.local_time_type (s.ensures.holds v low high);
+      same = search rules;
+      at = record {
+        within = within;
+        holds = λ v low high.
+            let reached = all_reached z c.requires.sound u k c.ranges.unix_time at before is all v (from_last.reached v low high) in
+            types_from_last z c.requires.sound c.requires.at_least_one v reached s.local_time_type (from_last.holds v low high);
+      };
+      ends = ends_after_all z c.requires.sound u k c.ranges.unix_time at before is all s.from s.last (omega (arith, ints, within.0, within.1)) from_last.reached from_last.from from_last.last;
+      kept = search rules;
+      at_most = search rules;
     }
-
-pub returns-then-place-len-clause-ends : goal.returns-then-place-len-clause-ends
-returns-then-place-len-clause-ends g c =
-    let list = g.V.Transitions.list c.args.view.now in
-    let z = zone_seen list c.args.parts in
-    let u = c.args.unix_time in
-    let s = c.segment_from_last in
-    let all : c.args.place ≡ length list = omega (arith, c.if-place-len.true, c.len.ensures, ap length c.before-before.ensures.same) in
-    let within = rw (to_z-of_z w64 u c.ranges.unix_time) at s.ensures.within in
-    ends_after_all z c.requires.sound u c.args.place c.ranges.unix_time c.requires.at c.before-before.result c.before-before.ensures.before all
-    s.result.from s.result.last (omega (arith, ints, within.0, within.1)) s.ensures.reached s.ensures.from s.ensures.last
 
 pub start_of-requires-clause-reached : goal.start_of-requires-clause-reached
 start_of-requires-clause-reached g c =
@@ -85,8 +79,8 @@ last_before-requires-clause-before g c =
 pub type_of-requires : goal.type_of-requires
 type_of-requires g c = names_type (zone_seen (g.V.Transitions.list c.args.view.now) c.args.parts) c.requires.sound c.args.place c.before-before.result c.before-before.ensures.before
 
-pub returns-clause-at : goal.returns-clause-at
-returns-clause-at g c =
+pub returns : goal.returns
+returns g c =
     let z = zone_seen (g.V.Transitions.list c.args.view.now) c.args.parts in
     let u = c.args.unix_time in
     let k = c.args.place in
@@ -103,27 +97,17 @@ returns-clause-at g c =
     let end = rw (to_z-of_z w64 c.unix_leap_time-2.result next_time, c.unix_leap_time-2.ensures) at c.last_before.ensures in
     let before_next : IsLastBefore z.leap_seconds next.unix_leap_time c.last_before.result = record { before = end.before; within = end.within; next = end.next } in
     rw (to_z-of_z w64 c.start_of.result from, to_z-of_z w64 c.last_before.result last) (record {
-      within = (
-        start_up_to z c.requires.sound u k c.ranges.unix_time at before is c.start_of.result moment,
-        up_to_last_before z.leap_seconds c.requires.sound.leap_seconds_are next.unix_leap_time c.last_before.result u before_next (instant_bounds u c.ranges.unix_time).1 at.time_is.not_refused (next_ahead z c.requires.sound u k at next at_next),
-      );
-      holds = λ v low high. clock_at_place z c.requires.sound k v c.type_of.result.now (slice_get_within z.transitions k next at_next)
-          (lies_since z c.requires.sound u k c.ranges.unix_time at before is c.start_of.result moment next at_next c.last_before.result v end.within end.before low high)
-          (type_of_before z c.requires.sound k before c.type_of.result.now is c.type_of.ensures);
+      same = search rules;
+      at = record {
+        within = (
+          start_up_to z c.requires.sound u k c.ranges.unix_time at before is c.start_of.result moment,
+          up_to_last_before z.leap_seconds c.requires.sound.leap_seconds_are next.unix_leap_time c.last_before.result u before_next (instant_bounds u c.ranges.unix_time).1 at.time_is.not_refused (next_ahead z c.requires.sound u k at next at_next),
+        );
+        holds = λ v low high. clock_at_place z c.requires.sound k v c.type_of.result.now (slice_get_within z.transitions k next at_next)
+            (lies_since z c.requires.sound u k c.ranges.unix_time at before is c.start_of.result moment next at_next c.last_before.result v end.within end.before low high)
+            (type_of_before z c.requires.sound k before c.type_of.result.now is c.type_of.ensures);
+      };
+      ends = ends_between z c.requires.sound u k c.ranges.unix_time at before is next at_next c.start_of.result c.last_before.result (instant_bounds c.last_before.result last).1 moment end.next;
+      kept = search rules;
+      at_most = search rules;
     })
-
-pub returns-clause-ends : goal.returns-clause-ends
-returns-clause-ends g c =
-    let z = zone_seen (g.V.Transitions.list c.args.view.now) c.args.parts in
-    let u = c.args.unix_time in
-    let k = c.args.place in
-    let next = c.look-next.result in
-    let at_next : slice_get z.transitions k ≡ Some next = subst (λ (list : List Transition). slice_get list k ≡ Some next) c.before-before.ensures.same c.look-next.ensures.value in
-    let time : SFits w64 c.unix_leap_time.result = search rules in
-    let next_time : SFits w64 c.unix_leap_time-2.result = search rules in
-    let from : SFits w64 c.start_of.result = search rules in
-    let last : SFits w64 c.last_before.result = search rules in
-    let moment = rw (to_z-of_z w64 c.unix_leap_time.result time, c.unix_leap_time.ensures) at c.start_of.ensures in
-    let end = rw (to_z-of_z w64 c.unix_leap_time-2.result next_time, c.unix_leap_time-2.ensures) at c.last_before.ensures in
-    rw (to_z-of_z w64 c.start_of.result from, to_z-of_z w64 c.last_before.result last)
-    (ends_between z c.requires.sound u k c.ranges.unix_time c.requires.at c.before-before.result c.before-before.ensures.before next at_next c.start_of.result c.last_before.result (instant_bounds c.last_before.result last).1 moment end.next)

@@ -6,25 +6,13 @@ use mir.Syntax.{w64}
 use mir.Val.{SFits}
 use Rattle.tz_rule.specs.declared.timezone.rule.TransitionRule.{TransitionRule}
 use Rattle.tz_zone.specs.Table.{LeapSecond}
-use Rattle.tz_zone.specs.LeapTime.{IsPastInstants, IsLeapTimeRefused, IsTimeReached, IsMomentOf}
-use Rattle.tz_zone.specs.ValidZone.{AreLeapSeconds}
+use Rattle.tz_zone.specs.LeapTime.{IsPastInstants, IsMomentOf}
 use Rattle.tz_zone.specs.ZoneSeen.{rule_kept}
 use Rattle.tz_zone.specs.TableChanges.{IsChangeByRule}
 use Rattle.tz_zone.proofs.LeapTimes.{instant_bounds}
 use Rattle.tz_zone.proofs.LeapMoments.{int_max-one}
-use Rattle.tz_zone.proofs.LeapReached.{up_to_last, answered_up_to, reached_from}
-use Rattle.tz_zone.proofs.TypesAtCursors.{answered_from_moment}
+use Rattle.tz_zone.proofs.LeapReached.{up_to_last, reached_since}
 use Rattle.tz_zone.proofs.clock.segments.segment_from_last.Goals as goal
-
--- from the start of the last transition on it is reached, as long as there are leap times
-module _ (leaps : List LeapSecond) (are : AreLeapSeconds leaps) (v u : ℤ) (reached : IsTimeReached leaps v u) (m : ℤ) (moment : IsMomentOf leaps v m) where
-  answered_until : (last w : ℤ) → ((x : ℤ) → x ≤ℤ last → ¬ IsPastInstants leaps x) → m ≤ℤ w → w ≤ℤ last → ¬ IsLeapTimeRefused leaps w
-  answered_until last w within low high = by_lt_z w u
-      (λ h. answered_from_moment leaps are u reached.0 reached.1 v m w moment low (omega (arith, ints, h)))
-      (λ h. answered_up_to leaps are u w reached.1.not_refused h (within w high))
-
-  last_from : (last high : ℤ) → u ≤ℤ high → ((w : ℤ) → last <ℤ w → w ≤ℤ high → IsPastInstants leaps w) → u ≤ℤ last
-  last_from last high within past = up_to_last leaps are last high u past within (λ gone. reached.1.not_refused (inr gone))
 
 -- if the rule's segment begins later than the transition starts it begins with a change of the rule
 begin_is : (leaps : List LeapSecond) (rule : Option TransitionRule) (v from first cut : ℤ) → IsMomentOf leaps v from → cut ≡ int_max from first → from ≤ℤ cut
@@ -48,74 +36,31 @@ end_is leaps rule last high up_to greatest past change other = by_lt_z last high
     let same : high ≡ last = omega (arith, ints, h, up_to) in
     inr (subst (λ (v : ℤ). IsChangeByRule rule (v +ℤ pos 1)) same (change (λ e. absurd (other (omega (arith, ints, same, e)))))))
 
-pub returns-clause-within : goal.returns-clause-within
-returns-clause-within c =
+pub returns : goal.returns
+returns c =
     let leaps = c.args.parts.leap_seconds.now in
+    let rule = rule_kept c.args.parts.extra_rule in
     let u = c.args.unix_time in
     let s = c.after_table-segment.result in
+    let after = c.after_table-segment.ensures in
     let before : SFits w64 c.unix_leap_time.result = search rules in
     let from : SFits w64 c.start_of-from.result = search rules in
     let first : SFits w64 s.from = search rules in
     let end : SFits w64 s.last = search rules in
     let max : SFits w64 c.max.result = search rules in
     let last : SFits w64 c.last_instant_up_to.result = search rules in
-    let within = rw (to_z-of_z w64 u c.ranges.unix_time) at c.after_table-segment.ensures.within in
+    let within = rw (to_z-of_z w64 u c.ranges.unix_time) at after.within in
     let moment = rw (to_z-of_z w64 c.unix_leap_time.result before, c.unix_leap_time.ensures) at c.start_of-from.ensures in
     let greatest = rw (to_z-of_z w64 c.start_of-from.result from, to_z-of_z w64 s.from first) at c.max.ensures in
     let cut = rw (to_z-of_z w64 s.last end) at c.last_instant_up_to.ensures in
     let begin = moment.least u c.requires.reached in
-    let max_up_to : c.max.result ≤ℤ u = elim (int_max-one c.start_of-from.result s.from) [
-      | inl e ↦ omega (arith, ints, greatest.value, e, begin)
-      | inr e ↦ omega (arith, ints, greatest.value, e, within.0)
-    ] in
-    rw (to_z-of_z w64 c.max.result max, to_z-of_z w64 c.last_instant_up_to.result last) (
-      max_up_to,
-      last_from leaps c.requires.leaps _ u c.requires.reached c.start_of-from.result moment c.last_instant_up_to.result s.last within.1 cut.past,
-    )
-
-pub returns-clause-reached : goal.returns-clause-reached
-returns-clause-reached c =
-    let leaps = c.args.parts.leap_seconds.now in
-    let before : SFits w64 c.unix_leap_time.result = search rules in
-    let from : SFits w64 c.start_of-from.result = search rules in
-    let max : SFits w64 c.max.result = search rules in
-    let last : SFits w64 c.last_instant_up_to.result = search rules in
-    let moment = rw (to_z-of_z w64 c.unix_leap_time.result before, c.unix_leap_time.ensures) at c.start_of-from.ensures in
-    let low = rw (to_z-of_z w64 c.start_of-from.result from) at c.max.ensures.self_bound in
-    rw (to_z-of_z w64 c.max.result max, to_z-of_z w64 c.last_instant_up_to.result last)
-    (λ w from_w up_to.
-    let since : c.start_of-from.result ≤ℤ w = omega (arith, ints, low, from_w) in
-    reached_from leaps c.requires.leaps _ c.start_of-from.result w moment (answered_until leaps c.requires.leaps _ c.args.unix_time c.requires.reached c.start_of-from.result moment c.last_instant_up_to.result w c.last_instant_up_to.ensures.within since up_to) since)
-
-pub returns-clause-holds : goal.returns-clause-holds
-returns-clause-holds c =
-    let s = c.after_table-segment.result in
-    let first : SFits w64 s.from = search rules in
-    let end : SFits w64 s.last = search rules in
-    let max : SFits w64 c.max.result = search rules in
-    let last : SFits w64 c.last_instant_up_to.result = search rules in
-    let low = rw (to_z-of_z w64 s.from first) at c.max.ensures.other_bound in
-    let up_to = rw (to_z-of_z w64 s.last end) at c.last_instant_up_to.ensures.up_to in
-    rw (to_z-of_z w64 c.max.result max, to_z-of_z w64 c.last_instant_up_to.result last)
-    (λ v from high. c.after_table-segment.ensures.holds v (omega (arith, ints, low, from)) (omega (arith, ints, up_to, high)))
-
-pub returns-clause-from : goal.returns-clause-from
-returns-clause-from c =
-    let s = c.after_table-segment.result in
-    let before : SFits w64 c.unix_leap_time.result = search rules in
-    let from : SFits w64 c.start_of-from.result = search rules in
-    let first : SFits w64 s.from = search rules in
-    let max : SFits w64 c.max.result = search rules in
-    let moment = rw (to_z-of_z w64 c.unix_leap_time.result before, c.unix_leap_time.ensures) at c.start_of-from.ensures in
-    let greatest = rw (to_z-of_z w64 c.start_of-from.result from, to_z-of_z w64 s.from first) at c.max.ensures in
-    rw (to_z-of_z w64 c.max.result max)
-    (begin_is c.args.parts.leap_seconds.now (rule_kept c.args.parts.extra_rule) _ c.start_of-from.result s.from c.max.result moment greatest.value greatest.self_bound c.after_table-segment.ensures.from)
-
-pub returns-clause-last : goal.returns-clause-last
-returns-clause-last c =
-    let s = c.after_table-segment.result in
-    let end : SFits w64 s.last = search rules in
-    let last : SFits w64 c.last_instant_up_to.result = search rules in
-    let cut = rw (to_z-of_z w64 s.last end) at c.last_instant_up_to.ensures in
-    rw (to_z-of_z w64 c.last_instant_up_to.result last)
-    (end_is c.args.parts.leap_seconds.now (rule_kept c.args.parts.extra_rule) c.last_instant_up_to.result s.last cut.up_to (instant_bounds s.last end).1 cut.past c.after_table-segment.ensures.last)
+    rw (to_z-of_z w64 c.max.result max, to_z-of_z w64 c.last_instant_up_to.result last) (record {
+      within = (
+        elim (int_max-one c.start_of-from.result s.from) [ inl e ↦ omega (arith, ints, greatest.value, e, begin) | inr e ↦ omega (arith, ints, greatest.value, e, within.0) ],
+        up_to_last leaps c.requires.leaps c.last_instant_up_to.result s.last u cut.past within.1 (λ past. c.requires.reached.1.not_refused (inr past)),
+      );
+      reached = λ v low high. reached_since leaps c.requires.leaps _ c.start_of-from.result c.last_instant_up_to.result v moment cut.within (omega (arith, ints, greatest.self_bound, low)) high;
+      holds = λ v low high. after.holds v (omega (arith, ints, greatest.other_bound, low)) (omega (arith, ints, cut.up_to, high));
+      from = begin_is leaps rule _ c.start_of-from.result s.from c.max.result moment greatest.value greatest.self_bound after.from;
+      last = end_is leaps rule c.last_instant_up_to.result s.last cut.up_to (instant_bounds s.last end).1 cut.past after.last;
+    })

@@ -1,17 +1,12 @@
 -- Before a truncated start the clock has no type, and none once leap times have left 64 bits.
-use Rattle.std.proofs.Common.{inl, ap, arith, rules, length}
+use Rattle.std.proofs.Common.{inl, rules}
 use Rattle.std.proofs.lemmas.Int.{by_lt_z, to_z-of_z}
 use mir.Syntax.{w64}
 use mir.Val.{SFits}
 use Rattle.tz_zone.specs.ZoneSeen.{zone_seen}
 use Rattle.tz_zone.proofs.SegmentTypes.{match_none, match_at_none, match_some}
-use Rattle.tz_zone.proofs.TypesAtCursors.{no_type_refused, past_from}
+use Rattle.tz_zone.proofs.InstantsWithLeapTime.{no_type_refused, past_from}
 use Rattle.tz_zone.proofs.clock.spans.first_stage.Goals as goal
-
-pub returns-in-Some-clause-none : goal.returns-in-Some-clause-none
-returns-in-Some-clause-none g c = λ none.
-    let lies = match_some c.args.place c.in-Some.place _ _ c.in-Some.is c.requires.place in
-    c.type_before-local_time_type.ensures.first (omega (arith, lies.0, ap length none))
 
 pub returns-in_err-place-clause-stage : goal.returns-in_err-place-clause-stage
 returns-in_err-place-clause-stage g c =

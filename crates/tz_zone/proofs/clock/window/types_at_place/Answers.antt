@@ -43,9 +43,6 @@ returns-then-unix_leap_time-since-clause-types g c =
     let before : h <ℤ next.unix_leap_time = omega (arith, ints, c.if-unix_leap_time-since.true, c.unix_leap_time-since.ensures, to_z-of_z w64 c.unix_leap_time-since.result time, to_z-of_z w64 h h_fits) in
     one_type z c.requires.sound c.args.place low c.args.high h at leap next type c.look-next.ensures.value before is
 
-pub overflow_add-place : goal.overflow_add-place
-overflow_add-place g c = record { fits = omega (arith, c.requires.place, c.len-count.ensures, c.len-count.type_inv) }
-
 pub start_of-unix_time-requires-clause-reached : goal.start_of-unix_time-requires-clause-reached
 start_of-unix_time-requires-clause-reached g c =
     let h = c.in-Some.unix_leap_time in

@@ -4,11 +4,6 @@ use Rattle.tz_zone.proofs.QuestionMarkExits.{exit}
 use Rattle.tz_zone.proofs.TextEnds.{is_over, goes_on}
 use Rattle.tz_zone.proofs.parse.tz_string.read_daylight.Goals as goal
 
-pub returns-in_err-name : goal.returns-in_err-name
-returns-in_err-name c =
-    let fault = c.in_err-name.ensures in
-    exit _ _ c.in_err-name.field-0.0 _ c.from_residual.ensures.1 (λ extended. inl (inl (ap TzString fault.0, fault.1)))
-
 pub returns-then-is_empty : goal.returns-then-is_empty
 returns-then-is_empty c =
     let name = c.in_ok-name in

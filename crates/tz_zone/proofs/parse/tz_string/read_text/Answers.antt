@@ -6,7 +6,7 @@ use Rattle.tz_rule.specs.Alternate.{AlternateTime, IsConsistentRule, IsFirstRule
 use Rattle.tz_zone.specs.TzText.{AlternateText, daylight_offset_of, ut_offset_of}
 use Rattle.tz_zone.proofs.QuestionMarkExits.{exit}
 use Rattle.tz_zone.proofs.TextEnds.{is_over, goes_on}
-use Rattle.tz_zone.proofs.TextAnswers.{bad_name, offset_fails, daylight_fails, rules_fail, whole_text, same_rule_of, same_type_of, passed, offset_passed, week_at_most}
+use Rattle.tz_zone.proofs.TextAnswers.{bad_name, offset_fails, daylight_fails, rules_fail, whole_text, same_rule_of, same_type_of, passed}
 use Rattle.tz_zone.proofs.parse.tz_string.read_text.Goals as goal
 
 pub returns-in_err-std_name : goal.returns-in_err-std_name
@@ -130,27 +130,3 @@ returns-then-is_empty c =
       offset.ensures.1,
       same_type_of c.in_ok-fixed.fixed _ (ut_offset_of offset.std_offset) false name.std_name.now c.in_ok-fixed.ensures.0 (passed c.ut_offset.result _ fits c.ut_offset.ensures.value),
     )
-
-pub named_type-requires : goal.named_type-requires
-named_type-requires c = offset_passed c.ut_offset.result (search rules) c.ut_offset.ensures.range
-
-pub named_type-requires-2 : goal.named_type-requires-2
-named_type-requires-2 c = offset_passed c.ut_offset-2.result (search rules) c.ut_offset-2.ensures.range
-
-pub named_type-requires-3 : goal.named_type-requires-3
-named_type-requires-3 c = offset_passed c.daylight_ut_offset.result (search rules) c.daylight_ut_offset.ensures.range
-
-pub ut_offset-requires : goal.ut_offset-requires
-ut_offset-requires c = c.in_ok-std_offset.ensures.1
-
-pub ut_offset-requires-2 : goal.ut_offset-requires-2
-ut_offset-requires-2 c = c.in_ok-std_offset.ensures.1
-
-pub daylight_ut_offset-requires : goal.daylight_ut_offset-requires
-daylight_ut_offset-requires c = record { std = c.in_ok-std_offset.ensures.1; dst = c.in_ok-dst_name.ensures.1 }
-
-pub total_seconds-start_time-requires : goal.total_seconds-start_time-requires
-total_seconds-start_time-requires c = week_at_most c.args.extended c.in_ok-start.start.time c.in_ok-start.ensures.1.time_is
-
-pub total_seconds-end_time-requires : goal.total_seconds-end_time-requires
-total_seconds-end_time-requires c = week_at_most c.args.extended c.in_ok-start.end.time c.in_ok-start.ensures.2.time_is

@@ -62,11 +62,3 @@ returns-clause-agrees c =
     let fits : SFits w64 c.unix_leap_time-last_time.result = search rules in
     let type = rw (to_z-of_z w64 c.unix_leap_time-last_time.result fits, c.unix_leap_time-last_time.ensures) at c.in_ok-rule_type.ensures.ok in
     agrees_at z (rule_seen c.in-Some.rule) last (ap (option_map rule_seen) c.in-Some.is) is_last c.requires.leap_seconds_are answer type (rw (same_from_test answer stored c.if-ne.ensures) at)
-
-pub returns-clause-answers : goal.returns-clause-answers
-returns-clause-answers c =
-    let z = zone_with c.args.transitions.now c.args.local_time_types.now c.args.leap_seconds.now (lent_rule c.args.extra_rule) in
-    let last = c.in-Some-last.last.now in
-    let fits : SFits w64 c.unix_leap_time-last_time.result = search rules in
-    let type = rw (to_z-of_z w64 c.unix_leap_time-last_time.result fits, c.unix_leap_time-last_time.ensures) at c.in_ok-rule_type.ensures.ok in
-    answers_at z (rule_seen c.in-Some.rule) last (ap (option_map rule_seen) c.in-Some.is) (sym c.in-Some-last.ensures.value) c.in_ok-rule_type.rule_type.now type

@@ -1,5 +1,4 @@
 -- Each transition so far names a type and rises.
-use Rattle.std.proofs.Common.{rules}
 use Rattle.tz_rule.proofs.Below.{below_next}
 use Rattle.tz_zone.proofs.TableChecks.{transitions_from_loop}
 use Rattle.tz_zone.specs.ValidZone.{HasTypeAtPlace, RisesAtPlace}
@@ -10,6 +9,3 @@ loop-i-preserved c = below_next (λ place. HasTypeAtPlace c.args.transitions.now
 
 pub returns-clause-ok : goal.returns-clause-ok
 returns-clause-ok c = transitions_from_loop c.args.transitions.now c.args.types c.loop-i.i c.loop-i-test.false c.loop-i.invariant
-
-pub returns-then-not-rises_at-clause-err : goal.returns-then-not-rises_at-clause-err
-returns-then-not-rises_at-clause-err c = search rules

@@ -12,21 +12,8 @@ same_difference a b c d fa fb ec ed = omega (arith, ints)
 fits_difference : (a b : ℤ) → SFits w32 a → SFits w32 b → SFits w64 (a -ℤ b)
 fits_difference a b fa fb = search rules
 
-at_one : (z : ℤ) → SFits w64 z → of_z w64 z ≡ 1 → MatchBool (eqb (of_z w64 z) 1) (IsOneSecond z) (¬ IsOneSecond z)
-at_one z fits is = grind (arith, ints)
-
 not_at_one : (z : ℤ) → SFits w64 z → ¬ (of_z w64 z ≡ 1) → MatchBool (eqb (of_z w64 z) 18446744073709551615) (IsOneSecond z) (¬ IsOneSecond z)
 not_at_one z fits is = grind (arith, ints)
-
-pub overflow_sub-apart : goal.overflow_sub-apart
-overflow_sub-apart c =
-    let same = same_difference c.args.next c.args.correction c.from.result c.from-2.result c.ranges.next c.ranges.correction c.from.ensures c.from-2.ensures in
-    rw same (fits_difference c.args.next c.args.correction c.ranges.next c.ranges.correction)
-
-pub returns-then-apart-eq1 : goal.returns-then-apart-eq1
-returns-then-apart-eq1 c =
-    let same = same_difference c.args.next c.args.correction c.from.result c.from-2.result c.ranges.next c.ranges.correction c.from.ensures c.from-2.ensures in
-    rw same (at_one (c.args.next -ℤ c.args.correction) (fits_difference c.args.next c.args.correction c.ranges.next c.ranges.correction) (rw same at c.if-apart-eq1.true))
 
 pub returns-else-apart-eq1 : goal.returns-else-apart-eq1
 returns-else-apart-eq1 c =

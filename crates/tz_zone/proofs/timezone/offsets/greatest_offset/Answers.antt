@@ -10,17 +10,6 @@ use Rattle.tz_rule.specs.LocalTimeType.{LocalTimeType}
 use Rattle.tz_zone.proofs.OffsetBounds.{int_max_either}
 use Rattle.tz_zone.proofs.timezone.offsets.greatest_offset.Goals as goal
 
-pub loop-local_time_type-init : goal.loop-local_time_type-init
-loop-local_time_type-init c =
-    let types = c.args.local_time_types.now in
-    let item = c.index-local_time_types-0.result in
-    let at : slice_get types 0 ≡ Some item = slice_get-get_or types 0 item c.requires ∙ ap Some (sym c.index-local_time_types-0.is) in
-    let fits : SFits w32 c.ut_offset-greatest.result = search rules in
-    rw (to_z-of_z w32 c.ut_offset-greatest.result fits) (record {
-      of_type = (0, item, at, c.ut_offset-greatest.ensures.value);
-      greatest = λ i t before at_i. absurd (omega (arith, before));
-    })
-
 pub loop-local_time_type-preserved : goal.loop-local_time_type-preserved
 loop-local_time_type-preserved c =
     let so_far = c.loop-local_time_type.invariant in

@@ -1,7 +1,7 @@
 -- The types of the list and of the rule.
 use Rattle.std.proofs.Common.{◌∙◌, inl, inr, sym, subst, arith, rules, ap, option_map}
 use Rattle.std.proofs.lemmas.Int.{ints, to_z-of_z}
-use Rattle.std.proofs.lemmas.Option.{same_Some, none-some}
+use Rattle.std.proofs.lemmas.Option.{same_Some}
 use mir.Syntax.{w32}
 use mir.Val.{SFits}
 use Rattle.tz_rule.specs.RuleRef.{rule_seen}
@@ -39,20 +39,3 @@ returns-in-Some c =
         ],
       );
     }
-
-pub returns-in-None : goal.returns-in-None
-returns-in-None c =
-    let least = c.least_offset-least in
-    let greatest = c.greatest_offset-greatest in
-    let fits_least : SFits w32 least.result = search rules in
-    let fits_greatest : SFits w32 greatest.result = search rules in
-    rw (to_z-of_z w32 least.result fits_least, to_z-of_z w32 greatest.result fits_greatest) (record {
-      least = (
-        inl least.ensures.of_type,
-        λ o is. elim is [ inl of_type ↦ least.ensures.least o of_type | inr w ↦ absurd (none-some w.0 (sym (ap (option_map rule_seen) c.in-None.is) ∙ w.1)) ],
-      );
-      greatest = (
-        inl greatest.ensures.of_type,
-        λ o is. elim is [ inl of_type ↦ greatest.ensures.greatest o of_type | inr w ↦ absurd (none-some w.0 (sym (ap (option_map rule_seen) c.in-None.is) ∙ w.1)) ],
-      );
-    })

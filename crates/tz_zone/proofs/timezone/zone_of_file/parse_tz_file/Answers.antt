@@ -1,11 +1,11 @@
 -- What the tables and the rule make is the zone of the file, and what they fail to make is a fault of it.
-use Rattle.std.proofs.Common.{◌≡◌, ℕ, Bool, List, Option, refl, subst, ap, ◌∙◌, inl, inr}
+use Rattle.std.proofs.Common.{◌≡◌, refl, subst, ap, ◌∙◌, inl, inr}
 use Rattle.std.specs.Prelude.{option_copied}
 use Rattle.std.proofs.lemmas.Result.{IfErr-weaker, err_from_is_err_and}
 use Rattle.tz_zone.specs.Table.{Zone, zone_with}
 use Rattle.tz_zone.specs.ValidZone.{IsFirstZoneFault}
-use Rattle.tz_zone.specs.TzFile.{Part, IsContent, HoldsLeapSeconds, part_of, footer_of, is_extended, zone_of_part}
-use Rattle.tz_zone.specs.TzFileFault.{ContentFails, ExtraRuleFails, IsReadFault}
+use Rattle.tz_zone.specs.TzFile.{Part, IsContent, HoldsLeapSeconds, part_of, zone_of_part}
+use Rattle.tz_zone.specs.TzFileFault.{ContentFails, IsReadFault}
 use Rattle.tz_zone.specs.TzParts.{part_view}
 use Rattle.tz_zone.specs.ZoneRef.{own_zone_of}
 use Rattle.tz_zone.proofs.TzFileLaws.{zone_of_tables, holds_from_tables, tables_from_holds, rule_of_file, made_is_file}
@@ -66,22 +66,3 @@ returns-clause-ok g c =
     let made : Zone = zone_with tables.transitions.items tables.local_time_types.items tables.leap_seconds.items rule in
     let zone : made ≡ zone_of_part (part_of bytes) rule = zone_of_tables part tables rule c.in_ok-tables.ensures.value ∙ ap (λ (p : Part). zone_of_part p rule) same in
     made_is_file bytes rule made own_zone_of c.from_read_parts.result c.in_ok-frame.ensures.ok content holds of_file zone c.from_read_parts.ensures.parts c.from_read_parts.ensures.ok
-
-pub returns-in_err-frame-clause-err : goal.returns-in_err-frame-clause-err
-returns-in_err-frame-clause-err g c =
-    let p = err_from_is_err_and c.from_residual.result c.from_residual.ensures.1 in
-    rw (p.1, p.2) (inr (inl (c.in_err-frame.field-0.0, refl, c.in_err-frame.ensures.err)))
-
-pub returns-in_err-extra_rule-clause-err : goal.returns-in_err-extra_rule-clause-err
-returns-in_err-extra_rule-clause-err g c =
-    let p = err_from_is_err_and c.from_residual-in_err-extra_rule.result c.from_residual-in_err-extra_rule.ensures.1 in
-    let bytes = c.args.bytes.now in
-    let frame = c.in_ok-frame.frame in
-    let same : part_view frame.part ≡ part_of bytes = c.in_ok-frame.ensures.part in
-    let e = c.in_err-extra_rule.field-0.0 in
-    let extended : c.is_extended.result ≡ is_extended (part_of bytes) = c.is_extended.ensures ∙ ap is_extended same in
-    let fails : ExtraRuleFails c.is_extended.result (footer_of bytes) e = subst (λ (footer : Option (List ℕ)). ExtraRuleFails c.is_extended.result footer e) c.in_ok-frame.ensures.footer c.in_err-extra_rule.ensures.err in
-    rw (p.1, p.2) (inr (inr (inr (inl (c.in_ok-frame.ensures.ok, subst (λ (x : Bool). ExtraRuleFails x (footer_of bytes) e) extended fails)))))
-
-pub read_tables-requires : goal.read_tables-requires
-read_tables-requires g c = c.in_ok-frame.ensures.sizes

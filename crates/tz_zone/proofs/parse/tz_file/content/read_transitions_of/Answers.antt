@@ -6,12 +6,6 @@ use Rattle.tz_zone.proofs.TzOrder.{in_order_none, in_order_more, places_in_order
 use Rattle.tz_zone.proofs.TzTables.{pushed, transitions_none, transitions_more}
 use Rattle.tz_zone.proofs.parse.tz_file.content.read_transitions_of.Goals as goal
 
-pub transition_at-transition-requires : goal.transition_at-transition-requires
-transition_at-transition-requires g c = record { size = c.requires.size; sized = c.requires.sized; within = c.loop-i-test.true }
-
-pub push_reserved-requires : goal.push_reserved-requires
-push_reserved-requires g c = omega (arith, c.loop-i.invariant.len, c.loop-i.invariant.room, c.loop-i-test.true)
-
 pub loop-i-init : goal.loop-i-init
 loop-i-init g c =
     let w = width_of c.args.part.now.size in
@@ -41,11 +35,6 @@ loop-i-preserved g c =
           let told = c.is_in_order-are_in_order.ensures all_in_order in
           in_order_more (change_at w block) c.args.part.now.counts.local_type i c.loop-i.last c.transition_at-transition.result (kept.order told.0) kept.last_is read told.1 told.2;
     }
-
-pub returns-clause-items : goal.returns-clause-items
-returns-clause-items g c =
-    let all : c.loop-i.i ≡ c.args.part.now.counts.transition = omega arith in
-    rw all at c.loop-i.invariant.made
 
 pub returns-clause-order : goal.returns-clause-order
 unfolding transitions_of

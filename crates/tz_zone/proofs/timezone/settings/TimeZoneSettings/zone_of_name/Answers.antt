@@ -1,24 +1,14 @@
 -- A name is looked for in the directories, and any other text is refused at once.
-use Rattle.std.proofs.Common.{refl, inl, inr, Ok, Err}
-use Rattle.std.proofs.lemmas.Bool.{false≢true}
+use Rattle.std.proofs.Common.{refl, inr, Ok, Err}
 use Rattle.std.specs.Fn.{FnReturnsAt}
-use Rattle.tz_base.specs.declared.error.Error.TheVariants.{Tz}
 use Rattle.tz_base.specs.declared.error.ReadFault.TheVariants.{Failed}
-use Rattle.tz_base.specs.declared.error.TzError.TheVariants.{Memory as NoMemory}
 use Rattle.tz_zone.specs.Settings.{FindsIn}
 use Rattle.tz_zone.specs.SettingsParts.{directories_of, reader_of}
 use Rattle.tz_zone.specs.ZoneNames.{IsZoneNameAnswer}
 use Rattle.tz_zone.specs.ZoneRef.{own_zone_of}
 use Rattle.tz_zone.proofs.Directories.{unseen_fault}
-use Rattle.tz_zone.proofs.QuestionMarkExits.{exit}
 use Rattle.tz_zone.proofs.SettingsAnswers.{opened, opened_bytes}
 use Rattle.tz_zone.proofs.timezone.settings.TimeZoneSettings.zone_of_name.Goals as goal
-
-pub find_in_directories-requires : goal.find_in_directories-requires
-find_in_directories-requires g c = λ path is. c.requires path (c.if-not-is_zone_name.ensures.0 refl, is)
-
-pub returns-then-not-is_zone_name : goal.returns-then-not-is_zone_name
-returns-then-not-is_zone_name g c = inr (inl ((λ is. absurd (false≢true (c.if-not-is_zone_name.ensures.1 is))), (c.not_a_name.result, c.not_a_name.ensures, refl)))
 
 pub returns-in-Some : goal.returns-in-Some
 returns-in-Some g c =
@@ -33,6 +23,3 @@ pub returns-in-None : goal.returns-in-None
 returns-in-None g c =
     let missing = rw c.in-None.is at c.in_ok-found.ensures in
     inr (inr (c.if-not-is_zone_name.ensures.0 refl, Err (Failed unseen_fault), missing unseen_fault, (c.no_such_zone.result, c.no_such_zone.ensures, refl)))
-
-pub returns-in_err-found : goal.returns-in_err-found
-returns-in_err-found g c = exit _ _ (Tz (NoMemory c.in_err-found.field-0.0)) _ c.from_residual.ensures.1 (inl refl)

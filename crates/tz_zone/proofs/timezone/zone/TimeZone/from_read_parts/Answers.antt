@@ -1,12 +1,9 @@
 -- A zone is made of its parts.
-use Rattle.std.proofs.Common.{refl, rules}
+use Rattle.std.proofs.Common.{rules}
 use Rattle.std.proofs.lemmas.Int.{to_z-of_z}
 use mir.Syntax.{w32}
 use mir.Val.{SFits}
 use Rattle.tz_zone.proofs.timezone.zone.TimeZone.from_read_parts.Goals as goal
-
-pub returns-clause-parts : goal.returns-clause-parts
-returns-clause-parts g c = refl
 
 pub invariant_of-result-clause-sound : goal.invariant_of-result-clause-sound
 invariant_of-result-clause-sound g c = rw (← c.deref.ensures.value, ← c.deref-2.ensures.value, ← c.deref-3.ensures.value) (rw c.lent.ensures at c.in_ok-check_read_parts.ensures.ok).table

@@ -2,7 +2,6 @@
 use Rattle.std.proofs.Common.{rules}
 use Rattle.std.proofs.lemmas.Int.{to_z-of_z}
 use Rattle.std.proofs.lemmas.List.Elements.{same_from_all_zip}
-use Rattle.std.proofs.lemmas.Result.{err_from_is_err_and}
 use mir.Syntax.{w32}
 use mir.Val.{SFits}
 use Rattle.tz_zone.proofs.timezone.zone.TimeZone.try_clone.Goals as goal
@@ -24,18 +23,3 @@ returns-clause-ok g c =
     let types = same_from_all_zip _ zone.local_time_types.items c.in_ok-local_time_types.local_time_types.items c.in_ok-local_time_types.ensures.cases.0 (λ x y e. e) in
     let leaps = same_from_all_zip _ zone.leap_seconds.items c.in_ok-leap_seconds.leap_seconds.items c.in_ok-leap_seconds.ensures.cases.0 (λ x y e. e) in
     rw (transitions, types, leaps)
-
-pub returns-in_err-transitions-clause-err : goal.returns-in_err-transitions-clause-err
-returns-in_err-transitions-clause-err g c =
-    let p = err_from_is_err_and c.from_residual.result c.from_residual.ensures.1 in
-    rw p.1 p.2
-
-pub returns-in_err-local_time_types-clause-err : goal.returns-in_err-local_time_types-clause-err
-returns-in_err-local_time_types-clause-err g c =
-    let p = err_from_is_err_and c.from_residual-in_err-local_time_types.result c.from_residual-in_err-local_time_types.ensures.1 in
-    rw p.1 p.2
-
-pub returns-in_err-leap_seconds-clause-err : goal.returns-in_err-leap_seconds-clause-err
-returns-in_err-leap_seconds-clause-err g c =
-    let p = err_from_is_err_and c.from_residual-in_err-leap_seconds.result c.from_residual-in_err-leap_seconds.ensures.1 in
-    rw p.1 p.2

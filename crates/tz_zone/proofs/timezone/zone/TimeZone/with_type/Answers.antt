@@ -1,7 +1,6 @@
 -- A zone of one type alone is valid.
 use Rattle.std.proofs.Common.{rules}
 use Rattle.std.proofs.lemmas.Int.{to_z-of_z}
-use Rattle.std.proofs.lemmas.Result.{err_from_is_err_and}
 use mir.Syntax.{w32}
 use mir.Val.{SFits}
 use Rattle.tz_rule.specs.LocalTimeType.{LocalTimeType}
@@ -31,11 +30,3 @@ pub invariant_of-result-clause-offsets : goal.invariant_of-result-clause-offsets
 invariant_of-result-clause-offsets g c =
     let fits : SFits w32 c.ut_offset-ut_offset.result = search rules in
     rw (c.in_ok-local_time_types.ensures.items, to_z-of_z w32 c.ut_offset-ut_offset.result fits, c.ut_offset-ut_offset.ensures.value) (∣ ends_of_type c.args.local_time_type ∣₁)
-
-pub returns-clause-ok : goal.returns-clause-ok
-returns-clause-ok g c = rw (c.new.ensures.items, c.in_ok-local_time_types.ensures.items, c.new-2.ensures.items)
-
-pub returns-in_err-local_time_types-clause-err : goal.returns-in_err-local_time_types-clause-err
-returns-in_err-local_time_types-clause-err g c =
-    let p = err_from_is_err_and c.from_residual.result c.from_residual.ensures.1 in
-    rw p.1 p.2

@@ -6,7 +6,6 @@ use mir.Val.{SFits}
 use Rattle.tz_zone.specs.Changes.{Segment, IsTrueSegment}
 use Rattle.tz_zone.specs.ClockSegments.{IsSegmentAt}
 use Rattle.tz_zone.specs.Table.{Zone}
-use Rattle.tz_zone.specs.TableChanges.{HasTableEnds}
 use Rattle.tz_zone.specs.ZoneViewed.{zone_viewed}
 use Rattle.tz_zone.specs.ZoneSeen.{zone_seen}
 use Rattle.tz_zone.proofs.SegmentTypes.{true_segment}
@@ -23,13 +22,3 @@ returns-clause-segment c =
     let at = subst Seen (ap (λ transitions. zone_seen transitions c.other_parts.result) c.new-view.ensures ∙ c.other_parts.ensures)
     (rw (to_z-of_z w64 u c.ranges.unix_time) at c.clock_segment_at-segment.ensures.at) in
     subst (λ (x : Segment). IsTrueSegment z x) (sym c.new.ensures) (rw (to_z-of_z w64 s.from from, to_z-of_z w64 s.last last) (true_segment z u s at))
-
-pub returns-clause-ends : goal.returns-clause-ends
-returns-clause-ends c =
-    let z = zone_viewed c.args.self.now in
-    let s = c.clock_segment_at-segment.result in
-    let from : SFits w64 s.from = search rules in
-    let last : SFits w64 s.last = search rules in
-    let ends = subst (λ (z : Zone). HasTableEnds z s.from s.last) (ap (λ transitions. zone_seen transitions c.other_parts.result) c.new-view.ensures ∙ c.other_parts.ensures)
-    c.clock_segment_at-segment.ensures.ends in
-    subst (λ (x : Segment). HasTableEnds z x.from x.last) (sym c.new.ensures) (rw (to_z-of_z w64 s.from from, to_z-of_z w64 s.last last) ends)

@@ -1,0 +1,122 @@
+-- Which instants have a leap time, by others that have one, and which leap times are reached there.
+use Rattle.std.proofs.Common.{◌≡◌, ◌≢◌, ℕ, zero, suc, ◌<◌, inl, inr, true, eqb, eqb-true, refl, sym, subst, arith, ℤ, pos, negsuc, ◌≤ℤ◌, ◌<ℤ◌, List, [], length, Option, Some, None, MatchBool}
+use Rattle.std.proofs.Math.Dec.{eqb-suc-zero}
+use Rattle.std.specs.Prelude.{MatchOption}
+use Rattle.std.proofs.lemmas.Int.{ints, by_lt_z}
+use Rattle.std.proofs.lemmas.List.{nil_from_length}
+use Rattle.std.proofs.lemmas.Option.{slice_get_within, none-some}
+use Rattle.tz_rule.specs.LocalTimeType.{LocalTimeType}
+use Rattle.tz_zone.specs.Table.{Transition, LeapSecond, Zone}
+use Rattle.tz_zone.specs.LeapTime.{IsInstant, IsReached, IsBeforeStart, IsLeapTimeRefused, IsLeapTime, IsTimeReached, IsMomentOf}
+use Rattle.tz_zone.specs.Clock.{IsTypeWithout, IsClock, HasNoType}
+use Rattle.tz_zone.specs.ValidZone.{AreLeapSeconds}
+use Rattle.tz_zone.proofs.LeapLists.{count_exists}
+use Rattle.tz_zone.proofs.LeapTimes.{IsLeapTime-from_count, leap_time_from_count, leap_time_fits, leap_time_mono, one_leap_time, past_later, begun_later, not_refused_within, instant_bounds}
+use Rattle.tz_zone.proofs.Clocks.{some_from_last}
+
+-- without leap seconds the leap time is the instant
+pub plain_leap : (leaps : List LeapSecond) → leaps ≡ [] → (u : ℤ) → IsLeapTime leaps u u
+plain_leap leaps none u = subst (λ (ls : List LeapSecond). IsLeapTime ls u u) (sym none) plain
+  where
+    never : (i : ℕ) (l : LeapSecond) → ¬ IsReached [] i l u
+    never i l r = absurd (omega (arith, slice_get_within [] i l r.0))
+
+    not_refused : ¬ IsLeapTimeRefused [] u
+    not_refused (inl (l, (at, other), before)) = none-some l at
+    not_refused (inr (i, l, r, outside)) = never i l r
+
+    plain : IsLeapTime [] u u
+    plain = record { not_refused = not_refused; value = (pos 0, inl (refl, never), omega (arith, ints)) }
+
+-- without leap seconds each leap time is its own moment
+pub plain_moment : (leaps : List LeapSecond) → leaps ≡ [] → (v : ℤ) → negsuc 9223372036854775807 ≤ℤ v → IsMomentOf leaps v v
+plain_moment leaps none v low = record {
+  least = λ w reached. omega (arith, ints, reached.2, one_leap_time leaps w reached.0 w reached.1 (plain_leap leaps none w));
+  reached = λ answered. (v, plain_leap leaps none v, omega (arith, ints));
+  begun = λ before. (plain_leap leaps none v).not_refused (inl before);
+  low = low;
+}
+
+-- the test whether a list is empty
+pub none_if_empty : {X : Type 0} (xs : List X) → true ≡ eqb (length xs) 0 → xs ≡ []
+none_if_empty xs e = nil_from_length xs (eqb-true (length xs) 0 (sym e))
+
+-- a clause on that there are no transitions, or on that there are some, by the test of their number
+pub by_count : (count : ℕ) (transitions : List Transition) → count ≡ length transitions → (P Q R : Type 0) → (transitions ≡ [] → P → R) → (0 < length transitions → Q → R) → MatchBool (eqb count 0) P Q → R
+by_count zero transitions is P Q R empty after types = empty (nil_from_length transitions (sym is)) types
+by_count (suc before) transitions is P Q R empty after types = after (omega (arith, is)) (rw (eqb-suc-zero before) at types)
+
+-- a clause on what an option holds, or on that it holds nothing, from another one
+pub match_weaker : {X : Type 0} (o : Option X) (P P' : Type 0) (Q Q' : X → Type 0) → (P → P') → ((x : X) → Q x → Q' x) → MatchOption o P Q → MatchOption o P' Q'
+match_weaker (Some x) P P' Q Q' none some h = some x h
+match_weaker None P P' Q Q' none some h = none h
+
+module _ (leaps : List LeapSecond) (are : AreLeapSeconds leaps) where
+  pub leap_unless_refused : (u : ℤ) → ¬ IsLeapTimeRefused leaps u → (l : ℤ) × IsLeapTime leaps u l
+  leap_unless_refused u answered =
+      let count = count_exists leaps are u in
+      (_, IsLeapTime-from_count leaps are u count.0 count.1 answered)
+
+  -- the leap time of an instant is one of 64 bits
+  pub leap_time_low : (u l : ℤ) → IsInstant u → IsLeapTime leaps u l → negsuc 9223372036854775807 ≤ℤ l
+  leap_time_low u l fits leap =
+      let count = count_exists leaps are u in
+      let bounds = instant_bounds _ (leap_time_fits leaps are u count.0 count.1 fits leap.not_refused) in
+      omega (arith, ints, bounds.0, leap_time_from_count leaps are u l count.0 count.1 leap)
+
+  pub past_from : (u v : ℤ) → ¬ IsBeforeStart leaps u → IsLeapTimeRefused leaps u → u ≤ℤ v → IsLeapTimeRefused leaps v
+  past_from u v begun (inl before) h = absurd (begun before)
+  past_from u v begun (inr past) h = inr (past_later leaps are u v h past)
+
+  -- between two instants that are not refused none is
+  pub answered_between : (u w v : ℤ) → ¬ IsLeapTimeRefused leaps u → ¬ IsLeapTimeRefused leaps w → u ≤ℤ v → v ≤ℤ w → ¬ IsLeapTimeRefused leaps v
+  answered_between u w v answered there low high (inl before) = begun_later leaps are u v low (λ h. answered (inl h)) before
+  answered_between u w v answered there low high (inr past) = there (inr (past_later leaps are v w high past))
+
+  -- up to the reach of all tables none is, once they have begun
+  pub answered_within : (u v : ℤ) → ¬ IsLeapTimeRefused leaps u → u ≤ℤ v → v ≤ℤ pos 80000000000000000 → ¬ IsLeapTimeRefused leaps v
+  answered_within u v answered low high = not_refused_within leaps are v (begun_later leaps are u v low (λ h. answered (inl h))) high
+
+  -- where a leap time is not reached yet, its moment is later
+  pub moment_ahead : (u v m : ℤ) → ¬ IsLeapTimeRefused leaps u → ¬ IsTimeReached leaps v u → IsMomentOf leaps v m → u <ℤ m
+  moment_ahead u v m answered before moment =
+      let here = leap_unless_refused u answered in
+      by_lt_z u m (λ h. h) (λ h.
+      let at = moment.reached (answered_at u m answered moment h) in
+      let mono = leap_time_mono leaps are m u at.0 here.0 h at.1 here.1 in
+      absurd (before (here.0, here.1, omega (arith, ints, at.2, mono))))
+    where
+      answered_at : (u m : ℤ) → ¬ IsLeapTimeRefused leaps u → IsMomentOf leaps v m → m ≤ℤ u → ¬ IsLeapTimeRefused leaps m
+      answered_at u m answered moment h (inl start) = moment.begun start
+      answered_at u m answered moment h (inr past) = answered (inr (past_later leaps are m u h past))
+
+  module _ (u l : ℤ) (leap : IsLeapTime leaps u l) where
+    -- from a moment up to an instant that has a leap time each one has one
+    pub answered_from_moment : (v m w : ℤ) → IsMomentOf leaps v m → m ≤ℤ w → w ≤ℤ u → ¬ IsLeapTimeRefused leaps w
+    answered_from_moment v m w moment low high (inl before) = begun_later leaps are m w low moment.begun before
+    answered_from_moment v m w moment low high (inr past) = leap.not_refused (inr (past_later leaps are w u high past))
+
+    -- the moment of a leap time that is reached is no later
+    pub moment_up_to : (v m : ℤ) → IsMomentOf leaps v m → v ≤ℤ l → m ≤ℤ u
+    moment_up_to v m moment reached = moment.least u (l, leap, reached)
+
+    -- a leap time that is reached is so from its moment on
+    pub reached_from_moment : (v m w lw : ℤ) → IsMomentOf leaps v m → v ≤ℤ l → m ≤ℤ w → IsLeapTime leaps w lw → v ≤ℤ lw
+    reached_from_moment v m w lw moment reached low leap_w =
+        let up_to = moment_up_to v m moment reached in
+        let at = moment.reached (answered_from_moment v m m moment (omega (arith, ints)) up_to) in
+        let mono = leap_time_mono leaps are m w at.0 lw low at.1 leap_w in
+        omega (arith, ints, at.2, mono)
+
+-- where instants have no leap time, a zone with transitions has no type
+pub no_type_refused : (z : Zone) → z.transitions ≢ [] → (u : ℤ) → IsLeapTimeRefused z.leap_seconds u → HasNoType z u
+no_type_refused z some u refused t (inl (none, type)) = some none
+no_type_refused z some u refused t (inr (last, is_last, (l, leap, side))) = leap.not_refused refused
+
+-- a zone without transitions has its rule's types, or type number 0
+pub clock_without : (z : Zone) → z.transitions ≡ [] → (u : ℤ) (t : LocalTimeType) → (IsTypeWithout z z.extra_rule u t → IsClock z u t) × (IsClock z u t → IsTypeWithout z z.extra_rule u t)
+clock_without z none u t = ((λ type. inl (none, type)), back)
+  where
+    back : IsClock z u t → IsTypeWithout z z.extra_rule u t
+    back (inl (is, type)) = type
+    back (inr (last, is_last, with)) = absurd (some_from_last z.transitions last is_last none)
