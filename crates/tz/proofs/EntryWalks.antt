@@ -13,7 +13,7 @@ use Rattle.tz_zone.specs.Table.{Zone}
 use Rattle.tz_zone.specs.ValidZone.{AreLeapSeconds}
 use Rattle.tz_zone.proofs.Clocks.{clock_unique}
 use Rattle.tz.specs.Entries.{Entry, Shown, Jump, AreEntries, AreEntriesBefore, HasTwoTypes, HoldsAt, IsEarlier, IsEntryIn, IsEntryOf, IsGiven, instant_of, lent_type}
-use Rattle.tz.specs.Found.{Clock, PassesOver}
+use Rattle.tz.specs.Found.{Clock, IsJumpOver, PassesOver}
 
 -- the offsets of all types that a clock has, such as a reading's window has them
 abbrev pub AreOffsetsAround : Clock → ℤ → ℤ → ℤ → Type 0
@@ -36,33 +36,31 @@ module _ (r : ℤ) (before : Option LocalTimeType) (since : ℤ) (type : Option 
   pub given_shown : (t : LocalTimeType) (u : ℤ) → type ≡ Some t → u ≡ r -ℤ t.ut_offset → since ≤ℤ u → u ≤ℤ last → IsEntryOf r before since type last (Shown u t)
   given_shown t u is at from to = (is, (from, to), omega (arith, ints, at))
 
-  pub given_jump : (s t : LocalTimeType) (u v : ℤ) → before ≡ Some s → type ≡ Some t → u ≡ r -ℤ s.ut_offset → v ≡ r -ℤ t.ut_offset → v <ℤ since → since ≤ℤ u → IsEntryOf r before since type last (Jump since s t)
-  given_jump s t u v was is at_u at_v late early = (refl, was, is, omega (arith, ints, at_u, early), omega (arith, ints, at_v, late))
-
   pub none_without : type ≡ None → (e : Entry) → ¬ IsEntryOf r before since type last e
   none_without none (Shown u t) (is, within, shown) = none-some t (sym none ∙ is)
-  none_without none (Jump u a b) (at, was, is, low, high) = none-some b (sym none ∙ is)
+  none_without none (Jump u a b) (at, was, is, (low, high)) = none-some b (sym none ∙ is)
 
   pub none_late : (t : LocalTimeType) (u : ℤ) → type ≡ Some t → u ≡ r -ℤ t.ut_offset → since ≤ℤ u → last <ℤ u → (e : Entry) → ¬ IsEntryOf r before since type last e
   none_late t u is at from late (Shown v s) (type_is, within, shown) = absurd (omega (arith, ints, at, late, shown, within.1, same_offset type t s is type_is))
-  none_late t u is at from late (Jump v a b) (here, was, type_is, low, high) = absurd (omega (arith, ints, at, from, here, high, same_offset type t b is type_is))
+  none_late t u is at from late (Jump v a b) (here, was, type_is, (low, high)) = absurd (omega (arith, ints, at, from, here, high, same_offset type t b is type_is))
 
   pub none_first : (t : LocalTimeType) (u : ℤ) → before ≡ None → type ≡ Some t → u ≡ r -ℤ t.ut_offset → u <ℤ since → (e : Entry) → ¬ IsEntryOf r before since type last e
   none_first t u none is at early (Shown v s) (type_is, within, shown) = absurd (omega (arith, ints, at, early, shown, within.0, same_offset type t s is type_is))
-  none_first t u none is at early (Jump v a b) (here, was, type_is, low, high) = none-some a (sym none ∙ was)
+  none_first t u none is at early (Jump v a b) (here, was, type_is, (low, high)) = none-some a (sym none ∙ was)
 
-  pub none_over : (s t : LocalTimeType) (u v : ℤ) → before ≡ Some s → type ≡ Some t → u ≡ r -ℤ s.ut_offset → v ≡ r -ℤ t.ut_offset → v <ℤ since → u <ℤ since → (e : Entry) → ¬ IsEntryOf r before since type last e
-  none_over s t u v was is at_u at_v early over (Shown w x) (type_is, within, shown) = absurd (omega (arith, ints, at_v, early, shown, within.0, same_offset type t x is type_is))
-  none_over s t u v was is at_u at_v early over (Jump w a b) (here, was', type_is, low, high) = absurd (omega (arith, ints, at_u, over, here, low, same_offset before s a was was'))
+  pub none_beside : (s t : LocalTimeType) (v : ℤ) → before ≡ Some s → type ≡ Some t → v ≡ r -ℤ t.ut_offset → v <ℤ since → ¬ IsJumpOver r since s t → (e : Entry) → ¬ IsEntryOf r before since type last e
+  none_beside s t v was is at_v early not_over (Shown w x) (type_is, within, shown) = absurd (omega (arith, ints, at_v, early, shown, within.0, same_offset type t x is type_is))
+  none_beside s t v was is at_v early not_over (Jump w a b) (here, was', type_is, over) =
+      absurd (not_over (omega (arith, ints, here, over.0, same_offset before s a was was'), omega (arith, ints, here, over.1, same_offset type t b is type_is)))
 
   -- it is one entry at most
   entry_unique : (e g : Entry) → IsEntryOf r before since type last e → IsEntryOf r before since type last g → e ≡ g
   entry_unique (Shown u t) (Shown v s) (is, within, shown) (is', within', shown') =
       let at : u ≡ v = omega (arith, ints, same_offset type t s is is', shown, shown') in
       ap (λ w. Shown w t) at ∙ ap (λ x. Shown v x) (same_Some t s (sym is ∙ is'))
-  entry_unique (Shown u t) (Jump v a b) (is, within, shown) (at, was, is', low, high) = absurd (omega (arith, ints, same_offset type t b is is', shown, within.0, at, high))
-  entry_unique (Jump v a b) (Shown u t) (at, was, is', low, high) (is, within, shown) = absurd (omega (arith, ints, same_offset type t b is is', shown, within.0, at, high))
-  entry_unique (Jump u a b) (Jump v a' b') (at, was, is, low, high) (at', was', is', low', high') =
+  entry_unique (Shown u t) (Jump v a b) (is, within, shown) (at, was, is', (low, high)) = absurd (omega (arith, ints, same_offset type t b is is', shown, within.0, at, high))
+  entry_unique (Jump v a b) (Shown u t) (at, was, is', (low, high)) (is, within, shown) = absurd (omega (arith, ints, same_offset type t b is is', shown, within.0, at, high))
+  entry_unique (Jump u a b) (Jump v a' b') (at, was, is, (low, high)) (at', was', is', (low', high')) =
       ap (λ w. Jump w a b) (at ∙ sym at') ∙ ap (λ s. Jump v s b) (same_Some a a' (sym was ∙ was')) ∙ ap (λ s. Jump v a' s) (same_Some b b' (sym is ∙ is'))
 
 module _ (clock : Clock) (low high r : ℤ) (offsets : AreOffsetsAround clock low high r) where
@@ -72,10 +70,10 @@ module _ (clock : Clock) (low high r : ℤ) (offsets : AreOffsetsAround clock lo
   in_window (Jump u a b) passes =
       let first = offsets (u -ℤ pos 1) a passes.0 in
       let second = offsets u b passes.1 in
-      (omega (arith, ints, passes.3, second.1), omega (arith, ints, passes.2, first.0))
+      (omega (arith, ints, passes.2.1, second.1), omega (arith, ints, passes.2.0, first.0))
 
   jump_in_window : (u : ℤ) (a b : LocalTimeType) → PassesOver clock r u a b → low <ℤ u
-  jump_in_window u a b passes = omega (arith, ints, passes.3, (offsets u b passes.1).1)
+  jump_in_window u a b passes = omega (arith, ints, passes.2.1, (offsets u b passes.1).1)
 
   -- before the window there is none
   pub entries_at_first : AreEntriesBefore clock r low []
@@ -111,7 +109,7 @@ module _ (clock : Clock) (low high r : ℤ) (offsets : AreOffsetsAround clock lo
     -- an entry of it is one of the clock
     pub entry_in : (e : Entry) → IsEntryOf r before since type last e → IsEntryIn clock r e × (since ≤ℤ instant_of e) × (instant_of e ≤ℤ last)
     entry_in (Shown u t) (is, within, shown) = (((holds u within.0 within.1 t).1 is, shown), within.0, within.1)
-    entry_in (Jump u a b) (at, was, is, first, second) =
+    entry_in (Jump u a b) (at, was, is, over) =
         let from : since ≤ℤ u = omega (arith, ints, at) in
         let to : u ≤ℤ last = omega (arith, ints, at, some) in
         let after = (holds u from to b).1 is in
@@ -119,7 +117,7 @@ module _ (clock : Clock) (low high r : ℤ) (offsets : AreOffsetsAround clock lo
           | inl begins ↦ absurd (none-some a (sym begins.1 ∙ was))
           | inr goes_on ↦
               let here : since -ℤ pos 1 ≡ u -ℤ pos 1 = omega (arith, ints, at) in
-              ((subst (λ v. clock v a) here ((goes_on a).1 was), after, first, second), from, to)
+              ((subst (λ v. clock v a) here ((goes_on a).1 was), after, over), from, to)
         ]
 
     -- and the other way round
@@ -130,14 +128,14 @@ module _ (clock : Clock) (low high r : ℤ) (offsets : AreOffsetsAround clock lo
         by_lt_z since u
         (λ later.
         let was = (holds (u -ℤ pos 1) (omega (arith, ints, later)) (omega (arith, ints, to)) a).0 passes.0 in
-        absurd (omega (arith, ints, passes.2, passes.3, same_offset type a b was is)))
+        absurd (omega (arith, ints, passes.2.0, passes.2.1, same_offset type a b was is)))
         (λ not_later.
         let at : u ≡ since = omega (arith, ints, not_later, from) in
         elim just [
           | inl begins ↦ absurd (omega (arith, ints, begins.0, at, jump_in_window u a b passes))
           | inr goes_on ↦
               let here : u -ℤ pos 1 ≡ since -ℤ pos 1 = omega (arith, ints, at) in
-              (at, (goes_on a).0 (subst (λ v. clock v a) here passes.0), is, passes.2, passes.3)
+              (at, (goes_on a).0 (subst (λ v. clock v a) here passes.0), is, passes.2)
         ])
 
     -- all entries before the span, and its own entry, are all before its end

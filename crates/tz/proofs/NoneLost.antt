@@ -34,7 +34,7 @@ module _ (clock : Clock) (r low high : ℤ) (has : (u : ℤ) → low ≤ℤ u �
       by_lt_z r (u +ℤ pos 1 +ℤ next.0.ut_offset)
       (λ over.
       let same : u ≡ (u +ℤ pos 1) -ℤ pos 1 = omega (arith, ints) in
-      inr (u +ℤ pos 1, t, next.0, (subst (λ v. clock v t) same holds, next.1, omega (arith, ints, before), over)))
+      inr (u +ℤ pos 1, t, next.0, (subst (λ v. clock v t) same holds, next.1, (omega (arith, ints, before), over))))
       (λ not_over. met_from n (u +ℤ pos 1) next.0 (omega (arith, ints, end)) (omega (arith, ints, from)) next.1 not_over))
       (λ reached. inl (u, t, (holds, omega (arith, ints, below, reached))))
 

@@ -78,14 +78,14 @@ each_can_be_made z least greatest offsets width f valid promised (Normal d) by =
 each_can_be_made z least greatest offsets width f valid (inl far) (Skipped x y) (u, a, b, passes, shown_x, shown_y) =
     let before = offsets (u -ℤ pos 1) a passes.0 in
     let after = offsets u b passes.1 in (
-      subst IsReading (sym shown_x.civil.reads) (far_from_ends f valid far (u +ℤ a.ut_offset) (omega (arith, ints, passes.3, before.0, after.1, width)) (omega (arith, ints, passes.2))),
-      subst IsReading (sym shown_y.civil.reads) (far_from_ends f valid far (u +ℤ b.ut_offset) (omega (arith, ints, passes.3)) (omega (arith, ints, passes.2, before.0, after.1, width))),
+      subst IsReading (sym shown_x.civil.reads) (far_from_ends f valid far (u +ℤ a.ut_offset) (omega (arith, ints, passes.2.1, before.0, after.1, width)) (omega (arith, ints, passes.2.0))),
+      subst IsReading (sym shown_y.civil.reads) (far_from_ends f valid far (u +ℤ b.ut_offset) (omega (arith, ints, passes.2.1)) (omega (arith, ints, passes.2.0, before.0, after.1, width))),
     )
 each_can_be_made z least greatest offsets width f valid (inr (inside, plain)) (Skipped x y) (u, a, b, passes, shown_x, shown_y) =
     let before = plain_offsets z plain (u -ℤ pos 1) a passes.0 in
     let after = plain_offsets z plain u b passes.1 in (
-      subst IsReading (sym shown_x.civil.reads) (inside_ends f valid inside (u +ℤ a.ut_offset) (omega (arith, ints, passes.3, before.0, after.1)) (omega (arith, ints, passes.2))),
-      subst IsReading (sym shown_y.civil.reads) (inside_ends f valid inside (u +ℤ b.ut_offset) (omega (arith, ints, passes.3)) (omega (arith, ints, passes.2, before.0, after.1))),
+      subst IsReading (sym shown_x.civil.reads) (inside_ends f valid inside (u +ℤ a.ut_offset) (omega (arith, ints, passes.2.1, before.0, after.1)) (omega (arith, ints, passes.2.0))),
+      subst IsReading (sym shown_y.civil.reads) (inside_ends f valid inside (u +ℤ b.ut_offset) (omega (arith, ints, passes.2.1)) (omega (arith, ints, passes.2.0, before.0, after.1))),
     )
 
 -- and if each can be made, the search is not refused as out of range

@@ -8,7 +8,7 @@ use Rattle.tz_rule.specs.LocalTimeType.{LocalTimeType}
 use Rattle.tz_zone.specs.Clock.{IsClock}
 use Rattle.tz_zone.specs.Table.{Zone}
 use Rattle.tz_zone.specs.ValidZone.{AreLeapSeconds}
-use Rattle.tz.specs.Found.{Clock, Shows, PassesOver}
+use Rattle.tz.specs.Found.{Clock, IsJumpOver, Shows, PassesOver}
 use Rattle.tz.specs.Reached.{AreOffsetsOf}
 
 -- an instant with the type that shows the reading there, or the instant of a jump with the types before and after it
@@ -80,8 +80,7 @@ lent_type type = option_map (λ t. t.now) type
 -- what a reading has in a span of time throughout which a clock has one type, or none, by the type just before it
 abbrev pub IsEntryOf : ℤ → Option LocalTimeType → ℤ → Option LocalTimeType → ℤ → Entry → Type 0
 IsEntryOf r before since type last (Shown u t) = (type ≡ Some t) × ((since ≤ℤ u) × (u ≤ℤ last)) × ((u +ℤ t.ut_offset) ≡ r)
-IsEntryOf r before since type last (Jump u a b) =
-    (u ≡ since) × (before ≡ Some a) × (type ≡ Some b) × ((u +ℤ a.ut_offset) ≤ℤ r) × (r <ℤ (u +ℤ b.ut_offset))
+IsEntryOf r before since type last (Jump u a b) = (u ≡ since) × (before ≡ Some a) × (type ≡ Some b) × IsJumpOver r u a b
 
 -- its entry, or nothing
 abbrev pub IsGiven : ℤ → Option LocalTimeType → ℤ → Option LocalTimeType → ℤ → List Entry → Type 0

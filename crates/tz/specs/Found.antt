@@ -29,10 +29,13 @@ Clock = ℤ → LocalTimeType → Type 0
 abbrev pub Shows : Clock → ℤ → ℤ → LocalTimeType → Type 0
 Shows clock r u t = clock u t × ((u +ℤ t.ut_offset) ≡ r)
 
+-- clocks that change at u from one type to another are set forward over the reading
+abbrev pub IsJumpOver : ℤ → ℤ → LocalTimeType → LocalTimeType → Type 0
+IsJumpOver r u before after = ((u +ℤ before.ut_offset) ≤ℤ r) × (r <ℤ (u +ℤ after.ut_offset))
+
 -- the clock passes over the reading at u: the types before u and at u make a forward jump over it
 abbrev pub PassesOver : Clock → ℤ → ℤ → LocalTimeType → LocalTimeType → Type 0
-PassesOver clock r u before after =
-    clock (u -ℤ pos 1) before × clock u after × ((u +ℤ before.ut_offset) ≤ℤ r) × (r <ℤ (u +ℤ after.ut_offset))
+PassesOver clock r u before after = clock (u -ℤ pos 1) before × clock u after × IsJumpOver r u before after
 
 -- the clock shows the fields, or it passes over them and the sides of the jump are its instant in both types
 abbrev pub IsFoundBy : Clock → Fields → FoundDateTimeKind → Type 0

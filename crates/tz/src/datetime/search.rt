@@ -1,6 +1,6 @@
 //! The search for a reading in the clock of a zone: in its window, the instants among which it finds all that the reading means.
 
-ghost use Rattle.std.specs.Prelude.{◌≡◌, ◌+◌, ◌*◌, ◌^◌, ◌<◌, ◌≤◌, ℕ, ℤ, pos, List, ◌+ℤ◌, ◌-ℤ◌, ◌≤ℤ◌, ◌<ℤ◌, OnOk, IfErr, length};
+ghost use Rattle.std.specs.Prelude.{◌≡◌, ◌+◌, ◌*◌, ◌^◌, ◌<◌, ◌≤◌, ℕ, ℤ, pos, List, ◌+ℤ◌, ◌-ℤ◌, ◌≤ℤ◌, ◌<ℤ◌, OnOk, IfErr, MatchBool, length};
 ghost use Rattle.tz_base.specs.Fields.{IsValid, reading as reading_of};
 ghost use Rattle.tz_zone.specs.Table.{Zone};
 ghost use Rattle.tz_zone.specs.Clock.{IsClock};
@@ -11,7 +11,7 @@ ghost use Rattle.tz_zone.specs.ZoneRef.{zone_of};
 ghost use Rattle.tz_zone.specs.ZoneSeen.{zone_seen};
 ghost use Rattle.tz.specs.Entries.{Entry, AreEntries, Finds, HasTwoTypes, IsEntryIn, IsGiven, IsGivenFault, IsRefused, IsTaker, lent_type};
 ghost use Rattle.tz.specs.FindFaults.{IsSearchFault};
-ghost use Rattle.tz.specs.Found.{EachCanBeMade, IsFound};
+ghost use Rattle.tz.specs.Found.{EachCanBeMade, IsFound, IsJumpOver};
 ghost use Rattle.tz.specs.Reached.{AreOffsetsOf};
 ghost use Rattle.tz.specs.Windows.{AtMostTakeEffectIn, AtMostTakeEffectAround, IsSearchable, IsSmall, first_looks};
 ghost use Rattle.tz.specs.declared.datetime.found.FoundDateTimeKind.{FoundDateTimeKind};
@@ -34,6 +34,15 @@ fn shown_at(reading: i64, local_time_type: &LocalTimeType) -> i64
     ensures { result ≡ reading -ℤ local_time_type.now.ut_offset }
 {
     reading - i64::from(local_time_type.ut_offset())
+}
+
+/// Whether clocks that change at an instant from one type to another are set forward over a reading.
+#[inline(always)]
+fn passes_over(reading: i64, unix_time: i64, before: &LocalTimeType, after: &LocalTimeType) -> bool
+    requires { IsSmall reading }
+    ensures { MatchBool result (IsJumpOver reading unix_time before.now after.now) (¬ IsJumpOver reading unix_time before.now after.now) }
+{
+    shown_at(reading, after) < unix_time && unix_time <= shown_at(reading, before)
 }
 
 /// Gives what a reading has in a span of time throughout which the clock has one type, or none, by the type before it.
@@ -66,18 +75,19 @@ fn give<'a, E: Entries<'a>>(
     let Some(before) = before else {
         return Ok(());
     };
-    if since <= shown_at(reading, before) {
-        return entries.skipped(since, before, after);
+    if passes_over(reading, since, before, after) {
+        entries.skipped(since, before, after)
+    } else {
+        Ok(())
     }
-    Ok(())
 }
 
-/// Gives what a reading has in its window if the clock has one type up to a jump, and another from there on.
+/// Gives what a reading has in its window if the clock has one type before an instant, and another from there on.
 #[inline(always)]
 fn give_around<'a, E: Entries<'a>>(
     entries: &mut E,
     reading: i64,
-    jump: i64,
+    since: i64,
     before: &'a LocalTimeType,
     after: &'a LocalTimeType,
 ) -> Result<(), TzError>
@@ -85,23 +95,23 @@ fn give_around<'a, E: Entries<'a>>(
     requires taker { IsTaker E.gains E.takes }
     requires takes { E.takes entries.old reading }
     ensures ok { OnOk result ((es : List Entry) × E.gains entries.old entries.new es
-        × ((z : Zone) → HasTwoTypes z reading jump before.entry.now after.entry.now → AreEntries (IsClock z) reading es)) }
+        × ((z : Zone) → HasTwoTypes z reading since before.entry.now after.entry.now → AreEntries (IsClock z) reading es)) }
     ensures err { IfErr result (λ e. (entry : Entry) × E.refuses e entry
-        × ((z : Zone) → HasTwoTypes z reading jump before.entry.now after.entry.now → IsEntryIn (IsClock z) reading entry)) }
+        × ((z : Zone) → HasTwoTypes z reading since before.entry.now after.entry.now → IsEntryIn (IsClock z) reading entry)) }
 {
     let (first, second) = (shown_at(reading, before), shown_at(reading, after));
-    if first < jump {
-        entries.shown(first, before)?;
-        return if jump <= second {
-            entries.shown(second, after)
-        } else {
-            Ok(())
-        };
+    if passes_over(reading, since, before, after) {
+        return entries.skipped(since, before, after);
     }
-    if second < jump {
-        return entries.skipped(jump, before, after);
+    if since <= first {
+        return entries.shown(second, after);
     }
-    entries.shown(second, after)
+    entries.shown(first, before)?;
+    if since <= second {
+        entries.shown(second, after)
+    } else {
+        Ok(())
+    }
 }
 
 /// Gives all that a reading has in its window, in order, by the spans of the clock from the place on at which the window begins.

@@ -15,9 +15,9 @@ ghost use Rattle.tz_zone.specs.ValidZone.{AreLeapSeconds, IsSoundTable};
 ghost use Rattle.tz_zone.specs.ZoneSeen.{zone_seen};
 
 use super::change::{Change, change_at};
+use super::changes_by_rule::following_by_rule;
 use super::near::{is_after_all, place_near, place_of};
 use super::place::{type_at, type_before, type_of};
-use super::changes_by_rule::following_by_rule;
 use crate::effect::moment;
 use crate::leap_time::{first_instant, has_begun, last_instant_up_to, shifted};
 use crate::table::{LeapSecond, OtherParts, Transition, Uncounted};

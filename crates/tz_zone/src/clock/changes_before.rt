@@ -14,9 +14,9 @@ ghost use Rattle.tz_zone.specs.ValidZone.{AreLeapSeconds, IsSoundTable};
 ghost use Rattle.tz_zone.specs.ZoneSeen.{zone_seen};
 
 use super::change::{Change, change_at};
+use super::changes_by_rule::preceding_by_rule;
 use super::near::{is_after_all, place_of};
 use super::place::{type_at, type_before, type_of};
-use super::changes_by_rule::preceding_by_rule;
 use crate::effect::start_of;
 use crate::leap_time::last_instant_up_to;
 use crate::table::{LeapSecond, OtherParts, Transition, Uncounted};

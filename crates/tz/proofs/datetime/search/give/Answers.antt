@@ -3,7 +3,7 @@ use Rattle.std.proofs.Common.{[], inl, refl, ap, arith, rules, ◌≤ℤ◌, ◌
 use Rattle.std.proofs.lemmas.Int.{ints, to_z-of_z}
 use mir.Syntax.{w64}
 use Rattle.tz.specs.Entries.{lent_type}
-use Rattle.tz.proofs.EntryWalks.{none_first, none_late, none_over}
+use Rattle.tz.proofs.EntryWalks.{none_beside, none_first, none_late}
 use Rattle.tz.proofs.datetime.search.give.Goals as goal
 
 pub returns-else-unix_time-last-clause-ok : goal.returns-else-unix_time-last-clause-ok
@@ -25,14 +25,12 @@ returns-in_default-before-clause-ok g c =
     let none = none_first c.args.reading (lent_type c.args.before) c.args.since (lent_type c.args.local_time_type) c.args.last c.in-Some.after.now u (ap lent_type c.in_default-before.is) (ap lent_type c.in-Some.is) at early in
     ([], c.requires.taker.none c.args.entries.now, inl (refl, none))
 
-pub returns-clause-ok : goal.returns-clause-ok
-returns-clause-ok g c =
-    let u = c.shown_at.result in
+pub returns-else-passes_over-clause-ok : goal.returns-else-passes_over-clause-ok
+returns-else-passes_over-clause-ok g c =
     let v = c.shown_at-unix_time.result in
     let reading_is = to_z-of_z w64 c.args.reading c.ranges.reading in
     let since_is = to_z-of_z w64 c.args.since c.ranges.since in
     let early : v <ℤ c.args.since = omega (arith, ints, c.if-since-unix_time.false, since_is, to_z-of_z w64 v (search rules)) in
-    let over : u <ℤ c.args.since = omega (arith, ints, c.if-since-shown_at.false, since_is, to_z-of_z w64 u (search rules)) in
-    let none = none_over c.args.reading (lent_type c.args.before) c.args.since (lent_type c.args.local_time_type) c.args.last c.in-Some-before.before.now c.in-Some.after.now u v (ap lent_type c.in-Some-before.is) (ap lent_type c.in-Some.is)
-    (rw reading_is at c.shown_at.ensures) (rw reading_is at c.shown_at-unix_time.ensures) early over in
+    let none = none_beside c.args.reading (lent_type c.args.before) c.args.since (lent_type c.args.local_time_type) c.args.last c.in-Some-before.before.now c.in-Some.after.now v (ap lent_type c.in-Some-before.is) (ap lent_type c.in-Some.is)
+    (rw reading_is at c.shown_at-unix_time.ensures) early (rw (reading_is, since_is) at c.if-passes_over.ensures) in
     ([], c.requires.taker.none c.args.entries.now, inl (refl, none))
