@@ -4,7 +4,7 @@ ghost use Rattle.std.specs.Prelude.{◌≡◌, ◌≤◌, ◌≤ℤ◌, ℕ, Lis
 ghost use Rattle.tz_zone.specs.ZoneRef.{zone_of};
 ghost use Rattle.tz_query.specs.Answers.{AreAnswers};
 
-use super::line_meaning::Meaning;
+use super::line_meaning::LineMeaning;
 use super::lines::{Query, after_line, read_query, read_usual_search_line, read_usual_time_line};
 use super::nanoseconds::Nanoseconds;
 use super::output::Output;
@@ -111,14 +111,14 @@ impl<'a, A: Allocator + Copy> Answers<'a, A> {
 
     /// What a reading means to the zone's clock, by a search in its window.
     #[inline(always)]
-    pub fn meaning(&mut self, reading: i64, low: i64, high: i64) -> Meaning<'a>
+    pub fn meaning(&mut self, reading: i64, low: i64, high: i64) -> LineMeaning<'a>
         requires searchable { IsSearchable (zone_of self.old.zone) reading low high }
         requires sound { IsSound self.old }
         ensures means { (es : List Entry) × AreEntries (IsClock (zone_of self.old.zone)) reading es × IsMeaningOf es result }
         ensures kept { Leaves self.old self.new }
     {
         self.keep_if_near(low);
-        let mut meaning = Meaning::Nothing;
+        let mut meaning = LineMeaning::Nothing;
         match search_zone(&mut meaning, reading, self.zone, low, high) {
             Ok(()) => meaning,
             // It takes any entry.

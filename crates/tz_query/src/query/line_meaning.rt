@@ -5,7 +5,7 @@ use tz::{LocalTimeType, TzError};
 
 /// What a local time means to the clock of a zone.
 #[derive(Clone, Copy)]
-pub enum Meaning<'a> {
+pub enum LineMeaning<'a> {
     /// The clock neither shows it nor is set forward over it.
     Nothing,
     /// The clock shows it once, in this type.
@@ -18,7 +18,7 @@ pub enum Meaning<'a> {
     More,
 }
 
-impl<'a> Entries<'a> for Meaning<'a> {
+impl<'a> Entries<'a> for LineMeaning<'a> {
     ghost use Rattle.std.specs.Prelude.{⊤};
     ghost use Rattle.tz_query.specs.LineMeanings.{MeansMore};
 
@@ -35,9 +35,9 @@ impl<'a> Entries<'a> for Meaning<'a> {
         local_time_type: &'a LocalTimeType,
     ) -> Result<(), TzError> {
         *self = match *self {
-            Meaning::Nothing => Meaning::Once(local_time_type),
-            Meaning::Once(before) => Meaning::Twice(before, local_time_type),
-            _ => Meaning::More,
+            LineMeaning::Nothing => LineMeaning::Once(local_time_type),
+            LineMeaning::Once(before) => LineMeaning::Twice(before, local_time_type),
+            _ => LineMeaning::More,
         };
         Ok(())
     }
@@ -50,8 +50,8 @@ impl<'a> Entries<'a> for Meaning<'a> {
         after: &'a LocalTimeType,
     ) -> Result<(), TzError> {
         *self = match *self {
-            Meaning::Nothing => Meaning::Skipped(unix_time, before, after),
-            _ => Meaning::More,
+            LineMeaning::Nothing => LineMeaning::Skipped(unix_time, before, after),
+            _ => LineMeaning::More,
         };
         Ok(())
     }

@@ -5,7 +5,7 @@ ghost use Rattle.std.specs.List.{All};
 
 use super::answers::Answers;
 use super::error_names::field_fault_name;
-use super::line_meaning::Meaning;
+use super::line_meaning::LineMeaning;
 use super::nanoseconds::Nanoseconds;
 use super::output::Output;
 use super::suffixes::Suffix;
@@ -223,22 +223,22 @@ impl<'a, A: Allocator + Copy> Answers<'a, A> {
         &mut self,
         fields: &Fields,
         nanoseconds: &Nanoseconds,
-        meaning: &Meaning<'a>,
+        meaning: &LineMeaning<'a>,
     ) -> Result<(), AllocError>
         requires valid { IsValid fields.now }
         requires means { (es : List Entry) × AreEntries (IsClock (zone_of self.old.zone)) (reading_of fields.now) es × IsMeaningOf es meaning.now }
         ensures { IfOk result (λ _. IsAnswered (Search (with_nanoseconds fields.now nanoseconds.now)) self.old self.new) }
     {
         match *meaning {
-            Meaning::Nothing => self.output.push_count(b'F', 0),
-            Meaning::Once(local_time_type) => {
+            LineMeaning::Nothing => self.output.push_count(b'F', 0),
+            LineMeaning::Once(local_time_type) => {
                 self.push_shown(b"F 1\nN ", fields, local_time_type, nanoseconds)
             }
-            Meaning::Twice(before, after) => self.push_twice(fields, nanoseconds, before, after),
-            Meaning::Skipped(unix_time, before, after) => {
+            LineMeaning::Twice(first, last) => self.push_twice(fields, nanoseconds, first, last),
+            LineMeaning::Skipped(unix_time, before, after) => {
                 self.push_jump(fields, nanoseconds, unix_time, before, after)
             }
-            Meaning::More => self.answer_by_search(fields, nanoseconds),
+            LineMeaning::More => self.answer_by_search(fields, nanoseconds),
         }
     }
 
@@ -259,7 +259,7 @@ impl<'a, A: Allocator + Copy> Answers<'a, A> {
         ensures { IfOk result (λ _. IsAnswered (Search (with_nanoseconds fields.now nanoseconds.now)) self.old self.new) }
     {
         let meaning = self.meaning(reading, low, high);
-        if let Meaning::Once(local_time_type) = meaning {
+        if let LineMeaning::Once(local_time_type) = meaning {
             return self.push_shown(b"F 1\nN ", fields, local_time_type, nanoseconds);
         }
         self.answer_meaning(fields, nanoseconds, &meaning)
