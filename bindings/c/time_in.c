@@ -1,4 +1,4 @@
-/* Prints the time that clocks show in the zone of a TZif file: time_in /usr/share/zoneinfo/Europe/Paris */
+/* Prints the time that clocks show in a zone of the machine, or in that of a TZif file: time_in Europe/Paris, or time_in /etc/localtime */
 #include "tz.h"
 
 #include <stdio.h>
@@ -7,9 +7,12 @@
 
 int main(int argc, char **argv) {
   static uint8_t bytes[65536];
-  if (argc != 2) return fprintf(stderr, "usage: time_in FILE\n"), 2;
-  FILE *file = fopen(argv[1], "rb");
-  if (file == NULL) return perror(argv[1]), 1;
+  char path[256];
+  if (argc != 2) return fprintf(stderr, "usage: time_in NAME\n"), 2;
+  int path_length = snprintf(path, sizeof path, "%s%s", argv[1][0] == '/' ? "" : "/usr/share/zoneinfo/", argv[1]);
+  if (path_length < 0 || (size_t)path_length >= sizeof path) return fprintf(stderr, "too long a name\n"), 2;
+  FILE *file = fopen(path, "rb");
+  if (file == NULL) return perror(path), 1;
   size_t length = fread(bytes, 1, sizeof bytes, file); /* a longer file is cut, and refused */
   fclose(file);
 
