@@ -2,9 +2,6 @@
 use Rattle.std.proofs.Common.{refl}
 use Rattle.tz_query.proofs.query.error_names.fault_name.Goals as goal
 
-pub returns-in-OutOfRange-clause-text : goal.returns-in-OutOfRange-clause-text
-returns-in-OutOfRange-clause-text c = rw c.in-OutOfRange.is refl
-
 pub returns-in-NoAvailableLocalTimeType-clause-text :
     goal.returns-in-NoAvailableLocalTimeType-clause-text
 returns-in-NoAvailableLocalTimeType-clause-text c = rw c.in-NoAvailableLocalTimeType.is refl

@@ -13,12 +13,6 @@ returns-then-bytes-place-eq32-clause-number c =
     let space = byte_at bs (place + 1) 32 (omega (arith, c.requires)) c.if-bytes-place-eq32.true in
     front_before_space (b ∷ []) (drop place bs) (drop (place + 1) bs) (drop (place + 1 + 1) bs) (digit.0, tt) (omega arith) whole space c.value_of-first.result (omega (arith, digit.1))
 
-pub returns-then-bytes-place-eq32-clause-space : goal.returns-then-bytes-place-eq32-clause-space
-returns-then-bytes-place-eq32-clause-space c = byte_at c.args.bytes.now (c.args.place + 1) 32 (omega (arith, c.requires)) c.if-bytes-place-eq32.true
-
-pub returns-then-bytes-place-eq32-clause-bound : goal.returns-then-bytes-place-eq32-clause-bound
-returns-then-bytes-place-eq32-clause-bound c = (omega (arith, c.if-first-ge10.false), omega arith)
-
 pub returns-clause-number : goal.returns-clause-number
 returns-clause-number c =
     let bs = c.args.bytes.now in
@@ -31,9 +25,3 @@ returns-clause-number c =
     let whole = byte_at bs place a (omega (arith, c.requires)) refl ∙ ap (λ xs. a ∷ xs) (byte_at bs (place + 1) b (omega (arith, c.requires)) refl ∙ ap (λ n. b ∷ drop n bs) next) in
     let space = byte_at bs (place + 2) 32 (omega (arith, c.requires)) c.if-bytes-place-ne32.false in
     front_before_space (a ∷ b ∷ []) (drop place bs) (drop (place + 2) bs) (drop (place + 2 + 1) bs) (first.0, (second.0, tt)) (omega arith) whole space (c.value_of-first.result * 10 + c.value_of-second.result) (omega (arith, first.1, second.1))
-
-pub returns-clause-space : goal.returns-clause-space
-returns-clause-space c = byte_at c.args.bytes.now (c.args.place + 2) 32 (omega (arith, c.requires)) c.if-bytes-place-ne32.false
-
-pub returns-clause-bound : goal.returns-clause-bound
-returns-clause-bound c = (omega (arith, c.if-first-ge10.false, c.if-second-ge10.false), omega arith)
