@@ -1,1 +1,0 @@
--- The suffix is that of the type.

@@ -1,1 +1,0 @@
--- A refusal of fields has its own name.

@@ -1,1 +1,0 @@
--- The page is used from its beginning once it has been appended.

@@ -1,1 +1,0 @@
--- The line is the letter, a space and the count.

@@ -1,1 +1,0 @@
--- The two pieces and LF stand after what was written.

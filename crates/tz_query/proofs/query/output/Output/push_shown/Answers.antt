@@ -1,1 +1,0 @@
--- The line stands after what comes before it.

@@ -1,1 +1,0 @@
--- The text is what stands before the last byte.

@@ -1,1 +1,0 @@
--- The bytes stand after what was there.

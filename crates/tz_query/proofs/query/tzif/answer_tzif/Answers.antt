@@ -1,1 +1,0 @@
--- The answers are over the zone of the file, which is the only one that the file denotes.
