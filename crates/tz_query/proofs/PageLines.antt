@@ -1,8 +1,8 @@
 -- The line of a date time is its year, what stands between year and nanoseconds, nine digits and the suffix of its type, joined in this order.
 use Rattle.std.proofs.Common.{◌≡◌, ℕ, ◌+◌, ◌≤◌, List, [], ◌∷◌, ◌++◌, length, take, drop, sym, ap, ◌∙◌, arith, append_assoc, length-append, ℤ}
 use Rattle.std.specs.Fmt.{signed_decimal}
-use Rattle.std.proofs.lemmas.List.{length-take-le, take-append-le, take-append-drop}
-use Rattle.std.proofs.Math.Seq.{take-append-add, take-append_seam}
+use Rattle.std.proofs.lemmas.List.{length-take-le, take-append-le}
+use Rattle.std.proofs.Math.Seq.{take-append-add}
 use Rattle.std.proofs.lemmas.Slice.{take-put_mid}
 use Rattle.tz_base.specs.declared.fields.Fields.{Fields}
 use Rattle.tz_rule.specs.LocalTimeType.{LocalTimeType}
@@ -45,15 +45,3 @@ three_pieces page prefix nine suffix at len room prefix_len nine_len suffix_len 
     ∙ ap (λ bytes. bytes ++ take len suffix) (second_is ∙ ap (λ bytes. bytes ++ nine) first_is)
     ∙ append_assoc (take at page ++ prefix) nine (take len suffix)
     ∙ append_assoc (take at page) prefix (nine ++ take len suffix)
-
--- what stands before the last byte
-pub without_last : (page text : List ℕ) (byte end last : ℕ) → take end page ≡ text ++ byte ∷ [] → end ≤ length page → end ≡ last + 1 → take last page ≡ text
-without_last page text byte end last written within size =
-    let long : end ≡ length text + 1 = sym (length-take-le end page within) ∙ ap length written ∙ length-append text (byte ∷ []) in
-    let last_is : last ≡ length text = omega (arith, long, size) in
-    let inside : last ≤ length (take end page) = omega (arith, length-take-le end page within, size) in
-    ap (take last) (sym (take-append-drop end page))
-    ∙ take-append-le last (take end page) (drop end page) inside
-    ∙ ap (take last) written
-    ∙ ap (λ k. take k (text ++ byte ∷ [])) last_is
-    ∙ take-append_seam text (byte ∷ [])
