@@ -99,7 +99,7 @@ def of_zones(versions):
         return f'Zones are those of tzdata {next(iter(named))}.'
     most = max(named, key=lambda version: len(named[version]))
     few = [f'tzdata {version} for {" and ".join(names)}' for version, names in named.items() if version != most]
-    return f'Zones are those of {", ".join(few)}, and tzdata {most} for the others.'
+    return f'Zones are those of {", ".join(few)}, and tzdata {most} for the others, the versions that the machine had when each was counted; chrono-tz has its own.'
 
 
 def of_versions(kept):
