@@ -5,6 +5,11 @@ use Rattle.tz_base.specs.declared.fields.Fields.{Fields}
 use Rattle.tz_base.specs.declared.error.datetime.DateTimeError.{DateTimeError}
 use Rattle.tz_base.specs.declared.error.datetime.DateTimeError.TheVariants.{InvalidMonth, InvalidMonthDay, InvalidHour, InvalidMinute, InvalidSecond, InvalidNanoseconds}
 
+-- the fields with these values, in the order in which calls take them
+abbrev pub fields_of : ℤ → ℕ → ℕ → ℕ → ℕ → ℕ → ℕ → Fields
+fields_of year month month_day hour minute second nanoseconds =
+    record { year = year; month = month; month_day = month_day; hour = hour; minute = minute; second = second; nanoseconds = nanoseconds }
+
 -- the month is one of twelve
 abbrev pub IsMonth : ℕ → Type 0
 IsMonth month = (1 ≤ month) × (month ≤ 12)

@@ -2,9 +2,9 @@
 //!
 //! A reading counts the seconds from 1970-01-01 00:00:00 to the fields of a date time, whatever clock shows them.
 
-ghost use Rattle.std.specs.Prelude.{◌≡◌, ◌<◌, ◌≤◌, pos, negsuc, ◌-ℤ◌, ◌≤ℤ◌, OnOk, IfErr, MatchBool};
+ghost use Rattle.std.specs.Prelude.{◌≡◌, ◌<◌, ◌≤◌, pos, negsuc, ◌+ℤ◌, ◌-ℤ◌, ◌≤ℤ◌, OnOk, IfSome, IfNone, IfErr, MatchBool};
 ghost use Rattle.tz_base.specs.Days.{first_day, week_day_of};
-ghost use Rattle.tz_base.specs.Fields.{IsValid, IsFirstFault, IsCivil, IsReading, day_of, reading as reading_of};
+ghost use Rattle.tz_base.specs.Fields.{IsValid, IsFirstFault, IsCivil, IsReading, day_of, fields_of, reading as reading_of};
 
 use crate::calendar::{
     date_of_day, days_before_month, days_since_unix_epoch, has_month_day, is_leap_year,
@@ -47,7 +47,42 @@ pub fn is_reading(reading: i64) -> bool
     (FIRST_READING..=LAST_READING).contains(&reading)
 }
 
+/// What a clock with this offset from UTC shows at a Unix time, if it is a reading.
+#[inline(always)]
+pub fn local_reading(unix_time: i64, ut_offset: i32) -> Option<i64>
+    ensures some { IfSome result (λ x. (x ≡ unix_time +ℤ ut_offset) × IsReading x) }
+    ensures none { IfNone result (¬ IsReading (unix_time +ℤ ut_offset)) }
+{
+    // A sum that wraps is no reading, as the true one is none.
+    let reading = unix_time.wrapping_add(i64::from(ut_offset));
+    is_reading(reading).then_some(reading)
+}
+
 impl Fields {
+    /// The fields with these values.
+    #[inline(always)]
+    pub fn new(
+        year: i32,
+        month: u8,
+        month_day: u8,
+        hour: u8,
+        minute: u8,
+        second: u8,
+        nanoseconds: u32,
+    ) -> Self
+        ensures { result ≡ fields_of year month month_day hour minute second nanoseconds }
+    {
+        Fields {
+            year,
+            month,
+            month_day,
+            hour,
+            minute,
+            second,
+            nanoseconds,
+        }
+    }
+
     /// Whether the fields are those of a date time; second 60 is one of every minute.
     ///
     /// # Errors
