@@ -4,7 +4,7 @@ pub use Rattle.std.proofs.ResultValues.{and_tt, ok_of, err_of}
 pub use Rattle.std.proofs.VecSteps.Shapes.{arm_body}
 pub use Rattle.std.proofs.raw_atomic.Walks.{proved}
 use Rattle.std.specs.Prelude.{Result, IfOk, IfErr, OnOk}
-pub use Rattle.tz.specs.DateTimes.{fields_of}
+pub use Rattle.tz_base.specs.Fields.{fields_of}
 pub use Rattle.tz.specs.LentSlots.{slot_row, RestsIfInvalid}
 pub use Rattle.tz.specs.Lists.{reference_of}
 pub use Rattle.tz.specs.declared.datetime.find.Refused.{Refused}

@@ -1,4 +1,4 @@
-pub mod FilledSlots
+pub mod PlacedSlots
 pub mod LentSlots
 pub mod SearchParameters
 pub mod DatedEntries
@@ -23,7 +23,6 @@ pub mod TimespecTotals
 pub mod Summaries
 pub mod UniqueResults
 pub mod UniqueMeanings
-pub mod PlacedSlots
 pub mod TextFronts
 pub mod TextValues
 pub mod UniqueTexts

@@ -1,6 +1,5 @@
 -- Bytes at places of a text, and what follows them.
-use Rattle.std.proofs.Common.{◌≡◌, ℕ, zero, suc, ◌+◌, ◌-◌, ◌*◌, ◌/◌, ◌%◌, ◌<◌, ◌≤◌, List, [], ◌∷◌, ◌++◌, length, get_or, drop, refl, sym, ap, ◌∙◌, arith}
-use Rattle.std.proofs.Common.{ℤ, pos, neg_ℤ, append_assoc, append-nil}
+use Rattle.std.proofs.Common.{◌≡◌, ℕ, zero, suc, ◌+◌, ◌-◌, ◌*◌, ◌/◌, ◌%◌, ◌<◌, ◌≤◌, List, [], ◌∷◌, ◌++◌, length, get_or, drop, refl, sym, ap, ◌∙◌, arith, ℤ, pos, neg_ℤ, append_assoc, append-nil}
 use Rattle.std.specs.Fmt.{decimal, signed_decimal}
 use Rattle.std.proofs.Math.ListN.{drop_of_length-le}
 use Rattle.tz_base.specs.declared.fields.Fields.{Fields}

@@ -10,10 +10,10 @@ use Rattle.std.proofs.lemmas.Int.{ints}
 use Rattle.std.proofs.lemmas.Fmt.{decimal_is_IsNumeral}
 use Rattle.tz_base.specs.declared.fields.Fields.{Fields}
 use Rattle.tz_base.specs.Days.{day_number, is_leap, month_length}
-use Rattle.tz_base.specs.Fields.{IsValid, day_of}
+use Rattle.tz_base.specs.Fields.{IsValid, day_of, fields_of}
 use Rattle.tz_rule.specs.LocalTimeType.{IsOffset}
 use Rattle.tz.specs.UtcConstants.{max_is_utc}
-use Rattle.tz.specs.DateTimes.{fields_of, IsPastTheEnd, IsUtc}
+use Rattle.tz.specs.DateTimes.{IsPastTheEnd, IsUtc}
 use Rattle.tz.specs.PrintedText.{last_digits, two_digits, nine_digits, two_digits_or_more, date_text, time_text, seconds_text, duration_text, offset_text, printed_text}
 use Rattle.tz.specs.DateTimeText.{EndsDigits, IsDigits, IsFraction, IsHours, IsPair, IsSecond, IsSeconds, IsYear, date, time, duration, offset, IsDateTimeText}
 use Rattle.tz.specs.declared.parse.offset.OffsetMark.TheVariants.{Utc, Ahead, Behind}

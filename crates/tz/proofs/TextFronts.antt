@@ -1,7 +1,6 @@
 -- Digits at the front of bytes, and a number of two digits there, are these alone, and so is what follows them.
 use Rattle.std.proofs.Common.{◌≡◌, ◌≢◌, min, ℕ, suc, zero, ◌+◌, ◌-◌, ◌*◌, ◌/◌, ◌%◌, ◌^◌, ◌<◌, ◌≤◌, inl, inr, ℤ, pos, neg_ℤ, List, [], ◌∷◌, ◌++◌, length, get_or, take, drop, refl, sym, ap, ◌∙◌, subst, arith}
 use Rattle.std.proofs.Math.Nat.{mul-lt-mul_of_pos_right, pow-suc}
-use Rattle.std.proofs.lemmas.Bool.{eqb-true}
 use Rattle.std.proofs.lemmas.Nat.{pow-add}
 use Rattle.std.proofs.lemmas.List.{take_all, length-drop, length-take}
 use Rattle.std.proofs.lemmas.Fmt.{decimal_digit, decimal-digits_value, length-decimal-le}
@@ -10,10 +9,9 @@ use Rattle.std.proofs.lemmas.Str.Parse.{IsNumeralModel, digits_value_short, nume
 use Rattle.std.specs.Char.{digit_value}
 use Rattle.std.specs.Fmt.{decimal}
 use Rattle.std.specs.Int.{w32}
-use Rattle.std.specs.Prelude.{Bool, FitsSigned, ◌==◌}
-use Rattle.tz_base.proofs.TestsBelow.{all_below, passes_at}
+use Rattle.std.specs.Prelude.{FitsSigned, None, Result, Ok, Err, OkIff}
+use Rattle.std.specs.Result.{result_ok}
 use Rattle.std.specs.Str.Parse.{AllDigits, digits_value}
-use Rattle.tz.specs.declared.parse.number.TheConstants.{POWERS}
 use Rattle.tz.specs.DateTimeText.{AreYearDigits, EndsDigits, IsDigits, IsFraction, IsPair, IsYear}
 use Rattle.tz_zone.specs.TzText.{Begins}
 use Rattle.tz.specs.PrintedText.{two_digits}
@@ -72,13 +70,6 @@ bytes_of_pair {text = text} {n} rest is =
 
 own : IsNumeralModel (AllDigits 10) (digits_value 10)
 own = numerals_by_value (AllDigits 10) tells_digits
-
--- ten to each power up to the eighth
-pub powers_are : (k : ℕ) → k ≤ 8 → get_or POWERS k 0 ≡ 10 ^ k
-unfolding all_below
-powers_are k few =
-    let power : (k' : ℕ) → Bool = λ k'. get_or POWERS k' 0 == 10 ^ k' in
-    eqb-true (get_or POWERS k 0) (10 ^ k) (passes_at power 9 k refl (omega arith))
 
 power_pos : (k : ℕ) → 0 < 10 ^ k
 power_pos zero = omega arith
@@ -142,27 +133,31 @@ no_fraction text after digits rest point front none n rest' (inr (after', digits
     none (subst (λ ds. (1 ≤ length ds) × (length ds ≤ 9)) digits_same (some, few))
 
 -- what is read of a fraction: as many digits as were counted, with their number, and its nanoseconds
-pub record FractionRead (text : List ℕ) (size count : ℕ) : Type 0 where
+pub record FractionRead (text : List ℕ) (size count power : ℕ) : Type 0 where
   pub long : length (take count text) ≡ count
   pub size_is : size ≡ digits_value 10 (take count text)
   pub fits : size < 1000000000
-  pub scaled : size * get_or POWERS (9 - count) 0 ≡ digits_value 10 (take count text) * 10 ^ (9 - length (take count text))
-  pub below : size * get_or POWERS (9 - count) 0 < 1000000000
+  pub scaled : size * power ≡ digits_value 10 (take count text) * 10 ^ (9 - length (take count text))
+  pub below : size * power < 1000000000
 
-pub fraction_read : (text : List ℕ) (size count : ℕ) → IsDigits text (take count text) (drop count text) → count ≤ length text → count ≢ 0 → count ≤ 9
-    → min size 10000000000000000000 ≡ min (digits_value 10 (take count text)) 10000000000000000000 → FractionRead text size count
-fraction_read text size count front within some few read =
+pub fraction_read : (text : List ℕ) (size count power : ℕ) → power ≡ 10 ^ (9 - count) → IsDigits text (take count text) (drop count text) → count ≤ length text → count ≢ 0 → count ≤ 9
+    → min size 10000000000000000000 ≡ min (digits_value 10 (take count text)) 10000000000000000000 → FractionRead text size count power
+fraction_read text size count power is front within some few read =
     let digits = take count text in
     let long : length digits ≡ count = omega (arith, length-take count text, within) in
     let short : digits_value 10 digits < 1000000000 = digits_value_short own digits 9 front.all_digits (omega (arith, long, few)) in
     let same : size ≡ digits_value 10 digits = omega (arith, short, read) in
-    let power = powers_are (9 - count) (omega (arith, some)) in
     let left : 9 - (9 - count) ≡ length digits = omega (arith, long, few) in
     let fewer : size < 10 ^ (9 - (9 - count)) = rw (same, left) (digits_value-lt 10 digits front.all_digits) in
     record {
       long = long;
       size_is = same;
       fits = omega (arith, short, same);
-      scaled = ap (λ m. size * m) power ∙ ap (λ n. n * 10 ^ (9 - count)) same ∙ ap (λ k. digits_value 10 digits * 10 ^ (9 - k)) (sym long);
-      below = rw power (fraction_below (9 - count) size (omega arith) fewer);
+      scaled = ap (λ m. size * m) is ∙ ap (λ n. n * 10 ^ (9 - count)) same ∙ ap (λ k. digits_value 10 digits * 10 ^ (9 - k)) (sym long);
+      below = rw is (fraction_below (9 - count) size (omega arith) fewer);
     }
+
+-- a number that does not convert does not fit
+pub unfit : {E : Type 0} (r : Result ℤ E) (Fits : Type 0) (x : ℤ) → OkIff r Fits x → result_ok r ≡ None → ¬ Fits
+unfit (Ok y) Fits x fits none = absurd (cc none)
+unfit (Err e) Fits x not none = not

@@ -4,10 +4,10 @@ use Rattle.std.specs.Str.Parse.{digits_value}
 use Rattle.std.proofs.lemmas.Int.Digits.{digits_value-lt}
 use Rattle.tz_base.specs.declared.fields.Fields.{Fields}
 use Rattle.tz_base.specs.Days.{is_leap}
-use Rattle.tz_base.specs.Fields.{IsValid}
+use Rattle.tz_base.specs.Fields.{IsValid, fields_of}
 use Rattle.tz_base.proofs.CivilReadings.{month_length-le}
 use Rattle.tz_base.proofs.LastSeconds.{valid_reading}
-use Rattle.tz.specs.DateTimes.{fields_of, IsPastTheEnd, IsUtc}
+use Rattle.tz.specs.DateTimes.{IsPastTheEnd, IsUtc}
 use Rattle.tz.specs.DateTimeText.{IsFraction, date, time}
 use Rattle.tz.proofs.TextFronts.{fraction_below}
 

@@ -6,7 +6,7 @@ use Rattle.std.specs.Str.Parse.{digits_value}
 use Rattle.std.proofs.lemmas.List.{length-drop}
 use Rattle.tz_base.specs.declared.fields.Fields.{Fields}
 use Rattle.tz_base.specs.Days.{is_leap, month_length}
-use Rattle.tz.specs.DateTimes.{fields_of}
+use Rattle.tz_base.specs.Fields.{fields_of}
 use Rattle.tz.specs.Grammars.{Grammar, one, ◌▸◌, done}
 use Rattle.tz.specs.DateTimeText.{IsByte, IsDigits, IsEnd, IsFraction, IsHours, IsMark, IsMinutes, IsPair, IsSecond, IsSeconds, IsSeparator, IsYear, byte, date, time, duration, after_mark, offset, date_time, IsDateTimeText, IsDateTimeTextFault}
 use Rattle.tz.specs.PrintedText.{two_digits}

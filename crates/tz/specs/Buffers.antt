@@ -1,23 +1,25 @@
--- A list in a buffer of the caller: its count, and its slots when some of them were written.
-use Rattle.std.specs.Prelude.{◌≡◌, List, [], ◌++◌, length}
+-- Slots of a caller: how many entries were found, and the slots if those from a number on were written.
+use Rattle.std.specs.Prelude.{◌≡◌, List, [], ◌++◌, length, map, drop}
 use Rattle.std.proofs.Common.{refl, ◌∙◌}
 use Rattle.tz.specs.Growth.{HoldsMore, holds_more, holds_none}
-use Rattle.tz.specs.Slots.{Slots, filled}
+use Rattle.tz.specs.Plain.{placed}
 use Rattle.tz.specs.declared.datetime.found.FoundDateTimeKind.{FoundDateTimeKind}
 use Rattle.tz.specs.declared.datetime.slot_writer.SlotWriter.{SlotWriter}
 
--- the buffer counts the list, and its front is in the slots, which were these before
-abbrev pub IsHolding : SlotWriter → Slots → List FoundDateTimeKind → Type 0
-IsHolding list slots found = (list.count ≡ length found) × (list.slots.now ≡ filled slots found)
+module _ {S : Type 0} (holding : FoundDateTimeKind → S) where
+  -- the writer counts the list, and its entries from a number on are in the slots, which were these before
+  abbrev pub IsHolding : SlotWriter S → List S → List FoundDateTimeKind → Type 0
+  IsHolding list slots found = (list.count ≡ length found) × (list.slots.now ≡ placed slots (map holding (drop list.skip found)))
 
--- whatever the buffer held, it now holds that list with more at its end
-abbrev pub GrowsBy : SlotWriter → SlotWriter → List FoundDateTimeKind → Type 0
-GrowsBy list grown found =
-    (grown.slots.ghost_name ≡ list.slots.ghost_name) × ((slots : Slots) → HoldsMore (λ writer held. IsHolding writer slots held) list grown found)
+  -- whatever the slots held, they now hold that list with more at its end
+  abbrev pub GrowsBy : SlotWriter S → SlotWriter S → List FoundDateTimeKind → Type 0
+  GrowsBy list grown found =
+      (grown.slots.ghost_name ≡ list.slots.ghost_name) × (grown.skip ≡ list.skip)
+      × ((slots : List S) → HoldsMore (λ writer held. IsHolding writer slots held) list grown found)
 
-pub grows_by_none : (list : SlotWriter) → GrowsBy list list []
-grows_by_none list = (refl, λ slots. holds_none (λ writer held. IsHolding writer slots held) list)
+  pub grows_by_none : (list : SlotWriter S) → GrowsBy list list []
+  grows_by_none list = (refl, refl, λ slots. holds_none (λ writer held. IsHolding writer slots held) list)
 
-pub grows_by_more : (list middle grown : SlotWriter) (es fs : List FoundDateTimeKind) → GrowsBy list middle es → GrowsBy middle grown fs → GrowsBy list grown (es ++ fs)
-grows_by_more list middle grown es fs (same, first) (same', second) =
-    (same' ∙ same, λ slots. holds_more (λ writer held. IsHolding writer slots held) list middle grown es fs (first slots) (second slots))
+  pub grows_by_more : (list middle grown : SlotWriter S) (es fs : List FoundDateTimeKind) → GrowsBy list middle es → GrowsBy middle grown fs → GrowsBy list grown (es ++ fs)
+  grows_by_more list middle grown es fs (same, skip, first) (same', skip', second) =
+      (same' ∙ same, skip' ∙ skip, λ slots. holds_more (λ writer held. IsHolding writer slots held) list middle grown es fs (first slots) (second slots))

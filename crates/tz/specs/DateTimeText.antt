@@ -7,7 +7,8 @@ use Rattle.std.specs.Str.Parse.{AllDigits, digits_value}
 use Rattle.tz_base.specs.Days.{is_leap, month_length}
 use Rattle.tz_base.specs.declared.fields.Fields.{Fields}
 use Rattle.tz_zone.specs.TzText.{Begins}
-use Rattle.tz.specs.DateTimes.{fields_of, IsPastTheEnd}
+use Rattle.tz_base.specs.Fields.{fields_of}
+use Rattle.tz.specs.DateTimes.{IsPastTheEnd}
 use Rattle.tz.specs.PrintedText.{two_digits}
 use Rattle.tz.specs.Grammars.{Grammar, one, ◌▸◌, done}
 use Rattle.tz.specs.declared.parse.error.DateTimePart.{DateTimePart}

@@ -15,11 +15,6 @@ use Rattle.tz_zone.specs.Table.{Zone}
 use Rattle.tz_zone.specs.Clock.{IsClock, IsLookupFault}
 use mir.Syntax.{w64}
 
--- the fields with these values, in the order in which calls take them
-abbrev pub fields_of : ℤ → ℕ → ℕ → ℕ → ℕ → ℕ → ℕ → Fields
-fields_of year month month_day hour minute second nanoseconds =
-    record { year = year; month = month; month_day = month_day; hour = hour; minute = minute; second = second; nanoseconds = nanoseconds }
-
 pub record DateTime : Type 0 where
   pub fields : Fields
   pub local_time_type : LocalTimeType

@@ -24,4 +24,3 @@ pub mod Meanings
 pub mod LocalMeanings
 pub mod Summaries
 pub mod Plain
-pub mod PlainSlots

@@ -1,9 +1,12 @@
 -- What is kept of a list of found date times, from which one is taken.
-use Rattle.std.specs.Prelude.{◌≡◌, ◌≤◌, List, [], ◌∷◌, ◌++◌, Option, Some, None, length}
+use Rattle.std.specs.Prelude.{◌≡◌, ◌≤◌, ℤ, List, [], ◌∷◌, ◌++◌, Option, Some, None, length}
+use Rattle.tz_base.specs.declared.fields.Fields.{Fields}
+use Rattle.tz_base.specs.Fields.{reading}
 use Rattle.tz.specs.Growth.{HoldsMore, holds_more, holds_none}
-use Rattle.tz.specs.Meanings.{first_entry, last_entry, first_shown}
-use Rattle.tz.specs.declared.datetime.summary.Summary.{Summary}
-use Rattle.tz.specs.declared.datetime.summary.Summary.TheVariants.{Nothing, One, Several}
+use Rattle.tz.specs.Meanings.{first_entry, last_entry, first_shown, instant_meant}
+use Rattle.tz.specs.declared.datetime.disambiguation.Disambiguation.{Disambiguation}
+use Rattle.tz.specs.declared.datetime.disambiguation.Summary.{Summary}
+use Rattle.tz.specs.declared.datetime.disambiguation.Summary.TheVariants.{Nothing, One, Several}
 use Rattle.tz.specs.declared.datetime.found.FoundDateTimeKind.{FoundDateTimeKind}
 use Rattle.tz.specs.declared.datetime.found.FoundDateTimeKind.TheVariants.{Normal, Skipped}
 
@@ -11,6 +14,11 @@ use Rattle.tz.specs.declared.datetime.found.FoundDateTimeKind.TheVariants.{Norma
 abbrev pub shown_entry_of : FoundDateTimeKind → Option FoundDateTimeKind
 shown_entry_of (Normal d) = Some (Normal d)
 shown_entry_of (Skipped before after) = None
+
+-- the instant at which the clock is looked up for an entry, which is a jump
+abbrev pub IsLookedUpAt : Disambiguation → Fields → FoundDateTimeKind → ℤ → Type 0
+IsLookedUpAt choice f (Normal d) u = ⊥
+IsLookedUpAt choice f (Skipped before after) u = u ≡ instant_meant choice (reading f) before after
 
 -- the list has no entry, this one, or several with these as the first, the last and the first one that is shown
 abbrev pub IsSummaryOf : List FoundDateTimeKind → Summary → Type 0

@@ -1,7 +1,7 @@
 //! For the crates above and their tests, and no part of the public surface: fields, text, the search for them, date times as plain data, and how
 //! bytes are read.
 
-pub use crate::datetime::date_time::{fields_of, local_reading};
+pub use crate::datetime::date_time::fields_of;
 pub use crate::datetime::entries::Entries;
 pub use crate::datetime::find::find_fields;
 pub use crate::datetime::plain::{DateTimeData, FoundData, UtcData};
@@ -9,5 +9,5 @@ pub use crate::datetime::search::{search_zone, window_of};
 pub use crate::datetime::zone_view::{find_into, find_one, from_timespec};
 pub use crate::print::middle_of;
 pub use crate::text_buffer::{TextBuffer, two_pairs};
-pub use tz_base::fields::{Fields, is_reading};
+pub use tz_base::fields::{Fields, is_reading, local_reading};
 pub use tz_zone::inner::{after_byte, read_to_end};

@@ -34,10 +34,8 @@ impl TextBuffer {
     {
         if year < 0 {
             self.push(b'-');
-            self.push_decimal(year.unsigned_abs());
-        } else {
-            self.push_decimal(year.unsigned_abs());
         }
+        self.push_decimal(year.unsigned_abs());
     }
 
     /// Appends hours, with two digits at least.

@@ -187,7 +187,7 @@ fn push_time_of_day(buffer: &mut TextBuffer, time: i32)
 }
 
 /// Appends when one of the two times begins: a comma, the day and the time of day.
-fn push_turn(buffer: &mut TextBuffer, day: &RuleDay, time: i32)
+fn push_switch(buffer: &mut TextBuffer, day: &RuleDay, time: i32)
     requires { length buffer.old + 31 ≤ 128 }
     ensures text { buffer.new ≡ buffer.old ++ comma ∷ turn_text day.now time }
     ensures len { length buffer.new ≤ length buffer.old + 31 }
@@ -231,8 +231,8 @@ fn push_daylight(buffer: &mut TextBuffer, rule: &AlternateTime)
 {
     push_name(buffer, rule.dst().time_zone_designation());
     push_daylight_offset(buffer, rule.std().ut_offset(), rule.dst().ut_offset());
-    push_turn(buffer, rule.dst_start(), rule.dst_start_time());
-    push_turn(buffer, rule.dst_end(), rule.dst_end_time());
+    push_switch(buffer, rule.dst_start(), rule.dst_start_time());
+    push_switch(buffer, rule.dst_end(), rule.dst_end_time());
 }
 
 /// Appends the TZ string of a rule.

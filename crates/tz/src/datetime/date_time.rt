@@ -13,23 +13,8 @@ use tz_base::calendar;
 use tz_base::constants::NANOSECONDS_PER_SECOND;
 use tz_base::error::TzError;
 use tz_base::error::datetime::DateTimeError;
-use tz_base::fields::{Fields, is_reading};
+use tz_base::fields::{Fields, is_reading, local_reading};
 use tz_zone::timezone::{LocalTimeType, TimeZoneRef};
-
-/// What a clock with this offset from UTC shows at a Unix time, if it is a reading.
-#[inline(always)]
-pub fn local_reading(unix_time: i64, ut_offset: i32) -> Option<i64>
-    ensures some { IfSome result (λ x. (x ≡ unix_time +ℤ ut_offset) × IsReading x) }
-    ensures none { IfNone result (¬ IsReading (unix_time +ℤ ut_offset)) }
-{
-    // A sum that wraps is no reading, as the true one is none.
-    let reading = unix_time.wrapping_add(i64::from(ut_offset));
-    if is_reading(reading) {
-        Some(reading)
-    } else {
-        None
-    }
-}
 
 /// A date time with the local time type that shows it, and its Unix time.
 ///
@@ -114,11 +99,11 @@ impl Ord for DateTime {
 impl DateTime {
     ghost use Rattle.std.specs.Prelude.{◌≡◌, ◌≤◌, ◌<◌, ◌⊎◌, pos, ◌+ℤ◌, ◌-ℤ◌, OnOk, IfOk, IfErr};
     ghost use Rattle.tz_base.specs.Days.{week_day_of, first_day};
-    ghost use Rattle.tz_base.specs.Fields.{IsValid, IsReading, reading, day_of};
+    ghost use Rattle.tz_base.specs.Fields.{IsValid, IsReading, reading, day_of, fields_of};
     ghost use Rattle.tz_rule.specs.LocalTimeType.{LocalTimeType};
     ghost use Rattle.tz_zone.specs.Clock.{IsClock, IsLookupFault};
     ghost use Rattle.tz_zone.specs.ZoneRef.{zone_of};
-    ghost use Rattle.tz.specs.DateTimes.{fields_of, DateTime, IsDateTime, ShowsInstant, IsShowFault, IsLocalFault, total_of, IsNearTotal, IsForwards, IsBackwards, ShowsByClock, IsClockFault, IsTotalFault, IsTotalClockFault, ShowsTotal, ShowsTotalByClock};
+    ghost use Rattle.tz.specs.DateTimes.{DateTime, IsDateTime, ShowsInstant, IsShowFault, IsLocalFault, total_of, IsNearTotal, IsForwards, IsBackwards, ShowsByClock, IsClockFault, IsTotalFault, IsTotalClockFault, ShowsTotal, ShowsTotalByClock};
 
     /// The date time with these fields, which the type shows: the month from 1 to 12, the day of the month from 1, the hour from 0 to 23, the minute
     /// from 0 to 59, the second from 0 to 60 and the nanoseconds below 10^9.
@@ -156,25 +141,7 @@ impl DateTime {
         ensures instant { OnOk result (IsReading (reading (fields_of year month month_day hour minute second nanoseconds) -ℤ local_time_type.ut_offset)) }
         ensures err { IfErr result (IsLocalFault (fields_of year month month_day hour minute second nanoseconds) local_time_type.ut_offset) }
     {
-        let fields = Fields {
-            year,
-            month,
-            month_day,
-            hour,
-            minute,
-            second,
-            nanoseconds,
-        };
-        DateTime::from_fields(fields, local_time_type)
-    }
-
-    /// The date time with these fields, which the type shows.
-    fn from_fields(fields: Fields, local_time_type: LocalTimeType) -> Result<Self, TzError>
-        ensures value { IfOk result (λ d. d ≡ record { fields = fields; local_time_type = local_time_type; unix_time = reading fields -ℤ local_time_type.ut_offset }) }
-        ensures ok { OnOk result (IsValid fields) }
-        ensures instant { OnOk result (IsReading (reading fields -ℤ local_time_type.ut_offset)) }
-        ensures err { IfErr result (IsLocalFault fields local_time_type.ut_offset) }
-    {
+        let fields = Fields::new(year, month, month_day, hour, minute, second, nanoseconds);
         fields.check()?;
         let unix_time = fields.reading() - i64::from(local_time_type.ut_offset());
         if !is_reading(unix_time) {
@@ -234,9 +201,8 @@ impl DateTime {
         ensures reads { OnOk result (IsReading (unix_time +ℤ local_time_type.ut_offset)) }
         ensures err { IfErr result (λ e. (e ≡ TzError.OutOfRange) × ¬ IsReading (unix_time +ℤ local_time_type.ut_offset)) }
     {
-        let Some(reading) = local_reading(unix_time, local_time_type.ut_offset()) else {
-            return Err(TzError::OutOfRange);
-        };
+        let reading = local_reading(unix_time, local_time_type.ut_offset());
+        let reading = reading.ok_or(TzError::OutOfRange)?;
         Ok(DateTime {
             fields: Fields::from_reading(reading, nanoseconds),
             local_time_type,

@@ -1,6 +1,10 @@
-//! What a search finds: instants that show a reading, and jumps over it.
+//! What a search finds: instants that show a reading, and jumps over it; and how a list takes them, as date times.
 
+use super::found::jump;
+use super::{DateTime, FoundDateTimeKind};
+use std::alloc::AllocError;
 use tz_base::error::TzError;
+use tz_base::fields::Fields;
 use tz_zone::timezone::LocalTimeType;
 
 /// What takes the entries of a search, in order of time.
@@ -34,4 +38,63 @@ pub trait Entries<'a> {
         requires { (r : ℤ) × takes self.old r }
         ensures ok { OnOk result (gains self.old self.new (Jump unix_time before.entry.now after.entry.now ∷ [])) }
         ensures err { IfErr result (λ e. refuses e (Jump unix_time before.entry.now after.entry.now)) };
+}
+
+/// A list that a search writes to.
+pub(crate) trait DateTimeList {
+    ghost use Rattle.std.specs.Prelude.{List, [], ◌∷◌, ◌++◌, OnOk, OnErr};
+    ghost use Rattle.tz.specs.declared.datetime.found.FoundDateTimeKind.{FoundDateTimeKind};
+
+    /// The second list is the first with these at its end.
+    ghost gains: { Self → Self → List FoundDateTimeKind → Type 0 };
+
+    /// Whether the list allocates.
+    ghost takes_memory: { Type 0 };
+
+    /// Adds one at the end. If out of memory, it adds none.
+    fn push(&mut self, found: FoundDateTimeKind) -> Result<(), AllocError>
+        ensures ok { OnOk result (gains self.old self.new (found ∷ [])) }
+        ensures err { OnErr result (takes_memory × gains self.old self.new []) };
+
+    /// A list that stays as it is gains nothing.
+    ghost none: { (list : Self) → gains list list [] };
+
+    /// One gain after another is a gain.
+    ghost more: { (list middle grown : Self) (es fs : List FoundDateTimeKind) → gains list middle es → gains middle grown fs → gains list grown (es ++ fs) };
+}
+
+/// A list that takes the entries of fields as date times.
+#[derive(Drop)]
+pub(super) struct Dated<'l, L> {
+    pub(super) fields: &'l Fields,
+    pub(super) list: &'l mut L,
+}
+
+impl<'a, L: DateTimeList> Entries<'a> for Dated<'_, L> {
+    ghost use Rattle.tz.specs.EntryDateTimes.{GainsDated, TakesEntries, IsDatedFault};
+
+    ghost gains = { GainsDated L.gains };
+
+    ghost takes = { TakesEntries };
+
+    ghost refuses = { IsDatedFault L.takes_memory };
+
+    #[inline(always)]
+    fn shown(&mut self, unix_time: i64, local_time_type: &'a LocalTimeType) -> Result<(), TzError> {
+        let date_time = DateTime::from_valid_fields(self.fields, *local_time_type, unix_time);
+        self.list.push(FoundDateTimeKind::Normal(date_time))?;
+        Ok(())
+    }
+
+    #[inline(always)]
+    fn skipped(
+        &mut self,
+        unix_time: i64,
+        before: &'a LocalTimeType,
+        after: &'a LocalTimeType,
+    ) -> Result<(), TzError> {
+        let found = jump(self.fields, unix_time, *before, *after)?;
+        self.list.push(found)?;
+        Ok(())
+    }
 }

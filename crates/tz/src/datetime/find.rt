@@ -10,12 +10,12 @@ ghost use Rattle.tz.specs.FindFaults.{IsFindFault, IsPromised};
 ghost use Rattle.tz.specs.Windows.{AtMostTakeEffectAround};
 ghost use Rattle.tz.specs.declared.datetime.found.FoundDateTimeKind.{FoundDateTimeKind};
 
-use super::date_time_list::DateTimeList;
+use super::entries::DateTimeList;
 use super::found_list::FoundDateTimeList;
 use super::found_list_ref::FoundDateTimeListRefMut;
 use super::search::search;
 use super::slot_writer::SlotWriter;
-use super::{DateTime, FoundDateTimeKind};
+use super::{DateTime, FoundDateTimeKind, UtcDateTime};
 use std::alloc::Allocator;
 use tz_base::error::TzError;
 use tz_base::fields::Fields;
@@ -78,10 +78,9 @@ pub(super) fn find_in<L: DateTimeList, V: Transitions>(
 impl DateTime {
     ghost use Rattle.std.specs.Prelude.{◌≡◌, ◌≢◌, ◌⊎◌, ◌+◌, ◌*◌, ◌^◌, ◌<◌, ◌≤◌, ℕ, List, length, ⊤, IfOk, IfErr, OnOk};
     ghost use Rattle.std.specs.Borrow.{sem};
-    ghost use Rattle.tz_base.specs.Fields.{IsValid, reading};
+    ghost use Rattle.tz_base.specs.Fields.{IsValid, reading, fields_of};
     ghost use Rattle.tz_zone.specs.Clock.{IsClock};
     ghost use Rattle.tz_zone.specs.ZoneRef.{zone_of};
-    ghost use Rattle.tz.specs.DateTimes.{fields_of};
     ghost use Rattle.tz.specs.Windows.{AtMostTakeEffectAround};
     ghost use Rattle.tz.specs.Found.{EachCanBeMade, IsFound};
     ghost use Rattle.tz.specs.Lists.{found_of, slots_of, count_of, reference_of};
@@ -120,16 +119,51 @@ impl DateTime {
         ensures promised { IsPromised (zone_of time_zone_ref.entry) year → IfErr result (λ e. e ≢ TzError.OutOfRange) }
         ensures err { IfErr result (IsFindFault ⊤ (IsClock (zone_of time_zone_ref.entry)) (fields_of year month month_day hour minute second nanoseconds)) }
     {
-        let fields = Fields {
-            year,
-            month,
-            month_day,
-            hour,
-            minute,
-            second,
-            nanoseconds,
-        };
+        let fields = Fields::new(year, month, month_day, hour, minute, second, nanoseconds);
         find_fields(alloc, &fields, time_zone_ref)
+    }
+
+    /// What [`DateTime::find`] returns for the fields of the local time. The `UtcDateTime` is read as a local time, without an offset.
+    ///
+    /// When an alarm that is set to a local time rings: at the first instant at which clocks show that time or are set forward over it.
+    /// At a jump it rings as many nanoseconds late as `local` has.
+    ///
+    /// ```rust
+    /// pub fn alarm(
+    ///     alloc: Global,
+    ///     zone: TimeZoneRef<'_>,
+    ///     local: UtcDateTime,
+    /// ) -> Result<Option<DateTime>, TzError> {
+    ///     let found = DateTime::find_local(alloc, local, zone)?;
+    ///     Ok(match found.into_inner().as_slice() {
+    ///         [] => None,
+    ///         [FoundDateTimeKind::Normal(date_time), ..] => Some(*date_time),
+    ///         [
+    ///             FoundDateTimeKind::Skipped {
+    ///                 after_transition,
+    ///                 ..
+    ///             },
+    ///             ..
+    ///         ] => Some(*after_transition),
+    ///     })
+    /// }
+    /// ```
+    ///
+    /// # Errors
+    ///
+    /// - [`TzError::OutOfRange`] as for [`DateTime::find`];
+    /// - [`TzError::Memory`] if an allocation for the list fails.
+    pub fn find_local<A: Allocator + Copy>(
+        alloc: A,
+        local: UtcDateTime,
+        time_zone_ref: TimeZoneRef<'_>,
+    ) -> Result<FoundDateTimeList<A>, TzError>
+        ensures ok { IfOk result (λ list. IsFound (IsClock (zone_of time_zone_ref.entry)) local (found_of list)) }
+        ensures made { OnOk result (EachCanBeMade (IsClock (zone_of time_zone_ref.entry)) local) }
+        ensures promised { IsPromised (zone_of time_zone_ref.entry) local.year → IfErr result (λ e. e ≢ TzError.OutOfRange) }
+        ensures err { IfErr result (IsFindFault ⊤ (IsClock (zone_of time_zone_ref.entry)) local) }
+    {
+        find_fields(alloc, local.fields(), time_zone_ref)
     }
 
     /// Writes what [`DateTime::find`] returns to the slots of a buffer, as far as they go, and counts all entries. The other slots stay as they are.
@@ -174,6 +208,39 @@ impl DateTime {
             nanoseconds,
             time_zone_ref,
         ) {
+            Ok(list) => Ok(list),
+            Err(refused) => Err(refused.fault),
+        }
+    }
+
+    /// What [`DateTime::find_n`] returns for the fields of the local time. The `UtcDateTime` is read as a local time, without an offset.
+    ///
+    /// How many instants and jumps a local time has, without allocating: almost always 1, and 2 if clocks show it twice.
+    ///
+    /// ```rust
+    /// pub fn count_meanings(zone: TimeZoneRef<'_>, local: UtcDateTime) -> Result<usize, TzError> {
+    ///     let mut slots = [None; 2];
+    ///     Ok(DateTime::find_n_local(&mut slots, local, zone)?.count())
+    /// }
+    /// ```
+    ///
+    /// # Errors
+    ///
+    /// [`TzError::OutOfRange`] as for [`DateTime::find`].
+    pub fn find_n_local<'a>(
+        buf: &'a mut [Option<FoundDateTimeKind>],
+        local: UtcDateTime,
+        time_zone_ref: TimeZoneRef<'_>,
+    ) -> Result<FoundDateTimeListRefMut<'a>, TzError>
+        ensures same_reference { IfOk result (λ list. reference_of list ≡ buf.entry.ghost_name) }
+        ensures ok { IfOk result (λ list. (found : List FoundDateTimeKind) × IsFound (IsClock (zone_of time_zone_ref.entry)) local found
+            × (count_of list ≡ length found) × (slots_of list ≡ filled buf.old found)) }
+        ensures made { OnOk result (EachCanBeMade (IsClock (zone_of time_zone_ref.entry)) local) }
+        ensures promised { IsPromised (zone_of time_zone_ref.entry) local.year → IfErr result (λ e. e ≢ TzError.OutOfRange) }
+        ensures err { IfErr result (IsFindFault ⊥ (IsClock (zone_of time_zone_ref.entry)) local) }
+    {
+        let mut view = Uncounted::new(time_zone_ref.transitions());
+        match DateTime::listed_in(buf, local.fields(), &mut view, time_zone_ref) {
             Ok(list) => Ok(list),
             Err(refused) => Err(refused.fault),
         }
@@ -253,15 +320,7 @@ impl DateTime {
         ensures promised { IsPromised (zone_of time_zone_ref.entry) year → IfErr result (λ refused. refused.fault ≢ TzError.OutOfRange) }
         ensures err { IfErr result (λ refused. IsFindFault ⊥ (IsClock (zone_of time_zone_ref.entry)) (fields_of year month month_day hour minute second nanoseconds) refused.fault) }
     {
-        let fields = Fields {
-            year,
-            month,
-            month_day,
-            hour,
-            minute,
-            second,
-            nanoseconds,
-        };
+        let fields = Fields::new(year, month, month_day, hour, minute, second, nanoseconds);
         let mut view = Uncounted::new(time_zone_ref.transitions());
         DateTime::listed_in(buf, &fields, &mut view, time_zone_ref)
     }
@@ -294,15 +353,7 @@ impl DateTime {
         ensures at_least_one { IfOk result (λ counted. 0 < length (zone_of time_zone_ref.entry).transitions → 1 ≤ counted.1) }
         ensures none { IfOk result (λ counted. length (zone_of time_zone_ref.entry).transitions ≡ 0 → counted.1 ≡ 0) }
     {
-        let fields = Fields {
-            year,
-            month,
-            month_day,
-            hour,
-            minute,
-            second,
-            nanoseconds,
-        };
+        let fields = Fields::new(year, month, month_day, hour, minute, second, nanoseconds);
         let mut view = Counted::new(time_zone_ref.transitions());
         let list = DateTime::listed_in(buf, &fields, &mut view, time_zone_ref)?;
         Ok((list, view.looks()))
@@ -332,37 +383,13 @@ impl DateTime {
         ensures at_least_one { OnOk result (0 < length (zone_of time_zone_ref.entry).transitions → V.next (V.looks view.old) ≤ V.looks view.new) }
         ensures none { OnOk result (length (zone_of time_zone_ref.entry).transitions ≡ 0 → V.looks view.new ≡ V.looks view.old) }
     {
-        match DateTime::fill(buf, fields, view, time_zone_ref) {
-            Ok(count) => Ok(FoundDateTimeListRefMut::counted(buf, count)),
+        let mut writer = SlotWriter::new(buf);
+        match find_in(&mut writer, fields, view, time_zone_ref) {
+            Ok(()) => {
+                let count = writer.count();
+                Ok(FoundDateTimeListRefMut::counted(buf, count))
+            }
             Err(fault) => Err(Refused { buf, fault }),
         }
-    }
-
-    /// Writes what is found of the fields to the slots, as far as they go, and counts all entries.
-    #[inline(always)]
-    fn fill<V: Transitions>(
-        buf: &mut [Option<FoundDateTimeKind>],
-        fields: &Fields,
-        view: &mut V,
-        time_zone_ref: TimeZoneRef<'_>,
-    ) -> Result<usize, TzError>
-        requires { V.list view.old ≡ (zone_of time_zone_ref).transitions }
-        ensures ok { IfOk result (λ count. (found : List FoundDateTimeKind)
-            × IsFound (IsClock (zone_of time_zone_ref.entry)) fields.now found
-            × (count ≡ length found) × (buf.new ≡ filled buf.old found)) }
-        ensures valid { OnOk result (IsValid fields.now) }
-        ensures made { OnOk result (EachCanBeMade (IsClock (zone_of time_zone_ref.entry)) fields.now) }
-        ensures untouched { IsValid fields.now ⊎ (buf.new ≡ buf.old) }
-        ensures promised { IsPromised (zone_of time_zone_ref.entry) fields.now.year → IfErr result (λ e. e ≢ TzError.OutOfRange) }
-        ensures err { IfErr result (IsFindFault ⊥ (IsClock (zone_of time_zone_ref.entry)) fields.now) }
-        ensures at_most { OnOk result ((b w : ℕ) → length (zone_of time_zone_ref.entry).transitions < 2 ^ b
-            → AtMostTakeEffectAround (zone_of time_zone_ref.entry) (reading fields.now) w
-            → V.looks view.new ≤ V.looks view.old + (2 * b + w + 4)) }
-        ensures at_least_one { OnOk result (0 < length (zone_of time_zone_ref.entry).transitions → V.next (V.looks view.old) ≤ V.looks view.new) }
-        ensures none { OnOk result (length (zone_of time_zone_ref.entry).transitions ≡ 0 → V.looks view.new ≡ V.looks view.old) }
-    {
-        let mut writer = SlotWriter::new(buf);
-        find_in(&mut writer, fields, view, time_zone_ref)?;
-        Ok(writer.count())
     }
 }

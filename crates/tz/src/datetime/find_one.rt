@@ -5,12 +5,11 @@ ghost use Rattle.tz_base.specs.Fields.{IsValid};
 ghost use Rattle.tz_zone.specs.Clock.{IsClock};
 ghost use Rattle.tz_zone.specs.ZoneRef.{zone_of};
 ghost use Rattle.tz.specs.Found.{EachCanBeMade};
-ghost use Rattle.tz.specs.Meanings.{IsMeaning, IsMeaningFault, IsMeantBy, IsMeantFault};
+ghost use Rattle.tz.specs.Meanings.{IsMeaning, IsMeaningFault};
 
-use super::disambiguation::instant;
+use super::disambiguation::{Summary, resolved};
 use super::find::find_in;
-use super::summary::Summary;
-use super::{DateTime, Disambiguation, FoundDateTimeKind, UtcDateTime};
+use super::{DateTime, Disambiguation, UtcDateTime};
 use tz_base::error::TzError;
 use tz_base::fields::Fields;
 use tz_zone::inner::Uncounted;
@@ -33,38 +32,20 @@ fn meant(
     let Some(entry) = summary.entry(disambiguation) else {
         return Ok(None);
     };
-    Ok(Some(date_time_of(&entry, fields, disambiguation, time_zone_ref)?))
-}
-
-/// Resolves an entry: the date time itself, or in a gap the one at the chosen instant.
-fn date_time_of(
-    entry: &FoundDateTimeKind,
-    fields: &Fields,
-    disambiguation: Disambiguation,
-    time_zone_ref: TimeZoneRef<'_>,
-) -> Result<DateTime, TzError>
-    requires { IsValid fields.now }
-    ensures ok { IfOk result (IsMeantBy (zone_of time_zone_ref.entry) disambiguation fields.now entry.now) }
-    ensures err { IfErr result (IsMeantFault (zone_of time_zone_ref.entry) disambiguation fields.now entry.now) }
-{
-    match entry {
-        FoundDateTimeKind::Normal(date_time) => Ok(*date_time),
-        FoundDateTimeKind::Skipped {
-            before_transition,
-            after_transition,
-        } => {
-            let unix_time = instant(fields, disambiguation, before_transition, after_transition);
-            DateTime::from_timespec(unix_time, fields.nanoseconds, time_zone_ref)
+    match resolved(&entry, fields, disambiguation) {
+        Ok(date_time) => Ok(Some(date_time)),
+        Err(unix_time) => {
+            let nanoseconds = fields.nanoseconds;
+            Ok(Some(DateTime::from_timespec(unix_time, nanoseconds, time_zone_ref)?))
         }
     }
 }
 
 impl DateTime {
     ghost use Rattle.std.specs.Prelude.{IfOk, IfErr, OnOk};
-    ghost use Rattle.tz_base.specs.Fields.{IsValid};
+    ghost use Rattle.tz_base.specs.Fields.{IsValid, fields_of};
     ghost use Rattle.tz_zone.specs.Clock.{IsClock};
     ghost use Rattle.tz_zone.specs.ZoneRef.{zone_of};
-    ghost use Rattle.tz.specs.DateTimes.{fields_of};
     ghost use Rattle.tz.specs.Found.{EachCanBeMade};
     ghost use Rattle.tz.specs.Meanings.{IsMeaning, IsMeaningFault};
 
@@ -108,15 +89,7 @@ impl DateTime {
         ensures made { OnOk result (EachCanBeMade (IsClock (zone_of time_zone_ref.entry)) (fields_of year month month_day hour minute second nanoseconds)) }
         ensures err { IfErr result (IsMeaningFault (zone_of time_zone_ref.entry) disambiguation (fields_of year month month_day hour minute second nanoseconds)) }
     {
-        let fields = Fields {
-            year,
-            month,
-            month_day,
-            hour,
-            minute,
-            second,
-            nanoseconds,
-        };
+        let fields = Fields::new(year, month, month_day, hour, minute, second, nanoseconds);
         meant(&fields, disambiguation, time_zone_ref)
     }
 

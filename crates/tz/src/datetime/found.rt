@@ -1,6 +1,15 @@
 //! What a search of date times finds.
 
+ghost use Rattle.std.specs.Prelude.{◌≡◌, IfOk, IfErr};
+ghost use Rattle.tz_base.specs.Fields.{IsValid};
+ghost use Rattle.tz.specs.Entries.{Jump, IsEntryOutside};
+ghost use Rattle.tz.specs.Found.{CanBeMade};
+ghost use Rattle.tz.specs.EntryDateTimes.{IsDateTimeOf};
+
 use super::DateTime;
+use tz_base::error::TzError;
+use tz_base::fields::Fields;
+use tz_zone::timezone::LocalTimeType;
 
 /// A found date time.
 #[derive(Clone, Copy, Debug, PartialEq)]
@@ -47,4 +56,27 @@ impl FoundDateTimeKind {
             } => after_transition,
         }
     }
+}
+
+/// A jump from the first type to the second, with the nanoseconds of the fields.
+///
+/// `OutOfRange`: a side of it is in no year of 32 bits.
+#[inline(always)]
+pub(super) fn jump(
+    fields: &Fields,
+    unix_time: i64,
+    before: LocalTimeType,
+    after: LocalTimeType,
+) -> Result<FoundDateTimeKind, TzError>
+    requires { IsValid fields.now }
+    ensures ok { IfOk result (IsDateTimeOf fields.now (Jump unix_time before after)) }
+    ensures made { IfOk result CanBeMade }
+    ensures err { IfErr result (λ e. (e ≡ TzError.OutOfRange) × IsEntryOutside (Jump unix_time before after)) }
+{
+    let before_transition = DateTime::shown_by(unix_time, fields.nanoseconds, before)?;
+    let after_transition = DateTime::shown_by(unix_time, fields.nanoseconds, after)?;
+    Ok(FoundDateTimeKind::Skipped {
+        before_transition,
+        after_transition,
+    })
 }

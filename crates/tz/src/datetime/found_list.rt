@@ -1,7 +1,8 @@
 //! Lists of found date times that own their memory.
 
+use super::entries::DateTimeList;
 use super::{DateTime, FoundDateTimeKind};
-use std::alloc::{Allocator, Global};
+use std::alloc::{AllocError, Allocator, Global};
 use std::fmt;
 use tz_base::error::TzError;
 
@@ -72,6 +73,30 @@ impl<A: Allocator + Copy> FoundDateTimeList<A> {
         ensures { result.items ≡ found_of self }
     {
         self.found
+    }
+}
+
+impl<A: Allocator + Copy> DateTimeList for FoundDateTimeList<A> {
+    ghost use Rattle.std.specs.Prelude.{◌≡◌, ◌++◌, ⊤};
+    ghost use Rattle.std.proofs.Common.{rules};
+    ghost use Rattle.std.proofs.lemmas.Grind.{common_steps};
+
+    ghost gains = { λ list grown found. grown.found.items ≡ list.found.items ++ found };
+
+    ghost takes_memory = { ⊤ };
+
+    ghost none = { Prim.search (rules, common_steps) };
+
+    ghost more = { Prim.search (rules, common_steps) };
+
+    /// The first one gets room for two, since a reading is found once, or twice if clocks are set back over it.
+    #[inline(always)]
+    fn push(&mut self, found: FoundDateTimeKind) -> Result<(), AllocError> {
+        if self.found.is_empty() {
+            self.found.reserve_exact(2)?;
+        }
+        self.found.push(found)?;
+        Ok(())
     }
 }
 

@@ -9,8 +9,10 @@ ghost use Rattle.tz.specs.Found.{EachCanBeMade};
 ghost use Rattle.tz.specs.LocalMeanings.{HasMeaning, MeansMore, meaning_of};
 ghost use Rattle.tz.specs.declared.datetime.found.FoundDateTimeKind.TheVariants.{Normal};
 
+use super::entries::DateTimeList;
 use super::find::find_in;
 use super::{DateTime, FoundDateTimeKind, UtcDateTime};
+use std::alloc::AllocError;
 use tz_base::error::TzError;
 use tz_base::fields::Fields;
 use tz_zone::inner::Uncounted;
@@ -58,19 +60,6 @@ fn meaning_of_one(found: &FoundDateTimeKind) -> Meaning
     }
 }
 
-/// The meaning of a date time that clocks show, and another entry.
-fn meaning_of_two(first: &DateTime, second: &FoundDateTimeKind) -> Meaning
-    ensures { result ≡ meaning_of (Normal first.now ∷ second.now ∷ []) }
-{
-    match second {
-        FoundDateTimeKind::Normal(last) => Meaning::Twice {
-            first: *first,
-            last: *last,
-        },
-        FoundDateTimeKind::Skipped { .. } => Meaning::More(2),
-    }
-}
-
 /// The meaning of a list that has one more entry.
 #[inline(always)]
 fn meaning_with(meaning: &Meaning, found: &FoundDateTimeKind) -> Meaning
@@ -78,7 +67,13 @@ fn meaning_with(meaning: &Meaning, found: &FoundDateTimeKind) -> Meaning
 {
     match meaning {
         Meaning::Nothing => meaning_of_one(found),
-        Meaning::Once(first) => meaning_of_two(first, found),
+        Meaning::Once(first) => match found {
+            FoundDateTimeKind::Normal(last) => Meaning::Twice {
+                first: *first,
+                last: *last,
+            },
+            FoundDateTimeKind::Skipped { .. } => Meaning::More(2),
+        },
         Meaning::Skipped { .. } => Meaning::More(2),
         Meaning::Twice { .. } => Meaning::More(3),
         // A list has less than 2^33 entries, so the count never comes to its end.
@@ -86,15 +81,21 @@ fn meaning_with(meaning: &Meaning, found: &FoundDateTimeKind) -> Meaning
     }
 }
 
-impl Meaning {
-    ghost use Rattle.tz.specs.LocalMeanings.{MeansMore};
+impl DateTimeList for Meaning {
+    ghost use Rattle.tz.specs.LocalMeanings.{MeansMore, means_none, means_more};
 
-    /// Takes one more entry into account.
+    ghost gains = { MeansMore };
+
+    ghost takes_memory = { ⊥ };
+
+    ghost none = { means_none };
+
+    ghost more = { means_more };
+
     #[inline(always)]
-    pub(super) fn add(&mut self, found: FoundDateTimeKind)
-        ensures { MeansMore self.old self.new (found ∷ []) }
-    {
+    fn push(&mut self, found: FoundDateTimeKind) -> Result<(), AllocError> {
         *self = meaning_with(self, &found);
+        Ok(())
     }
 }
 
@@ -113,10 +114,9 @@ fn meant(fields: &Fields, time_zone_ref: TimeZoneRef<'_>) -> Result<Meaning, TzE
 }
 
 impl DateTime {
-    ghost use Rattle.tz_base.specs.Fields.{IsValid};
+    ghost use Rattle.tz_base.specs.Fields.{IsValid, fields_of};
     ghost use Rattle.tz_zone.specs.Clock.{IsClock};
     ghost use Rattle.tz_zone.specs.ZoneRef.{zone_of};
-    ghost use Rattle.tz.specs.DateTimes.{fields_of};
     ghost use Rattle.tz.specs.FindFaults.{IsFindFault, IsPromised};
     ghost use Rattle.tz.specs.Found.{EachCanBeMade};
     ghost use Rattle.tz.specs.LocalMeanings.{HasMeaning};
@@ -145,15 +145,7 @@ impl DateTime {
         ensures promised { IsPromised (zone_of time_zone_ref.entry) year → IfErr result (λ e. e ≢ TzError.OutOfRange) }
         ensures err { IfErr result (IsFindFault ⊥ (IsClock (zone_of time_zone_ref.entry)) (fields_of year month month_day hour minute second nanoseconds)) }
     {
-        let fields = Fields {
-            year,
-            month,
-            month_day,
-            hour,
-            minute,
-            second,
-            nanoseconds,
-        };
+        let fields = Fields::new(year, month, month_day, hour, minute, second, nanoseconds);
         meant(&fields, time_zone_ref)
     }
 

@@ -1,22 +1,17 @@
 //! Date times.
 
 pub(crate) mod date_time;
-mod date_time_list;
-mod dated;
 mod disambiguation;
 pub(crate) mod entries;
 pub(crate) mod find;
-mod find_local;
 mod find_one;
 mod found;
 mod found_list;
 mod found_list_ref;
 mod meaning;
 pub(crate) mod plain;
-mod plain_writer;
 pub(crate) mod search;
 mod slot_writer;
-mod summary;
 mod totals;
 pub(crate) mod utc_date_time;
 pub(crate) mod zone_view;

@@ -2,8 +2,9 @@
 
 ghost use Rattle.std.specs.Prelude.{◌≡◌};
 ghost use Rattle.tz.specs.DateTimes.{IsDateTime};
-ghost use Rattle.tz.specs.Plain.{IsUtcData, date_time_data, found_data};
+ghost use Rattle.tz.specs.Plain.{IsUtcData, date_time_data};
 
+use super::slot_writer::Slot;
 use super::{DateTime, FoundDateTimeKind, UtcDateTime};
 use tz_base::fields::Fields;
 use tz_rule::timezone::LocalTimeType;
@@ -83,12 +84,13 @@ impl DateTimeData {
     }
 }
 
-impl FoundData {
-    /// Becomes the data of what is found.
+impl Slot for FoundData {
+    ghost use Rattle.tz.specs.Plain.{found_data};
+
+    ghost holding = { found_data };
+
     #[inline(always)]
-    pub(super) fn set(&mut self, found: &FoundDateTimeKind)
-        ensures { self.new ≡ found_data found.now }
-    {
+    fn set(&mut self, found: &FoundDateTimeKind) {
         match found {
             FoundDateTimeKind::Normal(date_time) => {
                 self.is_skipped = false;

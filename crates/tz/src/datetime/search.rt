@@ -16,9 +16,7 @@ ghost use Rattle.tz.specs.Reached.{AreOffsetsOf};
 ghost use Rattle.tz.specs.Windows.{AtMostTakeEffectIn, AtMostTakeEffectAround, IsSearchable, IsSmall, first_looks};
 ghost use Rattle.tz.specs.declared.datetime.found.FoundDateTimeKind.{FoundDateTimeKind};
 
-use super::date_time_list::DateTimeList;
-use super::dated::Dated;
-use super::entries::Entries;
+use super::entries::{DateTimeList, Dated, Entries};
 use tz_base::error::TzError;
 use tz_base::fields::Fields;
 use tz_zone::inner::{

@@ -1,24 +1,68 @@
 //! Slots of a caller while a search writes to them.
 
 use super::FoundDateTimeKind;
+use super::entries::DateTimeList;
+use std::alloc::AllocError;
 
-/// The slots that a search writes to in order, and how many date times it found.
+/// What holds one entry of a list.
+pub(crate) trait Slot {
+    ghost use Rattle.std.specs.Prelude.{◌≡◌};
+    ghost use Rattle.tz.specs.declared.datetime.found.FoundDateTimeKind.{FoundDateTimeKind};
+
+    /// The slot that holds an entry.
+    ghost holding: { FoundDateTimeKind → Self };
+
+    /// Writes an entry to the slot.
+    fn set(&mut self, found: &FoundDateTimeKind)
+        ensures { self.new ≡ holding found.now };
+}
+
+impl Slot for Option<FoundDateTimeKind> {
+    ghost use Rattle.std.specs.Prelude.{Some};
+
+    ghost holding = { Some };
+
+    #[inline(always)]
+    fn set(&mut self, found: &FoundDateTimeKind) {
+        *self = Some(*found);
+    }
+}
+
+/// The slots that a search writes to in order from one of its entries on, and how many it found.
 #[derive(Drop)]
-pub(crate) struct SlotWriter<'a> {
-    slots: &'a mut [Option<FoundDateTimeKind>],
+pub(crate) struct SlotWriter<'a, S> {
+    slots: &'a mut [S],
+    skip: usize,
     count: usize,
 }
 
-impl<'a> SlotWriter<'a> {
-    ghost use Rattle.std.specs.Prelude.{◌≡◌, ◌+◌, ◌<◌, ◌≤◌, Some, length, min, slice_set};
+impl<'a, S: Slot> SlotWriter<'a, S> {
+    ghost use Rattle.std.specs.Prelude.{◌≡◌, ◌+◌, ◌-◌, ◌<◌, ◌≤◌, length, min, slice_set};
 
     /// Nothing is found yet.
-    pub(super) fn new(slots: &'a mut [Option<FoundDateTimeKind>]) -> Self
+    #[inline(always)]
+    pub(super) fn new(slots: &'a mut [S]) -> Self
         ensures same_reference { result.slots.ghost_name ≡ slots.entry.ghost_name }
         ensures slots { result.slots.now ≡ slots.old }
+        ensures skip { result.skip ≡ 0 }
         ensures count { result.count ≡ 0 }
     {
-        SlotWriter { slots, count: 0 }
+        SlotWriter::after(slots, 0)
+    }
+
+    /// Nothing is found yet. The first entries, this many, get no slot.
+    #[inline(always)]
+    pub(super) fn after(slots: &'a mut [S], skip: usize) -> Self
+        ensures same_reference { result.slots.ghost_name ≡ slots.entry.ghost_name }
+        ensures slots { result.slots.now ≡ slots.old }
+        ensures skip { result.skip ≡ skip }
+        ensures count { result.count ≡ 0 }
+    {
+        SlotWriter {
+            slots,
+            skip,
+            count: 0,
+        }
     }
 
     /// How many date times were found, whether there was a slot for each or not.
@@ -28,17 +72,41 @@ impl<'a> SlotWriter<'a> {
         self.count
     }
 
-    /// Counts one more, and writes it to the next slot, if there is one.
-    pub(super) fn write(&mut self, found: FoundDateTimeKind)
+    /// Counts one more, and writes it to its slot, if there is one.
+    fn write(&mut self, found: &FoundDateTimeKind)
         ensures same_reference { self.new.slots.ghost_name ≡ self.old.slots.ghost_name }
-        ensures slots { self.old.count < length self.old.slots.now → self.new.slots.now ≡ slice_set self.old.slots.now self.old.count (Some found) }
-        ensures full { length self.old.slots.now ≤ self.old.count → self.new.slots.now ≡ self.old.slots.now }
+        ensures skip { self.new.skip ≡ self.old.skip }
+        ensures slots { self.old.skip ≤ self.old.count → self.old.count - self.old.skip < length self.old.slots.now
+            → self.new.slots.now ≡ slice_set self.old.slots.now (self.old.count - self.old.skip) (S.holding found.now) }
+        ensures skipped { self.old.count < self.old.skip → self.new.slots.now ≡ self.old.slots.now }
+        ensures full { self.old.skip ≤ self.old.count → length self.old.slots.now ≤ self.old.count - self.old.skip
+            → self.new.slots.now ≡ self.old.slots.now }
         ensures count { self.new.count ≡ min (self.old.count + 1) usize.MAX }
     {
-        if self.count < self.slots.len() {
-            self.slots[self.count] = Some(found);
+        if self.skip <= self.count {
+            let place = self.count - self.skip;
+            if place < self.slots.len() {
+                self.slots[place].set(found);
+            }
         }
         // A list has less than 2^33 entries, so the count never comes to its end.
         self.count = self.count.saturating_add(1);
+    }
+}
+
+impl<S: Slot> DateTimeList for SlotWriter<'_, S> {
+    ghost use Rattle.tz.specs.Buffers.{GrowsBy, grows_by_none, grows_by_more};
+
+    ghost gains = { GrowsBy S.holding };
+
+    ghost takes_memory = { ⊥ };
+
+    ghost none = { grows_by_none S.holding };
+
+    ghost more = { grows_by_more S.holding };
+
+    fn push(&mut self, found: FoundDateTimeKind) -> Result<(), AllocError> {
+        self.write(&found);
+        Ok(())
     }
 }

@@ -16,11 +16,7 @@ pub(super) fn utc_timespec(total: i128) -> Option<(i64, u32)>
     ensures in_range { IsSome result ↔ IsUtcTotal total }
 {
     let (seconds, nanoseconds) = calendar::timespec(total)?;
-    if is_reading(seconds) {
-        Some((seconds, nanoseconds))
-    } else {
-        None
-    }
+    is_reading(seconds).then_some((seconds, nanoseconds))
 }
 
 /// The seconds of all UTC date times.
@@ -33,11 +29,7 @@ fn carried(seconds: i64, nanoseconds: u32) -> Option<(i64, u32)>
     ensures in_range { IsSome result ↔ IsUtcTotal (total_nanoseconds_of seconds nanoseconds) }
 {
     let whole = seconds + i64::from(nanoseconds / NANOSECONDS_PER_SECOND);
-    if is_reading(whole) {
-        Some((whole, nanoseconds % NANOSECONDS_PER_SECOND))
-    } else {
-        None
-    }
+    is_reading(whole).then_some((whole, nanoseconds % NANOSECONDS_PER_SECOND))
 }
 
 /// The seconds and nanoseconds a duration after others, if the seconds are those of a UTC date time.

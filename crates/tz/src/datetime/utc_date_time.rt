@@ -95,8 +95,8 @@ impl UtcDateTime {
     ghost use Rattle.std.specs.Prelude.{◌≡◌, ◌<◌, pos, ◌+ℤ◌, ◌-ℤ◌, OnOk, IfOk, IfErr, IsSome, IfSome, ◌↔◌};
     ghost use Rattle.std.specs.Duration.{as_nanos};
     ghost use Rattle.tz_base.specs.Days.{week_day_of, first_day};
-    ghost use Rattle.tz_base.specs.Fields.{IsCivil, IsReading, reading, day_of};
-    ghost use Rattle.tz.specs.DateTimes.{fields_of, IsUtc, IsUtcFault, IsShowFault, utc_total, IsUtcTotal, IsUtcAt, IsForwards, IsBackwards, ShowsByClock, IsClockFault};
+    ghost use Rattle.tz_base.specs.Fields.{IsCivil, IsReading, reading, day_of, fields_of};
+    ghost use Rattle.tz.specs.DateTimes.{IsUtc, IsUtcFault, IsShowFault, utc_total, IsUtcTotal, IsUtcAt, IsForwards, IsBackwards, ShowsByClock, IsClockFault};
     ghost use Rattle.tz_zone.specs.ZoneRef.{zone_of};
 
     /// 1970-01-01T00:00:00Z, from which Unix time counts.
@@ -170,30 +170,12 @@ impl UtcDateTime {
         ensures ok { OnOk result (IsUtc (fields_of year month month_day hour minute second nanoseconds)) }
         ensures err { IfErr result (IsUtcFault (fields_of year month month_day hour minute second nanoseconds)) }
     {
-        let fields = Fields {
-            year,
-            month,
-            month_day,
-            hour,
-            minute,
-            second,
-            nanoseconds,
-        };
-        UtcDateTime::from_fields(fields)
-    }
-
-    /// The date time with these fields.
-    fn from_fields(fields: Fields) -> Result<Self, TzError>
-        ensures value { IfOk result (λ d. d ≡ fields) }
-        ensures ok { OnOk result (IsUtc fields) }
-        ensures err { IfErr result (IsUtcFault fields) }
-    {
+        let fields = Fields::new(year, month, month_day, hour, minute, second, nanoseconds);
         if is_past_the_end(&fields) {
             return Err(TzError::OutOfRange);
         }
         fields.check()?;
-        let unix_time = fields.reading();
-        Ok(UtcDateTime { fields, unix_time })
+        Ok(UtcDateTime::of_fields(fields))
     }
 
     /// The date time with these fields, which have one.
@@ -249,16 +231,9 @@ impl UtcDateTime {
         ensures ok { IfOk result (IsUtcAt total_nanoseconds) }
         ensures err { IfErr result (λ e. (e ≡ TzError.OutOfRange) × ¬ IsUtcTotal total_nanoseconds) }
     {
-        UtcDateTime::at_total(total_nanoseconds).ok_or(TzError::OutOfRange)
-    }
-
-    /// The date time of a total of nanoseconds, if it has one.
-    fn at_total(total_nanoseconds: i128) -> Option<Self>
-        ensures in_range { IsSome result ↔ IsUtcTotal total_nanoseconds }
-        ensures some { IfSome result (IsUtcAt total_nanoseconds) }
-    {
-        let (unix_time, nanoseconds) = utc_timespec(total_nanoseconds)?;
-        Some(UtcDateTime::at(unix_time, nanoseconds))
+        let total = utc_timespec(total_nanoseconds);
+        let (unix_time, nanoseconds) = total.ok_or(TzError::OutOfRange)?;
+        Ok(UtcDateTime::at(unix_time, nanoseconds))
     }
 
     /// The date time of the current time, which the caller passes as Unix seconds and nanoseconds below a second.

@@ -7,17 +7,16 @@ ghost use Rattle.tz_zone.specs.ZoneViewed.{zone_viewed};
 ghost use Rattle.tz.specs.DateTimes.{ShowsByClock, IsClockFault};
 ghost use Rattle.tz.specs.FindFaults.{IsFarFromEnds, IsFindFault, IsSearchFault};
 ghost use Rattle.tz.specs.Found.{EachCanBeMade, IsFound};
-ghost use Rattle.tz.specs.Meanings.{IsMeaning, IsMeaningFault, IsMeantBy, IsMeantFault};
+ghost use Rattle.tz.specs.Meanings.{IsMeaning, IsMeaningFault};
 ghost use Rattle.tz.specs.Plain.{entries_from, placed};
 ghost use Rattle.tz.specs.declared.datetime.found.FoundDateTimeKind.{FoundDateTimeKind};
 
-use super::date_time_list::DateTimeList;
-use super::disambiguation::instant;
+use super::disambiguation::{Summary, resolved};
+use super::entries::DateTimeList;
 use super::plain::FoundData;
-use super::plain_writer::PlainWriter;
 use super::search::search;
-use super::summary::Summary;
-use super::{DateTime, Disambiguation, FoundDateTimeKind};
+use super::slot_writer::SlotWriter;
+use super::{DateTime, Disambiguation};
 use tz_base::constants::NANOSECONDS_PER_SECOND;
 use tz_base::error::TzError;
 use tz_base::error::datetime::DateTimeError;
@@ -92,22 +91,6 @@ fn check_entries(fields: &Fields, zone: &ZoneView<'_>) -> Result<(), TzError>
     check_by_search(fields, zone)
 }
 
-/// Writes what is found of fields whose entries can all be made.
-#[inline(always)]
-fn fill(slots: &mut [FoundData], skip: usize, fields: &Fields, zone: &ZoneView<'_>) -> usize
-    requires valid { IsValid fields.now }
-    requires made { EachCanBeMade (IsClock (zone_viewed zone.now)) fields.now }
-    ensures { (found : List FoundDateTimeKind) × IsFound (IsClock (zone_viewed zone.now)) fields.now found
-        × (result ≡ length found) × (slots.new ≡ placed slots.old (entries_from skip found)) }
-{
-    let mut writer = PlainWriter::new(slots, skip);
-    match search_view(&mut writer, fields, zone) {
-        Ok(()) => writer.count(),
-        // No entry is refused.
-        Err(_) => 0,
-    }
-}
-
 /// Writes what is found of the fields, from one of the entries on, to the slots, as far as they go, and counts all entries.
 pub fn find_into(
     slots: &mut [FoundData],
@@ -124,30 +107,9 @@ pub fn find_into(
 {
     fields.check()?;
     check_entries(fields, zone)?;
-    Ok(fill(slots, skip, fields, zone))
-}
-
-/// Resolves an entry: the date time itself, or in a gap the one at the chosen instant.
-fn date_time_of(
-    entry: &FoundDateTimeKind,
-    fields: &Fields,
-    disambiguation: Disambiguation,
-    zone: &ZoneView<'_>,
-) -> Result<DateTime, TzError>
-    requires { IsValid fields.now }
-    ensures ok { IfOk result (IsMeantBy (zone_viewed zone.now) disambiguation fields.now entry.now) }
-    ensures err { IfErr result (IsMeantFault (zone_viewed zone.now) disambiguation fields.now entry.now) }
-{
-    match entry {
-        FoundDateTimeKind::Normal(date_time) => Ok(*date_time),
-        FoundDateTimeKind::Skipped {
-            before_transition,
-            after_transition,
-        } => {
-            let unix_time = instant(fields, disambiguation, before_transition, after_transition);
-            from_timespec(unix_time, fields.nanoseconds, zone)
-        }
-    }
+    let mut writer = SlotWriter::after(slots, skip);
+    search_view(&mut writer, fields, zone)?;
+    Ok(writer.count())
 }
 
 /// The one date time that fields mean, as [`DateTime::find_one`] answers it.
@@ -167,5 +129,8 @@ pub fn find_one(
     let Some(entry) = summary.entry(disambiguation) else {
         return Ok(None);
     };
-    Ok(Some(date_time_of(&entry, fields, disambiguation, zone)?))
+    match resolved(&entry, fields, disambiguation) {
+        Ok(date_time) => Ok(Some(date_time)),
+        Err(unix_time) => Ok(Some(from_timespec(unix_time, fields.nanoseconds, zone)?)),
+    }
 }

@@ -1,5 +1,7 @@
 //! Why a text is not read as a date time.
 
+ghost use Rattle.std.specs.Prelude.{◌≡◌, Some, None, IfOk, IfErr};
+
 use std::fmt;
 use thiserror::Error;
 
@@ -77,4 +79,17 @@ pub struct ParseDateTimeError {
 pub(super) struct Missing<'a> {
     pub(super) part: DateTimePart,
     pub(super) rest: &'a [u8],
+}
+
+/// What is read at the beginning of the bytes, or the part that is missing there.
+#[inline(always)]
+pub(super) fn expect<'a, T>(
+    part: DateTimePart,
+    text: &'a [u8],
+    read: Option<T>,
+) -> Result<T, Missing<'a>>
+    ensures ok { IfOk result (λ value. read ≡ Some value) }
+    ensures err { IfErr result (λ e. (read ≡ None) × (e.part ≡ part) × (e.rest.now ≡ text.now)) }
+{
+    read.ok_or(Missing { part, rest: text })
 }

@@ -10,7 +10,7 @@ ghost use Rattle.std.specs.Prelude.{◌≡◌, ◌-ℤ◌, List, ℕ, [], Option
 ghost use Rattle.tz.specs.DateTimeText.{date_time, IsDateTimeText, IsDateTimeTextFault};
 
 use crate::datetime::UtcDateTime;
-use error::Missing;
+use error::{Missing, expect};
 pub use error::{DateTimePart, ParseDateTimeError};
 use fields::{after_separator, read_date, read_time};
 use offset::read_offset;
@@ -28,21 +28,11 @@ pub struct ParsedDateTime {
 fn read_date_time(text: &[u8]) -> Result<ParsedDateTime, Missing<'_>>
     ensures { MatchResult result (λ p. IsDateTimeText text.now p) (λ e. date_time.misses text.now e.part e.rest.now) }
 {
-    let (date, after_date) = read_date(text)?;
-    let Some(time_text) = after_separator(after_date) else {
-        return Err(Missing {
-            part: DateTimePart::Separator,
-            rest: after_date,
-        });
-    };
-    let (fields, after_time) = read_time(&date, time_text)?;
-    let (ut_offset, rest) = read_offset(after_time)?;
-    if !rest.is_empty() {
-        return Err(Missing {
-            part: DateTimePart::End,
-            rest,
-        });
-    }
+    let (date, text) = read_date(text)?;
+    let text = expect(DateTimePart::Separator, text, after_separator(text))?;
+    let (fields, text) = read_time(&date, text)?;
+    let (ut_offset, text) = read_offset(text)?;
+    expect(DateTimePart::End, text, text.is_empty().then_some(()))?;
     Ok(ParsedDateTime {
         local: UtcDateTime::of_fields(fields),
         ut_offset,
@@ -97,9 +87,6 @@ impl ParsedDateTime {
         ensures none { IfNone result (self.now.ut_offset ≡ None) }
     {
         self.local.parts_are_sound();
-        match self.ut_offset {
-            Some(offset) => Some(self.local.unix_time() - i64::from(offset)),
-            None => None,
-        }
+        Some(self.local.unix_time() - i64::from(self.ut_offset?))
     }
 }

@@ -7,19 +7,6 @@ ghost use Rattle.tz.specs.DateTimeText.{IsDigits, AreYearDigits, IsYear, IsPair,
 
 use tz_zone::inner::after_byte;
 
-/// Ten to each power up to the eighth.
-static POWERS: [u32; 9] = [
-    1,
-    10,
-    100,
-    1_000,
-    10_000,
-    100_000,
-    1_000_000,
-    10_000_000,
-    100_000_000,
-];
-
 /// The value of a digit, which is below 10; for every other byte it is 10 or more.
 #[inline(always)]
 fn value_of(byte: u8) -> u8
@@ -77,13 +64,10 @@ fn are_year_digits(digits: &[u8]) -> bool
     requires { AllDigits 10 digits.now }
     ensures { MatchBool result (AreYearDigits digits.now) (¬ AreYearDigits digits.now) }
 {
-    if digits.len() >= 4 {
-        return true;
-    }
     match digits {
         [] => false,
         [_] => true,
-        [first, ..] => *first != b'0',
+        [first, ..] => digits.len() >= 4 || *first != b'0',
     }
 }
 
@@ -98,10 +82,7 @@ fn read_year_digits(text: &[u8]) -> Option<(i64, &[u8])>
     if !are_year_digits(&text[..count]) {
         return None;
     }
-    match i64::try_from(size) {
-        Ok(size) => Some((size, &text[count..])),
-        Err(_) => None,
-    }
+    Some((i64::try_from(size).ok()?, &text[count..]))
 }
 
 /// The year at the beginning, and the bytes after it.
@@ -114,17 +95,11 @@ pub(super) fn read_year(text: &[u8]) -> Option<(i32, &[u8])>
     match after_byte(text, b'-') {
         Some(unsigned) => {
             let (size, rest) = read_year_digits(unsigned)?;
-            match i32::try_from(-size) {
-                Ok(year) => Some((year, rest)),
-                Err(_) => None,
-            }
+            Some((i32::try_from(-size).ok()?, rest))
         }
         None => {
             let (size, rest) = read_year_digits(text)?;
-            match i32::try_from(size) {
-                Ok(year) => Some((year, rest)),
-                Err(_) => None,
-            }
+            Some((i32::try_from(size).ok()?, rest))
         }
     }
 }
@@ -144,5 +119,6 @@ pub(super) fn read_fraction(text: &[u8]) -> Option<(u32, &[u8])>
     if count == 0 || count > 9 {
         return None;
     }
-    Some((size as u32 * POWERS[9 - count], &digits[count..]))
+    let padding = 10u32.pow(9 - count as u32);
+    Some((size as u32 * padding, &digits[count..]))
 }

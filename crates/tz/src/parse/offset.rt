@@ -3,7 +3,7 @@
 ghost use Rattle.std.specs.Prelude.{◌≡◌, ◌∷◌, ℕ, ◌+◌, ◌*◌, ◌^◌, ◌<◌, List, ℤ, pos, MatchOption, MatchResult, IfOk};
 ghost use Rattle.tz.specs.DateTimeText.{IsPair, IsMark, IsHours, IsMinutes, IsSeconds, duration, offset};
 
-use super::error::{DateTimePart, Missing};
+use super::error::{DateTimePart, Missing, expect};
 use super::number::{read_digits, read_pair};
 use tz_zone::inner::after_byte;
 
@@ -88,32 +88,14 @@ fn read_seconds(hours: u32, minutes: u8, text: &[u8]) -> Option<(u8, &[u8])>
 fn read_duration(text: &[u8]) -> Result<(i32, &[u8]), Missing<'_>>
     ensures { MatchResult result (λ p. (n : ℕ) × (p.0 ≡ pos n) × duration.reads text.now n p.1.now) (λ e. duration.misses text.now e.part e.rest.now) }
 {
-    let Some((hours, colon)) = read_hours(text) else {
-        return Err(Missing {
-            part: DateTimePart::OffsetHour,
-            rest: text,
-        });
-    };
-    let Some(after_colon) = after_byte(colon, b':') else {
-        return Err(Missing {
-            part: DateTimePart::Colon,
-            rest: colon,
-        });
-    };
-    let Some((minutes, after_minutes)) = read_minutes(hours, after_colon) else {
-        return Err(Missing {
-            part: DateTimePart::OffsetMinute,
-            rest: after_colon,
-        });
-    };
-    let Some((seconds, rest)) = read_seconds(hours, minutes, after_minutes) else {
-        return Err(Missing {
-            part: DateTimePart::OffsetSecond,
-            rest: after_minutes,
-        });
-    };
+    let (hours, text) = expect(DateTimePart::OffsetHour, text, read_hours(text))?;
+    let text = expect(DateTimePart::Colon, text, after_byte(text, b':'))?;
+    let minutes = read_minutes(hours, text);
+    let (minutes, text) = expect(DateTimePart::OffsetMinute, text, minutes)?;
+    let seconds = read_seconds(hours, minutes, text);
+    let (seconds, text) = expect(DateTimePart::OffsetSecond, text, seconds)?;
     let total = 3600 * hours + 60 * u32::from(minutes) + u32::from(seconds);
-    Ok((total as i32, rest))
+    Ok((total as i32, text))
 }
 
 /// The offset at the beginning, if there is one, and the bytes after it.
@@ -121,21 +103,16 @@ fn read_duration(text: &[u8]) -> Result<(i32, &[u8]), Missing<'_>>
 pub(super) fn read_offset(text: &[u8]) -> Result<(Option<i32>, &[u8]), Missing<'_>>
     ensures { MatchResult result (λ p. offset.reads text.now p.0 p.1.now) (λ e. offset.misses text.now e.part e.rest.now) }
 {
-    let Some((mark, after)) = read_mark(text) else {
-        return Err(Missing {
-            part: DateTimePart::Offset,
-            rest: text,
-        });
-    };
+    let (mark, text) = expect(DateTimePart::Offset, text, read_mark(text))?;
     match mark {
-        OffsetMark::Absent => Ok((None, after)),
-        OffsetMark::Utc => Ok((Some(0), after)),
+        OffsetMark::Absent => Ok((None, text)),
+        OffsetMark::Utc => Ok((Some(0), text)),
         OffsetMark::Ahead => {
-            let (seconds, rest) = read_duration(after)?;
+            let (seconds, rest) = read_duration(text)?;
             Ok((Some(seconds), rest))
         }
         OffsetMark::Behind => {
-            let (seconds, rest) = read_duration(after)?;
+            let (seconds, rest) = read_duration(text)?;
             Ok((Some(-seconds), rest))
         }
     }

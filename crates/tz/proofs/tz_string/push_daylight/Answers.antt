@@ -7,8 +7,8 @@ use Rattle.tz.proofs.tz_string.push_daylight.Goals as goal
 pub returns-clause-text : goal.returns-clause-text
 returns-clause-text c =
     rw (
-      c.push_turn-2.ensures.text,
-      c.push_turn.ensures.text,
+      c.push_switch-2.ensures.text,
+      c.push_switch.ensures.text,
       c.push_daylight_offset.ensures.text,
       c.push_name.ensures.text,
       c.time_zone_designation.ensures.text,

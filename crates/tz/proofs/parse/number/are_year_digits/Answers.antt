@@ -12,8 +12,8 @@ returns-in-empty c are = no_year_without_digits (subst AreYearDigits (nil_from_l
 pub returns-in-len1 : goal.returns-in-len1
 returns-in-len1 c = printed_digits c.args.digits.now c.requires (omega (arith, c.in-len1.len_at_least)) (omega (arith, c.in-len1.len_below)) (λ zero. omega (arith, c.in-len1.len_at_least, c.in-len1.len_below))
 
-pub returns-in-len1-up : goal.returns-in-len1-up
-returns-in-len1-up c = by_test (nat_eq (get_or c.args.digits.now 0 0) 48) refl
+pub returns-else-digits-ge4 : goal.returns-else-digits-ge4
+returns-else-digits-ge4 c = by_test (nat_eq (get_or c.args.digits.now 0 0) 48) refl
   where
     by_test : (t : Bool) → nat_eq (get_or c.args.digits.now 0 0) 48 ≡ t → MatchBool (not t) (AreYearDigits c.args.digits.now) (¬ AreYearDigits c.args.digits.now)
     by_test true zero = no_printed_digits c.args.digits.now c.requires c.if-digits-ge4.false (eqb-true _ _ zero) c.in-len1-up.len_at_least

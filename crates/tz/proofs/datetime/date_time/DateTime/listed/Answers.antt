@@ -4,4 +4,4 @@ use mir.Syntax.{w32}
 use Rattle.tz.proofs.datetime.date_time.DateTime.listed.Goals as goal
 
 pub returns-clause-err : goal.returns-clause-err
-returns-clause-err c = rw (to_z-of_z w32 c.args.year c.ranges.year) at c.listed_in.ensures.err
+returns-clause-err c = rw (c.new-fields.ensures, to_z-of_z w32 c.args.year c.ranges.year) at c.listed_in.ensures.err

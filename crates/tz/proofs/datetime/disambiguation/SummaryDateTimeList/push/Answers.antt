@@ -3,10 +3,10 @@ use Rattle.std.proofs.Common.{◌∙◌, sym, ap, subst, arith, [], ◌∷◌, S
 use Rattle.std.specs.Option.{option_or}
 use Rattle.tz.specs.Summaries.{IsSummaryOf, shown_entry_of}
 use Rattle.tz.proofs.Summaries.{first_of_grown, last_of_grown, shown_of_grown}
-use Rattle.tz.proofs.datetime.summary.Summary.add.Goals as goal
+use Rattle.tz.proofs.datetime.disambiguation.SummaryDateTimeList.push.Goals as goal
 
-pub returns-in-Several : goal.returns-in-Several
-returns-in-Several c before fits of =
+pub returns-in-Several-clause-ok : goal.returns-in-Several-clause-ok
+returns-in-Several-clause-ok c before fits of =
     let e = c.args.found in
     let size = length-append before (e ∷ []) in
     let (several, first, last, shown) = subst (IsSummaryOf before) c.in-Several.is of in (

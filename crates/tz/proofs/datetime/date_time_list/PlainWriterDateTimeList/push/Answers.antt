@@ -1,8 +1,0 @@
--- The list grows by the one that is written.
-use Rattle.tz.proofs.PlacedSlots.{grows_by_one}
-use Rattle.tz.proofs.datetime.date_time_list.PlainWriterDateTimeList.push.Goals as goal
-
-pub returns-clause-ok : goal.returns-clause-ok
-returns-clause-ok c =
-    let e = c.write.ensures in
-    grows_by_one c.args.self.now c.write.new.self c.args.found e.same_reference e.skip e.slots e.skipped e.full e.count
