@@ -1,7 +1,6 @@
 //! Transitions, leap seconds and time zones.
 
-mod changes_after;
-mod changes_before;
+mod change_iterators;
 mod checks;
 pub(crate) mod file_reader;
 mod offsets;
@@ -17,8 +16,7 @@ pub(crate) mod zone_view;
 
 pub use crate::clock::Change;
 pub use crate::table::{LeapSecond, Transition};
-pub use changes_after::ChangesAfter;
-pub use changes_before::ChangesBefore;
+pub use change_iterators::{ChangesAfter, ChangesBefore};
 pub use file_reader::{read_file, read_file_up_to};
 pub use segment::Segment;
 pub use settings::{DEFAULT_DIRECTORIES, TimeZoneSettings};
