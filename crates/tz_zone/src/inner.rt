@@ -2,7 +2,7 @@
 //! is read of a zone.
 
 pub use crate::clock::{
-    ClockSegment, Span, Stage, WindowTypes, clock_segment_at, first_stage, span_from, window_types,
+    Span, Stage, WindowTypes, clock_segment_at, first_stage, span_from, window_types,
 };
 pub use crate::effect::effect;
 pub use crate::leap_time::leap;

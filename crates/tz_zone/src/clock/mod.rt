@@ -9,7 +9,6 @@ mod lookup;
 mod near;
 mod place;
 mod segment;
-mod segments;
 mod spans;
 mod window;
 
@@ -17,7 +16,6 @@ pub use change::Change;
 pub use changes_after::{change_after_last, following, following_near};
 pub use changes_before::{change_before_next, preceding, preceding_near};
 pub use lookup::find_local_time_type;
-pub use segment::ClockSegment;
-pub use segments::clock_segment_at;
+pub use segment::{Segment, clock_segment_at};
 pub use spans::{Span, Stage, first_stage, span_from};
 pub use window::{WindowTypes, window_types};

@@ -4,7 +4,6 @@ mod change_iterators;
 mod checks;
 pub(crate) mod file_reader;
 mod offsets;
-mod segment;
 mod settings;
 mod zone;
 mod zone_changes;
@@ -14,11 +13,10 @@ pub(crate) mod zone_parts;
 mod zone_ref;
 pub(crate) mod zone_view;
 
-pub use crate::clock::Change;
+pub use crate::clock::{Change, Segment};
 pub use crate::table::{LeapSecond, Transition};
 pub use change_iterators::{ChangesAfter, ChangesBefore};
 pub use file_reader::{read_file, read_file_up_to};
-pub use segment::Segment;
 pub use settings::{DEFAULT_DIRECTORIES, TimeZoneSettings};
 pub use tz_rule::timezone::{
     AlternateTime, Julian0WithLeap, Julian1WithoutLeap, LocalTimeType, MonthWeekDay, RuleDay,

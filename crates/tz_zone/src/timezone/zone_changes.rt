@@ -40,8 +40,7 @@ impl<'a> TimeZoneRef<'a> {
         ensures ends { HasTableEnds (zone_of self.now) (segment_of result).from (segment_of result).last }
     {
         let mut view = Uncounted::new(self.transitions());
-        let segment = clock::clock_segment_at(&mut view, other_parts(self), unix_time);
-        Segment::new(segment.from, segment.last, segment.local_time_type)
+        clock::clock_segment_at(&mut view, other_parts(self), unix_time)
     }
 
     /// The first change after an instant, in Unix seconds, or `None` if the clock does not change any more. Does not allocate.

@@ -126,8 +126,7 @@ impl<'a> ZoneView<'a> {
         ensures ends { HasTableEnds (zone_viewed self.now) (segment_of result).from (segment_of result).last }
     {
         let mut view = Uncounted::new(self.transitions);
-        let segment = clock::clock_segment_at(&mut view, self.other_parts(), unix_time);
-        Segment::new(segment.from, segment.last, segment.local_time_type)
+        clock::clock_segment_at(&mut view, self.other_parts(), unix_time)
     }
 
     /// The first change after an instant, as `TimeZoneRef::following` answers it.

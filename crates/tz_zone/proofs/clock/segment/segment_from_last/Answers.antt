@@ -12,7 +12,7 @@ use Rattle.tz_zone.specs.TableChanges.{IsChangeByRule}
 use Rattle.tz_zone.proofs.LeapTimes.{instant_bounds}
 use Rattle.tz_zone.proofs.LeapMoments.{int_max-one}
 use Rattle.tz_zone.proofs.LeapReached.{up_to_last, reached_since}
-use Rattle.tz_zone.proofs.clock.segments.segment_from_last.Goals as goal
+use Rattle.tz_zone.proofs.clock.segment.segment_from_last.Goals as goal
 
 -- if the rule's segment begins later than the transition starts it begins with a change of the rule
 begin_is : (leaps : List LeapSecond) (rule : Option TransitionRule) (v from first cut : ℤ) → IsMomentOf leaps v from → cut ≡ int_max from first → from ≤ℤ cut

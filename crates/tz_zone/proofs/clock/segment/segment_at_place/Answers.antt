@@ -16,7 +16,7 @@ use Rattle.tz_zone.proofs.Places.{clock_at_place, names_type, type_of_before}
 use Rattle.tz_zone.proofs.PlaceRuns.{types_from_last}
 use Rattle.tz_zone.proofs.SegmentEnds.{before_reached, all_reached, ends_between, ends_after_all}
 use Rattle.tz_zone.proofs.SegmentPlaces.{start_up_to, lies_since}
-use Rattle.tz_zone.proofs.clock.segments.segment_at_place.Goals as goal
+use Rattle.tz_zone.proofs.clock.segment.segment_at_place.Goals as goal
 
 -- the next transition is not reached at the instant
 next_ahead : (z : Zone) → IsSoundTable z → (u : ℤ) (k : ℕ) → IsReachedAt z u k → (next : Transition) → slice_get z.transitions k ≡ Some next → ¬ IsTimeReached z.leap_seconds next.unix_leap_time u

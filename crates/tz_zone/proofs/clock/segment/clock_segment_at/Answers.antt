@@ -5,7 +5,7 @@ use mir.Syntax.{w64}
 use Rattle.tz_zone.specs.ZoneSeen.{zone_seen}
 use Rattle.tz_zone.proofs.SegmentTypes.{match_none}
 use Rattle.tz_zone.proofs.InstantsWithLeapTime.{no_type_refused}
-use Rattle.tz_zone.proofs.clock.segments.clock_segment_at.Goals as goal
+use Rattle.tz_zone.proofs.clock.segment.clock_segment_at.Goals as goal
 
 pub returns-in_default-clause-at : goal.returns-in_default-clause-at
 returns-in_default-clause-at g c =

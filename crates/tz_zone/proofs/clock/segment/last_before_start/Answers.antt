@@ -6,7 +6,7 @@ use mir.Val.{SFits}
 use Rattle.tz_zone.specs.Table.{LeapSecond}
 use Rattle.tz_zone.specs.LeapTime.{IsBeforeStart}
 use Rattle.tz_zone.proofs.LeapTimes.{IsInstant-from_bounds, instant_bounds}
-use Rattle.tz_zone.proofs.clock.segments.last_before_start.Goals as goal
+use Rattle.tz_zone.proofs.clock.segment.last_before_start.Goals as goal
 
 -- before an instant that lies before the start all do
 all_before : (leaps : List LeapSecond) (u v : ℤ) → IsBeforeStart leaps u → v ≤ℤ u → IsBeforeStart leaps v

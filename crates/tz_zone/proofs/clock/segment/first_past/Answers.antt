@@ -6,7 +6,7 @@ use mir.Val.{SFits, to_z, of_z}
 use Rattle.tz_zone.specs.LeapTime.{IsPastInstants}
 use Rattle.tz_zone.proofs.LeapTimes.{IsInstant-from_bounds, instant_bounds, past_later}
 use Rattle.tz_zone.proofs.LeapReached.{after_last, last_is_far, past_if_begun}
-use Rattle.tz_zone.proofs.clock.segments.first_past.Goals as goal
+use Rattle.tz_zone.proofs.clock.segment.first_past.Goals as goal
 
 -- what comes after the last instant is one, which is past it
 record IsNext (past : ℤ → Type 0) (last next u : ℤ) : Type 0 where
