@@ -10,7 +10,7 @@ ghost use Rattle.tz_zone.specs.ValidZone.{AreLeapSeconds, IsSoundTable};
 ghost use Rattle.tz_zone.specs.ZoneSeen.{zone_seen};
 
 use super::after_table::after_table;
-use super::changes_after::first_begun;
+use super::following::first_begun;
 use super::place::{before, place_at, type_of};
 use crate::effect::{last_before, start_of};
 use crate::leap_time::{has_begun, last_instant, last_instant_up_to};
