@@ -1,12 +1,11 @@
 //! The way back from leap times: when a transition takes effect. (RFC 8536, section 2)
 
-ghost use Rattle.std.specs.Prelude.{◌≡◌, ◌≢◌, ◌⊎◌, ℤ, pos, negsuc, ◌+ℤ◌, ◌≤ℤ◌, IfOk, IfErr};
+ghost use Rattle.std.specs.Prelude.{◌≡◌, ◌≢◌, ◌⊎◌, ℤ, pos, negsuc, ◌+ℤ◌, ◌≤ℤ◌, IfOk, IfErr, MatchOption};
 ghost use Rattle.tz_zone.specs.LeapTime.{IsPastInstants, IsLeapTimeRefused, IsTimeReached, IsMomentOf, IsEffect, IsEffectRefused};
 ghost use Rattle.tz_zone.specs.ValidZone.{AreLeapSeconds, HasBegunAt};
 
-use crate::leap_time::{
-    correction_before, has_leap_time, last_instant_up_to, leap_seconds_up_to, less, truncated_start,
-};
+use crate::leap_table::{correction_before, truncated_start};
+use crate::leap_time::{has_leap_time, last_instant_up_to, leap_seconds_up_to, less};
 use crate::table::LeapSecond;
 use tz_base::error::TzError;
 
@@ -72,6 +71,35 @@ pub fn effect(leap_seconds: &[LeapSecond], unix_leap_time: i64) -> Result<i64, T
         return Err(TzError::OutOfRange);
     }
     Ok(unix_time)
+}
+
+/// The instant at which a leap time takes effect, if it is reached at any.
+#[inline(never)]
+fn effect_over(leap_seconds: &[LeapSecond], unix_leap_time: i64) -> Option<i64>
+    requires { AreLeapSeconds leap_seconds.now }
+    ensures { MatchOption result ((u : ℤ) → u ≤ℤ pos 9223372036854775807 → ¬ IsTimeReached leap_seconds.now unix_leap_time u)
+        (λ m. IsMomentOf leap_seconds.now unix_leap_time m × ¬ IsLeapTimeRefused leap_seconds.now m) }
+{
+    let Ok(effect) = i64::try_from(moment(leap_seconds, unix_leap_time)) else {
+        return None;
+    };
+    if last_instant_up_to(leap_seconds, effect) < effect {
+        return None;
+    }
+    Some(effect)
+}
+
+/// The instant at which a leap time takes effect, if it is reached at any. Mostly there are no leap seconds, and it is the leap time itself.
+#[inline(always)]
+pub(crate) fn effect_of(leap_seconds: &[LeapSecond], unix_leap_time: i64) -> Option<i64>
+    requires { AreLeapSeconds leap_seconds.now }
+    ensures { MatchOption result ((u : ℤ) → u ≤ℤ pos 9223372036854775807 → ¬ IsTimeReached leap_seconds.now unix_leap_time u)
+        (λ m. IsMomentOf leap_seconds.now unix_leap_time m × ¬ IsLeapTimeRefused leap_seconds.now m) }
+{
+    if leap_seconds.is_empty() {
+        return Some(unix_leap_time);
+    }
+    effect_over(leap_seconds, unix_leap_time)
 }
 
 /// The last instant that is not past those with a leap time, and not at or after a moment.

@@ -3,69 +3,25 @@
 //! Up to the last transition a walk goes from place to place. It reads the types of transitions, and looks for the instant at which one takes
 //! effect only if its type is another than the one before. From the last one on the rule has the changes.
 
-ghost use Rattle.std.specs.Prelude.{◌≡◌, ℕ, ◌<◌, ◌≤◌, ℤ, pos, ◌≤ℤ◌, ◌<ℤ◌, [], length, slice_get, Some, IfSome, MatchOption};
+ghost use Rattle.std.specs.Prelude.{◌≡◌, ℕ, ◌<◌, ◌≤◌, [], length, slice_get, Some, IfSome, MatchOption};
 ghost use Rattle.tz_rule.specs.LocalTimeType.{LocalTimeType};
 ghost use Rattle.tz_zone.specs.Clock.{IsTypeOfLast};
 ghost use Rattle.tz_zone.specs.ClockSegments.{IsReachedAt};
 ghost use Rattle.tz_zone.specs.Changes.{change_of, IsFollowing, HasNoFollowing};
-ghost use Rattle.tz_zone.specs.LeapTime.{IsBeforeStart, IsLeapTimeRefused, IsTimeReached, IsMomentOf};
+ghost use Rattle.tz_zone.specs.LeapTime.{IsLeapTimeRefused, IsMomentOf};
 ghost use Rattle.tz_zone.specs.Runs.{LiesAt, IsWalkedUp};
 ghost use Rattle.tz_zone.specs.Table.{Transition};
-ghost use Rattle.tz_zone.specs.ValidZone.{AreLeapSeconds, IsSoundTable};
+ghost use Rattle.tz_zone.specs.ValidZone.{IsSoundTable};
 ghost use Rattle.tz_zone.specs.ZoneSeen.{zone_seen};
 
 use super::change::{Change, change_at};
 use super::near::{is_after_all, place_near, place_of};
 use super::place::{type_at, type_before, type_of};
-use crate::effect::moment;
-use crate::leap_time::{first_instant, has_begun, last_instant_up_to, shifted};
-use crate::table::{LeapSecond, OtherParts, Transition, Uncounted};
+use crate::effect::effect_of;
+use crate::leap_time::{first_begun, shifted};
+use crate::table::{OtherParts, Transition, Uncounted};
 use tz_rule::inner::change_after;
 use tz_rule::timezone::LocalTimeType;
-
-/// The first instant from another one on that does not lie before a truncated start, if there is one.
-#[inline(always)]
-pub(super) fn first_begun(leap_seconds: &[LeapSecond], unix_time: i64) -> Option<i64>
-    ensures { MatchOption result ((u : ℤ) → unix_time ≤ℤ u → u ≤ℤ pos 9223372036854775807 → IsBeforeStart leap_seconds.now u)
-        (λ first. (unix_time ≤ℤ first) × (¬ IsBeforeStart leap_seconds.now first) × ((u : ℤ) → unix_time ≤ℤ u → u <ℤ first → IsBeforeStart leap_seconds.now u)) }
-{
-    if has_begun(leap_seconds, unix_time) {
-        return Some(unix_time);
-    }
-    match i64::try_from(first_instant(leap_seconds)) {
-        Ok(first) => Some(first),
-        Err(_) => None,
-    }
-}
-
-/// The instant at which a leap time takes effect, if it is reached at any.
-#[inline(never)]
-fn effect_over(leap_seconds: &[LeapSecond], unix_leap_time: i64) -> Option<i64>
-    requires { AreLeapSeconds leap_seconds.now }
-    ensures { MatchOption result ((u : ℤ) → u ≤ℤ pos 9223372036854775807 → ¬ IsTimeReached leap_seconds.now unix_leap_time u)
-        (λ m. IsMomentOf leap_seconds.now unix_leap_time m × ¬ IsLeapTimeRefused leap_seconds.now m) }
-{
-    let Ok(effect) = i64::try_from(moment(leap_seconds, unix_leap_time)) else {
-        return None;
-    };
-    if last_instant_up_to(leap_seconds, effect) < effect {
-        return None;
-    }
-    Some(effect)
-}
-
-/// The instant at which a leap time takes effect, if it is reached at any. Mostly there are no leap seconds, and it is the leap time itself.
-#[inline(always)]
-fn effect_of(leap_seconds: &[LeapSecond], unix_leap_time: i64) -> Option<i64>
-    requires { AreLeapSeconds leap_seconds.now }
-    ensures { MatchOption result ((u : ℤ) → u ≤ℤ pos 9223372036854775807 → ¬ IsTimeReached leap_seconds.now unix_leap_time u)
-        (λ m. IsMomentOf leap_seconds.now unix_leap_time m × ¬ IsLeapTimeRefused leap_seconds.now m) }
-{
-    if leap_seconds.is_empty() {
-        return Some(unix_leap_time);
-    }
-    effect_over(leap_seconds, unix_leap_time)
-}
 
 /// The first change of a rule after an instant: that of a zone with the rule and without transitions.
 #[inline(always)]

@@ -10,10 +10,9 @@ ghost use Rattle.tz_zone.specs.ValidZone.{AreLeapSeconds, IsSoundTable};
 ghost use Rattle.tz_zone.specs.ZoneSeen.{zone_seen};
 
 use super::after_table::after_table;
-use super::following::first_begun;
 use super::place::{before, place_at, type_of};
 use crate::effect::{last_before, start_of};
-use crate::leap_time::{has_begun, last_instant, last_instant_up_to};
+use crate::leap_time::{first_begun, has_begun, last_instant, last_instant_up_to};
 use crate::table::{LeapSecond, OtherParts, Transition, Transitions};
 use tz_rule::timezone::LocalTimeType;
 

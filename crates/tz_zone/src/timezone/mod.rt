@@ -1,12 +1,12 @@
 //! Transitions, leap seconds and time zones.
 
 mod change_iterators;
-mod checks;
 pub(crate) mod file_reader;
 mod offsets;
 mod settings;
 mod zone;
 mod zone_changes;
+mod zone_checks;
 mod zone_name;
 mod zone_of_file;
 pub(crate) mod zone_parts;

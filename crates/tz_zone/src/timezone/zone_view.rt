@@ -6,8 +6,8 @@ ghost use Rattle.tz_zone.specs.Table.{zone_with};
 ghost use Rattle.tz_zone.specs.ValidZone.{IsSoundTable, IsSoundTable-prop, IsValidZone};
 ghost use Rattle.tz_zone.specs.ZoneSeen.{lent_rule, rule_of_lists};
 
-use super::checks::check_parts;
 use super::offsets::offsets;
+use super::zone_checks::check_parts;
 use super::{Change, LeapSecond, LocalTimeType, Segment, Transition};
 use crate::clock;
 use crate::table::{KeptRule, OtherParts, Uncounted};

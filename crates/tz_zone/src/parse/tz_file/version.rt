@@ -5,7 +5,7 @@ ghost use Rattle.tz_zone.specs.TzFile.{IsVersion, MayHold, is_extended};
 ghost use Rattle.tz_zone.specs.TzParts.{part_view};
 
 use super::block::Part;
-use crate::leap_time;
+use crate::leap_table::is_plain_table;
 use crate::table::LeapSecond;
 
 /// Whether the version is one that is read.
@@ -28,5 +28,5 @@ impl Part<'_> {
 pub(crate) fn may_hold(version: u8, leap_seconds: &[LeapSecond]) -> bool
     ensures { MatchBool result (MayHold version leap_seconds.now) (¬ MayHold version leap_seconds.now) }
 {
-    version == b'4' || leap_time::is_plain_table(leap_seconds)
+    version == b'4' || is_plain_table(leap_seconds)
 }

@@ -4,7 +4,7 @@ use Rattle.std.proofs.lemmas.Int.{ints, by_lt_z, to_z-of_z}
 use mir.Syntax.{w64, w128}
 use mir.Val.{SFits}
 use Rattle.tz_zone.proofs.LeapTimes.{IsInstant-from_bounds, instant_bounds}
-use Rattle.tz_zone.proofs.clock.following.first_begun.Goals as goal
+use Rattle.tz_zone.proofs.leap_time.first_begun.Goals as goal
 
 pub returns-in-Ok : goal.returns-in-Ok
 returns-in-Ok c =

@@ -3,7 +3,7 @@ use Rattle.std.proofs.Common.{arith}
 use Rattle.tz_zone.specs.ValidZone.{FollowsAt}
 use Rattle.tz_rule.proofs.Below.{below_next}
 use Rattle.tz_zone.proofs.TableChecks.{are_from_loop}
-use Rattle.tz_zone.proofs.timezone.checks.are_leap_seconds.Goals as goal
+use Rattle.tz_zone.proofs.leap_table.are_leap_seconds.Goals as goal
 
 pub loop-i-preserved : goal.loop-i-preserved
 loop-i-preserved c = below_next (FollowsAt c.args.leap_seconds.now) c.loop-i.i c.loop-i.invariant c.if-not-follows_at.ensures

@@ -5,8 +5,8 @@ use Rattle.std.proofs.lemmas.Option.{slice_get_within}
 use Rattle.tz_rule.proofs.WeakerClauses.{MatchBool-weaker}
 use Rattle.tz_zone.specs.ValidZone.{Follows}
 use Rattle.tz_zone.proofs.TableChecks.{pair_test, less_test}
-use Rattle.tz_zone.proofs.timezone.checks.follows_at.Goals as goal
-use Rattle.tz_zone.proofs.timezone.checks.follows_at.Goals.{else-place-leap_seconds-2-via-then-place-leap_seconds-2+else-correction, else-place-leap_seconds-2-via-else-place-leap_seconds-2}
+use Rattle.tz_zone.proofs.leap_table.follows_at.Goals as goal
+use Rattle.tz_zone.proofs.leap_table.follows_at.Goals.{else-place-leap_seconds-2-via-then-place-leap_seconds-2+else-correction, else-place-leap_seconds-2-via-else-place-leap_seconds-2}
 
 pub returns-then-place-leap_seconds : goal.returns-then-place-leap_seconds
 returns-then-place-leap_seconds c = λ l next at at_next. absurd (omega (arith, slice_get_within c.args.leap_seconds.now (c.args.place + 1) next at_next))

@@ -5,7 +5,7 @@ use Rattle.std.proofs.lemmas.Bool.{false≢true}
 use Rattle.tz_zone.specs.Table.{LeapSecond}
 use Rattle.tz_zone.specs.LeapTime.{IsStart}
 use Rattle.tz_zone.specs.ValidZone.{ExpiresAt}
-use Rattle.tz_zone.proofs.leap_time.is_plain_table.Goals as goal
+use Rattle.tz_zone.proofs.leap_table.is_plain_table.Goals as goal
 
 at_none : {X : Type 0} (o : Option X) (P : Type 0) (Q : X → Type 0) → is_some o ≡ false → MatchOption o P Q → P
 at_none None P Q e h = h

@@ -1,16 +1,15 @@
-//! The checks of a zone's parts.
+//! The checks of a zone: its transitions in order and to types of the zone, its table of leap seconds, and a rule that agrees with the last transition.
 
 ghost use Rattle.std.specs.Prelude.{◌≡◌, ◌≢◌, ℕ, pos, ◌+ℤ◌, ◌-ℤ◌, ◌≤ℤ◌, ◌+◌, ◌<◌, length, [], OnOk, IfOk, IfErr, IsTrue, MatchBool};
 ghost use Rattle.tz_rule.specs.LocalTimeType.{LocalTimeType};
 ghost use Rattle.tz_rule.specs.RuleRef.{rule_seen};
 ghost use Rattle.tz_zone.specs.Table.{zone_with};
 ghost use Rattle.tz_zone.specs.ZoneSeen.{lent_rule};
-ghost use Rattle.tz_zone.specs.LeapTime.{IsOneSecond};
-ghost use Rattle.tz_zone.specs.ValidZone.{IsRuleTypeAt, MayBeFirst, MayFollow, FollowsAt, AreLeapSeconds, HasTypeAtPlace, RisesAtPlace, IsFirstTransitionFault, IsSoundTable, IsRuleFault, RuleAnswers, RuleAgrees, IsValidZone, IsFirstZoneFault};
+ghost use Rattle.tz_zone.specs.ValidZone.{IsRuleTypeAt, AreLeapSeconds, HasTypeAtPlace, RisesAtPlace, IsFirstTransitionFault, IsSoundTable, IsRuleFault, RuleAnswers, RuleAgrees, IsValidZone, IsFirstZoneFault};
 
 use super::{LeapSecond, LocalTimeType, Transition};
-use crate::{effect, leap_time};
-use tz_base::constants::SECONDS_PER_28_DAYS;
+use crate::effect;
+use crate::leap_table::{are_leap_seconds, has_begun_at};
 use tz_base::error::TzError;
 use tz_base::error::timezone::TimeZoneError;
 use tz_rule::inner::RuleRef;
@@ -67,70 +66,6 @@ fn check_unknown_transitions(
     check_transitions(transitions, types)
 }
 
-/// Whether a leap second may come first.
-fn may_be_first(leap_second: LeapSecond) -> bool
-    ensures { MatchBool result (MayBeFirst leap_second) (¬ MayBeFirst leap_second) }
-{
-    leap_second.unix_leap_time() >= 0
-}
-
-/// Whether two corrections differ by one second.
-fn is_one_second_apart(correction: i32, next: i32) -> bool
-    ensures { MatchBool result (IsOneSecond (next -ℤ correction)) (¬ IsOneSecond (next -ℤ correction)) }
-{
-    let apart = i64::from(next) - i64::from(correction);
-    apart == 1 || apart == -1
-}
-
-/// Whether a leap time comes at least 28 days after another one, less a second.
-fn is_far_from(time: i64, next: i64) -> bool
-    ensures { MatchBool result ((time +ℤ pos 2419199) ≤ℤ next) (¬ ((time +ℤ pos 2419199) ≤ℤ next)) }
-{
-    i128::from(time) + i128::from(SECONDS_PER_28_DAYS) - 1 <= i128::from(next)
-}
-
-/// Whether a leap second may follow another one.
-fn may_follow(leap_second: &LeapSecond, next: &LeapSecond) -> bool
-    ensures { MatchBool result (MayFollow leap_second.now next.now) (¬ MayFollow leap_second.now next.now) }
-{
-    is_far_from(leap_second.unix_leap_time(), next.unix_leap_time())
-        && is_one_second_apart(leap_second.correction(), next.correction())
-}
-
-/// Whether the record after a place comes later and, unless it is the table's expiry, is a leap second that may follow.
-fn follows_at(leap_seconds: &[LeapSecond], place: usize) -> bool
-    requires { place < length leap_seconds.now }
-    ensures { MatchBool result (FollowsAt leap_seconds.now place) (¬ FollowsAt leap_seconds.now place) }
-{
-    if place + 1 == leap_seconds.len() {
-        return true;
-    }
-    let leap_second = &leap_seconds[place];
-    let next = &leap_seconds[place + 1];
-    if place + 2 == leap_seconds.len() && next.correction() == leap_second.correction() {
-        return leap_second.unix_leap_time() < next.unix_leap_time();
-    }
-    may_follow(leap_second, next)
-}
-
-/// Whether the leap seconds make a table.
-fn are_leap_seconds(leap_seconds: &[LeapSecond]) -> bool
-    ensures { MatchBool result (AreLeapSeconds leap_seconds.now) (¬ AreLeapSeconds leap_seconds.now) }
-{
-    if leap_seconds.is_empty() {
-        return true;
-    }
-    if !may_be_first(leap_seconds[0]) {
-        return false;
-    }
-    for i in 0..leap_seconds.len() {
-        if !follows_at(leap_seconds, i) {
-            return false;
-        }
-    }
-    true
-}
-
 /// The type that a rule has where a leap time takes effect.
 fn rule_type_at<'a>(
     rule: RuleRef<'a>,
@@ -166,7 +101,7 @@ fn check_extra_rule(
         return Ok(());
     };
     let last_time = last.unix_leap_time();
-    if !leap_time::has_begun_at(leap_seconds, last_time) {
+    if !has_begun_at(leap_seconds, last_time) {
         return Ok(());
     }
     let rule_type = rule_type_at(rule, leap_seconds, last_time)?;

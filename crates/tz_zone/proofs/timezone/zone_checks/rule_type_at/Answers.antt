@@ -6,7 +6,7 @@ use mir.Syntax.{w64}
 use mir.Val.{SFits}
 use Rattle.tz_rule.specs.RuleRef.{rule_seen}
 use Rattle.tz_zone.proofs.RuleChecks.{no_rule_type_at}
-use Rattle.tz_zone.proofs.timezone.checks.rule_type_at.Goals as goal
+use Rattle.tz_zone.proofs.timezone.zone_checks.rule_type_at.Goals as goal
 
 pub returns-in-Ok-clause-err : goal.returns-in-Ok-clause-err
 returns-in-Ok-clause-err c =

@@ -9,7 +9,7 @@ use Rattle.tz_rule.specs.RuleRef.{rule_seen}
 use Rattle.tz_zone.specs.ZoneSeen.{lent_rule}
 use Rattle.tz_zone.specs.Table.{zone_with}
 use Rattle.tz_zone.proofs.RuleChecks.{not_answers, answers_at, agrees_at, not_agrees, same_from_test, other_from_test}
-use Rattle.tz_zone.proofs.timezone.checks.check_extra_rule.Goals as goal
+use Rattle.tz_zone.proofs.timezone.zone_checks.check_extra_rule.Goals as goal
 
 pub returns-in_err-rule_type-clause-err : goal.returns-in_err-rule_type-clause-err
 returns-in_err-rule_type-clause-err c =

@@ -5,7 +5,7 @@ use mir.Syntax.{w64, w128}
 use mir.Val.{SFits}
 use Rattle.tz_zone.proofs.LeapTimes.{IsInstant-from_bounds, past_later}
 use Rattle.tz_zone.proofs.LeapReached.{past_if_begun}
-use Rattle.tz_zone.proofs.clock.following.effect_over.Goals as goal
+use Rattle.tz_zone.proofs.effect.effect_over.Goals as goal
 
 pub returns-in_default : goal.returns-in_default
 returns-in_default c = λ u high reached.

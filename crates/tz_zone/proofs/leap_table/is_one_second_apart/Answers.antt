@@ -4,7 +4,7 @@ use Rattle.std.proofs.lemmas.Int.{ints}
 use mir.Syntax.{w32, w64}
 use mir.Val.{SFits, to_z, of_z}
 use Rattle.tz_zone.specs.LeapTime.{IsOneSecond}
-use Rattle.tz_zone.proofs.timezone.checks.is_one_second_apart.Goals as goal
+use Rattle.tz_zone.proofs.leap_table.is_one_second_apart.Goals as goal
 
 same_difference : (a b c d : ℤ) → SFits w32 a → SFits w32 b → c ≡ to_z w32 (of_z w32 a) → d ≡ to_z w32 (of_z w32 b) → (to_z w64 (of_z w64 c) -ℤ to_z w64 (of_z w64 d)) ≡ (a -ℤ b)
 same_difference a b c d fa fb ec ed = omega (arith, ints)

@@ -3,7 +3,7 @@ use Rattle.std.proofs.lemmas.Int.{to_z-of_z}
 use mir.Syntax.{w64}
 use Rattle.tz_zone.proofs.LeapTimes.{instant_bounds}
 use Rattle.tz_zone.proofs.InstantsWithLeapTime.{plain_moment, plain_leap, none_if_empty}
-use Rattle.tz_zone.proofs.clock.following.effect_of.Goals as goal
+use Rattle.tz_zone.proofs.effect.effect_of.Goals as goal
 
 pub returns-then-is_empty : goal.returns-then-is_empty
 returns-then-is_empty c =
