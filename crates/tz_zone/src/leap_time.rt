@@ -11,7 +11,7 @@ use crate::table::LeapSecond;
 use tz_base::error::TzError;
 
 /// Up to this instant no correction takes a leap time out of 64 bits, whatever the leap seconds.
-const SURELY_ANSWERED: i64 = 80_000_000_000_000_000;
+const ALWAYS_DEFINED_UP_TO: i64 = 80_000_000_000_000_000;
 
 /// A time less a correction.
 pub(crate) fn less(time: i64, correction: i32) -> i128
@@ -169,7 +169,7 @@ pub(crate) fn last_instant_up_to(leap_seconds: &[LeapSecond], high: i64) -> i64
     ensures within { (u : ℤ) → u ≤ℤ result → ¬ IsPastInstants leap_seconds.now u }
     ensures past { (u : ℤ) → result <ℤ u → u ≤ℤ high → IsPastInstants leap_seconds.now u }
 {
-    if high <= SURELY_ANSWERED {
+    if high <= ALWAYS_DEFINED_UP_TO {
         return high;
     }
     last_with_all(leap_seconds, high)
@@ -195,7 +195,7 @@ pub(crate) fn has_leap_time(leap_seconds: &[LeapSecond], unix_time: i64) -> bool
 /// The leap time of an instant that has one.
 pub(crate) fn shifted(leap_seconds: &[LeapSecond], unix_time: i64) -> i64
     requires leaps { AreLeapSeconds leap_seconds.now }
-    requires answered { ¬ IsLeapTimeRefused leap_seconds.now unix_time }
+    requires defined { ¬ IsLeapTimeRefused leap_seconds.now unix_time }
     ensures { IsLeapTime leap_seconds.now unix_time result }
 {
     let reached = leap_seconds_reached(leap_seconds, unix_time);
@@ -254,7 +254,7 @@ pub(crate) fn stay_before(
     requires low { IsLeapTime leap_seconds.now low low_leap_time }
     ensures { OnTrue result ((u : ℤ) → low ≤ℤ u → u ≤ℤ high → (v : ℤ) × IsLeapTime leap_seconds.now u v × (v <ℤ unix_leap_time)) }
 {
-    if high > SURELY_ANSWERED {
+    if high > ALWAYS_DEFINED_UP_TO {
         return false;
     }
     let seconds = i128::from(high) - i128::from(low);

@@ -8,7 +8,7 @@ ghost use Rattle.tz_rule.specs.LocalTimeType.{LocalTimeType};
 ghost use Rattle.tz_zone.specs.Clock.{IsTypeOfLast};
 ghost use Rattle.tz_zone.specs.ClockSegments.{IsReachedAt};
 ghost use Rattle.tz_zone.specs.Changes.{change_of, IsFollowing, HasNoFollowing};
-ghost use Rattle.tz_zone.specs.LeapTime.{IsLeapTimeRefused, IsMomentOf};
+ghost use Rattle.tz_zone.specs.LeapTime.{IsLeapTimeRefused, IsWideEffect};
 ghost use Rattle.tz_zone.specs.Runs.{LiesAt, IsWalkedUp};
 ghost use Rattle.tz_zone.specs.Table.{Transition};
 ghost use Rattle.tz_zone.specs.ValidZone.{IsSoundTable};
@@ -17,7 +17,7 @@ ghost use Rattle.tz_zone.specs.ZoneSeen.{zone_seen};
 use super::change::{Change, change_at};
 use super::near::{is_after_all, place_near, place_of};
 use super::place::{type_at, type_before, type_of};
-use crate::effect::effect_of;
+use crate::effect::effect_if_reached;
 use crate::leap_time::{first_begun, shifted};
 use crate::table::{OtherParts, Transition, Uncounted};
 use tz_rule::inner::change_after;
@@ -44,8 +44,8 @@ fn place_at_effect(
 ) -> usize
     requires sound { IsSoundTable (zone_seen transitions.now parts) }
     requires inside { index < length transitions.now }
-    requires transition { (change : Transition) × (slice_get transitions.now index ≡ Some change) × IsMomentOf parts.leap_seconds.now change.unix_leap_time effect }
-    requires answered { ¬ IsLeapTimeRefused parts.leap_seconds.now effect }
+    requires transition { (change : Transition) × (slice_get transitions.now index ≡ Some change) × IsWideEffect parts.leap_seconds.now change.unix_leap_time effect }
+    requires defined { ¬ IsLeapTimeRefused parts.leap_seconds.now effect }
     ensures within { (index < result) × (result ≤ length transitions.now) }
     ensures at { IsReachedAt (zone_seen transitions.now parts.entry) effect result }
 {
@@ -142,7 +142,7 @@ fn following_from<'a>(
     while place < transitions.len() {
         let before = type_before(&mut Uncounted::new(transitions), parts, place);
         let end = end_of_run(transitions, parts, place, before);
-        let effect = effect_of(parts.leap_seconds, transitions[end].unix_leap_time())?;
+        let effect = effect_if_reached(parts.leap_seconds, transitions[end].unix_leap_time())?;
         let next = place_at_effect(transitions, parts, end, effect);
         let after = type_at(transitions, parts, next, effect);
         if let Some(change) = change_at(effect, Some(before), after) {

@@ -16,7 +16,7 @@ ghost use Rattle.tz_zone.specs.ZoneSeen.{zone_seen};
 use super::change::{Change, change_at};
 use super::near::{is_after_all, place_of};
 use super::place::{type_at, type_before, type_of};
-use crate::effect::start_of;
+use crate::effect::effect_of_reached;
 use crate::leap_time::last_instant_up_to;
 use crate::table::{LeapSecond, OtherParts, Transition, Uncounted};
 use tz_rule::inner::change_up_to;
@@ -87,7 +87,7 @@ fn seam(transitions: &[Transition], leap_seconds: &[LeapSecond]) -> i64
     if count == 0 {
         return i64::MIN;
     }
-    start_of(leap_seconds, transitions[count - 1].unix_leap_time())
+    effect_of_reached(leap_seconds, transitions[count - 1].unix_leap_time())
 }
 
 /// The last change of the clock up to an instant that lies at a place, if it comes after all transitions.
@@ -139,7 +139,7 @@ fn run_start(transitions: &[Transition], parts: OtherParts<'_>, place: usize) ->
     ensures { IsRunStart (zone_seen transitions.now parts.entry) place result.0 result.1 }
 {
     let start = first_of_run(transitions, parts, place);
-    let effect = start_of(parts.leap_seconds, transitions[start - 1].unix_leap_time());
+    let effect = effect_of_reached(parts.leap_seconds, transitions[start - 1].unix_leap_time());
     (start, effect)
 }
 

@@ -2,7 +2,7 @@
 
 ghost use Rattle.std.specs.Prelude.{◌≡◌, ◌≢◌, ◌⊎◌, ℕ, ℤ, pos, negsuc, ◌+◌, ◌^◌, ◌<◌, ◌≤◌, ◌+ℤ◌, ◌≤ℤ◌, ◌<ℤ◌, [], length, None, ◌↔◌, IsTrue, MatchOption, option_copied};
 ghost use Rattle.tz_rule.specs.LocalTimeType.{LocalTimeType};
-ghost use Rattle.tz_zone.specs.LeapTime.{IsBeforeStart, IsPastInstants, IsLeapTimeRefused, IsMomentOf, IsTimeReached};
+ghost use Rattle.tz_zone.specs.LeapTime.{IsBeforeStart, IsPastInstants, IsLeapTimeRefused, IsWideEffect, IsTimeReached};
 ghost use Rattle.tz_zone.specs.Clock.{IsTypeAfter};
 ghost use Rattle.tz_zone.specs.ClockSegments.{IsReachedAt, IsSegmentAt};
 ghost use Rattle.tz_zone.specs.TableChanges.{IsChangeByRule, IsTableStart, IsFar, HasTableEnds};
@@ -11,7 +11,7 @@ ghost use Rattle.tz_zone.specs.ZoneSeen.{zone_seen};
 
 use super::after_table::after_table;
 use super::place::{before, place_at, type_of};
-use crate::effect::{last_before, start_of};
+use crate::effect::{last_before, effect_of_reached};
 use crate::leap_time::{first_begun, has_begun, last_instant, last_instant_up_to};
 use crate::table::{LeapSecond, OtherParts, Transition, Transitions};
 use tz_rule::timezone::LocalTimeType;
@@ -86,7 +86,7 @@ fn first_past(leap_seconds: &[LeapSecond], unix_time: i64) -> i64
 
 /// The segment of instants that have no leap time.
 #[inline(never)]
-fn refused_segment<'a>(leap_seconds: &[LeapSecond], unix_time: i64) -> Segment<'a>
+fn undefined_segment<'a>(leap_seconds: &[LeapSecond], unix_time: i64) -> Segment<'a>
     requires leaps { AreLeapSeconds leap_seconds.now }
     requires refused { IsLeapTimeRefused leap_seconds.now unix_time }
     ensures within { (result.from ≤ℤ unix_time) × (unix_time ≤ℤ result.last) }
@@ -123,11 +123,11 @@ fn segment_from_last<'a>(
     ensures reached { (v : ℤ) → result.from ≤ℤ v → v ≤ℤ result.last → IsTimeReached parts.entry.leap_seconds.now last.unix_leap_time v }
     ensures holds { (v : ℤ) → result.from ≤ℤ v → v ≤ℤ result.last
         → MatchOption result.local_time_type ((t : LocalTimeType) → ¬ IsTypeAfter (zone_seen [] parts.entry).extra_rule v t) (λ t. IsTypeAfter (zone_seen [] parts.entry).extra_rule v t.now) }
-    ensures from { IsMomentOf parts.entry.leap_seconds.now last.unix_leap_time result.from ⊎ IsChangeByRule (zone_seen [] parts.entry).extra_rule result.from }
+    ensures from { IsWideEffect parts.entry.leap_seconds.now last.unix_leap_time result.from ⊎ IsChangeByRule (zone_seen [] parts.entry).extra_rule result.from }
     ensures last { result.last ≢ pos 9223372036854775807
         → IsPastInstants parts.entry.leap_seconds.now (result.last +ℤ pos 1) ⊎ IsChangeByRule (zone_seen [] parts.entry).extra_rule (result.last +ℤ pos 1) }
 {
-    let from = start_of(parts.leap_seconds, last.unix_leap_time());
+    let from = effect_of_reached(parts.leap_seconds, last.unix_leap_time());
     let segment = after_table(parts, false, unix_time);
     Segment {
         from: from.max(segment.from),
@@ -160,7 +160,7 @@ fn segment_at_place<'a, V: Transitions>(
     }
     let next = view.look(place);
     Segment {
-        from: start_of(parts.leap_seconds, before.unix_leap_time()),
+        from: effect_of_reached(parts.leap_seconds, before.unix_leap_time()),
         last: last_before(parts.leap_seconds, next.unix_leap_time()),
         local_time_type: Some(type_of(parts, before)),
     }
@@ -186,7 +186,7 @@ pub fn clock_segment_at<'a, V: Transitions>(
         return after_table(parts, true, unix_time);
     }
     let Some(place) = place_at(view, parts, unix_time) else {
-        return refused_segment(parts.leap_seconds, unix_time);
+        return undefined_segment(parts.leap_seconds, unix_time);
     };
     segment_at_place(view, parts, place, unix_time)
 }

@@ -9,7 +9,7 @@ ghost use Rattle.tz_zone.specs.ZoneSeen.{zone_seen};
 
 use super::after_table::after_table;
 use super::place::{place_of, type_before, type_of};
-use crate::effect::start_of;
+use crate::effect::effect_of_reached;
 use crate::leap_time::{leap_time, stay_before};
 use crate::table::{OtherParts, Transitions};
 use tz_rule::timezone::LocalTimeType;
@@ -123,7 +123,7 @@ fn types_at_place<'a, V: Transitions>(
     if until <= unix_leap_time {
         return WindowTypes::More(Some(place));
     }
-    let unix_time = start_of(parts.leap_seconds, since);
+    let unix_time = effect_of_reached(parts.leap_seconds, since);
     let before = type_before(view, parts, place);
     let after = type_of(parts, next);
     WindowTypes::Two {

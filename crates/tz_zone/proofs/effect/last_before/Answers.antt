@@ -44,12 +44,12 @@ returns-then-is_empty-clause-next c =
 
 pub returns-clause-before : goal.returns-clause-before
 returns-clause-before c =
-    let fits : SFits w64 c.last_before_moment.result = search rules in
-    let last = rw (to_z-of_z w64 c.args.unix_leap_time c.ranges.unix_leap_time) at c.last_before_moment.ensures in
-    rw (to_z-of_z w64 c.last_before_moment.result fits) last.before
+    let fits : SFits w64 c.last_before_by_seconds.result = search rules in
+    let last = rw (to_z-of_z w64 c.args.unix_leap_time c.ranges.unix_leap_time) at c.last_before_by_seconds.ensures in
+    rw (to_z-of_z w64 c.last_before_by_seconds.result fits) last.before
 
 pub returns-clause-next : goal.returns-clause-next
 returns-clause-next c =
-    let fits : SFits w64 c.last_before_moment.result = search rules in
-    let last = rw (to_z-of_z w64 c.args.unix_leap_time c.ranges.unix_leap_time) at c.last_before_moment.ensures in
-    rw (to_z-of_z w64 c.last_before_moment.result fits) last.next
+    let fits : SFits w64 c.last_before_by_seconds.result = search rules in
+    let last = rw (to_z-of_z w64 c.args.unix_leap_time c.ranges.unix_leap_time) at c.last_before_by_seconds.ensures in
+    rw (to_z-of_z w64 c.last_before_by_seconds.result fits) last.next

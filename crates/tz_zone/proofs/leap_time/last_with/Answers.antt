@@ -7,7 +7,7 @@ use mir.Syntax.{w32, w64, w128}
 use mir.Val.{SFits, to_z, of_z}
 use Rattle.tz_zone.specs.LeapTime.{correction_before}
 use Rattle.tz_zone.proofs.LeapTimes.{IsInstant-from_bounds, instant_bounds}
-use Rattle.tz_zone.proofs.LeapMoments.{int_max-one}
+use Rattle.tz_zone.proofs.WideEffects.{int_max-one}
 use Rattle.tz_zone.proofs.OffsetBounds.{int_min_either}
 use Rattle.tz_zone.proofs.LeapEnds.{left_within, left_past}
 use Rattle.tz_zone.proofs.leap_time.last_with.Goals as goal

@@ -8,7 +8,7 @@ use Rattle.tz_zone.specs.ClockSegments.{IsReachedAt}
 use Rattle.tz_zone.specs.ZoneSeen.{zone_seen}
 use Rattle.tz_zone.proofs.LeapTimes.{instant_bounds}
 use Rattle.tz_zone.proofs.PlaceRuns.{plain_place}
-use Rattle.tz_zone.proofs.InstantsWithLeapTime.{plain_moment, none_if_empty}
+use Rattle.tz_zone.proofs.InstantsWithLeapTime.{plain_effect, none_if_empty}
 use Rattle.tz_zone.proofs.clock.following.change_after_last.Goals as goal
 
 pub change_at_next-requires-clause-at : goal.change_at_next-requires-clause-at
@@ -26,7 +26,7 @@ change_at_next-requires-clause-at c =
     let m = last.unix_leap_time in
     let fits : SFits w64 m = rw c.unix_leap_time.ensures at time in
     let same : m ≡ u = sym c.unix_leap_time.ensures ∙ sym (to_z-of_z w64 c.unix_leap_time.result time) ∙ ap (to_z w64) c.if-unix_leap_time-unix_time.false ∙ to_z-of_z w64 u c.ranges.unix_time in
-    let moment = plain_moment leaps none m (instant_bounds m fits).0 in
+    let wide = plain_effect leaps none m (instant_bounds m fits).0 in
     let back : k - 1 + 1 ≡ k = omega (arith, c.if-place-eq0.false) in
-    let here : IsReachedAt z m k = subst (λ (i : ℕ). IsReachedAt z m i) back (plain_place z c.requires none (k - 1) m last at_last moment) in
+    let here : IsReachedAt z m k = subst (λ (i : ℕ). IsReachedAt z m i) back (plain_place z c.requires none (k - 1) m last at_last wide) in
     rw (to_z-of_z w64 u c.ranges.unix_time) (omega (arith, inside), λ _. subst (λ (v : ℤ). IsReachedAt z v k) same here)

@@ -51,8 +51,8 @@ place_at_effect-next-requires-clause-transition c =
     let fits : SFits w64 m = search rules in
     rw (to_z-of_z w64 m fits) (change, at_end, takes.0)
 
-pub place_at_effect-next-requires-clause-answered : goal.place_at_effect-next-requires-clause-answered
-place_at_effect-next-requires-clause-answered c =
+pub place_at_effect-next-requires-clause-defined : goal.place_at_effect-next-requires-clause-defined
+place_at_effect-next-requires-clause-defined c =
     let m = c.in_ok-effect.effect in
     let fits : SFits w64 m = search rules in
     rw (to_z-of_z w64 m fits) c.in_ok-effect.ensures.1

@@ -28,7 +28,7 @@ returns-clause-within c =
     let fits : SFits w64 l = search rules in
     let leap = rw (to_z-of_z w64 m c.ranges.effect) at c.shifted.ensures in
     let at = rw (to_z-of_z w64 l fits) at c.place_near.ensures.at in
-    let reached = change.2.reached c.requires.answered in
+    let reached = change.2.reached c.requires.defined in
     let from : change.0.unix_leap_time ≤ℤ l = omega (arith, ints, reached.2, leap_time_unique c.args.parts.leap_seconds.now c.requires.sound.leap_seconds_are m reached.0 l reached.1 leap) in (
       elim (cases_lt c.args.index c.place_near.result) [ inl less ↦ less | inr more ↦ absurd (omega (arith, ints, from, at.1 c.args.index change.0 more change.1)) ],
       c.place_near.ensures.within,

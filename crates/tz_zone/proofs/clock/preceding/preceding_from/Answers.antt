@@ -9,7 +9,7 @@ use Rattle.tz_zone.specs.ZoneSeen.{zone_seen}
 use Rattle.tz_zone.proofs.LeapTimes.{instant_bounds}
 use Rattle.tz_zone.proofs.SegmentTypes.{match_none}
 use Rattle.tz_zone.proofs.ChangeSpans.{none_back, none_joined, none_from_start, is_preceding, preceding_earlier}
-use Rattle.tz_zone.proofs.PlaceRuns.{some_transitions, effect_up_to, clock_before_start, answered_at_start, place_at_start, clock_at_start, none_since, place_earlier, none_at_front}
+use Rattle.tz_zone.proofs.PlaceRuns.{some_transitions, effect_up_to, clock_before_start, defined_at_start, place_at_start, clock_at_start, none_since, place_earlier, none_at_front}
 use Rattle.tz_zone.proofs.RuleChanges.{none_before_first, none_or_some}
 use Rattle.tz_zone.proofs.clock.preceding.preceding_from.Goals as goal
 
@@ -67,7 +67,7 @@ returns-in_err-earlier c =
     let some = some_transitions z.transitions (start - 1) (omega (arith, run.some, run.up_to, walked.1.0)) in
     let none = none_since z c.requires.sound start _ m run w walked.1 u walked.2 so_far.seam in
     match_none c.from_residual.result _ _ c.from_residual.ensures
-    (none_before_first z c.requires.sound.leap_seconds_are some m u none (answered_at_start z c.requires.sound start _ m run w walked.1) refused.1)
+    (none_before_first z c.requires.sound.leap_seconds_are some m u none (defined_at_start z c.requires.sound start _ m run w walked.1) refused.1)
 
 pub type_at-after-requires-clause-before : goal.type_at-after-requires-clause-before
 type_at-after-requires-clause-before c = λ inside s type.

@@ -11,14 +11,14 @@ pub returns-in_default-clause-at : goal.returns-in_default-clause-at
 returns-in_default-clause-at g c =
     let list = g.V.Transitions.list c.args.view.now in
     let some : list ≢ [] = λ none. c.if-len-eq0.false (c.len.ensures ∙ ap length none) in
-    let found = rw (to_z-of_z w64 c.args.unix_time c.ranges.unix_time) at c.refused_segment.ensures in
+    let found = rw (to_z-of_z w64 c.args.unix_time c.ranges.unix_time) at c.undefined_segment.ensures in
     record {
       within = found.within;
-      holds = λ v low high. match_none c.refused_segment.result.local_time_type _ _ found.local_time_type (no_type_refused (zone_seen list c.args.parts) some v (found.refused v low high));
+      holds = λ v low high. match_none c.undefined_segment.result.local_time_type _ _ found.local_time_type (no_type_refused (zone_seen list c.args.parts) some v (found.refused v low high));
     }
 
 pub returns-in_default-clause-ends : goal.returns-in_default-clause-ends
 returns-in_default-clause-ends g c = record {
-  from_is = λ not_least. inr (c.refused_segment.ensures.from not_least);
-  last_is = λ not_greatest. inl (inr (inr (c.refused_segment.ensures.last not_greatest)));
+  from_is = λ not_least. inr (c.undefined_segment.ensures.from not_least);
+  last_is = λ not_greatest. inl (inr (inr (c.undefined_segment.ensures.last not_greatest)));
 }

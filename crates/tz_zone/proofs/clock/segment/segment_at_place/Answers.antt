@@ -49,8 +49,8 @@ returns-then-place-len g c =
       at_most = search rules;
     }
 
-pub start_of-requires-clause-reached : goal.start_of-requires-clause-reached
-start_of-requires-clause-reached g c =
+pub effect_of_reached-requires-clause-reached : goal.effect_of_reached-requires-clause-reached
+effect_of_reached-requires-clause-reached g c =
     let z = zone_seen (g.V.Transitions.list c.args.view.now) c.args.parts in
     let u = c.args.unix_time in
     let at = c.requires.at in
@@ -91,23 +91,23 @@ returns g c =
     let at_next : slice_get z.transitions k ≡ Some next = subst (λ (list : List Transition). slice_get list k ≡ Some next) c.before-before.ensures.same c.look-next.ensures.value in
     let time : SFits w64 c.unix_leap_time.result = search rules in
     let next_time : SFits w64 c.unix_leap_time-2.result = search rules in
-    let from : SFits w64 c.start_of.result = search rules in
+    let from : SFits w64 c.effect_of_reached.result = search rules in
     let last : SFits w64 c.last_before.result = search rules in
-    let moment = rw (to_z-of_z w64 c.unix_leap_time.result time, c.unix_leap_time.ensures) at c.start_of.ensures in
+    let wide = rw (to_z-of_z w64 c.unix_leap_time.result time, c.unix_leap_time.ensures) at c.effect_of_reached.ensures in
     let end = rw (to_z-of_z w64 c.unix_leap_time-2.result next_time, c.unix_leap_time-2.ensures) at c.last_before.ensures in
     let before_next : IsLastBefore z.leap_seconds next.unix_leap_time c.last_before.result = record { before = end.before; within = end.within; next = end.next } in
-    rw (to_z-of_z w64 c.start_of.result from, to_z-of_z w64 c.last_before.result last) (record {
+    rw (to_z-of_z w64 c.effect_of_reached.result from, to_z-of_z w64 c.last_before.result last) (record {
       same = search rules;
       at = record {
         within = (
-          start_up_to z c.requires.sound u k c.ranges.unix_time at before is c.start_of.result moment,
+          start_up_to z c.requires.sound u k c.ranges.unix_time at before is c.effect_of_reached.result wide,
           up_to_last_before z.leap_seconds c.requires.sound.leap_seconds_are next.unix_leap_time c.last_before.result u before_next (instant_bounds u c.ranges.unix_time).1 at.time_is.not_refused (next_ahead z c.requires.sound u k at next at_next),
         );
         holds = λ v low high. clock_at_place z c.requires.sound k v c.type_of.result.now (slice_get_within z.transitions k next at_next)
-            (lies_since z c.requires.sound u k c.ranges.unix_time at before is c.start_of.result moment next at_next c.last_before.result v end.within end.before low high)
+            (lies_since z c.requires.sound u k c.ranges.unix_time at before is c.effect_of_reached.result wide next at_next c.last_before.result v end.within end.before low high)
             (type_of_before z c.requires.sound k before c.type_of.result.now is c.type_of.ensures);
       };
-      ends = ends_between z c.requires.sound u k c.ranges.unix_time at before is next at_next c.start_of.result c.last_before.result (instant_bounds c.last_before.result last).1 moment end.next;
+      ends = ends_between z c.requires.sound u k c.ranges.unix_time at before is next at_next c.effect_of_reached.result c.last_before.result (instant_bounds c.last_before.result last).1 wide end.next;
       kept = search rules;
       at_most = search rules;
     })

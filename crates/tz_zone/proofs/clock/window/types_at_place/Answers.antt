@@ -8,7 +8,7 @@ use mir.Val.{SFits}
 use Rattle.tz_zone.specs.Table.{Transition}
 use Rattle.tz_zone.specs.Clock.{IsTypeOfLast}
 use Rattle.tz_zone.specs.ClockSegments.{IsReachedAt}
-use Rattle.tz_zone.specs.LeapTime.{IsMomentOf}
+use Rattle.tz_zone.specs.LeapTime.{IsWideEffect}
 use Rattle.tz_zone.specs.ZoneSeen.{zone_seen}
 use Rattle.tz_zone.proofs.Places.{one_type, type_while_before, jump_above, jump_up_to, type_before_jump, type_from_jump}
 use Rattle.tz_zone.proofs.LeapTimes.{instant_bounds}
@@ -43,8 +43,8 @@ returns-then-unix_leap_time-since-clause-types g c =
     let before : h <ℤ next.unix_leap_time = omega (arith, ints, c.if-unix_leap_time-since.true, c.unix_leap_time-since.ensures, to_z-of_z w64 c.unix_leap_time-since.result time, to_z-of_z w64 h h_fits) in
     one_type z c.requires.sound c.args.place low c.args.high h at leap next type c.look-next.ensures.value before is
 
-pub start_of-unix_time-requires-clause-reached : goal.start_of-unix_time-requires-clause-reached
-start_of-unix_time-requires-clause-reached g c =
+pub effect_of_reached-unix_time-requires-clause-reached : goal.effect_of_reached-unix_time-requires-clause-reached
+effect_of_reached-unix_time-requires-clause-reached g c =
     let h = c.in-Some.unix_leap_time in
     let h_fits : SFits w64 h = search rules in
     let leap = rw (to_z-of_z w64 c.args.high c.ranges.high) at c.in-Some.ensures in
@@ -78,12 +78,12 @@ returns-clause-types g c =
     let since_is = to_z-of_z w64 c.unix_leap_time-since.result since in
     let reached : next.unix_leap_time ≤ℤ h = omega (arith, ints, c.if-unix_leap_time-since.false, c.unix_leap_time-since.ensures, since_is, h_is) in
     let ahead : h <ℤ later.unix_leap_time = omega (arith, ints, c.if-until-unix_leap_time.false, c.unix_leap_time-until.ensures, to_z-of_z w64 c.unix_leap_time-until.result until, h_is) in
-    let jump = c.start_of-unix_time.result in
+    let jump = c.effect_of_reached-unix_time.result in
     let jump_fits : SFits w64 jump = search rules in
-    let moment : IsMomentOf z.leap_seconds next.unix_leap_time jump = rw (since_is, c.unix_leap_time-since.ensures) at c.start_of-unix_time.ensures in
+    let wide : IsWideEffect z.leap_seconds next.unix_leap_time jump = rw (since_is, c.unix_leap_time-since.ensures) at c.effect_of_reached-unix_time.ensures in
     rw (to_z-of_z w64 jump jump_fits) (
-      jump_above z c.requires.sound place low high h at leap next later jump before after at_next at_later reached ahead moment,
-      jump_up_to z c.requires.sound place low high h at leap next later jump before after at_next at_later reached ahead moment,
-      type_before_jump z c.requires.sound place low high h at leap next later jump before after at_next at_later reached ahead moment is,
-      type_from_jump z c.requires.sound place low high h at leap next later jump before after at_next at_later reached ahead moment c.type_of-after.ensures,
+      jump_above z c.requires.sound place low high h at leap next later jump before after at_next at_later reached ahead wide,
+      jump_up_to z c.requires.sound place low high h at leap next later jump before after at_next at_later reached ahead wide,
+      type_before_jump z c.requires.sound place low high h at leap next later jump before after at_next at_later reached ahead wide is,
+      type_from_jump z c.requires.sound place low high h at leap next later jump before after at_next at_later reached ahead wide c.type_of-after.ensures,
     )

@@ -4,7 +4,7 @@ use Rattle.std.proofs.lemmas.Int.{ints, by_lt_z, to_z-of_z}
 use mir.Syntax.{w64}
 use mir.Val.{SFits}
 use Rattle.tz_zone.proofs.LeapTimes.{instant_bounds}
-use Rattle.tz_zone.proofs.clock.segment.refused_segment.Goals as goal
+use Rattle.tz_zone.proofs.clock.segment.undefined_segment.Goals as goal
 
 pub returns-then-has_begun-clause-refused : goal.returns-then-has_begun-clause-refused
 returns-then-has_begun-clause-refused c =
