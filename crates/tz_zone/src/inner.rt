@@ -2,8 +2,9 @@
 //! is read of a zone.
 
 pub use crate::clock::{
-    Span, Stage, WindowTypes, clock_segment_at, first_stage, span_from, window_types,
+    Span, Stage, clock_segment_at, first_stage, span_from,
 };
+pub use crate::clock::window_types::{WindowTypes, window_types};
 pub use crate::effect::effect;
 pub use crate::leap_time::leap;
 pub use crate::parse::tz_file::sizes::{FileSizes, file_sizes};

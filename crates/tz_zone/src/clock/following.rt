@@ -15,7 +15,7 @@ ghost use Rattle.tz_zone.specs.ValidZone.{IsSoundTable};
 ghost use Rattle.tz_zone.specs.ZoneSeen.{zone_seen};
 
 use super::change::{Change, change_at};
-use super::near::{is_after_all, place_near, place_of};
+use super::likely_place::{is_after_all, place_near, place_at_near};
 use super::place::{type_at, type_before, type_of};
 use crate::effect::effect_if_reached;
 use crate::leap_time::{first_begun, shifted};
@@ -98,7 +98,7 @@ fn first_place(
         return Some((unix_time, 0));
     }
     let first = first_begun(parts.leap_seconds, unix_time)?;
-    let place = place_of(transitions, parts, first, likely)?;
+    let place = place_at_near(transitions, parts, first, likely)?;
     Some((first, place))
 }
 

@@ -3,13 +3,13 @@
 mod after_table;
 mod change;
 mod following;
+mod likely_place;
 mod lookup;
-mod near;
 mod place;
 mod preceding;
 mod segment;
 mod spans;
-mod window;
+pub mod window_types;
 
 pub use change::Change;
 pub use following::{change_after_last, find_following, following_near};
@@ -17,4 +17,3 @@ pub use lookup::find_local_time_type;
 pub use preceding::{change_before_next, find_preceding, preceding_near};
 pub use segment::{Segment, clock_segment_at};
 pub use spans::{Span, Stage, first_stage, span_from};
-pub use window::{WindowTypes, window_types};

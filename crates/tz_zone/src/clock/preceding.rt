@@ -14,7 +14,7 @@ ghost use Rattle.tz_zone.specs.ValidZone.{AreLeapSeconds, IsSoundTable};
 ghost use Rattle.tz_zone.specs.ZoneSeen.{zone_seen};
 
 use super::change::{Change, change_at};
-use super::near::{is_after_all, place_of};
+use super::likely_place::{is_after_all, place_at_near};
 use super::place::{type_at, type_before, type_of};
 use crate::effect::effect_of_reached;
 use crate::leap_time::last_instant_up_to;
@@ -72,7 +72,7 @@ fn last_place(
         return Some((before, 0));
     }
     let last = last_instant_up_to(parts.leap_seconds, before);
-    let place = place_of(transitions, parts, last, likely)?;
+    let place = place_at_near(transitions, parts, last, likely)?;
     Some((last, place))
 }
 
@@ -214,7 +214,7 @@ fn preceding_from<'a>(
         if effect == i64::MIN {
             return None;
         }
-        let earlier = place_of(transitions, parts, effect - 1, Some(start - 1))?;
+        let earlier = place_at_near(transitions, parts, effect - 1, Some(start - 1))?;
         let before = type_before(&mut Uncounted::new(transitions), parts, earlier);
         let after = type_at(transitions, parts, start, effect);
         if let Some(change) = change_at(effect, Some(before), after) {

@@ -20,7 +20,7 @@ returns-in_err-place c =
     let last = c.last_instant_up_to-last.result in
     let fits : SFits w64 last = search rules in
     let bounds = rw (one_before u c.ranges.unix_time c.requires.not_least) at c.last_instant_up_to-last.ensures in
-    let refused = rw (to_z-of_z w64 last fits) at (none_held c.place_of.result _ _ c.in_err-place.was c.place_of.ensures) in
+    let refused = rw (to_z-of_z w64 last fits) at (none_held c.place_at_near.result _ _ c.in_err-place.was c.place_at_near.ensures) in
     match_none c.from_residual.result _ _ c.from_residual.ensures
     (none_up_to_start z c.requires.sound.leap_seconds_are refused.0 last u (none_past_last z c.requires.sound.leap_seconds_are refused.0 last u bounds.past) refused.1 (bounds.within last (omega (arith, ints))))
 
@@ -31,6 +31,6 @@ returns c =
     let last = c.last_instant_up_to-last.result in
     let fits : SFits w64 last = search rules in
     let bounds = rw (one_before u c.ranges.unix_time c.requires.not_least) at c.last_instant_up_to-last.ensures in
-    let place = match_some c.place_of.result c.in_ok-place.place _ _ c.in_ok-place.was c.place_of.ensures in
+    let place = match_some c.place_at_near.result c.in_ok-place.place _ _ c.in_ok-place.was c.place_at_near.ensures in
     let some = some_unless_empty c.args.transitions.now c.if-is_empty.ensures in
     rw (to_z-of_z w64 last fits) (omega (arith, ints, bounds.up_to), rw (to_z-of_z w64 last fits) at place, none_past_last z c.requires.sound.leap_seconds_are some last u bounds.past)

@@ -3,7 +3,7 @@ use Rattle.std.proofs.Common.{arith, rules, pos, ◌+ℤ◌, ◌≤ℤ◌, ◌<�
 use Rattle.std.proofs.lemmas.Int.{ints, to_z-of_z}
 use mir.Syntax.{w64}
 use mir.Val.{SFits}
-use Rattle.tz_zone.proofs.clock.window.types_after_table.Goals as goal
+use Rattle.tz_zone.proofs.clock.window_types.types_after_table.Goals as goal
 
 pub returns-then-high-first-clause-types : goal.returns-then-high-first-clause-types
 returns-then-high-first-clause-types c = λ v from to.

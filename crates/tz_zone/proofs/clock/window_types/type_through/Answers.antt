@@ -4,7 +4,7 @@ use Rattle.std.specs.Prelude.{IfSome, MatchOption}
 use Rattle.std.proofs.lemmas.Int.{ints, to_z-of_z}
 use mir.Syntax.{w64}
 use mir.Val.{SFits}
-use Rattle.tz_zone.proofs.clock.window.type_through.Goals as goal
+use Rattle.tz_zone.proofs.clock.window_types.type_through.Goals as goal
 
 -- what holds of an option at each instant
 through : {X : Type 0} (o : Option X) (from until : ℤ) (P : ℤ → Type 0) (Q : ℤ → X → Type 0) → ((v : ℤ) → from ≤ℤ v → v ≤ℤ until → MatchOption o (P v) (Q v))

@@ -12,7 +12,7 @@ use Rattle.tz_zone.specs.LeapTime.{IsWideEffect}
 use Rattle.tz_zone.specs.ZoneSeen.{zone_seen}
 use Rattle.tz_zone.proofs.Places.{one_type, type_while_before, jump_above, jump_up_to, type_before_jump, type_from_jump}
 use Rattle.tz_zone.proofs.LeapTimes.{instant_bounds}
-use Rattle.tz_zone.proofs.clock.window.types_at_place.Goals as goal
+use Rattle.tz_zone.proofs.clock.window_types.types_at_place.Goals as goal
 
 pub returns-then-stay_before-clause-types : goal.returns-then-stay_before-clause-types
 returns-then-stay_before-clause-types g c =

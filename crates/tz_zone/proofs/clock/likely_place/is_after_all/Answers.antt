@@ -8,7 +8,7 @@ use Rattle.tz_zone.specs.ZoneSeen.{zone_seen}
 use Rattle.tz_zone.proofs.PlaceRuns.{plain_end}
 use Rattle.tz_zone.proofs.RuleChanges.{length_of_some}
 use Rattle.tz_zone.proofs.InstantsWithLeapTime.{none_if_empty}
-use Rattle.tz_zone.proofs.clock.near.is_after_all.Goals as goal
+use Rattle.tz_zone.proofs.clock.likely_place.is_after_all.Goals as goal
 
 pub returns-then-count-eq0 : goal.returns-then-count-eq0
 returns-then-count-eq0 c = λ _. (omega arith, λ some. absurd (omega (arith, length_of_some c.args.transitions.now some, c.if-count-eq0.true)))

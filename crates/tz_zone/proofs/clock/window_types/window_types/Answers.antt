@@ -12,8 +12,8 @@ use Rattle.tz_zone.specs.WindowTypes.{IsPlaceOf}
 use Rattle.tz_zone.specs.ZoneSeen.{zone_seen}
 use Rattle.tz_zone.proofs.Places.{clock_after_table, place_through}
 use Rattle.tz_zone.proofs.WindowTypes.{more_weaker, types_weaker}
-use Rattle.tz_zone.proofs.clock.window.window_types.Goals.{then-count-gt0+in-Some+else-place-count+in-Some-leap_time, else-count-gt0}
-use Rattle.tz_zone.proofs.clock.window.window_types.Goals as goal
+use Rattle.tz_zone.proofs.clock.window_types.window_types.Goals.{then-count-gt0+in-Some+else-place-count+in-Some-leap_time, else-count-gt0}
+use Rattle.tz_zone.proofs.clock.window_types.window_types.Goals as goal
 
 pub place_of-place-requires-clause-rising : goal.place_of-place-requires-clause-rising
 place_of-place-requires-clause-rising g c = rw c.look-last.ensures.same (λ i. (c.requires.transitions_are i).1)

@@ -6,7 +6,7 @@ use mir.Syntax.{w64}
 use mir.Val.{SFits}
 use Rattle.tz_zone.specs.Clock.{AreReached}
 use Rattle.tz_zone.proofs.RisingTimes.{ahead_from, reached_through}
-use Rattle.tz_zone.proofs.clock.near.is_after_last.Goals as goal
+use Rattle.tz_zone.proofs.clock.likely_place.is_after_last.Goals as goal
 
 pub returns-then-unix_leap_time : goal.returns-then-unix_leap_time
 returns-then-unix_leap_time c =

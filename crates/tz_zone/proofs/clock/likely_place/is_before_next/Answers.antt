@@ -5,7 +5,7 @@ use Rattle.std.proofs.lemmas.Option.{slice_get_read}
 use mir.Syntax.{w64}
 use mir.Val.{SFits}
 use Rattle.tz_zone.proofs.RisingTimes.{ahead_from}
-use Rattle.tz_zone.proofs.clock.near.is_before_next.Goals as goal
+use Rattle.tz_zone.proofs.clock.likely_place.is_before_next.Goals as goal
 
 pub returns-then-place-transitions-clause-ahead : goal.returns-then-place-transitions-clause-ahead
 returns-then-place-transitions-clause-ahead c = λ before.

@@ -3,7 +3,7 @@ use Rattle.std.proofs.Common.{rules}
 use Rattle.std.proofs.lemmas.Int.{to_z-of_z}
 use mir.Syntax.{w64}
 use mir.Val.{SFits}
-use Rattle.tz_zone.proofs.clock.near.place_of.Goals as goal
+use Rattle.tz_zone.proofs.clock.likely_place.place_at_near.Goals as goal
 
 pub place_near-requires : goal.place_near-requires
 place_near-requires c = λ i. (c.requires.transitions_are i).1

@@ -1,4 +1,4 @@
-//! Places that are tried first: where an instant is likely to lie.
+//! The place of an instant, where it is likely to lie at a place: that is tried first.
 
 ghost use Rattle.std.specs.Prelude.{◌≢◌, ◌-◌, ◌<◌, ◌≤◌, [], length, IsTrue, MatchBool, MatchOption};
 ghost use Rattle.tz_zone.specs.Clock.{AreReached, AreAhead, IsPlaceAt};
@@ -77,7 +77,7 @@ pub(super) fn place_near(
 
 /// The place at which an instant lies, if it has a leap time. In a zone without transitions it is 0, whatever the leap seconds.
 #[inline(always)]
-pub(super) fn place_of(
+pub(super) fn place_at_near(
     transitions: &[Transition],
     parts: OtherParts<'_>,
     unix_time: i64,
