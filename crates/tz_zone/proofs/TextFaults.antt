@@ -19,7 +19,7 @@ use Rattle.tz_rule.specs.declared.timezone.rule.TransitionRule.TheVariants.{Fixe
 use Rattle.tz_rule.specs.declared.timezone.rule_day.RuleDay.{RuleDay}
 use Rattle.tz_rule.specs.declared.timezone.rule_day.RuleDay.TheVariants.{Julian1WithoutLeap, Julian0WithLeap, MonthWeekDay}
 use Rattle.tz_zone.specs.Bytes.{capital_j, capital_m, closing_bracket, comma, dot, slash}
-use Rattle.tz_zone.specs.declared.parse.tz_string.day.DayAndTime.{DayAndTime}
+use Rattle.tz_zone.specs.declared.parse.tz_string.switch.DayAndTime.{DayAndTime}
 use Rattle.tz_zone.specs.declared.parse.tz_string.time.WrittenTime.{WrittenTime}
 use Rattle.tz_zone.specs.TzText.{Begins, IsRun, IsNumber, is_in_brackets, IsName, IsPart, IsHms, IsSign, IsSignedTime, IsDayTimeSign, IsDayTime, IsMonthWeekText, IsDay, IsRuleText, IsDaylightOffset, IsTimeUpTo, offset_hours, day_time_hours, IsRuleInRange, IsNameAndOffset, AlternateText, IsAlternateText, IsAlternateInRange, std_type_of, rule_of, IsTzText}
 use Rattle.tz_rule.specs.RuleDays.{IsRuleDay}

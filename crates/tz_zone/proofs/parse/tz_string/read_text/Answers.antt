@@ -40,7 +40,7 @@ returns-in_err-start c =
     exit _ _ e _ c.from_residual-in_err-start.ensures.1
     (daylight_fails c.args.extended c.args.text.now name.std_name.now name.rest.now offset.std_offset offset.rest.now e name.ensures offset.ensures.0
     (goes_on offset.rest.now c.if-is_empty.ensures)
-    (rules_fail c.args.extended offset.rest.now dst.dst_name.now dst.ensures.0.0 dst.dst_offset dst.rules.now e dst.ensures.0.1 dst.ensures.0.2 c.in_err-start.ensures))
+    (rules_fail c.args.extended offset.rest.now dst.dst_name.now dst.ensures.0.0 dst.dst_offset dst.switches.now e dst.ensures.0.1 dst.ensures.0.2 c.in_err-start.ensures))
 
 pub returns-in_err-std : goal.returns-in_err-std
 returns-in_err-std c =
@@ -81,7 +81,7 @@ returns-in_err-rule c =
     exit _ _ (TransitionRule f) _ c.from_residual-in_err-rule.ensures.1
     (inr (inr (
       a,
-      whole_text c.args.extended c.args.text.now a name.rest.now offset.rest.now dst.rules.now name.ensures offset.ensures.0 dst.ensures.0 rules.ensures.0,
+      whole_text c.args.extended c.args.text.now a name.rest.now offset.rest.now dst.switches.now name.ensures offset.ensures.0 dst.ensures.0 rules.ensures.0,
       record { std_name_is = c.in_ok-std.ensures.1; std_offset_is = offset.ensures.1; dst_name_is = c.in_ok-dst.ensures.1; dst_offset_is = dst.ensures.1; start_is = rules.ensures.1; end_is = rules.ensures.2 },
       f,
       refl,
@@ -105,7 +105,7 @@ returns c =
     (passed c.total_seconds-start_time.result _ start_fits c.total_seconds-start_time.ensures)
     (passed c.total_seconds-end_time.result _ end_fits c.total_seconds-end_time.ensures) in (
       a,
-      whole_text c.args.extended c.args.text.now a name.rest.now offset.rest.now dst.rules.now name.ensures offset.ensures.0 dst.ensures.0 rules.ensures.0,
+      whole_text c.args.extended c.args.text.now a name.rest.now offset.rest.now dst.switches.now name.ensures offset.ensures.0 dst.ensures.0 rules.ensures.0,
       record { std_name_is = c.in_ok-std.ensures.1; std_offset_is = offset.ensures.1; dst_name_is = c.in_ok-dst.ensures.1; dst_offset_is = dst.ensures.1; start_is = rules.ensures.1; end_is = rules.ensures.2 },
       subst IsConsistentRule same c.in_ok-rule.ensures.ok,
       c.in_ok-rule.ensures.value ∙ same,

@@ -2,7 +2,7 @@ use Rattle.tz_zone.specs.TzText.{offset_hours}
 use Rattle.tz_zone.specs.TzTextFault.{offset_faults}
 use Rattle.tz_zone.proofs.QuestionMarkExits.{exit}
 use Rattle.tz_zone.proofs.TextTimes.{time_above}
-use Rattle.tz_zone.proofs.parse.tz_string.time.read_offset.Goals as goal
+use Rattle.tz_zone.proofs.parse.tz_string.offset.read_offset.Goals as goal
 
 pub returns-in_err-offset : goal.returns-in_err-offset
 returns-in_err-offset c =

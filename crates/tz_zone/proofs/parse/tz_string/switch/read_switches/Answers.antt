@@ -1,7 +1,7 @@
 use Rattle.std.proofs.Common.{ℕ, List, subst, inl, inr}
 use Rattle.tz_zone.specs.TzText.{IsRuleText}
 use Rattle.tz_zone.proofs.QuestionMarkExits.{exit}
-use Rattle.tz_zone.proofs.parse.tz_string.read_rules.Goals as goal
+use Rattle.tz_zone.proofs.parse.tz_string.switch.read_switches.Goals as goal
 
 pub returns-in-Err : goal.returns-in-Err
 returns-in-Err c = inl c.in-Err.ensures
