@@ -2,7 +2,7 @@
 use Rattle.std.proofs.Common.{◌-◌, ◌<◌, length, sym, ◌∙◌, arith}
 use Rattle.std.proofs.lemmas.List.{length-take-le}
 use Rattle.tz_zone.proofs.TzNames.{name_there, no_name_there}
-use Rattle.tz_zone.proofs.parse.tz_file.content.name_at.Goals as goal
+use Rattle.tz_zone.proofs.parse.tz_file.local_time_types.name_at.Goals as goal
 
 pub slice_bounds-result-end : goal.slice_bounds-result-end
 slice_bounds-result-end c =
