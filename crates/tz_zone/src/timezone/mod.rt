@@ -2,6 +2,7 @@
 
 mod change_iterators;
 pub(crate) mod file_reader;
+mod file_search;
 mod offsets;
 mod settings;
 mod zone;
@@ -9,6 +10,7 @@ mod zone_changes;
 mod zone_checks;
 mod zone_name;
 mod zone_of_file;
+mod zone_of_text;
 pub(crate) mod zone_parts;
 mod zone_ref;
 pub(crate) mod zone_view;
