@@ -66,28 +66,15 @@ overflow_cast-result c =
     let wide : SFits w128 c.min.result = search rules in
     rw (to_z-of_z w128 c.min.result wide) (of_call c).fits
 
-pub returns-clause-up_to : goal.returns-clause-up_to
-returns-clause-up_to c =
-    let wide : SFits w128 c.min.result = search rules in
-    let last = of_call c in
-    rw (to_z-of_z w128 c.min.result wide, to_z-of_z w64 c.min.result last.fits) last.up_to
-
-pub returns-clause-within : goal.returns-clause-within
-returns-clause-within c =
+pub returns : goal.returns
+returns c =
     let leaps = c.args.leap_seconds.now in
     let item = c.index-leap_seconds-place.result in
     let at = slice_get_read leaps _ c.args.place item refl c.requires.place c.index-leap_seconds-place.is in
     let wide : SFits w128 c.min.result = search rules in
     let last = of_call c in
-    rw (to_z-of_z w128 c.min.result wide, to_z-of_z w64 c.min.result last.fits)
-    (left_within leaps c.requires.leaps c.args.place item at c.min.result last.one)
-
-pub returns-clause-past : goal.returns-clause-past
-returns-clause-past c =
-    let leaps = c.args.leap_seconds.now in
-    let item = c.index-leap_seconds-place.result in
-    let at = slice_get_read leaps _ c.args.place item refl c.requires.place c.index-leap_seconds-place.is in
-    let wide : SFits w128 c.min.result = search rules in
-    let last = of_call c in
-    rw (to_z-of_z w128 c.min.result wide, to_z-of_z w64 c.min.result last.fits)
-    (λ u above up_to. let both = last.after u above up_to in left_past leaps c.requires.leaps c.args.place item at u both.0 both.1)
+    rw (to_z-of_z w128 c.min.result wide, to_z-of_z w64 c.min.result last.fits) (record {
+      up_to = last.up_to;
+      within = left_within leaps c.requires.leaps c.args.place item at c.min.result last.one;
+      past = λ u above up_to. let both = last.after u above up_to in left_past leaps c.requires.leaps c.args.place item at u both.0 both.1;
+    })

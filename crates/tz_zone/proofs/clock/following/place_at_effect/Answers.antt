@@ -19,9 +19,8 @@ returns-then-is_empty-clause-at c =
 pub place_near-requires : goal.place_near-requires
 place_near-requires c = λ i. (c.requires.sound.transitions_are i).1
 
-pub returns-clause-within : goal.returns-clause-within
-returns-clause-within c =
-    let list = c.args.transitions.now in
+pub returns : goal.returns
+returns c =
     let m = c.args.effect in
     let change = c.requires.transition in
     let l = c.shifted.result in
@@ -29,16 +28,11 @@ returns-clause-within c =
     let leap = rw (to_z-of_z w64 m c.ranges.effect) at c.shifted.ensures in
     let at = rw (to_z-of_z w64 l fits) at c.place_near.ensures.at in
     let reached = change.2.reached c.requires.defined in
-    let from : change.0.unix_leap_time ≤ℤ l = omega (arith, ints, reached.2, leap_time_unique c.args.parts.leap_seconds.now c.requires.sound.leap_seconds_are m reached.0 l reached.1 leap) in (
-      elim (cases_lt c.args.index c.place_near.result) [ inl less ↦ less | inr more ↦ absurd (omega (arith, ints, from, at.1 c.args.index change.0 more change.1)) ],
-      c.place_near.ensures.within,
-    )
-
-pub returns-clause-at : goal.returns-clause-at
-returns-clause-at c =
-    let m = c.args.effect in
-    let l = c.shifted.result in
-    let fits : SFits w64 l = search rules in
-    let leap = rw (to_z-of_z w64 m c.ranges.effect) at c.shifted.ensures in
-    let at = rw (to_z-of_z w64 l fits) at c.place_near.ensures.at in
-    record { time = l; time_is = leap; reached = at.0; ahead = at.1 }
+    let from : change.0.unix_leap_time ≤ℤ l = omega (arith, ints, reached.2, leap_time_unique c.args.parts.leap_seconds.now c.requires.sound.leap_seconds_are m reached.0 l reached.1 leap) in
+    record {
+      within = (
+        elim (cases_lt c.args.index c.place_near.result) [ inl less ↦ less | inr more ↦ absurd (omega (arith, ints, from, at.1 c.args.index change.0 more change.1)) ],
+        c.place_near.ensures.within,
+      );
+      at = record { time = l; time_is = leap; reached = at.0; ahead = at.1 };
+    }

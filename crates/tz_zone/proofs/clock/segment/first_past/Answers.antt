@@ -41,11 +41,11 @@ overflow_add-result c =
     let before = after_last c.args.leap_seconds.now c.requires.leaps last u c.last_instant.ensures.within past in
     rw (to_z-of_z w64 last fits) (IsInstant-from_bounds (last +ℤ pos 1) (omega (arith, ints, instant_bounds last fits)) (omega (arith, ints, before, instant_bounds u c.ranges.unix_time)))
 
-pub returns-clause-up_to : goal.returns-clause-up_to
-returns-clause-up_to c = (next_of c).up_to
-
-pub returns-clause-far : goal.returns-clause-far
-returns-clause-far c = omega (arith, ints, (next_of c).is, last_is_far c.args.leap_seconds.now c.requires.leaps c.last_instant.result c.last_instant.ensures.past)
-
-pub returns-clause-refused : goal.returns-clause-refused
-returns-clause-refused c = λ v from. inr (past_later c.args.leap_seconds.now c.requires.leaps _ v from (next_of c).is_past)
+pub returns : goal.returns
+returns c =
+    let next = next_of c in
+    record {
+      up_to = next.up_to;
+      far = omega (arith, ints, next.is, last_is_far c.args.leap_seconds.now c.requires.leaps c.last_instant.result c.last_instant.ensures.past);
+      refused = λ v from. inr (past_later c.args.leap_seconds.now c.requires.leaps _ v from next.is_past);
+    }
