@@ -6,8 +6,8 @@ use mir.Val.{SFits}
 use Rattle.tz_rule.specs.RuleChanges.{type_change_of}
 use Rattle.tz_rule.specs.RuleRef.{rule_seen}
 use Rattle.tz_zone.specs.ZoneSeen.{zone_seen}
-use Rattle.tz_zone.proofs.ChangeSpans.{none_held, following_of_rule, no_following_of_rule}
-use Rattle.tz_zone.proofs.SegmentTypes.{match_none, match_some}
+use Rattle.tz_zone.proofs.ChangeSpans.{following_of_rule, no_following_of_rule}
+use Rattle.tz_zone.proofs.SegmentTypes.{match_none}
 use Rattle.tz_zone.proofs.clock.following.following_by_rule.Goals as goal
 
 pub returns-in_err-change : goal.returns-in_err-change
@@ -15,7 +15,7 @@ returns-in_err-change c =
     let z = zone_seen [] c.args.parts in
     let rule = rule_seen c.in_ok-rule.rule in
     let is = sym c.lent.ensures ∙ ap (option_map rule_seen) c.in_ok-rule.was in
-    let none = rw (to_z-of_z w64 c.args.unix_time c.ranges.unix_time) at (none_held c.change_after.result _ _ c.in_err-change.was c.change_after.ensures) in
+    let none = rw (to_z-of_z w64 c.args.unix_time c.ranges.unix_time) at c.in_err-change.ensures in
     match_none c.from_residual-in_err-change.result _ _ c.from_residual-in_err-change.ensures (no_following_of_rule z refl rule is c.args.unix_time none)
 
 pub returns : goal.returns
@@ -24,6 +24,6 @@ returns c =
     let rule = rule_seen c.in_ok-rule.rule in
     let is = sym c.lent.ensures ∙ ap (option_map rule_seen) c.in_ok-rule.was in
     let k = c.in_ok-change.change in
-    let found = rw (to_z-of_z w64 c.args.unix_time c.ranges.unix_time) at (match_some c.change_after.result k _ _ c.in_ok-change.was c.change_after.ensures) in
+    let found = rw (to_z-of_z w64 c.args.unix_time c.ranges.unix_time) at c.in_ok-change.ensures in
     let fits : SFits w64 k.unix_time = search rules in
     rw (c.new.ensures, to_z-of_z w64 k.unix_time fits) (following_of_rule z refl rule is c.args.unix_time (type_change_of k) found)
