@@ -21,7 +21,7 @@ use Rattle.tz_rule.specs.declared.timezone.rule_day.RuleDay.TheVariants.{Julian1
 use Rattle.tz_zone.specs.Bytes.{capital_j, capital_m, closing_bracket, comma, dot, slash}
 use Rattle.tz_zone.specs.declared.parse.tz_string.switch.DayAndTime.{DayAndTime}
 use Rattle.tz_zone.specs.declared.parse.tz_string.time.WrittenTime.{WrittenTime}
-use Rattle.tz_zone.specs.TzText.{Begins, IsRun, IsNumber, is_in_brackets, IsName, IsPart, IsHms, IsSign, IsSignedTime, IsDayTimeSign, IsDayTime, IsMonthWeekText, IsDay, IsRuleText, IsDaylightOffset, IsTimeUpTo, offset_hours, day_time_hours, IsRuleInRange, IsNameAndOffset, AlternateText, IsAlternateText, IsAlternateInRange, std_type_of, rule_of, IsTzText}
+use Rattle.tz_zone.specs.TzText.{Begins, IsNumber, IsName, IsPart, IsHms, IsSign, IsSignedTime, IsDayTimeSign, IsDayTime, IsMonthWeekText, IsDay, IsRuleText, IsDaylightOffset, IsTimeUpTo, offset_hours, day_time_hours, IsRuleInRange, IsNameAndOffset, AlternateText, IsAlternateText, IsAlternateInRange, std_type_of, rule_of, IsTzText}
 use Rattle.tz_rule.specs.RuleDays.{IsRuleDay}
 use Rattle.tz_zone.specs.TzTextFault.{Reached, IsMissingByte, TimeFaults, day_time_faults, offset_faults, IsNumberFault, IsPartFault, IsHmsFault, IsOffsetFault, IsDayTimeFault, FailsFrom, IsDayNumberFault, IsMonthWeekDayFault, IsDayFault, IsRuleTextFault, IsLastRuleFault, IsRulesFault, IsUnclosed, IsNameFault, LacksRules, IsDaylightFault, InText, IsTzTextFault}
 use Rattle.tz_zone.proofs.TextReadings.{IsOne, same_byte, same_rest, run_is_one, number_is_one, part_is_one, sign_is_one, day_time_sign_is_one, signed_time_is_one, day_is_one, rule_text_is_one, name_is_one, daylight_offset_is_one, name_and_offset_is_one, alternate_text_is_one, no_digit}

@@ -9,10 +9,10 @@ use Rattle.std.specs.Str.Parse.{digits_value}
 use Rattle.tz_rule.specs.MonthWeek.{month_week}
 use Rattle.tz_rule.specs.declared.timezone.rule_day.RuleDay.{RuleDay}
 use Rattle.tz_rule.specs.declared.timezone.rule_day.RuleDay.TheVariants.{Julian1WithoutLeap, Julian0WithLeap, MonthWeekDay}
-use Rattle.tz_zone.specs.Bytes.{capital_j, capital_m, closing_bracket, comma, dot}
+use Rattle.tz_zone.specs.Bytes.{capital_j, capital_m, comma, dot}
 use Rattle.tz_zone.specs.declared.parse.tz_string.switch.DayAndTime.{DayAndTime}
 use Rattle.tz_zone.specs.declared.parse.tz_string.time.WrittenTime.{WrittenTime}
-use Rattle.tz_zone.specs.TzText.{IsRun, IsNumber, is_in_brackets, IsName, IsPart, IsHms, IsSign, IsSignedTime, IsDayTimeSign, IsDayTime, IsMonthWeekText, IsDay, IsTimeOfRule, IsRuleText, IsDaylightOffset, IsNameAndOffset, AlternateText, IsAlternateText}
+use Rattle.tz_zone.specs.TzText.{IsRun, IsNumber, IsName, IsPart, IsHms, IsSign, IsSignedTime, IsDayTimeSign, IsDayTime, IsMonthWeekText, IsDay, IsTimeOfRule, IsRuleText, IsDaylightOffset, IsNameAndOffset, AlternateText, IsAlternateText}
 
 abbrev pub IsOne : {A : Type 0} → (List ℕ → A → List ℕ → Type 0) → Type 0
 IsOne {A} reads = (text : List ℕ) (x y : A) (rest more : List ℕ) → reads text x rest → reads text y more → (x ≡ y) × (rest ≡ more)

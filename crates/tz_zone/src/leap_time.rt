@@ -1,6 +1,6 @@
 //! Leap times. (RFC 8536, section 2)
 
-ghost use Rattle.std.specs.Prelude.{◌≡◌, ◌<◌, ◌≤◌, ◌+◌, ◌+ℤ◌, ◌≤ℤ◌, ◌<ℤ◌, ◌-ℤ◌, ◌⊎◌, ℕ, length, slice_get, ℤ, pos, negsuc, IfOk, IfErr, IfSome, IfNone, MatchBool, MatchOption, Some};
+ghost use Rattle.std.specs.Prelude.{◌≡◌, ◌<◌, ◌≤◌, ◌+◌, ◌+ℤ◌, ◌≤ℤ◌, ◌<ℤ◌, ◌-ℤ◌, ℕ, length, slice_get, ℤ, pos, negsuc, IfOk, IfErr, MatchBool, MatchOption, Some};
 ghost use Rattle.std.specs.Bool.{OnTrue};
 ghost use Rattle.tz_zone.specs.Table.{LeapSecond};
 ghost use Rattle.tz_zone.specs.LeapTime.{IsInstant, IsReached, IsBeforeStart, IsPastInstants, IsLeapTimeRefused, IsLeapTime};

@@ -14,11 +14,7 @@ use tz_rule::timezone::LocalTimeType;
 /// The segment around an instant of a clock whose transitions are all reached, or of one that has none: that of the extra rule. Without a rule
 /// there is no type, and type number 0 if there are no transitions.
 #[inline(always)]
-pub(super) fn after_table<'a>(
-    parts: OtherParts<'a>,
-    is_empty: bool,
-    unix_time: i64,
-) -> Segment<'a>
+pub(super) fn after_table<'a>(parts: OtherParts<'a>, is_empty: bool, unix_time: i64) -> Segment<'a>
     requires { parts.local_time_types.now ≢ [] }
     ensures within { (result.from ≤ℤ unix_time) × (unix_time ≤ℤ result.last) }
     ensures holds { (v : ℤ) → result.from ≤ℤ v → v ≤ℤ result.last

@@ -15,7 +15,7 @@ ghost use Rattle.tz_zone.specs.ValidZone.{IsSoundTable};
 ghost use Rattle.tz_zone.specs.ZoneSeen.{zone_seen};
 
 use super::change::{Change, change_at};
-use super::likely_place::{is_after_all, place_near, place_at_near};
+use super::likely_place::{is_after_all, place_at_near, place_near};
 use super::place::{type_at, type_before, type_of};
 use crate::effect::effect_if_reached;
 use crate::leap_time::{first_begun, shifted};

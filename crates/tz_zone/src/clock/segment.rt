@@ -11,7 +11,7 @@ ghost use Rattle.tz_zone.specs.ZoneSeen.{zone_seen};
 
 use super::after_table::after_table;
 use super::place::{before, place_at, type_of};
-use crate::effect::{last_before, effect_of_reached};
+use crate::effect::{effect_of_reached, last_before};
 use crate::leap_time::{first_begun, has_begun, last_instant, last_instant_up_to};
 use crate::table::{LeapSecond, OtherParts, Transition, Transitions};
 use tz_rule::timezone::LocalTimeType;
@@ -111,11 +111,7 @@ fn undefined_segment<'a>(leap_seconds: &[LeapSecond], unix_time: i64) -> Segment
 
 /// The segment around an instant at which the last transition is reached.
 #[inline(always)]
-fn segment_from_last<'a>(
-    parts: OtherParts<'a>,
-    last: Transition,
-    unix_time: i64,
-) -> Segment<'a>
+fn segment_from_last<'a>(parts: OtherParts<'a>, last: Transition, unix_time: i64) -> Segment<'a>
     requires types { parts.local_time_types.now ≢ [] }
     requires leaps { AreLeapSeconds parts.leap_seconds.now }
     requires reached { IsTimeReached parts.leap_seconds.now last.unix_leap_time unix_time }

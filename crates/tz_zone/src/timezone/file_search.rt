@@ -132,7 +132,11 @@ impl<F: Fn(&str) -> Result<Vec<u8>, ReadFault>> TimeZoneSettings<'_, F> {
     }
 
     /// The file with the name.
-    pub(super) fn find<A: Allocator + Copy>(&self, alloc: A, name: &str) -> Result<Vec<u8>, ReadFault>
+    pub(super) fn find<A: Allocator + Copy>(
+        &self,
+        alloc: A,
+        name: &str,
+    ) -> Result<Vec<u8>, ReadFault>
         requires { F.IsAlwaysCallable (reader_of self.now) }
         ensures { (result ≡ Err (Memory alloc_error)) ⊎ Finds (FnReturnsAt F.Fn (reader_of self.now)) (directories_of self.now) name.now result }
     {

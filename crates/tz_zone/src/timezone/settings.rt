@@ -1,12 +1,10 @@
 //! Settings by which the time zone of a string is found.
 
-ghost use Rattle.std.specs.Prelude.{◌≡◌, ◌⊎◌, ◌∷◌, map, Ok, Err, IfOk, IfErr, IfSome, MatchOption, MatchResult, IsTrue, ◌↔◌, alloc_error};
-ghost use Rattle.std.specs.String.{string_bytes};
+ghost use Rattle.std.specs.Prelude.{◌≡◌, ◌⊎◌, ◌∷◌, map, Ok, Err, MatchOption, MatchResult, IsTrue, ◌↔◌, alloc_error};
 ghost use Rattle.tz_base.specs.declared.error.Error.TheVariants.{Tz};
-ghost use Rattle.tz_base.specs.declared.error.ReadFault.TheVariants.{Memory};
 ghost use Rattle.tz_base.specs.declared.error.TzError.TheVariants.{Memory as NoMemory};
-ghost use Rattle.tz_zone.specs.Bytes.{colon, slash};
-ghost use Rattle.tz_zone.specs.Settings.{path_in, IsFileAnswer, Opens, IsTextAnswer, rule_zone, local_time};
+ghost use Rattle.tz_zone.specs.Bytes.{colon};
+ghost use Rattle.tz_zone.specs.Settings.{IsFileAnswer, Opens, local_time};
 ghost use Rattle.tz_zone.specs.TzText.{Begins};
 ghost use Rattle.tz_zone.specs.ZoneRef.{own_zone_of};
 
@@ -77,12 +75,11 @@ pub struct TimeZoneSettings<'a, F> {
 }
 
 impl<'a, F: Fn(&str) -> Result<Vec<u8>, ReadFault>> TimeZoneSettings<'a, F> {
-    ghost use Rattle.anyhow.specs.declared.error.Error.{Error as Fault};
     ghost use Rattle.std.specs.Fn.{FnReturnsAt};
     ghost use Rattle.tz_base.specs.declared.error.ReadFault.TheVariants.{Failed};
-    ghost use Rattle.tz_zone.specs.Settings.{FindsIn, Finds, IsLocalAnswer, IsNamedAnswer, IsNamedOrTextAnswer, IsSettingsAnswer, texts_of};
+    ghost use Rattle.tz_zone.specs.Settings.{IsLocalAnswer, IsNamedAnswer, IsNamedOrTextAnswer, IsSettingsAnswer, texts_of};
     ghost use Rattle.tz_zone.specs.SettingsParts.{directories_of, reader_of};
-    ghost use Rattle.tz_zone.specs.ZoneNames.{IsCallableAt, IsPathIn, IsPathOfName, IsZoneNameAnswer};
+    ghost use Rattle.tz_zone.specs.ZoneNames.{IsCallableAt, IsPathOfName, IsZoneNameAnswer};
 
     /// The settings with these directories, and with this function that reads a file.
     pub fn new(directories: &'a [&'a str], reader: F) -> Self

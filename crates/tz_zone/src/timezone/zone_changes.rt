@@ -66,7 +66,12 @@ impl<'a> TimeZoneRef<'a> {
     pub fn following(&self, unix_time: i64) -> Option<Change<'a>>
         ensures { MatchOption result (HasNoFollowing (zone_of self.now) unix_time) (λ c. IsFollowing (zone_of self.now) unix_time (change_of c)) }
     {
-        let (change, _) = clock::find_following(self.transitions(), other_parts(self), unix_time, None)?;
+        let (change, _) = clock::find_following(
+            self.transitions(),
+            other_parts(self),
+            unix_time,
+            None,
+        )?;
         Some(change)
     }
 
@@ -113,7 +118,12 @@ impl<'a> TimeZoneRef<'a> {
     pub fn preceding(&self, unix_time: i64) -> Option<Change<'a>>
         ensures { MatchOption result (HasNoPreceding (zone_of self.now) unix_time) (λ c. IsPreceding (zone_of self.now) unix_time (change_of c)) }
     {
-        let (change, _) = clock::find_preceding(self.transitions(), other_parts(self), unix_time, None)?;
+        let (change, _) = clock::find_preceding(
+            self.transitions(),
+            other_parts(self),
+            unix_time,
+            None,
+        )?;
         Some(change)
     }
 

@@ -1,6 +1,6 @@
 //! The checks of a zone: its transitions in order and to types of the zone, its table of leap seconds, and a rule that agrees with the last transition.
 
-ghost use Rattle.std.specs.Prelude.{◌≡◌, ◌≢◌, ℕ, pos, ◌+ℤ◌, ◌-ℤ◌, ◌≤ℤ◌, ◌+◌, ◌<◌, length, [], OnOk, IfOk, IfErr, IsTrue, MatchBool};
+ghost use Rattle.std.specs.Prelude.{◌≡◌, ℕ, ◌+◌, ◌<◌, length, OnOk, IfOk, IfErr, IsTrue, MatchBool};
 ghost use Rattle.tz_rule.specs.LocalTimeType.{LocalTimeType};
 ghost use Rattle.tz_rule.specs.RuleRef.{rule_seen};
 ghost use Rattle.tz_zone.specs.Table.{zone_with};

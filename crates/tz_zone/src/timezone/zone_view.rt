@@ -133,7 +133,12 @@ impl<'a> ZoneView<'a> {
     pub fn following(&self, unix_time: i64) -> Option<Change<'a>>
         ensures { MatchOption result (HasNoFollowing (zone_viewed self.now) unix_time) (λ c. IsFollowing (zone_viewed self.now) unix_time (change_of c)) }
     {
-        let (change, _) = clock::find_following(self.transitions, self.other_parts(), unix_time, None)?;
+        let (change, _) = clock::find_following(
+            self.transitions,
+            self.other_parts(),
+            unix_time,
+            None,
+        )?;
         Some(change)
     }
 
@@ -141,7 +146,12 @@ impl<'a> ZoneView<'a> {
     pub fn preceding(&self, unix_time: i64) -> Option<Change<'a>>
         ensures { MatchOption result (HasNoPreceding (zone_viewed self.now) unix_time) (λ c. IsPreceding (zone_viewed self.now) unix_time (change_of c)) }
     {
-        let (change, _) = clock::find_preceding(self.transitions, self.other_parts(), unix_time, None)?;
+        let (change, _) = clock::find_preceding(
+            self.transitions,
+            self.other_parts(),
+            unix_time,
+            None,
+        )?;
         Some(change)
     }
 }

@@ -1,6 +1,6 @@
 //! The days of the year at which daylight saving time starts or ends.
 
-ghost use Rattle.std.specs.Prelude.{◌≡◌, IfSome, MatchResult};
+ghost use Rattle.std.specs.Prelude.{IfSome, MatchResult};
 ghost use Rattle.tz_base.specs.declared.error.timezone.TransitionRuleError.TheVariants.{InvalidRuleDayJulianDay};
 ghost use Rattle.tz_rule.specs.JulianDay.{IsJulianDay, IsZeroBasedDay};
 ghost use Rattle.tz_rule.specs.MonthWeek.{IsMonthWeek, month_week};
@@ -92,4 +92,3 @@ pub(super) fn read_rule_day(text: &[u8]) -> Result<(RuleDay, &[u8]), TzError>
         Err(error) => Err(error),
     }
 }
-

@@ -71,7 +71,9 @@ pub(super) fn read_offset(text: &[u8]) -> Result<(WrittenTime, &[u8]), TzStringE
 
 /// The daylight offset, which may be omitted before a comma, and the rest of the bytes.
 #[inline(always)]
-pub(super) fn read_daylight_offset(text: &[u8]) -> Result<(Option<WrittenTime>, &[u8]), TzStringError>
+pub(super) fn read_daylight_offset(
+    text: &[u8],
+) -> Result<(Option<WrittenTime>, &[u8]), TzStringError>
     ensures { MatchResult result
         (λ p. IsDaylightOffset text.now p.0 p.1.now × IfSome p.0 (IsTimeUpTo offset_hours))
         (λ e. ¬ Begins comma text.now × IsOffsetFault text.now e) }

@@ -51,7 +51,10 @@ fn read_last_switch(text: &[u8], extended: bool) -> Result<DayAndTime, TzError>
 
 /// The start and the end, with a comma between them and nothing after them.
 #[inline(always)]
-pub(super) fn read_switches(text: &[u8], extended: bool) -> Result<(DayAndTime, DayAndTime), TzError>
+pub(super) fn read_switches(
+    text: &[u8],
+    extended: bool,
+) -> Result<(DayAndTime, DayAndTime), TzError>
     ensures { MatchResult result
         (λ p. ((end_text : List ℕ) × IsRuleText extended text.now p.0 (comma ∷ end_text) × IsRuleText extended end_text p.1 []) × IsRuleInRange extended p.0 × IsRuleInRange extended p.1)
         (IsRulesFault extended text.now) }

@@ -1,8 +1,8 @@
 //! Times as they are written, and the time of day at which daylight saving time starts or ends.
 
-ghost use Rattle.std.specs.Prelude.{◌≡◌, ◌∷◌, ◌<◌, ◌≤◌, ◌^◌, ℕ, List, MatchResult};
+ghost use Rattle.std.specs.Prelude.{◌≡◌, ◌∷◌, ◌<◌, ℕ, List, MatchResult};
 ghost use Rattle.tz_zone.specs.Bytes.{colon, slash};
-ghost use Rattle.tz_zone.specs.TzText.{IsPart, IsHms, IsSign, IsSignedTime, IsDayTimeSign, IsDayTime, IsTimeOfRule, IsTimeUpTo, day_time_hours};
+ghost use Rattle.tz_zone.specs.TzText.{IsPart, IsHms, IsSign, IsDayTimeSign, IsDayTime, IsTimeOfRule, IsTimeUpTo, day_time_hours};
 ghost use Rattle.tz_zone.specs.TzTextFault.{IsParseInt, HasNoNumber, IsHmsFault, IsTimeAbove, IsDayTimeFault, TimeFaults, day_time_faults};
 
 use super::cursor::after_byte;
@@ -150,7 +150,10 @@ pub(super) fn read_day_time(
 
 /// The time after a slash, or two o'clock if there is no slash, and the rest of the bytes.
 #[inline(always)]
-pub(super) fn read_time_of_switch(text: &[u8], extended: bool) -> Result<(WrittenTime, &[u8]), TzStringError>
+pub(super) fn read_time_of_switch(
+    text: &[u8],
+    extended: bool,
+) -> Result<(WrittenTime, &[u8]), TzStringError>
     ensures { MatchResult result
         (λ p. IsTimeOfRule extended text.now p.0 p.1.now × IsTimeUpTo (day_time_hours extended) p.0)
         (λ e. (time : List ℕ) × (text.now ≡ slash ∷ time) × IsDayTimeFault extended time e) }

@@ -5,7 +5,7 @@ use Rattle.std.proofs.lemmas.Int.{ints, to_z-of_z}
 use Rattle.std.proofs.lemmas.Bool.{cases_lt}
 use Rattle.std.proofs.lemmas.Option.{same_Some, slice_get_within, slice_get-get_or}
 use mir.Syntax.{w32}
-use mir.Val.{SFits, to_z}
+use mir.Val.{SFits}
 use Rattle.tz_rule.specs.LocalTimeType.{LocalTimeType}
 use Rattle.tz_zone.specs.Offsets.{IsOffsetOfTypes}
 use Rattle.tz_zone.proofs.timezone.offsets.offsets_of_types.Goals as goal
