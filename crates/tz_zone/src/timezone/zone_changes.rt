@@ -2,7 +2,7 @@
 
 use super::zone_parts::other_parts;
 use super::{Change, ChangesAfter, ChangesBefore, Segment, TimeZone, TimeZoneRef};
-use crate::clock;
+use crate::clock::{self, find_following, find_preceding};
 use crate::table::Uncounted;
 use std::alloc::Allocator;
 
@@ -66,12 +66,7 @@ impl<'a> TimeZoneRef<'a> {
     pub fn following(&self, unix_time: i64) -> Option<Change<'a>>
         ensures { MatchOption result (HasNoFollowing (zone_of self.now) unix_time) (λ c. IsFollowing (zone_of self.now) unix_time (change_of c)) }
     {
-        let (change, _) = clock::find_following(
-            self.transitions(),
-            other_parts(self),
-            unix_time,
-            None,
-        )?;
+        let (change, _) = find_following(self.transitions(), other_parts(self), unix_time, None)?;
         Some(change)
     }
 
@@ -118,12 +113,7 @@ impl<'a> TimeZoneRef<'a> {
     pub fn preceding(&self, unix_time: i64) -> Option<Change<'a>>
         ensures { MatchOption result (HasNoPreceding (zone_of self.now) unix_time) (λ c. IsPreceding (zone_of self.now) unix_time (change_of c)) }
     {
-        let (change, _) = clock::find_preceding(
-            self.transitions(),
-            other_parts(self),
-            unix_time,
-            None,
-        )?;
+        let (change, _) = find_preceding(self.transitions(), other_parts(self), unix_time, None)?;
         Some(change)
     }
 

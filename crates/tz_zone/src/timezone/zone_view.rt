@@ -9,7 +9,7 @@ ghost use Rattle.tz_zone.specs.ZoneSeen.{lent_rule, rule_of_lists};
 use super::offsets::offsets;
 use super::zone_checks::check_parts;
 use super::{Change, LeapSecond, LocalTimeType, Segment, Transition};
-use crate::clock;
+use crate::clock::{self, find_following, find_preceding};
 use crate::table::{KeptRule, OtherParts, Uncounted};
 use tz_base::error::TzError;
 use tz_rule::inner::{AlternateClock, RuleRef};
@@ -133,12 +133,7 @@ impl<'a> ZoneView<'a> {
     pub fn following(&self, unix_time: i64) -> Option<Change<'a>>
         ensures { MatchOption result (HasNoFollowing (zone_viewed self.now) unix_time) (λ c. IsFollowing (zone_viewed self.now) unix_time (change_of c)) }
     {
-        let (change, _) = clock::find_following(
-            self.transitions,
-            self.other_parts(),
-            unix_time,
-            None,
-        )?;
+        let (change, _) = find_following(self.transitions, self.other_parts(), unix_time, None)?;
         Some(change)
     }
 
@@ -146,12 +141,7 @@ impl<'a> ZoneView<'a> {
     pub fn preceding(&self, unix_time: i64) -> Option<Change<'a>>
         ensures { MatchOption result (HasNoPreceding (zone_viewed self.now) unix_time) (λ c. IsPreceding (zone_viewed self.now) unix_time (change_of c)) }
     {
-        let (change, _) = clock::find_preceding(
-            self.transitions,
-            self.other_parts(),
-            unix_time,
-            None,
-        )?;
+        let (change, _) = find_preceding(self.transitions, self.other_parts(), unix_time, None)?;
         Some(change)
     }
 }
