@@ -16,7 +16,7 @@ use Rattle.tz_rule.specs.LocalTimeType.{IsDesignation, IsDesignationByte}
 use Rattle.tz_rule.specs.declared.timezone.rule_day.RuleDay.{RuleDay}
 use Rattle.tz_rule.specs.declared.timezone.rule_day.RuleDay.TheVariants.{Julian1WithoutLeap, Julian0WithLeap, MonthWeekDay}
 use Rattle.tz_zone.specs.Bytes.{closing_bracket, dot, opening_bracket, slash}
-use Rattle.tz_zone.specs.TzText.{Begins, IsNumber, is_in_brackets, IsName, IsDay, IsDayTime, IsTimeOfRule, IsTimeUpTo, day_time_hours, IsRuleText, IsRuleInRange, TurnText}
+use Rattle.tz_zone.specs.TzText.{Begins, IsNumber, is_in_brackets, IsName, IsDay, IsDayTime, IsTimeOfRule, IsTimeUpTo, day_time_hours, IsRuleText, IsRuleInRange, SwitchText}
 use Rattle.tz.specs.TzStrings.{is_bare, name_text, day_text, time_of_day_text, turn_text, plain_time_text, signed_time_text, is_extended_time}
 use Rattle.tz.proofs.TzStringParts.{Stops, first_of, run_before, IsBehind, no_byte_behind, no_digit_behind, no_letter_byte, decimal_read, time_of, plain_time_read, signed_time_read, time_up_to}
 
@@ -143,7 +143,7 @@ time_of_day_stops true time rest behind = no_digit_behind rest behind
 time_of_day_stops false time rest behind = refl
 
 -- a day with its time
-abbrev pub turn_of : RuleDay → ℤ → TurnText
+abbrev pub turn_of : RuleDay → ℤ → SwitchText
 turn_of day time = record { day = day; time = time_of time }
 
 pub turn_read : (extended : Bool) (day : RuleDay) (time : ℤ) (rest : List ℕ) → IsRuleDay day → Allows extended time → IsBehind rest → IsRuleText extended (turn_text day time ++ rest) (turn_of day time) rest

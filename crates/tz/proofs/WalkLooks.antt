@@ -11,7 +11,7 @@ use Rattle.tz_zone.specs.ValidZone.{AreLeapSeconds, IsSoundTable}
 use Rattle.tz_zone.specs.declared.clock.spans.Stage.{Stage}
 use Rattle.tz_zone.proofs.LeapTimes.{IsInstant-from_bounds, instant_bounds, leap_time_mono}
 use Rattle.tz_zone.proofs.PlaceRuns.{some_transitions}
-use Rattle.tz_zone.proofs.InstantsWithLeapTime.{answered_between, leap_time_low, leap_unless_refused}
+use Rattle.tz_zone.proofs.InstantsWithLeapTime.{defined_between, leap_time_low, leap_unless_refused}
 use Rattle.tz.specs.Windows.{TakesEffectIn, AtMostTakeEffectIn, first_looks}
 use Rattle.tz.proofs.ReadingWindows.{as_many_as_passed}
 
@@ -21,7 +21,7 @@ module _ (leaps : List LeapSecond) (are : AreLeapSeconds leaps) (v first l : ℤ
   effect_within zero at is high reached = absurd (omega (arith, ints, ahead, reached.2, leap_time_mono leaps are at first reached.0 l (omega (arith, ints, is)) reached.1 leap))
   effect_within (suc n) at is high reached =
       let earlier : first +ℤ pos n ≡ at -ℤ pos 1 = omega (arith, ints, is) in
-      let here = leap_unless_refused leaps are (first +ℤ pos n) (answered_between leaps are first at (first +ℤ pos n) leap.not_refused reached.1.not_refused (omega (arith, ints)) (omega (arith, ints, is))) in
+      let here = leap_unless_refused leaps are (first +ℤ pos n) (defined_between leaps are first at (first +ℤ pos n) leap.not_refused reached.1.not_refused (omega (arith, ints)) (omega (arith, ints, is))) in
       by_lt_z here.0 v
       (λ before. (
         at,

@@ -149,9 +149,6 @@ pub if_some : {X : Type 0} (o : Option X) (P : Type 0) → is_some o ≡ true �
 if_some (Some x) P e f = f x refl
 if_some None P e f = absurd (false≢true e)
 
-pub none_held : {X : Type 0} (o : Option X) (P : Type 0) (Q : X → Type 0) → o ≡ None → MatchOption o P Q → P
-none_held o P Q is h = subst (λ p. MatchOption p P Q) is h
-
 -- and of what is known of it by cases, more follows
 pub if_some_held : {X : Type 0} (o : Option X) (P : Type 0) (Q R : X → Type 0) → MatchOption o P Q → ((x : X) → Q x → R x) → IfSome o R
 if_some_held (Some x) P Q R is each = each x is

@@ -21,7 +21,7 @@ use Rattle.tz_zone.proofs.RisingTimes.{ahead_from, reached_through}
 use Rattle.tz_zone.proofs.LeapReached.{IsLastBefore, reached_from}
 use Rattle.tz_zone.proofs.Places.{clock_at_place}
 use Rattle.tz_zone.proofs.PlaceRuns.{some_transitions, type_after, types_from_last}
-use Rattle.tz_zone.proofs.InstantsWithLeapTime.{answered_within, clock_without, leap_unless_refused}
+use Rattle.tz_zone.proofs.InstantsWithLeapTime.{defined_within, clock_without, leap_unless_refused}
 
 -- the type after the table, or none, is that of the clock where all transitions are reached, and of one that has none
 pub types_after_table : (list : List Transition) (parts : OtherParts) → IsSoundTable (zone_seen list parts) → (count : ℕ) → count ≡ length list → (v : ℤ)
@@ -42,7 +42,7 @@ module _ (z : Zone) (sound : IsSoundTable z) (first since : ℤ) (s : Stage) (st
   leap_later : z.transitions ≢ [] → (v : ℤ) → since ≤ℤ v → v ≤ℤ pos 80000000000000000 → (l : ℤ) × IsLeapTime z.leap_seconds v l × AreReached z.transitions l s.place
   leap_later some v from to =
       let here = stage.reached some in
-      let leap = leap_unless_refused z.leap_seconds sound.leap_seconds_are v (answered_within z.leap_seconds sound.leap_seconds_are since v here.1.not_refused from to) in
+      let leap = leap_unless_refused z.leap_seconds sound.leap_seconds_are v (defined_within z.leap_seconds sound.leap_seconds_are since v here.1.not_refused from to) in
       (leap.0, leap.1, λ i change less at_i. omega (arith, ints, here.2 i change less at_i, leap_time_mono z.leap_seconds sound.leap_seconds_are since v here.0 leap.0 from here.1 leap.1))
 
   pub stage_later : (v : ℤ) → since ≤ℤ v → v ≤ℤ pos 80000000000000000 → IsStage z first v s
@@ -73,8 +73,8 @@ module _ (z : Zone) (sound : IsSoundTable z) (first since : ℤ) (s : Stage) (st
     some = some_transitions z.transitions s.place inside
 
     -- the next transition was not reached at the first instant
-    pub answered_at_first : ¬ IsLeapTimeRefused z.leap_seconds first
-    answered_at_first = (stage.ahead some).1.not_refused
+    pub defined_at_first : ¬ IsLeapTimeRefused z.leap_seconds first
+    defined_at_first = (stage.ahead some).1.not_refused
 
     pub ahead_at_first : ¬ IsTimeReached z.leap_seconds next.unix_leap_time first
     ahead_at_first reached =
@@ -95,7 +95,7 @@ module _ (z : Zone) (sound : IsSoundTable z) (first since : ℤ) (s : Stage) (st
         let (l, leap, reached) = leap_later some v from to in
         let there : IsTimeReached z.leap_seconds next.unix_leap_time v = elim (before.next (λ e. absurd (omega (arith, ints, e, after, to)))) [
           | inl past ↦ absurd (leap.not_refused (inr (past_later z.leap_seconds sound.leap_seconds_are (last +ℤ pos 1) v (omega (arith, ints, after)) past)))
-          | inr moment ↦ reached_from z.leap_seconds sound.leap_seconds_are next.unix_leap_time (last +ℤ pos 1) v moment leap.not_refused (omega (arith, ints, after))
+          | inr wide ↦ reached_from z.leap_seconds sound.leap_seconds_are next.unix_leap_time (last +ℤ pos 1) v wide leap.not_refused (omega (arith, ints, after))
         ] in
         record {
           within = omega (arith, inside);

@@ -7,7 +7,7 @@ use Rattle.std.proofs.lemmas.List.{nil_from_length}
 use Rattle.std.proofs.lemmas.Option.{slice_get_within, none-some}
 use Rattle.tz_rule.specs.LocalTimeType.{LocalTimeType}
 use Rattle.tz_zone.specs.Table.{Transition, LeapSecond, Zone}
-use Rattle.tz_zone.specs.LeapTime.{IsInstant, IsReached, IsBeforeStart, IsLeapTimeRefused, IsLeapTime, IsTimeReached, IsMomentOf}
+use Rattle.tz_zone.specs.LeapTime.{IsInstant, IsReached, IsBeforeStart, IsLeapTimeRefused, IsLeapTime, IsTimeReached, IsWideEffect}
 use Rattle.tz_zone.specs.Clock.{IsTypeWithout, IsClock, HasNoType}
 use Rattle.tz_zone.specs.ValidZone.{AreLeapSeconds}
 use Rattle.tz_zone.proofs.LeapLists.{count_exists}
@@ -28,11 +28,11 @@ plain_leap leaps none u = subst (λ (ls : List LeapSecond). IsLeapTime ls u u) (
     plain : IsLeapTime [] u u
     plain = record { not_refused = not_refused; value = (pos 0, inl (refl, never), omega (arith, ints)) }
 
--- without leap seconds each leap time is its own moment
-pub plain_moment : (leaps : List LeapSecond) → leaps ≡ [] → (v : ℤ) → negsuc 9223372036854775807 ≤ℤ v → IsMomentOf leaps v v
-plain_moment leaps none v low = record {
+-- without leap seconds each leap time is its own effect
+pub plain_effect : (leaps : List LeapSecond) → leaps ≡ [] → (v : ℤ) → negsuc 9223372036854775807 ≤ℤ v → IsWideEffect leaps v v
+plain_effect leaps none v low = record {
   least = λ w reached. omega (arith, ints, reached.2, one_leap_time leaps w reached.0 w reached.1 (plain_leap leaps none w));
-  reached = λ answered. (v, plain_leap leaps none v, omega (arith, ints));
+  reached = λ defined. (v, plain_leap leaps none v, omega (arith, ints));
   begun = λ before. (plain_leap leaps none v).not_refused (inl before);
   low = low;
 }
@@ -53,9 +53,9 @@ match_weaker None P P' Q Q' none some h = none h
 
 module _ (leaps : List LeapSecond) (are : AreLeapSeconds leaps) where
   pub leap_unless_refused : (u : ℤ) → ¬ IsLeapTimeRefused leaps u → (l : ℤ) × IsLeapTime leaps u l
-  leap_unless_refused u answered =
+  leap_unless_refused u defined =
       let count = count_exists leaps are u in
-      (_, IsLeapTime-from_count leaps are u count.0 count.1 answered)
+      (_, IsLeapTime-from_count leaps are u count.0 count.1 defined)
 
   -- the leap time of an instant is one of 64 bits
   pub leap_time_low : (u l : ℤ) → IsInstant u → IsLeapTime leaps u l → negsuc 9223372036854775807 ≤ℤ l
@@ -69,42 +69,42 @@ module _ (leaps : List LeapSecond) (are : AreLeapSeconds leaps) where
   past_from u v begun (inr past) h = inr (past_later leaps are u v h past)
 
   -- between two instants that are not refused none is
-  pub answered_between : (u w v : ℤ) → ¬ IsLeapTimeRefused leaps u → ¬ IsLeapTimeRefused leaps w → u ≤ℤ v → v ≤ℤ w → ¬ IsLeapTimeRefused leaps v
-  answered_between u w v answered there low high (inl before) = begun_later leaps are u v low (λ h. answered (inl h)) before
-  answered_between u w v answered there low high (inr past) = there (inr (past_later leaps are v w high past))
+  pub defined_between : (u w v : ℤ) → ¬ IsLeapTimeRefused leaps u → ¬ IsLeapTimeRefused leaps w → u ≤ℤ v → v ≤ℤ w → ¬ IsLeapTimeRefused leaps v
+  defined_between u w v defined there low high (inl before) = begun_later leaps are u v low (λ h. defined (inl h)) before
+  defined_between u w v defined there low high (inr past) = there (inr (past_later leaps are v w high past))
 
   -- up to the reach of all tables none is, once they have begun
-  pub answered_within : (u v : ℤ) → ¬ IsLeapTimeRefused leaps u → u ≤ℤ v → v ≤ℤ pos 80000000000000000 → ¬ IsLeapTimeRefused leaps v
-  answered_within u v answered low high = not_refused_within leaps are v (begun_later leaps are u v low (λ h. answered (inl h))) high
+  pub defined_within : (u v : ℤ) → ¬ IsLeapTimeRefused leaps u → u ≤ℤ v → v ≤ℤ pos 80000000000000000 → ¬ IsLeapTimeRefused leaps v
+  defined_within u v defined low high = not_refused_within leaps are v (begun_later leaps are u v low (λ h. defined (inl h))) high
 
-  -- where a leap time is not reached yet, its moment is later
-  pub moment_ahead : (u v m : ℤ) → ¬ IsLeapTimeRefused leaps u → ¬ IsTimeReached leaps v u → IsMomentOf leaps v m → u <ℤ m
-  moment_ahead u v m answered before moment =
-      let here = leap_unless_refused u answered in
+  -- where a leap time is not reached yet, its effect is later
+  pub effect_ahead : (u v m : ℤ) → ¬ IsLeapTimeRefused leaps u → ¬ IsTimeReached leaps v u → IsWideEffect leaps v m → u <ℤ m
+  effect_ahead u v m defined before wide =
+      let here = leap_unless_refused u defined in
       by_lt_z u m (λ h. h) (λ h.
-      let at = moment.reached (answered_at u m answered moment h) in
+      let at = wide.reached (defined_at u m defined wide h) in
       let mono = leap_time_mono leaps are m u at.0 here.0 h at.1 here.1 in
       absurd (before (here.0, here.1, omega (arith, ints, at.2, mono))))
     where
-      answered_at : (u m : ℤ) → ¬ IsLeapTimeRefused leaps u → IsMomentOf leaps v m → m ≤ℤ u → ¬ IsLeapTimeRefused leaps m
-      answered_at u m answered moment h (inl start) = moment.begun start
-      answered_at u m answered moment h (inr past) = answered (inr (past_later leaps are m u h past))
+      defined_at : (u m : ℤ) → ¬ IsLeapTimeRefused leaps u → IsWideEffect leaps v m → m ≤ℤ u → ¬ IsLeapTimeRefused leaps m
+      defined_at u m defined wide h (inl start) = wide.begun start
+      defined_at u m defined wide h (inr past) = defined (inr (past_later leaps are m u h past))
 
   module _ (u l : ℤ) (leap : IsLeapTime leaps u l) where
-    -- from a moment up to an instant that has a leap time each one has one
-    pub answered_from_moment : (v m w : ℤ) → IsMomentOf leaps v m → m ≤ℤ w → w ≤ℤ u → ¬ IsLeapTimeRefused leaps w
-    answered_from_moment v m w moment low high (inl before) = begun_later leaps are m w low moment.begun before
-    answered_from_moment v m w moment low high (inr past) = leap.not_refused (inr (past_later leaps are w u high past))
+    -- from an effect up to an instant that has a leap time each one has one
+    pub defined_from_effect : (v m w : ℤ) → IsWideEffect leaps v m → m ≤ℤ w → w ≤ℤ u → ¬ IsLeapTimeRefused leaps w
+    defined_from_effect v m w wide low high (inl before) = begun_later leaps are m w low wide.begun before
+    defined_from_effect v m w wide low high (inr past) = leap.not_refused (inr (past_later leaps are w u high past))
 
-    -- the moment of a leap time that is reached is no later
-    pub moment_up_to : (v m : ℤ) → IsMomentOf leaps v m → v ≤ℤ l → m ≤ℤ u
-    moment_up_to v m moment reached = moment.least u (l, leap, reached)
+    -- the effect of a leap time that is reached is no later
+    pub wide_effect_up_to : (v m : ℤ) → IsWideEffect leaps v m → v ≤ℤ l → m ≤ℤ u
+    wide_effect_up_to v m wide reached = wide.least u (l, leap, reached)
 
-    -- a leap time that is reached is so from its moment on
-    pub reached_from_moment : (v m w lw : ℤ) → IsMomentOf leaps v m → v ≤ℤ l → m ≤ℤ w → IsLeapTime leaps w lw → v ≤ℤ lw
-    reached_from_moment v m w lw moment reached low leap_w =
-        let up_to = moment_up_to v m moment reached in
-        let at = moment.reached (answered_from_moment v m m moment (omega (arith, ints)) up_to) in
+    -- a leap time that is reached is so from its effect on
+    pub reached_from_effect : (v m w lw : ℤ) → IsWideEffect leaps v m → v ≤ℤ l → m ≤ℤ w → IsLeapTime leaps w lw → v ≤ℤ lw
+    reached_from_effect v m w lw wide reached low leap_w =
+        let up_to = wide_effect_up_to v m wide reached in
+        let at = wide.reached (defined_from_effect v m m wide (omega (arith, ints)) up_to) in
         let mono = leap_time_mono leaps are m w at.0 lw low at.1 leap_w in
         omega (arith, ints, at.2, mono)
 

@@ -4,7 +4,7 @@ use Rattle.std.specs.Prelude.{MatchBool}
 use Rattle.std.proofs.lemmas.Int.{ints}
 use lib.Signed.{le_z}
 use Rattle.tz_zone.specs.Table.{LeapSecond}
-use Rattle.tz_zone.specs.LeapTime.{IsInstant, IsLeapTimeRefused, IsMomentOf, IsEffect, IsEffectRefused}
+use Rattle.tz_zone.specs.LeapTime.{IsInstant, IsLeapTimeRefused, IsWideEffect, IsEffect, IsEffectRefused}
 use Rattle.tz_zone.specs.ValidZone.{AreLeapSeconds}
 use Rattle.tz_zone.proofs.LeapTimes.{IsInstant-from_bounds, instant_bounds, past_later}
 
@@ -16,17 +16,17 @@ by_comparison a b P f g = at (le_z a b) refl
     at true e = f (grind (arith, ints))
     at false e = λ p. let order = g p in grind (arith, ints)
 
--- where the moment of a leap time is no instant, it has no effect
-pub effect_none : (leaps : List LeapSecond) (v m : ℤ) → IsMomentOf leaps v m → ¬ IsInstant m → IsEffectRefused leaps v
-effect_none leaps v m moment outside u effect =
-    outside (IsInstant-from_bounds m moment.low (omega (arith, ints, moment.least u effect.reached, instant_bounds u effect.instant)))
+-- where the wide effect of a leap time is no instant, it has no effect
+pub effect_none : (leaps : List LeapSecond) (v m : ℤ) → IsWideEffect leaps v m → ¬ IsInstant m → IsEffectRefused leaps v
+effect_none leaps v m wide outside u effect =
+    outside (IsInstant-from_bounds m wide.low (omega (arith, ints, wide.least u effect.reached, instant_bounds u effect.instant)))
 
 -- where it has no leap time either
-pub effect_refused : (leaps : List LeapSecond) → AreLeapSeconds leaps → (v m : ℤ) → IsMomentOf leaps v m → IsLeapTimeRefused leaps m → IsEffectRefused leaps v
-effect_refused leaps are v m moment (inl before) u effect = absurd (moment.begun before)
-effect_refused leaps are v m moment (inr past) u effect =
-    effect.reached.1.not_refused (inr (past_later leaps are m u (moment.least u effect.reached) past))
+pub effect_refused : (leaps : List LeapSecond) → AreLeapSeconds leaps → (v m : ℤ) → IsWideEffect leaps v m → IsLeapTimeRefused leaps m → IsEffectRefused leaps v
+effect_refused leaps are v m wide (inl before) u effect = absurd (wide.begun before)
+effect_refused leaps are v m wide (inr past) u effect =
+    effect.reached.1.not_refused (inr (past_later leaps are m u (wide.least u effect.reached) past))
 
--- and otherwise the moment is the effect
-pub effect_found : (leaps : List LeapSecond) (v m : ℤ) → v ≢ negsuc 9223372036854775807 → IsMomentOf leaps v m → IsInstant m → ¬ IsLeapTimeRefused leaps m → IsEffect leaps v m
-effect_found leaps v m high moment instant answered = record { not_least = high; instant = instant; reached = moment.reached answered; least = moment.least }
+-- and otherwise it is the effect
+pub effect_found : (leaps : List LeapSecond) (v m : ℤ) → v ≢ negsuc 9223372036854775807 → IsWideEffect leaps v m → IsInstant m → ¬ IsLeapTimeRefused leaps m → IsEffect leaps v m
+effect_found leaps v m high wide instant defined = record { not_least = high; instant = instant; reached = wide.reached defined; least = wide.least }

@@ -1,17 +1,17 @@
--- At which instants a leap time is reached: from its moment on.
+-- At which instants a leap time is reached: from its effect on.
 use Rattle.std.proofs.Common.{◌≡◌, ◌≢◌, ◌⊎◌, inl, inr, arith, ℤ, pos, negsuc, ◌+ℤ◌, ◌-ℤ◌, ◌≤ℤ◌, ◌<ℤ◌, List, []}
 use Rattle.std.proofs.lemmas.Int.{ints, by_lt_z}
 use Rattle.tz_zone.specs.Table.{LeapSecond}
-use Rattle.tz_zone.specs.LeapTime.{IsBeforeStart, IsPastInstants, IsLeapTimeRefused, IsTimeReached, IsMomentOf}
+use Rattle.tz_zone.specs.LeapTime.{IsBeforeStart, IsPastInstants, IsLeapTimeRefused, IsTimeReached, IsWideEffect}
 use Rattle.tz_zone.specs.ValidZone.{AreLeapSeconds}
 use Rattle.tz_zone.proofs.LeapTimes.{one_leap_time, leap_time_mono, past_later, begun_later, not_past_within}
-use Rattle.tz_zone.proofs.InstantsWithLeapTime.{plain_leap, plain_moment, leap_unless_refused}
+use Rattle.tz_zone.proofs.InstantsWithLeapTime.{plain_leap, plain_effect, leap_unless_refused}
 
--- the last instant before a leap time: at none up to it the time is reached or lies past 64 bits, and after it comes the moment, or the end
+-- the last instant before a leap time: at none up to it the time is reached or lies past 64 bits, and after it comes the effect, or the end
 pub record IsLastBefore (leaps : List LeapSecond) (v last : ℤ) : Type 0 where
   pub before : (u : ℤ) → u ≤ℤ last → ¬ IsTimeReached leaps v u
   pub within : (u : ℤ) → u ≤ℤ last → ¬ IsPastInstants leaps u
-  pub next : last ≢ pos 9223372036854775807 → IsPastInstants leaps (last +ℤ pos 1) ⊎ IsMomentOf leaps v (last +ℤ pos 1)
+  pub next : last ≢ pos 9223372036854775807 → IsPastInstants leaps (last +ℤ pos 1) ⊎ IsWideEffect leaps v (last +ℤ pos 1)
 
 -- a leap time that is not reached at some instant is not the least one
 pub not_least : (leaps : List LeapSecond) → leaps ≡ [] → (u v : ℤ) → ¬ IsTimeReached leaps v u → u <ℤ v
@@ -24,52 +24,52 @@ plain_last_before leaps none v low =
     record {
       before = λ u up_to reached. absurd (omega (arith, ints, up_to, reached.2, one_leap_time leaps u reached.0 u reached.1 (plain_leap leaps none u)));
       within = λ u up_to past. (plain_leap leaps none u).not_refused (inr past);
-      next = λ not_greatest. inr (rw next (plain_moment leaps none v low));
+      next = λ not_greatest. inr (rw next (plain_effect leaps none v low));
     }
 
--- it is the second before the moment, or the last instant that has a leap time
-pub last_before_moment : (leaps : List LeapSecond) (v m last high : ℤ) → IsMomentOf leaps v m → last ≤ℤ high → ((high ≡ m -ℤ pos 1) ⊎ (high ≡ pos 9223372036854775807)) → high ≤ℤ (m -ℤ pos 1)
+-- it is the second before the effect, or the last instant that has a leap time
+pub last_before_by_seconds : (leaps : List LeapSecond) (v m last high : ℤ) → IsWideEffect leaps v m → last ≤ℤ high → ((high ≡ m -ℤ pos 1) ⊎ (high ≡ pos 9223372036854775807)) → high ≤ℤ (m -ℤ pos 1)
     → ((u : ℤ) → u ≤ℤ last → ¬ IsPastInstants leaps u) → ((u : ℤ) → last <ℤ u → u ≤ℤ high → IsPastInstants leaps u) → IsLastBefore leaps v last
-last_before_moment leaps v m last high moment up_to one bound within past = record {
-  before = λ u h reached. absurd (omega (arith, ints, h, up_to, bound, moment.least u reached));
+last_before_by_seconds leaps v m last high wide up_to one bound within past = record {
+  before = λ u h reached. absurd (omega (arith, ints, h, up_to, bound, wide.least u reached));
   within = within;
   next = λ not_greatest. by_lt_z last high
       (λ h. inl (past (last +ℤ pos 1) (omega (arith, ints)) (omega (arith, ints, h))))
       (λ h. elim one [
         | inl e ↦
             let same : last +ℤ pos 1 ≡ m = omega (arith, ints, h, up_to, e) in
-            inr (rw same moment)
+            inr (rw same wide)
         | inr e ↦ absurd (not_greatest (omega (arith, ints, h, up_to, e)))
       ]);
 }
 
 module _ (leaps : List LeapSecond) (are : AreLeapSeconds leaps) where
-  -- at an instant that has a leap time another one is reached exactly from its moment on
-  pub reached_from : (v m u : ℤ) → IsMomentOf leaps v m → ¬ IsLeapTimeRefused leaps u → m ≤ℤ u → IsTimeReached leaps v u
-  reached_from v m u moment answered from =
-      let here = leap_unless_refused leaps are u answered in
-      let at = moment.reached answered_at in
+  -- at an instant that has a leap time another one is reached exactly from its effect on
+  pub reached_from : (v m u : ℤ) → IsWideEffect leaps v m → ¬ IsLeapTimeRefused leaps u → m ≤ℤ u → IsTimeReached leaps v u
+  reached_from v m u wide defined from =
+      let here = leap_unless_refused leaps are u defined in
+      let at = wide.reached defined_at in
       (here.0, here.1, omega (arith, ints, at.2, leap_time_mono leaps are m u at.0 here.0 from at.1 here.1))
     where
-      answered_at : ¬ IsLeapTimeRefused leaps m
-      answered_at (inl before) = moment.begun before
-      answered_at (inr past) = answered (inr (past_later leaps are m u from past))
+      defined_at : ¬ IsLeapTimeRefused leaps m
+      defined_at (inl before) = wide.begun before
+      defined_at (inr past) = defined (inr (past_later leaps are m u from past))
 
   -- so it is up to an instant up to which none is past those with a leap time
-  pub reached_since : (v m last u : ℤ) → IsMomentOf leaps v m → ((w : ℤ) → w ≤ℤ last → ¬ IsPastInstants leaps w) → m ≤ℤ u → u ≤ℤ last → IsTimeReached leaps v u
-  reached_since v m last u moment within from up_to = reached_from v m u moment answered from
+  pub reached_since : (v m last u : ℤ) → IsWideEffect leaps v m → ((w : ℤ) → w ≤ℤ last → ¬ IsPastInstants leaps w) → m ≤ℤ u → u ≤ℤ last → IsTimeReached leaps v u
+  reached_since v m last u wide within from up_to = reached_from v m u wide defined from
     where
-      answered : ¬ IsLeapTimeRefused leaps u
-      answered (inl before) = begun_later leaps are m u from moment.begun before
-      answered (inr past) = within u up_to past
+      defined : ¬ IsLeapTimeRefused leaps u
+      defined (inl before) = begun_later leaps are m u from wide.begun before
+      defined (inr past) = within u up_to past
 
   -- and up to an instant that has a leap time
-  pub reached_between : (v m last u : ℤ) → IsMomentOf leaps v m → ¬ IsLeapTimeRefused leaps last → m ≤ℤ u → u ≤ℤ last → IsTimeReached leaps v u
-  reached_between v m last u moment answered = reached_since v m last u moment (λ w up_to past. answered (inr (past_later leaps are w last up_to past)))
+  pub reached_between : (v m last u : ℤ) → IsWideEffect leaps v m → ¬ IsLeapTimeRefused leaps last → m ≤ℤ u → u ≤ℤ last → IsTimeReached leaps v u
+  reached_between v m last u wide defined = reached_since v m last u wide (λ w up_to past. defined (inr (past_later leaps are w last up_to past)))
 
   -- up to an end an instant that is not past the last one that has a leap time is not after it, and conversely
   pub up_to_last : (last high u : ℤ) → ((w : ℤ) → last <ℤ w → w ≤ℤ high → IsPastInstants leaps w) → u ≤ℤ high → ¬ IsPastInstants leaps u → u ≤ℤ last
-  up_to_last last high u past within answered = by_lt_z last u (λ h. absurd (answered (past u h within))) (λ h. h)
+  up_to_last last high u past within defined = by_lt_z last u (λ h. absurd (defined (past u h within))) (λ h. h)
 
   pub after_last : (last u : ℤ) → ((w : ℤ) → w ≤ℤ last → ¬ IsPastInstants leaps w) → IsPastInstants leaps u → last <ℤ u
   after_last last u within past = by_lt_z last u (λ h. h) (λ h. absurd (within u h past))
@@ -84,15 +84,15 @@ module _ (leaps : List LeapSecond) (are : AreLeapSeconds leaps) where
   past_if_begun u begun (inr past) = past
 
   -- and what is not past it has a leap time, once the table has begun
-  pub answered_up_to : (u v : ℤ) → ¬ IsLeapTimeRefused leaps u → u ≤ℤ v → ¬ IsPastInstants leaps v → ¬ IsLeapTimeRefused leaps v
-  answered_up_to u v answered low within (inl before) = begun_later leaps are u v low (λ h. answered (inl h)) before
-  answered_up_to u v answered low within (inr past) = within past
+  pub defined_up_to : (u v : ℤ) → ¬ IsLeapTimeRefused leaps u → u ≤ℤ v → ¬ IsPastInstants leaps v → ¬ IsLeapTimeRefused leaps v
+  defined_up_to u v defined low within (inl before) = begun_later leaps are u v low (λ h. defined (inl h)) before
+  defined_up_to u v defined low within (inr past) = within past
 
   -- each instant that has a leap time, and at which another one is not reached, is one up to the last before that
   pub up_to_last_before : (v last u : ℤ) → IsLastBefore leaps v last → u ≤ℤ pos 9223372036854775807 → ¬ IsLeapTimeRefused leaps u → ¬ IsTimeReached leaps v u → u ≤ℤ last
-  up_to_last_before v last u is high answered before = by_lt_z last u
+  up_to_last_before v last u is high defined before = by_lt_z last u
       (λ h. elim (is.next (λ e. absurd (omega (arith, ints, e, h, high)))) [
-        | inl past ↦ absurd (answered (inr (past_later leaps are (last +ℤ pos 1) u (omega (arith, ints, h)) past)))
-        | inr moment ↦ absurd (before (reached_from v (last +ℤ pos 1) u moment answered (omega (arith, ints, h))))
+        | inl past ↦ absurd (defined (inr (past_later leaps are (last +ℤ pos 1) u (omega (arith, ints, h)) past)))
+        | inr wide ↦ absurd (before (reached_from v (last +ℤ pos 1) u wide defined (omega (arith, ints, h))))
       ])
       (λ h. h)

@@ -168,20 +168,20 @@ pub record IsTimeCount (n : ℕ) (t : ℕ → ℤ) (v : ℤ) (k : ℕ) : Type 0 
   pub later : (i : ℕ) → k ≤ i → i < n → v <ℤ t i
 
 -- the instant of leap time v: v less the correction, but not before the last leap second is reached
-pub record IsMoment (t c : ℕ → ℤ) (v : ℤ) (k : ℕ) (u : ℤ) : Type 0 where
+pub record IsEffectByCount (t c : ℕ → ℤ) (v : ℤ) (k : ℕ) (u : ℤ) : Type 0 where
   pub after : v ≤ℤ (u +ℤ c k)
   pub reached : (i : ℕ) → suc i ≡ k → t i ≤ℤ (u +ℤ c i)
   pub tight : ((u +ℤ c k) ≡ v) ⊎ ((i : ℕ) × (suc i ≡ k) × ((u +ℤ c i) ≡ t i))
 
 module _ (n : ℕ) (t c : ℕ → ℤ) (steps : AreSteps n t c) where
   -- at that instant the leap seconds up to v are reached, if not more
-  moment_count : (v u : ℤ) (k m : ℕ) → IsTimeCount n t v k → IsMoment t c v k u → IsCount n t c u m → k ≤ m
-  moment_count v u k m times moment count =
+  effect_count : (v u : ℤ) (k m : ℕ) → IsTimeCount n t v k → IsEffectByCount t c v k u → IsCount n t c u m → k ≤ m
+  effect_count v u k m times wide count =
       elim (cases_lt m k) [
         | inl less ↦
             let last : suc (k - 1) ≡ k = omega arith in
             let place : m + (k - 1 - m) ≡ k - 1 = omega arith in
-            let down = reached_down n t c steps m (k - 1 - m) u (omega (arith, times.within)) (rw place (moment.reached (k - 1) last)) in
+            let down = reached_down n t c steps m (k - 1 - m) u (omega (arith, times.within)) (rw place (wide.reached (k - 1) last)) in
             absurd (omega (arith, ints, down, count.beyond m (omega arith) (omega (arith, times.within))))
         | inr more ↦ more
       ]
@@ -193,21 +193,21 @@ module _ (n : ℕ) (t c : ℕ → ℤ) (steps : AreSteps n t c) where
       omega (arith, ints, ap c last, times.later (m - 1) (omega arith) (omega (arith, count.within)), count.reached (m - 1) (omega arith), steps.step (m - 1) (omega (arith, count.within)))
 
   -- at that instant leap time v is reached
-  pub moment_reached : (v u : ℤ) (k m : ℕ) → IsTimeCount n t v k → IsMoment t c v k u → IsCount n t c u m → v ≤ℤ (u +ℤ c m)
-  moment_reached v u k m times moment count =
+  pub effect_reached : (v u : ℤ) (k m : ℕ) → IsTimeCount n t v k → IsEffectByCount t c v k u → IsCount n t c u m → v ≤ℤ (u +ℤ c m)
+  effect_reached v u k m times wide count =
       elim (cases_lt k m) [
         | inl less ↦ past_time v u k m times less count
         | inr more ↦
-            let same : m ≡ k = omega (arith, moment_count v u k m times moment count) in
-            omega (arith, ints, ap c same, moment.after)
+            let same : m ≡ k = omega (arith, effect_count v u k m times wide count) in
+            omega (arith, ints, ap c same, wide.after)
       ]
 
   -- before that instant it is not
-  pub moment_least : (v u w : ℤ) (k m : ℕ) → IsTimeCount n t v k → IsMoment t c v k u → w <ℤ u → IsCount n t c w m → (w +ℤ c m) <ℤ v
-  moment_least v u w k m times moment before count =
+  pub effect_least : (v u w : ℤ) (k m : ℕ) → IsTimeCount n t v k → IsEffectByCount t c v k u → w <ℤ u → IsCount n t c w m → (w +ℤ c m) <ℤ v
+  effect_least v u w k m times wide before count =
       elim (cases_lt m k) [
         | inl less ↦ omega (arith, ints, count.beyond m (omega arith) (omega (arith, times.within)), times.up_to m less)
-        | inr more ↦ elim moment.tight [
+        | inr more ↦ elim wide.tight [
           | inl e ↦ elim (cases_lt k m) [
             | inl after ↦ absurd (omega (arith, ints, count.reached k after, times.later k (omega arith) (omega (arith, count.within))))
             | inr not_after ↦ let same : m ≡ k = omega arith in omega (arith, ints, ap c same)

@@ -6,7 +6,7 @@ use Rattle.std.proofs.lemmas.Option.{slice_get_within, same_Some}
 use Rattle.tz_zone.specs.Table.{LeapSecond}
 use Rattle.tz_zone.specs.LeapTime.{IsInstant, IsStart, correction_before, IsReached, IsBeforeStart, IsPastInstants, IsLeapTimeRefused, IsCorrection, IsLeapTime, IsTimeReached, IsEffect}
 use Rattle.tz_zone.specs.ValidZone.{AreLeapSeconds, HasBegunAt}
-use Rattle.tz_zone.proofs.LeapSteps.{AreSteps, correction_bound, time_bound, leap_mono, leap_speed, leap_from_start, IsTimeCount, IsMoment, moment_reached, moment_least, reached_down}
+use Rattle.tz_zone.proofs.LeapSteps.{AreSteps, correction_bound, time_bound, leap_mono, leap_speed, leap_from_start, IsTimeCount, IsEffectByCount, effect_reached, effect_least, reached_down}
 use Rattle.tz_zone.proofs.LeapLists.{time_at, time_at-is, correction_before-suc, correction_without_start, correction_at_truncated, IsReachedCount, AreSteps-from_leaps, IsReached-at, IsReached-below, IsCorrection-from_count, correction_from_count, count_exists}
 
 -- instants are the numbers of 64 bits
@@ -54,7 +54,7 @@ module _ (leaps : List LeapSecond) (are : AreLeapSeconds leaps) where
 
   -- the leap time, where it is not refused, is the instant with the correction
   pub IsLeapTime-from_count : (u : ℤ) (k : ℕ) → IsReachedCount leaps u k → ¬ IsLeapTimeRefused leaps u → IsLeapTime leaps u (u +ℤ correction_before leaps k)
-  IsLeapTime-from_count u k count answered = record { not_refused = answered; value = (correction_before leaps k, IsCorrection-from_count leaps u k count, refl) }
+  IsLeapTime-from_count u k count defined = record { not_refused = defined; value = (correction_before leaps k, IsCorrection-from_count leaps u k count, refl) }
 
   pub leap_time_from_count : (u v : ℤ) (k : ℕ) → IsReachedCount leaps u k → IsLeapTime leaps u v → v ≡ u +ℤ correction_before leaps k
   leap_time_from_count u v k count leap = leap.value.2 ∙ ap (λ c. u +ℤ c) (correction_from_count leaps u leap.value.0 k count leap.value.1)
@@ -135,13 +135,13 @@ module _ (leaps : List LeapSecond) (are : AreLeapSeconds leaps) where
 
   -- the sum of an instant and its correction is one of 64 bits where none is refused
   pub leap_time_fits : (u : ℤ) (k : ℕ) → IsReachedCount leaps u k → IsInstant u → ¬ IsLeapTimeRefused leaps u → IsInstant (u +ℤ correction_before leaps k)
-  leap_time_fits u zero count fits answered =
-      let none = correction_without_start leaps (λ l start. absurd (omega (arith, start_reached u zero l count start (λ before. answered (inl before))))) in
+  leap_time_fits u zero count fits defined =
+      let none = correction_without_start leaps (λ l start. absurd (omega (arith, start_reached u zero l count start (λ before. defined (inl before))))) in
       let same : (u +ℤ correction_before leaps zero) ≡ u = omega (arith, ints) in
       rw same fits
-  leap_time_fits u (suc k) count fits answered =
+  leap_time_fits u (suc k) count fits defined =
       let last = IsReached-at leaps u (suc k) k count (omega arith) in
-      by_bounds (u +ℤ correction_before leaps (suc k)) (λ outside. answered (inr (k, last.0, last.1, λ inside. outside (rw (sym last.2) at inside))))
+      by_bounds (u +ℤ correction_before leaps (suc k)) (λ outside. defined (inr (k, last.0, last.1, λ inside. outside (rw (sym last.2) at inside))))
     where
       by_bounds : (z : ℤ) → ¬ ¬ IsInstant z → IsInstant z
       by_bounds z h =
@@ -151,21 +151,21 @@ module _ (leaps : List LeapSecond) (are : AreLeapSeconds leaps) where
           (λ high. absurd (h (λ inside. absurd (omega (arith, ints, instant_bounds z inside)))))
           (λ high. IsInstant-from_bounds z low high))
 
-  -- no leap time is reached before its moment
-  pub least_from_moment : (v u : ℤ) (k : ℕ) → IsTimeCount (length leaps) (time_at leaps) v k → IsMoment (time_at leaps) (correction_before leaps) v k u → (w : ℤ) → IsTimeReached leaps v w → u ≤ℤ w
-  least_from_moment v u k times moment w reached =
+  -- no leap time is reached before its effect
+  pub least_from_effect : (v u : ℤ) (k : ℕ) → IsTimeCount (length leaps) (time_at leaps) v k → IsEffectByCount (time_at leaps) (correction_before leaps) v k u → (w : ℤ) → IsTimeReached leaps v w → u ≤ℤ w
+  least_from_effect v u k times wide w reached =
       by_lt_z w u
       (λ before.
       let count = count_exists leaps are w in
-      let less = moment_least (length leaps) (time_at leaps) (correction_before leaps) steps v u w k count.0 times moment before count.1 in
+      let less = effect_least (length leaps) (time_at leaps) (correction_before leaps) steps v u w k count.0 times wide before count.1 in
       absurd (omega (arith, ints, leap_time_from_count w reached.0 count.0 count.1 reached.1, reached.2)))
       (λ h. h)
 
-  -- at its moment a leap time is reached, unless the moment has no leap time
-  pub reached_at_moment : (v u : ℤ) (k : ℕ) → IsTimeCount (length leaps) (time_at leaps) v k → IsMoment (time_at leaps) (correction_before leaps) v k u → ¬ IsLeapTimeRefused leaps u → IsTimeReached leaps v u
-  reached_at_moment v u k times moment answered =
+  -- at its wide effect a leap time is reached, unless that has no leap time
+  pub reached_at_effect : (v u : ℤ) (k : ℕ) → IsTimeCount (length leaps) (time_at leaps) v k → IsEffectByCount (time_at leaps) (correction_before leaps) v k u → ¬ IsLeapTimeRefused leaps u → IsTimeReached leaps v u
+  reached_at_effect v u k times wide defined =
       let count = count_exists leaps are u in
-      (u +ℤ correction_before leaps count.0, IsLeapTime-from_count u count.0 count.1 answered, moment_reached (length leaps) (time_at leaps) (correction_before leaps) steps v u k count.0 times moment count.1)
+      (u +ℤ correction_before leaps count.0, IsLeapTime-from_count u count.0 count.1 defined, effect_reached (length leaps) (time_at leaps) (correction_before leaps) steps v u k count.0 times wide count.1)
 
   -- where no record's time is up to a leap time, and a truncated start is reached at it, there is no truncated start
   pub no_start_up_to : (v : ℤ) → HasBegunAt leaps v → IsTimeCount (length leaps) (time_at leaps) v 0 → (l : LeapSecond) → ¬ IsStart leaps l
@@ -173,17 +173,17 @@ module _ (leaps : List LeapSecond) (are : AreLeapSeconds leaps) where
       let inside = slice_get_within leaps 0 l start.0 in
       absurd (omega (arith, ints, begun l start, times.later 0 (omega arith) (omega arith), time_at-is leaps 0 l start.0))
 
-  -- at the moment of a leap time that is not before a truncated start, the table has begun
-  pub begun_at_moment : (v u : ℤ) (k : ℕ) → HasBegunAt leaps v → IsTimeCount (length leaps) (time_at leaps) v k → IsMoment (time_at leaps) (correction_before leaps) v k u → ¬ IsBeforeStart leaps u
-  begun_at_moment v u zero begun times moment (l, start, before) = absurd (no_start_up_to v begun times l start)
-  begun_at_moment v u (suc k) begun times moment (l, start, before) =
+  -- at the effect of a leap time that is not before a truncated start, the table has begun
+  pub begun_at_effect : (v u : ℤ) (k : ℕ) → HasBegunAt leaps v → IsTimeCount (length leaps) (time_at leaps) v k → IsEffectByCount (time_at leaps) (correction_before leaps) v k u → ¬ IsBeforeStart leaps u
+  begun_at_effect v u zero begun times wide (l, start, before) = absurd (no_start_up_to v begun times l start)
+  begun_at_effect v u (suc k) begun times wide (l, start, before) =
       let place : 0 + k ≡ k = omega arith in
-      let down = reached_down (length leaps) (time_at leaps) (correction_before leaps) steps 0 k u (omega (arith, times.within)) (rw place (moment.reached k refl)) in
+      let down = reached_down (length leaps) (time_at leaps) (correction_before leaps) steps 0 k u (omega (arith, times.within)) (rw place (wide.reached k refl)) in
       absurd (omega (arith, ints, down, correction_at_truncated leaps l start, time_at-is leaps 0 l start.0))
 
-  -- the moment of a leap time of 64 bits is not below them
-  pub moment_low : (v u : ℤ) (k : ℕ) → HasBegunAt leaps v → negsuc 9223372036854775807 ≤ℤ v → IsTimeCount (length leaps) (time_at leaps) v k → IsMoment (time_at leaps) (correction_before leaps) v k u → negsuc 9223372036854775807 ≤ℤ u
-  moment_low v u k begun low times moment = by_tight moment.tight
+  -- the effect of a leap time of 64 bits is not below them
+  pub effect_low : (v u : ℤ) (k : ℕ) → HasBegunAt leaps v → negsuc 9223372036854775807 ≤ℤ v → IsTimeCount (length leaps) (time_at leaps) v k → IsEffectByCount (time_at leaps) (correction_before leaps) v k u → negsuc 9223372036854775807 ≤ℤ u
+  effect_low v u k begun low times wide = by_tight wide.tight
     where
       by_count : (k : ℕ) → IsTimeCount (length leaps) (time_at leaps) v k → (u +ℤ correction_before leaps k) ≡ v → negsuc 9223372036854775807 ≤ℤ u
       by_count zero times e =

@@ -3,7 +3,7 @@ pub mod ReadBytes
 pub mod LeapLists
 pub mod LeapTimes
 pub mod LeapEnds
-pub mod LeapMoments
+pub mod WideEffects
 pub mod Expiries
 pub mod OffsetBounds
 pub mod RisingTimes

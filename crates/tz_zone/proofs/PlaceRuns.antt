@@ -7,7 +7,7 @@ use Rattle.std.proofs.lemmas.Bool.{cases_lt}
 use Rattle.std.proofs.lemmas.Option.{slice_get_within, slice_get-get_or, same_Some}
 use Rattle.tz_rule.specs.LocalTimeType.{LocalTimeType}
 use Rattle.tz_zone.specs.Table.{Transition, Zone}
-use Rattle.tz_zone.specs.LeapTime.{IsLeapTimeRefused, IsLeapTime, IsTimeReached, IsMomentOf}
+use Rattle.tz_zone.specs.LeapTime.{IsLeapTimeRefused, IsLeapTime, IsTimeReached, IsWideEffect}
 use Rattle.tz_zone.specs.Clock.{AreReached, AreAhead, IsPlaceAt, IsTypeAt, IsTypeOfLast, IsTypeAfter, IsClock, HasNoType}
 use Rattle.tz_zone.specs.ClockSegments.{from_start, IsReachedAt}
 use Rattle.tz_zone.specs.ValidZone.{IsRising, IsSoundTable}
@@ -17,7 +17,7 @@ use Rattle.tz_zone.proofs.LeapTimes.{leap_time_mono, leap_time_unique, one_leap_
 use Rattle.tz_zone.proofs.RisingTimes.{ahead_from, reached_through, transitions_rise}
 use Rattle.tz_zone.proofs.Clocks.{one_type, clock_from_last, type_after_from_clock}
 use Rattle.tz_zone.proofs.Places.{clock_at_place}
-use Rattle.tz_zone.proofs.InstantsWithLeapTime.{plain_leap, leap_unless_refused, answered_between, moment_ahead}
+use Rattle.tz_zone.proofs.InstantsWithLeapTime.{plain_leap, leap_unless_refused, defined_between, effect_ahead}
 use Rattle.tz_zone.proofs.LeapReached.{reached_between}
 use Rattle.tz_zone.proofs.ChangeSpans.{HasOneType, one_type_of, none_until, none_down, none_from_start}
 
@@ -81,29 +81,29 @@ module _ (z : Zone) (sound : IsSoundTable z) where
         one_type z v s t clock (clock_until v leap.0 from leap.1 (by_lt_z leap.0 change.unix_leap_time (λ h. h) (λ h. absurd (ahead v to (leap.0, leap.1, h))))))
 
     -- where it takes effect comes later
-    effect_later : (m : ℤ) → IsMomentOf z.leap_seconds change.unix_leap_time m → since <ℤ m
-    effect_later m moment = moment_ahead z.leap_seconds sound.leap_seconds_are since change.unix_leap_time m at.time_is.not_refused
+    effect_later : (m : ℤ) → IsWideEffect z.leap_seconds change.unix_leap_time m → since <ℤ m
+    effect_later m wide = effect_ahead z.leap_seconds sound.leap_seconds_are since change.unix_leap_time m at.time_is.not_refused
         (λ reached. absurd (omega (arith, ints, reached.2, at.ahead end change order at_end, leap_time_unique z.leap_seconds sound.leap_seconds_are since at.time reached.0 at.time_is reached.1)))
-        moment
+        wide
 
     -- and right before that it still has the type
-    clock_before_effect : (m : ℤ) → IsMomentOf z.leap_seconds change.unix_leap_time m → ¬ IsLeapTimeRefused z.leap_seconds m → IsClock z (m -ℤ pos 1) t
-    clock_before_effect m moment answered =
-        let later = effect_later m moment in
+    clock_before_effect : (m : ℤ) → IsWideEffect z.leap_seconds change.unix_leap_time m → ¬ IsLeapTimeRefused z.leap_seconds m → IsClock z (m -ℤ pos 1) t
+    clock_before_effect m wide defined =
+        let later = effect_later m wide in
         let leap = leap_unless_refused z.leap_seconds sound.leap_seconds_are (m -ℤ pos 1)
-        (answered_between z.leap_seconds sound.leap_seconds_are since m (m -ℤ pos 1) at.time_is.not_refused answered (omega (arith, ints, later)) (omega (arith, ints))) in
+        (defined_between z.leap_seconds sound.leap_seconds_are since m (m -ℤ pos 1) at.time_is.not_refused defined (omega (arith, ints, later)) (omega (arith, ints))) in
         clock_until (m -ℤ pos 1) leap.0 (omega (arith, ints, later)) leap.1
-        (by_lt_z leap.0 change.unix_leap_time (λ h. h) (λ h. absurd (omega (arith, ints, moment.least (m -ℤ pos 1) (leap.0, leap.1, h)))))
+        (by_lt_z leap.0 change.unix_leap_time (λ h. h) (λ h. absurd (omega (arith, ints, wide.least (m -ℤ pos 1) (leap.0, leap.1, h)))))
 
     -- so no change comes until then, if none came up to the instant
-    pub until_effect : (m : ℤ) → IsMomentOf z.leap_seconds change.unix_leap_time m → ¬ IsLeapTimeRefused z.leap_seconds m → (u : ℤ) → negsuc 9223372036854775807 ≤ℤ u → u ≤ℤ since → HasNoChange z u (since +ℤ pos 1)
+    pub until_effect : (m : ℤ) → IsWideEffect z.leap_seconds change.unix_leap_time m → ¬ IsLeapTimeRefused z.leap_seconds m → (u : ℤ) → negsuc 9223372036854775807 ≤ℤ u → u ≤ℤ since → HasNoChange z u (since +ℤ pos 1)
         → (u <ℤ m) × (negsuc 9223372036854775807 <ℤ m) × HasNoChange z u m × IsClock z (m -ℤ pos 1) t
-    until_effect m moment answered u least up_to none =
-        let later = effect_later m moment in (
+    until_effect m wide defined u least up_to none =
+        let later = effect_later m wide in (
           omega (arith, ints, up_to, later),
           omega (arith, ints, least, up_to, later),
-          none_until z u since m later none (one_type_until (m -ℤ pos 1) (λ v until reached. absurd (omega (arith, ints, until, moment.least v reached)))),
-          clock_before_effect m moment answered,
+          none_until z u since m later none (one_type_until (m -ℤ pos 1) (λ v until reached. absurd (omega (arith, ints, until, wide.least v reached)))),
+          clock_before_effect m wide defined,
         )
 
   -- before the first transition there is no change
@@ -163,8 +163,8 @@ module _ (z : Zone) (sound : IsSoundTable z) where
           let (l, leap, reached) = reached_between z.leap_seconds sound.leap_seconds_are run.change.unix_leap_time m w v run.effect at.time_is.not_refused from to in
           (l, leap, λ i other less at_i. reached_through z.transitions rising l (start - 1) run.change run.change_is reached i other (omega (arith, less, run.some)) at_i)
 
-      pub answered_at_start : ¬ IsLeapTimeRefused z.leap_seconds m
-      answered_at_start = (leap_since m (omega (arith, ints)) effect_up_to).1.not_refused
+      pub defined_at_start : ¬ IsLeapTimeRefused z.leap_seconds m
+      defined_at_start = (leap_since m (omega (arith, ints)) effect_up_to).1.not_refused
 
       -- if all transitions are reached at the later instant, they are from there on
       pub place_at_start : start ≡ length z.transitions → IsReachedAt z m start
@@ -217,8 +217,8 @@ types_back z start k t types before i from to = elim (cases_lt i start) [
 ]
 
 -- without leap seconds the effect of a transition lies right after it
-pub plain_place : (z : Zone) → IsSoundTable z → z.leap_seconds ≡ [] → (i : ℕ) (m : ℤ) (change : Transition) → slice_get z.transitions i ≡ Some change → IsMomentOf z.leap_seconds change.unix_leap_time m → IsReachedAt z m (i + 1)
-plain_place z sound none i m change at moment = record {
+pub plain_place : (z : Zone) → IsSoundTable z → z.leap_seconds ≡ [] → (i : ℕ) (m : ℤ) (change : Transition) → slice_get z.transitions i ≡ Some change → IsWideEffect z.leap_seconds change.unix_leap_time m → IsReachedAt z m (i + 1)
+plain_place z sound none i m change at wide = record {
   time = m;
   time_is = plain_leap z.leap_seconds none m;
   reached = reached_through z.transitions rising m i change at (omega (arith, ints, reached.2, one_leap_time z.leap_seconds m reached.0 m reached.1 (plain_leap z.leap_seconds none m)));
@@ -229,10 +229,10 @@ plain_place z sound none i m change at moment = record {
     rising j = (sound.transitions_are j).1
 
     reached : IsTimeReached z.leap_seconds change.unix_leap_time m
-    reached = moment.reached (plain_leap z.leap_seconds none m).not_refused
+    reached = wide.reached (plain_leap z.leap_seconds none m).not_refused
 
     up_to : m ≤ℤ change.unix_leap_time
-    up_to = moment.least change.unix_leap_time (change.unix_leap_time, plain_leap z.leap_seconds none change.unix_leap_time, omega (arith, ints))
+    up_to = wide.least change.unix_leap_time (change.unix_leap_time, plain_leap z.leap_seconds none change.unix_leap_time, omega (arith, ints))
 
 -- where all transitions are reached the clock has the type after the last one, or none
 pub clock_from_end : (z : Zone) → IsSoundTable z → 0 < length z.transitions → (u : ℤ) → IsReachedAt z u (length z.transitions) → (t : LocalTimeType) → (IsTypeAfter z.extra_rule u t → IsClock z u t) × (IsClock z u t → IsTypeAfter z.extra_rule u t)

@@ -10,7 +10,7 @@ use Rattle.tz_base.specs.declared.error.TzError.TheVariants.{OutOfRange, NoAvail
 use Rattle.tz_rule.specs.LocalTimeType.{LocalTimeType}
 use Rattle.tz_rule.specs.declared.timezone.rule.TransitionRule.{TransitionRule}
 use Rattle.tz_zone.specs.Table.{Transition, Zone}
-use Rattle.tz_zone.specs.LeapTime.{IsLeapTime, IsMomentOf}
+use Rattle.tz_zone.specs.LeapTime.{IsLeapTime, IsWideEffect}
 use Rattle.tz_zone.specs.Clock.{IsTypeAt, IsTypeOfLast, IsLast, IsTypeAfter, IsTypeWithout, IsTypeAfterTable, IsFaultAfter, IsClock, IsLookupFault}
 use Rattle.tz_zone.specs.ValidZone.{IsRising, IsSoundTable}
 use Rattle.tz_zone.specs.ClockSegments.{from_start, IsReachedAt, IsBefore}
@@ -19,7 +19,7 @@ use Rattle.tz_zone.specs.declared.table.parts.OtherParts.{OtherParts}
 use Rattle.tz_zone.proofs.LeapTimes.{leap_time_mono}
 use Rattle.tz_zone.proofs.RisingTimes.{ahead_from, reached_through}
 use Rattle.tz_zone.proofs.Clocks.{transition_type_of_last, clock_before_last, clock_from_last, fault_from_last, fault_without}
-use Rattle.tz_zone.proofs.InstantsWithLeapTime.{by_count, leap_unless_refused, answered_between, reached_from_moment, moment_up_to}
+use Rattle.tz_zone.proofs.InstantsWithLeapTime.{by_count, leap_unless_refused, defined_between, reached_from_effect, wide_effect_up_to}
 
 module _ (z : Zone) (sound : IsSoundTable z) where
   rising : IsRising z.transitions
@@ -94,7 +94,7 @@ module _ (z : Zone) (sound : IsSoundTable z) where
     -- instants between two that have a leap time have one
     leap_between : (v : ℤ) → low ≤ℤ v → v ≤ℤ high → (l : ℤ) × IsLeapTime z.leap_seconds v l × (l ≤ℤ h)
     leap_between v from to =
-        let here = leap_unless_refused z.leap_seconds sound.leap_seconds_are v (answered_between z.leap_seconds sound.leap_seconds_are low high v at.time_is.not_refused leap.not_refused from to) in
+        let here = leap_unless_refused z.leap_seconds sound.leap_seconds_are v (defined_between z.leap_seconds sound.leap_seconds_are low high v at.time_is.not_refused leap.not_refused from to) in
         (here.0, here.1, leap_time_mono z.leap_seconds sound.leap_seconds_are v high here.0 h to here.1 leap)
 
     -- where no transition is left, all are reached from then on
@@ -112,25 +112,25 @@ module _ (z : Zone) (sound : IsSoundTable z) where
 
     -- around the next transition it has two, if the one after that comes later
     module _ (next later : Transition) (jump : ℤ) (before after : LocalTimeType) (at_next : slice_get z.transitions k ≡ Some next) (at_later : slice_get z.transitions (k + 1) ≡ Some later)
-        (reached : next.unix_leap_time ≤ℤ h) (ahead : h <ℤ later.unix_leap_time) (moment : IsMomentOf z.leap_seconds next.unix_leap_time jump) where
+        (reached : next.unix_leap_time ≤ℤ h) (ahead : h <ℤ later.unix_leap_time) (wide : IsWideEffect z.leap_seconds next.unix_leap_time jump) where
       pub jump_above : low <ℤ jump
       jump_above = by_lt_z low jump (λ e. e) (λ e.
-          absurd (omega (arith, ints, at.ahead k next (omega arith) at_next, reached_from_moment z.leap_seconds sound.leap_seconds_are high h leap next.unix_leap_time jump low at.time moment reached e at.time_is)))
+          absurd (omega (arith, ints, at.ahead k next (omega arith) at_next, reached_from_effect z.leap_seconds sound.leap_seconds_are high h leap next.unix_leap_time jump low at.time wide reached e at.time_is)))
 
       pub jump_up_to : jump ≤ℤ high
-      jump_up_to = moment_up_to z.leap_seconds sound.leap_seconds_are high h leap next.unix_leap_time jump moment reached
+      jump_up_to = wide_effect_up_to z.leap_seconds sound.leap_seconds_are high h leap next.unix_leap_time jump wide reached
 
       pub type_before_jump : IsTypeOfLast z k before → (v : ℤ) → low ≤ℤ v → v <ℤ jump → IsClock z v before
       type_before_jump type v from until =
           let here = leap_between v from (omega (arith, ints, until, jump_up_to)) in
           clock_at_place k v before (slice_get_within z.transitions k next at_next)
           (place_later k low v here.0 at from here.1 (λ other at_k.
-          rw (same_Some other next (sym at_k ∙ at_next)) (by_lt_z here.0 next.unix_leap_time (λ e. e) (λ e. absurd (omega (arith, ints, moment.least v (here.0, here.1, e), until)))))) type
+          rw (same_Some other next (sym at_k ∙ at_next)) (by_lt_z here.0 next.unix_leap_time (λ e. e) (λ e. absurd (omega (arith, ints, wide.least v (here.0, here.1, e), until)))))) type
 
       pub type_from_jump : IsTypeAt z next.type_index after → (v : ℤ) → jump ≤ℤ v → v ≤ℤ high → IsClock z v after
       type_from_jump type v from to =
           let here = leap_between v (omega (arith, ints, from, jump_above)) to in
-          let since = reached_from_moment z.leap_seconds sound.leap_seconds_are high h leap next.unix_leap_time jump v here.0 moment reached from here.1 in
+          let since = reached_from_effect z.leap_seconds sound.leap_seconds_are high h leap next.unix_leap_time jump v here.0 wide reached from here.1 in
           let back : k ≡ k + 1 - 1 = omega arith in
           let here_next : slice_get z.transitions (k + 1 - 1) ≡ Some next = subst (λ (i : ℕ). slice_get z.transitions i ≡ Some next) back at_next in
           clock_at_place (k + 1) v after (slice_get_within z.transitions (k + 1) later at_later) (place_after k v here.0 next later here.1 at_next since at_later (omega (arith, ints, here.2, ahead)))

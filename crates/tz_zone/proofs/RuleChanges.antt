@@ -22,7 +22,7 @@ use Rattle.tz_zone.specs.ZoneSeen.{zone_seen}
 use Rattle.tz_zone.specs.declared.table.parts.OtherParts.{OtherParts}
 use Rattle.tz_zone.proofs.LeapTimes.{past_later}
 use Rattle.tz_zone.proofs.Clocks.{some_from_last}
-use Rattle.tz_zone.proofs.InstantsWithLeapTime.{clock_without, leap_unless_refused, answered_within, past_from}
+use Rattle.tz_zone.proofs.InstantsWithLeapTime.{clock_without, leap_unless_refused, defined_within, past_from}
 use Rattle.tz_zone.proofs.Places.{place_later}
 use Rattle.tz_zone.proofs.ChangeSpans.{rule_of_clock}
 use Rattle.tz_zone.proofs.PlaceRuns.{leap_of_clock, clock_from_end, place_at_start}
@@ -113,7 +113,7 @@ module _ (list : List Transition) (parts : OtherParts) (sound : IsSoundTable (zo
 
         by_clock : (v : ℤ) (t : LocalTimeType) → s ≤ℤ v → v ≤ℤ c.unix_time → IsClock z' v t → IsClock (zone_seen list parts) v t
         by_clock v t order up_to clock = clock_rule rule.0 rule.1 v t (λ some.
-            let leap = leap_unless_refused parts.leap_seconds.now sound.leap_seconds_are v (answered_within parts.leap_seconds.now sound.leap_seconds_are s v (at some).time_is.not_refused order (omega (arith, ints, up_to, bound))) in
+            let leap = leap_unless_refused parts.leap_seconds.now sound.leap_seconds_are v (defined_within parts.leap_seconds.now sound.leap_seconds_are s v (at some).time_is.not_refused order (omega (arith, ints, up_to, bound))) in
             at_later v leap.0 some order leap.1) clock
 
     pub following_from_rule : (c : Change) → IsFollowing (zone_seen [] parts) s c → IsFollowing (zone_seen list parts) s c
@@ -138,9 +138,9 @@ module _ (list : List Transition) (parts : OtherParts) (sound : IsSoundTable (zo
 -- where all transitions are reached at an instant, they are at the seam
 pub at_seam : (z : Zone) → IsSoundTable z → (w m : ℤ) → (z.transitions ≢ [] → IsReachedAt z w (length z.transitions)) → IsSeam z.transitions z.leap_seconds m → z.transitions ≢ [] → IsReachedAt z m (length z.transitions)
 at_seam z sound w m at (inl (none, least)) some = absurd (some none)
-at_seam z sound w m at (inr (last, is_last, moment)) some =
+at_seam z sound w m at (inr (last, is_last, wide)) some =
     let count = length z.transitions in
-    let run : IsRunStart z count count m = record { some = length_of_some z.transitions some; up_to = omega arith; change = last; change_is = is_last; effect = moment; types = λ less. absurd (omega (arith, less)); all = λ e. refl } in
+    let run : IsRunStart z count count m = record { some = length_of_some z.transitions some; up_to = omega arith; change = last; change_is = is_last; effect = wide; types = λ less. absurd (omega (arith, less)); all = λ e. refl } in
     place_at_start z sound count count m run w (omega arith, at) refl
 
 -- there the last transition is reached, too
@@ -176,18 +176,18 @@ module _ (z : Zone) (are : AreLeapSeconds z.leap_seconds) (some : z.transitions 
       by_lt_z last c.unix_time (λ over. none c over below change) (λ up. not_refused c.unix_time c.after change.after_is (early_too last c.unix_time up early))
 
   pub none_before_first : (m u : ℤ) → HasNoChange z m u → ¬ IsLeapTimeRefused z.leap_seconds m → IsLeapTimeRefused z.leap_seconds (m -ℤ pos 1) → HasNoPreceding z u
-  none_before_first m u none answered (inr past) c below change = absurd (answered (inr (past_later z.leap_seconds are (m -ℤ pos 1) m (omega (arith, ints)) past)))
-  none_before_first m u none answered (inl early) c below change =
+  none_before_first m u none defined (inr past) c below change = absurd (defined (inr (past_later z.leap_seconds are (m -ℤ pos 1) m (omega (arith, ints)) past)))
+  none_before_first m u none defined (inl early) c below change =
       by_lt_z m c.unix_time (λ over. none c over below change) (λ up. not_refused (c.unix_time -ℤ pos 1) c.before change.before_is (early_too (m -ℤ pos 1) (c.unix_time -ℤ pos 1) (omega (arith, ints, up)) early))
 
 -- the seam is no less than the least instant, and where all transitions are reached it has come
 pub seam_low : (transitions : List Transition) (leaps : List LeapSecond) (m : ℤ) → IsSeam transitions leaps m → negsuc 9223372036854775807 ≤ℤ m
 seam_low transitions leaps m (inl (none, least)) = omega (arith, ints, least)
-seam_low transitions leaps m (inr (last, is_last, moment)) = moment.low
+seam_low transitions leaps m (inr (last, is_last, wide)) = wide.low
 
 pub seam_up_to : (z : Zone) (m n : ℤ) → IsSeam z.transitions z.leap_seconds m → negsuc 9223372036854775807 ≤ℤ n → (z.transitions ≢ [] → IsReachedAt z n (length z.transitions)) → m ≤ℤ n
 seam_up_to z m n (inl (none, least)) low at = omega (arith, ints, least, low)
-seam_up_to z m n (inr (last, is_last, moment)) low at =
+seam_up_to z m n (inr (last, is_last, wide)) low at =
     let some = some_from_last z.transitions last is_last in
     let here = at some in
-    moment.least n (here.time, here.time_is, here.reached (length z.transitions - 1) last (omega (arith, length_of_some z.transitions some)) is_last)
+    wide.least n (here.time, here.time_is, here.reached (length z.transitions - 1) last (omega (arith, length_of_some z.transitions some)) is_last)

@@ -5,13 +5,13 @@ use Rattle.std.proofs.lemmas.Int.{ints, by_lt_z}
 use Rattle.std.proofs.lemmas.Bool.{cases_lt, false≢true}
 use Rattle.std.proofs.lemmas.Option.{slice_get_within, none-some, same_Some}
 use Rattle.tz_zone.specs.Table.{Transition, LeapSecond, Zone}
-use Rattle.tz_zone.specs.LeapTime.{IsInstant, IsBeforeStart, IsPastInstants, IsLeapTimeRefused, IsTimeReached, IsMomentOf}
+use Rattle.tz_zone.specs.LeapTime.{IsInstant, IsBeforeStart, IsPastInstants, IsLeapTimeRefused, IsTimeReached, IsWideEffect}
 use Rattle.tz_zone.specs.ValidZone.{AreLeapSeconds, IsSoundTable}
 use Rattle.tz_zone.specs.ClockSegments.{IsReachedAt, IsBefore}
 use Rattle.tz_zone.specs.TableChanges.{IsChangeByRule, IsTableChange, IsFar, HasTableEnds}
 use Rattle.tz_zone.proofs.RisingTimes.{reached_before}
 use Rattle.tz_zone.proofs.LeapTimes.{leap_time_mono, past_later, begun_later, not_past_within, not_refused_within, IsInstant-from_bounds, instant_bounds}
-use Rattle.tz_zone.proofs.InstantsWithLeapTime.{plain_leap, leap_unless_refused, leap_time_low, moment_up_to, answered_from_moment}
+use Rattle.tz_zone.proofs.InstantsWithLeapTime.{plain_leap, leap_unless_refused, leap_time_low, wide_effect_up_to, defined_from_effect}
 
 -- an instant lies before a truncated start or it does not
 pub before_start_or_not : (leaps : List LeapSecond) (u : ℤ) → IsBeforeStart leaps u ⊎ ¬ IsBeforeStart leaps u
@@ -48,9 +48,9 @@ pub some_if_refused : (leaps : List LeapSecond) (u : ℤ) → IsLeapTimeRefused 
 some_if_refused leaps u refused none = (plain_leap leaps none u).not_refused refused
 
 -- what is not before a truncated start has a leap time, or leap times may leave 64 bits there
-far_or_answered : (leaps : List LeapSecond) → AreLeapSeconds leaps → (u : ℤ) → ¬ IsBeforeStart leaps u → IsFar leaps u ⊎ ¬ IsLeapTimeRefused leaps u
-far_or_answered [] are u begun = inr (plain_leap [] refl u).not_refused
-far_or_answered (l ∷ rest) are u begun = by_lt_z (pos 80000000000000000) u (λ h. inl ((λ e. absurd (omega (arith, ap length e))), h)) (λ h. inr (not_refused_within (l ∷ rest) are u begun h))
+far_or_defined : (leaps : List LeapSecond) → AreLeapSeconds leaps → (u : ℤ) → ¬ IsBeforeStart leaps u → IsFar leaps u ⊎ ¬ IsLeapTimeRefused leaps u
+far_or_defined [] are u begun = inr (plain_leap [] refl u).not_refused
+far_or_defined (l ∷ rest) are u begun = by_lt_z (pos 80000000000000000) u (λ h. inl ((λ e. absurd (omega (arith, ap length e))), h)) (λ h. inr (not_refused_within (l ∷ rest) are u begun h))
 
 -- where leap times have left 64 bits they may do so
 pub far_if_past : (leaps : List LeapSecond) → AreLeapSeconds leaps → (u : ℤ) → IsPastInstants leaps u → IsFar leaps u
@@ -68,11 +68,11 @@ module _ (z : Zone) (sound : IsSoundTable z) (u : ℤ) (k : ℕ) (fits : IsInsta
   ]
 
   -- where its leap time is first reached it takes effect, or the leap-second table begins
-  pub change_at_moment : (m : ℤ) → IsMomentOf z.leap_seconds before.unix_leap_time m → m ≢ negsuc 9223372036854775807 → IsTableChange z m
-  change_at_moment m moment not_least = by_lt_z (negsuc 9223372036854775807) before.unix_leap_time effect least
+  pub change_at_effect : (m : ℤ) → IsWideEffect z.leap_seconds before.unix_leap_time m → m ≢ negsuc 9223372036854775807 → IsTableChange z m
+  change_at_effect m wide not_least = by_lt_z (negsuc 9223372036854775807) before.unix_leap_time effect least
     where
       up_to : m ≤ℤ u
-      up_to = moment_up_to z.leap_seconds are u at.time at.time_is before.unix_leap_time m moment before_reached
+      up_to = wide_effect_up_to z.leap_seconds are u at.time at.time_is before.unix_leap_time m wide before_reached
 
       effect : negsuc 9223372036854775807 <ℤ before.unix_leap_time → IsTableChange z m
       effect above = elim is [
@@ -84,9 +84,9 @@ module _ (z : Zone) (sound : IsSoundTable z) (u : ℤ) (k : ℕ) (fits : IsInsta
             at_before,
             record {
               not_least = λ e. absurd (omega (arith, ints, above, e));
-              instant = IsInstant-from_bounds m moment.low (omega (arith, ints, up_to, (instant_bounds u fits).1));
-              reached = moment.reached (answered_from_moment z.leap_seconds are u at.time at.time_is before.unix_leap_time m m moment (omega (arith, ints)) up_to);
-              least = moment.least;
+              instant = IsInstant-from_bounds m wide.low (omega (arith, ints, up_to, (instant_bounds u fits).1));
+              reached = wide.reached (defined_from_effect z.leap_seconds are u at.time at.time_is before.unix_leap_time m m wide (omega (arith, ints)) up_to);
+              least = wide.least;
             },
           ),
         )
@@ -94,46 +94,46 @@ module _ (z : Zone) (sound : IsSoundTable z) (u : ℤ) (k : ℕ) (fits : IsInsta
 
       least : before.unix_leap_time ≤ℤ negsuc 9223372036854775807 → IsTableChange z m
       least low = elim (before_start_or_not z.leap_seconds (m -ℤ pos 1)) [
-        | inl early ↦ inr (inr (early, moment.begun))
+        | inl early ↦ inr (inr (early, wide.begun))
         | inr begun ↦
-            let above : negsuc 9223372036854775807 <ℤ m = by_lt_z (negsuc 9223372036854775807) m (λ h. h) (λ h. absurd (not_least (omega (arith, ints, h, moment.low)))) in
+            let above : negsuc 9223372036854775807 <ℤ m = by_lt_z (negsuc 9223372036854775807) m (λ h. h) (λ h. absurd (not_least (omega (arith, ints, h, wide.low)))) in
             let instant = IsInstant-from_bounds (m -ℤ pos 1) (omega (arith, ints, above)) (omega (arith, ints, up_to, (instant_bounds u fits).1)) in
-            let here = leap_unless_refused z.leap_seconds are (m -ℤ pos 1) (answered begun) in
+            let here = leap_unless_refused z.leap_seconds are (m -ℤ pos 1) (defined begun) in
             let from = leap_time_low z.leap_seconds are (m -ℤ pos 1) here.0 instant here.1 in
-            absurd (omega (arith, ints, moment.least (m -ℤ pos 1) (here.0, here.1, omega (arith, ints, low, from))))
+            absurd (omega (arith, ints, wide.least (m -ℤ pos 1) (here.0, here.1, omega (arith, ints, low, from))))
       ]
         where
-          answered : ¬ IsBeforeStart z.leap_seconds (m -ℤ pos 1) → ¬ IsLeapTimeRefused z.leap_seconds (m -ℤ pos 1)
-          answered begun (inl early) = begun early
-          answered begun (inr past) = at.time_is.not_refused (inr (past_later z.leap_seconds are (m -ℤ pos 1) u (omega (arith, ints, up_to)) past))
+          defined : ¬ IsBeforeStart z.leap_seconds (m -ℤ pos 1) → ¬ IsLeapTimeRefused z.leap_seconds (m -ℤ pos 1)
+          defined begun (inl early) = begun early
+          defined begun (inr past) = at.time_is.not_refused (inr (past_later z.leap_seconds are (m -ℤ pos 1) u (omega (arith, ints, up_to)) past))
 
   -- where the leap time of the transition after the place is first reached that takes effect, or leap times may leave 64 bits
-  pub change_at_next : (next : Transition) → slice_get z.transitions k ≡ Some next → (m : ℤ) → m ≤ℤ pos 9223372036854775807 → IsMomentOf z.leap_seconds next.unix_leap_time m → IsTableChange z m ⊎ IsFar z.leap_seconds m
-  change_at_next next at_next m high moment = elim (far_or_answered z.leap_seconds are m moment.begun) [
+  pub change_at_next : (next : Transition) → slice_get z.transitions k ≡ Some next → (m : ℤ) → m ≤ℤ pos 9223372036854775807 → IsWideEffect z.leap_seconds next.unix_leap_time m → IsTableChange z m ⊎ IsFar z.leap_seconds m
+  change_at_next next at_next m high wide = elim (far_or_defined z.leap_seconds are m wide.begun) [
     | inl far ↦ inr far
-    | inr answered ↦ inl (inl (
+    | inr defined ↦ inl (inl (
       k,
       (
         next,
         at_next,
         record {
           not_least = λ e. absurd (omega (arith, ints, e, at.ahead k next (omega arith) at_next, leap_time_low z.leap_seconds are u at.time fits at.time_is));
-          instant = IsInstant-from_bounds m moment.low high;
-          reached = moment.reached answered;
-          least = moment.least;
+          instant = IsInstant-from_bounds m wide.low high;
+          reached = wide.reached defined;
+          least = wide.least;
         },
       ),
     ))
   ]
 
   -- so the ends of a segment between two transitions are changes of the tables
-  pub ends_between : (next : Transition) → slice_get z.transitions k ≡ Some next → (from last : ℤ) → last ≤ℤ pos 9223372036854775807 → IsMomentOf z.leap_seconds before.unix_leap_time from
-      → (last ≢ pos 9223372036854775807 → IsPastInstants z.leap_seconds (last +ℤ pos 1) ⊎ IsMomentOf z.leap_seconds next.unix_leap_time (last +ℤ pos 1)) → HasTableEnds z from last
-  ends_between next at_next from last high moment after = record {
-    from_is = λ not_least. inl (change_at_moment from moment not_least);
+  pub ends_between : (next : Transition) → slice_get z.transitions k ≡ Some next → (from last : ℤ) → last ≤ℤ pos 9223372036854775807 → IsWideEffect z.leap_seconds before.unix_leap_time from
+      → (last ≢ pos 9223372036854775807 → IsPastInstants z.leap_seconds (last +ℤ pos 1) ⊎ IsWideEffect z.leap_seconds next.unix_leap_time (last +ℤ pos 1)) → HasTableEnds z from last
+  ends_between next at_next from last high wide after = record {
+    from_is = λ not_least. inl (change_at_effect from wide not_least);
     last_is = λ not_greatest. elim (after not_greatest) [
       | inl past ↦ inr (far_if_past z.leap_seconds are (last +ℤ pos 1) past)
-      | inr next_moment ↦ change_at_next next at_next (last +ℤ pos 1) (one_more last high not_greatest) next_moment
+      | inr next_effect ↦ change_at_next next at_next (last +ℤ pos 1) (one_more last high not_greatest) next_effect
     ];
   }
     where
@@ -151,19 +151,19 @@ module _ (z : Zone) (sound : IsSoundTable z) (u : ℤ) (k : ℕ) (fits : IsInsta
 
   -- and the ends of a segment after all transitions are changes, too
   pub ends_after_all : k ≡ length z.transitions → (from last : ℤ) → from ≤ℤ last → ((v : ℤ) → from ≤ℤ v → v ≤ℤ last → IsTimeReached z.leap_seconds before.unix_leap_time v)
-      → (IsMomentOf z.leap_seconds before.unix_leap_time from ⊎ IsChangeByRule z.extra_rule from)
+      → (IsWideEffect z.leap_seconds before.unix_leap_time from ⊎ IsChangeByRule z.extra_rule from)
       → (last ≢ pos 9223372036854775807 → IsPastInstants z.leap_seconds (last +ℤ pos 1) ⊎ IsChangeByRule z.extra_rule (last +ℤ pos 1)) → HasTableEnds z from last
   ends_after_all all from last order reached begin after = record {
     from_is = λ not_least. inl (elim begin [
-      | inl moment ↦ change_at_moment from moment not_least
+      | inl wide ↦ change_at_effect from wide not_least
       | inr change ↦ inr (inl (change, inr (all_reached all from (reached from (omega (arith, ints)) order))))
     ]);
     last_is = λ not_greatest. elim (after not_greatest) [
       | inl past ↦ inr (far_if_past z.leap_seconds are (last +ℤ pos 1) past)
-      | inr change ↦ elim (far_or_answered z.leap_seconds are (last +ℤ pos 1) (begun_later z.leap_seconds are last (last +ℤ pos 1) (omega (arith, ints)) (λ early. at_last.1.not_refused (inl early)))) [
+      | inr change ↦ elim (far_or_defined z.leap_seconds are (last +ℤ pos 1) (begun_later z.leap_seconds are last (last +ℤ pos 1) (omega (arith, ints)) (λ early. at_last.1.not_refused (inl early)))) [
         | inl far ↦ inr far
-        | inr answered ↦
-            let there = leap_unless_refused z.leap_seconds are (last +ℤ pos 1) answered in
+        | inr defined ↦
+            let there = leap_unless_refused z.leap_seconds are (last +ℤ pos 1) defined in
             let later = leap_time_mono z.leap_seconds are last (last +ℤ pos 1) at_last.0 there.0 (omega (arith, ints)) at_last.1 there.1 in
             inl (inr (inl (change, inr (all_reached all (last +ℤ pos 1) (there.0, there.1, omega (arith, ints, at_last.2, later))))))
       ]

@@ -11,7 +11,7 @@ use Rattle.tz_zone.specs.Clock.{IsClock, HasNoType}
 use Rattle.tz_zone.specs.ValidZone.{IsSoundTable}
 use Rattle.tz_zone.specs.ClockSegments.{IsSegmentAt}
 use Rattle.tz_zone.specs.Changes.{Change, HasTypeOrNone, IsTrueSegment, IsChange}
-use Rattle.tz_zone.specs.declared.clock.segment.ClockSegment.{ClockSegment}
+use Rattle.tz_zone.specs.declared.clock.segment.Segment.{Segment}
 use Rattle.tz_zone.proofs.Clocks.{clock_unique}
 
 module _ (z : Zone) (sound : IsSoundTable z) where
@@ -54,7 +54,7 @@ match_if_none None P Q e h = h
 match_if_none (Some x) P Q e h = absurd (false≢true (sym e))
 
 -- a segment as contracts see it
-pub true_segment : (z : Zone) (u : ℤ) (s : ClockSegment) → IsSegmentAt z u s → IsTrueSegment z (record { from = s.from; last = s.last; local_time_type = option_copied s.local_time_type })
+pub true_segment : (z : Zone) (u : ℤ) (s : Segment) → IsSegmentAt z u s → IsTrueSegment z (record { from = s.from; last = s.last; local_time_type = option_copied s.local_time_type })
 true_segment z u s segment = record {
   order = omega (arith, ints, segment.within.0, segment.within.1);
   holds = λ v low high. copied v s.local_time_type (segment.holds v low high);

@@ -19,9 +19,9 @@ use Rattle.tz_rule.specs.declared.timezone.rule.TransitionRule.TheVariants.{Fixe
 use Rattle.tz_rule.specs.declared.timezone.rule_day.RuleDay.{RuleDay}
 use Rattle.tz_rule.specs.declared.timezone.rule_day.RuleDay.TheVariants.{Julian1WithoutLeap, Julian0WithLeap, MonthWeekDay}
 use Rattle.tz_zone.specs.Bytes.{capital_j, capital_m, closing_bracket, comma, dot, slash}
-use Rattle.tz_zone.specs.declared.parse.tz_string.day.DayAndTime.{DayAndTime}
+use Rattle.tz_zone.specs.declared.parse.tz_string.switch.DayAndTime.{DayAndTime}
 use Rattle.tz_zone.specs.declared.parse.tz_string.time.WrittenTime.{WrittenTime}
-use Rattle.tz_zone.specs.TzText.{Begins, IsRun, IsNumber, is_in_brackets, IsName, IsPart, IsHms, IsSign, IsSignedTime, IsDayTimeSign, IsDayTime, IsMonthWeekText, IsDay, IsRuleText, IsDaylightOffset, IsTimeUpTo, offset_hours, day_time_hours, IsRuleInRange, IsNameAndOffset, AlternateText, IsAlternateText, IsAlternateInRange, std_type_of, rule_of, IsTzText}
+use Rattle.tz_zone.specs.TzText.{Begins, IsNumber, IsName, IsPart, IsHms, IsSign, IsSignedTime, IsDayTimeSign, IsDayTime, IsMonthWeekText, IsDay, IsRuleText, IsDaylightOffset, IsTimeUpTo, offset_hours, day_time_hours, IsRuleInRange, IsNameAndOffset, AlternateText, IsAlternateText, IsAlternateInRange, std_type_of, rule_of, IsTzText}
 use Rattle.tz_rule.specs.RuleDays.{IsRuleDay}
 use Rattle.tz_zone.specs.TzTextFault.{Reached, IsMissingByte, TimeFaults, day_time_faults, offset_faults, IsNumberFault, IsPartFault, IsHmsFault, IsOffsetFault, IsDayTimeFault, FailsFrom, IsDayNumberFault, IsMonthWeekDayFault, IsDayFault, IsRuleTextFault, IsLastRuleFault, IsRulesFault, IsUnclosed, IsNameFault, LacksRules, IsDaylightFault, InText, IsTzTextFault}
 use Rattle.tz_zone.proofs.TextReadings.{IsOne, same_byte, same_rest, run_is_one, number_is_one, part_is_one, sign_is_one, day_time_sign_is_one, signed_time_is_one, day_is_one, rule_text_is_one, name_is_one, daylight_offset_is_one, name_and_offset_is_one, alternate_text_is_one, no_digit}
@@ -30,9 +30,7 @@ use Rattle.tz_zone.proofs.TextReadings.{IsOne, same_byte, same_rest, run_is_one,
 pub reached_once : {A : Type 0} (reads : List ℕ → A → List ℕ → Type 0) → IsOne reads → (text : List ℕ) (x : A) (rest : List ℕ) → reads text x rest → (P : A → List ℕ → Type 0) → Reached reads text P → P x rest
 reached_once {A} reads one text x rest r P h =
     let same = one text h.0 x h.1 rest h.2 r in
-    let Q : A → Type 0 = λ y. P y h.1 in
-    let R : List ℕ → Type 0 = λ l. P x l in
-    subst R same.1 (subst Q same.0 h.3)
+    rw (same.0, same.1) at h.3
 
 no_number_fault : (limit : ℕ) (named : TzStringError) (text : List ℕ) (n : ℕ) (rest : List ℕ) (e : TzStringError) → IsNumber text n rest → n ≤ limit → limit < 2 ^ 31 → IsNumberFault limit named text e → ⊥
 no_number_fault limit named text n rest e number within fits fault = elim fault [
@@ -42,7 +40,7 @@ no_number_fault limit named text n rest e number within fits fault = elim fault 
 
 no_part_fault : (named : TzStringError) (text : List ℕ) (n : ℕ) (rest : List ℕ) (e : TzStringError) → IsPart text n rest → n ≤ 59 → IsPartFault named text e → ⊥
 no_part_fault named text n rest e part within fault = elim part [
-  | inl h ↦ (let P : List ℕ → Type 0 = λ number. IsNumberFault 59 named number e in no_number_fault 59 named h.0 n rest e h.2 within (omega arith) (subst P (same_rest fault.1 h.1) fault.2))
+  | inl h ↦ no_number_fault 59 named h.0 n rest e h.2 within (omega arith) (rw (same_rest fault.1 h.1) at fault.2)
   | inr h ↦ absurd (h.0 (fault.0, fault.1))
 ]
 
@@ -108,8 +106,7 @@ no_month_week_fault text d rest e t range fault = elim fault [
 no_day_fault : (text : List ℕ) (d : RuleDay) (rest : List ℕ) (e : TzError) → IsDay text d rest → IsRuleDay d → IsDayFault text e → ⊥
 no_day_fault text (Julian1WithoutLeap n) rest e day range fault = elim fault [
   | inl f ↦ f.0 (day.0, day.1)
-  | inr (inl f) ↦ (let P : List ℕ → Type 0 = λ number. IsDayNumberFault 16 IsJulianDay InvalidRuleDayJulianDay number e in
-      no_day_number_fault 16 IsJulianDay InvalidRuleDayJulianDay day.0 n rest e day.2 range (let most = range.1 in omega arith) (subst P (same_rest f.1 day.1) f.2))
+  | inr (inl f) ↦ no_day_number_fault 16 IsJulianDay InvalidRuleDayJulianDay day.0 n rest e day.2 range (let most = range.1 in omega arith) (rw (same_rest f.1 day.1) at f.2)
   | inr (inr f) ↦ let clash = same_byte f.1 day.1 in absurd (omega arith)
 ]
 no_day_fault text (Julian0WithLeap n) rest e day range fault = elim fault [
@@ -120,7 +117,7 @@ no_day_fault text (Julian0WithLeap n) rest e day range fault = elim fault [
 no_day_fault text (MonthWeekDay d) rest e day range fault = elim fault [
   | inl f ↦ f.1 (day.0, day.1)
   | inr (inl f) ↦ let clash = same_byte f.1 day.1 in absurd (omega arith)
-  | inr (inr f) ↦ (let P : List ℕ → Type 0 = λ month. IsMonthWeekDayFault month e in no_month_week_fault day.0 d rest e day.2 range (subst P (same_rest f.1 day.1) f.2))
+  | inr (inr f) ↦ no_month_week_fault day.0 d rest e day.2 range (rw (same_rest f.1 day.1) at f.2)
 ]
 
 no_rule_text_fault : (extended : Bool) (text : List ℕ) (r : DayAndTime) (rest : List ℕ) (e : TzError) → IsRuleText extended text r rest → IsRuleInRange extended r → IsRuleTextFault extended text e → ⊥
@@ -131,7 +128,7 @@ no_rule_text_fault extended text r rest e rule range fault = elim fault [
   where
     after_day : (time : List ℕ) × (rule.0 ≡ slash ∷ time) × InText e (IsDayTimeFault extended time) → ⊥
     after_day f = elim rule.2 [
-      | inl t ↦ (let P : List ℕ → Type 0 = λ time. IsDayTimeFault extended time f.2.0 in no_day_time_fault extended t.0 r.time rest f.2.0 t.2 range.time_is (subst P (same_rest f.1 t.1) f.2.2))
+      | inl t ↦ no_day_time_fault extended t.0 r.time rest f.2.0 t.2 range.time_is (rw (same_rest f.1 t.1) at f.2.2)
       | inr t ↦ absurd (t.0 (f.0, f.1))
     ]
 
@@ -162,8 +159,7 @@ no_name_fault text name rest e name_is is fault = elim fault [
   where
     closed : IsUnclosed text → ⊥
     closed open_name = elim name_is [
-      | inl n ↦ (let P : List ℕ → Type 0 = λ quoted. IsRun is_in_brackets quoted open_name.1 [] in
-          let same = run_is_one (subst P (same_rest open_name.2 n.1) open_name.3) n.2 in let none : [] ≡ closing_bracket ∷ rest = same.1 in cc)
+      | inl n ↦ (let none : [] ≡ closing_bracket ∷ rest = (run_is_one (rw (same_rest open_name.2 n.1) at open_name.3) n.2).1 in cc)
       | inr n ↦ absurd (n.0 (open_name.0, open_name.2))
     ]
 
@@ -175,7 +171,7 @@ no_time_at_end : (t : WrittenTime) (rest : List ℕ) → IsSignedTime [] t rest 
 no_time_at_end t rest time = elim time.1 [
   | inl s ↦ let none = s.0 in cc
   | inr (inl s) ↦ let none = s.0 in cc
-  | inr (inr s) ↦ (let P : List ℕ → Type 0 = λ front. IsNumber front t.hours time.2.after_hours in no_number_at_end t.hours time.2.after_hours (subst P s.2 time.2.hours_are))
+  | inr (inr s) ↦ no_number_at_end t.hours time.2.after_hours (rw s.2 at time.2.hours_are)
 ]
 
 no_offset_at_end : (o : Option WrittenTime) (rest : List ℕ) → IsDaylightOffset [] o rest → ⊥
@@ -199,7 +195,7 @@ no_daylight_fault extended text a x e range fault = elim fault [
 ]
   where
     offset_there : x.after_dst_name ≡ [] → ⊥
-    offset_there over = let P : List ℕ → Type 0 = λ front. IsDaylightOffset front a.dst_offset (comma ∷ x.start_text) in no_offset_at_end a.dst_offset (comma ∷ x.start_text) (subst P over x.dst_offset_is)
+    offset_there over = no_offset_at_end a.dst_offset (comma ∷ x.start_text) (rw over at x.dst_offset_is)
 
     after_offset : LacksRules (comma ∷ x.start_text) e ⊎ ((comma ∷ x.start_text ≢ []) × FailsFrom comma (comma ∷ x.start_text) e (λ rules. IsRulesFault extended rules e)) → ⊥
     after_offset p = elim p [
@@ -242,9 +238,7 @@ no_std_fault text name t rest e later std range fault =
 fixed_is_over : (extended : Bool) (text name : List ℕ) (t : WrittenTime) (a : AlternateText) → IsNameAndOffset text name t [] → IsAlternateText extended text a → ⊥
 fixed_is_over extended text name t a std x =
     let same = name_and_offset_is_one text a.std_name name a.std_offset t x.after_std [] x.std_is std in
-    let Name : List ℕ → Type 0 = λ front. IsName front a.dst_name x.after_dst_name in
-    let Offset : List ℕ → Type 0 = λ front. IsDaylightOffset front a.dst_offset (comma ∷ x.start_text) in
-    no_offset_at_end a.dst_offset (comma ∷ x.start_text) (subst Offset (no_name_at_end a.dst_name x.after_dst_name (subst Name same.2 x.dst_name_is)) x.dst_offset_is)
+    no_offset_at_end a.dst_offset (comma ∷ x.start_text) (rw (no_name_at_end a.dst_name x.after_dst_name (rw same.2 at x.dst_name_is)) at x.dst_offset_is)
 
 pub no_text_fault : (extended : Bool) (text : List ℕ) (rule : TransitionRule) (e : TzError) → IsTzText extended text rule → IsTzTextFault extended text e → ⊥
 no_text_fault extended text (Fixed type) e t fault = elim fault [
@@ -256,7 +250,7 @@ no_text_fault extended text (Alternating rule) e t fault = elim fault [
   | inl f ↦ no_name_fault text t.0.std_name t.1.std_is.after_name e t.1.std_is.name_is t.2.std_name_is f
   | inr (inl f) ↦ (let after = no_std_fault text t.0.std_name t.0.std_offset t.1.after_std e (λ rest. (rest ≢ []) × IsDaylightFault extended rest e) t.1.std_is t.2.std_offset_is f in
       no_daylight_fault extended text t.0 t.1 e t.2 after.1)
-  | inr (inr f) ↦ (let P : AlternateText → Type 0 = λ a. IsFirstRuleFault (rule_of a) f.3 in no_rule_fault (rule_of t.0) f.3 t.3 (subst P (alternate_text_is_one extended text f.0 t.0 f.1 t.1) f.5))
+  | inr (inr f) ↦ no_rule_fault (rule_of t.0) f.3 t.3 (rw (alternate_text_is_one extended text f.0 t.0 f.1 t.1) at f.5)
 ]
 
 -- a text denotes one rule

@@ -1,5 +1,5 @@
 -- Each part of the grammar of TZ strings reads one thing at the front of a text.
-use Rattle.std.proofs.Common.{◌≡◌, ◌≢◌, ℕ, Bool, true, false, cond, List, [], ◌∷◌, ◌++◌, refl, sym, ap, ◌∙◌, subst, inl, inr, arith, Option, Some, None}
+use Rattle.std.proofs.Common.{◌≡◌, ◌≢◌, ℕ, Bool, true, false, cond, List, [], ◌∷◌, ◌++◌, refl, sym, ap, ◌∙◌, inl, inr, arith, Option, Some, None}
 use Rattle.std.proofs.lemmas.Bool.{false≢true}
 use Rattle.std.proofs.lemmas.List.{append_cancel_left}
 use Rattle.std.proofs.lemmas.List.Sums.{take_while-cons}
@@ -9,10 +9,10 @@ use Rattle.std.specs.Str.Parse.{digits_value}
 use Rattle.tz_rule.specs.MonthWeek.{month_week}
 use Rattle.tz_rule.specs.declared.timezone.rule_day.RuleDay.{RuleDay}
 use Rattle.tz_rule.specs.declared.timezone.rule_day.RuleDay.TheVariants.{Julian1WithoutLeap, Julian0WithLeap, MonthWeekDay}
-use Rattle.tz_zone.specs.Bytes.{capital_j, capital_m, closing_bracket, comma, dot}
-use Rattle.tz_zone.specs.declared.parse.tz_string.day.DayAndTime.{DayAndTime}
+use Rattle.tz_zone.specs.Bytes.{capital_j, capital_m, comma, dot}
+use Rattle.tz_zone.specs.declared.parse.tz_string.switch.DayAndTime.{DayAndTime}
 use Rattle.tz_zone.specs.declared.parse.tz_string.time.WrittenTime.{WrittenTime}
-use Rattle.tz_zone.specs.TzText.{IsRun, IsNumber, is_in_brackets, IsName, IsPart, IsHms, IsSign, IsSignedTime, IsDayTimeSign, IsDayTime, IsMonthWeekText, IsDay, IsTimeOfRule, IsRuleText, IsDaylightOffset, IsNameAndOffset, AlternateText, IsAlternateText}
+use Rattle.tz_zone.specs.TzText.{IsRun, IsNumber, IsName, IsPart, IsHms, IsSign, IsSignedTime, IsDayTimeSign, IsDayTime, IsMonthWeekText, IsDay, IsTimeOfRule, IsRuleText, IsDaylightOffset, IsNameAndOffset, AlternateText, IsAlternateText}
 
 abbrev pub IsOne : {A : Type 0} → (List ℕ → A → List ℕ → Type 0) → Type 0
 IsOne {A} reads = (text : List ℕ) (x y : A) (rest more : List ℕ) → reads text x rest → reads text y more → (x ≡ y) × (rest ≡ more)
@@ -40,8 +40,7 @@ number_is_one text n m rest more a b =
 -- two numbers after the same byte
 pub number_after_is_one : {b : ℕ} {text xs ys : List ℕ} (n m : ℕ) (rest more : List ℕ) → text ≡ b ∷ xs → text ≡ b ∷ ys → IsNumber xs n rest → IsNumber ys m more → (n ≡ m) × (rest ≡ more)
 number_after_is_one {xs = xs} {ys = ys} n m rest more e f a b =
-    let P : List ℕ → Type 0 = λ front. IsNumber front n rest in
-    number_is_one ys n m rest more (subst P (same_rest e f) a) b
+    number_is_one ys n m rest more (rw (same_rest e f) at a) b
 
 begins_with_digit : (digit : Bool) (b : ℕ) (bs run : List ℕ) → is_ascii_digit b ≡ digit → run ≡ cond digit (b ∷ bs) [] → run ≢ [] → is_ascii_digit b ≡ true
 begins_with_digit true b bs run e longest some = e
@@ -87,18 +86,13 @@ time_of minus hours minutes seconds = record { minus = minus; hours = hours; min
 pub same_time : (t u : WrittenTime) → t.minus ≡ u.minus → t.hours ≡ u.hours → t.minutes ≡ u.minutes → t.seconds ≡ u.seconds → t ≡ u
 unfolding time_of
 same_time t u a b c d =
-    let same : time_of t.minus t.hours t.minutes t.seconds ≡ time_of u.minus u.hours u.minutes u.seconds =
-    ap (λ x. time_of x t.hours t.minutes t.seconds) a ∙ ap (λ x. time_of u.minus x t.minutes t.seconds) b
-    ∙ ap (λ x. time_of u.minus u.hours x t.seconds) c ∙ ap (λ x. time_of u.minus u.hours u.minutes x) d
-    in same
+    let same : time_of t.minus t.hours t.minutes t.seconds ≡ time_of u.minus u.hours u.minutes u.seconds = cc in same
 
 pub hms_is_one : (text : List ℕ) (t u : WrittenTime) (rest more : List ℕ) → t.minus ≡ u.minus → IsHms text t rest → IsHms text u more → (t ≡ u) × (rest ≡ more)
 hms_is_one text t u rest more sign a b =
     let hours = number_is_one text t.hours u.hours a.after_hours b.after_hours a.hours_are b.hours_are in
-    let Minutes : List ℕ → Type 0 = λ front. IsPart front t.minutes a.after_minutes in
-    let minutes = part_is_one b.after_hours t.minutes u.minutes a.after_minutes b.after_minutes (subst Minutes hours.1 a.minutes_are) b.minutes_are in
-    let Seconds : List ℕ → Type 0 = λ front. IsPart front t.seconds rest in
-    let seconds = part_is_one b.after_minutes t.seconds u.seconds rest more (subst Seconds minutes.1 a.seconds_are) b.seconds_are in
+    let minutes = part_is_one b.after_hours t.minutes u.minutes a.after_minutes b.after_minutes (rw hours.1 at a.minutes_are) b.minutes_are in
+    let seconds = part_is_one b.after_minutes t.seconds u.seconds rest more (rw minutes.1 at a.seconds_are) b.seconds_are in
     (same_time t u sign hours.0 minutes.0 seconds.0, seconds.1)
 
 -- a sign, and the time after it
@@ -106,8 +100,7 @@ pub after_sign_is_one : (text : List ℕ) (signs : List ℕ → Bool → List �
     → (unsigned : List ℕ) × signs text t.minus unsigned × IsHms unsigned t rest → (unsigned : List ℕ) × signs text u.minus unsigned × IsHms unsigned u more → (t ≡ u) × (rest ≡ more)
 after_sign_is_one text signs one t u rest more a b =
     let sign = one text t.minus u.minus a.0 b.0 a.1 b.1 in
-    let P : List ℕ → Type 0 = λ front. IsHms front t rest in
-    hms_is_one b.0 t u rest more sign.0 (subst P sign.1 a.2) b.2
+    hms_is_one b.0 t u rest more sign.0 (rw sign.1 at a.2) b.2
 
 pub signed_time_is_one : IsOne IsSignedTime
 signed_time_is_one text t u rest more a b = after_sign_is_one text IsSign sign_is_one t u rest more a b
@@ -118,10 +111,8 @@ day_time_is_one extended text t u rest more a b = after_sign_is_one text (IsDayT
 pub month_week_is_one : IsOne IsMonthWeekText
 month_week_is_one text d e rest more a b =
     let month = number_is_one text d.month e.month (dot ∷ a.0) (dot ∷ b.0) a.2 b.2 in
-    let Week : List ℕ → Type 0 = λ front. IsNumber front d.week (dot ∷ a.1) in
-    let week = number_is_one b.0 d.week e.week (dot ∷ a.1) (dot ∷ b.1) (subst Week (same_tail month.1) a.3) b.3 in
-    let Day : List ℕ → Type 0 = λ front. IsNumber front d.week_day rest in
-    let day = number_is_one b.1 d.week_day e.week_day rest more (subst Day (same_tail week.1) a.4) b.4 in
+    let week = number_is_one b.0 d.week e.week (dot ∷ a.1) (dot ∷ b.1) (rw (same_tail month.1) at a.3) b.3 in
+    let day = number_is_one b.1 d.week_day e.week_day rest more (rw (same_tail week.1) at a.4) b.4 in
     let same : month_week d.month d.week d.week_day ≡ month_week e.month e.week e.week_day =
     ap (λ x. month_week x d.week d.week_day) month.0 ∙ ap (λ x. month_week e.month x d.week_day) week.0 ∙ ap (λ x. month_week e.month e.week x) day.0
     in (same, day.1)
@@ -141,13 +132,12 @@ day_is_one text (Julian0WithLeap n) (MonthWeekDay d) rest more a b = no_digit te
 day_is_one text (MonthWeekDay d) (Julian1WithoutLeap m) rest more a b = let clash = same_byte a.1 b.1 in absurd (omega arith)
 day_is_one text (MonthWeekDay d) (Julian0WithLeap m) rest more a b = no_digit text capital_m a.0 m more refl a.1 b
 day_is_one text (MonthWeekDay d) (MonthWeekDay e) rest more a b =
-    let P : List ℕ → Type 0 = λ front. IsMonthWeekText front d rest in
-    let same = month_week_is_one b.0 d e rest more (subst P (same_rest a.1 b.1) a.2) b.2 in (ap MonthWeekDay same.0, same.1)
+    let same = month_week_is_one b.0 d e rest more (rw (same_rest a.1 b.1) at a.2) b.2 in (ap MonthWeekDay same.0, same.1)
 
 pub time_of_rule_is_one : (extended : Bool) → IsOne (IsTimeOfRule extended)
 time_of_rule_is_one extended text t u rest more a b = elim a [
   | inl x ↦ elim b [
-    | inl y ↦ (let P : List ℕ → Type 0 = λ front. IsDayTime extended front t rest in day_time_is_one extended y.0 t u rest more (subst P (same_rest x.1 y.1) x.2) y.2)
+    | inl y ↦ day_time_is_one extended y.0 t u rest more (rw (same_rest x.1 y.1) at x.2) y.2
     | inr y ↦ absurd (y.0 (x.0, x.1))
   ]
   | inr x ↦ elim b [ inl y ↦ absurd (x.0 (y.0, y.1)) | inr y ↦ (x.1 ∙ sym y.1, x.2 ∙ sym y.2) ]
@@ -160,15 +150,14 @@ pub rule_text_is_one : (extended : Bool) → IsOne (IsRuleText extended)
 unfolding rule_at
 rule_text_is_one extended text r s rest more a b =
     let day = day_is_one text r.day s.day a.0 b.0 a.1 b.1 in
-    let P : List ℕ → Type 0 = λ front. IsTimeOfRule extended front r.time rest in
-    let time = time_of_rule_is_one extended b.0 r.time s.time rest more (subst P day.1 a.2) b.2 in
+    let time = time_of_rule_is_one extended b.0 r.time s.time rest more (rw day.1 at a.2) b.2 in
     let same : rule_at r.day r.time ≡ rule_at s.day s.time = ap (λ x. rule_at x r.time) day.0 ∙ ap (λ x. rule_at s.day x) time.0 in
     (same, time.1)
 
 pub name_is_one : IsOne IsName
 name_is_one text x y rest more a b = elim a [
   | inl p ↦ elim b [
-    | inl q ↦ (let P : List ℕ → Type 0 = λ front. IsRun is_in_brackets front x (closing_bracket ∷ rest) in let same = run_is_one (subst P (same_rest p.1 q.1) p.2) q.2 in (same.0, same_tail same.1))
+    | inl q ↦ (let same = run_is_one (rw (same_rest p.1 q.1) at p.2) q.2 in (same.0, same_tail same.1))
     | inr q ↦ absurd (q.0 (p.0, p.1))
   ]
   | inr p ↦ elim b [ inl q ↦ absurd (p.0 (q.0, q.1)) | inr q ↦ run_is_one p.1 q.1 ]
@@ -189,23 +178,14 @@ text_of std_name std_offset dst_name dst_offset start end =
 pub name_and_offset_is_one : (text x y : List ℕ) (t u : WrittenTime) (rest more : List ℕ) → IsNameAndOffset text x t rest → IsNameAndOffset text y u more → (x ≡ y) × (t ≡ u) × (rest ≡ more)
 name_and_offset_is_one text x y t u rest more a b =
     let name = name_is_one text x y a.after_name b.after_name a.name_is b.name_is in
-    let P : List ℕ → Type 0 = λ front. IsSignedTime front t rest in
-    let offset = signed_time_is_one b.after_name t u rest more (subst P name.1 a.offset_is) b.offset_is in
+    let offset = signed_time_is_one b.after_name t u rest more (rw name.1 at a.offset_is) b.offset_is in
     (name.0, offset.0, offset.1)
 
 pub alternate_text_is_one : (extended : Bool) (text : List ℕ) (a b : AlternateText) → IsAlternateText extended text a → IsAlternateText extended text b → a ≡ b
 alternate_text_is_one extended text a b x y =
     let std = name_and_offset_is_one text a.std_name b.std_name a.std_offset b.std_offset x.after_std y.after_std x.std_is y.std_is in
-    let Name : List ℕ → Type 0 = λ front. IsName front a.dst_name x.after_dst_name in
-    let name = name_is_one y.after_std a.dst_name b.dst_name x.after_dst_name y.after_dst_name (subst Name std.2 x.dst_name_is) y.dst_name_is in
-    let Offset : List ℕ → Type 0 = λ front. IsDaylightOffset front a.dst_offset (comma ∷ x.start_text) in
-    let offset = daylight_offset_is_one y.after_dst_name a.dst_offset b.dst_offset (comma ∷ x.start_text) (comma ∷ y.start_text) (subst Offset name.1 x.dst_offset_is) y.dst_offset_is in
-    let Start : List ℕ → Type 0 = λ front. IsRuleText extended front a.start (comma ∷ x.end_text) in
-    let start = rule_text_is_one extended y.start_text a.start b.start (comma ∷ x.end_text) (comma ∷ y.end_text) (subst Start (same_tail offset.1) x.start_is) y.start_is in
-    let End : List ℕ → Type 0 = λ front. IsRuleText extended front a.end [] in
-    let end = rule_text_is_one extended y.end_text a.end b.end [] [] (subst End (same_tail start.1) x.end_is) y.end_is in
-    let same : text_of a.std_name a.std_offset a.dst_name a.dst_offset a.start a.end ≡ text_of b.std_name b.std_offset b.dst_name b.dst_offset b.start b.end =
-    ap (λ z. text_of z a.std_offset a.dst_name a.dst_offset a.start a.end) std.0 ∙ ap (λ z. text_of b.std_name z a.dst_name a.dst_offset a.start a.end) std.1
-    ∙ ap (λ z. text_of b.std_name b.std_offset z a.dst_offset a.start a.end) name.0 ∙ ap (λ z. text_of b.std_name b.std_offset b.dst_name z a.start a.end) offset.0
-    ∙ ap (λ z. text_of b.std_name b.std_offset b.dst_name b.dst_offset z a.end) start.0 ∙ ap (λ z. text_of b.std_name b.std_offset b.dst_name b.dst_offset b.start z) end.0
-    in same
+    let name = name_is_one y.after_std a.dst_name b.dst_name x.after_dst_name y.after_dst_name (rw std.2 at x.dst_name_is) y.dst_name_is in
+    let offset = daylight_offset_is_one y.after_dst_name a.dst_offset b.dst_offset (comma ∷ x.start_text) (comma ∷ y.start_text) (rw name.1 at x.dst_offset_is) y.dst_offset_is in
+    let start = rule_text_is_one extended y.start_text a.start b.start (comma ∷ x.end_text) (comma ∷ y.end_text) (rw (same_tail offset.1) at x.start_is) y.start_is in
+    let end = rule_text_is_one extended y.end_text a.end b.end [] [] (rw (same_tail start.1) at x.end_is) y.end_is in
+    let same : text_of a.std_name a.std_offset a.dst_name a.dst_offset a.start a.end ≡ text_of b.std_name b.std_offset b.dst_name b.dst_offset b.start b.end = grind (arith, std.0, std.1, name.0, offset.0, start.0, end.0) in same

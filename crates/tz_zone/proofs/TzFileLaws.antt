@@ -19,7 +19,7 @@ use Rattle.tz_zone.specs.TzFileFault.{HeaderFails, UnitFails, FrameFails, Footer
 use Rattle.tz_zone.specs.TzText.{IsTzText}
 use Rattle.tz_zone.specs.TzParts.{HasTables}
 use Rattle.tz_zone.proofs.TextFaults.{no_text_fault, reads_texts}
-use Rattle.tz_zone.specs.declared.parse.tz_file.Tables.{Tables}
+use Rattle.tz_zone.specs.declared.parse.tz_file.tables.Tables.{Tables}
 
 -- the parts of a zone, from the tables that were read
 pub zone_of_tables : {A : Type 0} (p : Part) (t : Tables A) (rule : Option TransitionRule) → HasTables p t → zone_with t.transitions.items t.local_time_types.items t.leap_seconds.items rule ≡ zone_of_part p rule

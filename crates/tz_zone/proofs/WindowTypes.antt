@@ -3,8 +3,8 @@ use Rattle.std.proofs.Common.{ℕ, Option, arith, ℤ, ◌≤ℤ◌}
 use Rattle.std.proofs.lemmas.Int.{ints}
 use Rattle.tz_rule.specs.LocalTimeType.{LocalTimeType}
 use Rattle.tz_zone.specs.WindowTypes.{AreTypesIn, IfMore}
-use Rattle.tz_zone.specs.declared.clock.window.WindowTypes.{WindowTypes}
-use Rattle.tz_zone.specs.declared.clock.window.WindowTypes.TheVariants.{One, Two, More}
+use Rattle.tz_zone.specs.declared.clock.window_types.WindowTypes.{WindowTypes}
+use Rattle.tz_zone.specs.declared.clock.window_types.WindowTypes.TheVariants.{One, Two, More}
 
 -- the types of one clock are those of another one that has them
 pub types_weaker : (clock clock' : ℤ → LocalTimeType → Type 0) (low high : ℤ) (types : WindowTypes) → ((v : ℤ) (t : LocalTimeType) → low ≤ℤ v → v ≤ℤ high → clock v t → clock' v t) →

@@ -3,7 +3,7 @@ use Rattle.std.specs.Prelude.{◌≢◌, ℤ, pos, negsuc, ◌-ℤ◌, ◌≤ℤ
 use Rattle.tz_rule.specs.LocalTimeType.{LocalTimeType}
 use Rattle.tz_zone.specs.Table.{Zone}
 use Rattle.tz_zone.specs.Clock.{IsClock, HasNoType}
-use Rattle.tz_zone.specs.declared.timezone.segment.Segment.{Segment as KeptSegment}
+use Rattle.tz_zone.specs.declared.clock.segment.Segment.{Segment as KeptSegment}
 use Rattle.tz_zone.specs.declared.clock.change.Change.{Change as KeptChange}
 
 -- what contracts see of a segment: its first and its last instant, and its type, if it has one

@@ -4,8 +4,8 @@ use Rattle.tz_zone.specs.Table.{Zone}
 use Rattle.tz_zone.specs.ZoneRef.{zone_of}
 use Rattle.tz_zone.specs.Changes.{change_of, IsFollowing, IsPreceding, HasNoFollowing, HasNoPreceding}
 use Rattle.tz_zone.specs.declared.clock.change.Change.{Change as KeptChange}
-use Rattle.tz_zone.specs.declared.timezone.changes_after.ChangesAfter.{ChangesAfter}
-use Rattle.tz_zone.specs.declared.timezone.changes_before.ChangesBefore.{ChangesBefore}
+use Rattle.tz_zone.specs.declared.timezone.change_iterators.ChangesAfter.{ChangesAfter}
+use Rattle.tz_zone.specs.declared.timezone.change_iterators.ChangesBefore.{ChangesBefore}
 
 -- what contracts see of changes one after the other: the zone, and the instant after or before which the next one is looked for
 pub record Place : Type 0 where

@@ -3,7 +3,7 @@ use Rattle.std.specs.Prelude.{◌≡◌, ◌≢◌, ℕ, ◌-◌, ◌⊎◌, ℤ
 use Rattle.tz_zone.specs.Table.{Transition, Zone}
 use Rattle.tz_zone.specs.LeapTime.{IsLeapTime, IsEffect}
 use Rattle.tz_zone.specs.Clock.{AreReached, AreAhead, IsClock, HasNoType}
-use Rattle.tz_zone.specs.declared.clock.segment.ClockSegment.{ClockSegment}
+use Rattle.tz_zone.specs.declared.clock.segment.Segment.{Segment}
 
 -- this many transitions are reached at an instant, and the others are ahead
 pub record IsReachedAt (z : Zone) (u : ℤ) (k : ℕ) : Type 0 where
@@ -21,7 +21,7 @@ abbrev pub IsBefore : List Transition → ℕ → Transition → Type 0
 IsBefore transitions k before = ((k ≡ 0) × (before ≡ from_start)) ⊎ ((k ≢ 0) × (slice_get transitions (k - 1) ≡ Some before))
 
 -- the segment holds the instant, and the clock has its type, or none, throughout it
-pub record IsSegmentAt (z : Zone) (u : ℤ) (s : ClockSegment) : Type 0 where
+pub record IsSegmentAt (z : Zone) (u : ℤ) (s : Segment) : Type 0 where
   pub within : (s.from ≤ℤ u) × (u ≤ℤ s.last)
   pub holds : (v : ℤ) → s.from ≤ℤ v → v ≤ℤ s.last → MatchOption s.local_time_type (HasNoType z v) (λ t. IsClock z v t.now)
 

@@ -74,7 +74,7 @@ abbrev pub IsEffectRefused : List LeapSecond → ℤ → Type 0
 IsEffectRefused leaps v = (u : ℤ) → ¬ IsEffect leaps v u
 
 -- the whole number m is the effect of v, if it is an instant with a leap time; otherwise there is none
-pub record IsMomentOf (leaps : List LeapSecond) (v m : ℤ) : Type 0 where
+pub record IsWideEffect (leaps : List LeapSecond) (v m : ℤ) : Type 0 where
   pub least : (w : ℤ) → IsTimeReached leaps v w → m ≤ℤ w
   pub reached : ¬ IsLeapTimeRefused leaps m → IsTimeReached leaps v m
   pub begun : ¬ IsBeforeStart leaps m

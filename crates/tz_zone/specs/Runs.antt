@@ -2,16 +2,16 @@
 use Rattle.std.specs.Prelude.{◌≡◌, ◌≢◌, ℕ, ◌-◌, ◌<◌, ◌≤◌, ◌⊎◌, ℤ, pos, negsuc, ◌+ℤ◌, ◌≤ℤ◌, ◌<ℤ◌, List, [], length, Some, slice_get}
 use Rattle.tz_rule.specs.LocalTimeType.{LocalTimeType}
 use Rattle.tz_zone.specs.Table.{Transition, LeapSecond, Zone}
-use Rattle.tz_zone.specs.LeapTime.{IsMomentOf}
+use Rattle.tz_zone.specs.LeapTime.{IsWideEffect}
 use Rattle.tz_zone.specs.Clock.{IsTypeOfLast, IsLast}
 use Rattle.tz_zone.specs.ClockSegments.{IsReachedAt}
 use Rattle.tz_zone.specs.Changes.{HasNoChange}
 
--- from this whole number on the rule has the types: the moment of the last transition's time, or the least instant where there are no transitions
+-- from this whole number on the rule has the types: the effect of the last transition's time, or the least instant where there are no transitions
 abbrev pub IsSeam : List Transition → List LeapSecond → ℤ → Type 0
 IsSeam transitions leaps m =
     ((transitions ≡ []) × (m ≡ negsuc 9223372036854775807))
-    ⊎ ((last : Transition) × IsLast transitions last × IsMomentOf leaps last.unix_leap_time m)
+    ⊎ ((last : Transition) × IsLast transitions last × IsWideEffect leaps last.unix_leap_time m)
 
 -- an instant lies at a place; without transitions it may have no leap time
 abbrev pub LiesAt : Zone → ℤ → ℕ → Type 0
@@ -36,6 +36,6 @@ pub record IsRunStart (z : Zone) (k start : ℕ) (m : ℤ) : Type 0 where
   pub up_to : start ≤ k
   pub change : Transition
   pub change_is : slice_get z.transitions (start - 1) ≡ Some change
-  pub effect : IsMomentOf z.leap_seconds change.unix_leap_time m
+  pub effect : IsWideEffect z.leap_seconds change.unix_leap_time m
   pub types : k < length z.transitions → (t : LocalTimeType) × ((i : ℕ) → start ≤ i → i ≤ k → IsTypeOfLast z i t)
   pub all : k ≡ length z.transitions → start ≡ k

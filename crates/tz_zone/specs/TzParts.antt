@@ -2,9 +2,9 @@
 use Rattle.std.specs.Prelude.{◌≡◌, ◌+◌, ◌*◌, length}
 use Rattle.std.specs.Int.{Width, w32, w64, byte_len}
 use Rattle.tz_zone.specs.TzFile.{Counts, Block, Part, transitions_of, types_of, leaps_of}
-use Rattle.tz_zone.specs.declared.parse.tz_file.Tables.{Tables}
+use Rattle.tz_zone.specs.declared.parse.tz_file.tables.Tables.{Tables}
 use Rattle.tz_zone.specs.declared.parse.tz_file.block.Block.{Block as BlockSlices}
-use Rattle.tz_zone.specs.declared.parse.tz_file.block.Part.{Part as PartSlices}
+use Rattle.tz_zone.specs.declared.parse.tz_file.block.Unit.{Unit as UnitSlices}
 use Rattle.tz_zone.specs.declared.parse.tz_file.header.Counts.{Counts as CountFields}
 use Rattle.tz_zone.specs.declared.parse.tz_file.number.TimeSize.{TimeSize}
 use Rattle.tz_zone.specs.declared.parse.tz_file.number.TimeSize.TheVariants.{Four, Eight}
@@ -37,8 +37,8 @@ block_view b = record {
   ut_locals = b.ut_locals.now;
 }
 
-abbrev pub part_view : PartSlices → Part
-part_view p = record { width = width_of p.size; version = p.version; counts = counts_view p.counts; block = block_view p.block; after = p.after.now }
+abbrev pub unit_view : UnitSlices → Part
+unit_view p = record { width = width_of p.size; version = p.version; counts = counts_view p.counts; block = block_view p.block; after = p.after.now }
 
 -- each table of a block with these counts has its records whole
 pub record HasSizes (w : Width) (n : Counts) (block : Block) : Type 0 where
@@ -47,7 +47,7 @@ pub record HasSizes (w : Width) (n : Counts) (block : Block) : Type 0 where
   pub types : length block.types ≡ n.local_type * 6
   pub leaps : length block.leaps ≡ n.leap * (byte_len w + 4)
 
-abbrev pub IsSized : PartSlices → Type 0
+abbrev pub IsSized : UnitSlices → Type 0
 IsSized p = HasSizes (width_of p.size) (counts_view p.counts) (block_view p.block)
 
 -- the tables of the part

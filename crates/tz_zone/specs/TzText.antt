@@ -13,15 +13,15 @@ use Rattle.tz_rule.specs.declared.timezone.rule_day.RuleDay.TheVariants.{Julian1
 use Rattle.tz_rule.specs.declared.timezone.rule.TransitionRule.{TransitionRule}
 use Rattle.tz_rule.specs.declared.timezone.rule.TransitionRule.TheVariants.{Fixed, Alternate as Alternating}
 use Rattle.tz_zone.specs.Bytes.{capital_j, capital_m, closing_bracket, colon, comma, dot, minus_sign, opening_bracket, plus_sign, slash}
-use Rattle.tz_zone.specs.declared.parse.tz_string.day.DayAndTime.{DayAndTime}
+use Rattle.tz_zone.specs.declared.parse.tz_string.switch.DayAndTime.{DayAndTime}
 use Rattle.tz_zone.specs.declared.parse.tz_string.time.WrittenTime.{WrittenTime}
 
 -- a time as it is written, and a day with a time: the reader's own types, which the crates above name so
 abbrev pub TimeText : Type 0
 TimeText = WrittenTime
 
-abbrev pub TurnText : Type 0
-TurnText = DayAndTime
+abbrev pub SwitchText : Type 0
+SwitchText = DayAndTime
 
 -- the byte stands at the front
 abbrev pub Begins : ℕ → List ℕ → Type 0

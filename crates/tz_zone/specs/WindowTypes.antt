@@ -4,8 +4,8 @@ use Rattle.tz_rule.specs.LocalTimeType.{LocalTimeType}
 use Rattle.tz_zone.specs.Table.{Zone}
 use Rattle.tz_zone.specs.LeapTime.{IsLeapTimeRefused}
 use Rattle.tz_zone.specs.Runs.{LiesAt}
-use Rattle.tz_zone.specs.declared.clock.window.WindowTypes.{WindowTypes}
-use Rattle.tz_zone.specs.declared.clock.window.WindowTypes.TheVariants.{One, Two, More}
+use Rattle.tz_zone.specs.declared.clock.window_types.WindowTypes.{WindowTypes}
+use Rattle.tz_zone.specs.declared.clock.window_types.WindowTypes.TheVariants.{One, Two, More}
 
 -- a clock has one type from the first instant up to the last one, or two with a jump between them
 abbrev pub AreTypesIn : (ℤ → LocalTimeType → Type 0) → ℤ → ℤ → WindowTypes → Type 0

@@ -1,9 +1,8 @@
 //! For the crates above and their tests, and no part of the public surface: the clock of a zone over a view of its transitions, leap times, and what
 //! is read of a zone.
 
-pub use crate::clock::{
-    ClockSegment, Span, Stage, WindowTypes, clock_segment_at, first_stage, span_from, window_types,
-};
+pub use crate::clock::window_types::{WindowTypes, window_types};
+pub use crate::clock::{Span, Stage, clock_segment_at, first_stage, span_from};
 pub use crate::effect::effect;
 pub use crate::leap_time::leap;
 pub use crate::parse::tz_file::sizes::{FileSizes, file_sizes};

@@ -1,78 +1,23 @@
 //! Leap times. (RFC 8536, section 2)
 
-ghost use Rattle.std.specs.Prelude.{◌≡◌, ◌<◌, ◌≤◌, ◌+◌, ◌+ℤ◌, ◌≤ℤ◌, ◌<ℤ◌, ◌-ℤ◌, ◌⊎◌, ℕ, length, slice_get, ℤ, pos, negsuc, IfOk, IfErr, IfSome, IfNone, MatchBool, MatchOption, Some};
+ghost use Rattle.std.specs.Prelude.{◌≡◌, ◌<◌, ◌≤◌, ◌+◌, ◌+ℤ◌, ◌≤ℤ◌, ◌<ℤ◌, ◌-ℤ◌, ℕ, length, slice_get, ℤ, pos, negsuc, IfOk, IfErr, MatchBool, MatchOption, Some};
 ghost use Rattle.std.specs.Bool.{OnTrue};
 ghost use Rattle.tz_zone.specs.Table.{LeapSecond};
-ghost use Rattle.tz_zone.specs.LeapTime.{IsInstant, IsStart, correction_at_start as correction_of_start, correction_before as correction_at_place, IsReached, IsBeforeStart, IsPastInstants, IsLeapTimeRefused, IsLeapTime};
-ghost use Rattle.tz_zone.specs.ValidZone.{AreLeapSeconds, HasBegunAt, ExpiresAt, IsPlainTable};
+ghost use Rattle.tz_zone.specs.LeapTime.{IsInstant, IsReached, IsBeforeStart, IsPastInstants, IsLeapTimeRefused, IsLeapTime};
+ghost use Rattle.tz_zone.specs.ValidZone.{AreLeapSeconds};
 
+use crate::leap_table::{correction_at_start, correction_before, truncated_start};
 use crate::table::LeapSecond;
 use tz_base::error::TzError;
 
 /// Up to this instant no correction takes a leap time out of 64 bits, whatever the leap seconds.
-const SURELY_ANSWERED: i64 = 80_000_000_000_000_000;
-
-/// The truncated start: a first record whose correction is not one second, with which the table begins.
-pub(crate) fn truncated_start(leap_seconds: &[LeapSecond]) -> Option<&LeapSecond>
-    ensures { MatchOption result ((l : LeapSecond) → ¬ IsStart leap_seconds.now l) (λ l. IsStart leap_seconds.now l.now) }
-{
-    let first = leap_seconds.first()?;
-    let correction = first.correction();
-    if correction == 1 || correction == -1 {
-        return None;
-    }
-    Some(first)
-}
-
-/// The correction before the first place of the list: 0, but the first one's own at a truncated start.
-fn correction_at_start(leap_seconds: &[LeapSecond]) -> i32
-    ensures { result ≡ correction_of_start (slice_get leap_seconds.now 0) }
-{
-    match truncated_start(leap_seconds) {
-        Some(start) => start.correction(),
-        None => 0,
-    }
-}
+const ALWAYS_DEFINED_UP_TO: i64 = 80_000_000_000_000_000;
 
 /// A time less a correction.
 pub(crate) fn less(time: i64, correction: i32) -> i128
     ensures { result ≡ time -ℤ correction }
 {
     i128::from(time) - i128::from(correction)
-}
-
-/// The correction before a place of the list.
-pub(crate) fn correction_before(leap_seconds: &[LeapSecond], place: usize) -> i32
-    requires { place ≤ length leap_seconds.now }
-    ensures { result ≡ correction_at_place leap_seconds.now place }
-{
-    if place == 0 {
-        return correction_at_start(leap_seconds);
-    }
-    leap_seconds[place - 1].correction()
-}
-
-/// The leap time at which the table expires: that of a last record with the correction before it.
-pub(crate) fn expiry(leap_seconds: &[LeapSecond]) -> Option<i64>
-    ensures some { IfSome result (ExpiresAt leap_seconds.now) }
-    ensures none { IfNone result ((time : ℤ) → ¬ ExpiresAt leap_seconds.now time) }
-{
-    if leap_seconds.len() < 2 {
-        return None;
-    }
-    let before = &leap_seconds[leap_seconds.len() - 2];
-    let last = &leap_seconds[leap_seconds.len() - 1];
-    if last.correction() != before.correction() {
-        return None;
-    }
-    Some(last.unix_leap_time())
-}
-
-/// Whether the table begins with its first leap second and does not expire, as in files before version 4.
-pub(crate) fn is_plain_table(leap_seconds: &[LeapSecond]) -> bool
-    ensures { MatchBool result (IsPlainTable leap_seconds.now) (¬ IsPlainTable leap_seconds.now) }
-{
-    truncated_start(leap_seconds).is_none() && expiry(leap_seconds).is_none()
 }
 
 /// The first instant that does not lie before a truncated start, which may lie past 64 bits, or the least instant where there is none.
@@ -93,13 +38,18 @@ pub(crate) fn has_begun(leap_seconds: &[LeapSecond], unix_time: i64) -> bool
     first_instant(leap_seconds) <= i128::from(unix_time)
 }
 
-/// Whether a truncated start is reached at the leap time.
-pub(crate) fn has_begun_at(leap_seconds: &[LeapSecond], unix_leap_time: i64) -> bool
-    ensures { MatchBool result (HasBegunAt leap_seconds.now unix_leap_time) (¬ HasBegunAt leap_seconds.now unix_leap_time) }
+/// The first instant from another one on that does not lie before a truncated start, if there is one.
+#[inline(always)]
+pub(crate) fn first_begun(leap_seconds: &[LeapSecond], unix_time: i64) -> Option<i64>
+    ensures { MatchOption result ((u : ℤ) → unix_time ≤ℤ u → u ≤ℤ pos 9223372036854775807 → IsBeforeStart leap_seconds.now u)
+        (λ first. (unix_time ≤ℤ first) × (¬ IsBeforeStart leap_seconds.now first) × ((u : ℤ) → unix_time ≤ℤ u → u <ℤ first → IsBeforeStart leap_seconds.now u)) }
 {
-    match truncated_start(leap_seconds) {
-        Some(start) => start.unix_leap_time() <= unix_leap_time,
-        None => true,
+    if has_begun(leap_seconds, unix_time) {
+        return Some(unix_time);
+    }
+    match i64::try_from(first_instant(leap_seconds)) {
+        Ok(first) => Some(first),
+        Err(_) => None,
     }
 }
 
@@ -219,7 +169,7 @@ pub(crate) fn last_instant_up_to(leap_seconds: &[LeapSecond], high: i64) -> i64
     ensures within { (u : ℤ) → u ≤ℤ result → ¬ IsPastInstants leap_seconds.now u }
     ensures past { (u : ℤ) → result <ℤ u → u ≤ℤ high → IsPastInstants leap_seconds.now u }
 {
-    if high <= SURELY_ANSWERED {
+    if high <= ALWAYS_DEFINED_UP_TO {
         return high;
     }
     last_with_all(leap_seconds, high)
@@ -245,7 +195,7 @@ pub(crate) fn has_leap_time(leap_seconds: &[LeapSecond], unix_time: i64) -> bool
 /// The leap time of an instant that has one.
 pub(crate) fn shifted(leap_seconds: &[LeapSecond], unix_time: i64) -> i64
     requires leaps { AreLeapSeconds leap_seconds.now }
-    requires answered { ¬ IsLeapTimeRefused leap_seconds.now unix_time }
+    requires defined { ¬ IsLeapTimeRefused leap_seconds.now unix_time }
     ensures { IsLeapTime leap_seconds.now unix_time result }
 {
     let reached = leap_seconds_reached(leap_seconds, unix_time);
@@ -304,7 +254,7 @@ pub(crate) fn stay_before(
     requires low { IsLeapTime leap_seconds.now low low_leap_time }
     ensures { OnTrue result ((u : ℤ) → low ≤ℤ u → u ≤ℤ high → (v : ℤ) × IsLeapTime leap_seconds.now u v × (v <ℤ unix_leap_time)) }
 {
-    if high > SURELY_ANSWERED {
+    if high > ALWAYS_DEFINED_UP_TO {
         return false;
     }
     let seconds = i128::from(high) - i128::from(low);

@@ -5,6 +5,7 @@ mod clock;
 mod effect;
 pub mod inner;
 pub mod laws;
+mod leap_table;
 mod leap_time;
 mod parse;
 mod table;

@@ -6,7 +6,7 @@ ghost use Rattle.tz_zone.specs.Clock.{IsTypeAfter, IsTypeAfterTable};
 ghost use Rattle.tz_zone.specs.TableChanges.{IsChangeByRule};
 ghost use Rattle.tz_zone.specs.ZoneSeen.{zone_seen};
 
-use super::segment::ClockSegment;
+use super::segment::Segment;
 use crate::table::OtherParts;
 use tz_base::error::TzError;
 use tz_rule::timezone::LocalTimeType;
@@ -14,11 +14,7 @@ use tz_rule::timezone::LocalTimeType;
 /// The segment around an instant of a clock whose transitions are all reached, or of one that has none: that of the extra rule. Without a rule
 /// there is no type, and type number 0 if there are no transitions.
 #[inline(always)]
-pub(super) fn after_table<'a>(
-    parts: OtherParts<'a>,
-    is_empty: bool,
-    unix_time: i64,
-) -> ClockSegment<'a>
+pub(super) fn after_table<'a>(parts: OtherParts<'a>, is_empty: bool, unix_time: i64) -> Segment<'a>
     requires { parts.local_time_types.now ≢ [] }
     ensures within { (result.from ≤ℤ unix_time) × (unix_time ≤ℤ result.last) }
     ensures holds { (v : ℤ) → result.from ≤ℤ v → v ≤ℤ result.last
@@ -28,7 +24,7 @@ pub(super) fn after_table<'a>(
     ensures last { result.last ≢ pos 9223372036854775807 → IsChangeByRule (zone_seen [] parts.entry).extra_rule (result.last +ℤ pos 1) }
 {
     let Some(rule) = parts.extra_rule.lent() else {
-        return ClockSegment {
+        return Segment {
             from: i64::MIN,
             last: i64::MAX,
             local_time_type: if is_empty {
@@ -39,7 +35,7 @@ pub(super) fn after_table<'a>(
         };
     };
     let segment = tz_rule::inner::segment_at(rule, unix_time);
-    ClockSegment {
+    Segment {
         from: segment.from,
         last: segment.last,
         local_time_type: segment.local_time_type,

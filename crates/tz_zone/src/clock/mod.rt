@@ -2,22 +2,18 @@
 
 mod after_table;
 mod change;
-mod changes_after;
-mod changes_before;
-mod changes_by_rule;
+mod following;
+mod likely_place;
 mod lookup;
-mod near;
 mod place;
+mod preceding;
 mod segment;
-mod segments;
 mod spans;
-mod window;
+pub mod window_types;
 
 pub use change::Change;
-pub use changes_after::{change_after_last, following, following_near};
-pub use changes_before::{change_before_next, preceding, preceding_near};
+pub use following::{change_after_last, find_following, following_near};
 pub use lookup::find_local_time_type;
-pub use segment::ClockSegment;
-pub use segments::clock_segment_at;
+pub use preceding::{change_before_next, find_preceding, preceding_near};
+pub use segment::{Segment, clock_segment_at};
 pub use spans::{Span, Stage, first_stage, span_from};
-pub use window::{WindowTypes, window_types};

@@ -1,26 +1,24 @@
 //! Transitions, leap seconds and time zones.
 
-mod changes_after;
-mod changes_before;
-mod checks;
+mod change_iterators;
 pub(crate) mod file_reader;
+mod file_search;
 mod offsets;
-mod segment;
 mod settings;
 mod zone;
 mod zone_changes;
+mod zone_checks;
 mod zone_name;
 mod zone_of_file;
+mod zone_of_text;
 pub(crate) mod zone_parts;
 mod zone_ref;
 pub(crate) mod zone_view;
 
-pub use crate::clock::Change;
+pub use crate::clock::{Change, Segment};
 pub use crate::table::{LeapSecond, Transition};
-pub use changes_after::ChangesAfter;
-pub use changes_before::ChangesBefore;
+pub use change_iterators::{ChangesAfter, ChangesBefore};
 pub use file_reader::{read_file, read_file_up_to};
-pub use segment::Segment;
 pub use settings::{DEFAULT_DIRECTORIES, TimeZoneSettings};
 pub use tz_rule::timezone::{
     AlternateTime, Julian0WithLeap, Julian1WithoutLeap, LocalTimeType, MonthWeekDay, RuleDay,

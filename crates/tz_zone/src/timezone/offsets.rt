@@ -8,30 +8,31 @@ ghost use Rattle.tz_zone.specs.Offsets.{IsOffsetOfTypes, IsOffsetOfRule, IsLeast
 use super::LocalTimeType;
 use tz_rule::inner::RuleRef;
 
-/// The least offset of the types.
-fn least_offset(local_time_types: &[LocalTimeType]) -> i32
-    requires { 0 < length local_time_types.now }
-    ensures of_type { IsOffsetOfTypes local_time_types.now result }
-    ensures least { (o : ℤ) → IsOffsetOfTypes local_time_types.now o → result ≤ℤ o }
+/// Two offsets, moved apart until another one lies between them, and no further.
+#[inline(always)]
+fn with_offset(least: i32, greatest: i32, offset: i32) -> (i32, i32)
+    ensures least { result.0 ≤ℤ least }
+    ensures greatest { greatest ≤ℤ result.1 }
+    ensures between { (result.0 ≤ℤ offset) × (offset ≤ℤ result.1) }
+    ensures exact { ((result.0 ≡ least) ⊎ (result.0 ≡ offset)) × ((result.1 ≡ greatest) ⊎ (result.1 ≡ offset)) }
 {
-    let mut least = local_time_types[0].ut_offset();
-    for local_time_type in local_time_types {
-        least = least.min(local_time_type.ut_offset());
-    }
-    least
+    (least.min(offset), greatest.max(offset))
 }
 
-/// The greatest offset of the types.
-fn greatest_offset(local_time_types: &[LocalTimeType]) -> i32
+/// The least and the greatest offset of the types.
+fn offsets_of_types(local_time_types: &[LocalTimeType]) -> (i32, i32)
     requires { 0 < length local_time_types.now }
-    ensures of_type { IsOffsetOfTypes local_time_types.now result }
-    ensures greatest { (o : ℤ) → IsOffsetOfTypes local_time_types.now o → o ≤ℤ result }
+    ensures of_types { IsOffsetOfTypes local_time_types.now result.0 × IsOffsetOfTypes local_time_types.now result.1 }
+    ensures between { (o : ℤ) → IsOffsetOfTypes local_time_types.now o → (result.0 ≤ℤ o) × (o ≤ℤ result.1) }
 {
-    let mut greatest = local_time_types[0].ut_offset();
+    let first = local_time_types[0].ut_offset();
+    let (mut least, mut greatest) = (first, first);
     for local_time_type in local_time_types {
-        greatest = greatest.max(local_time_type.ut_offset());
+        let ends = with_offset(least, greatest, local_time_type.ut_offset());
+        least = ends.0;
+        greatest = ends.1;
     }
-    greatest
+    (least, greatest)
 }
 
 /// Two offsets, moved apart until those of the rule lie between them, and no further.
@@ -43,13 +44,11 @@ fn with_rule(rule: RuleRef<'_>, least: i32, greatest: i32) -> (i32, i32)
 {
     match rule {
         RuleRef::Fixed(local_time_type) => {
-            let offset = local_time_type.ut_offset();
-            (least.min(offset), greatest.max(offset))
+            with_offset(least, greatest, local_time_type.ut_offset())
         }
         RuleRef::Alternate(rule) => {
-            let std = rule.std().ut_offset();
-            let dst = rule.dst().ut_offset();
-            (least.min(std).min(dst), greatest.max(std).max(dst))
+            let with_std = with_offset(least, greatest, rule.std().ut_offset());
+            with_offset(with_std.0, with_std.1, rule.dst().ut_offset())
         }
     }
 }
@@ -63,8 +62,7 @@ pub(super) fn offsets(
     ensures least { IsLeastOffset local_time_types.now (lent_rule extra_rule.entry) result.0 }
     ensures greatest { IsGreatestOffset local_time_types.now (lent_rule extra_rule.entry) result.1 }
 {
-    let least = least_offset(local_time_types);
-    let greatest = greatest_offset(local_time_types);
+    let (least, greatest) = offsets_of_types(local_time_types);
     match extra_rule {
         Some(rule) => with_rule(rule, least, greatest),
         None => (least, greatest),

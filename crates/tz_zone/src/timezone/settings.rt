@@ -1,21 +1,17 @@
 //! Settings by which the time zone of a string is found.
 
-ghost use Rattle.std.specs.Prelude.{◌≡◌, ◌⊎◌, ◌∷◌, map, Ok, Err, IfOk, IfErr, IfSome, MatchOption, MatchResult, IsTrue, ◌↔◌, alloc_error};
-ghost use Rattle.std.specs.String.{string_bytes};
+ghost use Rattle.std.specs.Prelude.{◌≡◌, ◌⊎◌, ◌∷◌, map, Ok, Err, MatchOption, MatchResult, IsTrue, ◌↔◌, alloc_error};
 ghost use Rattle.tz_base.specs.declared.error.Error.TheVariants.{Tz};
-ghost use Rattle.tz_base.specs.declared.error.ReadFault.TheVariants.{Memory};
 ghost use Rattle.tz_base.specs.declared.error.TzError.TheVariants.{Memory as NoMemory};
-ghost use Rattle.tz_zone.specs.Bytes.{colon, slash};
-ghost use Rattle.tz_zone.specs.Settings.{path_in, IsFileAnswer, Opens, IsTextAnswer, rule_zone, local_time};
+ghost use Rattle.tz_zone.specs.Bytes.{colon};
+ghost use Rattle.tz_zone.specs.Settings.{IsFileAnswer, Opens, local_time};
 ghost use Rattle.tz_zone.specs.TzText.{Begins};
 ghost use Rattle.tz_zone.specs.ZoneRef.{own_zone_of};
 
+use super::TimeZone;
 use super::zone_name::{is_zone_name, no_such_zone, not_a_name};
-use super::{LocalTimeType, TimeZone, TransitionRule};
-use crate::parse::tz_string;
-use anyhow::anyhow;
-use arrayvec::ArrayString;
-use std::alloc::{AllocError, Allocator, Global};
+use super::zone_of_text::zone_of_text;
+use std::alloc::{Allocator, Global};
 use tz_base::error::parse::TzStringError;
 use tz_base::error::{Error, ReadFault, TzError};
 
@@ -29,9 +25,6 @@ pub const DEFAULT_DIRECTORIES: &[&str] = &[
 /// The file of the machine's local time.
 const LOCAL_TIME_FILE: &str = "/etc/localtime";
 
-/// How long a path may be that needs no memory: those of the names of the time zone database are shorter.
-const USUAL_LEN: usize = 96;
-
 /// Whether the string means the machine's local time.
 fn is_local_time(text: &str) -> bool
     ensures { IsTrue result ↔ (text.now ≡ local_time) }
@@ -44,48 +37,6 @@ fn after_colon(text: &str) -> Option<&str>
     ensures { MatchOption result (¬ Begins colon text.now) (λ name. text.now ≡ colon ∷ name.now) }
 {
     text.strip_prefix(':')
-}
-
-/// Whether the name is a path of its own.
-fn is_absolute(name: &str) -> bool
-    ensures { IsTrue result ↔ Begins slash name.now }
-{
-    matches!(name.as_bytes(), [b'/', ..])
-}
-
-/// Writes the path of a name in a directory into the room of usual paths, and returns it, or `None` where the room is too short.
-#[inline(always)]
-fn usual_path<'p>(
-    room: &'p mut ArrayString<USUAL_LEN>,
-    directory: &str,
-    name: &str,
-) -> Option<&'p str>
-    ensures { IfSome result (λ path. path.now ≡ path_in directory.now name.now) }
-{
-    room.clear();
-    if room.try_push_str(directory).is_err()
-        || room.try_push_str("/").is_err()
-        || room.try_push_str(name).is_err()
-    {
-        return None;
-    }
-    Some(room.as_str())
-}
-
-/// The path of a name in a directory, in memory.
-#[inline(never)]
-fn long_path<A: Allocator + Copy>(
-    alloc: A,
-    directory: &str,
-    name: &str,
-) -> Result<String<A>, AllocError>
-    ensures { IfOk result (λ path. string_bytes path ≡ path_in directory.now name.now) }
-{
-    let mut path = String::with_capacity(alloc, directory.len() + 1 + name.len())?;
-    path.push_str(directory)?;
-    path.push_str("/")?;
-    path.push_str(name)?;
-    Ok(path)
 }
 
 /// The zone of the bytes of a file.
@@ -113,54 +64,22 @@ fn zone_of_found<A: Allocator + Copy>(
     }
 }
 
-/// The types of a rule.
-fn types_of<A: Allocator + Copy>(
-    alloc: A,
-    rule: &TransitionRule,
-) -> Result<Vec<LocalTimeType, A>, TzError>
-    ensures ok { IfOk result (λ types. types.items ≡ (rule_zone rule.now).types) }
-    ensures err { IfErr result (λ e. e ≡ NoMemory alloc_error) }
-{
-    match rule {
-        TransitionRule::Fixed(local_time_type) => Ok(Vec::from_array(alloc, [*local_time_type])?),
-        TransitionRule::Alternate(rule) => Ok(Vec::from_array(alloc, [*rule.std(), *rule.dst()])?),
-    }
-}
-
-/// The zone of a rule.
-fn zone_of_rule<A: Allocator + Copy>(alloc: A, rule: TransitionRule) -> Result<TimeZone<A>, TzError>
-    ensures ok { IfOk result (λ zone. own_zone_of zone ≡ rule_zone rule) }
-    ensures err { IfErr result (λ e. e ≡ NoMemory alloc_error) }
-{
-    let types = types_of(alloc, &rule)?;
-    TimeZone::new(Vec::new(alloc), types, Vec::new(alloc), Some(rule))
-}
-
-/// The zone of a TZ string, with white space at its ends or without.
-fn zone_of_text<A: Allocator + Copy>(alloc: A, text: &str) -> Result<TimeZone<A>, Error>
-    ensures { MatchResult result (λ zone. IsTextAnswer text.now (Ok (own_zone_of zone))) (λ e. (e ≡ Tz (NoMemory alloc_error)) ⊎ IsTextAnswer text.now (Err e)) }
-{
-    let rule = tz_string::parse_posix_tz(text.as_bytes().trim_ascii(), false)?;
-    Ok(zone_of_rule(alloc, rule)?)
-}
-
 /// How a time zone is found: the directories of files, and the function that reads one.
 ///
 /// The function returns the bytes of the file at a path. It is called with each path in turn until it returns bytes or
 /// `ReadFault::Memory`.
 #[derive(Drop)]
 pub struct TimeZoneSettings<'a, F> {
-    directories: &'a [&'a str],
-    reader: F,
+    pub(super) directories: &'a [&'a str],
+    pub(super) reader: F,
 }
 
 impl<'a, F: Fn(&str) -> Result<Vec<u8>, ReadFault>> TimeZoneSettings<'a, F> {
-    ghost use Rattle.anyhow.specs.declared.error.Error.{Error as Fault};
     ghost use Rattle.std.specs.Fn.{FnReturnsAt};
     ghost use Rattle.tz_base.specs.declared.error.ReadFault.TheVariants.{Failed};
-    ghost use Rattle.tz_zone.specs.Settings.{FindsIn, Finds, IsLocalAnswer, IsNamedAnswer, IsNamedOrTextAnswer, IsSettingsAnswer, texts_of};
+    ghost use Rattle.tz_zone.specs.Settings.{IsLocalAnswer, IsNamedAnswer, IsNamedOrTextAnswer, IsSettingsAnswer, texts_of};
     ghost use Rattle.tz_zone.specs.SettingsParts.{directories_of, reader_of};
-    ghost use Rattle.tz_zone.specs.ZoneNames.{IsCallableAt, IsPathIn, IsPathOfName, IsZoneNameAnswer};
+    ghost use Rattle.tz_zone.specs.ZoneNames.{IsCallableAt, IsPathOfName, IsZoneNameAnswer};
 
     /// The settings with these directories, and with this function that reads a file.
     pub fn new(directories: &'a [&'a str], reader: F) -> Self
@@ -171,103 +90,6 @@ impl<'a, F: Fn(&str) -> Result<Vec<u8>, ReadFault>> TimeZoneSettings<'a, F> {
             directories,
             reader,
         }
-    }
-
-    /// What the reader returns for the path.
-    fn read(&self, path: &str) -> Result<Vec<u8>, ReadFault>
-        requires { IsCallableAt F.Fn (reader_of self.now) (λ asked. asked ≡ path.now) }
-        ensures { FnReturnsAt F.Fn (reader_of self.now) path.now result }
-    {
-        (self.reader)(path)
-    }
-
-    /// The file at the path, or `None` if it cannot be read. The reader's fault is dropped at once.
-    #[inline(always)]
-    fn read_if_there(&self, path: &str) -> Result<Option<Vec<u8>>, AllocError>
-        requires { IsCallableAt F.Fn (reader_of self.now) (λ asked. asked ≡ path.now) }
-        ensures { IfOk result (λ found. MatchOption found
-            ((fault : Fault) × FnReturnsAt F.Fn (reader_of self.now) path.now (Err (Failed fault)))
-            (λ bytes. FnReturnsAt F.Fn (reader_of self.now) path.now (Ok bytes))) }
-    {
-        match self.read(path) {
-            Ok(bytes) => Ok(Some(bytes)),
-            Err(ReadFault::Memory(error)) => Err(error),
-            Err(ReadFault::Failed(_)) => Ok(None),
-        }
-    }
-
-    /// The file with the name in the directory, or `None` if it cannot be read.
-    #[inline(always)]
-    fn find_in_directory<A: Allocator + Copy>(
-        &self,
-        alloc: A,
-        room: &mut ArrayString<USUAL_LEN>,
-        directory: &str,
-        name: &str,
-    ) -> Result<Option<Vec<u8>>, AllocError>
-        requires { IsCallableAt F.Fn (reader_of self.now) (λ asked. asked ≡ path_in directory.now name.now) }
-        ensures { IfOk result (λ found. MatchOption found
-            ((fault : Fault) × FnReturnsAt F.Fn (reader_of self.now) (path_in directory.now name.now) (Err (Failed fault)))
-            (λ bytes. FnReturnsAt F.Fn (reader_of self.now) (path_in directory.now name.now) (Ok bytes))) }
-    {
-        if let Some(path) = usual_path(room, directory, name) {
-            return self.read_if_there(path);
-        }
-        let path = long_path(alloc, directory, name)?;
-        self.read_if_there(path.as_str())
-    }
-
-    /// The file with the name in the first of the directories that has it, or `None` where none has it.
-    fn find_in_directories<A: Allocator + Copy>(
-        &self,
-        alloc: A,
-        name: &str,
-    ) -> Result<Option<Vec<u8>>, AllocError>
-        requires { IsCallableAt F.Fn (reader_of self.now) (IsPathIn (directories_of self.now) name.now) }
-        ensures { IfOk result (λ found. MatchOption found
-            ((fault : Fault) → FindsIn (FnReturnsAt F.Fn (reader_of self.now)) (directories_of self.now) name.now (Err (Failed fault)))
-            (λ bytes. FindsIn (FnReturnsAt F.Fn (reader_of self.now)) (directories_of self.now) name.now (Ok bytes))) }
-    {
-        let mut room = ArrayString::new();
-        for directory in self.directories {
-            let found = self.find_in_directory(alloc, &mut room, directory, name)?;
-            if let Some(bytes) = found {
-                return Ok(Some(bytes));
-            }
-        }
-        Ok(None)
-    }
-
-    /// The file with the name.
-    fn find<A: Allocator + Copy>(&self, alloc: A, name: &str) -> Result<Vec<u8>, ReadFault>
-        requires { F.IsAlwaysCallable (reader_of self.now) }
-        ensures { (result ≡ Err (Memory alloc_error)) ⊎ Finds (FnReturnsAt F.Fn (reader_of self.now)) (directories_of self.now) name.now result }
-    {
-        if is_absolute(name) {
-            return self.read(name);
-        }
-        let found = self.find_in_directories(alloc, name)?;
-        match found {
-            Some(bytes) => Ok(bytes),
-            None => Err(ReadFault::Failed(anyhow!("file was not found"))),
-        }
-    }
-
-    /// The file with the name, or `None` if it cannot be read. No text is made for an error that nobody sees.
-    fn find_readable<A: Allocator + Copy>(
-        &self,
-        alloc: A,
-        name: &str,
-    ) -> Result<Option<Vec<u8>>, AllocError>
-        requires { F.IsAlwaysCallable (reader_of self.now) }
-        ensures { IfOk result (λ found. MatchOption found
-            ((fault : Fault) × Finds (FnReturnsAt F.Fn (reader_of self.now)) (directories_of self.now) name.now (Err (Failed fault)))
-            (λ bytes. Finds (FnReturnsAt F.Fn (reader_of self.now)) (directories_of self.now) name.now (Ok bytes))) }
-    {
-        if !is_absolute(name) {
-            return self.find_in_directories(alloc, name);
-        }
-        self.read_if_there(name)
     }
 
     /// The machine's local time zone, from `/etc/localtime`.

@@ -4,8 +4,8 @@ ghost use Rattle.tz_zone.specs.Offsets.{AreEndOffsets};
 ghost use Rattle.tz_zone.specs.Table.{zone_with};
 ghost use Rattle.tz_zone.specs.ValidZone.{IsSoundTable, IsSoundTable-prop, IsValidZone};
 
-use super::checks::check_read_parts;
 use super::offsets::offsets;
+use super::zone_checks::check_read_parts;
 use super::{LeapSecond, LocalTimeType, TimeZoneRef, Transition, TransitionRule};
 use crate::table::lent;
 use std::alloc::{Allocator, Global};

@@ -2,7 +2,7 @@
 
 use super::zone_parts::other_parts;
 use super::{Change, ChangesAfter, ChangesBefore, Segment, TimeZone, TimeZoneRef};
-use crate::clock;
+use crate::clock::{self, find_following, find_preceding};
 use crate::table::Uncounted;
 use std::alloc::Allocator;
 
@@ -40,8 +40,7 @@ impl<'a> TimeZoneRef<'a> {
         ensures ends { HasTableEnds (zone_of self.now) (segment_of result).from (segment_of result).last }
     {
         let mut view = Uncounted::new(self.transitions());
-        let segment = clock::clock_segment_at(&mut view, other_parts(self), unix_time);
-        Segment::new(segment.from, segment.last, segment.local_time_type)
+        clock::clock_segment_at(&mut view, other_parts(self), unix_time)
     }
 
     /// The first change after an instant, in Unix seconds, or `None` if the clock does not change any more. Does not allocate.
@@ -67,7 +66,7 @@ impl<'a> TimeZoneRef<'a> {
     pub fn following(&self, unix_time: i64) -> Option<Change<'a>>
         ensures { MatchOption result (HasNoFollowing (zone_of self.now) unix_time) (λ c. IsFollowing (zone_of self.now) unix_time (change_of c)) }
     {
-        let (change, _) = clock::following(self.transitions(), other_parts(self), unix_time, None)?;
+        let (change, _) = find_following(self.transitions(), other_parts(self), unix_time, None)?;
         Some(change)
     }
 
@@ -114,7 +113,7 @@ impl<'a> TimeZoneRef<'a> {
     pub fn preceding(&self, unix_time: i64) -> Option<Change<'a>>
         ensures { MatchOption result (HasNoPreceding (zone_of self.now) unix_time) (λ c. IsPreceding (zone_of self.now) unix_time (change_of c)) }
     {
-        let (change, _) = clock::preceding(self.transitions(), other_parts(self), unix_time, None)?;
+        let (change, _) = find_preceding(self.transitions(), other_parts(self), unix_time, None)?;
         Some(change)
     }
 

@@ -8,8 +8,9 @@ ghost use Rattle.tz_zone.specs.Table.{Zone};
 
 use super::TimeZone;
 use crate::parse::tz_file::footer::read_extra_rule;
+use crate::parse::tz_file::frame::read_frame;
+use crate::parse::tz_file::tables::read_tables;
 use crate::parse::tz_file::version::may_hold;
-use crate::parse::tz_file::{read_frame, read_tables};
 use std::alloc::Allocator;
 use tz_base::error::TzError;
 use tz_base::error::timezone::TimeZoneError;
@@ -52,9 +53,9 @@ fn parse_tz_file<A: Allocator + Copy>(alloc: A, bytes: &[u8]) -> Result<TimeZone
     ensures err { IfErr result (IsReadFault bytes.now) }
 {
     let frame = read_frame(bytes)?;
-    let tables = read_tables(alloc, &frame.part)?;
-    let extra_rule = read_extra_rule(frame.footer, frame.part.is_extended())?;
-    if !may_hold(frame.part.version, &tables.leap_seconds) {
+    let tables = read_tables(alloc, &frame.unit)?;
+    let extra_rule = read_extra_rule(frame.footer, frame.unit.is_extended())?;
+    if !may_hold(frame.unit.version, &tables.leap_seconds) {
         return Err(TzError::TimeZone(TimeZoneError::InvalidLeapSecond));
     }
     TimeZone::from_read_parts(

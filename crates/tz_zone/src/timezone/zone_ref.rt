@@ -5,12 +5,12 @@ ghost use Rattle.tz_zone.specs.Offsets.{AreEndOffsets};
 ghost use Rattle.tz_zone.specs.Table.{zone_with};
 ghost use Rattle.tz_zone.specs.ValidZone.{IsSoundTable, IsSoundTable-prop, IsValidZone};
 
-use super::checks::check_parts;
 use super::offsets::offsets;
+use super::zone_checks::check_parts;
 use super::zone_parts::other_parts;
 use super::{LeapSecond, LocalTimeType, Transition, TransitionRule};
 use crate::table::{Counted, Uncounted, lent};
-use crate::{clock, leap_time};
+use crate::{clock, leap_table};
 use std::fmt;
 use tz_base::error::TzError;
 
@@ -184,7 +184,7 @@ impl<'a> TimeZoneRef<'a> {
         ensures some { IfSome result (ExpiresAt (zone_of self.now).leap_seconds) }
         ensures none { IfNone result ((time : ℤ) → ¬ ExpiresAt (zone_of self.now).leap_seconds time) }
     {
-        leap_time::expiry(self.leap_seconds)
+        leap_table::expiry(self.leap_seconds)
     }
 
     /// The rule from the last transition on.

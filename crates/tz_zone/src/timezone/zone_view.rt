@@ -6,10 +6,10 @@ ghost use Rattle.tz_zone.specs.Table.{zone_with};
 ghost use Rattle.tz_zone.specs.ValidZone.{IsSoundTable, IsSoundTable-prop, IsValidZone};
 ghost use Rattle.tz_zone.specs.ZoneSeen.{lent_rule, rule_of_lists};
 
-use super::checks::check_parts;
 use super::offsets::offsets;
+use super::zone_checks::check_parts;
 use super::{Change, LeapSecond, LocalTimeType, Segment, Transition};
-use crate::clock;
+use crate::clock::{self, find_following, find_preceding};
 use crate::table::{KeptRule, OtherParts, Uncounted};
 use tz_base::error::TzError;
 use tz_rule::inner::{AlternateClock, RuleRef};
@@ -126,15 +126,14 @@ impl<'a> ZoneView<'a> {
         ensures ends { HasTableEnds (zone_viewed self.now) (segment_of result).from (segment_of result).last }
     {
         let mut view = Uncounted::new(self.transitions);
-        let segment = clock::clock_segment_at(&mut view, self.other_parts(), unix_time);
-        Segment::new(segment.from, segment.last, segment.local_time_type)
+        clock::clock_segment_at(&mut view, self.other_parts(), unix_time)
     }
 
     /// The first change after an instant, as `TimeZoneRef::following` answers it.
     pub fn following(&self, unix_time: i64) -> Option<Change<'a>>
         ensures { MatchOption result (HasNoFollowing (zone_viewed self.now) unix_time) (λ c. IsFollowing (zone_viewed self.now) unix_time (change_of c)) }
     {
-        let (change, _) = clock::following(self.transitions, self.other_parts(), unix_time, None)?;
+        let (change, _) = find_following(self.transitions, self.other_parts(), unix_time, None)?;
         Some(change)
     }
 
@@ -142,7 +141,7 @@ impl<'a> ZoneView<'a> {
     pub fn preceding(&self, unix_time: i64) -> Option<Change<'a>>
         ensures { MatchOption result (HasNoPreceding (zone_viewed self.now) unix_time) (λ c. IsPreceding (zone_viewed self.now) unix_time (change_of c)) }
     {
-        let (change, _) = clock::preceding(self.transitions, self.other_parts(), unix_time, None)?;
+        let (change, _) = find_preceding(self.transitions, self.other_parts(), unix_time, None)?;
         Some(change)
     }
 }

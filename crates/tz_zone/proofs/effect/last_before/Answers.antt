@@ -18,38 +18,17 @@ overflow_sub-result c =
     let none : leaps ≡ [] = none_if_empty leaps c.if-is_empty.ensures in
     rw (to_z-of_z w64 v c.ranges.unix_leap_time) (before_fits v c.requires.before.0 c.ranges.unix_leap_time c.requires.before.1 (not_least leaps none c.requires.before.0 v c.requires.before.3))
 
-pub returns-then-is_empty-clause-before : goal.returns-then-is_empty-clause-before
-returns-then-is_empty-clause-before c =
+pub returns-then-is_empty : goal.returns-then-is_empty
+returns-then-is_empty c =
     let leaps = c.args.leap_seconds.now in
     let v = c.args.unix_leap_time in
     let none : leaps ≡ [] = none_if_empty leaps c.if-is_empty.ensures in
     let fits = before_fits v c.requires.before.0 c.ranges.unix_leap_time c.requires.before.1 (not_least leaps none c.requires.before.0 v c.requires.before.3) in
-    rw (to_z-of_z w64 v c.ranges.unix_leap_time, to_z-of_z w64 (v -ℤ pos 1) fits) (plain_last_before leaps none v (instant_bounds v c.ranges.unix_leap_time).0).before
+    let last = plain_last_before leaps none v (instant_bounds v c.ranges.unix_leap_time).0 in
+    rw (to_z-of_z w64 v c.ranges.unix_leap_time, to_z-of_z w64 (v -ℤ pos 1) fits) (record { before = last.before; within = last.within; next = last.next })
 
-pub returns-then-is_empty-clause-within : goal.returns-then-is_empty-clause-within
-returns-then-is_empty-clause-within c =
-    let leaps = c.args.leap_seconds.now in
-    let v = c.args.unix_leap_time in
-    let none : leaps ≡ [] = none_if_empty leaps c.if-is_empty.ensures in
-    let fits = before_fits v c.requires.before.0 c.ranges.unix_leap_time c.requires.before.1 (not_least leaps none c.requires.before.0 v c.requires.before.3) in
-    rw (to_z-of_z w64 v c.ranges.unix_leap_time, to_z-of_z w64 (v -ℤ pos 1) fits) (plain_last_before leaps none v (instant_bounds v c.ranges.unix_leap_time).0).within
-
-pub returns-then-is_empty-clause-next : goal.returns-then-is_empty-clause-next
-returns-then-is_empty-clause-next c =
-    let leaps = c.args.leap_seconds.now in
-    let v = c.args.unix_leap_time in
-    let none : leaps ≡ [] = none_if_empty leaps c.if-is_empty.ensures in
-    let fits = before_fits v c.requires.before.0 c.ranges.unix_leap_time c.requires.before.1 (not_least leaps none c.requires.before.0 v c.requires.before.3) in
-    rw (to_z-of_z w64 v c.ranges.unix_leap_time, to_z-of_z w64 (v -ℤ pos 1) fits) (plain_last_before leaps none v (instant_bounds v c.ranges.unix_leap_time).0).next
-
-pub returns-clause-before : goal.returns-clause-before
-returns-clause-before c =
-    let fits : SFits w64 c.last_before_moment.result = search rules in
-    let last = rw (to_z-of_z w64 c.args.unix_leap_time c.ranges.unix_leap_time) at c.last_before_moment.ensures in
-    rw (to_z-of_z w64 c.last_before_moment.result fits) last.before
-
-pub returns-clause-next : goal.returns-clause-next
-returns-clause-next c =
-    let fits : SFits w64 c.last_before_moment.result = search rules in
-    let last = rw (to_z-of_z w64 c.args.unix_leap_time c.ranges.unix_leap_time) at c.last_before_moment.ensures in
-    rw (to_z-of_z w64 c.last_before_moment.result fits) last.next
+pub returns : goal.returns
+returns c =
+    let fits : SFits w64 c.last_before_by_seconds.result = search rules in
+    let last = rw (to_z-of_z w64 c.args.unix_leap_time c.ranges.unix_leap_time) at c.last_before_by_seconds.ensures in
+    rw (to_z-of_z w64 c.last_before_by_seconds.result fits) (record { before = last.before; within = last.within; next = last.next })

@@ -7,7 +7,7 @@ use mir.Syntax.{w32, w64, w128}
 use mir.Val.{SFits, to_z, of_z}
 use Rattle.tz_zone.specs.LeapTime.{correction_before}
 use Rattle.tz_zone.proofs.LeapTimes.{IsInstant-from_bounds, instant_bounds}
-use Rattle.tz_zone.proofs.LeapMoments.{int_max-one}
+use Rattle.tz_zone.proofs.WideEffects.{int_max-one}
 use Rattle.tz_zone.proofs.OffsetBounds.{int_min_either}
 use Rattle.tz_zone.proofs.LeapEnds.{left_within, left_past}
 use Rattle.tz_zone.proofs.leap_time.last_with.Goals as goal
@@ -66,28 +66,15 @@ overflow_cast-result c =
     let wide : SFits w128 c.min.result = search rules in
     rw (to_z-of_z w128 c.min.result wide) (of_call c).fits
 
-pub returns-clause-up_to : goal.returns-clause-up_to
-returns-clause-up_to c =
-    let wide : SFits w128 c.min.result = search rules in
-    let last = of_call c in
-    rw (to_z-of_z w128 c.min.result wide, to_z-of_z w64 c.min.result last.fits) last.up_to
-
-pub returns-clause-within : goal.returns-clause-within
-returns-clause-within c =
+pub returns : goal.returns
+returns c =
     let leaps = c.args.leap_seconds.now in
     let item = c.index-leap_seconds-place.result in
     let at = slice_get_read leaps _ c.args.place item refl c.requires.place c.index-leap_seconds-place.is in
     let wide : SFits w128 c.min.result = search rules in
     let last = of_call c in
-    rw (to_z-of_z w128 c.min.result wide, to_z-of_z w64 c.min.result last.fits)
-    (left_within leaps c.requires.leaps c.args.place item at c.min.result last.one)
-
-pub returns-clause-past : goal.returns-clause-past
-returns-clause-past c =
-    let leaps = c.args.leap_seconds.now in
-    let item = c.index-leap_seconds-place.result in
-    let at = slice_get_read leaps _ c.args.place item refl c.requires.place c.index-leap_seconds-place.is in
-    let wide : SFits w128 c.min.result = search rules in
-    let last = of_call c in
-    rw (to_z-of_z w128 c.min.result wide, to_z-of_z w64 c.min.result last.fits)
-    (λ u above up_to. let both = last.after u above up_to in left_past leaps c.requires.leaps c.args.place item at u both.0 both.1)
+    rw (to_z-of_z w128 c.min.result wide, to_z-of_z w64 c.min.result last.fits) (record {
+      up_to = last.up_to;
+      within = left_within leaps c.requires.leaps c.args.place item at c.min.result last.one;
+      past = λ u above up_to. let both = last.after u above up_to in left_past leaps c.requires.leaps c.args.place item at u both.0 both.1;
+    })

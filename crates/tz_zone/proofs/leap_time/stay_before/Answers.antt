@@ -5,7 +5,7 @@ use mir.Syntax.{w64, w128}
 use mir.Val.{SFits, to_z, of_z}
 use Rattle.tz_rule.proofs.WeakerClauses.{MatchBool-lt_z}
 use Rattle.tz_zone.proofs.LeapTimes.{leap_time_speed}
-use Rattle.tz_zone.proofs.InstantsWithLeapTime.{leap_unless_refused, answered_within}
+use Rattle.tz_zone.proofs.InstantsWithLeapTime.{leap_unless_refused, defined_within}
 use Rattle.tz_zone.proofs.leap_time.stay_before.Goals as goal
 
 cast : (h f : ℤ) → SFits w64 h → f ≡ to_z w64 (of_z w64 h) → to_z w128 (of_z w128 f) ≡ h
@@ -53,7 +53,7 @@ returns c =
     (λ less u from to.
     let leaps = c.args.leap_seconds.now in
     let low = c.requires.low in
-    let answered = answered_within leaps c.requires.leaps l u low.not_refused from (omega (arith, ints, to, c.if-high-gt-SURELY_ANSWERED.false)) in
-    let here = leap_unless_refused leaps c.requires.leaps u answered in
+    let defined = defined_within leaps c.requires.leaps l u low.not_refused from (omega (arith, ints, to, c.if-high-gt-ALWAYS_DEFINED_UP_TO.false)) in
+    let here = leap_unless_refused leaps c.requires.leaps u defined in
     (here.0, here.1, omega (arith, ints, less, to, triple (h -ℤ l), leap_time_speed leaps c.requires.leaps l u v here.0 from low here.1)))
     (λ _. tt))

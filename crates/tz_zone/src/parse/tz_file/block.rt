@@ -3,7 +3,7 @@
 ghost use Rattle.std.specs.Prelude.{◌≡◌, ◌≤◌, length, IfOk, OnOk, IfErr};
 ghost use Rattle.tz_zone.specs.TzFile.{indexes_at, types_at, names_at, leaps_at, std_walls_at, ut_locals_at, end_at, block_with, part_with, IsUnit};
 ghost use Rattle.tz_zone.specs.TzFileFault.{UnitFails};
-ghost use Rattle.tz_zone.specs.TzParts.{width_of, counts_view, block_view, part_view, HasSizes, IsSized};
+ghost use Rattle.tz_zone.specs.TzParts.{width_of, counts_view, block_view, unit_view, HasSizes, IsSized};
 
 use super::header::{Counts, HEADER_LEN, read_header};
 use super::number::TimeSize;
@@ -67,7 +67,7 @@ pub(super) struct Block<'a> {
 
 /// A header's counts, its block, and the bytes after it.
 #[derive(Clone, Copy)]
-pub(crate) struct Part<'a> {
+pub(crate) struct Unit<'a> {
     pub(super) size: TimeSize,
     pub(crate) version: u8,
     pub(super) counts: Counts,
@@ -98,8 +98,8 @@ fn cut_block(size: TimeSize, counts: Counts, bytes: &[u8]) -> Block<'_>
 /// Reads the header at the front, and cuts its block.
 #[inline(always)]
 #[tactic(auto, unfolding(crate::specs::TzFile::after))]
-pub(super) fn read_unit(size: TimeSize, bytes: &[u8]) -> Result<Part<'_>, TzFileError>
-    ensures value { IfOk result (λ part. part_view part ≡ part_with (width_of size) bytes.now) }
+pub(super) fn read_unit(size: TimeSize, bytes: &[u8]) -> Result<Unit<'_>, TzFileError>
+    ensures value { IfOk result (λ unit. unit_view unit ≡ part_with (width_of size) bytes.now) }
     ensures sizes { IfOk result IsSized }
     ensures ok { OnOk result (IsUnit (width_of size) bytes.now) }
     ensures err { IfErr result (UnitFails (width_of size) bytes.now) }
@@ -109,7 +109,7 @@ pub(super) fn read_unit(size: TimeSize, bytes: &[u8]) -> Result<Part<'_>, TzFile
     if bytes.len() < end {
         return Err(TzFileError::ParseData(ParseDataError::UnexpectedEof));
     }
-    Ok(Part {
+    Ok(Unit {
         size,
         version: bytes[4],
         counts,

@@ -6,7 +6,7 @@ ghost use Rattle.tz_zone.specs.TzFile.{IsIndicatorPair, HasIndicators};
 ghost use Rattle.tz_zone.specs.TzFileFault.{IndicatorsFail};
 ghost use Rattle.tz_zone.specs.TzParts.{block_view};
 
-use super::block::Part;
+use super::block::Unit;
 use tz_base::error::parse::TzFileError;
 
 /// The indicator of a type, which is 0 where none is given.
@@ -24,21 +24,21 @@ fn is_pair(std_wall: u8, ut_local: u8) -> bool
 }
 
 /// Whether the indicators of a type go together.
-fn has_indicators(part: &Part<'_>, index: u32) -> bool
-    ensures { MatchBool result (HasIndicators (block_view part.now.block) index) (¬ HasIndicators (block_view part.now.block) index) }
+fn has_indicators(unit: &Unit<'_>, index: u32) -> bool
+    ensures { MatchBool result (HasIndicators (block_view unit.now.block) index) (¬ HasIndicators (block_view unit.now.block) index) }
 {
-    let std_wall = indicator_at(part.block.std_walls, index);
-    let ut_local = indicator_at(part.block.ut_locals, index);
+    let std_wall = indicator_at(unit.block.std_walls, index);
+    let ut_local = indicator_at(unit.block.ut_locals, index);
     is_pair(std_wall, ut_local)
 }
 
 /// Checks the indicators of all types.
-pub(super) fn check_indicators(part: &Part<'_>) -> Result<(), TzFileError>
-    ensures ok { OnOk result ((i : ℕ) → i < part.now.counts.local_type → HasIndicators (block_view part.now.block) i) }
-    ensures err { IfErr result (λ e. (e ≡ file.InvalidStdWallUtLocal) × IndicatorsFail (block_view part.now.block) part.now.counts.local_type) }
+pub(super) fn check_indicators(unit: &Unit<'_>) -> Result<(), TzFileError>
+    ensures ok { OnOk result ((i : ℕ) → i < unit.now.counts.local_type → HasIndicators (block_view unit.now.block) i) }
+    ensures err { IfErr result (λ e. (e ≡ file.InvalidStdWallUtLocal) × IndicatorsFail (block_view unit.now.block) unit.now.counts.local_type) }
 {
-    for i in 0..part.counts.local_type {
-        if !has_indicators(part, i) {
+    for i in 0..unit.counts.local_type {
+        if !has_indicators(unit, i) {
             return Err(TzFileError::InvalidStdWallUtLocal);
         }
     }

@@ -5,7 +5,7 @@ ghost use Rattle.tz_zone.specs.FileSizes.{AreSizesOf};
 ghost use Rattle.tz_zone.specs.TzFile.{IsFramed};
 ghost use Rattle.tz_zone.specs.TzFileFault.{FrameFails};
 
-use super::read_frame;
+use super::frame::read_frame;
 use tz_base::error::parse::TzFileError;
 
 /// How many entries each table of a file has, and how many bytes its footer, in C's layout.
@@ -25,7 +25,7 @@ pub fn file_sizes(bytes: &[u8]) -> Result<FileSizes, TzFileError>
     ensures err { IfErr result (FrameFails bytes.now) }
 {
     let frame = read_frame(bytes)?;
-    let counts = frame.part.counts;
+    let counts = frame.unit.counts;
     let footer = match frame.footer {
         Some(footer) => footer.len(),
         None => 0,

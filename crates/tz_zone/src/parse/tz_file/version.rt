@@ -2,10 +2,10 @@
 
 ghost use Rattle.std.specs.Prelude.{◌≡◌, MatchBool};
 ghost use Rattle.tz_zone.specs.TzFile.{IsVersion, MayHold, is_extended};
-ghost use Rattle.tz_zone.specs.TzParts.{part_view};
+ghost use Rattle.tz_zone.specs.TzParts.{unit_view};
 
-use super::block::Part;
-use crate::leap_time;
+use super::block::Unit;
+use crate::leap_table::is_plain_table;
 use crate::table::LeapSecond;
 
 /// Whether the version is one that is read.
@@ -15,10 +15,10 @@ pub(super) fn is_version(byte: u8) -> bool
     matches!(byte, 0 | b'2' | b'3' | b'4')
 }
 
-impl Part<'_> {
+impl Unit<'_> {
     /// Whether a TZ string after the block is an extended one. (RFC 8536, section 3.3.1)
     pub(crate) fn is_extended(&self) -> bool
-        ensures { result ≡ is_extended (part_view self.now) }
+        ensures { result ≡ is_extended (unit_view self.now) }
     {
         self.version == b'3' || self.version == b'4'
     }
@@ -28,5 +28,5 @@ impl Part<'_> {
 pub(crate) fn may_hold(version: u8, leap_seconds: &[LeapSecond]) -> bool
     ensures { MatchBool result (MayHold version leap_seconds.now) (¬ MayHold version leap_seconds.now) }
 {
-    version == b'4' || leap_time::is_plain_table(leap_seconds)
+    version == b'4' || is_plain_table(leap_seconds)
 }

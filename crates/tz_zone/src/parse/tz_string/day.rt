@@ -1,27 +1,17 @@
-//! Rule days, and when in the day a rule comes.
+//! The days of the year at which daylight saving time starts or ends.
 
-ghost use Rattle.std.specs.Prelude.{◌≡◌, ◌∷◌, ℕ, List, IfSome, MatchResult};
+ghost use Rattle.std.specs.Prelude.{IfSome, MatchResult};
 ghost use Rattle.tz_base.specs.declared.error.timezone.TransitionRuleError.TheVariants.{InvalidRuleDayJulianDay};
 ghost use Rattle.tz_rule.specs.JulianDay.{IsJulianDay, IsZeroBasedDay};
 ghost use Rattle.tz_rule.specs.MonthWeek.{IsMonthWeek, month_week};
 ghost use Rattle.tz_rule.specs.RuleDays.{IsRuleDay};
-ghost use Rattle.tz_zone.specs.Bytes.{slash};
-ghost use Rattle.tz_zone.specs.TzText.{IsNumber, IsMonthWeekText, IsDay, IsTimeOfRule, IsTimeUpTo, day_time_hours, IsRuleText, IsRuleInRange};
-ghost use Rattle.tz_zone.specs.TzTextFault.{IsDayNumberFault, IsMonthWeekDayFault, IsDayFault, IsDayTimeFault, IsRuleTextFault};
+ghost use Rattle.tz_zone.specs.TzText.{IsNumber, IsMonthWeekText, IsDay};
+ghost use Rattle.tz_zone.specs.TzTextFault.{IsDayNumberFault, IsMonthWeekDayFault, IsDayFault};
 
 use super::cursor::{after_byte, expect_byte};
 use super::number::{read_short_number, read_two_digits, read_year_day};
-use super::time::{WrittenTime, read_day_time};
 use tz_base::error::TzError;
-use tz_base::error::parse::TzStringError;
 use tz_rule::timezone::{Julian0WithLeap, Julian1WithoutLeap, MonthWeekDay, RuleDay};
-
-/// A rule of a string: a day of each year, and a time of that day.
-#[derive(Clone, Copy)]
-pub(super) struct DayAndTime {
-    pub(super) day: RuleDay,
-    pub(super) time: WrittenTime,
-}
 
 /// The number after a `J`, and the rest of the bytes.
 #[inline(always)]
@@ -80,9 +70,9 @@ fn read_month_week_day(text: &[u8]) -> Result<(MonthWeekDay, &[u8]), TzError>
     }
 }
 
-/// The day of a rule, and the rest of the bytes.
+/// The day of a switch, and the rest of the bytes.
 #[inline(always)]
-fn read_rule_day(text: &[u8]) -> Result<(RuleDay, &[u8]), TzError>
+pub(super) fn read_rule_day(text: &[u8]) -> Result<(RuleDay, &[u8]), TzError>
     ensures { MatchResult result (λ p. IsDay text.now p.0 p.1.now × IsRuleDay p.0) (IsDayFault text.now) }
 {
     if let Some(number) = after_byte(text, b'J') {
@@ -99,33 +89,6 @@ fn read_rule_day(text: &[u8]) -> Result<(RuleDay, &[u8]), TzError>
     }
     match read_zero_based_day(text) {
         Ok((day, rest)) => Ok((RuleDay::Julian0WithLeap(day), rest)),
-        Err(error) => Err(error),
-    }
-}
-
-/// The time after a slash, or two o'clock if there is no slash, and the rest of the bytes.
-#[inline(always)]
-fn read_time_of_rule(text: &[u8], extended: bool) -> Result<(WrittenTime, &[u8]), TzStringError>
-    ensures { MatchResult result
-        (λ p. IsTimeOfRule extended text.now p.0 p.1.now × IsTimeUpTo (day_time_hours extended) p.0)
-        (λ e. (time : List ℕ) × (text.now ≡ slash ∷ time) × IsDayTimeFault extended time e) }
-{
-    match after_byte(text, b'/') {
-        Some(time) => read_day_time(time, extended),
-        None => Ok((WrittenTime::two_o_clock(), text)),
-    }
-}
-
-/// A rule, and the rest of the bytes.
-#[inline(always)]
-pub(super) fn read_rule(text: &[u8], extended: bool) -> Result<(DayAndTime, &[u8]), TzError>
-    ensures { MatchResult result (λ p. IsRuleText extended text.now p.0 p.1.now × IsRuleInRange extended p.0) (IsRuleTextFault extended text.now) }
-{
-    match read_rule_day(text) {
-        Ok((day, rest)) => {
-            let (time, rest) = read_time_of_rule(rest, extended)?;
-            Ok((DayAndTime { day, time }, rest))
-        }
         Err(error) => Err(error),
     }
 }

@@ -4,43 +4,30 @@ pub(crate) mod cursor;
 mod day;
 mod name;
 mod number;
+mod offset;
+mod switch;
 mod time;
 
-ghost use Rattle.std.specs.Prelude.{◌≡◌, ◌∷◌, [], ℕ, List, Bool, false, Some, IfSome, IfOk, IfErr, MatchResult, pos};
+ghost use Rattle.std.specs.Prelude.{◌≡◌, ◌∷◌, ℕ, List, Bool, false, Some, IfSome, IfOk, IfErr, MatchResult, pos};
 ghost use Rattle.tz_base.specs.declared.error.TzError.TheVariants.{TzString};
 ghost use Rattle.tz_rule.specs.Alternate.{IsRuleOffset};
 ghost use Rattle.tz_rule.specs.declared.timezone.rule.TransitionRule.{TransitionRule};
 ghost use Rattle.tz_rule.specs.LocalTimeType.{IsDesignation, IsFirstTypeFault, type_of};
 ghost use Rattle.tz_zone.specs.Bytes.{comma};
-ghost use Rattle.tz_zone.specs.TzText.{Begins, IsName, IsDaylightOffset, IsTimeUpTo, offset_hours, IsRuleText, IsRuleInRange, IsTzText};
-ghost use Rattle.tz_zone.specs.TzTextFault.{IsOffsetFault, IsLastRuleFault, IsRulesFault, IsDaylightFault, IsTzTextFault};
+ghost use Rattle.tz_zone.specs.TzText.{IsName, IsDaylightOffset, IsTimeUpTo, offset_hours, IsTzText};
+ghost use Rattle.tz_zone.specs.TzTextFault.{IsDaylightFault, IsTzTextFault};
 
-use cursor::{after_byte, expect_byte};
-use day::{DayAndTime, read_rule};
+use cursor::expect_byte;
 use name::read_name;
-use time::{WrittenTime, read_offset};
+use offset::{read_daylight_offset, read_offset};
+use switch::read_switches;
+use time::WrittenTime;
 use tz_base::error::TzError;
 use tz_base::error::parse::TzStringError;
 use tz_base::error::timezone::LocalTimeTypeError;
 use tz_rule::timezone::{AlternateTime, LocalTimeType, TransitionRule};
 
-/// The daylight offset, which may be omitted before a comma, and the rest of the bytes.
-#[inline(always)]
-fn read_daylight_offset(text: &[u8]) -> Result<(Option<WrittenTime>, &[u8]), TzStringError>
-    ensures { MatchResult result
-        (λ p. IsDaylightOffset text.now p.0 p.1.now × IfSome p.0 (IsTimeUpTo offset_hours))
-        (λ e. ¬ Begins comma text.now × IsOffsetFault text.now e) }
-{
-    match after_byte(text, b',') {
-        Some(_) => Ok((None, text)),
-        None => {
-            let (offset, rest) = read_offset(text)?;
-            Ok((Some(offset), rest))
-        }
-    }
-}
-
-/// The daylight name, its offset, and the rules after a comma.
+/// The daylight name, its offset, and the switches after a comma.
 #[inline(always)]
 fn read_daylight(text: &[u8]) -> Result<(&[u8], Option<WrittenTime>, &[u8]), TzStringError>
     ensures { MatchResult result
@@ -55,41 +42,8 @@ fn read_daylight(text: &[u8]) -> Result<(&[u8], Option<WrittenTime>, &[u8]), TzS
     if rest.is_empty() {
         return Err(TzStringError::MissingDstStartEndRules);
     }
-    let rules = expect_byte(rest, b',')?;
-    Ok((name, offset, rules))
-}
-
-/// The last rule, with nothing after it.
-#[inline(always)]
-fn read_last_rule(text: &[u8], extended: bool) -> Result<DayAndTime, TzError>
-    ensures { MatchResult result (λ rule. IsRuleText extended text.now rule [] × IsRuleInRange extended rule) (IsLastRuleFault extended text.now) }
-{
-    match read_rule(text, extended) {
-        Ok((rule, rest)) => {
-            if !rest.is_empty() {
-                return Err(TzError::TzString(TzStringError::RemainingData));
-            }
-            Ok(rule)
-        }
-        Err(error) => Err(error),
-    }
-}
-
-/// The start and the end, with a comma between them and nothing after them.
-#[inline(always)]
-fn read_rules(text: &[u8], extended: bool) -> Result<(DayAndTime, DayAndTime), TzError>
-    ensures { MatchResult result
-        (λ p. ((end_text : List ℕ) × IsRuleText extended text.now p.0 (comma ∷ end_text) × IsRuleText extended end_text p.1 []) × IsRuleInRange extended p.0 × IsRuleInRange extended p.1)
-        (IsRulesFault extended text.now) }
-{
-    match read_rule(text, extended) {
-        Ok((start, rest)) => {
-            let end_text = expect_byte(rest, b',')?;
-            let end = read_last_rule(end_text, extended)?;
-            Ok((start, end))
-        }
-        Err(error) => Err(error),
-    }
+    let switches = expect_byte(rest, b',')?;
+    Ok((name, offset, switches))
 }
 
 /// The local time type with this name.
@@ -118,8 +72,8 @@ fn read_text(text: &[u8], extended: bool) -> Result<TransitionRule, TzError>
         let fixed = named_type(std_name, std_offset.ut_offset(), false)?;
         return Ok(TransitionRule::Fixed(fixed));
     }
-    let (dst_name, dst_offset, rules) = read_daylight(rest)?;
-    let (start, end) = read_rules(rules, extended)?;
+    let (dst_name, dst_offset, switches) = read_daylight(rest)?;
+    let (start, end) = read_switches(switches, extended)?;
     let std = named_type(std_name, std_offset.ut_offset(), false)?;
     let dst = named_type(dst_name, std_offset.daylight_ut_offset(dst_offset), true)?;
     let start_time = start.time.total_seconds();

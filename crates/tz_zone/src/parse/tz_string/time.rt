@@ -1,25 +1,22 @@
-//! Offsets and day times.
+//! Times as they are written, and the time of day at which daylight saving time starts or ends.
 
-ghost use Rattle.std.specs.Prelude.{◌≡◌, ◌∷◌, ◌<◌, ◌≤◌, ◌^◌, ℕ, List, MatchResult};
-ghost use Rattle.tz_zone.specs.Bytes.{colon};
-ghost use Rattle.tz_zone.specs.TzText.{IsPart, IsHms, IsSign, IsSignedTime, IsDayTimeSign, IsDayTime, IsTimeUpTo, offset_hours, day_time_hours};
-ghost use Rattle.tz_zone.specs.TzTextFault.{IsParseInt, HasNoNumber, IsHmsFault, IsTimeAbove, IsOffsetFault, IsDayTimeFault, TimeFaults, offset_faults, day_time_faults};
+ghost use Rattle.std.specs.Prelude.{◌≡◌, ◌∷◌, ◌<◌, ℕ, List, MatchResult};
+ghost use Rattle.tz_zone.specs.Bytes.{colon, slash};
+ghost use Rattle.tz_zone.specs.TzText.{IsPart, IsHms, IsSign, IsDayTimeSign, IsDayTime, IsTimeOfRule, IsTimeUpTo, day_time_hours};
+ghost use Rattle.tz_zone.specs.TzTextFault.{IsParseInt, HasNoNumber, IsHmsFault, IsTimeAbove, IsDayTimeFault, TimeFaults, day_time_faults};
 
 use super::cursor::after_byte;
 use super::number::read_time_number;
 use tz_base::error::parse::TzStringError;
 
 /// The greatest hour of an offset, and of a day time in an ordinary string.
-const DAY_HOURS: u32 = 24;
+pub(super) const DAY_HOURS: u32 = 24;
 
 /// The greatest hour of a day time in an extended string.
 const EXTENDED_HOURS: u32 = 167;
 
 /// The greatest minute, and the greatest second.
-const LAST_OF_SIXTY: u32 = 59;
-
-/// How far daylight saving time is ahead of standard time, in seconds, where a string does not say.
-const DEFAULT_SAVING: i32 = 3600;
+pub(super) const LAST_OF_SIXTY: u32 = 59;
 
 /// A time as it is written: whether after a minus, and its numbers.
 #[derive(Clone, Copy)]
@@ -31,11 +28,9 @@ pub(super) struct WrittenTime {
 }
 
 impl WrittenTime {
-    ghost use Rattle.std.specs.Prelude.{IfSome, Option};
-    ghost use Rattle.tz_rule.specs.Alternate.{IsRuleOffset};
-    ghost use Rattle.tz_zone.specs.TzText.{IsTimeUpTo, offset_hours, seconds_of, ut_offset_of, daylight_offset_of, plain_time};
+    ghost use Rattle.tz_zone.specs.TzText.{IsTimeUpTo, seconds_of, plain_time};
 
-    /// Two o'clock, the day time of a rule that has none.
+    /// Two o'clock, the time of a switch that has none.
     #[inline(always)]
     pub(super) fn two_o_clock() -> WrittenTime
         ensures { result ≡ plain_time 2 0 0 }
@@ -57,30 +52,6 @@ impl WrittenTime {
         let seconds = (3600 * self.hours + 60 * self.minutes + self.seconds) as i32;
         if self.minus { -seconds } else { seconds }
     }
-
-    /// The seconds that an offset adds to UTC: a string has those that are subtracted.
-    #[inline(always)]
-    pub(super) fn ut_offset(self) -> i32
-        requires { IsTimeUpTo offset_hours self }
-        ensures value { result ≡ ut_offset_of self }
-        ensures range { IsRuleOffset result }
-    {
-        -self.total_seconds()
-    }
-
-    /// The seconds that daylight saving time adds to UTC: an hour more than standard time, where the string has no offset.
-    #[inline(always)]
-    pub(super) fn daylight_ut_offset(self, daylight: Option<WrittenTime>) -> i32
-        requires std { IsTimeUpTo offset_hours self }
-        requires dst { IfSome daylight (IsTimeUpTo offset_hours) }
-        ensures value { result ≡ daylight_offset_of self daylight }
-        ensures range { IsRuleOffset result }
-    {
-        match daylight {
-            Some(offset) => offset.ut_offset(),
-            None => self.ut_offset() + DEFAULT_SAVING,
-        }
-    }
 }
 
 /// The number after a colon, or 0 if there is no colon, and the rest of the bytes.
@@ -96,7 +67,7 @@ fn read_part(text: &[u8]) -> Result<(u32, &[u8]), TzStringError>
 
 /// Hours, minutes and seconds after a sign that is read, and the rest of the bytes.
 #[inline(always)]
-fn read_hms(text: &[u8], minus: bool) -> Result<(WrittenTime, &[u8]), TzStringError>
+pub(super) fn read_hms(text: &[u8], minus: bool) -> Result<(WrittenTime, &[u8]), TzStringError>
     ensures { MatchResult result (λ p. IsHms text.now p.0 p.1.now × (p.0.minus ≡ minus)) (λ e. (limit : ℕ) (faults : TimeFaults) → IsHmsFault limit faults text.now e) }
 {
     let (hours, rest) = read_time_number(text)?;
@@ -115,7 +86,7 @@ fn read_hms(text: &[u8], minus: bool) -> Result<(WrittenTime, &[u8]), TzStringEr
 
 /// Whether a minus comes first, and the bytes after it or after a plus.
 #[inline(always)]
-fn read_sign(text: &[u8]) -> (bool, &[u8])
+pub(super) fn read_sign(text: &[u8]) -> (bool, &[u8])
     ensures { IsSign text.now result.0 result.1.now }
 {
     if let Some(rest) = after_byte(text, b'-') {
@@ -146,23 +117,6 @@ fn greatest_hour(extended: bool) -> u32
     if extended { EXTENDED_HOURS } else { DAY_HOURS }
 }
 
-/// The numbers of an offset are in range.
-#[inline(always)]
-fn check_offset(time: &WrittenTime) -> Result<(), TzStringError>
-    ensures { MatchResult result (λ _. IsTimeUpTo offset_hours time.now) (IsTimeAbove offset_hours offset_faults time.now) }
-{
-    if time.hours > DAY_HOURS {
-        return Err(TzStringError::InvalidOffsetHour);
-    }
-    if time.minutes > LAST_OF_SIXTY {
-        return Err(TzStringError::InvalidOffsetMinute);
-    }
-    if time.seconds > LAST_OF_SIXTY {
-        return Err(TzStringError::InvalidOffsetSecond);
-    }
-    Ok(())
-}
-
 /// The numbers of a day time are in range.
 #[inline(always)]
 fn check_day_time(time: &WrittenTime, extended: bool) -> Result<(), TzStringError>
@@ -180,17 +134,6 @@ fn check_day_time(time: &WrittenTime, extended: bool) -> Result<(), TzStringErro
     Ok(())
 }
 
-/// The offset at the beginning, and the rest of the bytes.
-#[inline(always)]
-pub(super) fn read_offset(text: &[u8]) -> Result<(WrittenTime, &[u8]), TzStringError>
-    ensures { MatchResult result (λ p. IsSignedTime text.now p.0 p.1.now × IsTimeUpTo offset_hours p.0) (IsOffsetFault text.now) }
-{
-    let (minus, rest) = read_sign(text);
-    let (offset, rest) = read_hms(rest, minus)?;
-    check_offset(&offset)?;
-    Ok((offset, rest))
-}
-
 /// The day time at the beginning, and the rest of the bytes.
 #[inline(always)]
 pub(super) fn read_day_time(
@@ -203,4 +146,20 @@ pub(super) fn read_day_time(
     let (time, rest) = read_hms(rest, minus)?;
     check_day_time(&time, extended)?;
     Ok((time, rest))
+}
+
+/// The time after a slash, or two o'clock if there is no slash, and the rest of the bytes.
+#[inline(always)]
+pub(super) fn read_time_of_switch(
+    text: &[u8],
+    extended: bool,
+) -> Result<(WrittenTime, &[u8]), TzStringError>
+    ensures { MatchResult result
+        (λ p. IsTimeOfRule extended text.now p.0 p.1.now × IsTimeUpTo (day_time_hours extended) p.0)
+        (λ e. (time : List ℕ) × (text.now ≡ slash ∷ time) × IsDayTimeFault extended time e) }
+{
+    match after_byte(text, b'/') {
+        Some(time) => read_day_time(time, extended),
+        None => Ok((WrittenTime::two_o_clock(), text)),
+    }
 }

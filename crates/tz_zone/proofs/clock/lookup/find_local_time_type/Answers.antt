@@ -7,7 +7,7 @@ use Rattle.tz_zone.specs.Clock.{IsTypeOfLast}
 use Rattle.tz_zone.specs.ClockSegments.{IsReachedAt}
 use Rattle.tz_zone.specs.ZoneSeen.{zone_seen}
 use Rattle.tz_zone.proofs.Places.{clock_at_place, clock_after_table, fault_after_table}
-use Rattle.tz_zone.proofs.clock.lookup.find_local_time_type.Goals.{then-count-gt0+in-Some+else-place-count, else-count-gt0}
+use Rattle.tz_zone.proofs.clock.lookup.find_local_time_type.Goals.{After-after_table, then-count-gt0+in-Some+else-place-count, else-count-gt0}
 use Rattle.tz_zone.proofs.clock.lookup.find_local_time_type.Goals as goal
 
 pub returns-then-place-count-clause-ok : goal.returns-then-place-count-clause-ok
@@ -20,38 +20,32 @@ returns-then-place-count-clause-ok g c =
     let type = subst (λ (list : List Transition). IsTypeOfLast (zone_seen list c.args.parts) place c.type_before.result.now) c.place_at.ensures.same c.type_before.ensures.value in
     clock_at_place z c.requires place u c.type_before.result.now (omega (arith, c.if-place-count.true, c.len-count.ensures)) at.1 type
 
-pub returns-in-Some-local_time_type-clause-ok : goal.returns-in-Some-local_time_type-clause-ok
-returns-in-Some-local_time_type-clause-ok g c =
-    let list = g.V.Transitions.list c.args.view.now in
-    let z = zone_seen list c.args.parts in
+-- if there are transitions, all are reached
+all_reached : (g : _) (c : After-after_table g) → 0 < length (g.V.Transitions.list c.args.view.now) → IsReachedAt (zone_seen (g.V.Transitions.list c.args.view.now) c.args.parts) c.args.unix_time (length (g.V.Transitions.list c.args.view.now))
+all_reached g c =
+    let z = zone_seen (g.V.Transitions.list c.args.view.now) c.args.parts in
     let u = c.args.unix_time in
-    let u_is = to_z-of_z w64 u c.ranges.unix_time in
     let count = c.len-count.ensures in
-    let reached : 0 < length list → IsReachedAt z u (length list) = elim c.if-count-gt0.branch [
+    elim c.if-count-gt0.branch [
       | then-count-gt0+in-Some+else-place-count w ↦ λ some.
-          let at = rw u_is at w.in-Some.ensures.place in
-          let all : w.in-Some.place ≡ length list = omega (arith, at.0, w.if-place-count.false, count) in
+          let at = rw (to_z-of_z w64 u c.ranges.unix_time) at w.in-Some.ensures.place in
+          let all : w.in-Some.place ≡ length z.transitions = omega (arith, at.0, w.if-place-count.false, count) in
           subst (λ (k : ℕ). IsReachedAt z u k) all at.1
       | else-count-gt0 w ↦ λ some. absurd (omega (arith, some, w.if-count-gt0.false, count))
-    ] in
-    let after = rw u_is at c.after_table.ensures in
+    ]
+
+pub returns-in-Some-local_time_type-clause-ok : goal.returns-in-Some-local_time_type-clause-ok
+returns-in-Some-local_time_type-clause-ok g c =
+    let u = c.args.unix_time in
+    let reached = all_reached g (goal.at.returns-in-Some-local_time_type-clause-ok g c).After-after_table in
+    let after = rw (to_z-of_z w64 u c.ranges.unix_time) at c.after_table.ensures in
     let type = rw c.in-Some-local_time_type.is at after.holds u after.within.0 after.within.1 in
-    clock_after_table list c.args.parts c.requires c.len-count.result count u c.in-Some-local_time_type.local_time_type.now reached type
+    clock_after_table (g.V.Transitions.list c.args.view.now) c.args.parts c.requires c.len-count.result c.len-count.ensures u c.in-Some-local_time_type.local_time_type.now reached type
 
 pub returns-in-None-clause-err : goal.returns-in-None-clause-err
 returns-in-None-clause-err g c =
-    let list = g.V.Transitions.list c.args.view.now in
-    let z = zone_seen list c.args.parts in
     let u = c.args.unix_time in
-    let u_is = to_z-of_z w64 u c.ranges.unix_time in
-    let count = c.len-count.ensures in
-    let reached : 0 < length list → IsReachedAt z u (length list) = elim c.if-count-gt0.branch [
-      | then-count-gt0+in-Some+else-place-count w ↦ λ some.
-          let at = rw u_is at w.in-Some.ensures.place in
-          let all : w.in-Some.place ≡ length list = omega (arith, at.0, w.if-place-count.false, count) in
-          subst (λ (k : ℕ). IsReachedAt z u k) all at.1
-      | else-count-gt0 w ↦ λ some. absurd (omega (arith, some, w.if-count-gt0.false, count))
-    ] in
-    let after = rw u_is at c.after_table.ensures in
+    let reached = all_reached g (goal.at.returns-in-None-clause-err g c).After-after_table in
+    let after = rw (to_z-of_z w64 u c.ranges.unix_time) at c.after_table.ensures in
     let never = rw c.in-None.is at after.holds u after.within.0 after.within.1 in
-    fault_after_table list c.args.parts c.requires c.len-count.result count u c.fault_after.result reached c.fault_after.ensures never
+    fault_after_table (g.V.Transitions.list c.args.view.now) c.args.parts c.requires c.len-count.result c.len-count.ensures u c.fault_after.result reached c.fault_after.ensures never

@@ -7,7 +7,7 @@ use Rattle.tz_zone.specs.ZoneSeen.{zone_seen}
 use Rattle.tz_zone.proofs.LeapTimes.{instant_bounds}
 use Rattle.tz_zone.proofs.LeapReached.{IsLastBefore}
 use Rattle.tz_zone.proofs.OffsetBounds.{int_min_either}
-use Rattle.tz_zone.proofs.ClockStages.{types_after_table, stage_later, all_reached_later, answered_at_first, ahead_at_first, clock_before_next, stage_after_next}
+use Rattle.tz_zone.proofs.ClockStages.{types_after_table, stage_later, all_reached_later, defined_at_first, ahead_at_first, clock_before_next, stage_after_next}
 use Rattle.tz_zone.proofs.clock.spans.span_from.Goals as goal
 
 pub returns-then-stage-count-clause-holds : goal.returns-then-stage-count-clause-holds
@@ -52,7 +52,7 @@ last_before-requires-clause-before g c =
     rw (to_z-of_z w64 c.unix_leap_time.result time, c.unix_leap_time.ensures) (
       first,
       (instant_bounds first stage.instant).0,
-      answered_at_first z c.requires.sound first c.args.since c.args.stage stage c.look-next.result c.look-next.ensures.value,
+      defined_at_first z c.requires.sound first c.args.since c.args.stage stage c.look-next.result c.look-next.ensures.value,
       ahead_at_first z c.requires.sound first c.args.since c.args.stage stage c.look-next.result c.look-next.ensures.value,
     )
 

@@ -13,7 +13,7 @@ pub returns : goal.returns
 returns c =
     let name = c.in_ok-name in
     let offset = c.in_ok-offset in
-    ((name.rest.now, name.ensures, rw c.in_ok-rules.ensures at offset.ensures.0), offset.ensures.1)
+    ((name.rest.now, name.ensures, rw c.in_ok-switches.ensures at offset.ensures.0), offset.ensures.1)
 
 pub returns-in_err-offset : goal.returns-in_err-offset
 returns-in_err-offset c =
@@ -29,12 +29,12 @@ returns-then-is_empty-2 c =
     let offset = c.in_ok-offset in
     λ extended. inr (name.name.now, name.rest.now, name.ensures, inr (inr (offset.offset, offset.rest.now, offset.ensures.0, inl (is_over offset.rest.now c.if-is_empty-2.ensures, refl))))
 
-pub returns-in_err-rules : goal.returns-in_err-rules
-returns-in_err-rules c =
+pub returns-in_err-switches : goal.returns-in_err-switches
+returns-in_err-switches c =
     let name = c.in_ok-name in
     let offset = c.in_ok-offset in
-    let missing = c.in_err-rules.ensures in
-    exit _ _ c.in_err-rules.field-0.0 _ c.from_residual-in_err-rules.ensures.1
+    let missing = c.in_err-switches.ensures in
+    exit _ _ c.in_err-switches.field-0.0 _ c.from_residual-in_err-switches.ensures.1
     (λ extended. inr (
       name.name.now,
       name.rest.now,

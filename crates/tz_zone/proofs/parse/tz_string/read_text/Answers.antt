@@ -1,12 +1,14 @@
-use Rattle.std.proofs.Common.{refl, ap, ◌∙◌, subst, true, false, inl, inr, rules}
+use Rattle.std.proofs.Common.{◌≡◌, refl, ap, ◌∙◌, true, false, inl, inr, rules}
 use Rattle.std.specs.Prelude.{FitsSigned}
 use Rattle.std.specs.Int.{w32}
+use mir.Val.{to_z, of_z}
 use Rattle.tz_base.specs.declared.error.TzError.TheVariants.{TzString, LocalTimeType as TypeFault, TransitionRule}
-use Rattle.tz_rule.specs.Alternate.{AlternateTime, IsConsistentRule, IsFirstRuleFault}
-use Rattle.tz_zone.specs.TzText.{AlternateText, daylight_offset_of, ut_offset_of}
+use Rattle.tz_rule.specs.Alternate.{alternate_of}
+use Rattle.tz_zone.specs.TzText.{AlternateText, IsAlternateText, IsAlternateInRange, rule_of, ut_offset_of}
 use Rattle.tz_zone.proofs.QuestionMarkExits.{exit}
 use Rattle.tz_zone.proofs.TextEnds.{is_over, goes_on}
 use Rattle.tz_zone.proofs.TextAnswers.{bad_name, offset_fails, daylight_fails, rules_fail, whole_text, same_rule_of, same_type_of, passed}
+use Rattle.tz_zone.proofs.parse.tz_string.read_text.Goals.{After-total_seconds-end_time}
 use Rattle.tz_zone.proofs.parse.tz_string.read_text.Goals as goal
 
 pub returns-in_err-std_name : goal.returns-in_err-std_name
@@ -40,7 +42,7 @@ returns-in_err-start c =
     exit _ _ e _ c.from_residual-in_err-start.ensures.1
     (daylight_fails c.args.extended c.args.text.now name.std_name.now name.rest.now offset.std_offset offset.rest.now e name.ensures offset.ensures.0
     (goes_on offset.rest.now c.if-is_empty.ensures)
-    (rules_fail c.args.extended offset.rest.now dst.dst_name.now dst.ensures.0.0 dst.dst_offset dst.rules.now e dst.ensures.0.1 dst.ensures.0.2 c.in_err-start.ensures))
+    (rules_fail c.args.extended offset.rest.now dst.dst_name.now dst.ensures.0.0 dst.dst_offset dst.switches.now e dst.ensures.0.1 dst.ensures.0.2 c.in_err-start.ensures))
 
 pub returns-in_err-std : goal.returns-in_err-std
 returns-in_err-std c =
@@ -60,56 +62,46 @@ returns-in_err-dst c =
     (goes_on offset.rest.now c.if-is_empty.ensures)
     (inl (bad_name offset.rest.now dst.dst_name.now dst.ensures.0.0 f dst.ensures.0.1 c.in_err-dst.ensures)))
 
-pub returns-in_err-rule : goal.returns-in_err-rule
-returns-in_err-rule c =
+-- what the text says
+abbrev text_of : (c : After-total_seconds-end_time) → AlternateText
+text_of c =
+    let dst = c.in_ok-dst_name in
+    record { std_name = c.in_ok-std_name.std_name.now; std_offset = c.in_ok-std_offset.std_offset; dst_name = dst.dst_name.now; dst_offset = dst.dst_offset; start = c.in_ok-start.start; end = c.in_ok-start.end }
+
+says : (c : After-total_seconds-end_time) → IsAlternateText c.args.extended c.args.text.now (text_of c) × IsAlternateInRange c.args.extended (text_of c)
+says c =
     let name = c.in_ok-std_name in
     let offset = c.in_ok-std_offset in
     let dst = c.in_ok-dst_name in
-    let rules = c.in_ok-start in
-    let f = c.in_err-rule.field-0.0 in
-    let a : AlternateText = record { std_name = name.std_name.now; std_offset = offset.std_offset; dst_name = dst.dst_name.now; dst_offset = dst.dst_offset; start = rules.start; end = rules.end } in
+    let switches = c.in_ok-start in (
+      whole_text c.args.extended c.args.text.now (text_of c) name.rest.now offset.rest.now dst.switches.now name.ensures offset.ensures.0 dst.ensures.0 switches.ensures.0,
+      record { std_name_is = c.in_ok-std.ensures.1; std_offset_is = offset.ensures.1; dst_name_is = c.in_ok-dst.ensures.1; dst_offset_is = dst.ensures.1; start_is = switches.ensures.1; end_is = switches.ensures.2 },
+    )
+
+same_rule : (c : After-total_seconds-end_time) → alternate_of c.in_ok-std.std c.in_ok-dst.dst c.in_ok-start.start.day (to_z w32 (of_z w32 c.total_seconds-start_time.result)) c.in_ok-start.end.day (to_z w32 (of_z w32 c.total_seconds-end_time.result)) ≡ rule_of (text_of c)
+same_rule c =
     let std_fits : FitsSigned w32 c.ut_offset-2.result = search rules in
     let dst_fits : FitsSigned w32 c.daylight_ut_offset.result = search rules in
     let start_fits : FitsSigned w32 c.total_seconds-start_time.result = search rules in
     let end_fits : FitsSigned w32 c.total_seconds-end_time.result = search rules in
-    let same = same_rule_of a c.in_ok-std.std c.in_ok-dst.dst _ _
-    (same_type_of c.in_ok-std.std _ (ut_offset_of offset.std_offset) false name.std_name.now c.in_ok-std.ensures.0 (passed c.ut_offset-2.result _ std_fits c.ut_offset-2.ensures.value))
-    (same_type_of c.in_ok-dst.dst _ (daylight_offset_of offset.std_offset dst.dst_offset) true dst.dst_name.now c.in_ok-dst.ensures.0 (passed c.daylight_ut_offset.result _ dst_fits c.daylight_ut_offset.ensures.value))
+    same_rule_of (text_of c) c.in_ok-std.std c.in_ok-dst.dst _ _
+    (same_type_of c.in_ok-std.std _ _ false c.in_ok-std_name.std_name.now c.in_ok-std.ensures.0 (passed c.ut_offset-2.result _ std_fits c.ut_offset-2.ensures.value))
+    (same_type_of c.in_ok-dst.dst _ _ true c.in_ok-dst_name.dst_name.now c.in_ok-dst.ensures.0 (passed c.daylight_ut_offset.result _ dst_fits c.daylight_ut_offset.ensures.value))
     (passed c.total_seconds-start_time.result _ start_fits c.total_seconds-start_time.ensures)
-    (passed c.total_seconds-end_time.result _ end_fits c.total_seconds-end_time.ensures) in
-    let P : AlternateTime → Type 0 = λ r. IsFirstRuleFault r f in
-    exit _ _ (TransitionRule f) _ c.from_residual-in_err-rule.ensures.1
-    (inr (inr (
-      a,
-      whole_text c.args.extended c.args.text.now a name.rest.now offset.rest.now dst.rules.now name.ensures offset.ensures.0 dst.ensures.0 rules.ensures.0,
-      record { std_name_is = c.in_ok-std.ensures.1; std_offset_is = offset.ensures.1; dst_name_is = c.in_ok-dst.ensures.1; dst_offset_is = dst.ensures.1; start_is = rules.ensures.1; end_is = rules.ensures.2 },
-      f,
-      refl,
-      subst P same c.in_err-rule.ensures.err,
-    )))
+    (passed c.total_seconds-end_time.result _ end_fits c.total_seconds-end_time.ensures)
+
+pub returns-in_err-rule : goal.returns-in_err-rule
+returns-in_err-rule c =
+    let read = (goal.at.returns-in_err-rule c).After-total_seconds-end_time in
+    let f = c.in_err-rule.field-0.0 in
+    let (text, range) = says read in
+    exit _ _ (TransitionRule f) _ c.from_residual-in_err-rule.ensures.1 (inr (inr (text_of read, text, range, f, refl, rw (same_rule read) at c.in_err-rule.ensures.err)))
 
 pub returns : goal.returns
 returns c =
-    let name = c.in_ok-std_name in
-    let offset = c.in_ok-std_offset in
-    let dst = c.in_ok-dst_name in
-    let rules = c.in_ok-start in
-    let a : AlternateText = record { std_name = name.std_name.now; std_offset = offset.std_offset; dst_name = dst.dst_name.now; dst_offset = dst.dst_offset; start = rules.start; end = rules.end } in
-    let std_fits : FitsSigned w32 c.ut_offset-2.result = search rules in
-    let dst_fits : FitsSigned w32 c.daylight_ut_offset.result = search rules in
-    let start_fits : FitsSigned w32 c.total_seconds-start_time.result = search rules in
-    let end_fits : FitsSigned w32 c.total_seconds-end_time.result = search rules in
-    let same = same_rule_of a c.in_ok-std.std c.in_ok-dst.dst _ _
-    (same_type_of c.in_ok-std.std _ (ut_offset_of offset.std_offset) false name.std_name.now c.in_ok-std.ensures.0 (passed c.ut_offset-2.result _ std_fits c.ut_offset-2.ensures.value))
-    (same_type_of c.in_ok-dst.dst _ (daylight_offset_of offset.std_offset dst.dst_offset) true dst.dst_name.now c.in_ok-dst.ensures.0 (passed c.daylight_ut_offset.result _ dst_fits c.daylight_ut_offset.ensures.value))
-    (passed c.total_seconds-start_time.result _ start_fits c.total_seconds-start_time.ensures)
-    (passed c.total_seconds-end_time.result _ end_fits c.total_seconds-end_time.ensures) in (
-      a,
-      whole_text c.args.extended c.args.text.now a name.rest.now offset.rest.now dst.rules.now name.ensures offset.ensures.0 dst.ensures.0 rules.ensures.0,
-      record { std_name_is = c.in_ok-std.ensures.1; std_offset_is = offset.ensures.1; dst_name_is = c.in_ok-dst.ensures.1; dst_offset_is = dst.ensures.1; start_is = rules.ensures.1; end_is = rules.ensures.2 },
-      subst IsConsistentRule same c.in_ok-rule.ensures.ok,
-      c.in_ok-rule.ensures.value ∙ same,
-    )
+    let read = (goal.at.returns c).After-total_seconds-end_time in
+    let (text, range) = says read in
+    (text_of read, text, range, rw (same_rule read) at c.in_ok-rule.ensures.ok, c.in_ok-rule.ensures.value ∙ same_rule read)
 
 pub returns-in_err-fixed : goal.returns-in_err-fixed
 returns-in_err-fixed c =

@@ -12,30 +12,25 @@ use Rattle.tz_zone.proofs.timezone.offsets.offsets.Goals as goal
 pub returns-in-Some : goal.returns-in-Some
 returns-in-Some c =
     let rule = rule_seen c.in-Some.rule in
-    let least = c.least_offset-least in
-    let greatest = c.greatest_offset-greatest in
-    let fits_least : SFits w32 least.result = search rules in
-    let fits_greatest : SFits w32 greatest.result = search rules in
-    let both = rw (to_z-of_z w32 least.result fits_least, to_z-of_z w32 greatest.result fits_greatest) at c.with_rule.ensures in
+    let (low, high) = c.offsets_of_types-least.result in
+    let types = c.offsets_of_types-least.ensures in
+    let of_zone = ap (option_map rule_seen) c.in-Some.is in
+    let low_fits : SFits w32 low = search rules in
+    let high_fits : SFits w32 high = search rules in
+    let both = rw (to_z-of_z w32 low low_fits, to_z-of_z w32 high high_fits) at c.with_rule.ensures in
     record {
       least = (
-        elim both.exact.0 [
-          | inl e ↦ inl (least.ensures.of_type.0, least.ensures.of_type.1, least.ensures.of_type.2, e ∙ least.ensures.of_type.3)
-          | inr of_rule ↦ inr (rule, (ap (option_map rule_seen) c.in-Some.is), of_rule)
-        ],
+        elim both.exact.0 [ inl e ↦ inl (rw e types.of_types.0) | inr of_rule ↦ inr (rule, of_zone, of_rule) ],
         λ o is. elim is [
-          | inl of_type ↦ omega (arith, ints, least.ensures.least o of_type, both.least)
-          | inr w ↦ (both.between o (subst (λ (r : TransitionRule). IsOffsetOfRule r o) (same_Some w.0 rule (sym w.1 ∙ (ap (option_map rule_seen) c.in-Some.is))) w.2)).0
+          | inl of_type ↦ omega (arith, ints, (types.between o of_type).0, both.least)
+          | inr w ↦ (both.between o (subst (λ (r : TransitionRule). IsOffsetOfRule r o) (same_Some w.0 rule (sym w.1 ∙ of_zone)) w.2)).0
         ],
       );
       greatest = (
-        elim both.exact.1 [
-          | inl e ↦ inl (greatest.ensures.of_type.0, greatest.ensures.of_type.1, greatest.ensures.of_type.2, e ∙ greatest.ensures.of_type.3)
-          | inr of_rule ↦ inr (rule, (ap (option_map rule_seen) c.in-Some.is), of_rule)
-        ],
+        elim both.exact.1 [ inl e ↦ inl (rw e types.of_types.1) | inr of_rule ↦ inr (rule, of_zone, of_rule) ],
         λ o is. elim is [
-          | inl of_type ↦ omega (arith, ints, greatest.ensures.greatest o of_type, both.greatest)
-          | inr w ↦ (both.between o (subst (λ (r : TransitionRule). IsOffsetOfRule r o) (same_Some w.0 rule (sym w.1 ∙ (ap (option_map rule_seen) c.in-Some.is))) w.2)).1
+          | inl of_type ↦ omega (arith, ints, (types.between o of_type).1, both.greatest)
+          | inr w ↦ (both.between o (subst (λ (r : TransitionRule). IsOffsetOfRule r o) (same_Some w.0 rule (sym w.1 ∙ of_zone)) w.2)).1
         ],
       );
     }

@@ -5,4 +5,4 @@ use Rattle.tz_zone.specs.TzParts.{block_view}
 use Rattle.tz_zone.proofs.parse.tz_file.indicators.check_indicators.Given as goal
 
 abbrev pub invariant-loop-i : goal.invariant-loop-i
-invariant-loop-i l = (i : ℕ) → i < l.i → HasIndicators (block_view l.part.block) i
+invariant-loop-i l = (i : ℕ) → i < l.i → HasIndicators (block_view l.unit.block) i

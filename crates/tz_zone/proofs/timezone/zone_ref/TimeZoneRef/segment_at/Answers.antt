@@ -1,24 +1,11 @@
 -- The zone that is seen through the view is this one.
-use Rattle.std.proofs.Common.{◌∙◌, ap, sym, subst, rules}
 use Rattle.std.proofs.lemmas.Int.{to_z-of_z}
 use mir.Syntax.{w64}
-use mir.Val.{SFits}
-use Rattle.tz_zone.specs.Changes.{Segment, IsTrueSegment}
-use Rattle.tz_zone.specs.ClockSegments.{IsSegmentAt}
-use Rattle.tz_zone.specs.Table.{Zone}
 use Rattle.tz_zone.specs.ZoneRef.{zone_of}
-use Rattle.tz_zone.specs.ZoneSeen.{zone_seen}
 use Rattle.tz_zone.proofs.SegmentTypes.{true_segment}
 use Rattle.tz_zone.proofs.timezone.zone_ref.TimeZoneRef.segment_at.Goals as goal
 
 pub returns-clause-segment : goal.returns-clause-segment
 returns-clause-segment c =
-    let z = zone_of c.args.self.now in
     let u = c.args.unix_time in
-    let s = c.clock_segment_at-segment.result in
-    let from : SFits w64 s.from = search rules in
-    let last : SFits w64 s.last = search rules in
-    let Seen : Zone → Type 0 = λ z. IsSegmentAt z u s in
-    let at = subst Seen (ap (λ transitions. zone_seen transitions c.other_parts.result) (c.new-view.ensures ∙ c.transitions.ensures) ∙ c.other_parts.ensures)
-    (rw (to_z-of_z w64 u c.ranges.unix_time) at c.clock_segment_at-segment.ensures.at) in
-    subst (λ (x : Segment). IsTrueSegment z x) (sym c.new.ensures) (rw (to_z-of_z w64 s.from from, to_z-of_z w64 s.last last) (true_segment z u s at))
+    true_segment (zone_of c.args.self.now) u c.clock_segment_at.result (rw (c.new-view.ensures, c.transitions.ensures, c.other_parts.ensures, to_z-of_z w64 u c.ranges.unix_time) at c.clock_segment_at.ensures.at)

@@ -1,0 +1,35 @@
+-- Once leap times have left 64 bits the clock has no type, and none before a truncated start.
+use Rattle.std.proofs.Common.{◌≡◌, arith, rules, ℤ, pos, negsuc, ◌-ℤ◌, ◌<ℤ◌}
+use Rattle.std.proofs.lemmas.Int.{ints, to_z-of_z}
+use mir.Syntax.{w64}
+use mir.Val.{SFits, to_z, of_z}
+use Rattle.tz_zone.specs.ZoneSeen.{zone_seen}
+use Rattle.tz_zone.proofs.RuleChanges.{none_past_last, none_up_to_start}
+use Rattle.tz_zone.proofs.SegmentEnds.{some_unless_empty}
+use Rattle.tz_zone.proofs.SegmentTypes.{match_none}
+use Rattle.tz_zone.proofs.clock.preceding.last_place.Goals as goal
+
+one_before : (u : ℤ) → SFits w64 u → negsuc 9223372036854775807 <ℤ u → to_z w64 (of_z w64 (to_z w64 (of_z w64 u) -ℤ pos 1)) ≡ u -ℤ pos 1
+one_before u fits low = omega (arith, ints)
+
+pub returns-in_err-place : goal.returns-in_err-place
+returns-in_err-place c =
+    let z = zone_seen c.args.transitions.now c.args.parts in
+    let u = c.args.unix_time in
+    let last = c.last_instant_up_to-last.result in
+    let fits : SFits w64 last = search rules in
+    let bounds = rw (one_before u c.ranges.unix_time c.requires.not_least) at c.last_instant_up_to-last.ensures in
+    let refused = rw (to_z-of_z w64 last fits) at c.in_err-place.ensures in
+    match_none c.from_residual.result _ _ c.from_residual.ensures
+    (none_up_to_start z c.requires.sound.leap_seconds_are refused.0 last u (none_past_last z c.requires.sound.leap_seconds_are refused.0 last u bounds.past) refused.1 (bounds.within last (omega (arith, ints))))
+
+pub returns : goal.returns
+returns c =
+    let z = zone_seen c.args.transitions.now c.args.parts in
+    let u = c.args.unix_time in
+    let last = c.last_instant_up_to-last.result in
+    let fits : SFits w64 last = search rules in
+    let bounds = rw (one_before u c.ranges.unix_time c.requires.not_least) at c.last_instant_up_to-last.ensures in
+    let place = c.in_ok-place.ensures in
+    let some = some_unless_empty c.args.transitions.now c.if-is_empty.ensures in
+    rw (to_z-of_z w64 last fits) (omega (arith, ints, bounds.up_to), rw (to_z-of_z w64 last fits) at place, none_past_last z c.requires.sound.leap_seconds_are some last u bounds.past)

@@ -1,0 +1,43 @@
+//! The frame of a file: its units, one or two, and the footer. (RFC 8536, section 3)
+
+ghost use Rattle.std.specs.Prelude.{◌≡◌, option_copied, IfOk, OnOk, IfErr};
+ghost use Rattle.tz_zone.specs.TzFile.{part_of, footer_of, IsFramed};
+ghost use Rattle.tz_zone.specs.TzFileFault.{FrameFails};
+ghost use Rattle.tz_zone.specs.TzParts.{unit_view, IsSized};
+
+use super::block::{Unit, read_unit};
+use super::number::TimeSize;
+use tz_base::error::parse::TzFileError;
+
+/// What is read of a file.
+#[derive(Clone, Copy)]
+pub(crate) struct Frame<'a> {
+    pub(crate) unit: Unit<'a>,
+    pub(crate) footer: Option<&'a [u8]>,
+}
+
+/// Cuts the file: all slices of it that are read.
+#[inline(always)]
+pub(crate) fn read_frame(bytes: &[u8]) -> Result<Frame<'_>, TzFileError>
+    ensures unit { IfOk result (λ frame. unit_view frame.unit ≡ part_of bytes.now) }
+    ensures footer { IfOk result (λ frame. option_copied frame.footer ≡ footer_of bytes.now) }
+    ensures sizes { IfOk result (λ frame. IsSized frame.unit) }
+    ensures ok { OnOk result (IsFramed bytes.now) }
+    ensures err { IfErr result (FrameFails bytes.now) }
+{
+    let first = read_unit(TimeSize::Four, bytes)?;
+    if first.version == 0 {
+        if !first.after.is_empty() {
+            return Err(TzFileError::RemainingDataV1);
+        }
+        return Ok(Frame {
+            unit: first,
+            footer: None,
+        });
+    }
+    let second = read_unit(TimeSize::Eight, first.after)?;
+    Ok(Frame {
+        unit: second,
+        footer: Some(second.after),
+    })
+}

@@ -1,0 +1,86 @@
+//! The transitions of a block. (RFC 8536, section 3.2)
+
+ghost use Rattle.std.specs.Prelude.{◌≡◌, ℕ, ◌<◌, ◌<ℤ◌, IfOk, IsTrue};
+ghost use Rattle.tz_zone.specs.TzFile.{change_at, transitions_of};
+ghost use Rattle.tz_zone.specs.TzParts.{width_of, block_view, IsSized};
+ghost use Rattle.tz_zone.specs.ValidZone.{HasTypeAtPlace, RisesAtPlace};
+
+use super::block::Unit;
+use super::number::{TimeSize, time_at};
+use crate::table::Transition;
+use std::alloc::{AllocError, Allocator};
+
+/// The transition of a record. The size of its time is an argument, so that a caller with a constant has a loop of its own without a test.
+#[inline(always)]
+#[tactic(auto, unfolding(crate::specs::TzFile::change_at))]
+fn transition_at(size: TimeSize, unit: &Unit<'_>, index: u32) -> Transition
+    requires size { size ≡ unit.now.size }
+    requires sized { IsSized unit.now }
+    requires within { index < unit.now.counts.transition }
+    ensures { result ≡ change_at (width_of unit.now.size) (block_view unit.now.block) index }
+{
+    let at = size.times_len(index);
+    let unix_leap_time = time_at(size, unit.block.times, at);
+    let local_time_type_index = unit.block.indexes[index as usize];
+    Transition::new(unix_leap_time, usize::from(local_time_type_index))
+}
+
+/// Whether those before it are in order, and the transition comes after the last of them and names one of so many types.
+#[inline(always)]
+fn is_in_order(are_in_order: bool, last: Transition, transition: Transition, types: usize) -> bool
+    ensures { IsTrue result → IsTrue are_in_order × (last.unix_leap_time <ℤ transition.unix_leap_time) × (transition.type_index < types) }
+{
+    are_in_order
+        && last.unix_leap_time() < transition.unix_leap_time()
+        && transition.local_time_type_index() < types
+}
+
+/// Transitions, and whether they are known to name types and to come in order: if not, the check of the zone looks at each.
+#[derive(Drop)]
+pub(super) struct ReadTransitions<A: Allocator + Copy> {
+    pub(super) items: Vec<Transition, A>,
+    pub(super) are_in_order: bool,
+}
+
+/// The transitions, in their order, with times of a size that the caller knows. Each is looked at once, while it is read.
+#[inline(always)]
+fn read_transitions_of<A: Allocator + Copy>(
+    alloc: A,
+    size: TimeSize,
+    unit: &Unit<'_>,
+) -> Result<ReadTransitions<A>, AllocError>
+    requires size { size ≡ unit.now.size }
+    requires sized { IsSized unit.now }
+    ensures items { IfOk result (λ t. t.items.items ≡ transitions_of (width_of unit.now.size) (block_view unit.now.block) unit.now.counts.transition) }
+    ensures order { IfOk result (λ t. IsTrue t.are_in_order → (i : ℕ) → HasTypeAtPlace t.items.items unit.now.counts.local_type i × RisesAtPlace t.items.items i) }
+{
+    let mut items = Vec::with_capacity(alloc, unit.counts.transition as usize)?;
+    let types = unit.counts.local_type as usize;
+    let mut last = Transition::new(i64::MIN, 0);
+    let mut are_in_order = true;
+    for i in 0..unit.counts.transition {
+        let transition = transition_at(size, unit, i);
+        are_in_order = is_in_order(are_in_order, last, transition, types);
+        last = transition;
+        items.push_reserved(transition);
+    }
+    Ok(ReadTransitions {
+        items,
+        are_in_order,
+    })
+}
+
+/// The transitions, in their order.
+pub(super) fn read_transitions<A: Allocator + Copy>(
+    alloc: A,
+    unit: &Unit<'_>,
+) -> Result<ReadTransitions<A>, AllocError>
+    requires { IsSized unit.now }
+    ensures items { IfOk result (λ t. t.items.items ≡ transitions_of (width_of unit.now.size) (block_view unit.now.block) unit.now.counts.transition) }
+    ensures order { IfOk result (λ t. IsTrue t.are_in_order → (i : ℕ) → HasTypeAtPlace t.items.items unit.now.counts.local_type i × RisesAtPlace t.items.items i) }
+{
+    match unit.size {
+        TimeSize::Four => read_transitions_of(alloc, TimeSize::Four, unit),
+        TimeSize::Eight => read_transitions_of(alloc, TimeSize::Eight, unit),
+    }
+}

@@ -1,0 +1,70 @@
+//! Switches: where in the year daylight saving time starts, or ends.
+
+ghost use Rattle.std.specs.Prelude.{◌∷◌, [], ℕ, List, MatchResult};
+ghost use Rattle.tz_zone.specs.Bytes.{comma};
+ghost use Rattle.tz_zone.specs.TzText.{IsRuleText, IsRuleInRange};
+ghost use Rattle.tz_zone.specs.TzTextFault.{IsRuleTextFault, IsLastRuleFault, IsRulesFault};
+
+use super::cursor::expect_byte;
+use super::day::read_rule_day;
+use super::time::{WrittenTime, read_time_of_switch};
+use tz_base::error::TzError;
+use tz_base::error::parse::TzStringError;
+use tz_rule::timezone::RuleDay;
+
+/// A switch: a day of each year, and a time of that day.
+#[derive(Clone, Copy)]
+pub(super) struct DayAndTime {
+    pub(super) day: RuleDay,
+    pub(super) time: WrittenTime,
+}
+
+/// A switch, and the rest of the bytes.
+#[inline(always)]
+fn read_switch(text: &[u8], extended: bool) -> Result<(DayAndTime, &[u8]), TzError>
+    ensures { MatchResult result (λ p. IsRuleText extended text.now p.0 p.1.now × IsRuleInRange extended p.0) (IsRuleTextFault extended text.now) }
+{
+    match read_rule_day(text) {
+        Ok((day, rest)) => {
+            let (time, rest) = read_time_of_switch(rest, extended)?;
+            Ok((DayAndTime { day, time }, rest))
+        }
+        Err(error) => Err(error),
+    }
+}
+
+/// The last switch, with nothing after it.
+#[inline(always)]
+fn read_last_switch(text: &[u8], extended: bool) -> Result<DayAndTime, TzError>
+    ensures { MatchResult result (λ switch. IsRuleText extended text.now switch [] × IsRuleInRange extended switch) (IsLastRuleFault extended text.now) }
+{
+    match read_switch(text, extended) {
+        Ok((switch, rest)) => {
+            if !rest.is_empty() {
+                return Err(TzError::TzString(TzStringError::RemainingData));
+            }
+            Ok(switch)
+        }
+        Err(error) => Err(error),
+    }
+}
+
+/// The start and the end, with a comma between them and nothing after them.
+#[inline(always)]
+pub(super) fn read_switches(
+    text: &[u8],
+    extended: bool,
+) -> Result<(DayAndTime, DayAndTime), TzError>
+    ensures { MatchResult result
+        (λ p. ((end_text : List ℕ) × IsRuleText extended text.now p.0 (comma ∷ end_text) × IsRuleText extended end_text p.1 []) × IsRuleInRange extended p.0 × IsRuleInRange extended p.1)
+        (IsRulesFault extended text.now) }
+{
+    match read_switch(text, extended) {
+        Ok((start, rest)) => {
+            let end_text = expect_byte(rest, b',')?;
+            let end = read_last_switch(end_text, extended)?;
+            Ok((start, end))
+        }
+        Err(error) => Err(error),
+    }
+}
