@@ -1,18 +1,21 @@
 //! The answers of query lines.
 
-ghost use Rattle.std.specs.Prelude.{◌≡◌, ◌≤◌, ◌≤ℤ◌, ℕ, List, [], length, drop, IfOk, IfErr, IfSome, IsTrue, alloc_error};
+ghost use Rattle.std.specs.Prelude.{◌≡◌, ◌≤◌, ◌≤ℤ◌, ℕ, List, [], length, drop, IfOk, IfErr, IfSome, IsTrue, MatchResult, alloc_error};
+ghost use Rattle.tz_zone.specs.Table.{Zone};
+ghost use Rattle.tz_zone.specs.TzFile.{IsTzFile};
+ghost use Rattle.tz_zone.specs.TzFileFault.{IsReadFault};
 ghost use Rattle.tz_zone.specs.ZoneRef.{zone_of};
-ghost use Rattle.tz_query.specs.Answers.{AreAnswers};
+ghost use Rattle.tz_query.specs.Answers.{AreAnswers, AreFileAnswers};
 
 use super::line_meaning::LineMeaning;
 use super::lines::{Query, after_line, read_query, read_usual_search_line, read_usual_time_line};
 use super::nanoseconds::Nanoseconds;
 use super::output::Output;
 use super::page::Page;
-use super::suffixes::{Suffix, Suffixes};
+use super::type_texts::{Suffix, Suffixes};
 use std::alloc::{AllocError, Allocator};
 use tz::inner::search_zone;
-use tz::{LocalTimeType, TimeZoneRef, TzError};
+use tz::{LocalTimeType, TimeZone, TimeZoneRef, TzError};
 
 /// 30 days in seconds: lines whose instants are less than this apart are taken as lines in order.
 const NEAR: u64 = 2_592_000;
@@ -199,4 +202,30 @@ pub fn answer<A: Allocator + Copy>(
     }
     let Answers { output, .. } = answers;
     Ok(output.into_answers()?)
+}
+
+/// Answers query bytes over the zone that the bytes of a TZif file denote, as [`answer`] does. (RFC 8536)
+///
+/// ```rust
+/// pub fn answer_lines(alloc: Global, file: &[u8], lines: &[u8]) -> Result<Vec<u8>, TzError> {
+///     query::answer_tzif(alloc, file, lines)
+/// }
+/// ```
+///
+/// # Errors
+///
+/// - those of [`TimeZone::from_tz_data`], before a query is read;
+/// - [`TzError::Memory`] if an allocation fails.
+pub fn answer_tzif<A: Allocator + Copy>(
+    alloc: A,
+    tz_bytes: &[u8],
+    queries: &[u8],
+) -> Result<Vec<u8, A>, TzError>
+    ensures ok { IfOk result (λ answers. AreFileAnswers tz_bytes.now queries.now answers.items) }
+    ensures only { (zone : Zone) → IsTzFile tz_bytes.now zone
+        → MatchResult result (λ answers. AreAnswers zone queries.now answers.items) (λ e. e ≡ TzError.Memory alloc_error) }
+    ensures err { IfErr result (IsReadFault tz_bytes.now) }
+{
+    let zone = TimeZone::from_tz_data(alloc, tz_bytes)?;
+    answer(alloc, zone.as_ref(), queries)
 }

@@ -8,8 +8,8 @@ use super::error_names::field_fault_name;
 use super::line_meaning::LineMeaning;
 use super::nanoseconds::Nanoseconds;
 use super::output::Output;
-use super::suffixes::Suffix;
 use super::time_answers::shown_fields;
+use super::type_texts::Suffix;
 use std::alloc::{AllocError, Allocator};
 use tz::datetime::FoundDateTimeKind;
 use tz::inner::{self, Fields, fields_of, window_of};
@@ -40,7 +40,7 @@ impl<A: Allocator> Output<A> {
     {
         self.make_room()?;
         self.page.push(front);
-        self.page.push_moment(fields, nanoseconds, suffix);
+        self.page.push_date_time(fields, nanoseconds, suffix);
         Ok(())
     }
 }
@@ -56,11 +56,10 @@ impl<'a, A: Allocator + Copy> Answers<'a, A> {
     ghost use Rattle.tz.specs.Windows.{IsSearchable};
     ghost use Rattle.tz.specs.declared.datetime.found.FoundDateTimeKind.TheVariants.{Normal as Shown, Skipped as SkippedKind};
     ghost use Rattle.tz_query.specs.Answers.{entry_text, found_lines};
-    ghost use Rattle.tz_query.specs.Entries.{HasNanoseconds};
     ghost use Rattle.tz_query.specs.LineMeanings.{IsMeaningOf};
     ghost use Rattle.tz_query.specs.Lines.{ended, line_feed};
     ghost use Rattle.tz_query.specs.Numbers.{space};
-    ghost use Rattle.tz_query.specs.Nanoseconds.{number_of, with_nanoseconds};
+    ghost use Rattle.tz_query.specs.Nanoseconds.{HasNanoseconds, number_of, with_nanoseconds};
     ghost use Rattle.tz_query.specs.Outputs.{Adds, IsAnswered, IsSound};
     ghost use Rattle.tz_query.specs.declared.query.lines.Query.TheVariants.{Search};
 
@@ -102,11 +101,11 @@ impl<'a, A: Allocator + Copy> Answers<'a, A> {
         self.output.make_room()?;
         self.output.page.push(front);
         let suffix = self.suffixes.of(before);
-        self.output.page.push_moment(first, nanoseconds, suffix);
+        self.output.page.push_date_time(first, nanoseconds, suffix);
         self.output.page.pop();
         self.output.page.push(b" ");
         let suffix = self.suffixes.of(after);
-        self.output.page.push_moment(second, nanoseconds, suffix);
+        self.output.page.push_date_time(second, nanoseconds, suffix);
         Ok(())
     }
 

@@ -9,7 +9,7 @@ use super::answers::Answers;
 use super::error_names::fault_name;
 use super::nanoseconds::Nanoseconds;
 use super::output::Output;
-use super::suffixes::Suffix;
+use super::type_texts::Suffix;
 use std::alloc::{AllocError, Allocator};
 use tz::constants::NANOSECONDS_PER_SECOND;
 use tz::inner::{Fields, local_reading};
@@ -60,7 +60,7 @@ impl<A: Allocator> Output<A> {
             return self.push_error("OutOfRange");
         };
         self.make_room()?;
-        self.page.push_moment(&fields, nanoseconds, suffix);
+        self.page.push_date_time(&fields, nanoseconds, suffix);
         Ok(())
     }
 }

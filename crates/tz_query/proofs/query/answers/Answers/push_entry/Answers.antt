@@ -5,11 +5,10 @@ use Rattle.std.proofs.lemmas.Result.{IfOk-weaker}
 use Rattle.tz.specs.DateTimes.{DateTime, moment_of}
 use Rattle.tz.specs.PrintedText.{moment_text}
 use Rattle.tz_query.specs.Answers.{entry_text}
-use Rattle.tz_query.specs.Entries.{HasNanoseconds}
 use Rattle.tz_query.specs.Lines.{ended}
 use Rattle.tz_query.proofs.AddedText.{with_text}
 use Rattle.tz_query.proofs.EntryLines.{made_again}
-use Rattle.tz_query.specs.Nanoseconds.{number_of}
+use Rattle.tz_query.specs.Nanoseconds.{HasNanoseconds, number_of}
 use Rattle.tz_query.proofs.query.answers.Answers.push_entry.Goals as goal
 
 pub returns-in-Normal : goal.returns-in-Normal

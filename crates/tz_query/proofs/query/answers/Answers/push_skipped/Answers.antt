@@ -22,9 +22,9 @@ returns g c u v =
     let second = moment_text (moment_of (record c.args.second.now { nanoseconds = n }) c.args.after.now v) in
     let line = front ++ (first ++ 32 ∷ (second ++ 10 ∷ [])) in
     let begun = c.push.new.self in
-    let one : c.push_moment.new.self ≡ begun ++ (first ++ 10 ∷ []) = rw c.of-suffix.ensures at (c.push_moment.ensures.text u) in
+    let one : c.push_date_time.new.self ≡ begun ++ (first ++ 10 ∷ []) = rw c.of-suffix.ensures at (c.push_date_time.ensures.text u) in
     let popped : c.pop.new.self ≡ begun ++ first = c.pop.ensures.text (begun ++ first) 10 (one ∙ sym (append_assoc begun first (10 ∷ []))) in
-    let two : c.push_moment-2.new.self ≡ c.push-2.new.self ++ (second ++ 10 ∷ []) = rw c.of-suffix-2.ensures at (c.push_moment-2.ensures.text v) in
+    let two : c.push_date_time-2.new.self ≡ c.push-2.new.self ++ (second ++ 10 ∷ []) = rw c.of-suffix-2.ensures at (c.push_date_time-2.ensures.text v) in
     record {
       zone_is = refl;
       sound = λ s. s;
@@ -37,5 +37,5 @@ returns g c u v =
           ∙ ap (λ bytes. bytes ++ line) c.in_ok-make_room.ensures.text;
     }
 
-pub push_moment-requires-2-clause-room : goal.push_moment-requires-2-clause-room
-push_moment-requires-2-clause-room g c = omega (arith, c.in_ok-make_room.ensures.room, c.requires.front, c.push.ensures.len, c.push_moment.ensures.len, c.pop.ensures.len, c.push-2.ensures.len)
+pub push_date_time-requires-2-clause-room : goal.push_date_time-requires-2-clause-room
+push_date_time-requires-2-clause-room g c = omega (arith, c.in_ok-make_room.ensures.room, c.requires.front, c.push.ensures.len, c.push_date_time.ensures.len, c.pop.ensures.len, c.push-2.ensures.len)

@@ -39,5 +39,5 @@ returns g c z clock =
     let page = c.make_room.new.self.page in (
       moment_text d,
       inl (d, (t, clock, record { civil = civil_with (u +ℤ t.ut_offset) n f c.args.nanoseconds.now.below civil; type_is = refl; instant_is = refl }), subst IsReading (sym civil.reads) reads, refl),
-      ap (λ bytes. items ++ bytes) (c.push_moment.ensures.text u) ∙ sym (append_assoc items page (moment_text d ++ line_feed ∷ [])) ∙ ap (λ bytes. bytes ++ (moment_text d ++ line_feed ∷ [])) c.in_ok-make_room.ensures.text,
+      ap (λ bytes. items ++ bytes) (c.push_date_time.ensures.text u) ∙ sym (append_assoc items page (moment_text d ++ line_feed ∷ [])) ∙ ap (λ bytes. bytes ++ (moment_text d ++ line_feed ∷ [])) c.in_ok-make_room.ensures.text,
     )
