@@ -12,7 +12,8 @@ ghost use Rattle.tz_query.specs.MeetingDates.{IsInYears, IsWeekOf, day_after, mi
 use super::answers::Answers;
 use super::error_names::field_fault_name;
 use super::nanoseconds::Nanoseconds;
-use std::alloc::{AllocError, Allocator};
+use super::output::Written;
+use std::alloc::Allocator;
 use tz::constants::{SECONDS_PER_DAY, SECONDS_PER_WEEK};
 use tz::error::datetime::DateTimeError;
 use tz::inner::Fields;
@@ -69,7 +70,7 @@ impl<'a, A: Allocator + Copy> Answers<'a, A> {
     /// Answers a weekly meeting, which takes place in `count` weeks, in the first of them at these fields: for each week, by a search for its
     /// fields, or that its year is out of range.
     #[inline(never)]
-    pub fn answer_meeting(&mut self, count: u8, first: &Fields) -> Result<(), AllocError>
+    pub fn answer_meeting(&mut self, count: u8, first: &Fields) -> Written
         requires { IsSound self.old }
         ensures { IfOk result (λ _. IsAnswered (Meeting count first.now) self.old self.new) }
     {

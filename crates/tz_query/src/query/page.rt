@@ -132,8 +132,8 @@ impl Page {
         let at = self.len;
         self.bytes[at..at + 16].copy_from_slice(middle);
         self.bytes[at + 16..at + 25].copy_from_slice(nine);
-        self.bytes[at + 25..at + 57].copy_from_slice(&suffix.bytes());
-        self.len = at + 25 + suffix.len();
+        self.bytes[at + 25..at + 57].copy_from_slice(&suffix.bytes);
+        self.len = at + 25 + suffix.len;
     }
 
     /// Appends the line of a date time: the fields with these nanoseconds in the place of their own, the offset and the name of its type, and LF.
