@@ -7,6 +7,7 @@ pub use crate::datetime::find::find_fields;
 pub use crate::datetime::plain::{DateTimeData, FoundData, UtcData};
 pub use crate::datetime::search::{search_zone, window_of};
 pub use crate::datetime::zone_view::{find_into, find_one, from_timespec};
+pub use crate::parse::number::{read_digits, value_of};
 pub use crate::print::middle_of;
 pub use crate::text_buffer::{TextBuffer, two_pairs};
 pub use tz_base::fields::{Fields, is_reading, local_reading};

@@ -1,15 +1,17 @@
 -- What steps that follow one another add to the answers.
-use Rattle.std.proofs.Common.{◌≡◌, ℕ, ℤ, List, [], ◌∷◌, ◌++◌, refl, ap, subst, ◌∙◌, append_assoc}
+use Rattle.std.proofs.Common.{◌≡◌, ℕ, ℤ, List, [], ◌∷◌, ◌++◌, refl, sym, ap, subst, ◌∙◌, append_assoc}
 use Rattle.std.specs.Prelude.{Result, IfOk}
+use Rattle.std.proofs.lemmas.List.{append_cancel_right}
 use Rattle.std.proofs.lemmas.Result.{IfOk-weaker}
 use Rattle.tz_zone.specs.ZoneRef.{zone_of}
 use Rattle.tz_query.specs.Answers.{IsQueryAnswer, IsTimeAnswer}
-use Rattle.tz_query.specs.Lines.{ended}
+use Rattle.tz_query.specs.Lines.{ended, line_feed}
 use Rattle.tz_query.specs.Outputs.{Adds, IsAnswered, Leaves, written}
+use Rattle.tz_query.specs.Pages.{EndsLine}
 use Rattle.tz_query.specs.declared.query.lines.Query.{Query}
 use Rattle.tz_query.specs.declared.query.lines.Query.TheVariants.{Time}
 use Rattle.tz_query.specs.declared.query.output.Output.{Output}
-use Rattle.tz_query.specs.declared.query.suffixes.Suffixes.{Suffixes}
+use Rattle.tz_query.specs.declared.query.type_texts.Suffixes.{Suffixes}
 use Rattle.tz_query.specs.declared.query.answers.Answers.{Answers}
 
 module _ {A : Type 0} {a b : Answers A} {x : List ℕ} where
@@ -32,6 +34,20 @@ module _ {A : Type 0} {a b : Answers A} {x : List ℕ} where
     sound = λ sound. more.sound (same.sound sound);
     text_is = more.text_is ∙ ap (λ output. written output ++ x) same.output_is;
   }
+
+-- a line without its end, and what follows on the same line
+pub adds_joined : {A : Type 0} {a b c : Answers A} {y : List ℕ} (x page : List ℕ) → Adds a b (x ++ line_feed ∷ []) → EndsLine b.output.page →
+    ((text : List ℕ) (byte : ℕ) → b.output.page ≡ text ++ byte ∷ [] → page ≡ text) → Adds (record b { output = record b.output { page = page } }) c y → Adds a c (x ++ y)
+adds_joined {A} {a} {b} {c} x page first (text, ends) popped second =
+    let items = b.output.answers.items in
+    let end = line_feed ∷ [] in
+    let whole : page ++ end ≡ b.output.page = ap (λ bytes. bytes ++ end) (popped text line_feed ends) ∙ sym ends in
+    let joined : Adds a (record b { output = record b.output { page = page } }) x = record {
+      zone_is = first.zone_is;
+      sound = first.sound;
+      text_is = append_cancel_right (items ++ page) (written a.output ++ x) end (append_assoc items page end ∙ ap (λ bytes. items ++ bytes) whole ∙ first.text_is ∙ sym (append_assoc (written a.output) x end));
+    } in
+    adds_both joined second
 
 -- the answer of a query, where it alone is written
 pub answer_written : {A T E : Type 0} (query : Query) (a : Answers A) (output : Output A) (r : Result T E) (answer : List (List ℕ)) → IsQueryAnswer (zone_of a.zone) query answer →

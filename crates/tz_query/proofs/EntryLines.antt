@@ -19,13 +19,12 @@ use Rattle.tz.proofs.DatedEntries.{found_from_entries, made_from_entries}
 use Rattle.tz_zone.specs.ZoneRef.{zone_of}
 use Rattle.tz.specs.PrintedText.{moment_text}
 use Rattle.tz_query.specs.Answers.{found_lines, IsSearchAnswer}
-use Rattle.tz_query.specs.Nanoseconds.{number_of, with_nanoseconds}
+use Rattle.tz_query.specs.Nanoseconds.{HasNanoseconds, number_of, with_nanoseconds}
 use Rattle.tz_query.specs.Outputs.{Adds, IsAnswered}
 use Rattle.tz_query.specs.declared.query.answers.Answers.{Answers}
 use Rattle.tz_query.specs.declared.query.lines.Query.TheVariants.{Search}
 use Rattle.tz_query.specs.declared.query.nanoseconds.Nanoseconds.{Nanoseconds}
 use Rattle.tz_query.proofs.AddedText.{with_text}
-use Rattle.tz_query.specs.Entries.{HasNanoseconds}
 use Rattle.tz_query.specs.Lines.{ended}
 use Rattle.tz_query.proofs.OtherNanoseconds.{same_fields, valid_with}
 

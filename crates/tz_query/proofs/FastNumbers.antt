@@ -1,9 +1,10 @@
 -- Digits that are read eight at once, and nine digits that are copied.
-use Rattle.std.proofs.Common.{◌≡◌, ℕ, zero, suc, ◌+◌, ◌-◌, ◌*◌, ◌/◌, ◌%◌, ◌^◌, ◌<◌, ◌≤◌, Bool, true, false, cond, pos, neg_ℤ, List, [], ◌∷◌, ◌++◌, length, take, drop, get_or, set, replicate, refl, sym, ap, ◌∙◌, subst, arith, inl}
+use Rattle.std.proofs.Common.{◌≡◌, ℕ, zero, suc, ◌+◌, ◌-◌, ◌*◌, ◌/◌, ◌%◌, ◌^◌, ◌<◌, ◌≤◌, Bool, true, false, cond, pos, neg_ℤ, List, [], ◌∷◌, ◌++◌, length, take, drop, get_or, set, replicate, refl, sym, ap, ◌∙◌, subst, arith, inl, inr}
 use Rattle.std.specs.Prelude.{slice_range}
 use Rattle.std.specs.Char.{digit_value, is_ascii_digit}
 use Rattle.std.specs.Str.Parse.{AllDigits, digits_value}
 use Rattle.std.specs.Float.Numeral.{digits_len}
+use Rattle.std.proofs.lemmas.Bool.{cases_lt}
 use Rattle.std.proofs.lemmas.Bool.Decides.{nat_tests}
 use Rattle.std.proofs.lemmas.Int.Digits.{digits_value-lt, digits_value_push}
 use Rattle.std.proofs.lemmas.List.{take_all, take-append-drop, drop-drop, drop-take, drop_more, length-drop, length-take-le, take-take, take_more}
@@ -14,7 +15,8 @@ use Rattle.std.proofs.Math.Nat.{pow-le-pow_right}
 use mathlib.Core.Bool.{true≢false}
 use Rattle.core.proofs.dec2flt.DigitsLemmas.{digit_range, is_digit}
 use Rattle.tz.specs.PrintedText.{last_digits, nine_digits}
-use Rattle.tz_query.specs.Numbers.{IsNumberFront, IsDigitsFront, EndsDigits, IsPartFront}
+use Rattle.tz.specs.DateTimeText.{IsDigits, EndsDigits}
+use Rattle.tz_query.specs.Numbers.{IsNumberFront, IsPartFront}
 use Rattle.tz_query.proofs.NumberFronts.{plain_number, minus_number}
 
 -- a digit by its value, and by its byte
@@ -37,7 +39,7 @@ first_digits (b ∷ bs) = go (is_ascii_digit b) refl (first_digits bs)
     go true is (all, ends) = let next : 1 + digits_len bs ≡ suc (digits_len bs) = omega arith in rw next (((value_of_digit b is).0, all), ends)
     go false is more = (tt, λ digit. let range = digit_of_value b digit in true≢false (sym (is_digit b range.0 range.1).0 ∙ is))
 
-digits_front_is : (bs : List ℕ) (n : ℕ) → n ≡ digits_len bs → IsDigitsFront bs (take n bs) (drop n bs)
+digits_front_is : (bs : List ℕ) (n : ℕ) → n ≡ digits_len bs → IsDigits bs (take n bs) (drop n bs)
 digits_front_is bs n is =
     record {
       whole = sym (take-append-drop n bs);
@@ -50,10 +52,10 @@ module _ (bs : List ℕ) (place end : ℕ) (within : place ≤ length bs) (end_i
   count_is : end - place ≡ digits_len (drop place bs)
   count_is = omega (arith, end_is)
 
-  pub front_at : IsDigitsFront (drop place bs) (slice_range bs place end) (drop end bs)
+  pub front_at : IsDigits (drop place bs) (slice_range bs place end) (drop end bs)
   front_at =
       let rest : drop (end - place) (drop place bs) ≡ drop end bs = drop-drop (end - place) place bs ∙ ap (λ n. drop n bs) (omega (arith, end_is)) in
-      subst (λ r. IsDigitsFront (drop place bs) (slice_range bs place end) r) rest (digits_front_is (drop place bs) (end - place) count_is)
+      subst (λ r. IsDigits (drop place bs) (slice_range bs place end) r) rest (digits_front_is (drop place bs) (end - place) count_is)
 
   pub length_at : length (slice_range bs place end) ≡ end - place
   length_at = ap (λ n. length (take n (drop place bs))) count_is ∙ length-prefix_len is_ascii_digit (drop place bs) ∙ sym count_is
@@ -70,7 +72,7 @@ module _ (bs : List ℕ) (place end : ℕ) (within : place ≤ length bs) (end_i
 
   -- so they are a number
   pub number_at : (value : ℕ) → place < end → end ≤ place + 18 → value ≡ (0 * 10 ^ (end - place) + digits_value 10 (slice_range bs place end)) % 2 ^ 64 →
-      ((digits : List ℕ) × IsDigitsFront (drop place bs) digits (drop end bs) × (0 < length digits) × (value ≡ digits_value 10 digits)) × (value < 1000000000000000000)
+      ((digits : List ℕ) × IsDigits (drop place bs) digits (drop end bs) × (0 < length digits) × (value ≡ digits_value 10 digits)) × (value < 1000000000000000000)
   number_at value some few is =
       let (same, below) = value_at value few is in
       ((slice_range bs place end, front_at, omega (arith, length_at, some), same), below)
@@ -109,14 +111,16 @@ module _ (bs : List ℕ) (place n k : ℕ) (is : k ≡ 0 + digits_len (drop 0 (s
       let long = length-take-le n (drop place bs) (omega (arith, within, length-drop place bs)) in
       omega (arith, in_window, long, prefix_len-le-length is_ascii_digit (take n (drop place bs)))
 
-  pub end_in_window : k < n → place + k ≡ place + digits_len (drop place bs)
-  end_in_window few = ap (λ m. place + m) (digits_of_window (drop place bs) n k in_window few)
-
-  pub end_of_window : (b : ℕ) → k ≡ n → is_ascii_digit b ≡ false → drop (place + k) bs ≡ b ∷ drop (place + k + 1) bs → place + k ≡ place + digits_len (drop place bs)
-  end_of_window b full other next =
-      let rest : drop n (drop place bs) ≡ drop (place + k) bs = drop-drop n place bs ∙ ap (λ m. drop m bs) (omega (arith, full)) in
-      let none : digits_len (drop n (drop place bs)) ≡ 0 = ap digits_len (rest ∙ next) ∙ ap (λ d. cond d (1 + digits_len (drop (place + k + 1) bs)) 0) other in
-      omega (arith, full, digits_past_window (drop place bs) n (omega (arith, full, in_window)), none)
+  -- they end before a byte that is no digit
+  pub end_before : (b : ℕ) → place + n ≤ length bs → is_ascii_digit b ≡ false → drop (place + k) bs ≡ b ∷ drop (place + k + 1) bs → place + k ≡ place + digits_len (drop place bs)
+  end_before b within other next = elim (cases_lt k n) [
+    | inl less ↦ ap (λ m. place + m) (digits_of_window (drop place bs) n k in_window less)
+    | inr more ↦
+        let full : k ≡ n = omega (arith, few_in_window within, more) in
+        let rest : drop n (drop place bs) ≡ drop (place + k) bs = drop-drop n place bs ∙ ap (λ m. drop m bs) (omega (arith, full)) in
+        let none : digits_len (drop n (drop place bs)) ≡ 0 = ap digits_len (rest ∙ next) ∙ ap (λ d. cond d (1 + digits_len (drop (place + k + 1) bs)) 0) other in
+        omega (arith, full, digits_past_window (drop place bs) n (omega (arith, full, in_window)), none)
+  ]
 
   -- their value
   pub value_in_window : k ≤ n → (value : ℕ) → value ≡ (0 * 10 ^ (k - 0) + digits_value 10 (slice_range (slice_range bs place (place + n)) 0 k)) % 2 ^ 64 →
@@ -170,7 +174,7 @@ nine_digits_are k ds long all =
     (sym padded ∙ ap (last_digits 9) (zeros_in_front k ds), omega (arith, digits_value-lt 10 ds all, power))
 
 -- numbers after a space
-module _ (bytes digits rest : List ℕ) (front : IsDigitsFront bytes digits rest) (some : 0 < length digits) (all : List ℕ) where
+module _ (bytes digits rest : List ℕ) (front : IsDigits bytes digits rest) (some : 0 < length digits) (all : List ℕ) where
   pub plain_part : all ≡ 32 ∷ bytes → IsPartFront all (pos (digits_value 10 digits)) rest
   plain_part space = (bytes, space, plain_number bytes digits rest front some)
 

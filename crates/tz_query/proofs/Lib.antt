@@ -11,4 +11,4 @@ pub mod OtherNanoseconds
 pub mod PageLines
 pub mod EntryLines
 pub mod LineMeanings
-pub mod WeekAnswers
+pub mod MeetingAnswers

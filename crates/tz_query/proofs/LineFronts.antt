@@ -13,7 +13,8 @@ use Rattle.tz_base.specs.declared.fields.Fields.{Fields}
 use Rattle.tz_query.specs.declared.query.lines.Query.{Query}
 use Rattle.tz_query.specs.declared.query.lines.Query.TheVariants.{Time, Search, Meeting}
 use Rattle.tz_query.specs.Lines.{line_feed, IsLine, IsLineEnd, IsFirstLine}
-use Rattle.tz_query.specs.Numbers.{hyphen, space, IsNumber, EndsDigits, AreNumbers, IsPartFront, ArePartsFront}
+use Rattle.tz.specs.DateTimeText.{EndsDigits}
+use Rattle.tz_query.specs.Numbers.{hyphen, space, IsNumber, AreNumbers, IsPartFront, ArePartsFront}
 use Rattle.tz_query.specs.Queries.{time_letter, search_letter, meeting_letter, IsLineOf, IsQueryLine, AreFieldsOfBits, numbers_of}
 use Rattle.tz_query.proofs.NumberFronts.{parts_after, parts_unique, parts_in_front, numbers_from_parts}
 

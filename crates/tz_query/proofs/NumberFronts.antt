@@ -1,26 +1,19 @@
 -- The number at the front of bytes is one alone, and so are numbers after spaces.
-use Rattle.std.proofs.Common.{◌≡◌, ℕ, ◌<◌, ◌≤◌, ◌⊎◌, inl, inr, ℤ, pos, neg_ℤ, List, [], ◌∷◌, ◌++◌, length, drop, refl, sym, ap, ◌∙◌, subst, arith, append_assoc, append-nil, length-append}
+use Rattle.std.proofs.Common.{◌≡◌, ℕ, ◌<◌, ◌≤◌, ◌⊎◌, inl, inr, ℤ, pos, neg_ℤ, List, [], ◌∷◌, ◌++◌, length, drop, refl, sym, ap, ◌∙◌, subst, arith, append_assoc, append-nil}
 use Rattle.std.specs.Prelude.{FitsSigned, Option, Some, None, IfNone}
 use Rattle.std.specs.Int.{w64}
 use Rattle.std.specs.Str.Parse.{AllDigits, digits_value}
-use Rattle.tz_query.specs.Numbers.{hyphen, space, IsNumber, IsNumberFront, IsDigitsFront, EndsDigits, AreNumbers, IsPartFront, ArePartsFront}
+use Rattle.tz.specs.DateTimeText.{IsDigits, EndsDigits}
+use Rattle.tz_query.specs.Numbers.{hyphen, space, IsNumber, IsNumberFront, AreNumbers, IsPartFront, ArePartsFront}
 
 -- digits at the front of bytes are a number, and so they are after a minus
-pub plain_number : (bytes digits rest : List ℕ) → IsDigitsFront bytes digits rest → 0 < length digits → IsNumberFront bytes (pos (digits_value 10 digits)) rest
+pub plain_number : (bytes digits rest : List ℕ) → IsDigits bytes digits rest → 0 < length digits → IsNumberFront bytes (pos (digits_value 10 digits)) rest
 plain_number bytes digits rest front some =
     record { text = digits; whole = front.whole; is_number = (digits, (some, front.all_digits), inl (refl, refl)); ends = front.ends }
 
-pub minus_number : (bytes after digits rest : List ℕ) → bytes ≡ hyphen ∷ after → IsDigitsFront after digits rest → 0 < length digits → IsNumberFront bytes (neg_ℤ (pos (digits_value 10 digits))) rest
+pub minus_number : (bytes after digits rest : List ℕ) → bytes ≡ hyphen ∷ after → IsDigits after digits rest → 0 < length digits → IsNumberFront bytes (neg_ℤ (pos (digits_value 10 digits))) rest
 minus_number bytes after digits rest minus front some =
     record { text = hyphen ∷ digits; whole = minus ∙ ap (λ bs. hyphen ∷ bs) front.whole; is_number = (digits, (some, front.all_digits), inr (refl, refl)); ends = front.ends }
-
--- there are digits where something of the bytes is read, and else none stands first
-pub some_digits : (bytes digits rest : List ℕ) → IsDigitsFront bytes digits rest → length rest < length bytes → 0 < length digits
-some_digits bytes digits rest front less = omega (arith, less, ap length front.whole ∙ length-append digits rest)
-
-pub no_digits : (bytes digits rest : List ℕ) → IsDigitsFront bytes digits rest → length bytes ≤ length rest → EndsDigits bytes
-no_digits bytes [] rest front all = subst EndsDigits (sym front.whole) front.ends
-no_digits bytes (d ∷ digits) rest front all = absurd (omega (arith, all, ap length front.whole ∙ length-append (d ∷ digits) rest))
 
 -- all leading digits, and what follows them, are these alone
 pub digits_front_unique : (digits digits' rest rest' : List ℕ) → AllDigits 10 digits → AllDigits 10 digits' → EndsDigits rest → EndsDigits rest' → digits ++ rest ≡ digits' ++ rest' → (digits ≡ digits') × (rest ≡ rest')
@@ -34,19 +27,19 @@ digits_front_unique (d ∷ digits) (d' ∷ digits') rest rest' all all' ends end
     (cc, after)
 
 -- what stands at the front of bytes that have no digit there, or a minus
-digits_stand_first : (bytes digits rest : List ℕ) → IsDigitsFront bytes digits rest → 0 < length digits → EndsDigits bytes → ⊥
+digits_stand_first : (bytes digits rest : List ℕ) → IsDigits bytes digits rest → 0 < length digits → EndsDigits bytes → ⊥
 digits_stand_first bytes [] rest front some ends = absurd (omega arith)
 digits_stand_first bytes (d ∷ digits) rest front some ends = subst EndsDigits front.whole ends front.all_digits.0
 
-minus_stands_first : (bytes after digits rest : List ℕ) → bytes ≡ hyphen ∷ after → IsDigitsFront bytes digits rest → 0 < length digits → ⊥
+minus_stands_first : (bytes after digits rest : List ℕ) → bytes ≡ hyphen ∷ after → IsDigits bytes digits rest → 0 < length digits → ⊥
 minus_stands_first bytes after digits rest minus front some = digits_stand_first bytes digits rest front some (subst EndsDigits (sym minus) (λ digit. absurd (omega (arith, digit))))
 
 -- a number at the front of bytes is plain, or has a minus
 abbrev IsPlainFront : List ℕ → ℤ → List ℕ → Type 0
-IsPlainFront bytes n rest = (digits : List ℕ) × IsDigitsFront bytes digits rest × (0 < length digits) × (n ≡ pos (digits_value 10 digits))
+IsPlainFront bytes n rest = (digits : List ℕ) × IsDigits bytes digits rest × (0 < length digits) × (n ≡ pos (digits_value 10 digits))
 
 abbrev IsMinusFront : List ℕ → ℤ → List ℕ → Type 0
-IsMinusFront bytes n rest = (after : List ℕ) × (digits : List ℕ) × (bytes ≡ hyphen ∷ after) × IsDigitsFront after digits rest × (0 < length digits) × (n ≡ neg_ℤ (pos (digits_value 10 digits)))
+IsMinusFront bytes n rest = (after : List ℕ) × (digits : List ℕ) × (bytes ≡ hyphen ∷ after) × IsDigits after digits rest × (0 < length digits) × (n ≡ neg_ℤ (pos (digits_value 10 digits)))
 
 number_front_cases : (bytes : List ℕ) (n : ℤ) (rest : List ℕ) → IsNumberFront bytes n rest → IsPlainFront bytes n rest ⊎ IsMinusFront bytes n rest
 number_front_cases bytes n rest front = cases front.is_number
@@ -57,7 +50,7 @@ number_front_cases bytes n rest front = cases front.is_number
     cases (digits, numeral, inr (text, value)) =
         inr (digits ++ rest, digits, front.whole ∙ ap (λ t. t ++ rest) text, record { whole = refl; all_digits = numeral.1; ends = front.ends }, numeral.0, value)
 
-digits_unique : (bytes digits digits' rest rest' : List ℕ) → IsDigitsFront bytes digits rest → IsDigitsFront bytes digits' rest' → (digits ≡ digits') × (rest ≡ rest')
+digits_unique : (bytes digits digits' rest rest' : List ℕ) → IsDigits bytes digits rest → IsDigits bytes digits' rest' → (digits ≡ digits') × (rest ≡ rest')
 digits_unique bytes digits digits' rest rest' front front' =
     digits_front_unique digits digits' rest rest' front.all_digits front'.all_digits front.ends front'.ends (sym front.whole ∙ front'.whole)
 
@@ -73,7 +66,7 @@ number_front_unique bytes n n' rest rest' front front' = both (number_front_case
     both (inr (after, digits, minus, is, some, value)) (inl (digits', is', some', value')) = absurd (minus_stands_first bytes after digits' rest' minus is' some')
     both (inr (after, digits, minus, is, some, value)) (inr (after', digits', minus', is', some', value')) =
         let after_same : after ≡ after' = cc (minus, minus') in
-        let same = digits_unique after digits digits' rest rest' is (subst (λ bs. IsDigitsFront bs digits' rest') (sym after_same) is') in
+        let same = digits_unique after digits digits' rest rest' is (subst (λ bs. IsDigits bs digits' rest') (sym after_same) is') in
         (value ∙ ap (λ ds. neg_ℤ (pos (digits_value 10 ds))) same.0 ∙ sym value', same.1)
 
 -- a number begins with a digit, or with a minus and a digit

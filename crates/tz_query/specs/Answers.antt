@@ -10,6 +10,7 @@ use Rattle.tz_base.specs.declared.error.datetime.DateTimeError.{DateTimeError}
 use Rattle.tz_base.specs.declared.error.datetime.DateTimeError.TheVariants.{InvalidMonth, InvalidMonthDay, InvalidHour, InvalidMinute, InvalidSecond, InvalidNanoseconds}
 use Rattle.tz_zone.specs.Clock.{IsClock}
 use Rattle.tz_zone.specs.Table.{Zone}
+use Rattle.tz_zone.specs.TzFile.{IsTzFile}
 use Rattle.tz.specs.DateTimes.{DateTime, ShowsByClock, IsClockFault}
 use Rattle.tz.specs.FindFaults.{IsFindFault}
 use Rattle.tz.specs.Found.{EachCanBeMade, IsFound}
@@ -101,6 +102,10 @@ pub record AreAnswers (z : Zone) (queries bytes : List ℕ) : Type 0 where
   pub cut : AreLines queries lines
   pub each : AllZip (IsAnswer z) lines answers
   pub written : bytes ≡ flat_map ended answers
+
+-- the file denotes a zone, and the bytes answer the query bytes over it
+abbrev pub AreFileAnswers : List ℕ → List ℕ → List ℕ → Type 0
+AreFileAnswers file queries bytes = (zone : Zone) × IsTzFile file zone × AreAnswers zone queries bytes
 
 -- a line that announces no lines after it: neither `F` nor `W` begins it, with a space
 abbrev pub IsSingle : List ℕ → Type 0

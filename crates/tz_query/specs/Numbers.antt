@@ -1,7 +1,7 @@
 -- Numbers as lines have them.
-use Rattle.std.specs.Prelude.{◌≡◌, ℕ, ◌<◌, ◌⊎◌, ℤ, pos, neg_ℤ, List, [], ◌∷◌, ◌++◌}
-use Rattle.std.specs.Char.{digit_value}
-use Rattle.std.specs.Str.Parse.{AllDigits, IsNumeral, digits_value}
+use Rattle.std.specs.Prelude.{◌≡◌, ℕ, ◌⊎◌, ℤ, pos, neg_ℤ, List, [], ◌∷◌, ◌++◌}
+use Rattle.std.specs.Str.Parse.{IsNumeral, digits_value}
+use Rattle.tz.specs.DateTimeText.{EndsDigits}
 
 -- the sign of a negative number, and what stands before each number
 abbrev pub hyphen : ℕ
@@ -15,17 +15,6 @@ abbrev pub IsNumber : List ℕ → ℤ → Type 0
 IsNumber text n =
     (digits : List ℕ) × IsNumeral 10 digits
     × (((text ≡ digits) × (n ≡ pos (digits_value 10 digits))) ⊎ ((text ≡ hyphen ∷ digits) × (n ≡ neg_ℤ (pos (digits_value 10 digits)))))
-
--- no digit stands first
-abbrev pub EndsDigits : List ℕ → Type 0
-EndsDigits [] = Unit {0}
-EndsDigits (b ∷ bytes) = ¬ (digit_value b < 10)
-
--- the digits at the front of the bytes are all there are, and what follows them
-pub record IsDigitsFront (bytes digits rest : List ℕ) : Type 0 where
-  pub whole : bytes ≡ digits ++ rest
-  pub all_digits : AllDigits 10 digits
-  pub ends : EndsDigits rest
 
 -- the number at the front of the bytes, and what follows it
 pub record IsNumberFront (bytes : List ℕ) (n : ℤ) (rest : List ℕ) : Type 0 where

@@ -12,11 +12,9 @@ use Rattle.tz_query.specs.declared.query.output.Output.{Output}
 abbrev pub written : {A : Type 0} → Output A → List ℕ
 written output = output.answers.items ++ output.page
 
--- through the span that is kept the clock has the type that is kept, and the suffix is that of this type
+-- through the span that is kept the clock has the type whose suffix is kept
 abbrev pub IsSound : {A : Type 0} → Answers A → Type 0
-IsSound a =
-    ((u : ℤ) → a.from ≤ℤ u → u ≤ℤ a.last → IsClock (zone_of a.zone) u a.local_time_type.now)
-    × (a.suffix.local_time_type ≡ a.local_time_type.now)
+IsSound a = (u : ℤ) → a.from ≤ℤ u → u ≤ℤ a.last → IsClock (zone_of a.zone) u a.suffix.local_time_type
 
 -- what was written is the same, and so is the zone
 pub record Leaves {A : Type 0} (before after : Answers A) : Type 0 where

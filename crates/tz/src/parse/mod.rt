@@ -2,7 +2,7 @@
 
 mod error;
 mod fields;
-mod number;
+pub(crate) mod number;
 mod offset;
 mod usual;
 

@@ -9,7 +9,7 @@ use tz_zone::inner::after_byte;
 
 /// The value of a digit, which is below 10; for every other byte it is 10 or more.
 #[inline(always)]
-fn value_of(byte: u8) -> u8
+pub fn value_of(byte: u8) -> u8
     ensures digit { result < 10 → (digit_value byte < 10) × (result ≡ digit_value byte) }
     ensures byte { result < 10 → byte ≡ 48 + result }
     ensures only { (d : ℕ) → d < 10 → byte ≡ 48 + d → result ≡ d }
@@ -21,7 +21,7 @@ fn value_of(byte: u8) -> u8
 /// The number of the digits at the beginning of the bytes, and how many these are. In the place of a number of 10^19 or more stands some
 /// number that is no less than 10^19.
 #[inline(always)]
-pub(super) fn read_digits(text: &[u8]) -> (u64, usize)
+pub fn read_digits(text: &[u8]) -> (u64, usize)
     ensures digits { IsDigits text.now (take result.1 text.now) (drop result.1 text.now) }
     ensures count { result.1 ≤ length text.now }
     ensures size { min result.0 10000000000000000000 ≡ min (digits_value 10 (take result.1 text.now)) 10000000000000000000 }

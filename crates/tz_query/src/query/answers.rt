@@ -1,18 +1,19 @@
 //! The answers of query lines.
 
-ghost use Rattle.std.specs.Prelude.{◌≡◌, ◌≤◌, ◌≤ℤ◌, ℕ, List, [], length, drop, IfOk, IfErr, IfSome, IsTrue, alloc_error};
+ghost use Rattle.std.specs.Prelude.{◌≡◌, ◌≤◌, ◌≤ℤ◌, ℕ, List, [], length, drop, IfOk, IfErr, IfSome, IsTrue, MatchResult, alloc_error};
+ghost use Rattle.tz_zone.specs.Table.{Zone};
+ghost use Rattle.tz_zone.specs.TzFile.{IsTzFile};
+ghost use Rattle.tz_zone.specs.TzFileFault.{IsReadFault};
 ghost use Rattle.tz_zone.specs.ZoneRef.{zone_of};
-ghost use Rattle.tz_query.specs.Answers.{AreAnswers};
+ghost use Rattle.tz_query.specs.Answers.{AreAnswers, AreFileAnswers};
 
-use super::line_meaning::LineMeaning;
 use super::lines::{Query, after_line, read_query, read_usual_search_line, read_usual_time_line};
 use super::nanoseconds::Nanoseconds;
 use super::output::Output;
 use super::page::Page;
-use super::suffixes::{Suffix, Suffixes};
+use super::type_texts::{Suffix, Suffixes};
 use std::alloc::{AllocError, Allocator};
-use tz::inner::search_zone;
-use tz::{LocalTimeType, TimeZoneRef, TzError};
+use tz::{LocalTimeType, TimeZone, TimeZoneRef, TzError};
 
 /// 30 days in seconds: lines whose instants are less than this apart are taken as lines in order.
 const NEAR: u64 = 2_592_000;
@@ -24,7 +25,6 @@ pub struct Answers<'a, A: Allocator + Copy> {
     pub zone: TimeZoneRef<'a>,
     from: i64,
     last: i64,
-    local_time_type: &'a LocalTimeType,
     /// The suffix of the span's type.
     pub suffix: Suffix,
     pub suffixes: Suffixes,
@@ -34,35 +34,9 @@ pub struct Answers<'a, A: Allocator + Copy> {
 }
 
 impl<'a, A: Allocator + Copy> Answers<'a, A> {
-    ghost use Rattle.tz.specs.Entries.{Entry, AreEntries};
-    ghost use Rattle.tz.specs.Windows.{IsSearchable};
-    ghost use Rattle.tz_zone.specs.Clock.{IsClock};
     ghost use Rattle.tz_query.specs.Answers.{IsAnswer};
     ghost use Rattle.tz_query.specs.Lines.{IsFirstLine, ended};
-    ghost use Rattle.tz_query.specs.LineMeanings.{IsMeaningOf};
-    ghost use Rattle.tz_query.specs.Outputs.{Adds, IsSound, Leaves, written};
-
-    /// Answers that follow these bytes. The span holds no instant yet.
-    #[inline(always)]
-    fn new(alloc: A, zone: TimeZoneRef<'a>, answers: Vec<u8, A>) -> Answers<'a, A>
-        ensures written { written result.output ≡ answers.items }
-        ensures zone { result.zone ≡ zone.entry }
-        ensures sound { IsSound result }
-    {
-        let page = Page::new();
-        let local_time_type = &zone.local_time_types()[0];
-        Answers {
-            alloc,
-            zone,
-            from: 1,
-            last: 0,
-            local_time_type,
-            suffix: Suffix::new(*local_time_type),
-            suffixes: Suffixes::new(),
-            missed: 0,
-            output: Output { answers, page },
-        }
-    }
+    ghost use Rattle.tz_query.specs.Outputs.{Adds, IsSound, Leaves};
 
     /// Whether instants from the first one to the second are in the span.
     #[inline(always)]
@@ -82,14 +56,13 @@ impl<'a, A: Allocator + Copy> Answers<'a, A> {
         if let Some(local_time_type) = segment.local_time_type() {
             self.from = segment.from();
             self.last = segment.last();
-            self.local_time_type = local_time_type;
             self.suffix = *self.suffixes.of(local_time_type);
         }
     }
 
     /// Keeps the segment around an instant if the lines seem to be in order.
     #[inline(always)]
-    fn keep_if_near(&mut self, unix_time: i64)
+    pub fn follow(&mut self, unix_time: i64)
         requires { IsSound self.old }
         ensures { Leaves self.old self.new }
     {
@@ -97,32 +70,6 @@ impl<'a, A: Allocator + Copy> Answers<'a, A> {
         self.missed = unix_time;
         if is_near {
             self.keep_segment(unix_time);
-        }
-    }
-
-    /// [`Answers::keep_if_near`] as a call, since `T` lines in order seldom need it.
-    #[inline(never)]
-    pub fn follow(&mut self, unix_time: i64)
-        requires { IsSound self.old }
-        ensures { Leaves self.old self.new }
-    {
-        self.keep_if_near(unix_time);
-    }
-
-    /// What a reading means to the zone's clock, by a search in its window.
-    #[inline(always)]
-    pub fn meaning(&mut self, reading: i64, low: i64, high: i64) -> LineMeaning<'a>
-        requires searchable { IsSearchable (zone_of self.old.zone) reading low high }
-        requires sound { IsSound self.old }
-        ensures means { (es : List Entry) × AreEntries (IsClock (zone_of self.old.zone)) reading es × IsMeaningOf es result }
-        ensures kept { Leaves self.old self.new }
-    {
-        self.keep_if_near(low);
-        let mut meaning = LineMeaning::Nothing;
-        match search_zone(&mut meaning, reading, self.zone, low, high) {
-            Ok(()) => meaning,
-            // It takes any entry.
-            Err(_) => unreachable!(),
         }
     }
 
@@ -190,13 +137,49 @@ pub fn answer<A: Allocator + Copy>(
     ensures err { IfErr result (λ e. e ≡ TzError.Memory alloc_error) }
 {
     let answers = Vec::with_capacity(alloc, queries.len().saturating_mul(2))?;
-    let mut answers = Answers::new(alloc, zone, answers);
+    let page = Page::new();
+    let mut answers = Answers {
+        alloc,
+        zone,
+        from: 1,
+        last: 0,
+        suffix: Suffix::new(LocalTimeType::utc()),
+        suffixes: Suffixes::new(),
+        missed: 0,
+        output: Output { answers, page },
+    };
     // Any segment of the clock will do: the first line replaces it if it lies elsewhere.
     answers.keep_segment(0);
     let mut rest = queries;
     while !rest.is_empty() {
         rest = answers.answer_line(rest)?;
     }
-    let Answers { output, .. } = answers;
-    Ok(output.into_answers()?)
+    answers.output.flush()?;
+    Ok(answers.output.answers)
+}
+
+/// Answers query bytes over the zone that the bytes of a TZif file denote, as [`answer`] does. (RFC 8536)
+///
+/// ```rust
+/// pub fn answer_lines(alloc: Global, file: &[u8], lines: &[u8]) -> Result<Vec<u8>, TzError> {
+///     query::answer_tzif(alloc, file, lines)
+/// }
+/// ```
+///
+/// # Errors
+///
+/// - those of [`TimeZone::from_tz_data`], before a query is read;
+/// - [`TzError::Memory`] if an allocation fails.
+pub fn answer_tzif<A: Allocator + Copy>(
+    alloc: A,
+    tz_bytes: &[u8],
+    queries: &[u8],
+) -> Result<Vec<u8, A>, TzError>
+    ensures ok { IfOk result (λ answers. AreFileAnswers tz_bytes.now queries.now answers.items) }
+    ensures only { (zone : Zone) → IsTzFile tz_bytes.now zone
+        → MatchResult result (λ answers. AreAnswers zone queries.now answers.items) (λ e. e ≡ TzError.Memory alloc_error) }
+    ensures err { IfErr result (IsReadFault tz_bytes.now) }
+{
+    let zone = TimeZone::from_tz_data(alloc, tz_bytes)?;
+    answer(alloc, zone.as_ref(), queries)
 }

@@ -84,11 +84,8 @@ pub fn read_usual_time_line<'a>(queries: &'a [u8], nine: &mut [u8; 9]) -> Option
         return None;
     }
     let (unix_time, after_seconds) = read_usual_number(queries, 1)?;
-    let line_end = read_nanoseconds(queries, after_seconds, nine)?;
-    if queries[line_end] != b'\n' {
-        return None;
-    }
-    Some((unix_time, &queries[line_end + 1..]))
+    let next = read_nanoseconds(queries, after_seconds, nine)?;
+    Some((unix_time, &queries[next..]))
 }
 
 /// The fields of the first line, if it is an `F` line of usual numbers, and the bytes after it. Its nanoseconds are copied, and are 0 in the
@@ -105,9 +102,7 @@ pub fn read_usual_search_line<'a>(
         return None;
     }
     let (number, after_year) = read_usual_number(queries, 1)?;
-    let Ok(year) = i32::try_from(number) else {
-        return None;
-    };
+    let year = i32::try_from(number).ok()?;
     if queries[after_year] != b' ' {
         return None;
     }
@@ -116,10 +111,7 @@ pub fn read_usual_search_line<'a>(
     let (hour, after_hour) = read_small(queries, after_day + 1)?;
     let (minute, after_minute) = read_small(queries, after_hour + 1)?;
     let (second, after_second) = read_small(queries, after_minute + 1)?;
-    let line_end = read_nanoseconds(queries, after_second, nine)?;
-    if queries[line_end] != b'\n' {
-        return None;
-    }
+    let next = read_nanoseconds(queries, after_second, nine)?;
     let fields = Fields {
         year,
         month,
@@ -129,5 +121,5 @@ pub fn read_usual_search_line<'a>(
         second,
         nanoseconds: 0,
     };
-    Some((fields, &queries[line_end + 1..]))
+    Some((fields, &queries[next..]))
 }

@@ -5,38 +5,12 @@ ghost use Rattle.std.specs.Char.{digit_value};
 ghost use Rattle.std.specs.Int.{w64};
 ghost use Rattle.std.specs.Str.Parse.{digits_value};
 ghost use Rattle.tz.specs.PrintedText.{nine_digits};
-ghost use Rattle.tz_query.specs.Lines.{IsFirstLine};
-ghost use Rattle.tz_query.specs.Numbers.{AreNumbers, IsDigitsFront, IsNumberFront, IsPartFront};
+ghost use Rattle.tz_query.specs.Lines.{IsFirstLine, line_feed};
+ghost use Rattle.tz.specs.DateTimeText.{IsDigits};
+ghost use Rattle.tz_query.specs.Numbers.{AreNumbers, IsNumberFront, IsPartFront};
 
 use core::dec2flt;
-use tz::inner::after_byte;
-
-/// The value of a digit, which is below 10; for every other byte it is 10 or more.
-#[inline(always)]
-fn value_of(byte: u8) -> u8
-    ensures digit { result < 10 → (digit_value byte < 10) × (result ≡ digit_value byte) }
-    ensures other { 10 ≤ result → ¬ (digit_value byte < 10) }
-{
-    byte.wrapping_sub(b'0')
-}
-
-/// The number of the digits at the beginning of the bytes, and the bytes after them. In the place of a number of 10^19 or more stands some
-/// number that is no less than 10^19.
-#[inline(always)]
-fn read_digits(bytes: &[u8]) -> (u64, &[u8])
-    ensures { (digits : List ℕ) × IsDigitsFront bytes.now digits result.1.now
-        × (min result.0 10000000000000000000 ≡ min (digits_value 10 digits) 10000000000000000000) }
-{
-    let mut size = 0u64;
-    for (place, byte) in bytes.iter().enumerate() {
-        let digit = value_of(*byte);
-        if digit >= 10 {
-            return (size, &bytes[place..]);
-        }
-        size = size.min(1_000_000_000_000_000_000) * 10 + u64::from(digit);
-    }
-    (size, &[])
-}
+use tz::inner::{after_byte, read_digits, value_of};
 
 /// The number at the beginning of the bytes, if there is one of 64 bits, and the bytes after it. Most have one digit or two.
 #[inline(always)]
@@ -49,16 +23,16 @@ pub fn read_number(bytes: &[u8]) -> Option<(i64, &[u8])>
     {
         return Some((i64::from(number), &bytes[end..]));
     }
-    let (size, rest) = read_digits(bytes);
-    if rest.len() < bytes.len() {
-        return Some((0i64.checked_add_unsigned(size)?, rest));
+    let (size, count) = read_digits(bytes);
+    if count > 0 {
+        return Some((0i64.checked_add_unsigned(size)?, &bytes[count..]));
     }
     let digits = after_byte(bytes, b'-')?;
-    let (size, rest) = read_digits(digits);
-    if rest.len() == digits.len() {
+    let (size, count) = read_digits(digits);
+    if count == 0 {
         return None;
     }
-    Some((0i64.checked_sub_unsigned(size)?, rest))
+    Some((0i64.checked_sub_unsigned(size)?, &digits[count..]))
 }
 
 /// Numbers at the beginning of the bytes, each of 64 bits and after a space, if the line ends after the last of them, and the bytes after
@@ -87,7 +61,7 @@ pub fn read_numbers<const N: usize>(bytes: &[u8]) -> Option<([i64; N], &[u8])>
 #[inline(always)]
 fn read_few_digits(bytes: &[u8], place: usize) -> Option<(u64, usize)>
     requires { place + 12 ≤ length bytes.now }
-    ensures number { IfSome result (λ r. (digits : List ℕ) × IsDigitsFront (drop place bytes.now) digits (drop r.1 bytes.now) × (0 < length digits)
+    ensures number { IfSome result (λ r. (digits : List ℕ) × IsDigits (drop place bytes.now) digits (drop r.1 bytes.now) × (0 < length digits)
         × (r.0 ≡ digits_value 10 digits)) }
     ensures bound { IfSome result (λ r. (r.0 < 1000000000000000000) × (r.1 ≤ place + 18) × (r.1 ≤ length bytes.now)) }
 {
@@ -124,14 +98,13 @@ pub fn read_usual_number(bytes: &[u8], place: usize) -> Option<(i64, usize)>
     Some((size as i64, end))
 }
 
-/// Copies the number of up to nine digits after a space at a place, left-padded with zeros; nine digits only before LF. Returns the index
-/// after them.
+/// Copies the number of up to nine digits after a space at a place and before LF, left-padded with zeros. Returns the index after LF.
 #[inline(always)]
 pub fn read_nanoseconds(bytes: &[u8], place: usize, nine: &mut [u8; 9]) -> Option<usize>
     requires { place + 11 ≤ length bytes.now }
-    ensures number { IfSome result (λ end. (n : ℕ) × (n < 1000000000) × (nine.new ≡ nine_digits n)
-        × IsPartFront (drop place bytes.now) (pos n) (drop end bytes.now)) }
-    ensures end { IfSome result (λ end. (end ≤ place + 10) × (end < length bytes.now)) }
+    ensures number { IfSome result (λ next. (n : ℕ) × (n < 1000000000) × (nine.new ≡ nine_digits n)
+        × IsPartFront (drop place bytes.now) (pos n) (line_feed ∷ drop next bytes.now)) }
+    ensures end { IfSome result (λ next. (next ≤ place + 11) × (next ≤ length bytes.now)) }
 {
     if bytes[place] != b' ' {
         return None;
@@ -139,22 +112,18 @@ pub fn read_nanoseconds(bytes: &[u8], place: usize, nine: &mut [u8; 9]) -> Optio
     let start = place + 1;
     let (count, _) = dec2flt::read_digits(&bytes[start..start + 9], 0, 0);
     let end = start + count;
-    if count == 9 {
-        if bytes[end] != b'\n' {
-            return None;
-        }
-        nine.copy_from_slice(&bytes[start..start + 9]);
-        return Some(end);
+    if count == 9 && bytes[end] == b'\n' {
+        nine.copy_from_slice(&bytes[start..end]);
+        return Some(end + 1);
     }
-    if count == 0 || end < 9 {
+    if count == 0 || end < 9 || bytes[end] != b'\n' {
         return None;
     }
     nine.copy_from_slice(&bytes[end - 9..end]);
-    let zeros = 9 - count;
-    for index in 0..zeros {
+    for index in 0..9 - count {
         nine[index] = b'0';
     }
-    Some(end)
+    Some(end + 1)
 }
 
 /// The number of one or two digits at a place, if a space follows it, and the place of that space.

@@ -6,9 +6,14 @@ ghost use Rattle.tz_query.specs.Lines.{ended, line_feed};
 ghost use Rattle.tz_query.specs.Numbers.{space};
 ghost use Rattle.tz_query.specs.Pages.{HasRoom};
 
+use super::nanoseconds::Nanoseconds;
 use super::page::Page;
+use super::type_texts::Suffix;
 use std::alloc::{AllocError, Allocator};
-use tz::inner::TextBuffer;
+use tz::inner::{Fields, TextBuffer};
+
+/// What writing returns: nothing, or that an allocation failed.
+pub type Written = Result<(), AllocError>;
 
 /// Where answers are written: onto a page, which is appended to the answers before it when it has no room for one more.
 #[derive(Drop)]
@@ -18,11 +23,17 @@ pub struct Output<A: Allocator> {
 }
 
 impl<A: Allocator> Output<A> {
+    ghost use Rattle.std.specs.Prelude.{◌≡◌, ◌≤◌, ◌∷◌, ◌++◌, [], ℤ, length, IfOk};
+    ghost use Rattle.tz_base.specs.Fields.{IsValid};
+    ghost use Rattle.tz.specs.DateTimes.{moment_of};
+    ghost use Rattle.tz.specs.PrintedText.{moment_text};
+    ghost use Rattle.tz_query.specs.Nanoseconds.{with_nanoseconds};
+    ghost use Rattle.tz_query.specs.Pages.{EndsLine};
     ghost use Rattle.tz_query.specs.Outputs.{written};
 
     /// Appends what is on the page to the answers, and clears it.
     #[inline(never)]
-    fn flush(&mut self) -> Result<(), AllocError>
+    pub fn flush(&mut self) -> Written
         ensures text { IfOk result (λ _. written self.new ≡ written self.old) }
         ensures answers { IfOk result (λ _. self.new.answers.items ≡ written self.old) }
         ensures clear { IfOk result (λ _. self.new.page ≡ []) }
@@ -34,7 +45,7 @@ impl<A: Allocator> Output<A> {
 
     /// Makes room for one more answer on the page.
     #[inline(always)]
-    pub fn make_room(&mut self) -> Result<(), AllocError>
+    pub fn make_room(&mut self) -> Written
         ensures room { IfOk result (λ _. HasRoom self.new.page) }
         ensures text { IfOk result (λ _. written self.new ≡ written self.old) }
     {
@@ -45,7 +56,7 @@ impl<A: Allocator> Output<A> {
     }
 
     /// Writes a line of two pieces.
-    fn push_line(&mut self, front: &[u8], text: &[u8]) -> Result<(), AllocError>
+    fn push_line(&mut self, front: &[u8], text: &[u8]) -> Written
         requires { length front.now + length text.now < 128 }
         ensures { IfOk result (λ _. written self.new ≡ written self.old ++ (front.now ++ (text.now ++ line_feed ∷ []))) }
     {
@@ -58,7 +69,7 @@ impl<A: Allocator> Output<A> {
 
     /// Writes the line of an error.
     #[inline(never)]
-    pub fn push_error(&mut self, name: &str) -> Result<(), AllocError>
+    pub fn push_error(&mut self, name: &str) -> Written
         requires { length name.now ≤ 24 }
         ensures { IfOk result (λ _. written self.new ≡ written self.old ++ ended ((codes "E " ++ name.now) ∷ [])) }
     {
@@ -67,7 +78,7 @@ impl<A: Allocator> Output<A> {
 
     /// Writes a line with a letter and a count.
     #[inline(never)]
-    pub fn push_count(&mut self, letter: u8, count: usize) -> Result<(), AllocError>
+    pub fn push_count(&mut self, letter: u8, count: usize) -> Written
         ensures { IfOk result (λ _. written self.new ≡ written self.old ++ ended ((letter ∷ space ∷ decimal count) ∷ [])) }
     {
         let mut text = TextBuffer::new();
@@ -75,12 +86,24 @@ impl<A: Allocator> Output<A> {
         self.push_line(&[letter, b' '], text.as_bytes())
     }
 
-    /// Returns all answers.
-    pub fn into_answers(self) -> Result<Vec<u8, A>, AllocError>
-        ensures { IfOk result (λ answers. answers.items ≡ written self) }
+    /// Writes `front` and the line of fields that the type of a suffix shows.
+    #[inline(always)]
+    pub fn push_shown(
+        &mut self,
+        front: &[u8],
+        fields: &Fields,
+        suffix: &Suffix,
+        nanoseconds: &Nanoseconds,
+    ) -> Written
+        requires front { length front.now ≤ 6 }
+        requires valid { IsValid fields.now }
+        ensures text { IfOk result (λ _. (u : ℤ) → written self.new ≡ written self.old ++ (front.now
+            ++ (moment_text (moment_of (with_nanoseconds fields.now nanoseconds.now) suffix.now.local_time_type u) ++ line_feed ∷ []))) }
+        ensures ended { IfOk result (λ _. EndsLine self.new.page) }
     {
-        let Output { mut answers, page } = self;
-        answers.extend_from_slice(page.as_bytes())?;
-        Ok(answers)
+        self.make_room()?;
+        self.page.push(front);
+        self.page.push_date_time(fields, nanoseconds, suffix);
+        Ok(())
     }
 }

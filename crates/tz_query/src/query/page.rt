@@ -9,7 +9,7 @@ ghost use Rattle.tz_query.specs.Nanoseconds.{with_nanoseconds};
 ghost use Rattle.tz_query.specs.Pages.{HasRoom, HasRoomFor};
 
 use super::nanoseconds::Nanoseconds;
-use super::suffixes::Suffix;
+use super::type_texts::Suffix;
 use std::marker::Model;
 use tz::inner::{Fields, TextBuffer, middle_of, two_pairs};
 
@@ -132,13 +132,13 @@ impl Page {
         let at = self.len;
         self.bytes[at..at + 16].copy_from_slice(middle);
         self.bytes[at + 16..at + 25].copy_from_slice(nine);
-        self.bytes[at + 25..at + 57].copy_from_slice(&suffix.bytes());
-        self.len = at + 25 + suffix.len();
+        self.bytes[at + 25..at + 57].copy_from_slice(&suffix.bytes);
+        self.len = at + 25 + suffix.len;
     }
 
     /// Appends the line of a date time: the fields with these nanoseconds in the place of their own, the offset and the name of its type, and LF.
     #[inline(always)]
-    pub fn push_moment(&mut self, fields: &Fields, nanoseconds: &Nanoseconds, suffix: &Suffix)
+    pub fn push_date_time(&mut self, fields: &Fields, nanoseconds: &Nanoseconds, suffix: &Suffix)
         requires room { HasRoomFor 68 self.old }
         requires valid { IsValid fields.now }
         ensures text { (u : ℤ) → self.new ≡ self.old

@@ -48,38 +48,6 @@ impl From<TzError> for Fault {
     }
 }
 
-impl From<tz::Error> for Fault {
-    ghost use Rattle.std.specs.Prelude.{◌≡◌, ◌≢◌, alloc_error};
-    ghost use Rattle.tz_base.specs.declared.error.Error.TheVariants.{Tz};
-    ghost use Rattle.tz_base.specs.declared.error.TzError.{TzError};
-    ghost use Rattle.tz_base.specs.declared.error.TzError.TheVariants as refusals;
-    ghost use Rattle.tz_query.specs.declared.query.program.Fault.TheVariants as faults;
-
-    ghost from_gives = { λ error fault. (refused : TzError) → fault ≡ faults.Zone refused → (error ≡ Tz refused) × (refused ≢ refusals.Memory alloc_error) };
-
-    fn from(error: tz::Error) -> Self {
-        match error {
-            tz::Error::Io(_) => Fault::File,
-            tz::Error::Tz(error) => Fault::from(error),
-        }
-    }
-}
-
-impl From<ReadFault> for Fault {
-    ghost use Rattle.std.specs.Prelude.{◌≢◌};
-    ghost use Rattle.tz_base.specs.declared.error.TzError.{TzError};
-    ghost use Rattle.tz_query.specs.declared.query.program.Fault.TheVariants as faults;
-
-    ghost from_gives = { λ _ fault. (refused : TzError) → fault ≢ faults.Zone refused };
-
-    fn from(fault: ReadFault) -> Self {
-        match fault {
-            ReadFault::Memory(_) => Fault::Memory,
-            ReadFault::Failed(_) => Fault::File,
-        }
-    }
-}
-
 /// The offset that an argument has, if it is a number of 32 bits.
 fn read_offset(value: &str) -> Option<i32>
     ensures some { IfSome result (λ offset. IsNumber value.now offset × FitsSigned w32 offset) }
@@ -106,11 +74,16 @@ fn zone_of_arguments<A: Allocator + Copy, F: Fn(&str) -> Result<Vec<u8>, ReadFau
             let ut_offset = read_offset(number).ok_or(Fault::Arguments)?;
             Ok(TimeZone::fixed(alloc, ut_offset)?)
         }
-        ["-f", path] => {
-            let bytes = reader(path)?;
-            Ok(TimeZone::from_tz_data(alloc, &bytes)?)
-        }
-        ["-z", text] => Ok(TimeZone::from_posix_tz(alloc, reader, text)?),
+        ["-f", path] => match reader(path) {
+            Ok(bytes) => Ok(TimeZone::from_tz_data(alloc, &bytes)?),
+            Err(ReadFault::Memory(_)) => Err(Fault::Memory),
+            Err(ReadFault::Failed(_)) => Err(Fault::File),
+        },
+        ["-z", text] => match TimeZone::from_posix_tz(alloc, reader, text) {
+            Ok(zone) => Ok(zone),
+            Err(tz::Error::Io(_)) => Err(Fault::File),
+            Err(tz::Error::Tz(error)) => Err(Fault::from(error)),
+        },
         _ => Err(Fault::Arguments),
     }
 }

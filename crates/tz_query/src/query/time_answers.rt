@@ -2,18 +2,16 @@
 
 ghost use Rattle.std.specs.Prelude.{◌≡◌, ◌+ℤ◌, IfSome, IfNone};
 ghost use Rattle.tz_base.specs.Fields.{IsCivil, IsReading};
-ghost use Rattle.tz_zone.specs.Clock.{IsClock};
-ghost use Rattle.tz_zone.specs.ZoneRef.{zone_of};
 
 use super::answers::Answers;
 use super::error_names::fault_name;
 use super::nanoseconds::Nanoseconds;
-use super::output::Output;
-use super::suffixes::Suffix;
-use std::alloc::{AllocError, Allocator};
+use super::output::{Output, Written};
+use super::type_texts::Suffix;
+use std::alloc::Allocator;
+use tz::LocalTimeType;
 use tz::constants::NANOSECONDS_PER_SECOND;
 use tz::inner::{Fields, local_reading};
-use tz::{LocalTimeType, TimeZoneRef};
 
 /// What a clock with this offset from UTC shows at a Unix time, if its year is one of 32 bits.
 #[inline(always)]
@@ -23,17 +21,6 @@ pub fn shown_fields(unix_time: i64, ut_offset: i32) -> Option<Fields>
 {
     let reading = local_reading(unix_time, ut_offset)?;
     Some(Fields::from_reading(reading, 0))
-}
-
-/// The type of a zone's clock at an instant, if it has one. It is a call, since a lookup is too long to stand where lines are answered.
-#[inline(never)]
-fn type_at<'a>(zone: &TimeZoneRef<'a>, unix_time: i64) -> Option<&'a LocalTimeType>
-    ensures { IfSome result (λ t. IsClock (zone_of zone.now) unix_time t.now) }
-{
-    match zone.find_local_time_type(unix_time) {
-        Ok(local_time_type) => Some(local_time_type),
-        Err(_) => None,
-    }
 }
 
 impl<A: Allocator> Output<A> {
@@ -52,56 +39,58 @@ impl<A: Allocator> Output<A> {
         unix_time: i64,
         nanoseconds: &Nanoseconds,
         suffix: &Suffix,
-    ) -> Result<(), AllocError>
+    ) -> Written
         ensures { (z : Zone) → IsClock z unix_time suffix.now.local_time_type → IfOk result (λ _. (text : List ℕ)
             × IsTimeAnswer z unix_time (number_of nanoseconds.now) text × (written self.new ≡ written self.old ++ ended (text ∷ []))) }
     {
-        let Some(fields) = shown_fields(unix_time, suffix.local_time_type().ut_offset()) else {
+        let Some(fields) = shown_fields(unix_time, suffix.local_time_type.ut_offset()) else {
             return self.push_error("OutOfRange");
         };
-        self.make_room()?;
-        self.page.push_moment(&fields, nanoseconds, suffix);
-        Ok(())
+        self.push_shown(b"", &fields, suffix, nanoseconds)
     }
 }
 
 impl<'a, A: Allocator + Copy> Answers<'a, A> {
-    ghost use Rattle.std.specs.Prelude.{IfOk};
+    ghost use Rattle.std.specs.Prelude.{IfOk, IfSome};
+    ghost use Rattle.tz_zone.specs.Clock.{IsClock};
+    ghost use Rattle.tz_zone.specs.ZoneRef.{zone_of};
     ghost use Rattle.tz_query.specs.declared.query.lines.Query.TheVariants.{Time};
     ghost use Rattle.tz_query.specs.Nanoseconds.{number_of};
-    ghost use Rattle.tz_query.specs.Outputs.{IsAnswered, IsSound};
+    ghost use Rattle.tz_query.specs.Outputs.{IsAnswered, IsSound, Leaves};
+
+    /// The type of the clock at an instant outside the span, if it has one. It is a call, since a lookup is too long to stand where lines are
+    /// answered.
+    #[inline(never)]
+    fn type_at(&mut self, unix_time: i64) -> Option<&'a LocalTimeType>
+        requires { IsSound self.old }
+        ensures clock { IfSome result (λ t. IsClock (zone_of self.old.zone) unix_time t.now) }
+        ensures kept { Leaves self.old self.new }
+    {
+        self.follow(unix_time);
+        self.zone.find_local_time_type(unix_time).ok()
+    }
 
     /// Answers an instant.
     #[inline(always)]
-    pub fn answer_time(
-        &mut self,
-        unix_time: i64,
-        nanoseconds: &Nanoseconds,
-    ) -> Result<(), AllocError>
+    pub fn answer_time(&mut self, unix_time: i64, nanoseconds: &Nanoseconds) -> Written
         requires { IsSound self.old }
         ensures { IfOk result (λ _. IsAnswered (Time unix_time (number_of nanoseconds.now)) self.old self.new) }
     {
         if self.has(unix_time, unix_time) {
-            return self
-                .output
-                .push_instant(unix_time, nanoseconds, &self.suffix);
+            let suffix = &self.suffix;
+            return self.output.push_instant(unix_time, nanoseconds, suffix);
         }
-        self.follow(unix_time);
-        let Some(local_time_type) = type_at(&self.zone, unix_time) else {
+        let Some(local_time_type) = self.type_at(unix_time) else {
             return self.answer_by_lookup(unix_time, nanoseconds);
         };
         let suffix = self.suffixes.of(local_time_type);
         self.output.push_instant(unix_time, nanoseconds, suffix)
     }
 
-    /// Looks an instant up once more, for the error: [`type_at`] keeps none.
+    /// Looks an instant up once more, for the error: [`Answers::type_at`] keeps none.
     #[cold]
     #[inline(never)]
-    fn answer_by_lookup(
-        &mut self,
-        unix_time: i64,
-        nanoseconds: &Nanoseconds,
-    ) -> Result<(), AllocError>
+    fn answer_by_lookup(&mut self, unix_time: i64, nanoseconds: &Nanoseconds) -> Written
         ensures { IfOk result (λ _. IsAnswered (Time unix_time (number_of nanoseconds.now)) self.old self.new) }
     {
         match self.zone.find_local_time_type(unix_time) {
@@ -115,7 +104,7 @@ impl<'a, A: Allocator + Copy> Answers<'a, A> {
 
     /// Answers an instant with any nanoseconds.
     #[inline(never)]
-    pub fn answer_any_time(&mut self, unix_time: i64, nanoseconds: u32) -> Result<(), AllocError>
+    pub fn answer_any_time(&mut self, unix_time: i64, nanoseconds: u32) -> Written
         requires { IsSound self.old }
         ensures { IfOk result (λ _. IsAnswered (Time unix_time nanoseconds) self.old self.new) }
     {

@@ -1,5 +1,6 @@
 -- Each line's answer stands after those before it, and in the end no line is left.
-use Rattle.std.proofs.Common.{◌≡◌, ◌++◌, ◌<◌, [], length, sym, ap, ◌∙◌, subst, rules, append_assoc, append-nil}
+use Rattle.std.proofs.Common.{◌≡◌, ◌++◌, ◌<◌, [], length, sym, ap, ◌∙◌, subst, arith, rules, append_assoc, append-nil}
+use Rattle.std.proofs.lemmas.Int.{ints}
 use Rattle.std.proofs.lemmas.List.{nil_from_length}
 use Rattle.tz_zone.specs.ZoneRef.{zone_of}
 use Rattle.tz_query.specs.Lines.{ended}
@@ -10,13 +11,14 @@ use Rattle.tz_query.proofs.query.answers.answer.Goals as goal
 
 pub loop-rest-init : goal.loop-rest-init
 loop-rest-init g c =
-    let made = c.new-answers.ensures in
     let kept = c.keep_segment.ensures in
-    let queries = c.args.queries.now in (
-      kept.sound made.sound,
+    let queries = c.args.queries.now in
+    let items = c.in_ok-answers.answers.items in
+    let none : items ++ c.new-page.result ≡ [] = ap (λ page. items ++ page) c.new-page.ensures ∙ append-nil items ∙ c.in_ok-answers.ensures.items in (
+      kept.sound (λ u after before. absurd (omega (arith, ints, after, before))),
       λ more are.
-          let over = subst (λ zone. AreAnswers (zone_of zone) queries more) (kept.zone_is ∙ made.zone) are in
-          subst (λ bytes. AreAnswers (zone_of c.args.zone) queries (bytes ++ more)) (sym (ap written kept.output_is ∙ made.written ∙ c.in_ok-answers.ensures.items)) over,
+          let over = subst (λ zone. AreAnswers (zone_of zone) queries more) kept.zone_is are in
+          subst (λ bytes. AreAnswers (zone_of c.args.zone) queries (bytes ++ more)) (sym (ap written kept.output_is ∙ none)) over,
     )
 
 pub loop-rest-preserved : goal.loop-rest-preserved
@@ -37,7 +39,7 @@ pub returns-clause-ok : goal.returns-clause-ok
 returns-clause-ok g c =
     let none : length c.loop-rest.rest.now ≡ 0 = search rules in
     let end = c.loop-rest.answers in
-    subst (AreAnswers (zone_of c.args.zone) c.args.queries.now) (append-nil (written end.output) ∙ sym c.in_ok-into_answers.ensures)
+    subst (AreAnswers (zone_of c.args.zone) c.args.queries.now) (append-nil (written end.output) ∙ sym c.in_ok-flush.ensures.answers)
     (c.loop-rest.invariant.1 [] (subst (λ rest. AreAnswers (zone_of end.zone) rest []) (sym (nil_from_length c.loop-rest.rest.now none)) (AreAnswers-nil (zone_of end.zone))))
 
 pub loop-rest-smaller : goal.loop-rest-smaller

@@ -1,8 +1,6 @@
 -- The digits are those up to the place that was read to.
-use Rattle.std.proofs.Common.{◌≡◌, ◌<◌, ◌≤◌, ◌+◌, length, drop, refl, inl, inr, arith}
-use Rattle.std.specs.Float.Numeral.{digits_len}
-use Rattle.std.proofs.lemmas.Bool.{cases_lt}
-use Rattle.tz_query.proofs.FastNumbers.{number_at, byte_at, few_in_window, end_in_window, end_of_window, value_in_window}
+use Rattle.std.proofs.Common.{◌<◌, ◌≤◌, ◌+◌, length, refl, arith}
+use Rattle.tz_query.proofs.FastNumbers.{number_at, byte_at, few_in_window, end_before, value_in_window}
 use Rattle.tz_query.proofs.query.numbers.read_few_digits.Goals as goal
 
 pub returns-then-bytes-place-eq32 : goal.returns-then-bytes-place-eq32
@@ -12,11 +10,7 @@ returns-then-bytes-place-eq32 c =
     let read = c.read_digits-count in
     let k = read.result.0 in
     let few : k ≤ 11 = few_in_window bs place 11 k read.ensures.end (omega (arith, c.requires)) in
-    let end_is : place + k ≡ place + digits_len (drop place bs) =
-    elim (cases_lt k 11) [
-      | inl less ↦ end_in_window bs place 11 k read.ensures.end less
-      | inr full ↦ end_of_window bs place 11 k read.ensures.end 32 (omega (arith, few, full)) refl (byte_at bs (place + k) 32 (omega (arith, few, c.requires)) c.if-bytes-place-eq32.true)
-    ] in
+    let end_is = end_before bs place 11 k read.ensures.end 32 (omega (arith, c.requires)) refl (byte_at bs (place + k) 32 (omega (arith, few, c.requires)) c.if-bytes-place-eq32.true) in
     let value_is = value_in_window bs place 11 k read.ensures.end few read.result.1 read.ensures.value in
     let (number, below) = number_at bs place (place + k) (omega (arith, c.requires)) end_is read.result.1 (omega (arith, c.if-count-eq0.false)) (omega (arith, few)) value_is in
     record { number = number; bound = (below, omega (arith, few), omega (arith, few, c.requires)) }

@@ -1,5 +1,5 @@
 -- Each option has its letter, and names the zone of its value, or a value that makes none.
-use Rattle.std.proofs.Common.{◌≡◌, ◌≢◌, ◌≤◌, ◌<◌, ◌⊎◌, ℕ, ℤ, List, [], ◌∷◌, length, get_or, inl, inr, refl, sym, ap, subst, ◌∙◌, arith}
+use Rattle.std.proofs.Common.{◌≡◌, ◌≢◌, ◌≤◌, ◌<◌, ◌⊎◌, ℕ, ℤ, List, [], ◌∷◌, length, get_or, inl, inr, refl, sym, ap, subst, ◌∙◌, arith, rules}
 use Rattle.std.specs.Prelude.{Option, Some, Err, IfSome, alloc_error}
 use Rattle.std.specs.Borrow.{Bor}
 use Rattle.std.proofs.lemmas.Fn.{says_at}
@@ -54,8 +54,8 @@ text_refused : (reads : List ℕ → Read → Type 0) (text : List ℕ) (error :
 text_refused reads text error e (inl memory) (is, not) = let same : e ≡ Memory alloc_error = cc in absurd (not same)
 text_refused reads text error e (inr answer) (is, not) = (e, subst (λ x. IsSettingsAnswer reads usual_directories text (Err x)) is answer, not)
 
-pub returns-in_ok-fixed-in-text-clause-ok : goal.returns-in_ok-fixed-in-text-clause-ok
-returns-in_ok-fixed-in-text-clause-ok g c =
+pub returns-in-text-clause-ok : goal.returns-in-text-clause-ok
+returns-in-text-clause-ok g c =
     let offset = c.in_ok-ut_offset-in-text.ut_offset in
     let number = value_in c.read_offset.result offset _ c.in_ok-ut_offset-in-text.ensures.ok_part c.read_offset.ensures.some in
     names c.args.arguments.now _ c.in-text.len_at_least c.in-text.len_below
@@ -69,28 +69,29 @@ returns-in_err-fixed-in-text-clause-refused g c =
     rw p.1 (λ e is. refuses c.args.arguments.now _ c.in-text.len_at_least c.in-text.len_below
     (inl (c.in-text.is-text, (offset, number.0, number.1, offset_refused offset _ _ e (to_z-of_z w32 offset number.1) c.in_err-fixed-in-text.ensures.err (p.2 e is)))))
 
-pub returns-in_ok-from_tz_data-in-text-2-clause-ok : goal.returns-in_ok-from_tz_data-in-text-2-clause-ok
-returns-in_ok-from_tz_data-in-text-2-clause-ok g c =
-    let bytes = c.in_ok-bytes-in-text-2.bytes in
-    let zone = c.in_ok-from_tz_data-in-text-2.field-0 in
+pub returns-in-Ok-clause-ok : goal.returns-in-Ok-clause-ok
+returns-in-Ok-clause-ok g c =
+    let bytes = c.in-Ok.bytes in
+    let zone = c.in_ok-from_tz_data-in-Ok.field-0 in
     let IsFile : List ℕ → Type 0 = λ bs. IsTzFile bs (own_zone_of zone) in
     names c.args.arguments.now _ c.in-text-2.len_at_least c.in-text-2.len_below
-    (inr (inl (c.in-text-2.is-text, (bytes, says_at g.F.Fn c.reader.ensures c.in_ok-bytes-in-text-2.was, subst IsFile c.deref.ensures.value c.in_ok-from_tz_data-in-text-2.ensures.ok))))
+    (inr (inl (c.in-text-2.is-text, (bytes, says_at g.F.Fn c.reader.ensures c.in-Ok.is, subst IsFile c.deref.ensures.value c.in_ok-from_tz_data-in-Ok.ensures.ok))))
 
-pub returns-in_err-from_tz_data-in-text-2-clause-refused : goal.returns-in_err-from_tz_data-in-text-2-clause-refused
-returns-in_err-from_tz_data-in-text-2-clause-refused g c =
-    let bytes = c.in_ok-bytes-in-text-2.bytes in
-    let p = err_from_is_err_and c.from_residual-in_err-from_tz_data-in-text-2.result c.from_residual-in_err-from_tz_data-in-text-2.ensures.1 in
+pub returns-in_err-from_tz_data-in-Ok-clause-refused : goal.returns-in_err-from_tz_data-in-Ok-clause-refused
+returns-in_err-from_tz_data-in-Ok-clause-refused g c =
+    let bytes = c.in-Ok.bytes in
+    let p = err_from_is_err_and c.from_residual-in_err-from_tz_data-in-Ok.result c.from_residual-in_err-from_tz_data-in-Ok.ensures.1 in
     let IsNone : List ℕ → Type 0 = λ bs. (zone : Zone) → ¬ IsTzFile bs zone in
     rw p.1 (λ e is. refuses c.args.arguments.now _ c.in-text-2.len_at_least c.in-text-2.len_below
-    (inr (inl (c.in-text-2.is-text, (bytes, says_at g.F.Fn c.reader.ensures c.in_ok-bytes-in-text-2.was, subst IsNone c.deref.ensures.value (file_refused _ _ e c.in_err-from_tz_data-in-text-2.ensures.only (p.2 e is)))))))
+    (inr (inl (c.in-text-2.is-text, (bytes, says_at g.F.Fn c.reader.ensures c.in-Ok.is, subst IsNone c.deref.ensures.value (file_refused _ _ e c.in_err-from_tz_data-in-Ok.ensures.only (p.2 e is)))))))
 
-pub returns-in_ok-from_posix_tz-in-text-3-clause-ok : goal.returns-in_ok-from_posix_tz-in-text-3-clause-ok
-returns-in_ok-from_posix_tz-in-text-3-clause-ok g c =
-    names c.args.arguments.now _ c.in-text-3.len_at_least c.in-text-3.len_below (inr (inr (c.in-text-3.is-text, c.in_ok-from_posix_tz-in-text-3.ensures)))
+pub returns-in-Ok-from_posix_tz-clause-ok : goal.returns-in-Ok-from_posix_tz-clause-ok
+returns-in-Ok-from_posix_tz-clause-ok g c =
+    names c.args.arguments.now _ c.in-text-3.len_at_least c.in-text-3.len_below (inr (inr (c.in-text-3.is-text, c.in-Ok-from_posix_tz.ensures)))
 
-pub returns-in_err-from_posix_tz-in-text-3-clause-refused : goal.returns-in_err-from_posix_tz-in-text-3-clause-refused
-returns-in_err-from_posix_tz-in-text-3-clause-refused g c =
-    let p = err_from_is_err_and c.from_residual-in_err-from_posix_tz-in-text-3.result c.from_residual-in_err-from_posix_tz-in-text-3.ensures.1 in
-    rw p.1 (λ e is. refuses c.args.arguments.now _ c.in-text-3.len_at_least c.in-text-3.len_below
-    (inr (inr (c.in-text-3.is-text, text_refused _ _ _ e c.in_err-from_posix_tz-in-text-3.ensures (p.2 e is)))))
+pub returns-in-text-3-clause-refused : goal.returns-in-text-3-clause-refused
+returns-in-text-3-clause-refused g c = λ e is.
+    let (same, other) = c.from.ensures e is in
+    let error : c.in-Err-Tz.field-0 ≡ Tz c.in-Err-Tz.error = search rules in
+    refuses c.args.arguments.now _ c.in-text-3.len_at_least c.in-text-3.len_below
+    (inr (inr (c.in-text-3.is-text, text_refused _ _ _ e c.in-Err-Tz.ensures (error ∙ ap Tz same, other))))

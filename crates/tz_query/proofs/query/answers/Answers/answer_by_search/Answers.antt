@@ -8,9 +8,8 @@ use Rattle.tz_zone.specs.Clock.{IsClock}
 use Rattle.tz.specs.Lists.{found_of}
 use Rattle.tz_zone.specs.ZoneRef.{zone_of}
 use Rattle.tz_query.specs.Answers.{found_lines, field_fault_text}
-use Rattle.tz_query.specs.Entries.{HasNanoseconds}
 use Rattle.tz_query.specs.Lines.{ended}
-use Rattle.tz_query.specs.Nanoseconds.{number_of, with_nanoseconds}
+use Rattle.tz_query.specs.Nanoseconds.{HasNanoseconds, number_of, with_nanoseconds}
 use Rattle.tz_query.proofs.AddedText.{with_text}
 use Rattle.tz_query.proofs.AnswerLines.{told_field_fault, told_out_of_range}
 use Rattle.tz_query.proofs.EntryLines.{found_nanoseconds}

@@ -17,7 +17,7 @@ returns-then-has g c =
     let f = c.args.fields.now in
     let r = c.reading-reading.result in
     let fits : SFits w64 r = record { sfits = c.reading-reading.type_inv } in
-    let t = c.args.self.now.local_time_type.now in
+    let t = c.args.self.now.suffix.local_time_type in
     let u = r -ℤ t.ut_offset in
     let low = c.window_of-low.result.0 in
     let high = c.window_of-low.result.1 in
@@ -27,7 +27,7 @@ returns-then-has g c =
     let within = rw (to_z-of_z w64 low fits_low, to_z-of_z w64 high fits_high) at (c.if-has.ensures refl) in
     let after : c.args.self.now.from ≤ℤ low = within.0 in
     let before : high ≤ℤ c.args.self.now.last = within.1 in
-    let all : AreEntries (IsClock z) r (Shown u t ∷ []) = entries_once z window.sound.leap_seconds_are r low high t u window.order window.offsets (λ v from until. c.requires.0 v (omega (arith, ints, after, from)) (omega (arith, ints, before, until))) refl in
+    let all : AreEntries (IsClock z) r (Shown u t ∷ []) = entries_once z window.sound.leap_seconds_are r low high t u window.order window.offsets (λ v from until. c.requires v (omega (arith, ints, after, from)) (omega (arith, ints, before, until))) refl in
     IfOk-weaker c.push_shown.result _ _
     (λ done adds. shown_once f c.args.nanoseconds.now r t u c.in-Ok.ensures.ok (sym c.reading-reading.ensures.value) all (record { zone_is = refl; sound = λ s. s; text_is = adds u }))
-    (rw c.requires.1 at c.push_shown.ensures)
+    c.push_shown.ensures.text

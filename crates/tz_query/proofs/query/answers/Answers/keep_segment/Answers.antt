@@ -5,6 +5,7 @@ use Rattle.std.proofs.lemmas.Int.{to_z-of_z}
 use mir.Syntax.{w64}
 use mir.Val.{SFits}
 use Rattle.tz_zone.specs.Changes.{HasTypeOrNone, segment_of}
+use Rattle.tz_zone.specs.Clock.{IsClock}
 use Rattle.tz_zone.specs.ZoneRef.{zone_of}
 use Rattle.tz_query.proofs.query.answers.Answers.keep_segment.Goals as goal
 
@@ -20,10 +21,7 @@ returns-in-Some g c =
     let has : segment.local_time_type ≡ Some t.now = sym c.local_time_type.ensures ∙ ap option_copied c.in-Some.is in
     record {
       zone_is = refl;
-      sound = λ was. (
-        λ u after before. subst (λ type. HasTypeOrNone z u type) has
-            (c.segment_at-segment.ensures.segment.holds u (subst (λ (x : ℤ). x ≤ℤ u) from_is after) (subst (λ (x : ℤ). u ≤ℤ x) last_is before)),
-        c.of.ensures,
-      );
+      sound = λ was u after before. subst (IsClock z u) (sym c.of.ensures) (subst (λ type. HasTypeOrNone z u type) has
+          (c.segment_at-segment.ensures.segment.holds u (subst (λ (x : ℤ). x ≤ℤ u) from_is after) (subst (λ (x : ℤ). u ≤ℤ x) last_is before)));
       output_is = refl;
     }

@@ -5,9 +5,8 @@ use Rattle.std.specs.Prelude.{map, codes}
 use Rattle.std.specs.Fmt.{decimal}
 use Rattle.tz.specs.declared.datetime.found.FoundDateTimeKind.{FoundDateTimeKind}
 use Rattle.tz_query.specs.Answers.{entry_text}
-use Rattle.tz_query.specs.Entries.{HasNanoseconds}
 use Rattle.tz_query.specs.Lines.{line_feed, ended}
-use Rattle.tz_query.specs.Nanoseconds.{number_of}
+use Rattle.tz_query.specs.Nanoseconds.{HasNanoseconds, number_of}
 use Rattle.tz_query.specs.Outputs.{Adds, written}
 use Rattle.tz_query.proofs.AddedText.{adds_both, with_text}
 use Rattle.tz_query.proofs.AnswerLines.{entries_more}

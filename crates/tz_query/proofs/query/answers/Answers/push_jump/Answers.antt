@@ -1,5 +1,5 @@
 -- What is shown on both sides of the jump.
-use Rattle.std.proofs.Common.{◌+ℤ◌, inl, refl, sym, subst, rules}
+use Rattle.std.proofs.Common.{◌+ℤ◌, ◌∷◌, inl, refl, sym, subst, rules}
 use Rattle.std.proofs.lemmas.Int.{to_z-of_z}
 use Rattle.std.proofs.lemmas.Result.{IfOk-weaker}
 use mir.Syntax.{w32, w64}
@@ -7,7 +7,7 @@ use mir.Val.{SFits}
 use Rattle.tz_base.specs.Fields.{IsReading}
 use Rattle.tz.specs.DateTimes.{DateTime, ShowsInstant, moment_of}
 use Rattle.tz.specs.PrintedText.{moment_text}
-use Rattle.tz_query.proofs.AddedText.{with_text}
+use Rattle.tz_query.proofs.AddedText.{adds_joined, with_text}
 use Rattle.tz_query.proofs.OtherNanoseconds.{civil_with}
 use Rattle.tz_query.proofs.EntryLines.{lines_of_jump}
 use Rattle.tz_query.specs.Nanoseconds.{number_of}
@@ -30,13 +30,14 @@ returns g c =
     let few = c.args.nanoseconds.now.below in
     let shown_x : ShowsInstant u n a x = record { civil = civil_with (u +ℤ a.ut_offset) n first few civil_a; type_is = refl; instant_is = refl } in
     let shown_y : ShowsInstant u n b y = record { civil = civil_with (u +ℤ b.ut_offset) n second few civil_b; type_is = refl; instant_is = refl } in
-    IfOk-weaker c.push_skipped.result _ _
+    IfOk-weaker c.push_shown-2.result _ _
     (λ done adds. inl (
       x,
       y,
       shown_x,
       shown_y,
       (subst IsReading (sym civil_a.reads) reads_a, subst IsReading (sym civil_b.reads) reads_b),
-      with_text (sym (lines_of_jump (moment_text x) (moment_text y))) (adds u u),
+      with_text (sym (lines_of_jump (moment_text x) (moment_text y)))
+          (adds_joined (70 ∷ 32 ∷ 49 ∷ 10 ∷ 83 ∷ 32 ∷ moment_text x) c.pop.new.self (c.in_ok-push_shown.ensures.text u) c.in_ok-push_shown.ensures.ended c.pop.ensures.text (adds u)),
     ))
-    c.push_skipped.ensures
+    c.push_shown-2.ensures.text

@@ -1,5 +1,5 @@
 -- What the type shows, or that it is in no year of 32 bits.
-use Rattle.std.proofs.Common.{◌++◌, ◌∷◌, [], ◌+ℤ◌, inl, inr, refl, sym, subst, ap, ◌∙◌, append_assoc, rules}
+use Rattle.std.proofs.Common.{◌+ℤ◌, inl, inr, refl, sym, subst, rules}
 use Rattle.std.specs.Prelude.{codes}
 use Rattle.std.proofs.lemmas.Int.{to_z-of_z}
 use Rattle.std.proofs.lemmas.Result.{IfOk-weaker}
@@ -9,7 +9,6 @@ use Rattle.tz_base.specs.Fields.{IsCivil, IsReading}
 use Rattle.tz_base.specs.declared.error.TzError.TheVariants.{OutOfRange}
 use Rattle.tz.specs.DateTimes.{DateTime, moment_of}
 use Rattle.tz.specs.PrintedText.{moment_text}
-use Rattle.tz_query.specs.Lines.{line_feed}
 use Rattle.tz_query.specs.Nanoseconds.{number_of}
 use Rattle.tz_query.proofs.OtherNanoseconds.{civil_with}
 use Rattle.tz_query.proofs.query.output.Output.push_instant.Goals as goal
@@ -19,8 +18,7 @@ returns-in_default g c z clock =
     let u = c.args.unix_time in
     let t = c.args.suffix.now.local_time_type in
     let offset : SFits w32 c.ut_offset.result = search rules in
-    let is_offset = c.ut_offset.ensures.value ∙ ap (λ (x : _). x.ut_offset) c.local_time_type.ensures in
-    let outside : ¬ IsReading (u +ℤ t.ut_offset) = rw (to_z-of_z w64 u c.ranges.unix_time, to_z-of_z w32 c.ut_offset.result offset, is_offset) at c.in_default.ensures.none in
+    let outside : ¬ IsReading (u +ℤ t.ut_offset) = rw (to_z-of_z w64 u c.ranges.unix_time, to_z-of_z w32 c.ut_offset.result offset, c.ut_offset.ensures.value) at c.in_default.ensures.none in
     IfOk-weaker c.push_error.result _ _
     (λ done text. (codes "E OutOfRange", inr (OutOfRange, codes "OutOfRange", inr (inr (refl, c.args.nanoseconds.now.below, (t, clock, outside))), refl, refl), text))
     c.push_error.ensures
@@ -32,12 +30,12 @@ returns g c z clock =
     let t = c.args.suffix.now.local_time_type in
     let f = c.in-Some.fields in
     let offset : SFits w32 c.ut_offset.result = search rules in
-    let is_offset = c.ut_offset.ensures.value ∙ ap (λ (x : _). x.ut_offset) c.local_time_type.ensures in
-    let (civil, reads) : IsCivil (u +ℤ t.ut_offset) 0 f × IsReading (u +ℤ t.ut_offset) = rw (to_z-of_z w64 u c.ranges.unix_time, to_z-of_z w32 c.ut_offset.result offset, is_offset) at c.in-Some.ensures.some in
+    let (civil, reads) : IsCivil (u +ℤ t.ut_offset) 0 f × IsReading (u +ℤ t.ut_offset) = rw (to_z-of_z w64 u c.ranges.unix_time, to_z-of_z w32 c.ut_offset.result offset, c.ut_offset.ensures.value) at c.in-Some.ensures.some in
     let d : DateTime = moment_of (record f { nanoseconds = n }) t u in
-    let items = c.make_room.new.self.answers.items in
-    let page = c.make_room.new.self.page in (
+    IfOk-weaker c.push_shown.result _ _
+    (λ done text. (
       moment_text d,
       inl (d, (t, clock, record { civil = civil_with (u +ℤ t.ut_offset) n f c.args.nanoseconds.now.below civil; type_is = refl; instant_is = refl }), subst IsReading (sym civil.reads) reads, refl),
-      ap (λ bytes. items ++ bytes) (c.push_moment.ensures.text u) ∙ sym (append_assoc items page (moment_text d ++ line_feed ∷ [])) ∙ ap (λ bytes. bytes ++ (moment_text d ++ line_feed ∷ [])) c.in_ok-make_room.ensures.text,
-    )
+      text u,
+    ))
+    c.push_shown.ensures.text

@@ -15,10 +15,11 @@ returns-clause-text c =
     let middle_len : length c.copy_from_slice.new.self ≡ 16 = search rules in
     let nine_len : length c.copy_from_slice-2.new.self ≡ 9 = search rules in
     let suffix_len : length c.copy_from_slice-3.new.self ≡ 32 = search rules in
-    let written = three_pieces page c.copy_from_slice.new.self c.copy_from_slice-2.new.self c.copy_from_slice-3.new.self at c.len.result room middle_len nine_len suffix_len c.len.ensures.1 in
+    let suffix = c.args.suffix.now in
+    let written = three_pieces page c.copy_from_slice.new.self c.copy_from_slice-2.new.self c.copy_from_slice-3.new.self at suffix.len room middle_len nine_len suffix_len suffix.fits in
     let was = c.args.self.now in
-    let end = take c.len.result c.copy_from_slice-3.new.self in
-    let end_is : end ≡ suffix_text c.args.suffix.now.local_time_type = ap (take c.len.result) c.copy_from_slice-3.ensures.after ∙ ap (λ n. take n c.bytes.result) c.len.ensures.0 ∙ c.bytes.ensures in
+    let end = take suffix.len c.copy_from_slice-3.new.self in
+    let end_is : end ≡ suffix_text suffix.local_time_type = ap (take suffix.len) c.copy_from_slice-3.ensures.after ∙ suffix.text in
     rw (first, second, third)
     (written
     ∙ ap (λ bytes. bytes ++ (c.copy_from_slice.new.self ++ (c.copy_from_slice-2.new.self ++ end))) c.self.view_is

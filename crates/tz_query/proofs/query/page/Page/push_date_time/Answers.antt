@@ -7,7 +7,7 @@ use mir.Val.{SFits}
 use Rattle.tz.specs.PrintedText.{middle_text, suffix_text}
 use Rattle.tz_query.specs.Nanoseconds.{number_of}
 use Rattle.tz_query.proofs.PageLines.{line_text}
-use Rattle.tz_query.proofs.query.page.Page.push_moment.Goals as goal
+use Rattle.tz_query.proofs.query.page.Page.push_date_time.Goals as goal
 
 pub returns-clause-text : goal.returns-clause-text
 returns-clause-text c u =

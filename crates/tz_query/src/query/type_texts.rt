@@ -13,11 +13,12 @@ const COUNT: usize = 16;
 /// What a line has after its nanoseconds if a local time type shows the date time: the offset, a space, the type's name and LF.
 #[derive(Clone, Copy)]
 pub struct Suffix {
-    bytes: [u8; 32],
-    len: usize,
-    local_time_type: LocalTimeType,
-    ghost fits: { len ≤ 32 },
-    ghost text: { take len bytes ≡ suffix_text local_time_type },
+    /// The suffix is their front. All 32 are copied at once.
+    pub bytes: [u8; 32],
+    pub len: usize,
+    pub local_time_type: LocalTimeType,
+    pub ghost fits: { len ≤ 32 },
+    pub ghost text: { take len bytes ≡ suffix_text local_time_type },
 }
 
 /// The suffixes of the types that lines showed before, each at the index of its type.
@@ -46,15 +47,14 @@ fn push_type_name(line: &mut TextBuffer, local_time_type: &LocalTimeType)
 fn index_of(local_time_type: &LocalTimeType) -> usize
     ensures { result < 16 }
 {
-    let offset = local_time_type.ut_offset();
-    let mixed = offset
-        .cast_unsigned()
-        .wrapping_add(u32::from(local_time_type.is_dst()));
+    let offset = local_time_type.ut_offset().cast_unsigned();
+    let mixed = offset.wrapping_add(u32::from(local_time_type.is_dst()));
     (mixed.wrapping_mul(0x9E37_79B1) / 0x1000_0000) as usize
 }
 
 impl Suffix {
     /// The suffix of a type.
+    #[inline(never)]
     #[tactic(auto, unfolding(tz::specs::PrintedText::suffix_text))]
     pub fn new(local_time_type: LocalTimeType) -> Suffix
         ensures { result.local_time_type ≡ local_time_type }
@@ -74,38 +74,6 @@ impl Suffix {
             local_time_type,
         }
     }
-
-    /// Replaces the suffix by that of another type.
-    #[inline(never)]
-    fn set(&mut self, local_time_type: &LocalTimeType)
-        ensures { self.new.local_time_type ≡ local_time_type.now }
-    {
-        *self = Suffix::new(*local_time_type);
-    }
-
-    /// The 32 bytes whose front is the suffix, for a copy of one size.
-    #[inline(always)]
-    pub fn bytes(&self) -> [u8; 32]
-        ensures { take self.now.len result ≡ suffix_text self.now.local_time_type }
-    {
-        self.bytes
-    }
-
-    /// The number of bytes in a suffix.
-    #[inline(always)]
-    pub fn len(&self) -> usize
-        ensures { (result ≡ self.now.len) × (result ≤ 32) }
-    {
-        self.len
-    }
-
-    /// The type that a suffix is of.
-    #[inline(always)]
-    pub fn local_time_type(&self) -> LocalTimeType
-        ensures { result ≡ self.now.local_time_type }
-    {
-        self.local_time_type
-    }
 }
 
 impl Suffixes {
@@ -122,8 +90,8 @@ impl Suffixes {
         ensures { result.now.local_time_type ≡ local_time_type.now }
     {
         let index = index_of(local_time_type);
-        if self.kept[index].local_time_type() != *local_time_type {
-            self.kept[index].set(local_time_type);
+        if self.kept[index].local_time_type != *local_time_type {
+            self.kept[index] = Suffix::new(*local_time_type);
         }
         let kept = &self.kept;
         &kept[index]

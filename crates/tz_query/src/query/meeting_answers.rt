@@ -1,21 +1,26 @@
-//! A weekly meeting: the same time of day by a zone's clock, on the same day of each week.
+//! The answers of lines for a weekly meeting: the same time of day by a zone's clock, on the same day of each week.
 //!
 //! The date of each week comes from the calendar, and is looked up by the clock anew. Seconds of weeks, added to the first instant, would
-//! move the meeting wherever the clock is set forward or back. All this uses public calls of `tz` and their contracts; of `tz::inner` it
-//! only names the struct of seven fields.
+//! move the meeting wherever the clock is set forward or back. The dates use public calls of `tz` and their contracts; of `tz::inner` they
+//! only name the struct of seven fields.
 
 ghost use Rattle.std.specs.Prelude.{◌≡◌, IfOk, IfErr, IfSome, IfNone, OnOk};
 ghost use Rattle.tz_base.specs.Fields.{IsFirstFault, IsValid, day_of};
 ghost use Rattle.tz.specs.Windows.{IsSmall};
 ghost use Rattle.tz_query.specs.MeetingDates.{IsInYears, IsWeekOf, day_after, midnight};
 
+use super::answers::Answers;
+use super::error_names::field_fault_name;
+use super::nanoseconds::Nanoseconds;
+use super::output::Written;
+use std::alloc::Allocator;
 use tz::constants::{SECONDS_PER_DAY, SECONDS_PER_WEEK};
 use tz::error::datetime::DateTimeError;
 use tz::inner::Fields;
 use tz::{TzError, UtcDateTime};
 
 /// The Unix time at which the first day begins in UTC, or the first error in the fields.
-pub fn first_day_begins(first: &Fields) -> Result<i64, DateTimeError>
+fn first_day_begins(first: &Fields) -> Result<i64, DateTimeError>
     ensures ok { IfOk result (λ begins. (begins ≡ midnight (day_of first.now)) × IsSmall begins) }
     ensures valid { OnOk result (IsValid first.now) }
     ensures err { IfErr result (IsFirstFault first.now) }
@@ -41,7 +46,7 @@ pub fn first_day_begins(first: &Fields) -> Result<i64, DateTimeError>
 }
 
 /// The fields a number of weeks later, if their year is one of 32 bits.
-pub fn week_of(first: &Fields, begins: i64, weeks: u8) -> Option<Fields>
+fn week_of(first: &Fields, begins: i64, weeks: u8) -> Option<Fields>
     requires day { begins ≡ midnight (day_of first.now) }
     requires small { IsSmall begins }
     ensures some { IfSome result (IsWeekOf first.now weeks) }
@@ -56,4 +61,31 @@ pub fn week_of(first: &Fields, begins: i64, weeks: u8) -> Option<Fields>
         month_day: day.month_day(),
         ..*first
     })
+}
+
+impl<'a, A: Allocator + Copy> Answers<'a, A> {
+    ghost use Rattle.tz_query.specs.Outputs.{IsAnswered, IsSound};
+    ghost use Rattle.tz_query.specs.declared.query.lines.Query.TheVariants.{Meeting};
+
+    /// Answers a weekly meeting, which takes place in `count` weeks, in the first of them at these fields: for each week, by a search for its
+    /// fields, or that its year is out of range.
+    #[inline(never)]
+    pub fn answer_meeting(&mut self, count: u8, first: &Fields) -> Written
+        requires { IsSound self.old }
+        ensures { IfOk result (λ _. IsAnswered (Meeting count first.now) self.old self.new) }
+    {
+        let begins = match first_day_begins(first) {
+            Ok(begins) => begins,
+            Err(fault) => return self.output.push_error(field_fault_name(&fault)),
+        };
+        self.output.push_count(b'W', usize::from(count))?;
+        let nanoseconds = Nanoseconds::new(first.nanoseconds);
+        for weeks in 0..count {
+            match week_of(first, begins, weeks) {
+                Some(fields) => self.answer_search(&fields, &nanoseconds)?,
+                None => self.output.push_error("OutOfRange")?,
+            }
+        }
+        Ok(())
+    }
 }
