@@ -8,7 +8,7 @@ use Rattle.tz_rule.specs.RuleSegments.{IsSwitch, IsRuleChange, IsWholeSegment, I
 use Rattle.tz_rule.specs.AlternateSegments.{type_by, IsTriedYear}
 use Rattle.tz_rule.specs.Pairing.{EndsNextYear, IsDaylight}
 use Rattle.tz_rule.specs.declared.timezone.rule.TransitionRule.TheVariants.{Alternate}
-use Rattle.tz_rule.specs.declared.timezone.segments.AlternateSegment.{AlternateSegment}
+use Rattle.tz_rule.specs.declared.timezone.rule_segments.AlternateSegment.{AlternateSegment}
 use Rattle.tz_rule.proofs.ChangePoints.{alternate_type_unchanged, alternate_type_was}
 use Rattle.tz_rule.proofs.DaylightSpans.{over, to_come, daylight_in_span, no_daylight_between_spans}
 use Rattle.tz_rule.proofs.YearlyInstants.{IsYearly, year_start, IsYearly-start_of, IsYearly-end_of, IsYearly-switch_of, near_year}

@@ -4,7 +4,7 @@ use Rattle.tz_rule.specs.LocalTimeType.{LocalTimeType}
 use Rattle.tz_rule.specs.Alternate.{AlternateTime}
 use Rattle.tz_rule.specs.Rule.{IsRuleType}
 use Rattle.tz_rule.specs.declared.timezone.rule.TransitionRule.TheVariants.{Alternate}
-use Rattle.tz_rule.specs.declared.timezone.segments.AlternateSegment.{AlternateSegment}
+use Rattle.tz_rule.specs.declared.timezone.rule_segments.AlternateSegment.{AlternateSegment}
 
 -- the type of daylight saving time, or that of standard time
 abbrev pub type_by : AlternateTime → Bool → LocalTimeType

@@ -7,7 +7,7 @@ use Rattle.tz_rule.specs.Alternate.{AlternateTime, start_of, end_of, IsConsisten
 use Rattle.tz_rule.specs.Parts.{rule_of}
 use Rattle.tz_rule.specs.YearTables.{IsTableOf, entry, is_inner, start_table, end_table}
 use Rattle.tz_rule.specs.declared.timezone.alternate_clock.AlternateClock.TheInside.{Inside}
-use Rattle.tz_rule.specs.declared.timezone.rule_parts.Parts.{Parts}
+use Rattle.tz_rule.specs.declared.timezone.alternate_parts.Parts.{Parts}
 
 -- in the years of one of the first kinds the end comes before the start
 unfoldable pub ends_first_in : AlternateTime → ℕ → Bool

@@ -7,8 +7,8 @@ use Rattle.tz_rule.specs.Rule.{IsRuleType}
 use Rattle.tz_rule.specs.AlternateSegments.{IsAlternateSegment}
 use Rattle.tz_rule.specs.declared.timezone.rule.TransitionRule.{TransitionRule}
 use Rattle.tz_rule.specs.declared.timezone.rule.TransitionRule.TheVariants.{Fixed, Alternate}
-use Rattle.tz_rule.specs.declared.timezone.rule_segment.RuleSegment.{RuleSegment}
-use Rattle.tz_rule.specs.declared.timezone.segments.AlternateSegment.{AlternateSegment}
+use Rattle.tz_rule.specs.declared.timezone.rule_segments.RuleSegment.{RuleSegment}
+use Rattle.tz_rule.specs.declared.timezone.rule_segments.AlternateSegment.{AlternateSegment}
 
 -- some year's start or end
 abbrev pub IsSwitch : AlternateTime → ℤ → Type 0

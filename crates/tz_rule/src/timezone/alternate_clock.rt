@@ -11,8 +11,8 @@ ghost use Rattle.tz_rule.specs.Pairing.{IsConflict, IsInconsistent, EndsNextYear
 ghost use Rattle.tz_rule.specs.ZeroRule.{zero_rule};
 
 use super::LocalTimeType;
+use super::alternate_parts::Parts;
 use super::day_data::DayData;
-use super::rule_parts::Parts;
 use super::year_table::YearTable;
 use std::marker::Model;
 use tz_base::error::timezone::TransitionRuleError;

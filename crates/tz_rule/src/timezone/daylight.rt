@@ -1,33 +1,11 @@
 //! Whether a rule has daylight saving time at an instant, by the starts and ends of its year in UTC and of the two neighbours.
 
-ghost use Rattle.std.specs.Prelude.{IfSome, IfNone, MatchBool};
-ghost use Rattle.tz_rule.specs.Alternate.{start_of, end_of, IsUtcYear, IsRuleYear, IsInRuleYears};
+ghost use Rattle.std.specs.Prelude.{MatchBool};
+ghost use Rattle.tz_rule.specs.Alternate.{start_of, end_of, IsUtcYear, IsRuleYear};
 ghost use Rattle.tz_rule.specs.Daylight.{IsInSpan};
 ghost use Rattle.tz_rule.specs.Pairing.{EndsNextYear, IsDaylight};
 
 use super::alternate_clock::AlternateClock;
-use tz_base::fields::{Fields, is_reading};
-
-/// The first year over which a rule is defined.
-pub(super) const FIRST_YEAR: i32 = i32::MIN + 2;
-
-/// The last year over which a rule is defined.
-pub(super) const LAST_YEAR: i32 = i32::MAX - 2;
-
-/// The year of an instant in UTC, if rules are defined over it.
-pub(super) fn rule_year(unix_time: i64) -> Option<i32>
-    ensures some { IfSome result (λ year. IsUtcYear unix_time year × IsRuleYear year) }
-    ensures none { IfNone result (¬ IsInRuleYears unix_time) }
-{
-    if !is_reading(unix_time) {
-        return None;
-    }
-    let year = Fields::from_reading(unix_time, 0).year;
-    if year < FIRST_YEAR || year > LAST_YEAR {
-        return None;
-    }
-    Some(year)
-}
 
 impl AlternateClock {
     /// Whether the instant is in the span from one year's start up to, not including, a year's end.

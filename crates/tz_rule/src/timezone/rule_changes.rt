@@ -19,8 +19,8 @@ ghost use Rattle.tz_rule.specs.declared.timezone.rule.TransitionRule.TheVariants
 
 use super::LocalTimeType;
 use super::alternate_clock::AlternateClock;
-use super::rule_ref::RuleRef;
-use super::segments::likely_years;
+use super::rule_clock::RuleRef;
+use super::rule_years::likely_years;
 
 /// A change of a rule, from one type to another.
 #[derive(Clone, Copy)]

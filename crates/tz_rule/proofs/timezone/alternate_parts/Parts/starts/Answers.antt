@@ -2,7 +2,7 @@
 use Rattle.std.proofs.Common.{ap, ◌∙◌, arith}
 use Rattle.std.proofs.lemmas.Int.{ints}
 use Rattle.tz_rule.specs.YearTables.{start_table, day_table}
-use Rattle.tz_rule.proofs.timezone.rule_parts.Parts.starts.Goals as goal
+use Rattle.tz_rule.proofs.timezone.alternate_parts.Parts.starts.Goals as goal
 
 pub returns-clause-table : goal.returns-clause-table
 unfolding start_table

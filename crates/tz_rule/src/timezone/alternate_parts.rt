@@ -1,13 +1,26 @@
 //! The parts of an alternate rule, their ranges, and the tables that they make.
 
-ghost use Rattle.std.specs.Prelude.{◌≡◌, OnOk, IfErr};
-ghost use Rattle.tz_rule.specs.Alternate.{IsInRuleRange, IsRangeFault};
+ghost use Rattle.std.specs.Prelude.{◌≡◌, OnOk, IfErr, MatchBool};
+ghost use Rattle.tz_rule.specs.Alternate.{IsRuleOffset, IsRuleTime, IsInRuleRange, IsRangeFault};
 
-use super::alternate::{is_rule_offset, is_rule_time};
 use super::day_data::DayData;
 use super::year_table::YearTable;
 use super::{LocalTimeType, RuleDay};
 use tz_base::error::timezone::TransitionRuleError;
+
+/// Whether the offset is above -25 and below 26 hours.
+fn is_rule_offset(offset: i32) -> bool
+    ensures { MatchBool result (IsRuleOffset offset) (¬ IsRuleOffset offset) }
+{
+    -90_000 < offset && offset < 93_600
+}
+
+/// Whether the time is less than a week either way.
+fn is_rule_time(time: i32) -> bool
+    ensures { MatchBool result (IsRuleTime time) (¬ IsRuleTime time) }
+{
+    -604_800 < time && time < 604_800
+}
 
 /// The six parts of an alternate rule.
 #[repr(C)]

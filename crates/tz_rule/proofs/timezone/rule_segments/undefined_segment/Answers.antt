@@ -4,7 +4,7 @@ use Rattle.std.proofs.lemmas.Int.{ints, by_lt_z}
 use mir.Syntax.{w64}
 use Rattle.tz_rule.specs.Rule.{IsRuleType}
 use Rattle.tz_rule.proofs.RuleSegments.{IsInRuleYears-between, IsInRuleYears-bounds}
-use Rattle.tz_rule.proofs.timezone.segments.undefined_segment.Goals as goal
+use Rattle.tz_rule.proofs.timezone.rule_segments.undefined_segment.Goals as goal
 
 pub returns-then-unix_time-first : goal.returns-then-unix_time-first
 unfolding IsRuleType

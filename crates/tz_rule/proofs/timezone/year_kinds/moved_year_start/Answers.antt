@@ -6,7 +6,7 @@ use Rattle.tz_base.proofs.YearStarts.{first_day-moved, is_leap-moved, days_of_ye
 use Rattle.tz_rule.specs.Kinds.{kind_of, year_kind}
 use Rattle.tz_rule.proofs.Weeks.{week_day_of_year-moved}
 use Rattle.tz_rule.proofs.UtcYears.{year_fits}
-use Rattle.tz_rule.proofs.timezone.pair_kinds.moved_year_start.Goals as goal
+use Rattle.tz_rule.proofs.timezone.year_kinds.moved_year_start.Goals as goal
 
 pub returns-clause-start : goal.returns-clause-start
 returns-clause-start c =

@@ -4,8 +4,7 @@
 //! ends of their years, and mostly otherwise. Else, as near some New Years, those of five years do: the last one up to the instant can be that of
 //! two years before, and the next one that of two years after.
 
-ghost use Rattle.std.specs.Prelude.{◌≡◌, ◌≢◌, ◌⊎◌, ℤ, pos, negsuc, ◌+ℤ◌, ◌*ℤ◌, ◌≤ℤ◌, ◌<ℤ◌, IfOk, IfErr, IfSome, MatchBool, MatchOption};
-ghost use Rattle.tz_base.specs.Days.{first_day};
+ghost use Rattle.std.specs.Prelude.{◌≡◌, ◌≢◌, ◌⊎◌, ℤ, pos, negsuc, ◌+ℤ◌, ◌≤ℤ◌, ◌<ℤ◌, IfOk, IfErr, IfSome, MatchBool, MatchOption};
 ghost use Rattle.tz_rule.specs.Alternate.{AlternateTime, start_of, end_of, switch_of, IsUtcYear, IsRuleYear, IsInRuleYears, IsAlternateType};
 ghost use Rattle.tz_rule.specs.LocalTimeType.{LocalTimeType};
 ghost use Rattle.tz_rule.specs.Rule.{IsRuleType};
@@ -17,21 +16,22 @@ ghost use Rattle.tz_rule.specs.declared.timezone.rule.TransitionRule.TheVariants
 
 use super::LocalTimeType;
 use super::alternate_clock::AlternateClock;
-use super::daylight::{FIRST_YEAR, LAST_YEAR, rule_year};
-use super::rule_segment::RuleSegment;
-use tz_base::calendar;
-use tz_base::constants::SECONDS_PER_DAY;
+use super::rule_years::{FIRST_YEAR, LAST_YEAR, likely_years, new_year, rule_year};
 use tz_base::error::TzError;
-use tz_base::moved_year::moved_seconds;
-
-/// How far from 1970 an instant may be: the two years before its year and the two after it are years over which a rule is defined.
-const GREATEST_DISTANCE: i64 = 60_000_000_000_000_000;
-
-/// The seconds of a year, on the average of 400 years.
-const SECONDS_PER_YEAR: u64 = 31_556_952;
 
 /// How many years have the starts and ends that may be next to an instant: its own, two before it and two after it.
 const NEAR_YEARS: u8 = 5;
+
+/// A span of time through which a rule has one type, or none.
+#[derive(Clone, Copy)]
+pub struct RuleSegment<'a> {
+    /// The first instant.
+    pub from: i64,
+    /// The last instant.
+    pub last: i64,
+    /// The type, if the rule is defined.
+    pub local_time_type: Option<&'a LocalTimeType>,
+}
 
 /// A span of time through which an alternate rule has one type.
 #[derive(Clone, Copy)]
@@ -42,26 +42,6 @@ struct AlternateSegment {
     until: i64,
     /// Whether its type is that of daylight saving time.
     is_daylight: bool,
-}
-
-/// The year of an instant in UTC, or the neighbour of that year whose end is less than two days away, moved by cycles of 400 years.
-#[inline(always)]
-pub(super) fn likely_years(unix_time: i64) -> Option<u64>
-    ensures year { IfSome result (λ years. IsTriedYear (moved_back years)) }
-    ensures likely { IfSome result (λ years. IsLikelyYear unix_time (moved_back years)) }
-{
-    if unix_time < -GREATEST_DISTANCE || unix_time > GREATEST_DISTANCE {
-        return None;
-    }
-    Some(moved_seconds(unix_time) / SECONDS_PER_YEAR)
-}
-
-/// 00:00 UTC of a year's January 1st.
-fn new_year(year: i32) -> i64
-    ensures value { result ≡ pos 86400 *ℤ first_day year }
-    ensures bound { (negsuc 67768100567971199 ≤ℤ result) × (result ≤ℤ pos 67767976202016000) }
-{
-    SECONDS_PER_DAY * calendar::first_day_of_year(year)
 }
 
 /// The segment around an instant at which rules are undefined.

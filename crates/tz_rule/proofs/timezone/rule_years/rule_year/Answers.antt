@@ -3,8 +3,8 @@ use Rattle.std.proofs.Common.{arith, rules}
 use Rattle.std.proofs.lemmas.Int.{ints, to_z-of_z}
 use mir.Syntax.{w32, w64}
 use Rattle.tz_rule.proofs.UtcYears.{IsUtcYear-from_civil, utc_year_unique, IsReading-from_rule_year}
-use Rattle.tz_rule.proofs.timezone.daylight.rule_year.Goals as goal
-use Rattle.tz_rule.proofs.timezone.daylight.rule_year.Goals.{then-year-lt-FIRST_YEAR-via-then-year-lt-FIRST_YEAR, then-year-lt-FIRST_YEAR-via-else-year-lt-FIRST_YEAR+then-year-gt-LAST_YEAR}
+use Rattle.tz_rule.proofs.timezone.rule_years.rule_year.Goals as goal
+use Rattle.tz_rule.proofs.timezone.rule_years.rule_year.Goals.{then-year-lt-FIRST_YEAR-via-then-year-lt-FIRST_YEAR, then-year-lt-FIRST_YEAR-via-else-year-lt-FIRST_YEAR+then-year-gt-LAST_YEAR}
 
 pub returns-then-not-is_reading-clause-none : goal.returns-then-not-is_reading-clause-none
 returns-then-not-is_reading-clause-none c = λ (y, is, h). c.if-not-is_reading.ensures (rw (to_z-of_z w64 c.args.unix_time c.ranges.unix_time) (IsReading-from_rule_year c.args.unix_time y is h))
