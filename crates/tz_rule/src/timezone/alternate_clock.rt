@@ -5,7 +5,7 @@
 ghost use Rattle.std.specs.Prelude.{◌≡◌, OnOk, IfOk, IfErr, IfSome, IfNone, MatchBool};
 ghost use Rattle.std.specs.Bool.{OnTrue};
 ghost use Rattle.tz_rule.specs.Alternate.{start_of, end_of, switch_of, alternate_of, IsInRuleRange, IsFirstRuleFault, IsConsistentRule, AreRuleDays, IsNearYear};
-ghost use Rattle.tz_rule.specs.InnerSwitches.{HasInnerSwitches};
+ghost use Rattle.tz_rule.specs.LikelyYears.{HasInnerSwitches};
 ghost use Rattle.tz_rule.specs.YearTables.{IsTableOf};
 ghost use Rattle.tz_rule.specs.Pairing.{IsConflict, IsInconsistent, EndsNextYear};
 ghost use Rattle.tz_rule.specs.ZeroRule.{zero_rule};

@@ -5,7 +5,6 @@ pub(crate) mod alternate_clock;
 mod alternate_parts;
 mod consistency;
 pub(crate) mod day_data;
-mod daylight;
 mod local_time_type;
 mod rule;
 pub(crate) mod rule_changes;

@@ -1,16 +1,15 @@
 //! The segment of an alternate rule around an instant, from one start or end of daylight saving time up to the next, and the type there.
 //!
 //! Two or three starts and ends of the likely year and of its neighbours determine both if all starts and ends are ten days or more from the
-//! ends of their years, and mostly otherwise. Else, as near some New Years, those of five years do: the last one up to the instant can be that of
-//! two years before, and the next one that of two years after.
+//! ends of their years, and mostly otherwise. Else, as near some New Years, those of the instant's year in UTC or of a neighbour do, and of the years
+//! beside that: the last one up to the instant can be that of two years before, and the next one that of two years after.
 
-ghost use Rattle.std.specs.Prelude.{◌≡◌, ◌≢◌, ◌⊎◌, ℤ, pos, negsuc, ◌+ℤ◌, ◌≤ℤ◌, ◌<ℤ◌, IfOk, IfErr, IfSome, MatchBool, MatchOption};
+ghost use Rattle.std.specs.Prelude.{◌≡◌, ◌≢◌, ◌≤◌, ℤ, pos, negsuc, ◌+ℤ◌, ◌-ℤ◌, ◌≤ℤ◌, ◌<ℤ◌, IfOk, IfErr, IfSome, IfNone, MatchBool, MatchOption};
 ghost use Rattle.tz_rule.specs.Alternate.{AlternateTime, start_of, end_of, switch_of, IsUtcYear, IsRuleYear, IsInRuleYears, IsAlternateType};
 ghost use Rattle.tz_rule.specs.LocalTimeType.{LocalTimeType};
 ghost use Rattle.tz_rule.specs.Rule.{IsRuleType};
-ghost use Rattle.tz_rule.specs.RuleSegments.{IsRuleChange, IsRuleSegment, IsWholeSegment, IsNotInside};
-ghost use Rattle.tz_rule.specs.InnerSwitches.{HasInnerSwitches, IsLikelyYear};
-ghost use Rattle.tz_rule.specs.AlternateSegments.{type_by, IsTriedYear, moved_back};
+ghost use Rattle.tz_rule.specs.RuleSegments.{type_by, IsRuleChange, IsRuleSegment, IsSwitchSegment, IsWholeSegment};
+ghost use Rattle.tz_rule.specs.LikelyYears.{HasInnerSwitches, HasNeighbours, IsDeterminingYear, moved_back};
 ghost use Rattle.tz_rule.specs.Pairing.{EndsNextYear};
 ghost use Rattle.tz_rule.specs.declared.timezone.rule.TransitionRule.TheVariants.{Alternate};
 
@@ -18,9 +17,7 @@ use super::LocalTimeType;
 use super::alternate_clock::AlternateClock;
 use super::rule_years::{FIRST_YEAR, LAST_YEAR, likely_years, new_year, rule_year};
 use tz_base::error::TzError;
-
-/// How many years have the starts and ends that may be next to an instant: its own, two before it and two after it.
-const NEAR_YEARS: u8 = 5;
+use tz_base::moved_year::moved_year;
 
 /// A span of time through which a rule has one type, or none.
 #[derive(Clone, Copy)]
@@ -64,34 +61,11 @@ fn undefined_segment<'a>(unix_time: i64) -> RuleSegment<'a>
     }
 }
 
-/// The segment around the instant, cut at a start or an end that is inside it.
-fn cut(segment: AlternateSegment, unix_time: i64, switch: i64) -> AlternateSegment
-    requires { (segment.from ≤ℤ unix_time) × (unix_time <ℤ segment.until) }
-    ensures within { (result.from ≤ℤ unix_time) × (unix_time <ℤ result.until) }
-    ensures from { (result.from ≡ segment.from) ⊎ (result.from ≡ switch) }
-    ensures until { (result.until ≡ segment.until) ⊎ (result.until ≡ switch) }
-    ensures inside { (segment.from ≤ℤ result.from) × (result.until ≤ℤ segment.until) }
-    ensures outside { IsNotInside result switch }
-    ensures is_daylight { result.is_daylight ≡ segment.is_daylight }
-{
-    let (mut from, mut until) = (segment.from, segment.until);
-    if switch > unix_time {
-        until = until.min(switch);
-    } else {
-        from = from.max(switch);
-    }
-    AlternateSegment {
-        from,
-        until,
-        is_daylight: segment.is_daylight,
-    }
-}
-
 impl AlternateClock {
     /// The instant at which daylight saving time starts, or ends, in a moved year.
     #[inline(always)]
     pub(super) fn switch_in_moved(&self, is_end: bool, years: u64) -> i64
-        requires { IsRuleYear (moved_back years) }
+        requires { (352 ≤ years) × (years ≤ 4294967647) }
         ensures { result ≡ switch_of self.now is_end (moved_back years) }
     {
         self.switches(is_end).in_moved_year(years)
@@ -101,9 +75,9 @@ impl AlternateClock {
     #[inline(always)]
     fn segment_by_order(&self, end_is_first: bool, unix_time: i64, years: u64) -> AlternateSegment
         requires order { MatchBool end_is_first (EndsNextYear (start_of self.now) (end_of self.now)) (¬ EndsNextYear (start_of self.now) (end_of self.now)) }
-        requires year { IsTriedYear (moved_back years) }
-        ensures of { IsWholeSegment self.now result }
-        ensures within { HasInnerSwitches self.now → IsLikelyYear unix_time (moved_back years) → (result.from ≤ℤ unix_time) × (unix_time <ℤ result.until) }
+        requires year { HasNeighbours (moved_back years) }
+        ensures of { IsSwitchSegment self.now (moved_back years) result }
+        ensures within { IsDeterminingYear self.now end_is_first unix_time (moved_back years) → (result.from ≤ℤ unix_time) × (unix_time <ℤ result.until) }
     {
         self.parts_are_sound();
         let first = self.switch_in_moved(end_is_first, years);
@@ -129,20 +103,21 @@ impl AlternateClock {
         }
     }
 
-    /// The segment of the moved year or its neighbours that an instant near the year chooses.
+    /// The segment of the likely year or its neighbours that the instant chooses: mostly the one around it.
     ///
     /// Each order has code of its own, which costs fewer steps than tables that are chosen by the order.
     #[inline(always)]
-    fn segment_of_years(&self, unix_time: i64, years: u64) -> AlternateSegment
-        requires { IsTriedYear (moved_back years) }
-        ensures of { IsWholeSegment self.now result }
-        ensures within { HasInnerSwitches self.now → IsLikelyYear unix_time (moved_back years) → (result.from ≤ℤ unix_time) × (unix_time <ℤ result.until) }
+    fn likely_segment(&self, unix_time: i64) -> Option<AlternateSegment>
+        ensures of { IfSome result (λ segment. IsWholeSegment self.now segment) }
+        ensures within { IfSome result (λ segment. HasInnerSwitches self.now → (segment.from ≤ℤ unix_time) × (unix_time <ℤ segment.until)) }
     {
-        if self.ends_next_year() {
+        let years = likely_years(unix_time)?;
+        let segment = if self.ends_next_year() {
             self.segment_by_order(true, unix_time, years)
         } else {
             self.segment_by_order(false, unix_time, years)
-        }
+        };
+        Some(segment)
     }
 
     /// The segment around an instant, if the rule's switches are such that the likely year always determines it.
@@ -154,42 +129,56 @@ impl AlternateClock {
         if !self.has_inner_switches() {
             return None;
         }
-        let years = likely_years(unix_time)?;
-        Some(self.segment_of_years(unix_time, years))
+        self.likely_segment(unix_time)
     }
 
-    /// The segment around an instant, if the likely year determines it.
-    #[inline(always)]
-    fn likely_segment(&self, unix_time: i64) -> Option<AlternateSegment>
-        ensures of { IfSome result (λ segment. IsWholeSegment self.now segment) }
-        ensures within { IfSome result (λ segment. (segment.from ≤ℤ unix_time) × (unix_time <ℤ segment.until)) }
+    /// The year whose switches, with those of its neighbours, determine the segment around an instant of a year in UTC.
+    fn determining_year(&self, end_is_first: bool, unix_time: i64, year: i32) -> i32
+        requires { IsUtcYear unix_time year × IsRuleYear year }
+        ensures beside { ((year -ℤ pos 1) ≤ℤ result) × (result ≤ℤ (year +ℤ pos 1)) }
+        ensures determines { IsDeterminingYear self.now end_is_first unix_time result }
     {
-        let years = likely_years(unix_time)?;
-        let segment = self.segment_of_years(unix_time, years);
-        if unix_time < segment.from || segment.until <= unix_time {
-            return None;
+        self.parts_are_sound();
+        if unix_time < self.switch_in(end_is_first, year) {
+            return year - 1;
         }
-        Some(segment)
+        if unix_time < self.switch_in(end_is_first, year + 1) {
+            return year;
+        }
+        year + 1
     }
 
-    /// The segment around an instant of the year in UTC, by all starts and ends that may be next to it.
+    /// The segment around an instant of the year in UTC, within the years over which the rule is defined.
     fn segment_in_year(&self, unix_time: i64, year: i32) -> AlternateSegment
         requires { IsUtcYear unix_time year × IsRuleYear year }
         ensures of { IsWholeSegment self.now result }
         ensures within { (result.from ≤ℤ unix_time) × (unix_time <ℤ result.until) }
     {
-        self.parts_are_sound();
-        let mut segment = AlternateSegment {
-            from: new_year(FIRST_YEAR),
-            until: new_year(LAST_YEAR + 1),
-            is_daylight: self.is_daylight(unix_time, year),
-        };
-        for index in 0..NEAR_YEARS {
-            let near = year - 2 + i32::from(index);
-            segment = cut(segment, unix_time, self.switch_in(false, near));
-            segment = cut(segment, unix_time, self.switch_in(true, near));
+        let end_is_first = self.ends_next_year();
+        let years = moved_year(self.determining_year(end_is_first, unix_time, year));
+        let segment = self.segment_by_order(end_is_first, unix_time, years);
+        AlternateSegment {
+            from: segment.from.max(new_year(FIRST_YEAR)),
+            until: segment.until.min(new_year(LAST_YEAR + 1)),
+            is_daylight: segment.is_daylight,
         }
-        segment
+    }
+
+    /// The segment around an instant that the likely year does not always determine, or none outside the years of rules.
+    #[inline(always)]
+    fn defined_segment(&self, unix_time: i64) -> Option<AlternateSegment>
+        ensures of { IfSome result (λ segment. IsWholeSegment self.now segment) }
+        ensures within { IfSome result (λ segment. (segment.from ≤ℤ unix_time) × (unix_time <ℤ segment.until)) }
+        ensures none { IfNone result (¬ IsInRuleYears unix_time) }
+    {
+        if let Some(segment) = self.likely_segment(unix_time)
+            && segment.from <= unix_time
+            && unix_time < segment.until
+        {
+            return Some(segment);
+        }
+        let year = rule_year(unix_time)?;
+        Some(self.segment_in_year(unix_time, year))
     }
 
     /// The type of daylight saving time, or that of standard time.
@@ -219,11 +208,8 @@ impl AlternateClock {
     fn outer_segment(&self, unix_time: i64) -> RuleSegment<'_>
         ensures { IsRuleSegment (Alternate self.now) unix_time result }
     {
-        if let Some(segment) = self.likely_segment(unix_time) {
-            return self.rule_segment(unix_time, segment);
-        }
-        match rule_year(unix_time) {
-            Some(year) => self.rule_segment(unix_time, self.segment_in_year(unix_time, year)),
+        match self.defined_segment(unix_time) {
+            Some(segment) => self.rule_segment(unix_time, segment),
             None => undefined_segment(unix_time),
         }
     }
@@ -250,13 +236,10 @@ impl AlternateClock {
         ensures ok { IfOk result (λ t. IsInRuleYears unix_time × IsAlternateType self.now unix_time t.now) }
         ensures err { IfErr result (λ e. (e ≡ TzError.OutOfRange) × ¬ IsInRuleYears unix_time) }
     {
-        if let Some(segment) = self.likely_segment(unix_time) {
-            return Ok(self.type_by(segment.is_daylight));
-        }
-        match rule_year(unix_time) {
-            Some(year) => Ok(self.type_by(self.is_daylight(unix_time, year))),
-            None => Err(TzError::OutOfRange),
-        }
+        let Some(segment) = self.defined_segment(unix_time) else {
+            return Err(TzError::OutOfRange);
+        };
+        Ok(self.type_by(segment.is_daylight))
     }
 
     /// The type at an instant.

@@ -3,8 +3,7 @@
 ghost use Rattle.std.specs.Prelude.{◌≡◌, pos, negsuc, ◌*ℤ◌, ◌≤ℤ◌, IfSome, IfNone};
 ghost use Rattle.tz_base.specs.Days.{first_day};
 ghost use Rattle.tz_rule.specs.Alternate.{IsUtcYear, IsRuleYear, IsInRuleYears};
-ghost use Rattle.tz_rule.specs.AlternateSegments.{IsTriedYear, moved_back};
-ghost use Rattle.tz_rule.specs.InnerSwitches.{IsLikelyYear};
+ghost use Rattle.tz_rule.specs.LikelyYears.{IsLikelyYear, IsTriedYear, moved_back};
 
 use tz_base::calendar;
 use tz_base::constants::SECONDS_PER_DAY;

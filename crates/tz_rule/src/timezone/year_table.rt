@@ -2,7 +2,7 @@
 
 ghost use Rattle.std.specs.Prelude.{◌≡◌, ◌<◌, ◌≤◌, ◌*◌, replicate, pos, negsuc, ◌+ℤ◌, ◌≤ℤ◌};
 ghost use Rattle.tz_rule.specs.RuleDays.{IsRuleDay};
-ghost use Rattle.tz_rule.specs.AlternateSegments.{moved_back};
+ghost use Rattle.tz_rule.specs.LikelyYears.{moved_back};
 ghost use Rattle.tz_rule.specs.YearTables.{instant_in, entry, day_table, AreBounds, least_entry, greatest_entry, is_inner};
 
 use super::RuleDay;

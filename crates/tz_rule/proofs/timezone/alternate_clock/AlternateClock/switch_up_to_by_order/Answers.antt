@@ -3,7 +3,7 @@ use Rattle.std.proofs.Common.{◌≡◌, ◌∙◌, not, arith, rules, ap, ◌-�
 use Rattle.std.proofs.lemmas.Int.{ints, to_z-of_z}
 use mir.Syntax.{w64}
 use Rattle.tz_rule.specs.Alternate.{switch_of}
-use Rattle.tz_rule.specs.AlternateSegments.{moved_back}
+use Rattle.tz_rule.specs.LikelyYears.{moved_back}
 use Rattle.tz_rule.proofs.RuleSwitches.{switch_from_second, switch_from_first, switch_of_last_year}
 use Rattle.tz_rule.proofs.WeakerClauses.{IfSome-weaker}
 use Rattle.tz_rule.proofs.timezone.alternate_clock.AlternateClock.switch_up_to_by_order.Goals as goal
