@@ -10,10 +10,10 @@ ghost use Rattle.tz_rule.specs.YearTables.{IsTableOf};
 ghost use Rattle.tz_rule.specs.Pairing.{IsConflict, IsInconsistent, EndsNextYear};
 ghost use Rattle.tz_rule.specs.ZeroRule.{zero_rule};
 
-use super::LocalTimeType;
 use super::alternate_parts::Parts;
 use super::day_data::DayData;
 use super::year_table::YearTable;
+use super::{AlternateTime, LocalTimeType};
 use std::marker::Model;
 use tz_base::error::timezone::TransitionRuleError;
 
@@ -63,21 +63,17 @@ impl AlternateClock {
         ensures ok { OnOk result (IsConsistentRule (alternate_of std dst dst_start dst_start_time dst_end dst_end_time)) }
         ensures err { IfErr result (IsFirstRuleFault (alternate_of std dst dst_start dst_start_time dst_end dst_end_time)) }
     {
-        let parts = Parts {
+        match AlternateTime::new(
             std,
             dst,
-            dst_start,
+            dst_start.day(),
             dst_start_time,
-            dst_end,
+            dst_end.day(),
             dst_end_time,
-        };
-        parts.check_range()?;
-        let starts = parts.starts(&dst_start.day());
-        let ends = parts.ends(&dst_end.day());
-        let Some(ends_next_year) = starts.order(&ends) else {
-            return Err(TransitionRuleError::InconsistentRule);
-        };
-        Ok(AlternateClock::of_tables(parts, starts, ends, ends_next_year))
+        ) {
+            Ok(rule) => Ok(*rule.clock()),
+            Err(error) => Err(error),
+        }
     }
 
     /// The clock of parts in range with their tables, whose starts and ends keep their order.
