@@ -107,7 +107,7 @@ impl AlternateClock {
     ///
     /// Each order has code of its own, which costs fewer steps than tables that are chosen by the order.
     #[inline(always)]
-    fn likely_segment(&self, unix_time: i64) -> Option<AlternateSegment>
+    fn near_segment(&self, unix_time: i64) -> Option<AlternateSegment>
         ensures of { IfSome result (λ segment. IsWholeSegment self.now segment) }
         ensures within { IfSome result (λ segment. HasInnerSwitches self.now → (segment.from ≤ℤ unix_time) × (unix_time <ℤ segment.until)) }
     {
@@ -129,7 +129,20 @@ impl AlternateClock {
         if !self.has_inner_switches() {
             return None;
         }
-        self.likely_segment(unix_time)
+        self.near_segment(unix_time)
+    }
+
+    /// The segment around an instant, if the likely year determines it.
+    #[inline(always)]
+    fn likely_segment(&self, unix_time: i64) -> Option<AlternateSegment>
+        ensures of { IfSome result (λ segment. IsWholeSegment self.now segment) }
+        ensures within { IfSome result (λ segment. (segment.from ≤ℤ unix_time) × (unix_time <ℤ segment.until)) }
+    {
+        let segment = self.near_segment(unix_time)?;
+        if unix_time < segment.from || segment.until <= unix_time {
+            return None;
+        }
+        Some(segment)
     }
 
     /// The year whose switches, with those of its neighbours, determine the segment around an instant of a year in UTC.
@@ -148,37 +161,21 @@ impl AlternateClock {
         year + 1
     }
 
-    /// The segment around an instant of the year in UTC, within the years over which the rule is defined.
-    fn segment_in_year(&self, unix_time: i64, year: i32) -> AlternateSegment
-        requires { IsUtcYear unix_time year × IsRuleYear year }
-        ensures of { IsWholeSegment self.now result }
-        ensures within { (result.from ≤ℤ unix_time) × (unix_time <ℤ result.until) }
-    {
-        let end_is_first = self.ends_next_year();
-        let years = moved_year(self.determining_year(end_is_first, unix_time, year));
-        let segment = self.segment_by_order(end_is_first, unix_time, years);
-        AlternateSegment {
-            from: segment.from.max(new_year(FIRST_YEAR)),
-            until: segment.until.min(new_year(LAST_YEAR + 1)),
-            is_daylight: segment.is_daylight,
-        }
-    }
-
-    /// The segment around an instant that the likely year does not always determine, or none outside the years of rules.
-    #[inline(always)]
-    fn defined_segment(&self, unix_time: i64) -> Option<AlternateSegment>
+    /// The segment around an instant by its year in UTC, within the years over which the rule is defined.
+    fn segment_in_year(&self, unix_time: i64) -> Option<AlternateSegment>
         ensures of { IfSome result (λ segment. IsWholeSegment self.now segment) }
         ensures within { IfSome result (λ segment. (segment.from ≤ℤ unix_time) × (unix_time <ℤ segment.until)) }
         ensures none { IfNone result (¬ IsInRuleYears unix_time) }
     {
-        if let Some(segment) = self.likely_segment(unix_time)
-            && segment.from <= unix_time
-            && unix_time < segment.until
-        {
-            return Some(segment);
-        }
         let year = rule_year(unix_time)?;
-        Some(self.segment_in_year(unix_time, year))
+        let end_is_first = self.ends_next_year();
+        let years = moved_year(self.determining_year(end_is_first, unix_time, year));
+        let segment = self.segment_by_order(end_is_first, unix_time, years);
+        Some(AlternateSegment {
+            from: segment.from.max(new_year(FIRST_YEAR)),
+            until: segment.until.min(new_year(LAST_YEAR + 1)),
+            is_daylight: segment.is_daylight,
+        })
     }
 
     /// The type of daylight saving time, or that of standard time.
@@ -208,7 +205,10 @@ impl AlternateClock {
     fn outer_segment(&self, unix_time: i64) -> RuleSegment<'_>
         ensures { IsRuleSegment (Alternate self.now) unix_time result }
     {
-        match self.defined_segment(unix_time) {
+        if let Some(segment) = self.likely_segment(unix_time) {
+            return self.rule_segment(unix_time, segment);
+        }
+        match self.segment_in_year(unix_time) {
             Some(segment) => self.rule_segment(unix_time, segment),
             None => undefined_segment(unix_time),
         }
@@ -236,7 +236,10 @@ impl AlternateClock {
         ensures ok { IfOk result (λ t. IsInRuleYears unix_time × IsAlternateType self.now unix_time t.now) }
         ensures err { IfErr result (λ e. (e ≡ TzError.OutOfRange) × ¬ IsInRuleYears unix_time) }
     {
-        let Some(segment) = self.defined_segment(unix_time) else {
+        if let Some(segment) = self.likely_segment(unix_time) {
+            return Ok(self.type_by(segment.is_daylight));
+        }
+        let Some(segment) = self.segment_in_year(unix_time) else {
             return Err(TzError::OutOfRange);
         };
         Ok(self.type_by(segment.is_daylight))

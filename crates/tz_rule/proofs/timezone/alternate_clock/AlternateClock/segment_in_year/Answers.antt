@@ -20,7 +20,8 @@ returns-clause-within c =
     let unix = to_z-of_z w64 c.args.unix_time c.ranges.unix_time in
     let near : moved_back c.moved_year-years.result ≡ c.determining_year.result = omega (arith, ints, c.moved_year-years.ensures.value, to_z-of_z w32 c.determining_year.result (search rules)) in
     let within = (rw (unix, near) at s.ensures.within) (rw unix at c.determining_year.ensures.determines) in
-    let bounds = IsInRuleYears-bounds c.args.unix_time (c.args.year, c.requires.0, c.requires.1) in
+    let year = rw unix at c.in_ok-year.ensures.some in
+    let bounds = IsInRuleYears-bounds c.args.unix_time (c.in_ok-year.year, year.0, year.1) in
     let from = to_z-of_z w64 c.max.result (search rules) ∙ c.max.ensures.value in
     let until = to_z-of_z w64 c.min.result (search rules) ∙ c.min.ensures.value in
     rw (from, until, to_z-of_z w64 s.result.from (search rules), to_z-of_z w64 s.result.until (search rules), to_z-of_z w64 c.new_year.result (search rules), to_z-of_z w64 c.new_year-2.result (search rules), c.new_year.ensures.value, c.new_year-2.ensures.value)

@@ -4,7 +4,7 @@ use Rattle.std.proofs.lemmas.Int.{to_z-of_z}
 use mir.Syntax.{w64}
 use Rattle.tz_rule.proofs.InnerSwitches.{determining_if_likely}
 use Rattle.tz_rule.proofs.RuleSegments.{tried_segment}
-use Rattle.tz_rule.proofs.timezone.alternate_clock.AlternateClock.likely_segment.Goals as goal
+use Rattle.tz_rule.proofs.timezone.alternate_clock.AlternateClock.near_segment.Goals as goal
 
 pub returns-then-ends_next_year-clause-of : goal.returns-then-ends_next_year-clause-of
 returns-then-ends_next_year-clause-of c = tried_segment _ _ _ c.in_ok-years.ensures.year c.segment_by_order-segment.ensures.of
