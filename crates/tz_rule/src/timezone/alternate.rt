@@ -204,19 +204,18 @@ impl PartialEq for AlternateTime {
     fn eq(&self, other: &AlternateTime) -> bool {
         let (a, b) = (&self.clock, &other.clock);
         a.std() == b.std()
-            && a.dst() == b.dst()
-            && is_same_switch(
-                &self.dst_start,
-                a.dst_start_time(),
-                &other.dst_start,
-                b.dst_start_time(),
-            )
-            && is_same_switch(
-                &self.dst_end,
-                a.dst_end_time(),
-                &other.dst_end,
-                b.dst_end_time(),
-            )
+            && (a.dst() == b.dst()
+                && (is_same_switch(
+                    &self.dst_start,
+                    a.dst_start_time(),
+                    &other.dst_start,
+                    b.dst_start_time(),
+                ) && is_same_switch(
+                    &self.dst_end,
+                    a.dst_end_time(),
+                    &other.dst_end,
+                    b.dst_end_time(),
+                )))
     }
 }
 
