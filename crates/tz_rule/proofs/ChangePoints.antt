@@ -21,10 +21,6 @@ pub alternate_type_unchanged : (r : AlternateTime) (u v : ℤ) (t : LocalTimeTyp
 alternate_type_unchanged r u v t up none (inl (day, e)) = inl (daylight_stays (start_of r) (end_of r) u v up none.no_end day, e)
 alternate_type_unchanged r u v t up none (inr (day, e)) = inr (λ later. day (daylight_was (start_of r) (end_of r) u v up none.no_start later), e)
 
-pub alternate_type_was : (r : AlternateTime) (u v : ℤ) (t : LocalTimeType) → u ≤ℤ v → IsUnchanged r u v → IsAlternateType r v t → IsAlternateType r u t
-alternate_type_was r u v t up none (inl (day, e)) = inl (daylight_was (start_of r) (end_of r) u v up none.no_start day, e)
-alternate_type_was r u v t up none (inr (day, e)) = inr (λ earlier. day (daylight_stays (start_of r) (end_of r) u v up none.no_end earlier), e)
-
 module _ (f g : ℤ → ℤ) (yf : IsYearly f) (yg : IsYearly g) (u : ℤ) where
   daylight_shifted : (v years seconds : ℤ) → ((y : ℤ) → f (y +ℤ years) ≡ f y +ℤ seconds) → ((y : ℤ) → g (y +ℤ years) ≡ g y +ℤ seconds) → IsDaylight f g v → IsDaylight f g (v +ℤ seconds)
   daylight_shifted v years seconds pf pg (y, end, pair, from, to) = (y +ℤ years, end +ℤ seconds, paired pair, omega (arith, ints, pf y), omega (arith, ints))

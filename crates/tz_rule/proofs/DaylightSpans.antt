@@ -1,9 +1,8 @@
--- The spans that begin or end in the year of an instant or in its neighbours decide whether it is in daylight saving time.
-use Rattle.std.proofs.Common.{◌≡◌, ◌⊎◌, inl, inr, zero, suc, Bool, true, false, MatchBool, refl, arith, ℤ, pos, negsuc, ◌+ℤ◌, ◌-ℤ◌, ◌≤ℤ◌, ◌<ℤ◌}
+-- Daylight saving time lasts through the spans from each start to its end, and not from the end of a span up to the next start.
+use Rattle.std.proofs.Common.{◌≡◌, inl, inr, Bool, true, false, MatchBool, refl, arith, ℤ, pos, ◌+ℤ◌, ◌≤ℤ◌, ◌<ℤ◌}
 use Rattle.std.proofs.lemmas.Int.{ints, by_lt_z}
 use Rattle.tz_base.proofs.DateOrder.{first_day-mono}
 use Rattle.tz_rule.specs.Alternate.{AlternateTime, start_of, end_of, IsInRuleRange, AreRuleDays, IsUtcYear}
-use Rattle.tz_rule.specs.Daylight.{IsInSpan}
 use Rattle.tz_rule.specs.Pairing.{EndsNextYear, IsPairedEnd, IsDaylight}
 use Rattle.tz_rule.proofs.YearlyInstants.{IsYearly, IsYearly-start_of, IsYearly-end_of}
 
@@ -36,10 +35,6 @@ module _ (g : ℤ → ℤ) (yg : IsYearly g) where
   paired_end-rises true x y up = yg.rises (x +ℤ pos 1) (y +ℤ pos 1) (omega (arith, ints))
   paired_end-rises false x y up = yg.rises x y up
 
-  paired_end-le_next : (b : Bool) (y : ℤ) → paired_end b g y ≤ℤ g (y +ℤ pos 1)
-  paired_end-le_next true y = omega (arith, ints)
-  paired_end-le_next false y = yg.rises y (y +ℤ pos 1) (omega (arith, ints))
-
 module _ (r : AlternateTime) (range : IsInRuleRange r) (days : AreRuleDays r) (b : Bool) (order : MatchBool b (EndsNextYear (start_of r) (end_of r)) (¬ EndsNextYear (start_of r) (end_of r))) where
   abbrev starts : IsYearly (start_of r)
   starts = IsYearly-start_of r range days.start_is
@@ -48,7 +43,7 @@ module _ (r : AlternateTime) (range : IsInRuleRange r) (days : AreRuleDays r) (b
   ends = IsYearly-end_of r range days.end_is
 
   abbrev IsSpan : ℤ → ℤ → Type 0
-  IsSpan u y = IsInSpan (start_of r) (paired_end b (end_of r)) u y y
+  IsSpan u y = (start_of r y ≤ℤ u) × (u <ℤ paired_end b (end_of r) y)
 
   pub daylight_in_span : (u y : ℤ) → IsSpan u y → IsDaylight (start_of r) (end_of r) u
   daylight_in_span u y (from, to) = (y, paired_end b (end_of r) y, is_paired (start_of r) (end_of r) b order y, from, to)
@@ -60,26 +55,3 @@ module _ (r : AlternateTime) (range : IsInRuleRange r) (days : AreRuleDays r) (b
       by_lt_z last y
       (λ more. omega (arith, ints, to, start, starts.rises next y (omega (arith, ints, follows, more))))
       (λ up. omega (arith, ints, from, before, end_is, paired_end-rises (end_of r) ends b y last up))
-
-  module _ (u year : ℤ) (is : IsUtcYear u year) where
-    pub no_daylight_in_spans : ¬ IsSpan u (year -ℤ pos 2) → ¬ IsSpan u (year -ℤ pos 1) → ¬ IsSpan u year → ¬ IsSpan u (year +ℤ pos 1) → ¬ IsDaylight (start_of r) (end_of r) u
-    no_daylight_in_spans before_last last here next (y, end, pair, from, to) =
-        by_distance y (y -ℤ year) (omega (arith, ints)) (from, rw (paired_end-unique (start_of r) (end_of r) b order y end pair) at to)
-      where
-        by_distance : (y d : ℤ) → y ≡ year +ℤ d → ¬ IsSpan u y
-        by_distance y (pos zero) e = let same : y ≡ year = omega (arith, ints) in rw same here
-        by_distance y (pos (suc zero)) e = rw e next
-        by_distance y (pos (suc (suc n))) e = λ span. omega (arith, ints, span.0, to_come (start_of r) starts u year y is (omega (arith, ints)))
-        by_distance y (negsuc zero) e = let same : y ≡ year -ℤ pos 1 = omega (arith, ints) in rw same last
-        by_distance y (negsuc (suc zero)) e = let same : y ≡ year -ℤ pos 2 = omega (arith, ints) in rw same before_last
-        by_distance y (negsuc (suc (suc n))) e = λ span.
-            omega (arith, ints, span.1, paired_end-le_next (end_of r) ends b y, over (end_of r) ends u year (y +ℤ pos 1) is (omega (arith, ints)))
-
-    pub decide_daylight : IsDaylight (start_of r) (end_of r) u ⊎ ¬ IsDaylight (start_of r) (end_of r) u
-    decide_daylight =
-        span_or (year -ℤ pos 2) (λ before_last. span_or (year -ℤ pos 1) (λ last. span_or year (λ here. span_or (year +ℤ pos 1) (λ next. inr (no_daylight_in_spans before_last last here next)))))
-      where
-        span_or : (y : ℤ) → (¬ IsSpan u y → IsDaylight (start_of r) (end_of r) u ⊎ ¬ IsDaylight (start_of r) (end_of r) u) → IsDaylight (start_of r) (end_of r) u ⊎ ¬ IsDaylight (start_of r) (end_of r) u
-        span_or y otherwise =
-            by_lt_z u (start_of r y) (λ early. otherwise (λ span. omega (arith, ints, span.0)))
-            (λ from. by_lt_z u (paired_end b (end_of r) y) (λ to. inl (daylight_in_span u y (from, to))) (λ late. otherwise (λ span. omega (arith, ints, span.1))))

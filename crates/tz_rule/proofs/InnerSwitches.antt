@@ -1,5 +1,5 @@
 -- If all starts and ends are far inside their years, those of the neighbours of an instant's likely year are over or yet to come.
-use Rattle.std.proofs.Common.{◌≡◌, ℕ, zero, suc, ◌+◌, ◌/◌, ◌<◌, Bool, true, false, inl, inr, refl, ap, arith, ℤ, pos, ◌+ℤ◌, ◌-ℤ◌, ◌≤ℤ◌, ◌<ℤ◌, List}
+use Rattle.std.proofs.Common.{◌≡◌, ℕ, zero, suc, ◌+◌, ◌/◌, ◌<◌, Bool, true, false, not, inl, inr, refl, ap, arith, ℤ, pos, ◌+ℤ◌, ◌-ℤ◌, ◌≤ℤ◌, ◌<ℤ◌, List}
 use Rattle.std.specs.Bool.{OnTrue}
 use Rattle.std.specs.Int.{int_min, int_max}
 use Rattle.std.proofs.lemmas.Bool.{cases_lt}
@@ -8,7 +8,7 @@ use Rattle.tz_base.specs.Cycles.{days_of_years}
 use Rattle.tz_base.proofs.DateOrder.{first_day-mono}
 use Rattle.tz_base.proofs.YearStarts.{first_day-moved}
 use Rattle.tz_rule.specs.Alternate.{AlternateTime, start_of, end_of, switch_of, AreRuleDays}
-use Rattle.tz_rule.specs.InnerSwitches.{IsInnerSwitch, HasInnerSwitches, IsLikelyYear}
+use Rattle.tz_rule.specs.LikelyYears.{IsInnerSwitch, HasInnerSwitches, IsLikelyYear, IsDeterminingYear}
 use Rattle.tz_rule.specs.Kinds.{year_kind}
 use Rattle.tz_rule.specs.KeptRule.{switches_are_inner}
 use Rattle.tz_rule.specs.YearTables.{IsTableOf, entry, least_entry, greatest_entry, is_inner, start_table, end_table}
@@ -25,6 +25,10 @@ module _ (f : ℤ → ℤ) (u year : ℤ) (likely : IsLikelyYear u year) (inner 
   to_come_after_likely =
       let next = inner (year +ℤ pos 1) in
       omega (arith, ints, next.0, likely.1, first_day-mono year (year +ℤ pos 1) (omega (arith, ints)))
+
+pub determining_if_likely : (r : AlternateTime) (b : Bool) (u year : ℤ) → IsLikelyYear u year → HasInnerSwitches r → IsDeterminingYear r b u year
+determining_if_likely r b u year likely inner =
+    (λ _. over_before_likely (switch_of r (not b)) u year likely (inner (not b)), to_come_after_likely (switch_of r b) u year likely (inner b))
 
 -- the bounds of one kind more
 pub least_entry-next : (table : List ℤ) (kinds : ℕ) → least_entry table (kinds + 1) ≡ int_min (least_entry table kinds) (entry table kinds)

@@ -3,7 +3,7 @@ use Rattle.std.proofs.Common.{◌≡◌, ℕ, ◌<◌, ◌≤◌, true, eqb, get
 use Rattle.std.proofs.lemmas.Bool.Decides.{nat_tests, Decides-eqb}
 use Rattle.tz_base.proofs.TestsBelow.{all_below, passes_at}
 use Rattle.tz_rule.specs.Kinds.{first_kind, second_kind, first_days}
-use Rattle.tz_rule.specs.declared.timezone.pair_kinds.TheConstants.{FIRST_KINDS, SECOND_KINDS}
+use Rattle.tz_rule.specs.declared.timezone.consistency.TheConstants.{FIRST_KINDS, SECOND_KINDS}
 
 are_first_kinds : all_below (λ pair. eqb (get_or FIRST_KINDS pair 0) (first_kind pair)) 21 ≡ true
 unfolding all_below first_kind

@@ -4,13 +4,13 @@ use Rattle.std.proofs.Math.Bool.{not-not}
 use Rattle.std.proofs.lemmas.Int.{ints}
 use Rattle.tz_base.proofs.DateOrder.{first_day-mono}
 use Rattle.tz_rule.specs.Alternate.{AlternateTime, start_of, end_of, switch_of, IsInRuleRange, AreRuleDays}
-use Rattle.tz_rule.specs.AlternateSegments.{IsTriedYear}
-use Rattle.tz_rule.specs.InnerSwitches.{HasInnerSwitches, IsLikelyYear}
+use Rattle.tz_rule.specs.LikelyYears.{IsTriedYear}
+use Rattle.tz_rule.specs.LikelyYears.{HasInnerSwitches, IsLikelyYear}
 use Rattle.tz_rule.specs.Pairing.{EndsNextYear}
 use Rattle.tz_rule.specs.RuleChanges.{IsSwitchAfter, IsSwitchUpTo}
 use Rattle.tz_rule.specs.RuleSegments.{IsWholeSegment}
 use Rattle.tz_rule.proofs.InnerSwitches.{over_before_likely, to_come_after_likely}
-use Rattle.tz_rule.proofs.RuleSegments.{IsInnerYear, inner_years_around, segment_between_years, segment_in_year}
+use Rattle.tz_rule.proofs.RuleSegments.{IsBeside, years_around, segment_between_years, segment_in_year, tried_segment}
 
 module _ (r : AlternateTime) (from switch until u : ℤ) (was is : Bool) (switches : was ≡ not is)
     (before : IsWholeSegment r (record { from = from; until = switch; is_daylight = was })) (after : IsWholeSegment r (record { from = switch; until = until; is_daylight = is })) where
@@ -36,19 +36,19 @@ module _ (r : AlternateTime) (range : IsInRuleRange r) (days : AreRuleDays r) (i
   abbrev second : ℤ → ℤ
   second year = switch_of r (not b) year
 
-  abbrev years : IsInnerYear (y -ℤ pos 1) × IsInnerYear y × IsInnerYear (y +ℤ pos 1)
-  years = inner_years_around y tried
+  abbrev years : IsBeside y (y -ℤ pos 1) × IsBeside y y × IsBeside y (y +ℤ pos 1)
+  years = years_around y
 
   -- from the second one of a year up to the first one of the next
 
   up_to_first : IsWholeSegment r (record { from = second (y -ℤ pos 1); until = first y; is_daylight = b })
-  up_to_first = segment_between_years r range days b order (y -ℤ pos 1) y years.0 years.1 (omega (arith, ints))
+  up_to_first = tried_segment r y _ tried (segment_between_years r range days b order y (y -ℤ pos 1) y years.0 years.1 (omega (arith, ints)))
 
   from_second : IsWholeSegment r (record { from = second y; until = first (y +ℤ pos 1); is_daylight = b })
-  from_second = segment_between_years r range days b order y (y +ℤ pos 1) years.1 years.2 refl
+  from_second = tried_segment r y _ tried (segment_between_years r range days b order y y (y +ℤ pos 1) years.1 years.2 refl)
 
-  within : (year : ℤ) → IsInnerYear year → IsWholeSegment r (record { from = first year; until = second year; is_daylight = not b })
-  within = segment_in_year r range days b order
+  within : (year : ℤ) → IsBeside y year → IsWholeSegment r (record { from = first year; until = second year; is_daylight = not b })
+  within year beside = tried_segment r y _ tried (segment_in_year r range days b order y year beside)
 
   -- all switches of a year come before those of the next
   apart : (last next : ℤ) → next ≡ last +ℤ pos 1 → second last <ℤ first next

@@ -1,13 +1,13 @@
 -- A rule has one type at an instant, and an alternate rule has one in all its years. It repeats after 400 years.
 use Rattle.std.proofs.Common.{◌≡◌, inl, inr, ◌∙◌, refl, sym, ℤ, pos, ◌+ℤ◌}
 use Rattle.tz_rule.specs.LocalTimeType.{LocalTimeType}
-use Rattle.tz_rule.specs.Alternate.{AlternateTime, start_of, end_of, IsInRuleRange, AreRuleDays, IsUtcYear, IsInRuleYears, IsAlternateType}
+use Rattle.tz_rule.specs.Alternate.{AlternateTime, start_of, end_of, IsInRuleRange, AreRuleDays, IsInRuleYears, IsAlternateType}
 use Rattle.tz_rule.specs.KeptRule.{ends_come_first}
 use Rattle.tz_rule.specs.Rule.{IsRuleType, IsSoundRule}
 use Rattle.tz_rule.specs.declared.timezone.rule.TransitionRule.{TransitionRule}
 use Rattle.tz_rule.specs.declared.timezone.rule.TransitionRule.TheVariants.{Fixed, Alternate as Two}
 use Rattle.tz_rule.proofs.ChangePoints.{daylight_repeats, daylight_repeated}
-use Rattle.tz_rule.proofs.DaylightSpans.{decide_daylight}
+use Rattle.tz_rule.proofs.RuleSegments.{alternate_type_total}
 use Rattle.tz_rule.proofs.RulesAcrossYears.{MatchBool-ends_come_first}
 use Rattle.tz_rule.proofs.YearlyInstants.{IsYearly-start_of, IsYearly-end_of}
 
@@ -23,13 +23,6 @@ rule_type_unique (Fixed fixed) u t t' a b = a ∙ sym b
 rule_type_unique (Two r) u t t' a b = alternate_type_unique r u t t' a.1 b.1
 
 module _ (r : AlternateTime) (range : IsInRuleRange r) (days : AreRuleDays r) where
-  pub alternate_type_total : (u year : ℤ) → IsUtcYear u year → (t : LocalTimeType) × IsAlternateType r u t
-  alternate_type_total u year is =
-      elim (decide_daylight r range days (ends_come_first r) (MatchBool-ends_come_first r days) u year is) [
-        | inl day ↦ (r.dst, inl (day, refl))
-        | inr none ↦ (r.std, inr (none, refl))
-      ]
-
   pub alternate_type_repeats : (u : ℤ) (t : LocalTimeType) → IsAlternateType r u t → IsAlternateType r (u +ℤ pos 12622780800) t
   alternate_type_repeats u t (inl (day, e)) =
       inl (daylight_repeats (start_of r) (end_of r) (IsYearly-start_of r range days.start_is) (IsYearly-end_of r range days.end_is) u day, e)
@@ -40,7 +33,7 @@ pub rule_type_total : (rule : TransitionRule) (u : ℤ) → IsSoundRule rule →
 unfolding IsRuleType
 rule_type_total (Fixed fixed) u sound years = (fixed, refl)
 rule_type_total (Two r) u sound years =
-    let found = alternate_type_total r sound.0.in_range sound.1 u years.0 years.1 in
+    let found = alternate_type_total r sound.0.in_range sound.1 (ends_come_first r) u years.0 years.1 (MatchBool-ends_come_first r sound.1) in
     (found.0, (years, found.1))
 
 pub rule_type_repeats : (rule : TransitionRule) (u : ℤ) (t t' : LocalTimeType) → IsSoundRule rule → IsRuleType rule u t → IsRuleType rule (u +ℤ pos 12622780800) t' → t ≡ t'

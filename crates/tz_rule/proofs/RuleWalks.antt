@@ -7,7 +7,7 @@ use Rattle.tz_base.specs.Days.{first_day}
 use Rattle.tz_base.proofs.DaysOfYears.{first_day_bounds}
 use Rattle.tz_rule.specs.LocalTimeType.{LocalTimeType}
 use Rattle.tz_rule.specs.Alternate.{AlternateTime}
-use Rattle.tz_rule.specs.AlternateSegments.{type_by}
+use Rattle.tz_rule.specs.RuleSegments.{type_by}
 use Rattle.tz_rule.specs.Rule.{IsRuleType}
 use Rattle.tz_rule.specs.RuleChanges.{TypeChange, IsTypeChange, HasNoTypeChange, IsChangeAfter, IsChangeUpTo, HasNoChangeAfter, HasNoChangeUpTo, HasOneType, IsSwitchAfter, IsSwitchUpTo}
 use Rattle.tz_rule.specs.declared.timezone.rule.TransitionRule.{TransitionRule}

@@ -1,7 +1,7 @@
 -- What follows from a clause on a result holds for the result.
 use Rattle.std.proofs.Common.{Decides, ◌≡◌, Bool, true, false, not, Option, Some, None, MatchBool, refl, arith, ℤ, ◌≤ℤ◌, ◌<ℤ◌}
 use Rattle.std.specs.Bool.{OnTrue}
-use Rattle.std.specs.Int.Signed.{le_z, lt_z}
+use Rattle.std.specs.Int.Signed.{lt_z}
 use Rattle.std.specs.Option.{IfNone, IfSome}
 use Rattle.std.proofs.lemmas.Bool.{false≢true}
 use Rattle.std.proofs.lemmas.Int.{ints}
@@ -29,9 +29,6 @@ Decides-from_clause false h = (λ e. absurd (false≢true e), λ p. absurd (h p)
 pub MatchBool-by_test : {P Q : Type 0} (b : Bool) → (b ≡ true → P) → (b ≡ false → Q) → MatchBool b P Q
 MatchBool-by_test true if_true if_false = if_true refl
 MatchBool-by_test false if_true if_false = if_false refl
-
-pub MatchBool-le_z : {P Q : Type 0} (a b : ℤ) → (a ≤ℤ b → P) → (b <ℤ a → Q) → MatchBool (le_z a b) P Q
-MatchBool-le_z a b if_true if_false = MatchBool-by_test (le_z a b) (λ e. if_true (grind (arith, ints))) (λ e. if_false (grind (arith, ints)))
 
 pub MatchBool-lt_z : {P Q : Type 0} (a b : ℤ) → (a <ℤ b → P) → (b ≤ℤ a → Q) → MatchBool (lt_z a b) P Q
 MatchBool-lt_z a b if_true if_false = MatchBool-by_test (lt_z a b) (λ e. if_true (grind (arith, ints))) (λ e. if_false (grind (arith, ints)))

@@ -1,7 +1,7 @@
 -- How a local time type keeps its name: seven bytes, of which the first are the name and the others zero, and the length, 0 if there is no name.
 use Rattle.std.specs.Prelude.{◌≡◌, ℕ, zero, suc, ◌-◌, ◌≤◌, ◌==◌, Bool, Option, Some, None, List, ◌∷◌, [], ◌++◌, length, take, replicate}
 use Rattle.std.specs.Int.{w64, from_le_bytes}
-use Rattle.std.proofs.Common.{ap, ◌∙◌, sym, arith, length-append, length-take}
+use Rattle.std.proofs.Common.{refl, ap, arith, length-append, length-take}
 use Rattle.std.proofs.Math.ListN.{length-replicate}
 use Rattle.tz_rule.specs.LocalTimeType.{LocalTimeType, IsDesignation, IsOffset}
 use Rattle.tz_rule.specs.declared.timezone.local_time_type.Designation.{Designation}
@@ -61,12 +61,9 @@ pub kept_stored_name : (d : Designation) → IsKept d → kept (stored_name d) �
 kept_stored_name d k = by_length d.len d.bytes k.short k.is_padded (seven_bytes d k)
   where
     by_length : (n : ℕ) (bytes : List ℕ) → n ≤ 7 → bytes ≡ padded (take n bytes) → length bytes ≡ 7 → kept (name_of_length n bytes) ≡ record { bytes = bytes; len = n }
-    by_length zero bytes short padding seven = ap (λ b. let r : Designation = record { bytes = b; len = 0 } in r) (sym padding)
+    by_length zero bytes short padding seven = rw (← padding) refl
     by_length (suc n) bytes short padding seven =
-        let name = take (suc n) bytes in
-        let same : length name ≡ suc n = omega (arith, seven, length-take (suc n) bytes, short) in
-        ap (λ b. let r : Designation = record { bytes = b; len = length name } in r) (sym padding)
-        ∙ ap (λ m. let r : Designation = record { bytes = bytes; len = m } in r) same
+        let same : length (take (suc n) bytes) ≡ suc n = omega (arith, seven, length-take (suc n) bytes, short) in rw (← padding, same) refl
 
 pub kept_shown : (t : Inside) → IsKeptType t → record { ut_offset = t.ut_offset; is_dst = t.is_dst; time_zone_designation = kept (stored_name t.time_zone_designation) } ≡ t
-kept_shown t k = ap (λ d. let r : Inside = record t { time_zone_designation = d } in r) (kept_stored_name t.time_zone_designation k.designation_is)
+kept_shown t k = rw (kept_stored_name t.time_zone_designation k.designation_is) refl

@@ -2,12 +2,12 @@
 -- tables of these.
 use Rattle.std.specs.Prelude.{◌≡◌, ℕ, zero, suc, ◌&&◌, ◌||◌, Bool, false}
 use Rattle.std.specs.Int.Signed.{lt_z}
-use Rattle.std.proofs.Common.{ap, sym, ◌∙◌}
+use Rattle.std.proofs.Common.{refl}
 use Rattle.tz_rule.specs.Alternate.{AlternateTime, start_of, end_of, IsConsistentRule, AreRuleDays}
 use Rattle.tz_rule.specs.Parts.{rule_of}
 use Rattle.tz_rule.specs.YearTables.{IsTableOf, entry, is_inner, start_table, end_table}
 use Rattle.tz_rule.specs.declared.timezone.alternate_clock.AlternateClock.TheInside.{Inside}
-use Rattle.tz_rule.specs.declared.timezone.rule_parts.Parts.{Parts}
+use Rattle.tz_rule.specs.declared.timezone.alternate_parts.Parts.{Parts}
 
 -- in the years of one of the first kinds the end comes before the start
 unfoldable pub ends_first_in : AlternateTime → ℕ → Bool
@@ -41,10 +41,4 @@ abbrev pub kept_of : AlternateTime → Inside
 kept_of r = record { parts = parts_of r; ends_next_year = ends_come_first r; has_inner_switches = switches_are_inner r; starts = record { 0 = start_table r }; ends = record { 0 = end_table r } }
 
 pub kept_rule : (r : Inside) → IsKeptRule r → kept_of (rule_of r.parts) ≡ r
-kept_rule r k =
-    let made_starts = start_table (rule_of r.parts) in
-    let made_ends = end_table (rule_of r.parts) in
-    ap (λ b. let kept : Inside = record (kept_of (rule_of r.parts)) { ends_next_year = b } in kept) (sym k.pairing)
-    ∙ ap (λ b. let kept : Inside = record r { has_inner_switches = b; starts = record { 0 = made_starts }; ends = record { 0 = made_ends } } in kept) (sym k.inner_switches)
-    ∙ ap (λ table. let kept : Inside = record r { starts = record { 0 = table }; ends = record { 0 = made_ends } } in kept) (sym k.starts_made)
-    ∙ ap (λ table. let kept : Inside = record r { ends = record { 0 = table } } in kept) (sym k.ends_made)
+kept_rule r k = rw (← k.pairing, ← k.inner_switches, ← k.starts_made, ← k.ends_made) refl

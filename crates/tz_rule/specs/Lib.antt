@@ -15,11 +15,9 @@ pub mod Parts
 pub mod KeptRule
 pub mod ZeroRule
 pub mod RuleWithDays
-pub mod Daylight
 pub mod Rule
 pub mod RuleRef
-pub mod AlternateSegments
-pub mod InnerSwitches
+pub mod LikelyYears
 pub mod RuleSegments
 pub mod RuleChanges
 pub mod Same

@@ -2,7 +2,7 @@
 use Rattle.std.specs.Prelude.{◌≡◌, ◌≢◌, not, Bool, ℤ, pos, negsuc, ◌-ℤ◌, ◌≤ℤ◌, ◌<ℤ◌}
 use Rattle.tz_rule.specs.LocalTimeType.{LocalTimeType}
 use Rattle.tz_rule.specs.Alternate.{AlternateTime}
-use Rattle.tz_rule.specs.AlternateSegments.{type_by}
+use Rattle.tz_rule.specs.RuleSegments.{type_by}
 use Rattle.tz_rule.specs.Rule.{IsRuleType}
 use Rattle.tz_rule.specs.declared.timezone.rule.TransitionRule.{TransitionRule}
 use Rattle.tz_rule.specs.declared.timezone.rule.TransitionRule.TheVariants.{Alternate}

@@ -1,6 +1,6 @@
 -- An alternate rule beside its clock: the two days as rule days, which the clock has as numbers.
 use Rattle.std.specs.Prelude.{◌≡◌}
-use Rattle.std.proofs.Common.{ap, sym, ◌∙◌}
+use Rattle.std.proofs.Common.{refl}
 use Rattle.tz_rule.specs.Alternate.{AlternateTime}
 use Rattle.tz_rule.specs.declared.timezone.alternate.AlternateTime.TheInside.{Inside}
 
@@ -13,6 +13,4 @@ abbrev pub with_days : AlternateTime → Inside
 with_days r = record { clock = r; dst_start = r.dst_start; dst_end = r.dst_end }
 
 pub with_its_days : (r : Inside) → HasItsDays r → with_days r.clock ≡ r
-with_its_days r k =
-    ap (λ d. let s : Inside = record (with_days r.clock) { dst_start = d } in s) (sym k.start_is)
-    ∙ ap (λ d. let s : Inside = record r { dst_end = d } in s) (sym k.end_is)
+with_its_days r k = rw (← k.start_is, ← k.end_is) refl

@@ -4,7 +4,7 @@ use Rattle.std.specs.Bool.{beq}
 use Rattle.std.specs.Option.{option_eq}
 use Rattle.std.specs.Ordering.{int_eq}
 use Rattle.std.specs.Cmp.{IsEquivalence}
-use Rattle.std.proofs.Common.{refl, sym, ◌∙◌, ap, Decides}
+use Rattle.std.proofs.Common.{refl, sym, ap, Decides}
 use Rattle.std.proofs.lemmas.Bool.{false≢true}
 use Rattle.std.proofs.lemmas.Bool.Decides.{same_from_decides, Decides-int_eq, Decides-like, Decides-and}
 use Rattle.std.proofs.lemmas.Slice.Eq.{bytes_eq-Decides}
@@ -43,7 +43,4 @@ Decides-same_type a b =
     (Decides-and (beq a.is_dst b.is_dst) (option_eq bytes_eq a.designation b.designation) (Decides-beq a.is_dst b.is_dst) (Decides-name a.designation b.designation)))
   where
     same_parts : a.ut_offset ≡ b.ut_offset → a.is_dst ≡ b.is_dst → a.designation ≡ b.designation → a ≡ b
-    same_parts o d n =
-        let same : type_of a.ut_offset a.is_dst a.designation ≡ type_of b.ut_offset b.is_dst b.designation =
-        ap (λ x. type_of x a.is_dst a.designation) o ∙ ap (λ x. type_of b.ut_offset x a.designation) d ∙ ap (λ x. type_of b.ut_offset b.is_dst x) n
-        in same
+    same_parts o d n = let same : type_of a.ut_offset a.is_dst a.designation ≡ type_of b.ut_offset b.is_dst b.designation = cc in same

@@ -1,6 +1,6 @@
 -- Equality of rule days, as a test of all their parts.
 use Rattle.std.specs.Prelude.{◌≡◌, ◌==◌, ◌&&◌, Bool, false}
-use Rattle.std.proofs.Common.{◌∙◌, ap, Decides}
+use Rattle.std.proofs.Common.{ap, Decides}
 use Rattle.std.proofs.lemmas.Bool.{false≢true}
 use Rattle.std.proofs.lemmas.Bool.Decides.{Decides-eqb, Decides-like, Decides-and}
 use Rattle.tz_rule.specs.MonthWeek.{MonthWeek, month_week}
@@ -30,10 +30,7 @@ Decides-same_month_week a b =
     (Decides-and (a.week == b.week) (a.week_day == b.week_day) (Decides-eqb a.week b.week) (Decides-eqb a.week_day b.week_day)))
   where
     same_parts : a.month ≡ b.month → a.week ≡ b.week → a.week_day ≡ b.week_day → a ≡ b
-    same_parts m w d =
-        let same : month_week a.month a.week a.week_day ≡ month_week b.month b.week b.week_day =
-        ap (λ x. month_week x a.week a.week_day) m ∙ ap (λ x. month_week b.month x a.week_day) w ∙ ap (λ x. month_week b.month b.week x) d
-        in same
+    same_parts m w d = let same : month_week a.month a.week a.week_day ≡ month_week b.month b.week b.week_day = cc in same
 
 -- equal rule days
 pub Decides-same_day : (a b : RuleDay) → Decides (same_day a b) (a ≡ b)

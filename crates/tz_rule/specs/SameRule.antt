@@ -1,7 +1,7 @@
 -- Equality of alternate rules and of rules, as a test of all their parts.
 use Rattle.std.specs.Prelude.{◌≡◌, ◌&&◌, Bool, false}
 use Rattle.std.specs.Ordering.{int_eq}
-use Rattle.std.proofs.Common.{◌∙◌, ap, Decides}
+use Rattle.std.proofs.Common.{ap, Decides}
 use Rattle.std.proofs.lemmas.Bool.{false≢true}
 use Rattle.std.proofs.lemmas.Bool.Decides.{Decides-int_eq, Decides-like, Decides-and}
 use Rattle.tz_rule.specs.Alternate.{AlternateTime, alternate_of}
@@ -36,14 +36,7 @@ Decides-same_alternate a b =
   where
     same_parts : a.std ≡ b.std → a.dst ≡ b.dst → a.dst_start ≡ b.dst_start → a.dst_start_time ≡ b.dst_start_time → a.dst_end ≡ b.dst_end → a.dst_end_time ≡ b.dst_end_time → a ≡ b
     same_parts s d x y z w =
-        let same : alternate_of a.std a.dst a.dst_start a.dst_start_time a.dst_end a.dst_end_time ≡ alternate_of b.std b.dst b.dst_start b.dst_start_time b.dst_end b.dst_end_time =
-        ap (λ v. alternate_of v a.dst a.dst_start a.dst_start_time a.dst_end a.dst_end_time) s
-        ∙ ap (λ v. alternate_of b.std v a.dst_start a.dst_start_time a.dst_end a.dst_end_time) d
-        ∙ ap (λ v. alternate_of b.std b.dst v a.dst_start_time a.dst_end a.dst_end_time) x
-        ∙ ap (λ v. alternate_of b.std b.dst b.dst_start v a.dst_end a.dst_end_time) y
-        ∙ ap (λ v. alternate_of b.std b.dst b.dst_start b.dst_start_time v a.dst_end_time) z
-        ∙ ap (λ v. alternate_of b.std b.dst b.dst_start b.dst_start_time b.dst_end v) w
-        in same
+        let same : alternate_of a.std a.dst a.dst_start a.dst_start_time a.dst_end a.dst_end_time ≡ alternate_of b.std b.dst b.dst_start b.dst_start_time b.dst_end b.dst_end_time = cc in same
 
 pub Decides-same_rule : (a b : TransitionRule) → Decides (same_rule a b) (a ≡ b)
 Decides-same_rule (Fixed a) (Fixed b) = Decides-like (same_type a b) (ap Fixed) (λ e. cc) (Decides-same_type a b)

@@ -5,8 +5,7 @@ pub use crate::timezone::alternate_clock::AlternateClock;
 pub use crate::timezone::day_data::DayData;
 pub use crate::timezone::rule_changes::{RuleChange, change_after, change_up_to};
 pub use crate::timezone::rule_clock::{
-    end, find_local_time_type, parts_are_sound, segment_at, start,
+    RuleRef, end, find_local_time_type, parts_are_sound, segment_at, start,
 };
 pub use crate::timezone::rule_data::RuleData;
-pub use crate::timezone::rule_ref::RuleRef;
 pub use crate::timezone::utc::{no_rule, utc_types};

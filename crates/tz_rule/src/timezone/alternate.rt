@@ -1,32 +1,18 @@
 //! Rules of standard time and daylight saving time.
 
-ghost use Rattle.std.specs.Prelude.{◌≡◌, ◌&&◌, OnOk, IfOk, IfErr, IfSome, IfNone, MatchBool};
-ghost use Rattle.tz_rule.specs.Alternate.{start_of, end_of, alternate_of, IsRuleOffset, IsRuleTime, IsInRuleRange, IsFirstRuleFault, IsConsistentRule};
+ghost use Rattle.std.specs.Prelude.{◌≡◌, ◌&&◌, OnOk, IfOk, IfErr, IfSome, IfNone};
+ghost use Rattle.tz_rule.specs.Alternate.{start_of, end_of, alternate_of, IsInRuleRange, IsFirstRuleFault, IsConsistentRule};
 ghost use Rattle.std.specs.Ordering.{int_eq};
 ghost use Rattle.tz_rule.specs.SameDay.{same_day};
 ghost use Rattle.tz_rule.specs.Pairing.{IsConflict, IsInconsistent};
 
 use super::alternate_clock::AlternateClock;
+use super::alternate_parts::Parts;
 use super::day_data::DayData;
-use super::rule_parts::Parts;
 use super::{LocalTimeType, RuleDay};
 use std::fmt;
 use std::marker::Model;
 use tz_base::error::timezone::TransitionRuleError;
-
-/// Whether the offset is above -25 and below 26 hours.
-pub(super) fn is_rule_offset(offset: i32) -> bool
-    ensures { MatchBool result (IsRuleOffset offset) (¬ IsRuleOffset offset) }
-{
-    -90_000 < offset && offset < 93_600
-}
-
-/// Whether the time is less than a week either way.
-pub(super) fn is_rule_time(time: i32) -> bool
-    ensures { MatchBool result (IsRuleTime time) (¬ IsRuleTime time) }
-{
-    -604_800 < time && time < 604_800
-}
 
 /// Standard time and daylight saving time, and when each begins in every year.
 ///
@@ -218,19 +204,18 @@ impl PartialEq for AlternateTime {
     fn eq(&self, other: &AlternateTime) -> bool {
         let (a, b) = (&self.clock, &other.clock);
         a.std() == b.std()
-            && a.dst() == b.dst()
-            && is_same_switch(
-                &self.dst_start,
-                a.dst_start_time(),
-                &other.dst_start,
-                b.dst_start_time(),
-            )
-            && is_same_switch(
-                &self.dst_end,
-                a.dst_end_time(),
-                &other.dst_end,
-                b.dst_end_time(),
-            )
+            && (a.dst() == b.dst()
+                && (is_same_switch(
+                    &self.dst_start,
+                    a.dst_start_time(),
+                    &other.dst_start,
+                    b.dst_start_time(),
+                ) && is_same_switch(
+                    &self.dst_end,
+                    a.dst_end_time(),
+                    &other.dst_end,
+                    b.dst_end_time(),
+                )))
     }
 }
 

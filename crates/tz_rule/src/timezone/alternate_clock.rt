@@ -5,15 +5,15 @@
 ghost use Rattle.std.specs.Prelude.{◌≡◌, OnOk, IfOk, IfErr, IfSome, IfNone, MatchBool};
 ghost use Rattle.std.specs.Bool.{OnTrue};
 ghost use Rattle.tz_rule.specs.Alternate.{start_of, end_of, switch_of, alternate_of, IsInRuleRange, IsFirstRuleFault, IsConsistentRule, AreRuleDays, IsNearYear};
-ghost use Rattle.tz_rule.specs.InnerSwitches.{HasInnerSwitches};
+ghost use Rattle.tz_rule.specs.LikelyYears.{HasInnerSwitches};
 ghost use Rattle.tz_rule.specs.YearTables.{IsTableOf};
 ghost use Rattle.tz_rule.specs.Pairing.{IsConflict, IsInconsistent, EndsNextYear};
 ghost use Rattle.tz_rule.specs.ZeroRule.{zero_rule};
 
-use super::LocalTimeType;
+use super::alternate_parts::Parts;
 use super::day_data::DayData;
-use super::rule_parts::Parts;
 use super::year_table::YearTable;
+use super::{AlternateTime, LocalTimeType};
 use std::marker::Model;
 use tz_base::error::timezone::TransitionRuleError;
 
@@ -63,21 +63,17 @@ impl AlternateClock {
         ensures ok { OnOk result (IsConsistentRule (alternate_of std dst dst_start dst_start_time dst_end dst_end_time)) }
         ensures err { IfErr result (IsFirstRuleFault (alternate_of std dst dst_start dst_start_time dst_end dst_end_time)) }
     {
-        let parts = Parts {
+        match AlternateTime::new(
             std,
             dst,
-            dst_start,
+            dst_start.day(),
             dst_start_time,
-            dst_end,
+            dst_end.day(),
             dst_end_time,
-        };
-        parts.check_range()?;
-        let starts = parts.starts(&dst_start.day());
-        let ends = parts.ends(&dst_end.day());
-        let Some(ends_next_year) = starts.order(&ends) else {
-            return Err(TransitionRuleError::InconsistentRule);
-        };
-        Ok(AlternateClock::of_tables(parts, starts, ends, ends_next_year))
+        ) {
+            Ok(rule) => Ok(*rule.clock()),
+            Err(error) => Err(error),
+        }
     }
 
     /// The clock of parts in range with their tables, whose starts and ends keep their order.

@@ -2,22 +2,19 @@
 
 mod alternate;
 pub(crate) mod alternate_clock;
+mod alternate_parts;
+mod consistency;
 pub(crate) mod day_data;
-mod daylight;
-mod inconsistent_years;
 mod local_time_type;
-mod order_over_years;
-mod pair_kinds;
 mod rule;
 pub(crate) mod rule_changes;
 pub(crate) mod rule_clock;
 pub(crate) mod rule_data;
 mod rule_day;
-mod rule_parts;
-pub(crate) mod rule_ref;
-pub(crate) mod rule_segment;
-mod segments;
+pub(crate) mod rule_segments;
+mod rule_years;
 pub(crate) mod utc;
+mod year_kinds;
 mod year_table;
 
 pub use alternate::AlternateTime;

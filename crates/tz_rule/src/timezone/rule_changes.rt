@@ -7,20 +7,20 @@
 ghost use Rattle.std.specs.Prelude.{◌≡◌, ◌≢◌, not, ℤ, pos, negsuc, ◌+ℤ◌, ◌-ℤ◌, ◌≤ℤ◌, ◌<ℤ◌, IfSome, MatchBool, MatchOption};
 ghost use Rattle.std.specs.Bool.{OnTrue};
 ghost use Rattle.tz_rule.specs.Alternate.{start_of, end_of};
-ghost use Rattle.tz_rule.specs.AlternateSegments.{type_by, IsTriedYear, moved_back};
-ghost use Rattle.tz_rule.specs.InnerSwitches.{HasInnerSwitches, IsLikelyYear};
+ghost use Rattle.tz_rule.specs.LikelyYears.{HasInnerSwitches, IsLikelyYear, IsTriedYear, moved_back};
 ghost use Rattle.tz_rule.specs.LocalTimeType.{LocalTimeType};
 ghost use Rattle.tz_rule.specs.Pairing.{EndsNextYear};
 ghost use Rattle.tz_rule.specs.Rule.{IsRuleType};
 ghost use Rattle.tz_rule.specs.RuleChanges.{TypeChange, type_change_of, IsTypeChange, IsChangeAfter, IsChangeUpTo, HasNoChangeAfter, HasNoChangeUpTo, HasOneType, IsSwitchAfter, IsSwitchUpTo};
+ghost use Rattle.tz_rule.specs.RuleSegments.{type_by};
 ghost use Rattle.tz_rule.specs.RuleRef.{rule_seen};
 ghost use Rattle.tz_rule.specs.declared.timezone.rule.TransitionRule.{TransitionRule};
 ghost use Rattle.tz_rule.specs.declared.timezone.rule.TransitionRule.TheVariants.{Alternate};
 
 use super::LocalTimeType;
 use super::alternate_clock::AlternateClock;
-use super::rule_ref::RuleRef;
-use super::segments::likely_years;
+use super::rule_clock::RuleRef;
+use super::rule_years::likely_years;
 
 /// A change of a rule, from one type to another.
 #[derive(Clone, Copy)]

@@ -7,10 +7,42 @@ ghost use Rattle.tz_rule.specs.Rule.{IsRuleType, IsSoundRule};
 ghost use Rattle.tz_rule.specs.RuleRef.{rule_seen};
 ghost use Rattle.tz_rule.specs.RuleSegments.{IsRuleChange};
 
-use super::rule_ref::RuleRef;
-use super::rule_segment::RuleSegment;
-use super::{AlternateTime, LocalTimeType};
+use super::alternate_clock::AlternateClock;
+use super::rule_segments::RuleSegment;
+use super::{AlternateTime, LocalTimeType, TransitionRule};
 use tz_base::error::TzError;
+
+/// A rule that is lent: a fixed type, or the clock of an alternate rule.
+#[derive(Clone, Copy)]
+pub enum RuleRef<'a> {
+    /// One type for all time.
+    Fixed(&'a LocalTimeType),
+    /// Two types that alternate.
+    Alternate(&'a AlternateClock),
+}
+
+impl<'a> RuleRef<'a> {
+    /// Lends a rule.
+    #[inline(always)]
+    pub fn of(rule: &'a TransitionRule) -> RuleRef<'a>
+        ensures { rule_seen result ≡ rule.now }
+    {
+        match rule {
+            TransitionRule::Fixed(local_time_type) => RuleRef::Fixed(local_time_type),
+            TransitionRule::Alternate(rule) => RuleRef::Alternate(rule.clock()),
+        }
+    }
+
+    /// The rule that is lent.
+    pub fn rule(self) -> TransitionRule
+        ensures { result ≡ rule_seen self.entry }
+    {
+        match self {
+            RuleRef::Fixed(local_time_type) => TransitionRule::Fixed(*local_time_type),
+            RuleRef::Alternate(clock) => TransitionRule::Alternate(AlternateTime::of_clock(clock)),
+        }
+    }
+}
 
 /// The type of the rule at an instant. An alternate rule has one in the UTC years that are two or more from both ends of `i32`.
 #[tactic(auto, unfolding(crate::specs::Rule::IsRuleType))]

@@ -2,12 +2,11 @@
 
 ghost use Rattle.std.specs.Prelude.{◌≡◌, ◌<◌, ◌≤◌, ◌*◌, replicate, pos, negsuc, ◌+ℤ◌, ◌≤ℤ◌};
 ghost use Rattle.tz_rule.specs.RuleDays.{IsRuleDay};
-ghost use Rattle.tz_rule.specs.AlternateSegments.{moved_back};
-ghost use Rattle.tz_rule.specs.YearTables.{instant_in, entry, next_entry, day_table, AreBounds, least_entry, greatest_entry, is_inner};
+ghost use Rattle.tz_rule.specs.LikelyYears.{moved_back};
+ghost use Rattle.tz_rule.specs.YearTables.{instant_in, entry, day_table, AreBounds, least_entry, greatest_entry, is_inner};
 
 use super::RuleDay;
-use super::pair_kinds::{self, KINDS, moved_year_start};
-use tz_base::constants::SECONDS_PER_DAY;
+use super::year_kinds::{KINDS, moved_year_start};
 use tz_base::moved_year::moved_year;
 
 /// How many seconds after 00:00 UTC of January 1st an instant of the year is, for each kind of years.
@@ -81,15 +80,6 @@ impl YearTable {
         ensures { result ≡ instant_in self.now.0 year }
     {
         self.in_moved_year(moved_year(year))
-    }
-
-    /// The seconds from 00:00 UTC of January 1st of the first year of a pair kind to the instant of the second.
-    pub(super) fn next_entry(&self, pair: usize) -> i64
-        requires { pair < 21 }
-        ensures { result ≡ next_entry self.now.0 pair }
-    {
-        let days = pair_kinds::first_days(pair);
-        self.entry(pair_kinds::second_kind(pair)) + SECONDS_PER_DAY * i64::from(days)
     }
 
     /// The least and the greatest seconds of all kinds.

@@ -2,7 +2,7 @@
 use Rattle.std.proofs.Common.{◌∙◌, rules}
 use Rattle.std.proofs.lemmas.Int.{to_z-of_z}
 use mir.Syntax.{w64}
-use Rattle.tz_rule.specs.AlternateSegments.{moved_back}
+use Rattle.tz_rule.specs.LikelyYears.{moved_back}
 use Rattle.tz_rule.proofs.YearsApart.{instant_in-is}
 use Rattle.tz_rule.proofs.timezone.alternate_clock.AlternateClock.switch_in_moved.Goals as goal
 

@@ -1,0 +1,213 @@
+//! Whether a rule is consistent: its starts and ends keep one order over all years and at each distance in years. If not, a conflict shows it.
+//!
+//! Consistency is determined by the tables of both alone, without a year, and a conflict is looked for in the years from 1972 to 2000.
+
+ghost use Rattle.std.specs.Prelude.{◌≡◌, ◌<◌, ◌≤◌, ℤ, pos, ◌+ℤ◌, ◌≤ℤ◌, ◌<ℤ◌, IfSome, IfNone, MatchBool};
+ghost use Rattle.tz_rule.specs.Kinds.{first_kind as first_kind_of, second_kind as second_kind_of, first_days as first_days_of};
+ghost use Rattle.tz_rule.specs.Pairing.{IsConflict};
+ghost use Rattle.tz_rule.specs.YearTables.{instant_in, next_entry, IsNear, ComesFirst, ComesBeforeNext, ComesAfterNext, ChangesInYear, ChangesAcrossYears, ChangesOrder};
+
+use super::year_kinds::KINDS;
+use super::year_table::YearTable;
+use tz_base::constants::{SECONDS_PER_DAY, SECONDS_PER_NORMAL_YEAR};
+
+/// How many kinds there are of two years that follow one another.
+const PAIR_KINDS: usize = 21;
+
+/// The kind of the first year of each pair kind.
+static FIRST_KINDS: [u8; PAIR_KINDS] = [
+    0, 1, 2, 3, 4, 5, 6, 0, 1, 2, 3, 4, 5, 6, 7, 8, 9, 10, 11, 12, 13,
+];
+
+/// The kind of the second year of each pair kind.
+static SECOND_KINDS: [u8; PAIR_KINDS] = [
+    1, 2, 3, 4, 5, 6, 0, 8, 9, 10, 11, 12, 13, 7, 2, 3, 4, 5, 6, 0, 1,
+];
+
+/// The first of the years that stand for all years.
+const FIRST_MODEL_YEAR: i32 = 1972;
+
+/// How many they are. Each year has the kind of one of 1972 to 1999, and so have two years that follow one another.
+const MODEL_YEARS: u8 = 29;
+
+/// The kind of the first year of a pair kind.
+#[inline(always)]
+fn first_kind(pair: usize) -> usize
+    requires { pair < 21 }
+    ensures value { result ≡ first_kind_of pair }
+    ensures below { result < 14 }
+{
+    usize::from(FIRST_KINDS[pair])
+}
+
+/// The kind of the second year of a pair kind.
+#[inline(always)]
+fn second_kind(pair: usize) -> usize
+    requires { pair < 21 }
+    ensures value { result ≡ second_kind_of pair }
+    ensures below { result < 14 }
+{
+    usize::from(SECOND_KINDS[pair])
+}
+
+/// The days of the first year of a pair kind.
+#[inline(always)]
+#[tactic(auto, unfolding(crate::specs::Kinds::first_days))]
+fn first_days(pair: usize) -> u16
+    ensures value { result ≡ first_days_of pair }
+    ensures bound { result ≤ 366 }
+{
+    if pair < 14 { 365 } else { 366 }
+}
+
+impl YearTable {
+    /// The seconds from 00:00 UTC of January 1st of the first year of a pair kind to the instant of the second.
+    fn next_entry(&self, pair: usize) -> i64
+        requires { pair < 21 }
+        ensures { result ≡ next_entry self.now.0 pair }
+    {
+        let days = first_days(pair);
+        self.entry(second_kind(pair)) + SECONDS_PER_DAY * i64::from(days)
+    }
+
+    /// Whether the instant comes before the other one in some year.
+    pub(super) fn comes_first(&self, other: &YearTable) -> bool
+        ensures { MatchBool result (ComesFirst self.now.0 other.now.0) (¬ ComesFirst self.now.0 other.now.0) }
+    {
+        for kind in 0..KINDS {
+            if self.entry(kind) < other.entry(kind) {
+                return true;
+            }
+        }
+        false
+    }
+
+    /// Whether the instant of some year comes before the other one of the next year.
+    pub(super) fn comes_before_next(&self, other: &YearTable) -> bool
+        ensures { MatchBool result (ComesBeforeNext self.now.0 other.now.0) (¬ ComesBeforeNext self.now.0 other.now.0) }
+    {
+        for pair in 0..PAIR_KINDS {
+            if self.entry(first_kind(pair)) < other.next_entry(pair) {
+                return true;
+            }
+        }
+        false
+    }
+
+    /// Whether the instant of some year comes after the other one of the next year.
+    fn comes_after_next(&self, other: &YearTable) -> bool
+        ensures { MatchBool result (ComesAfterNext self.now.0 other.now.0) (¬ ComesAfterNext self.now.0 other.now.0) }
+    {
+        for pair in 0..PAIR_KINDS {
+            if other.next_entry(pair) < self.entry(first_kind(pair)) {
+                return true;
+            }
+        }
+        false
+    }
+
+    /// Whether the two instants change their order within a year from one year to another.
+    fn changes_in_year(&self, other: &YearTable) -> bool
+        ensures { MatchBool result (ChangesInYear self.now.0 other.now.0) (¬ ChangesInYear self.now.0 other.now.0) }
+    {
+        self.comes_first(other) && other.comes_first(self)
+    }
+
+    /// Whether the instant and the other one of the next year change their order.
+    fn changes_across_years(&self, other: &YearTable) -> bool
+        ensures { MatchBool result (ChangesAcrossYears self.now.0 other.now.0) (¬ ChangesAcrossYears self.now.0 other.now.0) }
+    {
+        self.comes_before_next(other) && self.comes_after_next(other)
+    }
+
+    /// Whether ends come before starts, of which this is the table, if the bounds of both are apart and so no order changes.
+    fn order_of_bounds(&self, ends: &YearTable) -> Option<bool>
+        ensures { IfSome result (λ first. (¬ ChangesOrder self.now.0 ends.now.0)
+            × MatchBool first (ComesFirst ends.now.0 self.now.0) (¬ ComesFirst ends.now.0 self.now.0)) }
+    {
+        let (first_start, last_start) = self.bounds();
+        let (first_end, last_end) = ends.bounds();
+        if i64::from(last_start) > i64::from(first_end) + SECONDS_PER_NORMAL_YEAR {
+            return None;
+        }
+        if i64::from(last_end) > i64::from(first_start) + SECONDS_PER_NORMAL_YEAR {
+            return None;
+        }
+        if last_start <= first_end {
+            return Some(false);
+        }
+        if last_end < first_start {
+            return Some(true);
+        }
+        None
+    }
+
+    /// Whether the end of some year comes before its start. `None` if starts, of which this is the table, and ends change their order.
+    pub(super) fn order(&self, ends: &YearTable) -> Option<bool>
+        ensures some { IfSome result (λ first. (¬ ChangesOrder self.now.0 ends.now.0)
+            × MatchBool first (ComesFirst ends.now.0 self.now.0) (¬ ComesFirst ends.now.0 self.now.0)) }
+        ensures none { IfNone result (ChangesOrder self.now.0 ends.now.0) }
+    {
+        if let Some(first) = self.order_of_bounds(ends) {
+            return Some(first);
+        }
+        if self.changes_order(ends) {
+            return None;
+        }
+        Some(ends.comes_first(self))
+    }
+
+    /// Whether starts, of which this is the table, and ends change their order at some distance in years.
+    fn changes_order(&self, ends: &YearTable) -> bool
+        ensures { MatchBool result (ChangesOrder self.now.0 ends.now.0) (¬ ChangesOrder self.now.0 ends.now.0) }
+    {
+        if self.changes_in_year(ends) {
+            return true;
+        }
+        if self.changes_across_years(ends) {
+            return true;
+        }
+        ends.changes_across_years(self)
+    }
+
+    /// A year in which the instant comes before the other one of the year that is at the distance.
+    fn year_before(&self, other: &YearTable, distance: i32) -> Option<i32>
+        requires { IsNear distance }
+        ensures some { IfSome result (λ y. instant_in self.now.0 y <ℤ instant_in other.now.0 (y +ℤ distance)) }
+        ensures bound { IfSome result (λ y. (pos 1972 ≤ℤ y) × (y ≤ℤ pos 2000)) }
+        ensures none { IfNone result ((y : ℤ) → instant_in other.now.0 (y +ℤ distance) ≤ℤ instant_in self.now.0 y) }
+    {
+        for index in 0..MODEL_YEARS {
+            let year = FIRST_MODEL_YEAR + i32::from(index);
+            if self.in_year(year) < other.in_year(year + distance) {
+                return Some(year);
+            }
+        }
+        None
+    }
+
+    /// Two years of different order at a distance: the start, of which this is the table, is later in the first and earlier in the second.
+    fn conflict_at(&self, ends: &YearTable, distance: i32) -> Option<(i32, i32, i32)>
+        requires { IsNear distance }
+        ensures some { IfSome result (λ c. IsConflict (instant_in self.now.0) (instant_in ends.now.0) c.0 c.1 c.2) }
+        ensures none { IfNone result ((x y : ℤ) → ¬ IsConflict (instant_in self.now.0) (instant_in ends.now.0) x y distance) }
+    {
+        let end_year = ends.year_before(self, -distance)?;
+        let earlier = self.year_before(ends, distance)?;
+        Some((end_year - distance, earlier, distance))
+    }
+
+    /// Two years and a distance at which starts, of which this is the table, and ends change their order.
+    pub(super) fn conflict(&self, ends: &YearTable) -> Option<(i32, i32, i32)>
+        ensures some { IfSome result (λ c. IsConflict (instant_in self.now.0) (instant_in ends.now.0) c.0 c.1 c.2) }
+        ensures none { IfNone result ((k : ℤ) → IsNear k → (x y : ℤ) → ¬ IsConflict (instant_in self.now.0) (instant_in ends.now.0) x y k) }
+    {
+        if let Some(found) = self.conflict_at(ends, 0) {
+            return Some(found);
+        }
+        if let Some(found) = self.conflict_at(ends, 1) {
+            return Some(found);
+        }
+        self.conflict_at(ends, -1)
+    }
+}

@@ -1,0 +1,259 @@
+//! The segment of an alternate rule around an instant, from one start or end of daylight saving time up to the next, and the type there.
+//!
+//! Two or three starts and ends of the likely year and of its neighbours determine both if all starts and ends are ten days or more from the
+//! ends of their years, and mostly otherwise. Else, as near some New Years, those of the instant's year in UTC or of a neighbour do, and of the years
+//! beside that: the last one up to the instant can be that of two years before, and the next one that of two years after.
+
+ghost use Rattle.std.specs.Prelude.{◌≡◌, ◌≢◌, ◌≤◌, ℤ, pos, negsuc, ◌+ℤ◌, ◌-ℤ◌, ◌≤ℤ◌, ◌<ℤ◌, IfOk, IfErr, IfSome, IfNone, MatchBool, MatchOption};
+ghost use Rattle.tz_rule.specs.Alternate.{AlternateTime, start_of, end_of, switch_of, IsUtcYear, IsRuleYear, IsInRuleYears, IsAlternateType};
+ghost use Rattle.tz_rule.specs.LocalTimeType.{LocalTimeType};
+ghost use Rattle.tz_rule.specs.Rule.{IsRuleType};
+ghost use Rattle.tz_rule.specs.RuleSegments.{type_by, IsRuleChange, IsRuleSegment, IsSwitchSegment, IsWholeSegment};
+ghost use Rattle.tz_rule.specs.LikelyYears.{HasInnerSwitches, HasNeighbours, IsDeterminingYear, moved_back};
+ghost use Rattle.tz_rule.specs.Pairing.{EndsNextYear};
+ghost use Rattle.tz_rule.specs.declared.timezone.rule.TransitionRule.TheVariants.{Alternate};
+
+use super::LocalTimeType;
+use super::alternate_clock::AlternateClock;
+use super::rule_years::{FIRST_YEAR, LAST_YEAR, likely_years, new_year, rule_year};
+use tz_base::error::TzError;
+use tz_base::moved_year::moved_year;
+
+/// A span of time through which a rule has one type, or none.
+#[derive(Clone, Copy)]
+pub struct RuleSegment<'a> {
+    /// The first instant.
+    pub from: i64,
+    /// The last instant.
+    pub last: i64,
+    /// The type, if the rule is defined.
+    pub local_time_type: Option<&'a LocalTimeType>,
+}
+
+/// A span of time through which an alternate rule has one type.
+#[derive(Clone, Copy)]
+struct AlternateSegment {
+    /// The first instant.
+    from: i64,
+    /// The first instant after it.
+    until: i64,
+    /// Whether its type is that of daylight saving time.
+    is_daylight: bool,
+}
+
+/// The segment around an instant at which rules are undefined.
+fn undefined_segment<'a>(unix_time: i64) -> RuleSegment<'a>
+    requires { ¬ IsInRuleYears unix_time }
+    ensures { (rule : AlternateTime) → IsRuleSegment (Alternate rule) unix_time result }
+{
+    let first = new_year(FIRST_YEAR);
+    if unix_time < first {
+        return RuleSegment {
+            from: i64::MIN,
+            last: first - 1,
+            local_time_type: None,
+        };
+    }
+    RuleSegment {
+        from: new_year(LAST_YEAR + 1),
+        last: i64::MAX,
+        local_time_type: None,
+    }
+}
+
+impl AlternateClock {
+    /// The instant at which daylight saving time starts, or ends, in a moved year.
+    #[inline(always)]
+    pub(super) fn switch_in_moved(&self, is_end: bool, years: u64) -> i64
+        requires { (352 ≤ years) × (years ≤ 4294967647) }
+        ensures { result ≡ switch_of self.now is_end (moved_back years) }
+    {
+        self.switches(is_end).in_moved_year(years)
+    }
+
+    /// The segment of the moved year or its neighbours that an instant near the year chooses, by whether a year's end comes first, or its start.
+    #[inline(always)]
+    fn segment_by_order(&self, end_is_first: bool, unix_time: i64, years: u64) -> AlternateSegment
+        requires order { MatchBool end_is_first (EndsNextYear (start_of self.now) (end_of self.now)) (¬ EndsNextYear (start_of self.now) (end_of self.now)) }
+        requires year { HasNeighbours (moved_back years) }
+        ensures of { IsSwitchSegment self.now (moved_back years) result }
+        ensures within { IsDeterminingYear self.now end_is_first unix_time (moved_back years) → (result.from ≤ℤ unix_time) × (unix_time <ℤ result.until) }
+    {
+        self.parts_are_sound();
+        let first = self.switch_in_moved(end_is_first, years);
+        if unix_time < first {
+            return AlternateSegment {
+                from: self.switch_in_moved(!end_is_first, years - 1),
+                until: first,
+                is_daylight: end_is_first,
+            };
+        }
+        let second = self.switch_in_moved(!end_is_first, years);
+        if unix_time < second {
+            return AlternateSegment {
+                from: first,
+                until: second,
+                is_daylight: !end_is_first,
+            };
+        }
+        AlternateSegment {
+            from: second,
+            until: self.switch_in_moved(end_is_first, years + 1),
+            is_daylight: end_is_first,
+        }
+    }
+
+    /// The segment of the likely year or its neighbours that the instant chooses: mostly the one around it.
+    ///
+    /// Each order has code of its own, which costs fewer steps than tables that are chosen by the order.
+    #[inline(always)]
+    fn near_segment(&self, unix_time: i64) -> Option<AlternateSegment>
+        ensures of { IfSome result (λ segment. IsWholeSegment self.now segment) }
+        ensures within { IfSome result (λ segment. HasInnerSwitches self.now → (segment.from ≤ℤ unix_time) × (unix_time <ℤ segment.until)) }
+    {
+        let years = likely_years(unix_time)?;
+        let segment = if self.ends_next_year() {
+            self.segment_by_order(true, unix_time, years)
+        } else {
+            self.segment_by_order(false, unix_time, years)
+        };
+        Some(segment)
+    }
+
+    /// The segment around an instant, if the rule's switches are such that the likely year always determines it.
+    #[inline(always)]
+    fn inner_segment(&self, unix_time: i64) -> Option<AlternateSegment>
+        ensures of { IfSome result (λ segment. IsWholeSegment self.now segment) }
+        ensures within { IfSome result (λ segment. (segment.from ≤ℤ unix_time) × (unix_time <ℤ segment.until)) }
+    {
+        if !self.has_inner_switches() {
+            return None;
+        }
+        self.near_segment(unix_time)
+    }
+
+    /// The segment around an instant, if the likely year determines it.
+    #[inline(always)]
+    fn likely_segment(&self, unix_time: i64) -> Option<AlternateSegment>
+        ensures of { IfSome result (λ segment. IsWholeSegment self.now segment) }
+        ensures within { IfSome result (λ segment. (segment.from ≤ℤ unix_time) × (unix_time <ℤ segment.until)) }
+    {
+        let segment = self.near_segment(unix_time)?;
+        if unix_time < segment.from || segment.until <= unix_time {
+            return None;
+        }
+        Some(segment)
+    }
+
+    /// The year whose switches, with those of its neighbours, determine the segment around an instant of a year in UTC.
+    fn determining_year(&self, end_is_first: bool, unix_time: i64, year: i32) -> i32
+        requires { IsUtcYear unix_time year × IsRuleYear year }
+        ensures beside { ((year -ℤ pos 1) ≤ℤ result) × (result ≤ℤ (year +ℤ pos 1)) }
+        ensures determines { IsDeterminingYear self.now end_is_first unix_time result }
+    {
+        self.parts_are_sound();
+        if unix_time < self.switch_in(end_is_first, year) {
+            return year - 1;
+        }
+        if unix_time < self.switch_in(end_is_first, year + 1) {
+            return year;
+        }
+        year + 1
+    }
+
+    /// The segment around an instant by its year in UTC, within the years over which the rule is defined.
+    fn segment_in_year(&self, unix_time: i64) -> Option<AlternateSegment>
+        ensures of { IfSome result (λ segment. IsWholeSegment self.now segment) }
+        ensures within { IfSome result (λ segment. (segment.from ≤ℤ unix_time) × (unix_time <ℤ segment.until)) }
+        ensures none { IfNone result (¬ IsInRuleYears unix_time) }
+    {
+        let year = rule_year(unix_time)?;
+        let end_is_first = self.ends_next_year();
+        let years = moved_year(self.determining_year(end_is_first, unix_time, year));
+        let segment = self.segment_by_order(end_is_first, unix_time, years);
+        Some(AlternateSegment {
+            from: segment.from.max(new_year(FIRST_YEAR)),
+            until: segment.until.min(new_year(LAST_YEAR + 1)),
+            is_daylight: segment.is_daylight,
+        })
+    }
+
+    /// The type of daylight saving time, or that of standard time.
+    #[inline(always)]
+    pub(super) fn type_by(&self, is_daylight: bool) -> &LocalTimeType
+        ensures { result.now ≡ type_by self.now is_daylight }
+    {
+        if is_daylight { self.dst() } else { self.std() }
+    }
+
+    /// The rule's segment that one around the instant is.
+    #[inline(always)]
+    fn rule_segment(&self, unix_time: i64, segment: AlternateSegment) -> RuleSegment<'_>
+        requires of { IsWholeSegment self.now segment }
+        requires within { (segment.from ≤ℤ unix_time) × (unix_time <ℤ segment.until) }
+        ensures { IsRuleSegment (Alternate self.now) unix_time result }
+    {
+        RuleSegment {
+            from: segment.from,
+            last: segment.until - 1,
+            local_time_type: Some(self.type_by(segment.is_daylight)),
+        }
+    }
+
+    /// The segment around an instant that the likely year does not always determine.
+    #[inline(never)]
+    fn outer_segment(&self, unix_time: i64) -> RuleSegment<'_>
+        ensures { IsRuleSegment (Alternate self.now) unix_time result }
+    {
+        if let Some(segment) = self.likely_segment(unix_time) {
+            return self.rule_segment(unix_time, segment);
+        }
+        match self.segment_in_year(unix_time) {
+            Some(segment) => self.rule_segment(unix_time, segment),
+            None => undefined_segment(unix_time),
+        }
+    }
+
+    /// The segment around an instant: from one start or end of daylight saving time up to the next, or outside the years of rules.
+    #[inline(always)]
+    pub(crate) fn segment(&self, unix_time: i64) -> RuleSegment<'_>
+        ensures within { (result.from ≤ℤ unix_time) × (unix_time ≤ℤ result.last) }
+        ensures holds { (v : ℤ) → result.from ≤ℤ v → v ≤ℤ result.last
+            → MatchOption result.local_time_type ((t : LocalTimeType) → ¬ IsRuleType (Alternate self.now) v t)
+            (λ t. IsRuleType (Alternate self.now) v t.now) }
+        ensures from { (result.from ≢ negsuc 9223372036854775807) → IsRuleChange (Alternate self.now) result.from }
+        ensures last { (result.last ≢ pos 9223372036854775807) → IsRuleChange (Alternate self.now) (result.last +ℤ pos 1) }
+    {
+        match self.inner_segment(unix_time) {
+            Some(segment) => self.rule_segment(unix_time, segment),
+            None => self.outer_segment(unix_time),
+        }
+    }
+
+    /// The type at an instant that the likely year does not always determine.
+    #[inline(never)]
+    fn outer_type(&self, unix_time: i64) -> Result<&LocalTimeType, TzError>
+        ensures ok { IfOk result (λ t. IsInRuleYears unix_time × IsAlternateType self.now unix_time t.now) }
+        ensures err { IfErr result (λ e. (e ≡ TzError.OutOfRange) × ¬ IsInRuleYears unix_time) }
+    {
+        if let Some(segment) = self.likely_segment(unix_time) {
+            return Ok(self.type_by(segment.is_daylight));
+        }
+        let Some(segment) = self.segment_in_year(unix_time) else {
+            return Err(TzError::OutOfRange);
+        };
+        Ok(self.type_by(segment.is_daylight))
+    }
+
+    /// The type at an instant.
+    #[inline(always)]
+    pub(crate) fn find_local_time_type(&self, unix_time: i64) -> Result<&LocalTimeType, TzError>
+        ensures ok { IfOk result (λ t. IsInRuleYears unix_time × IsAlternateType self.now unix_time t.now) }
+        ensures err { IfErr result (λ e. (e ≡ TzError.OutOfRange) × ¬ IsInRuleYears unix_time) }
+    {
+        match self.inner_segment(unix_time) {
+            Some(segment) => Ok(self.type_by(segment.is_daylight)),
+            None => self.outer_type(unix_time),
+        }
+    }
+}

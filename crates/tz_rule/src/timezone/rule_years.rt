@@ -1,0 +1,58 @@
+//! The years over which a rule is defined, the year of an instant, and its likely year, which is estimated without a calendar.
+
+ghost use Rattle.std.specs.Prelude.{◌≡◌, pos, negsuc, ◌*ℤ◌, ◌≤ℤ◌, IfSome, IfNone};
+ghost use Rattle.tz_base.specs.Days.{first_day};
+ghost use Rattle.tz_rule.specs.Alternate.{IsUtcYear, IsRuleYear, IsInRuleYears};
+ghost use Rattle.tz_rule.specs.LikelyYears.{IsLikelyYear, IsTriedYear, moved_back};
+
+use tz_base::calendar;
+use tz_base::constants::SECONDS_PER_DAY;
+use tz_base::fields::{Fields, is_reading};
+use tz_base::moved_year::moved_seconds;
+
+/// The first year over which a rule is defined.
+pub(super) const FIRST_YEAR: i32 = i32::MIN + 2;
+
+/// The last year over which a rule is defined.
+pub(super) const LAST_YEAR: i32 = i32::MAX - 2;
+
+/// How far from 1970 an instant may be: the two years before its year and the two after it are years over which a rule is defined.
+const GREATEST_DISTANCE: i64 = 60_000_000_000_000_000;
+
+/// The seconds of a year, on the average of 400 years.
+const SECONDS_PER_YEAR: u64 = 31_556_952;
+
+/// 00:00 UTC of a year's January 1st.
+pub(super) fn new_year(year: i32) -> i64
+    ensures value { result ≡ pos 86400 *ℤ first_day year }
+    ensures bound { (negsuc 67768100567971199 ≤ℤ result) × (result ≤ℤ pos 67767976202016000) }
+{
+    SECONDS_PER_DAY * calendar::first_day_of_year(year)
+}
+
+/// The year of an instant in UTC, if rules are defined over it.
+pub(super) fn rule_year(unix_time: i64) -> Option<i32>
+    ensures some { IfSome result (λ year. IsUtcYear unix_time year × IsRuleYear year) }
+    ensures none { IfNone result (¬ IsInRuleYears unix_time) }
+{
+    if !is_reading(unix_time) {
+        return None;
+    }
+    let year = Fields::from_reading(unix_time, 0).year;
+    if year < FIRST_YEAR || year > LAST_YEAR {
+        return None;
+    }
+    Some(year)
+}
+
+/// The year of an instant in UTC, or the neighbour of that year whose end is less than two days away, moved by cycles of 400 years.
+#[inline(always)]
+pub(super) fn likely_years(unix_time: i64) -> Option<u64>
+    ensures year { IfSome result (λ years. IsTriedYear (moved_back years)) }
+    ensures likely { IfSome result (λ years. IsLikelyYear unix_time (moved_back years)) }
+{
+    if unix_time < -GREATEST_DISTANCE || unix_time > GREATEST_DISTANCE {
+        return None;
+    }
+    Some(moved_seconds(unix_time) / SECONDS_PER_YEAR)
+}

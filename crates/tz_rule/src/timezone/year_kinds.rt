@@ -1,0 +1,50 @@
+//! Kinds of years, by number: the week day of January 1st, and 7 more for a leap year. All years of a kind have the same calendar.
+
+ghost use Rattle.std.specs.Prelude.{◌≡◌, ◌+◌, ◌*◌, ◌/◌, ◌%◌, ◌^◌, ◌<◌, ◌≤◌, pos, negsuc, ◌-ℤ◌, ◌*ℤ◌, ◌≤ℤ◌};
+ghost use Rattle.tz_base.specs.Days.{first_day};
+ghost use Rattle.tz_rule.specs.Kinds.{kind_of as kind_by, year_kind};
+
+use tz_base::constants::SECONDS_PER_DAY;
+use tz_base::moved_year::{ADDED_DAYS, days_before_moved_year, is_moved_year_leap};
+
+/// How many kinds of years there are.
+pub(super) const KINDS: usize = 14;
+
+/// The kind of the years that are leap, or are not, and whose January 1st has the week day.
+#[inline(always)]
+fn kind_of(leap: bool, first_week_day: u8) -> usize
+    requires { first_week_day < 7 }
+    ensures value { result ≡ kind_by leap first_week_day }
+    ensures below { result < 14 }
+{
+    let week_day = usize::from(first_week_day);
+    if leap { 7 + week_day } else { week_day }
+}
+
+/// A seventh of 2^64, rounded up.
+const SEVENTH: u64 = 2_635_249_153_387_078_803;
+
+/// The days over whole weeks: the sevenths that are over are the fraction of a product of 64 bits.
+#[inline(always)]
+fn days_over_weeks(days: u64) -> u8
+    requires { days < 2 ^ 43 }
+    ensures value { result ≡ days % 7 }
+    ensures below { result < 7 }
+{
+    let fraction = days.wrapping_mul(SEVENTH);
+    (u128::from(fraction) * 7 / 18_446_744_073_709_551_616) as u8
+}
+
+/// 00:00 UTC of a moved year's January 1st, and the kind of the year.
+#[inline(always)]
+pub(super) fn moved_year_start(years: u64) -> (i64, usize)
+    requires { (352 ≤ years) × (years ≤ 4294967647) }
+    ensures start { result.0 ≡ pos 86400 *ℤ first_day (pos years -ℤ pos 2147484000) }
+    ensures kind { result.1 ≡ year_kind (pos years -ℤ pos 2147484000) }
+    ensures bound { (negsuc 67768100567971199 ≤ℤ result.0) × (result.0 ≤ℤ pos 67767976202016000) }
+    ensures below { result.1 < 14 }
+{
+    let days = days_before_moved_year(years);
+    let kind = kind_of(is_moved_year_leap(years), days_over_weeks(days + 6));
+    (SECONDS_PER_DAY * (days as i64 - ADDED_DAYS), kind)
+}
