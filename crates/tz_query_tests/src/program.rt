@@ -82,7 +82,7 @@ fn expect_outcome(
     Ok(())
 }
 
-/// Asked for the epoch, the program does what stands after ` | ` in a row, between two texts, where its arguments are the option and the value before it.
+/// Asked for the epoch with the option and the value before ` | ` in a row, the program does what stands after it, between two texts.
 fn expect_row_around(
     rt: &impl Abort,
     alloc: Global,

@@ -17,8 +17,8 @@ use tz_zone::timezone::{
 
 /// Files in memory, and which of them were asked for: a digit for each, from 1 in their order, or 9 for another path.
 ///
-/// The text lists them, separated by `, `: a path, and after a space `UTC` for a file of UTC, `cut` for one that ends too early, `memory` for one that
-/// finds no memory, or `none` for no file.
+/// The text lists them, separated by `, `: a path, and after a space `UTC` for a file of UTC, `cut` for one that ends too early, `memory` for one
+/// that finds no memory, or `none` for no file.
 #[derive(Drop)]
 struct Files<'a> {
     alloc: Global,
