@@ -22,7 +22,7 @@ use std::fmt::Display;
 use std::process::Abort;
 use std::test::Fail;
 use tz::datetime::Disambiguation;
-use tz::{Error, TimeZoneRef, TzError, UtcDateTime};
+use tz::{Error, ParsedDateTime, TimeZoneRef, TzError, UtcDateTime};
 use tz_samples::files::JERUSALEM_V3;
 use tz_samples::utc;
 
@@ -45,6 +45,17 @@ fn expect_shown(
     let shown = format!(in alloc; "{value}")?;
     expect_eq(rt, &shown.as_str(), &text);
     Ok(())
+}
+
+/// The two sides of a row.
+fn parts_of(row: &str) -> Result<(&str, &str), Fail> {
+    Ok(row.split_once(" | ").ok_or("no ` | ` in a row")?)
+}
+
+/// The instant of a text.
+fn instant(text: &str) -> Result<i64, Fail> {
+    let parsed = ParsedDateTime::parse(text.as_bytes())?;
+    Ok(parsed.unix_time().ok_or("no offset")?)
 }
 
 /// Clocks of the zone show the text at an instant.
@@ -76,13 +87,8 @@ fn instants_are_shown(rt: HostRuntime) -> Result<(), Fail> {
         expect_shown(&rt, alloc, &moved_ahead_in_2000(unix_time)?, text)?;
     }
     let zone = zone_of_setting(&rt, alloc, CENTRAL_EUROPE)?;
-    expect_instant(
-        &rt,
-        alloc,
-        zone.as_ref(),
-        SPRING_2000,
-        "2000-03-26T03:00:00.000000000+02:00 CEST",
-    )?;
+    let text = "2000-03-26T03:00:00.000000000+02:00 CEST";
+    expect_instant(&rt, alloc, zone.as_ref(), SPRING_2000, text)?;
     assert!(rt; show_now(&rt, zone.as_ref())?.unix_time() > 1_700_000_000);
     Ok(())
 }
@@ -128,78 +134,44 @@ fn alarms_ring_in_gaps_and_folds(rt: HostRuntime) -> Result<(), Fail> {
     Ok(())
 }
 
-/// Jobs of every day at half past these hours run next at the texts after the instants.
+/// Jobs of every day at half past these hours run next after these instants as the text after ` | ` says.
 fn expect_runs(
     rt: &impl Abort,
     alloc: Global,
     zone: TimeZoneRef<'_>,
-    rows: &[(u8, i64, &str)],
-) -> Result<(), TzError> {
-    for &(hour, now, text) in rows.iter() {
-        let run = next_daily_run(zone, hour, 30, now)?;
-        assert!(rt; run.is_some());
-        for run in run.iter() {
-            expect_shown(rt, alloc, run, text)?;
-        }
+    rows: &str,
+) -> Result<(), Fail> {
+    for row in rows.lines() {
+        let (job, text) = parts_of(row)?;
+        let (hour, now) = job.split_once(' ').ok_or("no hour in a row")?;
+        let run = next_daily_run(zone, hour.parse::<u8>()?, 30, instant(now)?)?;
+        expect_shown(rt, alloc, &run.ok_or("no run")?, text)?;
     }
     Ok(())
 }
 
 #[test]
 fn daily_jobs_run_once_in_gaps_and_folds(rt: HostRuntime) -> Result<(), Fail> {
-    static NEW_YORK: [(u8, i64, &str); 6] = [
-        // Noon of March 7th; clocks go forward from 2:00 to 3:00 in the night that follows.
-        (
-            2,
-            utc!(2026-03-07 17:00:00),
-            "2026-03-08T03:30:00.000000000-04:00",
-        ),
-        (
-            2,
-            utc!(2026-03-08 07:29:59),
-            "2026-03-08T03:30:00.000000000-04:00",
-        ),
-        (
-            2,
-            utc!(2026-03-08 07:30:00),
-            "2026-03-09T02:30:00.000000000-04:00",
-        ),
-        // Noon of October 31st; clocks go back from 2:00 to 1:00 in the night that follows, so that 1:30 is shown twice.
-        (
-            1,
-            utc!(2026-10-31 16:00:00),
-            "2026-11-01T01:30:00.000000000-04:00",
-        ),
-        (
-            1,
-            utc!(2026-11-01 05:30:00),
-            "2026-11-02T01:30:00.000000000-05:00",
-        ),
-        (
-            1,
-            utc!(2026-11-01 06:30:00),
-            "2026-11-02T01:30:00.000000000-05:00",
-        ),
-    ];
+    // Clocks go forward from 2:00 to 3:00 in the night after March 7th, and back from 2:00 to 1:00 in the night after October 31st, so that 1:30 is
+    // shown twice.
+    static NEW_YORK: &str = "\
+2 2026-03-07T17:00:00Z | 2026-03-08T03:30:00.000000000-04:00
+2 2026-03-08T07:29:59Z | 2026-03-08T03:30:00.000000000-04:00
+2 2026-03-08T07:30:00Z | 2026-03-09T02:30:00.000000000-04:00
+1 2026-10-31T16:00:00Z | 2026-11-01T01:30:00.000000000-04:00
+1 2026-11-01T05:30:00Z | 2026-11-02T01:30:00.000000000-05:00
+1 2026-11-01T06:30:00Z | 2026-11-02T01:30:00.000000000-05:00
+";
     // Clocks go forward from 23:00 to midnight, as in Scoresbysund, and midnight itself is the first instant.
-    static OVER_MIDNIGHT: [(u8, i64, &str); 2] = [
-        (
-            23,
-            utc!(2025-03-30 01:00:00),
-            "2025-03-30T00:30:00.000000000-01:00",
-        ),
-        (
-            23,
-            utc!(2025-03-30 01:30:00),
-            "2025-03-30T23:30:00.000000000-01:00",
-        ),
-    ];
+    static OVER_MIDNIGHT: &str = "\
+23 2025-03-30T01:00:00Z | 2025-03-30T00:30:00.000000000-01:00
+23 2025-03-30T01:30:00Z | 2025-03-30T23:30:00.000000000-01:00
+";
     let alloc = rt.alloc();
     let zone = zone_of_setting(&rt, alloc, "EST5EDT,M3.2.0,M11.1.0")?;
-    expect_runs(&rt, alloc, zone.as_ref(), &NEW_YORK)?;
+    expect_runs(&rt, alloc, zone.as_ref(), NEW_YORK)?;
     let zone = zone_of_setting(&rt, alloc, "<-02>2<-01>,M3.5.6/23,M10.5.0/0")?;
-    expect_runs(&rt, alloc, zone.as_ref(), &OVER_MIDNIGHT)?;
-    Ok(())
+    expect_runs(&rt, alloc, zone.as_ref(), OVER_MIDNIGHT)
 }
 
 /// Meetings at 9:00 in central Europe stay there where clocks go forward.
@@ -242,31 +214,17 @@ fn meetings_keep_their_local_time(rt: HostRuntime) -> Result<(), Fail> {
     Ok(())
 }
 
-/// Clocks of central Europe are set next so, with the seconds by which they go forward.
-fn expect_next_changes(
-    rt: &impl Abort,
-    alloc: Global,
-    zone: TimeZoneRef<'_>,
-) -> Result<(), TzError> {
-    static CHANGES: [(i64, &str, i64); 2] = [
-        (
-            utc!(2000-03-26 00:59:59),
-            "2000-03-26T03:00:00.000000000+02:00",
-            3600,
-        ),
-        (
-            utc!(2000-03-26 01:00:00),
-            "2000-10-29T02:00:00.000000000+01:00",
-            -3600,
-        ),
-    ];
-    for &(now, text, seconds) in CHANGES.iter() {
-        let found = next_change(zone, now)?;
-        assert!(rt; found.is_some());
-        for (shown, forward) in found.iter() {
-            expect_shown(rt, alloc, shown, text)?;
-            expect_eq(rt, forward, &seconds);
-        }
+/// After these instants clocks of central Europe next show the text after ` | `, set forward by its seconds.
+fn expect_next_changes(rt: &impl Abort, alloc: Global, zone: TimeZoneRef<'_>) -> Result<(), Fail> {
+    static CHANGES: &str = "\
+2000-03-26T00:59:59Z | 2000-03-26T03:00:00.000000000+02:00 3600
+2000-03-26T01:00:00Z | 2000-10-29T02:00:00.000000000+01:00 -3600
+";
+    for row in CHANGES.lines() {
+        let (now, text) = parts_of(row)?;
+        let (shown, forward) = next_change(zone, instant(now)?)?.ok_or("no change")?;
+        let found = format!(in alloc; "{shown} {forward}")?;
+        expect_eq(rt, &found.as_str(), &text);
     }
     Ok(())
 }
@@ -325,12 +283,8 @@ fn date_times_are_made_of_fields(rt: HostRuntime) -> Result<(), Fail> {
     expect_eq(&rt, &landing.unix_time(), &-14_182_940);
     let morning = morning_in_tokyo()?;
     expect_eq(&rt, &morning.unix_time(), &MORNING);
-    expect_shown(
-        &rt,
-        rt.alloc(),
-        &morning,
-        "2024-05-01T08:30:00.000000000+09:00",
-    )?;
+    let text = "2024-05-01T08:30:00.000000000+09:00";
+    expect_shown(&rt, rt.alloc(), &morning, text)?;
     Ok(())
 }
 
@@ -348,13 +302,9 @@ fn rules_are_made_of_parts(rt: HostRuntime) -> Result<(), Fail> {
         expect_eq(&rt, &text.as_str(), &"EST5EDT,M3.2.0,M11.1.0");
     }
     expect_eq(&rt, &rule_text(TimeZoneRef::utc()).is_none(), &true);
-    expect_instant(
-        &rt,
-        alloc,
-        zone.as_ref(),
-        utc!(2026-03-08 07:00:00),
-        "2026-03-08T03:00:00.000000000-04:00 EDT",
-    )?;
+    const SPRING_2026: i64 = utc!(2026-03-08 07:00:00);
+    let text = "2026-03-08T03:00:00.000000000-04:00 EDT";
+    expect_instant(&rt, alloc, zone.as_ref(), SPRING_2026, text)?;
     Ok(())
 }
 
@@ -393,62 +343,46 @@ fn earlier_changes_are_found(rt: HostRuntime) -> Result<(), Fail> {
     Ok(())
 }
 
-/// The text by a choice, in UTC or with what is wrong.
+/// The choice of a word.
+fn choice_of(word: &str) -> Disambiguation {
+    match word {
+        "Earlier" => Disambiguation::Earlier,
+        "Later" => Disambiguation::Later,
+        "Reject" => Disambiguation::Reject,
+        _ => Disambiguation::Compatible,
+    }
+}
+
+/// The text of a row, by the choice after it, is converted to the date time of UTC after ` | `, or this is wrong with it.
 fn expect_converted(
     rt: &impl Abort,
     alloc: Global,
     zone: TimeZoneRef<'_>,
-    row: &(&str, Disambiguation, &str),
-) -> Result<(), AllocError> {
-    let (text, choice, expected) = *row;
-    match utc_of(text, zone, choice) {
-        Ok(utc) => expect_shown(rt, alloc, &utc, expected),
-        Err(error) => expect_shown(rt, alloc, &error, expected),
+    row: &str,
+) -> Result<(), Fail> {
+    let (local, expected) = parts_of(row)?;
+    let (text, choice) = local.rsplit_once(' ').ok_or("no choice in a row")?;
+    match utc_of(text, zone, choice_of(choice)) {
+        Ok(utc) => expect_shown(rt, alloc, &utc, expected)?,
+        Err(error) => expect_shown(rt, alloc, &error, expected)?,
     }
+    Ok(())
 }
 
 #[test]
 fn local_times_are_converted(rt: HostRuntime) -> Result<(), Fail> {
     // Clocks go forward from 2:00 to 3:00 on March 29th, and back from 3:00 to 2:00 on October 25th.
-    static ROWS: [(&str, Disambiguation, &str); 7] = [
-        (
-            "2026-03-29T02:30:00",
-            Disambiguation::Compatible,
-            "2026-03-29T01:30:00.000000000Z",
-        ),
-        (
-            "2026-03-29T02:30:00",
-            Disambiguation::Earlier,
-            "2026-03-29T00:30:00.000000000Z",
-        ),
-        (
-            "2026-03-29T02:30:00",
-            Disambiguation::Reject,
-            "clocks show this local time more than once, or never",
-        ),
-        (
-            "2026-10-25 02:30:00.5",
-            Disambiguation::Later,
-            "2026-10-25T01:30:00.500000000Z",
-        ),
-        (
-            "2026-10-25 02:30:00.5",
-            Disambiguation::Compatible,
-            "2026-10-25T00:30:00.500000000Z",
-        ),
-        (
-            "2026-07-01T12:00:00+05:30",
-            Disambiguation::Reject,
-            "2026-07-01T06:30:00.000000000Z",
-        ),
-        (
-            "2026-02-30T12:00:00",
-            Disambiguation::Reject,
-            "expected a day of the month at byte 8",
-        ),
-    ];
+    static ROWS: &str = "\
+2026-03-29T02:30:00 Compatible | 2026-03-29T01:30:00.000000000Z
+2026-03-29T02:30:00 Earlier | 2026-03-29T00:30:00.000000000Z
+2026-03-29T02:30:00 Reject | clocks show this local time more than once, or never
+2026-10-25 02:30:00.5 Later | 2026-10-25T01:30:00.500000000Z
+2026-10-25 02:30:00.5 Compatible | 2026-10-25T00:30:00.500000000Z
+2026-07-01T12:00:00+05:30 Reject | 2026-07-01T06:30:00.000000000Z
+2026-02-30T12:00:00 Reject | expected a day of the month at byte 8
+";
     let zone = zone_of_setting(&rt, rt.alloc(), CENTRAL_EUROPE)?;
-    for row in &ROWS {
+    for row in ROWS.lines() {
         expect_converted(&rt, rt.alloc(), zone.as_ref(), row)?;
     }
     Ok(())

@@ -1,7 +1,7 @@
 //! Comparisons of tests. The proof of a test walks through each `assert_eq!` where it is written out, and through a call of these much faster.
 
-use std::alloc::Global;
-use std::fmt::{Debug, Display};
+use std::alloc::{AllocError, Global};
+use std::fmt::Debug;
 use std::process::Abort;
 use std::test::Fail;
 use tz::TimeZoneRef;
@@ -17,55 +17,62 @@ pub(crate) fn expect_eq<T: Debug + PartialEq>(rt: &impl Abort, found: &T, wanted
 /// The values at a place of a table are equal.
 pub(crate) fn expect_eq_at<T: Debug + PartialEq>(
     rt: &impl Abort,
-    place: &impl Display,
+    place: &impl Debug,
     found: &T,
     wanted: &T,
 ) {
-    assert_eq!(rt; *found, *wanted, "{place}");
+    assert_eq!(rt; *found, *wanted, "{place:?}");
 }
 
-/// The values for a case are equal.
-pub(crate) fn expect_eq_for<T: Debug + PartialEq>(
-    rt: &impl Abort,
-    case: &impl Debug,
-    found: &T,
-    wanted: &T,
-) {
-    assert_eq!(rt; *found, *wanted, "{case:?}");
+/// Adds a line and its LF.
+fn push_line(text: &mut String, line: &str) -> Result<(), AllocError> {
+    text.push_str(line)?;
+    text.push('\n')
 }
 
-/// The queries have these answers.
-pub(crate) fn expect_answers(
+/// Adds the line before ` | ` of a row to the queries, and those after it, which `, ` separates, to the answers.
+fn push_row(queries: &mut String, answers: &mut String, row: &str) -> Result<(), Fail> {
+    let (query, lines) = row.split_once(" | ").ok_or("no ` | ` in a row")?;
+    push_line(queries, query)?;
+    for line in lines.split(", ") {
+        push_line(answers, line)?;
+    }
+    Ok(())
+}
+
+/// The queries of the rows have the answers of the rows.
+pub(crate) fn expect_rows(
     rt: &impl Abort,
     alloc: Global,
     zone: TimeZoneRef<'_>,
-    queries: &str,
-    answers: &str,
+    rows: &str,
 ) -> Result<(), Fail> {
+    let (mut queries, mut answers) = (String::new(alloc), String::new(alloc));
+    for row in rows.lines() {
+        push_row(&mut queries, &mut answers, row)?;
+    }
     let found = answer(alloc, zone, queries.as_bytes())?;
     expect_eq(rt, &found.as_slice(), &answers.as_bytes());
     Ok(())
 }
 
-/// The queries have these answers over the zone of Central Europe.
-pub(crate) fn expect_answers_in_central_europe(
+/// They have them over the zone of Central Europe.
+pub(crate) fn expect_rows_in_central_europe(
     rt: &impl Abort,
     alloc: Global,
-    queries: &str,
-    answers: &str,
+    rows: &str,
 ) -> Result<(), Fail> {
     let zone = central_europe_zone(alloc)?;
-    expect_answers(rt, alloc, zone.as_ref(), queries, answers)
+    expect_rows(rt, alloc, zone.as_ref(), rows)
 }
 
-/// The queries have these answers over the zone of a row.
-pub(crate) fn expect_answers_by_parts(
+/// They have them over the zone of a row.
+pub(crate) fn expect_rows_by_parts(
     rt: &impl Abort,
     alloc: Global,
     row: &ZoneRow,
-    queries: &str,
-    answers: &str,
+    rows: &str,
 ) -> Result<(), Fail> {
     let zone = zone_of(alloc, row)?;
-    expect_answers(rt, alloc, zone.as_ref(), queries, answers)
+    expect_rows(rt, alloc, zone.as_ref(), rows)
 }

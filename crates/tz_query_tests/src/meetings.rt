@@ -1,8 +1,9 @@
 //! `W` lines over zones whose answers are known.
 
-use crate::expect::{expect_answers_in_central_europe, expect_eq_at};
+use crate::expect::{expect_eq, expect_rows};
 use crate::growths::expect_each_growth_can_be_refused;
 use std::alloc::Global;
+use std::process::Abort;
 use std::test::Fail;
 use tz::{TimeZoneRef, UtcDateTime};
 use tz_query::query::answer;
@@ -20,50 +21,37 @@ const JUMPED: &str = "W 3\n\
     F 1\n\
     N 2000-04-02T02:30:00.000000000+02:00 CEST\n";
 
-#[test]
-fn a_meeting_keeps_its_time_of_day_over_a_jump(rt: HostRuntime) -> Result<(), Fail> {
-    expect_answers_in_central_europe(&rt, rt.alloc(), OVER_A_JUMP, JUMPED)
+/// The line has these answers over the zone of Central Europe.
+fn expect_answers(rt: &impl Abort, alloc: Global, line: &str, answers: &str) -> Result<(), Fail> {
+    let zone = central_europe_zone(alloc)?;
+    let found = answer(alloc, zone.as_ref(), line.as_bytes())?;
+    expect_eq(rt, &found.as_slice(), &answers.as_bytes());
+    Ok(())
 }
 
-/// Lines over UTC, and their answers.
-static MEETINGS: [(&str, &str); 13] = [
-    (
-        "W 2 2016 12 31 23 59 60 0",
-        "W 2\nF 1\nN 2016-12-31T23:59:60.000000000Z -\nF 1\nN 2017-01-07T23:59:60.000000000Z -\n",
-    ),
-    ("W 0 2001 2 28 0 0 0 0", "W 0\n"),
-    ("W 003 2001 13 1 0 0 0 0", "E InvalidMonth\n"),
-    (
-        "W 001 2001 2 22 0 0 0 7",
-        "W 1\nF 1\nN 2001-02-22T00:00:00.000000007Z -\n",
-    ),
-    ("W 0 2001 2 29 0 0 0 0", "E InvalidMonthDay\n"),
-    ("W 1 2001 2 28 0 0 61 0", "E InvalidSecond\n"),
-    ("W 1 2001 2 29 0 0 60 0", "E InvalidMonthDay\n"),
-    ("W 256 2001 2 28 0 0 0 0", "E Line\n"),
-    ("W -1 2001 2 28 0 0 0 0", "E Line\n"),
-    ("W 2001 2 28 0 0 0 0", "E Line\n"),
-    (
-        "W 2 2147483647 12 31 0 0 0 0",
-        "W 2\nF 1\nN 2147483647-12-31T00:00:00.000000000Z -\nE OutOfRange\n",
-    ),
-    (
-        "W 1 2147483647 12 31 23 59 60 0",
-        "W 1\nF 1\nN 2147483647-12-31T23:59:60.000000000Z -\n",
-    ),
-    (
-        "W 1 -2147483648 1 1 0 0 0 0",
-        "W 1\nF 1\nN -2147483648-01-01T00:00:00.000000000Z -\n",
-    ),
-];
+#[test]
+fn a_meeting_keeps_its_time_of_day_over_a_jump(rt: HostRuntime) -> Result<(), Fail> {
+    expect_answers(&rt, rt.alloc(), OVER_A_JUMP, JUMPED)
+}
 
 #[test]
 fn meetings_have_these_answers(rt: HostRuntime) -> Result<(), Fail> {
-    for (line, want) in &MEETINGS {
-        let found = answer(rt.alloc(), TimeZoneRef::utc(), line.as_bytes())?;
-        expect_eq_at(&rt, &line, &found.as_slice(), &want.as_bytes());
-    }
-    Ok(())
+    static ROWS: &str = "\
+W 2 2016 12 31 23 59 60 0 | W 2, F 1, N 2016-12-31T23:59:60.000000000Z -, F 1, N 2017-01-07T23:59:60.000000000Z -
+W 0 2001 2 28 0 0 0 0 | W 0
+W 003 2001 13 1 0 0 0 0 | E InvalidMonth
+W 001 2001 2 22 0 0 0 7 | W 1, F 1, N 2001-02-22T00:00:00.000000007Z -
+W 0 2001 2 29 0 0 0 0 | E InvalidMonthDay
+W 1 2001 2 28 0 0 61 0 | E InvalidSecond
+W 1 2001 2 29 0 0 60 0 | E InvalidMonthDay
+W 256 2001 2 28 0 0 0 0 | E Line
+W -1 2001 2 28 0 0 0 0 | E Line
+W 2001 2 28 0 0 0 0 | E Line
+W 2 2147483647 12 31 0 0 0 0 | W 2, F 1, N 2147483647-12-31T00:00:00.000000000Z -, E OutOfRange
+W 1 2147483647 12 31 23 59 60 0 | W 1, F 1, N 2147483647-12-31T23:59:60.000000000Z -
+W 1 -2147483648 1 1 0 0 0 0 | W 1, F 1, N -2147483648-01-01T00:00:00.000000000Z -
+";
+    expect_rows(&rt, rt.alloc(), TimeZoneRef::utc(), ROWS)
 }
 
 /// The answers to the question for the date as many weeks after the thirty-first of October 1999.
@@ -90,7 +78,7 @@ fn answers_week_by_week(alloc: Global) -> Result<String, Fail> {
 fn the_longest_meeting_is_asked_for_week_by_week(rt: HostRuntime) -> Result<(), Fail> {
     let line = "W 255 1999 10 31 2 30 0 0";
     let want = answers_week_by_week(rt.alloc())?;
-    expect_answers_in_central_europe(&rt, rt.alloc(), line, want.as_str())
+    expect_answers(&rt, rt.alloc(), line, want.as_str())
 }
 
 #[test]

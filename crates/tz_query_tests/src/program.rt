@@ -1,6 +1,6 @@
 //! The program's answers, and its faults with their lines and statuses, by rows.
 
-use crate::expect::expect_eq_for;
+use crate::expect::expect_eq_at;
 use crate::failing::{FailingReader, FailingWriter};
 use anyhow::anyhow;
 use std::alloc::{AllocError, Global};
@@ -78,24 +78,11 @@ fn expect_outcome(
     want: &str,
 ) -> Result<(), Fail> {
     let found = outcome(alloc, arguments, queries)?;
-    expect_eq_for(rt, &arguments, &found.as_str(), &want);
+    expect_eq_at(rt, &arguments, &found.as_str(), &want);
     Ok(())
 }
 
-/// Asked for the epoch, the program does what a text says between two others.
-fn expect_outcome_around(
-    rt: &impl Abort,
-    alloc: Global,
-    arguments: &[&str],
-    before: &str,
-    text: &str,
-    after: &str,
-) -> Result<(), Fail> {
-    let want = format!(in alloc; "{before}{text}{after}")?;
-    expect_outcome(rt, alloc, arguments, b"T 0 0\n", want.as_str())
-}
-
-/// The program does what stands after ` | ` in a row, between two texts, where its arguments are the option and the value before it.
+/// Asked for the epoch with the option and the value before ` | ` in a row, the program does what stands after it, between two texts.
 fn expect_row_around(
     rt: &impl Abort,
     alloc: Global,
@@ -105,7 +92,8 @@ fn expect_row_around(
 ) -> Result<(), Fail> {
     let (arguments, text) = row.split_once(" | ").ok_or("no ` | ` in a row")?;
     let (option, value) = arguments.split_once(' ').ok_or("no value in a row")?;
-    expect_outcome_around(rt, alloc, &[option, value], before, text, after)
+    let want = format!(in alloc; "{before}{text}{after}")?;
+    expect_outcome(rt, alloc, &[option, value], b"T 0 0\n", want.as_str())
 }
 
 /// The program does what each line says, between two texts.
@@ -141,21 +129,11 @@ static ZONES: &str = "\
 #[test]
 fn answers_over_the_zone_of_the_arguments(rt: HostRuntime) -> Result<(), Fail> {
     expect_outcomes_around(&rt, rt.alloc(), "0|", ZONES, "\n|")?;
-    expect_outcome_around(
-        &rt,
-        rt.alloc(),
-        &["-z", " HST10\n"],
-        "0|",
-        "1969-12-31T14:00:00.000000000-10:00 HST",
-        "\n|",
-    )?;
-    expect_outcome(
-        &rt,
-        rt.alloc(),
-        &["-o", "-3600"],
-        b"T 946684800 123456789\n",
-        "0|1999-12-31T23:00:00.123456789-01:00 -\n|",
-    )?;
+    let spaced = ["-z", " HST10\n"];
+    expect_outcome(&rt, rt.alloc(), &spaced, b"T 0 0\n", EPOCH_OF_HAWAII)?;
+    let want = "0|1999-12-31T23:00:00.123456789-01:00 -\n|";
+    let queries = b"T 946684800 123456789\n";
+    expect_outcome(&rt, rt.alloc(), &["-o", "-3600"], queries, want)?;
     expect_outcome(&rt, rt.alloc(), &["-z", "A0"], b"", "0||")
 }
 
@@ -265,7 +243,7 @@ fn expect_outcome_of_failing(
 ) -> Result<(), Fail> {
     let (reads, writes, complaints) = calls;
     let found = outcome_of_failing(alloc, arguments, reads, writes, complaints)?;
-    expect_eq_for(rt, &(arguments, calls), &found.as_str(), &want);
+    expect_eq_at(rt, &(arguments, calls), &found.as_str(), &want);
     Ok(())
 }
 
@@ -276,7 +254,7 @@ static FAILING_STREAMS: [(u8, u8, u8, &str); 6] = [
     (0, 9, 0, "1||"),
     (9, 0, 9, "1||tzq: cannot write answers\n"),
     (9, 0, 0, "1||"),
-    (9, 9, 0, "0|1970-01-01T00:00:00.000000000Z UTC\n|"),
+    (9, 9, 0, EPOCH),
 ];
 
 #[test]
@@ -288,22 +266,19 @@ fn names_streams_that_fail(rt: HostRuntime) -> Result<(), Fail> {
     Ok(())
 }
 
+/// What the program does where parts make no zone, and where a file is cut short.
+const NO_ZONE: &str = "2||tzq: zone refused: invalid time zone: invalid leap second\n";
+
+const CUT_FILE: &str = "2||tzq: zone refused: invalid TZ file: unexpected end of data\n";
+
 /// Options with their values, and what the program does where no byte can be read.
 static FAULTS_OF_ZONES: [(&str, &str, &str); 6] = [
     ("-x", "0", "1||tzq: bad arguments\n"),
     ("-o", "x", "1||tzq: bad arguments\n"),
     ("-f", "/none", "1||tzq: cannot read file\n"),
     ("-f", "/large", "1||tzq: no memory\n"),
-    (
-        "-f",
-        "/early_leap_second",
-        "2||tzq: zone refused: invalid time zone: invalid leap second\n",
-    ),
-    (
-        "-z",
-        "/cut",
-        "2||tzq: zone refused: invalid TZ file: unexpected end of data\n",
-    ),
+    ("-f", "/early_leap_second", NO_ZONE),
+    ("-z", "/cut", CUT_FILE),
 ];
 
 #[test]
@@ -331,11 +306,11 @@ fn calls_left(alloc: Global, arguments: &[&str]) -> (u8, u8) {
 fn without_a_zone_it_neither_reads_nor_writes(rt: HostRuntime) -> Result<(), Fail> {
     for (option, value, _) in &FAULTS_OF_ZONES {
         let left = calls_left(rt.alloc(), &[option, value]);
-        expect_eq_for(&rt, value, &left, &(9, 9));
+        expect_eq_at(&rt, value, &left, &(9, 9));
     }
     for arguments in &BAD_ARGUMENTS {
         let left = calls_left(rt.alloc(), arguments);
-        expect_eq_for(&rt, arguments, &left, &(9, 9));
+        expect_eq_at(&rt, arguments, &left, &(9, 9));
     }
     Ok(())
 }
@@ -373,23 +348,18 @@ fn needed(alloc: Global, arguments: &[&str], answer: &str) -> Result<Option<u64>
     Ok(None)
 }
 
+/// The epoch over a file of UTC, and in Hawaii.
+const EPOCH: &str = "0|1970-01-01T00:00:00.000000000Z UTC\n|";
+
+const EPOCH_OF_HAWAII: &str = "0|1969-12-31T14:00:00.000000000-10:00 HST\n|";
+
 /// Options with their values, the answer, and the least number of growths that it needs.
 static NEEDS: [(&str, &str, &str, u64); 5] = [
     ("-o", "0", "0|1970-01-01T00:00:00.000000000Z -\n|", 2),
-    ("-f", "/utc", "0|1970-01-01T00:00:00.000000000Z UTC\n|", 2),
-    ("-z", "/utc", "0|1970-01-01T00:00:00.000000000Z UTC\n|", 2),
-    (
-        "-z",
-        "Zone/UTC",
-        "0|1970-01-01T00:00:00.000000000Z UTC\n|",
-        2,
-    ),
-    (
-        "-z",
-        "HST10",
-        "0|1969-12-31T14:00:00.000000000-10:00 HST\n|",
-        4,
-    ),
+    ("-f", "/utc", EPOCH, 2),
+    ("-z", "/utc", EPOCH, 2),
+    ("-z", "Zone/UTC", EPOCH, 2),
+    ("-z", "HST10", EPOCH_OF_HAWAII, 4),
 ];
 
 /// The program needs at least this many growths.

@@ -75,33 +75,15 @@ fn expect_refused(rt: &impl Abort, alloc: Global, file: &[u8], refusal: &str) ->
 
 #[test]
 fn a_cut_file_is_refused(rt: HostRuntime) -> Result<(), Fail> {
+    const NO_FOOTER: &str = "refused: invalid TZ file: invalid footer";
+    const CUT: &str = "refused: invalid TZ file: unexpected end of data";
     /// A file, its length up to a cut, and the refusal.
     static ROWS: [(&[u8], usize, &str); 5] = [
-        (
-            JERUSALEM_V3,
-            146,
-            "refused: invalid TZ file: invalid footer",
-        ),
-        (
-            JERUSALEM_V3,
-            119,
-            "refused: invalid TZ file: invalid footer",
-        ),
-        (
-            JERUSALEM_V3,
-            118,
-            "refused: invalid TZ file: unexpected end of data",
-        ),
-        (
-            JERUSALEM_V3,
-            0,
-            "refused: invalid TZ file: unexpected end of data",
-        ),
-        (
-            UTC_V1,
-            53,
-            "refused: invalid TZ file: unexpected end of data",
-        ),
+        (JERUSALEM_V3, 146, NO_FOOTER),
+        (JERUSALEM_V3, 119, NO_FOOTER),
+        (JERUSALEM_V3, 118, CUT),
+        (JERUSALEM_V3, 0, CUT),
+        (UTC_V1, 53, CUT),
     ];
     let alloc = rt.alloc();
     for (file, length, refusal) in &ROWS {
@@ -115,14 +97,11 @@ fn a_cut_file_is_refused(rt: HostRuntime) -> Result<(), Fail> {
 
 #[test]
 fn an_altered_file_answers_or_is_refused(rt: HostRuntime) -> Result<(), Fail> {
+    const LATE: &str = "refused: invalid TZ string: invalid day time hour";
     /// A place, the byte that stands there, and the answer.
     static ROWS: [(usize, u8, &str); 3] = [
         (4, b'2', "2040-03-23T03:00:00.000000000+03:00 IDT\n"),
-        (
-            58,
-            b'2',
-            "refused: invalid TZ string: invalid day time hour",
-        ),
+        (58, b'2', LATE),
         (2, b'j', "refused: invalid TZ file: invalid magic number"),
     ];
     let alloc = rt.alloc();

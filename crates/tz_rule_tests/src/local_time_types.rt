@@ -6,10 +6,12 @@ use std::test::Fail;
 use tz_base::error::timezone::LocalTimeTypeError;
 use tz_rule::timezone::LocalTimeType;
 
-/// What a name of no length that is allowed, and a byte that no name has, are refused by.
+/// What a name of no length that is allowed, a byte that no name has, and an offset that is none are refused by.
 const LENGTH: LocalTimeTypeError = LocalTimeTypeError::InvalidTimeZoneDesignationLength;
 
 const CHAR: LocalTimeTypeError = LocalTimeTypeError::InvalidTimeZoneDesignationChar;
+
+const OFFSET: LocalTimeTypeError = LocalTimeTypeError::InvalidUtcOffset;
 
 /// The refusal of a type with this name, if it is refused.
 fn fault_of_name(name: &[u8]) -> Option<LocalTimeTypeError> {
@@ -50,17 +52,9 @@ fn names_have_letters_digits_and_signs(rt: HostRuntime) {
 #[test]
 fn the_first_fault_is_named(rt: HostRuntime) {
     static REFUSED: [(i32, Option<&[u8]>, LocalTimeTypeError); 5] = [
-        (
-            i32::MIN,
-            Some(b"12345 78"),
-            LocalTimeTypeError::InvalidUtcOffset,
-        ),
-        (
-            i32::MIN,
-            Some(b"12 4"),
-            LocalTimeTypeError::InvalidUtcOffset,
-        ),
-        (i32::MIN, None, LocalTimeTypeError::InvalidUtcOffset),
+        (i32::MIN, Some(b"12345 78"), OFFSET),
+        (i32::MIN, Some(b"12 4"), OFFSET),
+        (i32::MIN, None, OFFSET),
         (i32::MIN + 1, Some(b"12345 78"), LENGTH),
         (i32::MIN + 1, Some(b"12 4"), CHAR),
     ];
@@ -109,7 +103,7 @@ fn plain_types_have_an_offset_alone(rt: HostRuntime) -> Result<(), LocalTimeType
     let utc = LocalTimeType::with_ut_offset(0)?;
     expect_eq(&rt, &LocalTimeType::utc(), &utc);
     let refused = LocalTimeType::with_ut_offset(i32::MIN);
-    expect_eq(&rt, &refused, &Err(LocalTimeTypeError::InvalidUtcOffset));
+    expect_eq(&rt, &refused, &Err(OFFSET));
     Ok(())
 }
 
@@ -149,17 +143,9 @@ fn equal_types_have_equal_parts(rt: HostRuntime) -> Result<(), LocalTimeTypeErro
 #[test]
 fn types_print_their_parts(rt: HostRuntime) -> Result<(), Fail> {
     let cet = LocalTimeType::new(3600, false, Some(b"CET"))?;
-    for (local_time_type, text) in [
-        (
-            LocalTimeType::utc(),
-            "LocalTimeType { ut_offset: 0, is_dst: false, time_zone_designation: None }",
-        ),
-        (
-            cet,
-            "LocalTimeType { ut_offset: 3600, is_dst: false, time_zone_designation: Some(\"CET\") }",
-        ),
-    ] {
-        expect_debug(&rt, rt.alloc(), &local_time_type, text)?;
-    }
-    Ok(())
+    let text = "LocalTimeType { ut_offset: 0, is_dst: false, time_zone_designation: None }";
+    expect_debug(&rt, rt.alloc(), &LocalTimeType::utc(), text)?;
+    let text =
+        "LocalTimeType { ut_offset: 3600, is_dst: false, time_zone_designation: Some(\"CET\") }";
+    Ok(expect_debug(&rt, rt.alloc(), &cet, text)?)
 }

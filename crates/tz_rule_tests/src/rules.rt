@@ -8,6 +8,10 @@ use crate::expect::{expect_debug, expect_eq, expect_eq_at, expect_ne};
 use std::process::Abort;
 use std::test::Fail;
 use tz_base::error::TzError;
+use tz_base::error::timezone::TransitionRuleError::{
+    InconsistentRule, InvalidDstStartEndTime, InvalidDstUtcOffset, InvalidRuleDayJulianDay,
+    InvalidRuleDayMonth, InvalidRuleDayWeek, InvalidRuleDayWeekDay, InvalidStdUtcOffset,
+};
 use tz_base::error::timezone::{LocalTimeTypeError, TransitionRuleError};
 use tz_rule::inner::{self, RuleRef};
 use tz_rule::timezone::{
@@ -124,38 +128,20 @@ const PRINTED: &str = "AlternateTime { \
     dst_start: Julian1WithoutLeap(Julian1WithoutLeap(59)), dst_start_time: -1, \
     dst_end: Julian0WithLeap(Julian0WithLeap(0)), dst_end_time: 7200 }";
 
-/// What is printed for that rule as one of the two kinds of rules.
-const PRINTED_AS_ALTERNATE: &str = "Alternate(AlternateTime { \
-    std: LocalTimeType { ut_offset: 0, is_dst: false, time_zone_designation: None }, \
-    dst: LocalTimeType { ut_offset: 3600, is_dst: true, time_zone_designation: None }, \
-    dst_start: Julian1WithoutLeap(Julian1WithoutLeap(59)), dst_start_time: -1, \
-    dst_end: Julian0WithLeap(Julian0WithLeap(0)), dst_end_time: 7200 })";
-
 #[test]
 fn values_print_their_parts(rt: HostRuntime) -> Result<(), Fail> {
     static SHOWN: Parts = (0, 3600, (J(59), -1), (Z(0), 7200));
     let alloc = rt.alloc();
     let made = expect_made(&rt, rule(SHOWN));
     expect_debug(&rt, alloc, &made, PRINTED)?;
-    expect_debug(
-        &rt,
-        alloc,
-        &TransitionRule::Alternate(made),
-        PRINTED_AS_ALTERNATE,
-    )?;
-    expect_debug(
-        &rt,
-        alloc,
-        &TransitionRule::Fixed(LocalTimeType::utc()),
-        "Fixed(LocalTimeType { ut_offset: 0, is_dst: false, time_zone_designation: None })",
-    )?;
-    expect_debug(
-        &rt,
-        alloc,
-        &RuleDay::MonthWeekDay(MonthWeekDay::new(3, 5, 0)?),
-        "MonthWeekDay(MonthWeekDay { month: 3, week: 5, week_day: 0 })",
-    )?;
-    Ok(())
+    let text = format!(in alloc; "Alternate({PRINTED})")?;
+    expect_debug(&rt, alloc, &TransitionRule::Alternate(made), &text)?;
+    let fixed = TransitionRule::Fixed(LocalTimeType::utc());
+    let text = "Fixed(LocalTimeType { ut_offset: 0, is_dst: false, time_zone_designation: None })";
+    expect_debug(&rt, alloc, &fixed, text)?;
+    let day = RuleDay::MonthWeekDay(MonthWeekDay::new(3, 5, 0)?);
+    let text = "MonthWeekDay(MonthWeekDay { month: 3, week: 5, week_day: 0 })";
+    Ok(expect_debug(&rt, alloc, &day, text)?)
 }
 
 #[test]
@@ -263,7 +249,7 @@ fn conflict(start: At, end: At) -> Option<(i32, i32, i32)> {
 
 #[test]
 fn near_days(rt: HostRuntime) {
-    const REFUSED: Option<Refusal> = Some(Refusal::Rule(TransitionRuleError::InconsistentRule));
+    const REFUSED: Option<Refusal> = Some(Refusal::Rule(InconsistentRule));
     static REFUSALS: [(At, At, Option<Refusal>); 6] = [
         ((M(2, 4, 2), -1), (M(2, 5, 3), -86_400), REFUSED),
         ((M(2, 4, 2), 0), (M(2, 5, 3), -86_400), None),
@@ -297,13 +283,6 @@ fn expect_parts_of_all_year(rt: &impl Abort, made: &AlternateTime) {
     expect_ne(rt, made.dst_start(), made.dst_end());
 }
 
-/// Each rule is refused so.
-fn expect_refused(rt: &impl Abort, rows: &[Parts], fault: TransitionRuleError) {
-    for parts in rows {
-        expect_eq(rt, &rule(*parts).err(), &Some(Refusal::Rule(fault)));
-    }
-}
-
 #[test]
 fn parts_and_faults(rt: HostRuntime) {
     static OTHER: Parts = (-18_000, -14_400, (Z(0), 1), (J(365), 90_000));
@@ -314,51 +293,28 @@ fn parts_and_faults(rt: HostRuntime) {
     expect_ne(&rt, &made, &other);
     expect_parts_of_all_year(&rt, &made);
 
-    static FAULTS: [(TransitionRuleError, &[Parts]); 7] = [
-        (
-            TransitionRuleError::InvalidStdUtcOffset,
-            &[
-                (-90_000, 93_600, (Z(0), 604_800), (Z(0), 0)),
-                (93_600, 0, (Z(0), 0), (J(200), 0)),
-            ],
-        ),
-        (
-            TransitionRuleError::InvalidDstUtcOffset,
-            &[
-                (-89_999, 93_600, (Z(0), 604_800), (Z(0), 0)),
-                (0, -90_000, (Z(0), 0), (J(200), 0)),
-            ],
-        ),
-        (
-            TransitionRuleError::InvalidDstStartEndTime,
-            &[
-                (-89_999, 93_599, (Z(0), 604_800), (Z(0), 0)),
-                (0, 0, (Z(0), 0), (Z(0), -604_800)),
-                (0, 0, (Z(0), i32::MIN), (J(200), 0)),
-                (0, 0, (Z(0), i32::MAX), (J(200), 0)),
-                (0, 0, (Z(0), 0), (J(200), i32::MIN)),
-                (0, 0, (Z(0), 0), (J(200), i32::MAX)),
-            ],
-        ),
-        (
-            TransitionRuleError::InvalidRuleDayJulianDay,
-            &[(0, 0, (Z(366), 0), (Z(0), 0)), (0, 0, (J(0), 0), (Z(0), 0))],
-        ),
-        (
-            TransitionRuleError::InvalidRuleDayMonth,
-            &[(0, 0, (M(13, 0, 7), 0), (Z(0), 0))],
-        ),
-        (
-            TransitionRuleError::InvalidRuleDayWeek,
-            &[(0, 0, (M(12, 6, 7), 0), (Z(0), 0))],
-        ),
-        (
-            TransitionRuleError::InvalidRuleDayWeekDay,
-            &[(0, 0, (M(12, 5, 7), 0), (Z(0), 0))],
-        ),
+    const STD_OFFSET: TransitionRuleError = InvalidStdUtcOffset;
+    const DST_OFFSET: TransitionRuleError = InvalidDstUtcOffset;
+    const TIME: TransitionRuleError = InvalidDstStartEndTime;
+    static FAULTS: [(Parts, TransitionRuleError); 15] = [
+        ((-90_000, 93_600, (Z(0), 604_800), (Z(0), 0)), STD_OFFSET),
+        ((93_600, 0, (Z(0), 0), (J(200), 0)), STD_OFFSET),
+        ((-89_999, 93_600, (Z(0), 604_800), (Z(0), 0)), DST_OFFSET),
+        ((0, -90_000, (Z(0), 0), (J(200), 0)), DST_OFFSET),
+        ((-89_999, 93_599, (Z(0), 604_800), (Z(0), 0)), TIME),
+        ((0, 0, (Z(0), 0), (Z(0), -604_800)), TIME),
+        ((0, 0, (Z(0), i32::MIN), (J(200), 0)), TIME),
+        ((0, 0, (Z(0), i32::MAX), (J(200), 0)), TIME),
+        ((0, 0, (Z(0), 0), (J(200), i32::MIN)), TIME),
+        ((0, 0, (Z(0), 0), (J(200), i32::MAX)), TIME),
+        ((0, 0, (Z(366), 0), (Z(0), 0)), InvalidRuleDayJulianDay),
+        ((0, 0, (J(0), 0), (Z(0), 0)), InvalidRuleDayJulianDay),
+        ((0, 0, (M(13, 0, 7), 0), (Z(0), 0)), InvalidRuleDayMonth),
+        ((0, 0, (M(12, 6, 7), 0), (Z(0), 0)), InvalidRuleDayWeek),
+        ((0, 0, (M(12, 5, 7), 0), (Z(0), 0)), InvalidRuleDayWeekDay),
     ];
-    for (fault, rows) in &FAULTS {
-        expect_refused(&rt, rows, *fault);
+    for (parts, fault) in &FAULTS {
+        expect_eq(&rt, &rule(*parts).err(), &Some(Refusal::Rule(*fault)));
     }
 }
 

@@ -10,10 +10,8 @@ use std::time::Duration;
 use tz::datetime::{DateTime, UtcDateTime};
 use tz_base::error::TzError;
 use tz_base::error::datetime::DateTimeError;
-use tz_base::error::datetime::DateTimeError::{
-    InvalidHour, InvalidMinute, InvalidMonth, InvalidMonthDay, InvalidNanoseconds, InvalidSecond,
-};
-use tz_samples::date_times::{NOONS, Parts};
+use tz_base::error::datetime::DateTimeError::InvalidNanoseconds;
+use tz_samples::date_times::{FAULTS, NOONS, Parts};
 use tz_samples::utc;
 use tz_zone::timezone::{LocalTimeType, TimeZone, TimeZoneRef, Transition};
 
@@ -32,9 +30,10 @@ fn expect_text(
 }
 
 /// The parts of a local date time, and the offset.
-type Local = (Parts, i32);
+pub(crate) type Local = (Parts, i32);
 
-fn parts_of_utc(d: UtcDateTime) -> Parts {
+/// The parts of a date time of UTC.
+pub(crate) fn parts_of_utc(d: UtcDateTime) -> Parts {
     let time = (d.hour(), d.minute(), d.second());
     (d.year(), d.month(), d.month_day(), time, d.nanoseconds())
 }
@@ -44,12 +43,14 @@ fn parts_of_local(d: DateTime) -> Parts {
     (d.year(), d.month(), d.month_day(), time, d.nanoseconds())
 }
 
-fn utc_of(parts: Parts) -> Result<UtcDateTime, TzError> {
+/// The date time of UTC with these parts.
+pub(crate) fn utc_of(parts: Parts) -> Result<UtcDateTime, TzError> {
     let (year, month, month_day, (hour, minute, second), nanoseconds) = parts;
     UtcDateTime::new(year, month, month_day, hour, minute, second, nanoseconds)
 }
 
-fn local_of(local: Local) -> Result<DateTime, TzError> {
+/// The date time with these parts, and an offset.
+pub(crate) fn local_of(local: Local) -> Result<DateTime, TzError> {
     let ((year, month, month_day, (hour, minute, second), nanoseconds), ut_offset) = local;
     let local_time_type = LocalTimeType::with_ut_offset(ut_offset)?;
     DateTime::new(
@@ -199,26 +200,16 @@ fn the_first_second_of_2000(rt: HostRuntime) -> Result<(), Fail> {
     expect_eq(&rt, &date_time.year_day(), &0);
     const NEW_YEAR: i64 = utc!(2000-01-01 00:00:00);
     expect_eq(&rt, &date_time.unix_time(), &NEW_YEAR);
-    expect_text(
-        &rt,
-        rt.alloc(),
-        &date_time,
-        "2000-01-01T00:00:00.123456789Z",
-    )?;
-    let zone = TimeZone::fixed(rt.alloc(), -3600)?;
+    let alloc = rt.alloc();
+    expect_text(&rt, alloc, &date_time, "2000-01-01T00:00:00.123456789Z")?;
+    let zone = TimeZone::fixed(alloc, -3600)?;
     let local = date_time.project(zone.as_ref())?;
     expect_eq(&rt, &local.week_day(), &5);
     expect_eq(&rt, &local.year_day(), &364);
-    expect_text(
-        &rt,
-        rt.alloc(),
-        &local,
-        "1999-12-31T23:00:00.123456789-01:00",
-    )?;
+    expect_text(&rt, alloc, &local, "1999-12-31T23:00:00.123456789-01:00")?;
     const EARLIER: i64 = utc!(-1001-03-01 12:01:06);
     let before = UtcDateTime::from_timespec(EARLIER, 10)?;
-    expect_text(&rt, rt.alloc(), &before, "-1001-03-01T12:01:06.000000010Z")?;
-    Ok(())
+    Ok(expect_text(&rt, alloc, &before, "-1001-03-01T12:01:06.000000010Z")?)
 }
 
 /// The first and the last date time, and the one from which Unix time counts.
@@ -237,18 +228,9 @@ fn the_years_end(rt: HostRuntime) -> Result<(), Fail> {
     expect_eq(&rt, &UtcDateTime::from_timespec(FIRST, 0)?, &first);
     expect_eq(&rt, &UtcDateTime::from_timespec(0, 0)?, &epoch);
     expect_eq(&rt, &UtcDateTime::from_timespec(LAST, 999_999_999)?, &last);
-    expect_text(
-        &rt,
-        rt.alloc(),
-        &first,
-        "-2147483648-01-01T00:00:00.000000000Z",
-    )?;
-    expect_text(
-        &rt,
-        rt.alloc(),
-        &last,
-        "2147483647-12-31T23:59:59.999999999Z",
-    )?;
+    let alloc = rt.alloc();
+    expect_text(&rt, alloc, &first, "-2147483648-01-01T00:00:00.000000000Z")?;
+    expect_text(&rt, alloc, &last, "2147483647-12-31T23:59:59.999999999Z")?;
     Ok(())
 }
 
@@ -261,11 +243,8 @@ fn no_date_time_is_past_the_ends(rt: HostRuntime) {
     }
     static INSTANTS: [i64; 5] = [i64::MIN, FIRST - 1, 0, LAST + 1, i64::MAX];
     for &unix_time in INSTANTS.iter() {
-        expect_field_fault(
-            &rt,
-            UtcDateTime::from_timespec(unix_time, 1_000_000_000),
-            InvalidNanoseconds,
-        );
+        let refused = UtcDateTime::from_timespec(unix_time, 1_000_000_000);
+        expect_field_fault(&rt, refused, InvalidNanoseconds);
     }
 }
 
@@ -276,22 +255,6 @@ fn the_first_fault_of_fields_is_named(rt: HostRuntime) {
     expect_out_of_range(&rt, utc_of((i32::MAX, 12, 31, (23, 59, 60), 0)));
     expect_field_fault(&rt, local_of((past_the_end, 0)), InvalidNanoseconds);
     expect_out_of_range(&rt, local_of(((i32::MAX, 12, 31, (23, 59, 60), 0), 0)));
-    static FAULTS: [(Parts, DateTimeError); 11] = [
-        ((2001, 0, 0, (24, 60, 61), 1_000_000_000), InvalidMonth),
-        ((2001, 13, 0, (24, 60, 61), 1_000_000_000), InvalidMonth),
-        ((2001, 2, 0, (24, 60, 61), 1_000_000_000), InvalidMonthDay),
-        ((2001, 2, 32, (24, 60, 61), 1_000_000_000), InvalidMonthDay),
-        ((2001, 2, 29, (24, 60, 61), 1_000_000_000), InvalidHour),
-        ((2001, 2, 29, (24, 0, 0), 0), InvalidHour),
-        ((2001, 2, 29, (23, 60, 61), 1_000_000_000), InvalidMinute),
-        ((2001, 2, 29, (23, 59, 61), 1_000_000_000), InvalidSecond),
-        (
-            (2001, 2, 29, (23, 59, 60), 1_000_000_000),
-            InvalidNanoseconds,
-        ),
-        ((2001, 2, 29, (0, 0, 0), 0), InvalidMonthDay),
-        ((1900, 2, 29, (0, 0, 0), 0), InvalidMonthDay),
-    ];
     for &(parts, fault) in FAULTS.iter() {
         expect_field_fault(&rt, utc_of(parts), fault);
         expect_field_fault(&rt, local_of((parts, 3600)), fault);
@@ -304,44 +267,28 @@ fn local_years_end_where_utc_does(rt: HostRuntime) -> Result<(), Fail> {
     expect_out_of_range(&rt, local_of(((i32::MAX, 12, 31, (23, 30, 0), 0), -3600)));
     let west = LocalTimeType::with_ut_offset(-3600)?;
     let late = DateTime::from_timespec_and_local(LAST + 1, 0, west)?;
-    expect_eq(
-        &rt,
-        &parts_of_local(late),
-        &(i32::MAX, 12, 31, (23, 0, 0), 0),
-    );
+    let late_parts = (i32::MAX, 12, 31, (23, 0, 0), 0);
+    expect_eq(&rt, &parts_of_local(late), &late_parts);
     expect_out_of_range(&rt, UtcDateTime::try_from(late));
     expect_out_of_range(&rt, DateTime::from_timespec_and_local(FIRST, 0, west));
-    expect_field_fault(
-        &rt,
-        DateTime::from_timespec_and_local(i64::MAX, 1_000_000_000, west),
-        InvalidNanoseconds,
-    );
+    let refused = DateTime::from_timespec_and_local(i64::MAX, 1_000_000_000, west);
+    expect_field_fault(&rt, refused, InvalidNanoseconds);
     expect_out_of_range(&rt, DateTime::from_timespec_and_local(i64::MIN, 0, west));
     const NOON: i64 = utc!(2000-02-29 12:01:06);
     let noon = DateTime::from_timespec_and_local(NOON, 7, west)?;
-    expect_eq(
-        &rt,
-        &UtcDateTime::try_from(noon).ok(),
-        &UtcDateTime::from_timespec(NOON, 7).ok(),
-    );
+    let utc_noon = UtcDateTime::from_timespec(NOON, 7)?;
+    expect_eq(&rt, &UtcDateTime::try_from(noon).ok(), &Some(utc_noon));
     Ok(())
 }
 
 #[test]
 fn totals_are_rounded_down(rt: HostRuntime) -> Result<(), Fail> {
-    expect_text(
-        &rt,
-        rt.alloc(),
-        &UtcDateTime::from_total_nanoseconds(-1)?,
-        "1969-12-31T23:59:59.999999999Z",
-    )?;
+    let last = UtcDateTime::from_total_nanoseconds(-1)?;
+    expect_text(&rt, rt.alloc(), &last, "1969-12-31T23:59:59.999999999Z")?;
     let last_of_1969 = (1969, 12, 31, (23, 59, 59), 999_999_999);
     expect_eq(&rt, &utc_parts_of_total(-1), &Some(last_of_1969));
-    expect_eq(
-        &rt,
-        &utc_parts_of_total(0),
-        &Some((1970, 1, 1, (0, 0, 0), 0)),
-    );
+    let epoch = (1970, 1, 1, (0, 0, 0), 0);
+    expect_eq(&rt, &utc_parts_of_total(0), &Some(epoch));
     let local = DateTime::from_total_nanoseconds(-1, TimeZoneRef::utc())?;
     expect_eq(&rt, &parts_of_local(local), &last_of_1969);
     expect_eq(&rt, &local.total_nanoseconds(), &(-1));
@@ -353,12 +300,9 @@ fn totals_are_rounded_down(rt: HostRuntime) -> Result<(), Fail> {
 fn parts_are_printed(rt: HostRuntime) -> Result<(), Fail> {
     let alloc = rt.alloc();
     let utc = UtcDateTime::new(2000, 1, 2, 3, 4, 5, 6)?;
-    expect_debug(
-        &rt,
-        alloc,
-        &utc,
-        "UtcDateTime { year: 2000, month: 1, month_day: 2, hour: 3, minute: 4, second: 5, nanoseconds: 6 }",
-    )?;
+    let text =
+        "UtcDateTime { year: 2000, month: 1, month_day: 2, hour: 3, minute: 4, second: 5, nanoseconds: 6 }";
+    expect_debug(&rt, alloc, &utc, text)?;
     let cet = LocalTimeType::new(3600, false, Some(b"CET"))?;
     let local = DateTime::new(2000, 1, 2, 3, 4, 5, 6, cet)?;
     expect_debug(
@@ -406,16 +350,9 @@ fn callers_count_by_week_days(rt: HostRuntime) -> Result<(), Fail> {
     expect_eq(&rt, &days_to_week_day(&new_year, &new_year), &0);
     let local_new_year = local_of(((2000, 1, 1, (0, 0, 0), 0), 3600))?;
     let local_leap_day = local_of(((2024, 2, 29, (0, 0, 0), 0), 3600))?;
-    expect_eq(
-        &rt,
-        &local_days_to_week_day(&local_new_year, &local_leap_day),
-        &5,
-    );
-    expect_eq(
-        &rt,
-        &local_days_to_week_day(&local_leap_day, &local_new_year),
-        &2,
-    );
+    let days = local_days_to_week_day(&local_new_year, &local_leap_day);
+    let days_back = local_days_to_week_day(&local_leap_day, &local_new_year);
+    expect_eq(&rt, &(days, days_back), &(5, 2));
     Ok(())
 }
 
@@ -453,28 +390,17 @@ const LAST_TOTAL: i128 = LAST as i128 * 1_000_000_000 + 999_999_999;
 
 #[test]
 fn totals_end_with_the_years(rt: HostRuntime) {
-    expect_eq(
-        &rt,
-        &utc_parts_of_total(FIRST_TOTAL),
-        &Some((i32::MIN, 1, 1, (0, 0, 0), 0)),
-    );
-    expect_eq(
-        &rt,
-        &utc_parts_of_total(LAST_TOTAL),
-        &Some((i32::MAX, 12, 31, (23, 59, 59), 999_999_999)),
-    );
+    let first = (i32::MIN, 1, 1, (0, 0, 0), 0);
+    let last = (i32::MAX, 12, 31, (23, 59, 59), 999_999_999);
+    expect_eq(&rt, &utc_parts_of_total(FIRST_TOTAL), &Some(first));
+    expect_eq(&rt, &utc_parts_of_total(LAST_TOTAL), &Some(last));
     static PAST_THE_ENDS: [i128; 4] = [i128::MIN, FIRST_TOTAL - 1, LAST_TOTAL + 1, i128::MAX];
     for &total in PAST_THE_ENDS.iter() {
-        let utc_type = LocalTimeType::utc();
         expect_out_of_range(&rt, UtcDateTime::from_total_nanoseconds(total));
-        expect_out_of_range(
-            &rt,
-            DateTime::from_total_nanoseconds(total, TimeZoneRef::utc()),
-        );
-        expect_out_of_range(
-            &rt,
-            DateTime::from_total_nanoseconds_and_local(total, utc_type),
-        );
+        let by_zone = DateTime::from_total_nanoseconds(total, TimeZoneRef::utc());
+        expect_out_of_range(&rt, by_zone);
+        let by_type = DateTime::from_total_nanoseconds_and_local(total, LocalTimeType::utc());
+        expect_out_of_range(&rt, by_type);
     }
 }
 
@@ -484,23 +410,12 @@ fn the_lookup_is_refused_before_the_year(rt: HostRuntime) -> Result<(), Fail> {
     let types = [LocalTimeType::utc()];
     let zone = TimeZoneRef::new(&transitions, &types, &[], &None)?;
     assert!(rt; DateTime::from_timespec(-1, 0, zone).is_ok());
-    assert!(rt;
-        matches!(
-            DateTime::from_timespec(0, 0, zone),
-            Err(TzError::NoAvailableLocalTimeType)
-        )
-    );
-    assert!(rt;
-        matches!(
-            DateTime::from_timespec(i64::MAX, 0, zone),
-            Err(TzError::NoAvailableLocalTimeType)
-        )
-    );
-    expect_field_fault(
-        &rt,
-        DateTime::from_timespec(0, 1_000_000_000, zone),
-        InvalidNanoseconds,
-    );
+    for unix_time in [0, i64::MAX] {
+        let refused = DateTime::from_timespec(unix_time, 0, zone);
+        assert!(rt; matches!(refused, Err(TzError::NoAvailableLocalTimeType)));
+    }
+    let refused = DateTime::from_timespec(0, 1_000_000_000, zone);
+    expect_field_fault(&rt, refused, InvalidNanoseconds);
     expect_out_of_range(&rt, DateTime::from_timespec(i64::MIN, 0, zone));
     Ok(())
 }
@@ -510,23 +425,11 @@ fn durations_go_both_ways(rt: HostRuntime) -> Result<(), Fail> {
     let nanosecond = Duration::from_nanos(1);
     let [_, epoch, _] = constants();
     let before = utc_of((1969, 12, 31, (23, 59, 59), 999_999_999))?;
-    expect_eq(
-        &rt,
-        &[
-            epoch.checked_sub(nanosecond),
-            before.checked_add(nanosecond),
-        ],
-        &[Some(before), Some(epoch)],
-    );
-    expect_eq(
-        &rt,
-        &[
-            epoch.duration_since(before),
-            before.duration_since(epoch),
-            epoch.duration_since(epoch),
-        ],
-        &[Ok(nanosecond), Err(nanosecond), Ok(Duration::ZERO)],
-    );
+    expect_eq(&rt, &epoch.checked_sub(nanosecond), &Some(before));
+    expect_eq(&rt, &before.checked_add(nanosecond), &Some(epoch));
+    expect_eq(&rt, &epoch.duration_since(before), &Ok(nanosecond));
+    expect_eq(&rt, &before.duration_since(epoch), &Err(nanosecond));
+    expect_eq(&rt, &epoch.duration_since(epoch), &Ok(Duration::ZERO));
     Ok(())
 }
 
@@ -535,30 +438,15 @@ fn durations_end_with_the_years(rt: HostRuntime) {
     let nanosecond = Duration::from_nanos(1);
     let all = Duration::new(135_536_076_801_503_999, 999_999_999);
     let [first, _, last] = constants();
-    expect_eq(
-        &rt,
-        &[
-            last.checked_add(nanosecond),
-            first.checked_sub(nanosecond),
-            first.checked_add(Duration::MAX),
-            last.checked_sub(Duration::MAX),
-        ],
-        &[None; 4],
-    );
-    expect_eq(
-        &rt,
-        &[
-            last.checked_add(Duration::ZERO),
-            first.checked_add(all),
-            last.checked_sub(all),
-        ],
-        &[Some(last), Some(last), Some(first)],
-    );
-    expect_eq(
-        &rt,
-        &[last.duration_since(first), first.duration_since(last)],
-        &[Ok(all), Err(all)],
-    );
+    expect_eq(&rt, &last.checked_add(nanosecond), &None);
+    expect_eq(&rt, &first.checked_sub(nanosecond), &None);
+    expect_eq(&rt, &first.checked_add(Duration::MAX), &None);
+    expect_eq(&rt, &last.checked_sub(Duration::MAX), &None);
+    expect_eq(&rt, &last.checked_add(Duration::ZERO), &Some(last));
+    expect_eq(&rt, &first.checked_add(all), &Some(last));
+    expect_eq(&rt, &last.checked_sub(all), &Some(first));
+    expect_eq(&rt, &last.duration_since(first), &Ok(all));
+    expect_eq(&rt, &first.duration_since(last), &Err(all));
 }
 
 #[test]
@@ -628,11 +516,8 @@ fn local_date_times_are_compared_by_instant(rt: HostRuntime) -> Result<(), Fail>
     }
     let (east, later) = (local_of(EAST)?, local_of(LATER)?);
     let nanosecond = Duration::from_nanos(1);
-    expect_eq(
-        &rt,
-        &[later.duration_since(east), east.duration_since(later)],
-        &[Ok(nanosecond), Err(nanosecond)],
-    );
+    expect_eq(&rt, &later.duration_since(east), &Ok(nanosecond));
+    expect_eq(&rt, &east.duration_since(later), &Err(nanosecond));
     Ok(())
 }
 
@@ -644,13 +529,8 @@ fn second_60_is_before_the_next_minute(rt: HostRuntime) -> Result<(), Fail> {
     const NEW_YEAR: i64 = utc!(2017-01-01 00:00:00);
     expect_eq(&rt, &second_60.unix_time(), &NEW_YEAR);
     expect_eq(&rt, &new_year.unix_time(), &NEW_YEAR);
-    expect_text(
-        &rt,
-        rt.alloc(),
-        &second_60,
-        "2016-12-31T23:59:60.000000000Z",
-    )?;
-    Ok(())
+    let text = "2016-12-31T23:59:60.000000000Z";
+    Ok(expect_text(&rt, rt.alloc(), &second_60, text)?)
 }
 
 #[test]

@@ -22,6 +22,7 @@ mod windows;
 
 use crate::expect::{expect_debug, expect_eq};
 use crate::searches::{Reading, Summary, entries_of, find, parts_of, summaries, summary};
+use tz_samples::date_times::{FAULTS, Parts};
 use tz_samples::rules::{Day, RuleRow, TypeRow, central_europe, rule_of};
 use tz_samples::utc;
 use tz_samples::zones::{
@@ -239,24 +240,15 @@ fn jumps_that_cross(rt: HostRuntime) -> Result<(), Fail> {
 
 #[test]
 fn a_rule_goes_on_after_the_last_transition(rt: HostRuntime) -> Result<(), Fail> {
+    const IN_1960: &str = "1960-01-01T00:00:00 | 1959-12-31T23:00:00Z 3600";
+    const IN_1980: &str = "1980-01-01T00:00:00 | 1979-12-31T23:00:00Z 3600";
+    const IN_2000: &str = "2000-01-01T00:00:00 | 1999-12-31T23:00:00Z 3600";
     // Transitions of a zone of one type, an hour east, and the offset of its rule.
     static ROWS: [(&[(i64, usize)], Option<i32>, &str); 5] = [
-        (&[], None, "2000-01-01T00:00:00 | 1999-12-31T23:00:00Z 3600"),
-        (
-            &[],
-            Some(3600),
-            "2000-01-01T00:00:00 | 1999-12-31T23:00:00Z 3600",
-        ),
-        (
-            &[(0, 0)],
-            Some(3600),
-            "1960-01-01T00:00:00 | 1959-12-31T23:00:00Z 3600",
-        ),
-        (
-            &[(0, 0)],
-            Some(3600),
-            "1980-01-01T00:00:00 | 1979-12-31T23:00:00Z 3600",
-        ),
+        (&[], None, IN_2000),
+        (&[], Some(3600), IN_2000),
+        (&[(0, 0)], Some(3600), IN_1960),
+        (&[(0, 0)], Some(3600), IN_1980),
         (&[(0, 0)], None, "1980-01-01T00:00:00 | nothing"),
     ];
     for (transitions, rule, row) in &ROWS {
@@ -329,28 +321,18 @@ fn lists_are_printed(rt: HostRuntime) -> Result<(), Fail> {
     let alloc = rt.alloc();
     let utc = TimeZoneRef::utc();
     let midnight = (2000, 1, 1, 0, 0, 0);
-    expect_debug(
-        &rt,
-        alloc,
-        &find(alloc, utc, midnight)?,
+    let list =
         "FoundDateTimeList([Normal(DateTime { year: 2000, month: 1, month_day: 1, hour: 0, minute: 0, second: 0, \
-            local_time_type: LocalTimeType { ut_offset: 0, is_dst: false, time_zone_designation: None }, \
-            unix_time: 946684800, nanoseconds: 0 })])",
-    )?;
-    expect_debug(
-        &rt,
-        alloc,
-        &find_n(&mut [None, None], utc, midnight)?,
+        local_time_type: LocalTimeType { ut_offset: 0, is_dst: false, time_zone_designation: None }, \
+        unix_time: 946684800, nanoseconds: 0 })])";
+    expect_debug(&rt, alloc, &find(alloc, utc, midnight)?, list)?;
+    let list =
         "FoundDateTimeListRefMut { buf: [Some(Normal(DateTime { year: 2000, month: 1, month_day: 1, hour: 0, minute: 0, second: 0, \
-            local_time_type: LocalTimeType { ut_offset: 0, is_dst: false, time_zone_designation: None }, \
-            unix_time: 946684800, nanoseconds: 0 })), None], current_index: 1, count: 1 }",
-    )?;
-    expect_debug(
-        &rt,
-        alloc,
-        &find_n(&mut [], utc, midnight)?,
-        "FoundDateTimeListRefMut { buf: [], current_index: 0, count: 1 }",
-    )?;
+        local_time_type: LocalTimeType { ut_offset: 0, is_dst: false, time_zone_designation: None }, \
+        unix_time: 946684800, nanoseconds: 0 })), None], current_index: 1, count: 1 }";
+    expect_debug(&rt, alloc, &find_n(&mut [None, None], utc, midnight)?, list)?;
+    let list = "FoundDateTimeListRefMut { buf: [], current_index: 0, count: 1 }";
+    expect_debug(&rt, alloc, &find_n(&mut [], utc, midnight)?, list)?;
     Ok(())
 }
 
@@ -359,68 +341,35 @@ fn holds(slots: &[Option<FoundDateTimeKind>], held: &Option<FoundDateTimeKind>) 
     matches!(slots, [first, None, third] if first == held && third == held)
 }
 
-/// Month, day of the month, hour, minute, second, nanoseconds.
-type YearFields = (u8, u8, u8, u8, u8, u32);
-
-/// Both searches into a buffer name the fault of these fields, and the slots hold what they held.
+/// Both searches into a buffer name the fault of these parts, and the slots hold what they held.
 fn expect_untouched(
     rt: &impl Abort,
     buf: &mut [Option<FoundDateTimeKind>],
-    fields: YearFields,
+    parts: Parts,
     fault: DateTimeError,
 ) {
-    let (month, month_day, hour, minute, second, nanoseconds) = fields;
+    let (year, month, day, (hour, minute, second), fraction) = parts;
     let utc = TimeZoneRef::utc();
     let refused = DateTime::find_n(
-        buf,
-        2001,
-        month,
-        month_day,
-        hour,
-        minute,
-        second,
-        nanoseconds,
-        utc,
-    )
-    .err();
+        buf, year, month, day, hour, minute, second, fraction, utc,
+    ).err();
     assert!(rt; matches!(refused, Some(TzError::DateTime(named)) if named == fault));
     assert!(rt; are_written(buf, &[]));
     let refused = DateTime::find_n_counted(
-        buf,
-        2001,
-        month,
-        month_day,
-        hour,
-        minute,
-        second,
-        nanoseconds,
-        utc,
-    )
-    .err();
+        buf, year, month, day, hour, minute, second, fraction, utc,
+    ).err();
     assert!(rt; matches!(refused, Some(TzError::DateTime(named)) if named == fault));
     assert!(rt; are_written(buf, &[]));
 }
 
-/// Fields with one fault each.
 #[test]
 fn refused_fields_write_nothing(rt: HostRuntime) -> Result<(), Fail> {
     static SLOTS: [usize; 5] = [0, 1, 2, 3, 5];
-    static ROWS: [(YearFields, DateTimeError); 6] = [
-        ((13, 1, 0, 0, 0, 0), DateTimeError::InvalidMonth),
-        ((2, 29, 0, 0, 0, 0), DateTimeError::InvalidMonthDay),
-        ((1, 1, 24, 0, 0, 0), DateTimeError::InvalidHour),
-        ((1, 1, 0, 60, 0, 0), DateTimeError::InvalidMinute),
-        ((1, 1, 0, 0, 61, 0), DateTimeError::InvalidSecond),
-        (
-            (1, 1, 0, 0, 0, 1_000_000_000),
-            DateTimeError::InvalidNanoseconds,
-        ),
-    ];
     let held = Some(held()?);
     for slots in &SLOTS {
-        for (fields, fault) in &ROWS {
+        for (parts, fault) in &FAULTS {
             let mut buf = [held; 5];
-            expect_untouched(&rt, &mut buf[..*slots], *fields, *fault);
+            expect_untouched(&rt, &mut buf[..*slots], *parts, *fault);
         }
     }
     Ok(())

@@ -1,6 +1,6 @@
 //! Comparisons of tests. The proof of a test walks through each `assert_eq!` where it is written out, and through a call of these much faster.
 
-use std::fmt::{Debug, Display};
+use std::fmt::Debug;
 use std::process::Abort;
 
 /// The values are equal.
@@ -16,9 +16,9 @@ pub(crate) fn expect_ne<T: Debug + PartialEq>(rt: &impl Abort, found: &T, other:
 /// The values at a place of a table are equal.
 pub(crate) fn expect_eq_at<T: Debug + PartialEq>(
     rt: &impl Abort,
-    place: &impl Display,
+    place: &impl Debug,
     found: &T,
     wanted: &T,
 ) {
-    assert_eq!(rt; *found, *wanted, "{place}");
+    assert_eq!(rt; *found, *wanted, "{place:?}");
 }

@@ -4,10 +4,9 @@ use crate::expect::{expect_eq, expect_eq_at};
 use anyhow::anyhow;
 use std::alloc::{AllocError, Allocator, Global};
 use std::cell::Cell;
-use std::fmt::Debug;
 use std::process::Abort;
 use std::test::Fail;
-use tz_base::error::parse::{ParseDataError, TzFileError, TzStringError};
+use tz_base::error::parse::TzStringError;
 use tz_base::error::{Error, ReadFault};
 use tz_samples::faults::{Fault, named_by_settings as named};
 use tz_samples::files::utc_v1;
@@ -16,20 +15,14 @@ use tz_zone::timezone::{
     DEFAULT_DIRECTORIES, LocalTimeType, TimeZone, TimeZoneSettings, TransitionRule,
 };
 
-/// What stands at a path.
-#[derive(Clone, Copy)]
-enum Reply {
-    Utc,
-    NoZone,
-    NoMemory,
-    NoFile,
-}
-
-/// Files in memory, and which of them were asked for: a digit for each, from 1 in their order, or 9.
+/// Files in memory, and which of them were asked for: a digit for each, from 1 in their order, or 9 for another path.
+///
+/// The text lists them, separated by `, `: a path, and after a space `UTC` for a file of UTC, `cut` for one that ends too early, `memory` for one
+/// that finds no memory, or `none` for no file.
 #[derive(Drop)]
 struct Files<'a> {
     alloc: Global,
-    replies: &'a [(&'a str, Reply)],
+    text: &'a str,
     asked: Cell<u64>,
 }
 
@@ -43,15 +36,16 @@ impl Files<'_> {
     /// The file at the path.
     fn read(&self, path: &str) -> Result<Vec<u8>, ReadFault> {
         let mut digit = 0u64;
-        for (name, reply) in self.replies {
+        for file in self.text.split(", ") {
             digit = digit.saturating_add(1);
-            if *name == path {
+            let (name, reply) = file.rsplit_once(' ').unwrap_or((file, ""));
+            if name == path {
                 self.note(digit);
                 return match reply {
-                    Reply::Utc => Ok(utc_v1(self.alloc)?),
-                    Reply::NoZone => Ok(Vec::from_slice(self.alloc, b"TZ")?),
-                    Reply::NoMemory => Err(ReadFault::Memory(AllocError)),
-                    Reply::NoFile => Err(ReadFault::Failed(anyhow!("no file"))),
+                    "UTC" => Ok(utc_v1(self.alloc)?),
+                    "cut" => Ok(Vec::from_slice(self.alloc, b"TZ")?),
+                    "memory" => Err(ReadFault::Memory(AllocError)),
+                    _ => Err(ReadFault::Failed(anyhow!("no file"))),
                 };
             }
         }
@@ -76,193 +70,174 @@ impl Files<'_> {
     }
 }
 
-/// Files in memory, of which none was asked for.
-fn files_of<'a>(alloc: Global, replies: &'a [(&'a str, Reply)]) -> Files<'a> {
+/// The files of a text, of which none was asked for.
+fn files_of(alloc: Global, text: &str) -> Files<'_> {
     Files {
         alloc,
-        replies,
+        text,
         asked: Cell::new(0),
     }
 }
 
-/// What the settings answer.
-enum Answer {
-    /// The zone of one type of standard time, with this offset and name.
-    Type(i32, &'static str),
-    /// A refusal.
-    Fault(Fault),
+/// The offset and the name of a zone of one type, which is standard time, or the text of the refusal.
+fn answer_text(alloc: Global, answer: Result<TimeZone, Error>) -> Result<String, AllocError> {
+    let zone = match answer {
+        Ok(zone) => zone,
+        Err(error) => return format!(in alloc; "{error}"),
+    };
+    match zone.as_ref().local_time_types() {
+        [only] if !only.is_dst() => {
+            let name = only.time_zone_designation();
+            format!(in alloc; "{} {name}", only.ut_offset())
+        }
+        _ => String::from_str(alloc, "another zone"),
+    }
 }
 
-/// Files, a text, what is answered for it, and which files were asked for.
-type Row = (Replies, &'static str, Answer, u64);
-
-/// What stands at paths.
-type Replies = &'static [(&'static str, Reply)];
-
-/// The answer of a file that ends too early.
-const CUT: Fault = Fault::File(TzFileError::ParseData(ParseDataError::UnexpectedEof));
-
-/// The text is answered by the zone of one type of standard time, with this offset and name.
-fn expect_type(
+/// The text is answered so.
+fn expect_text(
     rt: &impl Abort,
+    alloc: Global,
     text: &str,
     answer: Result<TimeZone, Error>,
-    ut_offset: i32,
-    name: &[u8],
-) -> Result<(), Error> {
-    let types = [LocalTimeType::new(ut_offset, false, Some(name))?];
-    let zone = answer?;
-    expect_eq_at(
-        rt,
-        &text,
-        &zone.as_ref().local_time_types(),
-        &types.as_slice(),
-    );
+    wanted: &str,
+) -> Result<(), AllocError> {
+    let found = answer_text(alloc, answer)?;
+    expect_eq_at(rt, &text, &found.as_str(), &wanted);
     Ok(())
 }
 
-/// The text is answered so, after these were asked for.
+/// The directories that are asked.
+#[derive(Clone, Copy)]
+enum Directories {
+    /// `/a`, `/b` and `/c`.
+    Three,
+    Usual,
+}
+
+/// The text is answered so, after these files were asked for.
 fn expect_answer(
     rt: &impl Abort,
-    alloc: Global,
-    replies: &[(&str, Reply)],
+    files: &Files<'_>,
+    directories: Directories,
     text: &str,
-    expected: &Answer,
+    wanted: &str,
     asked: u64,
-) -> Result<(), Fail> {
-    let files = files_of(alloc, replies);
-    let answer = files.ask(&["/a", "/b", "/c"], text);
-    match expected {
-        Answer::Type(ut_offset, name) => {
-            expect_type(rt, text, answer, *ut_offset, name.as_bytes())?;
-        }
-        Answer::Fault(fault) => {
-            let found = answer.err().map(named);
-            expect_eq_at(rt, &text, &found.as_ref(), &Some(fault));
-        }
-    }
+) -> Result<(), AllocError> {
+    let answer = match directories {
+        Directories::Three => files.ask(&["/a", "/b", "/c"], text),
+        Directories::Usual => files.ask_usual(text),
+    };
+    expect_text(rt, files.alloc, text, answer, wanted)?;
     expect_eq_at(rt, &text, &files.asked.get(), &asked);
     Ok(())
 }
 
-/// Each text is answered so, after these were asked for.
-fn expect_answers(rt: &impl Abort, alloc: Global, rows: &[Row]) -> Result<(), Fail> {
-    for (replies, text, expected, asked) in rows {
-        expect_answer(rt, alloc, replies, text, expected, *asked)?;
+/// The parts of a row: files, a text, what is answered for it, and which files were asked for.
+fn parts_of(row: &str) -> Result<(&str, &str, &str, u64), Fail> {
+    let (files, rest) = row.split_once(" | ").ok_or("no text in a row")?;
+    let (text, rest) = rest.split_once(" | ").ok_or("no answer in a row")?;
+    let (answer, asked) = rest.split_once(" | ").ok_or("no digits in a row")?;
+    Ok((files, text, answer, asked.parse::<u64>()?))
+}
+
+/// The text of each row is answered as the row says.
+fn expect_answers(
+    rt: &impl Abort,
+    alloc: Global,
+    directories: Directories,
+    rows: &str,
+) -> Result<(), Fail> {
+    for row in rows.lines() {
+        let (files, text, answer, asked) = parts_of(row)?;
+        expect_answer(
+            rt,
+            &files_of(alloc, files),
+            directories,
+            text,
+            answer,
+            asked,
+        )?;
     }
     Ok(())
 }
 
 #[test]
 fn directories_are_asked_in_turn(rt: HostRuntime) -> Result<(), Fail> {
-    const SECOND: Replies = &[
-        ("/a/Z/x", Reply::NoFile),
-        ("/b/Z/x", Reply::Utc),
-        ("/c/Z/x", Reply::NoZone),
-    ];
-    const MEMORY: Replies = &[("/a/Z/x", Reply::NoMemory), ("/b/Z/x", Reply::Utc)];
-    const NONE: Replies = &[
-        ("/a/Z/x", Reply::NoFile),
-        ("/b/Z/x", Reply::NoFile),
-        ("/c/Z/x", Reply::NoFile),
-    ];
-    const CUT_SECOND: Replies = &[
-        ("/a/Z/x", Reply::NoFile),
-        ("/b/Z/x", Reply::NoZone),
-        ("/c/Z/x", Reply::Utc),
-    ];
-    static ROWS: [Row; 6] = [
-        (SECOND, "Z/x", Answer::Type(0, "UTC"), 12),
-        (SECOND, ":Z/x", Answer::Type(0, "UTC"), 12),
-        (MEMORY, "Z/x", Answer::Fault(Fault::Memory), 1),
-        (MEMORY, ":Z/x", Answer::Fault(Fault::Memory), 1),
-        (NONE, ":Z/x", Answer::Fault(Fault::Io), 123),
-        (CUT_SECOND, "Z/x", Answer::Fault(CUT), 12),
-    ];
-    expect_answers(&rt, rt.alloc(), &ROWS)
+    static ROWS: &str = "\
+/a/Z/x none, /b/Z/x UTC, /c/Z/x cut | Z/x | 0 UTC | 12
+/a/Z/x none, /b/Z/x UTC, /c/Z/x cut | :Z/x | 0 UTC | 12
+/a/Z/x memory, /b/Z/x UTC | Z/x | no memory | 1
+/a/Z/x memory, /b/Z/x UTC | :Z/x | no memory | 1
+/a/Z/x none, /b/Z/x none, /c/Z/x none | :Z/x | file was not found | 123
+/a/Z/x none, /b/Z/x cut, /c/Z/x UTC | Z/x | invalid TZ file: unexpected end of data | 12
+";
+    expect_answers(&rt, rt.alloc(), Directories::Three, ROWS)
 }
 
 #[test]
 fn a_text_is_read_where_no_file_is_found(rt: HostRuntime) -> Result<(), Fail> {
-    const NONE: Replies = &[
-        ("/a/A0", Reply::NoFile),
-        ("/b/A0", Reply::NoFile),
-        ("/c/A0", Reply::NoFile),
-    ];
-    const MEMORY: Replies = &[
-        ("/a/A0", Reply::NoFile),
-        ("/b/A0", Reply::NoMemory),
-        ("/c/A0", Reply::Utc),
-    ];
-    static ROWS: [Row; 8] = [
-        (NONE, "A0", Answer::Type(0, "A"), 123),
-        (MEMORY, "A0", Answer::Fault(Fault::Memory), 12),
-        (&[], "HST10", Answer::Type(-36_000, "HST"), 999),
-        (&[], " HST10\n", Answer::Type(-36_000, "HST"), 999),
-        (&[], "\t\r\x0cHST10 ", Answer::Type(-36_000, "HST"), 999),
-        (
-            &[],
-            "EET-2EEST",
-            Answer::Fault(Fault::Text(TzStringError::MissingDstStartEndRules)),
-            999,
-        ),
-        (
-            &[],
-            "EST5EDT,0/0,J365/25",
-            Answer::Fault(Fault::Text(TzStringError::InvalidDayTimeHour)),
-            999,
-        ),
-        (&[], "", Answer::Fault(Fault::Text(TzStringError::Empty)), 0),
-    ];
-    expect_answers(&rt, rt.alloc(), &ROWS)
+    static ROWS: &str = "\
+/a/A0 none, /b/A0 none, /c/A0 none | A0 | 0 A | 123
+/a/A0 none, /b/A0 memory, /c/A0 UTC | A0 | no memory | 12
+nothing | HST10 | -36000 HST | 999
+nothing | \t\r\x0cHST10  | -36000 HST | 999
+nothing | EET-2EEST | invalid TZ string: missing DST start and end rules | 999
+nothing | EST5EDT,0/0,J365/25 | invalid TZ string: invalid day time hour | 999
+nothing |  | invalid TZ string: empty TZ string | 0
+";
+    expect_answers(&rt, rt.alloc(), Directories::Three, ROWS)?;
+    let files = files_of(rt.alloc(), "nothing");
+    expect_answer(
+        &rt,
+        &files,
+        Directories::Three,
+        " HST10\n",
+        "-36000 HST",
+        999,
+    )?;
+    Ok(())
 }
 
+/// What the reader returns for a path that is asked alone is passed on.
 #[test]
 fn an_absolute_path_is_asked_alone(rt: HostRuntime) -> Result<(), Fail> {
-    const UTC_FILE: Replies = &[("/x", Reply::Utc)];
-    const NO_FILE: Replies = &[("/x", Reply::NoFile)];
-    static ROWS: [Row; 4] = [
-        (UTC_FILE, "/x", Answer::Type(0, "UTC"), 1),
-        (UTC_FILE, ":/x", Answer::Type(0, "UTC"), 1),
-        (NO_FILE, "/x", Answer::Fault(Fault::Number), 1),
-        (NO_FILE, ":/x", Answer::Fault(Fault::Io), 1),
-    ];
-    expect_answers(&rt, rt.alloc(), &ROWS)
+    static ROWS: &str = "\
+/x UTC | /x | 0 UTC | 1
+/x UTC | :/x | 0 UTC | 1
+/x none | /x | invalid TZ string: cannot parse integer from empty string | 1
+/x none | :/x | no file | 1
+nothing | :/x | no file | 9
+nothing | :x | file was not found | 999
+nothing | localtime | no file | 9
+";
+    expect_answers(&rt, rt.alloc(), Directories::Three, ROWS)
 }
 
 #[test]
 fn local_time_has_its_file(rt: HostRuntime) -> Result<(), Fail> {
-    const LOCAL: Replies = &[("/etc/localtime", Reply::Utc)];
-    const NO_FILE: Replies = &[("/etc/localtime", Reply::NoFile)];
-    const MEMORY: Replies = &[("/etc/localtime", Reply::NoMemory)];
-    static ROWS: [Row; 5] = [
-        (LOCAL, "localtime", Answer::Type(0, "UTC"), 1),
-        (LOCAL, "/etc/localtime", Answer::Type(0, "UTC"), 1),
-        (LOCAL, ":/etc/localtime", Answer::Type(0, "UTC"), 1),
-        (NO_FILE, "localtime", Answer::Fault(Fault::Io), 1),
-        (MEMORY, "localtime", Answer::Fault(Fault::Memory), 1),
-    ];
+    static ROWS: &str = "\
+/etc/localtime UTC | localtime | 0 UTC | 1
+/etc/localtime UTC | /etc/localtime | 0 UTC | 1
+/etc/localtime UTC | :/etc/localtime | 0 UTC | 1
+/etc/localtime none | localtime | no file | 1
+/etc/localtime memory | localtime | no memory | 1
+";
     let alloc = rt.alloc();
-    expect_answers(&rt, alloc, &ROWS)?;
-    let files = files_of(alloc, LOCAL);
-    expect_type(&rt, "localtime", files.ask_local(), 0, b"UTC")?;
+    expect_answers(&rt, alloc, Directories::Three, ROWS)?;
+    let files = files_of(alloc, "/etc/localtime UTC");
+    expect_text(&rt, alloc, "local", files.ask_local(), "0 UTC")?;
     let settings = TimeZoneSettings::new(DEFAULT_DIRECTORIES, |path: &str| files.read(path));
-    expect_type(&rt, "localtime", settings.parse_local(alloc), 0, b"UTC")?;
+    expect_text(&rt, alloc, "local", settings.parse_local(alloc), "0 UTC")?;
     expect_eq(&rt, &files.asked.get(), &11);
     Ok(())
 }
 
 #[test]
 fn the_usual_directories_are_asked(rt: HostRuntime) -> Result<(), Fail> {
-    static REPLIES: [(&str, Reply); 3] = [
-        (
-            "/usr/share/zoneinfo/CET-1CEST,M3.5.0,M10.5.0/3",
-            Reply::NoFile,
-        ),
-        ("/share/zoneinfo/CET-1CEST,M3.5.0,M10.5.0/3", Reply::NoFile),
-        ("/etc/zoneinfo/CET-1CEST,M3.5.0,M10.5.0/3", Reply::NoFile),
-    ];
-    let files = files_of(rt.alloc(), &REPLIES);
+    static TEXT: &str = "/usr/share/zoneinfo/CET-1CEST,M3.5.0,M10.5.0/3 none, \
+        /share/zoneinfo/CET-1CEST,M3.5.0,M10.5.0/3 none, /etc/zoneinfo/CET-1CEST,M3.5.0,M10.5.0/3 none";
+    let files = files_of(rt.alloc(), TEXT);
     let types = [
         LocalTimeType::new(3600, false, Some(b"CET"))?,
         LocalTimeType::new(7200, true, Some(b"CEST"))?,
@@ -280,232 +255,95 @@ fn the_usual_directories_are_asked(rt: HostRuntime) -> Result<(), Fail> {
     Ok(())
 }
 
-/// A letter, a thousand times.
-fn thousand(alloc: Global, letter: char) -> Result<String, AllocError> {
-    let mut text = String::new(alloc);
-    for _ in 0..1000u16 {
-        text.push(letter)?;
-    }
-    Ok(text)
-}
-
+/// Paths of 96 bytes, which need no memory, and longer ones.
 #[test]
-fn a_thousand_bytes_are_a_setting(rt: HostRuntime) -> Result<(), Fail> {
+fn long_names_are_asked_in_turn(rt: HostRuntime) -> Result<(), Fail> {
+    static ROWS: &str = "\
+/a/Z/* none, /b/Z/* UTC, /c/Z/* cut | Z/* | 0 UTC | 12
+/a/Z/* none, /b/Z/* UTC, /c/Z/* cut | :Z/* | 0 UTC | 12
+/a/* UTC | * | 0 UTC | 1
+/a/* UTC | /a/* | 0 UTC | 1
+/a/* UTC | :* | 0 UTC | 1
+";
     let alloc = rt.alloc();
-    let name = thousand(alloc, 'z')?;
-    let path = format!(in alloc; "/a/{name}")?;
-    let named = format!(in alloc; ":{name}")?;
-    let replies = [(path.as_str(), Reply::Utc)];
-    let files = files_of(alloc, &replies);
-    for text in [&name, &path, &named] {
-        expect_type(&rt, text, files.ask(&["/a"], text), 0, b"UTC")?;
+    for length in [91, 92, 1000usize] {
+        let letters = "x".repeat(alloc, length)?;
+        let rows = ROWS.replace(alloc, "*", &letters)?;
+        expect_answers(&rt, alloc, Directories::Three, &rows)?;
     }
-    let spaced = format!(in alloc; "{}HST10", thousand(alloc, ' ')?)?;
-    let answer = files.ask(&["/a"], &spaced);
-    expect_type(&rt, &spaced, answer, -36_000, b"HST")?;
+    let spaced = format!(in alloc; "{}HST10", " ".repeat(alloc, 1000)?)?;
+    let files = files_of(alloc, "nothing");
+    expect_answer(&rt, &files, Directories::Three, &spaced, "-36000 HST", 999)?;
     Ok(())
-}
-
-/// The error of a text prints so, where no file is found.
-fn expect_text_of_fault(
-    rt: &impl Abort,
-    alloc: Global,
-    text: &str,
-    fault: &str,
-) -> Result<(), Fail> {
-    let files = files_of(alloc, &[]);
-    let error = files.ask(&["/a"], text).err().ok_or("accepted")?;
-    let printed = format!(in alloc; "{error}")?;
-    expect_eq_at(rt, &text, &printed.as_str(), &fault);
-    Ok(())
-}
-
-#[test]
-fn the_reader_s_fault_is_handed_on(rt: HostRuntime) -> Result<(), Fail> {
-    expect_text_of_fault(&rt, rt.alloc(), ":/x", "no file")?;
-    expect_text_of_fault(&rt, rt.alloc(), "localtime", "no file")?;
-    expect_text_of_fault(&rt, rt.alloc(), ":x", "file was not found")
 }
 
 #[test]
 fn no_path_is_asked_once_one_has_answered(rt: HostRuntime) -> Result<(), Fail> {
-    const ABSOLUTE: Replies = &[("/x", Reply::NoMemory)];
-    const THIRD: Replies = &[
-        ("/a/x", Reply::NoFile),
-        ("/b/x", Reply::NoFile),
-        ("/c/x", Reply::NoMemory),
-    ];
-    const FIRST: Replies = &[("/a/HST10", Reply::NoZone), ("/b/HST10", Reply::Utc)];
-    static ROWS: [Row; 5] = [
-        (ABSOLUTE, "/x", Answer::Fault(Fault::Memory), 1),
-        (ABSOLUTE, ":/x", Answer::Fault(Fault::Memory), 1),
-        (THIRD, "x", Answer::Fault(Fault::Memory), 123),
-        (THIRD, ":x", Answer::Fault(Fault::Memory), 123),
-        (FIRST, "HST10", Answer::Fault(CUT), 1),
-    ];
-    expect_answers(&rt, rt.alloc(), &ROWS)
-}
-
-/// Paths of 96 bytes, which need no memory, and those that are longer.
-#[test]
-fn long_names_are_asked_in_turn(rt: HostRuntime) -> Result<(), Fail> {
-    const USUAL: Replies = &[
-        (
-            "/a/Z/xxxxxxxxxxxxxxxxxxxxxxxxxxxxxxxxxxxxxxxxxxxxxxxxxxxxxxxxxxxxxxxxxxxxxxxxxxxxxxxxxxxxxxxxxxx",
-            Reply::NoFile,
-        ),
-        (
-            "/b/Z/xxxxxxxxxxxxxxxxxxxxxxxxxxxxxxxxxxxxxxxxxxxxxxxxxxxxxxxxxxxxxxxxxxxxxxxxxxxxxxxxxxxxxxxxxxx",
-            Reply::Utc,
-        ),
-        (
-            "/c/Z/xxxxxxxxxxxxxxxxxxxxxxxxxxxxxxxxxxxxxxxxxxxxxxxxxxxxxxxxxxxxxxxxxxxxxxxxxxxxxxxxxxxxxxxxxxx",
-            Reply::NoZone,
-        ),
-    ];
-    const LONGER: Replies = &[
-        (
-            "/a/Z/xxxxxxxxxxxxxxxxxxxxxxxxxxxxxxxxxxxxxxxxxxxxxxxxxxxxxxxxxxxxxxxxxxxxxxxxxxxxxxxxxxxxxxxxxxxx",
-            Reply::NoFile,
-        ),
-        (
-            "/b/Z/xxxxxxxxxxxxxxxxxxxxxxxxxxxxxxxxxxxxxxxxxxxxxxxxxxxxxxxxxxxxxxxxxxxxxxxxxxxxxxxxxxxxxxxxxxxx",
-            Reply::Utc,
-        ),
-        (
-            "/c/Z/xxxxxxxxxxxxxxxxxxxxxxxxxxxxxxxxxxxxxxxxxxxxxxxxxxxxxxxxxxxxxxxxxxxxxxxxxxxxxxxxxxxxxxxxxxxx",
-            Reply::NoZone,
-        ),
-    ];
-    static ROWS: [Row; 4] = [
-        (
-            USUAL,
-            "Z/xxxxxxxxxxxxxxxxxxxxxxxxxxxxxxxxxxxxxxxxxxxxxxxxxxxxxxxxxxxxxxxxxxxxxxxxxxxxxxxxxxxxxxxxxxx",
-            Answer::Type(0, "UTC"),
-            12,
-        ),
-        (
-            USUAL,
-            ":Z/xxxxxxxxxxxxxxxxxxxxxxxxxxxxxxxxxxxxxxxxxxxxxxxxxxxxxxxxxxxxxxxxxxxxxxxxxxxxxxxxxxxxxxxxxxx",
-            Answer::Type(0, "UTC"),
-            12,
-        ),
-        (
-            LONGER,
-            "Z/xxxxxxxxxxxxxxxxxxxxxxxxxxxxxxxxxxxxxxxxxxxxxxxxxxxxxxxxxxxxxxxxxxxxxxxxxxxxxxxxxxxxxxxxxxxx",
-            Answer::Type(0, "UTC"),
-            12,
-        ),
-        (
-            LONGER,
-            ":Z/xxxxxxxxxxxxxxxxxxxxxxxxxxxxxxxxxxxxxxxxxxxxxxxxxxxxxxxxxxxxxxxxxxxxxxxxxxxxxxxxxxxxxxxxxxxx",
-            Answer::Type(0, "UTC"),
-            12,
-        ),
-    ];
-    expect_answers(&rt, rt.alloc(), &ROWS)
+    static ROWS: &str = "\
+/x memory | /x | no memory | 1
+/x memory | :/x | no memory | 1
+/a/x none, /b/x none, /c/x memory | x | no memory | 123
+/a/x none, /b/x none, /c/x memory | :x | no memory | 123
+/a/HST10 cut, /b/HST10 UTC | HST10 | invalid TZ file: unexpected end of data | 1
+";
+    expect_answers(&rt, rt.alloc(), Directories::Three, ROWS)
 }
 
 /// Only the bare name is that of the machine's local time, and a colon alone is a name without bytes.
 #[test]
 fn other_names_are_looked_for(rt: HostRuntime) -> Result<(), Fail> {
-    const LOCAL: Replies = &[
-        ("/a/localtime", Reply::NoFile),
-        ("/b/localtime", Reply::NoFile),
-        ("/c/localtime", Reply::NoFile),
-        ("/etc/localtime", Reply::Utc),
-    ];
-    const SPACED: Replies = &[
-        ("/a/localtime ", Reply::NoFile),
-        ("/b/localtime ", Reply::NoFile),
-        ("/c/localtime ", Reply::NoFile),
-        ("/etc/localtime", Reply::Utc),
-    ];
-    const NAMELESS: Replies = &[
-        ("/a/", Reply::NoFile),
-        ("/b/", Reply::NoFile),
-        ("/c/", Reply::NoFile),
-    ];
-    static ROWS: [Row; 3] = [
-        (LOCAL, ":localtime", Answer::Fault(Fault::Io), 123),
-        (SPACED, "localtime ", Answer::Fault(Fault::Number), 123),
-        (NAMELESS, ":", Answer::Fault(Fault::Io), 123),
-    ];
-    expect_answers(&rt, rt.alloc(), &ROWS)
+    static ROWS: &str = "\
+/a/localtime none, /b/localtime none, /c/localtime none, /etc/localtime UTC | :localtime | file was not found | 123
+/a/localtime  none, /b/localtime  none, /c/localtime  none, /etc/localtime UTC | localtime  | \
+    invalid TZ string: cannot parse integer from empty string | 123
+/a/ none, /b/ none, /c/ none | : | file was not found | 123
+";
+    expect_answers(&rt, rt.alloc(), Directories::Three, ROWS)
 }
 
 #[test]
 fn without_directories_only_paths_are_asked(rt: HostRuntime) -> Result<(), Fail> {
-    static REPLIES: [(&str, Reply); 1] = [("/x", Reply::Utc)];
-    let files = files_of(rt.alloc(), &REPLIES);
-    expect_type(&rt, "HST10", files.ask(&[], "HST10"), -36_000, b"HST")?;
-    let refused = files.ask(&[], ":x").err().map(named);
-    expect_eq(&rt, &refused, &Some(Fault::Io));
-    expect_eq(&rt, &files.asked.get(), &0);
-    expect_type(&rt, "/x", files.ask(&[], "/x"), 0, b"UTC")?;
-    expect_eq(&rt, &files.asked.get(), &1);
+    static ROWS: [(&str, &str, u64); 3] = [
+        ("HST10", "-36000 HST", 0),
+        (":x", "file was not found", 0),
+        ("/x", "0 UTC", 1),
+    ];
+    for (text, wanted, asked) in &ROWS {
+        let files = files_of(rt.alloc(), "/x UTC");
+        expect_text(&rt, rt.alloc(), text, files.ask(&[], text), wanted)?;
+        expect_eq_at(&rt, text, &files.asked.get(), asked);
+    }
     Ok(())
 }
 
-/// The usual directories answer so, and these were asked for.
-fn expect_usual_fault(
-    rt: &impl Abort,
-    alloc: Global,
-    replies: &[(&str, Reply)],
-    text: &str,
-    fault: &Option<Fault>,
-    asked: u64,
-) {
-    let files = files_of(alloc, replies);
-    let refused = files.ask_usual(text).err().map(named);
-    expect_eq_at(rt, &text, &refused, fault);
-    expect_eq_at(rt, &text, &files.asked.get(), &asked);
+#[test]
+fn the_usual_directories_are_asked_no_further(rt: HostRuntime) -> Result<(), Fail> {
+    static ROWS: &str = "\
+/usr/share/zoneinfo/Z/x none, /share/zoneinfo/Z/x UTC, /etc/zoneinfo/Z/x memory | Z/x | 0 UTC | 12
+/usr/share/zoneinfo/Z/x none, /share/zoneinfo/Z/x UTC, /etc/zoneinfo/Z/x memory | :Z/x | 0 UTC | 12
+/usr/share/zoneinfo/Z/x none, /share/zoneinfo/Z/x memory, /etc/zoneinfo/Z/x UTC | Z/x | no memory | 12
+/usr/share/zoneinfo/Z/x none, /share/zoneinfo/Z/x memory, /etc/zoneinfo/Z/x UTC | :Z/x | no memory | 12
+/etc/localtime memory | localtime | no memory | 1
+";
+    expect_answers(&rt, rt.alloc(), Directories::Usual, ROWS)
 }
 
 #[test]
-fn the_usual_directories_are_asked_no_further(rt: HostRuntime) {
-    const SECOND: Replies = &[
-        ("/usr/share/zoneinfo/Z/x", Reply::NoFile),
-        ("/share/zoneinfo/Z/x", Reply::Utc),
-        ("/etc/zoneinfo/Z/x", Reply::NoMemory),
+fn local_time_is_refused(rt: HostRuntime) -> Result<(), Fail> {
+    static ROWS: [(&str, &str); 3] = [
+        (
+            "/etc/localtime cut",
+            "invalid TZ file: unexpected end of data",
+        ),
+        ("/etc/localtime memory", "no memory"),
+        ("/etc/localtime none", "no file"),
     ];
-    const MEMORY: Replies = &[
-        ("/usr/share/zoneinfo/Z/x", Reply::NoFile),
-        ("/share/zoneinfo/Z/x", Reply::NoMemory),
-        ("/etc/zoneinfo/Z/x", Reply::Utc),
-    ];
-    const LOCAL: Replies = &[("/etc/localtime", Reply::NoMemory)];
-    static ROWS: [(Replies, &str, Option<Fault>, u64); 5] = [
-        (SECOND, "Z/x", None, 12),
-        (SECOND, ":Z/x", None, 12),
-        (MEMORY, "Z/x", Some(Fault::Memory), 12),
-        (MEMORY, ":Z/x", Some(Fault::Memory), 12),
-        (LOCAL, "localtime", Some(Fault::Memory), 1),
-    ];
-    for (replies, text, fault, asked) in &ROWS {
-        expect_usual_fault(&rt, rt.alloc(), replies, text, fault, *asked);
+    for (text, refusal) in &ROWS {
+        let files = files_of(rt.alloc(), text);
+        expect_text(&rt, rt.alloc(), text, files.ask_local(), refusal)?;
+        expect_eq_at(&rt, text, &files.asked.get(), &1);
     }
-}
-
-/// The local time zone is refused so, after its file alone was asked for.
-fn expect_local_fault(rt: &impl Abort, alloc: Global, reply: Reply, fault: &Fault) {
-    let replies = [("/etc/localtime", reply)];
-    let files = files_of(alloc, &replies);
-    let found = files.ask_local().err().map(named);
-    expect_eq(rt, &found.as_ref(), &Some(fault));
-    expect_eq(rt, &files.asked.get(), &1);
-}
-
-#[test]
-fn local_time_is_refused(rt: HostRuntime) {
-    static ROWS: [(Reply, Fault); 3] = [
-        (Reply::NoZone, CUT),
-        (Reply::NoMemory, Fault::Memory),
-        (Reply::NoFile, Fault::Io),
-    ];
-    for (reply, fault) in &ROWS {
-        expect_local_fault(&rt, rt.alloc(), *reply, fault);
-    }
+    Ok(())
 }
 
 /// Texts whose paths are longer than those that need no memory.
@@ -532,11 +370,7 @@ enum Call {
 impl Call {
     /// The answer, with the memory of this heap.
     fn answer<A: Allocator + Copy>(self, alloc: Global, heap: A) -> Result<TimeZone<A>, Error> {
-        let files = Files {
-            alloc,
-            replies: &[("/etc/localtime", Reply::Utc), ("/b/Z/x", Reply::Utc)],
-            asked: Cell::new(0),
-        };
+        let files = files_of(alloc, "/etc/localtime UTC, /b/Z/x UTC");
         let settings = TimeZoneSettings::new(&["/a", "/b"], |path: &str| files.read(path));
         match self {
             Call::Local => settings.parse_local(heap),
@@ -553,22 +387,6 @@ impl Call {
     }
 }
 
-/// This holds for the call, refused a growth after this many.
-fn expect_after(rt: &impl Abort, call: Call, left: u64, holds: bool) {
-    assert!(rt; holds, "{call:?} after {left}");
-}
-
-/// The values are equal for the call, refused a growth after this many.
-fn expect_eq_after<T: Debug + PartialEq>(
-    rt: &impl Abort,
-    call: Call,
-    left: u64,
-    found: &T,
-    wanted: &T,
-) {
-    assert_eq!(rt; *found, *wanted, "{call:?} after {left}");
-}
-
 /// Each growth is refused in turn: the answer is an allocation failure or the zone, and the zone once none is refused.
 fn expect_zone(rt: &impl Abort, alloc: Global, call: Call) -> Result<(), Fail> {
     let ample = call.answer(alloc, alloc)?;
@@ -576,14 +394,14 @@ fn expect_zone(rt: &impl Abort, alloc: Global, call: Call) -> Result<(), Fail> {
     for left in 0..20u64 {
         let heap = Refusing::new(alloc, left);
         match call.answer(alloc, &heap) {
-            Ok(zone) => expect_after(rt, call, left, zone.as_ref() == ample.as_ref()),
+            Ok(zone) => assert!(rt; zone.as_ref() == ample.as_ref(), "{call:?} after {left}"),
             Err(error) => {
-                expect_eq_after(rt, call, left, &named(error), &Fault::Memory);
-                expect_after(rt, call, left, heap.refused() > 0);
+                expect_eq_at(rt, &(call, left), &named(error), &Fault::Memory);
+                assert!(rt; heap.refused() > 0, "{call:?} after {left}");
                 refusals = refusals.saturating_add(1);
             }
         }
-        expect_eq_after(rt, call, left, &heap.held(), &0);
+        expect_eq_at(rt, &(call, left), &heap.held(), &0);
     }
     assert!(rt; refusals > 0 && refusals < 20, "{call:?}");
     Ok(())
@@ -596,12 +414,12 @@ fn expect_refusal(rt: &impl Abort, alloc: Global, call: Call, fault: &Fault) {
         let heap = Refusing::new(alloc, left);
         let found = call.answer(alloc, &heap).err().map(named);
         if found == Some(Fault::Memory) {
-            expect_after(rt, call, left, heap.refused() > 0);
+            assert!(rt; heap.refused() > 0, "{call:?} after {left}");
             refusals = refusals.saturating_add(1);
         } else {
-            expect_eq_after(rt, call, left, &found.as_ref(), &Some(fault));
+            expect_eq_at(rt, &(call, left), &found.as_ref(), &Some(fault));
         }
-        expect_eq_after(rt, call, left, &heap.held(), &0);
+        expect_eq_at(rt, &(call, left), &heap.held(), &0);
     }
     assert!(rt; refusals > 0 && refusals < 20, "{call:?}");
 }

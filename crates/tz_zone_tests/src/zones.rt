@@ -242,66 +242,42 @@ fn zones_are_refused(rt: HostRuntime) -> Result<(), Fail> {
 /// The last transition never takes effect, so that the rule has no type there.
 #[test]
 fn zones_are_out_of_range(rt: HostRuntime) -> Result<(), Fail> {
-    static ROWS: [(Parts<'static>, Option<Fault>); 6] = [
-        (Parts(&[(i64::MIN, 0)], &[0], &[], None), None),
-        (
-            Parts(&[(i64::MIN, 0)], &[0], &[], Some(0)),
-            Some(Fault::OutOfRange),
-        ),
-        (Parts(&[(i64::MIN, 0)], &[0], &[(0, 1)], None), None),
-        (
-            Parts(&[(i64::MIN, 0)], &[0], &[(0, 1)], Some(0)),
-            Some(Fault::OutOfRange),
-        ),
-        (Parts(&[(i64::MAX, 0)], &[0], &[(0, -1)], None), None),
-        (
-            Parts(&[(i64::MAX, 0)], &[0], &[(0, -1)], Some(0)),
-            Some(Fault::OutOfRange),
-        ),
+    static ACCEPTED: [Parts<'static>; 3] = [
+        Parts(&[(i64::MIN, 0)], &[0], &[], None),
+        Parts(&[(i64::MIN, 0)], &[0], &[(0, 1)], None),
+        Parts(&[(i64::MAX, 0)], &[0], &[(0, -1)], None),
     ];
-    for (parts, expected) in &ROWS {
-        expect_fault(&rt, rt.alloc(), *parts, *expected)?;
-    }
-    Ok(())
+    static REFUSED: [Parts<'static>; 3] = [
+        Parts(&[(i64::MIN, 0)], &[0], &[], Some(0)),
+        Parts(&[(i64::MIN, 0)], &[0], &[(0, 1)], Some(0)),
+        Parts(&[(i64::MAX, 0)], &[0], &[(0, -1)], Some(0)),
+    ];
+    expect_faults(&rt, rt.alloc(), &ACCEPTED, None)?;
+    Ok(expect_faults(&rt, rt.alloc(), &REFUSED, Some(Fault::OutOfRange))?)
 }
 
 /// Each zone has the fault that is expected, and all that are named after it.
 #[test]
 fn the_first_fault_of_a_zone_is_named(rt: HostRuntime) -> Result<(), Fail> {
-    static ROWS: [(Parts<'static>, Fault); 5] = [
+    const ONE: &[(i64, usize)] = &[(i64::MIN, 0)];
+    const EQUAL: &[(i64, usize)] = &[(i64::MIN, 0), (i64::MIN, 1)];
+    const UNKNOWN: &[(i64, usize)] = &[(i64::MIN, 1), (i64::MIN, 0)];
+    const NO_EFFECT: Parts<'static> = Parts(ONE, &[0], &[], Some(3600));
+    static ROWS: [(Parts<'static>, TimeZoneError); 4] = [
+        (Parts(ONE, &[0], &[(-1, 1)], Some(3600)), InvalidLeapSecond),
         (
-            Parts(&[(i64::MIN, 0)], &[0], &[], Some(3600)),
-            Fault::OutOfRange,
+            Parts(EQUAL, &[0], &[(-1, 1)], Some(3600)),
+            InvalidTransition,
         ),
         (
-            Parts(&[(i64::MIN, 0)], &[0], &[(-1, 1)], Some(3600)),
-            Fault::Zone(InvalidLeapSecond),
+            Parts(UNKNOWN, &[0], &[(-1, 1)], Some(3600)),
+            InvalidLocalTimeTypeIndex,
         ),
-        (
-            Parts(
-                &[(i64::MIN, 0), (i64::MIN, 1)],
-                &[0],
-                &[(-1, 1)],
-                Some(3600),
-            ),
-            Fault::Zone(InvalidTransition),
-        ),
-        (
-            Parts(
-                &[(i64::MIN, 1), (i64::MIN, 0)],
-                &[0],
-                &[(-1, 1)],
-                Some(3600),
-            ),
-            Fault::Zone(InvalidLocalTimeTypeIndex),
-        ),
-        (
-            Parts(&[(i64::MIN, 1), (i64::MIN, 0)], &[], &[(-1, 1)], Some(3600)),
-            Fault::Zone(NoLocalTimeType),
-        ),
+        (Parts(UNKNOWN, &[], &[(-1, 1)], Some(3600)), NoLocalTimeType),
     ];
+    expect_fault(&rt, rt.alloc(), NO_EFFECT, Some(Fault::OutOfRange))?;
     for (parts, expected) in &ROWS {
-        expect_fault(&rt, rt.alloc(), *parts, Some(*expected))?;
+        expect_fault(&rt, rt.alloc(), *parts, Some(Fault::Zone(*expected)))?;
     }
     Ok(())
 }

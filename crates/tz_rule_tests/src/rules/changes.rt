@@ -24,12 +24,18 @@ fn found(change: Option<RuleChange<'_>>) -> Found {
     }
 }
 
-/// The rule has these changes after instants.
-fn expect_changes_after(rt: &impl Abort, parts: Parts, rows: &[(i64, Found)]) {
+/// From an instant on the rule has these changes in turn, each to daylight saving time or from it.
+fn expect_changes_after(rt: &impl Abort, parts: Parts, from: i64, rows: &[(i64, bool)]) {
     let rule = TransitionRule::Alternate(expect_made(rt, rule(parts)));
-    for (unix_time, change) in rows {
-        let after = found(inner::change_after(RuleRef::of(&rule), *unix_time));
-        expect_eq(rt, &(unix_time, after), &(unix_time, *change));
+    let mut unix_time = from;
+    for &(next, is_dst) in rows {
+        let after = found(inner::change_after(RuleRef::of(&rule), unix_time));
+        expect_eq(
+            rt,
+            &(unix_time, after),
+            &(unix_time, Some((next, !is_dst, is_dst))),
+        );
+        unix_time = next;
     }
 }
 
@@ -44,30 +50,20 @@ fn expect_none(rt: &impl Abort, rule: &TransitionRule, unix_time: i64) {
 #[test]
 fn changes_of_some_years(rt: HostRuntime) {
     static LEAP_DAY: Parts = (0, 0, (Z(59), 0), (J(60), 0));
-    static OF_LEAP_DAYS: [(i64, Found); 2] = [
-        (
-            utc!(1897-01-01 00:00:00),
-            Some((utc!(1904-02-29 00:00:00), false, true)),
-        ),
-        (
-            utc!(1904-02-29 00:00:00),
-            Some((utc!(1904-03-01 00:00:00), true, false)),
-        ),
+    static OF_LEAP_DAYS: [(i64, bool); 2] = [
+        (utc!(1904-02-29 00:00:00), true),
+        (utc!(1904-03-01 00:00:00), false),
     ];
     static TO_SUNDAY: Parts = (0, 0, (J(274), 0), (M(10, 1, 0), 0));
-    static BEFORE_SUNDAYS: [(i64, Found); 2] = [
-        (
-            utc!(2022-10-01 00:00:00),
-            Some((utc!(2022-10-02 00:00:00), true, false)),
-        ),
-        // October 1st of 2023 is a Sunday.
-        (
-            utc!(2022-10-02 00:00:00),
-            Some((utc!(2024-10-01 00:00:00), false, true)),
-        ),
+    // October 1st of 2023 is a Sunday.
+    static BEFORE_SUNDAYS: [(i64, bool); 2] = [
+        (utc!(2022-10-02 00:00:00), false),
+        (utc!(2024-10-01 00:00:00), true),
     ];
-    expect_changes_after(&rt, LEAP_DAY, &OF_LEAP_DAYS);
-    expect_changes_after(&rt, TO_SUNDAY, &BEFORE_SUNDAYS);
+    const IN_1897: i64 = utc!(1897-01-01 00:00:00);
+    const OCTOBER_2022: i64 = utc!(2022-10-01 00:00:00);
+    expect_changes_after(&rt, LEAP_DAY, IN_1897, &OF_LEAP_DAYS);
+    expect_changes_after(&rt, TO_SUNDAY, OCTOBER_2022, &BEFORE_SUNDAYS);
 }
 
 #[test]

@@ -1,6 +1,6 @@
 //! Zones by their names: which files are asked for, and which names are refused before any is.
 
-use super::{Files, Replies, Reply, files_of};
+use super::{Files, files_of};
 use crate::expect::{expect_eq, expect_eq_at};
 use std::alloc::{Allocator, Global};
 use std::process::Abort;
@@ -28,27 +28,22 @@ fn refusal(alloc: Global, files: &Files<'_>, name: &str) -> Result<String, Fail>
 
 #[test]
 fn names_are_found_in_the_directories_in_turn(rt: HostRuntime) -> Result<(), Fail> {
-    const FIRST: Replies = &[("/usr/share/zoneinfo/Europe/Paris", Reply::Utc)];
-    const SECOND: Replies = &[
-        ("/usr/share/zoneinfo/Etc/GMT+12", Reply::NoFile),
-        ("/share/zoneinfo/Etc/GMT+12", Reply::Utc),
-    ];
-    const THIRD: Replies = &[
+    static ROWS: [(&str, &str, u64); 3] = [
+        ("Europe/Paris", "/usr/share/zoneinfo/* UTC", 1),
         (
-            "/usr/share/zoneinfo/America/Argentina/Ushuaia",
-            Reply::NoFile,
+            "Etc/GMT+12",
+            "/usr/share/zoneinfo/* none, /share/zoneinfo/* UTC",
+            12,
         ),
-        ("/share/zoneinfo/America/Argentina/Ushuaia", Reply::NoFile),
-        ("/etc/zoneinfo/America/Argentina/Ushuaia", Reply::Utc),
-        ("/etc/localtime", Reply::Utc),
+        (
+            "America/Argentina/Ushuaia",
+            "/usr/share/zoneinfo/* none, /share/zoneinfo/* none, /etc/zoneinfo/* UTC, /etc/localtime UTC",
+            123,
+        ),
     ];
-    static ROWS: [(&str, Replies, u64); 3] = [
-        ("Europe/Paris", FIRST, 1),
-        ("Etc/GMT+12", SECOND, 12),
-        ("America/Argentina/Ushuaia", THIRD, 123),
-    ];
-    for (name, replies, asked) in &ROWS {
-        let files = files_of(rt.alloc(), replies);
+    for (name, files, asked) in &ROWS {
+        let files = files.replace(rt.alloc(), "*", name)?;
+        let files = files_of(rt.alloc(), &files);
         let zone = named(rt.alloc(), &files, name)?;
         expect_eq_at(&rt, name, &zone.as_ref().local_time_types().len(), &1);
         expect_eq_at(&rt, name, &files.asked.get(), asked);
@@ -56,67 +51,60 @@ fn names_are_found_in_the_directories_in_turn(rt: HostRuntime) -> Result<(), Fai
     Ok(())
 }
 
+/// The name is refused by these words and itself, after these files were asked for.
+fn expect_refused(
+    rt: &impl Abort,
+    alloc: Global,
+    name: &str,
+    words: &str,
+    asked: u64,
+) -> Result<(), Fail> {
+    let files = files_of(alloc, "/etc/localtime UTC");
+    let wanted = format!(in alloc; "{words}{name}")?;
+    expect_eq_at(rt, &name, &refusal(alloc, &files, name)?, &wanted);
+    expect_eq_at(rt, &name, &files.asked.get(), &asked);
+    Ok(())
+}
+
 #[test]
 fn a_name_is_no_tz_string_and_no_path(rt: HostRuntime) -> Result<(), Fail> {
-    static ROWS: [(&str, &str, u64); 6] = [
-        ("UTC0", "no time zone has the name UTC0", 999),
-        ("localtime", "no time zone has the name localtime", 999),
-        (
-            "Europe/Pariss",
-            "no time zone has the name Europe/Pariss",
-            999,
-        ),
-        ("...", "no time zone has the name ...", 999),
-        ("a/.b/..c", "no time zone has the name a/.b/..c", 999),
-        (
-            "CET-1CEST,M3.5.0,M10.5.0",
-            "not a time zone name: CET-1CEST,M3.5.0,M10.5.0",
-            0,
-        ),
-    ];
-    for (name, text, asked) in &ROWS {
-        let files = files_of(rt.alloc(), &[("/etc/localtime", Reply::Utc)]);
-        expect_eq_at(
-            &rt,
-            name,
-            &refusal(rt.alloc(), &files, name)?.as_str(),
-            text,
-        );
-        expect_eq_at(&rt, name, &files.asked.get(), asked);
+    static NAMES: [&str; 5] = ["UTC0", "localtime", "Europe/Pariss", "...", "a/.b/..c"];
+    for name in &NAMES {
+        expect_refused(&rt, rt.alloc(), name, "no time zone has the name ", 999)?;
     }
     Ok(())
 }
 
 #[test]
 fn what_is_no_name_asks_for_no_file(rt: HostRuntime) -> Result<(), Fail> {
-    static ROWS: [(&str, &str); 16] = [
-        ("", "not a time zone name: "),
-        ("/", "not a time zone name: /"),
-        ("/etc/passwd", "not a time zone name: /etc/passwd"),
-        ("../x", "not a time zone name: ../x"),
-        ("a/../b", "not a time zone name: a/../b"),
-        ("a/..", "not a time zone name: a/.."),
-        ("a/./b", "not a time zone name: a/./b"),
-        (".", "not a time zone name: ."),
-        ("a//b", "not a time zone name: a//b"),
-        ("a/", "not a time zone name: a/"),
-        ("a b", "not a time zone name: a b"),
-        ("a\0b", "not a time zone name: a\0b"),
-        (":Europe/Paris", "not a time zone name: :Europe/Paris"),
-        ("Europe\\Paris", "not a time zone name: Europe\\Paris"),
-        ("Europe/Paris\n", "not a time zone name: Europe/Paris\n"),
-        ("Zürich", "not a time zone name: Zürich"),
+    static NAMES: [&str; 12] = [
+        "", "/", "../x", "a/../b", "a/..", "a/./b", ".", "a//b", "a/", "a b", "a\0b", "Zürich",
     ];
-    for (name, text) in &ROWS {
-        let files = files_of(rt.alloc(), &[]);
-        expect_eq_at(
-            &rt,
-            name,
-            &refusal(rt.alloc(), &files, name)?.as_str(),
-            text,
-        );
-        expect_eq_at(&rt, name, &files.asked.get(), &0);
+    static LONGER_NAMES: [&str; 5] = [
+        "/etc/passwd",
+        ":Europe/Paris",
+        "Europe\\Paris",
+        "Europe/Paris\n",
+        "CET-1CEST,M3.5.0,M10.5.0",
+    ];
+    for name in NAMES.iter().chain(&LONGER_NAMES) {
+        expect_refused(&rt, rt.alloc(), name, "not a time zone name: ", 0)?;
     }
+    Ok(())
+}
+
+/// The name is refused by a text of 120 bytes that begins so, after these files were asked for.
+fn expect_cut(
+    rt: &impl Abort,
+    alloc: Global,
+    name: &str,
+    begin: &str,
+    asked: u64,
+) -> Result<(), Fail> {
+    let files = files_of(alloc, "nothing");
+    let text = refusal(alloc, &files, name)?;
+    assert!(rt; text.as_str().starts_with(begin), "{text}");
+    expect_eq(rt, &(text.len(), files.asked.get()), &(120, asked));
     Ok(())
 }
 
@@ -124,44 +112,33 @@ fn what_is_no_name_asks_for_no_file(rt: HostRuntime) -> Result<(), Fail> {
 #[test]
 fn a_long_name_is_refused(rt: HostRuntime) -> Result<(), Fail> {
     let alloc = rt.alloc();
-    let mut name = String::new(alloc);
-    for _ in 0..100_000 {
-        name.push_str("abcdefghij")?;
-    }
-    let files = files_of(alloc, &[]);
-    let text = refusal(alloc, &files, name.as_str())?;
-    assert!(rt;
-        text.as_str()
-            .starts_with("no time zone has the name abcdefghijabcdefghij")
-    );
-    expect_eq(&rt, &(text.len(), files.asked.get()), &(120, 999));
-    name.push_str("/")?;
-    let files = files_of(alloc, &[]);
-    let text = refusal(alloc, &files, name.as_str())?;
-    assert!(rt;
-        text.as_str()
-            .starts_with("not a time zone name: abcdefghijabcdefghij")
-    );
-    expect_eq(&rt, &(text.len(), files.asked.get()), &(120, 0));
-    Ok(())
+    let name = "abcdefghij".repeat(alloc, 100_000)?;
+    let begin = "no time zone has the name abcdefghijabcdefghij";
+    expect_cut(&rt, alloc, &name, begin, 999)?;
+    let name = format!(in alloc; "{name}/")?;
+    expect_cut(
+        &rt,
+        alloc,
+        &name,
+        "not a time zone name: abcdefghijabcdefghij",
+        0,
+    )
 }
 
 #[test]
 fn what_the_reader_returns_is_passed_on(rt: HostRuntime) -> Result<(), Fail> {
-    const CUT: Replies = &[
-        ("/usr/share/zoneinfo/x", Reply::NoZone),
-        ("/share/zoneinfo/x", Reply::Utc),
+    static ROWS: [(&str, &str); 2] = [
+        (
+            "/usr/share/zoneinfo/x cut, /share/zoneinfo/x UTC",
+            "invalid TZ file: unexpected end of data",
+        ),
+        (
+            "/usr/share/zoneinfo/x memory, /share/zoneinfo/x UTC",
+            "no memory",
+        ),
     ];
-    const MEMORY: Replies = &[
-        ("/usr/share/zoneinfo/x", Reply::NoMemory),
-        ("/share/zoneinfo/x", Reply::Utc),
-    ];
-    static ROWS: [(Replies, &str); 2] = [
-        (CUT, "invalid TZ file: unexpected end of data"),
-        (MEMORY, "no memory"),
-    ];
-    for (replies, text) in &ROWS {
-        let files = files_of(rt.alloc(), replies);
+    for (files, text) in &ROWS {
+        let files = files_of(rt.alloc(), files);
         expect_eq_at(&rt, text, &refusal(rt.alloc(), &files, "x")?.as_str(), text);
         expect_eq_at(&rt, text, &files.asked.get(), &1);
     }
@@ -173,12 +150,12 @@ const LONG_NAME: &str =
     "xxxxxxxxxxxxxxxxxxxxxxxxxxxxxxxxxxxxxxxxxxxxxxxxxxxxxxxxxxxxxxxxxxxxxxxxxxxxxxxxxxxxxxxx";
 
 /// Each allocation is refused in turn: the answer is an allocation failure or the zone, and the zone once none is refused.
-fn expect_zone(rt: &impl Abort, alloc: Global, path: &str, name: &str) {
+fn expect_zone(rt: &impl Abort, alloc: Global, name: &str) -> Result<(), Fail> {
+    let text = format!(in alloc; "/usr/share/zoneinfo/{name} UTC")?;
     let mut refusals = 0u64;
     for left in 0..20u64 {
         let heap = Refusing::new(alloc, left);
-        let replies = [(path, Reply::Utc)];
-        let files = files_of(alloc, &replies);
+        let files = files_of(alloc, &text);
         match named(&heap, &files, name) {
             Ok(zone) => expect_eq_at(rt, &left, &zone.as_ref().local_time_types().len(), &1),
             Err(error) => {
@@ -190,18 +167,14 @@ fn expect_zone(rt: &impl Abort, alloc: Global, path: &str, name: &str) {
         expect_eq_at(rt, &left, &heap.held(), &0);
     }
     assert!(rt; refusals > 0 && refusals < 20, "{name}");
+    Ok(())
 }
 
 #[test]
-fn each_allocation_can_be_refused(rt: HostRuntime) {
+fn each_allocation_can_be_refused(rt: HostRuntime) -> Result<(), Fail> {
     let alloc = rt.alloc();
-    expect_zone(&rt, alloc, "/usr/share/zoneinfo/Etc/UTC", "Etc/UTC");
-    expect_zone(
-        &rt,
-        alloc,
-        "/usr/share/zoneinfo/xxxxxxxxxxxxxxxxxxxxxxxxxxxxxxxxxxxxxxxxxxxxxxxxxxxxxxxxxxxxxxxxxxxxxxxxxxxxxxxxxxxxxxxx",
-        LONG_NAME,
-    );
+    expect_zone(&rt, alloc, "Etc/UTC")?;
+    expect_zone(&rt, alloc, LONG_NAME)
 }
 
 #[test]

@@ -20,66 +20,48 @@ fn found_at(
 
 #[test]
 fn the_zone_has_the_type_of_its_rule(rt: HostRuntime) -> Result<(), Fail> {
-    static ROWS: [(&str, &[(i64, i32, bool)]); 7] = [
-        (
-            "STD0DST0,59/0,J60/0",
-            &[
-                (utc!(2000-02-29 00:00:00), 0, true),
-                (utc!(2000-03-01 00:00:00), 0, false),
-                (utc!(2001-03-01 00:00:00), 0, false),
-            ],
-        ),
-        (
-            "EST5EDT,0/0,J365/25",
-            &[
-                (utc!(2000-01-01 04:30:00), -14_400, true),
-                (utc!(2000-01-01 04:59:59), -14_400, true),
-                (utc!(2000-01-01 05:00:00), -14_400, true),
-            ],
-        ),
+    const LEAP_DAY: &str = "STD0DST0,59/0,J60/0";
+    const ALL_YEAR: &str = "EST5EDT,0/0,J365/25";
+    const DUBLIN: &str = "STD-1DST0,M10.5.0/2,M3.5.0/1";
+    const NUUK: &str = "STD3DST2,M3.5.0/-2,M10.5.0/-1";
+    const SHORT_GAP: &str = "STD0DST0,100/0,101/-24:01:40";
+    static ROWS: [(&str, i64, i32, bool); 20] = [
+        (LEAP_DAY, utc!(2000-02-29 00:00:00), 0, true),
+        (LEAP_DAY, utc!(2000-03-01 00:00:00), 0, false),
+        (LEAP_DAY, utc!(2001-03-01 00:00:00), 0, false),
+        (ALL_YEAR, utc!(2000-01-01 04:30:00), -14_400, true),
+        (ALL_YEAR, utc!(2000-01-01 04:59:59), -14_400, true),
+        (ALL_YEAR, utc!(2000-01-01 05:00:00), -14_400, true),
         (
             "STD0DST,J1/0,J365/48",
-            &[(utc!(2000-12-31 23:30:00), 3600, true)],
+            utc!(2000-12-31 23:30:00),
+            3600,
+            true,
         ),
-        (
-            "STD0DST0,J60/0,59/0",
-            &[(utc!(2001-01-01 00:00:00), 0, true)],
-        ),
-        (
-            "STD-1DST0,M10.5.0/2,M3.5.0/1",
-            &[
-                (utc!(2000-03-26 00:59:59), 0, true),
-                (utc!(2000-03-26 01:00:00), 3600, false),
-                (utc!(2000-10-29 00:59:59), 3600, false),
-                (utc!(2000-10-29 01:00:00), 0, true),
-            ],
-        ),
-        (
-            "STD3DST2,M3.5.0/-2,M10.5.0/-1",
-            &[
-                (utc!(2000-03-26 00:59:59), -10_800, false),
-                (utc!(2000-03-26 01:00:00), -7200, true),
-                (utc!(2000-10-29 00:59:59), -7200, true),
-                (utc!(2000-10-29 01:00:00), -10_800, false),
-            ],
-        ),
-        (
-            "STD0DST0,100/0,101/-24:01:40",
-            &[
-                (utc!(1970-04-10 23:58:19), 0, true),
-                (utc!(1970-04-10 23:58:20), 0, false),
-                (utc!(1970-04-10 23:59:59), 0, false),
-                (utc!(1970-04-11 00:00:00), 0, true),
-            ],
-        ),
+        ("STD0DST0,J60/0,59/0", utc!(2001-01-01 00:00:00), 0, true),
+        (DUBLIN, utc!(2000-03-26 00:59:59), 0, true),
+        (DUBLIN, utc!(2000-03-26 01:00:00), 3600, false),
+        (DUBLIN, utc!(2000-10-29 00:59:59), 3600, false),
+        (DUBLIN, utc!(2000-10-29 01:00:00), 0, true),
+        (NUUK, utc!(2000-03-26 00:59:59), -10_800, false),
+        (NUUK, utc!(2000-03-26 01:00:00), -7200, true),
+        (NUUK, utc!(2000-10-29 00:59:59), -7200, true),
+        (NUUK, utc!(2000-10-29 01:00:00), -10_800, false),
+        (SHORT_GAP, utc!(1970-04-10 23:58:19), 0, true),
+        (SHORT_GAP, utc!(1970-04-10 23:58:20), 0, false),
+        (SHORT_GAP, utc!(1970-04-10 23:59:59), 0, false),
+        (SHORT_GAP, utc!(1970-04-11 00:00:00), 0, true),
     ];
     let types = [LocalTimeType::utc()];
-    for (text, answers) in &ROWS {
+    for (text, unix_time, ut_offset, is_dst) in &ROWS {
         let rule = extended_rule(rt.alloc(), text)?;
-        for (unix_time, ut_offset, is_dst) in *answers {
-            let found = found_at(&types, &rule, *unix_time).ok();
-            assert_eq!(rt; found, Some((*ut_offset, *is_dst)), "{text} at {unix_time}");
-        }
+        let found = found_at(&types, &rule, *unix_time).ok();
+        expect_eq_at(
+            &rt,
+            &(text, unix_time),
+            &found,
+            &Some((*ut_offset, *is_dst)),
+        );
     }
     Ok(())
 }
