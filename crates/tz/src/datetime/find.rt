@@ -383,7 +383,7 @@ impl DateTime {
         ensures at_least_one { OnOk result (0 < length (zone_of time_zone_ref.entry).transitions → V.next (V.looks view.old) ≤ V.looks view.new) }
         ensures none { OnOk result (length (zone_of time_zone_ref.entry).transitions ≡ 0 → V.looks view.new ≡ V.looks view.old) }
     {
-        let mut writer = SlotWriter::new(buf);
+        let mut writer = SlotWriter::new(buf, 0);
         match find_in(&mut writer, fields, view, time_zone_ref) {
             Ok(()) => {
                 let count = writer.count();

@@ -39,20 +39,9 @@ pub(crate) struct SlotWriter<'a, S> {
 impl<'a, S: Slot> SlotWriter<'a, S> {
     ghost use Rattle.std.specs.Prelude.{◌≡◌, ◌+◌, ◌-◌, ◌<◌, ◌≤◌, length, min, slice_set};
 
-    /// Nothing is found yet.
-    #[inline(always)]
-    pub(super) fn new(slots: &'a mut [S]) -> Self
-        ensures same_reference { result.slots.ghost_name ≡ slots.entry.ghost_name }
-        ensures slots { result.slots.now ≡ slots.old }
-        ensures skip { result.skip ≡ 0 }
-        ensures count { result.count ≡ 0 }
-    {
-        SlotWriter::after(slots, 0)
-    }
-
     /// Nothing is found yet. The first entries, this many, get no slot.
     #[inline(always)]
-    pub(super) fn after(slots: &'a mut [S], skip: usize) -> Self
+    pub(super) fn new(slots: &'a mut [S], skip: usize) -> Self
         ensures same_reference { result.slots.ghost_name ≡ slots.entry.ghost_name }
         ensures slots { result.slots.now ≡ slots.old }
         ensures skip { result.skip ≡ skip }

@@ -107,7 +107,7 @@ pub fn find_into(
 {
     fields.check()?;
     check_entries(fields, zone)?;
-    let mut writer = SlotWriter::after(slots, skip);
+    let mut writer = SlotWriter::new(slots, skip);
     search_view(&mut writer, fields, zone)?;
     Ok(writer.count())
 }

@@ -8,8 +8,8 @@ use Rattle.tz.proofs.datetime.zone_view.find_into.Goals as goal
 pub returns-clause-ok : goal.returns-clause-ok
 returns-clause-ok c =
     let ok = c.in_ok-search_view.ensures.ok in
-    let new = c.after-writer.ensures in
-    let holds = held found_data c.after-writer.result c.search_view.new.list c.args.slots.now c.args.skip ok.0 ok.1 (omega (arith, ok.3)) new.slots new.skip new.count in
+    let new = c.new-writer.ensures in
+    let holds = held found_data c.new-writer.result c.search_view.new.list c.args.slots.now c.args.skip ok.0 ok.1 (omega (arith, ok.3)) new.slots new.skip new.count in
     let same_reference = ok.1.0 ∙ new.same_reference in
     let slots = holds.1 in
     (ok.0, ok.2, c.count.ensures ∙ holds.0, grind (arith, common_steps))
