@@ -11,6 +11,7 @@ pub mod EntryDateTimes
 pub mod Reached
 pub mod Windows
 pub mod FindFaults
+pub mod Outcomes
 pub mod PrintedText
 pub mod Grammars
 pub mod DateTimeText

@@ -6,6 +6,7 @@ ghost use Rattle.tz_zone.specs.Clock.{IsClock};
 ghost use Rattle.tz_zone.specs.ZoneRef.{zone_of};
 ghost use Rattle.tz.specs.Found.{EachCanBeMade, IsFound};
 ghost use Rattle.tz.specs.Lists.{found_of};
+ghost use Rattle.tz.specs.Outcomes.{AreLooksOf, IsOutcome};
 ghost use Rattle.tz.specs.FindFaults.{IsFindFault, IsPromised};
 ghost use Rattle.tz.specs.Windows.{AtMostTakeEffectAround};
 ghost use Rattle.tz.specs.declared.datetime.found.FoundDateTimeKind.{FoundDateTimeKind};
@@ -36,10 +37,7 @@ pub fn find_fields<A: Allocator + Copy>(
     time_zone_ref: TimeZoneRef<'_>,
 ) -> Result<FoundDateTimeList<A>, TzError>
     ensures ok { IfOk result (λ list. IsFound (IsClock (zone_of time_zone_ref.entry)) fields.now (found_of list)) }
-    ensures valid { OnOk result (IsValid fields.now) }
-    ensures made { OnOk result (EachCanBeMade (IsClock (zone_of time_zone_ref.entry)) fields.now) }
-    ensures promised { IsPromised (zone_of time_zone_ref.entry) fields.now.year → IfErr result (λ e. e ≢ TzError.OutOfRange) }
-    ensures err { IfErr result (IsFindFault ⊤ (IsClock (zone_of time_zone_ref.entry)) fields.now) }
+    ensures outcome { IsOutcome (λ e. e) ⊤ (zone_of time_zone_ref.entry) fields.now result }
 {
     let mut list = FoundDateTimeList::new_in(alloc);
     let mut view = Uncounted::new(time_zone_ref.transitions());
@@ -58,16 +56,9 @@ pub(super) fn find_in<L: DateTimeList, V: Transitions>(
     requires { V.list view.old ≡ (zone_of time_zone_ref).transitions }
     ensures ok { OnOk result ((found : List FoundDateTimeKind) × L.gains list.old list.new found
         × IsFound (IsClock (zone_of time_zone_ref.entry)) fields.now found × (length found ≤ 2 ^ 33)) }
-    ensures valid { OnOk result (IsValid fields.now) }
-    ensures made { OnOk result (EachCanBeMade (IsClock (zone_of time_zone_ref.entry)) fields.now) }
     ensures untouched { IsValid fields.now ⊎ (list.new ≡ list.old) }
-    ensures promised { IsPromised (zone_of time_zone_ref.entry) fields.now.year → IfErr result (λ e. e ≢ TzError.OutOfRange) }
-    ensures err { IfErr result (IsFindFault L.takes_memory (IsClock (zone_of time_zone_ref.entry)) fields.now) }
-    ensures at_most { OnOk result ((b w : ℕ) → length (zone_of time_zone_ref.entry).transitions < 2 ^ b
-        → AtMostTakeEffectAround (zone_of time_zone_ref.entry) (reading fields.now) w
-        → V.looks view.new ≤ V.looks view.old + (2 * b + w + 4)) }
-    ensures at_least_one { OnOk result (0 < length (zone_of time_zone_ref.entry).transitions → V.next (V.looks view.old) ≤ V.looks view.new) }
-    ensures none { OnOk result (length (zone_of time_zone_ref.entry).transitions ≡ 0 → V.looks view.new ≡ V.looks view.old) }
+    ensures outcome { IsOutcome (λ e. e) L.takes_memory (zone_of time_zone_ref.entry) fields.now result }
+    ensures looks { AreLooksOf (zone_of time_zone_ref.entry) (reading fields.now) (V.looks view.old) (V.next (V.looks view.old)) (V.looks view.new) result }
 {
     fields.check()?;
     let (least, greatest) = offsets(&time_zone_ref);
@@ -85,6 +76,7 @@ impl DateTime {
     ghost use Rattle.tz.specs.Found.{EachCanBeMade, IsFound};
     ghost use Rattle.tz.specs.Lists.{found_of, slots_of, count_of, reference_of};
     ghost use Rattle.tz.specs.FindFaults.{IsFindFault, IsPromised};
+    ghost use Rattle.tz.specs.Outcomes.{AreLooksOf, IsOutcome};
     ghost use Rattle.tz.specs.Slots.{filled};
     ghost use Rattle.tz.specs.LentSlots.{RestsIfInvalid};
     ghost use Rattle.tz.specs.declared.datetime.found.FoundDateTimeKind.{FoundDateTimeKind};
@@ -313,12 +305,9 @@ impl DateTime {
         ensures ok { IfOk result (λ list. (found : List FoundDateTimeKind)
             × IsFound (IsClock (zone_of time_zone_ref.entry)) (fields_of year month month_day hour minute second nanoseconds) found
             × (count_of list ≡ length found) × (slots_of list ≡ filled buf.old found)) }
-        ensures valid { OnOk result (IsValid (fields_of year month month_day hour minute second nanoseconds)) }
-        ensures made { OnOk result (EachCanBeMade (IsClock (zone_of time_zone_ref.entry)) (fields_of year month month_day hour minute second nanoseconds)) }
         ensures refused_reference { IfErr result (λ refused. refused.buf.ghost_name ≡ buf.entry.ghost_name) }
         ensures untouched { IfErr result (λ refused. IsValid (fields_of year month month_day hour minute second nanoseconds) ⊎ (refused.buf.now ≡ buf.old)) }
-        ensures promised { IsPromised (zone_of time_zone_ref.entry) year → IfErr result (λ refused. refused.fault ≢ TzError.OutOfRange) }
-        ensures err { IfErr result (λ refused. IsFindFault ⊥ (IsClock (zone_of time_zone_ref.entry)) (fields_of year month month_day hour minute second nanoseconds) refused.fault) }
+        ensures outcome { IsOutcome (λ refused. refused.fault) ⊥ (zone_of time_zone_ref.entry) (fields_of year month month_day hour minute second nanoseconds) result }
     {
         let fields = Fields::new(year, month, month_day, hour, minute, second, nanoseconds);
         let mut view = Uncounted::new(time_zone_ref.transitions());
@@ -341,12 +330,9 @@ impl DateTime {
         ensures ok { IfOk result (λ counted. (found : List FoundDateTimeKind)
             × IsFound (IsClock (zone_of time_zone_ref.entry)) (fields_of year month month_day hour minute second nanoseconds) found
             × (count_of counted.0 ≡ length found) × (slots_of counted.0 ≡ filled buf.old found)) }
-        ensures valid { OnOk result (IsValid (fields_of year month month_day hour minute second nanoseconds)) }
-        ensures made { OnOk result (EachCanBeMade (IsClock (zone_of time_zone_ref.entry)) (fields_of year month month_day hour minute second nanoseconds)) }
         ensures refused_reference { IfErr result (λ refused. refused.buf.ghost_name ≡ buf.entry.ghost_name) }
         ensures untouched { IfErr result (λ refused. IsValid (fields_of year month month_day hour minute second nanoseconds) ⊎ (refused.buf.now ≡ buf.old)) }
-        ensures promised { IsPromised (zone_of time_zone_ref.entry) year → IfErr result (λ refused. refused.fault ≢ TzError.OutOfRange) }
-        ensures err { IfErr result (λ refused. IsFindFault ⊥ (IsClock (zone_of time_zone_ref.entry)) (fields_of year month month_day hour minute second nanoseconds) refused.fault) }
+        ensures outcome { IsOutcome (λ refused. refused.fault) ⊥ (zone_of time_zone_ref.entry) (fields_of year month month_day hour minute second nanoseconds) result }
         ensures at_most { IfOk result (λ counted. (b w : ℕ) → length (zone_of time_zone_ref.entry).transitions < 2 ^ b
             → AtMostTakeEffectAround (zone_of time_zone_ref.entry) (reading (fields_of year month month_day hour minute second nanoseconds)) w
             → counted.1 ≤ 2 * b + w + 4) }
@@ -371,17 +357,10 @@ impl DateTime {
         ensures same_reference { IfOk result (λ list. reference_of list ≡ buf.entry.ghost_name) }
         ensures ok { IfOk result (λ list. (found : List FoundDateTimeKind) × IsFound (IsClock (zone_of time_zone_ref.entry)) fields.now found
             × (count_of list ≡ length found) × (slots_of list ≡ filled buf.old found)) }
-        ensures valid { OnOk result (IsValid fields.now) }
-        ensures made { OnOk result (EachCanBeMade (IsClock (zone_of time_zone_ref.entry)) fields.now) }
         ensures refused_reference { IfErr result (λ refused. refused.buf.ghost_name ≡ buf.entry.ghost_name) }
         ensures untouched { IfErr result (λ refused. IsValid fields.now ⊎ (refused.buf.now ≡ buf.old)) }
-        ensures promised { IsPromised (zone_of time_zone_ref.entry) fields.now.year → IfErr result (λ refused. refused.fault ≢ TzError.OutOfRange) }
-        ensures err { IfErr result (λ refused. IsFindFault ⊥ (IsClock (zone_of time_zone_ref.entry)) fields.now refused.fault) }
-        ensures at_most { OnOk result ((b w : ℕ) → length (zone_of time_zone_ref.entry).transitions < 2 ^ b
-            → AtMostTakeEffectAround (zone_of time_zone_ref.entry) (reading fields.now) w
-            → V.looks view.new ≤ V.looks view.old + (2 * b + w + 4)) }
-        ensures at_least_one { OnOk result (0 < length (zone_of time_zone_ref.entry).transitions → V.next (V.looks view.old) ≤ V.looks view.new) }
-        ensures none { OnOk result (length (zone_of time_zone_ref.entry).transitions ≡ 0 → V.looks view.new ≡ V.looks view.old) }
+        ensures outcome { IsOutcome (λ refused. refused.fault) ⊥ (zone_of time_zone_ref.entry) fields.now result }
+        ensures looks { AreLooksOf (zone_of time_zone_ref.entry) (reading fields.now) (V.looks view.old) (V.next (V.looks view.old)) (V.looks view.new) result }
     {
         let mut writer = SlotWriter::new(buf, 0);
         match find_in(&mut writer, fields, view, time_zone_ref) {

@@ -6,6 +6,7 @@ ghost use Rattle.tz_zone.specs.Clock.{IsClock};
 ghost use Rattle.tz_zone.specs.ZoneRef.{zone_of};
 ghost use Rattle.tz.specs.FindFaults.{IsFindFault, IsPromised};
 ghost use Rattle.tz.specs.Found.{EachCanBeMade};
+ghost use Rattle.tz.specs.Outcomes.{IsOutcome};
 ghost use Rattle.tz.specs.LocalMeanings.{HasMeaning, MeansMore, meaning_of};
 ghost use Rattle.tz.specs.declared.datetime.found.FoundDateTimeKind.TheVariants.{Normal};
 
@@ -102,10 +103,7 @@ impl DateTimeList for Meaning {
 /// What fields mean in a zone.
 fn meant(fields: &Fields, time_zone_ref: TimeZoneRef<'_>) -> Result<Meaning, TzError>
     ensures ok { IfOk result (HasMeaning (zone_of time_zone_ref.entry) fields.now) }
-    ensures valid { OnOk result (IsValid fields.now) }
-    ensures made { OnOk result (EachCanBeMade (IsClock (zone_of time_zone_ref.entry)) fields.now) }
-    ensures promised { IsPromised (zone_of time_zone_ref.entry) fields.now.year → IfErr result (λ e. e ≢ TzError.OutOfRange) }
-    ensures err { IfErr result (IsFindFault ⊥ (IsClock (zone_of time_zone_ref.entry)) fields.now) }
+    ensures outcome { IsOutcome (λ e. e) ⊥ (zone_of time_zone_ref.entry) fields.now result }
 {
     let mut meaning = Meaning::Nothing;
     let mut view = Uncounted::new(time_zone_ref.transitions());

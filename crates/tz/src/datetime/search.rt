@@ -12,6 +12,7 @@ ghost use Rattle.tz_zone.specs.ZoneSeen.{zone_seen};
 ghost use Rattle.tz.specs.Entries.{Entry, AreEntries, Finds, HasTwoTypes, IsEntryIn, IsGiven, IsGivenFault, IsRefused, IsTaker, lent_type};
 ghost use Rattle.tz.specs.FindFaults.{IsSearchFault};
 ghost use Rattle.tz.specs.Found.{EachCanBeMade, IsFound, IsJumpOver};
+ghost use Rattle.tz.specs.Outcomes.{AreLooksOf};
 ghost use Rattle.tz.specs.Reached.{AreOffsetsOf};
 ghost use Rattle.tz.specs.Windows.{AtMostTakeEffectIn, AtMostTakeEffectAround, IsSearchable, IsSmall, first_looks};
 ghost use Rattle.tz.specs.declared.datetime.found.FoundDateTimeKind.{FoundDateTimeKind};
@@ -262,11 +263,7 @@ pub(super) fn search<L: DateTimeList, V: Transitions>(
         × IsFound (IsClock (zone_seen (V.list view.old) parts.entry)) fields.now found × (length found ≤ 2 ^ 33)) }
     ensures made { OnOk result (EachCanBeMade (IsClock (zone_seen (V.list view.old) parts.entry)) fields.now) }
     ensures err { IfErr result (IsSearchFault L.takes_memory (IsClock (zone_seen (V.list view.old) parts.entry)) fields.now) }
-    ensures at_most { OnOk result ((b w : ℕ) → length (V.list view.old) < 2 ^ b
-        → AtMostTakeEffectAround (zone_seen (V.list view.old) parts.entry) (reading_of fields.now) w
-        → V.looks view.new ≤ V.looks view.old + (2 * b + w + 4)) }
-    ensures at_least_one { OnOk result (0 < length (V.list view.old) → V.next (V.looks view.old) ≤ V.looks view.new) }
-    ensures none { OnOk result (length (V.list view.old) ≡ 0 → V.looks view.new ≡ V.looks view.old) }
+    ensures looks { AreLooksOf (zone_seen (V.list view.old) parts.entry) (reading_of fields.now) (V.looks view.old) (V.next (V.looks view.old)) (V.looks view.new) result }
 {
     let reading = fields.reading();
     let (low, high) = window(reading, least, greatest);

@@ -77,8 +77,8 @@ returns-clause-err g c =
     let reading_is = to_z-of_z w64 c.reading-reading.result (search rules) ∙ c.reading-reading.ensures.value in
     IfErr-weaker c.search_window.result _ _ (λ e refused. fault_from_refused (IsClock z) c.args.fields.now c.requires.valid g.L.DateTimeList.takes_memory e refused) (rw reading_is at c.search_window.ensures.err)
 
-pub returns-clause-at_most : goal.returns-clause-at_most
-returns-clause-at_most g c =
+pub returns-clause-looks : goal.returns-clause-looks
+returns-clause-looks g c =
     let z = zone_seen (g.V.Transitions.list c.args.view.now) c.args.parts in
     let r = reading c.args.fields.now in
     let low = c.window-low.result.0 in
@@ -89,4 +89,5 @@ returns-clause-at_most g c =
     let high_is = end_is high r c.reading-reading.result c.args.least fits_reading c.ranges.least c.window-low.ensures.high c.reading-reading.ensures.value in
     let window = window_from_offsets z.types z.extra_rule r low high c.args.least greatest c.requires.offsets.0 c.requires.offsets.1 low_is high_is in
     let searched = rw (to_z-of_z w64 low (search rules), to_z-of_z w64 high (search rules)) at c.search_window.ensures.at_most in
-    on_ok_weaker c.search_window.result (λ few b w bits around. few b w bits (most_in_window z r low high window w around)) searched
+    let at_most = on_ok_weaker c.search_window.result (λ few b w bits around. few b w bits (most_in_window z r low high window w around)) searched in
+    record { at_most = at_most; at_least_one = c.search_window.ensures.at_least_one; none = c.search_window.ensures.none }

@@ -65,7 +65,7 @@ find_n_counted_spec 𝓤 𝓛 𝓜 𝓡 wired =
     use1 𝓛 (later (some (λ (r : Result Found Refused). (raw (alive 𝓛 g.signature κs qs) ⊛ ‵ ((result.the_row (found_row κs) (refused_row κs)).own_val r (v ∷ []))) ⊛
     some (λ (ws : Lasts g.ended κs a). ‵ (lasts g.ended κs a ws) ⊛ raw ((g.clauses 𝓛 𝓜.mem 𝓡.returns κs a).ensures tt r (at_exit g.ended κs a ws)))))) (id⊢ 𝓤 _) $
     await ! tt $ pick ! (λ r. split ! $ move ! (1 ∷ []) $ pick ! (λ ws. split ! $ drop ! $
-    heard_first ! _ _ (λ same. heard_first ! _ _ (λ ok. heard_first ! _ _ (λ valid. heard_first ! _ _ (λ made. heard_first ! _ _ (λ same'. heard_first ! _ _ (λ untouched. heard_first ! _ _ (λ promised. heard_first ! _ _ (λ err. heard_first ! _ _ (λ at_most. heard_first ! _ _ (λ at_least_one. heard ! _ (λ none.
+    heard_first ! _ _ (λ same. heard_first ! _ _ (λ ok. heard_first ! _ _ (λ same'. heard_first ! _ _ (λ untouched. heard_first ! _ _ (λ outcome. heard_first ! _ _ (λ at_most. heard_first ! _ _ (λ at_least_one. heard ! _ (λ none.
     split ! $ move ! (1 ∷ []) $ by_result r
     -- [the list; the tokens]
     (λ list e. rewrite ! 0 (λ (x : Result Found Refused). ‵ ((result.the_row (found_row κs) (refused_row κs)).own_val x (v ∷ []))) e refl $
@@ -84,7 +84,7 @@ find_n_counted_spec 𝓤 𝓛 𝓜 𝓡 wired =
     use0 𝓛 (‵ (RestsIfInvalid (λ counted. reference_of counted.0) a.0 fields out)) (ends_in 𝓛 (Array slot_row 0) _ _ _ _ (if_ok_at _ e same) (λ n. refl) [] tt) $
     suffices ! _ (ends_at 𝓛 f.ended stayed c ((κs, qs, bounds, a, words), tt) (live 0 (of_list (w ∷ []))) out (tt, (tt, (tt, (tt, (tt, (tt, (tt, (tt, (tt, tt))))))))) (tt, (tt, (tt, (tt, (tt, (tt, (tt, (tt, (tt, tt)))))))))) $
     nothing ! $ nothing ! $ fjoin ! $ nothing ! $ fjoin ! $ nothing ! $ fjoin ! $ nothing ! $ fjoin ! $ nothing ! $ fjoin ! $ nothing ! $ fjoin ! $ nothing ! $ fjoin ! $ nothing ! $ fjoin ! $ nothing ! $ fjoin ! $ move ! (3 ∷ 0 ∷ 2 ∷ []) $ group ! 3 $ frame ! $ frame ! $
-    by ! (fact_and 𝓤 (if_ok_at _ e same) (fact_and 𝓤 (if_ok_at _ e ok) (fact_and 𝓤 (on_ok_at _ e valid) (fact_and 𝓤 (on_ok_at _ e made) (fact_and 𝓤 (λ _. tt) (fact_and 𝓤 tt (fact_and 𝓤 (if_ok_at _ e at_most) (fact_and 𝓤 (if_ok_at _ e at_least_one) (fact_last 𝓤 (if_ok_at _ e none))))))))))))
+    by ! (fact_and 𝓤 (if_ok_at _ e same) (fact_and 𝓤 (if_ok_at _ e ok) (fact_and 𝓤 (on_ok_at _ e outcome.valid) (fact_and 𝓤 (on_ok_at _ e outcome.made) (fact_and 𝓤 (λ _. tt) (fact_and 𝓤 tt (fact_and 𝓤 (if_ok_at _ e at_most) (fact_and 𝓤 (if_ok_at _ e at_least_one) (fact_last 𝓤 (if_ok_at _ e none))))))))))))
     (λ refused e. rewrite ! 0 (λ (x : Result Found Refused). ‵ ((result.the_row (found_row κs) (refused_row κs)).own_val x (v ∷ []))) e refl $
     err_taken (found_row κs) (refused_row κs) ! (refused_laws.lowered (named_lft 2 0 tt κs)) (refused_laws.lowers (named_lft 2 0 tt κs)).val_is refused v (λ is owned.
     let w : Val = refused_laws.lowered (named_lft 2 0 tt κs) refused in let u : Val = fault_laws.lowered refused.fault in let out : Result Found TzError = Err refused.fault in
@@ -107,4 +107,4 @@ find_n_counted_spec 𝓤 𝓛 𝓜 𝓡 wired =
     use1 𝓛 (‵ (RestsIfInvalid (λ counted. reference_of counted.0) a.0 fields out)) (ends_as 𝓛 (Array slot_row 0) _ _ _ refused.buf.now (λ w. tt) (if_err_at _ e untouched)) $
     suffices ! _ (ends_at 𝓛 f.ended stayed c ((κs, qs, bounds, a, words), tt) (live 1 (of_list (u ∷ []))) out (tt, (tt, (tt, (tt, (tt, (tt, (tt, (tt, (tt, tt))))))))) (tt, (tt, (tt, (tt, (tt, (tt, (tt, (tt, (tt, tt)))))))))) $
     nothing ! $ nothing ! $ fjoin ! $ nothing ! $ fjoin ! $ nothing ! $ fjoin ! $ nothing ! $ fjoin ! $ nothing ! $ fjoin ! $ nothing ! $ fjoin ! $ nothing ! $ fjoin ! $ nothing ! $ fjoin ! $ nothing ! $ fjoin ! $ move ! (3 ∷ 0 ∷ 2 ∷ []) $ group ! 3 $ frame ! $ frame ! $
-    by ! (fact_and 𝓤 tt (fact_and 𝓤 tt (fact_and 𝓤 tt (fact_and 𝓤 tt (fact_and 𝓤 (λ p. if_err_at _ e (promised p)) (fact_and 𝓤 (if_err_at _ e err) (fact_and 𝓤 tt (fact_and 𝓤 tt (fact_last 𝓤 tt)))))))))))))))))))))))))))))
+    by ! (fact_and 𝓤 tt (fact_and 𝓤 tt (fact_and 𝓤 tt (fact_and 𝓤 tt (fact_and 𝓤 (λ p. if_err_at _ e (outcome.promised p)) (fact_and 𝓤 (if_err_at _ e outcome.err) (fact_and 𝓤 tt (fact_and 𝓤 tt (fact_last 𝓤 tt))))))))))))))))))))))))))

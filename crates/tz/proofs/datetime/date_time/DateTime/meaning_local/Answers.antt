@@ -1,0 +1,5 @@
+-- The fields that are searched for are those of the call.
+use Rattle.tz.proofs.datetime.date_time.DateTime.meaning_local.Goals as goal
+
+pub returns-clause-err : goal.returns-clause-err
+returns-clause-err c = rw c.fields.ensures at c.meant.ensures.outcome.err
