@@ -3,8 +3,8 @@ use Rattle.std.specs.Borrow.{GName}
 use Rattle.std.specs.Prelude.{ℕ, List}
 use Rattle.tz.specs.Slots.{Slots}
 use Rattle.tz.specs.declared.datetime.found.FoundDateTimeKind.{FoundDateTimeKind}
-use Rattle.tz.specs.declared.datetime.found_list.FoundDateTimeList.{FoundDateTimeList}
-use Rattle.tz.specs.declared.datetime.found_list_ref.FoundDateTimeListRefMut.{FoundDateTimeListRefMut}
+use Rattle.tz.specs.declared.datetime.found.FoundDateTimeList.{FoundDateTimeList}
+use Rattle.tz.specs.declared.datetime.found.FoundDateTimeListRefMut.{FoundDateTimeListRefMut}
 
 -- what a list holds
 abbrev pub found_of : {A : Type 0} → FoundDateTimeList A → List FoundDateTimeKind

@@ -9,7 +9,7 @@ use std::str;
 
 /// Text of at most 128 bytes, which is made without an allocation.
 ///
-/// Two printed date times with their names and what stands between them fit into one.
+/// A TZ string has at most 114 bytes, and a printed date time 53.
 #[derive(Drop)]
 pub struct TextBuffer {
     bytes: [u8; 128],

@@ -12,11 +12,9 @@ ghost use Rattle.tz.specs.Windows.{AtMostTakeEffectAround};
 ghost use Rattle.tz.specs.declared.datetime.found.FoundDateTimeKind.{FoundDateTimeKind};
 
 use super::entries::DateTimeList;
-use super::found_list::FoundDateTimeList;
-use super::found_list_ref::FoundDateTimeListRefMut;
 use super::search::search;
 use super::slot_writer::SlotWriter;
-use super::{DateTime, FoundDateTimeKind, UtcDateTime};
+use super::{DateTime, FoundDateTimeKind, FoundDateTimeList, FoundDateTimeListRefMut, UtcDateTime};
 use std::alloc::Allocator;
 use tz_base::error::TzError;
 use tz_base::fields::Fields;

@@ -101,7 +101,7 @@ impl DateTimeList for Meaning {
 }
 
 /// What fields mean in a zone.
-fn meant(fields: &Fields, time_zone_ref: TimeZoneRef<'_>) -> Result<Meaning, TzError>
+fn meaning_in(fields: &Fields, time_zone_ref: TimeZoneRef<'_>) -> Result<Meaning, TzError>
     ensures ok { IfOk result (HasMeaning (zone_of time_zone_ref.entry) fields.now) }
     ensures outcome { IsOutcome (λ e. e) ⊥ (zone_of time_zone_ref.entry) fields.now result }
 {
@@ -144,7 +144,7 @@ impl DateTime {
         ensures err { IfErr result (IsFindFault ⊥ (IsClock (zone_of time_zone_ref.entry)) (fields_of year month month_day hour minute second nanoseconds)) }
     {
         let fields = Fields::new(year, month, month_day, hour, minute, second, nanoseconds);
-        meant(&fields, time_zone_ref)
+        meaning_in(&fields, time_zone_ref)
     }
 
     /// What the local time means in the zone. The `UtcDateTime` is read as a local time, without an offset. This call does not allocate.
@@ -161,6 +161,6 @@ impl DateTime {
         ensures promised { IsPromised (zone_of time_zone_ref.entry) local.year → IfErr result (λ e. e ≢ TzError.OutOfRange) }
         ensures err { IfErr result (IsFindFault ⊥ (IsClock (zone_of time_zone_ref.entry)) local) }
     {
-        meant(local.fields(), time_zone_ref)
+        meaning_in(local.fields(), time_zone_ref)
     }
 }

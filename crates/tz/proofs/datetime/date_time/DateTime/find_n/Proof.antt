@@ -5,11 +5,11 @@ use Rattle.std.specs.contracts.result.Result as result
 use Rattle.tz_base.specs.contracts.error.TzError as fault
 use Rattle.tz_base.proofs.error.TzError.TheLaws as fault_laws
 use Rattle.tz.specs.contracts.datetime.find.Refused as refused
-use Rattle.tz.specs.contracts.datetime.found_list_ref.FoundDateTimeListRefMut as list
+use Rattle.tz.specs.contracts.datetime.found.FoundDateTimeListRefMut as list
 use Rattle.tz.specs.contracts.datetime.date_time.DateTime.find_n as f
 use Rattle.tz.specs.contracts.datetime.date_time.DateTime.listed as g
 use Rattle.tz.proofs.datetime.find.Refused.TheLaws as refused_laws
-use Rattle.tz.proofs.datetime.found_list_ref.FoundDateTimeListRefMut.TheLaws as list_laws
+use Rattle.tz.proofs.datetime.found.FoundDateTimeListRefMut.TheLaws as list_laws
 use Rattle.tz.proofs.SearchParameters.{params, stayed, spelled, spelled_tells, gone, lawful}
 use Rattle.tz.proofs.datetime.date_time.DateTime.listed.Met.{met}
 use Rattle.tz.proofs.datetime.date_time.DateTime.find_n.Statement.{statement}

@@ -6,7 +6,7 @@ use mir.Val.{SFits}
 use Rattle.tz_zone.specs.ZoneViewed.{zone_viewed}
 use Rattle.tz.proofs.ReadingWindows.{clock_between}
 use Rattle.tz.proofs.PromisedLists.{each_can_be_made}
-use Rattle.tz.proofs.datetime.zone_view.check_entries.Goals as goal
+use Rattle.tz.proofs.datetime.plain_zones.check_entries.Goals as goal
 
 pub returns-then-is_far_from_ends-clause-made : goal.returns-then-is_far_from_ends-clause-made
 returns-then-is_far_from_ends-clause-made c =

@@ -3,7 +3,7 @@ use Rattle.std.proofs.Common.{◌∙◌, arith}
 use Rattle.std.proofs.lemmas.Grind.{common_steps}
 use Rattle.tz.specs.Plain.{found_data}
 use Rattle.tz.proofs.PlacedSlots.{held}
-use Rattle.tz.proofs.datetime.zone_view.find_into.Goals as goal
+use Rattle.tz.proofs.datetime.plain_zones.find_into.Goals as goal
 
 pub returns-clause-ok : goal.returns-clause-ok
 returns-clause-ok c =

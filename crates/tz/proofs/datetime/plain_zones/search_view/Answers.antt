@@ -6,7 +6,7 @@ use Rattle.tz_zone.specs.Offsets.{AreEndOffsets}
 use Rattle.tz_zone.specs.Table.{Transition, Zone}
 use Rattle.tz_zone.specs.ZoneSeen.{zone_seen}
 use Rattle.tz_zone.specs.ZoneViewed.{zone_viewed}
-use Rattle.tz.proofs.datetime.zone_view.search_view.Goals as goal
+use Rattle.tz.proofs.datetime.plain_zones.search_view.Goals as goal
 
 pub search-requires-clause-offsets : goal.search-requires-clause-offsets
 search-requires-clause-offsets g c =

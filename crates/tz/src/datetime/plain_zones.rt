@@ -66,7 +66,7 @@ fn is_far_from_ends(year: i32) -> bool
     -2_147_483_448 <= year && year <= 2_147_483_447
 }
 
-/// Searches without writing anything. It is a call, so that the search that writes stays small.
+/// Searches without writing anything. Not inlined, so that the search that writes stays small.
 #[cold]
 #[inline(never)]
 fn check_by_search(fields: &Fields, zone: &ZoneView<'_>) -> Result<(), TzError>
@@ -84,6 +84,7 @@ fn check_entries(fields: &Fields, zone: &ZoneView<'_>) -> Result<(), TzError>
     ensures made { OnOk result (EachCanBeMade (IsClock (zone_viewed zone.now)) fields.now) }
     ensures err { IfErr result (IsSearchFault ⊥ (IsClock (zone_viewed zone.now)) fields.now) }
 {
+    // For the proof, which bounds the entries by these offsets.
     let (_least, _greatest) = zone.offsets();
     if is_far_from_ends(fields.year) {
         return Ok(());

@@ -3,7 +3,7 @@ use Rattle.std.proofs.Common.{◌<◌, inl, inr, rules}
 use Rattle.std.proofs.lemmas.Int.{to_z-of_z}
 use Rattle.std.proofs.lemmas.Result.{err_from_is_err_and, IfErr-weaker, IfOk-weaker}
 use mir.Syntax.{w64}
-use Rattle.tz.proofs.datetime.zone_view.from_timespec.Goals as goal
+use Rattle.tz.proofs.datetime.plain_zones.from_timespec.Goals as goal
 
 pub returns-in_err-local_time_type-clause-err : goal.returns-in_err-local_time_type-clause-err
 returns-in_err-local_time_type-clause-err c =

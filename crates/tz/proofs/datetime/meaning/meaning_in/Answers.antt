@@ -1,6 +1,6 @@
 -- The meaning is that of the list that the search finds.
 use Rattle.std.proofs.Common.{refl, [], arith}
-use Rattle.tz.proofs.datetime.meaning.meant.Goals as goal
+use Rattle.tz.proofs.datetime.meaning.meaning_in.Goals as goal
 
 pub returns-clause-ok : goal.returns-clause-ok
 returns-clause-ok c =
