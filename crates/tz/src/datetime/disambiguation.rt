@@ -5,17 +5,17 @@ ghost use Rattle.tz_base.specs.Fields.{IsValid};
 ghost use Rattle.tz.specs.Summaries.{IsLookedUpAt, shown_entry_of};
 ghost use Rattle.tz.specs.declared.datetime.found.FoundDateTimeKind.TheVariants.{Normal};
 ghost use Rattle.tz_zone.specs.Clock.{IsClock};
-ghost use Rattle.tz_zone.specs.ZoneRef.{zone_of};
+ghost use Rattle.tz_zone.specs.ZoneViewed.{zone_viewed};
 ghost use Rattle.tz.specs.Found.{EachCanBeMade};
 ghost use Rattle.tz.specs.Meanings.{IsMeaning, IsMeaningFault};
 
 use super::entries::DateTimeList;
-use super::find::find_in;
+use super::plain_zones::{from_timespec, search_view};
 use super::{DateTime, FoundDateTimeKind, UtcDateTime};
 use std::alloc::AllocError;
 use tz_base::error::TzError;
 use tz_base::fields::Fields;
-use tz_zone::inner::Uncounted;
+use tz_zone::inner::ZoneView;
 use tz_zone::timezone::TimeZoneRef;
 
 /// Which date time a local time means if clocks are set forward over it or show it more than once.
@@ -148,29 +148,26 @@ pub(super) fn resolved(
     Err(fields.reading() - i64::from(side.local_time_type().ut_offset()))
 }
 
-/// The one date time that fields mean, if there is one.
-fn meant(
+/// The one date time that fields mean, as [`DateTime::find_one`] answers it.
+pub fn find_one(
     fields: &Fields,
     disambiguation: Disambiguation,
-    time_zone_ref: TimeZoneRef<'_>,
+    zone: &ZoneView<'_>,
 ) -> Result<Option<DateTime>, TzError>
-    ensures ok { IfOk result (IsMeaning (zone_of time_zone_ref.entry) disambiguation fields.now) }
+    ensures ok { IfOk result (IsMeaning (zone_viewed zone.now) disambiguation fields.now) }
     ensures valid { OnOk result (IsValid fields.now) }
-    ensures made { OnOk result (EachCanBeMade (IsClock (zone_of time_zone_ref.entry)) fields.now) }
-    ensures err { IfErr result (IsMeaningFault (zone_of time_zone_ref.entry) disambiguation fields.now) }
+    ensures made { OnOk result (EachCanBeMade (IsClock (zone_viewed zone.now)) fields.now) }
+    ensures err { IfErr result (IsMeaningFault (zone_viewed zone.now) disambiguation fields.now) }
 {
+    fields.check()?;
     let mut summary = Summary::Nothing;
-    let mut view = Uncounted::new(time_zone_ref.transitions());
-    find_in(&mut summary, fields, &mut view, time_zone_ref)?;
+    search_view(&mut summary, fields, zone)?;
     let Some(entry) = summary.entry(disambiguation) else {
         return Ok(None);
     };
     match resolved(&entry, fields, disambiguation) {
         Ok(date_time) => Ok(Some(date_time)),
-        Err(unix_time) => {
-            let nanoseconds = fields.nanoseconds;
-            Ok(Some(DateTime::from_timespec(unix_time, nanoseconds, time_zone_ref)?))
-        }
+        Err(unix_time) => Ok(Some(from_timespec(unix_time, fields.nanoseconds, zone)?)),
     }
 }
 
@@ -223,7 +220,7 @@ impl DateTime {
         ensures err { IfErr result (IsMeaningFault (zone_of time_zone_ref.entry) disambiguation (fields_of year month month_day hour minute second nanoseconds)) }
     {
         let fields = Fields::new(year, month, month_day, hour, minute, second, nanoseconds);
-        meant(&fields, disambiguation, time_zone_ref)
+        find_one(&fields, disambiguation, &ZoneView::of(time_zone_ref))
     }
 
     /// The one date time that a local time means. The local time is passed as a [`UtcDateTime`] with its fields, which serves here as a
@@ -268,6 +265,6 @@ impl DateTime {
         ensures made { OnOk result (EachCanBeMade (IsClock (zone_of time_zone_ref.entry)) local) }
         ensures err { IfErr result (IsMeaningFault (zone_of time_zone_ref.entry) disambiguation local) }
     {
-        meant(local.fields(), disambiguation, time_zone_ref)
+        find_one(local.fields(), disambiguation, &ZoneView::of(time_zone_ref))
     }
 }

@@ -1,7 +1,7 @@
 //! Date times.
 
 pub(crate) mod date_time;
-mod disambiguation;
+pub(crate) mod disambiguation;
 pub(crate) mod entries;
 pub(crate) mod find;
 mod found;

@@ -7,16 +7,15 @@ ghost use Rattle.tz_zone.specs.ZoneViewed.{zone_viewed};
 ghost use Rattle.tz.specs.DateTimes.{ShowsByClock, IsClockFault};
 ghost use Rattle.tz.specs.FindFaults.{IsFarFromEnds, IsFindFault, IsSearchFault};
 ghost use Rattle.tz.specs.Found.{EachCanBeMade, IsFound};
-ghost use Rattle.tz.specs.Meanings.{IsMeaning, IsMeaningFault};
 ghost use Rattle.tz.specs.Plain.{entries_from, placed};
 ghost use Rattle.tz.specs.declared.datetime.found.FoundDateTimeKind.{FoundDateTimeKind};
 
-use super::disambiguation::{Summary, resolved};
+use super::DateTime;
+use super::disambiguation::Summary;
 use super::entries::DateTimeList;
 use super::plain::FoundData;
 use super::search::search;
 use super::slot_writer::SlotWriter;
-use super::{DateTime, Disambiguation};
 use tz_base::constants::NANOSECONDS_PER_SECOND;
 use tz_base::error::TzError;
 use tz_base::error::datetime::DateTimeError;
@@ -42,7 +41,7 @@ pub fn from_timespec(
 
 /// Adds all that is found of valid fields to the list, in order.
 #[inline(always)]
-fn search_view<L: DateTimeList>(
+pub(super) fn search_view<L: DateTimeList>(
     list: &mut L,
     fields: &Fields,
     zone: &ZoneView<'_>,
@@ -111,27 +110,4 @@ pub fn find_into(
     let mut writer = SlotWriter::new(slots, skip);
     search_view(&mut writer, fields, zone)?;
     Ok(writer.count())
-}
-
-/// The one date time that fields mean, as [`DateTime::find_one`] answers it.
-pub fn find_one(
-    fields: &Fields,
-    disambiguation: Disambiguation,
-    zone: &ZoneView<'_>,
-) -> Result<Option<DateTime>, TzError>
-    ensures ok { IfOk result (IsMeaning (zone_viewed zone.now) disambiguation fields.now) }
-    ensures valid { OnOk result (IsValid fields.now) }
-    ensures made { OnOk result (EachCanBeMade (IsClock (zone_viewed zone.now)) fields.now) }
-    ensures err { IfErr result (IsMeaningFault (zone_viewed zone.now) disambiguation fields.now) }
-{
-    fields.check()?;
-    let mut summary = Summary::Nothing;
-    search_view(&mut summary, fields, zone)?;
-    let Some(entry) = summary.entry(disambiguation) else {
-        return Ok(None);
-    };
-    match resolved(&entry, fields, disambiguation) {
-        Ok(date_time) => Ok(Some(date_time)),
-        Err(unix_time) => Ok(Some(from_timespec(unix_time, fields.nanoseconds, zone)?)),
-    }
 }

@@ -13,7 +13,6 @@ ghost use Rattle.tz.specs.Entries.{Entry, AreEntries, Finds, HasTwoTypes, IsEntr
 ghost use Rattle.tz.specs.FindFaults.{IsSearchFault};
 ghost use Rattle.tz.specs.Found.{EachCanBeMade, IsFound, IsJumpOver};
 ghost use Rattle.tz.specs.Outcomes.{AreLooksOf};
-ghost use Rattle.tz.specs.Reached.{AreOffsetsOf};
 ghost use Rattle.tz.specs.Windows.{AtMostTakeEffectIn, AtMostTakeEffectAround, IsSearchable, IsSmall, first_looks};
 ghost use Rattle.tz.specs.declared.datetime.found.FoundDateTimeKind.{FoundDateTimeKind};
 
@@ -21,7 +20,7 @@ use super::entries::{DateTimeList, Dated, Entries};
 use tz_base::error::TzError;
 use tz_base::fields::Fields;
 use tz_zone::inner::{
-    OtherParts, Transitions, Uncounted, WindowTypes, first_stage, other_parts, span_from,
+    OtherParts, Transitions, Uncounted, WindowTypes, first_stage, offsets, other_parts, span_from,
     window_types,
 };
 use tz_zone::timezone::{LocalTimeType, TimeZoneRef};
@@ -196,14 +195,6 @@ fn search_window<'a, E: Entries<'a>, V: Transitions>(
     }
 }
 
-/// Bounds of the offsets of all types that the clock has.
-fn offsets(zone: TimeZoneRef<'_>) -> (i32, i32)
-    ensures order { result.0 ≤ℤ result.1 }
-    ensures between { AreOffsetsOf (zone_of zone.entry) result.0 result.1 }
-{
-    tz_zone::inner::offsets(&zone)
-}
-
 /// The instants between which a clock with offsets from the least to the greatest one can show a reading, or be set forward over it,
 /// both counted.
 fn window(reading: i64, least: i32, greatest: i32) -> (i64, i64)
@@ -224,7 +215,7 @@ pub fn window_of(zone: TimeZoneRef<'_>, reading: i64) -> (i64, i64)
     requires { IsSmall reading }
     ensures { IsSearchable (zone_of zone.entry) reading result.0 result.1 }
 {
-    let (least, greatest) = offsets(zone);
+    let (least, greatest) = offsets(&zone);
     window(reading, least, greatest)
 }
 

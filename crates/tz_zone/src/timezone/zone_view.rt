@@ -8,9 +8,10 @@ ghost use Rattle.tz_zone.specs.ZoneSeen.{lent_rule, rule_of_lists};
 
 use super::offsets::offsets;
 use super::zone_checks::check_parts;
-use super::{Change, LeapSecond, LocalTimeType, Segment, Transition};
+use super::{Change, LeapSecond, LocalTimeType, Segment, TimeZoneRef, Transition, TransitionRule};
 use crate::clock::{self, find_following, find_preceding};
-use crate::table::{KeptRule, OtherParts, Uncounted};
+use crate::table::{KeptRule, OtherParts, Uncounted, lent};
+use std::slice::from_ref;
 use tz_base::error::TzError;
 use tz_rule::inner::{AlternateClock, RuleRef};
 
@@ -44,6 +45,18 @@ fn rule_of<'a>(fixed: &'a [LocalTimeType], alternate: &'a [AlternateClock]) -> O
     }
 }
 
+/// The two lists that give a rule.
+#[inline(always)]
+fn lists_of<'a>(rule: &'a Option<TransitionRule>) -> (&'a [LocalTimeType], &'a [AlternateClock])
+    ensures { rule_of_lists result.0.now result.1.now ≡ rule.entry.now }
+{
+    match lent(rule) {
+        None => (&[], &[]),
+        Some(RuleRef::Fixed(local_time_type)) => (from_ref(local_time_type), &[]),
+        Some(RuleRef::Alternate(clock)) => (&[], from_ref(clock)),
+    }
+}
+
 impl<'a> ZoneView<'a> {
     ghost use Rattle.std.specs.Prelude.{◌≡◌, ◌≤ℤ◌, IfOk, IfErr, OnOk, MatchOption};
     ghost use Rattle.tz_zone.specs.Changes.{segment_of, change_of, IsTrueSegment, IsFollowing, IsPreceding, HasNoFollowing, HasNoPreceding};
@@ -53,6 +66,7 @@ impl<'a> ZoneView<'a> {
     ghost use Rattle.tz_zone.specs.TableChanges.{HasTableEnds};
     ghost use Rattle.tz_zone.specs.ValidZone.{IsValidZone, IsFirstZoneFault};
     ghost use Rattle.tz_zone.specs.ZoneSeen.{rule_of_lists, zone_seen};
+    ghost use Rattle.tz_zone.specs.ZoneRef.{zone_of};
     ghost use Rattle.tz_zone.specs.ZoneViewed.{zone_viewed};
 
     /// The zone with these parts, which are checked as `TimeZoneRef::new` checks them.
@@ -79,6 +93,24 @@ impl<'a> ZoneView<'a> {
             least_offset,
             greatest_offset,
         })
+    }
+
+    /// The view of a borrowed zone.
+    #[inline(always)]
+    pub fn of(zone: TimeZoneRef<'a>) -> Self
+        ensures { zone_viewed result ≡ zone_of zone.entry }
+    {
+        let (fixed, alternate) = lists_of(zone.extra_rule());
+        let (least_offset, greatest_offset) = zone.offsets();
+        ZoneView {
+            transitions: zone.transitions(),
+            local_time_types: zone.local_time_types(),
+            leap_seconds: zone.leap_seconds(),
+            fixed,
+            alternate,
+            least_offset,
+            greatest_offset,
+        }
     }
 
     /// The transitions, in order.
