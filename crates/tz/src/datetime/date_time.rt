@@ -1,7 +1,7 @@
 //! Date times of a local time type.
 
-ghost use Rattle.std.specs.Prelude.{◌≡◌, ◌+ℤ◌, IfSome, IfNone};
-ghost use Rattle.tz_base.specs.Fields.{IsReading, IsValid};
+ghost use Rattle.std.specs.Prelude.{◌≡◌};
+ghost use Rattle.tz_base.specs.Fields.{IsValid};
 
 use super::totals::duration_between;
 use crate::text_buffer::TextBuffer;
@@ -97,11 +97,10 @@ impl Ord for DateTime {
 }
 
 impl DateTime {
-    ghost use Rattle.std.specs.Prelude.{◌≡◌, ◌≤◌, ◌<◌, ◌⊎◌, pos, ◌+ℤ◌, ◌-ℤ◌, OnOk, IfOk, IfErr};
+    ghost use Rattle.std.specs.Prelude.{◌≡◌, ◌<◌, pos, ◌+ℤ◌, ◌-ℤ◌, OnOk, IfOk, IfErr};
     ghost use Rattle.tz_base.specs.Days.{week_day_of, first_day};
     ghost use Rattle.tz_base.specs.Fields.{IsValid, IsReading, reading, day_of, fields_of};
     ghost use Rattle.tz_rule.specs.LocalTimeType.{LocalTimeType};
-    ghost use Rattle.tz_zone.specs.Clock.{IsClock, IsLookupFault};
     ghost use Rattle.tz_zone.specs.ZoneRef.{zone_of};
     ghost use Rattle.tz.specs.DateTimes.{DateTime, IsDateTime, ShowsInstant, IsShowFault, IsLocalFault, total_of, IsNearTotal, IsForwards, IsBackwards, ShowsByClock, IsClockFault, IsTotalFault, IsTotalClockFault, ShowsTotal, ShowsTotalByClock};
 

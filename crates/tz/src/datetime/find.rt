@@ -1,14 +1,12 @@
 //! The date times at which the clock of a zone shows given fields.
 
-ghost use Rattle.std.specs.Prelude.{◌≡◌, ◌≢◌, ◌⊎◌, ◌+◌, ◌*◌, ◌^◌, ◌<◌, ◌≤◌, ℕ, List, length, ⊤, IfOk, IfErr, OnOk};
+ghost use Rattle.std.specs.Prelude.{◌≡◌, ◌⊎◌, ◌+◌, ◌^◌, ◌<◌, ◌≤◌, List, length, ⊤, IfOk, OnOk};
 ghost use Rattle.tz_base.specs.Fields.{IsValid, reading};
 ghost use Rattle.tz_zone.specs.Clock.{IsClock};
 ghost use Rattle.tz_zone.specs.ZoneRef.{zone_of};
-ghost use Rattle.tz.specs.Found.{EachCanBeMade, IsFound};
+ghost use Rattle.tz.specs.Found.{IsFound};
 ghost use Rattle.tz.specs.Lists.{found_of};
 ghost use Rattle.tz.specs.Outcomes.{AreLooksOf, IsOutcome};
-ghost use Rattle.tz.specs.FindFaults.{IsFindFault, IsPromised};
-ghost use Rattle.tz.specs.Windows.{AtMostTakeEffectAround};
 ghost use Rattle.tz.specs.declared.datetime.found.FoundDateTimeKind.{FoundDateTimeKind};
 
 use super::entries::DateTimeList;

@@ -94,7 +94,7 @@ pub struct FoundDateTimeList<A: Allocator + Copy = Global> {
 }
 
 impl<A: Allocator + Copy> FoundDateTimeList<A> {
-    ghost use Rattle.std.specs.Prelude.{◌≡◌, [], ◌∷◌, ◌++◌, IfOk, IfErr, IfSome, alloc_error};
+    ghost use Rattle.std.specs.Prelude.{◌≡◌, [], IfOk, IfErr, alloc_error};
     ghost use Rattle.tz.specs.Found.{unique_of, earliest_of, latest_of};
     ghost use Rattle.tz.specs.Lists.{found_of};
 
@@ -208,7 +208,7 @@ pub struct FoundDateTimeListRefMut<'a> {
 }
 
 impl<'a> FoundDateTimeListRefMut<'a> {
-    ghost use Rattle.std.specs.Prelude.{◌≡◌, ◌+◌, ◌<◌, ◌≤◌, ◌↔◌, IsTrue, Some, None, length, min, slice_set};
+    ghost use Rattle.std.specs.Prelude.{◌≡◌, ◌<◌, ◌≤◌, ◌↔◌, IsTrue, Some, None, length, min};
     ghost use Rattle.tz.specs.Lists.{slots_of, count_of, reference_of};
     ghost use Rattle.tz.specs.Slots.{written_of, unique_slot, earliest_slot, latest_slot};
 

@@ -1,11 +1,7 @@
 //! What a local time means in a zone, without a list.
 
 ghost use Rattle.std.specs.Prelude.{◌≡◌, ◌≢◌, [], ◌∷◌, IfOk, IfErr, OnOk};
-ghost use Rattle.tz_base.specs.Fields.{IsValid};
-ghost use Rattle.tz_zone.specs.Clock.{IsClock};
 ghost use Rattle.tz_zone.specs.ZoneRef.{zone_of};
-ghost use Rattle.tz.specs.FindFaults.{IsFindFault, IsPromised};
-ghost use Rattle.tz.specs.Found.{EachCanBeMade};
 ghost use Rattle.tz.specs.Outcomes.{IsOutcome};
 ghost use Rattle.tz.specs.LocalMeanings.{HasMeaning, MeansMore, meaning_of};
 ghost use Rattle.tz.specs.declared.datetime.found.FoundDateTimeKind.TheVariants.{Normal};

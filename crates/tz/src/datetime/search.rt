@@ -1,19 +1,19 @@
 //! The search for a reading in the clock of a zone: in its window, the instants among which it finds all that the reading means.
 
-ghost use Rattle.std.specs.Prelude.{◌≡◌, ◌+◌, ◌*◌, ◌^◌, ◌<◌, ◌≤◌, ℕ, ℤ, pos, List, ◌+ℤ◌, ◌-ℤ◌, ◌≤ℤ◌, ◌<ℤ◌, OnOk, IfErr, MatchBool, length};
+ghost use Rattle.std.specs.Prelude.{◌≡◌, ◌+◌, ◌*◌, ◌^◌, ◌<◌, ◌≤◌, ℕ, ℤ, pos, List, ◌-ℤ◌, ◌≤ℤ◌, OnOk, IfErr, MatchBool, length};
 ghost use Rattle.tz_base.specs.Fields.{IsValid, reading as reading_of};
 ghost use Rattle.tz_zone.specs.Table.{Zone};
 ghost use Rattle.tz_zone.specs.Clock.{IsClock};
 ghost use Rattle.tz_zone.specs.Offsets.{AreEndOffsets};
-ghost use Rattle.tz_zone.specs.ValidZone.{AreLeapSeconds, IsSoundTable};
-ghost use Rattle.tz_zone.specs.WindowTypes.{AreTypesIn, IsPlaceOf};
+ghost use Rattle.tz_zone.specs.ValidZone.{IsSoundTable};
+ghost use Rattle.tz_zone.specs.WindowTypes.{IsPlaceOf};
 ghost use Rattle.tz_zone.specs.ZoneRef.{zone_of};
 ghost use Rattle.tz_zone.specs.ZoneSeen.{zone_seen};
 ghost use Rattle.tz.specs.Entries.{Entry, AreEntries, Finds, HasTwoTypes, IsEntryIn, IsGiven, IsGivenFault, IsRefused, IsTaker, lent_type};
 ghost use Rattle.tz.specs.FindFaults.{IsSearchFault};
 ghost use Rattle.tz.specs.Found.{EachCanBeMade, IsFound, IsJumpOver};
 ghost use Rattle.tz.specs.Outcomes.{AreLooksOf};
-ghost use Rattle.tz.specs.Windows.{AtMostTakeEffectIn, AtMostTakeEffectAround, IsSearchable, IsSmall, first_looks};
+ghost use Rattle.tz.specs.Windows.{AtMostTakeEffectIn, IsSearchable, IsSmall, first_looks};
 ghost use Rattle.tz.specs.declared.datetime.found.FoundDateTimeKind.{FoundDateTimeKind};
 
 use super::entries::{DateTimeList, Dated, Entries};

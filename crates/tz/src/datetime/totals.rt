@@ -1,6 +1,6 @@
 //! Totals of nanoseconds, and durations between them.
 
-ghost use Rattle.std.specs.Prelude.{◌≡◌, ◌<◌, ◌↔◌, pos, negsuc, ◌^◌, ◌+ℤ◌, ◌-ℤ◌, ◌≤ℤ◌, IfOk, IfErr, IsSome, IfSome};
+ghost use Rattle.std.specs.Prelude.{◌<◌, ◌↔◌, pos, negsuc, ◌^◌, ◌+ℤ◌, ◌-ℤ◌, ◌≤ℤ◌, IfOk, IfErr, IsSome, IfSome};
 ghost use Rattle.std.specs.Duration.{as_nanos};
 ghost use Rattle.tz_base.specs.Fields.{IsReading, IsTimespec, total_nanoseconds_of};
 ghost use Rattle.tz.specs.DateTimes.{IsUtcTotal, IsNearTotal, IsForwards, IsBackwards};

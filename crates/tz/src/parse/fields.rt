@@ -1,10 +1,7 @@
 //! The date and the time of a text.
 
-ghost use Rattle.std.specs.Prelude.{◌≡◌, ◌∷◌, ◌⊎◌, ℕ, List, MatchOption, MatchResult, IfOk};
-ghost use Rattle.tz_base.specs.Days.{is_leap, month_length};
-ghost use Rattle.tz_base.specs.Fields.{IsValid, fields_of};
-ghost use Rattle.tz.specs.DateTimes.{IsUtc};
-ghost use Rattle.tz.specs.DateTimeText.{IsPair, IsSeparator, IsSecond, date, time};
+ghost use Rattle.std.specs.Prelude.{ℕ, List, MatchOption, MatchResult};
+ghost use Rattle.tz.specs.DateTimeText.{IsSeparator, IsSecond, date, time};
 
 use super::error::{DateTimePart, Missing, expect};
 use super::number::{read_fraction, read_pair, read_year};

@@ -6,7 +6,7 @@ pub(crate) mod number;
 mod offset;
 mod usual;
 
-ghost use Rattle.std.specs.Prelude.{◌≡◌, ◌-ℤ◌, List, ℕ, [], Option, IfOk, IfErr, MatchResult};
+ghost use Rattle.std.specs.Prelude.{◌≡◌, ◌-ℤ◌, Option, IfOk, IfErr, MatchResult};
 ghost use Rattle.tz.specs.DateTimeText.{date_time, IsDateTimeText, IsDateTimeTextFault};
 
 use crate::datetime::UtcDateTime;

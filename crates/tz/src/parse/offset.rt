@@ -1,7 +1,7 @@
 //! Offsets at the end of texts.
 
-ghost use Rattle.std.specs.Prelude.{◌≡◌, ◌∷◌, ℕ, ◌+◌, ◌*◌, ◌^◌, ◌<◌, List, ℤ, pos, MatchOption, MatchResult, IfOk};
-ghost use Rattle.tz.specs.DateTimeText.{IsPair, IsMark, IsHours, IsMinutes, IsSeconds, duration, offset};
+ghost use Rattle.std.specs.Prelude.{◌≡◌, ℕ, ◌+◌, ◌*◌, ◌^◌, ◌<◌, List, pos, MatchOption, MatchResult};
+ghost use Rattle.tz.specs.DateTimeText.{IsMark, IsHours, IsMinutes, IsSeconds, duration, offset};
 
 use super::error::{DateTimePart, Missing, expect};
 use super::number::{read_digits, read_pair};

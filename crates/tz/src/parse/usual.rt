@@ -1,6 +1,6 @@
 //! Texts as most date times are printed, which are read at once.
 
-ghost use Rattle.std.specs.Prelude.{◌≡◌, ℕ, ℤ, true, ◌+◌, ◌-◌, ◌*◌, ◌^◌, ◌<◌, ◌≤◌, ◌++◌, ◌∷◌, [], length, drop, get_or, IfSome, FitsSigned};
+ghost use Rattle.std.specs.Prelude.{◌≡◌, true, ◌+◌, ◌-◌, ◌*◌, ◌<◌, ◌≤◌, ◌++◌, length, drop, get_or, IfSome, FitsSigned};
 ghost use Rattle.std.specs.Int.{w32};
 ghost use Rattle.tz_base.specs.Fields.{IsValid};
 ghost use Rattle.tz_rule.specs.LocalTimeType.{IsOffset};
