@@ -6,4 +6,3 @@ pub mod constants;
 pub mod error;
 pub mod fields;
 pub mod laws;
-pub mod moved_year;
