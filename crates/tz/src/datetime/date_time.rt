@@ -3,7 +3,7 @@
 ghost use Rattle.std.specs.Prelude.{◌≡◌, ◌+ℤ◌, IfSome, IfNone};
 ghost use Rattle.tz_base.specs.Fields.{IsReading, IsValid};
 
-use super::totals::duration_between;
+use super::durations::duration_between;
 use crate::text_buffer::TextBuffer;
 use std::cmp::Ordering;
 use std::fmt;

@@ -2,6 +2,7 @@
 
 pub(crate) mod date_time;
 mod disambiguation;
+mod durations;
 pub(crate) mod entries;
 pub(crate) mod find;
 mod find_one;
@@ -12,7 +13,6 @@ mod meaning;
 pub(crate) mod plain;
 pub(crate) mod search;
 mod slot_writer;
-mod totals;
 pub(crate) mod utc_date_time;
 pub(crate) mod zone_view;
 

@@ -4,7 +4,7 @@ ghost use Rattle.std.specs.Prelude.{MatchBool};
 ghost use Rattle.tz.specs.DateTimes.{IsPastTheEnd};
 
 use super::DateTime;
-use super::totals::{duration_between, timespec_after, timespec_before, utc_timespec};
+use super::durations::{duration_between, timespec_after, timespec_before, utc_timespec};
 use crate::text_buffer::TextBuffer;
 use std::fmt;
 use std::marker::Model;

@@ -1,4 +1,4 @@
-//! Totals of nanoseconds, and durations between them.
+//! Date times moved by durations, and durations between totals.
 
 ghost use Rattle.std.specs.Prelude.{◌≡◌, ◌<◌, ◌↔◌, pos, negsuc, ◌^◌, ◌+ℤ◌, ◌-ℤ◌, ◌≤ℤ◌, IfOk, IfErr, IsSome, IfSome};
 ghost use Rattle.std.specs.Duration.{as_nanos};
