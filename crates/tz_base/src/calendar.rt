@@ -3,15 +3,14 @@
 //! Years are moved by cycles of 400 years, so that none is negative. A cycle has 146097 days, which are whole weeks, so a moved year has the months
 //! and the week days of the year that it stands for.
 
-ghost use Rattle.std.specs.Prelude.{◌≡◌, Bool, if◌then◌else◌, ℕ, ◌+◌, ◌-◌, ◌/◌, ◌^◌, ◌<◌, ◌≤◌, true, ℤ, pos, negsuc, ◌+ℤ◌, ◌-ℤ◌, ◌≤ℤ◌, IfSome, IfNone, MatchBool, FitsSigned};
-ghost use Rattle.std.specs.Int.{w64};
+ghost use Rattle.std.specs.Prelude.{◌≡◌, Bool, if◌then◌else◌, ◌+◌, ◌-◌, ◌/◌, ◌^◌, ◌<◌, ◌≤◌, true, pos, negsuc, ◌+ℤ◌, ◌-ℤ◌, ◌≤ℤ◌, MatchBool};
 ghost use Rattle.tz_base.specs.Cycles.{days_of_years, days_of_march_years as closed_march_days, march_month, march_month_day};
 ghost use Rattle.tz_base.specs.Days.{is_leap, month_length, months_length, first_day, day_number, week_day_of, IsDateOf};
-ghost use Rattle.tz_base.specs.Fields.{IsMonth, IsReading, total_nanoseconds_of, IsTimespec};
+ghost use Rattle.tz_base.specs.Fields.{IsMonth, IsReading};
 
 use crate::constants::{
     CUMUL_DAYS_IN_MONTHS_LEAP_YEAR, CUMUL_DAYS_IN_MONTHS_NORMAL_YEAR, DAYS_PER_400_YEARS,
-    NANOSECONDS_PER_SECOND, SECONDS_PER_DAY,
+    SECONDS_PER_DAY,
 };
 
 /// How many cycles a year is moved by.
@@ -246,23 +245,4 @@ pub(crate) fn date_of_day(day: u64) -> (i32, u8, u8)
     } else {
         (year_of_moved(march_year + 1), month - 12, month_day + 1)
     }
-}
-
-/// Nanoseconds from 1970-01-01T00:00:00Z on.
-pub fn total_nanoseconds(unix_time: i64, nanoseconds: u32) -> i128
-    ensures { result ≡ total_nanoseconds_of unix_time nanoseconds }
-{
-    i128::from(NANOSECONDS_PER_SECOND) * i128::from(unix_time) + i128::from(nanoseconds)
-}
-
-/// The seconds of a total of nanoseconds, rounded down, and the nanoseconds that remain, if the seconds fit 64 bits.
-pub fn timespec(total: i128) -> Option<(i64, u32)>
-    ensures found { IfSome result (λ t. IsTimespec total t.0 t.1) }
-    ensures none { IfNone result ((seconds : ℤ) (nanoseconds : ℕ) → IsTimespec total seconds nanoseconds → ¬ FitsSigned w64 seconds) }
-{
-    let nanoseconds_per_second = i128::from(NANOSECONDS_PER_SECOND);
-    let seconds = total.div_euclid(nanoseconds_per_second);
-    let nanoseconds = total.rem_euclid(nanoseconds_per_second) as u32;
-    let seconds = i64::try_from(seconds).ok()?;
-    Some((seconds, nanoseconds))
 }

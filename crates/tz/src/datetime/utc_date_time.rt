@@ -10,11 +10,11 @@ use std::fmt;
 use std::marker::Model;
 use std::ops::{Add, AddAssign, Sub, SubAssign};
 use std::time::Duration;
-use tz_base::calendar;
 use tz_base::constants::NANOSECONDS_PER_SECOND;
 use tz_base::error::TzError;
 use tz_base::error::datetime::DateTimeError;
 use tz_base::fields::{Fields, is_reading};
+use tz_base::totals;
 use tz_zone::timezone::TimeZoneRef;
 
 /// A date time of UTC, in a year of 32 bits. (ISO 8601)
@@ -360,7 +360,7 @@ impl UtcDateTime {
         ensures value { result ≡ utc_total self.now }
         ensures bound { IsUtcTotal result }
     {
-        calendar::total_nanoseconds(self.unix_time(), self.fields.nanoseconds)
+        totals::total_nanoseconds(self.unix_time(), self.fields.nanoseconds)
     }
 
     /// What the zone's clock shows at this instant.
