@@ -1,19 +1,29 @@
 //! The proleptic Gregorian calendar over all years of 32 bits: leap years, the lengths of months, week days, and days by number and back.
 //!
-//! Also instants as a total of nanoseconds, and back.
+//! Years are moved by cycles of 400 years, so that none is negative. A cycle has 146097 days, which are whole weeks, so a moved year has the months
+//! and the week days of the year that it stands for.
 
-ghost use Rattle.std.specs.Prelude.{◌≡◌, Bool, if◌then◌else◌, ℕ, ◌+◌, ◌-◌, ◌^◌, ◌<◌, ◌≤◌, true, ℤ, pos, negsuc, ◌+ℤ◌, ◌-ℤ◌, ◌≤ℤ◌, IfSome, IfNone, MatchBool, FitsSigned};
-ghost use Rattle.std.specs.Int.{w64};
-ghost use Rattle.tz_base.specs.Cycles.{days_of_march_years as closed_march_days, march_month, march_month_day};
+ghost use Rattle.std.specs.Prelude.{◌≡◌, Bool, if◌then◌else◌, ◌+◌, ◌-◌, ◌/◌, ◌^◌, ◌<◌, ◌≤◌, true, pos, negsuc, ◌+ℤ◌, ◌-ℤ◌, ◌≤ℤ◌, MatchBool};
+ghost use Rattle.tz_base.specs.Cycles.{days_of_years, days_of_march_years as closed_march_days, march_month, march_month_day};
 ghost use Rattle.tz_base.specs.Days.{is_leap, month_length, months_length, first_day, day_number, week_day_of, IsDateOf};
-ghost use Rattle.tz_base.specs.Fields.{IsMonth, total_nanoseconds_of, IsTimespec};
+ghost use Rattle.tz_base.specs.Fields.{IsMonth, IsReading};
 
 use crate::constants::{
-    CUMUL_DAYS_IN_MONTHS_LEAP_YEAR, CUMUL_DAYS_IN_MONTHS_NORMAL_YEAR, NANOSECONDS_PER_SECOND,
+    CUMUL_DAYS_IN_MONTHS_LEAP_YEAR, CUMUL_DAYS_IN_MONTHS_NORMAL_YEAR, DAYS_PER_400_YEARS,
+    SECONDS_PER_DAY,
 };
-use crate::moved_year::{
-    ADDED_DAYS, days_before_moved_year, is_moved_year_leap, moved_year, year_of_moved,
-};
+
+/// How many cycles a year is moved by.
+const CYCLES: i64 = 5_368_710;
+
+/// The years of these cycles.
+const ADDED_YEARS: i64 = 400 * CYCLES;
+
+/// The days from January 1st of the year -2147484000, which is moved to 0, to 1970-01-01.
+pub const ADDED_DAYS: i64 = DAYS_PER_400_YEARS * CYCLES + 719_528;
+
+/// The seconds of these days.
+const ADDED_SECONDS: i64 = SECONDS_PER_DAY * ADDED_DAYS;
 
 /// The days from the day before March 1st of the year -2147484000 to 1970-01-01.
 const ADDED_MARCH_DAYS: i64 = 784_353_144_339;
@@ -21,11 +31,60 @@ const ADDED_MARCH_DAYS: i64 = 784_353_144_339;
 /// Days from March 1st to the first of each month: January and February come last.
 const DAYS_FROM_MARCH: [u16; 12] = [306, 337, 0, 31, 61, 92, 122, 153, 184, 214, 245, 275];
 
-/// Whether the year is leap.
+/// The year, moved.
+#[inline(always)]
+pub fn moved_year(year: i32) -> u64
+    ensures value { pos result ≡ year +ℤ pos 2147484000 }
+    ensures bound { (352 ≤ result) × (result ≤ 4294967647) }
+{
+    (i64::from(year) + ADDED_YEARS) as u64
+}
+
+/// The year that a moved year stands for.
+#[inline(always)]
+pub fn year_of_moved(years: u64) -> i32
+    requires { (352 ≤ years) × (years ≤ 4294967647) }
+    ensures { result +ℤ pos 2147484000 ≡ pos years }
+{
+    (years as i64 - ADDED_YEARS) as i32
+}
+
+/// Seconds from 1970-01-01 00:00:00 on, counted from January 1st of the year -2147484000 instead.
+#[inline(always)]
+pub fn moved_seconds(seconds: i64) -> u64
+    requires { IsReading seconds }
+    ensures { pos result ≡ seconds +ℤ pos 67768111675987200 }
+{
+    (seconds + ADDED_SECONDS) as u64
+}
+
+/// Whether the year is leap: divisible by 4 but not by 100, or divisible by 400.
 pub fn is_leap_year(year: i32) -> bool
     ensures { result ≡ is_leap year }
 {
     is_moved_year_leap(moved_year(year))
+}
+
+/// Whether a moved year is leap. One that is divisible by 100 is divisible by 400 exactly if it is by 16.
+#[inline(always)]
+pub fn is_moved_year_leap(years: u64) -> bool
+    requires { years ≤ 4294967647 }
+    ensures { result ≡ is_leap (pos years) }
+{
+    if 100 * centuries_before(years) == years {
+        years % 16 == 0
+    } else {
+        years % 4 == 0
+    }
+}
+
+/// How many years before a moved year are divisible by 100. A multiplication and a shift stand for the division.
+#[inline(always)]
+fn centuries_before(years: u64) -> u64
+    requires { years ≤ 4294967647 }
+    ensures { result ≡ (years + 99) / 100 }
+{
+    1_374_389_535 * (years + 99) / 137_438_953_472
 }
 
 /// How many days a month of a leap year or of another one has.
@@ -66,6 +125,16 @@ pub fn first_day_of_year(year: i32) -> i64
     ensures bound { (negsuc 784353015832 ≤ℤ result) × (result ≤ℤ pos 784351576412) }
 {
     days_before_moved_year(moved_year(year)) as i64 - ADDED_DAYS
+}
+
+/// The days before a moved year, from January 1st of the year -2147484000 on.
+#[inline(always)]
+pub fn days_before_moved_year(years: u64) -> u64
+    requires { years ≤ 4294967647 }
+    ensures value { result ≡ days_of_years years }
+    ensures bound { result < 2 ^ 42 }
+{
+    (1461 * years + 3) / 4 - 3 * centuries_before(years) / 4
 }
 
 /// The days of a leap year or of another one before a month of it.
@@ -176,23 +245,4 @@ pub(crate) fn date_of_day(day: u64) -> (i32, u8, u8)
     } else {
         (year_of_moved(march_year + 1), month - 12, month_day + 1)
     }
-}
-
-/// Nanoseconds from 1970-01-01T00:00:00Z on.
-pub fn total_nanoseconds(unix_time: i64, nanoseconds: u32) -> i128
-    ensures { result ≡ total_nanoseconds_of unix_time nanoseconds }
-{
-    i128::from(NANOSECONDS_PER_SECOND) * i128::from(unix_time) + i128::from(nanoseconds)
-}
-
-/// The seconds of a total of nanoseconds, rounded down, and the nanoseconds that remain, if the seconds fit 64 bits.
-pub fn timespec(total: i128) -> Option<(i64, u32)>
-    ensures found { IfSome result (λ t. IsTimespec total t.0 t.1) }
-    ensures none { IfNone result ((seconds : ℤ) (nanoseconds : ℕ) → IsTimespec total seconds nanoseconds → ¬ FitsSigned w64 seconds) }
-{
-    let nanoseconds_per_second = i128::from(NANOSECONDS_PER_SECOND);
-    let seconds = total.div_euclid(nanoseconds_per_second);
-    let nanoseconds = total.rem_euclid(nanoseconds_per_second) as u32;
-    let seconds = i64::try_from(seconds).ok()?;
-    Some((seconds, nanoseconds))
 }

@@ -8,11 +8,10 @@ ghost use Rattle.tz_base.specs.Fields.{IsValid, IsFirstFault, IsCivil, IsReading
 
 use crate::calendar::{
     date_of_day, days_before_month, days_since_unix_epoch, has_month_day, is_leap_year,
-    week_day_of_day,
+    moved_seconds, week_day_of_day,
 };
 use crate::constants::{NANOSECONDS_PER_SECOND, SECONDS_PER_DAY};
 use crate::error::datetime::DateTimeError;
-use crate::moved_year::moved_seconds;
 
 /// The seven fields of a date time, in the order in which they are compared.
 #[repr(C)]

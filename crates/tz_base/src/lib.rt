@@ -1,4 +1,5 @@
-//! What the crates above share: the constants, the error types, the proleptic Gregorian calendar both ways, and the fields of date times.
+//! What the crates above share: the constants, the error types, the proleptic Gregorian calendar both ways, the fields of date times, and instants
+//! as totals of nanoseconds.
 #![tactic(auto)]
 
 pub mod calendar;
@@ -6,4 +7,4 @@ pub mod constants;
 pub mod error;
 pub mod fields;
 pub mod laws;
-pub mod moved_year;
+pub mod totals;

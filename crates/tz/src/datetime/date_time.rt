@@ -3,17 +3,17 @@
 ghost use Rattle.std.specs.Prelude.{◌≡◌};
 ghost use Rattle.tz_base.specs.Fields.{IsValid};
 
-use super::totals::duration_between;
+use super::durations::duration_between;
 use crate::text_buffer::TextBuffer;
 use std::cmp::Ordering;
 use std::fmt;
 use std::marker::Model;
 use std::time::Duration;
-use tz_base::calendar;
 use tz_base::constants::NANOSECONDS_PER_SECOND;
 use tz_base::error::TzError;
 use tz_base::error::datetime::DateTimeError;
 use tz_base::fields::{Fields, is_reading, local_reading};
+use tz_base::totals;
 use tz_zone::timezone::{LocalTimeType, TimeZoneRef};
 
 /// A date time with the local time type that shows it, and its Unix time.
@@ -260,7 +260,7 @@ impl DateTime {
         ensures ok { IfOk result (ShowsTotal total_nanoseconds local_time_type) }
         ensures err { IfErr result (IsTotalFault total_nanoseconds local_time_type.ut_offset) }
     {
-        let Some((unix_time, nanoseconds)) = calendar::timespec(total_nanoseconds) else {
+        let Some((unix_time, nanoseconds)) = totals::timespec(total_nanoseconds) else {
             return Err(TzError::OutOfRange);
         };
         DateTime::shown_by(unix_time, nanoseconds, local_time_type)
@@ -279,7 +279,7 @@ impl DateTime {
         ensures ok { IfOk result (ShowsTotalByClock (zone_of time_zone_ref.entry) total_nanoseconds) }
         ensures err { IfErr result (IsTotalClockFault (zone_of time_zone_ref.entry) total_nanoseconds) }
     {
-        let Some((unix_time, nanoseconds)) = calendar::timespec(total_nanoseconds) else {
+        let Some((unix_time, nanoseconds)) = totals::timespec(total_nanoseconds) else {
             return Err(TzError::OutOfRange);
         };
         DateTime::from_timespec(unix_time, nanoseconds, time_zone_ref)
@@ -407,7 +407,7 @@ impl DateTime {
         ensures value { result ≡ total_of self.now }
         ensures bound { IsNearTotal result }
     {
-        calendar::total_nanoseconds(self.unix_time, self.fields.nanoseconds)
+        totals::total_nanoseconds(self.unix_time, self.fields.nanoseconds)
     }
 
     /// The duration from an earlier date time to this one.

@@ -2,6 +2,7 @@
 
 pub(crate) mod date_time;
 pub(crate) mod disambiguation;
+mod durations;
 pub(crate) mod entries;
 pub(crate) mod find;
 mod found;
@@ -10,7 +11,6 @@ pub(crate) mod plain;
 pub(crate) mod plain_zones;
 pub(crate) mod search;
 mod slot_writer;
-mod totals;
 pub(crate) mod utc_date_time;
 
 pub use date_time::DateTime;

@@ -4,17 +4,17 @@ ghost use Rattle.std.specs.Prelude.{MatchBool};
 ghost use Rattle.tz.specs.DateTimes.{IsPastTheEnd};
 
 use super::DateTime;
-use super::totals::{duration_between, timespec_after, timespec_before, utc_timespec};
+use super::durations::{duration_between, timespec_after, timespec_before, utc_timespec};
 use crate::text_buffer::TextBuffer;
 use std::fmt;
 use std::marker::Model;
 use std::ops::{Add, AddAssign, Sub, SubAssign};
 use std::time::Duration;
-use tz_base::calendar;
 use tz_base::constants::NANOSECONDS_PER_SECOND;
 use tz_base::error::TzError;
 use tz_base::error::datetime::DateTimeError;
 use tz_base::fields::{Fields, is_reading};
+use tz_base::totals;
 use tz_zone::timezone::TimeZoneRef;
 
 /// A date time of UTC, in a year of 32 bits. (ISO 8601)
@@ -360,7 +360,7 @@ impl UtcDateTime {
         ensures value { result ≡ utc_total self.now }
         ensures bound { IsUtcTotal result }
     {
-        calendar::total_nanoseconds(self.unix_time(), self.fields.nanoseconds)
+        totals::total_nanoseconds(self.unix_time(), self.fields.nanoseconds)
     }
 
     /// What the zone's clock shows at this instant.

@@ -16,8 +16,8 @@ ghost use Rattle.tz_rule.specs.declared.timezone.rule.TransitionRule.TheVariants
 use super::LocalTimeType;
 use super::alternate_clock::AlternateClock;
 use super::rule_years::{FIRST_YEAR, LAST_YEAR, likely_years, new_year, rule_year};
+use tz_base::calendar::moved_year;
 use tz_base::error::TzError;
-use tz_base::moved_year::moved_year;
 
 /// A span of time through which a rule has one type, or none.
 #[derive(Clone, Copy)]

@@ -5,10 +5,9 @@ ghost use Rattle.tz_base.specs.Days.{first_day};
 ghost use Rattle.tz_rule.specs.Alternate.{IsUtcYear, IsRuleYear, IsInRuleYears};
 ghost use Rattle.tz_rule.specs.LikelyYears.{IsLikelyYear, IsTriedYear, moved_back};
 
-use tz_base::calendar;
+use tz_base::calendar::{first_day_of_year, moved_seconds};
 use tz_base::constants::SECONDS_PER_DAY;
 use tz_base::fields::{Fields, is_reading};
-use tz_base::moved_year::moved_seconds;
 
 /// The first year over which a rule is defined.
 pub(super) const FIRST_YEAR: i32 = i32::MIN + 2;
@@ -27,7 +26,7 @@ pub(super) fn new_year(year: i32) -> i64
     ensures value { result ≡ pos 86400 *ℤ first_day year }
     ensures bound { (negsuc 67768100567971199 ≤ℤ result) × (result ≤ℤ pos 67767976202016000) }
 {
-    SECONDS_PER_DAY * calendar::first_day_of_year(year)
+    SECONDS_PER_DAY * first_day_of_year(year)
 }
 
 /// The year of an instant in UTC, if rules are defined over it.

@@ -4,8 +4,8 @@ ghost use Rattle.std.specs.Prelude.{◌≡◌, ◌+◌, ◌*◌, ◌/◌, ◌%�
 ghost use Rattle.tz_base.specs.Days.{first_day};
 ghost use Rattle.tz_rule.specs.Kinds.{kind_of as kind_by, year_kind};
 
+use tz_base::calendar::{ADDED_DAYS, days_before_moved_year, is_moved_year_leap};
 use tz_base::constants::SECONDS_PER_DAY;
-use tz_base::moved_year::{ADDED_DAYS, days_before_moved_year, is_moved_year_leap};
 
 /// How many kinds of years there are.
 pub(super) const KINDS: usize = 14;

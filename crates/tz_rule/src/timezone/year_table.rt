@@ -7,7 +7,7 @@ ghost use Rattle.tz_rule.specs.YearTables.{instant_in, entry, day_table, AreBoun
 
 use super::RuleDay;
 use super::year_kinds::{KINDS, moved_year_start};
-use tz_base::moved_year::moved_year;
+use tz_base::calendar::moved_year;
 
 /// How many seconds after 00:00 UTC of January 1st an instant of the year is, for each kind of years.
 #[repr(C)]

@@ -2,7 +2,7 @@
 use Rattle.std.proofs.Common.{◌≡◌, ◌%◌, ◌≢◌, arith}
 use Rattle.std.proofs.lemmas.Bool.Decides.{nat_tests}
 use Rattle.tz_base.specs.Days.{is_leap}
-use Rattle.tz_base.proofs.moved_year.is_moved_year_leap.Goals as goal
+use Rattle.tz_base.proofs.calendar.is_moved_year_leap.Goals as goal
 
 pub returns-then-centuries_before-years : goal.returns-then-centuries_before-years
 unfolding is_leap

@@ -5,7 +5,7 @@ use mir.Syntax.{w64, w128}
 use mir.Val.{SFits}
 use Rattle.tz_zone.proofs.LeapTimes.{IsInstant-from_bounds}
 use Rattle.tz.proofs.TimespecTotals.{timespec_exists}
-use Rattle.tz.proofs.datetime.totals.utc_timespec.Goals as goal
+use Rattle.tz.proofs.datetime.durations.utc_timespec.Goals as goal
 
 pub returns-in_err-seconds-clause-in_range : goal.returns-in_err-seconds-clause-in_range
 returns-in_err-seconds-clause-in_range c =

@@ -1,4 +1,4 @@
-//! Totals of nanoseconds, and durations between them.
+//! Date times moved by durations, and durations between totals.
 
 ghost use Rattle.std.specs.Prelude.{◌<◌, ◌↔◌, pos, negsuc, ◌^◌, ◌+ℤ◌, ◌-ℤ◌, ◌≤ℤ◌, IfOk, IfErr, IsSome, IfSome};
 ghost use Rattle.std.specs.Duration.{as_nanos};
@@ -6,16 +6,16 @@ ghost use Rattle.tz_base.specs.Fields.{IsReading, IsTimespec, total_nanoseconds_
 ghost use Rattle.tz.specs.DateTimes.{IsUtcTotal, IsNearTotal, IsForwards, IsBackwards};
 
 use std::time::Duration;
-use tz_base::calendar;
 use tz_base::constants::NANOSECONDS_PER_SECOND;
 use tz_base::fields::is_reading;
+use tz_base::totals;
 
 /// The seconds of the total, rounded down, and the nanoseconds that remain, if the seconds are those of a UTC date time.
 pub(super) fn utc_timespec(total: i128) -> Option<(i64, u32)>
     ensures some { IfSome result (λ t. IsReading t.0 × IsTimespec total t.0 t.1) }
     ensures in_range { IsSome result ↔ IsUtcTotal total }
 {
-    let (seconds, nanoseconds) = calendar::timespec(total)?;
+    let (seconds, nanoseconds) = totals::timespec(total)?;
     is_reading(seconds).then_some((seconds, nanoseconds))
 }
 

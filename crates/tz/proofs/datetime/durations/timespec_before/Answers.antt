@@ -3,7 +3,7 @@ use Rattle.std.proofs.Common.{arith}
 use Rattle.std.proofs.lemmas.Int.{ints}
 use Rattle.std.specs.Duration.{as_nanos}
 use Rattle.tz.proofs.TimespecTotals.{timespec_earlier, range_earlier, below_a_second}
-use Rattle.tz.proofs.datetime.totals.timespec_before.Goals as goal
+use Rattle.tz.proofs.datetime.durations.timespec_before.Goals as goal
 
 pub returns-clause-some : goal.returns-clause-some
 returns-clause-some c =
