@@ -7,11 +7,12 @@ ghost use Rattle.tz_zone.specs.TzFileFault.{IsReadFault};
 ghost use Rattle.tz_zone.specs.ZoneRef.{zone_of};
 ghost use Rattle.tz_query.specs.Answers.{AreAnswers, AreFileAnswers};
 
-use super::lines::{Query, after_line, read_query, read_usual_search_line, read_usual_time_line};
+use super::lines::{Query, after_line, read_query};
 use super::nanoseconds::Nanoseconds;
 use super::output::Output;
 use super::page::Page;
 use super::type_texts::{Suffix, Suffixes};
+use super::usual_lines::{read_usual_search_line, read_usual_time_line};
 use std::alloc::{AllocError, Allocator};
 use tz::{LocalTimeType, TimeZone, TimeZoneRef, TzError};
 
