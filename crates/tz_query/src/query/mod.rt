@@ -2,7 +2,6 @@
 
 mod answers;
 mod error_names;
-mod line_meaning;
 mod lines;
 mod meeting_answers;
 mod nanoseconds;
