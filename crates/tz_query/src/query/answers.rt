@@ -16,63 +16,27 @@ use super::usual_lines::{read_usual_search_line, read_usual_time_line};
 use std::alloc::{AllocError, Allocator};
 use tz::{LocalTimeType, TimeZone, TimeZoneRef, TzError};
 
-/// 30 days in seconds: lines whose instants are less than this apart are taken as lines in order.
-const NEAR: u64 = 2_592_000;
-
-/// The answers of lines over a zone, and what the lines share: a span of time through which the clock has one type.
+/// The answers of lines over a zone, and what the lines share: a segment throughout which the clock has one type.
 #[derive(Drop)]
 pub struct Answers<'a, A: Allocator + Copy> {
     pub alloc: A,
     pub zone: TimeZoneRef<'a>,
-    from: i64,
-    last: i64,
-    /// The suffix of the span's type.
+    /// The first instant of the kept segment, which is empty if this is after the last.
+    pub from: i64,
+    /// Its last instant.
+    pub last: i64,
+    /// The suffix of the segment's type.
     pub suffix: Suffix,
     pub suffixes: Suffixes,
-    /// The last instant outside the span, 0 if there was none.
-    missed: i64,
+    /// The last line's instant that was outside the segment, 0 if there was none.
+    pub missed: i64,
     pub output: Output<A>,
 }
 
 impl<'a, A: Allocator + Copy> Answers<'a, A> {
     ghost use Rattle.tz_query.specs.Answers.{IsAnswer};
     ghost use Rattle.tz_query.specs.Lines.{IsFirstLine, ended};
-    ghost use Rattle.tz_query.specs.Outputs.{Adds, IsSound, Leaves};
-
-    /// Whether instants from the first one to the second are in the span.
-    #[inline(always)]
-    pub fn has(&self, low: i64, high: i64) -> bool
-        ensures { IsTrue result → (self.now.from ≤ℤ low) × (high ≤ℤ self.now.last) }
-    {
-        self.from <= low && high <= self.last
-    }
-
-    /// Keeps the segment around an instant, if the clock has a type there.
-    #[inline(never)]
-    fn keep_segment(&mut self, unix_time: i64)
-        requires { IsSound self.old }
-        ensures { Leaves self.old self.new }
-    {
-        let segment = self.zone.segment_at(unix_time);
-        if let Some(local_time_type) = segment.local_time_type() {
-            self.from = segment.from();
-            self.last = segment.last();
-            self.suffix = *self.suffixes.of(local_time_type);
-        }
-    }
-
-    /// Keeps the segment around an instant if the lines seem to be in order.
-    #[inline(always)]
-    pub fn follow(&mut self, unix_time: i64)
-        requires { IsSound self.old }
-        ensures { Leaves self.old self.new }
-    {
-        let is_near = unix_time.abs_diff(self.missed) < NEAR;
-        self.missed = unix_time;
-        if is_near {
-            self.keep_segment(unix_time);
-        }
-    }
+    ghost use Rattle.tz_query.specs.Outputs.{Adds, IsSound};
 
     /// Answers the first line, whatever its numbers, and returns the place after that line.
     ///

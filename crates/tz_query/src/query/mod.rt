@@ -2,6 +2,7 @@
 
 mod answers;
 mod error_names;
+mod kept_segment;
 mod lines;
 mod meeting_answers;
 mod nanoseconds;
