@@ -40,7 +40,7 @@ impl<'a, A: Allocator + Copy> Answers<'a, A> {
 
     /// Answers the first line, whatever its numbers, and returns the place after that line.
     ///
-    /// A place is returned in a register, and so costs nothing if this is not called.
+    /// The place is a number, so that the call returns it in a register.
     #[inline(never)]
     fn answer_any_line(&mut self, queries: &[u8]) -> Result<usize, AllocError>
         requires { IsSound self.old }
@@ -83,12 +83,15 @@ impl<'a, A: Allocator + Copy> Answers<'a, A> {
 
 /// Answers query bytes over a zone.
 ///
-/// A query is a letter and numbers, one space apart. `T u n` is the date time at the Unix time u with n nanoseconds: its answer is the
-/// date time and the name of its type, `-` if it has none. `F y mo d h mi s n` is the search of [`DateTime::find`] for these fields: its
+/// A query is a letter and numbers, separated by exactly one space. `T u n` is the date time at the Unix time u with n nanoseconds: its answer
+/// is the date time and the name of its type, `-` if it has none. `F y mo d h mi s n` is the search of [`DateTime::find`] for these fields: its
 /// answer is `F` and how many entries there are, and a line for each, `N` with a date time and its name, or `S` with those before and after
 /// a jump. `W c y mo d h mi s n` is that search in each of c weeks, for the date that lies as many weeks later: its answer is `W` and c, and
 /// that of an `F` line for each week. A query that fails is answered by `E ` and the name of the error, any other line by `E Line`. Lines and
 /// answers end in LF; the last line may lack it.
+///
+/// A number is an optional minus sign and one or more digits; leading zeros are allowed, and so is `-0`, even for an unsigned type. Its value
+/// must fit its type: `i64` for u, `i32` for y, `u32` for n, and `u8` for all others.
 ///
 /// # Errors
 ///
