@@ -1,6 +1,6 @@
 //! The answers of query lines.
 
-ghost use Rattle.std.specs.Prelude.{◌≡◌, ◌≤◌, ◌≤ℤ◌, ℕ, List, [], length, drop, IfOk, IfErr, IfSome, IsTrue, MatchResult, alloc_error};
+ghost use Rattle.std.specs.Prelude.{◌≡◌, ◌≤◌, ℕ, List, length, drop, IfOk, IfErr, MatchResult, alloc_error};
 ghost use Rattle.tz_zone.specs.Table.{Zone};
 ghost use Rattle.tz_zone.specs.TzFile.{IsTzFile};
 ghost use Rattle.tz_zone.specs.TzFileFault.{IsReadFault};

@@ -1,6 +1,6 @@
 //! Answers of fields.
 
-ghost use Rattle.std.specs.Prelude.{◌≡◌, ◌≤◌, ◌⊎◌, ◌∷◌, ◌++◌, [], ℕ, ℤ, List, length, IfOk};
+ghost use Rattle.std.specs.Prelude.{◌≡◌, ◌≤◌, ◌⊎◌, ◌∷◌, ◌++◌, [], ℤ, length, IfOk};
 ghost use Rattle.std.specs.List.{All};
 
 use super::answers::Answers;
@@ -69,18 +69,14 @@ impl<'a> Entries<'a> for LineMeaning<'a> {
 
 impl<'a, A: Allocator + Copy> Answers<'a, A> {
     ghost use Rattle.tz_base.specs.Fields.{IsValid, reading as reading_of};
-    ghost use Rattle.tz_zone.specs.Clock.{IsClock};
     ghost use Rattle.tz_zone.specs.ZoneRef.{zone_of};
     ghost use Rattle.tz.specs.DateTimes.{DateTime, ShowsInstant, moment_of};
-    ghost use Rattle.tz.specs.Entries.{Entry, AreEntries};
     ghost use Rattle.tz.specs.Found.{CanBeMade};
     ghost use Rattle.tz.specs.PrintedText.{moment_text};
     ghost use Rattle.tz.specs.Windows.{IsSearchable};
-    ghost use Rattle.tz.specs.declared.datetime.found.FoundDateTimeKind.TheVariants.{Normal as Shown, Skipped as SkippedKind};
+    ghost use Rattle.tz.specs.declared.datetime.found.FoundDateTimeKind.TheVariants.{Skipped as SkippedKind};
     ghost use Rattle.tz_query.specs.Answers.{entry_text, found_lines};
-    ghost use Rattle.tz_query.specs.LineMeanings.{IsMeaningOf};
     ghost use Rattle.tz_query.specs.Lines.{ended, line_feed};
-    ghost use Rattle.tz_query.specs.Numbers.{space};
     ghost use Rattle.tz_query.specs.Nanoseconds.{HasNanoseconds, number_of, with_nanoseconds};
     ghost use Rattle.tz_query.specs.Outputs.{Adds, IsAnswered, IsSound};
     ghost use Rattle.tz_query.specs.Pages.{EndsLine};

@@ -1,6 +1,6 @@
 //! Lines of usual numbers, which are read in few steps.
 
-ghost use Rattle.std.specs.Prelude.{◌≡◌, ℕ, min, ◌+◌, ◌<◌, ◌≤◌, List, length, ◌∷◌, drop, ℤ, pos, negsuc, ◌≤ℤ◌, IfSome};
+ghost use Rattle.std.specs.Prelude.{◌≡◌, ℕ, ◌+◌, ◌<◌, ◌≤◌, List, length, ◌∷◌, drop, ℤ, pos, negsuc, ◌≤ℤ◌, IfSome};
 ghost use Rattle.std.specs.Str.Parse.{digits_value};
 ghost use Rattle.tz.specs.PrintedText.{nine_digits};
 ghost use Rattle.tz.specs.DateTimeText.{IsDigits};
