@@ -2,8 +2,8 @@
 use Rattle.std.specs.Prelude.{◌≡◌, ⊤, ℤ, List, [], ◌∷◌, ◌++◌}
 use Rattle.std.proofs.Common.{sym, subst, append_assoc, append-nil}
 use Rattle.tz.specs.Entries.{Entry, Shown, Jump}
-use Rattle.tz_query.specs.declared.query.line_meaning.LineMeaning.{LineMeaning}
-use Rattle.tz_query.specs.declared.query.line_meaning.LineMeaning.TheVariants.{Nothing, Once, Twice, Skipped, More}
+use Rattle.tz_query.specs.declared.query.search_answers.LineMeaning.{LineMeaning}
+use Rattle.tz_query.specs.declared.query.search_answers.LineMeaning.TheVariants.{Nothing, Once, Twice, Skipped, More}
 
 -- the entries are nothing, one, two that are shown, or a jump
 abbrev pub IsMeaningOf : List Entry → LineMeaning → Type 0

@@ -12,7 +12,7 @@ use Rattle.tz_query.specs.declared.query.output.Output.{Output}
 abbrev pub written : {A : Type 0} → Output A → List ℕ
 written output = output.answers.items ++ output.page
 
--- through the span that is kept the clock has the type whose suffix is kept
+-- throughout the kept segment the clock has the type whose suffix is kept
 abbrev pub IsSound : {A : Type 0} → Answers A → Type 0
 IsSound a = (u : ℤ) → a.from ≤ℤ u → u ≤ℤ a.last → IsClock (zone_of a.zone) u a.suffix.local_time_type
 

@@ -1,81 +1,46 @@
 //! The answers of query lines.
 
-ghost use Rattle.std.specs.Prelude.{◌≡◌, ◌≤◌, ◌≤ℤ◌, ℕ, List, [], length, drop, IfOk, IfErr, IfSome, IsTrue, MatchResult, alloc_error};
+ghost use Rattle.std.specs.Prelude.{◌≡◌, ◌≤◌, ℕ, List, length, drop, IfOk, IfErr, MatchResult, alloc_error};
 ghost use Rattle.tz_zone.specs.Table.{Zone};
 ghost use Rattle.tz_zone.specs.TzFile.{IsTzFile};
 ghost use Rattle.tz_zone.specs.TzFileFault.{IsReadFault};
 ghost use Rattle.tz_zone.specs.ZoneRef.{zone_of};
 ghost use Rattle.tz_query.specs.Answers.{AreAnswers, AreFileAnswers};
 
-use super::lines::{Query, after_line, read_query, read_usual_search_line, read_usual_time_line};
+use super::lines::{Query, after_line, read_query};
 use super::nanoseconds::Nanoseconds;
 use super::output::Output;
 use super::page::Page;
 use super::type_texts::{Suffix, Suffixes};
+use super::usual_lines::{read_usual_search_line, read_usual_time_line};
 use std::alloc::{AllocError, Allocator};
 use tz::{LocalTimeType, TimeZone, TimeZoneRef, TzError};
 
-/// 30 days in seconds: lines whose instants are less than this apart are taken as lines in order.
-const NEAR: u64 = 2_592_000;
-
-/// The answers of lines over a zone, and what the lines share: a span of time through which the clock has one type.
+/// The answers of lines over a zone, and what the lines share: a segment throughout which the clock has one type.
 #[derive(Drop)]
 pub struct Answers<'a, A: Allocator + Copy> {
     pub alloc: A,
     pub zone: TimeZoneRef<'a>,
-    from: i64,
-    last: i64,
-    /// The suffix of the span's type.
+    /// The first instant of the kept segment, which is empty if this is after the last.
+    pub from: i64,
+    /// Its last instant.
+    pub last: i64,
+    /// The suffix of the segment's type.
     pub suffix: Suffix,
     pub suffixes: Suffixes,
-    /// The last instant outside the span, 0 if there was none.
-    missed: i64,
+    /// The last line's instant that was outside the segment, 0 if there was none.
+    pub missed: i64,
     pub output: Output<A>,
 }
 
 impl<'a, A: Allocator + Copy> Answers<'a, A> {
     ghost use Rattle.tz_query.specs.Answers.{IsAnswer};
     ghost use Rattle.tz_query.specs.Lines.{IsFirstLine, ended};
-    ghost use Rattle.tz_query.specs.Outputs.{Adds, IsSound, Leaves};
-
-    /// Whether instants from the first one to the second are in the span.
-    #[inline(always)]
-    pub fn has(&self, low: i64, high: i64) -> bool
-        ensures { IsTrue result → (self.now.from ≤ℤ low) × (high ≤ℤ self.now.last) }
-    {
-        self.from <= low && high <= self.last
-    }
-
-    /// Keeps the segment around an instant, if the clock has a type there.
-    #[inline(never)]
-    fn keep_segment(&mut self, unix_time: i64)
-        requires { IsSound self.old }
-        ensures { Leaves self.old self.new }
-    {
-        let segment = self.zone.segment_at(unix_time);
-        if let Some(local_time_type) = segment.local_time_type() {
-            self.from = segment.from();
-            self.last = segment.last();
-            self.suffix = *self.suffixes.of(local_time_type);
-        }
-    }
-
-    /// Keeps the segment around an instant if the lines seem to be in order.
-    #[inline(always)]
-    pub fn follow(&mut self, unix_time: i64)
-        requires { IsSound self.old }
-        ensures { Leaves self.old self.new }
-    {
-        let is_near = unix_time.abs_diff(self.missed) < NEAR;
-        self.missed = unix_time;
-        if is_near {
-            self.keep_segment(unix_time);
-        }
-    }
+    ghost use Rattle.tz_query.specs.Outputs.{Adds, IsSound};
 
     /// Answers the first line, whatever its numbers, and returns the place after that line.
     ///
-    /// A place is returned in a register, and so costs nothing if this is not called.
+    /// The place is a number, so that the call returns it in a register.
     #[inline(never)]
     fn answer_any_line(&mut self, queries: &[u8]) -> Result<usize, AllocError>
         requires { IsSound self.old }
@@ -118,12 +83,15 @@ impl<'a, A: Allocator + Copy> Answers<'a, A> {
 
 /// Answers query bytes over a zone.
 ///
-/// A query is a letter and numbers, one space apart. `T u n` is the date time at the Unix time u with n nanoseconds: its answer is the
-/// date time and the name of its type, `-` if it has none. `F y mo d h mi s n` is the search of [`DateTime::find`] for these fields: its
+/// A query is a letter and numbers, separated by exactly one space. `T u n` is the date time at the Unix time u with n nanoseconds: its answer
+/// is the date time and the name of its type, `-` if it has none. `F y mo d h mi s n` is the search of [`DateTime::find`] for these fields: its
 /// answer is `F` and how many entries there are, and a line for each, `N` with a date time and its name, or `S` with those before and after
 /// a jump. `W c y mo d h mi s n` is that search in each of c weeks, for the date that lies as many weeks later: its answer is `W` and c, and
 /// that of an `F` line for each week. A query that fails is answered by `E ` and the name of the error, any other line by `E Line`. Lines and
 /// answers end in LF; the last line may lack it.
+///
+/// A number is an optional minus sign and one or more digits; leading zeros are allowed, and so is `-0`, even for an unsigned type. Its value
+/// must fit its type: `i64` for u, `i32` for y, `u32` for n, and `u8` for all others.
 ///
 /// # Errors
 ///

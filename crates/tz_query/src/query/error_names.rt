@@ -1,4 +1,4 @@
-//! The names of errors in answers.
+//! The names of errors in answers. `Line` is written where it arises, and so are `OutOfRange` and `InvalidNanoseconds` in some places.
 
 ghost use Rattle.std.specs.Prelude.{◌≡◌, ◌≤◌, ℕ, List, length};
 ghost use Rattle.tz_query.specs.Answers.{field_fault_text, IsFaultText};

@@ -1,15 +1,16 @@
-//! The first line of bytes, and its query.
+//! What a line is: its query, the numbers in it, and where it ends.
 
-ghost use Rattle.std.specs.Prelude.{◌≡◌, ◌≢◌, ℕ, ◌<◌, List, ℤ, pos, negsuc, ◌≤ℤ◌, length, IfSome, IfNone, IfOk, IfErr};
+ghost use Rattle.std.specs.Prelude.{◌≡◌, ◌≢◌, ℕ, List, ℤ, length, All, IfSome, IfNone, IfOk, IfErr, FitsSigned};
+ghost use Rattle.std.specs.Int.{w64};
 ghost use Rattle.tz_base.specs.declared.fields.Fields.{Fields};
-ghost use Rattle.tz.specs.PrintedText.{nine_digits};
 ghost use Rattle.tz_query.specs.declared.query.lines.Query.{Query};
 ghost use Rattle.tz_query.specs.Lines.{IsFirstLine};
-ghost use Rattle.tz_query.specs.Queries.{AreFieldsOfBits, numbers_of, IsTimeLine, IsSearchLine, IsQueryLine};
+ghost use Rattle.tz_query.specs.Numbers.{AreNumbers, IsNumberFront};
+ghost use Rattle.tz_query.specs.Queries.{AreFieldsOfBits, numbers_of, IsQueryLine};
 
-use crate::query::numbers::{read_nanoseconds, read_numbers, read_small, read_usual_number};
+use crate::query::usual_lines::read_small;
 use std::num::TryFromIntError;
-use tz::inner::{Fields, after_byte};
+use tz::inner::{Fields, after_byte, read_digits};
 
 /// What a line asks for: the date time of an instant, with nanoseconds, the date times of fields, or those of fields in a number of weeks.
 #[derive(Drop)]
@@ -29,6 +30,49 @@ pub fn after_line(bytes: &[u8]) -> &[u8]
         }
     }
     &[]
+}
+
+/// The number at the beginning of the bytes, if there is one of 64 bits, and the bytes after it. Most have one digit or two.
+#[inline(always)]
+pub fn read_number(bytes: &[u8]) -> Option<(i64, &[u8])>
+    ensures some { IfSome result (λ r. IsNumberFront bytes.now r.0 r.1.now) }
+    ensures none { IfNone result ((n : ℤ) (rest : List ℕ) → FitsSigned w64 n → ¬ IsNumberFront bytes.now n rest) }
+{
+    if bytes.len() >= 3
+        && let Some((number, end)) = read_small(bytes, 0)
+    {
+        return Some((i64::from(number), &bytes[end..]));
+    }
+    let (size, count) = read_digits(bytes);
+    if count > 0 {
+        return Some((0i64.checked_add_unsigned(size)?, &bytes[count..]));
+    }
+    let digits = after_byte(bytes, b'-')?;
+    let (size, count) = read_digits(digits);
+    if count == 0 {
+        return None;
+    }
+    Some((0i64.checked_sub_unsigned(size)?, &digits[count..]))
+}
+
+/// Numbers at the beginning of the bytes, each of 64 bits and after a space, if the line ends after the last of them, and the bytes after
+/// that line.
+#[inline(always)]
+fn read_numbers<const N: usize>(bytes: &[u8]) -> Option<([i64; N], &[u8])>
+    ensures some { IfSome result (λ r. (line : List ℕ) × IsFirstLine bytes.now line r.1.now × AreNumbers line r.0) }
+    ensures none { IfNone result ((line : List ℕ) (numbers : List ℤ) (rest : List ℕ) → length numbers ≡ N → All (FitsSigned w64) numbers
+        → IsFirstLine bytes.now line rest → ¬ AreNumbers line numbers) }
+{
+    let mut numbers = [0; N];
+    let mut rest = bytes;
+    for place in 0..N {
+        let number = after_byte(rest, b' ')?;
+        (numbers[place], rest) = read_number(number)?;
+    }
+    if rest.is_empty() {
+        return Some((numbers, rest));
+    }
+    Some((numbers, after_byte(rest, b'\n')?))
 }
 
 /// The fields of these numbers, if each is one of its field's type.
@@ -69,57 +113,4 @@ pub fn read_query(queries: &[u8]) -> Option<(Query, &[u8])>
     let count = u8::try_from(numbers[0]).ok()?;
     let fields = fields_of(&numbers[1..]).ok()?;
     Some((Query::Meeting(count, fields), rest))
-}
-
-/// The instant of the first line, if it is a `T` line of usual numbers, and the bytes after it. Its nanoseconds are copied.
-///
-/// A line that begins in the last 47 bytes is left to [`read_query`]: so no read here has to test where the queries end.
-#[inline(always)]
-pub fn read_usual_time_line<'a>(queries: &'a [u8], nine: &mut [u8; 9]) -> Option<(i64, &'a [u8])>
-    ensures line { IfSome result (λ r. (n : ℕ) × (n < 1000000000) × (nine.new ≡ nine_digits n)
-        × ((line : List ℕ) × IsFirstLine queries.now line r.1.now × IsTimeLine line r.0 n)) }
-    ensures bound { IfSome result (λ r. (negsuc 1000000000000000000 ≤ℤ r.0) × (r.0 ≤ℤ pos 1000000000000000000)) }
-{
-    if queries.len() < 48 || queries[0] != b'T' {
-        return None;
-    }
-    let (unix_time, after_seconds) = read_usual_number(queries, 1)?;
-    let next = read_nanoseconds(queries, after_seconds, nine)?;
-    Some((unix_time, &queries[next..]))
-}
-
-/// The fields of the first line, if it is an `F` line of usual numbers, and the bytes after it. Its nanoseconds are copied, and are 0 in the
-/// fields.
-#[inline(always)]
-pub fn read_usual_search_line<'a>(
-    queries: &'a [u8],
-    nine: &mut [u8; 9],
-) -> Option<(Fields, &'a [u8])>
-    ensures { IfSome result (λ r. (n : ℕ) × (n < 1000000000) × (nine.new ≡ nine_digits n)
-        × ((line : List ℕ) × IsFirstLine queries.now line r.1.now × IsSearchLine line (record r.0 { nanoseconds = n }))) }
-{
-    if queries.len() < 48 || queries[0] != b'F' {
-        return None;
-    }
-    let (number, after_year) = read_usual_number(queries, 1)?;
-    let year = i32::try_from(number).ok()?;
-    if queries[after_year] != b' ' {
-        return None;
-    }
-    let (month, after_month) = read_small(queries, after_year + 1)?;
-    let (month_day, after_day) = read_small(queries, after_month + 1)?;
-    let (hour, after_hour) = read_small(queries, after_day + 1)?;
-    let (minute, after_minute) = read_small(queries, after_hour + 1)?;
-    let (second, after_second) = read_small(queries, after_minute + 1)?;
-    let next = read_nanoseconds(queries, after_second, nine)?;
-    let fields = Fields {
-        year,
-        month,
-        month_day,
-        hour,
-        minute,
-        second,
-        nanoseconds: 0,
-    };
-    Some((fields, &queries[next..]))
 }

@@ -2,11 +2,10 @@
 
 mod answers;
 mod error_names;
-mod line_meaning;
+mod kept_segment;
 mod lines;
 mod meeting_answers;
 mod nanoseconds;
-mod numbers;
 mod output;
 mod page;
 mod program;
@@ -14,6 +13,7 @@ mod search_answers;
 mod streams;
 mod time_answers;
 mod type_texts;
+mod usual_lines;
 
 pub use answers::{answer, answer_tzif};
 pub use program::tool;

@@ -9,7 +9,7 @@ ghost use Rattle.tz_base.specs.declared.error.TzError.{TzError};
 ghost use Rattle.tz_zone.specs.Table.{Zone};
 ghost use Rattle.tz_zone.specs.ZoneRef.{own_zone_of};
 
-use crate::query::numbers::read_number;
+use crate::query::lines::read_number;
 use crate::query::streams::{RunFault, run};
 use std::alloc::Allocator;
 use std::io::{Read, Write};

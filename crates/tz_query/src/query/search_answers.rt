@@ -1,33 +1,82 @@
 //! Answers of fields.
 
-ghost use Rattle.std.specs.Prelude.{◌≡◌, ◌≤◌, ◌⊎◌, ◌∷◌, ◌++◌, [], ℕ, ℤ, List, length, IfOk};
+ghost use Rattle.std.specs.Prelude.{◌≡◌, ◌≤◌, ◌⊎◌, ◌∷◌, ◌++◌, [], ℤ, length, IfOk};
 ghost use Rattle.std.specs.List.{All};
 
 use super::answers::Answers;
 use super::error_names::field_fault_name;
-use super::line_meaning::LineMeaning;
 use super::nanoseconds::Nanoseconds;
 use super::output::Written;
 use super::time_answers::shown_fields;
 use std::alloc::Allocator;
 use tz::datetime::{DateTime, FoundDateTimeKind};
-use tz::inner::{self, Fields, fields_of, search_zone, window_of};
+use tz::inner::{self, Entries, Fields, fields_of, search_zone, window_of};
 use tz::{LocalTimeType, TzError};
+
+/// What a local time means to the clock of a zone.
+#[derive(Clone, Copy)]
+enum LineMeaning<'a> {
+    /// The clock neither shows it nor is set forward over it.
+    Nothing,
+    /// The clock shows it once, in this type.
+    Once(&'a LocalTimeType),
+    /// The clock shows it in the first type, and later in the second.
+    Twice(&'a LocalTimeType, &'a LocalTimeType),
+    /// The clock is set forward over it, from this Unix time on, from the first type to the second.
+    Skipped(i64, &'a LocalTimeType, &'a LocalTimeType),
+    /// Anything else.
+    More,
+}
+
+impl<'a> Entries<'a> for LineMeaning<'a> {
+    ghost use Rattle.std.specs.Prelude.{⊤};
+    ghost use Rattle.tz_query.specs.LineMeanings.{MeansMore};
+
+    ghost gains = { MeansMore };
+
+    ghost takes = { λ meaning r. ⊤ };
+
+    ghost refuses = { λ fault e. ⊥ };
+
+    #[inline(always)]
+    fn shown(
+        &mut self,
+        _unix_time: i64,
+        local_time_type: &'a LocalTimeType,
+    ) -> Result<(), TzError> {
+        *self = match *self {
+            LineMeaning::Nothing => LineMeaning::Once(local_time_type),
+            LineMeaning::Once(before) => LineMeaning::Twice(before, local_time_type),
+            _ => LineMeaning::More,
+        };
+        Ok(())
+    }
+
+    #[inline(always)]
+    fn skipped(
+        &mut self,
+        unix_time: i64,
+        before: &'a LocalTimeType,
+        after: &'a LocalTimeType,
+    ) -> Result<(), TzError> {
+        *self = match *self {
+            LineMeaning::Nothing => LineMeaning::Skipped(unix_time, before, after),
+            _ => LineMeaning::More,
+        };
+        Ok(())
+    }
+}
 
 impl<'a, A: Allocator + Copy> Answers<'a, A> {
     ghost use Rattle.tz_base.specs.Fields.{IsValid, reading as reading_of};
-    ghost use Rattle.tz_zone.specs.Clock.{IsClock};
     ghost use Rattle.tz_zone.specs.ZoneRef.{zone_of};
     ghost use Rattle.tz.specs.DateTimes.{DateTime, ShowsInstant, moment_of};
-    ghost use Rattle.tz.specs.Entries.{Entry, AreEntries};
     ghost use Rattle.tz.specs.Found.{CanBeMade};
     ghost use Rattle.tz.specs.PrintedText.{moment_text};
     ghost use Rattle.tz.specs.Windows.{IsSearchable};
-    ghost use Rattle.tz.specs.declared.datetime.found.FoundDateTimeKind.TheVariants.{Normal as Shown, Skipped as SkippedKind};
+    ghost use Rattle.tz.specs.declared.datetime.found.FoundDateTimeKind.TheVariants.{Skipped as SkippedKind};
     ghost use Rattle.tz_query.specs.Answers.{entry_text, found_lines};
-    ghost use Rattle.tz_query.specs.LineMeanings.{IsMeaningOf};
     ghost use Rattle.tz_query.specs.Lines.{ended, line_feed};
-    ghost use Rattle.tz_query.specs.Numbers.{space};
     ghost use Rattle.tz_query.specs.Nanoseconds.{HasNanoseconds, number_of, with_nanoseconds};
     ghost use Rattle.tz_query.specs.Outputs.{Adds, IsAnswered, IsSound};
     ghost use Rattle.tz_query.specs.Pages.{EndsLine};

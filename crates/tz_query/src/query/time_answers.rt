@@ -58,8 +58,8 @@ impl<'a, A: Allocator + Copy> Answers<'a, A> {
     ghost use Rattle.tz_query.specs.Nanoseconds.{number_of};
     ghost use Rattle.tz_query.specs.Outputs.{IsAnswered, IsSound, Leaves};
 
-    /// The type of the clock at an instant outside the span, if it has one. It is a call, since a lookup is too long to stand where lines are
-    /// answered.
+    /// The type of the clock at an instant outside the kept segment, if it has one. It is not inlined, since a lookup is too long to stand where
+    /// lines are answered.
     #[inline(never)]
     fn type_at(&mut self, unix_time: i64) -> Option<&'a LocalTimeType>
         requires { IsSound self.old }

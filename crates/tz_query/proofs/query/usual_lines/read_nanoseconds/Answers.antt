@@ -7,7 +7,7 @@ use Rattle.std.proofs.lemmas.List.{length-set}
 use Rattle.tz.specs.PrintedText.{nine_digits}
 use Rattle.tz_query.specs.Numbers.{IsPartFront}
 use Rattle.tz_query.proofs.FastNumbers.{front_at, length_at, byte_at, few_in_window, end_before, digits_of_nine, nine_digits_are, one_more_zero, plain_part}
-use Rattle.tz_query.proofs.query.numbers.read_nanoseconds.Goals as goal
+use Rattle.tz_query.proofs.query.usual_lines.read_nanoseconds.Goals as goal
 
 -- the digits after a space and before LF, with as many zeros before them as they lack of nine
 padded : (bs : List ℕ) (place k zeros : ℕ) (nine : List ℕ) → place + 11 ≤ length bs → get_or bs place 0 ≡ 32 → k ≡ 0 + digits_len (drop 0 (slice_range bs (place + 1) (place + 1 + 9))) →

@@ -9,7 +9,7 @@ use mir.Val.{SFits}
 use Rattle.tz.specs.DateTimeText.{EndsDigits}
 use Rattle.tz_query.specs.Numbers.{IsNumberFront}
 use Rattle.tz_query.proofs.NumberFronts.{plain_number, minus_number, no_number, NoNumber, no_other_number, IfNone-anyway}
-use Rattle.tz_query.proofs.query.numbers.read_number.Goals as goal
+use Rattle.tz_query.proofs.query.lines.read_number.Goals as goal
 
 pub returns-in_err-checked_add_unsigned-clause-none : goal.returns-in_err-checked_add_unsigned-clause-none
 returns-in_err-checked_add_unsigned-clause-none c =

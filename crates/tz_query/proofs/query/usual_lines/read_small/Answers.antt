@@ -1,7 +1,7 @@
 -- One digit or two stand before a space.
 use Rattle.std.proofs.Common.{◌≡◌, ◌+◌, ◌*◌, [], ◌∷◌, drop, get_or, refl, ap, ◌∙◌, arith}
 use Rattle.tz_query.proofs.FastNumbers.{byte_at, front_before_space}
-use Rattle.tz_query.proofs.query.numbers.read_small.Goals as goal
+use Rattle.tz_query.proofs.query.usual_lines.read_small.Goals as goal
 
 pub returns-then-bytes-place-eq32-clause-number : goal.returns-then-bytes-place-eq32-clause-number
 returns-then-bytes-place-eq32-clause-number c =

@@ -9,7 +9,7 @@ use Rattle.tz_query.specs.Numbers.{IsNumberFront, ArePartsFront}
 use Rattle.tz_query.proofs.AnswerLines.{some_left}
 use Rattle.tz_query.proofs.NumberFronts.{parts_more, IfNone-anyway}
 use Rattle.tz_query.proofs.LineFronts.{NoNumbers, line_of_parts, next_part, end_of_parts}
-use Rattle.tz_query.proofs.query.numbers.read_numbers.Goals as goal
+use Rattle.tz_query.proofs.query.lines.read_numbers.Goals as goal
 
 pub loop-place-preserved : goal.loop-place-preserved
 loop-place-preserved g c =

@@ -1,6 +1,6 @@
 use Rattle.std.proofs.Common.{◌≡◌, length, take}
 use Rattle.tz_query.specs.Numbers.{ArePartsFront}
-use Rattle.tz_query.proofs.query.numbers.read_numbers.Given as goal
+use Rattle.tz_query.proofs.query.lines.read_numbers.Given as goal
 
 abbrev pub invariant-loop-place : goal.invariant-loop-place
 invariant-loop-place g l = (length l.numbers ≡ g.row.N) × ArePartsFront l.bytes (take l.place l.numbers) l.rest

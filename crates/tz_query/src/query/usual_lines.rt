@@ -1,58 +1,67 @@
-//! Numbers at the beginning of bytes: of any length, and, read in few steps, those that lines mostly have.
+//! Lines of usual numbers, which are read in few steps.
 
-ghost use Rattle.std.specs.Prelude.{◌≡◌, ℕ, min, ◌+◌, ◌<◌, ◌≤◌, List, length, ◌∷◌, drop, ℤ, pos, negsuc, ◌≤ℤ◌, All, IfSome, IfNone, FitsSigned};
-ghost use Rattle.std.specs.Char.{digit_value};
-ghost use Rattle.std.specs.Int.{w64};
+ghost use Rattle.std.specs.Prelude.{◌≡◌, ℕ, ◌+◌, ◌<◌, ◌≤◌, List, length, ◌∷◌, drop, ℤ, pos, negsuc, ◌≤ℤ◌, IfSome};
 ghost use Rattle.std.specs.Str.Parse.{digits_value};
 ghost use Rattle.tz.specs.PrintedText.{nine_digits};
-ghost use Rattle.tz_query.specs.Lines.{IsFirstLine, line_feed};
 ghost use Rattle.tz.specs.DateTimeText.{IsDigits};
-ghost use Rattle.tz_query.specs.Numbers.{AreNumbers, IsNumberFront, IsPartFront};
+ghost use Rattle.tz_query.specs.Lines.{IsFirstLine, line_feed};
+ghost use Rattle.tz_query.specs.Numbers.{IsNumberFront, IsPartFront};
+ghost use Rattle.tz_query.specs.Queries.{IsTimeLine, IsSearchLine};
 
 use core::dec2flt;
-use tz::inner::{after_byte, read_digits, value_of};
+use tz::inner::{Fields, value_of};
 
-/// The number at the beginning of the bytes, if there is one of 64 bits, and the bytes after it. Most have one digit or two.
+/// The instant of the first line, if it is a `T` line of usual numbers, and the bytes after it. Its nanoseconds are copied.
+///
+/// A line that begins in the last 47 bytes is left to `read_query`: so no read here has to test where the queries end.
 #[inline(always)]
-pub fn read_number(bytes: &[u8]) -> Option<(i64, &[u8])>
-    ensures some { IfSome result (λ r. IsNumberFront bytes.now r.0 r.1.now) }
-    ensures none { IfNone result ((n : ℤ) (rest : List ℕ) → FitsSigned w64 n → ¬ IsNumberFront bytes.now n rest) }
+pub fn read_usual_time_line<'a>(queries: &'a [u8], nine: &mut [u8; 9]) -> Option<(i64, &'a [u8])>
+    ensures line { IfSome result (λ r. (n : ℕ) × (n < 1000000000) × (nine.new ≡ nine_digits n)
+        × ((line : List ℕ) × IsFirstLine queries.now line r.1.now × IsTimeLine line r.0 n)) }
+    ensures bound { IfSome result (λ r. (negsuc 1000000000000000000 ≤ℤ r.0) × (r.0 ≤ℤ pos 1000000000000000000)) }
 {
-    if bytes.len() >= 3
-        && let Some((number, end)) = read_small(bytes, 0)
-    {
-        return Some((i64::from(number), &bytes[end..]));
-    }
-    let (size, count) = read_digits(bytes);
-    if count > 0 {
-        return Some((0i64.checked_add_unsigned(size)?, &bytes[count..]));
-    }
-    let digits = after_byte(bytes, b'-')?;
-    let (size, count) = read_digits(digits);
-    if count == 0 {
+    if queries.len() < 48 || queries[0] != b'T' {
         return None;
     }
-    Some((0i64.checked_sub_unsigned(size)?, &digits[count..]))
+    let (unix_time, after_seconds) = read_usual_number(queries, 1)?;
+    let next = read_nanoseconds(queries, after_seconds, nine)?;
+    Some((unix_time, &queries[next..]))
 }
 
-/// Numbers at the beginning of the bytes, each of 64 bits and after a space, if the line ends after the last of them, and the bytes after
-/// that line.
+/// The fields of the first line, if it is an `F` line of usual numbers, and the bytes after it. Its nanoseconds are copied, and are 0 in the
+/// fields.
 #[inline(always)]
-pub fn read_numbers<const N: usize>(bytes: &[u8]) -> Option<([i64; N], &[u8])>
-    ensures some { IfSome result (λ r. (line : List ℕ) × IsFirstLine bytes.now line r.1.now × AreNumbers line r.0) }
-    ensures none { IfNone result ((line : List ℕ) (numbers : List ℤ) (rest : List ℕ) → length numbers ≡ N → All (FitsSigned w64) numbers
-        → IsFirstLine bytes.now line rest → ¬ AreNumbers line numbers) }
+pub fn read_usual_search_line<'a>(
+    queries: &'a [u8],
+    nine: &mut [u8; 9],
+) -> Option<(Fields, &'a [u8])>
+    ensures { IfSome result (λ r. (n : ℕ) × (n < 1000000000) × (nine.new ≡ nine_digits n)
+        × ((line : List ℕ) × IsFirstLine queries.now line r.1.now × IsSearchLine line (record r.0 { nanoseconds = n }))) }
 {
-    let mut numbers = [0; N];
-    let mut rest = bytes;
-    for place in 0..N {
-        let number = after_byte(rest, b' ')?;
-        (numbers[place], rest) = read_number(number)?;
+    if queries.len() < 48 || queries[0] != b'F' {
+        return None;
     }
-    if rest.is_empty() {
-        return Some((numbers, rest));
+    let (number, after_year) = read_usual_number(queries, 1)?;
+    let year = i32::try_from(number).ok()?;
+    if queries[after_year] != b' ' {
+        return None;
     }
-    Some((numbers, after_byte(rest, b'\n')?))
+    let (month, after_month) = read_small(queries, after_year + 1)?;
+    let (month_day, after_day) = read_small(queries, after_month + 1)?;
+    let (hour, after_hour) = read_small(queries, after_day + 1)?;
+    let (minute, after_minute) = read_small(queries, after_hour + 1)?;
+    let (second, after_second) = read_small(queries, after_minute + 1)?;
+    let next = read_nanoseconds(queries, after_second, nine)?;
+    let fields = Fields {
+        year,
+        month,
+        month_day,
+        hour,
+        minute,
+        second,
+        nanoseconds: 0,
+    };
+    Some((fields, &queries[next..]))
 }
 
 /// The number of the digits at a place, if there are 1 to 18, and the place after them.
@@ -81,7 +90,7 @@ fn read_few_digits(bytes: &[u8], place: usize) -> Option<(u64, usize)>
 
 /// The number of up to 18 digits after a space at a place, and the place after it.
 #[inline(always)]
-pub fn read_usual_number(bytes: &[u8], place: usize) -> Option<(i64, usize)>
+fn read_usual_number(bytes: &[u8], place: usize) -> Option<(i64, usize)>
     requires { place + 14 ≤ length bytes.now }
     ensures number { IfSome result (λ r. IsPartFront (drop place bytes.now) r.0 (drop r.1 bytes.now)) }
     ensures bound { IfSome result (λ r. (negsuc 1000000000000000000 ≤ℤ r.0) × (r.0 ≤ℤ pos 1000000000000000000)) }
@@ -100,7 +109,7 @@ pub fn read_usual_number(bytes: &[u8], place: usize) -> Option<(i64, usize)>
 
 /// Copies the number of up to nine digits after a space at a place and before LF, left-padded with zeros. Returns the index after LF.
 #[inline(always)]
-pub fn read_nanoseconds(bytes: &[u8], place: usize, nine: &mut [u8; 9]) -> Option<usize>
+fn read_nanoseconds(bytes: &[u8], place: usize, nine: &mut [u8; 9]) -> Option<usize>
     requires { place + 11 ≤ length bytes.now }
     ensures number { IfSome result (λ next. (n : ℕ) × (n < 1000000000) × (nine.new ≡ nine_digits n)
         × IsPartFront (drop place bytes.now) (pos n) (line_feed ∷ drop next bytes.now)) }

@@ -11,7 +11,7 @@ use Rattle.tz_query.specs.Numbers.{ArePartsFront, IsPartFront}
 use Rattle.tz_query.specs.Queries.{search_letter, AreFieldsOfBits, numbers_of}
 use Rattle.tz_query.proofs.FastNumbers.{byte_at}
 use Rattle.tz_query.proofs.LineFronts.{line_from_front, some_if}
-use Rattle.tz_query.proofs.query.lines.read_usual_search_line.Goals as goal
+use Rattle.tz_query.proofs.query.usual_lines.read_usual_search_line.Goals as goal
 
 pub returns : goal.returns
 returns c =

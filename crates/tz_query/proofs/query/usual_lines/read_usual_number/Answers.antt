@@ -5,7 +5,7 @@ use Rattle.std.proofs.lemmas.Int.{ints}
 use mir.Syntax.{w64}
 use Rattle.tz_query.specs.Numbers.{IsPartFront}
 use Rattle.tz_query.proofs.FastNumbers.{byte_at, plain_part, minus_part}
-use Rattle.tz_query.proofs.query.numbers.read_usual_number.Goals as goal
+use Rattle.tz_query.proofs.query.usual_lines.read_usual_number.Goals as goal
 
 pub returns-then-bytes-place-eq45-clause-number : goal.returns-then-bytes-place-eq45-clause-number
 returns-then-bytes-place-eq45-clause-number c =

@@ -2,7 +2,7 @@
 use Rattle.std.proofs.Common.{[], ◌∷◌, ◌++◌, List, ap, subst}
 use Rattle.tz.specs.Entries.{Entry, Shown}
 use Rattle.tz_query.specs.LineMeanings.{IsMeaningOf}
-use Rattle.tz_query.proofs.query.line_meaning.LineMeaningEntries.shown.Goals as goal
+use Rattle.tz_query.proofs.query.search_answers.LineMeaningEntries.shown.Goals as goal
 
 pub returns-in-Nothing-clause-ok : goal.returns-in-Nothing-clause-ok
 returns-in-Nothing-clause-ok c before of =

@@ -7,7 +7,7 @@ use mir.Val.{SFits}
 use Rattle.tz_query.specs.Lines.{IsFirstLine, line_feed}
 use Rattle.tz_query.proofs.FastNumbers.{byte_at}
 use Rattle.tz_query.proofs.LineFronts.{line_from_front}
-use Rattle.tz_query.proofs.query.lines.read_usual_time_line.Goals as goal
+use Rattle.tz_query.proofs.query.usual_lines.read_usual_time_line.Goals as goal
 
 pub returns-clause-line : goal.returns-clause-line
 returns-clause-line c =

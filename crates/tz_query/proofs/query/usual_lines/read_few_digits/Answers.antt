@@ -1,7 +1,7 @@
 -- The digits are those up to the place that was read to.
 use Rattle.std.proofs.Common.{◌<◌, ◌≤◌, ◌+◌, length, refl, arith}
 use Rattle.tz_query.proofs.FastNumbers.{number_at, byte_at, few_in_window, end_before, value_in_window}
-use Rattle.tz_query.proofs.query.numbers.read_few_digits.Goals as goal
+use Rattle.tz_query.proofs.query.usual_lines.read_few_digits.Goals as goal
 
 pub returns-then-bytes-place-eq32 : goal.returns-then-bytes-place-eq32
 returns-then-bytes-place-eq32 c =
