@@ -9,8 +9,8 @@ ghost use Rattle.tz_zone.specs.ZoneSeen.{zone_seen};
 
 use super::after_table::after_table;
 use super::place::{place_of, type_before, type_of};
-use crate::effect::effect_of_reached;
-use crate::leap_time::{leap_time, stay_before};
+use crate::leap::effect::effect_of_reached;
+use crate::leap::time::{leap_time, stay_before};
 use crate::table::{OtherParts, Transitions};
 use tz_rule::timezone::LocalTimeType;
 

@@ -3,7 +3,7 @@
 ghost use Rattle.std.specs.Prelude.{◌≡◌};
 ghost use Rattle.tz_zone.specs.ZoneSeen.{lent_rule, rule_kept};
 
-use super::leap_second::LeapSecond;
+use crate::leap::LeapSecond;
 use tz_rule::inner::{AlternateClock, RuleRef};
 use tz_rule::timezone::{LocalTimeType, TransitionRule};
 

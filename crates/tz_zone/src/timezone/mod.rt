@@ -16,7 +16,8 @@ mod zone_ref;
 pub(crate) mod zone_view;
 
 pub use crate::clock::{Change, Segment};
-pub use crate::table::{LeapSecond, Transition};
+pub use crate::leap::LeapSecond;
+pub use crate::table::Transition;
 pub use change_iterators::{ChangesAfter, ChangesBefore};
 pub use file_reader::{read_file, read_file_up_to};
 pub use settings::{DEFAULT_DIRECTORIES, TimeZoneSettings};

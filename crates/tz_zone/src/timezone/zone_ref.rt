@@ -9,8 +9,9 @@ use super::offsets::offsets;
 use super::zone_checks::check_parts;
 use super::zone_parts::other_parts;
 use super::{LeapSecond, LocalTimeType, Transition, TransitionRule};
+use crate::clock;
+use crate::leap::table::expiry;
 use crate::table::{Counted, Uncounted, lent};
-use crate::{clock, leap_table};
 use std::fmt;
 use tz_base::error::TzError;
 
@@ -184,7 +185,7 @@ impl<'a> TimeZoneRef<'a> {
         ensures some { IfSome result (ExpiresAt (zone_of self.now).leap_seconds) }
         ensures none { IfNone result ((time : ℤ) → ¬ ExpiresAt (zone_of self.now).leap_seconds time) }
     {
-        leap_table::expiry(self.leap_seconds)
+        expiry(self.leap_seconds)
     }
 
     /// The rule from the last transition on.

@@ -5,8 +5,8 @@ ghost use Rattle.tz_zone.specs.TzFile.{IsVersion, MayHold, is_extended};
 ghost use Rattle.tz_zone.specs.TzParts.{unit_view};
 
 use super::block::Unit;
-use crate::leap_table::is_plain_table;
-use crate::table::LeapSecond;
+use crate::leap::LeapSecond;
+use crate::leap::table::is_plain_table;
 
 /// Whether the version is one that is read.
 pub(super) fn is_version(byte: u8) -> bool
