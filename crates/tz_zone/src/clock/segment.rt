@@ -9,7 +9,7 @@ ghost use Rattle.tz_zone.specs.TableChanges.{IsChangeByRule, IsTableStart, IsFar
 ghost use Rattle.tz_zone.specs.ValidZone.{AreLeapSeconds, IsSoundTable};
 ghost use Rattle.tz_zone.specs.ZoneSeen.{zone_seen};
 
-use super::after_table::after_table;
+use super::lookup::after_table;
 use super::place::{before, place_at, type_of};
 use crate::leap::LeapSecond;
 use crate::leap::effect::{effect_of_reached, last_before};

@@ -7,7 +7,7 @@ ghost use Rattle.tz_zone.specs.ValidZone.{IsSoundTable};
 ghost use Rattle.tz_zone.specs.WindowTypes.{AreTypesIn, IfMore, IsPlaceOf};
 ghost use Rattle.tz_zone.specs.ZoneSeen.{zone_seen};
 
-use super::after_table::after_table;
+use super::lookup::after_table;
 use super::place::{place_of, type_before, type_of};
 use crate::leap::effect::effect_of_reached;
 use crate::leap::time::{leap_time, stay_before};
