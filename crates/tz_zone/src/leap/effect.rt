@@ -6,7 +6,7 @@ ghost use Rattle.tz_zone.specs.ValidZone.{AreLeapSeconds, HasBegunAt};
 
 use super::LeapSecond;
 use super::table::{correction_before, truncated_start};
-use super::time::{has_leap_time, last_instant_up_to, leap_seconds_up_to, less};
+use super::time::{has_leap_time, last_instant_up_to, leap_seconds_up_to, without_correction};
 use tz_base::error::TzError;
 
 /// The effect of a leap time that is not before a truncated start, by the leap seconds up to it, as a wide number: the leap time less the correction,
@@ -18,15 +18,15 @@ fn wide_effect_from_start(leap_seconds: &[LeapSecond], unix_leap_time: i64) -> i
 {
     let count = leap_seconds_up_to(leap_seconds, unix_leap_time);
     if count == 0 {
-        return less(unix_leap_time, 0);
+        return without_correction(unix_leap_time, 0);
     }
     let last = &leap_seconds[count - 1];
-    let shifted = less(unix_leap_time, last.correction());
-    let reached = less(
+    let unix_time = without_correction(unix_leap_time, last.correction());
+    let reached = without_correction(
         last.unix_leap_time(),
         correction_before(leap_seconds, count - 1),
     );
-    shifted.max(reached)
+    unix_time.max(reached)
 }
 
 /// The effect of a leap time, as a wide number: it may lie past 64 bits, or have no leap time, and then there is none. Before a truncated start it is that

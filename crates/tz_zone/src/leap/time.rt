@@ -13,8 +13,8 @@ use tz_base::error::TzError;
 /// Up to this instant no correction takes a leap time out of 64 bits, whatever the leap seconds.
 const ALWAYS_DEFINED_UP_TO: i64 = 80_000_000_000_000_000;
 
-/// A time less a correction.
-pub(crate) fn less(time: i64, correction: i32) -> i128
+/// A leap time less a correction, as a wide number.
+pub(crate) fn without_correction(time: i64, correction: i32) -> i128
     ensures { result ≡ time -ℤ correction }
 {
     i128::from(time) - i128::from(correction)
@@ -26,7 +26,7 @@ pub(crate) fn first_instant(leap_seconds: &[LeapSecond]) -> i128
     ensures before { (u : ℤ) → negsuc 9223372036854775807 ≤ℤ u → u <ℤ result → IsBeforeStart leap_seconds.now u }
 {
     match truncated_start(leap_seconds) {
-        Some(start) => less(start.unix_leap_time(), start.correction()),
+        Some(start) => without_correction(start.unix_leap_time(), start.correction()),
         None => i128::from(i64::MIN),
     }
 }
@@ -140,8 +140,8 @@ fn last_with(leap_seconds: &[LeapSecond], place: usize, high: i64) -> i64
 {
     let leap_second = &leap_seconds[place];
     let correction = correction_before(leap_seconds, place);
-    let before = less(leap_second.unix_leap_time(), correction) - 1;
-    let fitting = less(i64::MAX, leap_second.correction());
+    let before = without_correction(leap_second.unix_leap_time(), correction) - 1;
+    let fitting = without_correction(i64::MAX, leap_second.correction());
     before.max(fitting).min(i128::from(high)) as i64
 }
 
@@ -193,7 +193,7 @@ pub(crate) fn has_leap_time(leap_seconds: &[LeapSecond], unix_time: i64) -> bool
 }
 
 /// The leap time of an instant that has one.
-pub(crate) fn shifted(leap_seconds: &[LeapSecond], unix_time: i64) -> i64
+pub(crate) fn existing_leap_time(leap_seconds: &[LeapSecond], unix_time: i64) -> i64
     requires leaps { AreLeapSeconds leap_seconds.now }
     requires defined { ¬ IsLeapTimeRefused leap_seconds.now unix_time }
     ensures { IsLeapTime leap_seconds.now unix_time result }
@@ -211,7 +211,7 @@ fn leap_time_by_seconds(leap_seconds: &[LeapSecond], unix_time: i64) -> Option<i
     if !has_leap_time(leap_seconds, unix_time) {
         return None;
     }
-    Some(shifted(leap_seconds, unix_time))
+    Some(existing_leap_time(leap_seconds, unix_time))
 }
 
 /// The leap time of an instant, if it has one. Mostly there are no leap seconds, and it is the instant itself.

@@ -16,7 +16,7 @@ returns-then-count-eq0 c =
     let fits = c.ranges.unix_leap_time in
     let count = c.leap_seconds_up_to-count.ensures in
     let times = times_from_items leaps v c.leap_seconds_up_to-count.result count.within (simp to_z-of_z at count.up_to) (simp to_z-of_z at count.later) in
-    let same : to_z w128 (of_z w128 c.less.result) ≡ v = omega (arith, ints, c.less.ensures) in
+    let same : to_z w128 (of_z w128 c.without_correction.result) ≡ v = omega (arith, ints, c.without_correction.ensures) in
     let none = rw c.if-count-eq0.true at times in
     rw same (IsWideEffect-from_count leaps c.requires.leaps v v 0 fits c.requires.begun none (IsEffectByCount-none leaps c.requires.leaps v c.requires.begun none))
 
@@ -34,9 +34,9 @@ returns c =
     let correction = c.correction.ensures in
     let time = c.unix_leap_time.ensures in
     let before = c.correction_before.ensures in
-    let shifted : to_z w128 (of_z w128 c.less-shifted.result) ≡ v -ℤ item.correction = omega (arith, ints, c.less-shifted.ensures) in
-    let reached : to_z w128 (of_z w128 c.less-reached.result) ≡ item.unix_leap_time -ℤ correction_before leaps (k - 1) = omega (arith, ints, c.less-reached.ensures) in
-    let greater = rw (shifted, reached) at c.max.ensures.value in
+    let unix_time : to_z w128 (of_z w128 c.without_correction-unix_time.result) ≡ v -ℤ item.correction = omega (arith, ints, c.without_correction-unix_time.ensures) in
+    let reached : to_z w128 (of_z w128 c.without_correction-reached.result) ≡ item.unix_leap_time -ℤ correction_before leaps (k - 1) = omega (arith, ints, c.without_correction-reached.ensures) in
+    let greater = rw (unix_time, reached) at c.max.ensures.value in
     let fits_128 : SFits w128 c.max.result = search rules in
     let same : to_z w128 (of_z w128 c.max.result) ≡ int_max (v -ℤ item.correction) (item.unix_leap_time -ℤ correction_before leaps (k - 1)) = to_z-of_z w128 c.max.result fits_128 ∙ greater in
     rw same (IsWideEffect-from_count leaps c.requires.leaps v _ (suc (k - 1)) fits c.requires.begun (rw last at times) (IsEffectByCount-greater leaps v (k - 1) item at))

@@ -52,9 +52,9 @@ last_is before fitting high k m n high_fits k_fits fitting_is max before_max fit
 of_call : (c : goal.After-min) → IsLastWith (c.index-leap_seconds-place.result.unix_leap_time -ℤ correction_before c.args.leap_seconds.now c.args.place -ℤ pos 1) (pos 9223372036854775807 -ℤ c.index-leap_seconds-place.result.correction) c.args.high c.min.result
 of_call c =
     let item = c.index-leap_seconds-place.result in
-    let before = before_cast item.unix_leap_time (correction_before c.args.leap_seconds.now c.args.place) c.unix_leap_time.result c.correction_before-correction.result c.less-before.result (search rules) (search rules) c.unix_leap_time.ensures c.correction_before-correction.ensures c.less-before.ensures in
+    let before = before_cast item.unix_leap_time (correction_before c.args.leap_seconds.now c.args.place) c.unix_leap_time.result c.correction_before-correction.result c.without_correction-before.result (search rules) (search rules) c.unix_leap_time.ensures c.correction_before-correction.ensures c.without_correction-before.ensures in
     let correction_fits : SFits w32 c.correction.result = search rules in
-    let fitting = fitting_cast item.correction c.correction.result c.less-fitting.result correction_fits c.correction.ensures c.less-fitting.ensures in
+    let fitting = fitting_cast item.correction c.correction.result c.without_correction-fitting.result correction_fits c.correction.ensures c.without_correction-fitting.ensures in
     let high = high_cast c.args.high c.from.result c.ranges.high c.from.ensures in
     let wide : SFits w128 c.max.result = search rules in
     let max = rw (before, fitting) at c.max.ensures in

@@ -6,7 +6,7 @@ use mir.Val.{to_z, of_z}
 use Rattle.tz_zone.specs.LeapTime.{correction_before}
 use Rattle.tz_zone.proofs.LeapLists.{IsReachedCount-from_items}
 use Rattle.tz_zone.proofs.LeapTimes.{leap_time_fits, IsLeapTime-from_count}
-use Rattle.tz_zone.proofs.leap.time.shifted.Goals as goal
+use Rattle.tz_zone.proofs.leap.time.existing_leap_time.Goals as goal
 
 pub returns : goal.returns
 returns c =
