@@ -4,6 +4,6 @@ mod parts;
 mod transition;
 mod transitions;
 
-pub use parts::{KeptRule, OtherParts, lent};
+pub use parts::{KeptRule, OtherParts, lent, offsets, other_parts};
 pub use transition::Transition;
 pub use transitions::{Counted, Transitions, Uncounted};

@@ -11,7 +11,6 @@ mod zone_checks;
 mod zone_name;
 mod zone_of_file;
 mod zone_of_text;
-pub(crate) mod zone_parts;
 mod zone_ref;
 pub(crate) mod zone_view;
 

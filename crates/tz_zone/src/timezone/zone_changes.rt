@@ -1,9 +1,8 @@
 //! The segments of a zone's clock, and where it changes.
 
-use super::zone_parts::other_parts;
 use super::{Change, ChangesAfter, ChangesBefore, Segment, TimeZone, TimeZoneRef};
 use crate::clock::{self, find_following, find_preceding};
-use crate::table::Uncounted;
+use crate::table::{Uncounted, other_parts};
 use std::alloc::Allocator;
 
 impl<'a> TimeZoneRef<'a> {

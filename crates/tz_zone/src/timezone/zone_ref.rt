@@ -7,11 +7,10 @@ ghost use Rattle.tz_zone.specs.ValidZone.{IsSoundTable, IsSoundTable-prop, IsVal
 
 use super::offsets::offsets;
 use super::zone_checks::check_parts;
-use super::zone_parts::other_parts;
 use super::{LeapSecond, LocalTimeType, Transition, TransitionRule};
 use crate::clock;
 use crate::leap::table::expiry;
-use crate::table::{Counted, Uncounted, lent};
+use crate::table::{Counted, Uncounted, lent, other_parts};
 use std::fmt;
 use tz_base::error::TzError;
 
