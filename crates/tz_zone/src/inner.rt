@@ -3,12 +3,11 @@
 
 pub use crate::clock::window_types::{WindowTypes, window_types};
 pub use crate::clock::{Span, Stage, clock_segment_at, first_stage, span_from};
-pub use crate::effect::effect;
-pub use crate::leap_time::leap;
+pub use crate::leap::effect::effect;
+pub use crate::leap::time::leap;
 pub use crate::parse::tz_file::sizes::{FileSizes, file_sizes};
 pub use crate::parse::tz_string::cursor::after_byte;
 pub use crate::parse::tz_string::parse_posix_tz;
-pub use crate::table::{Counted, OtherParts, Transitions, Uncounted};
+pub use crate::table::{Counted, OtherParts, Transitions, Uncounted, offsets, other_parts};
 pub use crate::timezone::file_reader::{read_to_end, read_up_to};
-pub use crate::timezone::zone_parts::{offsets, other_parts};
 pub use crate::timezone::zone_view::ZoneView;

@@ -2,11 +2,9 @@
 #![tactic(auto)]
 
 mod clock;
-mod effect;
 pub mod inner;
 pub mod laws;
-mod leap_table;
-mod leap_time;
+mod leap;
 mod parse;
 mod table;
 pub mod timezone;

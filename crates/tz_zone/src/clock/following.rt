@@ -17,8 +17,8 @@ ghost use Rattle.tz_zone.specs.ZoneSeen.{zone_seen};
 use super::change::{Change, change_at};
 use super::likely_place::{is_after_all, place_at_near, place_near};
 use super::place::{type_at, type_before, type_of};
-use crate::effect::effect_if_reached;
-use crate::leap_time::{first_begun, shifted};
+use crate::leap::effect::effect_if_reached;
+use crate::leap::time::{existing_leap_time, first_begun};
 use crate::table::{OtherParts, Transition, Uncounted};
 use tz_rule::inner::change_after;
 use tz_rule::timezone::LocalTimeType;
@@ -55,7 +55,7 @@ fn place_at_effect(
     }
     place_near(
         transitions,
-        shifted(parts.leap_seconds, effect),
+        existing_leap_time(parts.leap_seconds, effect),
         Some(place),
     )
 }

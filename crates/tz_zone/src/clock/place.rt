@@ -8,8 +8,8 @@ ghost use Rattle.tz_zone.specs.PlacesLeft.{IsAmongPlaces};
 ghost use Rattle.tz_zone.specs.ValidZone.{IsRising, IsSoundTable};
 ghost use Rattle.tz_zone.specs.ZoneSeen.{zone_seen};
 
-use super::after_table::type_from_last;
-use crate::leap_time::leap_time;
+use super::lookup::type_from_last;
+use crate::leap::time::leap_time;
 use crate::table::{OtherParts, Transition, Transitions, Uncounted};
 use tz_rule::timezone::LocalTimeType;
 

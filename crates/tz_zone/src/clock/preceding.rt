@@ -16,9 +16,10 @@ ghost use Rattle.tz_zone.specs.ZoneSeen.{zone_seen};
 use super::change::{Change, change_at};
 use super::likely_place::{is_after_all, place_at_near};
 use super::place::{type_at, type_before, type_of};
-use crate::effect::effect_of_reached;
-use crate::leap_time::last_instant_up_to;
-use crate::table::{LeapSecond, OtherParts, Transition, Uncounted};
+use crate::leap::LeapSecond;
+use crate::leap::effect::effect_of_reached;
+use crate::leap::time::last_instant_up_to;
+use crate::table::{OtherParts, Transition, Uncounted};
 use tz_rule::inner::change_up_to;
 use tz_rule::timezone::LocalTimeType;
 

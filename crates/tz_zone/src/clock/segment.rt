@@ -9,11 +9,12 @@ ghost use Rattle.tz_zone.specs.TableChanges.{IsChangeByRule, IsTableStart, IsFar
 ghost use Rattle.tz_zone.specs.ValidZone.{AreLeapSeconds, IsSoundTable};
 ghost use Rattle.tz_zone.specs.ZoneSeen.{zone_seen};
 
-use super::after_table::after_table;
+use super::lookup::after_table;
 use super::place::{before, place_at, type_of};
-use crate::effect::{effect_of_reached, last_before};
-use crate::leap_time::{first_begun, has_begun, last_instant, last_instant_up_to};
-use crate::table::{LeapSecond, OtherParts, Transition, Transitions};
+use crate::leap::LeapSecond;
+use crate::leap::effect::{effect_of_reached, last_before};
+use crate::leap::time::{first_begun, has_begun, last_instant, last_instant_up_to};
+use crate::table::{OtherParts, Transition, Transitions};
 use tz_rule::timezone::LocalTimeType;
 
 /// A span of time through which the clock of a zone has one type, or none.

@@ -7,10 +7,10 @@ ghost use Rattle.tz_zone.specs.ValidZone.{IsSoundTable};
 ghost use Rattle.tz_zone.specs.WindowTypes.{IsPlaceOf};
 ghost use Rattle.tz_zone.specs.ZoneSeen.{zone_seen};
 
-use super::after_table::after_table;
+use super::lookup::after_table;
 use super::place::{place_at, type_before, type_of};
-use crate::effect::last_before;
-use crate::leap_time::first_begun;
+use crate::leap::effect::last_before;
+use crate::leap::time::first_begun;
 use crate::table::{OtherParts, Transitions};
 use tz_rule::timezone::LocalTimeType;
 

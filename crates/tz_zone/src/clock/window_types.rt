@@ -7,10 +7,10 @@ ghost use Rattle.tz_zone.specs.ValidZone.{IsSoundTable};
 ghost use Rattle.tz_zone.specs.WindowTypes.{AreTypesIn, IfMore, IsPlaceOf};
 ghost use Rattle.tz_zone.specs.ZoneSeen.{zone_seen};
 
-use super::after_table::after_table;
+use super::lookup::after_table;
 use super::place::{place_of, type_before, type_of};
-use crate::effect::effect_of_reached;
-use crate::leap_time::{leap_time, stay_before};
+use crate::leap::effect::effect_of_reached;
+use crate::leap::time::{leap_time, stay_before};
 use crate::table::{OtherParts, Transitions};
 use tz_rule::timezone::LocalTimeType;
 
@@ -103,27 +103,27 @@ fn types_at_place<'a, V: Transitions>(
 {
     let count = view.len();
     let next = view.look(place);
-    let since = next.unix_leap_time();
+    let next_leap_time = next.unix_leap_time();
     if !parts.leap_seconds.is_empty()
-        && stay_before(parts.leap_seconds, low, low_leap_time, high, since)
+        && stay_before(parts.leap_seconds, low, low_leap_time, high, next_leap_time)
     {
         return WindowTypes::One(type_before(view, parts, place));
     }
-    let Some(unix_leap_time) = leap_time(parts.leap_seconds, high) else {
+    let Some(high_leap_time) = leap_time(parts.leap_seconds, high) else {
         return WindowTypes::More(Some(place));
     };
-    if unix_leap_time < since {
+    if high_leap_time < next_leap_time {
         return WindowTypes::One(type_before(view, parts, place));
     }
     if place + 1 == count {
         return WindowTypes::More(Some(place));
     }
     let later = view.look(place + 1);
-    let until = later.unix_leap_time();
-    if until <= unix_leap_time {
+    let later_leap_time = later.unix_leap_time();
+    if later_leap_time <= high_leap_time {
         return WindowTypes::More(Some(place));
     }
-    let unix_time = effect_of_reached(parts.leap_seconds, since);
+    let unix_time = effect_of_reached(parts.leap_seconds, next_leap_time);
     let before = type_before(view, parts, place);
     let after = type_of(parts, next);
     WindowTypes::Two {

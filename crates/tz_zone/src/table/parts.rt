@@ -1,9 +1,12 @@
 //! What a zone has beside its transitions.
 
 ghost use Rattle.std.specs.Prelude.{◌≡◌};
-ghost use Rattle.tz_zone.specs.ZoneSeen.{lent_rule, rule_kept};
+ghost use Rattle.tz_zone.specs.Offsets.{AreEndOffsets};
+ghost use Rattle.tz_zone.specs.ZoneRef.{zone_of};
+ghost use Rattle.tz_zone.specs.ZoneSeen.{lent_rule, rule_kept, zone_seen};
 
-use super::leap_second::LeapSecond;
+use crate::leap::LeapSecond;
+use crate::timezone::TimeZoneRef;
 use tz_rule::inner::{AlternateClock, RuleRef};
 use tz_rule::timezone::{LocalTimeType, TransitionRule};
 
@@ -66,5 +69,23 @@ impl<'a> KeptRule<'a> {
             KeptRule::Alternate(clock) => Some(RuleRef::Alternate(clock)),
             KeptRule::Stored(extra_rule) => lent(extra_rule),
         }
+    }
+}
+
+/// The least and the greatest offset of a zone's types and of its rule.
+pub fn offsets(zone: &TimeZoneRef<'_>) -> (i32, i32)
+    ensures { AreEndOffsets (zone_of zone.entry.now) result.0 result.1 }
+{
+    zone.offsets()
+}
+
+/// What a zone has beside its transitions.
+pub fn other_parts<'a>(zone: &TimeZoneRef<'a>) -> OtherParts<'a>
+    ensures { zone_seen (zone_of zone.entry.now).transitions result ≡ zone_of zone.entry.now }
+{
+    OtherParts {
+        local_time_types: zone.local_time_types(),
+        leap_seconds: zone.leap_seconds(),
+        extra_rule: KeptRule::Stored(zone.extra_rule()),
     }
 }

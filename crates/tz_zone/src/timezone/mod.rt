@@ -11,12 +11,12 @@ mod zone_checks;
 mod zone_name;
 mod zone_of_file;
 mod zone_of_text;
-pub(crate) mod zone_parts;
 mod zone_ref;
 pub(crate) mod zone_view;
 
 pub use crate::clock::{Change, Segment};
-pub use crate::table::{LeapSecond, Transition};
+pub use crate::leap::LeapSecond;
+pub use crate::table::Transition;
 pub use change_iterators::{ChangesAfter, ChangesBefore};
 pub use file_reader::{read_file, read_file_up_to};
 pub use settings::{DEFAULT_DIRECTORIES, TimeZoneSettings};

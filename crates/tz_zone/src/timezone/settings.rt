@@ -111,8 +111,8 @@ impl<'a, F: Fn(&str) -> Result<Vec<u8>, ReadFault>> TimeZoneSettings<'a, F> {
 
     /// The time zone of a string. (POSIX.1-2017, Base Definitions, 8.3)
     ///
-    /// `localtime` is the machine's local time. A string that begins with `:` names a file in one of the directories, or, if a `/` follows, by its
-    /// path. Any other string names a file, or is a TZ string if there is no such file.
+    /// `localtime` is the machine's local time. What follows a `:` names a file. Any other string names a file too, or is a TZ string if there is no
+    /// such file. A name that begins with `/` is the path of the file, and any other name is that of a file in one of the directories.
     ///
     /// # Errors
     ///
@@ -225,8 +225,8 @@ impl<A: Allocator + Copy> TimeZone<A> {
     /// The time zone of a string, with the [usual directories](DEFAULT_DIRECTORIES) and this function that reads a file. (POSIX.1-2017, Base
     /// Definitions, 8.3)
     ///
-    /// `localtime` is the machine's local time. A string that begins with `:` names a file in one of the directories, or, if a `/` follows, by its
-    /// path. Any other string names a file, or is a TZ string if there is no such file.
+    /// `localtime` is the machine's local time. What follows a `:` names a file. Any other string names a file too, or is a TZ string if there is no
+    /// such file. A name that begins with `/` is the path of the file, and any other name is that of a file in one of the directories.
     ///
     /// The zone of a name such as `Europe/Paris`, or of a TZ string such as `CET-1CEST,M3.5.0,M10.5.0/3`:
     ///

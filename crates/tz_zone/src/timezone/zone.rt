@@ -218,7 +218,8 @@ impl<A: Allocator + Copy> TimeZone<A> {
 
     /// The clock's type at an instant, in Unix seconds. (RFC 8536, section 3.2)
     ///
-    /// Before the last transition, the transitions determine it, from there on the extra rule.
+    /// Before the first transition it is type number 0, from there to the last one the type of the transition before the instant, and from the last one
+    /// on that of the extra rule. A zone without transitions has the type of its rule, or type number 0 if it has no rule.
     ///
     /// # Errors
     ///

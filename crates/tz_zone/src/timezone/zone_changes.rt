@@ -1,9 +1,8 @@
 //! The segments of a zone's clock, and where it changes.
 
-use super::zone_parts::other_parts;
 use super::{Change, ChangesAfter, ChangesBefore, Segment, TimeZone, TimeZoneRef};
 use crate::clock::{self, find_following, find_preceding};
-use crate::table::Uncounted;
+use crate::table::{Uncounted, other_parts};
 use std::alloc::Allocator;
 
 impl<'a> TimeZoneRef<'a> {
@@ -88,7 +87,8 @@ impl<'a> TimeZoneRef<'a> {
         self.following_near(unix_time, place)
     }
 
-    /// The same, if it is not the next transition. It is a call, so that a step from one transition to the next stays small.
+    /// What `following_from` returns, if the next change is not simply the next transition. It is a call, so that a step from one transition to the
+    /// next stays small.
     #[inline(never)]
     fn following_near(&self, unix_time: i64, place: usize) -> Option<(Change<'a>, usize)>
         ensures { MatchOption result (HasNoFollowing (zone_of self.now) unix_time)
@@ -135,7 +135,7 @@ impl<'a> TimeZoneRef<'a> {
         self.preceding_near(unix_time, place)
     }
 
-    /// The same, if it is not the transition before, as a call too.
+    /// What `preceding_from` returns, if the last change is not simply the transition before. It is a call for the same reason.
     #[inline(never)]
     fn preceding_near(&self, unix_time: i64, place: usize) -> Option<(Change<'a>, usize)>
         ensures { MatchOption result (HasNoPreceding (zone_of self.now) unix_time)

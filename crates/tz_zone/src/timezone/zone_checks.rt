@@ -8,8 +8,8 @@ ghost use Rattle.tz_zone.specs.ZoneSeen.{lent_rule};
 ghost use Rattle.tz_zone.specs.ValidZone.{IsRuleTypeAt, AreLeapSeconds, HasTypeAtPlace, RisesAtPlace, IsFirstTransitionFault, IsSoundTable, IsRuleFault, RuleAnswers, RuleAgrees, IsValidZone, IsFirstZoneFault};
 
 use super::{LeapSecond, LocalTimeType, Transition};
-use crate::effect;
-use crate::leap_table::{are_leap_seconds, has_begun_at};
+use crate::leap::effect::effect;
+use crate::leap::table::{are_leap_seconds, has_begun_at};
 use tz_base::error::TzError;
 use tz_base::error::timezone::TimeZoneError;
 use tz_rule::inner::RuleRef;
@@ -76,7 +76,7 @@ fn rule_type_at<'a>(
     ensures ok { IfOk result (λ t. IsRuleTypeAt leap_seconds.now (rule_seen rule.entry) unix_leap_time t.now) }
     ensures err { IfErr result (λ e. (e ≡ TzError.OutOfRange) × ((t : LocalTimeType) → ¬ IsRuleTypeAt leap_seconds.now (rule_seen rule.entry) unix_leap_time t)) }
 {
-    match effect::effect(leap_seconds, unix_leap_time) {
+    match effect(leap_seconds, unix_leap_time) {
         Ok(unix_time) => tz_rule::inner::find_local_time_type(rule, unix_time),
         Err(error) => Err(error),
     }

@@ -7,10 +7,10 @@ ghost use Rattle.tz_zone.specs.ValidZone.{IsSoundTable, IsSoundTable-prop, IsVal
 
 use super::offsets::offsets;
 use super::zone_checks::check_parts;
-use super::zone_parts::other_parts;
 use super::{LeapSecond, LocalTimeType, Transition, TransitionRule};
-use crate::table::{Counted, Uncounted, lent};
-use crate::{clock, leap_table};
+use crate::clock;
+use crate::leap::table::expiry;
+use crate::table::{Counted, Uncounted, lent, other_parts};
 use std::fmt;
 use tz_base::error::TzError;
 
@@ -184,7 +184,7 @@ impl<'a> TimeZoneRef<'a> {
         ensures some { IfSome result (ExpiresAt (zone_of self.now).leap_seconds) }
         ensures none { IfNone result ((time : ℤ) → ¬ ExpiresAt (zone_of self.now).leap_seconds time) }
     {
-        leap_table::expiry(self.leap_seconds)
+        expiry(self.leap_seconds)
     }
 
     /// The rule from the last transition on.
@@ -196,7 +196,8 @@ impl<'a> TimeZoneRef<'a> {
 
     /// The clock's type at an instant, in Unix seconds. (RFC 8536, section 3.2)
     ///
-    /// Before the last transition, the transitions determine it, from there on the extra rule.
+    /// Before the first transition it is type number 0, from there to the last one the type of the transition before the instant, and from the last one
+    /// on that of the extra rule. A zone without transitions has the type of its rule, or type number 0 if it has no rule.
     ///
     /// # Errors
     ///

@@ -6,7 +6,7 @@ ghost use Rattle.tz_zone.specs.TzParts.{width_of, block_view, IsSized};
 
 use super::block::Unit;
 use super::number::{signed_at, time_at};
-use crate::table::LeapSecond;
+use crate::leap::LeapSecond;
 use std::alloc::{AllocError, Allocator};
 
 /// The leap second of a record.

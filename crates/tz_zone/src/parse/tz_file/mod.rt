@@ -11,4 +11,3 @@ mod number;
 pub(crate) mod sizes;
 pub(crate) mod tables;
 mod transitions;
-pub(crate) mod version;

@@ -23,9 +23,9 @@ pub returns : goal.returns
 returns c =
     let m = c.args.effect in
     let change = c.requires.transition in
-    let l = c.shifted.result in
+    let l = c.existing_leap_time.result in
     let fits : SFits w64 l = search rules in
-    let leap = rw (to_z-of_z w64 m c.ranges.effect) at c.shifted.ensures in
+    let leap = rw (to_z-of_z w64 m c.ranges.effect) at c.existing_leap_time.ensures in
     let at = rw (to_z-of_z w64 l fits) at c.place_near.ensures.at in
     let reached = change.2.reached c.requires.defined in
     let from : change.0.unix_leap_time ≤ℤ l = omega (arith, ints, reached.2, leap_time_unique c.args.parts.leap_seconds.now c.requires.sound.leap_seconds_are m reached.0 l reached.1 leap) in

@@ -1,7 +1,0 @@
--- The records so far are followed by such as may follow.
-use Rattle.std.proofs.Common.{ℕ, ◌<◌}
-use Rattle.tz_zone.specs.ValidZone.{FollowsAt}
-use Rattle.tz_zone.proofs.leap_table.are_leap_seconds.Given as goal
-
-abbrev pub invariant-loop-i : goal.invariant-loop-i
-invariant-loop-i l = (place : ℕ) → place < l.i → FollowsAt l.leap_seconds place

@@ -1,0 +1,140 @@
+//! The table of leap seconds: what a sound one is, where it begins and where it expires, and the correction at a place. (RFC 8536, section 3.2;
+//! RFC 9636, section 3.2)
+
+ghost use Rattle.std.specs.Prelude.{◌≡◌, ◌<◌, ◌≤◌, ℤ, pos, ◌+ℤ◌, ◌-ℤ◌, ◌≤ℤ◌, length, slice_get, IfSome, IfNone, MatchBool, MatchOption};
+ghost use Rattle.tz_zone.specs.Table.{LeapSecond};
+ghost use Rattle.tz_zone.specs.LeapTime.{IsOneSecond, IsStart, correction_at_start as correction_of_start, correction_before as correction_at_place};
+ghost use Rattle.tz_zone.specs.ValidZone.{AreLeapSeconds, MayBeFirst, MayFollow, FollowsAt, HasBegunAt, ExpiresAt, IsPlainTable};
+
+use super::LeapSecond;
+use tz_base::constants::SECONDS_PER_28_DAYS;
+
+/// Whether a leap second may come first.
+fn may_be_first(leap_second: LeapSecond) -> bool
+    ensures { MatchBool result (MayBeFirst leap_second) (¬ MayBeFirst leap_second) }
+{
+    leap_second.unix_leap_time() >= 0
+}
+
+/// Whether two corrections differ by one second.
+fn is_one_second_apart(correction: i32, next: i32) -> bool
+    ensures { MatchBool result (IsOneSecond (next -ℤ correction)) (¬ IsOneSecond (next -ℤ correction)) }
+{
+    let apart = i64::from(next) - i64::from(correction);
+    apart == 1 || apart == -1
+}
+
+/// Whether a leap time comes at least 28 days after another one, less a second.
+fn is_far_from(time: i64, next: i64) -> bool
+    ensures { MatchBool result ((time +ℤ pos 2419199) ≤ℤ next) (¬ ((time +ℤ pos 2419199) ≤ℤ next)) }
+{
+    i128::from(time) + i128::from(SECONDS_PER_28_DAYS) - 1 <= i128::from(next)
+}
+
+/// Whether a leap second may follow another one.
+fn may_follow(leap_second: &LeapSecond, next: &LeapSecond) -> bool
+    ensures { MatchBool result (MayFollow leap_second.now next.now) (¬ MayFollow leap_second.now next.now) }
+{
+    is_far_from(leap_second.unix_leap_time(), next.unix_leap_time())
+        && is_one_second_apart(leap_second.correction(), next.correction())
+}
+
+/// Whether the record after a place comes later and, unless it is the table's expiry, is a leap second that may follow.
+fn follows_at(leap_seconds: &[LeapSecond], place: usize) -> bool
+    requires { place < length leap_seconds.now }
+    ensures { MatchBool result (FollowsAt leap_seconds.now place) (¬ FollowsAt leap_seconds.now place) }
+{
+    if place + 1 == leap_seconds.len() {
+        return true;
+    }
+    let leap_second = &leap_seconds[place];
+    let next = &leap_seconds[place + 1];
+    if place + 2 == leap_seconds.len() && next.correction() == leap_second.correction() {
+        return leap_second.unix_leap_time() < next.unix_leap_time();
+    }
+    may_follow(leap_second, next)
+}
+
+/// Whether the leap seconds make a table.
+pub(crate) fn are_leap_seconds(leap_seconds: &[LeapSecond]) -> bool
+    ensures { MatchBool result (AreLeapSeconds leap_seconds.now) (¬ AreLeapSeconds leap_seconds.now) }
+{
+    if leap_seconds.is_empty() {
+        return true;
+    }
+    if !may_be_first(leap_seconds[0]) {
+        return false;
+    }
+    for i in 0..leap_seconds.len() {
+        if !follows_at(leap_seconds, i) {
+            return false;
+        }
+    }
+    true
+}
+
+/// The truncated start: a first record whose correction is not one second, with which the table begins.
+pub(crate) fn truncated_start(leap_seconds: &[LeapSecond]) -> Option<&LeapSecond>
+    ensures { MatchOption result ((l : LeapSecond) → ¬ IsStart leap_seconds.now l) (λ l. IsStart leap_seconds.now l.now) }
+{
+    let first = leap_seconds.first()?;
+    let correction = first.correction();
+    if correction == 1 || correction == -1 {
+        return None;
+    }
+    Some(first)
+}
+
+/// Whether a truncated start is reached at the leap time.
+pub(crate) fn has_begun_at(leap_seconds: &[LeapSecond], unix_leap_time: i64) -> bool
+    ensures { MatchBool result (HasBegunAt leap_seconds.now unix_leap_time) (¬ HasBegunAt leap_seconds.now unix_leap_time) }
+{
+    match truncated_start(leap_seconds) {
+        Some(start) => start.unix_leap_time() <= unix_leap_time,
+        None => true,
+    }
+}
+
+/// The leap time at which the table expires: that of a last record with the correction before it.
+pub(crate) fn expiry(leap_seconds: &[LeapSecond]) -> Option<i64>
+    ensures some { IfSome result (ExpiresAt leap_seconds.now) }
+    ensures none { IfNone result ((time : ℤ) → ¬ ExpiresAt leap_seconds.now time) }
+{
+    if leap_seconds.len() < 2 {
+        return None;
+    }
+    let before = &leap_seconds[leap_seconds.len() - 2];
+    let last = &leap_seconds[leap_seconds.len() - 1];
+    if last.correction() != before.correction() {
+        return None;
+    }
+    Some(last.unix_leap_time())
+}
+
+/// Whether the table begins with its first leap second and does not expire, as in files before version 4.
+pub(crate) fn is_plain_table(leap_seconds: &[LeapSecond]) -> bool
+    ensures { MatchBool result (IsPlainTable leap_seconds.now) (¬ IsPlainTable leap_seconds.now) }
+{
+    truncated_start(leap_seconds).is_none() && expiry(leap_seconds).is_none()
+}
+
+/// The correction before the first place of the list: 0, but the first one's own at a truncated start.
+pub(crate) fn correction_at_start(leap_seconds: &[LeapSecond]) -> i32
+    ensures { result ≡ correction_of_start (slice_get leap_seconds.now 0) }
+{
+    match truncated_start(leap_seconds) {
+        Some(start) => start.correction(),
+        None => 0,
+    }
+}
+
+/// The correction before a place of the list.
+pub(crate) fn correction_before(leap_seconds: &[LeapSecond], place: usize) -> i32
+    requires { place ≤ length leap_seconds.now }
+    ensures { result ≡ correction_at_place leap_seconds.now place }
+{
+    if place == 0 {
+        return correction_at_start(leap_seconds);
+    }
+    leap_seconds[place - 1].correction()
+}
