@@ -7,7 +7,7 @@ ghost use Rattle.tz_c.specs.Texts.{IsTextAnswer, IsRuleTextAnswer};
 
 use crate::codes::{BUFFER_LENGTH, NO_RULE, NO_TZ_STRING, OK};
 use crate::rules::rule_of_lists;
-use tz::inner::{TextBuffer, UtcData};
+use tz::inner::{TextBuffer, UtcData, fields_of};
 use tz::{DateTime, TzString, UtcDateTime};
 use tz_rule::inner::AlternateClock;
 use tz_rule::timezone::LocalTimeType;
@@ -47,7 +47,8 @@ pub extern "C" fn tz_date_time_text(date_time: &DateTime, text: &mut [u8], len: 
     ensures len_kept { result ≢ 0 → len.new ≡ len.old }
 {
     let mut line = TextBuffer::new();
-    line.push_local_date_time(date_time);
+    let ut_offset = date_time.local_time_type().ut_offset();
+    line.push_date_time(fields_of(date_time), ut_offset);
     write_text(line.as_bytes(), text, len)
 }
 

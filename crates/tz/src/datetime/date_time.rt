@@ -473,21 +473,6 @@ impl fmt::Display for DateTime {
     }
 }
 
-impl TextBuffer {
-    ghost use Rattle.std.specs.Prelude.{◌≡◌, ◌+◌, ◌≤◌, ◌++◌, length};
-    ghost use Rattle.tz.specs.PrintedText.{printed_text};
-
-    /// Appends a date time as its `Display` prints it.
-    #[inline(always)]
-    pub fn push_local_date_time(&mut self, date_time: &DateTime)
-        requires { length self.old + 53 ≤ 128 }
-        ensures text { self.new ≡ self.old ++ printed_text date_time.now.fields date_time.now.local_time_type.ut_offset }
-        ensures len { length self.new ≤ length self.old + 53 }
-    {
-        self.push_date_time(date_time.fields(), date_time.local_time_type().ut_offset());
-    }
-}
-
 /// The fields of a date time, which are valid.
 #[inline(always)]
 pub fn fields_of(date_time: &DateTime) -> &Fields

@@ -40,30 +40,22 @@ pub enum Meaning {
     More(usize),
 }
 
-/// The meaning of one entry.
-#[inline(always)]
-fn meaning_of_one(found: &FoundDateTimeKind) -> Meaning
-    ensures { result ≡ meaning_of (found.now ∷ []) }
-{
-    match *found {
-        FoundDateTimeKind::Normal(date_time) => Meaning::Once(date_time),
-        FoundDateTimeKind::Skipped {
-            before_transition,
-            after_transition,
-        } => Meaning::Skipped {
-            before_transition,
-            after_transition,
-        },
-    }
-}
-
 /// The meaning of a list that has one more entry.
 #[inline(always)]
 fn meaning_with(meaning: &Meaning, found: &FoundDateTimeKind) -> Meaning
     ensures { MeansMore meaning.now result (found.now ∷ []) }
 {
     match meaning {
-        Meaning::Nothing => meaning_of_one(found),
+        Meaning::Nothing => match *found {
+            FoundDateTimeKind::Normal(date_time) => Meaning::Once(date_time),
+            FoundDateTimeKind::Skipped {
+                before_transition,
+                after_transition,
+            } => Meaning::Skipped {
+                before_transition,
+                after_transition,
+            },
+        },
         Meaning::Once(first) => match found {
             FoundDateTimeKind::Normal(last) => Meaning::Twice {
                 first: *first,
