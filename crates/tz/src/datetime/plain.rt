@@ -72,16 +72,6 @@ impl DateTimeData {
             unix_time: date_time.unix_time(),
         }
     }
-
-    /// Becomes the data of a date time.
-    #[inline(always)]
-    fn set(&mut self, date_time: &DateTime)
-        ensures { self.new ≡ date_time_data date_time.now }
-    {
-        self.fields = *date_time.fields();
-        self.local_time_type = *date_time.local_time_type();
-        self.unix_time = date_time.unix_time();
-    }
 }
 
 impl Slot for FoundData {
@@ -94,16 +84,16 @@ impl Slot for FoundData {
         match found {
             FoundDateTimeKind::Normal(date_time) => {
                 self.is_skipped = false;
-                self.before.set(date_time);
-                self.after.set(date_time);
+                self.before = DateTimeData::of(date_time);
+                self.after = DateTimeData::of(date_time);
             }
             FoundDateTimeKind::Skipped {
                 before_transition,
                 after_transition,
             } => {
                 self.is_skipped = true;
-                self.before.set(before_transition);
-                self.after.set(after_transition);
+                self.before = DateTimeData::of(before_transition);
+                self.after = DateTimeData::of(after_transition);
             }
         }
     }

@@ -27,15 +27,9 @@ fn first_day_begins(first: &Fields) -> Result<i64, DateTimeError>
 {
     // Second 60 belongs to the next minute, which may be of the next day, or of no year.
     let second = if first.second == 60 { 59 } else { first.second };
-    match UtcDateTime::new(
-        first.year,
-        first.month,
-        first.month_day,
-        first.hour,
-        first.minute,
-        second,
-        first.nanoseconds,
-    ) {
+    let (year, month, month_day) = (first.year, first.month, first.month_day);
+    let (hour, minute, nanoseconds) = (first.hour, first.minute, first.nanoseconds);
+    match UtcDateTime::new(year, month, month_day, hour, minute, second, nanoseconds) {
         Ok(date_time) => {
             let unix_time = date_time.unix_time();
             Ok(unix_time - unix_time.rem_euclid(SECONDS_PER_DAY))

@@ -35,11 +35,7 @@ fn push_type_name(line: &mut TextBuffer, local_time_type: &LocalTimeType)
     ensures len { length line.new ≤ length line.old + 7 }
 {
     let name = local_time_type.time_zone_designation();
-    if name.is_empty() {
-        line.push(b'-');
-    } else {
-        line.push_str(name);
-    }
+    line.push_str(if name.is_empty() { "-" } else { name });
 }
 
 /// The index of a type's suffix: four bits of a product that mixes the bits of the type's offset.
