@@ -260,9 +260,8 @@ impl DateTime {
         ensures ok { IfOk result (ShowsTotal total_nanoseconds local_time_type) }
         ensures err { IfErr result (IsTotalFault total_nanoseconds local_time_type.ut_offset) }
     {
-        let Some((unix_time, nanoseconds)) = totals::timespec(total_nanoseconds) else {
-            return Err(TzError::OutOfRange);
-        };
+        let total = totals::timespec(total_nanoseconds);
+        let (unix_time, nanoseconds) = total.ok_or(TzError::OutOfRange)?;
         DateTime::shown_by(unix_time, nanoseconds, local_time_type)
     }
 

@@ -48,10 +48,8 @@ pub(super) fn timespec_after(
     if added > ALL_SECONDS {
         return None;
     }
-    carried(
-        seconds + added as i64,
-        nanoseconds + duration.subsec_nanos(),
-    )
+    let nanoseconds = nanoseconds + duration.subsec_nanos();
+    carried(seconds + added as i64, nanoseconds)
 }
 
 /// The seconds and nanoseconds a duration before others, if the seconds are those of a UTC date time.

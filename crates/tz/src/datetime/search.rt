@@ -146,15 +146,9 @@ fn walk<'a, E: Entries<'a>, V: Transitions>(
         stage = span.next;
         // If two transitions take effect at the same instant, the span between them is empty.
         if since <= span.last {
-            give(
-                entries,
-                reading,
-                before,
-                since,
-                span.local_time_type,
-                span.last,
-            )?;
-            before = span.local_time_type;
+            let after = span.local_time_type;
+            give(entries, reading, before, since, after, span.last)?;
+            before = after;
             since = span.last + 1;
         }
     }
