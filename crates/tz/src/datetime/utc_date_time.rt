@@ -231,8 +231,7 @@ impl UtcDateTime {
         ensures ok { IfOk result (IsUtcAt total_nanoseconds) }
         ensures err { IfErr result (λ e. (e ≡ TzError.OutOfRange) × ¬ IsUtcTotal total_nanoseconds) }
     {
-        let total = utc_timespec(total_nanoseconds);
-        let (unix_time, nanoseconds) = total.ok_or(TzError::OutOfRange)?;
+        let (unix_time, nanoseconds) = utc_timespec(total_nanoseconds).ok_or(TzError::OutOfRange)?;
         Ok(UtcDateTime::at(unix_time, nanoseconds))
     }
 

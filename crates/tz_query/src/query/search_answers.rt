@@ -238,10 +238,8 @@ impl<'a, A: Allocator + Copy> Answers<'a, A> {
         let reading = fields.reading();
         let (low, high) = window_of(self.zone, reading);
         if self.has(low, high) {
-            let suffix = &self.suffix;
-            return self
-                .output
-                .push_shown(b"F 1\nN ", fields, suffix, nanoseconds);
+            let (output, suffix) = (&mut self.output, &self.suffix);
+            return output.push_shown(b"F 1\nN ", fields, suffix, nanoseconds);
         }
         self.answer_in_window(fields, nanoseconds, reading, low, high)
     }
