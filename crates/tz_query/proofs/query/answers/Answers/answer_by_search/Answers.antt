@@ -20,9 +20,9 @@ use Rattle.tz_query.proofs.query.answers.Answers.answer_by_search.Goals as goal
 pub returns-in-Ok : goal.returns-in-Ok
 returns-in-Ok g c =
     let found = found_of c.in-Ok.list in
-    let valid = rw c.number.ensures at c.in-Ok.ensures.valid in
+    let valid = rw c.number.ensures at c.in-Ok.ensures.outcome.valid in
     let is = rw c.number.ensures at c.in-Ok.ensures.ok in
-    let made = rw c.number.ensures at c.in-Ok.ensures.made in
+    let made = rw c.number.ensures at c.in-Ok.ensures.outcome.made in
     let same : c.deref.result.now ≡ found = c.deref.ensures.value ∙ c.into_inner.ensures in
     IfOk-weaker c.push_found.result _ _
     (λ done adds. (found_lines found, inl (found, valid, is, made, refl), with_text (ap (λ es. ended (found_lines es)) same) adds))
@@ -33,7 +33,7 @@ returns-in-Err-DateTime g c =
     let f = with_nanoseconds c.args.fields.now c.args.nanoseconds.now in
     let fault = c.in-Err-DateTime.fault in
     let error : c.in-Err-DateTime.field-0 ≡ DateTime fault = search rules in
-    let refused = told_field_fault (IsClock (zone_of c.args.self.now.zone)) f fault (rw (c.in-Err-DateTime.is, error, c.number.ensures) at c.find_fields.ensures.err) in
+    let refused = told_field_fault (IsClock (zone_of c.args.self.now.zone)) f fault (rw (c.in-Err-DateTime.is, error, c.number.ensures) at c.find_fields.ensures.outcome.err) in
     answer_written (Search f) c.args.self.now c.push_error.new.self c.push_error.result ((codes "E " ++ field_fault_text fault) ∷ [])
     (inr (DateTime fault, field_fault_text fault, refused, refl, refl)) (rw c.field_fault_name.ensures.text at c.push_error.ensures)
 
@@ -42,7 +42,7 @@ returns-in-Err-OutOfRange g c =
     let f = with_nanoseconds c.args.fields.now c.args.nanoseconds.now in
     let push_error = c.push_error-in-Err-OutOfRange in
     let error : c.in-Err-OutOfRange.field-0 ≡ OutOfRange = search rules in
-    let refused = told_out_of_range (IsClock (zone_of c.args.self.now.zone)) f (rw (c.in-Err-OutOfRange.is, error, c.number.ensures) at c.find_fields.ensures.err) in
+    let refused = told_out_of_range (IsClock (zone_of c.args.self.now.zone)) f (rw (c.in-Err-OutOfRange.is, error, c.number.ensures) at c.find_fields.ensures.outcome.err) in
     answer_written (Search f) c.args.self.now push_error.new.self push_error.result (codes "E OutOfRange" ∷ []) (inr (OutOfRange, codes "OutOfRange", refused, refl, refl)) push_error.ensures
 
 pub push_found-requires : goal.push_found-requires
