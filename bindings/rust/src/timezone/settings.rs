@@ -54,8 +54,9 @@ impl<'a> TimeZoneSettings<'a> {
 
     /// The time zone of a setting, as the environment variable `TZ` has one. (POSIX.1-2017, Base Definitions, 8.3)
     ///
-    /// `localtime` is the machine's local time. A string that begins with `:` names a file in one of the directories or, if a `/` follows, by
-    /// its path. Any other string names a file, or is a TZ string if there is no such file. No call reads `TZ` itself.
+    /// `localtime` is the machine's local time. A string that begins with `:` names a file. Any other string names a file, or is a TZ string if
+    /// there is no such file. A name that begins with `/` is the path of the file, and any other name is that of a file in one of the
+    /// directories. No call reads `TZ` itself.
     ///
     /// # Errors
     ///
