@@ -149,6 +149,7 @@ pub(super) fn resolved(
 }
 
 /// The one date time that fields mean, as [`DateTime::find_one`] answers it.
+#[inline(always)]
 pub fn find_one(
     fields: &Fields,
     disambiguation: Disambiguation,
