@@ -1,10 +1,9 @@
 -- Day numbers rise with the dates, so that a day has one date, and a reading one list of civil fields.
 use Rattle.std.proofs.Common.{◌-ℤ◌, ◌*ℤ◌, ◌≡◌, ℕ, zero, suc, ◌+◌, ◌-◌, ◌*◌, ◌%◌, ◌<◌, ◌≤◌, inl, inr, Bool, refl, sym, ap, ◌∙◌, arith, lit<, ℤ, pos, negsuc, ◌+ℤ◌, ◌≤ℤ◌, ◌<ℤ◌}
-use Rattle.std.proofs.lemmas.Int.{ints, by_lt_z, int_rem_euclid_is}
-use Rattle.std.proofs.lemmas.Bool.{cases_lt}
+use Rattle.std.proofs.lemmas.Int.{ints, int_rem_euclid_is}
 use Rattle.tz_base.specs.Cycles.{days_of_years}
 use Rattle.tz_base.specs.Days.{is_leap, month_length, months_length, first_day, day_number, IsDay, IsEarlierDate, week_day_of}
-use Rattle.tz_base.specs.Fields.{IsValid, IsCivil, day_of}
+use Rattle.tz_base.specs.Fields.{IsValid, IsCivil, day_of, fields_of}
 use Rattle.tz_base.specs.declared.fields.Fields.{Fields}
 use Rattle.tz_base.proofs.YearStarts.{first_day-moved, is_leap-moved}
 use Rattle.tz_base.proofs.DaysOfYears.{day_number-is, day_in_year}
@@ -69,59 +68,29 @@ day_number-mono y m d y' m' d' day day' (inr (same, inr (month, later))) =
     let place : months_length (is_leap y) (m - 1) ≡ months_length (is_leap y') (m' - 1) = cc in
     rw (day_number-is y m d, day_number-is y' m' d') (omega (arith, ints))
 
--- neither of two dates is earlier than the other if they are one
-same_day : (y : ℤ) (m d : ℕ) (y' : ℤ) (m' d' : ℕ) → y ≡ y' → m ≡ m' → (IsEarlierDate y m d y' m' d' → ⊥) → (IsEarlierDate y' m' d' y m d → ⊥) → d ≡ d'
-same_day y m d y' m' d' same month f g =
-    elim (cases_lt d d') [
-      | inl h ↦ absurd (f (inr (same, inr (month, h))))
-      | inr h ↦ elim (cases_lt d' d) [
-        | inl h' ↦ absurd (g (inr (sym same, inr (sym month, h'))))
-        | inr h' ↦ omega arith
-      ]
-    ]
+-- numbers of which neither is below the other are one
+one : (a b : ℕ) → ¬ (a < b) → ¬ (b < a) → a ≡ b
+one a b f g = grind arith
 
-same_month : (y : ℤ) (m d : ℕ) (y' : ℤ) (m' d' : ℕ) → y ≡ y' → (IsEarlierDate y m d y' m' d' → ⊥) → (IsEarlierDate y' m' d' y m d → ⊥) → m ≡ m'
-same_month y m d y' m' d' same f g =
-    elim (cases_lt m m') [
-      | inl h ↦ absurd (f (inr (same, inl h)))
-      | inr h ↦ elim (cases_lt m' m) [
-        | inl h' ↦ absurd (g (inr (sym same, inl h')))
-        | inr h' ↦ omega arith
-      ]
-    ]
+one_z : (a b : ℤ) → ¬ (a <ℤ b) → ¬ (b <ℤ a) → a ≡ b
+one_z a b f g = grind (arith, ints)
 
-same_year : (y : ℤ) (m d : ℕ) (y' : ℤ) (m' d' : ℕ) → (IsEarlierDate y m d y' m' d' → ⊥) → (IsEarlierDate y' m' d' y m d → ⊥) → y ≡ y'
-same_year y m d y' m' d' f g = by_lt_z y y' (λ h. absurd (f (inl h))) (λ h. by_lt_z y' y (λ h'. absurd (g (inl h'))) (λ h'. omega (arith, ints)))
-
--- one date for each day
+-- one date for each day: neither of the two is earlier than the other
 pub date_unique : (y : ℤ) (m d : ℕ) (y' : ℤ) (m' d' : ℕ) → IsDay y m d → IsDay y' m' d' → day_number y m d ≡ day_number y' m' d' → (y ≡ y') × (m ≡ m') × (d ≡ d')
 date_unique y m d y' m' d' day day' e =
     let f : IsEarlierDate y m d y' m' d' → ⊥ = λ h. absurd (omega (arith, ints, day_number-mono y m d y' m' d' day day' h)) in
     let g : IsEarlierDate y' m' d' y m d → ⊥ = λ h. absurd (omega (arith, ints, day_number-mono y' m' d' y m d day' day h)) in
-    let year = same_year y m d y' m' d' f g in
-    let month = same_month y m d y' m' d' year f g in
-    (year, month, same_day y m d y' m' d' year month f g)
+    let year : y ≡ y' = one_z y y' (λ h. f (inl h)) (λ h. g (inl h)) in
+    let month : m ≡ m' = one m m' (λ h. f (inr (year, inl h))) (λ h. g (inr (sym year, inl h))) in
+    (year, month, one d d' (λ h. f (inr (year, inr (month, h)))) (λ h. g (inr (sym year, inr (sym month, h)))))
 
 -- the day of civil fields
 pub valid_day : (f : Fields) → IsValid f → IsDay f.year f.month f.month_day
 valid_day f valid = record { month_is = valid.in_range.month; month_day_is = (valid.in_range.month_day.0, valid.in_month) }
 
-fields_from : ℤ → ℕ → ℕ → ℕ → ℕ → ℕ → ℕ → Fields
-fields_from year month month_day hour minute second nanoseconds =
-    record { year = year; month = month; month_day = month_day; hour = hour; minute = minute; second = second; nanoseconds = nanoseconds }
-
 same_fields : (f g : Fields) → f.year ≡ g.year → f.month ≡ g.month → f.month_day ≡ g.month_day → f.hour ≡ g.hour → f.minute ≡ g.minute → f.second ≡ g.second → f.nanoseconds ≡ g.nanoseconds → f ≡ g
-unfolding fields_from
 same_fields f g year month month_day hour minute second nanoseconds =
-    let same : fields_from f.year f.month f.month_day f.hour f.minute f.second f.nanoseconds ≡ fields_from g.year g.month g.month_day g.hour g.minute g.second g.nanoseconds =
-    ap (λ x. fields_from x f.month f.month_day f.hour f.minute f.second f.nanoseconds) year
-    ∙ ap (λ x. fields_from g.year x f.month_day f.hour f.minute f.second f.nanoseconds) month
-    ∙ ap (λ x. fields_from g.year g.month x f.hour f.minute f.second f.nanoseconds) month_day
-    ∙ ap (λ x. fields_from g.year g.month g.month_day x f.minute f.second f.nanoseconds) hour
-    ∙ ap (λ x. fields_from g.year g.month g.month_day g.hour x f.second f.nanoseconds) minute
-    ∙ ap (λ x. fields_from g.year g.month g.month_day g.hour g.minute x f.nanoseconds) second
-    ∙ ap (λ x. fields_from g.year g.month g.month_day g.hour g.minute g.second x) nanoseconds
-    in same
+    let same : fields_of f.year f.month f.month_day f.hour f.minute f.second f.nanoseconds ≡ fields_of g.year g.month g.month_day g.hour g.minute g.second g.nanoseconds = cc in same
 
 -- one list of civil fields for each reading
 pub civil_unique : (x : ℤ) (n : ℕ) (f g : Fields) → IsCivil x n f → IsCivil x n g → f ≡ g

@@ -1,7 +1,9 @@
 -- The month and the day of each day of a year that begins on March 1st, by computing them all.
-use Rattle.std.proofs.Common.{◌≡◌, ℕ, ◌+◌, ◌-◌, ◌<◌, ◌≤◌, Bool, true, false, cond, eqb, ltb, leb, ◌&&◌, List, [], ◌∷◌, get_or, slice_index_or, refl, arith, ℤ, pos}
+use Rattle.std.proofs.Common.{◌≡◌, ℕ, ◌+◌, ◌-◌, ◌<◌, ◌≤◌, Bool, true, false, cond, eqb, ltb, leb, ◌&&◌, List, get_or, slice_index_or, refl, arith, ℤ, pos}
 use Rattle.std.specs.Ordering.{int_eq}
 use Rattle.std.proofs.lemmas.Bool.Decides.{nat_tests, Decides-int_eq}
+use Rattle.tz_base.specs.declared.calendar.TheConstants.{DAYS_FROM_MARCH}
+use Rattle.tz_base.specs.declared.constants.TheConstants.{CUMUL_DAYS_IN_MONTHS_LEAP_YEAR, CUMUL_DAYS_IN_MONTHS_NORMAL_YEAR}
 use Rattle.tz_base.proofs.TestsBelow.{all_below, passes_at}
 use Rattle.tz_base.specs.Cycles.{march_month, march_month_day}
 use Rattle.tz_base.specs.Days.{month_length, months_length}
@@ -10,46 +12,29 @@ use Rattle.tz_base.specs.Days.{month_length, months_length}
 is_right_entry : Bool → List ℤ → ℕ → Bool
 is_right_entry leap table index = int_eq (slice_index_or table index (pos 0)) (pos (months_length leap index)) && leb (months_length leap index) 335
 
-abbrev normal_table : List ℤ
-normal_table = pos 0 ∷ pos 31 ∷ pos 59 ∷ pos 90 ∷ pos 120 ∷ pos 151 ∷ pos 181 ∷ pos 212 ∷ pos 243 ∷ pos 273 ∷ pos 304 ∷ pos 334 ∷ []
+abbrev pub months_table : Bool → List ℤ
+months_table leap = cond leap CUMUL_DAYS_IN_MONTHS_LEAP_YEAR CUMUL_DAYS_IN_MONTHS_NORMAL_YEAR
 
-abbrev leap_table : List ℤ
-leap_table = pos 0 ∷ pos 31 ∷ pos 60 ∷ pos 91 ∷ pos 121 ∷ pos 152 ∷ pos 182 ∷ pos 213 ∷ pos 244 ∷ pos 274 ∷ pos 305 ∷ pos 335 ∷ []
-
-right_normal : all_below (is_right_entry false normal_table) 12 ≡ true
+right_entries : (leap : Bool) → all_below (is_right_entry leap (months_table leap)) 12 ≡ true
 unfolding all_below is_right_entry month_length months_length
-right_normal = refl
+right_entries false = refl
+right_entries true = refl
 
-right_leap : all_below (is_right_entry true leap_table) 12 ≡ true
-unfolding all_below is_right_entry month_length months_length
-right_leap = refl
-
-entry_from_test : (leap : Bool) (table : List ℤ) (index : ℕ) → is_right_entry leap table index ≡ true
-    → (slice_index_or table index (pos 0) ≡ pos (months_length leap index)) × (months_length leap index ≤ 335)
+pub months_length-entry : (leap : Bool) (index : ℕ) → index < 12 → (slice_index_or (months_table leap) index (pos 0) ≡ pos (months_length leap index)) × (months_length leap index ≤ 335)
 unfolding is_right_entry
-entry_from_test leap table index h =
-    let entry = slice_index_or table index (pos 0) in
-    let same : int_eq entry (pos (months_length leap index)) ≡ true = grind (arith, nat_tests) in
-    ((Decides-int_eq entry (pos (months_length leap index))).0 same, grind (arith, nat_tests))
-
-pub months_length-normal : (index : ℕ) → index < 12 → (slice_index_or normal_table index (pos 0) ≡ pos (months_length false index)) × (months_length false index ≤ 335)
-months_length-normal index h = entry_from_test false normal_table index (passes_at (is_right_entry false normal_table) 12 index right_normal h)
-
-pub months_length-leap : (index : ℕ) → index < 12 → (slice_index_or leap_table index (pos 0) ≡ pos (months_length true index)) × (months_length true index ≤ 335)
-months_length-leap index h = entry_from_test true leap_table index (passes_at (is_right_entry true leap_table) 12 index right_leap h)
+months_length-entry leap index h =
+    let right = passes_at (is_right_entry leap (months_table leap)) 12 index (right_entries leap) h in
+    let same : int_eq (slice_index_or (months_table leap) index (pos 0)) (pos (months_length leap index)) ≡ true = grind (arith, nat_tests) in
+    ((Decides-int_eq _ _).0 same, grind (arith, nat_tests))
 
 pub months_length-bound : (leap : Bool) (index : ℕ) → index < 12 → months_length leap index ≤ 335
-months_length-bound false index h = (months_length-normal index h).1
-months_length-bound true index h = (months_length-leap index h).1
+months_length-bound leap index h = (months_length-entry leap index h).1
 
 -- the table of days from March 1st, where January and February come last
-abbrev march_table : List ℕ
-march_table = 306 ∷ 337 ∷ 0 ∷ 31 ∷ 61 ∷ 92 ∷ 122 ∷ 153 ∷ 184 ∷ 214 ∷ 245 ∷ 275 ∷ []
-
 is_right_march_place : Bool → ℕ → Bool
 is_right_march_place leap place =
-    leb (get_or march_table place 0) 337
-    && eqb (months_length leap place + cond (ltb place 2) 306 0) (get_or march_table place 0 + cond (ltb place 2) 0 (cond leap 60 59))
+    leb (get_or DAYS_FROM_MARCH place 0) 337
+    && eqb (months_length leap place + cond (ltb place 2) 306 0) (get_or DAYS_FROM_MARCH place 0 + cond (ltb place 2) 0 (cond leap 60 59))
 
 right_march : (leap : Bool) → all_below (is_right_march_place leap) 12 ≡ true
 unfolding all_below is_right_march_place month_length months_length
@@ -62,7 +47,7 @@ pub record IsFromMarch (leap : Bool) (place days : ℕ) : Type 0 where
   pub late : 2 ≤ place → days + cond leap 60 59 ≡ months_length leap place
   pub bound : days ≤ 337
 
-pub days_from_march-is : (leap : Bool) (place : ℕ) → place < 12 → IsFromMarch leap place (get_or march_table place 0)
+pub days_from_march-is : (leap : Bool) (place : ℕ) → place < 12 → IsFromMarch leap place (get_or DAYS_FROM_MARCH place 0)
 unfolding is_right_march_place
 days_from_march-is leap place h =
     let right = passes_at (is_right_march_place leap) 12 place (right_march leap) h in
@@ -87,13 +72,10 @@ unfolding all_below is_right_before_january march_month march_month_day month_le
 before_january false = refl
 before_january true = refl
 
-from_january_normal : all_below (is_right_from_january false) 59 ≡ true
+all_from_january : (leap : Bool) → all_below (is_right_from_january leap) (cond leap 60 59) ≡ true
 unfolding all_below is_right_from_january march_month march_month_day month_length months_length
-from_january_normal = refl
-
-from_january_leap : all_below (is_right_from_january true) 60 ≡ true
-unfolding all_below is_right_from_january march_month march_month_day month_length months_length
-from_january_leap = refl
+all_from_january false = refl
+all_from_january true = refl
 
 -- what the month and the day of a day are, before January
 pub record IsBeforeJanuary (leap : Bool) (day : ℕ) : Type 0 where
@@ -115,12 +97,9 @@ month_before_january leap day h =
     let right = passes_at (is_right_before_january leap) 306 day (before_january leap) h in
     grind (arith, nat_tests)
 
-from_january : (leap : Bool) (day : ℕ) → day < 60 → (day ≡ 59 → leap ≡ true) → is_right_from_january leap day ≡ true
-from_january true day h last = passes_at (is_right_from_january true) 60 day from_january_leap h
-from_january false day h last = passes_at (is_right_from_january false) 59 day from_january_normal (below day h last)
-  where
-    below : (day : ℕ) → day < 60 → (day ≡ 59 → false ≡ true) → day < 59
-    below day h last = grind arith
+days_from_january : (leap : Bool) (day : ℕ) → day < 60 → (day ≡ 59 → leap ≡ true) → day < cond leap 60 59
+days_from_january true day h last = h
+days_from_january false day h last = grind arith
 
 IsFromJanuary-from_test : (leap : Bool) (d day : ℕ) → 306 + d ≡ day → is_right_from_january leap d ≡ true → IsFromJanuary leap day
 unfolding is_right_from_january
@@ -128,4 +107,5 @@ IsFromJanuary-from_test leap d day same right = rw (← same) (grind (arith, nat
 
 pub month_from_january : (leap : Bool) (day : ℕ) → 306 ≤ day → day ≤ 365 → (day ≡ 365 → leap ≡ true) → IsFromJanuary leap day
 month_from_january leap day low high last =
-    IsFromJanuary-from_test leap (day - 306) day (omega arith) (from_january leap (day - 306) (omega arith) (λ e. last (omega arith)))
+    let within = days_from_january leap (day - 306) (omega arith) (λ e. last (omega arith)) in
+    IsFromJanuary-from_test leap (day - 306) day (omega arith) (passes_at (is_right_from_january leap) (cond leap 60 59) (day - 306) (all_from_january leap) within)
