@@ -1,4 +1,3 @@
-pub mod Below
 pub mod Weeks
 pub mod DayPlaces
 pub mod WeekPlaces

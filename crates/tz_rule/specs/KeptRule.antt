@@ -6,7 +6,7 @@ use Rattle.std.proofs.Common.{refl}
 use Rattle.tz_rule.specs.Alternate.{AlternateTime, start_of, end_of, IsConsistentRule, AreRuleDays}
 use Rattle.tz_rule.specs.Parts.{rule_of}
 use Rattle.tz_rule.specs.YearTables.{IsTableOf, entry, is_inner, start_table, end_table}
-use Rattle.tz_rule.specs.declared.timezone.alternate_clock.AlternateClock.TheInside.{Inside}
+use Rattle.tz_rule.specs.declared.timezone.alternate_tables.AlternateClock.TheInside.{Inside}
 use Rattle.tz_rule.specs.declared.timezone.alternate_parts.Parts.{Parts}
 
 -- in the years of one of the first kinds the end comes before the start

@@ -5,7 +5,7 @@ use Rattle.tz_rule.specs.Alternate.{AlternateTime, switch_of}
 
 -- the year that stands 5368710 cycles of 400 years later
 abbrev pub moved_back : ℕ → ℤ
-moved_back years = pos years -ℤ pos 2147484000
+moved_back moved_year = pos moved_year -ℤ pos 2147484000
 
 -- years whose neighbours are years of 32 bits
 abbrev pub HasNeighbours : ℤ → Type 0

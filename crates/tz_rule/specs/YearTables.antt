@@ -71,13 +71,10 @@ ComesBeforeNext a b = (pair : ℕ) × (pair < 21) × (entry a (first_kind pair) 
 abbrev pub ComesAfterNext : List ℤ → List ℤ → Type 0
 ComesAfterNext a b = (pair : ℕ) × (pair < 21) × (next_entry b pair <ℤ entry a (first_kind pair))
 
--- two instants change their order: within a year, or the first from one year to the next against the second
-abbrev pub ChangesInYear : List ℤ → List ℤ → Type 0
-ChangesInYear a b = ComesFirst a b × ComesFirst b a
-
+-- the first of two instants and the second of the next year change their order
 abbrev pub ChangesAcrossYears : List ℤ → List ℤ → Type 0
 ChangesAcrossYears a b = ComesBeforeNext a b × ComesAfterNext a b
 
 -- starts and ends change their order within a year or between neighbours
 abbrev pub ChangesOrder : List ℤ → List ℤ → Type 0
-ChangesOrder starts ends = ChangesInYear starts ends ⊎ ChangesAcrossYears starts ends ⊎ ChangesAcrossYears ends starts
+ChangesOrder starts ends = (ComesFirst starts ends × ComesFirst ends starts) ⊎ ChangesAcrossYears starts ends ⊎ ChangesAcrossYears ends starts

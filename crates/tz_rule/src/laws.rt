@@ -21,11 +21,13 @@ pub fn rule_parts_are_sound(rule: &TransitionRule)
 }
 
 /// A rule has no two types at an instant.
+#[tactic(auto, using(crate::proofs::RuleTypes::rule_type_unique))]
 pub fn rule_types_are_unique()
     ensures { (rule : Rule) (u : ℤ) (t t' : LocalTimeType) → IsRuleType rule u t → IsRuleType rule u t' → t ≡ t' }
 {}
 
 /// A rule has a type at each instant of the years over which it is defined.
+#[tactic(auto, using(crate::proofs::RuleTypes::rule_type_total))]
 pub fn rule_types_are_total(rule: &TransitionRule)
     ensures { (u : ℤ) → IsInRuleYears u → (t : LocalTimeType) × IsRuleType rule.now u t }
 {
@@ -54,6 +56,7 @@ pub fn far_starts_and_ends_are_over_or_to_come(rule: &AlternateTime)
 }
 
 /// After 400 years, which are 12622780800 seconds, a rule has the same type.
+#[tactic(auto, using(crate::proofs::RuleTypes::rule_type_repeats))]
 pub fn rule_types_repeat(rule: &TransitionRule)
     ensures { (u : ℤ) (t t' : LocalTimeType) → IsRuleType rule.now u t → IsRuleType rule.now (u +ℤ pos 12622780800) t' → t ≡ t' }
 {

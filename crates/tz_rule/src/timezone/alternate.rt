@@ -1,13 +1,11 @@
 //! Rules of standard time and daylight saving time.
 
-ghost use Rattle.std.specs.Prelude.{◌≡◌, ◌&&◌, OnOk, IfOk, IfErr, IfSome, IfNone};
+ghost use Rattle.std.specs.Prelude.{◌≡◌, OnOk, IfOk, IfErr, IfSome, IfNone};
 ghost use Rattle.tz_rule.specs.Alternate.{start_of, end_of, alternate_of, IsInRuleRange, IsFirstRuleFault, IsConsistentRule};
-ghost use Rattle.std.specs.Ordering.{int_eq};
-ghost use Rattle.tz_rule.specs.SameDay.{same_day};
 ghost use Rattle.tz_rule.specs.Pairing.{IsConflict, IsInconsistent};
 
-use super::alternate_clock::AlternateClock;
 use super::alternate_parts::Parts;
+use super::alternate_tables::AlternateClock;
 use super::day_data::DayData;
 use super::{LocalTimeType, RuleDay};
 use std::fmt;
@@ -185,13 +183,6 @@ impl AlternateTime {
     }
 }
 
-/// Whether two starts, or two ends, fall on the same day at the same time.
-fn is_same_switch(day: &RuleDay, time: i32, other_day: &RuleDay, other_time: i32) -> bool
-    ensures { result ≡ (same_day day.now other_day.now && int_eq time other_time) }
-{
-    day == other_day && time == other_time
-}
-
 impl PartialEq for AlternateTime {
     ghost use Rattle.std.specs.Cmp.{partial_equiv_from_equiv};
     ghost use Rattle.tz_rule.specs.Same.{IsEquivalence-from_equality};
@@ -205,17 +196,10 @@ impl PartialEq for AlternateTime {
         let (a, b) = (&self.clock, &other.clock);
         a.std() == b.std()
             && (a.dst() == b.dst()
-                && (is_same_switch(
-                    &self.dst_start,
-                    a.dst_start_time(),
-                    &other.dst_start,
-                    b.dst_start_time(),
-                ) && is_same_switch(
-                    &self.dst_end,
-                    a.dst_end_time(),
-                    &other.dst_end,
-                    b.dst_end_time(),
-                )))
+                && (self.dst_start == other.dst_start
+                    && (a.dst_start_time() == b.dst_start_time()
+                        && (self.dst_end == other.dst_end
+                            && a.dst_end_time() == b.dst_end_time()))))
     }
 }
 

@@ -5,7 +5,7 @@
 ghost use Rattle.std.specs.Prelude.{◌≡◌, ◌<◌, ◌≤◌, ℤ, pos, ◌+ℤ◌, ◌≤ℤ◌, ◌<ℤ◌, IfSome, IfNone, MatchBool};
 ghost use Rattle.tz_rule.specs.Kinds.{first_kind as first_kind_of, second_kind as second_kind_of, first_days as first_days_of};
 ghost use Rattle.tz_rule.specs.Pairing.{IsConflict};
-ghost use Rattle.tz_rule.specs.YearTables.{instant_in, next_entry, IsNear, ComesFirst, ComesBeforeNext, ComesAfterNext, ChangesInYear, ChangesAcrossYears, ChangesOrder};
+ghost use Rattle.tz_rule.specs.YearTables.{instant_in, next_entry, IsNear, ComesFirst, ComesBeforeNext, ComesAfterNext, ChangesAcrossYears, ChangesOrder};
 
 use super::year_kinds::KINDS;
 use super::year_table::YearTable;
@@ -106,13 +106,6 @@ impl YearTable {
         false
     }
 
-    /// Whether the two instants change their order within a year from one year to another.
-    fn changes_in_year(&self, other: &YearTable) -> bool
-        ensures { MatchBool result (ChangesInYear self.now.0 other.now.0) (¬ ChangesInYear self.now.0 other.now.0) }
-    {
-        self.comes_first(other) && other.comes_first(self)
-    }
-
     /// Whether the instant and the other one of the next year change their order.
     fn changes_across_years(&self, other: &YearTable) -> bool
         ensures { MatchBool result (ChangesAcrossYears self.now.0 other.now.0) (¬ ChangesAcrossYears self.now.0 other.now.0) }
@@ -161,7 +154,7 @@ impl YearTable {
     fn changes_order(&self, ends: &YearTable) -> bool
         ensures { MatchBool result (ChangesOrder self.now.0 ends.now.0) (¬ ChangesOrder self.now.0 ends.now.0) }
     {
-        if self.changes_in_year(ends) {
+        if self.comes_first(ends) && ends.comes_first(self) {
             return true;
         }
         if self.changes_across_years(ends) {

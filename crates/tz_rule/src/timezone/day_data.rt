@@ -87,13 +87,13 @@ impl DayData {
         ensures { result ≡ self.now }
     {
         match self.kind {
-            0 => RuleDay::Julian0WithLeap(Julian0WithLeap::of_number(self.number)),
-            1 => RuleDay::Julian1WithoutLeap(Julian1WithoutLeap::of_number(self.number)),
-            _ => RuleDay::MonthWeekDay(MonthWeekDay::of_numbers(
-                self.month,
-                self.week,
-                self.week_day,
-            )),
+            0 => RuleDay::Julian0WithLeap(Julian0WithLeap(self.number)),
+            1 => RuleDay::Julian1WithoutLeap(Julian1WithoutLeap(self.number)),
+            _ => RuleDay::MonthWeekDay(MonthWeekDay {
+                month: self.month,
+                week: self.week,
+                week_day: self.week_day,
+            }),
         }
     }
 }

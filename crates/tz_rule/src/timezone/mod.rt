@@ -1,16 +1,16 @@
 //! Local time types, rule days and alternate rules.
 
 mod alternate;
-pub(crate) mod alternate_clock;
 mod alternate_parts;
+pub(crate) mod alternate_tables;
 mod consistency;
 pub(crate) mod day_data;
 mod local_time_type;
 mod rule;
 pub(crate) mod rule_changes;
-pub(crate) mod rule_clock;
 pub(crate) mod rule_data;
 mod rule_day;
+pub(crate) mod rule_ref;
 pub(crate) mod rule_segments;
 mod rule_years;
 pub(crate) mod utc;

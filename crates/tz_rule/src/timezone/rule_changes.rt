@@ -18,9 +18,9 @@ ghost use Rattle.tz_rule.specs.declared.timezone.rule.TransitionRule.{Transition
 ghost use Rattle.tz_rule.specs.declared.timezone.rule.TransitionRule.TheVariants.{Alternate};
 
 use super::LocalTimeType;
-use super::alternate_clock::AlternateClock;
-use super::rule_clock::RuleRef;
-use super::rule_years::likely_years;
+use super::alternate_tables::AlternateClock;
+use super::rule_ref::RuleRef;
+use super::rule_years::likely_year;
 
 /// A change of a rule, from one type to another.
 #[derive(Clone, Copy)]
@@ -79,82 +79,68 @@ fn change_by_types<'a>(
 }
 
 impl AlternateClock {
-    /// The start or the end next after an instant near the moved year, by whether a year's end comes first, or its start.
+    /// The last start or end up to an instant near the moved year, and the next one after it, by whether a year's end comes first, or its start.
     ///
     /// The second one of a year never meets the first one of the next year, since both are far inside their years.
     #[inline(always)]
-    fn switch_after_by_order(
+    fn switches_by_order(
         &self,
         end_is_first: bool,
         unix_time: i64,
-        years: u64,
-    ) -> Option<Switch>
+        moved_year: u64,
+    ) -> (Option<Switch>, Option<Switch>)
         requires order { MatchBool end_is_first (EndsNextYear (start_of self.now) (end_of self.now)) (¬ EndsNextYear (start_of self.now) (end_of self.now)) }
-        requires year { IsTriedYear (moved_back years) }
+        requires year { IsTriedYear (moved_back moved_year) }
         requires inner { HasInnerSwitches self.now }
-        requires likely { IsLikelyYear unix_time (moved_back years) }
-        ensures { IfSome result (λ switch. IsSwitchAfter self.now unix_time switch.unix_time switch.is_start) }
+        requires likely { IsLikelyYear unix_time (moved_back moved_year) }
+        ensures last { IfSome result.0 (λ switch. IsSwitchUpTo self.now unix_time switch.unix_time switch.is_start) }
+        ensures next { IfSome result.1 (λ switch. IsSwitchAfter self.now unix_time switch.unix_time switch.is_start) }
     {
         self.parts_are_sound();
-        let first = self.switch_in_moved(end_is_first, years);
-        let second = self.switch_in_moved(!end_is_first, years);
+        let first = self.switch_in_moved(end_is_first, moved_year);
+        let second = self.switch_in_moved(!end_is_first, moved_year);
         if unix_time < first {
-            return switch_between(first, !end_is_first, first, second);
+            let earlier = self.switch_in_moved(end_is_first, moved_year - 1);
+            let last = self.switch_in_moved(!end_is_first, moved_year - 1);
+            return (
+                switch_between(last, end_is_first, earlier, last),
+                switch_between(first, !end_is_first, first, second),
+            );
         }
         if unix_time < second {
-            return Some(Switch {
-                unix_time: second,
-                is_start: end_is_first,
-            });
-        }
-        let next = self.switch_in_moved(end_is_first, years + 1);
-        let last = self.switch_in_moved(!end_is_first, years + 1);
-        switch_between(next, !end_is_first, next, last)
-    }
-
-    /// The last start or end up to an instant near the moved year, by whether a year's end comes first, or its start.
-    #[inline(always)]
-    fn switch_up_to_by_order(
-        &self,
-        end_is_first: bool,
-        unix_time: i64,
-        years: u64,
-    ) -> Option<Switch>
-        requires order { MatchBool end_is_first (EndsNextYear (start_of self.now) (end_of self.now)) (¬ EndsNextYear (start_of self.now) (end_of self.now)) }
-        requires year { IsTriedYear (moved_back years) }
-        requires inner { HasInnerSwitches self.now }
-        requires likely { IsLikelyYear unix_time (moved_back years) }
-        ensures { IfSome result (λ switch. IsSwitchUpTo self.now unix_time switch.unix_time switch.is_start) }
-    {
-        self.parts_are_sound();
-        let first = self.switch_in_moved(end_is_first, years);
-        let second = self.switch_in_moved(!end_is_first, years);
-        if second <= unix_time {
-            return switch_between(second, end_is_first, first, second);
-        }
-        if first <= unix_time {
-            return Some(Switch {
+            let last = Switch {
                 unix_time: first,
                 is_start: !end_is_first,
-            });
+            };
+            let next = Switch {
+                unix_time: second,
+                is_start: end_is_first,
+            };
+            return (Some(last), Some(next));
         }
-        let earlier = self.switch_in_moved(end_is_first, years - 1);
-        let last = self.switch_in_moved(!end_is_first, years - 1);
-        switch_between(last, end_is_first, earlier, last)
+        let next = self.switch_in_moved(end_is_first, moved_year + 1);
+        let later = self.switch_in_moved(!end_is_first, moved_year + 1);
+        (
+            switch_between(second, end_is_first, first, second),
+            switch_between(next, !end_is_first, next, later),
+        )
     }
 
-    /// The year near an instant that determines the switches next to it, if the types differ and the switches are such that one does.
+    /// The last switch up to an instant and the next one after it, if the types differ and the likely year determines them.
     #[inline(always)]
-    fn determining_years(&self, unix_time: i64) -> Option<u64>
+    fn switches_around(&self, unix_time: i64) -> Option<(Option<Switch>, Option<Switch>)>
         ensures differ { IfSome result (λ _. self.now.std ≢ self.now.dst) }
-        ensures inner { IfSome result (λ _. HasInnerSwitches self.now) }
-        ensures year { IfSome result (λ years. IsTriedYear (moved_back years)) }
-        ensures likely { IfSome result (λ years. IsLikelyYear unix_time (moved_back years)) }
+        ensures last { IfSome result (λ around. IfSome around.0 (λ switch. IsSwitchUpTo self.now unix_time switch.unix_time switch.is_start)) }
+        ensures next { IfSome result (λ around. IfSome around.1 (λ switch. IsSwitchAfter self.now unix_time switch.unix_time switch.is_start)) }
     {
         if !self.has_inner_switches() || self.std() == self.dst() {
             return None;
         }
-        likely_years(unix_time)
+        let moved_year = likely_year(unix_time)?;
+        if self.ends_next_year() {
+            return Some(self.switches_by_order(true, unix_time, moved_year));
+        }
+        Some(self.switches_by_order(false, unix_time, moved_year))
     }
 
     /// The change at a switch.
@@ -171,34 +157,6 @@ impl AlternateClock {
         }
     }
 
-    /// The switch next after an instant, if the likely year determines it.
-    #[inline(always)]
-    fn switch_after(&self, unix_time: i64) -> Option<Switch>
-        ensures differ { IfSome result (λ _. self.now.std ≢ self.now.dst) }
-        ensures switch { IfSome result (λ switch. IsSwitchAfter self.now unix_time switch.unix_time switch.is_start) }
-    {
-        let years = self.determining_years(unix_time)?;
-        if self.ends_next_year() {
-            self.switch_after_by_order(true, unix_time, years)
-        } else {
-            self.switch_after_by_order(false, unix_time, years)
-        }
-    }
-
-    /// The last switch up to an instant, if the likely year determines it.
-    #[inline(always)]
-    fn switch_up_to(&self, unix_time: i64) -> Option<Switch>
-        ensures differ { IfSome result (λ _. self.now.std ≢ self.now.dst) }
-        ensures switch { IfSome result (λ switch. IsSwitchUpTo self.now unix_time switch.unix_time switch.is_start) }
-    {
-        let years = self.determining_years(unix_time)?;
-        if self.ends_next_year() {
-            self.switch_up_to_by_order(true, unix_time, years)
-        } else {
-            self.switch_up_to_by_order(false, unix_time, years)
-        }
-    }
-
     /// Whether the rule is known to have no change: its types are equal, or daylight saving time never begins before it ends, or never ends before it
     /// begins again.
     fn has_one_type(&self) -> bool
@@ -208,7 +166,7 @@ impl AlternateClock {
         if self.std() == self.dst() {
             return true;
         }
-        let (starts, ends) = (self.switches(false), self.switches(true));
+        let (starts, ends) = (self.table(false), self.table(true));
         if self.ends_next_year() {
             return !starts.comes_before_next(ends);
         }
@@ -263,30 +221,31 @@ impl AlternateClock {
         None
     }
 
-    /// The first change after an instant. It is a call, so that walks over a zone's transitions stay small.
+    /// The first change after an instant. Not inlined, so that walks over a zone's transitions stay small.
     #[inline(never)]
     fn change_after(&self, unix_time: i64) -> Option<RuleChange<'_>>
         ensures { MatchOption result (HasNoChangeAfter (Alternate self.now) unix_time) (λ c. IsChangeAfter (Alternate self.now) unix_time (type_change_of c)) }
     {
-        match self.switch_after(unix_time) {
-            Some(switch) => Some(self.change_at(switch)),
-            None => self.outer_change_after(unix_time),
+        match self.switches_around(unix_time) {
+            Some((_, Some(switch))) => Some(self.change_at(switch)),
+            _ => self.outer_change_after(unix_time),
         }
     }
 
-    /// The last change up to an instant, as a call too.
+    /// The last change up to an instant. Not inlined either.
     #[inline(never)]
     fn change_up_to(&self, unix_time: i64) -> Option<RuleChange<'_>>
         ensures { MatchOption result (HasNoChangeUpTo (Alternate self.now) unix_time) (λ c. IsChangeUpTo (Alternate self.now) unix_time (type_change_of c)) }
     {
-        match self.switch_up_to(unix_time) {
-            Some(switch) => Some(self.change_at(switch)),
-            None => self.outer_change_up_to(unix_time),
+        match self.switches_around(unix_time) {
+            Some((Some(switch), _)) => Some(self.change_at(switch)),
+            _ => self.outer_change_up_to(unix_time),
         }
     }
 }
 
 /// The first change of a rule after an instant.
+#[tactic(auto, using(crate::proofs::RuleWalks::none_of_fixed))]
 #[inline(always)]
 pub fn change_after<'a>(rule: RuleRef<'a>, unix_time: i64) -> Option<RuleChange<'a>>
     ensures { MatchOption result (HasNoChangeAfter (rule_seen rule.entry) unix_time) (λ c. IsChangeAfter (rule_seen rule.entry) unix_time (type_change_of c)) }
@@ -298,6 +257,7 @@ pub fn change_after<'a>(rule: RuleRef<'a>, unix_time: i64) -> Option<RuleChange<
 }
 
 /// The last change of a rule up to an instant.
+#[tactic(auto, using(crate::proofs::RuleWalks::none_of_fixed))]
 #[inline(always)]
 pub fn change_up_to<'a>(rule: RuleRef<'a>, unix_time: i64) -> Option<RuleChange<'a>>
     ensures { MatchOption result (HasNoChangeUpTo (rule_seen rule.entry) unix_time) (λ c. IsChangeUpTo (rule_seen rule.entry) unix_time (type_change_of c)) }

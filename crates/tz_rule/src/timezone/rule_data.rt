@@ -3,7 +3,7 @@
 ghost use Rattle.std.specs.Prelude.{◌≡◌};
 ghost use Rattle.tz_rule.specs.RuleData.{rule_given};
 
-use super::alternate_clock::AlternateClock;
+use super::alternate_tables::AlternateClock;
 use super::{LocalTimeType, TransitionRule};
 
 /// A rule, or none, in C's layout. What its kind does not use is zero.

@@ -10,8 +10,8 @@ use std::marker::Model;
 use tz_base::calendar;
 use tz_base::error::timezone::TransitionRuleError;
 
-/// How many days after its first day a month of this length has a week day for the w-th time, and for the fifth week for the last time, if it has
-/// the week day for the first time this many days after its first day.
+/// The day of a month of this length, counted from 0, on which a week day falls for the w-th time, or for week 5 for the last time, if it first falls
+/// on day `first`.
 #[inline(always)]
 fn nth_place(first: u8, days: u8, week: u8) -> u8
     requires first { first < 7 }
@@ -37,7 +37,7 @@ fn place_before(place: u16, least: u16) -> u16
 
 /// The n-th of a year's days that are not February 29th, from 1 to 365. (POSIX.1-2017, 8.3: `Jn`.)
 #[derive(Clone, Copy, Debug, PartialEq, Eq)]
-pub struct Julian1WithoutLeap(u16);
+pub struct Julian1WithoutLeap(pub(super) u16);
 
 impl Model for Julian1WithoutLeap {
     ghost use Rattle.std.specs.Prelude.{ℕ};
@@ -69,14 +69,6 @@ impl Julian1WithoutLeap {
         Ok(Julian1WithoutLeap(julian_day_1))
     }
 
-    /// The day with a number that is known to be in range.
-    pub(super) fn of_number(julian_day_1: u16) -> Self
-        requires { IsJulianDay julian_day_1 }
-        ensures { result ≡ julian_day_1 }
-    {
-        Julian1WithoutLeap(julian_day_1)
-    }
-
     /// The number of the day.
     pub fn get(&self) -> u16
         ensures value { result ≡ self.now }
@@ -99,7 +91,7 @@ impl Julian1WithoutLeap {
 
 /// The day n days after January 1st, from 0 to 365. In a year that is not leap 365 is the next January 1st. (POSIX.1-2017, 8.3: `n`.)
 #[derive(Clone, Copy, Debug, PartialEq, Eq)]
-pub struct Julian0WithLeap(u16);
+pub struct Julian0WithLeap(pub(super) u16);
 
 impl Model for Julian0WithLeap {
     ghost use Rattle.std.specs.Prelude.{ℕ};
@@ -131,14 +123,6 @@ impl Julian0WithLeap {
         Ok(Julian0WithLeap(julian_day_0))
     }
 
-    /// The day with a number that is known to be in range.
-    pub(super) fn of_number(julian_day_0: u16) -> Self
-        requires { IsZeroBasedDay julian_day_0 }
-        ensures { result ≡ julian_day_0 }
-    {
-        Julian0WithLeap(julian_day_0)
-    }
-
     /// The number of the day.
     pub fn get(&self) -> u16
         ensures value { result ≡ self.now }
@@ -151,9 +135,9 @@ impl Julian0WithLeap {
 /// The w-th of a month's days with a week day, where the fifth is the last. (POSIX.1-2017, 8.3: `Mm.w.d`.)
 #[derive(Clone, Copy, Debug, PartialEq, Eq)]
 pub struct MonthWeekDay {
-    month: u8,
-    week: u8,
-    week_day: u8,
+    pub(super) month: u8,
+    pub(super) week: u8,
+    pub(super) week_day: u8,
 }
 
 impl Model for MonthWeekDay {
@@ -201,18 +185,6 @@ impl MonthWeekDay {
             week,
             week_day,
         })
-    }
-
-    /// The day with numbers that are known to be in range.
-    pub(super) fn of_numbers(month: u8, week: u8, week_day: u8) -> Self
-        requires { IsMonthWeek (month_week month week week_day) }
-        ensures { result ≡ month_week month week week_day }
-    {
-        MonthWeekDay {
-            month,
-            week,
-            week_day,
-        }
     }
 
     /// The month, from 1 to 12.

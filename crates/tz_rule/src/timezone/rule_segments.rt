@@ -14,9 +14,9 @@ ghost use Rattle.tz_rule.specs.Pairing.{EndsNextYear};
 ghost use Rattle.tz_rule.specs.declared.timezone.rule.TransitionRule.TheVariants.{Alternate};
 
 use super::LocalTimeType;
-use super::alternate_clock::AlternateClock;
-use super::rule_years::{FIRST_YEAR, LAST_YEAR, likely_years, new_year, rule_year};
-use tz_base::calendar::moved_year;
+use super::alternate_tables::AlternateClock;
+use super::rule_years::{FIRST_YEAR, LAST_YEAR, likely_year, new_year, rule_year};
+use tz_base::calendar;
 use tz_base::error::TzError;
 
 /// A span of time through which a rule has one type, or none.
@@ -64,31 +64,36 @@ fn undefined_segment<'a>(unix_time: i64) -> RuleSegment<'a>
 impl AlternateClock {
     /// The instant at which daylight saving time starts, or ends, in a moved year.
     #[inline(always)]
-    pub(super) fn switch_in_moved(&self, is_end: bool, years: u64) -> i64
-        requires { (352 ≤ years) × (years ≤ 4294967647) }
-        ensures { result ≡ switch_of self.now is_end (moved_back years) }
+    pub(super) fn switch_in_moved(&self, is_end: bool, moved_year: u64) -> i64
+        requires { (352 ≤ moved_year) × (moved_year ≤ 4294967647) }
+        ensures { result ≡ switch_of self.now is_end (moved_back moved_year) }
     {
-        self.switches(is_end).in_moved_year(years)
+        self.table(is_end).in_moved_year(moved_year)
     }
 
     /// The segment of the moved year or its neighbours that an instant near the year chooses, by whether a year's end comes first, or its start.
     #[inline(always)]
-    fn segment_by_order(&self, end_is_first: bool, unix_time: i64, years: u64) -> AlternateSegment
+    fn segment_by_order(
+        &self,
+        end_is_first: bool,
+        unix_time: i64,
+        moved_year: u64,
+    ) -> AlternateSegment
         requires order { MatchBool end_is_first (EndsNextYear (start_of self.now) (end_of self.now)) (¬ EndsNextYear (start_of self.now) (end_of self.now)) }
-        requires year { HasNeighbours (moved_back years) }
-        ensures of { IsSwitchSegment self.now (moved_back years) result }
-        ensures within { IsDeterminingYear self.now end_is_first unix_time (moved_back years) → (result.from ≤ℤ unix_time) × (unix_time <ℤ result.until) }
+        requires year { HasNeighbours (moved_back moved_year) }
+        ensures of { IsSwitchSegment self.now (moved_back moved_year) result }
+        ensures within { IsDeterminingYear self.now end_is_first unix_time (moved_back moved_year) → (result.from ≤ℤ unix_time) × (unix_time <ℤ result.until) }
     {
         self.parts_are_sound();
-        let first = self.switch_in_moved(end_is_first, years);
+        let first = self.switch_in_moved(end_is_first, moved_year);
         if unix_time < first {
             return AlternateSegment {
-                from: self.switch_in_moved(!end_is_first, years - 1),
+                from: self.switch_in_moved(!end_is_first, moved_year - 1),
                 until: first,
                 is_daylight: end_is_first,
             };
         }
-        let second = self.switch_in_moved(!end_is_first, years);
+        let second = self.switch_in_moved(!end_is_first, moved_year);
         if unix_time < second {
             return AlternateSegment {
                 from: first,
@@ -98,7 +103,7 @@ impl AlternateClock {
         }
         AlternateSegment {
             from: second,
-            until: self.switch_in_moved(end_is_first, years + 1),
+            until: self.switch_in_moved(end_is_first, moved_year + 1),
             is_daylight: end_is_first,
         }
     }
@@ -111,11 +116,11 @@ impl AlternateClock {
         ensures of { IfSome result (λ segment. IsWholeSegment self.now segment) }
         ensures within { IfSome result (λ segment. HasInnerSwitches self.now → (segment.from ≤ℤ unix_time) × (unix_time <ℤ segment.until)) }
     {
-        let years = likely_years(unix_time)?;
+        let moved_year = likely_year(unix_time)?;
         let segment = if self.ends_next_year() {
-            self.segment_by_order(true, unix_time, years)
+            self.segment_by_order(true, unix_time, moved_year)
         } else {
-            self.segment_by_order(false, unix_time, years)
+            self.segment_by_order(false, unix_time, moved_year)
         };
         Some(segment)
     }
@@ -169,8 +174,8 @@ impl AlternateClock {
     {
         let year = rule_year(unix_time)?;
         let end_is_first = self.ends_next_year();
-        let years = moved_year(self.determining_year(end_is_first, unix_time, year));
-        let segment = self.segment_by_order(end_is_first, unix_time, years);
+        let moved_year = calendar::moved_year(self.determining_year(end_is_first, unix_time, year));
+        let segment = self.segment_by_order(end_is_first, unix_time, moved_year);
         Some(AlternateSegment {
             from: segment.from.max(new_year(FIRST_YEAR)),
             until: segment.until.min(new_year(LAST_YEAR + 1)),

@@ -46,9 +46,9 @@ pub(super) fn rule_year(unix_time: i64) -> Option<i32>
 
 /// The year of an instant in UTC, or the neighbour of that year whose end is less than two days away, moved by cycles of 400 years.
 #[inline(always)]
-pub(super) fn likely_years(unix_time: i64) -> Option<u64>
-    ensures year { IfSome result (λ years. IsTriedYear (moved_back years)) }
-    ensures likely { IfSome result (λ years. IsLikelyYear unix_time (moved_back years)) }
+pub(super) fn likely_year(unix_time: i64) -> Option<u64>
+    ensures year { IfSome result (λ moved_year. IsTriedYear (moved_back moved_year)) }
+    ensures likely { IfSome result (λ moved_year. IsLikelyYear unix_time (moved_back moved_year)) }
 {
     if unix_time < -GREATEST_DISTANCE || unix_time > GREATEST_DISTANCE {
         return None;

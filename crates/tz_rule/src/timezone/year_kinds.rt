@@ -37,14 +37,14 @@ fn days_over_weeks(days: u64) -> u8
 
 /// 00:00 UTC of a moved year's January 1st, and the kind of the year.
 #[inline(always)]
-pub(super) fn moved_year_start(years: u64) -> (i64, usize)
-    requires { (352 ≤ years) × (years ≤ 4294967647) }
-    ensures start { result.0 ≡ pos 86400 *ℤ first_day (pos years -ℤ pos 2147484000) }
-    ensures kind { result.1 ≡ year_kind (pos years -ℤ pos 2147484000) }
+pub(super) fn moved_year_start(moved_year: u64) -> (i64, usize)
+    requires { (352 ≤ moved_year) × (moved_year ≤ 4294967647) }
+    ensures start { result.0 ≡ pos 86400 *ℤ first_day (pos moved_year -ℤ pos 2147484000) }
+    ensures kind { result.1 ≡ year_kind (pos moved_year -ℤ pos 2147484000) }
     ensures bound { (negsuc 67768100567971199 ≤ℤ result.0) × (result.0 ≤ℤ pos 67767976202016000) }
     ensures below { result.1 < 14 }
 {
-    let days = days_before_moved_year(years);
-    let kind = kind_of(is_moved_year_leap(years), days_over_weeks(days + 6));
+    let days = days_before_moved_year(moved_year);
+    let kind = kind_of(is_moved_year_leap(moved_year), days_over_weeks(days + 6));
     (SECONDS_PER_DAY * (days as i64 - ADDED_DAYS), kind)
 }

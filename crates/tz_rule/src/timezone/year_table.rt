@@ -7,14 +7,14 @@ ghost use Rattle.tz_rule.specs.YearTables.{instant_in, entry, day_table, AreBoun
 
 use super::RuleDay;
 use super::year_kinds::{KINDS, moved_year_start};
-use tz_base::calendar::moved_year;
+use tz_base::calendar;
 
 /// How many seconds after 00:00 UTC of January 1st an instant of the year is, for each kind of years.
 #[repr(C)]
 #[derive(Clone, Copy)]
 pub(super) struct YearTable([i32; KINDS]);
 
-/// Ten days after its beginning no start or end of the years before is yet to come: they are less than that outside their years.
+/// Ten days after New Year. A start or an end lies less than ten days outside its year, so from here on none of an earlier year is yet to come.
 const INNER_START: i32 = 864_000;
 
 /// Ten days before the end of the shortest year.
@@ -66,11 +66,11 @@ impl YearTable {
 
     /// The instant of a moved year.
     #[inline(always)]
-    pub(super) fn in_moved_year(&self, years: u64) -> i64
-        requires { (352 ≤ years) × (years ≤ 4294967647) }
-        ensures { result ≡ instant_in self.now.0 (moved_back years) }
+    pub(super) fn in_moved_year(&self, moved_year: u64) -> i64
+        requires { (352 ≤ moved_year) × (moved_year ≤ 4294967647) }
+        ensures { result ≡ instant_in self.now.0 (moved_back moved_year) }
     {
-        let (start_of_year, kind) = moved_year_start(years);
+        let (start_of_year, kind) = moved_year_start(moved_year);
         start_of_year + self.entry(kind)
     }
 
@@ -79,7 +79,7 @@ impl YearTable {
     pub(super) fn in_year(&self, year: i32) -> i64
         ensures { result ≡ instant_in self.now.0 year }
     {
-        self.in_moved_year(moved_year(year))
+        self.in_moved_year(calendar::moved_year(year))
     }
 
     /// The least and the greatest seconds of all kinds.

@@ -10,7 +10,7 @@ use Rattle.tz_rule.proofs.timezone.year_kinds.moved_year_start.Goals as goal
 
 pub returns-clause-start : goal.returns-clause-start
 returns-clause-start c =
-    let n = c.args.years in
+    let n = c.args.moved_year in
     let year = pos n -ℤ pos 2147484000 in
     let moved = first_day-moved year n 5368710 (omega (arith, ints)) in
     omega (arith, ints, moved, c.days_before_moved_year-days.ensures.value, c.days_before_moved_year-days.ensures.bound)
@@ -18,7 +18,7 @@ returns-clause-start c =
 pub returns-clause-kind : goal.returns-clause-kind
 unfolding year_kind
 returns-clause-kind c =
-    let n = c.args.years in
+    let n = c.args.moved_year in
     let year = pos n -ℤ pos 2147484000 in
     let moved : year +ℤ pos 2147484000 ≡ pos n = omega (arith, ints) in
     let leap = c.is_moved_year_leap.ensures ∙ sym (is_leap-moved year n 5368710 moved) in
@@ -27,7 +27,7 @@ returns-clause-kind c =
 
 pub returns-clause-bound : goal.returns-clause-bound
 returns-clause-bound c =
-    let n = c.args.years in
+    let n = c.args.moved_year in
     let year = pos n -ℤ pos 2147484000 in
     let bounds = days_of_years_bounds year n (year_fits year (omega (arith, ints, c.requires.0)) (omega (arith, ints, c.requires.1))) (omega (arith, ints)) in
     (omega (arith, ints, bounds, c.days_before_moved_year-days.ensures.value, c.days_before_moved_year-days.ensures.bound), omega (arith, ints, bounds, c.days_before_moved_year-days.ensures.value, c.days_before_moved_year-days.ensures.bound))

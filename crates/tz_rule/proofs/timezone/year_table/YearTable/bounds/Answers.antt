@@ -1,10 +1,9 @@
 -- One kind more.
-use Rattle.std.proofs.Common.{◌≡◌, ◌≤ℤ◌, refl, sym, ap, ◌∙◌, arith, rules, to_z, of_z}
+use Rattle.std.proofs.Common.{◌≡◌, ◌≤ℤ◌, refl, sym, ap, ◌∙◌, arith, rules, below_more, to_z, of_z}
 use Rattle.std.specs.Int.{int_min, int_max}
 use Rattle.std.proofs.lemmas.Int.{ints, to_z-of_z}
 use mir.Syntax.{w32}
 use Rattle.tz_rule.specs.YearTables.{entry, least_entry, greatest_entry}
-use Rattle.tz_rule.proofs.Below.{below_next}
 use Rattle.tz_rule.proofs.InnerSwitches.{least_entry-next, greatest_entry-next}
 use Rattle.tz_rule.proofs.timezone.year_table.YearTable.bounds.Goals as goal
 
@@ -25,7 +24,7 @@ loop-kind-preserved c =
     let greatest_is : c.max-greatest.result ≡ int_max (greatest_entry table kind) (entry table kind) =
     c.max-greatest.ensures.value ∙ ap (int_max (to_z w32 c.loop-kind.greatest-bits)) read ∙ ap (λ x. int_max x (entry table kind)) i.greatest in
     record {
-      bounds = below_next (λ k. (to_z w32 (of_z w32 c.min-least.result) ≤ℤ entry table k) × (entry table k ≤ℤ to_z w32 (of_z w32 c.max-greatest.result))) kind
+      bounds = below_more (λ k. (to_z w32 (of_z w32 c.min-least.result) ≤ℤ entry table k) × (entry table k ≤ℤ to_z w32 (of_z w32 c.max-greatest.result))) kind
           (λ k below. let so_far = i.bounds k below in (omega (arith, ints, least, so_far.0, c.min-least.ensures.self_bound), omega (arith, ints, greatest, so_far.1, c.max-greatest.ensures.self_bound)))
           (omega (arith, ints, least, read, c.min-least.ensures.other_bound), omega (arith, ints, greatest, read, c.max-greatest.ensures.other_bound));
       least = least ∙ least_is ∙ sym (least_entry-next table kind);

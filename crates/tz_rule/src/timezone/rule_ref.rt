@@ -1,0 +1,107 @@
+//! References to rules: the type of a rule at an instant and around it, and when daylight saving time starts and ends.
+
+ghost use Rattle.std.specs.Prelude.{◌≡◌, ◌≢◌, ◌+ℤ◌, ◌≤ℤ◌, ℤ, pos, negsuc, IfOk, IfErr, MatchOption};
+ghost use Rattle.tz_rule.specs.Alternate.{start_of, end_of, IsNearYear};
+ghost use Rattle.tz_rule.specs.LocalTimeType.{LocalTimeType};
+ghost use Rattle.tz_rule.specs.Rule.{IsRuleType, IsSoundRule};
+ghost use Rattle.tz_rule.specs.RuleRef.{rule_seen};
+ghost use Rattle.tz_rule.specs.RuleSegments.{IsRuleChange};
+
+use super::alternate_tables::AlternateClock;
+use super::rule_segments::RuleSegment;
+use super::{AlternateTime, LocalTimeType, TransitionRule};
+use tz_base::error::TzError;
+
+/// A rule that is lent: a fixed type, or the clock of an alternate rule.
+#[derive(Clone, Copy)]
+pub enum RuleRef<'a> {
+    /// One type for all time.
+    Fixed(&'a LocalTimeType),
+    /// Two types that alternate.
+    Alternate(&'a AlternateClock),
+}
+
+impl<'a> RuleRef<'a> {
+    /// Lends a rule.
+    #[inline(always)]
+    pub fn of(rule: &'a TransitionRule) -> RuleRef<'a>
+        ensures { rule_seen result ≡ rule.now }
+    {
+        match rule {
+            TransitionRule::Fixed(local_time_type) => RuleRef::Fixed(local_time_type),
+            TransitionRule::Alternate(rule) => RuleRef::Alternate(rule.clock()),
+        }
+    }
+
+    /// The rule that is lent.
+    pub fn rule(self) -> TransitionRule
+        ensures { result ≡ rule_seen self.entry }
+    {
+        match self {
+            RuleRef::Fixed(local_time_type) => TransitionRule::Fixed(*local_time_type),
+            RuleRef::Alternate(clock) => TransitionRule::Alternate(AlternateTime::of_clock(clock)),
+        }
+    }
+}
+
+/// The type of the rule at an instant. An alternate rule has one in the UTC years that are two or more from both ends of `i32`.
+#[tactic(auto, unfolding(crate::specs::Rule::IsRuleType))]
+#[inline(always)]
+pub fn find_local_time_type<'a>(
+    rule: RuleRef<'a>,
+    unix_time: i64,
+) -> Result<&'a LocalTimeType, TzError>
+    ensures ok { IfOk result (λ t. IsRuleType (rule_seen rule.entry) unix_time t.now) }
+    ensures err { IfErr result (λ e. (e ≡ TzError.OutOfRange) × ((t : LocalTimeType) → ¬ IsRuleType (rule_seen rule.entry) unix_time t)) }
+{
+    match rule {
+        RuleRef::Fixed(local_time_type) => Ok(local_time_type),
+        RuleRef::Alternate(rule) => rule.find_local_time_type(unix_time),
+    }
+}
+
+/// The instant at which daylight saving time starts in a year.
+pub fn start(rule: &AlternateTime, year: i32) -> i64
+    ensures value { result ≡ start_of rule.now year }
+    ensures bound { IsNearYear result year }
+{
+    rule.clock().switch_in(false, year)
+}
+
+/// The instant at which daylight saving time ends in a year.
+pub fn end(rule: &AlternateTime, year: i32) -> i64
+    ensures value { result ≡ end_of rule.now year }
+    ensures bound { IsNearYear result year }
+{
+    rule.clock().switch_in(true, year)
+}
+
+/// The segment of the rule around an instant: the first and the last instant through which it has one type, or none.
+#[tactic(auto, unfolding(crate::specs::Rule::IsRuleType))]
+#[inline(always)]
+pub fn segment_at<'a>(rule: RuleRef<'a>, unix_time: i64) -> RuleSegment<'a>
+    ensures within { (result.from ≤ℤ unix_time) × (unix_time ≤ℤ result.last) }
+    ensures holds { (v : ℤ) → result.from ≤ℤ v → v ≤ℤ result.last
+        → MatchOption result.local_time_type ((t : LocalTimeType) → ¬ IsRuleType (rule_seen rule.entry) v t) (λ t. IsRuleType (rule_seen rule.entry) v t.now) }
+    ensures from { (result.from ≢ negsuc 9223372036854775807) → IsRuleChange (rule_seen rule.entry) result.from }
+    ensures last { (result.last ≢ pos 9223372036854775807) → IsRuleChange (rule_seen rule.entry) (result.last +ℤ pos 1) }
+{
+    match rule {
+        RuleRef::Fixed(local_time_type) => RuleSegment {
+            from: i64::MIN,
+            last: i64::MAX,
+            local_time_type: Some(local_time_type),
+        },
+        RuleRef::Alternate(rule) => rule.segment(unix_time),
+    }
+}
+
+/// The parts of the rule obey the rules of their making. This does nothing; its contract is what holds of every rule.
+pub fn parts_are_sound(rule: RuleRef<'_>)
+    ensures { IsSoundRule (rule_seen rule.entry) }
+{
+    match rule {
+        RuleRef::Fixed(_) => {}
+        RuleRef::Alternate(rule) => rule.parts_are_sound(),
+    }
+}
