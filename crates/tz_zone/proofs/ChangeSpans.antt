@@ -1,33 +1,21 @@
 -- Spans of one type have no change inside, and the change where one ends is the next one.
-use Rattle.std.proofs.Common.{◌≡◌, ◌∙◌, refl, sym, subst, arith, inl, true, [], ℤ, pos, negsuc, ◌+ℤ◌, ◌-ℤ◌, ◌≤ℤ◌, ◌<ℤ◌, Option, Some, None}
-use Rattle.std.specs.Prelude.{IfSome, MatchOption, is_some}
-use Rattle.std.specs.Borrow.{Bor}
+use Rattle.std.proofs.Common.{◌≡◌, ◌∙◌, sym, subst, arith, inl, [], ℤ, pos, negsuc, ◌+ℤ◌, ◌-ℤ◌, ◌≤ℤ◌, ◌<ℤ◌, Option, Some, None}
+use Rattle.std.specs.Prelude.{IfSome, MatchOption}
 use Rattle.std.proofs.lemmas.Int.{ints, by_lt_z}
-use Rattle.std.proofs.lemmas.Bool.{false≢true}
 use Rattle.tz_rule.specs.LocalTimeType.{LocalTimeType}
 use Rattle.tz_rule.specs.Rule.{IsRuleType}
 use Rattle.tz_rule.specs.RuleChanges.{TypeChange, IsTypeChange, IsChangeAfter, IsChangeUpTo, HasNoChangeAfter, HasNoChangeUpTo}
 use Rattle.tz_rule.specs.declared.timezone.rule.TransitionRule.{TransitionRule}
 use Rattle.tz_zone.specs.Table.{Zone}
-use Rattle.tz_zone.specs.Clock.{IsTypeWithout, IsClock, HasNoType}
+use Rattle.tz_zone.specs.Clock.{IsTypeWithout, IsClock}
 use Rattle.tz_zone.specs.Changes.{Change, IsChange, HasNoChange, HasNoFollowing, HasNoPreceding, IsFollowing, IsPreceding}
-use Rattle.tz_zone.proofs.Clocks.{one_type}
 use Rattle.tz_zone.proofs.InstantsWithLeapTime.{clock_without}
 
 -- from one instant up to another the clock has no two types
 abbrev pub HasOneType : Zone → ℤ → ℤ → Type 0
 HasOneType z low last = (v w : ℤ) (s t : LocalTimeType) → low ≤ℤ v → v ≤ℤ last → low ≤ℤ w → w ≤ℤ last → IsClock z v s → IsClock z w t → s ≡ t
 
--- the clock has the type, if there is one, or none, from one instant up to another
-abbrev pub Holds : Zone → ℤ → ℤ → Option (Bor LocalTimeType) → Type 0
-Holds z low last type = (v : ℤ) → low ≤ℤ v → v ≤ℤ last → MatchOption type (HasNoType z v) (λ t. IsClock z v t.now)
-
 module _ (z : Zone) where
-  pub one_type_if_holds : (low last : ℤ) (type : Option (Bor LocalTimeType)) → Holds z low last type → HasOneType z low last
-  one_type_if_holds low last (Some t) holds v w s s' a b c d first second =
-      one_type z v s t.now first (holds v a b) ∙ one_type z w t.now s' (holds w c d) second
-  one_type_if_holds low last None holds v w s s' a b c d first second = absurd (holds v a b s first)
-
   pub one_type_of : (low last : ℤ) (t : LocalTimeType) → ((v : ℤ) (s : LocalTimeType) → low ≤ℤ v → v ≤ℤ last → IsClock z v s → s ≡ t) → HasOneType z low last
   one_type_of low last t all v w s s' a b c d first second = all v s a b first ∙ sym (all w s' c d second)
 
@@ -144,12 +132,7 @@ module _ (z : Zone) (none : z.transitions ≡ []) (rule : TransitionRule) (is : 
   pub no_preceding_of_rule : (u : ℤ) → HasNoChangeUpTo rule u → HasNoPreceding z (u +ℤ pos 1)
   no_preceding_of_rule u none c below change = none (rule_change c) (omega (arith, ints, below)) (to_rule c change)
 
--- what an option holds that is known to hold something
-pub if_some : {X : Type 0} (o : Option X) (P : Type 0) → is_some o ≡ true → ((x : X) → o ≡ Some x → P) → P
-if_some (Some x) P e f = f x refl
-if_some None P e f = absurd (false≢true e)
-
--- and of what is known of it by cases, more follows
+-- what is known of an option by cases, and what follows from that
 pub if_some_held : {X : Type 0} (o : Option X) (P : Type 0) (Q R : X → Type 0) → MatchOption o P Q → ((x : X) → Q x → R x) → IfSome o R
 if_some_held (Some x) P Q R is each = each x is
 if_some_held None P Q R is each = tt

@@ -8,20 +8,19 @@ use Rattle.std.proofs.lemmas.List.{nil_from_length}
 use Rattle.std.proofs.lemmas.Option.{slice_get_within}
 use Rattle.tz_rule.specs.LocalTimeType.{LocalTimeType}
 use Rattle.tz_zone.specs.Table.{Transition, Zone}
-use Rattle.tz_zone.specs.LeapTime.{IsLeapTimeRefused, IsLeapTime, IsTimeReached}
+use Rattle.tz_zone.specs.LeapTime.{IsLeapTimeRefused, IsLeapTime, IsTimeReached, IsLastBefore}
 use Rattle.tz_zone.specs.Clock.{AreReached, IsTypeAt, IsTypeAfterTable, IsClock, HasNoType}
 use Rattle.tz_zone.specs.ClockSegments.{IsReachedAt}
 use Rattle.tz_zone.specs.ClockSpans.{IsStage}
-use Rattle.tz_zone.specs.ValidZone.{IsRising, IsSoundTable}
+use Rattle.tz_zone.specs.ValidZone.{IsSoundTable}
 use Rattle.tz_zone.specs.ZoneSeen.{zone_seen}
 use Rattle.tz_zone.specs.declared.clock.spans.Stage.{Stage}
 use Rattle.tz_zone.specs.declared.table.parts.OtherParts.{OtherParts}
-use Rattle.tz_zone.proofs.LeapTimes.{leap_time_mono, leap_time_unique, past_later}
-use Rattle.tz_zone.proofs.RisingTimes.{ahead_from, reached_through}
-use Rattle.tz_zone.proofs.LeapReached.{IsLastBefore, reached_from}
+use Rattle.tz_zone.proofs.LeapTimes.{leap_time_mono, one_leap_time, past_later}
+use Rattle.tz_zone.proofs.RisingTimes.{rising, ahead_from, reached_through}
 use Rattle.tz_zone.proofs.Places.{clock_at_place}
 use Rattle.tz_zone.proofs.PlaceRuns.{some_transitions, type_after, types_from_last}
-use Rattle.tz_zone.proofs.InstantsWithLeapTime.{defined_within, clock_without, leap_unless_refused}
+use Rattle.tz_zone.proofs.InstantsWithLeapTime.{defined_within, clock_without, leap_unless_refused, reached_from}
 
 -- the type after the table, or none, is that of the clock where all transitions are reached, and of one that has none
 pub types_after_table : (list : List Transition) (parts : OtherParts) → IsSoundTable (zone_seen list parts) → (count : ℕ) → count ≡ length list → (v : ℤ)
@@ -35,9 +34,6 @@ types_after_table list parts sound (suc before) is v reached type holds =
     types_from_last (zone_seen list parts) sound some v (reached some) type (rw (eqb-suc-zero before) at holds)
 
 module _ (z : Zone) (sound : IsSoundTable z) (first since : ℤ) (s : Stage) (stage : IsStage z first since s) where
-  rising : IsRising z.transitions
-  rising i = (sound.transitions_are i).1
-
   -- later instants have a leap time, up to the reach of all tables, and the transitions before the place are reached there
   leap_later : z.transitions ≢ [] → (v : ℤ) → since ≤ℤ v → v ≤ℤ pos 80000000000000000 → (l : ℤ) × IsLeapTime z.leap_seconds v l × AreReached z.transitions l s.place
   leap_later some v from to =
@@ -79,14 +75,14 @@ module _ (z : Zone) (sound : IsSoundTable z) (first since : ℤ) (s : Stage) (st
     pub ahead_at_first : ¬ IsTimeReached z.leap_seconds next.unix_leap_time first
     ahead_at_first reached =
         let (l, leap, ahead) = stage.ahead some in
-        absurd (omega (arith, ints, ahead s.place next (omega arith) at_next, reached.2, leap_time_unique z.leap_seconds sound.leap_seconds_are first l reached.0 leap reached.1))
+        absurd (omega (arith, ints, ahead s.place next (omega arith) at_next, reached.2, one_leap_time z.leap_seconds first l reached.0 leap reached.1))
 
     -- until it is reached the clock keeps its type
     pub clock_before_next : (v : ℤ) → since ≤ℤ v → v ≤ℤ pos 80000000000000000 → ¬ IsTimeReached z.leap_seconds next.unix_leap_time v → IsClock z v s.local_time_type.now
     clock_before_next v from to before =
         let (l, leap, reached) = leap_later some v from to in
         let early = by_lt_z l next.unix_leap_time (λ h. h) (λ h. absurd (before (l, leap, h))) in
-        clock_at_place z sound s.place v s.local_time_type.now inside (record { time = l; time_is = leap; reached = reached; ahead = ahead_from z.transitions rising l s.place next at_next early }) stage.type_is
+        clock_at_place z sound s.place v s.local_time_type.now inside (record { time = l; time_is = leap; reached = reached; ahead = ahead_from z.transitions (rising z sound) l s.place next at_next early }) stage.type_is
 
     -- after the last instant before it is reached the walk is one place further
     pub stage_after_next : (last : ℤ) → IsLastBefore z.leap_seconds next.unix_leap_time last → (type : Bor LocalTimeType) → IsTypeAt z next.type_index type.now
@@ -102,5 +98,5 @@ module _ (z : Zone) (sound : IsSoundTable z) (first since : ℤ) (s : Stage) (st
           type_is = type_after z s.place next type.now at_next is_type;
           instant = stage.instant;
           ahead = λ some. let (m, leap_m, ahead) = stage.ahead some in (m, leap_m, λ i change above at_i. ahead i change (omega (arith, above)) at_i);
-          reached = λ some. (there.0, there.1, reached_through z.transitions rising there.0 s.place next at_next there.2);
+          reached = λ some. (there.0, there.1, reached_through z.transitions (rising z sound) there.0 s.place next at_next there.2);
         }

@@ -12,7 +12,7 @@ use Rattle.tz_zone.specs.Table.{Transition, Zone}
 use Rattle.tz_zone.specs.LeapTime.{IsLeapTimeRefused, IsLeapTime}
 use Rattle.tz_zone.specs.Clock.{AreReached, AreAhead, IsTypeAt, IsTypeOfLast, IsLast, IsTransitionType, IsTypeAfter, IsTypeWithout, IsTypeWith, IsFaultAfter, IsClock, IsOver, IsLookupFault}
 use Rattle.tz_zone.specs.ValidZone.{AreLeapSeconds}
-use Rattle.tz_zone.proofs.LeapTimes.{leap_time_unique, one_leap_time}
+use Rattle.tz_zone.proofs.LeapTimes.{one_leap_time}
 
 pub last_unique : (transitions : List Transition) (last last' : Transition) → IsLast transitions last → IsLast transitions last' → last ≡ last'
 last_unique transitions last last' at at' = same_Some last last' (sym at ∙ at')
@@ -49,7 +49,7 @@ module _ (z : Zone) (are : AreLeapSeconds z.leap_seconds) (last : Transition) (i
   pub type_after_from_clock : (t : LocalTimeType) → last.unix_leap_time ≤ℤ l → IsClock z u t → IsTypeAfter z.extra_rule u t
   type_after_from_clock t from (inl (none, type)) = absurd (some_from_last z.transitions last is_last none)
   type_after_from_clock t from (inr (last', is_last', (l', leap', inl (before, type)))) =
-      absurd (omega (arith, ints, from, before, leap_time_unique z.leap_seconds are u l l' leap leap', ap (λ c. c.unix_leap_time) (last_unique z.transitions last last' is_last is_last')))
+      absurd (omega (arith, ints, from, before, one_leap_time z.leap_seconds u l l' leap leap', ap (λ c. c.unix_leap_time) (last_unique z.transitions last last' is_last is_last')))
   type_after_from_clock t from (inr (last', is_last', (l', leap', inr (from', type)))) = type
 
   pub fault_from_last : (e : TzError) → last.unix_leap_time ≤ℤ l → IsFaultAfter z.extra_rule u e → IsLookupFault z u e

@@ -1,7 +1,6 @@
 -- Which instants have a leap time, by others that have one, and which leap times are reached there.
-use Rattle.std.proofs.Common.{◌≡◌, ◌≢◌, ℕ, zero, suc, ◌<◌, inl, inr, true, eqb, eqb-true, refl, sym, subst, arith, ℤ, pos, negsuc, ◌≤ℤ◌, ◌<ℤ◌, List, [], length, Option, Some, None, MatchBool}
+use Rattle.std.proofs.Common.{◌≡◌, ◌≢◌, ℕ, zero, suc, ◌<◌, inl, inr, eqb, refl, sym, subst, arith, ℤ, pos, negsuc, ◌≤ℤ◌, ◌<ℤ◌, List, [], length, MatchBool}
 use Rattle.std.proofs.Math.Dec.{eqb-suc-zero}
-use Rattle.std.specs.Prelude.{MatchOption}
 use Rattle.std.proofs.lemmas.Int.{ints, by_lt_z}
 use Rattle.std.proofs.lemmas.List.{nil_from_length}
 use Rattle.std.proofs.lemmas.Option.{slice_get_within, none-some}
@@ -37,19 +36,10 @@ plain_effect leaps none v low = record {
   low = low;
 }
 
--- the test whether a list is empty
-pub none_if_empty : {X : Type 0} (xs : List X) → true ≡ eqb (length xs) 0 → xs ≡ []
-none_if_empty xs e = nil_from_length xs (eqb-true (length xs) 0 (sym e))
-
 -- a clause on that there are no transitions, or on that there are some, by the test of their number
 pub by_count : (count : ℕ) (transitions : List Transition) → count ≡ length transitions → (P Q R : Type 0) → (transitions ≡ [] → P → R) → (0 < length transitions → Q → R) → MatchBool (eqb count 0) P Q → R
 by_count zero transitions is P Q R empty after types = empty (nil_from_length transitions (sym is)) types
 by_count (suc before) transitions is P Q R empty after types = after (omega (arith, is)) (rw (eqb-suc-zero before) at types)
-
--- a clause on what an option holds, or on that it holds nothing, from another one
-pub match_weaker : {X : Type 0} (o : Option X) (P P' : Type 0) (Q Q' : X → Type 0) → (P → P') → ((x : X) → Q x → Q' x) → MatchOption o P Q → MatchOption o P' Q'
-match_weaker (Some x) P P' Q Q' none some h = some x h
-match_weaker None P P' Q Q' none some h = none h
 
 module _ (leaps : List LeapSecond) (are : AreLeapSeconds leaps) where
   pub leap_unless_refused : (u : ℤ) → ¬ IsLeapTimeRefused leaps u → (l : ℤ) × IsLeapTime leaps u l
@@ -77,36 +67,20 @@ module _ (leaps : List LeapSecond) (are : AreLeapSeconds leaps) where
   pub defined_within : (u v : ℤ) → ¬ IsLeapTimeRefused leaps u → u ≤ℤ v → v ≤ℤ pos 80000000000000000 → ¬ IsLeapTimeRefused leaps v
   defined_within u v defined low high = not_refused_within leaps are v (begun_later leaps are u v low (λ h. defined (inl h))) high
 
-  -- where a leap time is not reached yet, its effect is later
-  pub effect_ahead : (u v m : ℤ) → ¬ IsLeapTimeRefused leaps u → ¬ IsTimeReached leaps v u → IsWideEffect leaps v m → u <ℤ m
-  effect_ahead u v m defined before wide =
+  -- the effect of a leap time has one, if a later instant has one
+  pub defined_at_effect : (v m u : ℤ) → IsWideEffect leaps v m → ¬ IsLeapTimeRefused leaps u → m ≤ℤ u → ¬ IsLeapTimeRefused leaps m
+  defined_at_effect v m u wide defined from (inl before) = wide.begun before
+  defined_at_effect v m u wide defined from (inr past) = defined (inr (past_later leaps are m u from past))
+
+  -- at an instant that has a leap time another one is reached exactly from its effect on
+  pub reached_from : (v m u : ℤ) → IsWideEffect leaps v m → ¬ IsLeapTimeRefused leaps u → m ≤ℤ u → IsTimeReached leaps v u
+  reached_from v m u wide defined from =
       let here = leap_unless_refused u defined in
-      by_lt_z u m (λ h. h) (λ h.
-      let at = wide.reached (defined_at u m defined wide h) in
-      let mono = leap_time_mono leaps are m u at.0 here.0 h at.1 here.1 in
-      absurd (before (here.0, here.1, omega (arith, ints, at.2, mono))))
-    where
-      defined_at : (u m : ℤ) → ¬ IsLeapTimeRefused leaps u → IsWideEffect leaps v m → m ≤ℤ u → ¬ IsLeapTimeRefused leaps m
-      defined_at u m defined wide h (inl start) = wide.begun start
-      defined_at u m defined wide h (inr past) = defined (inr (past_later leaps are m u h past))
+      let at = wide.reached (defined_at_effect v m u wide defined from) in
+      (here.0, here.1, omega (arith, ints, at.2, leap_time_mono leaps are m u at.0 here.0 from at.1 here.1))
 
-  module _ (u l : ℤ) (leap : IsLeapTime leaps u l) where
-    -- from an effect up to an instant that has a leap time each one has one
-    pub defined_from_effect : (v m w : ℤ) → IsWideEffect leaps v m → m ≤ℤ w → w ≤ℤ u → ¬ IsLeapTimeRefused leaps w
-    defined_from_effect v m w wide low high (inl before) = begun_later leaps are m w low wide.begun before
-    defined_from_effect v m w wide low high (inr past) = leap.not_refused (inr (past_later leaps are w u high past))
-
-    -- the effect of a leap time that is reached is no later
-    pub wide_effect_up_to : (v m : ℤ) → IsWideEffect leaps v m → v ≤ℤ l → m ≤ℤ u
-    wide_effect_up_to v m wide reached = wide.least u (l, leap, reached)
-
-    -- a leap time that is reached is so from its effect on
-    pub reached_from_effect : (v m w lw : ℤ) → IsWideEffect leaps v m → v ≤ℤ l → m ≤ℤ w → IsLeapTime leaps w lw → v ≤ℤ lw
-    reached_from_effect v m w lw wide reached low leap_w =
-        let up_to = wide_effect_up_to v m wide reached in
-        let at = wide.reached (defined_from_effect v m m wide (omega (arith, ints)) up_to) in
-        let mono = leap_time_mono leaps are m w at.0 lw low at.1 leap_w in
-        omega (arith, ints, at.2, mono)
+  pub effect_ahead : (u v m : ℤ) → ¬ IsLeapTimeRefused leaps u → ¬ IsTimeReached leaps v u → IsWideEffect leaps v m → u <ℤ m
+  effect_ahead u v m defined before wide = by_lt_z u m (λ h. h) (λ h. absurd (before (reached_from v m u wide defined h)))
 
 -- where instants have no leap time, a zone with transitions has no type
 pub no_type_refused : (z : Zone) → z.transitions ≢ [] → (u : ℤ) → IsLeapTimeRefused z.leap_seconds u → HasNoType z u

@@ -1,8 +1,9 @@
 -- What the clauses of the counts give for a leap time.
-use Rattle.std.proofs.Common.{◌≡◌, ◌≢◌, refl, inl, inr, arith, Bool, true, false, ℤ, negsuc, ◌≤ℤ◌, List}
+use Rattle.std.proofs.Common.{◌≢◌, inl, inr, arith, ℤ, negsuc, ◌≤ℤ◌, List}
 use Rattle.std.specs.Prelude.{MatchBool}
 use Rattle.std.proofs.lemmas.Int.{ints}
 use lib.Signed.{le_z}
+use Rattle.tz_rule.proofs.WeakerClauses.{MatchBool-by_test}
 use Rattle.tz_zone.specs.Table.{LeapSecond}
 use Rattle.tz_zone.specs.LeapTime.{IsInstant, IsLeapTimeRefused, IsWideEffect, IsEffect, IsEffectRefused}
 use Rattle.tz_zone.specs.ValidZone.{AreLeapSeconds}
@@ -10,11 +11,7 @@ use Rattle.tz_zone.proofs.LeapTimes.{IsInstant-from_bounds, instant_bounds, past
 
 -- what a comparison decides
 pub by_comparison : (a b : ℤ) (P : Type 0) → (a ≤ℤ b → P) → (P → a ≤ℤ b) → MatchBool (le_z a b) P (¬ P)
-by_comparison a b P f g = at (le_z a b) refl
-  where
-    at : (t : Bool) → t ≡ le_z a b → MatchBool t P (¬ P)
-    at true e = f (grind (arith, ints))
-    at false e = λ p. let order = g p in grind (arith, ints)
+by_comparison a b P f g = MatchBool-by_test (le_z a b) (λ e. f (grind (arith, ints))) (λ e p. let order = g p in grind (arith, ints))
 
 -- where the wide effect of a leap time is no instant, it has no effect
 pub effect_none : (leaps : List LeapSecond) (v m : ℤ) → IsWideEffect leaps v m → ¬ IsInstant m → IsEffectRefused leaps v

@@ -40,10 +40,10 @@ one_second_bounds c is = elim (one_second c is) [
 ]
 
 -- before a first record the correction is 0 where it is of one second, and otherwise its own
-abbrev IsFirstStep : LeapSecond → ℤ → Type 0
+abbrev pub IsFirstStep : LeapSecond → ℤ → Type 0
 IsFirstStep l c = ((c ≡ pos 0) × IsOneSecond l.correction) ⊎ ((c ≡ l.correction) × ¬ IsOneSecond l.correction)
 
-first_step : (l : LeapSecond) → IsFirstStep l (correction_at_start (Some l))
+pub first_step : (l : LeapSecond) → IsFirstStep l (correction_at_start (Some l))
 first_step l = by_test (eqb (unsigned_abs l.correction) 1) refl
   where
     by_test : (b : Bool) → b ≡ eqb (unsigned_abs l.correction) 1 → IsFirstStep l (cond b (pos 0) l.correction)

@@ -1,17 +1,11 @@
 -- At which instants a leap time is reached: from its effect on.
-use Rattle.std.proofs.Common.{◌≡◌, ◌≢◌, ◌⊎◌, inl, inr, arith, ℤ, pos, negsuc, ◌+ℤ◌, ◌-ℤ◌, ◌≤ℤ◌, ◌<ℤ◌, List, []}
+use Rattle.std.proofs.Common.{◌≡◌, ◌⊎◌, inl, inr, arith, ℤ, pos, negsuc, ◌+ℤ◌, ◌-ℤ◌, ◌≤ℤ◌, ◌<ℤ◌, List, []}
 use Rattle.std.proofs.lemmas.Int.{ints, by_lt_z}
 use Rattle.tz_zone.specs.Table.{LeapSecond}
-use Rattle.tz_zone.specs.LeapTime.{IsBeforeStart, IsPastInstants, IsLeapTimeRefused, IsTimeReached, IsWideEffect}
+use Rattle.tz_zone.specs.LeapTime.{IsBeforeStart, IsPastInstants, IsLeapTimeRefused, IsTimeReached, IsWideEffect, IsLastBefore}
 use Rattle.tz_zone.specs.ValidZone.{AreLeapSeconds}
-use Rattle.tz_zone.proofs.LeapTimes.{one_leap_time, leap_time_mono, past_later, begun_later, not_past_within}
-use Rattle.tz_zone.proofs.InstantsWithLeapTime.{plain_leap, plain_effect, leap_unless_refused}
-
--- the last instant before a leap time: at none up to it the time is reached or lies past 64 bits, and after it comes the effect, or the end
-pub record IsLastBefore (leaps : List LeapSecond) (v last : ℤ) : Type 0 where
-  pub before : (u : ℤ) → u ≤ℤ last → ¬ IsTimeReached leaps v u
-  pub within : (u : ℤ) → u ≤ℤ last → ¬ IsPastInstants leaps u
-  pub next : last ≢ pos 9223372036854775807 → IsPastInstants leaps (last +ℤ pos 1) ⊎ IsWideEffect leaps v (last +ℤ pos 1)
+use Rattle.tz_zone.proofs.LeapTimes.{one_leap_time, past_later, begun_later, not_past_within}
+use Rattle.tz_zone.proofs.InstantsWithLeapTime.{plain_leap, plain_effect, reached_from}
 
 -- a leap time that is not reached at some instant is not the least one
 pub not_least : (leaps : List LeapSecond) → leaps ≡ [] → (u v : ℤ) → ¬ IsTimeReached leaps v u → u <ℤ v
@@ -44,20 +38,9 @@ last_before_by_seconds leaps v m last high wide up_to one bound within past = re
 }
 
 module _ (leaps : List LeapSecond) (are : AreLeapSeconds leaps) where
-  -- at an instant that has a leap time another one is reached exactly from its effect on
-  pub reached_from : (v m u : ℤ) → IsWideEffect leaps v m → ¬ IsLeapTimeRefused leaps u → m ≤ℤ u → IsTimeReached leaps v u
-  reached_from v m u wide defined from =
-      let here = leap_unless_refused leaps are u defined in
-      let at = wide.reached defined_at in
-      (here.0, here.1, omega (arith, ints, at.2, leap_time_mono leaps are m u at.0 here.0 from at.1 here.1))
-    where
-      defined_at : ¬ IsLeapTimeRefused leaps m
-      defined_at (inl before) = wide.begun before
-      defined_at (inr past) = defined (inr (past_later leaps are m u from past))
-
-  -- so it is up to an instant up to which none is past those with a leap time
+  -- a leap time is reached from its effect on, up to an instant up to which none is past those with a leap time
   pub reached_since : (v m last u : ℤ) → IsWideEffect leaps v m → ((w : ℤ) → w ≤ℤ last → ¬ IsPastInstants leaps w) → m ≤ℤ u → u ≤ℤ last → IsTimeReached leaps v u
-  reached_since v m last u wide within from up_to = reached_from v m u wide defined from
+  reached_since v m last u wide within from up_to = reached_from leaps are v m u wide defined from
     where
       defined : ¬ IsLeapTimeRefused leaps u
       defined (inl before) = begun_later leaps are m u from wide.begun before
@@ -83,16 +66,11 @@ module _ (leaps : List LeapSecond) (are : AreLeapSeconds leaps) where
   past_if_begun u begun (inl before) = absurd (begun before)
   past_if_begun u begun (inr past) = past
 
-  -- and what is not past it has a leap time, once the table has begun
-  pub defined_up_to : (u v : ℤ) → ¬ IsLeapTimeRefused leaps u → u ≤ℤ v → ¬ IsPastInstants leaps v → ¬ IsLeapTimeRefused leaps v
-  defined_up_to u v defined low within (inl before) = begun_later leaps are u v low (λ h. defined (inl h)) before
-  defined_up_to u v defined low within (inr past) = within past
-
   -- each instant that has a leap time, and at which another one is not reached, is one up to the last before that
   pub up_to_last_before : (v last u : ℤ) → IsLastBefore leaps v last → u ≤ℤ pos 9223372036854775807 → ¬ IsLeapTimeRefused leaps u → ¬ IsTimeReached leaps v u → u ≤ℤ last
   up_to_last_before v last u is high defined before = by_lt_z last u
       (λ h. elim (is.next (λ e. absurd (omega (arith, ints, e, h, high)))) [
         | inl past ↦ absurd (defined (inr (past_later leaps are (last +ℤ pos 1) u (omega (arith, ints, h)) past)))
-        | inr wide ↦ absurd (before (reached_from v (last +ℤ pos 1) u wide defined (omega (arith, ints, h))))
+        | inr wide ↦ absurd (before (reached_from leaps are v (last +ℤ pos 1) u wide defined (omega (arith, ints, h))))
       ])
       (λ h. h)

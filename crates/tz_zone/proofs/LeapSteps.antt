@@ -22,14 +22,23 @@ pub record IsCount (n : ℕ) (t c : ℕ → ℤ) (u : ℤ) (k : ℕ) : Type 0 wh
   pub beyond : (i : ℕ) → k ≤ i → i < n → (u +ℤ c i) <ℤ t i
 
 module _ (n : ℕ) (t c : ℕ → ℤ) (steps : AreSteps n t c) where
-  -- corrections begin in 32 bits and grow by one second at most
-  pub correction_bound : (i : ℕ) → i ≤ n → (neg_ℤ (pos (i + 2147483648)) ≤ℤ c i) × (c i ≤ℤ pos (i + 2147483648))
-  correction_bound zero h = (omega (arith, ints, steps.start), omega (arith, ints, steps.start))
-  correction_bound (suc i) h =
-      let before = correction_bound i (omega arith) in
-      let next : i + 1 ≡ suc i = omega arith in
-      let step = steps.step i (omega arith) in
+  -- over some places corrections change by a second each at most
+  corrections_near : (k j : ℕ) → k + j ≤ n → (neg_ℤ (pos j) ≤ℤ (c (k + j) -ℤ c k)) × ((c (k + j) -ℤ c k) ≤ℤ pos j)
+  corrections_near k zero h =
+      let same : k + 0 ≡ k = omega arith in
+      (omega (arith, ints, ap c same), omega (arith, ints, ap c same))
+  corrections_near k (suc j) h =
+      let next : k + j + 1 ≡ k + suc j = omega arith in
+      let before = corrections_near k j (omega arith) in
+      let step = steps.step (k + j) (omega arith) in
       (omega (arith, ints, ap c next, before, step), omega (arith, ints, ap c next, before, step))
+
+  -- and they begin in 32 bits
+  pub correction_bound : (i : ℕ) → i ≤ n → (neg_ℤ (pos (i + 2147483648)) ≤ℤ c i) × (c i ≤ℤ pos (i + 2147483648))
+  correction_bound i h =
+      let place : 0 + i ≡ i = omega arith in
+      let near = corrections_near 0 i (omega arith) in
+      (omega (arith, ints, steps.start, near, ap c place), omega (arith, ints, steps.start, near, ap c place))
 
   pub times_rise : (i m : ℕ) → i + m < n → (t i +ℤ pos m) ≤ℤ t (i + m)
   times_rise i zero h =
@@ -40,17 +49,20 @@ module _ (n : ℕ) (t c : ℕ → ℤ) (steps : AreSteps n t c) where
       omega (arith, ints, ap t next, times_rise i m (omega arith), steps.rise (i + m) (omega arith))
 
   -- times grow by at least four weeks, less a second, but for the last
-  time_bound_inside : (i : ℕ) → i + 1 < n → pos (2419199 * i) ≤ℤ t i
-  time_bound_inside zero h = omega (arith, ints, steps.first (omega arith))
-  time_bound_inside (suc i) h =
-      let next : i + 1 ≡ suc i = omega arith in
-      omega (arith, ints, ap t next, time_bound_inside i (omega arith), steps.apart i (omega arith))
+  times_apart : (k j : ℕ) → k + j + 1 < n → (t k +ℤ pos (2419199 * j)) ≤ℤ t (k + j)
+  times_apart k zero h =
+      let same : k + 0 ≡ k = omega arith in
+      omega (arith, ints, ap t same)
+  times_apart k (suc j) h =
+      let next : k + j + 1 ≡ k + suc j = omega arith in
+      omega (arith, ints, ap t next, times_apart k j (omega arith), steps.apart (k + j) (omega arith))
 
   pub time_bound : (i : ℕ) → i < n → pos (2419199 * i) ≤ℤ (t i +ℤ pos 2419199)
   time_bound zero h = omega (arith, ints, steps.first h)
   time_bound (suc i) h =
+      let place : 0 + i ≡ i = omega arith in
       let next : i + 1 ≡ suc i = omega arith in
-      omega (arith, ints, ap t next, time_bound_inside i (omega arith), steps.rise i (omega arith))
+      omega (arith, ints, ap t place, ap t next, times_apart 0 i (omega arith), steps.first (omega arith), steps.rise i (omega arith))
 
   -- what is reached later is reached after what comes before it
   reached_before : (i : ℕ) (u : ℤ) → i + 1 < n → Reached t c (i + 1) u → Reached t c i u
@@ -81,48 +93,6 @@ module _ (n : ℕ) (t c : ℕ → ℤ) (steps : AreSteps n t c) where
       let place : 0 + suc m ≡ suc m = omega arith in
       omega (arith, ints, ap c last, ap t place, count.reached (suc m) (omega arith), times_rise 0 (suc m) (omega (arith, count.within)), steps.step (suc m) (omega (arith, count.within)))
 
-  -- the leap time rises with the instant, or stays for one second
-  pub leap_mono : (u w : ℤ) (k m : ℕ) → u ≤ℤ w → IsCount n t c u k → IsCount n t c w m → (u +ℤ c k) ≤ℤ (w +ℤ c m)
-  leap_mono u w k m h a b =
-      by_counts k m (count_mono u w k m h a b) a b
-    where
-      by_counts : (k m : ℕ) → k ≤ m → IsCount n t c u k → IsCount n t c w m → (u +ℤ c k) ≤ℤ (w +ℤ c m)
-      by_counts k zero more a b =
-          let same : k ≡ zero = omega arith in
-          omega (arith, ints, ap c same)
-      by_counts k (suc m) more a b =
-          elim (cases_lt k (suc m)) [
-            | inl less ↦
-                let next : m + 1 ≡ suc m = omega arith in
-                let place : k + (m - k) ≡ m = omega arith in
-                let reached = b.reached m (omega arith) in
-                let beyond = a.beyond k (omega arith) (omega (arith, b.within)) in
-                let rise = times_rise k (m - k) (omega (arith, b.within)) in
-                let step = steps.step m (omega (arith, b.within)) in
-                omega (arith, ints, ap c next, ap t place)
-            | inr more' ↦
-                let same : k ≡ suc m = omega arith in
-                omega (arith, ints, ap c same)
-          ]
-
-  -- over some places the corrections grow by a second each at most
-  corrections_grow : (k j : ℕ) → k + j ≤ n → (c (k + j) -ℤ c k) ≤ℤ pos j
-  corrections_grow k zero h =
-      let same : k + 0 ≡ k = omega arith in
-      omega (arith, ints, ap c same)
-  corrections_grow k (suc j) h =
-      let next : k + j + 1 ≡ k + suc j = omega arith in
-      omega (arith, ints, ap c next, corrections_grow k j (omega arith), steps.step (k + j) (omega arith))
-
-  -- and, but for the last place, the times by four weeks, less a second
-  times_apart : (k j : ℕ) → k + j + 1 < n → (t k +ℤ pos (2419199 * j)) ≤ℤ t (k + j)
-  times_apart k zero h =
-      let same : k + 0 ≡ k = omega arith in
-      omega (arith, ints, ap t same)
-  times_apart k (suc j) h =
-      let next : k + j + 1 ≡ k + suc j = omega arith in
-      omega (arith, ints, ap t next, times_apart k j (omega arith), steps.apart (k + j) (omega arith))
-
   -- to the next place that is reached the corrections grow by twice the seconds at most
   speed_to : (u w : ℤ) (k j : ℕ) → k + j < n → (u +ℤ c k) <ℤ t k → t (k + j) ≤ℤ (w +ℤ c (k + j)) → (c (k + j + 1) -ℤ c k) ≤ℤ ((w -ℤ u) +ℤ (w -ℤ u))
   speed_to u w k zero h beyond reached =
@@ -132,33 +102,35 @@ module _ (n : ℕ) (t c : ℕ → ℤ) (steps : AreSteps n t c) where
   speed_to u w k (suc j) h beyond reached =
       let place : k + j + 1 ≡ k + suc j = omega arith in
       let next : k + suc j + 1 ≡ k + j + 1 + 1 = omega arith in
-      let grown = corrections_grow k j (omega arith) in
+      let grown = corrections_near k j (omega arith) in
       let apart = times_apart k j (omega arith) in
       let rise = steps.rise (k + j) (omega arith) in
       let step = steps.step (k + j) (omega arith) in
       let last = steps.step (k + j + 1) (omega arith) in
       omega (arith, ints, ap t place, ap c place, ap c next)
 
-  -- leap time grows by no more than three times the seconds
-  pub leap_speed : (u w : ℤ) (k m : ℕ) → u ≤ℤ w → IsCount n t c u k → IsCount n t c w m → (c m -ℤ c k) ≤ℤ ((w -ℤ u) +ℤ (w -ℤ u))
-  leap_speed u w k m h a b =
-      by_counts k m (count_mono u w k m h a b) a b
+  -- the leap time rises with the instant, or stays for one second, and grows by no more than three times the seconds
+  pub leap_growth : (u w : ℤ) (k m : ℕ) → u ≤ℤ w → IsCount n t c u k → IsCount n t c w m → ((u +ℤ c k) ≤ℤ (w +ℤ c m)) × ((c m -ℤ c k) ≤ℤ ((w -ℤ u) +ℤ (w -ℤ u)))
+  leap_growth u w k m h a b = by_counts k m (count_mono u w k m h a b) a b
     where
-      by_counts : (k m : ℕ) → k ≤ m → IsCount n t c u k → IsCount n t c w m → (c m -ℤ c k) ≤ℤ ((w -ℤ u) +ℤ (w -ℤ u))
-      by_counts k zero more a b =
-          let same : k ≡ zero = omega arith in
-          omega (arith, ints, ap c same)
+      at_same : (k m : ℕ) → k ≡ m → ((u +ℤ c k) ≤ℤ (w +ℤ c m)) × ((c m -ℤ c k) ≤ℤ ((w -ℤ u) +ℤ (w -ℤ u)))
+      at_same k m same = (omega (arith, ints, ap c same), omega (arith, ints, ap c same))
+
+      by_counts : (k m : ℕ) → k ≤ m → IsCount n t c u k → IsCount n t c w m → ((u +ℤ c k) ≤ℤ (w +ℤ c m)) × ((c m -ℤ c k) ≤ℤ ((w -ℤ u) +ℤ (w -ℤ u)))
+      by_counts k zero more a b = at_same k zero (omega arith)
       by_counts k (suc m) more a b =
           elim (cases_lt k (suc m)) [
             | inl less ↦
-                let next : k + (m - k) + 1 ≡ suc m = omega arith in
+                let next : m + 1 ≡ suc m = omega arith in
+                let last : k + (m - k) + 1 ≡ suc m = omega arith in
                 let place : k + (m - k) ≡ m = omega arith in
                 let reached = b.reached m (omega arith) in
-                let grown = speed_to u w k (m - k) (omega (arith, b.within)) (a.beyond k (omega arith) (omega (arith, b.within))) (omega (arith, ints, ap t place, ap c place)) in
-                omega (arith, ints, ap c next)
-            | inr more' ↦
-                let same : k ≡ suc m = omega arith in
-                omega (arith, ints, ap c same)
+                let beyond = a.beyond k (omega arith) (omega (arith, b.within)) in
+                let rise = times_rise k (m - k) (omega (arith, b.within)) in
+                let step = steps.step m (omega (arith, b.within)) in
+                let grown = speed_to u w k (m - k) (omega (arith, b.within)) beyond (omega (arith, ints, ap t place, ap c place)) in
+                (omega (arith, ints, ap c next, ap t place), omega (arith, ints, ap c last))
+            | inr more' ↦ at_same k (suc m) (omega arith)
           ]
 
 -- just the first k times are at most v

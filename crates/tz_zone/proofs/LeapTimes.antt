@@ -6,7 +6,7 @@ use Rattle.std.proofs.lemmas.Option.{slice_get_within, same_Some}
 use Rattle.tz_zone.specs.Table.{LeapSecond}
 use Rattle.tz_zone.specs.LeapTime.{IsInstant, IsStart, correction_before, IsReached, IsBeforeStart, IsPastInstants, IsLeapTimeRefused, IsCorrection, IsLeapTime, IsTimeReached, IsEffect}
 use Rattle.tz_zone.specs.ValidZone.{AreLeapSeconds, HasBegunAt}
-use Rattle.tz_zone.proofs.LeapSteps.{AreSteps, correction_bound, time_bound, leap_mono, leap_speed, leap_from_start, IsTimeCount, IsEffectByCount, effect_reached, effect_least, reached_down}
+use Rattle.tz_zone.proofs.LeapSteps.{AreSteps, correction_bound, time_bound, leap_growth, leap_from_start, IsTimeCount, IsEffectByCount, effect_reached, effect_least, reached_down}
 use Rattle.tz_zone.proofs.LeapLists.{time_at, time_at-is, correction_before-suc, correction_without_start, correction_at_truncated, IsReachedCount, AreSteps-from_leaps, IsReached-at, IsReached-below, IsCorrection-from_count, correction_from_count, count_exists}
 
 -- instants are the numbers of 64 bits
@@ -59,16 +59,12 @@ module _ (leaps : List LeapSecond) (are : AreLeapSeconds leaps) where
   pub leap_time_from_count : (u v : ℤ) (k : ℕ) → IsReachedCount leaps u k → IsLeapTime leaps u v → v ≡ u +ℤ correction_before leaps k
   leap_time_from_count u v k count leap = leap.value.2 ∙ ap (λ c. u +ℤ c) (correction_from_count leaps u leap.value.0 k count leap.value.1)
 
-  -- an instant has one leap time
-  pub leap_time_unique : (u v v' : ℤ) → IsLeapTime leaps u v → IsLeapTime leaps u v' → v ≡ v'
-  leap_time_unique u v v' a b = one_leap_time leaps u v v' a b
-
   -- leap times do not fall
   pub leap_time_mono : (u w v v' : ℤ) → u ≤ℤ w → IsLeapTime leaps u v → IsLeapTime leaps w v' → v ≤ℤ v'
   leap_time_mono u w v v' h a b =
       let here = count_exists leaps are u in
       let there = count_exists leaps are w in
-      let order = leap_mono (length leaps) (time_at leaps) (correction_before leaps) steps u w here.0 there.0 h here.1 there.1 in
+      let order = (leap_growth (length leaps) (time_at leaps) (correction_before leaps) steps u w here.0 there.0 h here.1 there.1).0 in
       rw (leap_time_from_count u v here.0 here.1 a, leap_time_from_count w v' there.0 there.1 b) order
 
   -- and they grow by three times the seconds at most
@@ -76,7 +72,7 @@ module _ (leaps : List LeapSecond) (are : AreLeapSeconds leaps) where
   leap_time_speed u w v v' h a b =
       let here = count_exists leaps are u in
       let there = count_exists leaps are w in
-      let speed = leap_speed (length leaps) (time_at leaps) (correction_before leaps) steps u w here.0 there.0 h here.1 there.1 in
+      let speed = (leap_growth (length leaps) (time_at leaps) (correction_before leaps) steps u w here.0 there.0 h here.1 there.1).1 in
       omega (arith, ints, leap_time_from_count u v here.0 here.1 a, leap_time_from_count w v' there.0 there.1 b, speed)
 
   -- a correction that leaves the instants leaves them above
@@ -200,10 +196,6 @@ module _ (leaps : List LeapSecond) (are : AreLeapSeconds leaps) where
           let time = time_bound (length leaps) (time_at leaps) (correction_before leaps) steps i (omega (arith, times.within)) in
           let bound = correction_bound (length leaps) (time_at leaps) (correction_before leaps) steps i (omega (arith, times.within)) in
           omega (arith, ints, bound)
-
-  -- a leap time has one effect
-  pub effect_unique : (v u u' : ℤ) → IsEffect leaps v u → IsEffect leaps v u' → u ≡ u'
-  effect_unique v u u' a b = one_effect leaps v u u' a b
 
   -- where an effect is reached its leap time is, and not before
   pub effect_fits : (v u w l : ℤ) → IsEffect leaps v u → IsLeapTime leaps w l → (u ≤ℤ w) ↔ (v ≤ℤ l)

@@ -1,5 +1,6 @@
 pub mod LeapSteps
 pub mod ReadBytes
+pub mod EmptyLists
 pub mod LeapLists
 pub mod LeapTimes
 pub mod LeapEnds
@@ -32,7 +33,6 @@ pub mod TextParts
 pub mod TextTimes
 pub mod TextDays
 pub mod TextReadings
-pub mod TextEnds
 pub mod TextFaults
 pub mod TextAnswers
 pub mod TzFrames

@@ -10,13 +10,14 @@ use Rattle.tz_zone.specs.Table.{Transition, Zone}
 use Rattle.tz_zone.specs.LeapTime.{IsLeapTimeRefused, IsLeapTime, IsTimeReached, IsWideEffect}
 use Rattle.tz_zone.specs.Clock.{AreReached, AreAhead, IsPlaceAt, IsTypeAt, IsTypeOfLast, IsTypeAfter, IsClock, HasNoType}
 use Rattle.tz_zone.specs.ClockSegments.{from_start, IsReachedAt}
-use Rattle.tz_zone.specs.ValidZone.{IsRising, IsSoundTable}
+use Rattle.tz_zone.specs.ValidZone.{IsSoundTable}
 use Rattle.tz_zone.specs.Changes.{HasNoChange, HasNoPreceding}
 use Rattle.tz_zone.specs.Runs.{LiesAt, IsRunStart, HasNoneAfterSeam}
-use Rattle.tz_zone.proofs.LeapTimes.{leap_time_mono, leap_time_unique, one_leap_time}
-use Rattle.tz_zone.proofs.RisingTimes.{ahead_from, reached_through, transitions_rise}
-use Rattle.tz_zone.proofs.Clocks.{one_type, clock_from_last, type_after_from_clock}
-use Rattle.tz_zone.proofs.Places.{clock_at_place}
+use Rattle.tz_zone.proofs.EmptyLists.{length_of_some}
+use Rattle.tz_zone.proofs.LeapTimes.{leap_time_mono, one_leap_time}
+use Rattle.tz_zone.proofs.RisingTimes.{rising, ahead_from, reached_through, transitions_rise}
+use Rattle.tz_zone.proofs.Clocks.{one_type}
+use Rattle.tz_zone.proofs.Places.{clock_at_place, clock_after_place, type_after_place, not_reached}
 use Rattle.tz_zone.proofs.InstantsWithLeapTime.{plain_leap, leap_unless_refused, defined_between, effect_ahead}
 use Rattle.tz_zone.proofs.LeapReached.{reached_between}
 use Rattle.tz_zone.proofs.ChangeSpans.{HasOneType, one_type_of, none_until, none_down, none_from_start}
@@ -39,9 +40,6 @@ one_type_of_last z k a b (inr (some, change, at, first)) (inr (some', change', a
     same_Some a b (sym first ∙ ap (λ (x : Transition). slice_get z.types x.type_index) (same_Some change change' (sym at ∙ at')) ∙ second)
 
 module _ (z : Zone) (sound : IsSoundTable z) where
-  rising : IsRising z.transitions
-  rising i = (sound.transitions_are i).1
-
   -- a leap time at which the transitions before one place are reached, and those from another one on are ahead, lies at a place between them
   place_between : (l : ℤ) (d k : ℕ) → k + d ≤ length z.transitions → AreReached z.transitions l k → AreAhead z.transitions l (k + d) → (p : ℕ) × (k ≤ p) × (p ≤ k + d) × IsPlaceAt z.transitions l p
   place_between l zero k within reached ahead = (k, omega arith, omega arith, (reached, λ i change from at. ahead i change (omega (arith, from)) at))
@@ -49,12 +47,12 @@ module _ (z : Zone) (sound : IsSoundTable z) where
       let change = get_or z.transitions (k + d) from_start in
       let at = slice_get-get_or z.transitions (k + d) from_start (omega (arith, within)) in
       by_lt_z l change.unix_leap_time
-      (λ before. let found = place_between l d k (omega (arith, within)) reached (ahead_from z.transitions rising l (k + d) change at before) in (found.0, found.1, omega (arith, found.2), found.3))
+      (λ before. let found = place_between l d k (omega (arith, within)) reached (ahead_from z.transitions (rising z sound) l (k + d) change at before) in (found.0, found.1, omega (arith, found.2), found.3))
       (λ from. (
         k + suc d,
         omega arith,
         omega arith,
-        ((λ i other less at_i. reached_through z.transitions rising l (k + d) change at from i other (omega (arith, less)) at_i), ahead),
+        ((λ i other less at_i. reached_through z.transitions (rising z sound) l (k + d) change at from i other (omega (arith, less)) at_i), ahead),
       ))
 
   -- where all places from one up to another have the same type, the clock has it from the first up to the transition after the second
@@ -73,7 +71,7 @@ module _ (z : Zone) (sound : IsSoundTable z) where
     clock_until v l from leap before =
         clock_between k end t v l order (slice_get_within z.transitions end change at_end) types leap
         (λ i other less at_i. omega (arith, ints, at.reached i other less at_i, leap_time_mono z.leap_seconds sound.leap_seconds_are since v at.time l from at.time_is leap))
-        (ahead_from z.transitions rising l end change at_end before)
+        (ahead_from z.transitions (rising z sound) l end change at_end before)
 
     pub one_type_until : (last : ℤ) → ((v : ℤ) → v ≤ℤ last → ¬ IsTimeReached z.leap_seconds change.unix_leap_time v) → HasOneType z since last
     one_type_until last ahead = one_type_of z since last t (λ v s from to clock.
@@ -83,7 +81,7 @@ module _ (z : Zone) (sound : IsSoundTable z) where
     -- where it takes effect comes later
     effect_later : (m : ℤ) → IsWideEffect z.leap_seconds change.unix_leap_time m → since <ℤ m
     effect_later m wide = effect_ahead z.leap_seconds sound.leap_seconds_are since change.unix_leap_time m at.time_is.not_refused
-        (λ reached. absurd (omega (arith, ints, reached.2, at.ahead end change order at_end, leap_time_unique z.leap_seconds sound.leap_seconds_are since at.time reached.0 at.time_is reached.1)))
+        (not_reached z sound since k end change at order at_end)
         wide
 
     -- and right before that it still has the type
@@ -112,10 +110,6 @@ module _ (z : Zone) (sound : IsSoundTable z) where
       let (t, is) = type_0 z.types refl in
       one_type z v s t first (at_front v s t b is first) ∙ one_type z v' t s' (at_front v' s' t e is second) second))
     where
-      some_length : (list : List Transition) → list ≢ [] → 0 < length list
-      some_length [] some = absurd (some refl)
-      some_length (x ∷ rest) some = omega arith
-
       type_0 : (types : List LocalTimeType) → z.types ≡ types → (t : LocalTimeType) × IsTypeAt z 0 t
       type_0 [] none = absurd (sound.has_types none)
       type_0 (t ∷ types) is = (t, ap (λ (xs : List LocalTimeType). slice_get xs 0) is)
@@ -123,7 +117,7 @@ module _ (z : Zone) (sound : IsSoundTable z) where
       at_front : (v : ℤ) (s t : LocalTimeType) → v ≤ℤ w → IsTypeAt z 0 t → IsClock z v s → IsClock z v t
       at_front v s t to type clock =
           let leap = leap_of_clock z some v s clock in
-          clock_at_place z sound 0 v t (some_length z.transitions some) (record {
+          clock_at_place z sound 0 v t (length_of_some z.transitions some) (record {
             time = leap.0;
             time_is = leap.1;
             reached = λ i change less at_i. absurd (omega (arith, less));
@@ -161,7 +155,7 @@ module _ (z : Zone) (sound : IsSoundTable z) where
       leap_since : (v : ℤ) → m ≤ℤ v → v ≤ℤ w → (l : ℤ) × IsLeapTime z.leap_seconds v l × AreReached z.transitions l start
       leap_since v from to =
           let (l, leap, reached) = reached_between z.leap_seconds sound.leap_seconds_are run.change.unix_leap_time m w v run.effect at.time_is.not_refused from to in
-          (l, leap, λ i other less at_i. reached_through z.transitions rising l (start - 1) run.change run.change_is reached i other (omega (arith, less, run.some)) at_i)
+          (l, leap, λ i other less at_i. reached_through z.transitions (rising z sound) l (start - 1) run.change run.change_is reached i other (omega (arith, less, run.some)) at_i)
 
       pub defined_at_start : ¬ IsLeapTimeRefused z.leap_seconds m
       defined_at_start = (leap_since m (omega (arith, ints)) effect_up_to).1.not_refused
@@ -221,13 +215,10 @@ pub plain_place : (z : Zone) → IsSoundTable z → z.leap_seconds ≡ [] → (i
 plain_place z sound none i m change at wide = record {
   time = m;
   time_is = plain_leap z.leap_seconds none m;
-  reached = reached_through z.transitions rising m i change at (omega (arith, ints, reached.2, one_leap_time z.leap_seconds m reached.0 m reached.1 (plain_leap z.leap_seconds none m)));
-  ahead = λ j later above at_j. omega (arith, ints, up_to, transitions_rise z.transitions rising i j change later (omega (arith, above)) at at_j);
+  reached = reached_through z.transitions (rising z sound) m i change at (omega (arith, ints, reached.2, one_leap_time z.leap_seconds m reached.0 m reached.1 (plain_leap z.leap_seconds none m)));
+  ahead = λ j later above at_j. omega (arith, ints, up_to, transitions_rise z.transitions (rising z sound) i j change later (omega (arith, above)) at at_j);
 }
   where
-    rising : IsRising z.transitions
-    rising j = (sound.transitions_are j).1
-
     reached : IsTimeReached z.leap_seconds change.unix_leap_time m
     reached = wide.reached (plain_leap z.leap_seconds none m).not_refused
 
@@ -235,39 +226,26 @@ plain_place z sound none i m change at wide = record {
     up_to = wide.least change.unix_leap_time (change.unix_leap_time, plain_leap z.leap_seconds none change.unix_leap_time, omega (arith, ints))
 
 -- where all transitions are reached the clock has the type after the last one, or none
-pub clock_from_end : (z : Zone) → IsSoundTable z → 0 < length z.transitions → (u : ℤ) → IsReachedAt z u (length z.transitions) → (t : LocalTimeType) → (IsTypeAfter z.extra_rule u t → IsClock z u t) × (IsClock z u t → IsTypeAfter z.extra_rule u t)
-clock_from_end z sound some u at t =
-    let last = get_or z.transitions (length z.transitions - 1) from_start in
-    let is_last = slice_get-get_or z.transitions (length z.transitions - 1) from_start (omega (arith, some)) in
-    let from = at.reached (length z.transitions - 1) last (omega (arith, some)) is_last in
-    (clock_from_last z sound.leap_seconds_are last is_last u at.time at.time_is t from, type_after_from_clock z sound.leap_seconds_are last is_last u at.time at.time_is t from)
-
 pub types_from_last : (z : Zone) → IsSoundTable z → 0 < length z.transitions → (u : ℤ) → IsReachedAt z u (length z.transitions)
     → (type : Option (Bor LocalTimeType)) → MatchOption type ((t : LocalTimeType) → ¬ IsTypeAfter z.extra_rule u t) (λ t. IsTypeAfter z.extra_rule u t.now)
     → MatchOption type (HasNoType z u) (λ t. IsClock z u t.now)
-types_from_last z sound some u at (Some t) is = (clock_from_end z sound some u at t.now).0 is
-types_from_last z sound some u at None is = λ t clock. is t ((clock_from_end z sound some u at t).1 clock)
+types_from_last z sound some u at (Some t) is = clock_after_place z sound u t.now some at is
+types_from_last z sound some u at None is = λ t clock. is t (type_after_place z sound u t some at clock)
 
 -- and right before its time an instant lies at the place before it
 pub plain_place_before : (z : Zone) → IsSoundTable z → z.leap_seconds ≡ [] → (i : ℕ) (change : Transition) → slice_get z.transitions i ≡ Some change → IsReachedAt z (change.unix_leap_time -ℤ pos 1) i
 plain_place_before z sound none i change at = record {
   time = change.unix_leap_time -ℤ pos 1;
   time_is = plain_leap z.leap_seconds none (change.unix_leap_time -ℤ pos 1);
-  reached = λ j other less at_j. omega (arith, ints, transitions_rise z.transitions rising j i other change less at_j at);
-  ahead = ahead_from z.transitions rising (change.unix_leap_time -ℤ pos 1) i change at (omega (arith, ints));
+  reached = λ j other less at_j. omega (arith, ints, transitions_rise z.transitions (rising z sound) j i other change less at_j at);
+  ahead = ahead_from z.transitions (rising z sound) (change.unix_leap_time -ℤ pos 1) i change at (omega (arith, ints));
 }
-  where
-    rising : IsRising z.transitions
-    rising j = (sound.transitions_are j).1
 
 -- and from the time of the last transition on all are reached
 pub plain_end : (z : Zone) → IsSoundTable z → z.leap_seconds ≡ [] → (u : ℤ) (last : Transition) → slice_get z.transitions (length z.transitions - 1) ≡ Some last → last.unix_leap_time ≤ℤ u → IsReachedAt z u (length z.transitions)
 plain_end z sound none u last at up_to = record {
   time = u;
   time_is = plain_leap z.leap_seconds none u;
-  reached = λ i other less at_i. reached_through z.transitions rising u (length z.transitions - 1) last at up_to i other (omega (arith, less)) at_i;
+  reached = λ i other less at_i. reached_through z.transitions (rising z sound) u (length z.transitions - 1) last at up_to i other (omega (arith, less)) at_i;
   ahead = λ j later above at_j. absurd (omega (arith, above, slice_get_within z.transitions j later at_j));
 }
-  where
-    rising : IsRising z.transitions
-    rising j = (sound.transitions_are j).1

@@ -1,5 +1,5 @@
 -- Places: which instants lie at one, and the type of the clock there.
-use Rattle.std.proofs.Common.{◌≡◌, ◌≢◌, ℕ, zero, suc, ◌+◌, ◌-◌, ◌<◌, ◌∙◌, inl, inr, eqb, refl, sym, ap, subst, arith, ℤ, ◌≤ℤ◌, ◌<ℤ◌, List, [], ◌∷◌, length, get_or, Option, Some, None}
+use Rattle.std.proofs.Common.{◌≡◌, ◌≢◌, ℕ, zero, suc, ◌+◌, ◌-◌, ◌<◌, ◌≤◌, ◌∙◌, inl, inr, eqb, refl, sym, ap, subst, arith, ℤ, ◌≤ℤ◌, ◌<ℤ◌, List, [], ◌∷◌, length, get_or, Option, Some, None}
 use Rattle.std.proofs.Math.Dec.{eqb-suc-zero}
 use Rattle.std.proofs.lemmas.List.{nil_from_length}
 use Rattle.std.specs.Prelude.{slice_get, MatchOption}
@@ -10,32 +10,26 @@ use Rattle.tz_base.specs.declared.error.TzError.TheVariants.{OutOfRange, NoAvail
 use Rattle.tz_rule.specs.LocalTimeType.{LocalTimeType}
 use Rattle.tz_rule.specs.declared.timezone.rule.TransitionRule.{TransitionRule}
 use Rattle.tz_zone.specs.Table.{Transition, Zone}
-use Rattle.tz_zone.specs.LeapTime.{IsLeapTime, IsWideEffect}
+use Rattle.tz_zone.specs.LeapTime.{IsLeapTime, IsTimeReached, IsWideEffect}
 use Rattle.tz_zone.specs.Clock.{IsTypeAt, IsTypeOfLast, IsLast, IsTypeAfter, IsTypeWithout, IsTypeAfterTable, IsFaultAfter, IsClock, IsLookupFault}
-use Rattle.tz_zone.specs.ValidZone.{IsRising, IsSoundTable}
+use Rattle.tz_zone.specs.ValidZone.{IsSoundTable}
 use Rattle.tz_zone.specs.ClockSegments.{from_start, IsReachedAt, IsBefore}
 use Rattle.tz_zone.specs.ZoneSeen.{zone_seen}
 use Rattle.tz_zone.specs.declared.table.parts.OtherParts.{OtherParts}
-use Rattle.tz_zone.proofs.LeapTimes.{leap_time_mono}
-use Rattle.tz_zone.proofs.RisingTimes.{ahead_from, reached_through}
-use Rattle.tz_zone.proofs.Clocks.{transition_type_of_last, clock_before_last, clock_from_last, fault_from_last, fault_without}
-use Rattle.tz_zone.proofs.InstantsWithLeapTime.{by_count, leap_unless_refused, defined_between, reached_from_effect, wide_effect_up_to}
+use Rattle.tz_zone.proofs.EmptyLists.{length_of_some}
+use Rattle.tz_zone.proofs.LeapTimes.{leap_time_mono, one_leap_time}
+use Rattle.tz_zone.proofs.RisingTimes.{rising, ahead_from, reached_through}
+use Rattle.tz_zone.proofs.Clocks.{transition_type_of_last, clock_before_last, clock_from_last, type_after_from_clock, fault_from_last, fault_without}
+use Rattle.tz_zone.proofs.InstantsWithLeapTime.{by_count, leap_unless_refused, defined_between, effect_ahead, reached_from}
 
 module _ (z : Zone) (sound : IsSoundTable z) where
-  rising : IsRising z.transitions
-  rising i = (sound.transitions_are i).1
-
   -- the last transition
   last : 0 < length z.transitions → (last : Transition) × IsLast z.transitions last
   last some = (get_or z.transitions (length z.transitions - 1) from_start, slice_get-get_or z.transitions (length z.transitions - 1) from_start (omega (arith, some)))
 
   -- the transition before a place has a type of the zone, which is that at the place
   pub names_type : (k : ℕ) (before : Transition) → IsBefore z.transitions k before → before.type_index < length z.types
-  names_type k before (inl (none, is)) = omega (arith, ap (λ (change : Transition). change.type_index) is, some_types z.types sound.has_types)
-    where
-      some_types : (types : List LocalTimeType) → types ≢ [] → 0 < length types
-      some_types [] some = absurd (some refl)
-      some_types (t ∷ types) some = omega arith
+  names_type k before (inl (none, is)) = omega (arith, ap (λ (change : Transition). change.type_index) is, length_of_some z.types sound.has_types)
   names_type k before (inr (some, at)) = (sound.transitions_are (k - 1)).0 before at
 
   pub type_of_before : (k : ℕ) (before : Transition) (t : LocalTimeType) → IsBefore z.transitions k before → IsTypeAt z before.type_index t → IsTypeOfLast z k t
@@ -55,10 +49,19 @@ module _ (z : Zone) (sound : IsSoundTable z) where
       let (end, is_last) = last some in
       clock_from_last z sound.leap_seconds_are end is_last v at.time at.time_is t (at.reached (length z.transitions - 1) end (omega (arith, some)) is_last) type
 
+  pub type_after_place : (v : ℤ) (t : LocalTimeType) → 0 < length z.transitions → IsReachedAt z v (length z.transitions) → IsClock z v t → IsTypeAfter z.extra_rule v t
+  type_after_place v t some at clock =
+      let (end, is_last) = last some in
+      type_after_from_clock z sound.leap_seconds_are end is_last v at.time at.time_is t (at.reached (length z.transitions - 1) end (omega (arith, some)) is_last) clock
+
   pub fault_after_place : (v : ℤ) (e : TzError) → 0 < length z.transitions → IsReachedAt z v (length z.transitions) → IsFaultAfter z.extra_rule v e → IsLookupFault z v e
   fault_after_place v e some at fault =
       let (end, is_last) = last some in
       fault_from_last z sound.leap_seconds_are end is_last v at.time at.time_is e (at.reached (length z.transitions - 1) end (omega (arith, some)) is_last) fault
+
+  -- a transition after the place of an instant is not reached there
+  pub not_reached : (u : ℤ) (k i : ℕ) (next : Transition) → IsReachedAt z u k → k ≤ i → slice_get z.transitions i ≡ Some next → ¬ IsTimeReached z.leap_seconds next.unix_leap_time u
+  not_reached u k i next at from at_i reached = absurd (omega (arith, ints, at.ahead i next from at_i, reached.2, one_leap_time z.leap_seconds u at.time reached.0 at.time_is reached.1))
 
   -- a place at which some instant lies, and after which no transition is reached later, is that of the later instant
   pub place_later : (k : ℕ) (low v l : ℤ) → IsReachedAt z low k → low ≤ℤ v → IsLeapTime z.leap_seconds v l → ((next : Transition) → slice_get z.transitions k ≡ Some next → l <ℤ next.unix_leap_time) → IsReachedAt z v k
@@ -69,7 +72,7 @@ module _ (z : Zone) (sound : IsSoundTable z) where
     ahead = λ i change from at_i.
         let inside = slice_get_within z.transitions i change at_i in
         let next = slice_get-get_or z.transitions k change (omega (arith, from, inside)) in
-        ahead_from z.transitions rising l k (get_or z.transitions k change) next (before (get_or z.transitions k change) next) i change from at_i;
+        ahead_from z.transitions (rising z sound) l k (get_or z.transitions k change) next (before (get_or z.transitions k change) next) i change from at_i;
   }
 
   -- from a transition up to the next one instants lie at the place between them
@@ -77,8 +80,8 @@ module _ (z : Zone) (sound : IsSoundTable z) where
   place_after k v l next later leap at from after before = record {
     time = l;
     time_is = leap;
-    reached = reached_through z.transitions rising l k next at from;
-    ahead = ahead_from z.transitions rising l (k + 1) later after before;
+    reached = reached_through z.transitions (rising z sound) l k next at from;
+    ahead = ahead_from z.transitions (rising z sound) l (k + 1) later after before;
   }
 
   -- while leap time stays before the next transition the clock has one type
@@ -114,11 +117,10 @@ module _ (z : Zone) (sound : IsSoundTable z) where
     module _ (next later : Transition) (jump : ℤ) (before after : LocalTimeType) (at_next : slice_get z.transitions k ≡ Some next) (at_later : slice_get z.transitions (k + 1) ≡ Some later)
         (reached : next.unix_leap_time ≤ℤ h) (ahead : h <ℤ later.unix_leap_time) (wide : IsWideEffect z.leap_seconds next.unix_leap_time jump) where
       pub jump_above : low <ℤ jump
-      jump_above = by_lt_z low jump (λ e. e) (λ e.
-          absurd (omega (arith, ints, at.ahead k next (omega arith) at_next, reached_from_effect z.leap_seconds sound.leap_seconds_are high h leap next.unix_leap_time jump low at.time wide reached e at.time_is)))
+      jump_above = effect_ahead z.leap_seconds sound.leap_seconds_are low next.unix_leap_time jump at.time_is.not_refused (not_reached low k k next at (omega arith) at_next) wide
 
       pub jump_up_to : jump ≤ℤ high
-      jump_up_to = wide_effect_up_to z.leap_seconds sound.leap_seconds_are high h leap next.unix_leap_time jump wide reached
+      jump_up_to = wide.least high (h, leap, reached)
 
       pub type_before_jump : IsTypeOfLast z k before → (v : ℤ) → low ≤ℤ v → v <ℤ jump → IsClock z v before
       type_before_jump type v from until =
@@ -130,7 +132,8 @@ module _ (z : Zone) (sound : IsSoundTable z) where
       pub type_from_jump : IsTypeAt z next.type_index after → (v : ℤ) → jump ≤ℤ v → v ≤ℤ high → IsClock z v after
       type_from_jump type v from to =
           let here = leap_between v (omega (arith, ints, from, jump_above)) to in
-          let since = reached_from_effect z.leap_seconds sound.leap_seconds_are high h leap next.unix_leap_time jump v here.0 wide reached from here.1 in
+          let there = reached_from z.leap_seconds sound.leap_seconds_are next.unix_leap_time jump v wide here.1.not_refused from in
+          let since : next.unix_leap_time ≤ℤ here.0 = omega (arith, ints, there.2, one_leap_time z.leap_seconds v there.0 here.0 there.1 here.1) in
           let back : k ≡ k + 1 - 1 = omega arith in
           let here_next : slice_get z.transitions (k + 1 - 1) ≡ Some next = subst (λ (i : ℕ). slice_get z.transitions i ≡ Some next) back at_next in
           clock_at_place (k + 1) v after (slice_get_within z.transitions (k + 1) later at_later) (place_after k v here.0 next later here.1 at_next since at_later (omega (arith, ints, here.2, ahead)))

@@ -1,12 +1,8 @@
--- A look in the middle of places that are as many as a power of two leaves half as many.
-use Rattle.std.proofs.Common.{◌≡◌, ◌≢◌, ◌∙◌, ap, ℕ, zero, suc, ◌+◌, ◌-◌, ◌/◌, ◌^◌, ◌<◌, ◌≤◌, ◌⊎◌, inl, inr, refl, subst, arith, ℤ, List, length}
+-- Powers of two: the order of their exponents, and the half of one.
+use Rattle.std.proofs.Common.{◌≡◌, ◌≢◌, ◌∙◌, ap, ℕ, zero, suc, ◌+◌, ◌/◌, ◌^◌, ◌<◌, ◌≤◌, inl, inr, refl, arith}
 use Rattle.std.proofs.Math.Nat.{pow-suc}
 use Rattle.std.proofs.Math.Pow.{pow_mono}
 use Rattle.std.proofs.lemmas.Bool.{cases_lt}
-use Rattle.tz_zone.specs.Table.{Transition}
-use Rattle.tz_zone.specs.Clock.{AreReached, AreAhead}
-use Rattle.tz_zone.specs.PlacesLeft.{IsAmongPlaces}
-use Rattle.tz_zone.proofs.RisingTimes.{ahead_later}
 
 -- a power of two that is below another one has the smaller exponent
 pub exponent_less : (m b n : ℕ) → 2 ^ m < n → n < 2 ^ b → m < b
@@ -32,34 +28,3 @@ half_power count (suc k) f is differ order = (k, refl, omega (arith, is, pow-suc
       | inl less ↦ let same : suc k ≡ f = omega (arith, less, order) in absurd (differ (is ∙ ap (λ (n : ℕ). 2 ^ n) same))
       | inr more ↦ more
     ]
-
--- a look at the transition before a later place moves a place there, or determines what is ahead
-abbrev pub IsAfterLook : List Transition → ℤ → ℕ → ℕ → ℕ → Type 0
-IsAfterLook transitions l place later result = ((result ≡ later) × AreReached transitions l later) ⊎ ((result ≡ place) × AreAhead transitions l (later - 1))
-
-module _ (transitions : List Transition) (l : ℤ) where
-  pub among_half : (place count result : ℕ) → IsAmongPlaces transitions l place (count + count) → IsAfterLook transitions l place (place + count) result → IsAmongPlaces transitions l result count
-  among_half place count result among (inl (is, reached)) = (
-    omega (arith, is, among.0),
-    subst (λ (k : ℕ). AreReached transitions l k) (omega (arith, is)) reached,
-    ahead_later transitions l (place + (count + count) - 1) (result + count - 1) (omega (arith, is)) among.2,
-  )
-  among_half place count result among (inr (is, ahead)) = (
-    omega (arith, is, among.0),
-    subst (λ (k : ℕ). AreReached transitions l k) (omega (arith, is)) among.1,
-    ahead_later transitions l (place + count - 1) (result + count - 1) (omega (arith, is)) ahead,
-  )
-
-  -- the first look, which leaves as many places as the greatest power of two below the number of transitions
-  pub among_power : (result power : ℕ) → AreAhead transitions l (length transitions - 1) → power < length transitions →
-      length transitions ≤ power + power → IsAfterLook transitions l 0 (length transitions - power) result → IsAmongPlaces transitions l result power
-  among_power result power last_ahead less most (inl (at, reached)) = (
-    omega (arith, at, less),
-    subst (λ (k : ℕ). AreReached transitions l k) (omega (arith, at)) reached,
-    ahead_later transitions l (length transitions - 1) (result + power - 1) (omega (arith, at, less)) last_ahead,
-  )
-  among_power result power last_ahead less most (inr (at, ahead)) = (
-    omega (arith, at, less),
-    λ i change before here. absurd (omega (arith, at, before)),
-    ahead_later transitions l (length transitions - power - 1) (result + power - 1) (omega (arith, at, less, most)) ahead,
-  )

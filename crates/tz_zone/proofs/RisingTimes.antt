@@ -4,9 +4,9 @@ use Rattle.std.specs.Prelude.{slice_get}
 use Rattle.std.proofs.lemmas.Int.{ints, by_lt_z}
 use Rattle.std.proofs.lemmas.Bool.{cases_lt}
 use Rattle.std.proofs.lemmas.Option.{slice_get_within, slice_get-get_or, same_Some}
-use Rattle.tz_zone.specs.Table.{Transition, LeapSecond}
+use Rattle.tz_zone.specs.Table.{Transition, LeapSecond, Zone}
 use Rattle.tz_zone.specs.Clock.{AreReached, AreAhead}
-use Rattle.tz_zone.specs.ValidZone.{AreLeapSeconds, IsRising}
+use Rattle.tz_zone.specs.ValidZone.{AreLeapSeconds, IsRising, IsSoundTable}
 use Rattle.tz_zone.specs.ClockSegments.{IsBefore}
 use Rattle.tz_zone.proofs.LeapSteps.{times_rise}
 use Rattle.tz_zone.proofs.LeapLists.{time_at, time_at-is, AreSteps-from_leaps}
@@ -56,6 +56,9 @@ transitions_rise transitions rising i j x y h at at' =
         let place : i + 1 + suc m ≡ i + suc (suc m) = omega arith in
         omega (arith, ints, rising i x (get_or transitions (i + 1) x) at next, by_steps m (i + 1) (get_or transitions (i + 1) x) y next (ap (slice_get transitions) place ∙ at'))
 
+pub rising : (z : Zone) → IsSoundTable z → IsRising z.transitions
+rising z sound i = (sound.transitions_are i).1
+
 -- where one transition is reached, all before it are
 pub reached_through : (transitions : List Transition) → IsRising transitions → (v : ℤ) (k : ℕ) (change : Transition) → slice_get transitions k ≡ Some change → change.unix_leap_time ≤ℤ v → AreReached transitions v (k + 1)
 reached_through transitions rising v k change at reached i x h at' =
@@ -75,9 +78,6 @@ ahead_from transitions rising v k change at ahead i x h at' =
           let place : i ≡ k = omega arith in
           rw (same_Some x change (sym at' ∙ ap (slice_get transitions) place ∙ at)) ahead
     ]
-
-pub ahead_later : (transitions : List Transition) (v : ℤ) (k m : ℕ) → k ≤ m → AreAhead transitions v k → AreAhead transitions v m
-ahead_later transitions v k m order ahead i change from at = ahead i change (omega (arith, order, from)) at
 
 -- where the transition before a place is reached, all before it are
 pub reached_before : (transitions : List Transition) → IsRising transitions → (k : ℕ) (before : Transition) → IsBefore transitions k before → (v : ℤ) → before.unix_leap_time ≤ℤ v → AreReached transitions v k

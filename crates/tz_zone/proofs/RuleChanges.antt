@@ -1,9 +1,7 @@
 -- The changes of a rule are those of a clock whose transitions are all reached.
-use Rattle.std.proofs.Common.{◌≡◌, ◌≢◌, ◌∙◌, ◌-◌, ◌<◌, inl, inr, refl, sym, ap, subst, arith, rules, ℤ, pos, negsuc, ◌+ℤ◌, ◌-ℤ◌, ◌≤ℤ◌, ◌<ℤ◌, ◌⊎◌, List, [], ◌∷◌, length, Option, Some, None}
+use Rattle.std.proofs.Common.{◌≡◌, ◌≢◌, ◌∙◌, ◌-◌, inl, inr, refl, sym, ap, subst, arith, rules, ℤ, pos, negsuc, ◌+ℤ◌, ◌-ℤ◌, ◌≤ℤ◌, ◌<ℤ◌, ◌⊎◌, List, [], ◌∷◌, length, Option, Some, None}
 use Rattle.std.proofs.lemmas.Int.{ints, by_lt_z}
 use Rattle.std.proofs.lemmas.Option.{slice_get_within, same_Some}
-use mir.Syntax.{w32}
-use mir.Val.{SFits}
 use Rattle.tz_base.specs.Days.{first_day}
 use Rattle.tz_base.proofs.DaysOfYears.{first_day_bounds}
 use Rattle.tz_rule.specs.LocalTimeType.{LocalTimeType}
@@ -20,30 +18,26 @@ use Rattle.tz_zone.specs.Changes.{Change, IsChange, IsFollowing, IsPreceding, Ha
 use Rattle.tz_zone.specs.Runs.{IsSeam, IsRunStart}
 use Rattle.tz_zone.specs.ZoneSeen.{zone_seen}
 use Rattle.tz_zone.specs.declared.table.parts.OtherParts.{OtherParts}
+use Rattle.tz_zone.proofs.EmptyLists.{length_of_some}
 use Rattle.tz_zone.proofs.LeapTimes.{past_later}
 use Rattle.tz_zone.proofs.Clocks.{some_from_last}
 use Rattle.tz_zone.proofs.InstantsWithLeapTime.{clock_without, leap_unless_refused, defined_within, past_from}
-use Rattle.tz_zone.proofs.Places.{place_later}
+use Rattle.tz_zone.proofs.Places.{clock_after_place, type_after_place, place_later}
 use Rattle.tz_zone.proofs.ChangeSpans.{rule_of_clock}
-use Rattle.tz_zone.proofs.PlaceRuns.{leap_of_clock, clock_from_end, place_at_start}
+use Rattle.tz_zone.proofs.PlaceRuns.{leap_of_clock, place_at_start}
 
 -- a rule has no other type after the years in which it answers, and so it does not change there
 rule_change_bound : (rule : TransitionRule) (a b : LocalTimeType) (u : ℤ) → IsRuleType rule (u -ℤ pos 1) a → IsRuleType rule u b → a ≢ b → u ≤ℤ pos 80000000000000000
 unfolding IsRuleType
 rule_change_bound (Fixed fixed) a b u before after differ = absurd (differ (before ∙ sym after))
 rule_change_bound (Alternate rule) a b u before after differ =
-    let fits : SFits w32 (pos 2147483645) = search rules in
-    let last : first_day (pos 2147483646) ≤ℤ pos 784351576777 = (first_day_bounds (pos 2147483645) fits).1 in
+    let last : first_day (pos 2147483646) ≤ℤ pos 784351576777 = (first_day_bounds (pos 2147483645) (search rules)).1 in
     omega (arith, ints, (IsInRuleYears-bounds u after.0).1, last)
 
 -- there are transitions, or there are none
 pub none_or_some : (list : List Transition) → (list ≡ []) ⊎ (list ≢ [])
 none_or_some [] = inl refl
 none_or_some (x ∷ rest) = inr (λ e. absurd (omega (arith, ap length e)))
-
-pub length_of_some : (list : List Transition) → list ≢ [] → 0 < length list
-length_of_some [] some = absurd (some refl)
-length_of_some (x ∷ rest) some = omega arith
 
 without_from_after : (z : Zone) (rule : Option TransitionRule) (v : ℤ) (t : LocalTimeType) → IsTypeAfter rule v t → IsTypeWithout z rule v t
 without_from_after z (Some rule) v t type = type
@@ -65,13 +59,13 @@ module _ (list : List Transition) (parts : OtherParts) (sound : IsSoundTable (zo
   rule_clock : (v : ℤ) (t : LocalTimeType) → (list ≢ [] → IsReachedAt (zone_seen list parts) v (length list)) → IsClock (zone_seen list parts) v t → IsClock (zone_seen [] parts) v t
   rule_clock v t at clock = elim (none_or_some list) [
     | inl none ↦ subst (λ (l : List Transition). IsClock (zone_seen l parts) v t) none clock
-    | inr some ↦ inl (refl, without_from_after (zone_seen [] parts) (zone_seen [] parts).extra_rule v t ((clock_from_end (zone_seen list parts) sound (length_of_some list some) v (at some) t).1 clock))
+    | inr some ↦ inl (refl, without_from_after (zone_seen [] parts) (zone_seen [] parts).extra_rule v t (type_after_place (zone_seen list parts) sound v t (length_of_some list some) (at some) clock))
   ]
 
   clock_rule : (rule : TransitionRule) → (zone_seen [] parts).extra_rule ≡ Some rule → (v : ℤ) (t : LocalTimeType) → (list ≢ [] → IsReachedAt (zone_seen list parts) v (length list)) → IsClock (zone_seen [] parts) v t → IsClock (zone_seen list parts) v t
   clock_rule rule is v t at clock = elim (none_or_some list) [
     | inl none ↦ subst (λ (l : List Transition). IsClock (zone_seen l parts) v t) (sym none) clock
-    | inr some ↦ (clock_from_end (zone_seen list parts) sound (length_of_some list some) v (at some) t).0
+    | inr some ↦ clock_after_place (zone_seen list parts) sound v t (length_of_some list some) (at some)
         (subst (λ (o : Option TransitionRule). IsTypeAfter o v t) (sym is) (rule_of_clock (zone_seen [] parts) refl rule is v t clock))
   ]
 

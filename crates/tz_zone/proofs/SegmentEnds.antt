@@ -1,47 +1,27 @@
 -- Where a segment of the clock begins and ends the tables change.
-use Rattle.std.proofs.Common.{◌≡◌, ◌≢◌, ◌∙◌, ℕ, ◌-◌, ◌⊎◌, inl, inr, false, eqb, refl, sym, ap, subst, arith, ℤ, pos, negsuc, ◌+ℤ◌, ◌-ℤ◌, ◌≤ℤ◌, ◌<ℤ◌, List, [], ◌∷◌, length, Option, Some, None}
-use Rattle.std.specs.Prelude.{slice_get, unsigned_abs}
+use Rattle.std.proofs.Common.{◌≡◌, ◌≢◌, ℕ, ◌-◌, ◌⊎◌, inl, inr, refl, sym, ap, subst, arith, ℤ, pos, negsuc, ◌+ℤ◌, ◌-ℤ◌, ◌≤ℤ◌, ◌<ℤ◌, List, [], ◌∷◌, length, Some}
+use Rattle.std.specs.Prelude.{slice_get}
 use Rattle.std.proofs.lemmas.Int.{ints, by_lt_z}
-use Rattle.std.proofs.lemmas.Bool.{cases_lt, false≢true}
 use Rattle.std.proofs.lemmas.Option.{slice_get_within, none-some, same_Some}
 use Rattle.tz_zone.specs.Table.{Transition, LeapSecond, Zone}
 use Rattle.tz_zone.specs.LeapTime.{IsInstant, IsBeforeStart, IsPastInstants, IsLeapTimeRefused, IsTimeReached, IsWideEffect}
 use Rattle.tz_zone.specs.ValidZone.{AreLeapSeconds, IsSoundTable}
 use Rattle.tz_zone.specs.ClockSegments.{IsReachedAt, IsBefore}
 use Rattle.tz_zone.specs.TableChanges.{IsChangeByRule, IsTableChange, IsFar, HasTableEnds}
-use Rattle.tz_zone.proofs.RisingTimes.{reached_before}
+use Rattle.tz_zone.proofs.LeapLists.{first_step}
+use Rattle.tz_zone.proofs.RisingTimes.{rising, reached_before}
 use Rattle.tz_zone.proofs.LeapTimes.{leap_time_mono, past_later, begun_later, not_past_within, not_refused_within, IsInstant-from_bounds, instant_bounds}
-use Rattle.tz_zone.proofs.InstantsWithLeapTime.{plain_leap, leap_unless_refused, leap_time_low, wide_effect_up_to, defined_from_effect}
+use Rattle.tz_zone.proofs.InstantsWithLeapTime.{plain_leap, leap_unless_refused, leap_time_low, defined_at_effect}
 
 -- an instant lies before a truncated start or it does not
 pub before_start_or_not : (leaps : List LeapSecond) (u : ℤ) → IsBeforeStart leaps u ⊎ ¬ IsBeforeStart leaps u
-before_start_or_not leaps u = by_first (slice_get leaps 0) refl
-  where
-    by_first : (o : Option LeapSecond) → slice_get leaps 0 ≡ o → IsBeforeStart leaps u ⊎ ¬ IsBeforeStart leaps u
-    by_first None none = inr (λ before. none-some before.0 (sym none ∙ before.1.0))
-    by_first (Some l) at = by_lt_z (u +ℤ l.correction) l.unix_leap_time early late
-      where
-        early : (u +ℤ l.correction) <ℤ l.unix_leap_time → IsBeforeStart leaps u ⊎ ¬ IsBeforeStart leaps u
-        early h = elim (cases_lt (unsigned_abs l.correction) 1) [
-          | inl less ↦ inl (l, (at, λ one. absurd (omega (arith, less, one))), h)
-          | inr from ↦ elim (cases_lt 1 (unsigned_abs l.correction)) [
-            | inl more ↦ inl (l, (at, λ one. absurd (omega (arith, more, one))), h)
-            | inr to ↦ inr (λ before.
-                let same = same_Some before.0 l (sym before.1.0 ∙ at) in
-                before.1.1 (ap (λ (x : LeapSecond). unsigned_abs x.correction) same ∙ omega (arith, from, to)))
-          ]
-        ]
-
-        late : l.unix_leap_time ≤ℤ (u +ℤ l.correction) → IsBeforeStart leaps u ⊎ ¬ IsBeforeStart leaps u
-        late h = inr (λ before.
-            let same = same_Some before.0 l (sym before.1.0 ∙ at) in
-            let same_time = ap (λ (x : LeapSecond). x.unix_leap_time) same in
-            let same_correction = ap (λ (x : LeapSecond). x.correction) same in
-            absurd (omega (arith, ints, h, before.2, same_time, same_correction)))
-
--- the test that a list is not empty
-pub some_unless_empty : {X : Type 0} (xs : List X) → false ≡ eqb (length xs) 0 → xs ≢ []
-some_unless_empty xs e none = false≢true (e ∙ ap (λ ys. eqb (length ys) 0) none)
+before_start_or_not [] u = inr (λ before. none-some before.0 before.1.0)
+before_start_or_not (l ∷ rest) u = elim (first_step l) [
+  | inl (e, one) ↦ inr (λ before. before.1.1 (rw (same_Some before.0 l (sym before.1.0)) one))
+  | inr (e, other) ↦ by_lt_z (u +ℤ l.correction) l.unix_leap_time
+      (λ early. inl (l, (refl, other), early))
+      (λ late. inr (λ before. absurd (omega (arith, ints, late, rw (same_Some before.0 l (sym before.1.0)) at before.2))))
+]
 
 -- where instants have no leap time there are leap seconds
 pub some_if_refused : (leaps : List LeapSecond) (u : ℤ) → IsLeapTimeRefused leaps u → leaps ≢ []
@@ -72,7 +52,7 @@ module _ (z : Zone) (sound : IsSoundTable z) (u : ℤ) (k : ℕ) (fits : IsInsta
   change_at_effect m wide not_least = by_lt_z (negsuc 9223372036854775807) before.unix_leap_time effect least
     where
       up_to : m ≤ℤ u
-      up_to = wide_effect_up_to z.leap_seconds are u at.time at.time_is before.unix_leap_time m wide before_reached
+      up_to = wide.least u (at.time, at.time_is, before_reached)
 
       effect : negsuc 9223372036854775807 <ℤ before.unix_leap_time → IsTableChange z m
       effect above = elim is [
@@ -85,7 +65,7 @@ module _ (z : Zone) (sound : IsSoundTable z) (u : ℤ) (k : ℕ) (fits : IsInsta
             record {
               not_least = λ e. absurd (omega (arith, ints, above, e));
               instant = IsInstant-from_bounds m wide.low (omega (arith, ints, up_to, (instant_bounds u fits).1));
-              reached = wide.reached (defined_from_effect z.leap_seconds are u at.time at.time_is before.unix_leap_time m m wide (omega (arith, ints)) up_to);
+              reached = wide.reached (defined_at_effect z.leap_seconds are before.unix_leap_time m u wide at.time_is.not_refused up_to);
               least = wide.least;
             },
           ),
@@ -145,7 +125,7 @@ module _ (z : Zone) (sound : IsSoundTable z) (u : ℤ) (k : ℕ) (fits : IsInsta
   all_reached all v (l, leap, reached) = subst (IsReachedAt z v) all (record {
     time = l;
     time_is = leap;
-    reached = reached_before z.transitions (λ i. (sound.transitions_are i).1) k before is l reached;
+    reached = reached_before z.transitions (rising z sound) k before is l reached;
     ahead = λ i change above at_i. absurd (omega (arith, all, above, slice_get_within z.transitions i change at_i));
   })
 

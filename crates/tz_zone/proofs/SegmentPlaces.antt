@@ -9,7 +9,6 @@ use Rattle.tz_zone.specs.ClockSegments.{IsReachedAt, IsBefore}
 use Rattle.tz_zone.proofs.RisingTimes.{ahead_from, reached_before}
 use Rattle.tz_zone.proofs.LeapReached.{reached_since}
 use Rattle.tz_zone.proofs.SegmentEnds.{before_reached}
-use Rattle.tz_zone.proofs.InstantsWithLeapTime.{wide_effect_up_to}
 
 module _ (z : Zone) (sound : IsSoundTable z) (u : ℤ) (k : ℕ) (fits : IsInstant u) (at : IsReachedAt z u k) (before : Transition) (is : IsBefore z.transitions k before) (m : ℤ)
     (wide : IsWideEffect z.leap_seconds before.unix_leap_time m) where
@@ -20,7 +19,7 @@ module _ (z : Zone) (sound : IsSoundTable z) (u : ℤ) (k : ℕ) (fits : IsInsta
   rising i = (sound.transitions_are i).1
 
   pub start_up_to : m ≤ℤ u
-  start_up_to = wide_effect_up_to z.leap_seconds are u at.time at.time_is before.unix_leap_time m wide (before_reached z sound u k fits at before is)
+  start_up_to = wide.least u (at.time, at.time_is, before_reached z sound u k fits at before is)
 
   -- from there on instants lie at the place until the next one is reached, as long as there are leap times
   pub lies_since : (next : Transition) → slice_get z.transitions k ≡ Some next → (last v : ℤ) → ((w : ℤ) → w ≤ℤ last → ¬ IsPastInstants z.leap_seconds w) → ((w : ℤ) → w ≤ℤ last → ¬ IsTimeReached z.leap_seconds next.unix_leap_time w)

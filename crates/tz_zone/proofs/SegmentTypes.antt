@@ -1,57 +1,35 @@
 -- Where there is no change, and a segment as contracts see it.
-use Rattle.std.proofs.Common.{◌≡◌, ◌∙◌, true, false, sym, subst, arith, ℤ, pos, ◌-ℤ◌, Option, Some, None}
-use Rattle.std.specs.Prelude.{MatchOption, is_some, option_copied}
+use Rattle.std.proofs.Common.{◌≡◌, ◌∙◌, sym, subst, arith, ℤ, pos, ◌-ℤ◌, Option, Some, None}
+use Rattle.std.specs.Prelude.{MatchOption, option_copied}
 use Rattle.std.specs.Borrow.{Bor}
 use Rattle.std.proofs.lemmas.Int.{ints}
-use Rattle.std.proofs.lemmas.Bool.{false≢true}
-use Rattle.std.proofs.lemmas.Option.{none-some}
+use Rattle.std.proofs.lemmas.Option.{MatchOption-at_none, none-some}
 use Rattle.tz_rule.specs.LocalTimeType.{LocalTimeType}
 use Rattle.tz_zone.specs.Table.{Zone}
 use Rattle.tz_zone.specs.Clock.{IsClock, HasNoType}
-use Rattle.tz_zone.specs.ValidZone.{IsSoundTable}
 use Rattle.tz_zone.specs.ClockSegments.{IsSegmentAt}
 use Rattle.tz_zone.specs.Changes.{Change, HasTypeOrNone, IsTrueSegment, IsChange}
 use Rattle.tz_zone.specs.declared.clock.segment.Segment.{Segment}
-use Rattle.tz_zone.proofs.Clocks.{clock_unique}
+use Rattle.tz_zone.proofs.Clocks.{one_type}
 
-module _ (z : Zone) (sound : IsSoundTable z) where
+module _ (z : Zone) where
   -- no change without a type before, or without one after
   pub no_change_from_none : (u : ℤ) (before : Option (Bor LocalTimeType)) → before ≡ None → MatchOption before (HasNoType z (u -ℤ pos 1)) (λ t. IsClock z (u -ℤ pos 1) t.now) → (c : Change) → c.unix_time ≡ u → ¬ IsChange z c
-  no_change_from_none u before none holds c at change =
-      let never = subst (λ (o : Option (Bor LocalTimeType)). MatchOption o (HasNoType z (u -ℤ pos 1)) (λ t. IsClock z (u -ℤ pos 1) t.now)) none holds in
-      never c.before (subst (λ (v : ℤ). IsClock z (v -ℤ pos 1) c.before) at change.before_is)
+  no_change_from_none u before none holds c at change = MatchOption-at_none _ _ none holds c.before (subst (λ (v : ℤ). IsClock z (v -ℤ pos 1) c.before) at change.before_is)
 
   pub no_change_to_none : (u : ℤ) (after : Option (Bor LocalTimeType)) → after ≡ None → MatchOption after (HasNoType z u) (λ t. IsClock z u t.now) → (c : Change) → c.unix_time ≡ u → ¬ IsChange z c
-  no_change_to_none u after none holds c at change =
-      let never = subst (λ (o : Option (Bor LocalTimeType)). MatchOption o (HasNoType z u) (λ t. IsClock z u t.now)) none holds in
-      never c.after (subst (λ (v : ℤ). IsClock z v c.after) at change.after_is)
+  no_change_to_none u after none holds c at change = MatchOption-at_none _ _ none holds c.after (subst (λ (v : ℤ). IsClock z v c.after) at change.after_is)
 
   -- nor where both are the same
   pub no_change_of_same : (u : ℤ) (a b : LocalTimeType) → a ≡ b → IsClock z (u -ℤ pos 1) a → IsClock z u b → (c : Change) → c.unix_time ≡ u → ¬ IsChange z c
   no_change_of_same u a b same before after c at change =
       let before_is = subst (λ (v : ℤ). IsClock z (v -ℤ pos 1) c.before) at change.before_is in
       let after_is = subst (λ (v : ℤ). IsClock z v c.after) at change.after_is in
-      change.differ (clock_unique z (u -ℤ pos 1) c.before a sound.leap_seconds_are before_is before ∙ same ∙ clock_unique z u b c.after sound.leap_seconds_are after after_is)
+      change.differ (one_type z (u -ℤ pos 1) c.before a before_is before ∙ same ∙ one_type z u b c.after after after_is)
 
 pub match_none : {X : Type 0} (o : Option X) (P : Type 0) (Q : X → Type 0) → o ≡ None → P → MatchOption o P Q
 match_none None P Q e h = h
 match_none (Some x) P Q e h = absurd (none-some x (sym e))
-
-pub match_at_none : {X : Type 0} (o : Option X) (P : Type 0) (Q : X → Type 0) → o ≡ None → MatchOption o P Q → P
-match_at_none o P Q e h = subst (λ p. MatchOption p P Q) e h
-
--- what an option holds
-pub match_some : {X : Type 0} (o : Option X) (x : X) (P : Type 0) (Q : X → Type 0) → o ≡ Some x → MatchOption o P Q → Q x
-match_some {X = X} o x P Q e h = subst (λ (p : Option X). MatchOption p P Q) e h
-
--- what is known of an option that holds something, or nothing
-pub match_if_some : {X : Type 0} (o : Option X) (P P' : Type 0) (Q Q' : X → Type 0) → is_some o ≡ true → MatchOption o P Q → ((x : X) → Q x → Q' x) → MatchOption o P' Q'
-match_if_some (Some x) P P' Q Q' e h f = f x h
-match_if_some None P P' Q Q' e h f = absurd (false≢true e)
-
-pub match_if_none : {X : Type 0} (o : Option X) (P : Type 0) (Q : X → Type 0) → is_some o ≡ false → MatchOption o P Q → P
-match_if_none None P Q e h = h
-match_if_none (Some x) P Q e h = absurd (false≢true (sym e))
 
 -- a segment as contracts see it
 pub true_segment : (z : Zone) (u : ℤ) (s : Segment) → IsSegmentAt z u s → IsTrueSegment z (record { from = s.from; last = s.last; local_time_type = option_copied s.local_time_type })

@@ -2,10 +2,11 @@
 use Rattle.std.proofs.Common.{◌≡◌, ℕ, ◌+◌, ◌<◌, ◌≤◌, refl, sym, arith, ◌∙◌, List, length, get_or, Some, Bool, true, false, MatchBool, ℤ, ◌<ℤ◌}
 use Rattle.std.specs.Prelude.{slice_get}
 use Rattle.std.specs.Int.Signed.{lt_z}
-use Rattle.std.proofs.lemmas.Int.{to_z-of_z}
+use Rattle.std.proofs.lemmas.Int.{ints, to_z-of_z}
 use Rattle.std.proofs.lemmas.Option.{slice_get_read, slice_get_within, same_Some}
 use mir.Syntax.{w64}
 use mir.Val.{SFits, to_z, of_z}
+use Rattle.tz_rule.proofs.WeakerClauses.{MatchBool-lt_z}
 use Rattle.tz_zone.specs.Table.{Transition, LeapSecond}
 use Rattle.tz_zone.specs.ValidZone.{MayBeFirst, FollowsAt, AreLeapSeconds, HasTypeAtPlace, RisesAtPlace}
 
@@ -19,13 +20,9 @@ pub pair_test : {X : Type 0} (xs : List X) (i : ℕ) (a b : X) (R : X → X → 
 pair_test xs i a b R true within a_is b_is h = λ x y at_x at_y. rw (sym (item_read xs i a x (omega arith) a_is at_x), sym (item_read xs (i + 1) b y within b_is at_y)) h
 pair_test xs i a b R false within a_is b_is h = λ all. h (all a b (slice_get_read xs (length xs) i a refl (omega arith) a_is) (slice_get_read xs (length xs) (i + 1) b refl within b_is))
 
-less_by : (x y : ℤ) (t : Bool) → lt_z x y ≡ t → MatchBool t (x <ℤ y) (¬ (x <ℤ y))
-less_by x y true e = record { lt = rw e tt }
-less_by x y false e = λ less. rw e at less.lt
-
 -- the test of two numbers of 64 bits
 pub less_test : (a b x y : ℤ) → SFits w64 x → SFits w64 y → x ≡ a → y ≡ b → MatchBool (lt_z (to_z w64 (of_z w64 x)) (to_z w64 (of_z w64 y))) (a <ℤ b) (¬ (a <ℤ b))
-less_test a b x y fits_x fits_y x_is y_is = rw (to_z-of_z w64 x fits_x, to_z-of_z w64 y fits_y, x_is, y_is) (less_by a b (lt_z a b) refl)
+less_test a b x y fits_x fits_y x_is y_is = rw (to_z-of_z w64 x fits_x, to_z-of_z w64 y fits_y, x_is, y_is) (MatchBool-lt_z a b (λ less. less) (λ from less. absurd (omega (arith, ints, from, less))))
 
 pub are_from_loop : (leaps : List LeapSecond) (n : ℕ) (leap : LeapSecond) → 1 ≤ length leaps → leap ≡ get_or leaps 0 leap → MayBeFirst leap → length leaps ≤ n → ((place : ℕ) → place < n → FollowsAt leaps place) → AreLeapSeconds leaps
 are_from_loop leaps n leap some leap_is first all follow = record {

@@ -1,5 +1,5 @@
 -- The faults of a whole text, from where they stand.
-use Rattle.std.proofs.Common.{◌≡◌, ◌≢◌, ℕ, Bool, true, false, List, [], ◌∷◌, refl, ap, ◌∙◌, inl, inr, Option, Some, ℤ, pos, arith}
+use Rattle.std.proofs.Common.{◌≡◌, ◌≢◌, ℕ, Bool, false, List, [], ◌∷◌, refl, ap, ◌∙◌, inl, inr, Option, Some, ℤ, pos}
 use Rattle.std.specs.Prelude.{FitsSigned}
 use Rattle.std.specs.Int.{w32}
 use Rattle.std.proofs.lemmas.Int.{to_z-of_z}
@@ -12,7 +12,7 @@ use Rattle.tz_rule.specs.Alternate.{alternate_of}
 use Rattle.tz_rule.specs.LocalTimeType.{LocalTimeType, IsFirstTypeFault, type_of}
 use Rattle.tz_zone.specs.Bytes.{comma}
 use Rattle.tz_zone.specs.declared.parse.tz_string.time.WrittenTime.{WrittenTime}
-use Rattle.tz_zone.specs.TzText.{IsName, IsSignedTime, IsDaylightOffset, IsRuleText, AlternateText, IsAlternateText, std_type_of, dst_type_of, seconds_of, rule_of, IsTimeUpTo, day_time_hours}
+use Rattle.tz_zone.specs.TzText.{IsName, IsSignedTime, IsDaylightOffset, IsRuleText, AlternateText, IsAlternateText, std_type_of, dst_type_of, seconds_of, rule_of}
 use Rattle.tz_zone.specs.TzTextFault.{IsOffsetFault, IsNameFault, IsDaylightFault, IsRulesFault, IsTzTextFault}
 
 -- a name that is no designation
@@ -62,11 +62,6 @@ same_rule_of a std dst start end e f g h =
 -- a number of 32 bits, as it is passed to a function
 pub passed : (x other : ℤ) → FitsSigned w32 x → x ≡ other → to_z w32 (of_z w32 x) ≡ other
 passed x other fits e = to_z-of_z w32 x fits ∙ e
-
--- a day time, which is within a week in each kind of text
-pub week_at_most : (extended : Bool) (t : WrittenTime) → IsTimeUpTo (day_time_hours extended) t → IsTimeUpTo 167 t
-week_at_most true t is = is
-week_at_most false t is = record { hours_are = omega (arith, is.hours_are); minutes_are = is.minutes_are; seconds_are = is.seconds_are }
 
 -- a type with the name, at an offset that is computed
 pub same_type_of : (t : LocalTimeType) (offset other : ℤ) (is_dst : Bool) (name : List ℕ) → t ≡ type_of offset is_dst (Some name) → offset ≡ other → t ≡ type_of other is_dst (Some name)

@@ -254,7 +254,7 @@ no_text_fault extended text (Alternating rule) e t fault = elim fault [
 ]
 
 -- a text denotes one rule
-one_rule : (extended : Bool) (text : List ℕ) (r s : TransitionRule) → IsTzText extended text r → IsTzText extended text s → r ≡ s
+pub one_rule : (extended : Bool) (text : List ℕ) (r s : TransitionRule) → IsTzText extended text r → IsTzText extended text s → r ≡ s
 one_rule extended text (Fixed t) (Fixed u) a b =
     let same = name_and_offset_is_one text a.0 b.0 a.1 b.1 [] [] a.2 b.2 in
     ap Fixed (a.5 ∙ ap (λ name. std_type_of name a.1) same.0 ∙ ap (λ offset. std_type_of b.0 offset) same.1 ∙ sym b.5)

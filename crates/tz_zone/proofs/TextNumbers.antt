@@ -1,5 +1,5 @@
 -- Digits that are cut out of a text are text, and `parse` gives their number or says that none of its type stands there.
-use Rattle.std.proofs.Common.{◌≡◌, ◌≢◌, ℕ, leb, le-leb, ◌+◌, ◌*◌, ◌^◌, ◌<◌, ◌≤◌, ◌&&◌, Bool, true, false, cond, List, [], ◌∷◌, length, Result, sym, ap, ◌∙◌, subst, refl, inl, inr, arith, ℤ, pos}
+use Rattle.std.proofs.Common.{◌≡◌, ℕ, leb, le-leb, ◌+◌, ◌*◌, ◌^◌, ◌<◌, ◌≤◌, ◌&&◌, Bool, true, false, cond, List, [], ◌∷◌, length, Result, sym, ap, ◌∙◌, subst, refl, inl, inr, arith, ℤ, pos}
 use Rattle.std.proofs.lemmas.Bool.{cases_lt}
 use Rattle.std.proofs.lemmas.List.{get_or_past}
 use Rattle.std.proofs.lemmas.List.Sums.{take_while-cons}
@@ -13,6 +13,7 @@ use Rattle.std.specs.Str.{all_ascii_digits, IsAscii, IsUtf8}
 use Rattle.std.specs.Str.Parse.{digits_value, ParsesUnsigned, ParsesSigned}
 use Rattle.tz_zone.specs.TzText.{IsRun, IsNumber}
 use Rattle.tz_zone.specs.TzTextFault.{HasNoNumber}
+use Rattle.tz_zone.proofs.EmptyLists.{length_of_some}
 
 one_more : (digit : Bool) (b : ℕ) (ds : List ℕ) → is_ascii_digit b ≡ digit → all_ascii_digits ds ≡ true → all_ascii_digits (cond digit (b ∷ ds) []) ≡ true
 one_more true b ds e h = ap (λ d. d && all_ascii_digits ds) e ∙ h
@@ -38,16 +39,9 @@ is_ascii ds h i = elim (cases_lt i (length ds)) [
 pub digits_are_text : {text digits rest : List ℕ} → IsRun is_ascii_digit text digits rest → IsUtf8 digits
 digits_are_text {digits = digits} run = IsUtf8-from_ascii digits (is_ascii digits (run_has_digits run))
 
-some_digits : (ds : List ℕ) → 0 < length ds → ds ≢ []
-some_digits ds h e = let none : length ds ≡ 0 = ap length e in absurd (omega arith)
-
-has_length : (ds : List ℕ) → ds ≢ [] → 0 < length ds
-has_length [] h = absurd (h refl)
-has_length (d ∷ ds) h = omega arith
-
 pub number_is_none : (bits : ℕ) (text digits rest : List ℕ) → IsRun is_ascii_digit text digits rest → ¬ ((0 < length digits) × (digits_value 10 digits < 2 ^ bits)) → HasNoNumber bits text
 number_is_none bits text digits rest run none n after number = elim (cases_lt n (2 ^ bits)) [
-  | inl fits ↦ absurd (none (subst (λ ds. (0 < length ds) × (digits_value 10 ds < 2 ^ bits)) same (has_length number.digits number.some, rw (sym number.value) fits)))
+  | inl fits ↦ absurd (none (subst (λ ds. (0 < length ds) × (digits_value 10 ds < 2 ^ bits)) same (length_of_some number.digits number.some, rw (sym number.value) fits)))
   | inr above ↦ above
 ]
   where
@@ -81,6 +75,6 @@ two_digits text rest after d e small small_too front next over = record {
     longest = sym (ap (take_while is_ascii_digit) front ∙ run_of_digit d rest small ∙ ap (λ more. (d + 48) ∷ more) (ap (take_while is_ascii_digit) next ∙ run_of_digit e after small_too ∙ ap (λ more. (e + 48) ∷ more) over));
     parts = front ∙ ap (λ more. (d + 48) ∷ more) next;
   };
-  some = some_digits ((d + 48) ∷ (e + 48) ∷ []) (omega arith);
+  some = λ none. cc;
   value = omega (arith, digit_is d small, digit_is e small_too);
 }

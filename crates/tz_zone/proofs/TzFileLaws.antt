@@ -1,6 +1,6 @@
 -- Bytes of a TZif file denote one zone, and no fault of theirs is there.
 use Rattle.std.proofs.Common.{◌≡◌, ℕ, length, Bool, List, Option, Some, None, Result, Ok, Err, refl, sym, ap, subst, ◌∙◌, inl, inr, arith}
-use Rattle.std.specs.Prelude.{IfSome, IfOk, OnOk, All, alloc_error}
+use Rattle.std.specs.Prelude.{IfOk, OnOk, alloc_error}
 use Rattle.std.specs.Int.{Width, w32, w64}
 use Rattle.tz_base.specs.declared.error.TzError.{TzError}
 use Rattle.tz_base.specs.declared.error.TzError.TheVariants.{TzFile, LocalTimeType as TypeFault, Memory}
@@ -10,15 +10,15 @@ use Rattle.tz_base.specs.declared.error.parse.TzFileError.TheVariants.{ParseData
 use Rattle.tz_base.specs.declared.error.timezone.TimeZoneError.{TimeZoneError}
 use Rattle.tz_base.specs.declared.error.timezone.LocalTimeTypeError.{LocalTimeTypeError}
 use Rattle.tz_base.specs.declared.error.timezone.LocalTimeTypeError.TheVariants.{InvalidTimeZoneDesignationLength, InvalidTimeZoneDesignationChar, InvalidUtcOffset}
-use Rattle.tz_rule.specs.LocalTimeType.{LocalTimeType, IsDesignation, IsDesignationLength, IsDesignationByte, IsLocalTimeType, IsFirstTypeFault}
+use Rattle.tz_rule.specs.LocalTimeType.{LocalTimeType, IsDesignation, IsLocalTimeType, IsFirstTypeFault}
 use Rattle.tz_rule.specs.declared.timezone.rule.TransitionRule.{TransitionRule}
+use Rattle.tz_rule.proofs.WeakerClauses.{IfSome-weaker}
 use Rattle.tz_zone.specs.Table.{Zone, zone_with}
 use Rattle.tz_zone.specs.ValidZone.{IsFirstTransitionFault, IsValidZone, IsFirstZoneFault}
 use Rattle.tz_zone.specs.TzFile.{IsHeader, IsUnit, IsTypeRecord, IsContent, IsFramed, IsTzFile, Block, Part, type_at, after, part_of, footer_of, trimmed, IsFooter, IsExtraRule, is_extended, MayHold, HoldsLeapSeconds, zone_of_part}
 use Rattle.tz_zone.specs.TzFileFault.{HeaderFails, UnitFails, FrameFails, FooterFails, ExtraRuleFails, TypeFails, ContentFails, FileFails, IsReadFault}
-use Rattle.tz_zone.specs.TzText.{IsTzText}
 use Rattle.tz_zone.specs.TzParts.{HasTables}
-use Rattle.tz_zone.proofs.TextFaults.{no_text_fault, reads_texts}
+use Rattle.tz_zone.proofs.TextFaults.{no_text_fault, one_rule}
 use Rattle.tz_zone.specs.declared.parse.tz_file.tables.Tables.{Tables}
 
 -- the parts of a zone, from the tables that were read
@@ -71,10 +71,6 @@ footer_holds footer (Utf8 _) f fault = fault f.utf8
 footer_holds footer InvalidFooter f fault = fault (f.line_feeds, f.text)
 footer_holds footer _ f fault = fault
 
--- a text denotes one rule
-one_text_rule : (extended : Bool) (text : List ℕ) (r s : TransitionRule) → IsTzText extended text r → IsTzText extended text s → r ≡ s
-one_text_rule extended text r s a b = let same = reads_texts extended text (Ok r) a s b in cc
-
 extra_rule_holds : (extended : Bool) (footer : Option (List ℕ)) (rule : Option TransitionRule) (e : TzError) → IsExtraRule extended footer rule → ExtraRuleFails extended footer e → ⊥
 extra_rule_holds extended None rule e is fault = fault
 extra_rule_holds extended (Some footer) rule e is (inl (f, named, there)) = footer_holds footer f is.0 there
@@ -86,16 +82,12 @@ one_extra_rule extended None r s a b = a ∙ sym b
 one_extra_rule extended (Some footer) None None a b = refl
 one_extra_rule extended (Some footer) None (Some s) a b = absurd (b.1.0 a.1)
 one_extra_rule extended (Some footer) (Some r) None a b = absurd (a.1.0 b.1)
-one_extra_rule extended (Some footer) (Some r) (Some s) a b = ap Some (one_text_rule extended (trimmed footer) r s a.1.1 b.1.1)
-
-each_has : (o : Option (List ℕ)) (P Q : List ℕ → Type 0) → ((name : List ℕ) → P name → Q name) → IfSome o P → IfSome o Q
-each_has (Some name) P Q gives has = gives name has
-each_has None P Q gives has = has
+one_extra_rule extended (Some footer) (Some r) (Some s) a b = ap Some (one_rule extended (trimmed footer) r s a.1.1 b.1.1)
 
 type_made : (t : LocalTimeType) (e : LocalTimeTypeError) → IsLocalTimeType t → IsFirstTypeFault t e → ⊥
 type_made t InvalidUtcOffset is fault = fault is.offset_is
-type_made t InvalidTimeZoneDesignationLength is fault = fault.1 (each_has t.designation IsDesignation IsDesignationLength (λ _ name. name.length_is) is.designation_is)
-type_made t InvalidTimeZoneDesignationChar is fault = fault.2 (each_has t.designation IsDesignation (All IsDesignationByte) (λ _ name. name.bytes_are) is.designation_is)
+type_made t InvalidTimeZoneDesignationLength is fault = fault.1 (IfSome-weaker {P = IsDesignation} t.designation (λ _ name. name.length_is) is.designation_is)
+type_made t InvalidTimeZoneDesignationChar is fault = fault.2 (IfSome-weaker {P = IsDesignation} t.designation (λ _ name. name.bytes_are) is.designation_is)
 
 type_holds : (block : Block) (i : ℕ) (e : TzError) → IsTypeRecord block i → TypeFails block i e → ⊥
 type_holds block i (TzFile InvalidDstIndicator) is fault = fault is.daylight

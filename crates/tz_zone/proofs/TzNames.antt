@@ -1,17 +1,13 @@
 -- Where a zero byte is found, a name ends there; where none is, no name ends.
-use Rattle.std.proofs.Common.{◌≡◌, ℕ, ◌+◌, ◌-◌, ◌<◌, ◌≤◌, Bool, false, true, cond, ltb, List, length, get_or, take, drop, Option, Some, None, refl, inl, inr, sym, ap, ◌∙◌, arith}
-use Rattle.std.specs.Prelude.{◌==◌, slice_get}
+use Rattle.std.proofs.Common.{◌≡◌, ℕ, ◌+◌, ◌-◌, ◌<◌, ◌≤◌, Bool, false, true, cond, ltb, List, length, get_or, take, drop, Option, Some, None, refl, sym, ap, ◌∙◌, arith}
+use Rattle.std.specs.Prelude.{◌==◌}
 use Rattle.std.specs.List.{position_or_len, position_from}
 use Rattle.std.proofs.lemmas.Bool.{eqb-true, eqb-false, ltb-true, ltb-false}
 use Rattle.std.proofs.lemmas.List.{get_or-drop, length-drop}
 use Rattle.std.proofs.lemmas.Iterator.Adapters.{position_from-zero}
 use Rattle.std.proofs.lemmas.List.Sums.{fails_before_first, passes_at_first}
-use Rattle.std.proofs.lemmas.Option.{slice_get-get_or, get_or_from_slice_get, slice_get_cases}
+use Rattle.std.proofs.lemmas.Option.{slice_get-get_or, get_or_from_slice_get, slice_get_within}
 use Rattle.tz_zone.specs.TzFile.{HasName, name_at}
-
--- a list has an item only below its length
-pub slice_get-below : {X : Type 0} (xs : List X) (i : ℕ) (x : X) → slice_get xs i ≡ Some x → i < length xs
-slice_get-below xs i x is = elim ((slice_get_cases xs i).1) [ inl at ↦ at.1 | inr past ↦ absurd (cc (is, past.1)) ]
 
 get_or_at : (names : List ℕ) (i j : ℕ) → i ≡ j → get_or names j 0 ≡ 0 → get_or names i 0 ≡ 0
 get_or_at names i j is at = ap (λ k. get_or names k 0) is ∙ at
@@ -46,7 +42,7 @@ no_name_there names index none = λ name.
     let beyond : length rest ≤ place = ltb-false place (length rest) (not_found (ltb place (length rest)) place (position_from (λ byte. byte == 0) 0 rest) (position_from-zero (λ byte. byte == 0) rest) none) in
     let long : length rest ≡ length names - index = length-drop index names in
     let end = name.0 in
-    let below = slice_get-below names end 0 name.2 in
+    let below = slice_get_within names end 0 name.2 in
     let here : get_or rest (end - index) 0 ≡ 0 = get_or-drop index names (end - index) 0 ∙ get_or_at names (index + (end - index)) end (omega arith) (get_or_from_slice_get names end 0 0 name.2) in
     let first : end - index < position_or_len (λ byte. byte == 0) rest = omega arith in
     eqb-false (get_or rest (end - index) 0) 0 (fails_before_first (λ byte. byte == 0) rest (end - index) 0 first) here

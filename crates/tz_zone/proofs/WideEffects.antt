@@ -1,11 +1,12 @@
 -- The wide effect of a leap time, from the count of leap seconds up to it.
-use Rattle.std.proofs.Common.{◌≡◌, ℕ, suc, ◌<◌, ◌≤◌, ◌⊎◌, Bool, true, false, cond, int_lt, inl, inr, refl, arith, ℤ, ◌-ℤ◌, ◌≤ℤ◌, ◌<ℤ◌, List, length, Some}
+use Rattle.std.proofs.Common.{◌≡◌, ℕ, suc, ◌<◌, ◌≤◌, ◌⊎◌, inl, inr, refl, arith, ℤ, ◌-ℤ◌, ◌≤ℤ◌, ◌<ℤ◌, List, length, Some}
 use Rattle.std.specs.Prelude.{slice_get}
 use Rattle.std.specs.Int.{int_max}
 use Rattle.std.proofs.lemmas.Int.{ints, int_max_is}
 use Rattle.tz_zone.specs.Table.{LeapSecond}
 use Rattle.tz_zone.specs.LeapTime.{IsInstant, IsStart, correction_before, IsWideEffect}
 use Rattle.tz_zone.specs.ValidZone.{AreLeapSeconds, HasBegunAt}
+use Rattle.tz_zone.proofs.OffsetBounds.{int_max_either}
 use Rattle.tz_zone.proofs.LeapSteps.{IsTimeCount, IsEffectByCount}
 use Rattle.tz_zone.proofs.LeapLists.{time_at, time_at-is, correction_before-suc, correction_without_start, item_at}
 use Rattle.tz_zone.proofs.LeapTimes.{least_from_effect, reached_at_effect, begun_at_effect, no_start_up_to, leap_not_below_start, effect_low, instant_bounds}
@@ -39,21 +40,13 @@ IsEffectByCount-some leaps v u i l at shifted reached tight =
       ];
     }
 
--- the greater of two numbers is one of them
-pub int_max-one : (x y : ℤ) → (int_max x y ≡ x) ⊎ (int_max x y ≡ y)
-int_max-one x y = one (int_lt y x)
-  where
-    one : (b : Bool) → (cond b x y ≡ x) ⊎ (cond b x y ≡ y)
-    one true = inl refl
-    one false = inr refl
-
 -- the effect is the leap time less the correction, but not before the leap second is reached
 pub IsEffectByCount-greater : (leaps : List LeapSecond) (v : ℤ) (i : ℕ) (l : LeapSecond) → slice_get leaps i ≡ Some l → IsEffectByCount (time_at leaps) (correction_before leaps) v (suc i) (int_max (v -ℤ l.correction) (l.unix_leap_time -ℤ correction_before leaps i))
 IsEffectByCount-greater leaps v i l at =
     let shifted = v -ℤ l.correction in
     let reached = l.unix_leap_time -ℤ correction_before leaps i in
     let greatest = int_max_is shifted reached in
-    IsEffectByCount-some leaps v (int_max shifted reached) i l at (omega (arith, ints)) (omega (arith, ints)) (int_max-one shifted reached)
+    IsEffectByCount-some leaps v (int_max shifted reached) i l at (omega (arith, ints)) (omega (arith, ints)) (int_max_either shifted reached)
 
 pub IsWideEffect-from_count : (leaps : List LeapSecond) → AreLeapSeconds leaps → (v u : ℤ) (k : ℕ) → IsInstant v → HasBegunAt leaps v → IsTimeCount (length leaps) (time_at leaps) v k → IsEffectByCount (time_at leaps) (correction_before leaps) v k u → IsWideEffect leaps v u
 IsWideEffect-from_count leaps are v u k instant begun times wide = record {

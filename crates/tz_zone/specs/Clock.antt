@@ -85,10 +85,6 @@ IsOver z u = (last : Transition) × (l : ℤ) × IsLast z.transitions last × Is
 abbrev pub HasNoType : Zone → ℤ → Type 0
 HasNoType z u = (t : LocalTimeType) → ¬ IsClock z u t
 
--- the clock has the type at each instant from the first one up to the second
-abbrev pub HasTypeFrom : Zone → ℤ → ℤ → LocalTimeType → Type 0
-HasTypeFrom z from until t = (u : ℤ) → from ≤ℤ u → u <ℤ until → IsClock z u t
-
 -- why a lookup is refused: the zone is over, and otherwise a time is out of range
 abbrev pub IsLookupFault : Zone → ℤ → TzError → Type 0
 IsLookupFault z u e = ((e ≡ NoAvailableLocalTimeType) × IsOver z u) ⊎ ((e ≡ OutOfRange) × HasNoType z u × ¬ IsOver z u)

@@ -79,3 +79,9 @@ pub record IsWideEffect (leaps : List LeapSecond) (v m : ℤ) : Type 0 where
   pub reached : ¬ IsLeapTimeRefused leaps m → IsTimeReached leaps v m
   pub begun : ¬ IsBeforeStart leaps m
   pub low : negsuc 9223372036854775807 ≤ℤ m
+
+-- the last instant before leap time v: at none up to it v is reached or a leap time has left 64 bits, and after it comes the effect, or the end
+pub record IsLastBefore (leaps : List LeapSecond) (v last : ℤ) : Type 0 where
+  pub before : (u : ℤ) → u ≤ℤ last → ¬ IsTimeReached leaps v u
+  pub within : (u : ℤ) → u ≤ℤ last → ¬ IsPastInstants leaps u
+  pub next : last ≢ pos 9223372036854775807 → IsPastInstants leaps (last +ℤ pos 1) ⊎ IsWideEffect leaps v (last +ℤ pos 1)

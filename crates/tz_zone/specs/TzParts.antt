@@ -6,8 +6,8 @@ use Rattle.tz_zone.specs.declared.parse.tz_file.tables.Tables.{Tables}
 use Rattle.tz_zone.specs.declared.parse.tz_file.block.Block.{Block as BlockSlices}
 use Rattle.tz_zone.specs.declared.parse.tz_file.block.Unit.{Unit as UnitSlices}
 use Rattle.tz_zone.specs.declared.parse.tz_file.header.Counts.{Counts as CountFields}
-use Rattle.tz_zone.specs.declared.parse.tz_file.number.TimeSize.{TimeSize}
-use Rattle.tz_zone.specs.declared.parse.tz_file.number.TimeSize.TheVariants.{Four, Eight}
+use Rattle.tz_zone.specs.declared.parse.tz_file.time_size.TimeSize.{TimeSize}
+use Rattle.tz_zone.specs.declared.parse.tz_file.time_size.TimeSize.TheVariants.{Four, Eight}
 
 -- the width of a time
 abbrev pub width_of : TimeSize → Width

@@ -5,7 +5,7 @@ use Rattle.tz_rule.specs.LocalTimeType.{LocalTimeType}
 use Rattle.tz_rule.specs.RuleRef.{rule_seen}
 use Rattle.tz_rule.specs.declared.timezone.rule.TransitionRule.{TransitionRule}
 use Rattle.tz_rule.specs.declared.timezone.rule.TransitionRule.TheVariants.{Fixed, Alternate}
-use Rattle.tz_rule.specs.declared.timezone.rule_clock.RuleRef.{RuleRef}
+use Rattle.tz_rule.specs.declared.timezone.rule_ref.RuleRef.{RuleRef}
 use Rattle.tz_zone.specs.Table.{Transition, Zone, zone_with}
 use Rattle.tz_zone.specs.declared.table.parts.KeptRule.{KeptRule}
 use Rattle.tz_zone.specs.declared.table.parts.KeptRule.TheVariants.{Without, Fixed as FixedKept, Alternate as AlternateKept, Stored}

@@ -4,7 +4,6 @@ ghost use Rattle.std.specs.Prelude.{◌≡◌, pos, negsuc, ◌-ℤ◌, ◌<ℤ�
 ghost use Rattle.tz_zone.specs.Changes.{Change as ChangeParts, change_of, IsChange};
 ghost use Rattle.tz_zone.specs.Clock.{IsClock, HasNoType};
 ghost use Rattle.tz_zone.specs.Table.{Zone};
-ghost use Rattle.tz_zone.specs.ValidZone.{IsSoundTable};
 
 use tz_rule::timezone::LocalTimeType;
 
@@ -60,7 +59,7 @@ pub(super) fn change_at<'a>(
     after: Option<&'a LocalTimeType>,
 ) -> Option<Change<'a>>
     ensures same { IfNone result (IfSome before.entry (λ a. IfSome after.entry (λ b. a.now ≡ b.now))) }
-    ensures change { (z : Zone) → IsSoundTable z → negsuc 9223372036854775807 <ℤ unix_time
+    ensures change { (z : Zone) → negsuc 9223372036854775807 <ℤ unix_time
         → MatchOption before.entry (HasNoType z (unix_time -ℤ pos 1)) (λ a. IsClock z (unix_time -ℤ pos 1) a.now)
         → MatchOption after.entry (HasNoType z unix_time) (λ b. IsClock z unix_time b.now)
         → MatchOption result ((c : ChangeParts) → c.unix_time ≡ unix_time → ¬ IsChange z c) (λ c. ((change_of c).unix_time ≡ unix_time) × IsChange z (change_of c)) }

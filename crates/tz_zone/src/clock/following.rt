@@ -16,7 +16,7 @@ ghost use Rattle.tz_zone.specs.ZoneSeen.{zone_seen};
 
 use super::change::{Change, change_at};
 use super::likely_place::{is_after_all, place_at_near, place_near};
-use super::place::{type_at, type_before, type_of};
+use super::types_at_places::{type_at, type_before, type_of};
 use crate::leap::effect::effect_if_reached;
 use crate::leap::time::{existing_leap_time, first_begun};
 use crate::table::{OtherParts, Transition, Uncounted};
@@ -202,7 +202,7 @@ pub fn find_following<'a>(
     following_from(transitions, parts, since, place)
 }
 
-/// The first change of the clock after an instant, and the place after it, as a call.
+/// What `find_following` returns if the place is tried first. Not inlined, so that a step by the rule stays small.
 #[inline(never)]
 fn following_anew<'a>(
     transitions: &[Transition],

@@ -1,4 +1,4 @@
-//! The place of an instant, where it is likely to lie at a place: that is tried first.
+//! The place of an instant, by trying the place at which it is likely to lie first.
 
 ghost use Rattle.std.specs.Prelude.{◌≢◌, ◌-◌, ◌<◌, ◌≤◌, [], length, IsTrue, MatchBool, MatchOption};
 ghost use Rattle.tz_zone.specs.Clock.{AreReached, AreAhead, IsPlaceAt};

@@ -8,8 +8,9 @@ ghost use Rattle.tz_zone.specs.TableChanges.{IsChangeByRule};
 ghost use Rattle.tz_zone.specs.ValidZone.{IsSoundTable};
 ghost use Rattle.tz_zone.specs.ZoneSeen.{zone_seen};
 
-use super::place::{place_at, type_before};
+use super::place::place_at;
 use super::segment::Segment;
+use super::types_at_places::type_before;
 use crate::table::{OtherParts, Transitions};
 use tz_base::error::TzError;
 use tz_rule::timezone::LocalTimeType;
@@ -45,7 +46,7 @@ pub(super) fn after_table<'a>(parts: OtherParts<'a>, is_empty: bool, unix_time: 
     }
 }
 
-/// The type at an instant from the last transition on. It is a call, so that walks over places stay small.
+/// The type at an instant from the last transition on. Not inlined, so that walks over places stay small.
 #[inline(never)]
 pub(super) fn type_from_last<'a>(parts: OtherParts<'a>, unix_time: i64) -> Option<&'a LocalTimeType>
     requires { parts.local_time_types.now ≢ [] }

@@ -8,6 +8,7 @@ mod place;
 mod preceding;
 mod segment;
 mod spans;
+mod types_at_places;
 pub mod window_types;
 
 pub use change::Change;

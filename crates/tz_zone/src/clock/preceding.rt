@@ -15,7 +15,7 @@ ghost use Rattle.tz_zone.specs.ZoneSeen.{zone_seen};
 
 use super::change::{Change, change_at};
 use super::likely_place::{is_after_all, place_at_near};
-use super::place::{type_at, type_before, type_of};
+use super::types_at_places::{type_at, type_before, type_of};
 use crate::leap::LeapSecond;
 use crate::leap::effect::effect_of_reached;
 use crate::leap::time::last_instant_up_to;
@@ -254,7 +254,7 @@ pub fn find_preceding<'a>(
     preceding_from(transitions, parts, unix_time, last, place)
 }
 
-/// The last change of the clock before an instant, and the place before it, as a call.
+/// What `find_preceding` returns if the place is tried first. Not inlined, so that a step by the rule stays small.
 #[inline(never)]
 fn preceding_anew<'a>(
     transitions: &[Transition],

@@ -10,7 +10,8 @@ ghost use Rattle.tz_zone.specs.ValidZone.{AreLeapSeconds, IsSoundTable};
 ghost use Rattle.tz_zone.specs.ZoneSeen.{zone_seen};
 
 use super::lookup::after_table;
-use super::place::{before, place_at, type_of};
+use super::place::place_at;
+use super::types_at_places::{before, type_of};
 use crate::leap::LeapSecond;
 use crate::leap::effect::{effect_of_reached, last_before};
 use crate::leap::time::{first_begun, has_begun, last_instant, last_instant_up_to};

@@ -8,7 +8,8 @@ ghost use Rattle.tz_zone.specs.WindowTypes.{IsPlaceOf};
 ghost use Rattle.tz_zone.specs.ZoneSeen.{zone_seen};
 
 use super::lookup::after_table;
-use super::place::{place_at, type_before, type_of};
+use super::place::place_at;
+use super::types_at_places::{type_before, type_of};
 use crate::leap::effect::last_before;
 use crate::leap::time::first_begun;
 use crate::table::{OtherParts, Transitions};

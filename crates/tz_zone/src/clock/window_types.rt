@@ -8,7 +8,8 @@ ghost use Rattle.tz_zone.specs.WindowTypes.{AreTypesIn, IfMore, IsPlaceOf};
 ghost use Rattle.tz_zone.specs.ZoneSeen.{zone_seen};
 
 use super::lookup::after_table;
-use super::place::{place_of, type_before, type_of};
+use super::place::place_of;
+use super::types_at_places::{type_before, type_of};
 use crate::leap::effect::effect_of_reached;
 use crate::leap::time::{leap_time, stay_before};
 use crate::table::{OtherParts, Transitions};
@@ -32,7 +33,7 @@ pub enum WindowTypes<'a> {
     More(Option<usize>),
 }
 
-/// The type after the last transition from one instant up to another, if it is one. It is a call, so that the callers of a window with one type stay
+/// The type after the last transition from one instant up to another, if it is one. Not inlined, so that the callers of a window with one type stay
 /// small.
 #[inline(never)]
 fn type_through<'a>(

@@ -1,7 +1,7 @@
 //! The way back from leap times: when a transition takes effect. (RFC 8536, section 2)
 
-ghost use Rattle.std.specs.Prelude.{◌≡◌, ◌≢◌, ◌⊎◌, ℤ, pos, negsuc, ◌+ℤ◌, ◌≤ℤ◌, IfOk, IfErr, MatchOption};
-ghost use Rattle.tz_zone.specs.LeapTime.{IsPastInstants, IsLeapTimeRefused, IsTimeReached, IsWideEffect, IsEffect, IsEffectRefused};
+ghost use Rattle.std.specs.Prelude.{◌≡◌, ℤ, pos, negsuc, ◌≤ℤ◌, IfOk, IfErr, MatchOption};
+ghost use Rattle.tz_zone.specs.LeapTime.{IsLeapTimeRefused, IsTimeReached, IsWideEffect, IsEffect, IsEffectRefused, IsLastBefore};
 ghost use Rattle.tz_zone.specs.ValidZone.{AreLeapSeconds, HasBegunAt};
 
 use super::LeapSecond;
@@ -9,8 +9,8 @@ use super::table::{correction_before, truncated_start};
 use super::time::{has_leap_time, last_instant_up_to, leap_seconds_up_to, without_correction};
 use tz_base::error::TzError;
 
-/// The effect of a leap time that is not before a truncated start, by the leap seconds up to it, as a wide number: the leap time less the correction,
-/// but not before the last of them is reached.
+/// The effect of a leap time that is not before a truncated start, in 128 bits: the leap time less the correction in force, but not before that
+/// correction is reached.
 fn wide_effect_from_start(leap_seconds: &[LeapSecond], unix_leap_time: i64) -> i128
     requires leaps { AreLeapSeconds leap_seconds.now }
     requires begun { HasBegunAt leap_seconds.now unix_leap_time }
@@ -108,9 +108,7 @@ pub(crate) fn effect_if_reached(leap_seconds: &[LeapSecond], unix_leap_time: i64
 fn last_before_by_seconds(leap_seconds: &[LeapSecond], unix_leap_time: i64) -> i64
     requires leaps { AreLeapSeconds leap_seconds.now }
     requires before { (u : ℤ) × (negsuc 9223372036854775807 ≤ℤ u) × (¬ IsLeapTimeRefused leap_seconds.now u) × ¬ IsTimeReached leap_seconds.now unix_leap_time u }
-    ensures before { (v : ℤ) → v ≤ℤ result → ¬ IsTimeReached leap_seconds.now unix_leap_time v }
-    ensures within { (v : ℤ) → v ≤ℤ result → ¬ IsPastInstants leap_seconds.now v }
-    ensures next { result ≢ pos 9223372036854775807 → IsPastInstants leap_seconds.now (result +ℤ pos 1) ⊎ IsWideEffect leap_seconds.now unix_leap_time (result +ℤ pos 1) }
+    ensures { IsLastBefore leap_seconds.now unix_leap_time result }
 {
     let before = wide_effect(leap_seconds, unix_leap_time) - 1;
     let last = before.min(i128::from(i64::MAX)) as i64;
@@ -122,9 +120,7 @@ fn last_before_by_seconds(leap_seconds: &[LeapSecond], unix_leap_time: i64) -> i
 pub(crate) fn last_before(leap_seconds: &[LeapSecond], unix_leap_time: i64) -> i64
     requires leaps { AreLeapSeconds leap_seconds.now }
     requires before { (u : ℤ) × (negsuc 9223372036854775807 ≤ℤ u) × (¬ IsLeapTimeRefused leap_seconds.now u) × ¬ IsTimeReached leap_seconds.now unix_leap_time u }
-    ensures before { (v : ℤ) → v ≤ℤ result → ¬ IsTimeReached leap_seconds.now unix_leap_time v }
-    ensures within { (v : ℤ) → v ≤ℤ result → ¬ IsPastInstants leap_seconds.now v }
-    ensures next { result ≢ pos 9223372036854775807 → IsPastInstants leap_seconds.now (result +ℤ pos 1) ⊎ IsWideEffect leap_seconds.now unix_leap_time (result +ℤ pos 1) }
+    ensures { IsLastBefore leap_seconds.now unix_leap_time result }
 {
     if leap_seconds.is_empty() {
         return unix_leap_time - 1;

@@ -73,7 +73,7 @@ pub(crate) fn are_leap_seconds(leap_seconds: &[LeapSecond]) -> bool
     true
 }
 
-/// The truncated start: a first record whose correction is not one second, with which the table begins.
+/// The truncated start: the first record, if its correction is neither 1 nor -1. Instants before it have no leap time. (RFC 9636, 3.2)
 pub(crate) fn truncated_start(leap_seconds: &[LeapSecond]) -> Option<&LeapSecond>
     ensures { MatchOption result ((l : LeapSecond) → ¬ IsStart leap_seconds.now l) (λ l. IsStart leap_seconds.now l.now) }
 {

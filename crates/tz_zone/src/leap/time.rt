@@ -114,8 +114,8 @@ fn after_last_reached(leap_seconds: &[LeapSecond], until: usize, unix_time: i64)
 
 /// How many leap seconds are reached at an instant.
 ///
-/// Corrections change by a second in four weeks at most. So these are the leap seconds up to the instant and the first correction, one more or
-/// less.
+/// Corrections change by a second in four weeks at most. So in any real table these are the leap seconds up to the instant plus the first correction,
+/// with at most one more or one fewer.
 fn leap_seconds_reached(leap_seconds: &[LeapSecond], unix_time: i64) -> usize
     requires { AreLeapSeconds leap_seconds.now }
     ensures within { result ≤ length leap_seconds.now }

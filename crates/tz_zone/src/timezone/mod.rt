@@ -1,12 +1,12 @@
 //! Transitions, leap seconds and time zones.
 
 mod change_iterators;
+mod changes_and_segments;
 pub(crate) mod file_reader;
 mod file_search;
 mod offsets;
 mod settings;
 mod zone;
-mod zone_changes;
 mod zone_checks;
 mod zone_name;
 mod zone_of_file;

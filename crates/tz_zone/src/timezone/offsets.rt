@@ -8,7 +8,7 @@ ghost use Rattle.tz_zone.specs.Offsets.{IsOffsetOfTypes, IsOffsetOfRule, IsLeast
 use super::LocalTimeType;
 use tz_rule::inner::RuleRef;
 
-/// Two offsets, moved apart until another one lies between them, and no further.
+/// The range of offsets from `least` to `greatest`, widened just enough to have another one.
 #[inline(always)]
 fn with_offset(least: i32, greatest: i32, offset: i32) -> (i32, i32)
     ensures least { result.0 ≤ℤ least }

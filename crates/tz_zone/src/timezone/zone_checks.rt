@@ -14,7 +14,7 @@ use tz_base::error::TzError;
 use tz_base::error::timezone::TimeZoneError;
 use tz_rule::inner::RuleRef;
 
-/// Whether the transition at a place names one of the types, whose number is given.
+/// Whether the type index of the transition at a place is below `types`, the number of types.
 fn has_type_at(transitions: &[Transition], types: usize, place: usize) -> bool
     requires { place < length transitions.now }
     ensures { MatchBool result (HasTypeAtPlace transitions.now types place) (¬ HasTypeAtPlace transitions.now types place) }

@@ -6,7 +6,7 @@ ghost use Rattle.tz_zone.specs.TzFileFault.{UnitFails};
 ghost use Rattle.tz_zone.specs.TzParts.{width_of, counts_view, block_view, unit_view, HasSizes, IsSized};
 
 use super::header::{Counts, HEADER_LEN, read_header};
-use super::number::TimeSize;
+use super::time_size::TimeSize;
 use tz_base::error::parse::{ParseDataError, TzFileError};
 
 /// Where the parts of a block begin after their header, and where it ends.

@@ -6,7 +6,7 @@ ghost use Rattle.tz_zone.specs.TzFileFault.{FrameFails};
 ghost use Rattle.tz_zone.specs.TzParts.{unit_view, IsSized};
 
 use super::block::{Unit, read_unit};
-use super::number::TimeSize;
+use super::time_size::TimeSize;
 use tz_base::error::parse::TzFileError;
 
 /// What is read of a file.

@@ -10,4 +10,5 @@ mod local_time_types;
 mod number;
 pub(crate) mod sizes;
 pub(crate) mod tables;
+mod time_size;
 mod transitions;

@@ -6,7 +6,8 @@ ghost use Rattle.tz_zone.specs.TzParts.{width_of, block_view, IsSized};
 ghost use Rattle.tz_zone.specs.ValidZone.{HasTypeAtPlace, RisesAtPlace};
 
 use super::block::Unit;
-use super::number::{TimeSize, time_at};
+use super::number::time_at;
+use super::time_size::TimeSize;
 use crate::table::Transition;
 use std::alloc::{AllocError, Allocator};
 

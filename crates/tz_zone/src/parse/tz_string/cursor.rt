@@ -1,23 +1,13 @@
 //! The beginning of a string.
 
-ghost use Rattle.std.specs.Prelude.{◌≡◌, ◌∷◌, MatchOption, MatchResult};
+ghost use Rattle.std.specs.Prelude.{◌≡◌, ◌∷◌, MatchResult};
 ghost use Rattle.std.specs.Char.{is_ascii_digit, is_ascii_alphabetic};
 ghost use Rattle.tz_base.specs.declared.error.parse.ParseDataError.{ParseDataError};
-ghost use Rattle.tz_zone.specs.TzText.{Begins, IsRun, is_in_brackets};
+ghost use Rattle.tz_zone.specs.TzText.{IsRun, is_in_brackets};
 ghost use Rattle.tz_zone.specs.TzTextFault.{IsMissingByte};
 
+use crate::parse::prefix::after_byte;
 use tz_base::error::parse::{ParseDataError, TzStringError};
-
-/// The bytes after a byte, if they begin with it.
-#[inline(always)]
-pub fn after_byte(text: &[u8], byte: u8) -> Option<&[u8]>
-    ensures { MatchOption result (¬ Begins byte text.now) (λ rest. text.now ≡ byte ∷ rest.now) }
-{
-    match text {
-        [first, rest @ ..] if *first == byte => Some(rest),
-        _ => None,
-    }
-}
 
 /// The bytes after a byte, which must come first.
 #[inline(always)]

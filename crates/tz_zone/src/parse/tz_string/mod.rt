@@ -1,6 +1,6 @@
 //! TZ strings. (POSIX.1-2017, Base Definitions, 8.3)
 
-pub(crate) mod cursor;
+mod cursor;
 mod day;
 mod name;
 mod number;

@@ -5,8 +5,8 @@ ghost use Rattle.tz_zone.specs.Bytes.{comma};
 ghost use Rattle.tz_zone.specs.TzText.{Begins, IsSignedTime, IsDaylightOffset, IsTimeUpTo, offset_hours};
 ghost use Rattle.tz_zone.specs.TzTextFault.{IsTimeAbove, IsOffsetFault, offset_faults};
 
-use super::cursor::after_byte;
 use super::time::{DAY_HOURS, LAST_OF_SIXTY, WrittenTime, read_hms, read_sign};
+use crate::parse::prefix::after_byte;
 use tz_base::error::parse::TzStringError;
 
 /// How far daylight saving time is ahead of standard time, in seconds, where a string does not say.
@@ -16,7 +16,7 @@ impl WrittenTime {
     ghost use Rattle.tz_rule.specs.Alternate.{IsRuleOffset};
     ghost use Rattle.tz_zone.specs.TzText.{ut_offset_of, daylight_offset_of};
 
-    /// The seconds that an offset adds to UTC: a string has those that are subtracted.
+    /// The offset from UTC in seconds. In a string its sign is the opposite: west of Greenwich is positive.
     #[inline(always)]
     pub(super) fn ut_offset(self) -> i32
         requires { IsTimeUpTo offset_hours self }

@@ -5,8 +5,8 @@ ghost use Rattle.tz_zone.specs.Bytes.{colon, slash};
 ghost use Rattle.tz_zone.specs.TzText.{IsPart, IsHms, IsSign, IsDayTimeSign, IsDayTime, IsTimeOfRule, IsTimeUpTo, day_time_hours};
 ghost use Rattle.tz_zone.specs.TzTextFault.{IsParseInt, HasNoNumber, IsHmsFault, IsTimeAbove, IsDayTimeFault, TimeFaults, day_time_faults};
 
-use super::cursor::after_byte;
 use super::number::read_time_number;
+use crate::parse::prefix::after_byte;
 use tz_base::error::parse::TzStringError;
 
 /// The greatest hour of an offset, and of a day time in an ordinary string.

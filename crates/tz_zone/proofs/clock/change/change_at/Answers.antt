@@ -2,30 +2,31 @@
 use Rattle.std.proofs.Common.{◌≡◌, ◌∙◌, sym, ap}
 use Rattle.std.proofs.lemmas.Bool.{false≢true}
 use Rattle.std.proofs.lemmas.Int.{to_z-of_z}
+use Rattle.std.proofs.lemmas.Option.{MatchOption-at_some}
 use mir.Syntax.{w64}
 use Rattle.tz_rule.specs.Same.{Decides-same_type}
 use Rattle.tz_zone.specs.Changes.{Change}
 use Rattle.tz_zone.proofs.LeapTimes.{instant_bounds}
-use Rattle.tz_zone.proofs.SegmentTypes.{match_none, match_some, no_change_from_none, no_change_to_none, no_change_of_same}
+use Rattle.tz_zone.proofs.SegmentTypes.{match_none, no_change_from_none, no_change_to_none, no_change_of_same}
 use Rattle.tz_zone.proofs.clock.change.change_at.Goals as goal
 
 pub returns-in_err-before-clause-change : goal.returns-in_err-before-clause-change
-returns-in_err-before-clause-change c = λ z sound low before after.
-    match_none c.from_residual.result _ _ c.from_residual.ensures (no_change_from_none z sound c.args.unix_time c.args.before c.in_err-before.was before)
+returns-in_err-before-clause-change c = λ z low before after.
+    match_none c.from_residual.result _ _ c.from_residual.ensures (no_change_from_none z c.args.unix_time c.args.before c.in_err-before.was before)
 
 pub returns-in_err-after-clause-change : goal.returns-in_err-after-clause-change
-returns-in_err-after-clause-change c = λ z sound low before after.
-    match_none c.from_residual-in_err-after.result _ _ c.from_residual-in_err-after.ensures (no_change_to_none z sound c.args.unix_time c.args.after c.in_err-after.was after)
+returns-in_err-after-clause-change c = λ z low before after.
+    match_none c.from_residual-in_err-after.result _ _ c.from_residual-in_err-after.ensures (no_change_to_none z c.args.unix_time c.args.after c.in_err-after.was after)
 
 pub returns-then-eq-clause-change : goal.returns-then-eq-clause-change
-returns-then-eq-clause-change c = λ z sound low before after.
+returns-then-eq-clause-change c = λ z low before after.
     let a = c.in_ok-before.before in
     let b = c.in_ok-after.after in
     let same = (Decides-same_type a.now b.now).0 (sym c.eq.ensures ∙ c.if-eq.true) in
-    no_change_of_same z sound c.args.unix_time a.now b.now same (match_some c.args.before a _ _ c.in_ok-before.was before) (match_some c.args.after b _ _ c.in_ok-after.was after)
+    no_change_of_same z c.args.unix_time a.now b.now same (MatchOption-at_some {o = c.args.before} _ _ a c.in_ok-before.was before) (MatchOption-at_some {o = c.args.after} _ _ b c.in_ok-after.was after)
 
 pub returns-clause-change : goal.returns-clause-change
-returns-clause-change c = λ z sound low before after.
+returns-clause-change c = λ z low before after.
     let u = c.args.unix_time in
     let a = c.in_ok-before.before in
     let b = c.in_ok-after.after in
@@ -37,8 +38,8 @@ returns-clause-change c = λ z sound low before after.
       rw (at, before_is, after_is) (record {
         not_least = low;
         up_to = bounds.1;
-        before_is = match_some c.args.before a _ _ c.in_ok-before.was before;
-        after_is = match_some c.args.after b _ _ c.in_ok-after.was after;
+        before_is = MatchOption-at_some {o = c.args.before} _ _ a c.in_ok-before.was before;
+        after_is = MatchOption-at_some {o = c.args.after} _ _ b c.in_ok-after.was after;
         differ = λ same. absurd (false≢true (sym c.if-eq.false ∙ c.eq.ensures ∙ (Decides-same_type a.now b.now).1 same));
       }),
     )

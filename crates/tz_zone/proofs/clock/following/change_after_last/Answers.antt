@@ -6,9 +6,10 @@ use mir.Syntax.{w64}
 use mir.Val.{SFits}
 use Rattle.tz_zone.specs.ClockSegments.{IsReachedAt}
 use Rattle.tz_zone.specs.ZoneSeen.{zone_seen}
+use Rattle.tz_zone.proofs.EmptyLists.{none_if_empty}
 use Rattle.tz_zone.proofs.LeapTimes.{instant_bounds}
 use Rattle.tz_zone.proofs.PlaceRuns.{plain_place}
-use Rattle.tz_zone.proofs.InstantsWithLeapTime.{plain_effect, none_if_empty}
+use Rattle.tz_zone.proofs.InstantsWithLeapTime.{plain_effect}
 use Rattle.tz_zone.proofs.clock.following.change_after_last.Goals as goal
 
 pub change_at_next-requires-clause-at : goal.change_at_next-requires-clause-at

@@ -7,9 +7,10 @@ use mir.Val.{SFits}
 use Rattle.tz_zone.specs.Changes.{change_of, HasNoChange}
 use Rattle.tz_zone.specs.Clock.{IsTypeOfLast}
 use Rattle.tz_zone.specs.ZoneSeen.{zone_seen}
+use Rattle.tz_zone.proofs.EmptyLists.{none_if_empty}
 use Rattle.tz_zone.proofs.LeapTimes.{instant_bounds}
 use Rattle.tz_zone.proofs.Places.{clock_at_place}
-use Rattle.tz_zone.proofs.InstantsWithLeapTime.{plain_effect, plain_leap, none_if_empty}
+use Rattle.tz_zone.proofs.InstantsWithLeapTime.{plain_effect, plain_leap}
 use Rattle.tz_zone.proofs.ChangeSpans.{is_following, if_some_held}
 use Rattle.tz_zone.proofs.PlaceRuns.{some_transitions, until_effect, plain_place, type_after}
 use Rattle.tz_zone.proofs.clock.following.change_at_next.Goals as goal
@@ -46,5 +47,5 @@ returns c =
     let none_yet : HasNoChange z u (u +ℤ pos 1) = λ d above below. absurd (omega (arith, ints, above, below)) in
     let (later, low, no_change, before) = until_effect z sound k k u t change at (omega arith) at_k types m wide defined u (instant_bounds u c.ranges.unix_time).0 (omega (arith, ints)) none_yet in
     let after = clock_at_place z sound (k + 1) m s inside (plain_place z sound none k m change at_k wide) (type_after z k change s at_k c.type_of-after.ensures) in
-    let found = (rw (to_z-of_z w64 c.unix_leap_time.result time, c.unix_leap_time.ensures) at c.change_at.ensures.change) z sound low before after in
+    let found = (rw (to_z-of_z w64 c.unix_leap_time.result time, c.unix_leap_time.ensures) at c.change_at.ensures.change) z low before after in
     if_some_held c.change_at.result _ _ _ found (λ x is. is_following z u m (change_of x) later no_change is.0 is.1)

@@ -2,7 +2,6 @@
 use Rattle.std.proofs.Common.{◌≢◌, ℕ, subst, arith, rules, [], length}
 use Rattle.std.proofs.lemmas.Int.{to_z-of_z}
 use mir.Syntax.{w64}
-use mir.Val.{SFits}
 use Rattle.tz_zone.specs.Changes.{change_of}
 use Rattle.tz_zone.specs.ZoneSeen.{zone_seen}
 use Rattle.tz_zone.specs.ClockSegments.{IsReachedAt}
@@ -16,9 +15,8 @@ returns-in-Some c =
     let z = zone_seen c.args.transitions.now c.args.parts in
     let u = c.args.unix_time in
     let since = c.in_ok-since.since in
-    let fits : SFits w64 since = search rules in
     let walked = rw (to_z-of_z w64 u c.ranges.unix_time) at c.in_ok-since.ensures in
-    let found = rw (to_z-of_z w64 since fits) at c.in-Some.ensures in
+    let found = rw (to_z-of_z w64 since (search rules)) at c.in-Some.ensures in
     following_later z u since (change_of c.in-Some.change) walked.0 walked.2 found
 
 pub returns : goal.returns
@@ -26,9 +24,8 @@ returns c =
     let z = zone_seen c.args.transitions.now c.args.parts in
     let u = c.args.unix_time in
     let since = c.in_ok-since.since in
-    let fits : SFits w64 since = search rules in
     let walked = rw (to_z-of_z w64 u c.ranges.unix_time) at c.in_ok-since.ensures in
-    match_mapped c.following_from.result _ _ _ _ (rw (to_z-of_z w64 since fits) at c.following_from.ensures)
+    match_mapped c.following_from.result _ _ _ _ (rw (to_z-of_z w64 since (search rules)) at c.following_from.ensures)
     (no_following_later z u since walked.2)
     (λ x. following_later z u since (change_of x.0) walked.0 walked.2)
 
@@ -38,10 +35,9 @@ returns-in_err-change c =
     let z = zone_seen list c.args.parts in
     let u = c.args.unix_time in
     let since = c.in_ok-since.since in
-    let fits : SFits w64 since = search rules in
     let walked = rw (to_z-of_z w64 u c.ranges.unix_time) at c.in_ok-since.ensures in
     let at : list ≢ [] → IsReachedAt z since (length list) = λ some. subst (λ (j : ℕ). IsReachedAt z since j) (omega (arith, c.if-place-transitions.true)) (walked.1.1 some) in
-    let none = rw (to_z-of_z w64 since fits) at c.in_err-change.ensures in
+    let none = rw (to_z-of_z w64 since (search rules)) at c.in_err-change.ensures in
     match_none c.from_residual-in_err-change.result _ _ c.from_residual-in_err-change.ensures
     (no_following_later z u since walked.2 (no_following_from_rule list c.args.parts c.requires since at none))
 
@@ -51,8 +47,7 @@ returns-then-place-transitions c =
     let z = zone_seen list c.args.parts in
     let u = c.args.unix_time in
     let since = c.in_ok-since.since in
-    let fits : SFits w64 since = search rules in
     let walked = rw (to_z-of_z w64 u c.ranges.unix_time) at c.in_ok-since.ensures in
     let at : list ≢ [] → IsReachedAt z since (length list) = λ some. subst (λ (j : ℕ). IsReachedAt z since j) (omega (arith, c.if-place-transitions.true)) (walked.1.1 some) in
-    let found = rw (to_z-of_z w64 since fits) at c.in_ok-change.ensures in
+    let found = rw (to_z-of_z w64 since (search rules)) at c.in_ok-change.ensures in
     following_later z u since (change_of c.in_ok-change.change) walked.0 walked.2 (following_from_rule list c.args.parts c.requires since at (change_of c.in_ok-change.change) found)

@@ -37,8 +37,7 @@ returns-in_err-effect c =
     let change = c.index-transitions-end.result in
     let run = c.end_of_run-end.ensures in
     let at_end = slice_get_read list _ end change refl run.within.1 c.index-transitions-end.is in
-    let time : SFits w64 c.unix_leap_time.result = search rules in
-    let ahead = rw (to_z-of_z w64 c.unix_leap_time.result time, c.unix_leap_time.ensures) at c.in_err-effect.ensures in
+    let ahead = rw (to_z-of_z w64 c.unix_leap_time.result (search rules), c.unix_leap_time.ensures) at c.in_err-effect.ensures in
     let one = one_type_until z c.requires.sound k end since c.type_before-before.result.now change at run.within.0 at_end run.types (pos 9223372036854775807) ahead in
     match_none c.from_residual.result _ _ c.from_residual.ensures
     (none_to_end z u (pos 9223372036854775807) refl (none_up z u since (pos 9223372036854775807) walked.2 one))
@@ -47,17 +46,12 @@ pub place_at_effect-next-requires-clause-transition : goal.place_at_effect-next-
 place_at_effect-next-requires-clause-transition c =
     let change = c.index-transitions-end.result in
     let at_end = slice_get_read c.args.transitions.now _ c.end_of_run-end.result change refl c.end_of_run-end.ensures.within.1 c.index-transitions-end.is in
-    let time : SFits w64 c.unix_leap_time.result = search rules in
-    let takes = rw (to_z-of_z w64 c.unix_leap_time.result time, c.unix_leap_time.ensures) at c.in_ok-effect.ensures in
-    let m = c.in_ok-effect.effect in
-    let fits : SFits w64 m = search rules in
-    rw (to_z-of_z w64 m fits) (change, at_end, takes.0)
+    let takes = rw (to_z-of_z w64 c.unix_leap_time.result (search rules), c.unix_leap_time.ensures) at c.in_ok-effect.ensures in
+    rw (to_z-of_z w64 c.in_ok-effect.effect (search rules)) (change, at_end, takes.0)
 
 pub place_at_effect-next-requires-clause-defined : goal.place_at_effect-next-requires-clause-defined
 place_at_effect-next-requires-clause-defined c =
-    let m = c.in_ok-effect.effect in
-    let fits : SFits w64 m = search rules in
-    rw (to_z-of_z w64 m fits) c.in_ok-effect.ensures.1
+    rw (to_z-of_z w64 c.in_ok-effect.effect (search rules)) c.in_ok-effect.ensures.1
 
 pub type_at-after-requires-clause-before : goal.type_at-after-requires-clause-before
 type_at-after-requires-clause-before c = λ inside s type.
@@ -78,8 +72,7 @@ until c =
     let change = c.index-transitions-end.result in
     let run = c.end_of_run-end.ensures in
     let at_end = slice_get_read list _ end change refl run.within.1 c.index-transitions-end.is in
-    let time : SFits w64 c.unix_leap_time.result = search rules in
-    let takes = rw (to_z-of_z w64 c.unix_leap_time.result time, c.unix_leap_time.ensures) at c.in_ok-effect.ensures in
+    let takes = rw (to_z-of_z w64 c.unix_leap_time.result (search rules), c.unix_leap_time.ensures) at c.in_ok-effect.ensures in
     until_effect (zone_seen list c.args.parts) c.requires.sound k end _ c.type_before-before.result.now change at run.within.0 at_end run.types c.in_ok-effect.effect takes.0 takes.1
     u (instant_bounds u c.ranges.unix_time).0 walked.0 walked.2
 
@@ -89,7 +82,7 @@ returns-in-Some c =
     let m = c.in_ok-effect.effect in
     let fits : SFits w64 m = search rules in
     let (later, low, none, before) = until (goal.at.returns-in-Some c).After-type_at-after in
-    let found = (rw (to_z-of_z w64 m fits) at c.in-Some.ensures.change) z c.requires.sound low before (rw (to_z-of_z w64 m fits) at c.type_at-after.ensures) in
+    let found = (rw (to_z-of_z w64 m fits) at c.in-Some.ensures.change) z low before (rw (to_z-of_z w64 m fits) at c.type_at-after.ensures) in
     is_following z c.args.unix_time m (change_of c.in-Some.change) later none found.0 found.1
 
 pub loop-place-preserved : goal.loop-place-preserved
@@ -99,7 +92,7 @@ loop-place-preserved c =
     let m = c.in_ok-effect.effect in
     let fits : SFits w64 m = search rules in
     let (later, low, none, before) = until (goal.at.loop-place-preserved c).After-type_at-after in
-    let none_at_m = (rw (to_z-of_z w64 m fits) at c.in_default.ensures.change) z c.requires.sound low before (rw (to_z-of_z w64 m fits) at c.type_at-after.ensures) in
+    let none_at_m = (rw (to_z-of_z w64 m fits) at c.in_default.ensures.change) z low before (rw (to_z-of_z w64 m fits) at c.type_at-after.ensures) in
     let next_at = rw (to_z-of_z w64 m fits) at c.place_at_effect-next.ensures.at in
     rw (to_z-of_z w64 u c.ranges.unix_time, to_z-of_z w64 m fits) (omega (arith, ints, later), (c.place_at_effect-next.ensures.within.1, λ _. next_at), none_at z u m none none_at_m)
 

@@ -3,11 +3,10 @@ use Rattle.std.proofs.Common.{◌≤ℤ◌, inl, inr, arith, rules}
 use Rattle.std.proofs.lemmas.Bool.{cases_lt}
 use Rattle.std.proofs.lemmas.Int.{ints, to_z-of_z}
 use mir.Syntax.{w64}
-use mir.Val.{SFits}
 use Rattle.tz_zone.specs.ZoneSeen.{zone_seen}
-use Rattle.tz_zone.proofs.LeapTimes.{leap_time_unique}
+use Rattle.tz_zone.proofs.EmptyLists.{none_if_empty}
+use Rattle.tz_zone.proofs.LeapTimes.{one_leap_time}
 use Rattle.tz_zone.proofs.PlaceRuns.{plain_place}
-use Rattle.tz_zone.proofs.InstantsWithLeapTime.{none_if_empty}
 use Rattle.tz_zone.proofs.clock.following.place_at_effect.Goals as goal
 
 pub returns-then-is_empty-clause-at : goal.returns-then-is_empty-clause-at
@@ -24,11 +23,10 @@ returns c =
     let m = c.args.effect in
     let change = c.requires.transition in
     let l = c.existing_leap_time.result in
-    let fits : SFits w64 l = search rules in
     let leap = rw (to_z-of_z w64 m c.ranges.effect) at c.existing_leap_time.ensures in
-    let at = rw (to_z-of_z w64 l fits) at c.place_near.ensures.at in
+    let at = rw (to_z-of_z w64 l (search rules)) at c.place_near.ensures.at in
     let reached = change.2.reached c.requires.defined in
-    let from : change.0.unix_leap_time ≤ℤ l = omega (arith, ints, reached.2, leap_time_unique c.args.parts.leap_seconds.now c.requires.sound.leap_seconds_are m reached.0 l reached.1 leap) in
+    let from : change.0.unix_leap_time ≤ℤ l = omega (arith, ints, reached.2, one_leap_time c.args.parts.leap_seconds.now m reached.0 l reached.1 leap) in
     record {
       within = (
         elim (cases_lt c.args.index c.place_near.result) [ inl less ↦ less | inr more ↦ absurd (omega (arith, ints, from, at.1 c.args.index change.0 more change.1)) ],

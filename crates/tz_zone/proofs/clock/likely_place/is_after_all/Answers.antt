@@ -3,15 +3,10 @@ use Rattle.std.proofs.Common.{◌-◌, ◌<◌, refl, arith, rules, ◌≤ℤ◌
 use Rattle.std.proofs.lemmas.Int.{ints, to_z-of_z}
 use Rattle.std.proofs.lemmas.Option.{slice_get_read}
 use mir.Syntax.{w64}
-use mir.Val.{SFits}
 use Rattle.tz_zone.specs.ZoneSeen.{zone_seen}
+use Rattle.tz_zone.proofs.EmptyLists.{none_if_empty}
 use Rattle.tz_zone.proofs.PlaceRuns.{plain_end}
-use Rattle.tz_zone.proofs.RuleChanges.{length_of_some}
-use Rattle.tz_zone.proofs.InstantsWithLeapTime.{none_if_empty}
 use Rattle.tz_zone.proofs.clock.likely_place.is_after_all.Goals as goal
-
-pub returns-then-count-eq0 : goal.returns-then-count-eq0
-returns-then-count-eq0 c = λ _. (omega arith, λ some. absurd (omega (arith, length_of_some c.args.transitions.now some, c.if-count-eq0.true)))
 
 pub returns : goal.returns
 returns c = λ reached.
@@ -22,6 +17,5 @@ returns c = λ reached.
     let last = c.index-transitions-count.result in
     let inside : length list - 1 < length list = omega (arith, c.if-count-eq0.false) in
     let at_last = slice_get_read list _ (length list - 1) last refl inside c.index-transitions-count.is in
-    let time : SFits w64 c.unix_leap_time.result = search rules in
-    let up_to : last.unix_leap_time ≤ℤ u = omega (arith, ints, reached, c.unix_leap_time.ensures, to_z-of_z w64 c.unix_leap_time.result time, to_z-of_z w64 u c.ranges.unix_time) in
+    let up_to : last.unix_leap_time ≤ℤ u = omega (arith, ints, reached, c.unix_leap_time.ensures, to_z-of_z w64 c.unix_leap_time.result (search rules), to_z-of_z w64 u c.ranges.unix_time) in
     (omega arith, λ _. plain_end z c.requires none u last at_last up_to)

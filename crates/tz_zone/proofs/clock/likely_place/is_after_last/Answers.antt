@@ -3,7 +3,6 @@ use Rattle.std.proofs.Common.{◌≡◌, ◌+◌, ◌-◌, ℕ, ◌≤ℤ◌, �
 use Rattle.std.proofs.lemmas.Int.{ints, to_z-of_z}
 use Rattle.std.proofs.lemmas.Option.{slice_get_read}
 use mir.Syntax.{w64}
-use mir.Val.{SFits}
 use Rattle.tz_zone.specs.Clock.{AreReached}
 use Rattle.tz_zone.proofs.RisingTimes.{ahead_from, reached_through}
 use Rattle.tz_zone.proofs.clock.likely_place.is_after_last.Goals as goal
@@ -14,8 +13,7 @@ returns-then-unix_leap_time c =
     let k = c.args.place in
     let last = c.index-transitions-place.result in
     let at = slice_get_read c.args.transitions.now _ (k - 1) last refl (omega (arith, c.if-place-eq0.false, c.requires.within)) c.index-transitions-place.is in
-    let time : SFits w64 c.unix_leap_time.result = search rules in
-    let ahead : l <ℤ last.unix_leap_time = omega (arith, ints, c.if-unix_leap_time.true, c.unix_leap_time.ensures, to_z-of_z w64 c.unix_leap_time.result time, to_z-of_z w64 l c.ranges.unix_leap_time) in
+    let ahead : l <ℤ last.unix_leap_time = omega (arith, ints, c.if-unix_leap_time.true, c.unix_leap_time.ensures, to_z-of_z w64 c.unix_leap_time.result (search rules), to_z-of_z w64 l c.ranges.unix_leap_time) in
     (omega (arith, c.if-place-eq0.false), ahead_from c.args.transitions.now c.requires.rising l (k - 1) last at ahead)
 
 pub returns : goal.returns
@@ -24,7 +22,6 @@ returns c =
     let k = c.args.place in
     let last = c.index-transitions-place.result in
     let at = slice_get_read c.args.transitions.now _ (k - 1) last refl (omega (arith, c.if-place-eq0.false, c.requires.within)) c.index-transitions-place.is in
-    let time : SFits w64 c.unix_leap_time.result = search rules in
-    let reached : last.unix_leap_time ≤ℤ l = omega (arith, ints, c.if-unix_leap_time.false, c.unix_leap_time.ensures, to_z-of_z w64 c.unix_leap_time.result time, to_z-of_z w64 l c.ranges.unix_leap_time) in
+    let reached : last.unix_leap_time ≤ℤ l = omega (arith, ints, c.if-unix_leap_time.false, c.unix_leap_time.ensures, to_z-of_z w64 c.unix_leap_time.result (search rules), to_z-of_z w64 l c.ranges.unix_leap_time) in
     let back : k - 1 + 1 ≡ k = omega (arith, c.if-place-eq0.false) in
     subst (λ (j : ℕ). AreReached c.args.transitions.now l j) back (reached_through c.args.transitions.now c.requires.rising l (k - 1) last at reached)

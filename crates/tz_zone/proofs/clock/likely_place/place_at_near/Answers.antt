@@ -2,7 +2,6 @@
 use Rattle.std.proofs.Common.{rules}
 use Rattle.std.proofs.lemmas.Int.{to_z-of_z}
 use mir.Syntax.{w64}
-use mir.Val.{SFits}
 use Rattle.tz_zone.proofs.clock.likely_place.place_at_near.Goals as goal
 
 pub place_near-requires : goal.place_near-requires
@@ -11,7 +10,6 @@ place_near-requires c = λ i. (c.requires.transitions_are i).1
 pub returns : goal.returns
 returns c =
     let l = c.in-Some.unix_leap_time in
-    let fits : SFits w64 l = search rules in
     let leap = rw (to_z-of_z w64 c.args.unix_time c.ranges.unix_time) at c.in-Some.ensures in
-    let at = rw (to_z-of_z w64 l fits) at c.place_near.ensures.at in
+    let at = rw (to_z-of_z w64 l (search rules)) at c.place_near.ensures.at in
     (c.place_near.ensures.within, λ some. record { time = l; time_is = leap; reached = at.0; ahead = at.1 })

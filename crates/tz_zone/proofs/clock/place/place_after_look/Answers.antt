@@ -2,7 +2,6 @@
 use Rattle.std.proofs.Common.{◌-◌, ◌≤ℤ◌, ◌<ℤ◌, ℕ, inl, inr, refl, subst, arith, rules}
 use Rattle.std.proofs.lemmas.Int.{ints, to_z-of_z}
 use mir.Syntax.{w64}
-use mir.Val.{SFits}
 use Rattle.tz_zone.specs.Clock.{AreReached}
 use Rattle.tz_zone.proofs.RisingTimes.{ahead_from, reached_through}
 use Rattle.tz_zone.proofs.clock.place.place_after_look.Goals as goal
@@ -11,16 +10,12 @@ pub returns-then-unix_leap_time-clause-place : goal.returns-then-unix_leap_time-
 returns-then-unix_leap_time-clause-place g c =
     let list = g.V.Transitions.list c.args.view.now in
     let l = c.args.unix_leap_time in
-    let later = c.args.later in
-    let time : SFits w64 c.unix_leap_time.result = search rules in
-    let reached : c.look.result.unix_leap_time ≤ℤ l = omega (arith, ints, c.if-unix_leap_time.true, c.unix_leap_time.ensures, to_z-of_z w64 c.unix_leap_time.result time, to_z-of_z w64 l c.ranges.unix_leap_time) in
-    inl (refl, subst (λ (k : ℕ). AreReached list l k) (omega (arith, c.requires.order)) (reached_through list c.requires.rising l (later - 1) c.look.result c.look.ensures.value reached))
+    let reached : c.look.result.unix_leap_time ≤ℤ l = omega (arith, ints, c.if-unix_leap_time.true, c.unix_leap_time.ensures, to_z-of_z w64 c.unix_leap_time.result (search rules), to_z-of_z w64 l c.ranges.unix_leap_time) in
+    inl (refl, subst (λ (k : ℕ). AreReached list l k) (omega (arith, c.requires.order)) (reached_through list c.requires.rising l (c.args.later - 1) c.look.result c.look.ensures.value reached))
 
 pub returns-else-unix_leap_time-clause-place : goal.returns-else-unix_leap_time-clause-place
 returns-else-unix_leap_time-clause-place g c =
     let list = g.V.Transitions.list c.args.view.now in
     let l = c.args.unix_leap_time in
-    let later = c.args.later in
-    let time : SFits w64 c.unix_leap_time.result = search rules in
-    let ahead : l <ℤ c.look.result.unix_leap_time = omega (arith, ints, c.if-unix_leap_time.false, c.unix_leap_time.ensures, to_z-of_z w64 c.unix_leap_time.result time, to_z-of_z w64 l c.ranges.unix_leap_time) in
-    inr (refl, ahead_from list c.requires.rising l (later - 1) c.look.result c.look.ensures.value ahead)
+    let ahead : l <ℤ c.look.result.unix_leap_time = omega (arith, ints, c.if-unix_leap_time.false, c.unix_leap_time.ensures, to_z-of_z w64 c.unix_leap_time.result (search rules), to_z-of_z w64 l c.ranges.unix_leap_time) in
+    inr (refl, ahead_from list c.requires.rising l (c.args.later - 1) c.look.result c.look.ensures.value ahead)

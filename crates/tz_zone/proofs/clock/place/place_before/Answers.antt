@@ -7,8 +7,7 @@ pub returns-then-power-lt-BLOCK-clause-at_most : goal.returns-then-power-lt-BLOC
 returns-then-power-lt-BLOCK-clause-at_most g c = λ b bits.
     let power = c.power_up_to-power.ensures in
     let (e, is) = power.power in
-    let count = c.len-count.ensures in
-    let below : 2 ^ e < length (g.V.Transitions.list c.args.view.now) = omega (arith, is, power.within, count, c.requires.at_least_one) in
+    let below : 2 ^ e < length (g.V.Transitions.list c.args.view.now) = omega (arith, is, power.within, c.len-count.ensures, c.requires.at_least_one) in
     omega (arith, c.halved.ensures.at_most e 0 is refl (omega arith), c.place_after_look-first.ensures.at_most, exponent_less e b _ below bits)
 
 pub halved-block-requires-clause-powers : goal.halved-block-requires-clause-powers
@@ -20,7 +19,6 @@ pub returns-clause-at_most : goal.returns-clause-at_most
 returns-clause-at_most g c = λ b bits.
     let power = c.power_up_to-power.ensures in
     let (e, is) = power.power in
-    let count = c.len-count.ensures in
-    let below : 2 ^ e < length (g.V.Transitions.list c.args.view.now) = omega (arith, is, power.within, count, c.requires.at_least_one) in
+    let below : 2 ^ e < length (g.V.Transitions.list c.args.view.now) = omega (arith, is, power.within, c.len-count.ensures, c.requires.at_least_one) in
     let order = exponent_up_to 7 e (omega (arith, is, c.if-power-lt-BLOCK.false)) in
     omega (arith, c.halved-block.ensures.at_most e 7 is refl order, c.place_in_block.ensures.at_most, c.place_after_look-first.ensures.at_most, exponent_less e b _ below bits)

@@ -6,10 +6,10 @@ use mir.Val.{SFits}
 use Rattle.tz_zone.specs.Table.{Transition}
 use Rattle.tz_zone.specs.Changes.{change_of, IsPreceding, HasNoPreceding}
 use Rattle.tz_zone.specs.ZoneSeen.{zone_seen}
+use Rattle.tz_zone.proofs.EmptyLists.{none_if_empty}
 use Rattle.tz_zone.proofs.LeapTimes.{instant_bounds}
 use Rattle.tz_zone.proofs.SegmentTypes.{match_none}
 use Rattle.tz_zone.proofs.ChangeSpans.{preceding_earlier}
-use Rattle.tz_zone.proofs.InstantsWithLeapTime.{none_if_empty}
 use Rattle.tz_zone.proofs.clock.preceding.find_preceding.Goals as goal
 
 pub returns-in-Some : goal.returns-in-Some
@@ -25,10 +25,9 @@ returns-in-Some c =
 
 pub change_at_last-requires-clause-at : goal.change_at_last-requires-clause-at
 change_at_last-requires-clause-at c =
-    let u = c.args.unix_time in
     let last = c.in_ok-last.last in
     let fits : SFits w64 last = search rules in
-    let walked = rw (to_z-of_z w64 u c.ranges.unix_time) at c.in_ok-last.ensures in
+    let walked = rw (to_z-of_z w64 c.args.unix_time c.ranges.unix_time) at c.in_ok-last.ensures in
     let next : to_z w64 (of_z w64 (to_z w64 (of_z w64 last) +ℤ pos 1)) ≡ last +ℤ pos 1 = omega (arith, ints, walked.0, fits, c.ranges.unix_time) in
     let back : last +ℤ pos 1 -ℤ pos 1 ≡ last = omega (arith, ints) in
     rw (next, back) walked.1
@@ -55,6 +54,5 @@ pub returns-then-is_empty : goal.returns-then-is_empty
 returns-then-is_empty c =
     let u = c.args.unix_time in
     let low : negsuc 9223372036854775807 <ℤ u = omega (arith, ints, c.if-unix_time-eqminus9223372036854775808.false, to_z-of_z w64 u c.ranges.unix_time, (instant_bounds u c.ranges.unix_time).0) in
-    let k = c.in_ok-change.change in
     let found = rw (one_before u c.ranges.unix_time low) at c.in_ok-change.ensures in
-    subst (λ (list : List Transition). IsPreceding (zone_seen list c.args.parts) u (change_of k)) (sym (none_if_empty c.args.transitions.now c.if-is_empty.ensures)) found
+    subst (λ (list : List Transition). IsPreceding (zone_seen list c.args.parts) u (change_of c.in_ok-change.change)) (sym (none_if_empty c.args.transitions.now c.if-is_empty.ensures)) found

@@ -4,8 +4,8 @@ use Rattle.std.proofs.lemmas.Int.{ints, to_z-of_z}
 use mir.Syntax.{w64}
 use mir.Val.{SFits, to_z, of_z}
 use Rattle.tz_zone.specs.ZoneSeen.{zone_seen}
+use Rattle.tz_zone.proofs.EmptyLists.{some_unless_empty}
 use Rattle.tz_zone.proofs.RuleChanges.{none_past_last, none_up_to_start}
-use Rattle.tz_zone.proofs.SegmentEnds.{some_unless_empty}
 use Rattle.tz_zone.proofs.SegmentTypes.{match_none}
 use Rattle.tz_zone.proofs.clock.preceding.last_place.Goals as goal
 
@@ -17,9 +17,8 @@ returns-in_err-place c =
     let z = zone_seen c.args.transitions.now c.args.parts in
     let u = c.args.unix_time in
     let last = c.last_instant_up_to-last.result in
-    let fits : SFits w64 last = search rules in
     let bounds = rw (one_before u c.ranges.unix_time c.requires.not_least) at c.last_instant_up_to-last.ensures in
-    let refused = rw (to_z-of_z w64 last fits) at c.in_err-place.ensures in
+    let refused = rw (to_z-of_z w64 last (search rules)) at c.in_err-place.ensures in
     match_none c.from_residual.result _ _ c.from_residual.ensures
     (none_up_to_start z c.requires.sound.leap_seconds_are refused.0 last u (none_past_last z c.requires.sound.leap_seconds_are refused.0 last u bounds.past) refused.1 (bounds.within last (omega (arith, ints))))
 
@@ -30,6 +29,5 @@ returns c =
     let last = c.last_instant_up_to-last.result in
     let fits : SFits w64 last = search rules in
     let bounds = rw (one_before u c.ranges.unix_time c.requires.not_least) at c.last_instant_up_to-last.ensures in
-    let place = c.in_ok-place.ensures in
     let some = some_unless_empty c.args.transitions.now c.if-is_empty.ensures in
-    rw (to_z-of_z w64 last fits) (omega (arith, ints, bounds.up_to), rw (to_z-of_z w64 last fits) at place, none_past_last z c.requires.sound.leap_seconds_are some last u bounds.past)
+    rw (to_z-of_z w64 last fits) (omega (arith, ints, bounds.up_to), rw (to_z-of_z w64 last fits) at c.in_ok-place.ensures, none_past_last z c.requires.sound.leap_seconds_are some last u bounds.past)

@@ -2,7 +2,6 @@
 use Rattle.std.proofs.Common.{◌≡◌, ℕ, subst, arith, rules, pos, ◌+ℤ◌, length}
 use Rattle.std.proofs.lemmas.Int.{ints, to_z-of_z}
 use mir.Syntax.{w64}
-use mir.Val.{SFits}
 use Rattle.tz_zone.specs.Changes.{change_of}
 use Rattle.tz_zone.specs.ClockSegments.{IsReachedAt}
 use Rattle.tz_zone.specs.ZoneSeen.{zone_seen}
@@ -34,11 +33,9 @@ returns-then-unix_time-seam c = λ all m seam.
     let w = c.args.last in
     let found = rw (to_z-of_z w64 w c.ranges.last) at c.in_ok-change.ensures in
     let at = at_seam z c.requires.sound w m (λ some. subst (λ (k : ℕ). IsReachedAt z w k) all (c.requires.at some)) seam in
-    let m_fits : SFits w64 c.seam.result = search rules in
-    let time_fits : SFits w64 c.unix_time.result = search rules in
     let order = seam_up_to z c.seam.result m c.seam.ensures (seam_low list c.args.parts.leap_seconds.now m seam) at in
     none_after_found list c.args.parts c.requires.sound m at (w +ℤ pos 1) (change_of c.in_ok-change.change)
-    (omega (arith, ints, order, c.if-unix_time-seam.true, c.unix_time.ensures, to_z-of_z w64 c.seam.result m_fits, to_z-of_z w64 c.unix_time.result time_fits)) found
+    (omega (arith, ints, order, c.if-unix_time-seam.true, c.unix_time.ensures, to_z-of_z w64 c.seam.result (search rules), to_z-of_z w64 c.unix_time.result (search rules))) found
 
 pub returns : goal.returns
 returns c =
@@ -47,8 +44,6 @@ returns c =
     let w = c.args.last in
     let m = c.seam.result in
     let all : c.args.place ≡ length list = omega (arith, c.if-place-transitions.false, c.requires.within) in
-    let m_fits : SFits w64 m = search rules in
-    let time_fits : SFits w64 c.unix_time.result = search rules in
     let found = rw (to_z-of_z w64 w c.ranges.last) at c.in_ok-change.ensures in
     preceding_from_rule list c.args.parts c.requires.sound m (at_seam z c.requires.sound w m (λ some. subst (λ (k : ℕ). IsReachedAt z w k) all (c.requires.at some)) c.seam.ensures) (w +ℤ pos 1) (change_of c.in_ok-change.change)
-    (omega (arith, ints, c.if-unix_time-seam.false, c.unix_time.ensures, to_z-of_z w64 m m_fits, to_z-of_z w64 c.unix_time.result time_fits)) found
+    (omega (arith, ints, c.if-unix_time-seam.false, c.unix_time.ensures, to_z-of_z w64 m (search rules), to_z-of_z w64 c.unix_time.result (search rules))) found

@@ -2,7 +2,6 @@
 use Rattle.std.proofs.Common.{◌∙◌, refl, sym, ap, rules, option_map, []}
 use Rattle.std.proofs.lemmas.Int.{to_z-of_z}
 use mir.Syntax.{w64}
-use mir.Val.{SFits}
 use Rattle.tz_rule.specs.RuleChanges.{type_change_of}
 use Rattle.tz_rule.specs.RuleRef.{rule_seen}
 use Rattle.tz_zone.specs.ZoneSeen.{zone_seen}
@@ -25,5 +24,4 @@ returns c =
     let is = sym c.lent.ensures ∙ ap (option_map rule_seen) c.in_ok-rule.was in
     let k = c.in_ok-change.change in
     let found = rw (to_z-of_z w64 c.args.last c.ranges.last) at c.in_ok-change.ensures in
-    let fits : SFits w64 k.unix_time = search rules in
-    rw (c.new.ensures, to_z-of_z w64 k.unix_time fits) (preceding_of_rule z refl rule is c.args.last (type_change_of k) found)
+    rw (c.new.ensures, to_z-of_z w64 k.unix_time (search rules)) (preceding_of_rule z refl rule is c.args.last (type_change_of k) found)

@@ -18,14 +18,11 @@ one_before u fits low = omega (arith, ints)
 
 pub returns-in-Some : goal.returns-in-Some
 returns-in-Some c =
-    let list = c.args.transitions.now in
-    let z = zone_seen list c.args.parts in
-    let u = c.args.unix_time in
+    let z = zone_seen c.args.transitions.now c.args.parts in
     let last = c.args.last in
-    let fits = c.ranges.last in
     let walked = c.requires.walked in
-    let found = rw (to_z-of_z w64 last fits) at c.in-Some.ensures in
-    preceding_earlier z u (last +ℤ pos 1) (change_of c.in-Some.change) (omega (arith, ints, walked.0)) (λ d above below. walked.2 d (omega (arith, ints, above)) below) found
+    let found = rw (to_z-of_z w64 last c.ranges.last) at c.in-Some.ensures in
+    preceding_earlier z c.args.unix_time (last +ℤ pos 1) (change_of c.in-Some.change) (omega (arith, ints, walked.0)) (λ d above below. walked.2 d (omega (arith, ints, above)) below) found
 
 pub loop-place-init : goal.loop-place-init
 loop-place-init c =
@@ -50,8 +47,7 @@ returns-then-effect c =
     let so_far = rw (to_z-of_z w64 u c.ranges.unix_time) at c.loop-place.invariant in
     let (w, walked) = so_far.walked in
     let (start, m) = c.run_start-start.result in
-    let fits : SFits w64 m = search rules in
-    none_from_start z m u (omega (arith, ints, c.if-effect.true, to_z-of_z w64 m fits)) (none_since z c.requires.sound start _ m c.run_start-start.ensures w walked.1 u walked.2 so_far.seam)
+    none_from_start z m u (omega (arith, ints, c.if-effect.true, to_z-of_z w64 m (search rules))) (none_since z c.requires.sound start _ m c.run_start-start.ensures w walked.1 u walked.2 so_far.seam)
 
 pub returns-in_err-earlier : goal.returns-in_err-earlier
 returns-in_err-earlier c =
@@ -74,16 +70,14 @@ type_at-after-requires-clause-before c = λ inside s type.
     let z = zone_seen c.args.transitions.now c.args.parts in
     let (w, walked) = c.loop-place.invariant.walked in
     let (start, m) = c.run_start-start.result in
-    let fits : SFits w64 m = search rules in
-    rw (to_z-of_z w64 m fits) (clock_at_start z c.requires.sound start _ m c.run_start-start.ensures w walked.1 inside s type)
+    rw (to_z-of_z w64 m (search rules)) (clock_at_start z c.requires.sound start _ m c.run_start-start.ensures w walked.1 inside s type)
 
 pub type_at-after-requires-clause-all : goal.type_at-after-requires-clause-all
 type_at-after-requires-clause-all c = λ all.
     let z = zone_seen c.args.transitions.now c.args.parts in
     let (w, walked) = c.loop-place.invariant.walked in
     let (start, m) = c.run_start-start.result in
-    let fits : SFits w64 m = search rules in
-    rw (to_z-of_z w64 m fits) (place_at_start z c.requires.sound start _ m c.run_start-start.ensures w walked.1 all)
+    rw (to_z-of_z w64 m (search rules)) (place_at_start z c.requires.sound start _ m c.run_start-start.ensures w walked.1 all)
 
 pub returns-in-Some-change_at : goal.returns-in-Some-change_at
 returns-in-Some-change_at c =
@@ -97,7 +91,7 @@ returns-in-Some-change_at c =
     let low : negsuc 9223372036854775807 <ℤ m = omega (arith, ints, c.if-effect.false, to_z-of_z w64 m fits, run.effect.low) in
     let place = rw (one_before m fits low) at c.in_ok-earlier.ensures in
     let before = clock_before_start z c.requires.sound start _ m run _ place c.type_before-before.result.now (rw c.new.ensures at c.type_before-before.ensures.value) in
-    let found = (rw (to_z-of_z w64 m fits) at c.in-Some-change_at.ensures.change) z c.requires.sound low before (rw (to_z-of_z w64 m fits) at c.type_at-after.ensures) in
+    let found = (rw (to_z-of_z w64 m fits) at c.in-Some-change_at.ensures.change) z low before (rw (to_z-of_z w64 m fits) at c.type_at-after.ensures) in
     is_preceding z u m (change_of c.in-Some-change_at.change) (omega (arith, ints, effect_up_to z c.requires.sound start _ m run w walked.1, walked.0)) (none_since z c.requires.sound start _ m run w walked.1 u walked.2 so_far.seam) found.0 found.1
 
 pub loop-place-smaller : goal.loop-place-smaller
@@ -122,7 +116,7 @@ loop-place-preserved c =
     let low : negsuc 9223372036854775807 <ℤ m = omega (arith, ints, c.if-effect.false, to_z-of_z w64 m fits, run.effect.low) in
     let place = rw (one_before m fits low) at c.in_ok-earlier.ensures in
     let before = clock_before_start z c.requires.sound start _ m run _ place c.type_before-before.result.now (rw c.new.ensures at c.type_before-before.ensures.value) in
-    let none_at_m = (rw (to_z-of_z w64 m fits) at c.in_default-change_at.ensures.change) z c.requires.sound low before (rw (to_z-of_z w64 m fits) at c.type_at-after.ensures) in
+    let none_at_m = (rw (to_z-of_z w64 m fits) at c.in_default-change_at.ensures.change) z low before (rw (to_z-of_z w64 m fits) at c.type_at-after.ensures) in
     let none = none_since z c.requires.sound start _ m run w walked.1 u walked.2 so_far.seam in
     let up_to = effect_up_to z c.requires.sound start _ m run w walked.1 in
     rw (to_z-of_z w64 u c.ranges.unix_time) (record {

@@ -28,9 +28,8 @@ next_of : (c : goal.After-last_instant) → IsNext (IsPastInstants c.args.leap_s
 next_of c =
     let leaps = c.args.leap_seconds.now in
     let u = c.args.unix_time in
-    let fits : SFits w64 c.last_instant.result = search rules in
     let past = past_if_begun leaps c.requires.leaps u c.requires.begun c.requires.refused in
-    next_is (IsPastInstants leaps) c.last_instant.result u fits c.ranges.unix_time (after_last leaps c.requires.leaps c.last_instant.result u c.last_instant.ensures.within past) c.last_instant.ensures.past
+    next_is (IsPastInstants leaps) c.last_instant.result u (search rules) c.ranges.unix_time (after_last leaps c.requires.leaps c.last_instant.result u c.last_instant.ensures.within past) c.last_instant.ensures.past
 
 pub overflow_add-result : goal.overflow_add-result
 overflow_add-result c =

@@ -1,27 +1,19 @@
 -- Between two transitions from the start of the one up to the last instant before the other.
-use Rattle.std.proofs.Common.{◌≡◌, ℕ, ℤ, ap, subst, arith, rules, List, Some, length}
+use Rattle.std.proofs.Common.{◌≡◌, ap, subst, arith, rules, List, Some, length}
 use Rattle.std.specs.Prelude.{slice_get}
 use Rattle.std.proofs.lemmas.Int.{ints, to_z-of_z}
 use Rattle.std.proofs.lemmas.Option.{slice_get_within}
 use mir.Syntax.{w64}
 use mir.Val.{SFits}
-use Rattle.tz_zone.specs.Table.{Transition, Zone}
-use Rattle.tz_zone.specs.LeapTime.{IsTimeReached}
-use Rattle.tz_zone.specs.ValidZone.{IsSoundTable}
-use Rattle.tz_zone.specs.ClockSegments.{IsReachedAt}
+use Rattle.tz_zone.specs.Table.{Transition}
 use Rattle.tz_zone.specs.ZoneSeen.{zone_seen}
-use Rattle.tz_zone.proofs.LeapTimes.{leap_time_unique, instant_bounds}
-use Rattle.tz_zone.proofs.LeapReached.{IsLastBefore, up_to_last_before}
-use Rattle.tz_zone.proofs.Places.{clock_at_place, names_type, type_of_before}
+use Rattle.tz_zone.proofs.LeapTimes.{instant_bounds}
+use Rattle.tz_zone.proofs.LeapReached.{up_to_last_before}
+use Rattle.tz_zone.proofs.Places.{clock_at_place, names_type, not_reached, type_of_before}
 use Rattle.tz_zone.proofs.PlaceRuns.{types_from_last}
 use Rattle.tz_zone.proofs.SegmentEnds.{before_reached, all_reached, ends_between, ends_after_all}
 use Rattle.tz_zone.proofs.SegmentPlaces.{start_up_to, lies_since}
 use Rattle.tz_zone.proofs.clock.segment.segment_at_place.Goals as goal
-
--- the next transition is not reached at the instant
-next_ahead : (z : Zone) → IsSoundTable z → (u : ℤ) (k : ℕ) → IsReachedAt z u k → (next : Transition) → slice_get z.transitions k ≡ Some next → ¬ IsTimeReached z.leap_seconds next.unix_leap_time u
-next_ahead z sound u k at next at_next reached =
-    absurd (omega (arith, ints, at.ahead k next (omega arith) at_next, reached.2, leap_time_unique z.leap_seconds sound.leap_seconds_are u at.time reached.0 at.time_is reached.1))
 
 pub returns-then-place-len : goal.returns-then-place-len
 returns-then-place-len g c =
@@ -54,8 +46,7 @@ effect_of_reached-requires-clause-reached g c =
     let z = zone_seen (g.V.Transitions.list c.args.view.now) c.args.parts in
     let u = c.args.unix_time in
     let at = c.requires.at in
-    let time : SFits w64 c.unix_leap_time.result = search rules in
-    rw (to_z-of_z w64 c.unix_leap_time.result time, c.unix_leap_time.ensures) (
+    rw (to_z-of_z w64 c.unix_leap_time.result (search rules), c.unix_leap_time.ensures) (
       u,
       (instant_bounds u c.ranges.unix_time).1,
       (at.time, at.time_is, before_reached z c.requires.sound u c.args.place c.ranges.unix_time at c.before-before.result c.before-before.ensures.before),
@@ -68,12 +59,11 @@ last_before-requires-clause-before g c =
     let k = c.args.place in
     let next = c.look-next.result in
     let at_next : slice_get z.transitions k ≡ Some next = subst (λ (list : List Transition). slice_get list k ≡ Some next) c.before-before.ensures.same c.look-next.ensures.value in
-    let time : SFits w64 c.unix_leap_time-2.result = search rules in
-    rw (to_z-of_z w64 c.unix_leap_time-2.result time, c.unix_leap_time-2.ensures) (
+    rw (to_z-of_z w64 c.unix_leap_time-2.result (search rules), c.unix_leap_time-2.ensures) (
       u,
       (instant_bounds u c.ranges.unix_time).0,
       c.requires.at.time_is.not_refused,
-      next_ahead z c.requires.sound u k c.requires.at next at_next,
+      not_reached z c.requires.sound u k k next c.requires.at (omega arith) at_next,
     )
 
 pub type_of-requires : goal.type_of-requires
@@ -89,19 +79,15 @@ returns g c =
     let is = c.before-before.ensures.before in
     let next = c.look-next.result in
     let at_next : slice_get z.transitions k ≡ Some next = subst (λ (list : List Transition). slice_get list k ≡ Some next) c.before-before.ensures.same c.look-next.ensures.value in
-    let time : SFits w64 c.unix_leap_time.result = search rules in
-    let next_time : SFits w64 c.unix_leap_time-2.result = search rules in
-    let from : SFits w64 c.effect_of_reached.result = search rules in
     let last : SFits w64 c.last_before.result = search rules in
-    let wide = rw (to_z-of_z w64 c.unix_leap_time.result time, c.unix_leap_time.ensures) at c.effect_of_reached.ensures in
-    let end = rw (to_z-of_z w64 c.unix_leap_time-2.result next_time, c.unix_leap_time-2.ensures) at c.last_before.ensures in
-    let before_next : IsLastBefore z.leap_seconds next.unix_leap_time c.last_before.result = record { before = end.before; within = end.within; next = end.next } in
-    rw (to_z-of_z w64 c.effect_of_reached.result from, to_z-of_z w64 c.last_before.result last) (record {
+    let wide = rw (to_z-of_z w64 c.unix_leap_time.result (search rules), c.unix_leap_time.ensures) at c.effect_of_reached.ensures in
+    let end = rw (to_z-of_z w64 c.unix_leap_time-2.result (search rules), c.unix_leap_time-2.ensures) at c.last_before.ensures in
+    rw (to_z-of_z w64 c.effect_of_reached.result (search rules), to_z-of_z w64 c.last_before.result last) (record {
       same = search rules;
       at = record {
         within = (
           start_up_to z c.requires.sound u k c.ranges.unix_time at before is c.effect_of_reached.result wide,
-          up_to_last_before z.leap_seconds c.requires.sound.leap_seconds_are next.unix_leap_time c.last_before.result u before_next (instant_bounds u c.ranges.unix_time).1 at.time_is.not_refused (next_ahead z c.requires.sound u k at next at_next),
+          up_to_last_before z.leap_seconds c.requires.sound.leap_seconds_are next.unix_leap_time c.last_before.result u end (instant_bounds u c.ranges.unix_time).1 at.time_is.not_refused (not_reached z c.requires.sound u k k next at (omega arith) at_next),
         );
         holds = λ v low high. clock_at_place z c.requires.sound k v c.type_of.result.now (slice_get_within z.transitions k next at_next)
             (lies_since z c.requires.sound u k c.ranges.unix_time at before is c.effect_of_reached.result wide next at_next c.last_before.result v end.within end.before low high)

@@ -9,8 +9,8 @@ use Rattle.tz_zone.specs.Table.{LeapSecond}
 use Rattle.tz_zone.specs.LeapTime.{IsPastInstants, IsWideEffect}
 use Rattle.tz_zone.specs.ZoneSeen.{rule_kept}
 use Rattle.tz_zone.specs.TableChanges.{IsChangeByRule}
+use Rattle.tz_zone.proofs.OffsetBounds.{int_max_either}
 use Rattle.tz_zone.proofs.LeapTimes.{instant_bounds}
-use Rattle.tz_zone.proofs.WideEffects.{int_max-one}
 use Rattle.tz_zone.proofs.LeapReached.{up_to_last, reached_since}
 use Rattle.tz_zone.proofs.clock.segment.segment_from_last.Goals as goal
 
@@ -18,7 +18,7 @@ use Rattle.tz_zone.proofs.clock.segment.segment_from_last.Goals as goal
 begin_is : (leaps : List LeapSecond) (rule : Option TransitionRule) (v from first cut : ℤ) → IsWideEffect leaps v from → cut ≡ int_max from first → from ≤ℤ cut
     → (first ≢ negsuc 9223372036854775807 → IsChangeByRule rule first) → IsWideEffect leaps v cut ⊎ IsChangeByRule rule cut
 begin_is leaps rule v from first cut wide value low change = by_lt_z from cut
-    (λ h. elim (int_max-one from first) [
+    (λ h. elim (int_max_either from first) [
       | inl e ↦ absurd (omega (arith, ints, value, e, h))
       | inr e ↦
           let same : first ≡ cut = omega (arith, ints, value, e) in
@@ -43,20 +43,17 @@ returns c =
     let u = c.args.unix_time in
     let s = c.after_table-segment.result in
     let after = c.after_table-segment.ensures in
-    let before : SFits w64 c.unix_leap_time.result = search rules in
     let from : SFits w64 c.effect_of_reached-from.result = search rules in
-    let first : SFits w64 s.from = search rules in
     let end : SFits w64 s.last = search rules in
-    let max : SFits w64 c.max.result = search rules in
     let last : SFits w64 c.last_instant_up_to.result = search rules in
     let within = rw (to_z-of_z w64 u c.ranges.unix_time) at after.within in
-    let wide = rw (to_z-of_z w64 c.unix_leap_time.result before, c.unix_leap_time.ensures) at c.effect_of_reached-from.ensures in
-    let greatest = rw (to_z-of_z w64 c.effect_of_reached-from.result from, to_z-of_z w64 s.from first) at c.max.ensures in
+    let wide = rw (to_z-of_z w64 c.unix_leap_time.result (search rules), c.unix_leap_time.ensures) at c.effect_of_reached-from.ensures in
+    let greatest = rw (to_z-of_z w64 c.effect_of_reached-from.result from, to_z-of_z w64 s.from (search rules)) at c.max.ensures in
     let cut = rw (to_z-of_z w64 s.last end) at c.last_instant_up_to.ensures in
     let begin = wide.least u c.requires.reached in
-    rw (to_z-of_z w64 c.max.result max, to_z-of_z w64 c.last_instant_up_to.result last) (record {
+    rw (to_z-of_z w64 c.max.result (search rules), to_z-of_z w64 c.last_instant_up_to.result last) (record {
       within = (
-        elim (int_max-one c.effect_of_reached-from.result s.from) [ inl e ↦ omega (arith, ints, greatest.value, e, begin) | inr e ↦ omega (arith, ints, greatest.value, e, within.0) ],
+        elim (int_max_either c.effect_of_reached-from.result s.from) [ inl e ↦ omega (arith, ints, greatest.value, e, begin) | inr e ↦ omega (arith, ints, greatest.value, e, within.0) ],
         up_to_last leaps c.requires.leaps c.last_instant_up_to.result s.last u cut.past within.1 (λ past. c.requires.reached.1.not_refused (inr past)),
       );
       reached = λ v low high. reached_since leaps c.requires.leaps _ c.effect_of_reached-from.result c.last_instant_up_to.result v wide cut.within (omega (arith, ints, greatest.self_bound, low)) high;

@@ -8,8 +8,7 @@ use Rattle.tz_zone.proofs.clock.segment.undefined_segment.Goals as goal
 
 pub returns-then-has_begun-clause-refused : goal.returns-then-has_begun-clause-refused
 returns-then-has_begun-clause-refused c =
-    let from : SFits w64 c.first_past.result = search rules in
-    rw (to_z-of_z w64 c.first_past.result from) (λ v low high. c.first_past.ensures.refused v low)
+    rw (to_z-of_z w64 c.first_past.result (search rules)) (λ v low high. c.first_past.ensures.refused v low)
 
 pub first_past-requires-clause-refused : goal.first_past-requires-clause-refused
 first_past-requires-clause-refused c = rw (to_z-of_z w64 c.args.unix_time c.ranges.unix_time) c.requires.refused

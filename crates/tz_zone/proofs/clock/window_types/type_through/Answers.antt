@@ -3,7 +3,6 @@ use Rattle.std.proofs.Common.{arith, rules, ℤ, ◌≤ℤ◌, Option, Some, Non
 use Rattle.std.specs.Prelude.{IfSome, MatchOption}
 use Rattle.std.proofs.lemmas.Int.{ints, to_z-of_z}
 use mir.Syntax.{w64}
-use mir.Val.{SFits}
 use Rattle.tz_zone.proofs.clock.window_types.type_through.Goals as goal
 
 -- what holds of an option at each instant
@@ -16,7 +15,6 @@ pub returns : goal.returns
 returns c =
     let u = c.args.unix_time in
     let found = c.after_table-segment.result in
-    let fits : SFits w64 found.last = search rules in
     let segment = rw (to_z-of_z w64 u c.ranges.unix_time) at c.after_table-segment.ensures in
-    let over : c.args.high ≤ℤ found.last = omega (arith, ints, c.if-segment-high.false, to_z-of_z w64 found.last fits, to_z-of_z w64 c.args.high c.ranges.high) in
+    let over : c.args.high ≤ℤ found.last = omega (arith, ints, c.if-segment-high.false, to_z-of_z w64 found.last (search rules), to_z-of_z w64 c.args.high c.ranges.high) in
     through found.local_time_type u c.args.high _ _ (λ v from to. segment.holds v (omega (arith, ints, segment.within.0, from)) (omega (arith, ints, to, over)))

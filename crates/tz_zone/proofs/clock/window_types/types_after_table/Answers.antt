@@ -2,27 +2,23 @@
 use Rattle.std.proofs.Common.{arith, rules, pos, ◌+ℤ◌, ◌≤ℤ◌, ◌<ℤ◌}
 use Rattle.std.proofs.lemmas.Int.{ints, to_z-of_z}
 use mir.Syntax.{w64}
-use mir.Val.{SFits}
 use Rattle.tz_zone.proofs.clock.window_types.types_after_table.Goals as goal
 
 pub returns-then-high-first-clause-types : goal.returns-then-high-first-clause-types
 returns-then-high-first-clause-types c = λ v from to.
     let first = c.after_table-first.result in
-    let fits : SFits w64 first.last = search rules in
     let segment = rw (to_z-of_z w64 c.args.low c.ranges.low) at c.after_table-first.ensures in
-    let over : c.args.high ≤ℤ first.last = omega (arith, ints, c.if-high-first.true, to_z-of_z w64 first.last fits, to_z-of_z w64 c.args.high c.ranges.high) in
+    let over : c.args.high ≤ℤ first.last = omega (arith, ints, c.if-high-first.true, to_z-of_z w64 first.last (search rules), to_z-of_z w64 c.args.high c.ranges.high) in
     rw c.in-Some.is at segment.holds v (omega (arith, ints, segment.within.0, from)) (omega (arith, ints, to, over))
 
 pub returns-in-Some-type_through-clause-types : goal.returns-in-Some-type_through-clause-types
 returns-in-Some-type_through-clause-types c =
     let first = c.after_table-first.result in
     let high_is = to_z-of_z w64 c.args.high c.ranges.high in
-    let fits : SFits w64 first.last = search rules in
-    let last_is = to_z-of_z w64 first.last fits in
+    let last_is = to_z-of_z w64 first.last (search rules) in
     let segment = rw (to_z-of_z w64 c.args.low c.ranges.low) at c.after_table-first.ensures in
     let ends : first.last <ℤ c.args.high = omega (arith, ints, c.if-high-first.false, last_is, high_is) in
-    let jump_fits : SFits w64 (first.last +ℤ pos 1) = search rules in
-    let jump_is = to_z-of_z w64 (first.last +ℤ pos 1) jump_fits in
+    let jump_is = to_z-of_z w64 (first.last +ℤ pos 1) (search rules) in
     rw (last_is, jump_is) (
       omega (arith, ints, segment.within.1),
       omega (arith, ints, ends),

@@ -4,7 +4,6 @@ use Rattle.std.specs.Prelude.{MatchOption}
 use Rattle.std.proofs.lemmas.Int.{to_z-of_z}
 use Rattle.std.proofs.lemmas.List.{nil_from_length}
 use mir.Syntax.{w64}
-use mir.Val.{SFits}
 use Rattle.tz_rule.specs.LocalTimeType.{LocalTimeType}
 use Rattle.tz_zone.specs.Clock.{IsClock, IsTypeAfterTable}
 use Rattle.tz_zone.specs.ClockSegments.{IsReachedAt}
@@ -27,9 +26,8 @@ returns-then-place-count-clause-place g c =
     let z = zone_seen list c.args.parts in
     let low = c.args.low in
     let l = c.in-Some.low_leap_time in
-    let fits : SFits w64 l = search rules in
     let leap = rw (to_z-of_z w64 low c.ranges.low) at c.in-Some.ensures in
-    let found = rw (c.look-last.ensures.same, to_z-of_z w64 l fits) at c.place_of-place.ensures in
+    let found = rw (c.look-last.ensures.same, to_z-of_z w64 l (search rules)) at c.place_of-place.ensures in
     let at : IsReachedAt z low c.place_of-place.result = record { time = l; time_is = leap; reached = found.at.0; ahead = found.at.1 } in
     let lies : IsPlaceOf z low (Some c.place_of-place.result) = (found.within, λ some. at) in
     more_weaker c.types_at_place.result _ (IsPlaceOf z low) (λ place is. subst (IsPlaceOf z low) (sym is.0) lies) c.types_at_place.ensures.more
@@ -48,11 +46,9 @@ returns-then-place-count-clause-more g c =
 pub returns-in_default-leap_time-clause-place : goal.returns-in_default-leap_time-clause-place
 returns-in_default-leap_time-clause-place g c =
     let list = g.V.Transitions.list c.args.view.now in
-    let low = c.args.low in
     let l = c.in-Some.low_leap_time in
-    let fits : SFits w64 l = search rules in
-    let leap = rw (to_z-of_z w64 low c.ranges.low) at c.in-Some.ensures in
-    let found = rw (c.look-last.ensures.same, to_z-of_z w64 l fits) at c.place_of-place.ensures in
+    let leap = rw (to_z-of_z w64 c.args.low c.ranges.low) at c.in-Some.ensures in
+    let found = rw (c.look-last.ensures.same, to_z-of_z w64 l (search rules)) at c.place_of-place.ensures in
     (found.within, λ some. record { time = l; time_is = leap; reached = found.at.0; ahead = found.at.1 })
 
 pub returns-clause-types : goal.returns-clause-types
@@ -67,9 +63,8 @@ returns-clause-types g c =
     let reached : (v : ℤ) → low ≤ℤ v → v ≤ℤ high → 0 < length list → IsReachedAt z v (length list) = elim c.if-count-gt0.branch [
       | then-count-gt0+in-Some+else-place-count+in-Some-leap_time w ↦ λ v from to some.
           let l = w.in-Some.low_leap_time in
-          let fits : SFits w64 l = search rules in
           let leap = rw low_is at w.in-Some.ensures in
-          let found = rw (w.look-last.ensures.same, to_z-of_z w64 l fits) at w.place_of-place.ensures in
+          let found = rw (w.look-last.ensures.same, to_z-of_z w64 l (search rules)) at w.place_of-place.ensures in
           let at : IsReachedAt z low w.place_of-place.result = record { time = l; time_is = leap; reached = found.at.0; ahead = found.at.1 } in
           let high_leap = rw high_is at w.in-Some-leap_time.ensures in
           let all : w.place_of-place.result ≡ length list = omega (arith, found.within, w.if-place-count.false, count) in
@@ -90,9 +85,8 @@ returns-clause-place g c =
     let at : IsPlaceOf z low (Some c.len-count.result) = elim c.if-count-gt0.branch [
       | then-count-gt0+in-Some+else-place-count+in-Some-leap_time w ↦
           let l = w.in-Some.low_leap_time in
-          let fits : SFits w64 l = search rules in
           let leap = rw low_is at w.in-Some.ensures in
-          let found = rw (w.look-last.ensures.same, to_z-of_z w64 l fits) at w.place_of-place.ensures in
+          let found = rw (w.look-last.ensures.same, to_z-of_z w64 l (search rules)) at w.place_of-place.ensures in
           let at : IsReachedAt z low w.place_of-place.result = record { time = l; time_is = leap; reached = found.at.0; ahead = found.at.1 } in
           let all : w.place_of-place.result ≡ c.len-count.result = omega (arith, found.within, w.if-place-count.false, count) in
           (omega (arith, count), λ some. subst (λ (k : ℕ). IsReachedAt z low k) all at)

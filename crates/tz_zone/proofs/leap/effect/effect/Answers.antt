@@ -10,23 +10,20 @@ use Rattle.tz_zone.proofs.leap.effect.effect.Goals as goal
 
 pub returns-in_default-clause-err : goal.returns-in_default-clause-err
 returns-in_default-clause-err c =
-    let fits_128 : SFits w128 c.wide_effect.result = search rules in
-    let outside = rw (to_z-of_z w128 c.wide_effect.result fits_128) at c.in_default.ensures in
+    let outside = rw (to_z-of_z w128 c.wide_effect.result (search rules)) at c.in_default.ensures in
     let wide = rw (to_z-of_z w64 c.args.unix_leap_time c.ranges.unix_leap_time) at c.wide_effect.ensures in
     (refl, effect_none c.args.leap_seconds.now c.args.unix_leap_time c.wide_effect.result wide outside)
 
 -- the number that is an instant
 of_effect : (c : In-Ok) → IsWideEffect c.args.leap_seconds.now c.args.unix_leap_time c.in-Ok.unix_time
 of_effect c =
-    let fits_128 : SFits w128 c.wide_effect.result = search rules in
-    let found = rw (to_z-of_z w128 c.wide_effect.result fits_128) at c.in-Ok.ensures in
+    let found = rw (to_z-of_z w128 c.wide_effect.result (search rules)) at c.in-Ok.ensures in
     rw (to_z-of_z w64 c.args.unix_leap_time c.ranges.unix_leap_time, sym found.1) at c.wide_effect.ensures
 
 pub returns-then-not-has_leap_time-clause-err : goal.returns-then-not-has_leap_time-clause-err
 returns-then-not-has_leap_time-clause-err c =
     let m = c.in-Ok.unix_time in
-    let fits : SFits w64 m = search rules in
-    let refused = rw (to_z-of_z w64 m fits) at c.if-not-has_leap_time.ensures in
+    let refused = rw (to_z-of_z w64 m (search rules)) at c.if-not-has_leap_time.ensures in
     (refl, effect_refused c.args.leap_seconds.now c.requires c.args.unix_leap_time m (of_effect (goal.at.returns-then-not-has_leap_time-clause-err c).In-Ok) refused)
 
 pub returns-clause-ok : goal.returns-clause-ok

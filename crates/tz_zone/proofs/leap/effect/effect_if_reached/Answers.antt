@@ -1,8 +1,9 @@
 -- Without leap seconds each leap time is its own effect.
 use Rattle.std.proofs.lemmas.Int.{to_z-of_z}
 use mir.Syntax.{w64}
+use Rattle.tz_zone.proofs.EmptyLists.{none_if_empty}
 use Rattle.tz_zone.proofs.LeapTimes.{instant_bounds}
-use Rattle.tz_zone.proofs.InstantsWithLeapTime.{plain_effect, plain_leap, none_if_empty}
+use Rattle.tz_zone.proofs.InstantsWithLeapTime.{plain_effect, plain_leap}
 use Rattle.tz_zone.proofs.leap.effect.effect_if_reached.Goals as goal
 
 pub returns-then-is_empty : goal.returns-then-is_empty

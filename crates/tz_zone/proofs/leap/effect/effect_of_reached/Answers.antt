@@ -2,10 +2,9 @@
 use Rattle.std.proofs.Common.{◌≡◌, [], arith, rules}
 use Rattle.std.proofs.lemmas.Int.{ints, to_z-of_z}
 use mir.Syntax.{w64, w128}
-use mir.Val.{SFits}
 use Rattle.tz_zone.specs.LeapTime.{IsInstant, IsWideEffect}
+use Rattle.tz_zone.proofs.EmptyLists.{none_if_empty}
 use Rattle.tz_zone.proofs.LeapTimes.{IsInstant-from_bounds, instant_bounds}
-use Rattle.tz_zone.proofs.InstantsWithLeapTime.{none_if_empty}
 use Rattle.tz_zone.proofs.InstantsWithLeapTime.{plain_effect}
 use Rattle.tz_zone.proofs.leap.effect.effect_of_reached.Goals as goal
 
@@ -25,10 +24,8 @@ returns-then-is_empty c =
 
 pub overflow_cast-result : goal.overflow_cast-result
 overflow_cast-result c =
-    let fits_128 : SFits w128 c.wide_effect.result = search rules in
-    rw (to_z-of_z w128 c.wide_effect.result fits_128) (effect_fits c)
+    rw (to_z-of_z w128 c.wide_effect.result (search rules)) (effect_fits c)
 
 pub returns : goal.returns
 returns c =
-    let fits_128 : SFits w128 c.wide_effect.result = search rules in
-    rw (to_z-of_z w128 c.wide_effect.result fits_128, to_z-of_z w64 c.wide_effect.result (effect_fits c)) (effect_of c)
+    rw (to_z-of_z w128 c.wide_effect.result (search rules), to_z-of_z w64 c.wide_effect.result (effect_fits c)) (effect_of c)

@@ -3,8 +3,8 @@ use Rattle.std.proofs.Common.{◌≡◌, [], arith, rules, ℤ, pos, negsuc, ◌
 use Rattle.std.proofs.lemmas.Int.{ints, to_z-of_z}
 use mir.Syntax.{w64}
 use mir.Val.{SFits}
+use Rattle.tz_zone.proofs.EmptyLists.{none_if_empty}
 use Rattle.tz_zone.proofs.LeapTimes.{IsInstant-from_bounds, instant_bounds}
-use Rattle.tz_zone.proofs.InstantsWithLeapTime.{none_if_empty}
 use Rattle.tz_zone.proofs.LeapReached.{not_least, plain_last_before}
 use Rattle.tz_zone.proofs.leap.effect.last_before.Goals as goal
 
@@ -24,11 +24,7 @@ returns-then-is_empty c =
     let v = c.args.unix_leap_time in
     let none : leaps ≡ [] = none_if_empty leaps c.if-is_empty.ensures in
     let fits = before_fits v c.requires.before.0 c.ranges.unix_leap_time c.requires.before.1 (not_least leaps none c.requires.before.0 v c.requires.before.3) in
-    let last = plain_last_before leaps none v (instant_bounds v c.ranges.unix_leap_time).0 in
-    rw (to_z-of_z w64 v c.ranges.unix_leap_time, to_z-of_z w64 (v -ℤ pos 1) fits) (record { before = last.before; within = last.within; next = last.next })
+    rw (to_z-of_z w64 v c.ranges.unix_leap_time, to_z-of_z w64 (v -ℤ pos 1) fits) (plain_last_before leaps none v (instant_bounds v c.ranges.unix_leap_time).0)
 
 pub returns : goal.returns
-returns c =
-    let fits : SFits w64 c.last_before_by_seconds.result = search rules in
-    let last = rw (to_z-of_z w64 c.args.unix_leap_time c.ranges.unix_leap_time) at c.last_before_by_seconds.ensures in
-    rw (to_z-of_z w64 c.last_before_by_seconds.result fits) (record { before = last.before; within = last.within; next = last.next })
+returns c = rw (to_z-of_z w64 c.last_before_by_seconds.result (search rules)) (rw (to_z-of_z w64 c.args.unix_leap_time c.ranges.unix_leap_time) at c.last_before_by_seconds.ensures)

@@ -8,7 +8,7 @@ use Rattle.tz_zone.specs.LeapTime.{IsInstant}
 use Rattle.tz_zone.proofs.LeapTimes.{IsInstant-from_bounds}
 use Rattle.tz_zone.proofs.OffsetBounds.{int_min_either}
 use Rattle.tz_zone.proofs.InstantsWithLeapTime.{effect_ahead}
-use Rattle.tz_zone.proofs.LeapReached.{IsLastBefore, last_before_by_seconds}
+use Rattle.tz_zone.proofs.LeapReached.{last_before_by_seconds}
 use Rattle.tz_zone.proofs.leap.effect.last_before_by_seconds.Goals as goal
 
 -- the end of the search, the lesser of the second before the effect and the greatest instant
@@ -38,40 +38,21 @@ end_is u m n f low ahead wide value f_is bound end =
 
 pub overflow_cast-last : goal.overflow_cast-last
 overflow_cast-last c =
-    let fits_128 : SFits w128 c.wide_effect-before.result = search rules in
-    let least : SFits w128 c.min-last.result = search rules in
     let wide = rw (to_z-of_z w64 c.args.unix_leap_time c.ranges.unix_leap_time) at c.wide_effect-before.ensures in
     let u = c.requires.before in
     let ahead = effect_ahead c.args.leap_seconds.now c.requires.leaps u.0 c.args.unix_leap_time c.wide_effect-before.result u.2 u.3 wide in
-    let end = end_is u.0 c.wide_effect-before.result c.min-last.result c.from.result u.1 ahead fits_128 c.min-last.ensures.value c.from.ensures c.min-last.ensures.self_bound c.min-last.ensures.other_bound in
-    rw (to_z-of_z w128 c.min-last.result least) end.fits
+    let end = end_is u.0 c.wide_effect-before.result c.min-last.result c.from.result u.1 ahead (search rules) c.min-last.ensures.value c.from.ensures c.min-last.ensures.self_bound c.min-last.ensures.other_bound in
+    rw (to_z-of_z w128 c.min-last.result (search rules)) end.fits
 
-last_of : (c : goal.After-last_instant_up_to) → IsLastBefore c.args.leap_seconds.now c.args.unix_leap_time c.last_instant_up_to.result
-last_of c =
+pub returns : goal.returns
+returns c =
     let leaps = c.args.leap_seconds.now in
     let v = c.args.unix_leap_time in
     let m = c.wide_effect-before.result in
     let n = c.min-last.result in
-    let fits_128 : SFits w128 m = search rules in
-    let least : SFits w128 n = search rules in
     let wide = rw (to_z-of_z w64 v c.ranges.unix_leap_time) at c.wide_effect-before.ensures in
     let u = c.requires.before in
     let ahead = effect_ahead leaps c.requires.leaps u.0 v m u.2 u.3 wide in
-    let end = end_is u.0 m n c.from.result u.1 ahead fits_128 c.min-last.ensures.value c.from.ensures c.min-last.ensures.self_bound c.min-last.ensures.other_bound in
-    let last = rw (to_z-of_z w128 n least, to_z-of_z w64 n end.fits) at c.last_instant_up_to.ensures in
-    last_before_by_seconds leaps v m c.last_instant_up_to.result n wide last.up_to end.one end.bound last.within last.past
-
-pub returns-clause-before : goal.returns-clause-before
-returns-clause-before c =
-    let fits : SFits w64 c.last_instant_up_to.result = search rules in
-    rw (to_z-of_z w64 c.last_instant_up_to.result fits) (last_of c).before
-
-pub returns-clause-within : goal.returns-clause-within
-returns-clause-within c =
-    let fits : SFits w64 c.last_instant_up_to.result = search rules in
-    rw (to_z-of_z w64 c.last_instant_up_to.result fits) (last_of c).within
-
-pub returns-clause-next : goal.returns-clause-next
-returns-clause-next c =
-    let fits : SFits w64 c.last_instant_up_to.result = search rules in
-    rw (to_z-of_z w64 c.last_instant_up_to.result fits) (last_of c).next
+    let end = end_is u.0 m n c.from.result u.1 ahead (search rules) c.min-last.ensures.value c.from.ensures c.min-last.ensures.self_bound c.min-last.ensures.other_bound in
+    let last = rw (to_z-of_z w128 n (search rules), to_z-of_z w64 n end.fits) at c.last_instant_up_to.ensures in
+    rw (to_z-of_z w64 c.last_instant_up_to.result (search rules)) (last_before_by_seconds leaps v m c.last_instant_up_to.result n wide last.up_to end.one end.bound last.within last.past)

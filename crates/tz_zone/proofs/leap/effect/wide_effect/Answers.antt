@@ -2,18 +2,16 @@
 use Rattle.std.proofs.Common.{◌≡◌, arith, rules, ◌<ℤ◌}
 use Rattle.std.proofs.lemmas.Int.{ints, to_z-of_z}
 use mir.Syntax.{w64, w128}
-use mir.Val.{SFits, to_z, of_z}
+use mir.Val.{to_z, of_z}
 use Rattle.tz_zone.proofs.WideEffects.{IsWideEffect-early}
 use Rattle.tz_zone.proofs.leap.effect.wide_effect.Goals as goal
 
 pub returns-in-Some : goal.returns-in-Some
 returns-in-Some c =
-    let leaps = c.args.leap_seconds.now in
     let v = c.args.unix_leap_time in
     let start = c.in-Some.start.now in
     let fits = c.ranges.unix_leap_time in
-    let fits_128 : SFits w128 c.wide_effect_from_start.result = search rules in
     let time = c.unix_leap_time.ensures in
     let early : v <ℤ start.unix_leap_time = omega (arith, ints, c.if-unix_leap_time.true) in
     let same : to_z w64 (of_z w64 c.unix_leap_time-in-Some.result) ≡ start.unix_leap_time = omega (arith, ints, c.unix_leap_time-in-Some.ensures) in
-    rw (to_z-of_z w128 c.wide_effect_from_start.result fits_128) (IsWideEffect-early leaps c.requires v c.wide_effect_from_start.result start c.in-Some.ensures early (rw same at c.wide_effect_from_start.ensures))
+    rw (to_z-of_z w128 c.wide_effect_from_start.result (search rules)) (IsWideEffect-early c.args.leap_seconds.now c.requires v c.wide_effect_from_start.result start c.in-Some.ensures early (rw same at c.wide_effect_from_start.ensures))

@@ -1,12 +1,11 @@
 -- The leap seconds are a table when the first may come first and each next one may follow.
-use Rattle.std.proofs.Common.{arith}
+use Rattle.std.proofs.Common.{arith, below_more}
 use Rattle.tz_zone.specs.ValidZone.{FollowsAt}
-use Rattle.tz_rule.proofs.Below.{below_next}
 use Rattle.tz_zone.proofs.TableChecks.{are_from_loop}
 use Rattle.tz_zone.proofs.leap.table.are_leap_seconds.Goals as goal
 
 pub loop-i-preserved : goal.loop-i-preserved
-loop-i-preserved c = below_next (FollowsAt c.args.leap_seconds.now) c.loop-i.i c.loop-i.invariant c.if-not-follows_at.ensures
+loop-i-preserved c = below_more (FollowsAt c.args.leap_seconds.now) c.loop-i.i c.loop-i.invariant c.if-not-follows_at.ensures
 
 pub returns : goal.returns
 returns c = are_from_loop c.args.leap_seconds.now c.loop-i.i c.index-leap_seconds-0.result (search arith) c.index-leap_seconds-0.is c.if-not-may_be_first.ensures c.loop-i-test.false c.loop-i.invariant

@@ -22,9 +22,7 @@ returns-then-correction c =
 pub returns : goal.returns
 returns c =
     let leaps = c.args.leap_seconds.now in
-    let here = c.index-leap_seconds-place.result in
-    let next = c.index-leap_seconds-place-2.result in
-    pair_test leaps c.args.place here next (Follows leaps c.args.place) _ (omega arith) c.index-leap_seconds-place.is c.index-leap_seconds-place-2.is
+    pair_test leaps c.args.place c.index-leap_seconds-place.result c.index-leap_seconds-place-2.result (Follows leaps c.args.place) _ (omega arith) c.index-leap_seconds-place.is c.index-leap_seconds-place-2.is
     (MatchBool-weaker c.may_follow.result (λ may. (omega (arith, ints, may.0), λ _. may)) (λ may_not follows. may_not (follows.1 (λ is. elim c.else-place-leap_seconds-2.branch [
       | else-place-leap_seconds-2-via-then-place-leap_seconds-2+else-correction w ↦ w.if-correction.false cc
       | else-place-leap_seconds-2-via-else-place-leap_seconds-2 w ↦ w.if-place-leap_seconds-2.false is.0

@@ -7,8 +7,7 @@ use mir.Syntax.{w32, w64, w128}
 use mir.Val.{SFits, to_z, of_z}
 use Rattle.tz_zone.specs.LeapTime.{correction_before}
 use Rattle.tz_zone.proofs.LeapTimes.{IsInstant-from_bounds, instant_bounds}
-use Rattle.tz_zone.proofs.WideEffects.{int_max-one}
-use Rattle.tz_zone.proofs.OffsetBounds.{int_min_either}
+use Rattle.tz_zone.proofs.OffsetBounds.{int_min_either, int_max_either}
 use Rattle.tz_zone.proofs.LeapEnds.{left_within, left_past}
 use Rattle.tz_zone.proofs.leap.time.last_with.Goals as goal
 
@@ -30,7 +29,7 @@ record IsLastWith (before fitting high last : ℤ) : Type 0 where
 
 last_is : (before fitting high k m n : ℤ) → SFits w64 high → SFits w32 k → fitting ≡ (pos 9223372036854775807 -ℤ k) → m ≡ int_max before fitting → before ≤ℤ m → fitting ≤ℤ m → n ≡ int_min m high → n ≤ℤ m → n ≤ℤ high → IsLastWith before fitting high n
 last_is before fitting high k m n high_fits k_fits fitting_is max before_max fitting_max min n_max n_high = record {
-  one = elim (int_max-one before fitting) [
+  one = elim (int_max_either before fitting) [
     | inl e ↦ inl (omega (arith, ints, max, e, n_max))
     | inr e ↦ inr (omega (arith, ints, max, e, n_max))
   ];
@@ -56,24 +55,21 @@ of_call c =
     let correction_fits : SFits w32 c.correction.result = search rules in
     let fitting = fitting_cast item.correction c.correction.result c.without_correction-fitting.result correction_fits c.correction.ensures c.without_correction-fitting.ensures in
     let high = high_cast c.args.high c.from.result c.ranges.high c.from.ensures in
-    let wide : SFits w128 c.max.result = search rules in
     let max = rw (before, fitting) at c.max.ensures in
-    let min = rw (high, to_z-of_z w128 c.max.result wide) at c.min.ensures in
+    let min = rw (high, to_z-of_z w128 c.max.result (search rules)) at c.min.ensures in
     last_is _ _ c.args.high item.correction c.max.result c.min.result c.ranges.high (rw c.correction.ensures at correction_fits) refl max.value max.self_bound max.other_bound min.value min.self_bound min.other_bound
 
 pub overflow_cast-result : goal.overflow_cast-result
 overflow_cast-result c =
-    let wide : SFits w128 c.min.result = search rules in
-    rw (to_z-of_z w128 c.min.result wide) (of_call c).fits
+    rw (to_z-of_z w128 c.min.result (search rules)) (of_call c).fits
 
 pub returns : goal.returns
 returns c =
     let leaps = c.args.leap_seconds.now in
     let item = c.index-leap_seconds-place.result in
     let at = slice_get_read leaps _ c.args.place item refl c.requires.place c.index-leap_seconds-place.is in
-    let wide : SFits w128 c.min.result = search rules in
     let last = of_call c in
-    rw (to_z-of_z w128 c.min.result wide, to_z-of_z w64 c.min.result last.fits) (record {
+    rw (to_z-of_z w128 c.min.result (search rules), to_z-of_z w64 c.min.result last.fits) (record {
       up_to = last.up_to;
       within = left_within leaps c.requires.leaps c.args.place item at c.min.result last.one;
       past = λ u above up_to. let both = last.after u above up_to in left_past leaps c.requires.leaps c.args.place item at u both.0 both.1;

@@ -2,7 +2,8 @@
 use Rattle.std.proofs.Common.{◌≡◌, []}
 use Rattle.std.proofs.lemmas.Int.{to_z-of_z}
 use mir.Syntax.{w64}
-use Rattle.tz_zone.proofs.InstantsWithLeapTime.{none_if_empty, plain_leap}
+use Rattle.tz_zone.proofs.EmptyLists.{none_if_empty}
+use Rattle.tz_zone.proofs.InstantsWithLeapTime.{plain_leap}
 use Rattle.tz_zone.proofs.leap.time.leap_time.Goals as goal
 
 pub returns-then-is_empty : goal.returns-then-is_empty

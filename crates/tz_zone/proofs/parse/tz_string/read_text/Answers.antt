@@ -5,17 +5,16 @@ use mir.Val.{to_z, of_z}
 use Rattle.tz_base.specs.declared.error.TzError.TheVariants.{TzString, LocalTimeType as TypeFault, TransitionRule}
 use Rattle.tz_rule.specs.Alternate.{alternate_of}
 use Rattle.tz_zone.specs.TzText.{AlternateText, IsAlternateText, IsAlternateInRange, rule_of, ut_offset_of}
+use Rattle.tz_zone.proofs.EmptyLists.{none_if_empty, some_unless_empty}
 use Rattle.tz_zone.proofs.QuestionMarkExits.{exit}
-use Rattle.tz_zone.proofs.TextEnds.{is_over, goes_on}
 use Rattle.tz_zone.proofs.TextAnswers.{bad_name, offset_fails, daylight_fails, rules_fail, whole_text, same_rule_of, same_type_of, passed}
 use Rattle.tz_zone.proofs.parse.tz_string.read_text.Goals.{After-total_seconds-end_time}
 use Rattle.tz_zone.proofs.parse.tz_string.read_text.Goals as goal
 
 pub returns-in_err-std_name : goal.returns-in_err-std_name
 returns-in_err-std_name c =
-    let f = c.in_err-std_name.field-0.0 in
     let fault = c.in_err-std_name.ensures in
-    exit _ _ (TzString f) _ c.from_residual.ensures.1 (inl (inl (ap TzString fault.0, fault.1)))
+    exit _ _ (TzString c.in_err-std_name.field-0.0) _ c.from_residual.ensures.1 (inl (inl (ap TzString fault.0, fault.1)))
 
 pub returns-in_err-std_offset : goal.returns-in_err-std_offset
 returns-in_err-std_offset c =
@@ -31,7 +30,7 @@ returns-in_err-dst_name c =
     let f = c.in_err-dst_name.field-0.0 in
     exit _ _ (TzString f) _ c.from_residual-in_err-dst_name.ensures.1
     (daylight_fails c.args.extended c.args.text.now name.std_name.now name.rest.now offset.std_offset offset.rest.now (TzString f) name.ensures offset.ensures.0
-    (goes_on offset.rest.now c.if-is_empty.ensures) (c.in_err-dst_name.ensures c.args.extended))
+    (some_unless_empty offset.rest.now c.if-is_empty.ensures) (c.in_err-dst_name.ensures c.args.extended))
 
 pub returns-in_err-start : goal.returns-in_err-start
 returns-in_err-start c =
@@ -41,7 +40,7 @@ returns-in_err-start c =
     let e = c.in_err-start.field-0.0 in
     exit _ _ e _ c.from_residual-in_err-start.ensures.1
     (daylight_fails c.args.extended c.args.text.now name.std_name.now name.rest.now offset.std_offset offset.rest.now e name.ensures offset.ensures.0
-    (goes_on offset.rest.now c.if-is_empty.ensures)
+    (some_unless_empty offset.rest.now c.if-is_empty.ensures)
     (rules_fail c.args.extended offset.rest.now dst.dst_name.now dst.ensures.0.0 dst.dst_offset dst.switches.now e dst.ensures.0.1 dst.ensures.0.2 c.in_err-start.ensures))
 
 pub returns-in_err-std : goal.returns-in_err-std
@@ -59,7 +58,7 @@ returns-in_err-dst c =
     let f = c.in_err-dst.field-0.0 in
     exit _ _ (TypeFault f) _ c.from_residual-in_err-dst.ensures.1
     (daylight_fails c.args.extended c.args.text.now name.std_name.now name.rest.now offset.std_offset offset.rest.now (TypeFault f) name.ensures offset.ensures.0
-    (goes_on offset.rest.now c.if-is_empty.ensures)
+    (some_unless_empty offset.rest.now c.if-is_empty.ensures)
     (inl (bad_name offset.rest.now dst.dst_name.now dst.ensures.0.0 f dst.ensures.0.1 c.in_err-dst.ensures)))
 
 -- what the text says
@@ -80,15 +79,11 @@ says c =
 
 same_rule : (c : After-total_seconds-end_time) → alternate_of c.in_ok-std.std c.in_ok-dst.dst c.in_ok-start.start.day (to_z w32 (of_z w32 c.total_seconds-start_time.result)) c.in_ok-start.end.day (to_z w32 (of_z w32 c.total_seconds-end_time.result)) ≡ rule_of (text_of c)
 same_rule c =
-    let std_fits : FitsSigned w32 c.ut_offset-2.result = search rules in
-    let dst_fits : FitsSigned w32 c.daylight_ut_offset.result = search rules in
-    let start_fits : FitsSigned w32 c.total_seconds-start_time.result = search rules in
-    let end_fits : FitsSigned w32 c.total_seconds-end_time.result = search rules in
     same_rule_of (text_of c) c.in_ok-std.std c.in_ok-dst.dst _ _
-    (same_type_of c.in_ok-std.std _ _ false c.in_ok-std_name.std_name.now c.in_ok-std.ensures.0 (passed c.ut_offset-2.result _ std_fits c.ut_offset-2.ensures.value))
-    (same_type_of c.in_ok-dst.dst _ _ true c.in_ok-dst_name.dst_name.now c.in_ok-dst.ensures.0 (passed c.daylight_ut_offset.result _ dst_fits c.daylight_ut_offset.ensures.value))
-    (passed c.total_seconds-start_time.result _ start_fits c.total_seconds-start_time.ensures)
-    (passed c.total_seconds-end_time.result _ end_fits c.total_seconds-end_time.ensures)
+    (same_type_of c.in_ok-std.std _ _ false c.in_ok-std_name.std_name.now c.in_ok-std.ensures.0 (passed c.ut_offset-2.result _ (search rules) c.ut_offset-2.ensures.value))
+    (same_type_of c.in_ok-dst.dst _ _ true c.in_ok-dst_name.dst_name.now c.in_ok-dst.ensures.0 (passed c.daylight_ut_offset.result _ (search rules) c.daylight_ut_offset.ensures.value))
+    (passed c.total_seconds-start_time.result _ (search rules) c.total_seconds-start_time.ensures)
+    (passed c.total_seconds-end_time.result _ (search rules) c.total_seconds-end_time.ensures)
 
 pub returns-in_err-rule : goal.returns-in_err-rule
 returns-in_err-rule c =
@@ -117,7 +112,7 @@ returns-then-is_empty c =
     let fits : FitsSigned w32 c.ut_offset.result = search rules in (
       name.std_name.now,
       offset.std_offset,
-      record { after_name = name.rest.now; name_is = name.ensures; offset_is = rw (is_over offset.rest.now c.if-is_empty.ensures) at offset.ensures.0 },
+      record { after_name = name.rest.now; name_is = name.ensures; offset_is = rw (none_if_empty offset.rest.now c.if-is_empty.ensures) at offset.ensures.0 },
       c.in_ok-fixed.ensures.1,
       offset.ensures.1,
       same_type_of c.in_ok-fixed.fixed _ (ut_offset_of offset.std_offset) false name.std_name.now c.in_ok-fixed.ensures.0 (passed c.ut_offset.result _ fits c.ut_offset.ensures.value),

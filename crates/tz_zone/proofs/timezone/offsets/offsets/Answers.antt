@@ -3,7 +3,6 @@ use Rattle.std.proofs.Common.{◌∙◌, inl, inr, sym, subst, arith, rules, ap,
 use Rattle.std.proofs.lemmas.Int.{ints, to_z-of_z}
 use Rattle.std.proofs.lemmas.Option.{same_Some}
 use mir.Syntax.{w32}
-use mir.Val.{SFits}
 use Rattle.tz_rule.specs.RuleRef.{rule_seen}
 use Rattle.tz_rule.specs.declared.timezone.rule.TransitionRule.{TransitionRule}
 use Rattle.tz_zone.specs.Offsets.{IsOffsetOfRule}
@@ -15,9 +14,7 @@ returns-in-Some c =
     let (low, high) = c.offsets_of_types-least.result in
     let types = c.offsets_of_types-least.ensures in
     let of_zone = ap (option_map rule_seen) c.in-Some.is in
-    let low_fits : SFits w32 low = search rules in
-    let high_fits : SFits w32 high = search rules in
-    let both = rw (to_z-of_z w32 low low_fits, to_z-of_z w32 high high_fits) at c.with_rule.ensures in
+    let both = rw (to_z-of_z w32 low (search rules), to_z-of_z w32 high (search rules)) at c.with_rule.ensures in
     record {
       least = (
         elim both.exact.0 [ inl e ↦ inl (rw e types.of_types.0) | inr of_rule ↦ inr (rule, of_zone, of_rule) ],

@@ -5,7 +5,6 @@ use Rattle.std.proofs.lemmas.Int.{ints, to_z-of_z}
 use Rattle.std.proofs.lemmas.Bool.{cases_lt}
 use Rattle.std.proofs.lemmas.Option.{same_Some, slice_get_within, slice_get-get_or}
 use mir.Syntax.{w32}
-use mir.Val.{SFits}
 use Rattle.tz_rule.specs.LocalTimeType.{LocalTimeType}
 use Rattle.tz_zone.specs.Offsets.{IsOffsetOfTypes}
 use Rattle.tz_zone.proofs.timezone.offsets.offsets_of_types.Goals as goal
@@ -24,11 +23,8 @@ loop-local_time_type-preserved c =
     let at : slice_get types k ≡ Some item = slice_get-get_or types k item c.loop-local_time_type-test.true ∙ ap Some (sym c.local_time_type-item.is) in
     let offset = c.ut_offset.result in
     let is = c.ut_offset.ensures.value in
-    let fits : SFits w32 offset = search rules in
-    let least_fits : SFits w32 c.with_offset-ends.result.0 = search rules in
-    let greatest_fits : SFits w32 c.with_offset-ends.result.1 = search rules in
-    let ends = rw (to_z-of_z w32 offset fits) at c.with_offset-ends.ensures in
-    rw (to_z-of_z w32 c.with_offset-ends.result.0 least_fits, to_z-of_z w32 c.with_offset-ends.result.1 greatest_fits) (record {
+    let ends = rw (to_z-of_z w32 offset (search rules)) at c.with_offset-ends.ensures in
+    rw (to_z-of_z w32 c.with_offset-ends.result.0 (search rules), to_z-of_z w32 c.with_offset-ends.result.1 (search rules)) (record {
       of_types = (of_more types _ offset _ k item at is so_far.of_types.0 ends.exact.0, of_more types _ offset _ k item at is so_far.of_types.1 ends.exact.1);
       between = λ i t until at_i. elim (cases_lt i k) [
         | inl before ↦ (omega (arith, ints, (so_far.between i t before at_i).0, ends.least), omega (arith, ints, (so_far.between i t before at_i).1, ends.greatest))

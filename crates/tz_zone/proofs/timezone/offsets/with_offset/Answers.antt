@@ -2,7 +2,6 @@
 use Rattle.std.proofs.Common.{◌∙◌, inl, inr, rules}
 use Rattle.std.proofs.lemmas.Int.{to_z-of_z}
 use mir.Syntax.{w32}
-use mir.Val.{SFits}
 use Rattle.tz_zone.proofs.OffsetBounds.{int_min_either, int_max_either}
 use Rattle.tz_zone.proofs.timezone.offsets.with_offset.Goals as goal
 
@@ -11,11 +10,9 @@ returns c =
     let least = c.args.least in
     let greatest = c.args.greatest in
     let offset = c.args.offset in
-    let fits_min : SFits w32 c.min.result = search rules in
-    let fits_max : SFits w32 c.max.result = search rules in
     let min = rw (to_z-of_z w32 least c.ranges.least, to_z-of_z w32 offset c.ranges.offset) at c.min.ensures in
     let max = rw (to_z-of_z w32 greatest c.ranges.greatest, to_z-of_z w32 offset c.ranges.offset) at c.max.ensures in
-    rw (to_z-of_z w32 c.min.result fits_min, to_z-of_z w32 c.max.result fits_max) (record {
+    rw (to_z-of_z w32 c.min.result (search rules), to_z-of_z w32 c.max.result (search rules)) (record {
       least = min.self_bound;
       greatest = max.self_bound;
       between = (min.other_bound, max.other_bound);

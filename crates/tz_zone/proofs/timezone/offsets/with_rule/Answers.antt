@@ -2,15 +2,13 @@
 use Rattle.std.proofs.Common.{◌≡◌, ◌∙◌, inl, inr, ap, arith, rules}
 use Rattle.std.proofs.lemmas.Int.{ints, to_z-of_z}
 use mir.Syntax.{w32}
-use mir.Val.{SFits}
 use Rattle.tz_rule.specs.LocalTimeType.{LocalTimeType}
 use Rattle.tz_zone.proofs.timezone.offsets.with_rule.Goals as goal
 
 pub returns-in-Fixed : goal.returns-in-Fixed
 returns-in-Fixed c =
     let is = c.ut_offset.ensures.value in
-    let fits : SFits w32 c.ut_offset.result = search rules in
-    let ends = rw (to_z-of_z w32 c.args.least c.ranges.least, to_z-of_z w32 c.args.greatest c.ranges.greatest, to_z-of_z w32 c.ut_offset.result fits) at c.with_offset.ensures in
+    let ends = rw (to_z-of_z w32 c.args.least c.ranges.least, to_z-of_z w32 c.args.greatest c.ranges.greatest, to_z-of_z w32 c.ut_offset.result (search rules)) at c.with_offset.ensures in
     rw c.in-Fixed.is (record {
       least = ends.least;
       greatest = ends.greatest;
@@ -27,12 +25,8 @@ returns-in-Alternate c =
     let (low, high) = c.with_offset-with_std.result in
     let std_is : c.ut_offset-in-Alternate.result ≡ rule.std.ut_offset = c.ut_offset-in-Alternate.ensures.value ∙ ap (λ (t : LocalTimeType). t.ut_offset) c.std.ensures in
     let dst_is : c.ut_offset-in-Alternate-2.result ≡ rule.dst.ut_offset = c.ut_offset-in-Alternate-2.ensures.value ∙ ap (λ (t : LocalTimeType). t.ut_offset) c.dst.ensures in
-    let std_fits : SFits w32 c.ut_offset-in-Alternate.result = search rules in
-    let dst_fits : SFits w32 c.ut_offset-in-Alternate-2.result = search rules in
-    let low_fits : SFits w32 low = search rules in
-    let high_fits : SFits w32 high = search rules in
-    let one = rw (to_z-of_z w32 c.args.least c.ranges.least, to_z-of_z w32 c.args.greatest c.ranges.greatest, to_z-of_z w32 c.ut_offset-in-Alternate.result std_fits) at c.with_offset-with_std.ensures in
-    let both = rw (to_z-of_z w32 low low_fits, to_z-of_z w32 high high_fits, to_z-of_z w32 c.ut_offset-in-Alternate-2.result dst_fits) at c.with_offset-in-Alternate.ensures in
+    let one = rw (to_z-of_z w32 c.args.least c.ranges.least, to_z-of_z w32 c.args.greatest c.ranges.greatest, to_z-of_z w32 c.ut_offset-in-Alternate.result (search rules)) at c.with_offset-with_std.ensures in
+    let both = rw (to_z-of_z w32 low (search rules), to_z-of_z w32 high (search rules), to_z-of_z w32 c.ut_offset-in-Alternate-2.result (search rules)) at c.with_offset-in-Alternate.ensures in
     rw c.in-Alternate.is (record {
       least = omega (arith, ints, one.least, both.least);
       greatest = omega (arith, ints, one.greatest, both.greatest);

@@ -15,12 +15,11 @@ pub returns-in_err-rule_type-clause-err : goal.returns-in_err-rule_type-clause-e
 returns-in_err-rule_type-clause-err c =
     let p = err_from_is_err_and c.from_residual.result c.from_residual.ensures.1 in
     let z = zone_with c.args.transitions.now c.args.local_time_types.now c.args.leap_seconds.now (lent_rule c.args.extra_rule) in
-    let last = c.in-Some-last.last.now in
     let time = c.unix_leap_time-last_time.ensures in
     let fits : SFits w64 c.unix_leap_time-last_time.result = search rules in
     let begun = rw (to_z-of_z w64 c.unix_leap_time-last_time.result fits, time) at c.if-not-has_begun_at.ensures in
     let none = rw (to_z-of_z w64 c.unix_leap_time-last_time.result fits, time) at c.in_err-rule_type.ensures.err.1 in
-    rw (p.1, p.2) (inl (c.in_err-rule_type.ensures.err.0, not_answers z (rule_seen c.in-Some.rule) last (ap (option_map rule_seen) c.in-Some.is) (sym c.in-Some-last.ensures.value) begun none))
+    rw (p.1, p.2) (inl (c.in_err-rule_type.ensures.err.0, not_answers z (rule_seen c.in-Some.rule) c.in-Some-last.last.now (ap (option_map rule_seen) c.in-Some.is) (sym c.in-Some-last.ensures.value) begun none))
 
 pub offset_bounds-local_time_types-local_time_type_index : goal.offset_bounds-local_time_types-local_time_type_index
 offset_bounds-local_time_types-local_time_type_index c =
@@ -31,8 +30,7 @@ offset_bounds-local_time_types-local_time_type_index c =
 
 pub bounds-local_time_types-local_time_type_index : goal.bounds-local_time_types-local_time_type_index
 bounds-local_time_types-local_time_type_index c =
-    let last = c.in-Some-last.last.now in
-    rw c.local_time_type_index.ensures ((c.requires.transitions_are (length c.args.transitions.now - 1)).0 last (sym c.in-Some-last.ensures.value))
+    rw c.local_time_type_index.ensures ((c.requires.transitions_are (length c.args.transitions.now - 1)).0 c.in-Some-last.last.now (sym c.in-Some-last.ensures.value))
 
 pub returns-then-ne-clause-err : goal.returns-then-ne-clause-err
 returns-then-ne-clause-err c =
@@ -41,9 +39,8 @@ returns-then-ne-clause-err c =
     let is_last = sym c.in-Some-last.ensures.value in
     let answer = c.in_ok-rule_type.rule_type.now in
     let stored = c.index-local_time_types-local_time_type_index.result in
-    let index = c.local_time_type_index.ensures in
     let within : last.type_index < length c.args.local_time_types.now = (c.requires.transitions_are (length c.args.transitions.now - 1)).0 last is_last in
-    let at = slice_get_read c.args.local_time_types.now _ last.type_index stored refl within (rw index at c.index-local_time_types-local_time_type_index.is) in
+    let at = slice_get_read c.args.local_time_types.now _ last.type_index stored refl within (rw c.local_time_type_index.ensures at c.index-local_time_types-local_time_type_index.is) in
     let fits : SFits w64 c.unix_leap_time-last_time.result = search rules in
     let type = rw (to_z-of_z w64 c.unix_leap_time-last_time.result fits, c.unix_leap_time-last_time.ensures) at c.in_ok-rule_type.ensures.ok in
     let begun = rw (to_z-of_z w64 c.unix_leap_time-last_time.result fits, c.unix_leap_time-last_time.ensures) at c.if-not-has_begun_at.ensures in
@@ -56,9 +53,7 @@ returns-clause-agrees c =
     let is_last = sym c.in-Some-last.ensures.value in
     let answer = c.in_ok-rule_type.rule_type.now in
     let stored = c.index-local_time_types-local_time_type_index.result in
-    let index = c.local_time_type_index.ensures in
     let within : last.type_index < length c.args.local_time_types.now = (c.requires.transitions_are (length c.args.transitions.now - 1)).0 last is_last in
-    let at = slice_get_read c.args.local_time_types.now _ last.type_index stored refl within (rw index at c.index-local_time_types-local_time_type_index.is) in
-    let fits : SFits w64 c.unix_leap_time-last_time.result = search rules in
-    let type = rw (to_z-of_z w64 c.unix_leap_time-last_time.result fits, c.unix_leap_time-last_time.ensures) at c.in_ok-rule_type.ensures.ok in
-    agrees_at z (rule_seen c.in-Some.rule) last (ap (option_map rule_seen) c.in-Some.is) is_last c.requires.leap_seconds_are answer type (rw (same_from_test answer stored c.if-ne.ensures) at)
+    let at = slice_get_read c.args.local_time_types.now _ last.type_index stored refl within (rw c.local_time_type_index.ensures at c.index-local_time_types-local_time_type_index.is) in
+    let type = rw (to_z-of_z w64 c.unix_leap_time-last_time.result (search rules), c.unix_leap_time-last_time.ensures) at c.in_ok-rule_type.ensures.ok in
+    agrees_at z (rule_seen c.in-Some.rule) last (ap (option_map rule_seen) c.in-Some.is) is_last answer type (rw (same_from_test answer stored c.if-ne.ensures) at)

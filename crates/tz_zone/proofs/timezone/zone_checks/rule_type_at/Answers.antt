@@ -3,7 +3,6 @@ use Rattle.std.proofs.Common.{rules}
 use Rattle.std.proofs.lemmas.Int.{to_z-of_z}
 use Rattle.std.proofs.lemmas.Result.{IfErr-weaker}
 use mir.Syntax.{w64}
-use mir.Val.{SFits}
 use Rattle.tz_rule.specs.RuleRef.{rule_seen}
 use Rattle.tz_zone.proofs.RuleChecks.{no_rule_type_at}
 use Rattle.tz_zone.proofs.timezone.zone_checks.rule_type_at.Goals as goal
@@ -12,5 +11,4 @@ pub returns-in-Ok-clause-err : goal.returns-in-Ok-clause-err
 returns-in-Ok-clause-err c =
     let v = c.args.unix_leap_time in
     let effect = rw (to_z-of_z w64 v c.ranges.unix_leap_time) at c.in-Ok.ensures.ok in
-    let fits : SFits w64 c.in-Ok.unix_time = search rules in
-    IfErr-weaker c.find_local_time_type.result _ _ (λ e none. (none.0, no_rule_type_at c.args.leap_seconds.now (rule_seen c.args.rule) v c.in-Ok.unix_time c.requires effect (λ t type. none.1 t (rw (to_z-of_z w64 c.in-Ok.unix_time fits) type)))) c.find_local_time_type.ensures.err
+    IfErr-weaker c.find_local_time_type.result _ _ (λ e none. (none.0, no_rule_type_at c.args.leap_seconds.now (rule_seen c.args.rule) v c.in-Ok.unix_time effect (λ t type. none.1 t (rw (to_z-of_z w64 c.in-Ok.unix_time (search rules)) type)))) c.find_local_time_type.ensures.err

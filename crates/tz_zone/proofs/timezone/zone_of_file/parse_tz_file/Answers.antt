@@ -14,12 +14,10 @@ use Rattle.tz_zone.proofs.timezone.zone_of_file.parse_tz_file.Goals as goal
 pub returns-in_err-tables-clause-err : goal.returns-in_err-tables-clause-err
 returns-in_err-tables-clause-err g c =
     let p = err_from_is_err_and c.from_residual-in_err-tables.result c.from_residual-in_err-tables.ensures.1 in
-    let bytes = c.args.bytes.now in
-    let same : unit_view c.in_ok-frame.frame.unit ≡ part_of bytes = c.in_ok-frame.ensures.unit in
-    let e = c.in_err-tables.field-0.0 in
+    let same : unit_view c.in_ok-frame.frame.unit ≡ part_of c.args.bytes.now = c.in_ok-frame.ensures.unit in
     rw (p.1, p.2) (elim (c.in_err-tables.ensures.err) [
       | inl memory ↦ inl memory
-      | inr fails ↦ inr (inr (inl (c.in_ok-frame.ensures.ok, subst (λ (p : Part). ContentFails p.block p.counts.local_type e) same fails)))
+      | inr fails ↦ inr (inr (inl (c.in_ok-frame.ensures.ok, subst (λ (p : Part). ContentFails p.block p.counts.local_type c.in_err-tables.field-0.0) same fails)))
     ])
 
 pub returns-then-not-may_hold-clause-err : goal.returns-then-not-may_hold-clause-err

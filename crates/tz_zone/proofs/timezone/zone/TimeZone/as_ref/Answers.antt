@@ -2,12 +2,9 @@
 use Rattle.std.proofs.Common.{rules}
 use Rattle.std.proofs.lemmas.Int.{to_z-of_z}
 use mir.Syntax.{w32}
-use mir.Val.{SFits}
 use Rattle.tz_zone.proofs.timezone.zone.TimeZone.as_ref.Goals as goal
 
 pub from_valid_parts-requires-clause-offsets : goal.from_valid_parts-requires-clause-offsets
 from_valid_parts-requires-clause-offsets g c =
     let zone = c.args.self.now in
-    let fits_least : SFits w32 zone.least_offset = search rules in
-    let fits_greatest : SFits w32 zone.greatest_offset = search rules in
-    rw (c.deref-2.ensures.value, to_z-of_z w32 zone.least_offset fits_least, to_z-of_z w32 zone.greatest_offset fits_greatest) zone.offsets
+    rw (c.deref-2.ensures.value, to_z-of_z w32 zone.least_offset (search rules), to_z-of_z w32 zone.greatest_offset (search rules)) zone.offsets

@@ -2,7 +2,6 @@
 use Rattle.std.proofs.Common.{rules}
 use Rattle.std.proofs.lemmas.Int.{to_z-of_z}
 use mir.Syntax.{w32}
-use mir.Val.{SFits}
 use Rattle.tz_zone.proofs.timezone.zone.TimeZone.from_read_parts.Goals as goal
 
 pub invariant_of-result-clause-sound : goal.invariant_of-result-clause-sound
@@ -17,6 +16,4 @@ check_read_parts-requires g c = rw (c.deref.ensures.value, c.deref-2.ensures.val
 pub invariant_of-result-clause-offsets : goal.invariant_of-result-clause-offsets
 invariant_of-result-clause-offsets g c =
     let ends = c.offsets-least_offset in
-    let fits_least : SFits w32 ends.result.0 = search rules in
-    let fits_greatest : SFits w32 ends.result.1 = search rules in
-    rw (to_z-of_z w32 ends.result.0 fits_least, to_z-of_z w32 ends.result.1 fits_greatest, ← c.deref-4.ensures.value) (∣ (rw c.lent-2.ensures at ends.ensures.least, rw c.lent-2.ensures at ends.ensures.greatest) ∣₁)
+    rw (to_z-of_z w32 ends.result.0 (search rules), to_z-of_z w32 ends.result.1 (search rules), ← c.deref-4.ensures.value) (∣ (rw c.lent-2.ensures at ends.ensures.least, rw c.lent-2.ensures at ends.ensures.greatest) ∣₁)

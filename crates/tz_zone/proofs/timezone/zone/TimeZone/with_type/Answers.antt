@@ -2,7 +2,6 @@
 use Rattle.std.proofs.Common.{rules}
 use Rattle.std.proofs.lemmas.Int.{to_z-of_z}
 use mir.Syntax.{w32}
-use mir.Val.{SFits}
 use Rattle.tz_rule.specs.LocalTimeType.{LocalTimeType}
 use Rattle.tz_zone.specs.Table.{zone_of_type}
 use Rattle.tz_zone.specs.ValidZone.{IsValidZone}
@@ -28,5 +27,4 @@ invariant_of-result-clause-valid g c = rw (c.new.ensures.items, c.in_ok-local_ti
 
 pub invariant_of-result-clause-offsets : goal.invariant_of-result-clause-offsets
 invariant_of-result-clause-offsets g c =
-    let fits : SFits w32 c.ut_offset-ut_offset.result = search rules in
-    rw (c.in_ok-local_time_types.ensures.items, to_z-of_z w32 c.ut_offset-ut_offset.result fits, c.ut_offset-ut_offset.ensures.value) (∣ ends_of_type c.args.local_time_type ∣₁)
+    rw (c.in_ok-local_time_types.ensures.items, to_z-of_z w32 c.ut_offset-ut_offset.result (search rules), c.ut_offset-ut_offset.ensures.value) (∣ ends_of_type c.args.local_time_type ∣₁)

@@ -2,19 +2,16 @@
 use Rattle.std.proofs.Common.{rules}
 use Rattle.std.proofs.lemmas.Int.{to_z-of_z}
 use mir.Syntax.{w32}
-use mir.Val.{SFits}
 use Rattle.tz_zone.proofs.timezone.zone_ref.TimeZoneRef.new.Goals as goal
 
 pub invariant_of-result : goal.invariant_of-result
 invariant_of-result c =
     let ends = c.offsets-least_offset in
-    let fits_least : SFits w32 ends.result.0 = search rules in
-    let fits_greatest : SFits w32 ends.result.1 = search rules in
     let ok = rw c.lent-rule.ensures at c.in_ok-check_parts.ensures.ok in
     let least = rw c.lent-rule.ensures at ends.ensures.least in
     let greatest = rw c.lent-rule.ensures at ends.ensures.greatest in
     record {
       sound = ok.table;
       valid = ∣ ok ∣₁;
-      offsets = rw (to_z-of_z w32 ends.result.0 fits_least, to_z-of_z w32 ends.result.1 fits_greatest) (∣ (least, greatest) ∣₁);
+      offsets = rw (to_z-of_z w32 ends.result.0 (search rules), to_z-of_z w32 ends.result.1 (search rules)) (∣ (least, greatest) ∣₁);
     }

@@ -2,7 +2,6 @@
 use Rattle.std.proofs.Common.{rules}
 use Rattle.std.proofs.lemmas.Int.{to_z-of_z}
 use mir.Syntax.{w32}
-use mir.Val.{SFits}
 use Rattle.tz_zone.specs.ZoneRef.{zone_of}
 use Rattle.tz_zone.proofs.OffsetBounds.{found_end_offsets}
 use Rattle.tz_zone.proofs.timezone.zone_ref.TimeZoneRef.offsets.Goals as goal
@@ -10,6 +9,4 @@ use Rattle.tz_zone.proofs.timezone.zone_ref.TimeZoneRef.offsets.Goals as goal
 pub returns : goal.returns
 returns c =
     let zone = c.args.self.now in
-    let fits_least : SFits w32 zone.least_offset = search rules in
-    let fits_greatest : SFits w32 zone.greatest_offset = search rules in
-    rw (to_z-of_z w32 zone.least_offset fits_least, to_z-of_z w32 zone.greatest_offset fits_greatest) (found_end_offsets (zone_of zone) zone.least_offset zone.greatest_offset zone.offsets)
+    rw (to_z-of_z w32 zone.least_offset (search rules), to_z-of_z w32 zone.greatest_offset (search rules)) (found_end_offsets (zone_of zone) zone.least_offset zone.greatest_offset zone.offsets)

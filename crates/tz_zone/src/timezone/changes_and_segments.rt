@@ -87,8 +87,8 @@ impl<'a> TimeZoneRef<'a> {
         self.following_near(unix_time, place)
     }
 
-    /// What `following_from` returns, if the next change is not simply the next transition. It is a call, so that a step from one transition to the
-    /// next stays small.
+    /// What `following_from` returns, if the next change is not simply the next transition. Not inlined, so that a step from one transition to
+    /// the next stays small.
     #[inline(never)]
     fn following_near(&self, unix_time: i64, place: usize) -> Option<(Change<'a>, usize)>
         ensures { MatchOption result (HasNoFollowing (zone_of self.now) unix_time)
@@ -135,7 +135,7 @@ impl<'a> TimeZoneRef<'a> {
         self.preceding_near(unix_time, place)
     }
 
-    /// What `preceding_from` returns, if the last change is not simply the transition before. It is a call for the same reason.
+    /// What `preceding_from` returns, if the last change is not simply the transition before. Not inlined, for the same reason.
     #[inline(never)]
     fn preceding_near(&self, unix_time: i64, place: usize) -> Option<(Change<'a>, usize)>
         ensures { MatchOption result (HasNoPreceding (zone_of self.now) unix_time)

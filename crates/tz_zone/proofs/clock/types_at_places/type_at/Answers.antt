@@ -5,7 +5,7 @@ use mir.Syntax.{w64}
 use Rattle.tz_zone.specs.ClockSegments.{IsReachedAt}
 use Rattle.tz_zone.specs.ZoneSeen.{zone_seen}
 use Rattle.tz_zone.proofs.PlaceRuns.{types_from_last}
-use Rattle.tz_zone.proofs.clock.place.type_at.Goals as goal
+use Rattle.tz_zone.proofs.clock.types_at_places.type_at.Goals as goal
 
 pub returns-then-place-transitions : goal.returns-then-place-transitions
 returns-then-place-transitions c =

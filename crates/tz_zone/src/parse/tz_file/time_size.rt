@@ -1,0 +1,49 @@
+//! The size of times in a block, four bytes or eight, and of tables that have times. (RFC 8536, section 3.1)
+
+ghost use Rattle.std.specs.Prelude.{◌≡◌, ◌+◌, ◌*◌, ◌≤◌};
+ghost use Rattle.std.specs.Int.{byte_len};
+ghost use Rattle.tz_zone.specs.TzParts.{width_of};
+
+/// How many bytes a time of a block has.
+#[derive(Clone, Copy)]
+pub(super) enum TimeSize {
+    /// Four bytes, in version 1.
+    Four,
+    /// Eight bytes, in the block that later versions add.
+    Eight,
+}
+
+impl TimeSize {
+    /// How many bytes one time has.
+    pub(super) fn len(self) -> usize
+        ensures value { result ≡ byte_len (width_of self) }
+        ensures small { result ≤ 8 }
+    {
+        match self {
+            TimeSize::Four => 4,
+            TimeSize::Eight => 8,
+        }
+    }
+
+    /// How many bytes a number of times has.
+    pub(super) fn times_len(self, count: u32) -> usize
+        ensures value { result ≡ count * byte_len (width_of self) }
+        ensures small { result ≤ 8 * count }
+    {
+        match self {
+            TimeSize::Four => count as usize * 4,
+            TimeSize::Eight => count as usize * 8,
+        }
+    }
+
+    /// How many bytes a number of leap seconds has, each a time and a correction of four bytes.
+    pub(super) fn leaps_len(self, count: u32) -> usize
+        ensures value { result ≡ count * (byte_len (width_of self) + 4) }
+        ensures small { result ≤ 12 * count }
+    {
+        match self {
+            TimeSize::Four => count as usize * 8,
+            TimeSize::Eight => count as usize * 12,
+        }
+    }
+}
