@@ -48,6 +48,11 @@ pub record IsTaker {E : Type 0} (gains : E → E → List Entry → Type 0) (tak
   pub more : (taker middle grown : E) (es fs : List Entry) → gains taker middle es → gains middle grown fs → gains taker grown (es ++ fs)
   pub goes_on : (taker grown : E) (es : List Entry) (r : ℤ) → gains taker grown es → takes taker r → takes grown r
 
+-- one who takes entries, and takes those of the reading
+pub record TakesFrom {E : Type 0} (gains : E → E → List Entry → Type 0) (takes : E → ℤ → Type 0) (taker : E) (r : ℤ) : Type 0 where
+  pub is_taker : IsTaker gains takes
+  pub takes_reading : takes taker r
+
 -- whoever takes entries took all that the reading has, less than 2^33
 abbrev pub Finds : {E : Type 0} → (E → E → List Entry → Type 0) → Clock → ℤ → E → E → Type 0
 Finds gains clock r taker grown = (es : List Entry) × gains taker grown es × AreEntries clock r es × (length es ≤ 2 ^ 33)

@@ -5,16 +5,15 @@ ghost use Rattle.std.specs.Char.{is_ascii_alphabetic};
 ghost use Rattle.std.specs.Fmt.{decimal};
 ghost use Rattle.std.specs.List.{list_all};
 ghost use Rattle.tz_rule.specs.LocalTimeType.{IsDesignation};
-ghost use Rattle.tz_rule.specs.declared.timezone.rule_day.RuleDay.TheVariants as TheDays;
 ghost use Rattle.tz_zone.specs.Bytes.{comma};
 ghost use Rattle.tz_zone.specs.TzText.{IsTzText};
-ghost use Rattle.tz.specs.TzStrings.{minutes_text, plain_time_text, signed_time_text, offset_of_text, is_bare, name_text, day_text, time_of_day_text, turn_text, daylight_offset_text, name_and_offset_text, daylight_text, tz_text, IsShortOffset, IsStandardText, IsDaylightText, IsWritable, AreNamed, is_extended};
+ghost use Rattle.tz.specs.TzStrings.{minutes_text, plain_time_text, signed_time_text, offset_of_text, is_bare, name_text, day_text, turn_text, name_and_offset_text, daylight_text, tz_text, IsShortOffset, IsStandardText, IsDaylightText, IsWritable, AreNamed, is_extended};
 
 use crate::text_buffer::TextBuffer;
 use std::fmt;
 use std::marker::Model;
 use tz_rule::laws::rule_parts_are_sound;
-use tz_zone::timezone::{AlternateTime, LocalTimeType, MonthWeekDay, RuleDay, TransitionRule};
+use tz_zone::timezone::{AlternateTime, LocalTimeType, RuleDay, TransitionRule};
 
 /// The TZ string of a rule, which is made without an allocation. (POSIX.1-2017, Base Definitions, 8.3)
 #[derive(Drop)]
@@ -87,10 +86,8 @@ fn push_time(buffer: &mut TextBuffer, seconds: i32)
 {
     if seconds < 0 {
         buffer.push(b'-');
-        push_plain_time(buffer, seconds.unsigned_abs());
-    } else {
-        push_plain_time(buffer, seconds.unsigned_abs());
     }
+    push_plain_time(buffer, seconds.unsigned_abs());
 }
 
 /// Whether the offset is at most 24:59:59 either way.
@@ -142,22 +139,7 @@ fn push_name(buffer: &mut TextBuffer, name: &str)
     }
 }
 
-/// Appends Mm.w.d.
-#[tactic(auto, unfolding(crate::specs::TzStrings::day_text))]
-fn push_month_week_day(buffer: &mut TextBuffer, day: &MonthWeekDay)
-    requires { length buffer.old + 12 ≤ 128 }
-    ensures text { buffer.new ≡ buffer.old ++ day_text (TheDays.MonthWeekDay day.now) }
-    ensures len { length buffer.new ≤ length buffer.old + 12 }
-{
-    buffer.push(b'M');
-    push_number(buffer, u16::from(day.month()));
-    buffer.push(b'.');
-    push_number(buffer, u16::from(day.week()));
-    buffer.push(b'.');
-    push_number(buffer, u16::from(day.week_day()));
-}
-
-/// Appends a day.
+/// Appends Jn, n or Mm.w.d.
 #[tactic(auto, unfolding(crate::specs::TzStrings::day_text))]
 fn push_day(buffer: &mut TextBuffer, day: &RuleDay)
     requires { length buffer.old + 12 ≤ 128 }
@@ -170,23 +152,18 @@ fn push_day(buffer: &mut TextBuffer, day: &RuleDay)
             push_number(buffer, day.get());
         }
         RuleDay::Julian0WithLeap(day) => push_number(buffer, day.get()),
-        RuleDay::MonthWeekDay(day) => push_month_week_day(buffer, day),
+        RuleDay::MonthWeekDay(day) => {
+            buffer.push(b'M');
+            push_number(buffer, u16::from(day.month()));
+            buffer.push(b'.');
+            push_number(buffer, u16::from(day.week()));
+            buffer.push(b'.');
+            push_number(buffer, u16::from(day.week_day()));
+        }
     }
 }
 
-/// Appends the time of day after a slash, unless it is two o'clock.
-fn push_time_of_day(buffer: &mut TextBuffer, time: i32)
-    requires { length buffer.old + 18 ≤ 128 }
-    ensures text { buffer.new ≡ buffer.old ++ time_of_day_text time }
-    ensures len { length buffer.new ≤ length buffer.old + 18 }
-{
-    if time != DEFAULT_TIME {
-        buffer.push(b'/');
-        push_time(buffer, time);
-    }
-}
-
-/// Appends when one of the two times begins: a comma, the day and the time of day.
+/// Appends when one of the two times begins: a comma, the day, and after a slash the time of day, unless it is two o'clock.
 fn push_switch(buffer: &mut TextBuffer, day: &RuleDay, time: i32)
     requires { length buffer.old + 31 ≤ 128 }
     ensures text { buffer.new ≡ buffer.old ++ comma ∷ turn_text day.now time }
@@ -194,7 +171,10 @@ fn push_switch(buffer: &mut TextBuffer, day: &RuleDay, time: i32)
 {
     buffer.push(b',');
     push_day(buffer, day);
-    push_time_of_day(buffer, time);
+    if time != DEFAULT_TIME {
+        buffer.push(b'/');
+        push_time(buffer, time);
+    }
 }
 
 /// Appends the name of a type and its offset.
@@ -208,20 +188,7 @@ fn push_name_and_offset(buffer: &mut TextBuffer, local_time_type: &LocalTimeType
     push_offset(buffer, local_time_type.ut_offset());
 }
 
-/// Appends a daylight offset, unless it is an hour more than the standard one.
-fn push_daylight_offset(buffer: &mut TextBuffer, std: i32, dst: i32)
-    requires std { IsShortOffset std }
-    requires dst { dst ≢ std +ℤ pos 3600 → IsShortOffset dst }
-    requires room { length buffer.old + 17 ≤ 128 }
-    ensures text { buffer.new ≡ buffer.old ++ daylight_offset_text std dst }
-    ensures len { length buffer.new ≤ length buffer.old + 17 }
-{
-    if dst != std + DEFAULT_SAVING {
-        push_offset(buffer, dst);
-    }
-}
-
-/// Appends the daylight name, its offset, the start and the end.
+/// Appends the daylight name, its offset unless it is an hour more than the standard one, the start and the end.
 fn push_daylight(buffer: &mut TextBuffer, rule: &AlternateTime)
     requires std { IsShortOffset rule.now.std.ut_offset }
     requires dst { rule.now.dst.ut_offset ≢ rule.now.std.ut_offset +ℤ pos 3600 → IsShortOffset rule.now.dst.ut_offset }
@@ -230,24 +197,11 @@ fn push_daylight(buffer: &mut TextBuffer, rule: &AlternateTime)
     ensures len { length buffer.new ≤ length buffer.old + 88 }
 {
     push_name(buffer, rule.dst().time_zone_designation());
-    push_daylight_offset(buffer, rule.std().ut_offset(), rule.dst().ut_offset());
+    if rule.dst().ut_offset() != rule.std().ut_offset() + DEFAULT_SAVING {
+        push_offset(buffer, rule.dst().ut_offset());
+    }
     push_switch(buffer, rule.dst_start(), rule.dst_start_time());
     push_switch(buffer, rule.dst_end(), rule.dst_end_time());
-}
-
-/// Appends the TZ string of a rule.
-fn push_rule(buffer: &mut TextBuffer, rule: &TransitionRule)
-    requires writable { IsWritable rule.now }
-    requires room { length buffer.old + 114 ≤ 128 }
-    ensures { buffer.new ≡ buffer.old ++ tz_text rule.now }
-{
-    match rule {
-        TransitionRule::Fixed(fixed) => push_name_and_offset(buffer, fixed),
-        TransitionRule::Alternate(rule) => {
-            push_name_and_offset(buffer, rule.std());
-            push_daylight(buffer, rule);
-        }
-    }
 }
 
 /// Whether a TZ string can begin with the type.
@@ -315,7 +269,13 @@ impl TzString {
             return None;
         }
         let mut text = TextBuffer::new();
-        push_rule(&mut text, rule);
+        match rule {
+            TransitionRule::Fixed(fixed) => push_name_and_offset(&mut text, fixed),
+            TransitionRule::Alternate(rule) => {
+                push_name_and_offset(&mut text, rule.std());
+                push_daylight(&mut text, rule);
+            }
+        }
         Some(TzString { text })
     }
 

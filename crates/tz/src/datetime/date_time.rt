@@ -146,16 +146,12 @@ impl DateTime {
         if !is_reading(unix_time) {
             return Err(TzError::OutOfRange);
         }
-        Ok(DateTime::from_valid_fields(&fields, local_time_type, unix_time))
+        Ok(DateTime::of_fields(&fields, local_time_type, unix_time))
     }
 
     /// The date time with valid fields, which the type shows at a Unix time.
     #[inline(always)]
-    pub(super) fn from_valid_fields(
-        fields: &Fields,
-        local_time_type: LocalTimeType,
-        unix_time: i64,
-    ) -> Self
+    pub(super) fn of_fields(fields: &Fields, local_time_type: LocalTimeType, unix_time: i64) -> Self
         requires valid { IsValid fields.now }
         requires instant { unix_time ≡ reading fields.now -ℤ local_time_type.ut_offset }
         ensures { result ≡ record { fields = fields.now; local_time_type = local_time_type; unix_time = unix_time } }
@@ -421,20 +417,13 @@ impl DateTime {
         duration_between(earlier.total_nanoseconds(), self.total_nanoseconds())
     }
 
-    /// The fields, which are valid.
+    /// The fields, which are valid and shown.
     #[inline(always)]
     pub(crate) fn fields(&self) -> &Fields
         ensures fields { result.now ≡ self.now.fields }
-        ensures valid { IsValid result.now }
+        ensures sound { IsDateTime self.now }
     {
         &self.fields
-    }
-
-    /// The fields are valid and shown. This does nothing; its contract is what holds of every value.
-    pub(crate) fn parts_are_sound(&self)
-        ensures { IsDateTime self.now }
-    {
-        let _ = &self.fields;
     }
 }
 

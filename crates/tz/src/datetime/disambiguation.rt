@@ -68,18 +68,15 @@ impl Summary {
     pub(super) fn entry(&self, disambiguation: Disambiguation) -> Option<FoundDateTimeKind>
         ensures { (found : List FoundDateTimeKind) → IsSummaryOf found self.now → result ≡ entry_meant disambiguation found }
     {
-        match *self {
-            Summary::Nothing => None,
-            Summary::One(found) => match disambiguation {
-                Disambiguation::Reject => shown_entry(&found),
-                _ => Some(found),
-            },
-            Summary::Several { first, last, shown } => match disambiguation {
-                Disambiguation::Compatible => shown.or(Some(last)),
-                Disambiguation::Earlier => Some(first),
-                Disambiguation::Later => Some(last),
-                Disambiguation::Reject => None,
-            },
+        match (self, disambiguation) {
+            (Summary::Nothing, _) | (Summary::Several { .. }, Disambiguation::Reject) => None,
+            (Summary::One(found), Disambiguation::Reject) => shown_entry(found),
+            (Summary::One(found), _) => Some(*found),
+            (Summary::Several { first, .. }, Disambiguation::Earlier) => Some(*first),
+            (Summary::Several { last, shown, .. }, Disambiguation::Compatible) => {
+                shown.or(Some(*last))
+            }
+            (Summary::Several { last, .. }, Disambiguation::Later) => Some(*last),
         }
     }
 }
@@ -134,16 +131,12 @@ pub(super) fn resolved(
     ensures ok { IfOk result (λ d. entry.now ≡ Normal d) }
     ensures err { IfErr result (IsLookedUpAt disambiguation fields.now entry.now) }
 {
-    let (before, after) = match entry {
-        FoundDateTimeKind::Normal(date_time) => return Ok(*date_time),
-        FoundDateTimeKind::Skipped {
-            before_transition,
-            after_transition,
-        } => (before_transition, after_transition),
-    };
+    if let FoundDateTimeKind::Normal(date_time) = entry {
+        return Ok(*date_time);
+    }
     let side = match disambiguation {
-        Disambiguation::Earlier => after,
-        _ => before,
+        Disambiguation::Earlier => entry.sides().1,
+        _ => entry.sides().0,
     };
     Err(fields.reading() - i64::from(side.local_time_type().ut_offset()))
 }

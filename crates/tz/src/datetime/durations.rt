@@ -33,11 +33,7 @@ fn carried(seconds: i64, nanoseconds: u32) -> Option<(i64, u32)>
 }
 
 /// The seconds and nanoseconds a duration after others, if the seconds are those of a UTC date time.
-pub(super) fn timespec_after(
-    seconds: i64,
-    nanoseconds: u32,
-    duration: Duration,
-) -> Option<(i64, u32)>
+pub(super) fn time_after(seconds: i64, nanoseconds: u32, duration: Duration) -> Option<(i64, u32)>
     requires instant { IsReading seconds }
     requires part { nanoseconds < 1000000000 }
     ensures some { IfSome result (λ t. IsReading t.0
@@ -53,11 +49,7 @@ pub(super) fn timespec_after(
 }
 
 /// The seconds and nanoseconds a duration before others, if the seconds are those of a UTC date time.
-pub(super) fn timespec_before(
-    seconds: i64,
-    nanoseconds: u32,
-    duration: Duration,
-) -> Option<(i64, u32)>
+pub(super) fn time_before(seconds: i64, nanoseconds: u32, duration: Duration) -> Option<(i64, u32)>
     requires instant { IsReading seconds }
     requires part { nanoseconds < 1000000000 }
     ensures some { IfSome result (λ t. IsReading t.0

@@ -1,6 +1,5 @@
 //! What a search finds: instants that show a reading, and jumps over it; and how a list takes them, as date times.
 
-use super::found::jump;
 use super::{DateTime, FoundDateTimeKind};
 use std::alloc::AllocError;
 use tz_base::error::TzError;
@@ -81,7 +80,7 @@ impl<'a, L: DateTimeList> Entries<'a> for Dated<'_, L> {
 
     #[inline(always)]
     fn shown(&mut self, unix_time: i64, local_time_type: &'a LocalTimeType) -> Result<(), TzError> {
-        let date_time = DateTime::from_valid_fields(self.fields, *local_time_type, unix_time);
+        let date_time = DateTime::of_fields(self.fields, *local_time_type, unix_time);
         self.list.push(FoundDateTimeKind::Normal(date_time))?;
         Ok(())
     }
@@ -93,8 +92,12 @@ impl<'a, L: DateTimeList> Entries<'a> for Dated<'_, L> {
         before: &'a LocalTimeType,
         after: &'a LocalTimeType,
     ) -> Result<(), TzError> {
-        let found = jump(self.fields, unix_time, *before, *after)?;
-        self.list.push(found)?;
+        let before_transition = DateTime::shown_by(unix_time, self.fields.nanoseconds, *before)?;
+        let after_transition = DateTime::shown_by(unix_time, self.fields.nanoseconds, *after)?;
+        self.list.push(FoundDateTimeKind::Skipped {
+            before_transition,
+            after_transition,
+        })?;
         Ok(())
     }
 }

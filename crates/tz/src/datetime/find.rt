@@ -361,7 +361,7 @@ impl DateTime {
         let mut writer = SlotWriter::new(buf, 0);
         match find_in(&mut writer, fields, view, time_zone_ref) {
             Ok(()) => {
-                let count = writer.count();
+                let count = writer.count;
                 Ok(FoundDateTimeListRefMut::counted(buf, count))
             }
             Err(fault) => Err(Refused { buf, fault }),

@@ -1,18 +1,10 @@
 //! What a search of date times finds: an entry, and lists of entries in memory of their own or in a buffer of the caller.
 
-ghost use Rattle.std.specs.Prelude.{◌≡◌, IfOk, IfErr};
-ghost use Rattle.tz_base.specs.Fields.{IsValid};
-ghost use Rattle.tz.specs.Entries.{Jump, IsEntryOutside};
-ghost use Rattle.tz.specs.Found.{CanBeMade};
-ghost use Rattle.tz.specs.EntryDateTimes.{IsDateTimeOf};
-
 use super::DateTime;
 use super::entries::DateTimeList;
 use std::alloc::{AllocError, Allocator, Global};
 use std::fmt;
 use tz_base::error::TzError;
-use tz_base::fields::Fields;
-use tz_zone::timezone::LocalTimeType;
 
 /// A found date time.
 #[derive(Clone, Copy, Debug, PartialEq)]
@@ -34,54 +26,20 @@ impl FoundDateTimeKind {
     ghost use Rattle.std.specs.Prelude.{◌≡◌};
     ghost use Rattle.tz.specs.Found.{first_side, last_side};
 
-    /// The date time, or the side before the jump.
-    pub(crate) fn first_side(&self) -> DateTime
-        ensures { result ≡ first_side self.now }
+    /// The date time twice, or the sides before and after the jump.
+    #[inline(always)]
+    pub(crate) fn sides(&self) -> (&DateTime, &DateTime)
+        ensures first { result.0.now ≡ first_side self.now }
+        ensures last { result.1.now ≡ last_side self.now }
     {
-        match *self {
-            FoundDateTimeKind::Normal(date_time) => date_time,
+        match self {
+            FoundDateTimeKind::Normal(date_time) => (date_time, date_time),
             FoundDateTimeKind::Skipped {
                 before_transition,
-                ..
-            } => before_transition,
-        }
-    }
-
-    /// The date time, or the side after the jump.
-    pub(crate) fn last_side(&self) -> DateTime
-        ensures { result ≡ last_side self.now }
-    {
-        match *self {
-            FoundDateTimeKind::Normal(date_time) => date_time,
-            FoundDateTimeKind::Skipped {
                 after_transition,
-                ..
-            } => after_transition,
+            } => (before_transition, after_transition),
         }
     }
-}
-
-/// A jump from the first type to the second, with the nanoseconds of the fields.
-///
-/// `OutOfRange`: a side of it is in no year of 32 bits.
-#[inline(always)]
-pub(super) fn jump(
-    fields: &Fields,
-    unix_time: i64,
-    before: LocalTimeType,
-    after: LocalTimeType,
-) -> Result<FoundDateTimeKind, TzError>
-    requires { IsValid fields.now }
-    ensures ok { IfOk result (IsDateTimeOf fields.now (Jump unix_time before after)) }
-    ensures made { IfOk result CanBeMade }
-    ensures err { IfErr result (λ e. (e ≡ TzError.OutOfRange) × IsEntryOutside (Jump unix_time before after)) }
-{
-    let before_transition = DateTime::shown_by(unix_time, fields.nanoseconds, before)?;
-    let after_transition = DateTime::shown_by(unix_time, fields.nanoseconds, after)?;
-    Ok(FoundDateTimeKind::Skipped {
-        before_transition,
-        after_transition,
-    })
 }
 
 /// The date times that a search found, by rising Unix time.
@@ -134,16 +92,14 @@ impl<A: Allocator + Copy> FoundDateTimeList<A> {
     pub fn earliest(&self) -> Option<DateTime>
         ensures { result ≡ earliest_of (found_of self.now) }
     {
-        let first = self.found.first()?;
-        Some(first.first_side())
+        Some(*self.found.first()?.sides().0)
     }
 
     /// The latest date time; of a jump the side after it. `None` if nothing was found.
     pub fn latest(&self) -> Option<DateTime>
         ensures { result ≡ latest_of (found_of self.now) }
     {
-        let last = self.found.last()?;
-        Some(last.last_side())
+        Some(*self.found.last()?.sides().1)
     }
 
     /// What was found.
@@ -262,20 +218,14 @@ impl<'a> FoundDateTimeListRefMut<'a> {
     pub fn earliest(&self) -> Option<DateTime>
         ensures { result ≡ earliest_slot (written_of (slots_of self.now) (count_of self.now)) }
     {
-        match self.data().first() {
-            Some(Some(found)) => Some(found.first_side()),
-            _ => None,
-        }
+        Some(*self.data().first()?.as_ref()?.sides().0)
     }
 
     /// The latest date time that was written; of a jump the side after it. `None` if nothing was written.
     pub fn latest(&self) -> Option<DateTime>
         ensures { result ≡ latest_slot (written_of (slots_of self.now) (count_of self.now)) }
     {
-        match self.data().last() {
-            Some(Some(found)) => Some(found.last_side()),
-            _ => None,
-        }
+        Some(*self.data().last()?.as_ref()?.sides().1)
     }
 
     /// The date time, if exactly one was found and no jump, and there was a slot for it, and otherwise `None`.
@@ -283,11 +233,8 @@ impl<'a> FoundDateTimeListRefMut<'a> {
         ensures exhaustive { count_of self.now ≤ length (slots_of self.now) → result ≡ unique_slot (written_of (slots_of self.now) (count_of self.now)) }
         ensures short { length (slots_of self.now) < count_of self.now → result ≡ None }
     {
-        if !self.is_exhaustive() {
-            return None;
-        }
         match *self.data() {
-            [Some(FoundDateTimeKind::Normal(date_time))] => Some(date_time),
+            [Some(FoundDateTimeKind::Normal(date_time))] if self.is_exhaustive() => Some(date_time),
             _ => None,
         }
     }

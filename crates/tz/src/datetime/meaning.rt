@@ -45,7 +45,7 @@ pub enum Meaning {
 fn meaning_with(meaning: &Meaning, found: &FoundDateTimeKind) -> Meaning
     ensures { MeansMore meaning.now result (found.now ∷ []) }
 {
-    match meaning {
+    match *meaning {
         Meaning::Nothing => match *found {
             FoundDateTimeKind::Normal(date_time) => Meaning::Once(date_time),
             FoundDateTimeKind::Skipped {
@@ -56,11 +56,8 @@ fn meaning_with(meaning: &Meaning, found: &FoundDateTimeKind) -> Meaning
                 after_transition,
             },
         },
-        Meaning::Once(first) => match found {
-            FoundDateTimeKind::Normal(last) => Meaning::Twice {
-                first: *first,
-                last: *last,
-            },
+        Meaning::Once(first) => match *found {
+            FoundDateTimeKind::Normal(last) => Meaning::Twice { first, last },
             FoundDateTimeKind::Skipped { .. } => Meaning::More(2),
         },
         Meaning::Skipped { .. } => Meaning::More(2),

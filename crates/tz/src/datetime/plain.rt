@@ -50,7 +50,6 @@ impl UtcData {
         ensures fields { result.fields ≡ date_time.now }
         ensures value { IsUtcData result }
     {
-        date_time.parts_are_sound();
         UtcData {
             fields: *date_time.fields(),
             unix_time: date_time.unix_time(),
@@ -65,7 +64,6 @@ impl DateTimeData {
         ensures value { result ≡ date_time_data date_time.now }
         ensures sound { IsDateTime date_time.now }
     {
-        date_time.parts_are_sound();
         DateTimeData {
             fields: *date_time.fields(),
             local_time_type: *date_time.local_time_type(),
@@ -81,20 +79,9 @@ impl Slot for FoundData {
 
     #[inline(always)]
     fn set(&mut self, found: &FoundDateTimeKind) {
-        match found {
-            FoundDateTimeKind::Normal(date_time) => {
-                self.is_skipped = false;
-                self.before = DateTimeData::of(date_time);
-                self.after = DateTimeData::of(date_time);
-            }
-            FoundDateTimeKind::Skipped {
-                before_transition,
-                after_transition,
-            } => {
-                self.is_skipped = true;
-                self.before = DateTimeData::of(before_transition);
-                self.after = DateTimeData::of(after_transition);
-            }
-        }
+        let (before, after) = found.sides();
+        self.is_skipped = matches!(found, FoundDateTimeKind::Skipped { .. });
+        self.before = DateTimeData::of(before);
+        self.after = DateTimeData::of(after);
     }
 }

@@ -1,11 +1,11 @@
 //! Date times and searches in zones of plain data.
 
-ghost use Rattle.std.specs.Prelude.{◌≡◌, ◌≤◌, ◌^◌, List, length, MatchBool, IfOk, IfErr, OnOk};
+ghost use Rattle.std.specs.Prelude.{◌≡◌, ◌≤◌, ◌^◌, List, length, IfOk, IfErr, OnOk};
 ghost use Rattle.tz_base.specs.Fields.{IsValid};
 ghost use Rattle.tz_zone.specs.Clock.{IsClock};
 ghost use Rattle.tz_zone.specs.ZoneViewed.{zone_viewed};
 ghost use Rattle.tz.specs.DateTimes.{ShowsByClock, IsClockFault};
-ghost use Rattle.tz.specs.FindFaults.{IsFarFromEnds, IsFindFault, IsSearchFault};
+ghost use Rattle.tz.specs.FindFaults.{IsFindFault, IsSearchFault};
 ghost use Rattle.tz.specs.Found.{EachCanBeMade, IsFound};
 ghost use Rattle.tz.specs.Plain.{entries_from, placed};
 ghost use Rattle.tz.specs.declared.datetime.found.FoundDateTimeKind.{FoundDateTimeKind};
@@ -39,7 +39,7 @@ pub fn from_timespec(
     DateTime::shown_by(unix_time, nanoseconds, *local_time_type)
 }
 
-/// Adds all that is found of valid fields to the list, in order.
+/// Adds the entries for valid fields to the list, in order.
 #[inline(always)]
 pub(super) fn search_view<L: DateTimeList>(
     list: &mut L,
@@ -56,13 +56,6 @@ pub(super) fn search_view<L: DateTimeList>(
     let (least, greatest) = zone.offsets();
     let parts = zone.other_parts();
     search(list, fields, &mut view, parts, least, greatest)
-}
-
-/// Whether the year is 200 years or more from both ends of 32 bits.
-fn is_far_from_ends(year: i32) -> bool
-    ensures { MatchBool result (IsFarFromEnds year) (¬ IsFarFromEnds year) }
-{
-    -2_147_483_448 <= year && year <= 2_147_483_447
 }
 
 /// Searches without writing anything. Not inlined, so that the search that writes stays small.
@@ -85,13 +78,14 @@ fn check_entries(fields: &Fields, zone: &ZoneView<'_>) -> Result<(), TzError>
 {
     // For the proof, which bounds the entries by these offsets.
     let (_least, _greatest) = zone.offsets();
-    if is_far_from_ends(fields.year) {
+    // 200 years or more from both ends of 32 bits.
+    if -2_147_483_448 <= fields.year && fields.year <= 2_147_483_447 {
         return Ok(());
     }
     check_by_search(fields, zone)
 }
 
-/// Writes what is found of the fields, from one of the entries on, to the slots, as far as they go, and counts all entries.
+/// Writes the entries for the fields, from one of them on, to the slots, as far as they go, and counts all.
 pub fn find_into(
     slots: &mut [FoundData],
     skip: usize,
@@ -109,5 +103,5 @@ pub fn find_into(
     check_entries(fields, zone)?;
     let mut writer = SlotWriter::new(slots, skip);
     search_view(&mut writer, fields, zone)?;
-    Ok(writer.count())
+    Ok(writer.count)
 }

@@ -9,7 +9,7 @@ ghost use Rattle.tz_zone.specs.ValidZone.{IsSoundTable};
 ghost use Rattle.tz_zone.specs.WindowTypes.{IsPlaceOf};
 ghost use Rattle.tz_zone.specs.ZoneRef.{zone_of};
 ghost use Rattle.tz_zone.specs.ZoneSeen.{zone_seen};
-ghost use Rattle.tz.specs.Entries.{Entry, AreEntries, Finds, HasTwoTypes, IsEntryIn, IsGiven, IsGivenFault, IsRefused, IsTaker, lent_type};
+ghost use Rattle.tz.specs.Entries.{Entry, AreEntries, Finds, HasTwoTypes, IsEntryIn, IsGiven, IsGivenFault, IsRefused, TakesFrom, lent_type};
 ghost use Rattle.tz.specs.FindFaults.{IsSearchFault};
 ghost use Rattle.tz.specs.Found.{EachCanBeMade, IsFound, IsJumpOver};
 ghost use Rattle.tz.specs.Outcomes.{AreLooksOf};
@@ -53,8 +53,7 @@ fn give<'a, E: Entries<'a>>(
     last: i64,
 ) -> Result<(), TzError>
     requires small { IsSmall reading }
-    requires taker { IsTaker E.gains E.takes }
-    requires takes { E.takes entries.old reading }
+    requires takes { TakesFrom E.gains E.takes entries.old reading }
     ensures ok { OnOk result ((es : List Entry) × E.gains entries.old entries.new es
         × IsGiven reading (lent_type before.entry) since (lent_type local_time_type.entry) last es) }
     ensures err { IfErr result (IsGivenFault E.refuses reading (lent_type before.entry) since (lent_type local_time_type.entry) last) }
@@ -63,20 +62,14 @@ fn give<'a, E: Entries<'a>>(
         return Ok(());
     };
     let unix_time = shown_at(reading, after);
-    if since <= unix_time {
-        return if unix_time <= last {
-            entries.shown(unix_time, after)
-        } else {
-            Ok(())
-        };
+    if since <= unix_time && unix_time <= last {
+        return entries.shown(unix_time, after);
     }
-    let Some(before) = before else {
-        return Ok(());
-    };
-    if passes_over(reading, since, before, after) {
-        entries.skipped(since, before, after)
-    } else {
-        Ok(())
+    match before {
+        Some(before) if passes_over(reading, since, before, after) => {
+            entries.skipped(since, before, after)
+        }
+        _ => Ok(()),
     }
 }
 
@@ -90,8 +83,7 @@ fn give_around<'a, E: Entries<'a>>(
     after: &'a LocalTimeType,
 ) -> Result<(), TzError>
     requires small { IsSmall reading }
-    requires taker { IsTaker E.gains E.takes }
-    requires takes { E.takes entries.old reading }
+    requires takes { TakesFrom E.gains E.takes entries.old reading }
     ensures ok { OnOk result ((es : List Entry) × E.gains entries.old entries.new es
         × ((z : Zone) → HasTwoTypes z reading since before.entry.now after.entry.now → AreEntries (IsClock z) reading es)) }
     ensures err { IfErr result (λ e. (entry : Entry) × E.refuses e entry
@@ -125,8 +117,7 @@ fn walk<'a, E: Entries<'a>, V: Transitions>(
     high: i64,
 ) -> Result<(), TzError>
     requires searchable { IsSearchable (zone_seen (V.list view.old) parts) reading low high }
-    requires taker { IsTaker E.gains E.takes }
-    requires takes { E.takes entries.old reading }
+    requires takes { TakesFrom E.gains E.takes entries.old reading }
     requires place { IsPlaceOf (zone_seen (V.list view.old) parts) low place }
     ensures ok { OnOk result (Finds E.gains (IsClock (zone_seen (V.list view.old) parts.entry)) reading entries.old entries.new) }
     ensures err { IfErr result (IsRefused E.refuses (IsClock (zone_seen (V.list view.old) parts.entry)) reading) }
@@ -166,8 +157,7 @@ fn search_window<'a, E: Entries<'a>, V: Transitions>(
     high: i64,
 ) -> Result<(), TzError>
     requires searchable { IsSearchable (zone_seen (V.list view.old) parts) reading low high }
-    requires taker { IsTaker E.gains E.takes }
-    requires takes { E.takes entries.old reading }
+    requires takes { TakesFrom E.gains E.takes entries.old reading }
     ensures ok { OnOk result (Finds E.gains (IsClock (zone_seen (V.list view.old) parts.entry)) reading entries.old entries.new) }
     ensures err { IfErr result (IsRefused E.refuses (IsClock (zone_seen (V.list view.old) parts.entry)) reading) }
     ensures at_most { OnOk result ((b w : ℕ) → length (V.list view.old) < 2 ^ b
@@ -189,8 +179,7 @@ fn search_window<'a, E: Entries<'a>, V: Transitions>(
     }
 }
 
-/// The instants between which a clock with offsets from the least to the greatest one can show a reading, or be set forward over it,
-/// both counted.
+/// The first and the last instant at which a clock with offsets from the least to the greatest one can show a reading, or be set forward over it.
 fn window(reading: i64, least: i32, greatest: i32) -> (i64, i64)
     requires small { IsSmall reading }
     requires order { least ≤ℤ greatest }
@@ -223,8 +212,7 @@ pub fn search_zone<'a, E: Entries<'a>>(
     high: i64,
 ) -> Result<(), TzError>
     requires searchable { IsSearchable (zone_of zone) reading low high }
-    requires taker { IsTaker E.gains E.takes }
-    requires takes { E.takes entries.old reading }
+    requires takes { TakesFrom E.gains E.takes entries.old reading }
     ensures ok { OnOk result (Finds E.gains (IsClock (zone_of zone.entry)) reading entries.old entries.new) }
     ensures err { IfErr result (IsRefused E.refuses (IsClock (zone_of zone.entry)) reading) }
 {
@@ -232,7 +220,7 @@ pub fn search_zone<'a, E: Entries<'a>>(
     search_window(entries, reading, &mut view, other_parts(&zone), low, high)
 }
 
-/// Adds all that is found of valid fields to the list, in order, by the least and the greatest offset of the zone.
+/// Adds the entries for valid fields to the list, in order, by the least and the greatest offset of the zone.
 pub(super) fn search<L: DateTimeList, V: Transitions>(
     list: &mut L,
     fields: &Fields,

@@ -33,7 +33,7 @@ impl Slot for Option<FoundDateTimeKind> {
 pub(crate) struct SlotWriter<'a, S> {
     slots: &'a mut [S],
     skip: usize,
-    count: usize,
+    pub(super) count: usize,
 }
 
 impl<'a, S: Slot> SlotWriter<'a, S> {
@@ -52,13 +52,6 @@ impl<'a, S: Slot> SlotWriter<'a, S> {
             skip,
             count: 0,
         }
-    }
-
-    /// How many date times were found, whether there was a slot for each or not.
-    pub(super) fn count(&self) -> usize
-        ensures { result ≡ self.now.count }
-    {
-        self.count
     }
 
     /// Counts one more, and writes it to its slot, if there is one.

@@ -4,7 +4,7 @@ ghost use Rattle.std.specs.Prelude.{MatchBool};
 ghost use Rattle.tz.specs.DateTimes.{IsPastTheEnd};
 
 use super::DateTime;
-use super::durations::{duration_between, timespec_after, timespec_before, utc_timespec};
+use super::durations::{duration_between, time_after, time_before, utc_timespec};
 use crate::text_buffer::TextBuffer;
 use std::fmt;
 use std::marker::Model;
@@ -249,16 +249,10 @@ impl UtcDateTime {
 
     /// The fields.
     pub(crate) fn fields(&self) -> &Fields
-        ensures { result.now ≡ self.now }
+        ensures value { result.now ≡ self.now }
+        ensures sound { IsUtc self.now }
     {
         &self.fields
-    }
-
-    /// The fields are those of a UTC date time. This does nothing; its contract is what holds of every value.
-    pub(crate) fn parts_are_sound(&self)
-        ensures { IsUtc self.now }
-    {
-        let _ = &self.fields;
     }
 
     /// Seconds from [`UtcDateTime::UNIX_EPOCH`] on. Second 60 counts as the next minute's second 0.
@@ -410,7 +404,7 @@ impl UtcDateTime {
         ensures in_range { IsSome result ↔ IsUtcTotal (utc_total self.now +ℤ pos (as_nanos duration)) }
         ensures some { IfSome result (IsUtcAt (utc_total self.now +ℤ pos (as_nanos duration))) }
     {
-        let moved = timespec_after(self.unix_time(), self.fields.nanoseconds, duration);
+        let moved = time_after(self.unix_time(), self.fields.nanoseconds, duration);
         let (unix_time, nanoseconds) = moved?;
         Some(UtcDateTime::at(unix_time, nanoseconds))
     }
@@ -420,7 +414,7 @@ impl UtcDateTime {
         ensures in_range { IsSome result ↔ IsUtcTotal (utc_total self.now -ℤ pos (as_nanos duration)) }
         ensures some { IfSome result (IsUtcAt (utc_total self.now -ℤ pos (as_nanos duration))) }
     {
-        let moved = timespec_before(self.unix_time(), self.fields.nanoseconds, duration);
+        let moved = time_before(self.unix_time(), self.fields.nanoseconds, duration);
         let (unix_time, nanoseconds) = moved?;
         Some(UtcDateTime::at(unix_time, nanoseconds))
     }

@@ -86,7 +86,7 @@ impl ParsedDateTime {
         ensures some { IfSome result (λ u. (offset : ℤ) × (self.now.ut_offset ≡ Some offset) × (u ≡ reading self.now.local -ℤ offset)) }
         ensures none { IfNone result (self.now.ut_offset ≡ None) }
     {
-        self.local.parts_are_sound();
+        let _ = self.local.fields();
         Some(self.local.unix_time() - i64::from(self.ut_offset?))
     }
 }

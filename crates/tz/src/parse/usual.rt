@@ -125,20 +125,10 @@ pub(super) fn read_printed(text: &[u8]) -> Option<(Fields, i32)>
     if month < 1 || month > 12 || month_day < 1 || hour > 23 {
         return None;
     }
-    if minute > 59 || second > 59 {
+    if minute > 59 || second > 59 || month_day > days_in_month(year, month) {
         return None;
     }
-    if month_day > days_in_month(year, month) {
-        return None;
-    }
-    let fields = Fields {
-        year,
-        month,
-        month_day,
-        hour,
-        minute,
-        second,
-        nanoseconds: nanoseconds_at(text),
-    };
+    let nanoseconds = nanoseconds_at(text);
+    let fields = Fields::new(year, month, month_day, hour, minute, second, nanoseconds);
     Some((fields, ut_offset))
 }

@@ -12,4 +12,4 @@ returns-clause-ok c =
     let holds = held found_data c.new-writer.result c.search_view.new.list c.args.slots.now c.args.skip ok.0 ok.1 (omega (arith, ok.3)) new.slots new.skip new.count in
     let same_reference = ok.1.0 ∙ new.same_reference in
     let slots = holds.1 in
-    (ok.0, ok.2, c.count.ensures ∙ holds.0, grind (arith, common_steps))
+    (ok.0, ok.2, holds.0, grind (arith, common_steps))

@@ -12,15 +12,13 @@ returns-in_err-local_time_type-clause-err c =
     let p = err_from_is_err_and c.from_residual.result c.from_residual.ensures.1 in
     rw (p.1, p.2) (inr (inl (few, fault)))
 
-pub returns-clause-ok : goal.returns-clause-ok
-returns-clause-ok c =
-    let fits = to_z-of_z w64 c.args.unix_time c.ranges.unix_time in
-    let found = rw fits at c.in_ok-local_time_type.ensures.ok in
-    IfOk-weaker c.shown_by.result _ _ (λ d h. (c.in_ok-local_time_type.local_time_type.now, found, rw fits at h)) c.shown_by.ensures.ok
-
-pub returns-clause-err : goal.returns-clause-err
-returns-clause-err c =
+pub returns : goal.returns
+returns c =
     let few : c.args.nanoseconds < 1000000000 = search rules in
     let fits = to_z-of_z w64 c.args.unix_time c.ranges.unix_time in
     let found = rw fits at c.in_ok-local_time_type.ensures.ok in
-    IfErr-weaker c.shown_by.result _ _ (λ e h. inr (inr (h.0, few, (c.in_ok-local_time_type.local_time_type.now, found, rw fits at h.1)))) c.shown_by.ensures.err
+    let t = c.in_ok-local_time_type.local_time_type.now in
+    record {
+      ok = IfOk-weaker c.shown_by.result _ _ (λ d h. (t, found, rw fits at h)) c.shown_by.ensures.ok;
+      err = IfErr-weaker c.shown_by.result _ _ (λ e h. inr (inr (h.0, few, (t, found, rw fits at h.1)))) c.shown_by.ensures.err;
+    }

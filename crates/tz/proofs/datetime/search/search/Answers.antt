@@ -39,48 +39,24 @@ search_window-requires g c κs =
           width = c.window-low.ensures.width;
           offsets = offsets_around z r' low high c.args.least c.args.greatest c.requires.offsets.0 c.requires.offsets.1 (omega (arith, ints, low_is, reading_is)) (omega (arith, ints, high_is, reading_is));
         },
-        (
-          record {
+        record {
+          is_taker = record {
             none = dated_none g.L.DateTimeList.gains g.met.L.DateTimeList.none;
             more = dated_more g.L.DateTimeList.gains g.met.L.DateTimeList.more;
             goes_on = dated_goes_on g.L.DateTimeList.gains;
-          },
-          (c.requires.valid, sym reading_is),
-        ),
+          };
+          takes_reading = (c.requires.valid, sym reading_is);
+        },
       ),
     )
 
-pub returns-clause-ok : goal.returns-clause-ok
-returns-clause-ok g c =
+pub returns : goal.returns
+returns g c =
     let z = zone_seen (g.V.Transitions.list c.args.view.now) c.args.parts in
     let f = c.args.fields.now in
     let reading_is = to_z-of_z w64 c.reading-reading.result (search rules) ∙ c.reading-reading.ensures.value in
-    on_ok_weaker c.search_window.result (λ given.
-    let dated = given.1 in
-    let found = dated.2 in
-    let are = given.2 in (
-      found,
-      subst (λ now. g.L.DateTimeList.gains c.args.list.now now found) (let name = dated.1 in grind (arith, common_steps)) dated.3,
-      found_from_entries (IsClock z) f given.0 found are dated.4,
-      omega (arith, as_long (IsClock z) f given.0 found are dated.4, given.3),
-    )) (rw reading_is at c.search_window.ensures.ok)
-
-pub returns-clause-made : goal.returns-clause-made
-returns-clause-made g c =
-    let z = zone_seen (g.V.Transitions.list c.args.view.now) c.args.parts in
-    let reading_is = to_z-of_z w64 c.reading-reading.result (search rules) ∙ c.reading-reading.ensures.value in
-    on_ok_weaker c.search_window.result (λ given. made_from_entries (IsClock z) c.args.fields.now given.0 given.1.2 given.2 given.1.4) (rw reading_is at c.search_window.ensures.ok)
-
-pub returns-clause-err : goal.returns-clause-err
-returns-clause-err g c =
-    let z = zone_seen (g.V.Transitions.list c.args.view.now) c.args.parts in
-    let reading_is = to_z-of_z w64 c.reading-reading.result (search rules) ∙ c.reading-reading.ensures.value in
-    IfErr-weaker c.search_window.result _ _ (λ e refused. fault_from_refused (IsClock z) c.args.fields.now c.requires.valid g.L.DateTimeList.takes_memory e refused) (rw reading_is at c.search_window.ensures.err)
-
-pub returns-clause-looks : goal.returns-clause-looks
-returns-clause-looks g c =
-    let z = zone_seen (g.V.Transitions.list c.args.view.now) c.args.parts in
-    let r = reading c.args.fields.now in
+    let ok = rw reading_is at c.search_window.ensures.ok in
+    let r = reading f in
     let low = c.window-low.result.0 in
     let high = c.window-low.result.1 in
     let greatest = c.args.greatest in
@@ -89,5 +65,21 @@ returns-clause-looks g c =
     let high_is = end_is high r c.reading-reading.result c.args.least fits_reading c.ranges.least c.window-low.ensures.high c.reading-reading.ensures.value in
     let window = window_from_offsets z.types z.extra_rule r low high c.args.least greatest c.requires.offsets.0 c.requires.offsets.1 low_is high_is in
     let searched = rw (to_z-of_z w64 low (search rules), to_z-of_z w64 high (search rules)) at c.search_window.ensures.at_most in
-    let at_most = on_ok_weaker c.search_window.result (λ few b w bits around. few b w bits (most_in_window z r low high window w around)) searched in
-    record { at_most = at_most; at_least_one = c.search_window.ensures.at_least_one; none = c.search_window.ensures.none }
+    record {
+      ok = on_ok_weaker c.search_window.result (λ given.
+          let dated = given.1 in
+          let found = dated.2 in
+          let are = given.2 in (
+            found,
+            subst (λ now. g.L.DateTimeList.gains c.args.list.now now found) (let name = dated.1 in grind (arith, common_steps)) dated.3,
+            found_from_entries (IsClock z) f given.0 found are dated.4,
+            omega (arith, as_long (IsClock z) f given.0 found are dated.4, given.3),
+          )) ok;
+      made = on_ok_weaker c.search_window.result (λ given. made_from_entries (IsClock z) f given.0 given.1.2 given.2 given.1.4) ok;
+      err = IfErr-weaker c.search_window.result _ _ (λ e refused. fault_from_refused (IsClock z) f c.requires.valid g.L.DateTimeList.takes_memory e refused) (rw reading_is at c.search_window.ensures.err);
+      looks = record {
+        at_most = on_ok_weaker c.search_window.result (λ few b w bits around. few b w bits (most_in_window z r low high window w around)) searched;
+        at_least_one = c.search_window.ensures.at_least_one;
+        none = c.search_window.ensures.none;
+      };
+    }

@@ -21,12 +21,12 @@ shown-requires g c =
     let u = c.shown_at.result in
     let at : u ≡ r -ℤ t.ut_offset = rw (to_z-of_z w64 r c.ranges.reading) at c.shown_at.ensures in
     let reads : r ≡ u +ℤ t.ut_offset = omega (arith, ints, at) in
-    rw (to_z-of_z w64 u (search rules)) (λ k. ((refl, tt), subst (g.E.Entries.takes c.args.entries.now) reads c.requires.takes))
+    rw (to_z-of_z w64 u (search rules)) (λ k. ((refl, tt), subst (g.E.Entries.takes c.args.entries.now) reads c.requires.takes.takes_reading))
 
 pub walk-requires : goal.walk-requires
 walk-requires g c =
     let low_is = to_z-of_z w64 c.args.low c.ranges.low in
-    rw (c.window_types.ensures.same, to_z-of_z w64 c.args.reading c.ranges.reading, low_is, to_z-of_z w64 c.args.high c.ranges.high) (λ k. ((refl, tt), (c.requires.searchable, (c.requires.taker, (c.requires.takes, rw low_is at c.in-More.ensures.place)))))
+    rw (c.window_types.ensures.same, to_z-of_z w64 c.args.reading c.ranges.reading, low_is, to_z-of_z w64 c.args.high c.ranges.high) (λ k. ((refl, tt), (c.requires.searchable, (c.requires.takes, rw low_is at c.in-More.ensures.place))))
 
 pub returns-in-One : goal.returns-in-One
 returns-in-One g c =

@@ -20,7 +20,7 @@ returns-in_default-clause-ok g c =
     let high = c.args.high in
     let never = rw (to_z-of_z w64 low c.ranges.low) at c.in_default.ensures.stage in
     let way = walked_to_first clock low high c.args.reading s.offsets (high +ℤ pos 1) (omega (arith, ints, s.order)) (λ u from before. never u from (omega (arith, ints, before, s.reach))) in
-    ([], c.requires.taker.none c.args.entries.now, walked_to_end clock low high c.args.reading s.offsets None (high +ℤ pos 1) [] way (omega (arith, ints)), omega arith)
+    ([], c.requires.takes.is_taker.none c.args.entries.now, walked_to_end clock low high c.args.reading s.offsets None (high +ℤ pos 1) [] way (omega (arith, ints)), omega arith)
 
 pub loop-since-init : goal.loop-since-init
 loop-since-init g c =
@@ -33,7 +33,7 @@ loop-since-init g c =
       same = refl;
       fits = fits;
       stage = λ inside. found.1;
-      found = ([], c.requires.taker.none c.args.entries.now, walked_to_first (IsClock z) c.args.low c.args.high c.args.reading c.requires.searchable.offsets first found.0 found.2);
+      found = ([], c.requires.takes.is_taker.none c.args.entries.now, walked_to_first (IsClock z) c.args.low c.args.high c.args.reading c.requires.searchable.offsets first found.0 found.2);
       looks = looks_at_first z c.args.low c.args.high c.in-Some.stage.place (g.V.Transitions.looks c.first_stage.new.view);
     })
 
@@ -116,7 +116,7 @@ loop-since-preserved-then-since-span g c =
       stage = λ within. ensured.next first (last +ℤ pos 1) stage (omega (arith, ints, some)) (omega (arith, ints)) within;
       found = (
         so_far.found.0 ++ given.0,
-        c.requires.taker.more c.args.entries.now c.loop-since.entries c.give.new.entries so_far.found.0 given.0 so_far.found.1 given.1,
+        c.requires.takes.is_taker.more c.args.entries.now c.loop-since.entries c.give.new.entries so_far.found.0 given.0 so_far.found.1 given.1,
         walked_on (IsClock z) low high c.args.reading s.offsets (lent_type c.loop-since.before) since so_far.found.0 so_far.found.2 (lent_type span.local_time_type) last holds some given.0 given.2 (last +ℤ pos 1) refl,
       );
       looks = looks_on z s.sound low high s.reach first begun.0 c.in-Some.stage begun.1 since c.loop-since.stage stage inside
@@ -182,3 +182,10 @@ pub returns-clause-at_most : goal.returns-clause-at_most
 returns-clause-at_most g c =
     let looks = rw (c.first_stage.ensures.same, to_z-of_z w64 c.args.low c.ranges.low, to_z-of_z w64 c.args.high c.ranges.high) at c.loop-since.invariant.looks in
     λ b w bits most. looks_in_all c.args.place _ _ _ _ b w bits c.first_stage.ensures.known c.first_stage.ensures.at_most (looks.few w most)
+
+pub give-requires : goal.give-requires
+give-requires g c κs =
+    let takes = c.requires.takes in
+    let found = c.loop-since.invariant.found in
+    let still = takes.is_taker.goes_on c.args.entries.now c.loop-since.entries found.0 c.args.reading found.1 takes.takes_reading in
+    rw (to_z-of_z w64 c.args.reading c.ranges.reading) ((refl, tt), (c.requires.searchable.small, record { is_taker = takes.is_taker; takes_reading = still }))

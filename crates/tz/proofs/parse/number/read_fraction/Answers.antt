@@ -23,15 +23,10 @@ overflow_mul-result c =
     let read = fraction_read c.in-Some.digits.now c.read_digits-size.result.0 c.read_digits-size.result.1 c.pow-padding.result c.pow-padding.ensures c.read_digits-size.ensures.digits c.read_digits-size.ensures.count c.if-count-eq0.false c.if-count-gt9.false c.read_digits-size.ensures.size in
     record { fits = omega (arith, read.below) }
 
-pub returns-clause-below : goal.returns-clause-below
-returns-clause-below c =
-    let read = fraction_read c.in-Some.digits.now c.read_digits-size.result.0 c.read_digits-size.result.1 c.pow-padding.result c.pow-padding.ensures c.read_digits-size.ensures.digits c.read_digits-size.ensures.count c.if-count-eq0.false c.if-count-gt9.false c.read_digits-size.ensures.size in
-    read.below
-
-pub returns-clause-fraction : goal.returns-clause-fraction
-returns-clause-fraction c =
+pub returns : goal.returns
+returns c =
     let read = fraction_read c.in-Some.digits.now c.read_digits-size.result.0 c.read_digits-size.result.1 c.pow-padding.result c.pow-padding.ensures c.read_digits-size.ensures.digits c.read_digits-size.ensures.count c.if-count-eq0.false c.if-count-gt9.false c.read_digits-size.ensures.size in
     let count = c.read_digits-size.result.1 in
     let digits = c.in-Some.digits.now in
     let all = take_all (length digits - count) (drop count digits) (omega (arith, length-drop count digits)) in
-    rw all (inr (digits, take count digits, c.in-Some.ensures, c.read_digits-size.ensures.digits, omega (arith, read.long, c.if-count-eq0.false), omega (arith, read.long, c.if-count-gt9.false), read.scaled))
+    record { fraction = rw all (inr (digits, take count digits, c.in-Some.ensures, c.read_digits-size.ensures.digits, omega (arith, read.long, c.if-count-eq0.false), omega (arith, read.long, c.if-count-gt9.false), read.scaled)); below = read.below }

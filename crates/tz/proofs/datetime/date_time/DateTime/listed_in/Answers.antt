@@ -11,4 +11,4 @@ returns-in-Ok-clause-ok g c =
     let holds = held Some c.new-writer.result c.find_in.new.list c.args.buf.now 0 ok.0 ok.1 (omega (arith, ok.3)) new.slots new.skip new.count in
     let same_reference = ok.1.0 ∙ new.same_reference in
     let slots = holds.1 ∙ sym (filled_is_placed c.args.buf.now ok.0) in
-    (ok.0, ok.2, c.counted.ensures.count ∙ c.count-count.ensures ∙ holds.0, c.counted.ensures.slots ∙ grind (arith, common_steps))
+    (ok.0, ok.2, c.counted.ensures.count ∙ holds.0, c.counted.ensures.slots ∙ grind (arith, common_steps))

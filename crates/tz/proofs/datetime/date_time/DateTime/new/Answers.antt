@@ -36,7 +36,7 @@ returns c =
     let a = c.args in
     let unix_time = reading (fields_of a.year a.month a.month_day a.hour a.minute a.second a.nanoseconds) -ℤ a.local_time_type.ut_offset in
     record {
-      value = c.from_valid_fields.ensures ∙ ap (moment_of c.new-fields.result c.args.local_time_type) instant ∙ ap (λ (f : Fields). moment_of f c.args.local_time_type unix_time) same;
+      value = c.of_fields.ensures ∙ ap (moment_of c.new-fields.result c.args.local_time_type) instant ∙ ap (λ (f : Fields). moment_of f c.args.local_time_type unix_time) same;
       ok = subst IsValid same c.in_ok-check.ensures.ok;
       instant = subst IsReading instant c.if-not-is_reading.ensures;
       err = tt;
