@@ -14,7 +14,7 @@ written output = output.answers.items ++ output.page
 
 -- throughout the kept segment the clock has the type whose suffix is kept
 abbrev pub IsSound : {A : Type 0} → Answers A → Type 0
-IsSound a = (u : ℤ) → a.from ≤ℤ u → u ≤ℤ a.last → IsClock (zone_of a.zone) u a.suffix.local_time_type
+IsSound a = (u : ℤ) → a.segment.from ≤ℤ u → u ≤ℤ a.segment.last → IsClock (zone_of a.zone) u a.segment.suffix.local_time_type
 
 -- what was written is the same, and so is the zone
 pub record Leaves {A : Type 0} (before after : Answers A) : Type 0 where

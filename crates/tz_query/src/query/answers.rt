@@ -7,11 +7,12 @@ ghost use Rattle.tz_zone.specs.TzFileFault.{IsReadFault};
 ghost use Rattle.tz_zone.specs.ZoneRef.{zone_of};
 ghost use Rattle.tz_query.specs.Answers.{AreAnswers, AreFileAnswers};
 
+use super::kept_segment::KeptSegment;
 use super::lines::{Query, after_line, read_query};
 use super::nanoseconds::Nanoseconds;
 use super::output::Output;
 use super::page::Page;
-use super::type_texts::{Suffix, Suffixes};
+use super::suffixes::{Suffix, Suffixes};
 use super::usual_lines::{read_usual_search_line, read_usual_time_line};
 use std::alloc::{AllocError, Allocator};
 use tz::{LocalTimeType, TimeZone, TimeZoneRef, TzError};
@@ -21,14 +22,9 @@ use tz::{LocalTimeType, TimeZone, TimeZoneRef, TzError};
 pub struct Answers<'a, A: Allocator + Copy> {
     pub alloc: A,
     pub zone: TimeZoneRef<'a>,
-    /// The first instant of the kept segment, which is empty if this is after the last.
-    pub from: i64,
-    /// Its last instant.
-    pub last: i64,
-    /// The suffix of the segment's type.
-    pub suffix: Suffix,
+    pub segment: KeptSegment,
     pub suffixes: Suffixes,
-    /// The last line's instant that was outside the segment, 0 if there was none.
+    /// The last instant that was outside the kept segment, at first 0.
     pub missed: i64,
     pub output: Output<A>,
 }
@@ -109,9 +105,11 @@ pub fn answer<A: Allocator + Copy>(
     let mut answers = Answers {
         alloc,
         zone,
-        from: 1,
-        last: 0,
-        suffix: Suffix::new(LocalTimeType::utc()),
+        segment: KeptSegment {
+            from: 1,
+            last: 0,
+            suffix: Suffix::new(LocalTimeType::utc()),
+        },
         suffixes: Suffixes::new(),
         missed: 0,
         output: Output { answers, page },

@@ -1,22 +1,38 @@
 //! The segment that is kept from line to line: the clock has one type throughout it, so an instant in it need not be looked up.
 
+ghost use Rattle.std.specs.Prelude.{◌≤ℤ◌, IsTrue};
+
 use super::answers::Answers;
+use super::suffixes::Suffix;
 use std::alloc::Allocator;
 
-/// 30 days in seconds: lines whose instants are less than this apart are taken as lines in order.
+/// 30 days in seconds. If two instants outside the kept segment that come one after the other are less than this apart, lines are taken to be in
+/// order, so that another segment is worth keeping.
 const NEAR: u64 = 2_592_000;
 
-impl<'a, A: Allocator + Copy> Answers<'a, A> {
-    ghost use Rattle.std.specs.Prelude.{◌≤ℤ◌, IsTrue};
-    ghost use Rattle.tz_query.specs.Outputs.{IsSound, Leaves};
+/// Instants throughout which a clock has one type.
+#[derive(Drop)]
+pub struct KeptSegment {
+    /// The first instant. The segment is empty if this is after the last.
+    pub from: i64,
+    /// The last instant.
+    pub last: i64,
+    /// The suffix of the type.
+    pub suffix: Suffix,
+}
 
-    /// Whether the instants from the first one to the second are in the kept segment.
+impl KeptSegment {
+    /// Whether the instants from the first one to the second are in the segment.
     #[inline(always)]
     pub fn has(&self, low: i64, high: i64) -> bool
         ensures { IsTrue result → (self.now.from ≤ℤ low) × (high ≤ℤ self.now.last) }
     {
         self.from <= low && high <= self.last
     }
+}
+
+impl<'a, A: Allocator + Copy> Answers<'a, A> {
+    ghost use Rattle.tz_query.specs.Outputs.{IsSound, Leaves};
 
     /// Keeps the segment around an instant, if the clock has a type there.
     #[inline(never)]
@@ -26,9 +42,9 @@ impl<'a, A: Allocator + Copy> Answers<'a, A> {
     {
         let segment = self.zone.segment_at(unix_time);
         if let Some(local_time_type) = segment.local_time_type() {
-            self.from = segment.from();
-            self.last = segment.last();
-            self.suffix = *self.suffixes.of(local_time_type);
+            self.segment.from = segment.from();
+            self.segment.last = segment.last();
+            self.segment.suffix = *self.suffixes.of(local_time_type);
         }
     }
 

@@ -10,7 +10,7 @@ use tz::inner::TextBuffer;
 /// Nanoseconds of a second, kept as the nine digits with which a line shows them.
 ///
 /// The digits of most lines are only copied, so no number is computed from them.
-#[derive(Drop)]
+#[derive(Clone, Copy)]
 pub struct Nanoseconds {
     pub digits: [u8; 9],
     pub ghost below: { digits_value 10 digits < 1000000000 },

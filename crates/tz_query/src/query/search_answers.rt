@@ -1,6 +1,6 @@
 //! Answers of fields.
 
-ghost use Rattle.std.specs.Prelude.{◌≡◌, ◌≤◌, ◌⊎◌, ◌∷◌, ◌++◌, [], ℤ, length, IfOk};
+ghost use Rattle.std.specs.Prelude.{◌≡◌, ◌≤◌, ◌⊎◌, ◌∷◌, ◌++◌, [], ℤ, List, length, IfOk, IfSome};
 ghost use Rattle.std.specs.List.{All};
 
 use super::answers::Answers;
@@ -69,18 +69,22 @@ impl<'a> Entries<'a> for LineMeaning<'a> {
 
 impl<'a, A: Allocator + Copy> Answers<'a, A> {
     ghost use Rattle.tz_base.specs.Fields.{IsValid, reading as reading_of};
+    ghost use Rattle.tz_zone.specs.Clock.{IsClock};
     ghost use Rattle.tz_zone.specs.ZoneRef.{zone_of};
     ghost use Rattle.tz.specs.DateTimes.{DateTime, ShowsInstant, moment_of};
+    ghost use Rattle.tz.specs.Entries.{Entry, AreEntries};
     ghost use Rattle.tz.specs.Found.{CanBeMade};
     ghost use Rattle.tz.specs.PrintedText.{moment_text};
     ghost use Rattle.tz.specs.Windows.{IsSearchable};
     ghost use Rattle.tz.specs.declared.datetime.found.FoundDateTimeKind.TheVariants.{Skipped as SkippedKind};
     ghost use Rattle.tz_query.specs.Answers.{entry_text, found_lines};
+    ghost use Rattle.tz_query.specs.LineMeanings.{IsMeaningOf};
     ghost use Rattle.tz_query.specs.Lines.{ended, line_feed};
     ghost use Rattle.tz_query.specs.Nanoseconds.{HasNanoseconds, number_of, with_nanoseconds};
-    ghost use Rattle.tz_query.specs.Outputs.{Adds, IsAnswered, IsSound};
+    ghost use Rattle.tz_query.specs.Outputs.{Adds, IsAnswered, IsSound, Leaves};
     ghost use Rattle.tz_query.specs.Pages.{EndsLine};
     ghost use Rattle.tz_query.specs.declared.query.lines.Query.TheVariants.{Search};
+    ghost use Rattle.tz_query.specs.declared.query.search_answers.LineMeaning.TheVariants.{Nothing, Once};
 
     /// Writes `front` and the line of fields that a type shows.
     #[inline(always)]
@@ -149,13 +153,13 @@ impl<'a, A: Allocator + Copy> Answers<'a, A> {
 
     /// Answers fields with these nanoseconds by a search of their own.
     #[inline(never)]
-    fn answer_by_search(&mut self, fields: &Fields, nanoseconds: &Nanoseconds) -> Written
-        ensures { IfOk result (λ _. IsAnswered (Search (with_nanoseconds fields.now nanoseconds.now)) self.old self.new) }
+    fn answer_by_search(&mut self, fields: Fields, nanoseconds: Nanoseconds) -> Written
+        ensures { IfOk result (λ _. IsAnswered (Search (with_nanoseconds fields nanoseconds)) self.old self.new) }
     {
-        let mut whole = *fields;
+        let mut whole = fields;
         whole.nanoseconds = nanoseconds.number();
         match inner::find_fields(self.alloc, &whole, self.zone) {
-            Ok(list) => self.push_found(&list.into_inner(), nanoseconds),
+            Ok(list) => self.push_found(&list.into_inner(), &nanoseconds),
             Err(TzError::DateTime(fault)) => self.output.push_error(field_fault_name(&fault)),
             Err(TzError::OutOfRange) => self.output.push_error("OutOfRange"),
             Err(TzError::Memory(fault)) => Err(fault),
@@ -164,18 +168,17 @@ impl<'a, A: Allocator + Copy> Answers<'a, A> {
     }
 
     /// Writes the answer lines of fields over which a clock is set forward, or searches for them if a side of the jump is in no year of 32 bits.
-    #[inline(never)]
     fn push_jump(
         &mut self,
-        fields: &Fields,
-        nanoseconds: &Nanoseconds,
+        fields: Fields,
+        nanoseconds: Nanoseconds,
         unix_time: i64,
         before: &LocalTimeType,
         after: &LocalTimeType,
     ) -> Written
-        ensures { IfOk result (λ _. ((x : DateTime) × (y : DateTime) × ShowsInstant unix_time (number_of nanoseconds.now) before.now x
-            × ShowsInstant unix_time (number_of nanoseconds.now) after.now y × CanBeMade (SkippedKind x y) × Adds self.old self.new (ended (found_lines (SkippedKind x y ∷ []))))
-            ⊎ IsAnswered (Search (with_nanoseconds fields.now nanoseconds.now)) self.old self.new) }
+        ensures { IfOk result (λ _. ((x : DateTime) × (y : DateTime) × ShowsInstant unix_time (number_of nanoseconds) before.now x
+            × ShowsInstant unix_time (number_of nanoseconds) after.now y × CanBeMade (SkippedKind x y) × Adds self.old self.new (ended (found_lines (SkippedKind x y ∷ []))))
+            ⊎ IsAnswered (Search (with_nanoseconds fields nanoseconds)) self.old self.new) }
     {
         let Some(first) = shown_fields(unix_time, before.ut_offset()) else {
             return self.answer_by_search(fields, nanoseconds);
@@ -183,46 +186,64 @@ impl<'a, A: Allocator + Copy> Answers<'a, A> {
         let Some(second) = shown_fields(unix_time, after.ut_offset()) else {
             return self.answer_by_search(fields, nanoseconds);
         };
-        self.push_shown(b"F 1\nS ", &first, before, nanoseconds)?;
+        self.push_shown(b"F 1\nS ", &first, before, &nanoseconds)?;
         self.output.page.pop();
-        self.push_shown(b" ", &second, after, nanoseconds)
+        self.push_shown(b" ", &second, after, &nanoseconds)
     }
 
-    /// Answers fields with these nanoseconds by a search in the window of their reading.
+    /// Writes the answer lines of fields that mean this. Values are passed as copies, so that the loop over lines keeps them in registers.
     #[inline(never)]
-    fn answer_in_window(
+    fn push_meaning(
         &mut self,
-        fields: &Fields,
-        nanoseconds: &Nanoseconds,
-        reading: i64,
-        low: i64,
-        high: i64,
+        meaning: &LineMeaning<'_>,
+        fields: Fields,
+        nanoseconds: Nanoseconds,
     ) -> Written
-        requires valid { IsValid fields.now }
-        requires reading { reading ≡ reading_of fields.now }
-        requires searchable { IsSearchable (zone_of self.old.zone) reading low high }
-        requires sound { IsSound self.old }
-        ensures { IfOk result (λ _. IsAnswered (Search (with_nanoseconds fields.now nanoseconds.now)) self.old self.new) }
+        requires valid { IsValid fields }
+        requires means { (es : List Entry) × AreEntries (IsClock (zone_of self.old.zone)) (reading_of fields) es × IsMeaningOf es meaning.now }
+        ensures { IfOk result (λ _. IsAnswered (Search (with_nanoseconds fields nanoseconds)) self.old self.new) }
     {
-        self.follow(low);
-        let mut meaning = LineMeaning::Nothing;
-        let Ok(()) = search_zone(&mut meaning, reading, self.zone, low, high) else {
-            // It takes any entry.
-            unreachable!()
-        };
-        match meaning {
+        match *meaning {
             LineMeaning::Nothing => self.output.push_count(b'F', 0),
             LineMeaning::Once(local_time_type) => {
-                self.push_shown(b"F 1\nN ", fields, local_time_type, nanoseconds)
+                self.push_shown(b"F 1\nN ", &fields, local_time_type, &nanoseconds)
             }
             LineMeaning::Twice(first, last) => {
-                self.push_shown(b"F 2\nN ", fields, first, nanoseconds)?;
-                self.push_shown(b"N ", fields, last, nanoseconds)
+                self.push_shown(b"F 2\nN ", &fields, first, &nanoseconds)?;
+                self.push_shown(b"N ", &fields, last, &nanoseconds)
             }
             LineMeaning::Skipped(unix_time, before, after) => {
                 self.push_jump(fields, nanoseconds, unix_time, before, after)
             }
             LineMeaning::More => self.answer_by_search(fields, nanoseconds),
+        }
+    }
+
+    /// Searches a window for what its reading means, and returns the type that shows it if that is once. It is not inlined, since a search is too
+    /// long to stand where lines are answered.
+    #[inline(never)]
+    fn type_in_window(
+        &mut self,
+        meaning: &mut LineMeaning<'a>,
+        reading: i64,
+        low: i64,
+        high: i64,
+    ) -> Option<&'a LocalTimeType>
+        requires nothing { meaning.old ≡ Nothing }
+        requires searchable { IsSearchable (zone_of self.old.zone) reading low high }
+        requires sound { IsSound self.old }
+        ensures means { (es : List Entry) × AreEntries (IsClock (zone_of self.new.zone)) reading es × IsMeaningOf es meaning.new }
+        ensures once { IfSome result (λ t. meaning.new ≡ Once t) }
+        ensures kept { Leaves self.old self.new }
+    {
+        self.follow(low);
+        let Ok(()) = search_zone(meaning, reading, self.zone, low, high) else {
+            // It takes any entry.
+            unreachable!()
+        };
+        match *meaning {
+            LineMeaning::Once(local_time_type) => Some(local_time_type),
+            _ => None,
         }
     }
 
@@ -233,15 +254,19 @@ impl<'a, A: Allocator + Copy> Answers<'a, A> {
         ensures { IfOk result (λ _. IsAnswered (Search (with_nanoseconds fields.now nanoseconds.now)) self.old self.new) }
     {
         let Ok(()) = fields.check() else {
-            return self.answer_by_search(fields, nanoseconds);
+            return self.answer_by_search(*fields, *nanoseconds);
         };
         let reading = fields.reading();
         let (low, high) = window_of(self.zone, reading);
-        if self.has(low, high) {
-            let (output, suffix) = (&mut self.output, &self.suffix);
+        if self.segment.has(low, high) {
+            let (output, suffix) = (&mut self.output, &self.segment.suffix);
             return output.push_shown(b"F 1\nN ", fields, suffix, nanoseconds);
         }
-        self.answer_in_window(fields, nanoseconds, reading, low, high)
+        let mut meaning = LineMeaning::Nothing;
+        let Some(local_time_type) = self.type_in_window(&mut meaning, reading, low, high) else {
+            return self.push_meaning(&meaning, *fields, *nanoseconds);
+        };
+        self.push_shown(b"F 1\nN ", fields, local_time_type, nanoseconds)
     }
 
     /// Answers any fields.

@@ -7,7 +7,7 @@ use super::answers::Answers;
 use super::error_names::fault_name;
 use super::nanoseconds::Nanoseconds;
 use super::output::{Output, Written};
-use super::type_texts::Suffix;
+use super::suffixes::Suffix;
 use std::alloc::Allocator;
 use tz::LocalTimeType;
 use tz::constants::NANOSECONDS_PER_SECOND;
@@ -76,12 +76,12 @@ impl<'a, A: Allocator + Copy> Answers<'a, A> {
         requires { IsSound self.old }
         ensures { IfOk result (λ _. IsAnswered (Time unix_time (number_of nanoseconds.now)) self.old self.new) }
     {
-        if self.has(unix_time, unix_time) {
-            let suffix = &self.suffix;
+        if self.segment.has(unix_time, unix_time) {
+            let suffix = &self.segment.suffix;
             return self.output.push_instant(unix_time, nanoseconds, suffix);
         }
         let Some(local_time_type) = self.type_at(unix_time) else {
-            return self.answer_by_lookup(unix_time, nanoseconds);
+            return self.answer_by_lookup(unix_time, *nanoseconds);
         };
         let suffix = self.suffixes.of(local_time_type);
         self.output.push_instant(unix_time, nanoseconds, suffix)
@@ -90,13 +90,13 @@ impl<'a, A: Allocator + Copy> Answers<'a, A> {
     /// Looks an instant up once more, for the error: [`Answers::type_at`] keeps none.
     #[cold]
     #[inline(never)]
-    fn answer_by_lookup(&mut self, unix_time: i64, nanoseconds: &Nanoseconds) -> Written
-        ensures { IfOk result (λ _. IsAnswered (Time unix_time (number_of nanoseconds.now)) self.old self.new) }
+    fn answer_by_lookup(&mut self, unix_time: i64, nanoseconds: Nanoseconds) -> Written
+        ensures { IfOk result (λ _. IsAnswered (Time unix_time (number_of nanoseconds)) self.old self.new) }
     {
         match self.zone.find_local_time_type(unix_time) {
             Ok(local_time_type) => {
                 let suffix = self.suffixes.of(local_time_type);
-                self.output.push_instant(unix_time, nanoseconds, suffix)
+                self.output.push_instant(unix_time, &nanoseconds, suffix)
             }
             Err(error) => self.output.push_error(fault_name(&error)),
         }

@@ -52,15 +52,7 @@ pub fn read_usual_search_line<'a>(
     let (minute, after_minute) = read_small(queries, after_hour + 1)?;
     let (second, after_second) = read_small(queries, after_minute + 1)?;
     let next = read_nanoseconds(queries, after_second, nine)?;
-    let fields = Fields {
-        year,
-        month,
-        month_day,
-        hour,
-        minute,
-        second,
-        nanoseconds: 0,
-    };
+    let fields = Fields::new(year, month, month_day, hour, minute, second, 0);
     Some((fields, &queries[next..]))
 }
 

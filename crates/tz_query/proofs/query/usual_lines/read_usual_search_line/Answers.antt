@@ -67,4 +67,4 @@ returns c =
     } in
     let line = line_from_front search_letter (numbers_of f) q (drop 1 q) tail (drop next q) (λ e. absurd (omega (arith, e))) letter parts (inl refl) in
     let first = subst (IsFirstLine q line.0) (sym (take_rest q next)) line.1 in
-    rw (to_z-of_z w32 year year_fits) (n, digits.1, digits.2, (line.0, first, record { line_is = line.2; fields_fit = fit }))
+    rw (c.new-fields.ensures, to_z-of_z w32 year year_fits) (n, digits.1, digits.2, (line.0, first, record { line_is = line.2; fields_fit = fit }))

@@ -22,7 +22,7 @@ pub returns-in-Ok : goal.returns-in-Ok
 returns-in-Ok g c =
     let z = zone_of c.args.self.now.zone in
     let u = c.args.unix_time in
-    time_answer_written u (number_of c.args.nanoseconds.now) c.args.self.now _ c.push_instant.new.self c.push_instant.result
+    time_answer_written u (number_of c.args.nanoseconds) c.args.self.now _ c.push_instant.new.self c.push_instant.result
     (rw (to_z-of_z w64 u c.ranges.unix_time) at (c.push_instant.ensures z (subst (IsClock z _) (sym c.of-suffix.ensures) c.in-Ok.ensures.ok)))
 
 pub returns-in-Err : goal.returns-in-Err
@@ -31,5 +31,5 @@ returns-in-Err g c =
     let fault : IsLookupFault (zone_of c.args.self.now.zone) u c.in-Err.error = rw (to_z-of_z w64 u c.ranges.unix_time) at c.in-Err.ensures.err in
     let name = c.fault_name.result.now in
     let text = codes "E " ++ name in
-    answer_written (Time u (number_of c.args.nanoseconds.now)) c.args.self.now c.push_error.new.self c.push_error.result (text ∷ [])
-    (text, inr (c.in-Err.error, name, inr (inl (c.args.nanoseconds.now.below, fault)), c.fault_name.ensures.text, refl), refl) c.push_error.ensures
+    answer_written (Time u (number_of c.args.nanoseconds)) c.args.self.now c.push_error.new.self c.push_error.result (text ∷ [])
+    (text, inr (c.in-Err.error, name, inr (inl (c.args.nanoseconds.below, fault)), c.fault_name.ensures.text, refl), refl) c.push_error.ensures

@@ -30,16 +30,17 @@ returns-in-Ok g c =
 
 pub returns-in-Err-DateTime : goal.returns-in-Err-DateTime
 returns-in-Err-DateTime g c =
-    let f = with_nanoseconds c.args.fields.now c.args.nanoseconds.now in
+    let f = with_nanoseconds c.args.fields c.args.nanoseconds in
     let fault = c.in-Err-DateTime.fault in
     let error : c.in-Err-DateTime.field-0 ≡ DateTime fault = search rules in
     let refused = told_field_fault (IsClock (zone_of c.args.self.now.zone)) f fault (rw (c.in-Err-DateTime.is, error, c.number.ensures) at c.find_fields.ensures.outcome.err) in
+    let name : c.field_fault_name.result.now ≡ field_fault_text fault = rw error at c.field_fault_name.ensures.text in
     answer_written (Search f) c.args.self.now c.push_error.new.self c.push_error.result ((codes "E " ++ field_fault_text fault) ∷ [])
-    (inr (DateTime fault, field_fault_text fault, refused, refl, refl)) (rw c.field_fault_name.ensures.text at c.push_error.ensures)
+    (inr (DateTime fault, field_fault_text fault, refused, refl, refl)) (rw name at c.push_error.ensures)
 
 pub returns-in-Err-OutOfRange : goal.returns-in-Err-OutOfRange
 returns-in-Err-OutOfRange g c =
-    let f = with_nanoseconds c.args.fields.now c.args.nanoseconds.now in
+    let f = with_nanoseconds c.args.fields c.args.nanoseconds in
     let push_error = c.push_error-in-Err-OutOfRange in
     let error : c.in-Err-OutOfRange.field-0 ≡ OutOfRange = search rules in
     let refused = told_out_of_range (IsClock (zone_of c.args.self.now.zone)) f (rw (c.in-Err-OutOfRange.is, error, c.number.ensures) at c.find_fields.ensures.outcome.err) in
@@ -49,5 +50,5 @@ pub push_found-requires : goal.push_found-requires
 push_found-requires g c =
     let is = rw c.number.ensures at c.in-Ok.ensures.ok in
     let found = found_of c.in-Ok.list in
-    let all = found_nanoseconds (IsClock (zone_of c.args.self.now.zone)) (with_nanoseconds c.args.fields.now c.args.nanoseconds.now) found is in
-    subst (All (HasNanoseconds (number_of c.args.nanoseconds.now))) (sym (c.deref.ensures.value ∙ c.into_inner.ensures)) all
+    let all = found_nanoseconds (IsClock (zone_of c.args.self.now.zone)) (with_nanoseconds c.args.fields c.args.nanoseconds) found is in
+    subst (All (HasNanoseconds (number_of c.args.nanoseconds))) (sym (c.deref.ensures.value ∙ c.into_inner.ensures)) all

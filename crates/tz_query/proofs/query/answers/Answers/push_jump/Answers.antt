@@ -15,7 +15,7 @@ use Rattle.tz_query.proofs.query.answers.Answers.push_jump.Goals as goal
 
 pub returns : goal.returns
 returns g c =
-    let n = number_of c.args.nanoseconds.now in
+    let n = number_of c.args.nanoseconds in
     let u = c.args.unix_time in
     let a = c.args.before.now in
     let b = c.args.after.now in
@@ -27,7 +27,7 @@ returns g c =
     let (civil_b, reads_b) = rw (to_z-of_z w64 u c.ranges.unix_time, to_z-of_z w32 c.ut_offset-2.result fits_b, c.ut_offset-2.ensures.value) at c.in-Some-shown_fields.ensures.some in
     let x : DateTime = moment_of (record first { nanoseconds = n }) a u in
     let y : DateTime = moment_of (record second { nanoseconds = n }) b u in
-    let few = c.args.nanoseconds.now.below in
+    let few = c.args.nanoseconds.below in
     let shown_x : ShowsInstant u n a x = record { civil = civil_with (u +ℤ a.ut_offset) n first few civil_a; type_is = refl; instant_is = refl } in
     let shown_y : ShowsInstant u n b y = record { civil = civil_with (u +ℤ b.ut_offset) n second few civil_b; type_is = refl; instant_is = refl } in
     IfOk-weaker c.push_shown-2.result _ _
