@@ -10,7 +10,7 @@ use tz_base::error::datetime::DateTimeError;
 use tz_base::error::parse::{ParseDataError, TzFileError, TzStringError};
 use tz_base::error::timezone::{LocalTimeTypeError, TimeZoneError, TransitionRuleError};
 
-/// The code of a call that did what it was to do.
+/// The code of a call that succeeded.
 pub(crate) const OK: u32 = 0;
 
 /// The code of a value outside the range of its type.
@@ -34,7 +34,7 @@ pub(crate) const NO_CONFLICT: u32 = 7;
 /// The code of a buffer of the wrong length.
 pub(crate) const BUFFER_LENGTH: u32 = 8;
 
-/// The code of a number that is no choice.
+/// The code of an unknown choice.
 pub(crate) const UNKNOWN_CHOICE: u32 = 9;
 
 /// The code of a number that is no code.

@@ -8,10 +8,15 @@ ghost use Rattle.tz_zone.specs.TzText.{IsTzText};
 ghost use Rattle.tz_zone.specs.TzTextFault.{IsTzTextFault};
 ghost use Rattle.tz_c.specs.Codes.{IsAnswer, IsAnswerBy, file_code};
 ghost use Rattle.tz_c.specs.Files.{GivesTextRule};
+ghost use Rattle.tz_c.specs.Tables.{IsReadAnswer, zone_written};
 
-use crate::codes::{OK, code_of, file_code};
+use crate::codes::{BUFFER_LENGTH, OK, code_of, file_code};
+use crate::zones::OffsetsData;
+use std::alloc::Global;
 use tz_rule::inner::RuleData;
-use tz_zone::inner::{FileSizes, file_sizes, parse_posix_tz};
+use tz_rule::timezone::LocalTimeType;
+use tz_zone::inner::{FileSizes, file_sizes, offsets, parse_posix_tz};
+use tz_zone::timezone::{LeapSecond, TimeZone, Transition};
 
 /// The sizes of a TZif file, by its headers alone.
 #[unsafe(no_mangle)]
@@ -25,6 +30,45 @@ pub extern "C" fn tz_file_sizes(bytes: &[u8], out: &mut FileSizes) -> u32
             OK
         }
         Err(error) => file_code(&error),
+    }
+}
+
+/// The parts of a TZif file and the end offsets of its zone.
+#[unsafe(no_mangle)]
+pub extern "C" fn tz_file_read(
+    alloc: Global,
+    bytes: &[u8],
+    transitions: &mut [Transition],
+    local_time_types: &mut [LocalTimeType],
+    leap_seconds: &mut [LeapSecond],
+    rule: &mut RuleData,
+    out: &mut OffsetsData,
+) -> u32
+    ensures answer { IsReadAnswer bytes.now result (zone_written transitions.new local_time_types.new leap_seconds.new rule.new) out.new }
+    ensures transitions_kept { result ≢ 0 → transitions.new ≡ transitions.old }
+    ensures types_kept { result ≢ 0 → local_time_types.new ≡ local_time_types.old }
+    ensures leap_seconds_kept { result ≢ 0 → leap_seconds.new ≡ leap_seconds.old }
+    ensures rule_kept { result ≢ 0 → rule.new ≡ rule.old }
+    ensures offsets_kept { result ≢ 0 → out.new ≡ out.old }
+{
+    match TimeZone::from_tz_data(alloc, bytes) {
+        Ok(zone) => {
+            let read = zone.as_ref();
+            if read.transitions().len() != transitions.len()
+                || read.local_time_types().len() != local_time_types.len()
+                || read.leap_seconds().len() != leap_seconds.len()
+            {
+                return BUFFER_LENGTH;
+            }
+            transitions.copy_from_slice(read.transitions());
+            local_time_types.copy_from_slice(read.local_time_types());
+            leap_seconds.copy_from_slice(read.leap_seconds());
+            *rule = RuleData::of(read.extra_rule());
+            let (least, greatest) = offsets(&read);
+            *out = OffsetsData { least, greatest };
+            OK
+        }
+        Err(error) => code_of(&error),
     }
 }
 

@@ -13,7 +13,6 @@ mod places;
 mod rules;
 mod searches;
 mod settings;
-mod tables;
 mod texts;
 mod utc;
 mod zones;

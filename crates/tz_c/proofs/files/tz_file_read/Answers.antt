@@ -8,7 +8,7 @@ use Rattle.tz_zone.specs.Table.{Zone}
 use Rattle.tz_zone.specs.TzFile.{IsTzFile}
 use Rattle.tz_zone.specs.ZoneRef.{zone_of}
 use Rattle.tz_c.specs.Tables.{zone_written}
-use Rattle.tz_c.proofs.tables.tz_file_read.Goals as goal
+use Rattle.tz_c.proofs.files.tz_file_read.Goals as goal
 
 pub returns-else-leap_seconds-clause-answer : goal.returns-else-leap_seconds-clause-answer
 returns-else-leap_seconds-clause-answer c =
