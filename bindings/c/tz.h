@@ -142,7 +142,7 @@ typedef struct tz_day {
 
 enum { TZ_JULIAN_0 = 0, TZ_JULIAN_1 = 1, TZ_MONTH_WEEK_DAY = 2 };
 
-/* An alternate rule with the tables of its clock. 172 bytes. */
+/* An alternate rule with its tables. 172 bytes. */
 typedef struct tz_alternate {
   tz_local_time_type types[2]; /* standard time, daylight saving time */
   tz_day dst_start;

@@ -19,7 +19,7 @@ use crate::error::parse::TzFileError;
 use crate::error::timezone::{LocalTimeTypeError, TransitionRuleError};
 use crate::error::{ColumnError, TzError};
 use crate::plain::{
-    AlternateClock, Asked, Conflict, Day, FILE, FIRST_DAY, LOCAL_TIME, NO_CLOCK, NO_RULE, Rule,
+    AlternateData, Asked, Conflict, Day, FILE, FIRST_DAY, LOCAL_TIME, NO_ALTERNATE, NO_RULE, Rule,
     Sizes, number_of,
 };
 use crate::timezone::{
@@ -90,7 +90,7 @@ struct Parts<'a> {
     types: Slice<'a, LocalTimeType>,
     leap_seconds: Slice<'a, LeapSecond>,
     fixed: Slice<'a, LocalTimeType>,
-    alternate: Slice<'a, AlternateClock>,
+    alternate: Slice<'a, AlternateData>,
 }
 
 /// The least and the greatest offset of a zone.
@@ -115,14 +115,14 @@ const _: () = {
     assert!(size_of::<Slice<'_, u8>>() == 16 && offset_of!(Slice<'_, u8>, length) == 8);
     assert!(size_of::<LocalTimeType>() == 16 && align_of::<LocalTimeType>() == 4);
     assert!(size_of::<Day>() == 6 && offset_of!(Day, kind) == 2 && offset_of!(Day, week_day) == 5);
-    assert!(size_of::<AlternateClock>() == 172);
-    assert!(offset_of!(AlternateClock, dst_start) == 32);
-    assert!(offset_of!(AlternateClock, dst_start_time) == 40);
-    assert!(offset_of!(AlternateClock, dst_end) == 44);
-    assert!(offset_of!(AlternateClock, dst_end_time) == 52);
-    assert!(offset_of!(AlternateClock, ends_next_year) == 56);
-    assert!(offset_of!(AlternateClock, has_inner_switches) == 57);
-    assert!(offset_of!(AlternateClock, starts) == 60 && offset_of!(AlternateClock, ends) == 116);
+    assert!(size_of::<AlternateData>() == 172);
+    assert!(offset_of!(AlternateData, dst_start) == 32);
+    assert!(offset_of!(AlternateData, dst_start_time) == 40);
+    assert!(offset_of!(AlternateData, dst_end) == 44);
+    assert!(offset_of!(AlternateData, dst_end_time) == 52);
+    assert!(offset_of!(AlternateData, ends_next_year) == 56);
+    assert!(offset_of!(AlternateData, has_inner_switches) == 57);
+    assert!(offset_of!(AlternateData, starts) == 60 && offset_of!(AlternateData, ends) == 116);
     assert!(size_of::<Rule>() == 192);
     assert!(offset_of!(Rule, fixed) == 4 && offset_of!(Rule, alternate) == 20);
     assert!(size_of::<Conflict>() == 12 && offset_of!(Conflict, distance) == 8);
@@ -162,7 +162,7 @@ unsafe extern "C" {
         dst_start_time: i32,
         dst_end: &Day,
         dst_end_time: i32,
-        out: &mut AlternateClock,
+        out: &mut AlternateData,
     ) -> Code;
     safe fn tz_alternate_conflict(
         std: &LocalTimeType,
@@ -176,7 +176,7 @@ unsafe extern "C" {
     unsafe fn tz_rule_text(
         fixed: *const LocalTimeType,
         fixed_length: usize,
-        alternate: *const AlternateClock,
+        alternate: *const AlternateData,
         alternate_length: usize,
         text: *mut u8,
         text_length: usize,
@@ -383,11 +383,11 @@ pub(crate) fn check_month_week_day(
 
 /// The two lists of a rule, of which at most one has an entry.
 #[inline]
-const fn lists(rule: Option<&TransitionRule>) -> (&[LocalTimeType], &[AlternateClock]) {
+const fn lists(rule: Option<&TransitionRule>) -> (&[LocalTimeType], &[AlternateData]) {
     match rule {
         None => (&[], &[]),
         Some(TransitionRule::Fixed(fixed)) => (slice::from_ref(fixed), &[]),
-        Some(TransitionRule::Alternate(rule)) => (&[], slice::from_ref(rule.clock())),
+        Some(TransitionRule::Alternate(rule)) => (&[], slice::from_ref(rule.data())),
     }
 }
 
@@ -401,10 +401,10 @@ pub(crate) fn alternate_new(
     dst_end_time: i32,
 ) -> Result<AlternateTime, TransitionRuleError> {
     let (start, end) = (Day::from(dst_start), Day::from(dst_end));
-    let clock = written(NO_CLOCK, transition_rule_error, |out| {
+    let data = written(NO_ALTERNATE, transition_rule_error, |out| {
         tz_alternate_new(std, dst, &start, dst_start_time, &end, dst_end_time, out)
     })?;
-    Ok(AlternateTime::with_parts(clock, *dst_start, *dst_end))
+    Ok(AlternateTime::with_parts(data, *dst_start, *dst_end))
 }
 
 /// `AlternateTime::conflict`.
@@ -1217,7 +1217,7 @@ mod tests {
             ("number of the layout", ABI),
             ("LocalTimeType", size_of::<LocalTimeType>()),
             ("Day", size_of::<Day>()),
-            ("AlternateClock", size_of::<AlternateClock>()),
+            ("AlternateData", size_of::<AlternateData>()),
             ("Rule", size_of::<Rule>()),
             ("Conflict", size_of::<Conflict>()),
             ("Transition", size_of::<Transition>()),

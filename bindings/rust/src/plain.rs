@@ -33,7 +33,7 @@ pub(crate) const FIRST_DAY: Day = Day {
 /// An alternate rule without its two days as Rust has them, and with tables over the years.
 #[repr(C)]
 #[derive(Clone, Copy)]
-pub(crate) struct AlternateClock {
+pub(crate) struct AlternateData {
     pub(crate) types: [LocalTimeType; 2],
     pub(crate) dst_start: Day,
     pub(crate) dst_start_time: i32,
@@ -46,7 +46,7 @@ pub(crate) struct AlternateClock {
 }
 
 /// All zeros.
-pub(crate) const NO_CLOCK: AlternateClock = AlternateClock {
+pub(crate) const NO_ALTERNATE: AlternateData = AlternateData {
     types: [LocalTimeType::utc(); 2],
     dst_start: FIRST_DAY,
     dst_start_time: 0,
@@ -58,7 +58,7 @@ pub(crate) const NO_CLOCK: AlternateClock = AlternateClock {
     ends: [0; 14],
 };
 
-impl AlternateClock {
+impl AlternateData {
     /// The type of standard time.
     #[inline]
     pub(crate) const fn std(&self) -> &LocalTimeType {
@@ -89,7 +89,7 @@ impl AlternateClock {
 pub(crate) struct Rule {
     pub(crate) kind: u32,
     pub(crate) fixed: LocalTimeType,
-    pub(crate) alternate: AlternateClock,
+    pub(crate) alternate: AlternateData,
 }
 
 pub(crate) const FIXED: u32 = 1;
@@ -99,7 +99,7 @@ pub(crate) const ALTERNATE: u32 = 2;
 pub(crate) const NO_RULE: Rule = Rule {
     kind: 0,
     fixed: LocalTimeType::utc(),
-    alternate: NO_CLOCK,
+    alternate: NO_ALTERNATE,
 };
 
 /// Two years and a distance that show that parts make no rule.
@@ -168,7 +168,7 @@ impl From<&Day> for RuleDay {
     }
 }
 
-impl AlternateClock {
+impl AlternateData {
     /// The rule, with its days as Rust has them.
     #[inline]
     pub(crate) fn rule(&self) -> AlternateTime {

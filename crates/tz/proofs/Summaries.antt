@@ -2,7 +2,7 @@
 use Rattle.std.proofs.Common.{◌≡◌, ◌∙◌, refl, ap, subst, arith, ℤ, List, [], ◌∷◌, ◌++◌, Some, length, length-append}
 use Rattle.std.specs.Prelude.{◌-◌, slice_get}
 use Rattle.std.specs.Option.{option_or}
-use Rattle.tz_base.specs.declared.error.TzError.{TzError}
+use Rattle.tz_base.specs.declared.error.tz_error.TzError.{TzError}
 use Rattle.tz_base.specs.declared.fields.Fields.{Fields}
 use Rattle.tz_zone.specs.Table.{Zone}
 use Rattle.tz.specs.DateTimes.{DateTime, IsClockFault, ShowsByClock}

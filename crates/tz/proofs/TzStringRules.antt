@@ -11,8 +11,8 @@ use Rattle.std.proofs.lemmas.Int.{ints}
 use Rattle.tz_rule.specs.Alternate.{AlternateTime, AreRuleDays, IsConsistentRule}
 use Rattle.tz_rule.specs.LocalTimeType.{LocalTimeType, IsDesignation, designation_text, type_of}
 use Rattle.tz_rule.specs.Rule.{IsSoundRule}
-use Rattle.tz_rule.specs.declared.timezone.rule.TransitionRule.{TransitionRule}
-use Rattle.tz_rule.specs.declared.timezone.rule.TransitionRule.TheVariants.{Fixed, Alternate as Alternating}
+use Rattle.tz_rule.specs.declared.timezone.transition_rule.TransitionRule.{TransitionRule}
+use Rattle.tz_rule.specs.declared.timezone.transition_rule.TransitionRule.TheVariants.{Fixed, Alternate as Alternating}
 use Rattle.tz_zone.specs.Bytes.{comma}
 use Rattle.tz_zone.specs.TzText.{IsNameAndOffset, IsDaylightOffset, IsTimeUpTo, IsTimeOfRule, IsRuleText, offset_hours, AlternateText, IsAlternateText, IsAlternateInRange, TimeText, seconds_of, ut_offset_of, daylight_offset_of, std_type_of, dst_type_of, rule_of, IsTzText}
 use Rattle.tz_zone.proofs.TextAnswers.{same_rule_of}

@@ -2,7 +2,7 @@
 use Rattle.std.proofs.Common.{◌≡◌, ◌∙◌, inl, inr, refl, sym, ap, subst, List, Option, Some, None}
 use Rattle.std.proofs.lemmas.Option.{same_Some}
 use Rattle.tz_base.specs.Fields.{reading}
-use Rattle.tz_base.specs.declared.error.TzError.{TzError}
+use Rattle.tz_base.specs.declared.error.tz_error.TzError.{TzError}
 use Rattle.tz_base.specs.declared.fields.Fields.{Fields}
 use Rattle.tz_zone.specs.Clock.{IsClock}
 use Rattle.tz_zone.specs.Table.{Zone}

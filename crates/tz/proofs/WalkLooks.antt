@@ -8,7 +8,7 @@ use Rattle.tz_zone.specs.LeapTime.{IsInstant, IsLeapTime, IsTimeReached, IsEffec
 use Rattle.tz_zone.specs.ClockSegments.{from_start}
 use Rattle.tz_zone.specs.ClockSpans.{IsStage}
 use Rattle.tz_zone.specs.ValidZone.{AreLeapSeconds, IsSoundTable}
-use Rattle.tz_zone.specs.declared.clock.spans.Stage.{Stage}
+use Rattle.tz_zone.specs.declared.clock.span_walk.Stage.{Stage}
 use Rattle.tz_zone.proofs.LeapTimes.{IsInstant-from_bounds, instant_bounds, leap_time_mono}
 use Rattle.tz_zone.proofs.PlaceRuns.{some_transitions}
 use Rattle.tz_zone.proofs.InstantsWithLeapTime.{defined_between, leap_time_low, leap_unless_refused}

@@ -4,9 +4,9 @@ use Rattle.tz_base.specs.Fields.{reading}
 use Rattle.tz.specs.DateTimes.{DateTime, IsUtc}
 use Rattle.tz.specs.declared.datetime.found.FoundDateTimeKind.{FoundDateTimeKind}
 use Rattle.tz.specs.declared.datetime.found.FoundDateTimeKind.TheVariants.{Normal, Skipped}
-use Rattle.tz.specs.declared.datetime.plain.UtcData.{UtcData}
-use Rattle.tz.specs.declared.datetime.plain.DateTimeData.{DateTimeData}
-use Rattle.tz.specs.declared.datetime.plain.FoundData.{FoundData}
+use Rattle.tz.specs.declared.datetime.date_time_data.UtcData.{UtcData}
+use Rattle.tz.specs.declared.datetime.date_time_data.DateTimeData.{DateTimeData}
+use Rattle.tz.specs.declared.datetime.date_time_data.FoundData.{FoundData}
 
 -- the data of a date time of UTC
 pub record IsUtcData (d : UtcData) : Type 0 where

@@ -2,12 +2,12 @@
 //! bytes are read.
 
 pub use crate::datetime::date_time::fields_of;
+pub use crate::datetime::date_time_data::{DateTimeData, FoundData, UtcData};
 pub use crate::datetime::disambiguation::find_one;
-pub use crate::datetime::entries::Entries;
+pub use crate::datetime::entry_takers::EntryTaker;
 pub use crate::datetime::find::find_fields;
-pub use crate::datetime::plain::{DateTimeData, FoundData, UtcData};
-pub use crate::datetime::plain_zones::{find_into, from_timespec};
 pub use crate::datetime::search::{search_zone, window_of};
+pub use crate::datetime::zone_data_searches::{find_into, from_timespec};
 pub use crate::parse::number::{read_digits, value_of};
 pub use crate::print::middle_of;
 pub use crate::text_buffer::{TextBuffer, two_pairs};

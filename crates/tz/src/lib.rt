@@ -79,7 +79,7 @@ pub mod laws;
 mod parse;
 mod print;
 mod text_buffer;
-mod tz_string;
+mod tz_string_writer;
 
 pub use crate::datetime::{DateTime, UtcDateTime};
 pub use crate::error::{Error, TzError};
@@ -88,6 +88,6 @@ pub use crate::timezone::{
     Change, ChangesAfter, ChangesBefore, LocalTimeType, Segment, TimeZone, TimeZoneRef,
     TimeZoneSettings,
 };
-pub use crate::tz_string::TzString;
+pub use crate::tz_string_writer::TzString;
 pub use tz_base::{constants, error};
 pub use tz_zone::timezone;

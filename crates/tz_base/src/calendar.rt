@@ -238,6 +238,7 @@ pub(crate) fn date_of_day(day: u64) -> (i32, u8, u8)
     requires { (128565 ≤ day) × (day ≤ 1568704721174) }
     ensures { IsDateOf (pos day -ℤ pos 784353144398) result.0 result.1 result.2 }
 {
+    // In that year, which is leap, March 1st comes 60 days after January 1st. In any year, the next January 1st comes 306 days after March 1st.
     let (march_year, day_of_year) = march_year(day - 60);
     let (month, month_day) = month_of_march_day(day_of_year as u32);
     if day_of_year < 306 {

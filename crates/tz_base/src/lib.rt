@@ -7,4 +7,4 @@ pub mod constants;
 pub mod error;
 pub mod fields;
 pub mod laws;
-pub mod totals;
+pub mod total_nanoseconds;

@@ -6,7 +6,7 @@ use std::test::Fail;
 use tz_base::calendar::is_leap_year;
 use tz_base::constants::NANOSECONDS_PER_SECOND;
 use tz_base::fields::Fields;
-use tz_base::totals::{timespec, total_nanoseconds};
+use tz_base::total_nanoseconds::{timespec, total_nanoseconds};
 use tz_samples::date_times::{FAULTS, NOONS, Parts, fields_of};
 
 /// Fields at midnight.

@@ -3,8 +3,8 @@ use Rattle.std.specs.Prelude.{◌≡◌, ℕ, ◌⊎◌}
 use Rattle.std.specs.Str.Parse.{error_kind}
 use Rattle.std.specs.declared.num.IntErrorKind.{IntErrorKind}
 use Rattle.std.specs.declared.num.IntErrorKind.TheVariants.{Empty as NoDigits}
-use Rattle.tz_base.specs.declared.error.TzError.{TzError}
-use Rattle.tz_base.specs.declared.error.TzError.TheVariants as all
+use Rattle.tz_base.specs.declared.error.tz_error.TzError.{TzError}
+use Rattle.tz_base.specs.declared.error.tz_error.TzError.TheVariants as all
 use Rattle.tz_base.specs.declared.error.datetime.DateTimeError.{DateTimeError}
 use Rattle.tz_base.specs.declared.error.datetime.DateTimeError.TheVariants as fields
 use Rattle.tz_base.specs.declared.error.timezone.LocalTimeTypeError.{LocalTimeTypeError}

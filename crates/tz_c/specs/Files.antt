@@ -1,7 +1,7 @@
 -- What calls answer of files and TZ strings.
 use Rattle.std.specs.Prelude.{◌≡◌, ℕ, List, Bool, Some}
 use Rattle.tz_rule.specs.RuleData.{rule_given}
-use Rattle.tz_rule.specs.declared.timezone.rule.TransitionRule.{TransitionRule}
+use Rattle.tz_rule.specs.declared.timezone.transition_rule.TransitionRule.{TransitionRule}
 use Rattle.tz_rule.specs.declared.timezone.rule_data.RuleData.{RuleData}
 use Rattle.tz_zone.specs.TzText.{IsTzText}
 

@@ -4,7 +4,7 @@ use Rattle.tz_rule.specs.Alternate.{AlternateTime, start_of, end_of, IsInRuleRan
 use Rattle.tz_rule.specs.LocalTimeType.{LocalTimeType, IsLocalTimeType, IsFirstTypeFault}
 use Rattle.tz_rule.specs.Pairing.{IsConflict, IsInconsistent}
 use Rattle.tz_rule.specs.Rule.{IsRuleType}
-use Rattle.tz_rule.specs.declared.timezone.rule.TransitionRule.{TransitionRule}
+use Rattle.tz_rule.specs.declared.timezone.transition_rule.TransitionRule.{TransitionRule}
 use Rattle.tz_c.specs.Codes.{IsAnswerBy, IsAnswerOr, type_code, rule_code, no_rule, no_conflict}
 use Rattle.tz_c.specs.declared.rules.ConflictData.{ConflictData}
 

@@ -1,6 +1,6 @@
 -- What calls answer that write a text to a buffer.
 use Rattle.std.specs.Prelude.{◌≡◌, ◌⊎◌, ℕ, ◌<◌, ◌≤◌, Bool, List, ◌++◌, Option, Some, None, drop, length}
-use Rattle.tz_rule.specs.declared.timezone.rule.TransitionRule.{TransitionRule}
+use Rattle.tz_rule.specs.declared.timezone.transition_rule.TransitionRule.{TransitionRule}
 use Rattle.tz_zone.specs.TzText.{IsTzText}
 use Rattle.tz.specs.TzStrings.{is_extended, tz_text}
 use Rattle.tz_c.specs.Codes.{IsAnswerOr, buffer_length, no_rule, no_tz_string}

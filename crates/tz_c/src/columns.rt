@@ -5,7 +5,7 @@ ghost use Rattle.tz_base.specs.Fields.{IsCivil, IsReading};
 ghost use Rattle.tz.specs.DateTimes.{IsClockFault, ShowsByClock};
 ghost use Rattle.tz_zone.specs.Changes.{IsTrueSegment, segment_of};
 ghost use Rattle.tz_zone.specs.Clock.{IsClock, IsLookupFault};
-ghost use Rattle.tz_zone.specs.ZoneViewed.{zone_viewed};
+ghost use Rattle.tz_zone.specs.ZoneOfData.{zone_of_data};
 ghost use Rattle.tz.specs.declared.datetime.disambiguation.Disambiguation.{Disambiguation};
 ghost use Rattle.tz_c.specs.Codes.{IsAnswer, IsAnswerOr, buffer_length};
 ghost use Rattle.tz_c.specs.Columns.{AreAnswers, AreInstantsBy, AreOfLength, IsDateTimeAt, IsDay, IsInDay, IsInstantAnswer, IsInstantAt, IsOffset, IsOffsetAt};
@@ -20,14 +20,14 @@ use tz::inner::{DateTimeData, Fields, find_one, local_reading};
 use tz_base::constants::{NANOSECONDS_PER_SECOND, SECONDS_PER_DAY};
 use tz_base::error::TzError;
 use tz_rule::timezone::LocalTimeType;
-use tz_zone::inner::ZoneView;
+use tz_zone::inner::ZoneData;
 use tz_zone::timezone::Segment;
 
 /// The segment of the zone's clock that holds an instant: the one before, if it holds the instant too.
 #[inline(always)]
-fn segment_around<'a>(zone: &ZoneView<'a>, before: Segment<'a>, unix_time: i64) -> Segment<'a>
-    requires { IsTrueSegment (zone_viewed zone.now) (segment_of before) }
-    ensures segment { IsTrueSegment (zone_viewed zone.now) (segment_of result) }
+fn segment_around<'a>(zone: &ZoneData<'a>, before: Segment<'a>, unix_time: i64) -> Segment<'a>
+    requires { IsTrueSegment (zone_of_data zone.now) (segment_of before) }
+    ensures segment { IsTrueSegment (zone_of_data zone.now) (segment_of result) }
     ensures within { ((segment_of result).from ≤ℤ unix_time) × (unix_time ≤ℤ (segment_of result).last) }
 {
     if before.contains(unix_time) {
@@ -40,14 +40,14 @@ fn segment_around<'a>(zone: &ZoneView<'a>, before: Segment<'a>, unix_time: i64) 
 /// The type of the zone's clock at an instant of a segment.
 #[inline(always)]
 fn type_in<'a>(
-    zone: &ZoneView<'a>,
+    zone: &ZoneData<'a>,
     segment: &Segment<'a>,
     unix_time: i64,
 ) -> Result<&'a LocalTimeType, TzError>
-    requires segment { IsTrueSegment (zone_viewed zone.now) (segment_of segment.now) }
+    requires segment { IsTrueSegment (zone_of_data zone.now) (segment_of segment.now) }
     requires within { ((segment_of segment.now).from ≤ℤ unix_time) × (unix_time ≤ℤ (segment_of segment.now).last) }
-    ensures ok { IfOk result (λ t. IsClock (zone_viewed zone.now) unix_time t.now) }
-    ensures err { IfErr result (IsLookupFault (zone_viewed zone.now) unix_time) }
+    ensures ok { IfOk result (λ t. IsClock (zone_of_data zone.now) unix_time t.now) }
+    ensures err { IfErr result (IsLookupFault (zone_of_data zone.now) unix_time) }
 {
     match segment.local_time_type() {
         Some(local_time_type) => Ok(local_time_type),
@@ -57,10 +57,10 @@ fn type_in<'a>(
 
 /// The offset of the zone's clock at an instant of a segment.
 #[inline(always)]
-fn offset_in(zone: &ZoneView<'_>, segment: &Segment<'_>, unix_time: i64, out: &mut i32) -> u32
-    requires segment { IsTrueSegment (zone_viewed zone.now) (segment_of segment.now) }
+fn offset_in(zone: &ZoneData<'_>, segment: &Segment<'_>, unix_time: i64, out: &mut i32) -> u32
+    requires segment { IsTrueSegment (zone_of_data zone.now) (segment_of segment.now) }
     requires within { ((segment_of segment.now).from ≤ℤ unix_time) × (unix_time ≤ℤ (segment_of segment.now).last) }
-    ensures answer { IsAnswer result (IsOffset (zone_viewed zone.now) unix_time out.new) (IsLookupFault (zone_viewed zone.now) unix_time) }
+    ensures answer { IsAnswer result (IsOffset (zone_of_data zone.now) unix_time out.new) (IsLookupFault (zone_of_data zone.now) unix_time) }
     ensures kept { result ≢ 0 → out.new ≡ out.old }
 {
     match type_in(zone, segment, unix_time) {
@@ -149,19 +149,19 @@ fn fields_in(day: &Day, second_of_day: u32, nanoseconds: u32) -> Fields
 /// What the zone's clock shows at an instant of a segment. The day is that of the instant before, and then that of this one.
 #[inline(always)]
 fn date_time_in(
-    zone: &ZoneView<'_>,
+    zone: &ZoneData<'_>,
     segment: &Segment<'_>,
     day: &mut Day,
     unix_time: i64,
     nanoseconds: u32,
     out: &mut DateTimeData,
 ) -> u32
-    requires segment { IsTrueSegment (zone_viewed zone.now) (segment_of segment.now) }
+    requires segment { IsTrueSegment (zone_of_data zone.now) (segment_of segment.now) }
     requires within { ((segment_of segment.now).from ≤ℤ unix_time) × (unix_time ≤ℤ (segment_of segment.now).last) }
     requires day { IsDay day.old }
     ensures day { IsDay day.new }
-    ensures answer { IsAnswer result (IsDateTimeDataOf (ShowsByClock (zone_viewed zone.now) unix_time nanoseconds) out.new)
-        (IsClockFault (zone_viewed zone.now) unix_time nanoseconds) }
+    ensures answer { IsAnswer result (IsDateTimeDataOf (ShowsByClock (zone_of_data zone.now) unix_time nanoseconds) out.new)
+        (IsClockFault (zone_of_data zone.now) unix_time nanoseconds) }
     ensures kept { result ≢ 0 → out.new ≡ out.old }
 {
     if nanoseconds >= NANOSECONDS_PER_SECOND {
@@ -187,10 +187,10 @@ fn date_time_in(
 fn instant_of(
     fields: &Fields,
     disambiguation: Disambiguation,
-    zone: &ZoneView<'_>,
+    zone: &ZoneData<'_>,
     out: &mut i64,
 ) -> u32
-    ensures answer { IsInstantAnswer (zone_viewed zone.now) disambiguation fields.now result out.new }
+    ensures answer { IsInstantAnswer (zone_of_data zone.now) disambiguation fields.now result out.new }
     ensures kept { result ≢ 0 → out.new ≡ out.old }
 {
     match find_one(fields, disambiguation, zone) {
@@ -207,12 +207,12 @@ fn instant_of(
 #[unsafe(no_mangle)]
 pub extern "C" fn tz_column_offsets(
     unix_times: &[i64],
-    zone: &ZoneView<'_>,
+    zone: &ZoneData<'_>,
     offsets: &mut [i32],
     codes: &mut [u32],
 ) -> u32
     ensures answer { IsAnswerOr result buffer_length
-        (AreOfLength (length unix_times.now) offsets.old codes.old × AreAnswers (IsOffsetAt (zone_viewed zone.now) unix_times.now) offsets.old offsets.new codes.new)
+        (AreOfLength (length unix_times.now) offsets.old codes.old × AreAnswers (IsOffsetAt (zone_of_data zone.now) unix_times.now) offsets.old offsets.new codes.new)
         (¬ AreOfLength (length unix_times.now) offsets.old codes.old) }
     ensures offsets_kept { result ≢ 0 → offsets.new ≡ offsets.old }
     ensures codes_kept { result ≢ 0 → codes.new ≡ codes.old }
@@ -233,13 +233,13 @@ pub extern "C" fn tz_column_offsets(
 pub extern "C" fn tz_column_date_times(
     unix_times: &[i64],
     nanoseconds: &[u32],
-    zone: &ZoneView<'_>,
+    zone: &ZoneData<'_>,
     date_times: &mut [DateTimeData],
     codes: &mut [u32],
 ) -> u32
     ensures answer { IsAnswerOr result buffer_length
         ((length nanoseconds.now ≡ length unix_times.now) × AreOfLength (length unix_times.now) date_times.old codes.old
-        × AreAnswers (IsDateTimeAt (zone_viewed zone.now) unix_times.now nanoseconds.now) date_times.old date_times.new codes.new)
+        × AreAnswers (IsDateTimeAt (zone_of_data zone.now) unix_times.now nanoseconds.now) date_times.old date_times.new codes.new)
         (¬ ((length nanoseconds.now ≡ length unix_times.now) × AreOfLength (length unix_times.now) date_times.old codes.old)) }
     ensures date_times_kept { result ≢ 0 → date_times.new ≡ date_times.old }
     ensures codes_kept { result ≢ 0 → codes.new ≡ codes.old }
@@ -271,11 +271,11 @@ pub extern "C" fn tz_column_date_times(
 pub extern "C" fn tz_column_instants(
     fields: &[Fields],
     choice: u8,
-    zone: &ZoneView<'_>,
+    zone: &ZoneData<'_>,
     unix_times: &mut [i64],
     codes: &mut [u32],
 ) -> u32
-    ensures answer { AreInstantsBy (zone_viewed zone.now) (choice_of choice) fields.now result unix_times.old unix_times.new codes.old codes.new }
+    ensures answer { AreInstantsBy (zone_of_data zone.now) (choice_of choice) fields.now result unix_times.old unix_times.new codes.old codes.new }
     ensures unix_times_kept { result ≢ 0 → unix_times.new ≡ unix_times.old }
     ensures codes_kept { result ≢ 0 → codes.new ≡ codes.old }
 {

@@ -3,9 +3,9 @@
 ghost use Rattle.std.specs.Prelude.{◌≡◌, ◌≢◌, ◌+ℤ◌, ◌-ℤ◌, pos};
 ghost use Rattle.tz_base.specs.Days.{week_day_of, first_day};
 ghost use Rattle.tz_base.specs.Fields.{IsCivil, IsReading, day_of};
-ghost use Rattle.tz_base.specs.declared.error.TzError.TheVariants as faults;
+ghost use Rattle.tz_base.specs.declared.error.tz_error.TzError.TheVariants as faults;
 ghost use Rattle.tz.specs.DateTimes.{IsLocalFault, IsShowFault, IsClockFault, ShowsByClock, ShowsInstant};
-ghost use Rattle.tz_zone.specs.ZoneViewed.{zone_viewed};
+ghost use Rattle.tz_zone.specs.ZoneOfData.{zone_of_data};
 ghost use Rattle.tz_c.specs.Codes.{IsAnswer};
 ghost use Rattle.tz_c.specs.DateTimes.{IsDateTimeDataOf, IsUtcDataOf, shown_by};
 
@@ -14,7 +14,7 @@ use tz::inner::{DateTimeData, Fields, UtcData, local_reading};
 use tz::{DateTime, UtcDateTime};
 use tz_base::constants::NANOSECONDS_PER_SECOND;
 use tz_rule::timezone::LocalTimeType;
-use tz_zone::inner::ZoneView;
+use tz_zone::inner::ZoneData;
 
 /// The date time with the fields, which the type shows.
 #[unsafe(no_mangle)]
@@ -70,11 +70,11 @@ pub extern "C" fn tz_date_time_from_timespec_and_local(
 pub extern "C" fn tz_date_time_from_timespec(
     unix_time: i64,
     nanoseconds: u32,
-    zone: &ZoneView<'_>,
+    zone: &ZoneData<'_>,
     out: &mut DateTimeData,
 ) -> u32
-    ensures answer { IsAnswer result (IsDateTimeDataOf (ShowsByClock (zone_viewed zone.now) unix_time nanoseconds) out.new)
-        (IsClockFault (zone_viewed zone.now) unix_time nanoseconds) }
+    ensures answer { IsAnswer result (IsDateTimeDataOf (ShowsByClock (zone_of_data zone.now) unix_time nanoseconds) out.new)
+        (IsClockFault (zone_of_data zone.now) unix_time nanoseconds) }
     ensures kept { result ≢ 0 → out.new ≡ out.old }
 {
     if nanoseconds >= NANOSECONDS_PER_SECOND {

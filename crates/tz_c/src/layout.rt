@@ -8,9 +8,9 @@ use crate::rules::ConflictData;
 use crate::settings::SettingData;
 use crate::zones::{ChangeData, OffsetsData, PartsData, SegmentData};
 use tz::inner::{DateTimeData, Fields, FoundData, UtcData};
-use tz_rule::inner::{AlternateClock, DayData, RuleData};
+use tz_rule::inner::{AlternateData, DayData, RuleData};
 use tz_rule::timezone::LocalTimeType;
-use tz_zone::inner::{FileSizes, ZoneView};
+use tz_zone::inner::{FileSizes, ZoneData};
 use tz_zone::timezone::{LeapSecond, Transition};
 
 /// The number of the layout, and the sizes in the order of the header.
@@ -18,14 +18,14 @@ const LAYOUT: [usize; 19] = [
     1,
     size_of::<LocalTimeType>(),
     size_of::<DayData>(),
-    size_of::<AlternateClock>(),
+    size_of::<AlternateData>(),
     size_of::<RuleData>(),
     size_of::<ConflictData>(),
     size_of::<Transition>(),
     size_of::<LeapSecond>(),
     size_of::<PartsData<'static>>(),
     size_of::<OffsetsData>(),
-    size_of::<ZoneView<'static>>(),
+    size_of::<ZoneData<'static>>(),
     size_of::<Fields>(),
     size_of::<UtcData>(),
     size_of::<DateTimeData>(),

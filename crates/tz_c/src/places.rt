@@ -3,14 +3,14 @@
 ghost use Rattle.std.specs.Prelude.{◌≡◌, ◌≢◌, ◌<◌, ◌++◌, ◌⊎◌, ℕ, slice_get, MatchOption};
 ghost use Rattle.tz_zone.specs.Clock.{IsLookupFault};
 ghost use Rattle.tz_zone.specs.ZoneSeen.{lent_rule};
-ghost use Rattle.tz_zone.specs.ZoneViewed.{zone_viewed};
+ghost use Rattle.tz_zone.specs.ZoneOfData.{zone_of_data};
 ghost use Rattle.tz_c.specs.Codes.{IsAnswer};
 ghost use Rattle.tz_c.specs.Places.{IsClockPlace, Stands, rule_types};
 
 use crate::codes::{OK, code_of};
 use tz_rule::inner::RuleRef;
 use tz_rule::timezone::LocalTimeType;
-use tz_zone::inner::ZoneView;
+use tz_zone::inner::ZoneData;
 
 /// The first place of a type in a list.
 fn place_in(types: &[LocalTimeType], local_time_type: &LocalTimeType) -> Option<usize>
@@ -31,15 +31,15 @@ fn place_in_rule(rule: Option<RuleRef<'_>>, local_time_type: &LocalTimeType) -> 
     ensures bound { result < 2 }
 {
     match rule {
-        Some(RuleRef::Alternate(clock)) => { if clock.std() == local_time_type { 0 } else { 1 } }
+        Some(RuleRef::Alternate(rule)) => { if rule.std() == local_time_type { 0 } else { 1 } }
         _ => 0,
     }
 }
 
 /// The place of one of a zone's types among those of its list and of its rule.
-fn place_of(zone: &ZoneView<'_>, local_time_type: &LocalTimeType) -> usize
-    requires { Stands (zone_viewed zone.now).types local_time_type.now ⊎ Stands (rule_types (zone_viewed zone.now).extra_rule) local_time_type.now }
-    ensures { slice_get ((zone_viewed zone.now).types ++ rule_types (zone_viewed zone.now).extra_rule) result ≡ Some local_time_type.now }
+fn place_of(zone: &ZoneData<'_>, local_time_type: &LocalTimeType) -> usize
+    requires { Stands (zone_of_data zone.now).types local_time_type.now ⊎ Stands (rule_types (zone_of_data zone.now).extra_rule) local_time_type.now }
+    ensures { slice_get ((zone_of_data zone.now).types ++ rule_types (zone_of_data zone.now).extra_rule) result ≡ Some local_time_type.now }
 {
     let parts = zone.other_parts();
     match place_in(parts.local_time_types, local_time_type) {
@@ -52,8 +52,8 @@ fn place_of(zone: &ZoneView<'_>, local_time_type: &LocalTimeType) -> usize
 
 /// The place of the type of a zone's clock at an instant.
 #[unsafe(no_mangle)]
-pub extern "C" fn tz_zone_place_at(zone: &ZoneView<'_>, unix_time: i64, out: &mut usize) -> u32
-    ensures answer { IsAnswer result (IsClockPlace (zone_viewed zone.now) unix_time out.new) (IsLookupFault (zone_viewed zone.now) unix_time) }
+pub extern "C" fn tz_zone_place_at(zone: &ZoneData<'_>, unix_time: i64, out: &mut usize) -> u32
+    ensures answer { IsAnswer result (IsClockPlace (zone_of_data zone.now) unix_time out.new) (IsLookupFault (zone_of_data zone.now) unix_time) }
     ensures kept { result ≢ 0 → out.new ≡ out.old }
 {
     match zone.find_local_time_type(unix_time) {

@@ -7,7 +7,7 @@ ghost use Rattle.tz_zone.specs.ZoneSeen.{rule_of_lists};
 ghost use Rattle.tz_c.specs.Rules.{IsAlternateAnswer, IsConflictAnswer, IsRuleTypeAnswer};
 
 use crate::codes::{NO_CONFLICT, NO_RULE, OK, OUT_OF_RANGE, rule_code};
-use tz_rule::inner::{AlternateClock, DayData, RuleRef, find_local_time_type};
+use tz_rule::inner::{AlternateData, DayData, RuleRef, find_local_time_type};
 use tz_rule::timezone::LocalTimeType;
 
 /// Years that show why parts make no rule.
@@ -28,12 +28,12 @@ pub extern "C" fn tz_alternate_new(
     dst_start_time: i32,
     dst_end: &DayData,
     dst_end_time: i32,
-    out: &mut AlternateClock,
+    out: &mut AlternateData,
 ) -> u32
     ensures answer { IsAlternateAnswer (alternate_of std.now dst.now dst_start.now dst_start_time dst_end.now dst_end_time) result out.new }
     ensures kept { result ≢ 0 → out.new ≡ out.old }
 {
-    match AlternateClock::new(
+    match AlternateData::new(
         *std,
         *dst,
         *dst_start,
@@ -63,7 +63,7 @@ pub extern "C" fn tz_alternate_conflict(
     ensures answer { IsConflictAnswer (alternate_of std.now dst.now dst_start.now dst_start_time dst_end.now dst_end_time) result out.new }
     ensures kept { result ≢ 0 → out.new ≡ out.old }
 {
-    match AlternateClock::conflict(
+    match AlternateData::conflict(
         *std,
         *dst,
         *dst_start,
@@ -87,7 +87,7 @@ pub extern "C" fn tz_alternate_conflict(
 #[inline(always)]
 pub(crate) fn rule_of_lists<'a>(
     fixed: &'a [LocalTimeType],
-    alternate: &'a [AlternateClock],
+    alternate: &'a [AlternateData],
 ) -> Option<RuleRef<'a>>
     ensures { MatchOption result (rule_of_lists fixed.now alternate.now ≡ None) (λ rule. rule_of_lists fixed.now alternate.now ≡ Some (rule_seen rule)) }
 {
@@ -104,7 +104,7 @@ pub(crate) fn rule_of_lists<'a>(
 #[unsafe(no_mangle)]
 pub extern "C" fn tz_rule_type_at(
     fixed: &[LocalTimeType],
-    alternate: &[AlternateClock],
+    alternate: &[AlternateData],
     unix_time: i64,
     out: &mut LocalTimeType,
 ) -> u32

@@ -2,7 +2,7 @@
 
 ghost use Rattle.std.specs.Prelude.{◌≡◌, ◌≢◌, List, length};
 ghost use Rattle.tz_zone.specs.Clock.{IsClock};
-ghost use Rattle.tz_zone.specs.ZoneViewed.{zone_viewed};
+ghost use Rattle.tz_zone.specs.ZoneOfData.{zone_of_data};
 ghost use Rattle.tz.specs.FindFaults.{IsFindFault};
 ghost use Rattle.tz.specs.Found.{IsFound};
 ghost use Rattle.tz.specs.Plain.{entries_from, placed};
@@ -13,21 +13,21 @@ ghost use Rattle.tz_c.specs.DateTimes.{IsChoiceAnswer, choice_of};
 use crate::codes::{NO_DATE_TIME, OK, UNKNOWN_CHOICE, code_of};
 use tz::datetime::Disambiguation;
 use tz::inner::{DateTimeData, Fields, FoundData, find_into, find_one};
-use tz_zone::inner::ZoneView;
+use tz_zone::inner::ZoneData;
 
 /// What is found of the fields from one of the entries on, and how many entries there are.
 #[unsafe(no_mangle)]
 pub extern "C" fn tz_find_n(
     fields: &Fields,
-    zone: &ZoneView<'_>,
+    zone: &ZoneData<'_>,
     skip: usize,
     slots: &mut [FoundData],
     count: &mut usize,
 ) -> u32
     ensures answer { IsAnswer result
-        ((found : List FoundDateTimeKind) × IsFound (IsClock (zone_viewed zone.now)) fields.now found
+        ((found : List FoundDateTimeKind) × IsFound (IsClock (zone_of_data zone.now)) fields.now found
         × (count.new ≡ length found) × (slots.new ≡ placed slots.old (entries_from skip found)))
-        (IsFindFault ⊥ (IsClock (zone_viewed zone.now)) fields.now) }
+        (IsFindFault ⊥ (IsClock (zone_of_data zone.now)) fields.now) }
     ensures slots_kept { result ≢ 0 → slots.new ≡ slots.old }
     ensures count_kept { result ≢ 0 → count.new ≡ count.old }
 {
@@ -58,10 +58,10 @@ pub(crate) fn choice_of(choice: u8) -> Option<Disambiguation>
 pub extern "C" fn tz_find_one(
     fields: &Fields,
     choice: u8,
-    zone: &ZoneView<'_>,
+    zone: &ZoneData<'_>,
     out: &mut DateTimeData,
 ) -> u32
-    ensures answer { IsChoiceAnswer (zone_viewed zone.now) (choice_of choice) fields.now result out.new }
+    ensures answer { IsChoiceAnswer (zone_of_data zone.now) (choice_of choice) fields.now result out.new }
     ensures kept { result ≢ 0 → out.new ≡ out.old }
 {
     let Some(disambiguation) = choice_of(choice) else {

@@ -9,7 +9,7 @@ use crate::codes::{BUFFER_LENGTH, NO_RULE, NO_TZ_STRING, OK};
 use crate::rules::rule_of_lists;
 use tz::inner::{TextBuffer, UtcData, fields_of};
 use tz::{DateTime, TzString, UtcDateTime};
-use tz_rule::inner::AlternateClock;
+use tz_rule::inner::AlternateData;
 use tz_rule::timezone::LocalTimeType;
 
 /// Copies a text to a buffer and stores its length, if there is room.
@@ -56,7 +56,7 @@ pub extern "C" fn tz_date_time_text(date_time: &DateTime, text: &mut [u8], len: 
 #[unsafe(no_mangle)]
 pub extern "C" fn tz_rule_text(
     fixed: &[LocalTimeType],
-    alternate: &[AlternateClock],
+    alternate: &[AlternateData],
     text: &mut [u8],
     len: &mut usize,
 ) -> u32

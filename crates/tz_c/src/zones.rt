@@ -6,14 +6,14 @@ ghost use Rattle.tz_zone.specs.Clock.{IsClock, IsLookupFault};
 ghost use Rattle.tz_zone.specs.Offsets.{AreEndOffsets};
 ghost use Rattle.tz_zone.specs.TableChanges.{HasTableEnds};
 ghost use Rattle.tz_zone.specs.ValidZone.{IsValidZone, IsFirstZoneFault};
-ghost use Rattle.tz_zone.specs.ZoneViewed.{zone_viewed};
+ghost use Rattle.tz_zone.specs.ZoneOfData.{zone_of_data};
 ghost use Rattle.tz_c.specs.Codes.{IsAnswer, IsAnswerOr, no_change};
 ghost use Rattle.tz_c.specs.Zones.{zone_of_parts, segment_written, change_written};
 
 use crate::codes::{NO_CHANGE, OK, code_of};
-use tz_rule::inner::AlternateClock;
+use tz_rule::inner::AlternateData;
 use tz_rule::timezone::LocalTimeType;
-use tz_zone::inner::ZoneView;
+use tz_zone::inner::ZoneData;
 use tz_zone::timezone::{Change, LeapSecond, Segment, Transition};
 
 /// Parts that may make a zone.
@@ -24,7 +24,7 @@ pub struct PartsData<'a> {
     local_time_types: &'a [LocalTimeType],
     leap_seconds: &'a [LeapSecond],
     fixed: &'a [LocalTimeType],
-    alternate: &'a [AlternateClock],
+    alternate: &'a [AlternateData],
 }
 
 /// The least and the greatest offset of a zone.
@@ -101,7 +101,7 @@ pub extern "C" fn tz_zone_check(parts: &PartsData<'_>, out: &mut OffsetsData) ->
         IsAnswer result (IsValidZone z × AreEndOffsets z out.new.least out.new.greatest) (IsFirstZoneFault z) }
     ensures kept { result ≢ 0 → out.new ≡ out.old }
 {
-    match ZoneView::new(
+    match ZoneData::new(
         parts.transitions,
         parts.local_time_types,
         parts.leap_seconds,
@@ -120,11 +120,11 @@ pub extern "C" fn tz_zone_check(parts: &PartsData<'_>, out: &mut OffsetsData) ->
 /// The type of a zone's clock at an instant, as `TimeZoneRef::find_local_time_type` finds it.
 #[unsafe(no_mangle)]
 pub extern "C" fn tz_zone_type_at(
-    zone: &ZoneView<'_>,
+    zone: &ZoneData<'_>,
     unix_time: i64,
     out: &mut LocalTimeType,
 ) -> u32
-    ensures answer { IsAnswer result (IsClock (zone_viewed zone.now) unix_time out.new) (IsLookupFault (zone_viewed zone.now) unix_time) }
+    ensures answer { IsAnswer result (IsClock (zone_of_data zone.now) unix_time out.new) (IsLookupFault (zone_of_data zone.now) unix_time) }
     ensures kept { result ≢ 0 → out.new ≡ out.old }
 {
     match zone.find_local_time_type(unix_time) {
@@ -139,14 +139,14 @@ pub extern "C" fn tz_zone_type_at(
 /// The segment around an instant, as `TimeZoneRef::segment_at` finds it.
 #[unsafe(no_mangle)]
 pub extern "C" fn tz_zone_segment_at(
-    zone: &ZoneView<'_>,
+    zone: &ZoneData<'_>,
     unix_time: i64,
     out: &mut SegmentData,
 ) -> u32
     ensures ok { result ≡ 0 }
     ensures within { (out.new.from ≤ℤ unix_time) × (unix_time ≤ℤ out.new.last) }
-    ensures segment { IsTrueSegment (zone_viewed zone.now) (segment_written out.new) }
-    ensures ends { HasTableEnds (zone_viewed zone.now) out.new.from out.new.last }
+    ensures segment { IsTrueSegment (zone_of_data zone.now) (segment_written out.new) }
+    ensures ends { HasTableEnds (zone_of_data zone.now) out.new.from out.new.last }
 {
     *out = SegmentData::of(&zone.segment_at(unix_time));
     OK
@@ -155,11 +155,11 @@ pub extern "C" fn tz_zone_segment_at(
 /// The first change after an instant, as `TimeZoneRef::following` finds it.
 #[unsafe(no_mangle)]
 pub extern "C" fn tz_zone_following(
-    zone: &ZoneView<'_>,
+    zone: &ZoneData<'_>,
     unix_time: i64,
     out: &mut ChangeData,
 ) -> u32
-    ensures answer { IsAnswerOr result no_change (IsFollowing (zone_viewed zone.now) unix_time (change_written out.new)) (HasNoFollowing (zone_viewed zone.now) unix_time) }
+    ensures answer { IsAnswerOr result no_change (IsFollowing (zone_of_data zone.now) unix_time (change_written out.new)) (HasNoFollowing (zone_of_data zone.now) unix_time) }
     ensures kept { result ≢ 0 → out.new ≡ out.old }
 {
     match zone.following(unix_time) {
@@ -174,11 +174,11 @@ pub extern "C" fn tz_zone_following(
 /// The last change before an instant, as `TimeZoneRef::preceding` finds it.
 #[unsafe(no_mangle)]
 pub extern "C" fn tz_zone_preceding(
-    zone: &ZoneView<'_>,
+    zone: &ZoneData<'_>,
     unix_time: i64,
     out: &mut ChangeData,
 ) -> u32
-    ensures answer { IsAnswerOr result no_change (IsPreceding (zone_viewed zone.now) unix_time (change_written out.new)) (HasNoPreceding (zone_viewed zone.now) unix_time) }
+    ensures answer { IsAnswerOr result no_change (IsPreceding (zone_of_data zone.now) unix_time (change_written out.new)) (HasNoPreceding (zone_of_data zone.now) unix_time) }
     ensures kept { result ≢ 0 → out.new ≡ out.old }
 {
     match zone.preceding(unix_time) {

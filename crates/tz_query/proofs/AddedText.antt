@@ -11,7 +11,7 @@ use Rattle.tz_query.specs.Pages.{EndsLine}
 use Rattle.tz_query.specs.declared.query.lines.Query.{Query}
 use Rattle.tz_query.specs.declared.query.lines.Query.TheVariants.{Time}
 use Rattle.tz_query.specs.declared.query.output.Output.{Output}
-use Rattle.tz_query.specs.declared.query.suffixes.Suffixes.{Suffixes}
+use Rattle.tz_query.specs.declared.query.type_suffixes.Suffixes.{Suffixes}
 use Rattle.tz_query.specs.declared.query.answers.Answers.{Answers}
 
 module _ {A : Type 0} {a b : Answers A} {x : List ℕ} where

@@ -4,8 +4,8 @@ use Rattle.tz_rule.specs.LocalTimeType.{LocalTimeType}
 use Rattle.tz_rule.specs.Alternate.{AlternateTime, start_of, end_of, IsInRuleRange, AreRuleDays, IsInRuleYears, IsAlternateType}
 use Rattle.tz_rule.specs.KeptRule.{ends_come_first}
 use Rattle.tz_rule.specs.Rule.{IsRuleType, IsSoundRule}
-use Rattle.tz_rule.specs.declared.timezone.rule.TransitionRule.{TransitionRule}
-use Rattle.tz_rule.specs.declared.timezone.rule.TransitionRule.TheVariants.{Fixed, Alternate as Two}
+use Rattle.tz_rule.specs.declared.timezone.transition_rule.TransitionRule.{TransitionRule}
+use Rattle.tz_rule.specs.declared.timezone.transition_rule.TransitionRule.TheVariants.{Fixed, Alternate as Two}
 use Rattle.tz_rule.proofs.ChangePoints.{daylight_repeats, daylight_repeated}
 use Rattle.tz_rule.proofs.RuleSegments.{alternate_type_total}
 use Rattle.tz_rule.proofs.RulesAcrossYears.{MatchBool-ends_come_first}

@@ -9,7 +9,7 @@ use Rattle.tz_rule.specs.KeptRule.{ends_first_in, ends_come_first, switches_are_
 use Rattle.tz_rule.specs.Parts.{rule_of}
 use Rattle.tz_rule.specs.Pairing.{EndsNextYear}
 use Rattle.tz_rule.specs.YearTables.{entry, is_inner, start_table, end_table, ComesFirst, ChangesOrder}
-use Rattle.tz_rule.specs.declared.timezone.alternate_tables.AlternateClock.TheInside.{Inside}
+use Rattle.tz_rule.specs.declared.timezone.alternate_data.AlternateData.TheInside.{Inside}
 use Rattle.tz_rule.proofs.OrderByTables.{IsTableOf-start_of, IsTableOf-end_of, comes_first-year, comes_first-from, rule_is_consistent}
 use Rattle.tz_rule.proofs.WeakerClauses.{Decides-from_clause, MatchBool-by_test}
 

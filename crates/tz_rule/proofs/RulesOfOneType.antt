@@ -6,7 +6,7 @@ use Rattle.tz_rule.specs.Pairing.{EndsNextYear, IsDaylight}
 use Rattle.tz_rule.specs.Rule.{IsRuleType}
 use Rattle.tz_rule.specs.RuleChanges.{HasOneType}
 use Rattle.tz_rule.specs.YearTables.{IsTableOf, ComesFirst, ComesBeforeNext}
-use Rattle.tz_rule.specs.declared.timezone.rule.TransitionRule.TheVariants.{Alternate}
+use Rattle.tz_rule.specs.declared.timezone.transition_rule.TransitionRule.TheVariants.{Alternate}
 use Rattle.tz_rule.proofs.DaylightSpans.{over, to_come, paired_end-unique}
 use Rattle.tz_rule.proofs.OrderByTables.{comes_first-from, comes_before_next-from}
 use Rattle.tz_rule.proofs.YearlyInstants.{IsYearly, IsYearly-start_of, IsYearly-end_of}

@@ -6,8 +6,8 @@ use Rattle.std.proofs.Common.{refl}
 use Rattle.tz_rule.specs.Alternate.{AlternateTime, start_of, end_of, IsConsistentRule, AreRuleDays}
 use Rattle.tz_rule.specs.Parts.{rule_of}
 use Rattle.tz_rule.specs.YearTables.{IsTableOf, entry, is_inner, start_table, end_table}
-use Rattle.tz_rule.specs.declared.timezone.alternate_tables.AlternateClock.TheInside.{Inside}
-use Rattle.tz_rule.specs.declared.timezone.alternate_parts.Parts.{Parts}
+use Rattle.tz_rule.specs.declared.timezone.alternate_data.AlternateData.TheInside.{Inside}
+use Rattle.tz_rule.specs.declared.timezone.alternate_time.Parts.{Parts}
 
 -- in the years of one of the first kinds the end comes before the start
 unfoldable pub ends_first_in : AlternateTime → ℕ → Bool

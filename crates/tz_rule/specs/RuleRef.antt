@@ -1,6 +1,6 @@
--- The rule that a reference to a type or to a clock lends.
-use Rattle.tz_rule.specs.declared.timezone.rule.TransitionRule.{TransitionRule}
-use Rattle.tz_rule.specs.declared.timezone.rule.TransitionRule.TheVariants.{Fixed, Alternate}
+-- The rule that a reference to a type or to the data of an alternate rule lends.
+use Rattle.tz_rule.specs.declared.timezone.transition_rule.TransitionRule.{TransitionRule}
+use Rattle.tz_rule.specs.declared.timezone.transition_rule.TransitionRule.TheVariants.{Fixed, Alternate}
 use Rattle.tz_rule.specs.declared.timezone.rule_ref.RuleRef.{RuleRef}
 use Rattle.tz_rule.specs.declared.timezone.rule_ref.RuleRef.TheVariants.{Fixed as FixedRef, Alternate as AlternateRef}
 

@@ -4,8 +4,8 @@ use Rattle.tz_base.specs.Days.{first_day}
 use Rattle.tz_rule.specs.LocalTimeType.{LocalTimeType}
 use Rattle.tz_rule.specs.Alternate.{AlternateTime, start_of, end_of, IsAlternateType}
 use Rattle.tz_rule.specs.Rule.{IsRuleType}
-use Rattle.tz_rule.specs.declared.timezone.rule.TransitionRule.{TransitionRule}
-use Rattle.tz_rule.specs.declared.timezone.rule.TransitionRule.TheVariants.{Fixed, Alternate}
+use Rattle.tz_rule.specs.declared.timezone.transition_rule.TransitionRule.{TransitionRule}
+use Rattle.tz_rule.specs.declared.timezone.transition_rule.TransitionRule.TheVariants.{Fixed, Alternate}
 use Rattle.tz_rule.specs.declared.timezone.rule_segments.RuleSegment.{RuleSegment}
 use Rattle.tz_rule.specs.declared.timezone.rule_segments.AlternateSegment.{AlternateSegment}
 

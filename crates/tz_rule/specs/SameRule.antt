@@ -7,8 +7,8 @@ use Rattle.std.proofs.lemmas.Bool.Decides.{Decides-int_eq, Decides-like, Decides
 use Rattle.tz_rule.specs.Alternate.{AlternateTime, alternate_of}
 use Rattle.tz_rule.specs.Same.{same_type, Decides-same_type}
 use Rattle.tz_rule.specs.SameDay.{same_day, Decides-same_day}
-use Rattle.tz_rule.specs.declared.timezone.rule.TransitionRule.{TransitionRule}
-use Rattle.tz_rule.specs.declared.timezone.rule.TransitionRule.TheVariants.{Fixed, Alternate as Two}
+use Rattle.tz_rule.specs.declared.timezone.transition_rule.TransitionRule.{TransitionRule}
+use Rattle.tz_rule.specs.declared.timezone.transition_rule.TransitionRule.TheVariants.{Fixed, Alternate as Two}
 
 -- the six parts
 abbrev pub same_alternate : AlternateTime → AlternateTime → Bool

@@ -6,17 +6,17 @@ ghost use Rattle.std.specs.Prelude.{◌≡◌, ℤ, pos, ◌+ℤ◌, ◌≤ℤ�
 ghost use Rattle.tz_rule.specs.Alternate.{AlternateTime, start_of, end_of, IsNearYear, IsUtcYear, IsInRuleYears, IsAlternateType, IsUnchanged};
 ghost use Rattle.tz_rule.specs.LocalTimeType.{LocalTimeType};
 ghost use Rattle.tz_rule.specs.Rule.{IsRuleType, IsSoundRule};
-ghost use Rattle.tz_rule.specs.declared.timezone.rule.TransitionRule.{TransitionRule as Rule};
+ghost use Rattle.tz_rule.specs.declared.timezone.transition_rule.TransitionRule.{TransitionRule as Rule};
 
 use crate::timezone::{AlternateTime, TransitionRule};
 
-/// The parts of a rule obey the rules of their making.
+/// A rule and its days pass the checks of their constructors.
 pub fn rule_parts_are_sound(rule: &TransitionRule)
     ensures { IsSoundRule rule.now }
 {
     match rule {
         TransitionRule::Fixed(_) => {}
-        TransitionRule::Alternate(rule) => rule.clock().parts_are_sound(),
+        TransitionRule::Alternate(rule) => rule.plain().parts_are_sound(),
     }
 }
 
@@ -44,7 +44,7 @@ pub fn starts_and_ends_are_near(rule: &AlternateTime)
     ensures starts { (year : ℤ) → IsNearYear (start_of rule.now year) year }
     ensures ends { (year : ℤ) → IsNearYear (end_of rule.now year) year }
 {
-    rule.clock().parts_are_sound();
+    rule.plain().parts_are_sound();
 }
 
 /// For an instant only the starts and ends of its year in UTC and of the two neighbours matter: earlier ones are over, and later ones are yet to come.
@@ -52,7 +52,7 @@ pub fn far_starts_and_ends_are_over_or_to_come(rule: &AlternateTime)
     ensures over { (u year y : ℤ) → IsUtcYear u year → (y +ℤ pos 2) ≤ℤ year → (start_of rule.now y ≤ℤ u) × (end_of rule.now y ≤ℤ u) }
     ensures to_come { (u year y : ℤ) → IsUtcYear u year → (year +ℤ pos 2) ≤ℤ y → (u <ℤ start_of rule.now y) × (u <ℤ end_of rule.now y) }
 {
-    rule.clock().parts_are_sound();
+    rule.plain().parts_are_sound();
 }
 
 /// After 400 years, which are 12622780800 seconds, a rule has the same type.

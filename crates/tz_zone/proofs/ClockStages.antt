@@ -14,8 +14,8 @@ use Rattle.tz_zone.specs.ClockSegments.{IsReachedAt}
 use Rattle.tz_zone.specs.ClockSpans.{IsStage}
 use Rattle.tz_zone.specs.ValidZone.{IsSoundTable}
 use Rattle.tz_zone.specs.ZoneSeen.{zone_seen}
-use Rattle.tz_zone.specs.declared.clock.spans.Stage.{Stage}
-use Rattle.tz_zone.specs.declared.table.parts.OtherParts.{OtherParts}
+use Rattle.tz_zone.specs.declared.clock.span_walk.Stage.{Stage}
+use Rattle.tz_zone.specs.declared.table.other_parts.OtherParts.{OtherParts}
 use Rattle.tz_zone.proofs.LeapTimes.{leap_time_mono, one_leap_time, past_later}
 use Rattle.tz_zone.proofs.RisingTimes.{rising, ahead_from, reached_through}
 use Rattle.tz_zone.proofs.Places.{clock_at_place}

@@ -5,17 +5,17 @@ use Rattle.std.proofs.lemmas.List.{nil_from_length}
 use Rattle.std.specs.Prelude.{slice_get, MatchOption}
 use Rattle.std.proofs.lemmas.Int.{ints, by_lt_z}
 use Rattle.std.proofs.lemmas.Option.{slice_get_within, slice_get-get_or, same_Some, none-some}
-use Rattle.tz_base.specs.declared.error.TzError.{TzError}
-use Rattle.tz_base.specs.declared.error.TzError.TheVariants.{OutOfRange, NoAvailableLocalTimeType}
+use Rattle.tz_base.specs.declared.error.tz_error.TzError.{TzError}
+use Rattle.tz_base.specs.declared.error.tz_error.TzError.TheVariants.{OutOfRange, NoAvailableLocalTimeType}
 use Rattle.tz_rule.specs.LocalTimeType.{LocalTimeType}
-use Rattle.tz_rule.specs.declared.timezone.rule.TransitionRule.{TransitionRule}
+use Rattle.tz_rule.specs.declared.timezone.transition_rule.TransitionRule.{TransitionRule}
 use Rattle.tz_zone.specs.Table.{Transition, Zone}
 use Rattle.tz_zone.specs.LeapTime.{IsLeapTime, IsTimeReached, IsWideEffect}
 use Rattle.tz_zone.specs.Clock.{IsTypeAt, IsTypeOfLast, IsLast, IsTypeAfter, IsTypeWithout, IsTypeAfterTable, IsFaultAfter, IsClock, IsLookupFault}
 use Rattle.tz_zone.specs.ValidZone.{IsSoundTable}
 use Rattle.tz_zone.specs.ClockSegments.{from_start, IsReachedAt, IsBefore}
 use Rattle.tz_zone.specs.ZoneSeen.{zone_seen}
-use Rattle.tz_zone.specs.declared.table.parts.OtherParts.{OtherParts}
+use Rattle.tz_zone.specs.declared.table.other_parts.OtherParts.{OtherParts}
 use Rattle.tz_zone.proofs.EmptyLists.{length_of_some}
 use Rattle.tz_zone.proofs.LeapTimes.{leap_time_mono, one_leap_time}
 use Rattle.tz_zone.proofs.RisingTimes.{rising, ahead_from, reached_through}

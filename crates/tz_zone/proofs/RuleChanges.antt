@@ -6,8 +6,8 @@ use Rattle.tz_base.specs.Days.{first_day}
 use Rattle.tz_base.proofs.DaysOfYears.{first_day_bounds}
 use Rattle.tz_rule.specs.LocalTimeType.{LocalTimeType}
 use Rattle.tz_rule.specs.Rule.{IsRuleType}
-use Rattle.tz_rule.specs.declared.timezone.rule.TransitionRule.{TransitionRule}
-use Rattle.tz_rule.specs.declared.timezone.rule.TransitionRule.TheVariants.{Fixed, Alternate}
+use Rattle.tz_rule.specs.declared.timezone.transition_rule.TransitionRule.{TransitionRule}
+use Rattle.tz_rule.specs.declared.timezone.transition_rule.TransitionRule.TheVariants.{Fixed, Alternate}
 use Rattle.tz_rule.proofs.RuleSegments.{IsInRuleYears-bounds}
 use Rattle.tz_zone.specs.Table.{Transition, LeapSecond, Zone}
 use Rattle.tz_zone.specs.LeapTime.{IsBeforeStart, IsPastInstants, IsLeapTimeRefused, IsLeapTime, IsTimeReached}
@@ -17,7 +17,7 @@ use Rattle.tz_zone.specs.ValidZone.{AreLeapSeconds, IsSoundTable}
 use Rattle.tz_zone.specs.Changes.{Change, IsChange, IsFollowing, IsPreceding, HasNoChange, HasNoFollowing, HasNoPreceding}
 use Rattle.tz_zone.specs.Runs.{IsSeam, IsRunStart}
 use Rattle.tz_zone.specs.ZoneSeen.{zone_seen}
-use Rattle.tz_zone.specs.declared.table.parts.OtherParts.{OtherParts}
+use Rattle.tz_zone.specs.declared.table.other_parts.OtherParts.{OtherParts}
 use Rattle.tz_zone.proofs.EmptyLists.{length_of_some}
 use Rattle.tz_zone.proofs.LeapTimes.{past_later}
 use Rattle.tz_zone.proofs.Clocks.{some_from_last}

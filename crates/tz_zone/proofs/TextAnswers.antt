@@ -4,8 +4,8 @@ use Rattle.std.specs.Prelude.{FitsSigned}
 use Rattle.std.specs.Int.{w32}
 use Rattle.std.proofs.lemmas.Int.{to_z-of_z}
 use mir.Val.{to_z, of_z}
-use Rattle.tz_base.specs.declared.error.TzError.{TzError}
-use Rattle.tz_base.specs.declared.error.TzError.TheVariants.{TzString, LocalTimeType as TypeFault}
+use Rattle.tz_base.specs.declared.error.tz_error.TzError.{TzError}
+use Rattle.tz_base.specs.declared.error.tz_error.TzError.TheVariants.{TzString, LocalTimeType as TypeFault}
 use Rattle.tz_base.specs.declared.error.parse.TzStringError.{TzStringError}
 use Rattle.tz_base.specs.declared.error.timezone.LocalTimeTypeError.{LocalTimeTypeError}
 use Rattle.tz_rule.specs.Alternate.{alternate_of}

@@ -2,7 +2,7 @@
 use Rattle.std.proofs.Common.{◌≡◌, ◌≢◌, ◌⊎◌, ℕ, ◌^◌, ◌<◌, ◌≤◌, Bool, true, false, List, [], ◌∷◌, ◌++◌, refl, sym, ap, ◌∙◌, subst, inl, inr, arith, Option, Some, None, Result, Ok, Err, pos}
 use Rattle.std.specs.Option.{IfSome}
 use Rattle.std.specs.Result.{MatchResult}
-use Rattle.tz_base.specs.declared.error.TzError.{TzError}
+use Rattle.tz_base.specs.declared.error.tz_error.TzError.{TzError}
 use Rattle.tz_base.specs.declared.error.parse.ParseDataError.{ParseDataError}
 use Rattle.tz_base.specs.declared.error.parse.ParseDataError.TheVariants.{UnexpectedEof, InvalidData}
 use Rattle.tz_base.specs.declared.error.parse.TzStringError.{TzStringError}
@@ -14,12 +14,12 @@ use Rattle.tz_rule.specs.LocalTimeType.{IsDesignation, IsFirstTypeFault, type_of
 use Rattle.tz_rule.specs.Alternate.{AlternateTime, IsInRuleRange, IsConsistentRule, IsRangeFault, IsFirstRuleFault}
 use Rattle.tz_rule.specs.JulianDay.{IsJulianDay, IsZeroBasedDay}
 use Rattle.tz_rule.specs.MonthWeek.{MonthWeek, IsMonthWeek, IsRuleMonth, IsRuleWeek, IsRuleWeekDay}
-use Rattle.tz_rule.specs.declared.timezone.rule.TransitionRule.{TransitionRule}
-use Rattle.tz_rule.specs.declared.timezone.rule.TransitionRule.TheVariants.{Fixed, Alternate as Alternating}
+use Rattle.tz_rule.specs.declared.timezone.transition_rule.TransitionRule.{TransitionRule}
+use Rattle.tz_rule.specs.declared.timezone.transition_rule.TransitionRule.TheVariants.{Fixed, Alternate as Alternating}
 use Rattle.tz_rule.specs.declared.timezone.rule_day.RuleDay.{RuleDay}
 use Rattle.tz_rule.specs.declared.timezone.rule_day.RuleDay.TheVariants.{Julian1WithoutLeap, Julian0WithLeap, MonthWeekDay}
 use Rattle.tz_zone.specs.Bytes.{capital_j, capital_m, closing_bracket, comma, dot, slash}
-use Rattle.tz_zone.specs.declared.parse.tz_string.switch.DayAndTime.{DayAndTime}
+use Rattle.tz_zone.specs.declared.parse.tz_string.start_and_end.DayAndTime.{DayAndTime}
 use Rattle.tz_zone.specs.declared.parse.tz_string.time.WrittenTime.{WrittenTime}
 use Rattle.tz_zone.specs.TzText.{Begins, IsNumber, IsName, IsPart, IsHms, IsSign, IsSignedTime, IsDayTimeSign, IsDayTime, IsMonthWeekText, IsDay, IsRuleText, IsDaylightOffset, IsTimeUpTo, offset_hours, day_time_hours, IsRuleInRange, IsNameAndOffset, AlternateText, IsAlternateText, IsAlternateInRange, std_type_of, rule_of, IsTzText}
 use Rattle.tz_rule.specs.RuleDays.{IsRuleDay}

@@ -10,7 +10,7 @@ use Rattle.tz_rule.specs.MonthWeek.{month_week}
 use Rattle.tz_rule.specs.declared.timezone.rule_day.RuleDay.{RuleDay}
 use Rattle.tz_rule.specs.declared.timezone.rule_day.RuleDay.TheVariants.{Julian1WithoutLeap, Julian0WithLeap, MonthWeekDay}
 use Rattle.tz_zone.specs.Bytes.{capital_j, capital_m, comma, dot}
-use Rattle.tz_zone.specs.declared.parse.tz_string.switch.DayAndTime.{DayAndTime}
+use Rattle.tz_zone.specs.declared.parse.tz_string.start_and_end.DayAndTime.{DayAndTime}
 use Rattle.tz_zone.specs.declared.parse.tz_string.time.WrittenTime.{WrittenTime}
 use Rattle.tz_zone.specs.TzText.{IsRun, IsNumber, IsName, IsPart, IsHms, IsSign, IsSignedTime, IsDayTimeSign, IsDayTime, IsMonthWeekText, IsDay, IsTimeOfRule, IsRuleText, IsDaylightOffset, IsNameAndOffset, AlternateText, IsAlternateText}
 

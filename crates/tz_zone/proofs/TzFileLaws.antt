@@ -2,8 +2,8 @@
 use Rattle.std.proofs.Common.{◌≡◌, ℕ, length, Bool, List, Option, Some, None, Result, Ok, Err, refl, sym, ap, subst, ◌∙◌, inl, inr, arith}
 use Rattle.std.specs.Prelude.{IfOk, OnOk, alloc_error}
 use Rattle.std.specs.Int.{Width, w32, w64}
-use Rattle.tz_base.specs.declared.error.TzError.{TzError}
-use Rattle.tz_base.specs.declared.error.TzError.TheVariants.{TzFile, LocalTimeType as TypeFault, Memory}
+use Rattle.tz_base.specs.declared.error.tz_error.TzError.{TzError}
+use Rattle.tz_base.specs.declared.error.tz_error.TzError.TheVariants.{TzFile, LocalTimeType as TypeFault, Memory}
 use Rattle.tz_base.specs.declared.error.parse.ParseDataError.TheVariants.{UnexpectedEof}
 use Rattle.tz_base.specs.declared.error.parse.TzFileError.{TzFileError}
 use Rattle.tz_base.specs.declared.error.parse.TzFileError.TheVariants.{ParseData, InvalidMagicNumber, UnsupportedTzFileVersion, InvalidHeader, InvalidDstIndicator, InvalidTimeZoneDesignationCharIndex, Utf8, InvalidFooter}
@@ -11,7 +11,7 @@ use Rattle.tz_base.specs.declared.error.timezone.TimeZoneError.{TimeZoneError}
 use Rattle.tz_base.specs.declared.error.timezone.LocalTimeTypeError.{LocalTimeTypeError}
 use Rattle.tz_base.specs.declared.error.timezone.LocalTimeTypeError.TheVariants.{InvalidTimeZoneDesignationLength, InvalidTimeZoneDesignationChar, InvalidUtcOffset}
 use Rattle.tz_rule.specs.LocalTimeType.{LocalTimeType, IsDesignation, IsLocalTimeType, IsFirstTypeFault}
-use Rattle.tz_rule.specs.declared.timezone.rule.TransitionRule.{TransitionRule}
+use Rattle.tz_rule.specs.declared.timezone.transition_rule.TransitionRule.{TransitionRule}
 use Rattle.tz_rule.proofs.WeakerClauses.{IfSome-weaker}
 use Rattle.tz_zone.specs.Table.{Zone, zone_with}
 use Rattle.tz_zone.specs.ValidZone.{IsFirstTransitionFault, IsValidZone, IsFirstZoneFault}

@@ -3,7 +3,7 @@ use Rattle.std.specs.Prelude.{◌≢◌, ◌≤◌, ℤ, [], length}
 use Rattle.tz_zone.specs.Table.{Zone}
 use Rattle.tz_zone.specs.LeapTime.{IsInstant, IsLeapTime}
 use Rattle.tz_zone.specs.Clock.{AreReached, AreAhead, IsTypeOfLast}
-use Rattle.tz_zone.specs.declared.clock.spans.Stage.{Stage}
+use Rattle.tz_zone.specs.declared.clock.span_walk.Stage.{Stage}
 
 -- a walk that began at a first instant has come to another one: the transitions before its place are reached there, and those from its place on
 -- were ahead at the first; it has the type of the last one before its place

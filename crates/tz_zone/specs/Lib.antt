@@ -11,7 +11,7 @@ pub mod ValidZone
 pub mod Offsets
 pub mod ZoneRef
 pub mod ZoneSeen
-pub mod ZoneViewed
+pub mod ZoneOfData
 pub mod ClockSegments
 pub mod ClockSpans
 pub mod WindowTypes

@@ -1,7 +1,7 @@
 -- What contracts see of a time zone: its four parts. (RFC 8536, section 3.2.)
 use Rattle.std.specs.Prelude.{ℕ, ℤ, List, [], ◌∷◌, Option, None}
 use Rattle.tz_rule.specs.LocalTimeType.{LocalTimeType}
-use Rattle.tz_rule.specs.declared.timezone.rule.TransitionRule.{TransitionRule}
+use Rattle.tz_rule.specs.declared.timezone.transition_rule.TransitionRule.{TransitionRule}
 
 -- a transition: from a leap time on the type with a number holds
 pub record Transition : Type 0 where

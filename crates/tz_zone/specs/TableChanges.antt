@@ -2,7 +2,7 @@
 -- footer; RFC 9636, section 3.2: a truncated start.)
 use Rattle.std.specs.Prelude.{◌≡◌, ◌≢◌, ℕ, ◌⊎◌, ℤ, pos, negsuc, ◌+ℤ◌, ◌-ℤ◌, ◌<ℤ◌, List, [], length, Option, Some, None}
 use Rattle.tz_rule.specs.RuleSegments.{IsRuleChange}
-use Rattle.tz_rule.specs.declared.timezone.rule.TransitionRule.{TransitionRule}
+use Rattle.tz_rule.specs.declared.timezone.transition_rule.TransitionRule.{TransitionRule}
 use Rattle.tz_zone.specs.Table.{LeapSecond, Zone}
 use Rattle.tz_zone.specs.LeapTime.{IsBeforeStart}
 use Rattle.tz_zone.specs.ClockSegments.{IsReachedAt, TakesEffectAt}

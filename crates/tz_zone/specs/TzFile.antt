@@ -4,7 +4,7 @@ use Rattle.std.specs.Char.{is_ascii_whitespace}
 use Rattle.std.specs.List.{range_with_len, before_first, prefix_len, suffix_len}
 use Rattle.std.specs.Int.{Width, w32, w64, byte_len, from_be_bytes, cast_signed}
 use Rattle.tz_rule.specs.LocalTimeType.{LocalTimeType, type_of, IsLocalTimeType}
-use Rattle.tz_rule.specs.declared.timezone.rule.TransitionRule.{TransitionRule}
+use Rattle.tz_rule.specs.declared.timezone.transition_rule.TransitionRule.{TransitionRule}
 use Rattle.tz_zone.specs.Bytes.{colon, line_feed}
 use Rattle.tz_zone.specs.Table.{Transition, LeapSecond, Zone, zone_with}
 use Rattle.tz_zone.specs.TzText.{IsTzText}

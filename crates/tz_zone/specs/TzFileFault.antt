@@ -3,14 +3,14 @@
 -- when headers and blocks are, and one of the zone's checks when all else is.
 use Rattle.std.specs.Prelude.{◌≡◌, ◌≢◌, ℕ, ◌+◌, ◌*◌, ◌<◌, ◌≤◌, ◌⊎◌, Bool, List, [], length, Option, Some, None, IsUtf8, slice_index, alloc_error}
 use Rattle.std.specs.Int.{Width, w32, w64}
-use Rattle.tz_base.specs.declared.error.TzError.{TzError}
-use Rattle.tz_base.specs.declared.error.TzError.TheVariants.{TzFile, TimeZone, LocalTimeType as TypeFault, Memory}
+use Rattle.tz_base.specs.declared.error.tz_error.TzError.{TzError}
+use Rattle.tz_base.specs.declared.error.tz_error.TzError.TheVariants.{TzFile, TimeZone, LocalTimeType as TypeFault, Memory}
 use Rattle.tz_base.specs.declared.error.parse.ParseDataError.TheVariants.{UnexpectedEof}
 use Rattle.tz_base.specs.declared.error.parse.TzFileError.{TzFileError}
 use Rattle.tz_base.specs.declared.error.parse.TzFileError.TheVariants.{ParseData, InvalidMagicNumber, UnsupportedTzFileVersion, InvalidHeader, InvalidDstIndicator, InvalidTimeZoneDesignationCharIndex, InvalidStdWallUtLocal, RemainingDataV1, Utf8, InvalidFooter}
 use Rattle.tz_base.specs.declared.error.timezone.TimeZoneError.TheVariants.{InvalidLeapSecond}
 use Rattle.tz_rule.specs.LocalTimeType.{IsFirstTypeFault}
-use Rattle.tz_rule.specs.declared.timezone.rule.TransitionRule.{TransitionRule}
+use Rattle.tz_rule.specs.declared.timezone.transition_rule.TransitionRule.{TransitionRule}
 use Rattle.tz_zone.specs.TzTextFault.{IsTzTextFault}
 use Rattle.tz_zone.specs.ValidZone.{IsFirstZoneFault}
 use Rattle.tz_zone.specs.TzFile.{header_len, HasMagic, IsVersion, AreCounts, counts_of, IsHeader, end_at, IsUnit, after, Block, IsFlag, HasName, type_at, HasIndicators, IsContent, IsFirstVersion, IsFramed, part_of, footer_of, trimmed, IsBetweenLineFeeds, MayBeText, IsFooter, IsExtraRule, is_extended, zone_of_part, Part, HoldsLeapSeconds}

@@ -2,8 +2,8 @@
 -- A bad name and a number out of range do not stop the reading; a missing number and a missing or wrong byte do.
 use Rattle.std.specs.Prelude.{◌≡◌, ◌≢◌, ℕ, ◌^◌, ◌<◌, ◌≤◌, Bool, false, ◌⊎◌, pos, List, [], ◌∷◌, Some}
 use Rattle.std.specs.declared.num.ParseIntError.{ParseIntError}
-use Rattle.tz_base.specs.declared.error.TzError.{TzError}
-use Rattle.tz_base.specs.declared.error.TzError.TheVariants.{TzString, LocalTimeType as TypeFault, TransitionRule}
+use Rattle.tz_base.specs.declared.error.tz_error.TzError.{TzError}
+use Rattle.tz_base.specs.declared.error.tz_error.TzError.TheVariants.{TzString, LocalTimeType as TypeFault, TransitionRule}
 use Rattle.tz_base.specs.declared.error.parse.ParseDataError.{ParseDataError}
 use Rattle.tz_base.specs.declared.error.parse.ParseDataError.TheVariants.{UnexpectedEof, InvalidData}
 use Rattle.tz_base.specs.declared.error.parse.TzStringError.{TzStringError}

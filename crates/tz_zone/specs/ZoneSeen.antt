@@ -3,13 +3,13 @@ use Rattle.std.specs.Prelude.{List, [], ◌∷◌, Option, Some, None, option_ma
 use Rattle.tz_rule.specs.Alternate.{AlternateTime}
 use Rattle.tz_rule.specs.LocalTimeType.{LocalTimeType}
 use Rattle.tz_rule.specs.RuleRef.{rule_seen}
-use Rattle.tz_rule.specs.declared.timezone.rule.TransitionRule.{TransitionRule}
-use Rattle.tz_rule.specs.declared.timezone.rule.TransitionRule.TheVariants.{Fixed, Alternate}
+use Rattle.tz_rule.specs.declared.timezone.transition_rule.TransitionRule.{TransitionRule}
+use Rattle.tz_rule.specs.declared.timezone.transition_rule.TransitionRule.TheVariants.{Fixed, Alternate}
 use Rattle.tz_rule.specs.declared.timezone.rule_ref.RuleRef.{RuleRef}
 use Rattle.tz_zone.specs.Table.{Transition, Zone, zone_with}
-use Rattle.tz_zone.specs.declared.table.parts.KeptRule.{KeptRule}
-use Rattle.tz_zone.specs.declared.table.parts.KeptRule.TheVariants.{Without, Fixed as FixedKept, Alternate as AlternateKept, Stored}
-use Rattle.tz_zone.specs.declared.table.parts.OtherParts.{OtherParts}
+use Rattle.tz_zone.specs.declared.table.other_parts.KeptRule.{KeptRule}
+use Rattle.tz_zone.specs.declared.table.other_parts.KeptRule.TheVariants.{Without, Fixed as FixedKept, Alternate as AlternateKept, Stored}
+use Rattle.tz_zone.specs.declared.table.other_parts.OtherParts.{OtherParts}
 
 -- the rule that is lent, if there is one
 abbrev pub lent_rule : Option RuleRef → Option TransitionRule
@@ -22,7 +22,7 @@ rule_kept (FixedKept t) = Some (Fixed t.now)
 rule_kept (AlternateKept r) = Some (Alternate r.now)
 rule_kept (Stored rule) = rule.now
 
--- the rule that two lists give: the first type of the one, or else the first clock of the other
+-- the rule that two lists give: the first type of the one, or else the first alternate rule of the other
 abbrev pub rule_of_lists : List LocalTimeType → List AlternateTime → Option TransitionRule
 rule_of_lists (fixed ∷ _) _ = Some (Fixed fixed)
 rule_of_lists [] (rule ∷ _) = Some (Alternate rule)

@@ -3,11 +3,12 @@
 
 pub use crate::clock::window_types::{WindowTypes, window_types};
 pub use crate::clock::{Span, Stage, clock_segment_at, first_stage, span_from};
-pub use crate::leap::effect::effect;
-pub use crate::leap::time::leap;
-pub use crate::parse::prefix::after_byte;
+pub use crate::leap::from_leap_time::effect;
+pub use crate::leap::to_leap_time::leap;
+pub use crate::parse::after_byte::after_byte;
 pub use crate::parse::tz_file::sizes::{FileSizes, file_sizes};
 pub use crate::parse::tz_string::parse_posix_tz;
-pub use crate::table::{Counted, OtherParts, Transitions, Uncounted, offsets, other_parts};
+pub use crate::table::{Counted, OtherParts, Transitions, Uncounted, other_parts_of};
 pub use crate::timezone::file_reader::{read_to_end, read_up_to};
-pub use crate::timezone::zone_view::ZoneView;
+pub use crate::timezone::offset_range::offsets;
+pub use crate::timezone::zone_data::ZoneData;

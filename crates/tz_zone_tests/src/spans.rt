@@ -5,7 +5,7 @@ use crate::expect::{expect_eq, expect_eq_at};
 use std::process::Abort;
 use std::test::Fail;
 use tz_samples::rules::central_europe;
-use tz_zone::inner::{Counted, WindowTypes, first_stage, other_parts, span_from, window_types};
+use tz_zone::inner::{Counted, WindowTypes, first_stage, other_parts_of, span_from, window_types};
 use tz_zone::timezone::{LeapSecond, LocalTimeType, TimeZoneRef, Transition, TransitionRule};
 
 /// Up to this instant each one has a leap time, once the table has begun.
@@ -46,7 +46,7 @@ fn expect_spans(rt: &impl Abort, zone: &TimeZoneRef<'_>, low: i64, high: i64) ->
     if SURELY_ANSWERED < high {
         return (0, 0);
     }
-    let parts = other_parts(zone);
+    let parts = other_parts_of(zone);
     let mut view = Counted::new(zone.transitions());
     let WindowTypes::More(place) = window_types(&mut view, parts, low, high) else {
         return (0, 0);

@@ -3,13 +3,13 @@
 use super::{LocalTimeType, RuleDay};
 use crate::error::timezone::TransitionRuleError;
 use crate::ffi;
-use crate::plain::AlternateClock;
+use crate::plain::AlternateData;
 use std::fmt;
 
 /// Standard time and daylight saving time, and when each begins in every year.
 #[derive(Copy, Clone)]
 pub struct AlternateTime {
-    clock: AlternateClock,
+    data: AlternateData,
     dst_start: RuleDay,
     dst_end: RuleDay,
 }
@@ -63,35 +63,35 @@ impl AlternateTime {
         )
     }
 
-    /// The rule of a clock that the library made, and of its two days.
+    /// The rule of data that the library made, and of its two days.
     pub(crate) const fn with_parts(
-        clock: AlternateClock,
+        data: AlternateData,
         dst_start: RuleDay,
         dst_end: RuleDay,
     ) -> Self {
         Self {
-            clock,
+            data,
             dst_start,
             dst_end,
         }
     }
 
-    /// The clock, as the library has it.
+    /// The rule as plain data, as the library has it.
     #[inline]
-    pub(crate) const fn clock(&self) -> &AlternateClock {
-        &self.clock
+    pub(crate) const fn data(&self) -> &AlternateData {
+        &self.data
     }
 
     /// The type of standard time.
     #[inline]
     pub const fn std(&self) -> &LocalTimeType {
-        self.clock.std()
+        self.data.std()
     }
 
     /// The type of daylight saving time.
     #[inline]
     pub const fn dst(&self) -> &LocalTimeType {
-        self.clock.dst()
+        self.data.dst()
     }
 
     /// The day on which daylight saving time starts.
@@ -103,7 +103,7 @@ impl AlternateTime {
     /// When it starts on that day, in seconds from 00:00 of standard time, less than a week either way.
     #[inline]
     pub const fn dst_start_time(&self) -> i32 {
-        self.clock.dst_start_time()
+        self.data.dst_start_time()
     }
 
     /// The day on which daylight saving time ends.
@@ -115,13 +115,13 @@ impl AlternateTime {
     /// When it ends on that day, in seconds from 00:00 of daylight saving time, less than a week either way.
     #[inline]
     pub const fn dst_end_time(&self) -> i32 {
-        self.clock.dst_end_time()
+        self.data.dst_end_time()
     }
 }
 
 impl PartialEq for AlternateTime {
     fn eq(&self, other: &Self) -> bool {
-        // The rest of the clock is determined by these.
+        // The rest of the data is determined by these.
         (self.std(), self.dst()) == (other.std(), other.dst())
             && (self.dst_start, self.dst_start_time()) == (other.dst_start, other.dst_start_time())
             && (self.dst_end, self.dst_end_time()) == (other.dst_end, other.dst_end_time())

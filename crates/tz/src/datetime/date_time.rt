@@ -13,7 +13,7 @@ use tz_base::constants::NANOSECONDS_PER_SECOND;
 use tz_base::error::TzError;
 use tz_base::error::datetime::DateTimeError;
 use tz_base::fields::{Fields, is_reading, local_reading};
-use tz_base::totals;
+use tz_base::total_nanoseconds::{timespec, total_nanoseconds};
 use tz_zone::timezone::{LocalTimeType, TimeZoneRef};
 
 /// A date time with the local time type that shows it, and its Unix time.
@@ -256,7 +256,7 @@ impl DateTime {
         ensures ok { IfOk result (ShowsTotal total_nanoseconds local_time_type) }
         ensures err { IfErr result (IsTotalFault total_nanoseconds local_time_type.ut_offset) }
     {
-        let total = totals::timespec(total_nanoseconds);
+        let total = timespec(total_nanoseconds);
         let (unix_time, nanoseconds) = total.ok_or(TzError::OutOfRange)?;
         DateTime::shown_by(unix_time, nanoseconds, local_time_type)
     }
@@ -274,7 +274,7 @@ impl DateTime {
         ensures ok { IfOk result (ShowsTotalByClock (zone_of time_zone_ref.entry) total_nanoseconds) }
         ensures err { IfErr result (IsTotalClockFault (zone_of time_zone_ref.entry) total_nanoseconds) }
     {
-        let Some((unix_time, nanoseconds)) = totals::timespec(total_nanoseconds) else {
+        let Some((unix_time, nanoseconds)) = timespec(total_nanoseconds) else {
             return Err(TzError::OutOfRange);
         };
         DateTime::from_timespec(unix_time, nanoseconds, time_zone_ref)
@@ -402,7 +402,7 @@ impl DateTime {
         ensures value { result ≡ total_of self.now }
         ensures bound { IsNearTotal result }
     {
-        totals::total_nanoseconds(self.unix_time, self.fields.nanoseconds)
+        total_nanoseconds(self.unix_time, self.fields.nanoseconds)
     }
 
     /// The duration from an earlier date time to this one.

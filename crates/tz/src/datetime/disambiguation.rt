@@ -5,17 +5,17 @@ ghost use Rattle.tz_base.specs.Fields.{IsValid};
 ghost use Rattle.tz.specs.Summaries.{IsLookedUpAt, shown_entry_of};
 ghost use Rattle.tz.specs.declared.datetime.found.FoundDateTimeKind.TheVariants.{Normal};
 ghost use Rattle.tz_zone.specs.Clock.{IsClock};
-ghost use Rattle.tz_zone.specs.ZoneViewed.{zone_viewed};
+ghost use Rattle.tz_zone.specs.ZoneOfData.{zone_of_data};
 ghost use Rattle.tz.specs.Found.{EachCanBeMade};
 ghost use Rattle.tz.specs.Meanings.{IsMeaning, IsMeaningFault};
 
-use super::entries::DateTimeList;
-use super::plain_zones::{from_timespec, search_view};
+use super::entry_takers::DateTimeList;
+use super::zone_data_searches::{from_timespec, search_data};
 use super::{DateTime, FoundDateTimeKind, UtcDateTime};
 use std::alloc::AllocError;
 use tz_base::error::TzError;
 use tz_base::fields::Fields;
-use tz_zone::inner::ZoneView;
+use tz_zone::inner::ZoneData;
 use tz_zone::timezone::TimeZoneRef;
 
 /// Which date time a local time means if clocks are set forward over it or show it more than once.
@@ -146,16 +146,16 @@ pub(super) fn resolved(
 pub fn find_one(
     fields: &Fields,
     disambiguation: Disambiguation,
-    zone: &ZoneView<'_>,
+    zone: &ZoneData<'_>,
 ) -> Result<Option<DateTime>, TzError>
-    ensures ok { IfOk result (IsMeaning (zone_viewed zone.now) disambiguation fields.now) }
+    ensures ok { IfOk result (IsMeaning (zone_of_data zone.now) disambiguation fields.now) }
     ensures valid { OnOk result (IsValid fields.now) }
-    ensures made { OnOk result (EachCanBeMade (IsClock (zone_viewed zone.now)) fields.now) }
-    ensures err { IfErr result (IsMeaningFault (zone_viewed zone.now) disambiguation fields.now) }
+    ensures made { OnOk result (EachCanBeMade (IsClock (zone_of_data zone.now)) fields.now) }
+    ensures err { IfErr result (IsMeaningFault (zone_of_data zone.now) disambiguation fields.now) }
 {
     fields.check()?;
     let mut summary = Summary::Nothing;
-    search_view(&mut summary, fields, zone)?;
+    search_data(&mut summary, fields, zone)?;
     let Some(entry) = summary.entry(disambiguation) else {
         return Ok(None);
     };
@@ -214,7 +214,7 @@ impl DateTime {
         ensures err { IfErr result (IsMeaningFault (zone_of time_zone_ref.entry) disambiguation (fields_of year month month_day hour minute second nanoseconds)) }
     {
         let fields = Fields::new(year, month, month_day, hour, minute, second, nanoseconds);
-        find_one(&fields, disambiguation, &ZoneView::of(time_zone_ref))
+        find_one(&fields, disambiguation, &ZoneData::of(time_zone_ref))
     }
 
     /// The one date time that a local time means. The local time is passed as a [`UtcDateTime`] with its fields, which serves here as a
@@ -259,6 +259,6 @@ impl DateTime {
         ensures made { OnOk result (EachCanBeMade (IsClock (zone_of time_zone_ref.entry)) local) }
         ensures err { IfErr result (IsMeaningFault (zone_of time_zone_ref.entry) disambiguation local) }
     {
-        find_one(local.fields(), disambiguation, &ZoneView::of(time_zone_ref))
+        find_one(local.fields(), disambiguation, &ZoneData::of(time_zone_ref))
     }
 }

@@ -8,14 +8,14 @@ ghost use Rattle.tz.specs.DateTimes.{IsUtcTotal, IsNearTotal, IsForwards, IsBack
 use std::time::Duration;
 use tz_base::constants::NANOSECONDS_PER_SECOND;
 use tz_base::fields::is_reading;
-use tz_base::totals;
+use tz_base::total_nanoseconds::timespec;
 
 /// The seconds of the total, rounded down, and the nanoseconds that remain, if the seconds are those of a UTC date time.
 pub(super) fn utc_timespec(total: i128) -> Option<(i64, u32)>
     ensures some { IfSome result (λ t. IsReading t.0 × IsTimespec total t.0 t.1) }
     ensures in_range { IsSome result ↔ IsUtcTotal total }
 {
-    let (seconds, nanoseconds) = totals::timespec(total)?;
+    let (seconds, nanoseconds) = timespec(total)?;
     is_reading(seconds).then_some((seconds, nanoseconds))
 }
 

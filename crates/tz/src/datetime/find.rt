@@ -9,14 +9,14 @@ ghost use Rattle.tz.specs.Lists.{found_of};
 ghost use Rattle.tz.specs.Outcomes.{AreLooksOf, IsOutcome};
 ghost use Rattle.tz.specs.declared.datetime.found.FoundDateTimeKind.{FoundDateTimeKind};
 
-use super::entries::DateTimeList;
+use super::entry_takers::DateTimeList;
 use super::search::search;
 use super::slot_writer::SlotWriter;
 use super::{DateTime, FoundDateTimeKind, FoundDateTimeList, FoundDateTimeListRefMut, UtcDateTime};
 use std::alloc::Allocator;
 use tz_base::error::TzError;
 use tz_base::fields::Fields;
-use tz_zone::inner::{Counted, Transitions, Uncounted, offsets, other_parts};
+use tz_zone::inner::{Counted, Transitions, Uncounted, offsets, other_parts_of};
 use tz_zone::timezone::TimeZoneRef;
 
 /// A search that failed, and the buffer as it left it.
@@ -58,7 +58,7 @@ pub(super) fn find_in<L: DateTimeList, V: Transitions>(
 {
     fields.check()?;
     let (least, greatest) = offsets(&time_zone_ref);
-    let parts = other_parts(&time_zone_ref);
+    let parts = other_parts_of(&time_zone_ref);
     search(list, fields, view, parts, least, greatest)
 }
 

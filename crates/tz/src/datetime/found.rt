@@ -1,7 +1,7 @@
 //! What a search of date times finds: an entry, and lists of entries in memory of their own or in a buffer of the caller.
 
 use super::DateTime;
-use super::entries::DateTimeList;
+use super::entry_takers::DateTimeList;
 use std::alloc::{AllocError, Allocator, Global};
 use std::fmt;
 use tz_base::error::TzError;

@@ -6,7 +6,7 @@ ghost use Rattle.tz.specs.Outcomes.{IsOutcome};
 ghost use Rattle.tz.specs.LocalMeanings.{HasMeaning, MeansMore, meaning_of};
 ghost use Rattle.tz.specs.declared.datetime.found.FoundDateTimeKind.TheVariants.{Normal};
 
-use super::entries::DateTimeList;
+use super::entry_takers::DateTimeList;
 use super::find::find_in;
 use super::{DateTime, FoundDateTimeKind, UtcDateTime};
 use std::alloc::AllocError;

@@ -1,17 +1,17 @@
 //! Date times.
 
 pub(crate) mod date_time;
+pub(crate) mod date_time_data;
 pub(crate) mod disambiguation;
 mod durations;
-pub(crate) mod entries;
+pub(crate) mod entry_takers;
 pub(crate) mod find;
 mod found;
 mod meaning;
-pub(crate) mod plain;
-pub(crate) mod plain_zones;
 pub(crate) mod search;
 mod slot_writer;
 pub(crate) mod utc_date_time;
+pub(crate) mod zone_data_searches;
 
 pub use date_time::DateTime;
 pub use disambiguation::Disambiguation;

@@ -16,12 +16,12 @@ ghost use Rattle.tz.specs.Outcomes.{AreLooksOf};
 ghost use Rattle.tz.specs.Windows.{AtMostTakeEffectIn, IsSearchable, IsSmall, first_looks};
 ghost use Rattle.tz.specs.declared.datetime.found.FoundDateTimeKind.{FoundDateTimeKind};
 
-use super::entries::{DateTimeList, Dated, Entries};
+use super::entry_takers::{DateTimeList, Dated, EntryTaker};
 use tz_base::error::TzError;
 use tz_base::fields::Fields;
 use tz_zone::inner::{
-    OtherParts, Transitions, Uncounted, WindowTypes, first_stage, offsets, other_parts, span_from,
-    window_types,
+    OtherParts, Transitions, Uncounted, WindowTypes, first_stage, offsets, other_parts_of,
+    span_from, window_types,
 };
 use tz_zone::timezone::{LocalTimeType, TimeZoneRef};
 
@@ -44,7 +44,7 @@ fn passes_over(reading: i64, unix_time: i64, before: &LocalTimeType, after: &Loc
 }
 
 /// Gives what a reading has in a span of time throughout which the clock has one type, or none, by the type before it.
-fn give<'a, E: Entries<'a>>(
+fn give<'a, E: EntryTaker<'a>>(
     entries: &mut E,
     reading: i64,
     before: Option<&'a LocalTimeType>,
@@ -75,7 +75,7 @@ fn give<'a, E: Entries<'a>>(
 
 /// Gives what a reading has in its window if the clock has one type before an instant, and another from there on.
 #[inline(always)]
-fn give_around<'a, E: Entries<'a>>(
+fn give_around<'a, E: EntryTaker<'a>>(
     entries: &mut E,
     reading: i64,
     since: i64,
@@ -107,7 +107,7 @@ fn give_around<'a, E: Entries<'a>>(
 /// Gives all that a reading has in its window, in order, by the spans of the clock from the place on at which the window begins.
 #[cold]
 #[inline(never)]
-fn walk<'a, E: Entries<'a>, V: Transitions>(
+fn walk<'a, E: EntryTaker<'a>, V: Transitions>(
     entries: &mut E,
     reading: i64,
     view: &mut V,
@@ -148,7 +148,7 @@ fn walk<'a, E: Entries<'a>, V: Transitions>(
 
 /// Gives all that a reading has in its window, in order, by the types that the clock has there.
 #[inline(always)]
-fn search_window<'a, E: Entries<'a>, V: Transitions>(
+fn search_window<'a, E: EntryTaker<'a>, V: Transitions>(
     entries: &mut E,
     reading: i64,
     view: &mut V,
@@ -204,7 +204,7 @@ pub fn window_of(zone: TimeZoneRef<'_>, reading: i64) -> (i64, i64)
 
 /// Gives all that a reading has in the clock of a zone, in order, by its window.
 #[inline(always)]
-pub fn search_zone<'a, E: Entries<'a>>(
+pub fn search_zone<'a, E: EntryTaker<'a>>(
     entries: &mut E,
     reading: i64,
     zone: TimeZoneRef<'a>,
@@ -217,7 +217,14 @@ pub fn search_zone<'a, E: Entries<'a>>(
     ensures err { IfErr result (IsRefused E.refuses (IsClock (zone_of zone.entry)) reading) }
 {
     let mut view = Uncounted::new(zone.transitions());
-    search_window(entries, reading, &mut view, other_parts(&zone), low, high)
+    search_window(
+        entries,
+        reading,
+        &mut view,
+        other_parts_of(&zone),
+        low,
+        high,
+    )
 }
 
 /// Adds the entries for valid fields to the list, in order, by the least and the greatest offset of the zone.

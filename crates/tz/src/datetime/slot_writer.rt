@@ -1,7 +1,7 @@
 //! Slots of a caller while a search writes to them.
 
 use super::FoundDateTimeKind;
-use super::entries::DateTimeList;
+use super::entry_takers::DateTimeList;
 use std::alloc::AllocError;
 
 /// What holds one entry of a list.

@@ -14,7 +14,7 @@ use tz_base::constants::NANOSECONDS_PER_SECOND;
 use tz_base::error::TzError;
 use tz_base::error::datetime::DateTimeError;
 use tz_base::fields::{Fields, is_reading};
-use tz_base::totals;
+use tz_base::total_nanoseconds::total_nanoseconds;
 use tz_zone::timezone::TimeZoneRef;
 
 /// A date time of UTC, in a year of 32 bits. (ISO 8601)
@@ -353,7 +353,7 @@ impl UtcDateTime {
         ensures value { result ≡ utc_total self.now }
         ensures bound { IsUtcTotal result }
     {
-        totals::total_nanoseconds(self.unix_time(), self.fields.nanoseconds)
+        total_nanoseconds(self.unix_time(), self.fields.nanoseconds)
     }
 
     /// What the zone's clock shows at this instant.
@@ -506,7 +506,7 @@ impl SubAssign<Duration> for UtcDateTime {
 impl TryFrom<DateTime> for UtcDateTime {
     ghost use Rattle.std.specs.Prelude.{◌≡◌, IfOk, IfErr};
     ghost use Rattle.tz_base.specs.Fields.{IsCivil, IsReading};
-    ghost use Rattle.tz_base.specs.declared.error.TzError.TheVariants.{OutOfRange};
+    ghost use Rattle.tz_base.specs.declared.error.tz_error.TzError.TheVariants.{OutOfRange};
 
     type Error = TzError;
 

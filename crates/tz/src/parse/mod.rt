@@ -1,20 +1,20 @@
 //! Printed date times read back. (RFC 3339, section 5.6)
 
+mod date_and_time;
 mod error;
-mod fields;
 pub(crate) mod number;
 mod offset;
-mod usual;
+mod usual_texts;
 
 ghost use Rattle.std.specs.Prelude.{◌≡◌, ◌-ℤ◌, Option, IfOk, IfErr, MatchResult};
 ghost use Rattle.tz.specs.DateTimeText.{date_time, IsDateTimeText, IsDateTimeTextFault};
 
 use crate::datetime::UtcDateTime;
+use date_and_time::{after_separator, read_date, read_time};
 use error::{Missing, expect};
 pub use error::{DateTimePart, ParseDateTimeError};
-use fields::{after_separator, read_date, read_time};
 use offset::read_offset;
-use usual::read_printed;
+use usual_texts::read_printed;
 
 /// The local time and the offset of a text.
 #[derive(Clone, Copy, Debug, PartialEq, Eq)]

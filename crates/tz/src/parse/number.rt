@@ -1,9 +1,9 @@
 //! Numbers at the beginning of bytes.
 
-ghost use Rattle.std.specs.Prelude.{◌≡◌, ℕ, min, ◌+◌, ◌-◌, ◌*◌, ◌^◌, ◌<◌, ◌≤◌, List, length, take, drop, ℤ, pos, MatchBool, MatchOption, IfSome};
+ghost use Rattle.std.specs.Prelude.{◌≡◌, ℕ, min, ◌+◌, ◌-◌, ◌*◌, ◌^◌, ◌<◌, ◌≤◌, List, length, take, drop, ℤ, pos, MatchBool, MatchOption};
 ghost use Rattle.std.specs.Char.{digit_value};
 ghost use Rattle.std.specs.Str.Parse.{AllDigits, digits_value};
-ghost use Rattle.tz.specs.DateTimeText.{IsDigits, AreYearDigits, IsYear, IsPair, IsFraction};
+ghost use Rattle.tz.specs.DateTimeText.{IsDigits, AreYearDigits, IsYear, IsPair};
 
 use tz_zone::inner::after_byte;
 
@@ -102,23 +102,4 @@ pub(super) fn read_year(text: &[u8]) -> Option<(i32, &[u8])>
             Some((i32::try_from(size).ok()?, rest))
         }
     }
-}
-
-/// The nanoseconds of the fraction at the beginning, or 0 if there is no point, and the bytes after it.
-#[inline(always)]
-pub(super) fn read_fraction(text: &[u8]) -> Option<(u32, &[u8])>
-    ensures fraction { MatchOption result
-        ((n : ℕ) (rest : List ℕ) → ¬ IsFraction text.now n rest)
-        (λ p. IsFraction text.now p.0 p.1.now) }
-    ensures below { IfSome result (λ p. p.0 < 1000000000) }
-{
-    let Some(digits) = after_byte(text, b'.') else {
-        return Some((0, text));
-    };
-    let (size, count) = read_digits(digits);
-    if count == 0 || count > 9 {
-        return None;
-    }
-    let padding = 10u32.pow(9 - count as u32);
-    Some((size as u32 * padding, &digits[count..]))
 }

@@ -1,9 +1,9 @@
 //! What `?` makes of an error. Each conversion names its variant, so that a caller's contract can.
 
 ghost use Rattle.std.specs.Prelude.{◌≡◌, alloc_error};
-ghost use Rattle.tz_base.specs.declared.error.TzError.TheVariants as tz;
-ghost use Rattle.tz_base.specs.declared.error.Error.TheVariants as any;
-ghost use Rattle.tz_base.specs.declared.error.ReadFault.TheVariants as read;
+ghost use Rattle.tz_base.specs.declared.error.tz_error.TzError.TheVariants as tz;
+ghost use Rattle.tz_base.specs.declared.error.tz_error.Error.TheVariants as any;
+ghost use Rattle.tz_base.specs.declared.error.tz_error.ReadFault.TheVariants as read;
 ghost use Rattle.tz_base.specs.declared.error.parse.TzStringError.TheVariants as text;
 ghost use Rattle.tz_base.specs.declared.error.parse.TzFileError.TheVariants as file;
 

@@ -12,7 +12,7 @@ use super::lines::{Query, after_line, read_query};
 use super::nanoseconds::Nanoseconds;
 use super::output::Output;
 use super::page::Page;
-use super::suffixes::{Suffix, Suffixes};
+use super::type_suffixes::{Suffix, Suffixes};
 use super::usual_lines::{read_usual_search_line, read_usual_time_line};
 use std::alloc::{AllocError, Allocator};
 use tz::{LocalTimeType, TimeZone, TimeZoneRef, TzError};
@@ -24,7 +24,7 @@ pub struct Answers<'a, A: Allocator + Copy> {
     pub zone: TimeZoneRef<'a>,
     pub segment: KeptSegment,
     pub suffixes: Suffixes,
-    /// The last instant that was outside the kept segment, at first 0.
+    /// The last instant that was looked up, or the first one of the last window that was searched, since the kept segment did not hold it; at first 0.
     pub missed: i64,
     pub output: Output<A>,
 }
@@ -105,6 +105,7 @@ pub fn answer<A: Allocator + Copy>(
     let mut answers = Answers {
         alloc,
         zone,
+        // An empty segment: its first instant is after its last.
         segment: KeptSegment {
             from: 1,
             last: 0,
@@ -114,7 +115,7 @@ pub fn answer<A: Allocator + Copy>(
         missed: 0,
         output: Output { answers, page },
     };
-    // Any segment of the clock will do: the first line replaces it if it lies elsewhere.
+    // Any segment of the clock will do: lines in order that lie elsewhere soon replace it, by `follow`.
     answers.keep_segment(0);
     let mut rest = queries;
     while !rest.is_empty() {

@@ -3,11 +3,11 @@
 ghost use Rattle.std.specs.Prelude.{◌≤ℤ◌, IsTrue};
 
 use super::answers::Answers;
-use super::suffixes::Suffix;
+use super::type_suffixes::Suffix;
 use std::alloc::Allocator;
 
-/// 30 days in seconds. If two instants outside the kept segment that come one after the other are less than this apart, lines are taken to be in
-/// order, so that another segment is worth keeping.
+/// 30 days in seconds. If two lookups, one after the other, are for instants less than this apart, lines are taken to be in order, so that another
+/// segment is worth keeping.
 const NEAR: u64 = 2_592_000;
 
 /// Instants throughout which a clock has one type.
@@ -48,7 +48,7 @@ impl<'a, A: Allocator + Copy> Answers<'a, A> {
         }
     }
 
-    /// Keeps the segment around an instant if the lines seem to be in order.
+    /// Keeps the segment around an instant that is looked up, if the lines seem to be in order: if the lookup before was for an instant near it.
     #[inline(always)]
     pub fn follow(&mut self, unix_time: i64)
         requires { IsSound self.old }

@@ -38,6 +38,7 @@ pub fn read_number(bytes: &[u8]) -> Option<(i64, &[u8])>
     ensures some { IfSome result (λ r. IsNumberFront bytes.now r.0 r.1.now) }
     ensures none { IfNone result ((n : ℤ) (rest : List ℕ) → FitsSigned w64 n → ¬ IsNumberFront bytes.now n rest) }
 {
+    // `read_small` may read three bytes, and returns only a number before a space, so never the last one of a line.
     if bytes.len() >= 3
         && let Some((number, end)) = read_small(bytes, 0)
     {

@@ -11,8 +11,8 @@ mod page;
 mod program;
 mod search_answers;
 mod streams;
-mod suffixes;
 mod time_answers;
+mod type_suffixes;
 mod usual_lines;
 
 pub use answers::{answer, answer_tzif};

@@ -8,7 +8,7 @@ ghost use Rattle.tz_query.specs.Pages.{HasRoom};
 
 use super::nanoseconds::Nanoseconds;
 use super::page::Page;
-use super::suffixes::Suffix;
+use super::type_suffixes::Suffix;
 use std::alloc::{AllocError, Allocator};
 use tz::inner::{Fields, TextBuffer};
 

@@ -9,7 +9,7 @@ ghost use Rattle.tz_query.specs.Nanoseconds.{with_nanoseconds};
 ghost use Rattle.tz_query.specs.Pages.{HasRoom, HasRoomFor};
 
 use super::nanoseconds::Nanoseconds;
-use super::suffixes::Suffix;
+use super::type_suffixes::Suffix;
 use std::marker::Model;
 use tz::inner::{Fields, TextBuffer, middle_of, two_pairs};
 

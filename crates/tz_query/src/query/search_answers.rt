@@ -10,7 +10,7 @@ use super::output::Written;
 use super::time_answers::shown_fields;
 use std::alloc::Allocator;
 use tz::datetime::{DateTime, FoundDateTimeKind};
-use tz::inner::{self, Entries, Fields, fields_of, search_zone, window_of};
+use tz::inner::{self, EntryTaker, Fields, fields_of, search_zone, window_of};
 use tz::{LocalTimeType, TzError};
 
 /// What a local time means to the clock of a zone.
@@ -28,7 +28,7 @@ enum LineMeaning<'a> {
     More,
 }
 
-impl<'a> Entries<'a> for LineMeaning<'a> {
+impl<'a> EntryTaker<'a> for LineMeaning<'a> {
     ghost use Rattle.std.specs.Prelude.{⊤};
     ghost use Rattle.tz_query.specs.LineMeanings.{MeansMore};
 

@@ -7,7 +7,7 @@ use super::answers::Answers;
 use super::error_names::fault_name;
 use super::nanoseconds::Nanoseconds;
 use super::output::{Output, Written};
-use super::suffixes::Suffix;
+use super::type_suffixes::Suffix;
 use std::alloc::Allocator;
 use tz::LocalTimeType;
 use tz::constants::NANOSECONDS_PER_SECOND;

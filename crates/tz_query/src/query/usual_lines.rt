@@ -11,7 +11,7 @@ ghost use Rattle.tz_query.specs.Queries.{IsTimeLine, IsSearchLine};
 use core::dec2flt;
 use tz::inner::{Fields, value_of};
 
-/// The instant of the first line, if it is a `T` line of usual numbers, and the bytes after it. Its nanoseconds are copied.
+/// The instant of the first line, if it is a `T` line of usual numbers, and the bytes after it. Its nanoseconds are copied to `nine`, as nine digits.
 ///
 /// A line that begins in the last 47 bytes is left to `read_query`: so no read here has to test where the queries end.
 #[inline(always)]
@@ -28,8 +28,8 @@ pub fn read_usual_time_line<'a>(queries: &'a [u8], nine: &mut [u8; 9]) -> Option
     Some((unix_time, &queries[next..]))
 }
 
-/// The fields of the first line, if it is an `F` line of usual numbers, and the bytes after it. Its nanoseconds are copied, and are 0 in the
-/// fields.
+/// The fields of the first line, if it is an `F` line of usual numbers, and the bytes after it. Its nanoseconds are copied to `nine`, as nine digits,
+/// and are 0 in the fields.
 #[inline(always)]
 pub fn read_usual_search_line<'a>(
     queries: &'a [u8],
@@ -58,7 +58,7 @@ pub fn read_usual_search_line<'a>(
 
 /// The number of the digits at a place, if there are 1 to 18, and the place after them.
 ///
-/// Eleven bytes hold the digits of the years up to 5138, and of a slice of this length eight are read at once, and then one at a time.
+/// Eleven digits hold the Unix times up to November 5138. Of a slice of this length the first eight bytes are read at once, the others one at a time.
 #[inline(always)]
 fn read_few_digits(bytes: &[u8], place: usize) -> Option<(u64, usize)>
     requires { place + 12 ≤ length bytes.now }
@@ -99,7 +99,7 @@ fn read_usual_number(bytes: &[u8], place: usize) -> Option<(i64, usize)>
     Some((size as i64, end))
 }
 
-/// Copies the number of up to nine digits after a space at a place and before LF, left-padded with zeros. Returns the index after LF.
+/// Copies the number of up to nine digits after a space at a place and before LF to `nine`, left-padded with zeros. Returns the place after LF.
 #[inline(always)]
 fn read_nanoseconds(bytes: &[u8], place: usize, nine: &mut [u8; 9]) -> Option<usize>
     requires { place + 11 ≤ length bytes.now }

@@ -27,7 +27,7 @@ static SECOND_KINDS: [u8; PAIR_KINDS] = [
 /// The first of the years that stand for all years.
 const FIRST_MODEL_YEAR: i32 = 1972;
 
-/// How many they are. Each year has the kind of one of 1972 to 1999, and so have two years that follow one another.
+/// How many there are. Each kind of year is that of one of 1972 to 1999, and each pair kind that of one of these and the year after it.
 const MODEL_YEARS: u8 = 29;
 
 /// The kind of the first year of a pair kind.
@@ -113,7 +113,7 @@ impl YearTable {
         self.comes_before_next(other) && self.comes_after_next(other)
     }
 
-    /// Whether ends come before starts, of which this is the table, if the bounds of both are apart and so no order changes.
+    /// Whether ends come before starts (`self` is the table of starts), if the bounds of both tables show that their order never changes.
     fn order_of_bounds(&self, ends: &YearTable) -> Option<bool>
         ensures { IfSome result (λ first. (¬ ChangesOrder self.now.0 ends.now.0)
             × MatchBool first (ComesFirst ends.now.0 self.now.0) (¬ ComesFirst ends.now.0 self.now.0)) }

@@ -14,11 +14,11 @@ ghost use Rattle.tz_rule.specs.Rule.{IsRuleType};
 ghost use Rattle.tz_rule.specs.RuleChanges.{TypeChange, type_change_of, IsTypeChange, IsChangeAfter, IsChangeUpTo, HasNoChangeAfter, HasNoChangeUpTo, HasOneType, IsSwitchAfter, IsSwitchUpTo};
 ghost use Rattle.tz_rule.specs.RuleSegments.{type_by};
 ghost use Rattle.tz_rule.specs.RuleRef.{rule_seen};
-ghost use Rattle.tz_rule.specs.declared.timezone.rule.TransitionRule.{TransitionRule};
-ghost use Rattle.tz_rule.specs.declared.timezone.rule.TransitionRule.TheVariants.{Alternate};
+ghost use Rattle.tz_rule.specs.declared.timezone.transition_rule.TransitionRule.{TransitionRule};
+ghost use Rattle.tz_rule.specs.declared.timezone.transition_rule.TransitionRule.TheVariants.{Alternate};
 
 use super::LocalTimeType;
-use super::alternate_tables::AlternateClock;
+use super::alternate_data::AlternateData;
 use super::rule_ref::RuleRef;
 use super::rule_years::likely_year;
 
@@ -78,8 +78,8 @@ fn change_by_types<'a>(
     })
 }
 
-impl AlternateClock {
-    /// The last start or end up to an instant near the moved year, and the next one after it, by whether a year's end comes first, or its start.
+impl AlternateData {
+    /// The last start or end up to an instant near the moved year, and the next one after it. `end_is_first` is as in `segment_by_order`.
     ///
     /// The second one of a year never meets the first one of the next year, since both are far inside their years.
     #[inline(always)]

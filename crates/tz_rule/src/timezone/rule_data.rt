@@ -3,7 +3,7 @@
 ghost use Rattle.std.specs.Prelude.{◌≡◌};
 ghost use Rattle.tz_rule.specs.RuleData.{rule_given};
 
-use super::alternate_tables::AlternateClock;
+use super::alternate_data::AlternateData;
 use super::{LocalTimeType, TransitionRule};
 
 /// A rule, or none, in C's layout. What its kind does not use is zero.
@@ -14,8 +14,8 @@ pub struct RuleData {
     pub kind: u32,
     /// The fixed type.
     pub fixed: LocalTimeType,
-    /// The clock of the alternate rule.
-    pub alternate: AlternateClock,
+    /// The alternate rule.
+    pub alternate: AlternateData,
 }
 
 impl RuleData {
@@ -27,17 +27,17 @@ impl RuleData {
             None => RuleData {
                 kind: 0,
                 fixed: LocalTimeType::utc(),
-                alternate: AlternateClock::zeros(),
+                alternate: AlternateData::zeros(),
             },
             Some(TransitionRule::Fixed(local_time_type)) => RuleData {
                 kind: 1,
                 fixed: *local_time_type,
-                alternate: AlternateClock::zeros(),
+                alternate: AlternateData::zeros(),
             },
             Some(TransitionRule::Alternate(rule)) => RuleData {
                 kind: 2,
                 fixed: LocalTimeType::utc(),
-                alternate: *rule.clock(),
+                alternate: *rule.plain(),
             },
         }
     }

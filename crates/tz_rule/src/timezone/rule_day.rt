@@ -24,7 +24,7 @@ fn nth_place(first: u8, days: u8, week: u8) -> u8
     if place < days { place } else { place - 7 }
 }
 
-/// The place of a week day in a year that begins with the next week day: a day earlier, and the last of the seven places for the first.
+/// The place in a year that begins one week day later: a day earlier, or the last of the seven places if it was the first.
 #[inline(always)]
 fn place_before(place: u16, least: u16) -> u16
     requires place { (least ≤ place) × (place ≤ least + 6) }
@@ -132,7 +132,7 @@ impl Julian0WithLeap {
     }
 }
 
-/// The w-th of a month's days with a week day, where the fifth is the last. (POSIX.1-2017, 8.3: `Mm.w.d`.)
+/// The first, second, third, fourth or last (5) of a month's days with a given week day. (POSIX.1-2017, 8.3: `Mm.w.d`.)
 #[derive(Clone, Copy, Debug, PartialEq, Eq)]
 pub struct MonthWeekDay {
     pub(super) month: u8,
@@ -213,7 +213,8 @@ impl MonthWeekDay {
 
     /// How many days after January 1st the day is in leap years or in the others, for each week day of January 1st.
     ///
-    /// One week day is counted. If January 1st has the next week day, the day is one day earlier, within the seven days of its week.
+    /// The place is found for a year that begins on a Sunday. If January 1st is one week day later, the day is one day earlier, or the last of its
+    /// seven places if it was the first.
     fn places(&self, leap: bool) -> [u16; 7]
         ensures value { (w : ℕ) → w < 7 → get_or result w 0 ≡ place_in_year (TheDays.MonthWeekDay self.now) leap w }
         ensures bound { (w : ℕ) → w < 7 → get_or result w 0 ≤ 365 }

@@ -7,18 +7,18 @@ ghost use Rattle.tz_rule.specs.Rule.{IsRuleType, IsSoundRule};
 ghost use Rattle.tz_rule.specs.RuleRef.{rule_seen};
 ghost use Rattle.tz_rule.specs.RuleSegments.{IsRuleChange};
 
-use super::alternate_tables::AlternateClock;
+use super::alternate_data::AlternateData;
 use super::rule_segments::RuleSegment;
 use super::{AlternateTime, LocalTimeType, TransitionRule};
 use tz_base::error::TzError;
 
-/// A rule that is lent: a fixed type, or the clock of an alternate rule.
+/// A rule that is lent: a fixed type, or the data of an alternate rule.
 #[derive(Clone, Copy)]
 pub enum RuleRef<'a> {
     /// One type for all time.
     Fixed(&'a LocalTimeType),
     /// Two types that alternate.
-    Alternate(&'a AlternateClock),
+    Alternate(&'a AlternateData),
 }
 
 impl<'a> RuleRef<'a> {
@@ -29,7 +29,7 @@ impl<'a> RuleRef<'a> {
     {
         match rule {
             TransitionRule::Fixed(local_time_type) => RuleRef::Fixed(local_time_type),
-            TransitionRule::Alternate(rule) => RuleRef::Alternate(rule.clock()),
+            TransitionRule::Alternate(rule) => RuleRef::Alternate(rule.plain()),
         }
     }
 
@@ -39,7 +39,7 @@ impl<'a> RuleRef<'a> {
     {
         match self {
             RuleRef::Fixed(local_time_type) => TransitionRule::Fixed(*local_time_type),
-            RuleRef::Alternate(clock) => TransitionRule::Alternate(AlternateTime::of_clock(clock)),
+            RuleRef::Alternate(plain) => TransitionRule::Alternate(AlternateTime::of_plain(plain)),
         }
     }
 }
@@ -65,7 +65,7 @@ pub fn start(rule: &AlternateTime, year: i32) -> i64
     ensures value { result ≡ start_of rule.now year }
     ensures bound { IsNearYear result year }
 {
-    rule.clock().switch_in(false, year)
+    rule.plain().switch_in(false, year)
 }
 
 /// The instant at which daylight saving time ends in a year.
@@ -73,7 +73,7 @@ pub fn end(rule: &AlternateTime, year: i32) -> i64
     ensures value { result ≡ end_of rule.now year }
     ensures bound { IsNearYear result year }
 {
-    rule.clock().switch_in(true, year)
+    rule.plain().switch_in(true, year)
 }
 
 /// The segment of the rule around an instant: the first and the last instant through which it has one type, or none.
@@ -96,7 +96,7 @@ pub fn segment_at<'a>(rule: RuleRef<'a>, unix_time: i64) -> RuleSegment<'a>
     }
 }
 
-/// The parts of the rule obey the rules of their making. This does nothing; its contract is what holds of every rule.
+/// The rule and its days pass the checks of their constructors. This does nothing; its contract is what holds of every rule.
 pub fn parts_are_sound(rule: RuleRef<'_>)
     ensures { IsSoundRule (rule_seen rule.entry) }
 {

@@ -1,8 +1,9 @@
 //! The segment of an alternate rule around an instant, from one start or end of daylight saving time up to the next, and the type there.
 //!
-//! Two or three starts and ends of the likely year and of its neighbours determine both if all starts and ends are ten days or more from the
-//! ends of their years, and mostly otherwise. Else, as near some New Years, those of the instant's year in UTC or of a neighbour do, and of the years
-//! beside that: the last one up to the instant can be that of two years before, and the next one that of two years after.
+//! If all starts and ends are ten days or more from the ends of their years, two or three of them, of the likely year and its neighbours, determine
+//! the segment. Otherwise they mostly do too. If they do not, as near some New Years, or if no year is likely, those of the instant's year in UTC or of
+//! a neighbour do, with those of the years beside that one: the last start or end up to the instant can be that of two years before, and the next one
+//! that of two years after.
 
 ghost use Rattle.std.specs.Prelude.{◌≡◌, ◌≢◌, ◌≤◌, ℤ, pos, negsuc, ◌+ℤ◌, ◌-ℤ◌, ◌≤ℤ◌, ◌<ℤ◌, IfOk, IfErr, IfSome, IfNone, MatchBool, MatchOption};
 ghost use Rattle.tz_rule.specs.Alternate.{AlternateTime, start_of, end_of, switch_of, IsUtcYear, IsRuleYear, IsInRuleYears, IsAlternateType};
@@ -11,10 +12,10 @@ ghost use Rattle.tz_rule.specs.Rule.{IsRuleType};
 ghost use Rattle.tz_rule.specs.RuleSegments.{type_by, IsRuleChange, IsRuleSegment, IsSwitchSegment, IsWholeSegment};
 ghost use Rattle.tz_rule.specs.LikelyYears.{HasInnerSwitches, HasNeighbours, IsDeterminingYear, moved_back};
 ghost use Rattle.tz_rule.specs.Pairing.{EndsNextYear};
-ghost use Rattle.tz_rule.specs.declared.timezone.rule.TransitionRule.TheVariants.{Alternate};
+ghost use Rattle.tz_rule.specs.declared.timezone.transition_rule.TransitionRule.TheVariants.{Alternate};
 
 use super::LocalTimeType;
-use super::alternate_tables::AlternateClock;
+use super::alternate_data::AlternateData;
 use super::rule_years::{FIRST_YEAR, LAST_YEAR, likely_year, new_year, rule_year};
 use tz_base::calendar;
 use tz_base::error::TzError;
@@ -61,7 +62,7 @@ fn undefined_segment<'a>(unix_time: i64) -> RuleSegment<'a>
     }
 }
 
-impl AlternateClock {
+impl AlternateData {
     /// The instant at which daylight saving time starts, or ends, in a moved year.
     #[inline(always)]
     pub(super) fn switch_in_moved(&self, is_end: bool, moved_year: u64) -> i64
@@ -71,7 +72,9 @@ impl AlternateClock {
         self.table(is_end).in_moved_year(moved_year)
     }
 
-    /// The segment of the moved year or its neighbours that an instant near the year chooses, by whether a year's end comes first, or its start.
+    /// The segment that holds an instant, if the moved year and its neighbours determine it; otherwise a segment near by.
+    ///
+    /// `end_is_first` is `ends_next_year()`: whether some year's end comes before its start, so that daylight saving time ends in the next year.
     #[inline(always)]
     fn segment_by_order(
         &self,
@@ -191,7 +194,7 @@ impl AlternateClock {
         if is_daylight { self.dst() } else { self.std() }
     }
 
-    /// The rule's segment that one around the instant is.
+    /// The segment around an instant, with its type, as a segment of the rule.
     #[inline(always)]
     fn rule_segment(&self, unix_time: i64, segment: AlternateSegment) -> RuleSegment<'_>
         requires of { IsWholeSegment self.now segment }

@@ -24,7 +24,7 @@ fn kind_of(leap: bool, first_week_day: u8) -> usize
 /// A seventh of 2^64, rounded up.
 const SEVENTH: u64 = 2_635_249_153_387_078_803;
 
-/// The days over whole weeks: the sevenths that are over are the fraction of a product of 64 bits.
+/// The days modulo 7. If r is that remainder, `days * SEVENTH` modulo 2^64 is r sevenths of 2^64, or slightly more.
 #[inline(always)]
 fn days_over_weeks(days: u64) -> u8
     requires { days < 2 ^ 43 }
@@ -44,6 +44,7 @@ pub(super) fn moved_year_start(moved_year: u64) -> (i64, usize)
     ensures bound { (negsuc 67768100567971199 ≤ℤ result.0) × (result.0 ≤ℤ pos 67767976202016000) }
     ensures below { result.1 < 14 }
 {
+    // The days are counted from January 1st of the year -2147484000, a Saturday: 6 from Sunday = 0.
     let days = days_before_moved_year(moved_year);
     let kind = kind_of(is_moved_year_leap(moved_year), days_over_weeks(days + 6));
     (SECONDS_PER_DAY * (days as i64 - ADDED_DAYS), kind)

@@ -1,4 +1,4 @@
-//! Tables of an instant of each year, by the kind of the year.
+//! Tables of an instant of each year, by the kind of the year. Their order, and how it changes, is in `consistency.rt`.
 
 ghost use Rattle.std.specs.Prelude.{◌≡◌, ◌<◌, ◌≤◌, ◌*◌, replicate, pos, negsuc, ◌+ℤ◌, ◌≤ℤ◌};
 ghost use Rattle.tz_rule.specs.RuleDays.{IsRuleDay};

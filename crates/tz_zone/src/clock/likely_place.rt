@@ -9,7 +9,7 @@ ghost use Rattle.tz_zone.specs.ValidZone.{IsRising, IsSoundTable};
 ghost use Rattle.tz_zone.specs.ZoneSeen.{zone_seen};
 
 use super::place::place_before;
-use crate::leap::time::leap_time;
+use crate::leap::to_leap_time::leap_time;
 use crate::table::{OtherParts, Transition, Uncounted};
 
 /// Whether the transition after a place is ahead of a leap time, if there is one.

@@ -7,7 +7,7 @@ mod lookup;
 mod place;
 mod preceding;
 mod segment;
-mod spans;
+mod span_walk;
 mod types_at_places;
 pub mod window_types;
 
@@ -16,4 +16,4 @@ pub use following::{change_after_last, find_following, following_near};
 pub use lookup::find_local_time_type;
 pub use preceding::{change_before_next, find_preceding, preceding_near};
 pub use segment::{Segment, clock_segment_at};
-pub use spans::{Span, Stage, first_stage, span_from};
+pub use span_walk::{Span, Stage, first_stage, span_from};

@@ -8,7 +8,7 @@ ghost use Rattle.tz_zone.specs.PlacesLeft.{IsAmongPlaces};
 ghost use Rattle.tz_zone.specs.ValidZone.{IsRising, IsSoundTable};
 ghost use Rattle.tz_zone.specs.ZoneSeen.{zone_seen};
 
-use crate::leap::time::leap_time;
+use crate::leap::to_leap_time::leap_time;
 use crate::table::{OtherParts, Transition, Transitions};
 
 /// How many places the last seven looks of a halving choose from.

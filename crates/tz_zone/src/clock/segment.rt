@@ -13,8 +13,8 @@ use super::lookup::after_table;
 use super::place::place_at;
 use super::types_at_places::{before, type_of};
 use crate::leap::LeapSecond;
-use crate::leap::effect::{effect_of_reached, last_before};
-use crate::leap::time::{first_begun, has_begun, last_instant, last_instant_up_to};
+use crate::leap::from_leap_time::{effect_of_reached, last_before};
+use crate::leap::to_leap_time::{first_begun, has_begun, last_instant, last_instant_up_to};
 use crate::table::{OtherParts, Transition, Transitions};
 use tz_rule::timezone::LocalTimeType;
 

@@ -10,8 +10,8 @@ ghost use Rattle.tz_zone.specs.ZoneSeen.{zone_seen};
 use super::lookup::after_table;
 use super::place::place_of;
 use super::types_at_places::{type_before, type_of};
-use crate::leap::effect::effect_of_reached;
-use crate::leap::time::{leap_time, stay_before};
+use crate::leap::from_leap_time::effect_of_reached;
+use crate::leap::to_leap_time::{leap_time, stay_before};
 use crate::table::{OtherParts, Transitions};
 use tz_rule::timezone::LocalTimeType;
 

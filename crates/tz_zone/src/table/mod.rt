@@ -1,9 +1,9 @@
 //! The table of a zone: transitions, a view that reads transitions one at a time, and what a zone has beside them.
 
-mod parts;
+mod other_parts;
 mod transition;
-mod transitions;
+mod transition_view;
 
-pub use parts::{KeptRule, OtherParts, lent, offsets, other_parts};
+pub use other_parts::{KeptRule, OtherParts, lent, other_parts_of};
 pub use transition::Transition;
-pub use transitions::{Counted, Transitions, Uncounted};
+pub use transition_view::{Counted, Transitions, Uncounted};

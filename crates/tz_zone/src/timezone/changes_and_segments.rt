@@ -2,7 +2,7 @@
 
 use super::{Change, ChangesAfter, ChangesBefore, Segment, TimeZone, TimeZoneRef};
 use crate::clock::{self, find_following, find_preceding};
-use crate::table::{Uncounted, other_parts};
+use crate::table::{Uncounted, other_parts_of};
 use std::alloc::Allocator;
 
 impl<'a> TimeZoneRef<'a> {
@@ -39,7 +39,7 @@ impl<'a> TimeZoneRef<'a> {
         ensures ends { HasTableEnds (zone_of self.now) (segment_of result).from (segment_of result).last }
     {
         let mut view = Uncounted::new(self.transitions());
-        clock::clock_segment_at(&mut view, other_parts(self), unix_time)
+        clock::clock_segment_at(&mut view, other_parts_of(self), unix_time)
     }
 
     /// The first change after an instant, in Unix seconds, or `None` if the clock does not change any more. Does not allocate.
@@ -65,7 +65,12 @@ impl<'a> TimeZoneRef<'a> {
     pub fn following(&self, unix_time: i64) -> Option<Change<'a>>
         ensures { MatchOption result (HasNoFollowing (zone_of self.now) unix_time) (λ c. IsFollowing (zone_of self.now) unix_time (change_of c)) }
     {
-        let (change, _) = find_following(self.transitions(), other_parts(self), unix_time, None)?;
+        let (change, _) = find_following(
+            self.transitions(),
+            other_parts_of(self),
+            unix_time,
+            None,
+        )?;
         Some(change)
     }
 
@@ -78,7 +83,7 @@ impl<'a> TimeZoneRef<'a> {
     {
         if let Some(change) = clock::change_after_last(
             self.transitions(),
-            other_parts(self),
+            other_parts_of(self),
             unix_time,
             place,
         ) {
@@ -94,7 +99,7 @@ impl<'a> TimeZoneRef<'a> {
         ensures { MatchOption result (HasNoFollowing (zone_of self.now) unix_time)
             (λ found. IsFollowing (zone_of self.now) unix_time (change_of found.0)) }
     {
-        clock::following_near(self.transitions(), other_parts(self), unix_time, place)
+        clock::following_near(self.transitions(), other_parts_of(self), unix_time, place)
     }
 
     /// The last change before an instant, in Unix seconds, or `None` if the clock has not changed before. Does not allocate.
@@ -113,7 +118,12 @@ impl<'a> TimeZoneRef<'a> {
     pub fn preceding(&self, unix_time: i64) -> Option<Change<'a>>
         ensures { MatchOption result (HasNoPreceding (zone_of self.now) unix_time) (λ c. IsPreceding (zone_of self.now) unix_time (change_of c)) }
     {
-        let (change, _) = find_preceding(self.transitions(), other_parts(self), unix_time, None)?;
+        let (change, _) = find_preceding(
+            self.transitions(),
+            other_parts_of(self),
+            unix_time,
+            None,
+        )?;
         Some(change)
     }
 
@@ -126,7 +136,7 @@ impl<'a> TimeZoneRef<'a> {
     {
         if let Some(change) = clock::change_before_next(
             self.transitions(),
-            other_parts(self),
+            other_parts_of(self),
             unix_time,
             place,
         ) {
@@ -141,7 +151,7 @@ impl<'a> TimeZoneRef<'a> {
         ensures { MatchOption result (HasNoPreceding (zone_of self.now) unix_time)
             (λ found. IsPreceding (zone_of self.now) unix_time (change_of found.0)) }
     {
-        clock::preceding_near(self.transitions(), other_parts(self), unix_time, place)
+        clock::preceding_near(self.transitions(), other_parts_of(self), unix_time, place)
     }
 
     /// The changes after an instant, in Unix seconds, in the order of time: the one that `following` returns, and so on from each. Does not

@@ -3,7 +3,7 @@
 ghost use Rattle.std.specs.Prelude.{◌≡◌, ◌+◌, ◌≤◌, ◌++◌, length, IfOk, IfErr, alloc_error};
 ghost use Rattle.std.specs.Io.{ReadsAtMost};
 ghost use Rattle.std.specs.Io.KnownBytes.{ReadConsumes, Consumes, IsAtEnd};
-ghost use Rattle.tz_base.specs.declared.error.ReadFault.TheVariants.{Memory};
+ghost use Rattle.tz_base.specs.declared.error.tz_error.ReadFault.TheVariants.{Memory};
 ghost use Rattle.tz_zone.specs.File.{IsFailed, IsReadOut, IsReadOutUpTo, TakesAtMost};
 
 use anyhow::anyhow;

@@ -2,7 +2,7 @@
 
 ghost use Rattle.std.specs.Prelude.{◌≡◌, ◌⊎◌, IfOk, IfSome, Ok, Err, MatchOption, IsTrue, ◌↔◌, alloc_error};
 ghost use Rattle.std.specs.String.{string_bytes};
-ghost use Rattle.tz_base.specs.declared.error.ReadFault.TheVariants.{Memory};
+ghost use Rattle.tz_base.specs.declared.error.tz_error.ReadFault.TheVariants.{Memory};
 ghost use Rattle.tz_zone.specs.Bytes.{slash};
 ghost use Rattle.tz_zone.specs.Settings.{path_in};
 ghost use Rattle.tz_zone.specs.TzText.{Begins};
@@ -61,7 +61,7 @@ fn long_path<A: Allocator + Copy>(
 impl<F: Fn(&str) -> Result<Vec<u8>, ReadFault>> TimeZoneSettings<'_, F> {
     ghost use Rattle.anyhow.specs.declared.error.Error.{Error as Fault};
     ghost use Rattle.std.specs.Fn.{FnReturnsAt};
-    ghost use Rattle.tz_base.specs.declared.error.ReadFault.TheVariants.{Failed};
+    ghost use Rattle.tz_base.specs.declared.error.tz_error.ReadFault.TheVariants.{Failed};
     ghost use Rattle.tz_zone.specs.Settings.{FindsIn, Finds};
     ghost use Rattle.tz_zone.specs.SettingsParts.{directories_of, reader_of};
     ghost use Rattle.tz_zone.specs.ZoneNames.{IsCallableAt, IsPathIn};

@@ -4,15 +4,15 @@ mod change_iterators;
 mod changes_and_segments;
 pub(crate) mod file_reader;
 mod file_search;
-mod offsets;
+pub(crate) mod offset_range;
 mod settings;
 mod zone;
 mod zone_checks;
+pub(crate) mod zone_data;
 mod zone_name;
 mod zone_of_file;
-mod zone_of_text;
+mod zone_of_tz_string;
 mod zone_ref;
-pub(crate) mod zone_view;
 
 pub use crate::clock::{Change, Segment};
 pub use crate::leap::LeapSecond;

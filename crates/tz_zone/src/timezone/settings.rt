@@ -1,8 +1,8 @@
 //! Settings by which the time zone of a string is found.
 
 ghost use Rattle.std.specs.Prelude.{◌≡◌, ◌⊎◌, ◌∷◌, map, Ok, Err, MatchOption, MatchResult, IsTrue, ◌↔◌, alloc_error};
-ghost use Rattle.tz_base.specs.declared.error.Error.TheVariants.{Tz};
-ghost use Rattle.tz_base.specs.declared.error.TzError.TheVariants.{Memory as NoMemory};
+ghost use Rattle.tz_base.specs.declared.error.tz_error.Error.TheVariants.{Tz};
+ghost use Rattle.tz_base.specs.declared.error.tz_error.TzError.TheVariants.{Memory as NoMemory};
 ghost use Rattle.tz_zone.specs.Bytes.{colon};
 ghost use Rattle.tz_zone.specs.Settings.{IsFileAnswer, Opens, local_time};
 ghost use Rattle.tz_zone.specs.TzText.{Begins};
@@ -10,7 +10,7 @@ ghost use Rattle.tz_zone.specs.ZoneRef.{own_zone_of};
 
 use super::TimeZone;
 use super::zone_name::{is_zone_name, no_such_zone, not_a_name};
-use super::zone_of_text::zone_of_text;
+use super::zone_of_tz_string::zone_of_tz_string;
 use std::alloc::{Allocator, Global};
 use tz_base::error::parse::TzStringError;
 use tz_base::error::{Error, ReadFault, TzError};
@@ -76,7 +76,7 @@ pub struct TimeZoneSettings<'a, F> {
 
 impl<'a, F: Fn(&str) -> Result<Vec<u8>, ReadFault>> TimeZoneSettings<'a, F> {
     ghost use Rattle.std.specs.Fn.{FnReturnsAt};
-    ghost use Rattle.tz_base.specs.declared.error.ReadFault.TheVariants.{Failed};
+    ghost use Rattle.tz_base.specs.declared.error.tz_error.ReadFault.TheVariants.{Failed};
     ghost use Rattle.tz_zone.specs.Settings.{IsLocalAnswer, IsNamedAnswer, IsNamedOrTextAnswer, IsSettingsAnswer, texts_of};
     ghost use Rattle.tz_zone.specs.SettingsParts.{directories_of, reader_of};
     ghost use Rattle.tz_zone.specs.ZoneNames.{IsCallableAt, IsPathOfName, IsZoneNameAnswer};
@@ -186,7 +186,7 @@ impl<'a, F: Fn(&str) -> Result<Vec<u8>, ReadFault>> TimeZoneSettings<'a, F> {
         let found = self.find_readable(alloc, text)?;
         match found {
             Some(bytes) => zone_of_bytes(alloc, &bytes),
-            None => zone_of_text(alloc, text),
+            None => zone_of_tz_string(alloc, text),
         }
     }
 }

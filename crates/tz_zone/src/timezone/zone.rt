@@ -4,7 +4,7 @@ ghost use Rattle.tz_zone.specs.Offsets.{AreEndOffsets};
 ghost use Rattle.tz_zone.specs.Table.{zone_with};
 ghost use Rattle.tz_zone.specs.ValidZone.{IsSoundTable, IsSoundTable-prop, IsValidZone};
 
-use super::offsets::offsets;
+use super::offset_range::offset_range;
 use super::zone_checks::check_read_parts;
 use super::{LeapSecond, LocalTimeType, TimeZoneRef, Transition, TransitionRule};
 use crate::table::lent;
@@ -126,7 +126,7 @@ impl<A: Allocator + Copy> TimeZone<A> {
             lent(&extra_rule),
             are_in_order,
         )?;
-        let (least_offset, greatest_offset) = offsets(&local_time_types, lent(&extra_rule));
+        let (least_offset, greatest_offset) = offset_range(&local_time_types, lent(&extra_rule));
         Ok(TimeZone {
             transitions,
             local_time_types,

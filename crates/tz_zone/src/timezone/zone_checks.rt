@@ -8,7 +8,7 @@ ghost use Rattle.tz_zone.specs.ZoneSeen.{lent_rule};
 ghost use Rattle.tz_zone.specs.ValidZone.{IsRuleTypeAt, AreLeapSeconds, HasTypeAtPlace, RisesAtPlace, IsFirstTransitionFault, IsSoundTable, IsRuleFault, RuleAnswers, RuleAgrees, IsValidZone, IsFirstZoneFault};
 
 use super::{LeapSecond, LocalTimeType, Transition};
-use crate::leap::effect::effect;
+use crate::leap::from_leap_time::effect;
 use crate::leap::table::{are_leap_seconds, has_begun_at};
 use tz_base::error::TzError;
 use tz_base::error::timezone::TimeZoneError;

@@ -8,9 +8,9 @@ ghost use Rattle.tz_zone.specs.Table.{Zone};
 
 use super::{LeapSecond, TimeZone};
 use crate::leap::table::is_plain_table;
-use crate::parse::tz_file::footer::read_extra_rule;
-use crate::parse::tz_file::frame::read_frame;
+use crate::parse::tz_file::footer::{is_extended, read_extra_rule};
 use crate::parse::tz_file::tables::read_tables;
+use crate::parse::tz_file::units::read_frame;
 use std::alloc::Allocator;
 use tz_base::error::TzError;
 use tz_base::error::timezone::TimeZoneError;
@@ -61,7 +61,7 @@ fn parse_tz_file<A: Allocator + Copy>(alloc: A, bytes: &[u8]) -> Result<TimeZone
 {
     let frame = read_frame(bytes)?;
     let tables = read_tables(alloc, &frame.unit)?;
-    let extra_rule = read_extra_rule(frame.footer, frame.unit.is_extended())?;
+    let extra_rule = read_extra_rule(frame.footer, is_extended(&frame.unit))?;
     if !may_hold(frame.unit.version, &tables.leap_seconds) {
         return Err(TzError::TimeZone(TimeZoneError::InvalidLeapSecond));
     }

@@ -5,12 +5,12 @@ ghost use Rattle.tz_zone.specs.Offsets.{AreEndOffsets};
 ghost use Rattle.tz_zone.specs.Table.{zone_with};
 ghost use Rattle.tz_zone.specs.ValidZone.{IsSoundTable, IsSoundTable-prop, IsValidZone};
 
-use super::offsets::offsets;
+use super::offset_range::offset_range;
 use super::zone_checks::check_parts;
 use super::{LeapSecond, LocalTimeType, Transition, TransitionRule};
 use crate::clock;
 use crate::leap::table::expiry;
-use crate::table::{Counted, Uncounted, lent, other_parts};
+use crate::table::{Counted, Uncounted, lent, other_parts_of};
 use std::fmt;
 use tz_base::error::TzError;
 
@@ -108,7 +108,7 @@ impl<'a> TimeZoneRef<'a> {
     {
         let rule = lent(extra_rule);
         check_parts(transitions, local_time_types, leap_seconds, rule)?;
-        let (least_offset, greatest_offset) = offsets(local_time_types, rule);
+        let (least_offset, greatest_offset) = offset_range(local_time_types, rule);
         Ok(TimeZoneRef {
             transitions,
             local_time_types,
@@ -211,7 +211,7 @@ impl<'a> TimeZoneRef<'a> {
         ensures err { IfErr result (IsLookupFault (zone_of self.now) unix_time) }
     {
         let mut view = Uncounted::new(self.transitions);
-        clock::find_local_time_type(&mut view, other_parts(self), unix_time)
+        clock::find_local_time_type(&mut view, other_parts_of(self), unix_time)
     }
 
     /// The clock's type at an instant, and how many transitions were read. The count saturates at `u64::MAX`.
@@ -230,7 +230,7 @@ impl<'a> TimeZoneRef<'a> {
         ensures none { (zone_of self.now).transitions ≡ [] → result.1 ≡ 0 }
     {
         let mut view = Counted::new(self.transitions);
-        let answer = clock::find_local_time_type(&mut view, other_parts(self), unix_time);
+        let answer = clock::find_local_time_type(&mut view, other_parts_of(self), unix_time);
         (answer, view.looks())
     }
 

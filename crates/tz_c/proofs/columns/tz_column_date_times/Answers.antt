@@ -4,7 +4,7 @@ use Rattle.std.proofs.lemmas.Int.{to_z-of_z}
 use Rattle.std.proofs.lemmas.Option.{get_or_from_slice_get}
 use mir.Syntax.{w64}
 use mir.Val.{SFits}
-use Rattle.tz_zone.specs.ZoneViewed.{zone_viewed}
+use Rattle.tz_zone.specs.ZoneOfData.{zone_of_data}
 use Rattle.tz_c.specs.Columns.{IsDateTimeAt}
 use Rattle.tz_c.proofs.AnswersInTurn.{one_more, all_of}
 use Rattle.tz_c.proofs.columns.tz_column_date_times.Goals as goal
@@ -14,7 +14,7 @@ loop-i-preserved c =
     let unix_times = c.args.unix_times.now in
     let nanoseconds = c.args.nanoseconds.now in
     let i = c.loop-i.i in
-    let answer_at = IsDateTimeAt (zone_viewed c.args.zone.now) unix_times nanoseconds in
+    let answer_at = IsDateTimeAt (zone_of_data c.args.zone.now) unix_times nanoseconds in
     let fits : SFits w64 (slice_index_or unix_times i (pos 0)) = search rules in
     let answer : answer_at i c.date_time_in.result c.date_time_in.new.out = λ u n at_u at_n.
     let seconds : slice_index_or unix_times i (pos 0) ≡ u = get_or_from_slice_get unix_times i u (pos 0) at_u in
@@ -29,6 +29,6 @@ loop-i-preserved c =
 pub returns-clause-answer : goal.returns-clause-answer
 returns-clause-answer c =
     let all : length c.args.date_times.now ≤ c.loop-i.i = omega (arith, c.if-date_times-unix_times.false, c.loop-i-test.false) in
-    let answers = all_of (IsDateTimeAt (zone_viewed c.args.zone.now) c.args.unix_times.now c.args.nanoseconds.now) c.args.date_times.now c.loop-i.date_times c.loop-i.codes c.loop-i.i
+    let answers = all_of (IsDateTimeAt (zone_of_data c.args.zone.now) c.args.unix_times.now c.args.nanoseconds.now) c.args.date_times.now c.loop-i.date_times c.loop-i.codes c.loop-i.i
     c.loop-i.invariant.2 all in
     inl (refl, (c.if-nanoseconds-unix_times.false, (c.if-date_times-unix_times.false, c.if-codes-unix_times.false), answers))

@@ -4,7 +4,7 @@ use Rattle.std.proofs.lemmas.Int.{to_z-of_z}
 use Rattle.std.proofs.lemmas.Option.{get_or_from_slice_get}
 use mir.Syntax.{w64}
 use mir.Val.{SFits}
-use Rattle.tz_zone.specs.ZoneViewed.{zone_viewed}
+use Rattle.tz_zone.specs.ZoneOfData.{zone_of_data}
 use Rattle.tz_c.specs.Columns.{IsOffsetAt}
 use Rattle.tz_c.proofs.AnswersInTurn.{one_more, all_of}
 use Rattle.tz_c.proofs.columns.tz_column_offsets.Goals as goal
@@ -13,7 +13,7 @@ pub loop-i-preserved : goal.loop-i-preserved
 loop-i-preserved c =
     let unix_times = c.args.unix_times.now in
     let i = c.loop-i.i in
-    let answer_at = IsOffsetAt (zone_viewed c.args.zone.now) unix_times in
+    let answer_at = IsOffsetAt (zone_of_data c.args.zone.now) unix_times in
     let fits : SFits w64 (slice_index_or unix_times i (pos 0)) = search rules in
     let answer : answer_at i c.offset_in.result c.offset_in.new.out = λ u at.
     let read : slice_index_or unix_times i (pos 0) ≡ u = get_or_from_slice_get unix_times i u (pos 0) at in
@@ -26,5 +26,5 @@ loop-i-preserved c =
 pub returns-clause-answer : goal.returns-clause-answer
 returns-clause-answer c =
     let all : length c.args.offsets.now ≤ c.loop-i.i = omega (arith, c.if-offsets-unix_times.false, c.loop-i-test.false) in
-    let answers = all_of (IsOffsetAt (zone_viewed c.args.zone.now) c.args.unix_times.now) c.args.offsets.now c.loop-i.offsets c.loop-i.codes c.loop-i.i c.loop-i.invariant.1 all in
+    let answers = all_of (IsOffsetAt (zone_of_data c.args.zone.now) c.args.unix_times.now) c.args.offsets.now c.loop-i.offsets c.loop-i.codes c.loop-i.i c.loop-i.invariant.1 all in
     inl (refl, ((c.if-offsets-unix_times.false, c.if-codes-unix_times.false), answers))

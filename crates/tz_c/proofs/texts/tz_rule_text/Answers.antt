@@ -1,6 +1,6 @@
 -- There is a rule, and no TZ string denotes it.
 use Rattle.std.proofs.Common.{inl, refl, sym, subst, Option}
-use Rattle.tz_rule.specs.declared.timezone.rule.TransitionRule.{TransitionRule}
+use Rattle.tz_rule.specs.declared.timezone.transition_rule.TransitionRule.{TransitionRule}
 use Rattle.tz_c.specs.Texts.{IsRuleTextAnswer}
 use Rattle.tz_c.proofs.texts.tz_rule_text.Goals as goal
 

@@ -5,7 +5,7 @@ use Rattle.std.specs.Int.{w32}
 use Rattle.std.proofs.lemmas.Option.{same_Some}
 use Rattle.tz_rule.specs.LocalTimeType.{LocalTimeType, IsLocalTimeType}
 use Rattle.tz_rule.specs.Rule.{IsRuleType}
-use Rattle.tz_rule.specs.declared.timezone.rule.TransitionRule.{TransitionRule}
+use Rattle.tz_rule.specs.declared.timezone.transition_rule.TransitionRule.{TransitionRule}
 use Rattle.tz_zone.specs.ZoneRef.{zone_of}
 use Rattle.tz_zone.proofs.ShownTypes.{of_shown_type}
 use Rattle.tz_zone.proofs.laws.shown_types_are_sound.Goals as goal

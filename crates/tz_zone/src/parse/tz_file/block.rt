@@ -1,7 +1,7 @@
 //! The block after a header. (RFC 8536, section 3.2)
 
 ghost use Rattle.std.specs.Prelude.{◌≡◌, ◌≤◌, length, IfOk, OnOk, IfErr};
-ghost use Rattle.tz_zone.specs.TzFile.{indexes_at, types_at, names_at, leaps_at, std_walls_at, ut_locals_at, end_at, block_with, part_with, is_extended, IsUnit};
+ghost use Rattle.tz_zone.specs.TzFile.{indexes_at, types_at, names_at, leaps_at, std_walls_at, ut_locals_at, end_at, block_with, part_with, IsUnit};
 ghost use Rattle.tz_zone.specs.TzFileFault.{UnitFails};
 ghost use Rattle.tz_zone.specs.TzParts.{width_of, counts_view, block_view, unit_view, HasSizes, IsSized};
 
@@ -73,15 +73,6 @@ pub(crate) struct Unit<'a> {
     pub(super) counts: Counts,
     pub(super) block: Block<'a>,
     pub(super) after: &'a [u8],
-}
-
-impl Unit<'_> {
-    /// Whether a TZ string after the block is an extended one. (RFC 8536, section 3.3.1)
-    pub(crate) fn is_extended(&self) -> bool
-        ensures { result ≡ is_extended (unit_view self.now) }
-    {
-        self.version == b'3' || self.version == b'4'
-    }
 }
 
 /// Cuts the block after the header into its parts.

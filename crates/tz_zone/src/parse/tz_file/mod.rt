@@ -2,7 +2,6 @@
 
 mod block;
 pub(crate) mod footer;
-pub(crate) mod frame;
 mod header;
 mod indicators;
 mod leap_seconds;
@@ -12,3 +11,4 @@ pub(crate) mod sizes;
 pub(crate) mod tables;
 mod time_size;
 mod transitions;
+pub(crate) mod units;

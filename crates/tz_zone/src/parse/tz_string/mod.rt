@@ -1,26 +1,26 @@
 //! TZ strings. (POSIX.1-2017, Base Definitions, 8.3)
 
-mod cursor;
 mod day;
 mod name;
 mod number;
 mod offset;
-mod switch;
+mod start_and_end;
+mod text_front;
 mod time;
 
 ghost use Rattle.std.specs.Prelude.{◌≡◌, ◌∷◌, ℕ, List, Bool, false, Some, IfSome, IfOk, IfErr, MatchResult, pos};
-ghost use Rattle.tz_base.specs.declared.error.TzError.TheVariants.{TzString};
+ghost use Rattle.tz_base.specs.declared.error.tz_error.TzError.TheVariants.{TzString};
 ghost use Rattle.tz_rule.specs.Alternate.{IsRuleOffset};
-ghost use Rattle.tz_rule.specs.declared.timezone.rule.TransitionRule.{TransitionRule};
+ghost use Rattle.tz_rule.specs.declared.timezone.transition_rule.TransitionRule.{TransitionRule};
 ghost use Rattle.tz_rule.specs.LocalTimeType.{IsDesignation, IsFirstTypeFault, type_of};
 ghost use Rattle.tz_zone.specs.Bytes.{comma};
 ghost use Rattle.tz_zone.specs.TzText.{IsName, IsDaylightOffset, IsTimeUpTo, offset_hours, IsTzText};
 ghost use Rattle.tz_zone.specs.TzTextFault.{IsDaylightFault, IsTzTextFault};
 
-use cursor::expect_byte;
 use name::read_name;
 use offset::{read_daylight_offset, read_offset};
-use switch::read_switches;
+use start_and_end::read_switches;
+use text_front::expect_byte;
 use time::WrittenTime;
 use tz_base::error::TzError;
 use tz_base::error::parse::TzStringError;

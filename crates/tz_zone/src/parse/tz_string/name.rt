@@ -6,8 +6,8 @@ ghost use Rattle.tz_base.specs.declared.error.parse.TzStringError.TheVariants.{P
 ghost use Rattle.tz_zone.specs.TzText.{IsName};
 ghost use Rattle.tz_zone.specs.TzTextFault.{IsUnclosed};
 
-use super::cursor::{split_at_bracket, split_letters};
-use crate::parse::prefix::after_byte;
+use super::text_front::{split_at_bracket, split_letters};
+use crate::parse::after_byte::after_byte;
 use tz_base::error::parse::{ParseDataError, TzStringError};
 
 /// The name at the beginning, and the rest of the bytes.

@@ -6,7 +6,7 @@ ghost use Rattle.std.specs.Char.{is_ascii_digit};
 ghost use Rattle.tz_zone.specs.TzText.{IsNumber, IsRun};
 ghost use Rattle.tz_zone.specs.TzTextFault.{IsParseInt, HasNoNumber};
 
-use super::cursor::split_digits;
+use super::text_front::split_digits;
 use std::str;
 use tz_base::error::parse::TzStringError;
 

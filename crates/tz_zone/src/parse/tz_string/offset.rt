@@ -6,7 +6,7 @@ ghost use Rattle.tz_zone.specs.TzText.{Begins, IsSignedTime, IsDaylightOffset, I
 ghost use Rattle.tz_zone.specs.TzTextFault.{IsTimeAbove, IsOffsetFault, offset_faults};
 
 use super::time::{DAY_HOURS, LAST_OF_SIXTY, WrittenTime, read_hms, read_sign};
-use crate::parse::prefix::after_byte;
+use crate::parse::after_byte::after_byte;
 use tz_base::error::parse::TzStringError;
 
 /// How far daylight saving time is ahead of standard time, in seconds, where a string does not say.

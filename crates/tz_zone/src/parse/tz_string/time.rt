@@ -1,12 +1,12 @@
-//! Times as they are written, and the time of day at which daylight saving time starts or ends.
+//! Times as they are written, of an offset or of a day.
 
 ghost use Rattle.std.specs.Prelude.{◌≡◌, ◌∷◌, ◌<◌, ℕ, List, MatchResult};
-ghost use Rattle.tz_zone.specs.Bytes.{colon, slash};
-ghost use Rattle.tz_zone.specs.TzText.{IsPart, IsHms, IsSign, IsDayTimeSign, IsDayTime, IsTimeOfRule, IsTimeUpTo, day_time_hours};
+ghost use Rattle.tz_zone.specs.Bytes.{colon};
+ghost use Rattle.tz_zone.specs.TzText.{IsPart, IsHms, IsSign, IsDayTimeSign, IsDayTime, IsTimeUpTo, day_time_hours};
 ghost use Rattle.tz_zone.specs.TzTextFault.{IsParseInt, HasNoNumber, IsHmsFault, IsTimeAbove, IsDayTimeFault, TimeFaults, day_time_faults};
 
 use super::number::read_time_number;
-use crate::parse::prefix::after_byte;
+use crate::parse::after_byte::after_byte;
 use tz_base::error::parse::TzStringError;
 
 /// The greatest hour of an offset, and of a day time in an ordinary string.
@@ -28,20 +28,7 @@ pub(super) struct WrittenTime {
 }
 
 impl WrittenTime {
-    ghost use Rattle.tz_zone.specs.TzText.{IsTimeUpTo, seconds_of, plain_time};
-
-    /// Two o'clock, the time of a switch that has none.
-    #[inline(always)]
-    pub(super) fn two_o_clock() -> WrittenTime
-        ensures { result ≡ plain_time 2 0 0 }
-    {
-        WrittenTime {
-            minus: false,
-            hours: 2,
-            minutes: 0,
-            seconds: 0,
-        }
-    }
+    ghost use Rattle.tz_zone.specs.TzText.{IsTimeUpTo, seconds_of};
 
     /// The time in seconds, at most a week.
     #[inline(always)]
@@ -146,20 +133,4 @@ pub(super) fn read_day_time(
     let (time, rest) = read_hms(rest, minus)?;
     check_day_time(&time, extended)?;
     Ok((time, rest))
-}
-
-/// The time after a slash, or two o'clock if there is no slash, and the rest of the bytes.
-#[inline(always)]
-pub(super) fn read_time_of_switch(
-    text: &[u8],
-    extended: bool,
-) -> Result<(WrittenTime, &[u8]), TzStringError>
-    ensures { MatchResult result
-        (λ p. IsTimeOfRule extended text.now p.0 p.1.now × IsTimeUpTo (day_time_hours extended) p.0)
-        (λ e. (time : List ℕ) × (text.now ≡ slash ∷ time) × IsDayTimeFault extended time e) }
-{
-    match after_byte(text, b'/') {
-        Some(time) => read_day_time(time, extended),
-        None => Ok((WrittenTime::two_o_clock(), text)),
-    }
 }

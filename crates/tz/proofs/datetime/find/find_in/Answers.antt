@@ -19,8 +19,8 @@ use Rattle.tz.proofs.datetime.find.find_in.Goals as goal
 
 pub search-requires-clause-offsets : goal.search-requires-clause-offsets
 search-requires-clause-offsets g c =
-    let seen = zone_seen (g.V.Transitions.list c.args.view.now) c.other_parts-parts.result in
-    let same : seen ≡ zone_of c.args.time_zone_ref = ap (λ (xs : List Transition). zone_seen xs c.other_parts-parts.result) c.requires ∙ c.other_parts-parts.ensures in
+    let seen = zone_seen (g.V.Transitions.list c.args.view.now) c.other_parts_of-parts.result in
+    let same : seen ≡ zone_of c.args.time_zone_ref = ap (λ (xs : List Transition). zone_seen xs c.other_parts_of-parts.result) c.requires ∙ c.other_parts_of-parts.ensures in
     let ends = c.offsets-least in
     rw (to_z-of_z w32 ends.result.0 (search rules), to_z-of_z w32 ends.result.1 (search rules)) (subst (λ (x : Zone). AreEndOffsets x ends.result.0 ends.result.1) (sym same) ends.ensures)
 
@@ -28,8 +28,8 @@ pub returns-clause-outcome : goal.returns-clause-outcome
 returns-clause-outcome g c =
     let z = zone_of c.args.time_zone_ref in
     let f = c.args.fields.now in
-    let seen = zone_seen (g.V.Transitions.list c.args.view.now) c.other_parts-parts.result in
-    let same : seen ≡ z = ap (λ (xs : List Transition). zone_seen xs c.other_parts-parts.result) c.requires ∙ c.other_parts-parts.ensures in
+    let seen = zone_seen (g.V.Transitions.list c.args.view.now) c.other_parts_of-parts.result in
+    let same : seen ≡ z = ap (λ (xs : List Transition). zone_seen xs c.other_parts_of-parts.result) c.requires ∙ c.other_parts_of-parts.ensures in
     let ends = c.offsets-least in
     let fits_least : SFits w32 ends.result.0 = search rules in
     let fits_greatest : SFits w32 ends.result.1 = search rules in
@@ -46,6 +46,6 @@ returns-clause-outcome g c =
 pub returns-clause-looks : goal.returns-clause-looks
 returns-clause-looks g c =
     let view = g.V.Transitions.looks c.args.view.now in
-    let seen = zone_seen (g.V.Transitions.list c.args.view.now) c.other_parts-parts.result in
-    let same : seen ≡ zone_of c.args.time_zone_ref = ap (λ (xs : List Transition). zone_seen xs c.other_parts-parts.result) c.requires ∙ c.other_parts-parts.ensures in
+    let seen = zone_seen (g.V.Transitions.list c.args.view.now) c.other_parts_of-parts.result in
+    let same : seen ≡ zone_of c.args.time_zone_ref = ap (λ (xs : List Transition). zone_seen xs c.other_parts_of-parts.result) c.requires ∙ c.other_parts_of-parts.ensures in
     subst (λ (x : Zone). AreLooksOf x (reading c.args.fields.now) (g.V.Transitions.looks c.args.view.now) (g.V.Transitions.next (g.V.Transitions.looks c.args.view.now)) (g.V.Transitions.looks c.search.new.view) c.search.result) same c.search.ensures.looks

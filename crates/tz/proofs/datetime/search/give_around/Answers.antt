@@ -66,7 +66,7 @@ pub shown-requires : goal.shown-requires
 shown-requires g c κs =
     let reading_is = to_z-of_z w64 c.args.reading c.ranges.reading in
     let second = rw reading_is at c.shown_at-second.ensures in
-    ((refl, tt), rw (to_z-of_z w64 c.shown_at-second.result (search rules)) (subst (λ r. g.E.Entries.takes c.args.entries.now r) (omega (arith, ints, second)) c.requires.takes.takes_reading))
+    ((refl, tt), rw (to_z-of_z w64 c.shown_at-second.result (search rules)) (subst (λ r. g.E.EntryTaker.takes c.args.entries.now r) (omega (arith, ints, second)) c.requires.takes.takes_reading))
 
 pub returns-then-since-first : goal.returns-then-since-first
 returns-then-since-first g c =
@@ -99,7 +99,7 @@ shown-requires-then-since-second g c κs =
     let reading_is = to_z-of_z w64 c.args.reading c.ranges.reading in
     let second = rw reading_is at c.shown_at-second.ensures in
     let takes = c.requires.takes.is_taker.goes_on c.args.entries.now c.shown-2.new.self _ c.args.reading c.in_ok-shown.ensures.ok c.requires.takes.takes_reading in
-    ((refl, tt), rw (to_z-of_z w64 c.shown_at-second.result (search rules)) (subst (λ r. g.E.Entries.takes c.shown-2.new.self r) (omega (arith, ints, second)) takes))
+    ((refl, tt), rw (to_z-of_z w64 c.shown_at-second.result (search rules)) (subst (λ r. g.E.EntryTaker.takes c.shown-2.new.self r) (omega (arith, ints, second)) takes))
 
 pub returns-then-since-second : goal.returns-then-since-second
 returns-then-since-second g c =

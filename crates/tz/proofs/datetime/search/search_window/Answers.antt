@@ -21,7 +21,7 @@ shown-requires g c =
     let u = c.shown_at.result in
     let at : u ≡ r -ℤ t.ut_offset = rw (to_z-of_z w64 r c.ranges.reading) at c.shown_at.ensures in
     let reads : r ≡ u +ℤ t.ut_offset = omega (arith, ints, at) in
-    rw (to_z-of_z w64 u (search rules)) (λ k. ((refl, tt), subst (g.E.Entries.takes c.args.entries.now) reads c.requires.takes.takes_reading))
+    rw (to_z-of_z w64 u (search rules)) (λ k. ((refl, tt), subst (g.E.EntryTaker.takes c.args.entries.now) reads c.requires.takes.takes_reading))
 
 pub walk-requires : goal.walk-requires
 walk-requires g c =

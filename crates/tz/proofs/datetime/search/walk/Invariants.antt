@@ -19,7 +19,7 @@ invariant-loop-since g l =
       same : list l.view ≡ list l.initial.view;
       fits : SFits w64 l.since;
       stage : l.since ≤ℤ l.high → IsStage z l.initial.since l.since l.stage;
-      found : (es : List Entry) × g.E.Entries.gains l.initial.entries l.entries es × IsWalkedTo (IsClock z) l.reading l.low (lent_type l.before) l.since es;
+      found : (es : List Entry) × g.E.EntryTaker.gains l.initial.entries l.entries es × IsWalkedTo (IsClock z) l.reading l.low (lent_type l.before) l.since es;
       looks : AreLooks z l.low l.high l.initial.stage.place (looks l.initial.view) (looks l.view) l.stage.place;
     }
 

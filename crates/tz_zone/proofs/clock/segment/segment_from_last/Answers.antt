@@ -4,7 +4,7 @@ use Rattle.std.specs.Int.{int_max}
 use Rattle.std.proofs.lemmas.Int.{ints, by_lt_z, to_z-of_z}
 use mir.Syntax.{w64}
 use mir.Val.{SFits}
-use Rattle.tz_rule.specs.declared.timezone.rule.TransitionRule.{TransitionRule}
+use Rattle.tz_rule.specs.declared.timezone.transition_rule.TransitionRule.{TransitionRule}
 use Rattle.tz_zone.specs.Table.{LeapSecond}
 use Rattle.tz_zone.specs.LeapTime.{IsPastInstants, IsWideEffect}
 use Rattle.tz_zone.specs.ZoneSeen.{rule_kept}

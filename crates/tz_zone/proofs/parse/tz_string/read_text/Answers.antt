@@ -2,7 +2,7 @@ use Rattle.std.proofs.Common.{◌≡◌, refl, ap, ◌∙◌, true, false, inl, 
 use Rattle.std.specs.Prelude.{FitsSigned}
 use Rattle.std.specs.Int.{w32}
 use mir.Val.{to_z, of_z}
-use Rattle.tz_base.specs.declared.error.TzError.TheVariants.{TzString, LocalTimeType as TypeFault, TransitionRule}
+use Rattle.tz_base.specs.declared.error.tz_error.TzError.TheVariants.{TzString, LocalTimeType as TypeFault, TransitionRule}
 use Rattle.tz_rule.specs.Alternate.{alternate_of}
 use Rattle.tz_zone.specs.TzText.{AlternateText, IsAlternateText, IsAlternateInRange, rule_of, ut_offset_of}
 use Rattle.tz_zone.proofs.EmptyLists.{none_if_empty, some_unless_empty}

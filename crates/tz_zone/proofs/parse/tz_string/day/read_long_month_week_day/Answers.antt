@@ -1,5 +1,5 @@
 use Rattle.std.proofs.Common.{refl, ap, subst, inl, inr, ℕ, List}
-use Rattle.tz_base.specs.declared.error.TzError.TheVariants.{TzString, TransitionRule}
+use Rattle.tz_base.specs.declared.error.tz_error.TzError.TheVariants.{TzString, TransitionRule}
 use Rattle.tz_rule.specs.MonthWeek.{month_week}
 use Rattle.tz_zone.specs.TzText.{IsNumber}
 use Rattle.tz_zone.proofs.QuestionMarkExits.{exit}

@@ -1,5 +1,5 @@
 -- What the numbers of a day fail by is a fault of the day.
-use Rattle.tz_base.specs.declared.error.TzError.TheVariants.{TransitionRule}
+use Rattle.tz_base.specs.declared.error.tz_error.TzError.TheVariants.{TransitionRule}
 use Rattle.tz_rule.specs.MonthWeek.{month_week}
 use Rattle.tz_zone.proofs.QuestionMarkExits.{exit}
 use Rattle.tz_zone.proofs.TextDays.{month_week_fails}

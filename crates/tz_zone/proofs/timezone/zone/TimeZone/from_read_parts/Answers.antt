@@ -15,5 +15,5 @@ check_read_parts-requires g c = rw (c.deref.ensures.value, c.deref-2.ensures.val
 
 pub invariant_of-result-clause-offsets : goal.invariant_of-result-clause-offsets
 invariant_of-result-clause-offsets g c =
-    let ends = c.offsets-least_offset in
+    let ends = c.offset_range-least_offset in
     rw (to_z-of_z w32 ends.result.0 (search rules), to_z-of_z w32 ends.result.1 (search rules), ← c.deref-4.ensures.value) (∣ (rw c.lent-2.ensures at ends.ensures.least, rw c.lent-2.ensures at ends.ensures.greatest) ∣₁)

@@ -11,4 +11,4 @@ use Rattle.tz_zone.proofs.timezone.zone_ref.TimeZoneRef.find_local_time_type_cou
 pub returns-clause-ok : goal.returns-clause-ok
 returns-clause-ok c =
     let Seen : Zone → Type 0 = λ z. IfOk c.find_local_time_type-answer.result (λ t. IsClock z c.args.unix_time t.now) in
-    subst Seen (ap (λ transitions. zone_seen transitions c.other_parts.result) c.new-view.ensures.list ∙ c.other_parts.ensures) (rw (to_z-of_z w64 c.args.unix_time c.ranges.unix_time) at c.find_local_time_type-answer.ensures.ok)
+    subst Seen (ap (λ transitions. zone_seen transitions c.other_parts_of.result) c.new-view.ensures.list ∙ c.other_parts_of.ensures) (rw (to_z-of_z w64 c.args.unix_time c.ranges.unix_time) at c.find_local_time_type-answer.ensures.ok)

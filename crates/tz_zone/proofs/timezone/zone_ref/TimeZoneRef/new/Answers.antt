@@ -6,7 +6,7 @@ use Rattle.tz_zone.proofs.timezone.zone_ref.TimeZoneRef.new.Goals as goal
 
 pub invariant_of-result : goal.invariant_of-result
 invariant_of-result c =
-    let ends = c.offsets-least_offset in
+    let ends = c.offset_range-least_offset in
     let ok = rw c.lent-rule.ensures at c.in_ok-check_parts.ensures.ok in
     let least = rw c.lent-rule.ensures at ends.ensures.least in
     let greatest = rw c.lent-rule.ensures at ends.ensures.greatest in

@@ -1,0 +1,11 @@
+-- The local time is moved by the offset.
+use Rattle.std.proofs.Common.{ap, ◌∙◌, arith}
+use Rattle.std.proofs.lemmas.Int.{ints}
+use Rattle.tz_rule.specs.YearTables.{end_table, day_table}
+use Rattle.tz_rule.proofs.timezone.alternate_time.Parts.ends.Goals as goal
+
+pub returns-clause-table : goal.returns-clause-table
+unfolding end_table
+returns-clause-table c =
+    let p = c.args.self.now in
+    (rw c.requires.day at c.of_day.ensures.table) ∙ ap (day_table p.dst_end) (omega (arith, ints, c.requires.range))

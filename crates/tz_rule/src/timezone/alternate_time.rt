@@ -1,0 +1,296 @@
+//! Alternate rules: their parts, the ranges of these, and when daylight saving time starts and ends.
+
+ghost use Rattle.std.specs.Prelude.{◌≡◌, OnOk, IfOk, IfErr, IfSome, IfNone, MatchBool};
+ghost use Rattle.tz_rule.specs.Alternate.{start_of, end_of, alternate_of, IsRuleOffset, IsRuleTime, IsInRuleRange, IsRangeFault, IsFirstRuleFault, IsConsistentRule};
+ghost use Rattle.tz_rule.specs.Pairing.{IsConflict, IsInconsistent};
+
+use super::alternate_data::AlternateData;
+use super::day_data::DayData;
+use super::year_table::YearTable;
+use super::{LocalTimeType, RuleDay};
+use std::fmt;
+use std::marker::Model;
+use tz_base::error::timezone::TransitionRuleError;
+
+/// Whether the offset is above -25 and below 26 hours.
+fn is_rule_offset(offset: i32) -> bool
+    ensures { MatchBool result (IsRuleOffset offset) (¬ IsRuleOffset offset) }
+{
+    -90_000 < offset && offset < 93_600
+}
+
+/// Whether the time is less than a week either way.
+fn is_rule_time(time: i32) -> bool
+    ensures { MatchBool result (IsRuleTime time) (¬ IsRuleTime time) }
+{
+    -604_800 < time && time < 604_800
+}
+
+/// The six parts of an alternate rule.
+#[repr(C)]
+#[derive(Clone, Copy)]
+pub(super) struct Parts {
+    pub(super) std: LocalTimeType,
+    pub(super) dst: LocalTimeType,
+    pub(super) dst_start: DayData,
+    pub(super) dst_start_time: i32,
+    pub(super) dst_end: DayData,
+    pub(super) dst_end_time: i32,
+}
+
+impl Parts {
+    ghost use Rattle.tz_rule.specs.Parts.{rule_of};
+    ghost use Rattle.tz_rule.specs.RuleDays.{IsRuleDay};
+    ghost use Rattle.tz_rule.specs.YearTables.{start_table, end_table};
+
+    /// Checks the offsets and the times, in the order of their errors.
+    pub(super) fn check_range(&self) -> Result<(), TransitionRuleError>
+        ensures ok { OnOk result (IsInRuleRange (rule_of self.now)) }
+        ensures err { IfErr result (IsRangeFault (rule_of self.now)) }
+    {
+        if !is_rule_offset(self.std.ut_offset()) {
+            return Err(TransitionRuleError::InvalidStdUtcOffset);
+        }
+        if !is_rule_offset(self.dst.ut_offset()) {
+            return Err(TransitionRuleError::InvalidDstUtcOffset);
+        }
+        if !is_rule_time(self.dst_start_time) || !is_rule_time(self.dst_end_time) {
+            return Err(TransitionRuleError::InvalidDstStartEndTime);
+        }
+        Ok(())
+    }
+
+    /// How many seconds after 00:00 UTC of January 1st daylight saving time starts, on this day, by the kind of the year.
+    #[inline(always)]
+    pub(super) fn starts(&self, day: &RuleDay) -> YearTable
+        requires range { IsInRuleRange (rule_of self.now) }
+        requires day { day.now ≡ (rule_of self.now).dst_start }
+        ensures table { result.0 ≡ start_table (rule_of self.now) }
+        ensures day { IsRuleDay (rule_of self.now).dst_start }
+    {
+        YearTable::of_day(day, self.dst_start_time - self.std.ut_offset())
+    }
+
+    /// How many seconds after 00:00 UTC of January 1st it ends, on this day, by the kind of the year.
+    #[inline(always)]
+    pub(super) fn ends(&self, day: &RuleDay) -> YearTable
+        requires range { IsInRuleRange (rule_of self.now) }
+        requires day { day.now ≡ (rule_of self.now).dst_end }
+        ensures table { result.0 ≡ end_table (rule_of self.now) }
+        ensures day { IsRuleDay (rule_of self.now).dst_end }
+    {
+        YearTable::of_day(day, self.dst_end_time - self.dst.ut_offset())
+    }
+}
+
+/// Standard time and daylight saving time, and when each begins in every year.
+///
+/// A start and an end never change their order from one year to another, at any distance in years. If some year's end comes before its start,
+/// daylight saving time lasts from each start to the next year's end, and otherwise to the end of the same year.
+#[derive(Clone, Copy)]
+pub struct AlternateTime {
+    plain: AlternateData,
+    // Both days once more: `dst_start()` and `dst_end()` lend a `RuleDay`, which the plain data has as numbers (`DayData`).
+    dst_start: RuleDay,
+    dst_end: RuleDay,
+}
+
+impl Model for AlternateTime {
+    ghost use Rattle.tz_rule.specs.Alternate.{AlternateTime};
+
+    ghost Value = { AlternateTime };
+
+    ghost use Rattle.tz_rule.specs.RuleWithDays.{HasItsDays, with_days, with_its_days};
+
+    ghost view = { λ r. r.plain };
+
+    ghost invariant = { HasItsDays };
+
+    ghost inverse = { with_days };
+
+    ghost inverse_ok = { λ r k. with_its_days r k };
+}
+
+impl AlternateTime {
+    /// The rule with these parts. Times are seconds from 00:00 of the local day; the start's is in standard time and the end's in daylight saving
+    /// time. (POSIX.1-2017, Base Definitions, 8.3)
+    ///
+    /// Offsets are above -25 and below 26 hours, and times less than a week either way.
+    ///
+    /// The rule of New York, with daylight saving time from 2:00 on the second Sunday of March to 2:00 on the first Sunday of November:
+    ///
+    /// ```rust
+    /// pub fn new_york_rule() -> Result<AlternateTime, TzError> {
+    ///     let std = LocalTimeType::new(-18_000, false, Some(b"EST"))?;
+    ///     let dst = LocalTimeType::new(-14_400, true, Some(b"EDT"))?;
+    ///     let start = RuleDay::MonthWeekDay(MonthWeekDay::new(3, 2, 0)?);
+    ///     let end = RuleDay::MonthWeekDay(MonthWeekDay::new(11, 1, 0)?);
+    ///     Ok(AlternateTime::new(std, dst, start, 7200, end, 7200)?)
+    /// }
+    /// ```
+    ///
+    /// # Errors
+    ///
+    /// The first of these:
+    ///
+    /// - [`TransitionRuleError::InvalidStdUtcOffset`] if the offset of standard time is out of range;
+    /// - [`TransitionRuleError::InvalidDstUtcOffset`] if that of daylight saving time is;
+    /// - [`TransitionRuleError::InvalidDstStartEndTime`] if one of the two times is;
+    /// - [`TransitionRuleError::InconsistentRule`] if start and end change their order from one year to another.
+    pub fn new(
+        std: LocalTimeType,
+        dst: LocalTimeType,
+        dst_start: RuleDay,
+        dst_start_time: i32,
+        dst_end: RuleDay,
+        dst_end_time: i32,
+    ) -> Result<Self, TransitionRuleError>
+        ensures value { IfOk result (λ r. r ≡ alternate_of std dst dst_start dst_start_time dst_end dst_end_time) }
+        ensures ok { OnOk result (IsConsistentRule (alternate_of std dst dst_start dst_start_time dst_end dst_end_time)) }
+        ensures err { IfErr result (IsFirstRuleFault (alternate_of std dst dst_start dst_start_time dst_end dst_end_time)) }
+    {
+        let parts = Parts {
+            std,
+            dst,
+            dst_start: DayData::of(&dst_start),
+            dst_start_time,
+            dst_end: DayData::of(&dst_end),
+            dst_end_time,
+        };
+        parts.check_range()?;
+        let starts = parts.starts(&dst_start);
+        let ends = parts.ends(&dst_end);
+        let Some(ends_next_year) = starts.order(&ends) else {
+            return Err(TransitionRuleError::InconsistentRule);
+        };
+        Ok(AlternateTime {
+            plain: AlternateData::of_tables(parts, starts, ends, ends_next_year),
+            dst_start,
+            dst_end,
+        })
+    }
+
+    /// Why parts in range make no rule: two years x and y and a distance k in years, such that the start of x comes after the end of x + k, and the
+    /// start of y before the end of y + k. `None` if they make one, or are out of range.
+    pub fn conflict(
+        std: LocalTimeType,
+        dst: LocalTimeType,
+        dst_start: RuleDay,
+        dst_start_time: i32,
+        dst_end: RuleDay,
+        dst_end_time: i32,
+    ) -> Option<(i32, i32, i32)>
+        ensures range { IfSome result (λ _. IsInRuleRange (alternate_of std dst dst_start dst_start_time dst_end dst_end_time)) }
+        ensures some { IfSome result (λ c. IsConflict
+            (start_of (alternate_of std dst dst_start dst_start_time dst_end dst_end_time))
+            (end_of (alternate_of std dst dst_start dst_start_time dst_end dst_end_time)) c.0 c.1 c.2) }
+        ensures none { IfNone result (¬ (IsInRuleRange (alternate_of std dst dst_start dst_start_time dst_end dst_end_time)
+            × IsInconsistent
+            (start_of (alternate_of std dst dst_start dst_start_time dst_end dst_end_time))
+            (end_of (alternate_of std dst dst_start dst_start_time dst_end dst_end_time)))) }
+    {
+        let start = DayData::of(&dst_start);
+        let end = DayData::of(&dst_end);
+        AlternateData::conflict(std, dst, start, dst_start_time, end, dst_end_time)
+    }
+
+    /// The type of standard time.
+    pub fn std(&self) -> &LocalTimeType
+        ensures { result.now ≡ self.now.std }
+    {
+        self.plain.std()
+    }
+
+    /// The type of daylight saving time.
+    pub fn dst(&self) -> &LocalTimeType
+        ensures { result.now ≡ self.now.dst }
+    {
+        self.plain.dst()
+    }
+
+    /// The day on which daylight saving time starts.
+    pub fn dst_start(&self) -> &RuleDay
+        ensures { result.now ≡ self.now.dst_start }
+    {
+        &self.dst_start
+    }
+
+    /// When it starts on that day, in seconds from 00:00 of standard time, less than a week either way.
+    pub fn dst_start_time(&self) -> i32
+        ensures { result ≡ self.now.dst_start_time }
+    {
+        self.plain.dst_start_time()
+    }
+
+    /// The day on which daylight saving time ends.
+    pub fn dst_end(&self) -> &RuleDay
+        ensures { result.now ≡ self.now.dst_end }
+    {
+        &self.dst_end
+    }
+
+    /// When it ends on that day, in seconds from 00:00 of daylight saving time, less than a week either way.
+    pub fn dst_end_time(&self) -> i32
+        ensures { result ≡ self.now.dst_end_time }
+    {
+        self.plain.dst_end_time()
+    }
+
+    /// The rule of its data.
+    pub(crate) fn of_plain(plain: &AlternateData) -> Self
+        ensures { result ≡ plain.now }
+    {
+        AlternateTime {
+            plain: *plain,
+            dst_start: plain.dst_start().day(),
+            dst_end: plain.dst_end().day(),
+        }
+    }
+
+    /// The rule as plain data, with its tables.
+    pub(crate) fn plain(&self) -> &AlternateData
+        ensures { result.now ≡ self.now }
+    {
+        &self.plain
+    }
+}
+
+impl PartialEq for AlternateTime {
+    ghost use Rattle.std.specs.Cmp.{partial_equiv_from_equiv};
+    ghost use Rattle.tz_rule.specs.Same.{IsEquivalence-from_equality};
+    ghost use Rattle.tz_rule.specs.SameRule.{same_alternate, Decides-same_alternate};
+
+    ghost eq = { same_alternate };
+
+    ghost laws = { partial_equiv_from_equiv (IsEquivalence-from_equality same_alternate Decides-same_alternate) };
+
+    fn eq(&self, other: &AlternateTime) -> bool {
+        let (a, b) = (&self.plain, &other.plain);
+        a.std() == b.std()
+            && (a.dst() == b.dst()
+                && (self.dst_start == other.dst_start
+                    && (a.dst_start_time() == b.dst_start_time()
+                        && (self.dst_end == other.dst_end
+                            && a.dst_end_time() == b.dst_end_time()))))
+    }
+}
+
+impl Eq for AlternateTime {
+    ghost use Rattle.tz_rule.specs.Same.{IsEquivalence-from_equality};
+    ghost use Rattle.tz_rule.specs.SameRule.{same_alternate, Decides-same_alternate};
+
+    ghost laws = { IsEquivalence-from_equality same_alternate Decides-same_alternate };
+}
+
+impl fmt::Debug for AlternateTime {
+    fn fmt<W: fmt::Write>(&self, f: &mut fmt::Formatter<W>) -> fmt::Result {
+        f.debug_struct("AlternateTime")
+            .field("std", self.std())
+            .field("dst", self.dst())
+            .field("dst_start", self.dst_start())
+            .field("dst_start_time", &self.dst_start_time())
+            .field("dst_end", self.dst_end())
+            .field("dst_end_time", &self.dst_end_time())
+            .finish()
+    }
+}

@@ -1,0 +1,37 @@
+//! Transition rules: one type for all time, or an alternate rule.
+
+use super::{AlternateTime, LocalTimeType};
+
+/// The local time of a zone after its last transition.
+#[derive(Clone, Copy, Debug)]
+pub enum TransitionRule {
+    /// One type for all time.
+    Fixed(LocalTimeType),
+    /// Two types that alternate.
+    Alternate(AlternateTime),
+}
+
+impl PartialEq for TransitionRule {
+    ghost use Rattle.std.specs.Cmp.{partial_equiv_from_equiv};
+    ghost use Rattle.tz_rule.specs.Same.{IsEquivalence-from_equality};
+    ghost use Rattle.tz_rule.specs.SameRule.{same_rule, Decides-same_rule};
+
+    ghost eq = { same_rule };
+
+    ghost laws = { partial_equiv_from_equiv (IsEquivalence-from_equality same_rule Decides-same_rule) };
+
+    fn eq(&self, other: &TransitionRule) -> bool {
+        match (self, other) {
+            (TransitionRule::Fixed(a), TransitionRule::Fixed(b)) => a == b,
+            (TransitionRule::Alternate(a), TransitionRule::Alternate(b)) => a == b,
+            _ => false,
+        }
+    }
+}
+
+impl Eq for TransitionRule {
+    ghost use Rattle.tz_rule.specs.Same.{IsEquivalence-from_equality};
+    ghost use Rattle.tz_rule.specs.SameRule.{same_rule, Decides-same_rule};
+
+    ghost laws = { IsEquivalence-from_equality same_rule Decides-same_rule };
+}

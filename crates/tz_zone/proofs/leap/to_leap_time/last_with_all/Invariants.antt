@@ -1,0 +1,12 @@
+-- The last instant that the leap seconds so far leave.
+use Rattle.std.proofs.Common.{ℕ, ℤ, ◌<◌, ◌+ℤ◌, ◌≤ℤ◌, ◌<ℤ◌}
+use Rattle.tz_zone.specs.Table.{LeapSecond}
+use Rattle.tz_zone.specs.LeapTime.{IsInstant, IsReached, IsPastInstants}
+use Rattle.tz_zone.proofs.leap.to_leap_time.last_with_all.Given as goal
+
+abbrev pub invariant-loop-place : goal.invariant-loop-place
+invariant-loop-place l = record {
+  up_to : l.last ≤ℤ l.high;
+  within : (i : ℕ) (x : LeapSecond) (u : ℤ) → i < l.place → u ≤ℤ l.last → IsReached l.leap_seconds i x u → IsInstant (u +ℤ x.correction);
+  past : (u : ℤ) → l.last <ℤ u → u ≤ℤ l.high → IsPastInstants l.leap_seconds u;
+}

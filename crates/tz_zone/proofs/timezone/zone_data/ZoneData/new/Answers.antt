@@ -1,0 +1,17 @@
+-- A zone keeps the offsets of its own types and rule.
+use Rattle.std.proofs.Common.{rules}
+use Rattle.std.proofs.lemmas.Int.{to_z-of_z}
+use mir.Syntax.{w32}
+use Rattle.tz_zone.proofs.timezone.zone_data.ZoneData.new.Goals as goal
+
+pub invariant_of-result : goal.invariant_of-result
+invariant_of-result c =
+    let ends = c.offset_range-least_offset in
+    let ok = rw c.rule_of-rule.ensures at c.in_ok-check_parts.ensures.ok in
+    let least = rw c.rule_of-rule.ensures at ends.ensures.least in
+    let greatest = rw c.rule_of-rule.ensures at ends.ensures.greatest in
+    record {
+      sound = ok.table;
+      valid = ∣ ok ∣₁;
+      offsets = rw (to_z-of_z w32 ends.result.0 (search rules), to_z-of_z w32 ends.result.1 (search rules)) (∣ (least, greatest) ∣₁);
+    }

@@ -1,0 +1,131 @@
+//! The way back from leap times: when a transition takes effect. (RFC 8536, section 2)
+
+ghost use Rattle.std.specs.Prelude.{◌≡◌, ℤ, pos, negsuc, ◌≤ℤ◌, IfOk, IfErr, MatchOption};
+ghost use Rattle.tz_zone.specs.LeapTime.{IsLeapTimeRefused, IsTimeReached, IsWideEffect, IsEffect, IsEffectRefused, IsLastBefore};
+ghost use Rattle.tz_zone.specs.ValidZone.{AreLeapSeconds, HasBegunAt};
+
+use super::LeapSecond;
+use super::table::{correction_before, truncated_start};
+use super::to_leap_time::{
+    has_leap_time, last_instant_up_to, leap_seconds_up_to, without_correction,
+};
+use tz_base::error::TzError;
+
+/// The effect of a leap time that is not before a truncated start, in 128 bits: the leap time less the correction in force, but not before that
+/// correction is reached.
+fn wide_effect_from_start(leap_seconds: &[LeapSecond], unix_leap_time: i64) -> i128
+    requires leaps { AreLeapSeconds leap_seconds.now }
+    requires begun { HasBegunAt leap_seconds.now unix_leap_time }
+    ensures { IsWideEffect leap_seconds.now unix_leap_time result }
+{
+    let count = leap_seconds_up_to(leap_seconds, unix_leap_time);
+    if count == 0 {
+        return without_correction(unix_leap_time, 0);
+    }
+    let last = &leap_seconds[count - 1];
+    let unix_time = without_correction(unix_leap_time, last.correction());
+    let reached = without_correction(
+        last.unix_leap_time(),
+        correction_before(leap_seconds, count - 1),
+    );
+    unix_time.max(reached)
+}
+
+/// The effect of a leap time, as a wide number: it may lie past 64 bits, or have no leap time, and then there is none. Before a truncated start it is that
+/// of the start.
+pub(crate) fn wide_effect(leap_seconds: &[LeapSecond], unix_leap_time: i64) -> i128
+    requires { AreLeapSeconds leap_seconds.now }
+    ensures { IsWideEffect leap_seconds.now unix_leap_time result }
+{
+    match truncated_start(leap_seconds) {
+        Some(start) if unix_leap_time < start.unix_leap_time() => {
+            wide_effect_from_start(leap_seconds, start.unix_leap_time())
+        }
+        _ => wide_effect_from_start(leap_seconds, unix_leap_time),
+    }
+}
+
+/// The effect of a leap time that is reached at some instant: then it is itself an instant, of 64 bits.
+#[inline(always)]
+pub(crate) fn effect_of_reached(leap_seconds: &[LeapSecond], unix_leap_time: i64) -> i64
+    requires leaps { AreLeapSeconds leap_seconds.now }
+    requires reached { (u : ℤ) × (u ≤ℤ pos 9223372036854775807) × IsTimeReached leap_seconds.now unix_leap_time u }
+    ensures { IsWideEffect leap_seconds.now unix_leap_time result }
+{
+    if leap_seconds.is_empty() {
+        return unix_leap_time;
+    }
+    wide_effect(leap_seconds, unix_leap_time) as i64
+}
+
+/// The instant at which a leap time takes effect: the least one whose leap time is not below it.
+pub fn effect(leap_seconds: &[LeapSecond], unix_leap_time: i64) -> Result<i64, TzError>
+    requires { AreLeapSeconds leap_seconds.now }
+    ensures ok { IfOk result (λ u. IsEffect leap_seconds.now unix_leap_time u) }
+    ensures err { IfErr result (λ e. (e ≡ TzError.OutOfRange) × IsEffectRefused leap_seconds.now unix_leap_time) }
+{
+    if unix_leap_time == i64::MIN {
+        return Err(TzError::OutOfRange);
+    }
+    let Ok(unix_time) = i64::try_from(wide_effect(leap_seconds, unix_leap_time)) else {
+        return Err(TzError::OutOfRange);
+    };
+    if !has_leap_time(leap_seconds, unix_time) {
+        return Err(TzError::OutOfRange);
+    }
+    Ok(unix_time)
+}
+
+/// The instant at which a leap time takes effect, if it is reached at any, by the leap seconds.
+#[inline(never)]
+fn effect_by_seconds(leap_seconds: &[LeapSecond], unix_leap_time: i64) -> Option<i64>
+    requires { AreLeapSeconds leap_seconds.now }
+    ensures { MatchOption result ((u : ℤ) → u ≤ℤ pos 9223372036854775807 → ¬ IsTimeReached leap_seconds.now unix_leap_time u)
+        (λ m. IsWideEffect leap_seconds.now unix_leap_time m × ¬ IsLeapTimeRefused leap_seconds.now m) }
+{
+    let Ok(effect) = i64::try_from(wide_effect(leap_seconds, unix_leap_time)) else {
+        return None;
+    };
+    if last_instant_up_to(leap_seconds, effect) < effect {
+        return None;
+    }
+    Some(effect)
+}
+
+/// The instant at which a leap time takes effect, if it is reached at any. Mostly there are no leap seconds, and it is the leap time itself.
+#[inline(always)]
+pub(crate) fn effect_if_reached(leap_seconds: &[LeapSecond], unix_leap_time: i64) -> Option<i64>
+    requires { AreLeapSeconds leap_seconds.now }
+    ensures { MatchOption result ((u : ℤ) → u ≤ℤ pos 9223372036854775807 → ¬ IsTimeReached leap_seconds.now unix_leap_time u)
+        (λ m. IsWideEffect leap_seconds.now unix_leap_time m × ¬ IsLeapTimeRefused leap_seconds.now m) }
+{
+    if leap_seconds.is_empty() {
+        return Some(unix_leap_time);
+    }
+    effect_by_seconds(leap_seconds, unix_leap_time)
+}
+
+/// The last instant that is not past those with a leap time, and is before the effect of another leap time, by the leap seconds.
+#[inline(never)]
+fn last_before_by_seconds(leap_seconds: &[LeapSecond], unix_leap_time: i64) -> i64
+    requires leaps { AreLeapSeconds leap_seconds.now }
+    requires before { (u : ℤ) × (negsuc 9223372036854775807 ≤ℤ u) × (¬ IsLeapTimeRefused leap_seconds.now u) × ¬ IsTimeReached leap_seconds.now unix_leap_time u }
+    ensures { IsLastBefore leap_seconds.now unix_leap_time result }
+{
+    let before = wide_effect(leap_seconds, unix_leap_time) - 1;
+    let last = before.min(i128::from(i64::MAX)) as i64;
+    last_instant_up_to(leap_seconds, last)
+}
+
+/// The last instant that has a leap time and at which another leap time is not reached yet, if there is any.
+#[inline(always)]
+pub(crate) fn last_before(leap_seconds: &[LeapSecond], unix_leap_time: i64) -> i64
+    requires leaps { AreLeapSeconds leap_seconds.now }
+    requires before { (u : ℤ) × (negsuc 9223372036854775807 ≤ℤ u) × (¬ IsLeapTimeRefused leap_seconds.now u) × ¬ IsTimeReached leap_seconds.now unix_leap_time u }
+    ensures { IsLastBefore leap_seconds.now unix_leap_time result }
+{
+    if leap_seconds.is_empty() {
+        return unix_leap_time - 1;
+    }
+    last_before_by_seconds(leap_seconds, unix_leap_time)
+}

@@ -1,0 +1,97 @@
+//! Switches: where in the year daylight saving time starts, or ends.
+
+ghost use Rattle.std.specs.Prelude.{◌≡◌, ◌∷◌, [], ℕ, List, MatchResult};
+ghost use Rattle.tz_zone.specs.Bytes.{comma, slash};
+ghost use Rattle.tz_zone.specs.TzText.{IsRuleText, IsRuleInRange, IsTimeOfRule, IsTimeUpTo, day_time_hours, plain_time};
+ghost use Rattle.tz_zone.specs.TzTextFault.{IsDayTimeFault, IsRuleTextFault, IsLastRuleFault, IsRulesFault};
+
+use super::day::read_rule_day;
+use super::text_front::expect_byte;
+use super::time::{WrittenTime, read_day_time};
+use crate::parse::after_byte::after_byte;
+use tz_base::error::TzError;
+use tz_base::error::parse::TzStringError;
+use tz_rule::timezone::RuleDay;
+
+/// A switch: a day of each year, and a time of that day.
+#[derive(Clone, Copy)]
+pub(super) struct DayAndTime {
+    pub(super) day: RuleDay,
+    pub(super) time: WrittenTime,
+}
+
+/// Two o'clock, the time of a switch that has none.
+#[inline(always)]
+fn two_o_clock() -> WrittenTime
+    ensures { result ≡ plain_time 2 0 0 }
+{
+    WrittenTime {
+        minus: false,
+        hours: 2,
+        minutes: 0,
+        seconds: 0,
+    }
+}
+
+/// The time after a slash, or two o'clock if there is no slash, and the rest of the bytes.
+#[inline(always)]
+fn read_time_of_switch(text: &[u8], extended: bool) -> Result<(WrittenTime, &[u8]), TzStringError>
+    ensures { MatchResult result
+        (λ p. IsTimeOfRule extended text.now p.0 p.1.now × IsTimeUpTo (day_time_hours extended) p.0)
+        (λ e. (time : List ℕ) × (text.now ≡ slash ∷ time) × IsDayTimeFault extended time e) }
+{
+    match after_byte(text, b'/') {
+        Some(time) => read_day_time(time, extended),
+        None => Ok((two_o_clock(), text)),
+    }
+}
+
+/// A switch, and the rest of the bytes.
+#[inline(always)]
+fn read_switch(text: &[u8], extended: bool) -> Result<(DayAndTime, &[u8]), TzError>
+    ensures { MatchResult result (λ p. IsRuleText extended text.now p.0 p.1.now × IsRuleInRange extended p.0) (IsRuleTextFault extended text.now) }
+{
+    match read_rule_day(text) {
+        Ok((day, rest)) => {
+            let (time, rest) = read_time_of_switch(rest, extended)?;
+            Ok((DayAndTime { day, time }, rest))
+        }
+        Err(error) => Err(error),
+    }
+}
+
+/// The last switch, with nothing after it.
+#[inline(always)]
+fn read_last_switch(text: &[u8], extended: bool) -> Result<DayAndTime, TzError>
+    ensures { MatchResult result (λ switch. IsRuleText extended text.now switch [] × IsRuleInRange extended switch) (IsLastRuleFault extended text.now) }
+{
+    match read_switch(text, extended) {
+        Ok((switch, rest)) => {
+            if !rest.is_empty() {
+                return Err(TzError::TzString(TzStringError::RemainingData));
+            }
+            Ok(switch)
+        }
+        Err(error) => Err(error),
+    }
+}
+
+/// The start and the end, with a comma between them and nothing after them.
+#[inline(always)]
+pub(super) fn read_switches(
+    text: &[u8],
+    extended: bool,
+) -> Result<(DayAndTime, DayAndTime), TzError>
+    ensures { MatchResult result
+        (λ p. ((end_text : List ℕ) × IsRuleText extended text.now p.0 (comma ∷ end_text) × IsRuleText extended end_text p.1 []) × IsRuleInRange extended p.0 × IsRuleInRange extended p.1)
+        (IsRulesFault extended text.now) }
+{
+    match read_switch(text, extended) {
+        Ok((start, rest)) => {
+            let end_text = expect_byte(rest, b',')?;
+            let end = read_last_switch(end_text, extended)?;
+            Ok((start, end))
+        }
+        Err(error) => Err(error),
+    }
+}

@@ -1,0 +1,83 @@
+//! What a zone has beside its transitions, borrowed.
+
+ghost use Rattle.std.specs.Prelude.{◌≡◌};
+ghost use Rattle.tz_zone.specs.ZoneRef.{zone_of};
+ghost use Rattle.tz_zone.specs.ZoneSeen.{lent_rule, rule_kept, zone_seen};
+
+use crate::leap::LeapSecond;
+use crate::timezone::TimeZoneRef;
+use tz_rule::inner::{AlternateData, RuleRef};
+use tz_rule::timezone::{LocalTimeType, TransitionRule};
+
+/// A zone's rule as the zone keeps it. What lies before the last transition needs no look at it.
+#[derive(Clone, Copy)]
+pub enum KeptRule<'a> {
+    /// There is no rule.
+    Without,
+    /// One type for all time.
+    Fixed(&'a LocalTimeType),
+    /// Two types that alternate.
+    Alternate(&'a AlternateData),
+    /// A rule or none, in the zone's own form.
+    Stored(&'a Option<TransitionRule>),
+}
+
+/// The parts of a zone beside its transitions, borrowed.
+#[derive(Clone, Copy)]
+pub struct OtherParts<'a> {
+    /// The local time types, which the transitions name by their numbers.
+    pub local_time_types: &'a [LocalTimeType],
+    /// The leap seconds, in order.
+    pub leap_seconds: &'a [LeapSecond],
+    /// The rule from the last transition on.
+    pub extra_rule: KeptRule<'a>,
+}
+
+/// Lends a rule, if there is one.
+#[inline(always)]
+pub fn lent(extra_rule: &Option<TransitionRule>) -> Option<RuleRef<'_>>
+    ensures { lent_rule result ≡ extra_rule.now }
+{
+    match extra_rule {
+        Some(rule) => Some(RuleRef::of(rule)),
+        None => None,
+    }
+}
+
+impl<'a> KeptRule<'a> {
+    /// Keeps a rule that is lent, if there is one.
+    #[inline(always)]
+    pub fn of(rule: Option<RuleRef<'a>>) -> KeptRule<'a>
+        ensures { rule_kept result ≡ lent_rule rule.entry }
+    {
+        match rule {
+            Some(RuleRef::Fixed(local_time_type)) => KeptRule::Fixed(local_time_type),
+            Some(RuleRef::Alternate(rule)) => KeptRule::Alternate(rule),
+            None => KeptRule::Without,
+        }
+    }
+
+    /// Lends the rule, if there is one.
+    #[inline(always)]
+    pub fn lent(self) -> Option<RuleRef<'a>>
+        ensures { lent_rule result ≡ rule_kept self.entry }
+    {
+        match self {
+            KeptRule::Without => None,
+            KeptRule::Fixed(local_time_type) => Some(RuleRef::Fixed(local_time_type)),
+            KeptRule::Alternate(rule) => Some(RuleRef::Alternate(rule)),
+            KeptRule::Stored(extra_rule) => lent(extra_rule),
+        }
+    }
+}
+
+/// What a zone has beside its transitions.
+pub fn other_parts_of<'a>(zone: &TimeZoneRef<'a>) -> OtherParts<'a>
+    ensures { zone_seen (zone_of zone.entry.now).transitions result ≡ zone_of zone.entry.now }
+{
+    OtherParts {
+        local_time_types: zone.local_time_types(),
+        leap_seconds: zone.leap_seconds(),
+        extra_rule: KeptRule::Stored(zone.extra_rule()),
+    }
+}
