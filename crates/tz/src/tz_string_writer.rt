@@ -1,4 +1,4 @@
-//! TZ strings of rules.
+//! Writes the TZ strings of rules.
 
 ghost use Rattle.std.specs.Prelude.{◌≡◌, ◌≢◌, ◌≤◌, ◌<◌, ◌+◌, ◌++◌, ◌∷◌, ℕ, pos, ◌+ℤ◌, Bool, false, List, length, IfSome, IfNone, MatchBool};
 ghost use Rattle.std.specs.Char.{is_ascii_alphabetic};

@@ -10,7 +10,7 @@ unfoldable pub IsRuleType : TransitionRule → ℤ → LocalTimeType → Type 0
 IsRuleType (Fixed fixed) u t = t ≡ fixed
 IsRuleType (Alternate r) u t = IsInRuleYears u × IsAlternateType r u t
 
--- the parts obey the rules of their making
+-- the rule and its days pass the checks of their constructors
 abbrev pub IsSoundRule : TransitionRule → Type 0
 IsSoundRule (Fixed fixed) = Unit {0}
 IsSoundRule (Alternate r) = IsConsistentRule r × AreRuleDays r

@@ -56,7 +56,7 @@ pub fn nearest_changes_are_unique()
     ensures none_preceding { (z : Zone) (u : ℤ) (c : Change) → IsPreceding z u c → ¬ HasNoPreceding z u }
 {}
 
-/// The parts of a local time type obey the rules of their making.
+/// The parts of a local time type pass the checks of the constructor.
 pub fn type_parts_are_sound(local_time_type: &LocalTimeType)
     ensures sound { IsLocalTimeType local_time_type.now }
     ensures fits { FitsSigned w32 local_time_type.now.ut_offset }

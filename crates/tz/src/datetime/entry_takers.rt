@@ -1,4 +1,4 @@
-//! What a search finds: instants that show a reading, and jumps over it; and how a list takes them, as date times.
+//! Takers of the entries that a search finds, which are instants that show a reading and jumps over it, and a list that takes them as date times.
 
 use super::{DateTime, FoundDateTimeKind};
 use std::alloc::AllocError;

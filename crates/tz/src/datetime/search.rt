@@ -94,6 +94,7 @@ fn give_around<'a, E: EntryTaker<'a>>(
         return entries.skipped(since, before, after);
     }
     if since <= first {
+        // The type before does not show the reading, and the jump does not pass over it. So `since <= second`, and the type after shows it.
         return entries.shown(second, after);
     }
     entries.shown(first, before)?;
@@ -130,6 +131,7 @@ fn walk<'a, E: EntryTaker<'a>, V: Transitions>(
     let Some((first, stage)) = first_stage(view, parts, place, low) else {
         return Ok(());
     };
+    // A jump at `first` does not pass over the reading: before `low` no type shows it, and from `low` up to a later `first` the clock has no type.
     let mut before = None;
     let (mut since, mut stage) = (first, stage);
     while since <= high {

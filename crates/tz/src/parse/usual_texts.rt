@@ -1,4 +1,4 @@
-//! Texts as most date times are printed, which are read at once.
+//! Usual texts: they have the form in which most date times are printed, with each part at a fixed place.
 
 ghost use Rattle.std.specs.Prelude.{◌≡◌, true, ◌+◌, ◌-◌, ◌*◌, ◌<◌, ◌≤◌, ◌++◌, length, drop, get_or, IfSome, FitsSigned};
 ghost use Rattle.std.specs.Int.{w32};

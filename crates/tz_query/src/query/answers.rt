@@ -24,7 +24,7 @@ pub struct Answers<'a, A: Allocator + Copy> {
     pub zone: TimeZoneRef<'a>,
     pub segment: KeptSegment,
     pub suffixes: Suffixes,
-    /// The last instant that was looked up, or the first one of the last window that was searched, since the kept segment did not hold it; at first 0.
+    /// The last instant that was looked up, or the first of the last window that was searched, as the kept segment did not hold it; at first 0.
     pub missed: i64,
     pub output: Output<A>,
 }

@@ -44,8 +44,8 @@ pub(super) fn moved_year_start(moved_year: u64) -> (i64, usize)
     ensures bound { (negsuc 67768100567971199 ≤ℤ result.0) × (result.0 ≤ℤ pos 67767976202016000) }
     ensures below { result.1 < 14 }
 {
-    // The days are counted from January 1st of the year -2147484000, a Saturday: 6 from Sunday = 0.
     let days = days_before_moved_year(moved_year);
+    // The days are counted from January 1st of the year -2147484000, a Saturday: 6 from Sunday = 0.
     let kind = kind_of(is_moved_year_leap(moved_year), days_over_weeks(days + 6));
     (SECONDS_PER_DAY * (days as i64 - ADDED_DAYS), kind)
 }

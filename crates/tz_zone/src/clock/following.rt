@@ -60,7 +60,8 @@ fn place_at_effect(
     )
 }
 
-/// The last place from one on up to which transitions are to its type. The last transition ends it, whatever its type.
+/// The last place of the run of `place`: the transitions from `place` up to it are to one type, `local_time_type`. The place after all transitions is
+/// a run of its own: from there on the rule has the types.
 #[inline(always)]
 fn end_of_run(
     transitions: &[Transition],
@@ -102,8 +103,8 @@ fn first_place(
     Some((first, place))
 }
 
-/// The change at the next transition after an instant that lies at a place, if there are no leap seconds, that transition is to another type, and it is
-/// not the last one. Mostly it is so, and then nothing is walked.
+/// The change at the next transition after an instant that lies at a place, if there are no leap seconds, that transition is to another type, and it
+/// is not the last one. Mostly it is so, and then nothing is walked.
 #[inline(always)]
 fn change_at_next<'a>(
     transitions: &[Transition],

@@ -115,7 +115,7 @@ fn place_in_block<V: Transitions>(view: &mut V, place: usize, unix_leap_time: i6
 
 /// The place at which a leap time before the last transition lies, by halving.
 ///
-/// The first look leaves as many places as a power of two.
+/// After the first look the number of places to choose from is a power of two.
 #[inline(always)]
 pub(super) fn place_before<V: Transitions>(view: &mut V, unix_leap_time: i64) -> usize
     requires rising { IsRising (V.list view.old) }

@@ -34,7 +34,7 @@ fn preceding_by_rule<'a>(parts: OtherParts<'a>, last: i64) -> Option<Change<'a>>
     Some(Change::new(change.unix_time, change.before, change.after))
 }
 
-/// The first place up to one, but not before the first transition, from which on transitions are to its type.
+/// The first place, from 1 on, of the run of `place`: the transitions from the one before it up to `place` are to one type, `local_time_type`.
 #[inline(always)]
 fn start_of_run(
     transitions: &[Transition],
@@ -55,7 +55,8 @@ fn start_of_run(
     start
 }
 
-/// The last instant before another one that has a leap time, and the place at which it lies. In a zone without transitions it is the one right before.
+/// The last instant before another one that has a leap time, and the place at which it lies. In a zone without transitions it is the one right
+/// before.
 #[inline(always)]
 fn last_place(
     transitions: &[Transition],
@@ -115,7 +116,7 @@ fn preceding_after_table<'a>(
     Some(change)
 }
 
-/// The first place from which on transitions are to the type that the clock has at a place, or all transitions if they come before it.
+/// The first place, from 1 on, of the run of a place. The place after all transitions is a run of its own: from there on the rule has the types.
 #[inline(always)]
 fn first_of_run(transitions: &[Transition], parts: OtherParts<'_>, place: usize) -> usize
     requires sound { IsSoundTable (zone_seen transitions.now parts) }
@@ -192,7 +193,7 @@ pub fn change_before_next<'a>(
     change_at_last(transitions, parts, unix_time, place)
 }
 
-/// The last change of the clock before an instant, and the place before it. From another one on, which lies at a place, there is none.
+/// The last change of the clock before an instant, and the place before it. After `last`, which lies at `place`, there is none.
 #[inline(never)]
 fn preceding_from<'a>(
     transitions: &[Transition],
@@ -269,8 +270,8 @@ fn preceding_anew<'a>(
     find_preceding(transitions, parts, unix_time, Some(place))
 }
 
-/// The last change of the clock before an instant, and the place before it. If the given place is that after all transitions, the rule is asked first.
-/// A wrong place costs time and no more.
+/// The last change of the clock before an instant, and the place before it. If the given place is that after all transitions, the rule is asked
+/// first. A wrong place costs time and no more.
 #[inline(always)]
 pub fn preceding_near<'a>(
     transitions: &[Transition],

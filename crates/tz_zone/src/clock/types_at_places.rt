@@ -54,7 +54,7 @@ pub(super) fn type_before<'a, V: Transitions>(
     type_of(parts, change)
 }
 
-/// The type at an instant that lies at a place, or at an earlier one of the same type.
+/// The type at an instant, from a place at which it lies, or from an earlier place whose type is the same.
 #[inline(always)]
 pub(super) fn type_at<'a>(
     transitions: &[Transition],

@@ -105,6 +105,7 @@ fn types_at_place<'a, V: Transitions>(
     let count = view.len();
     let next = view.look(place);
     let next_leap_time = next.unix_leap_time();
+    // Without leap seconds the leap time of `high` is `high` itself, so that this test would save nothing.
     if !parts.leap_seconds.is_empty()
         && stay_before(parts.leap_seconds, low, low_leap_time, high, next_leap_time)
     {

@@ -1,4 +1,7 @@
 //! The way back from leap times: when a transition takes effect. (RFC 8536, section 2)
+//!
+//! A leap time is reached at an instant if that of the instant is not below it, and takes effect at the first such instant. A leap time within an
+//! inserted second is that of no instant, and takes effect when the second is over.
 
 ghost use Rattle.std.specs.Prelude.{◌≡◌, ℤ, pos, negsuc, ◌≤ℤ◌, IfOk, IfErr, MatchOption};
 ghost use Rattle.tz_zone.specs.LeapTime.{IsLeapTimeRefused, IsTimeReached, IsWideEffect, IsEffect, IsEffectRefused, IsLastBefore};
@@ -31,8 +34,8 @@ fn wide_effect_from_start(leap_seconds: &[LeapSecond], unix_leap_time: i64) -> i
     unix_time.max(reached)
 }
 
-/// The effect of a leap time, as a wide number: it may lie past 64 bits, or have no leap time, and then there is none. Before a truncated start it is that
-/// of the start.
+/// The effect of a leap time, in 128 bits. It may lie past 64 bits, or have no leap time; then the given leap time takes effect at no instant. Before
+/// a truncated start it is the effect of the start.
 pub(crate) fn wide_effect(leap_seconds: &[LeapSecond], unix_leap_time: i64) -> i128
     requires { AreLeapSeconds leap_seconds.now }
     ensures { IsWideEffect leap_seconds.now unix_leap_time result }
@@ -64,6 +67,7 @@ pub fn effect(leap_seconds: &[LeapSecond], unix_leap_time: i64) -> Result<i64, T
     ensures ok { IfOk result (λ u. IsEffect leap_seconds.now unix_leap_time u) }
     ensures err { IfErr result (λ e. (e ≡ TzError.OutOfRange) × IsEffectRefused leap_seconds.now unix_leap_time) }
 {
+    // As in tz-rs, the least leap time is refused.
     if unix_leap_time == i64::MIN {
         return Err(TzError::OutOfRange);
     }
@@ -105,7 +109,7 @@ pub(crate) fn effect_if_reached(leap_seconds: &[LeapSecond], unix_leap_time: i64
     effect_by_seconds(leap_seconds, unix_leap_time)
 }
 
-/// The last instant that is not past those with a leap time, and is before the effect of another leap time, by the leap seconds.
+/// The last instant that has a leap time and at which `unix_leap_time` is not yet reached, by the leap seconds.
 #[inline(never)]
 fn last_before_by_seconds(leap_seconds: &[LeapSecond], unix_leap_time: i64) -> i64
     requires leaps { AreLeapSeconds leap_seconds.now }
@@ -117,7 +121,8 @@ fn last_before_by_seconds(leap_seconds: &[LeapSecond], unix_leap_time: i64) -> i
     last_instant_up_to(leap_seconds, last)
 }
 
-/// The last instant that has a leap time and at which another leap time is not reached yet, if there is any.
+/// The last instant that has a leap time and at which `unix_leap_time` is not yet reached. Mostly there are no leap seconds, and it is the instant
+/// right before `unix_leap_time`.
 #[inline(always)]
 pub(crate) fn last_before(leap_seconds: &[LeapSecond], unix_leap_time: i64) -> i64
     requires leaps { AreLeapSeconds leap_seconds.now }

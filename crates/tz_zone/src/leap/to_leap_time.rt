@@ -1,4 +1,7 @@
 //! Leap times. (RFC 8536, section 2)
+//!
+//! The leap time of an instant is its Unix time plus the correction of the last leap second that is reached there, and before the first one the Unix
+//! time itself. A leap second is reached if the Unix time plus the correction before it is not below its time.
 
 ghost use Rattle.std.specs.Prelude.{◌≡◌, ◌<◌, ◌≤◌, ◌+◌, ◌+ℤ◌, ◌≤ℤ◌, ◌<ℤ◌, ◌-ℤ◌, ℕ, length, slice_get, ℤ, pos, negsuc, IfOk, IfErr, MatchBool, MatchOption, Some};
 ghost use Rattle.std.specs.Bool.{OnTrue};
@@ -10,7 +13,7 @@ use super::LeapSecond;
 use super::table::{correction_at_start, correction_before, truncated_start};
 use tz_base::error::TzError;
 
-/// Up to this instant no correction takes a leap time out of 64 bits, whatever the leap seconds.
+/// Up to this instant no leap second takes the leap time out of 64 bits, whatever the table.
 const ALWAYS_DEFINED_UP_TO: i64 = 80_000_000_000_000_000;
 
 /// A leap time less a correction, as a wide number.
@@ -114,8 +117,8 @@ fn after_last_reached(leap_seconds: &[LeapSecond], until: usize, unix_time: i64)
 
 /// How many leap seconds are reached at an instant.
 ///
-/// Corrections change by a second in four weeks at most. So in any real table these are the leap seconds up to the instant plus the first correction,
-/// with at most one more or one fewer.
+/// Corrections change by a second in four weeks at most. So in any real table these are the leap seconds up to the instant plus the correction at the
+/// start of the table, with at most one more or one fewer.
 fn leap_seconds_reached(leap_seconds: &[LeapSecond], unix_time: i64) -> usize
     requires { AreLeapSeconds leap_seconds.now }
     ensures within { result ≤ length leap_seconds.now }
@@ -129,8 +132,8 @@ fn leap_seconds_reached(leap_seconds: &[LeapSecond], unix_time: i64) -> usize
     after_last_reached(leap_seconds, place, unix_time)
 }
 
-/// The last instant up to another one at which the leap second at a place does not take a leap time out of 64 bits: it is not reached
-/// there, or the sum with its correction fits.
+/// The last instant up to `high` at which the leap second at a place does not take the leap time out of 64 bits: it is not reached there, or the sum
+/// with its correction fits.
 fn last_with(leap_seconds: &[LeapSecond], place: usize, high: i64) -> i64
     requires leaps { AreLeapSeconds leap_seconds.now }
     requires place { place < length leap_seconds.now }
@@ -145,7 +148,7 @@ fn last_with(leap_seconds: &[LeapSecond], place: usize, high: i64) -> i64
     before.max(fitting).min(i128::from(high)) as i64
 }
 
-/// The last instant up to another one that each of the leap seconds leaves.
+/// The last instant up to `high` at which no leap second takes the leap time out of 64 bits.
 #[inline(never)]
 fn last_with_all(leap_seconds: &[LeapSecond], high: i64) -> i64
     requires { AreLeapSeconds leap_seconds.now }
@@ -160,8 +163,7 @@ fn last_with_all(leap_seconds: &[LeapSecond], high: i64) -> i64
     last
 }
 
-/// The last instant up to another one at which no correction takes a leap time out of 64 bits. Mostly it is that other one, and no leap
-/// second is looked at.
+/// The last instant up to `high` at which no leap second takes the leap time out of 64 bits. Mostly it is `high` itself, and no leap second is read.
 #[inline(always)]
 pub(crate) fn last_instant_up_to(leap_seconds: &[LeapSecond], high: i64) -> i64
     requires { AreLeapSeconds leap_seconds.now }
@@ -175,7 +177,7 @@ pub(crate) fn last_instant_up_to(leap_seconds: &[LeapSecond], high: i64) -> i64
     last_with_all(leap_seconds, high)
 }
 
-/// The last instant at which no correction takes a leap time out of 64 bits.
+/// The last instant at which no leap second takes the leap time out of 64 bits.
 pub(crate) fn last_instant(leap_seconds: &[LeapSecond]) -> i64
     requires { AreLeapSeconds leap_seconds.now }
     ensures within { (u : ℤ) → u ≤ℤ result → ¬ IsPastInstants leap_seconds.now u }
@@ -241,7 +243,7 @@ pub fn leap(leap_seconds: &[LeapSecond], unix_time: i64) -> Result<i64, TzError>
 /// Whether all instants of a window have a leap time before a given one, by the leap time of the window's first instant alone.
 ///
 /// From one instant to another a leap time grows by no more than three times the seconds between them, and mostly by just these. So a window that
-/// ends long before the given leap time needs no second look at the leap seconds. Without leap seconds the first look costs nothing.
+/// ends long before the given leap time needs no second search of the leap seconds.
 #[inline(always)]
 pub(crate) fn stay_before(
     leap_seconds: &[LeapSecond],

@@ -9,7 +9,7 @@ use crate::timezone::TimeZoneRef;
 use tz_rule::inner::{AlternateData, RuleRef};
 use tz_rule::timezone::{LocalTimeType, TransitionRule};
 
-/// A zone's rule as the zone keeps it. What lies before the last transition needs no look at it.
+/// A zone's rule as the zone keeps it. It is not examined for instants before the last transition.
 #[derive(Clone, Copy)]
 pub enum KeptRule<'a> {
     /// There is no rule.

@@ -1,4 +1,4 @@
-//! A zone's transitions as a body may read them: one at a time, each reading a look that may be counted.
+//! A zone's transitions as a function may read them: one at a time. Each read is a look, which may be counted.
 
 ghost use Rattle.std.specs.Prelude.{◌≡◌, ℕ, ◌+◌, ◌<◌, ◌≤◌, length, slice_get, Some, refl};
 
@@ -6,8 +6,7 @@ use super::transition::Transition;
 
 /// A view of transitions.
 ///
-/// A body that is generic over its view can take looks and nothing else: it has no slice, and can neither copy the view nor set
-/// its count back.
+/// A function that is generic over its view can take looks and nothing else: it has no slice, and can neither copy the view nor set its count back.
 pub trait Transitions {
     ghost use Rattle.std.specs.Prelude.{List};
     ghost use Rattle.tz_zone.specs.Table.{Transition};

@@ -127,8 +127,8 @@ impl<'a> TimeZoneRef<'a> {
         Some(change)
     }
 
-    /// The last change before an instant, and a place among the transitions that is likely to be the one before it. The given one is likely to be that
-    /// before a change at the instant.
+    /// The last change before an instant, and a place among the transitions that is likely to be the one before it. The given one is likely to be
+    /// that before a change at the instant.
     #[inline(always)]
     pub(crate) fn preceding_from(&self, unix_time: i64, place: usize) -> Option<(Change<'a>, usize)>
         ensures { MatchOption result (HasNoPreceding (zone_of self.now) unix_time)

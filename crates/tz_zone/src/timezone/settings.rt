@@ -111,8 +111,8 @@ impl<'a, F: Fn(&str) -> Result<Vec<u8>, ReadFault>> TimeZoneSettings<'a, F> {
 
     /// The time zone of a string. (POSIX.1-2017, Base Definitions, 8.3)
     ///
-    /// `localtime` is the machine's local time. What follows a `:` names a file. Any other string names a file too, or is a TZ string if there is no
-    /// such file. A name that begins with `/` is the path of the file, and any other name is that of a file in one of the directories.
+    /// `localtime` is the machine's local time. What follows a `:` names a file. Any other string names a file too, or is a TZ string if no such file
+    /// can be read. A name that begins with `/` is the path of the file, and any other name is that of a file in one of the directories.
     ///
     /// # Errors
     ///
@@ -172,7 +172,7 @@ impl<'a, F: Fn(&str) -> Result<Vec<u8>, ReadFault>> TimeZoneSettings<'a, F> {
         }
     }
 
-    /// The zone of the file with the name, or that of the TZ string where there is none.
+    /// The zone of the file with the name, or that of the TZ string if no such file can be read.
     fn parse_name_or_text<A: Allocator + Copy>(
         &self,
         alloc: A,
@@ -225,8 +225,8 @@ impl<A: Allocator + Copy> TimeZone<A> {
     /// The time zone of a string, with the [usual directories](DEFAULT_DIRECTORIES) and this function that reads a file. (POSIX.1-2017, Base
     /// Definitions, 8.3)
     ///
-    /// `localtime` is the machine's local time. What follows a `:` names a file. Any other string names a file too, or is a TZ string if there is no
-    /// such file. A name that begins with `/` is the path of the file, and any other name is that of a file in one of the directories.
+    /// `localtime` is the machine's local time. What follows a `:` names a file. Any other string names a file too, or is a TZ string if no such file
+    /// can be read. A name that begins with `/` is the path of the file, and any other name is that of a file in one of the directories.
     ///
     /// The zone of a name such as `Europe/Paris`, or of a TZ string such as `CET-1CEST,M3.5.0,M10.5.0/3`:
     ///

@@ -105,7 +105,7 @@ impl<A: Allocator + Copy> TimeZone<A> {
         )
     }
 
-    /// The zone with these parts, whose transitions the caller may know to name types and to come in order.
+    /// The zone with these parts. With `are_in_order` the caller knows that the transitions come in order, and that each names a type.
     #[inline(always)]
     pub(crate) fn from_read_parts(
         transitions: Vec<Transition, A>,
@@ -218,8 +218,8 @@ impl<A: Allocator + Copy> TimeZone<A> {
 
     /// The clock's type at an instant, in Unix seconds. (RFC 8536, section 3.2)
     ///
-    /// Before the first transition it is type number 0, from there to the last one the type of the transition before the instant, and from the last one
-    /// on that of the extra rule. A zone without transitions has the type of its rule, or type number 0 if it has no rule.
+    /// Before the first transition it is type number 0, from there up to the last one it is the type of the last transition that has been reached,
+    /// and from the last one on that of the extra rule. A zone without transitions has the type of its rule, or type number 0 if it has no rule.
     ///
     /// # Errors
     ///

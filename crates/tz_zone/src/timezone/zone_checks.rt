@@ -1,4 +1,4 @@
-//! The checks of a zone: its transitions in order and to types of the zone, its table of leap seconds, and a rule that agrees with the last transition.
+//! The checks of a zone: transitions in order and to types of the zone, its table of leap seconds, and a rule that agrees with the last transition.
 
 ghost use Rattle.std.specs.Prelude.{◌≡◌, ℕ, ◌+◌, ◌<◌, length, OnOk, IfOk, IfErr, IsTrue, MatchBool};
 ghost use Rattle.tz_rule.specs.LocalTimeType.{LocalTimeType};
@@ -49,7 +49,7 @@ fn check_transitions(transitions: &[Transition], types: usize) -> Result<(), Tim
     Ok(())
 }
 
-/// Checks the transitions, unless they are known to pass.
+/// Checks the transitions, unless they are known to come in order, and each to name a type.
 #[inline(always)]
 fn check_unknown_transitions(
     transitions: &[Transition],
@@ -130,7 +130,7 @@ pub(crate) fn check_parts(
     )
 }
 
-/// Checks the parts of a zone, in the order of their errors, but for transitions that are known to pass.
+/// Checks the parts of a zone, in the order of their errors, but not transitions that are known to come in order, and each to name a type.
 #[inline(always)]
 pub(crate) fn check_read_parts(
     transitions: &[Transition],

@@ -95,7 +95,7 @@ impl<'a> ZoneData<'a> {
         })
     }
 
-    /// The view of a borrowed zone.
+    /// The data of a borrowed zone.
     #[inline(always)]
     pub fn of(zone: TimeZoneRef<'a>) -> Self
         ensures { zone_of_data result ≡ zone_of zone.entry }

@@ -1,4 +1,4 @@
-//! The block after a header. (RFC 8536, section 3.2)
+//! A unit of a file: a header and its block. (RFC 8536, sections 3.1 and 3.2)
 
 ghost use Rattle.std.specs.Prelude.{◌≡◌, ◌≤◌, length, IfOk, OnOk, IfErr};
 ghost use Rattle.tz_zone.specs.TzFile.{indexes_at, types_at, names_at, leaps_at, std_walls_at, ut_locals_at, end_at, block_with, part_with, IsUnit};
@@ -65,7 +65,7 @@ pub(super) struct Block<'a> {
     pub(super) ut_locals: &'a [u8],
 }
 
-/// A header's counts, its block, and the bytes after it.
+/// A unit: the version and the counts of its header, its block, and the bytes after the unit.
 #[derive(Clone, Copy)]
 pub(crate) struct Unit<'a> {
     pub(super) size: TimeSize,
@@ -111,6 +111,7 @@ pub(super) fn read_unit(size: TimeSize, bytes: &[u8]) -> Result<Unit<'_>, TzFile
     }
     Ok(Unit {
         size,
+        // The fifth byte of a header is its version.
         version: bytes[4],
         counts,
         block: cut_block(size, counts, bytes),

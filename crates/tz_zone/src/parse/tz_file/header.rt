@@ -22,7 +22,7 @@ pub(super) struct Counts {
     pub(super) char: u32,
 }
 
-/// Whether a header may count these indicators, of this number of types.
+/// Whether a header with this number of types may have this number of indicators.
 fn is_indicator_count(count: u32, local_types: u32) -> bool
     ensures { MatchBool result (IsIndicatorCount count local_types) (¬ IsIndicatorCount count local_types) }
 {
@@ -65,7 +65,7 @@ fn has_magic(bytes: &[u8]) -> bool
     bytes.starts_with(b"TZif")
 }
 
-/// Whether the version is one that is read.
+/// Whether the byte is that of a version that is read. The byte of version 1 is 0.
 fn is_version(byte: u8) -> bool
     ensures { MatchBool result (IsVersion byte) (¬ IsVersion byte) }
 {

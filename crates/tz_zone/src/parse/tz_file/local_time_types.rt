@@ -33,7 +33,7 @@ fn first_zero(bytes: &[u8]) -> Option<usize>
     bytes.iter().position(|byte| *byte == 0)
 }
 
-/// The name at an index of the name bytes, if it ends there.
+/// The name at an index of the name bytes, if a zero byte ends it.
 fn name_at(names: &[u8], index: usize) -> Option<&[u8]>
     ensures { MatchOption result (¬ HasName names.now index) (λ name. HasName names.now index × (name.now ≡ name_in names.now index)) }
 {

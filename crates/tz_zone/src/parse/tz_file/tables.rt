@@ -21,6 +21,7 @@ use tz_rule::timezone::LocalTimeType;
 #[derive(Drop)]
 pub(crate) struct Tables<A: Allocator + Copy = Global> {
     pub(crate) transitions: Vec<Transition, A>,
+    /// Whether the transitions are known to come in order, and each to name a type. If not, the check of the zone looks at each.
     pub(crate) are_in_order: bool,
     pub(crate) local_time_types: Vec<LocalTimeType, A>,
     pub(crate) leap_seconds: Vec<LeapSecond, A>,

@@ -35,6 +35,7 @@ pub(crate) fn read_frame(bytes: &[u8]) -> Result<Frame<'_>, TzFileError>
             footer: None,
         });
     }
+    // The first unit is for readers of version 1: of its block only the length is used.
     let second = read_unit(TimeSize::Eight, first.after)?;
     Ok(Frame {
         unit: second,
