@@ -9,7 +9,7 @@ use Rattle.tz_base.specs.Fields.{IsValid, reading}
 use Rattle.tz.specs.DateTimes.{DateTime, ShowsInstant, moment_of}
 use Rattle.tz.specs.Entries.{Entry, Shown, Jump, IsEntryOutside}
 use Rattle.tz.specs.Found.{CanBeMade}
-use Rattle.tz.specs.declared.datetime.entry_takers.Dated.{Dated}
+use Rattle.tz.specs.declared.datetime.dated_entries.Dated.{Dated}
 use Rattle.tz.specs.declared.datetime.found.FoundDateTimeKind.{FoundDateTimeKind}
 use Rattle.tz.specs.declared.datetime.found.FoundDateTimeKind.TheVariants.{Normal, Skipped}
 

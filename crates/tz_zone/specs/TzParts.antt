@@ -3,8 +3,8 @@ use Rattle.std.specs.Prelude.{◌≡◌, ◌+◌, ◌*◌, length}
 use Rattle.std.specs.Int.{Width, w32, w64, byte_len}
 use Rattle.tz_zone.specs.TzFile.{Counts, Block, Part, transitions_of, types_of, leaps_of}
 use Rattle.tz_zone.specs.declared.parse.tz_file.tables.Tables.{Tables}
-use Rattle.tz_zone.specs.declared.parse.tz_file.block.Block.{Block as BlockSlices}
-use Rattle.tz_zone.specs.declared.parse.tz_file.block.Unit.{Unit as UnitSlices}
+use Rattle.tz_zone.specs.declared.parse.tz_file.unit.Block.{Block as BlockSlices}
+use Rattle.tz_zone.specs.declared.parse.tz_file.unit.Unit.{Unit as UnitSlices}
 use Rattle.tz_zone.specs.declared.parse.tz_file.header.Counts.{Counts as CountFields}
 use Rattle.tz_zone.specs.declared.parse.tz_file.time_size.TimeSize.{TimeSize}
 use Rattle.tz_zone.specs.declared.parse.tz_file.time_size.TimeSize.TheVariants.{Four, Eight}

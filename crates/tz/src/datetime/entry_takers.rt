@@ -1,9 +1,8 @@
 //! Takers of the entries that a search finds, which are instants that show a reading and jumps over it, and a list that takes them as date times.
 
-use super::{DateTime, FoundDateTimeKind};
+use super::FoundDateTimeKind;
 use std::alloc::AllocError;
 use tz_base::error::TzError;
-use tz_base::fields::Fields;
 use tz_zone::timezone::LocalTimeType;
 
 /// What takes the entries of a search, in order of time.
@@ -60,44 +59,4 @@ pub(crate) trait DateTimeList {
 
     /// One gain after another is a gain.
     ghost more: { (list middle grown : Self) (es fs : List FoundDateTimeKind) → gains list middle es → gains middle grown fs → gains list grown (es ++ fs) };
-}
-
-/// A list that takes the entries of fields as date times.
-#[derive(Drop)]
-pub(super) struct Dated<'l, L> {
-    pub(super) fields: &'l Fields,
-    pub(super) list: &'l mut L,
-}
-
-impl<'a, L: DateTimeList> EntryTaker<'a> for Dated<'_, L> {
-    ghost use Rattle.tz.specs.EntryDateTimes.{GainsDated, TakesEntries, IsDatedFault};
-
-    ghost gains = { GainsDated L.gains };
-
-    ghost takes = { TakesEntries };
-
-    ghost refuses = { IsDatedFault L.takes_memory };
-
-    #[inline(always)]
-    fn shown(&mut self, unix_time: i64, local_time_type: &'a LocalTimeType) -> Result<(), TzError> {
-        let date_time = DateTime::of_fields(self.fields, *local_time_type, unix_time);
-        self.list.push(FoundDateTimeKind::Normal(date_time))?;
-        Ok(())
-    }
-
-    #[inline(always)]
-    fn skipped(
-        &mut self,
-        unix_time: i64,
-        before: &'a LocalTimeType,
-        after: &'a LocalTimeType,
-    ) -> Result<(), TzError> {
-        let before_transition = DateTime::shown_by(unix_time, self.fields.nanoseconds, *before)?;
-        let after_transition = DateTime::shown_by(unix_time, self.fields.nanoseconds, *after)?;
-        self.list.push(FoundDateTimeKind::Skipped {
-            before_transition,
-            after_transition,
-        })?;
-        Ok(())
-    }
 }

@@ -2,6 +2,7 @@
 
 pub(crate) mod date_time;
 pub(crate) mod date_time_data;
+mod dated_entries;
 pub(crate) mod disambiguation;
 mod durations;
 pub(crate) mod entry_takers;

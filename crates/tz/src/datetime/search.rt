@@ -16,7 +16,8 @@ ghost use Rattle.tz.specs.Outcomes.{AreLooksOf};
 ghost use Rattle.tz.specs.Windows.{AtMostTakeEffectIn, IsSearchable, IsSmall, first_looks};
 ghost use Rattle.tz.specs.declared.datetime.found.FoundDateTimeKind.{FoundDateTimeKind};
 
-use super::entry_takers::{DateTimeList, Dated, EntryTaker};
+use super::dated_entries::Dated;
+use super::entry_takers::{DateTimeList, EntryTaker};
 use tz_base::error::TzError;
 use tz_base::fields::Fields;
 use tz_zone::inner::{
@@ -43,7 +44,8 @@ fn passes_over(reading: i64, unix_time: i64, before: &LocalTimeType, after: &Loc
     shown_at(reading, after) < unix_time && unix_time <= shown_at(reading, before)
 }
 
-/// Gives what a reading has in a span of time throughout which the clock has one type, or none, by the type before it.
+/// Gives what a reading has from `since` to `last`, throughout which the clock has one type or none: an instant that shows it, or else the jump at
+/// `since` from the type before.
 fn give<'a, E: EntryTaker<'a>>(
     entries: &mut E,
     reading: i64,
@@ -170,6 +172,7 @@ fn search_window<'a, E: EntryTaker<'a>, V: Transitions>(
 {
     match window_types(view, parts, low, high) {
         WindowTypes::One(local_time_type) => {
+            // Its offset is between the least and the greatest one, so it shows the reading within the window.
             entries.shown(shown_at(reading, local_time_type), local_time_type)
         }
         WindowTypes::Two {

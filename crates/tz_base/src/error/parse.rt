@@ -81,7 +81,7 @@ pub enum TzFileError {
     /// A daylight byte is neither 0 nor 1.
     #[error("invalid DST indicator")]
     InvalidDstIndicator,
-    /// A name is not in the name bytes.
+    /// The index of a name is past the name bytes, or no zero byte ends the name.
     #[error("invalid time zone designation char index")]
     InvalidTimeZoneDesignationCharIndex,
     /// Indicators of a type do not fit together.

@@ -11,7 +11,8 @@ use super::year_kinds::KINDS;
 use super::year_table::YearTable;
 use tz_base::constants::{SECONDS_PER_DAY, SECONDS_PER_NORMAL_YEAR};
 
-/// How many kinds there are of two years that follow one another.
+/// How many kinds there are of two years that follow one another: from 0 two normal years, from 7 a normal and a leap year, from 14 a leap and a
+/// normal year.
 const PAIR_KINDS: usize = 21;
 
 /// The kind of the first year of each pair kind.
@@ -120,6 +121,7 @@ impl YearTable {
     {
         let (first_start, last_start) = self.bounds();
         let (first_end, last_end) = ends.bounds();
+        // No start may come after the next year's end, and no end after the next year's start.
         if i64::from(last_start) > i64::from(first_end) + SECONDS_PER_NORMAL_YEAR {
             return None;
         }

@@ -44,7 +44,7 @@ pub(super) fn rule_year(unix_time: i64) -> Option<i32>
     Some(year)
 }
 
-/// The year of an instant in UTC, or the neighbour of that year whose end is less than two days away, moved by cycles of 400 years.
+/// The year of an instant in UTC, or a neighbour of it if the New Year between them is less than two days away, moved by cycles of 400 years.
 #[inline(always)]
 pub(super) fn likely_year(unix_time: i64) -> Option<u64>
     ensures year { IfSome result (λ moved_year. IsTriedYear (moved_back moved_year)) }

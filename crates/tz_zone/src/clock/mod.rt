@@ -1,5 +1,6 @@
 //! The clock of a zone: its type at an instant, its segments, and where it changes.
 
+mod after_table;
 mod change;
 mod following;
 mod likely_place;

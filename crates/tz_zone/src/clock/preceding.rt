@@ -1,6 +1,6 @@
 //! The last change of a zone's clock before an instant.
 //!
-//! After the last transition the rule has the changes. Up to it a walk goes back from place to place, as that to the next change goes on.
+//! After the last transition the rule has the changes. Up to it a walk goes back from place to place, as the one of `following.rt` goes forward.
 
 ghost use Rattle.std.specs.Prelude.{◌≡◌, ◌≢◌, ℕ, ◌<◌, ◌≤◌, ℤ, pos, negsuc, ◌+ℤ◌, ◌-ℤ◌, ◌≤ℤ◌, ◌<ℤ◌, [], length, Some, IfSome, MatchOption};
 ghost use Rattle.tz_rule.specs.LocalTimeType.{LocalTimeType};
@@ -145,8 +145,8 @@ fn run_start(transitions: &[Transition], parts: OtherParts<'_>, place: usize) ->
     (start, effect)
 }
 
-/// The change at the last transition before an instant, if the second before lies at a place, there are no leap seconds, that transition is from
-/// another type, and it is not the last one of all. Mostly it is so, and then nothing is walked.
+/// The change at the last transition before an instant, if the instant a second earlier lies at a place, there are no leap seconds, that transition
+/// is from another type, and it is not the last one of all. Mostly it is so, and then nothing is walked.
 #[inline(always)]
 fn change_at_last<'a>(
     transitions: &[Transition],
@@ -172,7 +172,7 @@ fn change_at_last<'a>(
     change_at(time, Some(before), Some(after))
 }
 
-/// The change at the transition before a place, if the one after the place takes effect at the instant. Then the second before lies there.
+/// The change at the transition before a place, if the one after the place takes effect at the instant. Then the instant a second earlier lies there.
 #[inline(always)]
 pub fn change_before_next<'a>(
     transitions: &[Transition],
@@ -229,7 +229,7 @@ fn preceding_from<'a>(
 
 /// The last change of the clock before an instant, and the place before it.
 ///
-/// A place at which the second before the instant is likely to lie is tried first: a wrong one costs time and no more.
+/// A place at which the instant a second earlier is likely to lie is tried first: a wrong one costs time and no more.
 #[inline(always)]
 pub fn find_preceding<'a>(
     transitions: &[Transition],

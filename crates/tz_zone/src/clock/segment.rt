@@ -9,7 +9,7 @@ ghost use Rattle.tz_zone.specs.TableChanges.{IsChangeByRule, IsTableStart, IsFar
 ghost use Rattle.tz_zone.specs.ValidZone.{AreLeapSeconds, IsSoundTable};
 ghost use Rattle.tz_zone.specs.ZoneSeen.{zone_seen};
 
-use super::lookup::after_table;
+use super::after_table::after_table;
 use super::place::place_at;
 use super::types_at_places::{before, type_of};
 use crate::leap::LeapSecond;

@@ -7,7 +7,7 @@ ghost use Rattle.tz_zone.specs.ValidZone.{IsSoundTable};
 ghost use Rattle.tz_zone.specs.WindowTypes.{IsPlaceOf};
 ghost use Rattle.tz_zone.specs.ZoneSeen.{zone_seen};
 
-use super::lookup::after_table;
+use super::after_table::after_table;
 use super::place::place_at;
 use super::types_at_places::{type_before, type_of};
 use crate::leap::from_leap_time::last_before;

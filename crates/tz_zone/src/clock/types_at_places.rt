@@ -6,7 +6,7 @@ ghost use Rattle.tz_zone.specs.ClockSegments.{IsBefore, IsReachedAt};
 ghost use Rattle.tz_zone.specs.ValidZone.{IsSoundTable};
 ghost use Rattle.tz_zone.specs.ZoneSeen.{zone_seen};
 
-use super::lookup::type_from_last;
+use super::after_table::type_from_last;
 use crate::table::{OtherParts, Transition, Transitions, Uncounted};
 use tz_rule::timezone::LocalTimeType;
 

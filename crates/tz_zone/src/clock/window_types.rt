@@ -7,7 +7,7 @@ ghost use Rattle.tz_zone.specs.ValidZone.{IsSoundTable};
 ghost use Rattle.tz_zone.specs.WindowTypes.{AreTypesIn, IfMore, IsPlaceOf};
 ghost use Rattle.tz_zone.specs.ZoneSeen.{zone_seen};
 
-use super::lookup::after_table;
+use super::after_table::after_table;
 use super::place::place_of;
 use super::types_at_places::{type_before, type_of};
 use crate::leap::from_leap_time::effect_of_reached;
@@ -29,7 +29,8 @@ pub enum WindowTypes<'a> {
         /// The type from there on.
         after: &'a LocalTimeType,
     },
-    /// Perhaps more, or none at some instant; with the place at which the first instant lies, if it has a leap time.
+    /// Perhaps more, or none at some instant; with the place at which the first instant lies, or `None` if there are transitions and it has no leap
+    /// time.
     More(Option<usize>),
 }
 

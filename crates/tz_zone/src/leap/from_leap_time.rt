@@ -14,8 +14,8 @@ use super::to_leap_time::{
 };
 use tz_base::error::TzError;
 
-/// The effect of a leap time that is not before a truncated start, in 128 bits: the leap time less the correction in force, but not before that
-/// correction is reached.
+/// The effect of a leap time that is not before a truncated start, in 128 bits: the leap time less the correction in force, but not before the
+/// first instant at which the leap second of that correction is reached. (`to_leap_time.rt`)
 fn wide_effect_from_start(leap_seconds: &[LeapSecond], unix_leap_time: i64) -> i128
     requires leaps { AreLeapSeconds leap_seconds.now }
     requires begun { HasBegunAt leap_seconds.now unix_leap_time }
@@ -27,11 +27,11 @@ fn wide_effect_from_start(leap_seconds: &[LeapSecond], unix_leap_time: i64) -> i
     }
     let last = &leap_seconds[count - 1];
     let unix_time = without_correction(unix_leap_time, last.correction());
-    let reached = without_correction(
+    let begins = without_correction(
         last.unix_leap_time(),
         correction_before(leap_seconds, count - 1),
     );
-    unix_time.max(reached)
+    unix_time.max(begins)
 }
 
 /// The effect of a leap time, in 128 bits. It may lie past 64 bits, or have no leap time; then the given leap time takes effect at no instant. Before

@@ -1,16 +1,16 @@
 //! Zones from the bytes of TZif files.
 
-ghost use Rattle.std.specs.Prelude.{◌≡◌, IfOk, IfErr, alloc_error, MatchBool, MatchResult};
-ghost use Rattle.tz_zone.specs.TzFile.{IsTzFile, MayHold};
+ghost use Rattle.std.specs.Prelude.{◌≡◌, IfOk, IfErr, alloc_error, MatchResult};
+ghost use Rattle.tz_zone.specs.TzFile.{IsTzFile};
 ghost use Rattle.tz_zone.specs.TzFileFault.{IsReadFault};
 ghost use Rattle.tz_zone.specs.ZoneRef.{own_zone_of};
 ghost use Rattle.tz_zone.specs.Table.{Zone};
 
-use super::{LeapSecond, TimeZone};
-use crate::leap::table::is_plain_table;
-use crate::parse::tz_file::footer::{is_extended, read_extra_rule};
+use super::TimeZone;
+use crate::parse::tz_file::footer::read_extra_rule;
+use crate::parse::tz_file::frame::read_frame;
 use crate::parse::tz_file::tables::read_tables;
-use crate::parse::tz_file::units::read_frame;
+use crate::parse::tz_file::version::{is_extended, may_hold};
 use std::alloc::Allocator;
 use tz_base::error::TzError;
 use tz_base::error::timezone::TimeZoneError;
@@ -45,13 +45,6 @@ impl<A: Allocator + Copy> TimeZone<A> {
     {
         parse_tz_file(alloc, bytes)
     }
-}
-
-/// Whether a block of this version may hold these leap seconds: before version 4 their table neither begins later nor expires.
-fn may_hold(version: u8, leap_seconds: &[LeapSecond]) -> bool
-    ensures { MatchBool result (MayHold version leap_seconds.now) (¬ MayHold version leap_seconds.now) }
-{
-    version == b'4' || is_plain_table(leap_seconds)
 }
 
 /// Reads a zone from the bytes of a file.

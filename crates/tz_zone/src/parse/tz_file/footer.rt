@@ -1,23 +1,14 @@
 //! The footer after the second block: a TZ string between two line feeds. (RFC 8536, section 3.3)
 
 ghost use Rattle.std.specs.Prelude.{◌≡◌, ◌≢◌, ◌-◌, [], Some, Contains, length, option_copied, slice_get, IfOk, IfErr, OnOk, MatchBool};
-ghost use Rattle.tz_zone.specs.TzFile.{is_extended, trimmed, IsBetweenLineFeeds, MayBeText, IsFooter, IsExtraRule};
+ghost use Rattle.tz_zone.specs.TzFile.{trimmed, IsBetweenLineFeeds, MayBeText, IsFooter, IsExtraRule};
 ghost use Rattle.tz_zone.specs.TzFileFault.{FooterFails, ExtraRuleFails};
-ghost use Rattle.tz_zone.specs.TzParts.{unit_view};
 
-use super::block::Unit;
 use crate::parse::tz_string::parse_posix_tz;
 use std::str;
 use tz_base::error::TzError;
 use tz_base::error::parse::TzFileError;
 use tz_rule::timezone::TransitionRule;
-
-/// Whether the version of a unit allows an extended TZ string after it. (RFC 8536, section 3.3.1)
-pub(crate) fn is_extended(unit: &Unit<'_>) -> bool
-    ensures { result ≡ is_extended (unit_view unit.now) }
-{
-    unit.version == b'3' || unit.version == b'4'
-}
 
 /// Whether the first and the last byte are line feeds.
 fn is_between_line_feeds(footer: &[u8]) -> bool

@@ -1,11 +1,12 @@
 //! The header before a block. (RFC 8536, section 3.1)
 
 ghost use Rattle.std.specs.Prelude.{◌≡◌, ◌≤◌, ◌<◌, ◌^◌, length, MatchBool, MatchResult, IfOk, OnOk, IfErr};
-ghost use Rattle.tz_zone.specs.TzFile.{header_len, AreCounts, counts_of, HasMagic, IsVersion, IsIndicatorCount, IsHeader};
+ghost use Rattle.tz_zone.specs.TzFile.{header_len, AreCounts, counts_of, HasMagic, IsIndicatorCount, IsHeader};
 ghost use Rattle.tz_zone.specs.TzFileFault.{HeaderFails};
 ghost use Rattle.tz_zone.specs.TzParts.{counts_view};
 
 use super::number::count_at;
+use super::version::is_version;
 use tz_base::error::parse::{ParseDataError, TzFileError};
 
 /// How many bytes a header has.
@@ -63,13 +64,6 @@ fn has_magic(bytes: &[u8]) -> bool
     ensures { MatchBool result (HasMagic bytes.now) (¬ HasMagic bytes.now) }
 {
     bytes.starts_with(b"TZif")
-}
-
-/// Whether the byte is that of a version that is read. The byte of version 1 is 0.
-fn is_version(byte: u8) -> bool
-    ensures { MatchBool result (IsVersion byte) (¬ IsVersion byte) }
-{
-    matches!(byte, 0 | b'2' | b'3' | b'4')
 }
 
 /// Reads the header at the front.

@@ -6,7 +6,7 @@ ghost use Rattle.tz_zone.specs.TzFile.{IsIndicatorPair, HasIndicators};
 ghost use Rattle.tz_zone.specs.TzFileFault.{IndicatorsFail};
 ghost use Rattle.tz_zone.specs.TzParts.{block_view};
 
-use super::block::Unit;
+use super::unit::Unit;
 use tz_base::error::parse::TzFileError;
 
 /// The indicator of a type, which is 0 where none is given.

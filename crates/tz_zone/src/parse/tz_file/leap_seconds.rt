@@ -4,8 +4,8 @@ ghost use Rattle.std.specs.Prelude.{◌≡◌, ◌<◌, IfOk};
 ghost use Rattle.tz_zone.specs.TzFile.{leap_at, leaps_of};
 ghost use Rattle.tz_zone.specs.TzParts.{width_of, block_view, IsSized};
 
-use super::block::Unit;
 use super::number::{signed_at, time_at};
+use super::unit::Unit;
 use crate::leap::LeapSecond;
 use std::alloc::{AllocError, Allocator};
 

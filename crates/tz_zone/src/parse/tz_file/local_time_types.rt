@@ -7,8 +7,8 @@ ghost use Rattle.tz_zone.specs.TzFile.{type_at, name_at as name_in, designation_
 ghost use Rattle.tz_zone.specs.TzFileFault.{TypeFails, SomeTypeFails};
 ghost use Rattle.tz_zone.specs.TzParts.{block_view, IsSized};
 
-use super::block::Unit;
 use super::number::signed_at;
+use super::unit::Unit;
 use std::alloc::Allocator;
 use tz_base::error::TzError;
 use tz_base::error::parse::TzFileError;

@@ -1,7 +1,7 @@
 //! TZif files. (RFC 8536)
 
-mod block;
 pub(crate) mod footer;
+pub(crate) mod frame;
 mod header;
 mod indicators;
 mod leap_seconds;
@@ -11,4 +11,5 @@ pub(crate) mod sizes;
 pub(crate) mod tables;
 mod time_size;
 mod transitions;
-pub(crate) mod units;
+mod unit;
+pub(crate) mod version;

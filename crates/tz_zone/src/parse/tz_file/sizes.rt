@@ -5,7 +5,7 @@ ghost use Rattle.tz_zone.specs.FileSizes.{AreSizesOf};
 ghost use Rattle.tz_zone.specs.TzFile.{IsFramed};
 ghost use Rattle.tz_zone.specs.TzFileFault.{FrameFails};
 
-use super::units::read_frame;
+use super::frame::read_frame;
 use tz_base::error::parse::TzFileError;
 
 /// How many entries each table of a file has, and how many bytes its footer, in C's layout.

@@ -6,11 +6,11 @@ ghost use Rattle.tz_zone.specs.TzFileFault.{ContentFails};
 ghost use Rattle.tz_zone.specs.TzParts.{block_view, unit_view, IsSized, HasTables};
 ghost use Rattle.tz_zone.specs.ValidZone.{HasTypeAtPlace, RisesAtPlace};
 
-use super::block::Unit;
 use super::indicators::check_indicators;
 use super::leap_seconds::read_leap_seconds;
 use super::local_time_types::read_types;
 use super::transitions::read_transitions;
+use super::unit::Unit;
 use crate::leap::LeapSecond;
 use crate::table::Transition;
 use std::alloc::{Allocator, Global};

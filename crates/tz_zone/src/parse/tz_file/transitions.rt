@@ -5,9 +5,9 @@ ghost use Rattle.tz_zone.specs.TzFile.{change_at, transitions_of};
 ghost use Rattle.tz_zone.specs.TzParts.{width_of, block_view, IsSized};
 ghost use Rattle.tz_zone.specs.ValidZone.{HasTypeAtPlace, RisesAtPlace};
 
-use super::block::Unit;
 use super::number::time_at;
 use super::time_size::TimeSize;
+use super::unit::Unit;
 use crate::table::Transition;
 use std::alloc::{AllocError, Allocator};
 

@@ -33,7 +33,7 @@ returns c =
     let time = c.unix_leap_time.ensures in
     let before = c.correction_before.ensures in
     let unix_time : to_z w128 (of_z w128 c.without_correction-unix_time.result) ≡ v -ℤ item.correction = omega (arith, ints, c.without_correction-unix_time.ensures) in
-    let reached : to_z w128 (of_z w128 c.without_correction-reached.result) ≡ item.unix_leap_time -ℤ correction_before leaps (k - 1) = omega (arith, ints, c.without_correction-reached.ensures) in
+    let reached : to_z w128 (of_z w128 c.without_correction-begins.result) ≡ item.unix_leap_time -ℤ correction_before leaps (k - 1) = omega (arith, ints, c.without_correction-begins.ensures) in
     let greater = rw (unix_time, reached) at c.max.ensures.value in
     let same : to_z w128 (of_z w128 c.max.result) ≡ int_max (v -ℤ item.correction) (item.unix_leap_time -ℤ correction_before leaps (k - 1)) = to_z-of_z w128 c.max.result (search rules) ∙ greater in
     rw same (IsWideEffect-from_count leaps c.requires.leaps v _ (suc (k - 1)) c.ranges.unix_leap_time c.requires.begun (rw last at times) (IsEffectByCount-greater leaps v (k - 1) item at))

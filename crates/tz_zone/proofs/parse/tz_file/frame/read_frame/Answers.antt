@@ -4,7 +4,7 @@ use Rattle.std.specs.Int.{w32, w64}
 use Rattle.std.specs.List.{slice_index}
 use Rattle.tz_zone.specs.TzFile.{Part, part_with, after}
 use Rattle.tz_zone.proofs.TzFrames.{part_of_first, footer_of_first, part_of_later, footer_of_later}
-use Rattle.tz_zone.proofs.parse.tz_file.units.read_frame.Goals as goal
+use Rattle.tz_zone.proofs.parse.tz_file.frame.read_frame.Goals as goal
 
 pub returns-then-first-eq0-clause-unit : goal.returns-then-first-eq0-clause-unit
 returns-then-first-eq0-clause-unit c =

@@ -9,7 +9,7 @@ use super::header::{Counts, HEADER_LEN, read_header};
 use super::time_size::TimeSize;
 use tz_base::error::parse::{ParseDataError, TzFileError};
 
-/// Where the parts of a block begin after their header, and where it ends.
+/// Places in a unit, from the first byte of its header: where each part of the block begins, and where the block ends.
 #[derive(Clone, Copy)]
 struct Layout {
     indexes: usize,

@@ -5,8 +5,8 @@ ghost use Rattle.tz_zone.specs.TzFile.{part_of, footer_of, IsFramed};
 ghost use Rattle.tz_zone.specs.TzFileFault.{FrameFails};
 ghost use Rattle.tz_zone.specs.TzParts.{unit_view, IsSized};
 
-use super::block::{Unit, read_unit};
 use super::time_size::TimeSize;
+use super::unit::{Unit, read_unit};
 use tz_base::error::parse::TzFileError;
 
 /// What is read of a file.
@@ -26,6 +26,7 @@ pub(crate) fn read_frame(bytes: &[u8]) -> Result<Frame<'_>, TzFileError>
     ensures err { IfErr result (FrameFails bytes.now) }
 {
     let first = read_unit(TimeSize::Four, bytes)?;
+    // Version 1, whose byte is 0.
     if first.version == 0 {
         if !first.after.is_empty() {
             return Err(TzFileError::RemainingDataV1);
