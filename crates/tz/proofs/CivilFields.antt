@@ -34,7 +34,6 @@ date_of_day day low =
     let n = day - 60 in
     let found : days_of_march_years (march_year (day - 60)) + march_day (day - 60) ≡ day - 60 =
     march_year_is (day - 60) (century (day - 60)) (day_of_century (day - 60)) (year_of_century (day - 60)) refl refl refl (year_of_century_bound (day - 60)) in
-    let last : march_day (day - 60) ≤ 365 = omega arith in
     elim (cases_lt (march_day (day - 60)) 306) [
       | inl early ↦ (
         pos (march_year (day - 60)) -ℤ pos 2147484000,
@@ -46,7 +45,7 @@ date_of_day day low =
         pos (march_year (day - 60) + 1) -ℤ pos 2147484000,
         march_month (march_day (day - 60)) - 12,
         march_month_day (march_day (day - 60)) + 1,
-        date_from_january (march_year (day - 60)) (march_day (day - 60)) day (pos (march_year (day - 60) + 1) -ℤ pos 2147484000) found low late last
+        date_from_january (march_year (day - 60)) (march_day (day - 60)) day (pos (march_year (day - 60) + 1) -ℤ pos 2147484000) found low late (omega arith)
             (last_day_is_leap (day - 60) (century (day - 60)) (day_of_century (day - 60)) (year_of_century (day - 60)) refl refl refl (year_of_century_bound (day - 60)))
             (omega (arith, ints)),
       )
@@ -75,16 +74,13 @@ civil_cycles_before x k n f civil =
     let same : (f.year -ℤ pos (400 * k)) +ℤ pos (400 * k) ≡ f.year = omega (arith, ints) in
     let leap : is_leap (f.year -ℤ pos (400 * k)) ≡ is_leap f.year = sym (is_leap-period (f.year -ℤ pos (400 * k)) k) ∙ ap is_leap same in
     let first : first_day f.year ≡ first_day (f.year -ℤ pos (400 * k)) +ℤ pos (146097 * k) = sym (ap first_day same) ∙ first_day-period (f.year -ℤ pos (400 * k)) k in
-    let months : months_length (is_leap (f.year -ℤ pos (400 * k))) (f.month - 1) ≡ months_length (is_leap f.year) (f.month - 1) = ap (λ b. months_length b (f.month - 1)) leap in
-    let here = day_number-is f.year f.month f.month_day in
-    let before = day_number-is (f.year -ℤ pos (400 * k)) f.month f.month_day in
     record {
       valid = record {
         in_range = record { month = r.month; month_day = r.month_day; hour = r.hour; minute = r.minute; second = r.second; nanoseconds = r.nanoseconds };
         in_month = subst (λ b. f.month_day ≤ month_length b f.month) (sym leap) civil.valid.in_month;
       };
       below_60 = civil.below_60;
-      reads = omega (arith, ints, civil.reads, here, before, first, months);
+      reads = omega (arith, ints, civil.reads, day_number-is f.year f.month f.month_day, day_number-is (f.year -ℤ pos (400 * k)) f.month f.month_day, first, (ap (λ b. months_length b (f.month - 1)) leap));
       nanoseconds_are = civil.nanoseconds_are;
     }
 

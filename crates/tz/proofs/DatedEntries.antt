@@ -67,11 +67,9 @@ module _ (clock : Clock) (f : Fields) where
   -- and the other way round, at the same instant
   found_by : (e : Entry) (d : FoundDateTimeKind) → IsEntryIn clock (reading f) e → IsDateTimeOf f e d → IsFoundBy clock f d × (instant_of d ≡ entry_instant e)
   found_by (Shown u t) d shows is =
-      let normal : IsFoundBy clock f (Normal (moment_of f t u)) × (u ≡ u) = ((refl, shows), refl) in
-      subst (λ (x : FoundDateTimeKind). IsFoundBy clock f x × (instant_of x ≡ u)) (sym is) normal
+      subst (λ (x : FoundDateTimeKind). IsFoundBy clock f x × (instant_of x ≡ u)) (sym is) ((refl, shows), refl)
   found_by (Jump u a b) d passes (x, y, is, shows_x, shows_y) =
-      let skipped : IsFoundBy clock f (Skipped x y) × (x.unix_time ≡ u) = ((u, a, b, passes, shows_x, shows_y), shows_x.instant_is) in
-      subst (λ (z : FoundDateTimeKind). IsFoundBy clock f z × (instant_of z ≡ u)) (sym is) skipped
+      subst (λ (z : FoundDateTimeKind). IsFoundBy clock f z × (instant_of z ≡ u)) (sym is) ((u, a, b, passes, shows_x, shows_y), shows_x.instant_is)
 
   module _ (es : List Entry) (found : List FoundDateTimeKind) (are : AreEntries clock (reading f) es) (made : AllZip (IsMadeOf f) es found) where
     pub as_long : length found ≡ length es
@@ -89,9 +87,7 @@ module _ (clock : Clock) (f : Fields) where
     found_from_entries = record {
       sound = λ k d within. (at k d within).0;
       in_order = λ i j d less within.
-          let first = (at i d (omega (arith, less, within))).1 in
-          let second = (at j d within).1 in
-          omega (arith, ints, first, second, are.in_order i j (no_entry d) less (omega (arith, within, as_long)));
+          omega (arith, ints, (at i d (omega (arith, less, within))).1, (at j d within).1, are.in_order i j (no_entry d) less (omega (arith, within, as_long)));
       complete = λ d by.
           let (e, is, of) = entry_of d by in
           let (k, within, same) = are.complete e is in

@@ -56,8 +56,7 @@ module _ (r : ℤ) (before : Option LocalTimeType) (since : ℤ) (type : Option 
   -- it is one entry at most
   entry_unique : (e g : Entry) → IsEntryOf r before since type last e → IsEntryOf r before since type last g → e ≡ g
   entry_unique (Shown u t) (Shown v s) (is, within, shown) (is', within', shown') =
-      let at : u ≡ v = omega (arith, ints, same_offset type t s is is', shown, shown') in
-      ap (λ w. Shown w t) at ∙ ap (λ x. Shown v x) (same_Some t s (sym is ∙ is'))
+      ap (λ w. Shown w t) (omega (arith, ints, same_offset type t s is is', shown, shown')) ∙ ap (λ x. Shown v x) (same_Some t s (sym is ∙ is'))
   entry_unique (Shown u t) (Jump v a b) (is, within, shown) (at, was, is', (low, high)) = absurd (omega (arith, ints, same_offset type t b is is', shown, within.0, at, high))
   entry_unique (Jump v a b) (Shown u t) (at, was, is', (low, high)) (is, within, shown) = absurd (omega (arith, ints, same_offset type t b is is', shown, within.0, at, high))
   entry_unique (Jump u a b) (Jump v a' b') (at, was, is, (low, high)) (at', was', is', (low', high')) =
@@ -68,9 +67,7 @@ module _ (clock : Clock) (low high r : ℤ) (offsets : AreOffsetsAround clock lo
   in_window : (e : Entry) → IsEntryIn clock r e → (low ≤ℤ instant_of e) × (instant_of e ≤ℤ high)
   in_window (Shown u t) shows = let offset = offsets u t shows.0 in (omega (arith, ints, shows.1, offset.1), omega (arith, ints, shows.1, offset.0))
   in_window (Jump u a b) passes =
-      let first = offsets (u -ℤ pos 1) a passes.0 in
-      let second = offsets u b passes.1 in
-      (omega (arith, ints, passes.2.1, second.1), omega (arith, ints, passes.2.0, first.0))
+      (omega (arith, ints, passes.2.1, (offsets u b passes.1).1), omega (arith, ints, passes.2.0, (offsets (u -ℤ pos 1) a passes.0).0))
 
   jump_in_window : (u : ℤ) (a b : LocalTimeType) → PassesOver clock r u a b → low <ℤ u
   jump_in_window u a b passes = omega (arith, ints, passes.2.1, (offsets u b passes.1).1)
@@ -95,9 +92,8 @@ module _ (clock : Clock) (low high r : ℤ) (offsets : AreOffsetsAround clock lo
   pub few_entries : (es : List Entry) → (high -ℤ low) ≤ℤ pos 4294967296 → AreEntries clock r es → length es ≤ 8589934592
   few_entries [] width are = omega arith
   few_entries (first ∷ rest) width are =
-      let last = rising (length rest) (omega arith) in
       let until = in_window (get_or (first ∷ rest) (length rest) first) (are.sound (length rest) first (omega arith)) in
-      omega (arith, ints, last, until.1, width)
+      omega (arith, ints, rising (length rest) (omega arith), until.1, width)
     where
       rising : (i : ℕ) → i < length (first ∷ rest) → (low +ℤ pos i) ≤ℤ instant_of (get_or (first ∷ rest) i first)
       rising zero h = omega (arith, ints, (in_window first (are.sound 0 first h)).0)
@@ -112,12 +108,10 @@ module _ (clock : Clock) (low high r : ℤ) (offsets : AreOffsetsAround clock lo
     entry_in (Jump u a b) (at, was, is, over) =
         let from : since ≤ℤ u = omega (arith, ints, at) in
         let to : u ≤ℤ last = omega (arith, ints, at, some) in
-        let after = (holds u from to b).1 is in
         elim just [
           | inl begins ↦ absurd (none-some a (sym begins.1 ∙ was))
           | inr goes_on ↦
-              let here : since -ℤ pos 1 ≡ u -ℤ pos 1 = omega (arith, ints, at) in
-              ((subst (λ v. clock v a) here ((goes_on a).1 was), after, over), from, to)
+              ((subst (λ v. clock v a) (omega (arith, ints, at)) ((goes_on a).1 was), (holds u from to b).1 is, over), from, to)
         ]
 
     -- and the other way round
@@ -127,15 +121,13 @@ module _ (clock : Clock) (low high r : ℤ) (offsets : AreOffsetsAround clock lo
         let is = (holds u from to b).0 passes.1 in
         by_lt_z since u
         (λ later.
-        let was = (holds (u -ℤ pos 1) (omega (arith, ints, later)) (omega (arith, ints, to)) a).0 passes.0 in
-        absurd (omega (arith, ints, passes.2.0, passes.2.1, same_offset type a b was is)))
+        absurd (omega (arith, ints, passes.2.0, passes.2.1, same_offset type a b ((holds (u -ℤ pos 1) (omega (arith, ints, later)) (omega (arith, ints, to)) a).0 passes.0) is)))
         (λ not_later.
         let at : u ≡ since = omega (arith, ints, not_later, from) in
         elim just [
           | inl begins ↦ absurd (omega (arith, ints, begins.0, at, jump_in_window u a b passes))
           | inr goes_on ↦
-              let here : u -ℤ pos 1 ≡ since -ℤ pos 1 = omega (arith, ints, at) in
-              (at, (goes_on a).0 (subst (λ v. clock v a) here passes.0), is, passes.2)
+              (at, (goes_on a).0 (subst (λ v. clock v a) (omega (arith, ints, at)) passes.0), is, passes.2)
         ])
 
     -- all entries before the span, and its own entry, are all before its end

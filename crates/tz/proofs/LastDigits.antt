@@ -23,6 +23,4 @@ pub last_digits_value : (width n : ℕ) → n < 10 ^ width → digits_value 10 (
 last_digits_value zero n few = omega (arith, few)
 last_digits_value (suc width) n few =
     let more = last_digits_value width (n / 10) (omega (arith, few, pow-suc 10 width)) in
-    let push = digits_value_push 10 (last_digits width (n / 10)) (48 + n % 10) in
-    let digit = (is_digit (48 + n % 10) (omega arith) (omega arith)).1 in
-    omega (arith, push, more, digit)
+    omega (arith, digits_value_push 10 (last_digits width (n / 10)) (48 + n % 10), more, (is_digit (48 + n % 10) (omega arith) (omega arith)).1)

@@ -25,16 +25,14 @@ module _ (clock : Clock) (r low high : ℤ) (has : (u : ℤ) → low ≤ℤ u �
   met_from : (n : ℕ) (u : ℤ) (t : LocalTimeType) → (u +ℤ pos n) ≡ high → low ≤ℤ u → clock u t → (u +ℤ t.ut_offset) ≤ℤ r → IsMet clock r
   met_from zero u t end from holds below =
       let same : u ≡ high = omega (arith, ints, end) in
-      let above = at_end t (subst (λ v. clock v t) same holds) in
-      inl (u, t, (holds, omega (arith, ints, below, above, same)))
+      inl (u, t, (holds, omega (arith, ints, below, at_end t (subst (λ v. clock v t) same holds), same)))
   met_from (suc n) u t end from holds below =
       by_lt_z (u +ℤ t.ut_offset) r
       (λ before.
       let next = has (u +ℤ pos 1) (omega (arith, ints, from)) (omega (arith, ints, end)) in
       by_lt_z r (u +ℤ pos 1 +ℤ next.0.ut_offset)
       (λ over.
-      let same : u ≡ (u +ℤ pos 1) -ℤ pos 1 = omega (arith, ints) in
-      inr (u +ℤ pos 1, t, next.0, (subst (λ v. clock v t) same holds, next.1, (omega (arith, ints, before), over))))
+      inr (u +ℤ pos 1, t, next.0, (subst (λ v. clock v t) (omega (arith, ints)) holds, next.1, (omega (arith, ints, before), over))))
       (λ not_over. met_from n (u +ℤ pos 1) next.0 (omega (arith, ints, end)) (omega (arith, ints, from)) next.1 not_over))
       (λ reached. inl (u, t, (holds, omega (arith, ints, below, reached))))
 
@@ -59,5 +57,4 @@ none_lost z f low high found valid window has is none =
     let gap = some_between low high order in
     let met = met_from (IsClock z) (reading f) low high has (λ t clock. omega (arith, ints, (between high t clock).0)) gap.0 low first.0 gap.1 (omega (arith, ints)) first.1 (omega (arith, ints, (between low first.0 first.1).1)) in
     let entry = entry_of (IsClock z) f valid met in
-    let within = subst (λ es. Contains es entry.0) none (is.complete entry.0 entry.1) in
-    omega (arith, within.1)
+    omega (arith, (subst (λ es. Contains es entry.0) none (is.complete entry.0 entry.1)).1)

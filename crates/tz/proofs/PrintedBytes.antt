@@ -3,11 +3,10 @@ use Rattle.std.proofs.Common.{◌≡◌, ℕ, zero, suc, ◌+◌, ◌-◌, ◌*�
 use Rattle.std.specs.Fmt.{decimal, signed_decimal}
 use Rattle.std.proofs.Math.ListN.{drop_of_length-le}
 use Rattle.tz_base.specs.declared.fields.Fields.{Fields}
-use Rattle.tz.proofs.PrintedDigits.{decimal-pairs, decimal-two_digits, nine_digits-pairs, duration_text-short}
+use Rattle.tz.proofs.PrintedDigits.{decimal-pairs, decimal-two_digits, nine_digits-pairs, duration_text-short, two_digits-below}
 use Rattle.tz.proofs.ReadBack.{after_second, after_minute, after_hour, after_date, after_month, after_year, in_parts}
 use Rattle.tz.specs.PrintedText.{two_digits, nine_digits, duration_text, offset_text, printed_text}
 use Rattle.tz.specs.PrintedBytes.{IsDigitByte}
-use Rattle.tz.proofs.TextFronts.{two_digits_are}
 
 pub byte_at : (text : List ℕ) (place : ℕ) → place < length text → drop place text ≡ get_or text place 0 ∷ drop (place + 1) text
 byte_at [] place within = absurd (omega (arith, within))
@@ -26,7 +25,7 @@ pair_at_place text place number within tens ones is =
       few,
       byte_at text place (omega (arith, within))
           ∙ ap (λ rest. get_or text place 0 ∷ rest) (byte_at text (place + 1) (omega (arith, within)))
-          ∙ rw (first, second, next, two_digits_are number few) refl,
+          ∙ rw (first, second, next, two_digits-below number few) refl,
     )
 
 -- hours and minutes at the end
@@ -34,17 +33,12 @@ hours_and_minutes : (text : List ℕ) (h m : ℕ) → length text ≡ 35 → h <
     → drop 33 text ≡ two_digits m ++ drop 35 text → drop 30 text ≡ duration_text (3600 * h + 60 * m)
 hours_and_minutes text h m long few few' hours colon minutes =
     let s = 3600 * h + 60 * m in
-    let hours_are : h ≡ s / 3600 = omega arith in
-    let minutes_are : m ≡ s / 60 % 60 = omega arith in
-    let below : s / 3600 < 100 = omega arith in
-    let none : s % 60 ≡ 0 = omega arith in
-    let end : drop 35 text ≡ [] = drop_of_length-le text {i = 35} (omega (arith, long)) in
     hours
     ∙ ap (λ rest. two_digits h ++ rest) (byte_at text 32 (omega (arith, long)) ∙ ap (λ b. b ∷ drop 33 text) colon
-    ∙ ap (λ rest. 58 ∷ rest) (minutes ∙ ap (λ rest. two_digits m ++ rest) end ∙ append-nil (two_digits m)))
-    ∙ ap (λ n. two_digits n ++ 58 ∷ two_digits m) hours_are
-    ∙ ap (λ n. two_digits (s / 3600) ++ 58 ∷ two_digits n) minutes_are
-    ∙ sym (duration_text-short s below none)
+    ∙ ap (λ rest. 58 ∷ rest) (minutes ∙ ap (λ rest. two_digits m ++ rest) (drop_of_length-le text {i = 35} (omega (arith, long))) ∙ append-nil (two_digits m)))
+    ∙ ap (λ n. two_digits n ++ 58 ∷ two_digits m) (omega arith)
+    ∙ ap (λ n. two_digits (s / 3600) ++ 58 ∷ two_digits n) (omega arith)
+    ∙ sym (duration_text-short s (omega arith) (omega arith))
 
 positive_text : (s : ℕ) → 0 < s → offset_text (pos s) ≡ 43 ∷ duration_text s
 unfolding offset_text
@@ -134,8 +128,7 @@ year_at text p q y some few few' first second is =
 -- a byte that is in a range of one
 pub only_byte : (text : List ℕ) (place b : ℕ) → place < length text → (b ≤ get_or text place 0) × (get_or text place 0 ≤ b) → drop place text ≡ b ∷ drop (place + 1) text
 only_byte text place b within is =
-    let same : get_or text place 0 ≡ b = omega (arith, is) in
-    byte_at text place within ∙ ap (λ c. c ∷ drop (place + 1) text) same
+    byte_at text place within ∙ ap (λ c. c ∷ drop (place + 1) text) (omega (arith, is))
 
 pub digit_byte : (b low high : ℕ) → 48 ≤ low → high ≤ 57 → (low ≤ b) × (b ≤ high) → IsDigitByte b
 digit_byte b low high from to is = (omega (arith, from, is), omega (arith, to, is))

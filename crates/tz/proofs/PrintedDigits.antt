@@ -128,7 +128,7 @@ decimal-four n from below =
     ∙ rw (decimal-two_digits (n / 100) (omega arith) (omega arith), two_digits-below (n / 100) (omega arith), two_digits-below (n % 100) (omega arith)) refl
 
 -- a duration of fewer than 100 hours that has no seconds over
-two_digits_or_more-below : (n : ℕ) → n < 100 → two_digits_or_more n ≡ two_digits n
+pub two_digits_or_more-below : (n : ℕ) → n < 100 → two_digits_or_more n ≡ two_digits n
 unfolding two_digits_or_more
 two_digits_or_more-below n below = grind (arith, nat_tests)
 

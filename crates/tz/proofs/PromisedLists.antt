@@ -22,36 +22,31 @@ use Rattle.tz.specs.Found.{Clock, EachCanBeMade}
 use Rattle.tz.specs.Reached.{AreOffsetsOf}
 use Rattle.tz.specs.declared.datetime.found.FoundDateTimeKind.TheVariants.{Normal, Skipped}
 use Rattle.tz.specs.FindFaults.{IsFindFault, IsFarFromEnds, IsInsideEnds, HasRuleOffsets, HasPlainOffsets, IsPromised}
+use Rattle.tz_rule.proofs.UtcYears.{year_fits}
 use Rattle.tz.proofs.ClockTypes.{fixed_type, alternate_type, offsets_from_types}
 use Rattle.tz.proofs.ReadingWindows.{clock_between}
-
-year_fits : (y : ℤ) → negsuc 2147483647 ≤ℤ y → y ≤ℤ pos 2147483647 → SFits w32 y
-year_fits (pos n) low high = record { sfits = omega (arith, ints) }
-year_fits (negsuc n) low high = record { sfits = omega (arith, ints) }
 
 -- far from the ends all that is less than 2^32 seconds, which are 136.1 years, from a reading is in years of 32 bits
 far_from_ends : (f : Fields) → IsValid f → IsFarFromEnds f.year → (x : ℤ) → (reading f -ℤ pos 4294967296) <ℤ x → x <ℤ (reading f +ℤ pos 4294967296) → IsReading x
 far_from_ends f valid far x from until =
-    let before = first_day-mono (f.year -ℤ pos 200) f.year (omega (arith, ints)) in
     let after = first_day-mono (f.year +ℤ pos 1) (f.year +ℤ pos 199 +ℤ pos 1) (omega (arith, ints)) in
     let first = first_day_bounds (f.year -ℤ pos 200) (year_fits (f.year -ℤ pos 200) (omega (arith, ints, far.0)) (omega (arith, ints, far.1))) in
     let last = first_day_bounds (f.year +ℤ pos 199) (year_fits (f.year +ℤ pos 199) (omega (arith, ints, far.0)) (omega (arith, ints, far.1))) in
     let r = valid.in_range in
     let in_year = day_in_year f.year f.month f.month_day r.month.0 r.month.1 r.month_day.0 valid.in_month in
     let time = 3600 * f.hour + 60 * f.minute + f.second in
-    (omega (arith, ints, from, before, first.0, in_year), omega (arith, ints, until, after, last.1, in_year, r.hour, r.minute, r.second))
+    (omega (arith, ints, from, first_day-mono (f.year -ℤ pos 200) f.year (omega (arith, ints)), first.0, in_year), omega (arith, ints, until, after, last.1, in_year, r.hour, r.minute, r.second))
 
 -- up to near the ends all within three days of one does
 inside_ends : (f : Fields) → IsValid f → IsInsideEnds f.year → (x : ℤ) → (reading f -ℤ pos 259200) ≤ℤ x → x ≤ℤ (reading f +ℤ pos 259200) → IsReading x
 inside_ends f valid inside x from until =
-    let before = first_day-mono (f.year -ℤ pos 2) f.year (omega (arith, ints)) in
     let after = first_day-mono (f.year +ℤ pos 1) (f.year +ℤ pos 2 +ℤ pos 1) (omega (arith, ints)) in
     let first = first_day_bounds (f.year -ℤ pos 2) (year_fits (f.year -ℤ pos 2) (omega (arith, ints, inside.0)) (omega (arith, ints, inside.1))) in
     let last = first_day_bounds (f.year +ℤ pos 2) (year_fits (f.year +ℤ pos 2) (omega (arith, ints, inside.0)) (omega (arith, ints, inside.1))) in
     let r = valid.in_range in
     let in_year = day_in_year f.year f.month f.month_day r.month.0 r.month.1 r.month_day.0 valid.in_month in
     let time = 3600 * f.hour + 60 * f.minute + f.second in
-    (omega (arith, ints, from, before, first.0, in_year), omega (arith, ints, until, after, last.1, in_year, r.hour, r.minute, r.second))
+    (omega (arith, ints, from, first_day-mono (f.year -ℤ pos 2) f.year (omega (arith, ints)), first.0, in_year), omega (arith, ints, until, after, last.1, in_year, r.hour, r.minute, r.second))
 
 -- the offsets that the clock of such a zone has are above -25 and below 26 hours
 plain_offsets : (z : Zone) → HasPlainOffsets z → AreOffsetsOf z (negsuc 89998) (pos 93599)

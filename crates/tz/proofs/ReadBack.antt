@@ -18,7 +18,7 @@ use Rattle.tz.specs.PrintedText.{last_digits, two_digits, nine_digits, two_digit
 use Rattle.tz.specs.DateTimeText.{EndsDigits, IsDigits, IsFraction, IsHours, IsPair, IsSecond, IsSeconds, IsYear, date, time, duration, offset, IsDateTimeText}
 use Rattle.tz.specs.declared.parse.offset.OffsetMark.TheVariants.{Utc, Ahead, Behind}
 use Rattle.tz.proofs.LastDigits.{last_digits_all, last_digits_length, last_digits_value}
-use Rattle.tz.proofs.PrintedDigits.{decimal-pairs, length-two_digits}
+use Rattle.tz.proofs.PrintedDigits.{decimal-pairs, length-two_digits, two_digits_or_more-below}
 
 -- no byte between numbers is a digit
 hyphen_ends : (rest : List ℕ) → EndsDigits (45 ∷ rest)
@@ -44,8 +44,7 @@ printed_year (negsuc n) rest fits ends =
 -- nine digits count nanoseconds
 whole : (n value long : ℕ) → value ≡ n → long ≡ 9 → n ≡ value * 10 ^ (9 - long)
 whole n value long is nine =
-    let one : n ≡ n * 10 ^ (9 - 9) = omega arith in
-    one ∙ ap (λ k. n * 10 ^ (9 - k)) (sym nine) ∙ ap (λ m. m * 10 ^ (9 - long)) (sym is)
+    (omega arith) ∙ ap (λ k. n * 10 ^ (9 - k)) (sym nine) ∙ ap (λ m. m * 10 ^ (9 - long)) (sym is)
 
 -- nine digits after a point
 printed_fraction : (n : ℕ) (rest : List ℕ) → n < 1000000000 → EndsDigits rest → IsFraction (46 ∷ (nine_digits n ++ rest)) n rest
@@ -53,13 +52,8 @@ unfolding nine_digits
 printed_fraction n rest few ends =
     let digits = last_digits 9 n in
     let long : length digits ≡ 9 = last_digits_length 9 n in
-    let value : digits_value 10 digits ≡ n = last_digits_value 9 n (omega (arith, few)) in
-    let scaled : n ≡ digits_value 10 digits * 10 ^ (9 - length digits) = whole n (digits_value 10 digits) (length digits) value long in
+    let scaled : n ≡ digits_value 10 digits * 10 ^ (9 - length digits) = whole n (digits_value 10 digits) (length digits) (last_digits_value 9 n (omega (arith, few))) long in
     inr (digits ++ rest, digits, refl, record { whole = refl; all_digits = last_digits_all 9 n; ends = ends }, omega (arith, long), omega (arith, long), scaled)
-
-two_digits_or_more-below : (n : ℕ) → n < 100 → two_digits_or_more n ≡ two_digits n
-unfolding two_digits_or_more
-two_digits_or_more-below n below = grind (arith, nat_tests)
 
 two_digits_or_more-above : (n : ℕ) → 100 ≤ n → two_digits_or_more n ≡ decimal n
 unfolding two_digits_or_more

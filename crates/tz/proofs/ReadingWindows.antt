@@ -108,11 +108,8 @@ as_many_as_passed z low high w most first place order effects =
     let size = length-range_with_len first count in
     let bound = most (range_with_len first count)
     (λ i j d less inside.
-    let i_is = get_or-range_with_len first count i d (omega (arith, less, inside, size)) in
-    let j_is = get_or-range_with_len first count j d (omega (arith, inside, size)) in
-    omega (arith, i_is, j_is, less))
+    omega (arith, (get_or-range_with_len first count i d (omega (arith, less, inside, size))), (get_or-range_with_len first count j d (omega (arith, inside, size))), less))
     (λ k d inside.
     let within : k < count = omega (arith, inside, size) in
-    let is = get_or-range_with_len first count k d within in
-    subst (TakesEffectIn z low high) (sym is) (effects (first + k) (omega arith) (omega (arith, within, order)))) in
+    subst (TakesEffectIn z low high) (sym (get_or-range_with_len first count k d within)) (effects (first + k) (omega arith) (omega (arith, within, order)))) in
     omega (arith, bound, size, order)

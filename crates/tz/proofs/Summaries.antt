@@ -1,6 +1,6 @@
 -- What is kept of a list when it grows by one entry, and what is meant by one.
 use Rattle.std.proofs.Common.{◌≡◌, ◌∙◌, refl, ap, subst, arith, ℤ, List, [], ◌∷◌, ◌++◌, Some, length, length-append}
-use Rattle.std.specs.Prelude.{◌-◌, slice_get}
+use Rattle.std.specs.Prelude.{slice_get}
 use Rattle.std.specs.Option.{option_or}
 use Rattle.tz_base.specs.declared.error.tz_error.TzError.{TzError}
 use Rattle.tz_base.specs.declared.fields.Fields.{Fields}
@@ -24,8 +24,7 @@ behind (first ∷ before) e = behind before e
 pub last_of_grown : (before : List FoundDateTimeKind) (e : FoundDateTimeKind) → last_entry (before ++ e ∷ []) ≡ Some e
 last_of_grown before e =
     let size = length-append before (e ∷ []) in
-    let place : length (before ++ e ∷ []) - 1 ≡ length before = omega arith in
-    ap (λ i. slice_get (before ++ e ∷ []) i) place ∙ behind before e
+    ap (λ i. slice_get (before ++ e ∷ []) i) (omega arith) ∙ behind before e
 
 pub shown_of_grown : (before : List FoundDateTimeKind) (e : FoundDateTimeKind) → first_shown (before ++ e ∷ []) ≡ option_or (first_shown before) (shown_entry_of e)
 shown_of_grown [] (Normal d) = refl

@@ -15,28 +15,23 @@ use Rattle.std.specs.Str.Parse.{AllDigits, digits_value}
 use Rattle.tz.specs.DateTimeText.{AreYearDigits, EndsDigits, IsDigits, IsFraction, IsPair, IsYear}
 use Rattle.tz_zone.specs.TzText.{Begins}
 use Rattle.tz.specs.PrintedText.{two_digits}
+use Rattle.tz.proofs.PrintedDigits.{two_digits-below}
 
-digits_front_unique : (digits digits' rest rest' : List ℕ) → AllDigits 10 digits → AllDigits 10 digits' → EndsDigits rest → EndsDigits rest' → digits ++ rest ≡ digits' ++ rest' → (digits ≡ digits') × (rest ≡ rest')
+pub digits_front_unique : (digits digits' rest rest' : List ℕ) → AllDigits 10 digits → AllDigits 10 digits' → EndsDigits rest → EndsDigits rest' → digits ++ rest ≡ digits' ++ rest' → (digits ≡ digits') × (rest ≡ rest')
 digits_front_unique [] [] rest rest' all all' ends ends' same = (refl, same)
 digits_front_unique [] (d ∷ digits') rest rest' all all' ends ends' same = absurd (subst EndsDigits same ends all'.0)
 digits_front_unique (d ∷ digits) [] rest rest' all all' ends ends' same = absurd (subst EndsDigits (sym same) ends' all.0)
 digits_front_unique (d ∷ digits) (d' ∷ digits') rest rest' all all' ends ends' same =
-    let rest_same : digits ++ rest ≡ digits' ++ rest' = cc in
     let first_same : d ≡ d' = cc in
-    let (more, after) = digits_front_unique digits digits' rest rest' all.1 all'.1 ends ends' rest_same in
+    let (more, after) = digits_front_unique digits digits' rest rest' all.1 all'.1 ends ends' cc in
     (cc, after)
 
 pub digits_unique : {text digits digits' rest rest' : List ℕ} → IsDigits text digits rest → IsDigits text digits' rest' → (digits ≡ digits') × (rest ≡ rest')
 digits_unique {digits = digits} {digits' = digits'} {rest = rest} {rest' = rest'} front front' =
     digits_front_unique digits digits' rest rest' front.all_digits front'.all_digits front.ends front'.ends (sym front.whole ∙ front'.whole)
 
--- two digits are their tens and their ones
-pub two_digits_are : (n : ℕ) → n < 100 → two_digits n ≡ (48 + n / 10) ∷ (48 + n % 10) ∷ []
-unfolding two_digits
-two_digits_are n below = let tens : n / 10 % 10 ≡ n / 10 = omega arith in rw tens refl
-
 pair_bytes : (text rest : List ℕ) (n : ℕ) → n < 100 → text ≡ two_digits n ++ rest → text ≡ (48 + n / 10) ∷ (48 + n % 10) ∷ rest
-pair_bytes text rest n below is = is ∙ ap (λ ds. ds ++ rest) (two_digits_are n below)
+pair_bytes text rest n below is = is ∙ ap (λ ds. ds ++ rest) (two_digits-below n below)
 
 pub pair_unique : {least greatest least' greatest' : ℕ} {text : List ℕ} {n n' : ℕ} (rest rest' : List ℕ) → IsPair least greatest text n rest → IsPair least' greatest' text n' rest' → (n ≡ n') × (rest ≡ rest')
 pair_unique {text = text} {n} {n'} rest rest' is is' =
@@ -60,7 +55,7 @@ pair_of_bytes text tens ones long few few' first second =
     let ones_are : ones ≡ (10 * tens + ones) % 10 = omega arith in
     let all = take_all (length text - 2) (drop 2 text) (omega (arith, length-drop 2 text)) in
     bytes_are text long
-    ∙ rw (all, two_digits_are (10 * tens + ones) (omega arith), first ∙ ap (λ d. 48 + d) tens_are, second ∙ ap (λ d. 48 + d) ones_are) refl
+    ∙ rw (all, two_digits-below (10 * tens + ones) (omega arith), first ∙ ap (λ d. 48 + d) tens_are, second ∙ ap (λ d. 48 + d) ones_are) refl
 
 -- the bytes of a number of two digits
 pub bytes_of_pair : {least greatest : ℕ} {text : List ℕ} {n : ℕ} (rest : List ℕ) → IsPair least greatest text n rest → (2 ≤ length text) × (get_or text 0 0 ≡ 48 + n / 10) × (get_or text 1 0 ≡ 48 + n % 10)
@@ -92,11 +87,8 @@ pub no_printed_digits : (digits : List ℕ) → AllDigits 10 digits → length d
 no_printed_digits digits all few zeros some (inl many) = omega (arith, few, many)
 no_printed_digits [] all few zeros some (inr is) = omega (arith, some)
 no_printed_digits (d ∷ digits) all few zeros some (inr is) =
-    let value : digits_value 10 (d ∷ digits) ≡ digits_value 10 digits = ap (λ b. digits_value 10 (b ∷ digits)) zeros in
-    let short = digits_value-lt 10 digits all.1 in
-    let few' = digits_value_short own digits 3 all.1 (omega (arith, few)) in
-    let long = length-decimal-le (length digits) (digits_value 10 digits) (omega (arith, some)) short (omega (arith, few')) in
-    omega (arith, long, ap length is ∙ ap (λ n. length (decimal n)) value)
+    let long = length-decimal-le (length digits) (digits_value 10 digits) (omega (arith, some)) (digits_value-lt 10 digits all.1) (omega (arith, digits_value_short own digits 3 all.1 (omega (arith, few)))) in
+    omega (arith, long, ap length is ∙ ap (λ n. length (decimal n)) (ap (λ b. digits_value 10 (b ∷ digits)) zeros))
 
 pub no_year_without_digits : ¬ AreYearDigits []
 no_year_without_digits (inl many) = omega (arith, many)
@@ -128,8 +120,7 @@ no_year_without_minus text plain none y rest (digits, are, fits, inr (unsigned, 
 pub no_fraction : (text after digits rest : List ℕ) → text ≡ 46 ∷ after → IsDigits after digits rest → ¬ ((1 ≤ length digits) × (length digits ≤ 9)) → (n : ℕ) (rest' : List ℕ) → ¬ IsFraction text n rest'
 no_fraction text after digits rest point front none n rest' (inl is) = is.0 (after, point)
 no_fraction text after digits rest point front none n rest' (inr (after', digits', point', front', some, few, value)) =
-    let same : after' ≡ after = cc (point, point') in
-    let (digits_same, _) = digits_unique (subst (λ bs. IsDigits bs digits' rest') same front') front in
+    let (digits_same, _) = digits_unique (subst (λ bs. IsDigits bs digits' rest') (cc (point, point')) front') front in
     none (subst (λ ds. (1 ≤ length ds) × (length ds ≤ 9)) digits_same (some, few))
 
 -- what is read of a fraction: as many digits as were counted, with their number, and its nanoseconds

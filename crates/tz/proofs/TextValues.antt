@@ -1,5 +1,5 @@
 -- What a text is read as is a UTC date time.
-use Rattle.std.proofs.Common.{◌≡◌, ℕ, ◌-◌, ◌^◌, ◌<◌, inl, inr, List, length, sym, subst, arith}
+use Rattle.std.proofs.Common.{ℕ, ◌-◌, ◌^◌, ◌<◌, inl, inr, List, length, sym, subst, arith}
 use Rattle.std.specs.Str.Parse.{digits_value}
 use Rattle.std.proofs.lemmas.Int.Digits.{digits_value-lt}
 use Rattle.tz_base.specs.declared.fields.Fields.{Fields}
@@ -14,9 +14,7 @@ use Rattle.tz.proofs.TextFronts.{fraction_below}
 nanoseconds_below : (text : List ℕ) (n : ℕ) (rest : List ℕ) → IsFraction text n rest → n < 1000000000
 nanoseconds_below text n rest (inl none) = omega (arith, none.1)
 nanoseconds_below text n rest (inr (after, digits, point, front, some, few, value)) =
-    let k = 9 - length digits in
-    let long : length digits ≡ 9 - k = omega (arith, few) in
-    let below = fraction_below k (digits_value 10 digits) (omega arith) (subst (λ m. digits_value 10 digits < 10 ^ m) long (digits_value-lt 10 digits front.all_digits)) in
+    let below = fraction_below (9 - length digits) (digits_value 10 digits) (omega arith) (subst (λ m. digits_value 10 digits < 10 ^ m) (omega (arith, few)) (digits_value-lt 10 digits front.all_digits)) in
     omega (arith, value, below)
 
 -- the fields of a date and a time are those of a UTC date time

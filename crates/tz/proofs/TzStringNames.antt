@@ -36,8 +36,7 @@ in_brackets b h = other_byte b (elim h [
 no_bracket : (name rest : List ℕ) → 2 < length name → list_all is_ascii_alphabetic name ≡ true → ¬ Begins opening_bracket (name ++ rest)
 no_bracket [] rest long letters begins = absurd (omega arith)
 no_bracket (b ∷ bs) rest long letters begins =
-    let first : b ≡ opening_bracket = first_of begins.1 in
-    absurd (false≢true (sym (ap is_ascii_alphabetic first) ∙ (and_parts (is_ascii_alphabetic b) (list_all is_ascii_alphabetic bs) letters).0))
+    absurd (false≢true (sym (ap is_ascii_alphabetic (first_of begins.1)) ∙ (and_parts (is_ascii_alphabetic b) (list_all is_ascii_alphabetic bs) letters).0))
 
 bare_read : (bare : Bool) (name rest : List ℕ) → is_bare name ≡ bare → IsDesignation name → Stops is_ascii_alphabetic rest
     → IsName ((if bare then name else opening_bracket ∷ name ++ (closing_bracket ∷ [])) ++ rest) name rest
@@ -67,8 +66,7 @@ name_behind_by : (bare : Bool) (name rest : List ℕ) → is_bare name ≡ bare 
 unfolding is_bare
 name_behind_by true [] rest e = absurd (false≢true e)
 name_behind_by true (b ∷ bs) rest e =
-    let letters = (and_parts (nat_lt 2 (length (b ∷ bs))) (list_all is_ascii_alphabetic (b ∷ bs)) e).1 in
-    inr (above_colon b (and_parts (is_ascii_alphabetic b) (list_all is_ascii_alphabetic bs) letters).0)
+    inr (above_colon b (and_parts (is_ascii_alphabetic b) (list_all is_ascii_alphabetic bs) ((and_parts (nat_lt 2 (length (b ∷ bs))) (list_all is_ascii_alphabetic (b ∷ bs)) e).1)).0)
 name_behind_by false name rest e = inr (omega arith)
 
 pub name_behind : (name rest : List ℕ) → IsBehind (name_text name ++ rest)

@@ -162,8 +162,7 @@ time_of (negsuc n) = written_time true (suc n)
 pub plain_time_read : (minus : Bool) (n : ℕ) (rest : List ℕ) → n < 2 ^ 32 → IsBehind rest → IsHms (plain_time_text n ++ rest) (written_time minus n) rest
 unfolding plain_time_text
 plain_time_read minus n rest fits behind =
-    let below : n % 3600 < 3600 = omega arith in
-    let part = minutes_read (n % 3600) rest below behind in
+    let part = minutes_read (n % 3600) rest (omega arith) behind in
     subst (λ (text : List ℕ). IsHms text (written_time minus n) rest) (sym (append_assoc (decimal (n / 3600)) (minutes_text (n % 3600)) rest)) (record {
       after_hours = minutes_text (n % 3600) ++ rest;
       after_minutes = part.after;
@@ -188,8 +187,7 @@ IsTimeBelow limit z = (negsuc limit <ℤ z) × (z <ℤ pos (suc limit))
 digit_first : (digits rest : List ℕ) → all_ascii_digits digits ≡ true → digits ≢ [] → Stops is_ascii_alphabetic (digits ++ rest)
 digit_first [] rest pass some = absurd (some refl)
 digit_first (d ∷ ds) rest pass some =
-    let digit = (and_parts (is_ascii_digit d) (all_ascii_digits ds) pass).0 in
-    let to : d ≤ 57 = leb-true d 57 (and_parts (nat_le 48 d) (nat_le d 57) digit).1 in
+    let to : d ≤ 57 = leb-true d 57 (and_parts (nat_le 48 d) (nat_le d 57) ((and_parts (is_ascii_digit d) (all_ascii_digits ds) pass).0)).1 in
     no_letter_byte d (omega arith)
 
 plain_time_first : (n : ℕ) (rest : List ℕ) → n < 2 ^ 32 → Stops is_ascii_alphabetic (plain_time_text n ++ rest)

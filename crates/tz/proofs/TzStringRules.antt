@@ -138,9 +138,8 @@ alternate_in_range extended r writable named days start end = record {
 
 daylight_type : (r : AlternateTime) → IsWritable (Alternating r) → r.dst ≡ dst_type_of (text_of r)
 daylight_type r writable =
-    let value = (daylight_offset_read r.std.ut_offset r.dst.ut_offset [] writable.1.2).value in
     let same : type_of r.dst.ut_offset r.dst.is_dst r.dst.designation ≡ dst_type_of (text_of r) =
-    ap (λ x. type_of x r.dst.is_dst r.dst.designation) (sym value)
+    ap (λ x. type_of x r.dst.is_dst r.dst.designation) (sym ((daylight_offset_read r.std.ut_offset r.dst.ut_offset [] writable.1.2).value))
     ∙ ap (λ x. type_of (daylight_offset_of (time_of (neg_ℤ r.std.ut_offset)) (daylight_time r.std.ut_offset r.dst.ut_offset)) x r.dst.designation) writable.1.0
     ∙ ap (λ x. type_of (daylight_offset_of (time_of (neg_ℤ r.std.ut_offset)) (daylight_time r.std.ut_offset r.dst.ut_offset)) true x) (some_name r.dst.designation writable.1.1)
     in same
@@ -200,9 +199,8 @@ pub writable_if_read : (extended : Bool) (text : List ℕ) (rule : TransitionRul
 writable_if_read extended text (Fixed t) read = standard_read t read.0 read.1 read.4 read.5
 writable_if_read extended text (Alternating r) read =
     let a = read.0 in
-    let range : IsAlternateInRange extended a = read.2 in
     subst (λ (x : AlternateTime). IsWritable (Alternating x)) (sym read.4)
-    (standard_read (std_type_of a.std_name a.std_offset) a.std_name a.std_offset range.std_offset_is refl, daylight_read a range.dst_offset_is)
+    (standard_read (std_type_of a.std_name a.std_offset) a.std_name a.std_offset read.2.std_offset_is refl, daylight_read a read.2.dst_offset_is)
 
 -- a time of day of an ordinary text
 plain_by : (minus : Bool) (seconds : ℕ) → minus ≡ false → seconds ≤ 89999 → is_extended_time (if minus then neg_ℤ (pos seconds) else pos seconds) ≡ false
@@ -220,8 +218,6 @@ ordinary_if_read text (Fixed t) read = refl
 ordinary_if_read text (Alternating r) read =
     let a = read.0 in
     let is : IsAlternateText false text a = read.1 in
-    let range : IsAlternateInRange false a = read.2 in
-    let start : is_extended_time (seconds_of a.start.time) ≡ false = ordinary_time is.start_is.0 a.start.time (comma ∷ is.end_text) is.start_is.2 range.start_is.time_is in
-    let end : is_extended_time (seconds_of a.end.time) ≡ false = ordinary_time is.end_is.0 a.end.time [] is.end_is.2 range.end_is.time_is in
+    let start : is_extended_time (seconds_of a.start.time) ≡ false = ordinary_time is.start_is.0 a.start.time (comma ∷ is.end_text) is.start_is.2 read.2.start_is.time_is in
     ap (λ (x : AlternateTime). is_extended (Alternating x)) read.4
-    ∙ ap (λ x. x || is_extended_time (seconds_of a.end.time)) start ∙ end
+    ∙ ap (λ x. x || is_extended_time (seconds_of a.end.time)) start ∙ (ordinary_time is.end_is.0 a.end.time [] is.end_is.2 read.2.end_is.time_is)

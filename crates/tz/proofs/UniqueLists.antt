@@ -42,9 +42,7 @@ module _ {X : Type 0} (at : X → ℤ) where
       both (inl same) other = sym same
       both (inr later) (inl same) = same
       both (inr later) (inr later') =
-          let below : at y <ℤ at x = All-contains (λ z. at y <ℤ at z) ys x (first_below y ys rises') later in
-          let above : at x <ℤ at y = All-contains (λ z. at x <ℤ at z) xs y (first_below x xs rises) later' in
-          absurd (omega (arith, ints, below, above))
+          absurd (omega (arith, ints, All-contains (λ z. at y <ℤ at z) ys x (first_below y ys rises') later, All-contains (λ z. at x <ℤ at z) xs y (first_below x xs rises) later'))
 
   -- what comes after the first is no first one
   rest_within : (x : X) (xs ys : List X) → Rises (x ∷ xs) → IsWithin (x ∷ xs) (x ∷ ys) → IsWithin xs ys
@@ -52,8 +50,7 @@ module _ {X : Type 0} (at : X → ℤ) where
     where
       other : (x ≡ y) ⊎ Contains ys y → Contains ys y
       other (inl same) =
-          let above : at x <ℤ at y = All-contains (λ z. at x <ℤ at z) xs y (first_below x xs rises) has in
-          absurd (omega (arith, ints, above, ap at same))
+          absurd (omega (arith, ints, All-contains (λ z. at x <ℤ at z) xs y (first_below x xs rises) has, ap at same))
       other (inr later) = later
 
   -- rising lists of the same things are the same

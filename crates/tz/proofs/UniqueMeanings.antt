@@ -30,8 +30,7 @@ module _ (z : Zone) (choice : Disambiguation) (f : Fields) where
 
   pub meaning_unique : (d e : Option DateTime) → IsMeaning z choice f d → IsMeaning z choice f e → d ≡ e
   meaning_unique d e (found, is, meant) (others, is', meant') =
-      let same = found_unique (IsClock z) f others found is' is in
-      meant_unique (entry_meant choice found) d e meant (subst (λ (list : List FoundDateTimeKind). IsMeantIn z choice f (entry_meant choice list) e) same meant')
+      meant_unique (entry_meant choice found) d e meant (subst (λ (list : List FoundDateTimeKind). IsMeantIn z choice f (entry_meant choice list) e) (found_unique (IsClock z) f others found is' is) meant')
 
   pub meaning_fault_unique : (e e' : TzError) → IsMeaningFault z choice f e → IsMeaningFault z choice f e' → e ≡ e'
   meaning_fault_unique e e' (inl fault) (inl fault') = search_fault_unique z f e e' fault fault'
@@ -39,5 +38,4 @@ module _ (z : Zone) (choice : Disambiguation) (f : Fields) where
   meaning_fault_unique e e' (inr (found, entry, valid, is, made, at, meant)) (inl fault) = absurd (no_fault_where_made z f valid made e' fault)
   meaning_fault_unique e e' (inr (found, entry, valid, is, made, at, meant)) (inr (others, other, valid', is', made', at', meant')) =
       let same = found_unique (IsClock z) f others found is' is in
-      let one = same_Some other entry (sym at' ∙ ap (entry_meant choice) same ∙ at) in
-      meant_fault_unique entry e e' meant (subst (λ (x : FoundDateTimeKind). IsMeantFault z choice f x e') one meant')
+      meant_fault_unique entry e e' meant (subst (λ (x : FoundDateTimeKind). IsMeantFault z choice f x e') (same_Some other entry (sym at' ∙ ap (entry_meant choice) same ∙ at)) meant')

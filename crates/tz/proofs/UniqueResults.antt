@@ -1,6 +1,8 @@
 -- A lookup has one result, and a search has one error.
-use Rattle.std.proofs.Common.{◌≡◌, ℕ, inl, inr, ℤ, ◌+ℤ◌, refl, sym, ap, ◌∙◌, subst, arith}
+use Rattle.std.proofs.Common.{◌≡◌, ℕ, inl, inr, ℤ, ◌+ℤ◌, sym, ap, ◌∙◌, subst, arith}
+use Rattle.std.proofs.lemmas.Bool.Decides.{nat_tests}
 use Rattle.std.proofs.lemmas.Int.{ints}
+use Rattle.std.specs.Prelude.{◌&&◌, cond, leb}
 use Rattle.tz_base.specs.declared.fields.Fields.{Fields}
 use Rattle.tz_base.specs.declared.error.tz_error.TzError.{TzError}
 use Rattle.tz_base.specs.declared.error.tz_error.TzError.TheVariants.{DateTime as FieldFault}
@@ -57,51 +59,22 @@ module _ (z : Zone) (u : ℤ) (n : ℕ) where
       side_unique u n t d d' shows (subst (λ (x : LocalTimeType). ShowsInstant u n x d') (one_type z u t' t clock' clock) shows')
 
 -- fields have one first fault
+first_fault_of : Fields → DateTimeError
+first_fault_of f = cond (leb 1 f.month && leb f.month 12) (cond (leb 1 f.month_day && leb f.month_day 31) (cond (leb f.hour 23) (cond (leb f.minute 59)
+    (cond (leb f.second 60) (cond (leb f.nanoseconds 999999999) InvalidMonthDay InvalidNanoseconds) InvalidSecond) InvalidMinute) InvalidHour) InvalidMonthDay) InvalidMonth
+
+is_first_fault_of : (f : Fields) (a : DateTimeError) → IsFirstFault f a → a ≡ first_fault_of f
+unfolding first_fault_of
+is_first_fault_of f InvalidMonth is = grind (arith, nat_tests, is)
+is_first_fault_of f InvalidMonthDay (month, inl day) = grind (arith, nat_tests, month, day)
+is_first_fault_of f InvalidMonthDay (month, inr (r, past)) = grind (arith, nat_tests, month, r.month_day, r.hour, r.minute, r.second, r.nanoseconds)
+is_first_fault_of f InvalidHour is = grind (arith, nat_tests, is)
+is_first_fault_of f InvalidMinute is = grind (arith, nat_tests, is)
+is_first_fault_of f InvalidSecond is = grind (arith, nat_tests, is)
+is_first_fault_of f InvalidNanoseconds is = grind (arith, nat_tests, is)
+
 pub first_fault_unique : (f : Fields) (a b : DateTimeError) → IsFirstFault f a → IsFirstFault f b → a ≡ b
-first_fault_unique f InvalidMonth InvalidMonth is is' = refl
-first_fault_unique f InvalidMonth InvalidMonthDay is is' = absurd (is is'.0)
-first_fault_unique f InvalidMonth InvalidHour is is' = absurd (is is'.0)
-first_fault_unique f InvalidMonth InvalidMinute is is' = absurd (is is'.0)
-first_fault_unique f InvalidMonth InvalidSecond is is' = absurd (is is'.0)
-first_fault_unique f InvalidMonth InvalidNanoseconds is is' = absurd (is is'.0)
-first_fault_unique f InvalidMonthDay InvalidMonth is is' = absurd (is' is.0)
-first_fault_unique f InvalidMonthDay InvalidMonthDay is is' = refl
-first_fault_unique f InvalidMonthDay InvalidHour (month, inl day) is' = absurd (day is'.1)
-first_fault_unique f InvalidMonthDay InvalidHour (month, inr (range, past)) is' = absurd (omega (arith, range.hour, is'.2))
-first_fault_unique f InvalidMonthDay InvalidMinute (month, inl day) is' = absurd (day is'.1)
-first_fault_unique f InvalidMonthDay InvalidMinute (month, inr (range, past)) is' = absurd (omega (arith, range.minute, is'.3))
-first_fault_unique f InvalidMonthDay InvalidSecond (month, inl day) is' = absurd (day is'.1)
-first_fault_unique f InvalidMonthDay InvalidSecond (month, inr (range, past)) is' = absurd (omega (arith, range.second, is'.4))
-first_fault_unique f InvalidMonthDay InvalidNanoseconds (month, inl day) is' = absurd (day is'.1)
-first_fault_unique f InvalidMonthDay InvalidNanoseconds (month, inr (range, past)) is' = absurd (omega (arith, range.nanoseconds, is'.5))
-first_fault_unique f InvalidHour InvalidMonth is is' = absurd (is' is.0)
-first_fault_unique f InvalidHour InvalidMonthDay is (month, inl day) = absurd (day is.1)
-first_fault_unique f InvalidHour InvalidMonthDay is (month, inr (range, past)) = absurd (omega (arith, range.hour, is.2))
-first_fault_unique f InvalidHour InvalidHour is is' = refl
-first_fault_unique f InvalidHour InvalidMinute is is' = absurd (omega (arith, is.2, is'.2))
-first_fault_unique f InvalidHour InvalidSecond is is' = absurd (omega (arith, is.2, is'.2))
-first_fault_unique f InvalidHour InvalidNanoseconds is is' = absurd (omega (arith, is.2, is'.2))
-first_fault_unique f InvalidMinute InvalidMonth is is' = absurd (is' is.0)
-first_fault_unique f InvalidMinute InvalidMonthDay is (month, inl day) = absurd (day is.1)
-first_fault_unique f InvalidMinute InvalidMonthDay is (month, inr (range, past)) = absurd (omega (arith, range.minute, is.3))
-first_fault_unique f InvalidMinute InvalidHour is is' = absurd (omega (arith, is'.2, is.2))
-first_fault_unique f InvalidMinute InvalidMinute is is' = refl
-first_fault_unique f InvalidMinute InvalidSecond is is' = absurd (omega (arith, is.3, is'.3))
-first_fault_unique f InvalidMinute InvalidNanoseconds is is' = absurd (omega (arith, is.3, is'.3))
-first_fault_unique f InvalidSecond InvalidMonth is is' = absurd (is' is.0)
-first_fault_unique f InvalidSecond InvalidMonthDay is (month, inl day) = absurd (day is.1)
-first_fault_unique f InvalidSecond InvalidMonthDay is (month, inr (range, past)) = absurd (omega (arith, range.second, is.4))
-first_fault_unique f InvalidSecond InvalidHour is is' = absurd (omega (arith, is'.2, is.2))
-first_fault_unique f InvalidSecond InvalidMinute is is' = absurd (omega (arith, is'.3, is.3))
-first_fault_unique f InvalidSecond InvalidSecond is is' = refl
-first_fault_unique f InvalidSecond InvalidNanoseconds is is' = absurd (omega (arith, is.4, is'.4))
-first_fault_unique f InvalidNanoseconds InvalidMonth is is' = absurd (is' is.0)
-first_fault_unique f InvalidNanoseconds InvalidMonthDay is (month, inl day) = absurd (day is.1)
-first_fault_unique f InvalidNanoseconds InvalidMonthDay is (month, inr (range, past)) = absurd (omega (arith, range.nanoseconds, is.5))
-first_fault_unique f InvalidNanoseconds InvalidHour is is' = absurd (omega (arith, is'.2, is.2))
-first_fault_unique f InvalidNanoseconds InvalidMinute is is' = absurd (omega (arith, is'.3, is.3))
-first_fault_unique f InvalidNanoseconds InvalidSecond is is' = absurd (omega (arith, is'.4, is.4))
-first_fault_unique f InvalidNanoseconds InvalidNanoseconds is is' = refl
+first_fault_unique f a b is is' = is_first_fault_of f a is ∙ sym (is_first_fault_of f b is')
 
 -- why a search is refused, an allocation failure aside, is one reason
 pub search_fault_unique : (z : Zone) (f : Fields) (e e' : TzError) → IsFindFault ⊥ (IsClock z) f e → IsFindFault ⊥ (IsClock z) f e' → e ≡ e'

@@ -69,22 +69,19 @@ exact_then {A} {B} first next exact exacts = record {
   where
     read : IsUnique (first ▸ next).reads
     read text w w' rest rest' (v, after, is, more) (v', after', is', more') =
-        let same = exact.read text v v' after after' is is' in
-        (exacts v).read after w w' rest rest' more (moved next v v' after after' same (λ g behind. g.reads behind w' rest') more')
+        (exacts v).read after w w' rest rest' more (moved next v v' after after' (exact.read text v v' after after' is is') (λ g behind. g.reads behind w' rest') more')
 
     missing : (text : List ℕ) (e e' : DateTimePart) (rest rest' : List ℕ) → (first ▸ next).misses text e rest → (first ▸ next).misses text e' rest' → (e ≡ e') × (rest ≡ rest')
     missing text e e' rest rest' (inl m) (inl m') = exact.missing text e e' rest rest' m m'
     missing text e e' rest rest' (inl m) (inr (v, after, is, m')) = absurd (exact.either text v e after rest is m)
     missing text e e' rest rest' (inr (v, after, is, m)) (inl m') = absurd (exact.either text v e' after rest' is m')
     missing text e e' rest rest' (inr (v, after, is, m)) (inr (v', after', is', m')) =
-        let same = exact.read text v v' after after' is is' in
-        (exacts v).missing after e e' rest rest' m (moved next v v' after after' same (λ g behind. g.misses behind e' rest') m')
+        (exacts v).missing after e e' rest rest' m (moved next v v' after after' (exact.read text v v' after after' is is') (λ g behind. g.misses behind e' rest') m')
 
     either : (text : List ℕ) (w : B) (e : DateTimePart) (rest rest' : List ℕ) → (first ▸ next).reads text w rest → ¬ (first ▸ next).misses text e rest'
     either text w e rest rest' (v, after, is, more) (inl m) = exact.either text v e after rest' is m
     either text w e rest rest' (v, after, is, more) (inr (v', after', is', m')) =
-        let same = exact.read text v v' after after' is is' in
-        (exacts v).either after w e rest rest' more (moved next v v' after after' same (λ g behind. g.misses behind e rest') m')
+        (exacts v).either after w e rest rest' more (moved next v v' after after' (exact.read text v v' after after' is is') (λ g behind. g.misses behind e rest') m')
 
 pair_within : {least greatest : ℕ} {text : List ℕ} {n : ℕ} (rest : List ℕ) → IsPair least greatest text n rest → length rest ≤ length text
 pair_within {n = n} rest is = omega (arith, ap length is.1 ∙ length-append (two_digits n) rest)
@@ -103,8 +100,7 @@ year_unique text y y' rest rest' (digits, are, fits, inl (front, value)) (digits
     let same = digits_unique front front' in
     (value ∙ ap (λ ds. pos (digits_value 10 ds)) same.0 ∙ sym value', same.1)
 year_unique text y y' rest rest' (digits, are, fits, inr (unsigned, minus, front, value)) (digits', are', fits', inr (unsigned', minus', front', value')) =
-    let behind : unsigned' ≡ unsigned = cc (minus, minus') in
-    let same = digits_unique front (subst (λ bs. IsDigits bs digits' rest') behind front') in
+    let same = digits_unique front (subst (λ bs. IsDigits bs digits' rest') (cc (minus, minus')) front') in
     (value ∙ ap (λ ds. neg_ℤ (pos (digits_value 10 ds))) same.0 ∙ sym value', same.1)
 year_unique text y y' rest rest' (digits, are, fits, inl (front, value)) (digits', are', fits', inr (unsigned', minus', front', value')) = absurd (no_digits_at_minus text unsigned' digits rest minus' front are)
 year_unique text y y' rest rest' (digits, are, fits, inr (unsigned, minus, front, value)) (digits', are', fits', inl (front', value')) = absurd (no_digits_at_minus text unsigned digits' rest' minus front' are')
@@ -127,8 +123,7 @@ fraction_unique text n n' rest rest' (inl is) (inl is') = (is.1 ∙ sym is'.1, i
 fraction_unique text n n' rest rest' (inl is) (inr (after, digits, point, front, some, few, value)) = absurd (is.0 (after, point))
 fraction_unique text n n' rest rest' (inr (after, digits, point, front, some, few, value)) (inl is') = absurd (is'.0 (after, point))
 fraction_unique text n n' rest rest' (inr (after, digits, point, front, some, few, value)) (inr (after', digits', point', front', some', few', value')) =
-    let behind : after' ≡ after = cc (point, point') in
-    let same = digits_unique front (subst (λ bs. IsDigits bs digits' rest') behind front') in
+    let same = digits_unique front (subst (λ bs. IsDigits bs digits' rest') (cc (point, point')) front') in
     (value ∙ ap (λ ds. digits_value 10 ds * 10 ^ (9 - length ds)) same.0 ∙ sym value', same.1)
 
 fraction_within : IsWithin IsFraction
@@ -155,8 +150,7 @@ seconds_unique hours minutes text s s' rest rest' (inl is, below) (inl is', belo
 seconds_unique hours minutes text s s' rest rest' (inl is, below) (inr (after, colon, is'), below') = absurd (is.0 (after, colon))
 seconds_unique hours minutes text s s' rest rest' (inr (after, colon, is), below) (inl is', below') = absurd (is'.0 (after, colon))
 seconds_unique hours minutes text s s' rest rest' (inr (after, colon, is), below) (inr (after', colon', is'), below') =
-    let behind : after' ≡ after = cc (colon, colon') in
-    pair_unique rest rest' is (subst (λ bs. IsPair 0 59 bs s' rest') behind is')
+    pair_unique rest rest' is (subst (λ bs. IsPair 0 59 bs s' rest') (cc (colon, colon')) is')
 
 seconds_within : (hours minutes : ℕ) → IsWithin (IsSeconds hours minutes)
 seconds_within hours minutes text n rest (inl is, below) = omega (arith, ap length is.2)
@@ -229,8 +223,7 @@ errors_same e e' part place =
 pub text_fault_unique : (text : List ℕ) (e e' : ParseDateTimeError) → IsDateTimeTextFault text e → IsDateTimeTextFault text e' → e ≡ e'
 text_fault_unique text e e' (rest, m, at) (rest', m', at') =
     let same = date_time_exact.missing text e.expected e'.expected rest rest' m m' in
-    let place : e.position ≡ e'.position = omega (arith, at, at', ap length same.1) in
-    errors_same e e' same.0 place
+    errors_same e e' same.0 (omega (arith, at, at', ap length same.1))
 
 pub text_or_fault : (text : List ℕ) (p : ParsedDateTime) (e : ParseDateTimeError) → IsDateTimeText text p → ¬ IsDateTimeTextFault text e
 text_or_fault text p e is (rest, m, at) = date_time_exact.either text p e.expected [] rest is m

@@ -1,5 +1,5 @@
 -- Day numbers rise with the dates, so that a day has one date, and a reading one list of civil fields.
-use Rattle.std.proofs.Common.{◌-ℤ◌, ◌*ℤ◌, ◌≡◌, ℕ, zero, suc, ◌+◌, ◌-◌, ◌*◌, ◌%◌, ◌<◌, ◌≤◌, inl, inr, Bool, refl, sym, ap, ◌∙◌, arith, lit<, ℤ, pos, negsuc, ◌+ℤ◌, ◌≤ℤ◌, ◌<ℤ◌}
+use Rattle.std.proofs.Common.{◌-ℤ◌, ◌*ℤ◌, ◌≡◌, ℕ, zero, suc, ◌+◌, ◌-◌, ◌*◌, ◌<◌, ◌≤◌, inl, inr, Bool, refl, sym, ap, ◌∙◌, arith, lit<, ℤ, pos, negsuc, ◌+ℤ◌, ◌≤ℤ◌, ◌<ℤ◌}
 use Rattle.std.proofs.lemmas.Int.{ints, int_rem_euclid_is}
 use Rattle.tz_base.specs.Cycles.{days_of_years}
 use Rattle.tz_base.specs.Days.{is_leap, month_length, months_length, first_day, day_number, IsDay, IsEarlierDate, week_day_of}
@@ -101,10 +101,7 @@ civil_unique x n f g c c' =
     let time : 3600 * f.hour + 60 * f.minute + f.second ≡ 3600 * g.hour + 60 * g.minute + g.second = omega (arith, ints, c.reads, c'.reads) in
     let date = date_unique f.year f.month f.month_day g.year g.month g.month_day (valid_day f c.valid) (valid_day g c'.valid) day in
     let hour : f.hour ≡ g.hour = omega (arith, c.below_60, c'.below_60, a.minute, b.minute) in
-    let minute : f.minute ≡ g.minute = omega (arith, c.below_60, c'.below_60) in
-    let second : f.second ≡ g.second = omega arith in
-    let nanoseconds : f.nanoseconds ≡ g.nanoseconds = c.nanoseconds_are ∙ sym c'.nanoseconds_are in
-    same_fields f g date.0 date.1 date.2 hour minute second nanoseconds
+    same_fields f g date.0 date.1 date.2 hour (omega (arith, c.below_60, c'.below_60)) (omega arith) (c.nanoseconds_are ∙ sym c'.nanoseconds_are)
 
 pub is_leap-period : (year : ℤ) (k : ℕ) → is_leap (year +ℤ pos (400 * k)) ≡ is_leap year
 is_leap-period year k =
@@ -131,5 +128,4 @@ week_day_of-period day k =
     let moved = weeks_before (day +ℤ pos 4) in
     let later = int_rem_euclid_is (day +ℤ pos (146097 * k) +ℤ pos 4) (pos 7) 7 moved.0 (moved.1 + 146097 * k) (lit< tt) refl (omega (arith, ints, moved.2)) in
     let here = int_rem_euclid_is (day +ℤ pos 4) (pos 7) 7 moved.0 moved.1 (lit< tt) refl moved.2 in
-    let same : (moved.1 + 146097 * k) % 7 ≡ moved.1 % 7 = omega arith in
-    later ∙ ap pos same ∙ sym here
+    later ∙ ap pos (omega arith) ∙ sym here

@@ -24,8 +24,7 @@ pub months_length-entry : (leap : Bool) (index : ℕ) → index < 12 → (slice_
 unfolding is_right_entry
 months_length-entry leap index h =
     let right = passes_at (is_right_entry leap (months_table leap)) 12 index (right_entries leap) h in
-    let same : int_eq (slice_index_or (months_table leap) index (pos 0)) (pos (months_length leap index)) ≡ true = grind (arith, nat_tests) in
-    ((Decides-int_eq _ _).0 same, grind (arith, nat_tests))
+    ((Decides-int_eq _ _).0 (grind (arith, nat_tests)), grind (arith, nat_tests))
 
 pub months_length-bound : (leap : Bool) (index : ℕ) → index < 12 → months_length leap index ≤ 335
 months_length-bound leap index h = (months_length-entry leap index h).1

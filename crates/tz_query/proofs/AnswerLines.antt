@@ -55,9 +55,8 @@ AreLines-cons bytes line rest lines some first are = record { cut = cases first.
           first.cut ∙ ap (λ t. line ++ t) (end ∙ ap (λ r. line_feed ∷ r) is) ∙ sym (append_assoc line (line_feed ∷ ended front) last),
         )
     cases (inr end) cut =
-        let none : lines ≡ [] = no_lines lines (subst (λ r. AreLines r lines) end.1 are) in
         let whole : bytes ≡ line = first.cut ∙ ap (λ t. line ++ t) end.0 ∙ append-nil line in
-        inr ([], line, ap (λ ls. line ∷ ls) none, (λ e. absurd (omega (arith, some, ap length (whole ∙ e)))), whole)
+        inr ([], line, ap (λ ls. line ∷ ls) (no_lines lines (subst (λ r. AreLines r lines) end.1 are)), (λ e. absurd (omega (arith, some, ap length (whole ∙ e)))), whole)
 
 -- fewer bytes are left after a line
 pub rest_is_shorter : (bytes line rest : List ℕ) → IsFirstLine bytes line rest → 0 < length bytes → length rest < length bytes

@@ -41,11 +41,7 @@ first_digits (b ∷ bs) = go (is_ascii_digit b) refl (first_digits bs)
 
 digits_front_is : (bs : List ℕ) (n : ℕ) → n ≡ digits_len bs → IsDigits bs (take n bs) (drop n bs)
 digits_front_is bs n is =
-    record {
-      whole = sym (take-append-drop n bs);
-      all_digits = rw is (first_digits bs).0;
-      ends = rw is (first_digits bs).1;
-    }
+    record { whole = sym (take-append-drop n bs); all_digits = rw is (first_digits bs).0; ends = rw is (first_digits bs).1 }
 
 -- the digits from a place on to where they end
 module _ (bs : List ℕ) (place end : ℕ) (within : place ≤ length bs) (end_is : end ≡ place + digits_len (drop place bs)) where
@@ -54,8 +50,7 @@ module _ (bs : List ℕ) (place end : ℕ) (within : place ≤ length bs) (end_i
 
   pub front_at : IsDigits (drop place bs) (slice_range bs place end) (drop end bs)
   front_at =
-      let rest : drop (end - place) (drop place bs) ≡ drop end bs = drop-drop (end - place) place bs ∙ ap (λ n. drop n bs) (omega (arith, end_is)) in
-      subst (λ r. IsDigits (drop place bs) (slice_range bs place end) r) rest (digits_front_is (drop place bs) (end - place) count_is)
+      subst (λ r. IsDigits (drop place bs) (slice_range bs place end) r) (drop-drop (end - place) place bs ∙ ap (λ n. drop n bs) (omega (arith, end_is))) (digits_front_is (drop place bs) (end - place) count_is)
 
   pub length_at : length (slice_range bs place end) ≡ end - place
   length_at = ap (λ n. length (take n (drop place bs))) count_is ∙ length-prefix_len is_ascii_digit (drop place bs) ∙ sym count_is
@@ -64,9 +59,8 @@ module _ (bs : List ℕ) (place end : ℕ) (within : place ≤ length bs) (end_i
   value_at : (value : ℕ) → end ≤ place + 18 → value ≡ (0 * 10 ^ (end - place) + digits_value 10 (slice_range bs place end)) % 2 ^ 64 →
       (value ≡ digits_value 10 (slice_range bs place end)) × (value < 1000000000000000000)
   value_at value few is =
-      let below = digits_value-lt 10 (slice_range bs place end) front_at.all_digits in
       let power : 10 ^ length (slice_range bs place end) ≤ 10 ^ 18 = pow-le-pow_right (omega arith) {i = length (slice_range bs place end)} {j = 18} (omega (arith, length_at, few)) in
-      let small : digits_value 10 (slice_range bs place end) < 1000000000000000000 = omega (arith, below, power) in
+      let small : digits_value 10 (slice_range bs place end) < 1000000000000000000 = omega (arith, digits_value-lt 10 (slice_range bs place end) front_at.all_digits, power) in
       let same : value ≡ digits_value 10 (slice_range bs place end) = omega (arith, is, small) in
       (same, omega (arith, same, small))
 
@@ -108,8 +102,7 @@ module _ (bs : List ℕ) (place n k : ℕ) (is : k ≡ 0 + digits_len (drop 0 (s
 
   pub few_in_window : place + n ≤ length bs → k ≤ n
   few_in_window within =
-      let long = length-take-le n (drop place bs) (omega (arith, within, length-drop place bs)) in
-      omega (arith, in_window, long, prefix_len-le-length is_ascii_digit (take n (drop place bs)))
+      omega (arith, in_window, length-take-le n (drop place bs) (omega (arith, within, length-drop place bs)), prefix_len-le-length is_ascii_digit (take n (drop place bs)))
 
   -- they end before a byte that is no digit
   pub end_before : (b : ℕ) → place + n ≤ length bs → is_ascii_digit b ≡ false → drop (place + k) bs ≡ b ∷ drop (place + k + 1) bs → place + k ≡ place + digits_len (drop place bs)
@@ -194,11 +187,9 @@ one_more_zero (b ∷ bs) (suc i) within = let next : suc i + 1 ≡ suc (i + 1) =
 -- of the nine bytes before the end the last ones are the digits
 pub digits_of_nine : (bs : List ℕ) (start end k : ℕ) → start ≤ end → 9 ≤ end → end ≤ start + 9 → k ≡ 9 - (end - start) → drop k (slice_range bs (end - 9) end) ≡ slice_range bs start end
 digits_of_nine bs start end k after nine few is =
-    let long : end - (end - 9) ≡ k + (end - start) = omega (arith, after, nine, few, is) in
-    let place : end - 9 + k ≡ start = omega (arith, after, nine, few, is) in
-    ap (λ n. drop k (take n (drop (end - 9) bs))) long
+    ap (λ n. drop k (take n (drop (end - 9) bs))) (omega (arith, after, nine, few, is))
     ∙ drop-take k (end - start) (drop (end - 9) bs)
-    ∙ ap (λ xs. take (end - start) xs) (drop-drop k (end - 9) bs ∙ ap (λ n. drop n bs) place)
+    ∙ ap (λ xs. take (end - start) xs) (drop-drop k (end - 9) bs ∙ ap (λ n. drop n bs) (omega (arith, after, nine, few, is)))
 
 -- digits before a space are the number there
 pub front_before_space : (ds bs rest more : List ℕ) → AllDigits 10 ds → 0 < length ds → bs ≡ ds ++ rest → rest ≡ 32 ∷ more → (n : ℕ) → n ≡ digits_value 10 ds → IsNumberFront bs (pos n) rest

@@ -30,8 +30,7 @@ whole_line bytes line = record { tail = []; cut = sym (append-nil bytes); end = 
 rest_after : (bytes front rest : List ℕ) → bytes ≡ front ++ rest → (length rest ≤ length bytes) × (drop (length bytes - length rest) bytes ≡ rest)
 rest_after bytes front rest whole =
     let long : length bytes ≡ length front + length rest = ap length whole ∙ length-append front rest in
-    let place : length bytes - length rest ≡ length front = omega (arith, long) in
-    (omega (arith, long), ap (λ k. drop k bytes) place ∙ ap (λ xs. drop (length front) xs) whole ∙ drop-append_seam front rest)
+    (omega (arith, long), ap (λ k. drop k bytes) (omega (arith, long)) ∙ ap (λ xs. drop (length front) xs) whole ∙ drop-append_seam front rest)
 
 pub rest_of_line : (bytes line rest : List ℕ) → IsFirstLine bytes line rest → (length rest ≤ length bytes) × (drop (length bytes - length rest) bytes ≡ rest)
 rest_of_line bytes line rest first = cases first.end
@@ -85,8 +84,7 @@ pub next_part : (bytes line rest after : List ℕ) (numbers others : List ℤ) �
 next_part bytes line rest after numbers others are few fit first are' =
     let (tail, parts, end) = parts_of_line bytes line rest others first are' in
     let k = length numbers in
-    let later = parts_after bytes numbers others after tail (omega (arith, few)) are parts in
-    let (beyond, next, more) = subst (λ ns. ArePartsFront after ns tail) (drop_more others k (pos 0) few) later in
+    let (beyond, next, more) = subst (λ ns. ArePartsFront after ns tail) (drop_more others k (pos 0) few) (parts_after bytes numbers others after tail (omega (arith, few)) are parts) in
     (get_or others k (pos 0), beyond, fit k (pos 0) few, next)
 
 pub end_of_parts : (bytes line rest after : List ℕ) (numbers others : List ℤ) → ArePartsFront bytes numbers after → length numbers ≡ length others → IsFirstLine bytes line rest → AreNumbers line others → IsLineEnd after rest
@@ -121,8 +119,7 @@ numbers_after_letter : (letter b : ℕ) (bytes after line rest : List ℕ) (numb
 numbers_after_letter letter b bytes after line rest numbers is first of =
     let parts = of.parts in
     let same : b ∷ after ≡ letter ∷ (parts ++ first.tail) = sym is ∙ first.cut ∙ ap (λ l. l ++ first.tail) of.whole in
-    let inside = All-tail (λ b. b ≢ line_feed) letter parts (subst IsLine of.whole first.without_end) in
-    (cc same, parts, record { tail = first.tail; cut = cc same; end = first.end; without_end = inside }, of.are_numbers)
+    (cc same, parts, record { tail = first.tail; cut = cc same; end = first.end; without_end = (All-tail (λ b. b ≢ line_feed) letter parts (subst IsLine of.whole first.without_end)) }, of.are_numbers)
 
 -- the first line asks for nothing
 abbrev pub NoQuery : List ℕ → Type 0

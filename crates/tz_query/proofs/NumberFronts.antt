@@ -2,8 +2,9 @@
 use Rattle.std.proofs.Common.{◌≡◌, ℕ, ◌<◌, ◌≤◌, ◌⊎◌, inl, inr, ℤ, pos, neg_ℤ, List, [], ◌∷◌, ◌++◌, length, drop, refl, sym, ap, ◌∙◌, subst, arith, append_assoc, append-nil}
 use Rattle.std.specs.Prelude.{FitsSigned, Option, Some, None, IfNone}
 use Rattle.std.specs.Int.{w64}
-use Rattle.std.specs.Str.Parse.{AllDigits, digits_value}
+use Rattle.std.specs.Str.Parse.{digits_value}
 use Rattle.tz.specs.DateTimeText.{IsDigits, EndsDigits}
+use Rattle.tz.proofs.TextFronts.{digits_front_unique}
 use Rattle.tz_query.specs.Numbers.{hyphen, space, IsNumber, IsNumberFront, AreNumbers, IsPartFront, ArePartsFront}
 
 -- digits at the front of bytes are a number, and so they are after a minus
@@ -14,17 +15,6 @@ plain_number bytes digits rest front some =
 pub minus_number : (bytes after digits rest : List ℕ) → bytes ≡ hyphen ∷ after → IsDigits after digits rest → 0 < length digits → IsNumberFront bytes (neg_ℤ (pos (digits_value 10 digits))) rest
 minus_number bytes after digits rest minus front some =
     record { text = hyphen ∷ digits; whole = minus ∙ ap (λ bs. hyphen ∷ bs) front.whole; is_number = (digits, (some, front.all_digits), inr (refl, refl)); ends = front.ends }
-
--- all leading digits, and what follows them, are these alone
-pub digits_front_unique : (digits digits' rest rest' : List ℕ) → AllDigits 10 digits → AllDigits 10 digits' → EndsDigits rest → EndsDigits rest' → digits ++ rest ≡ digits' ++ rest' → (digits ≡ digits') × (rest ≡ rest')
-digits_front_unique [] [] rest rest' all all' ends ends' same = (refl, same)
-digits_front_unique [] (d ∷ digits') rest rest' all all' ends ends' same = absurd (subst EndsDigits same ends all'.0)
-digits_front_unique (d ∷ digits) [] rest rest' all all' ends ends' same = absurd (subst EndsDigits (sym same) ends' all.0)
-digits_front_unique (d ∷ digits) (d' ∷ digits') rest rest' all all' ends ends' same =
-    let rest_same : digits ++ rest ≡ digits' ++ rest' = cc in
-    let first_same : d ≡ d' = cc in
-    let (more, after) = digits_front_unique digits digits' rest rest' all.1 all'.1 ends ends' rest_same in
-    (cc, after)
 
 -- what stands at the front of bytes that have no digit there, or a minus
 digits_stand_first : (bytes digits rest : List ℕ) → IsDigits bytes digits rest → 0 < length digits → EndsDigits bytes → ⊥
@@ -65,8 +55,7 @@ number_front_unique bytes n n' rest rest' front front' = both (number_front_case
     both (inl (digits, is, some, value)) (inr (after, digits', minus, is', some', value')) = absurd (minus_stands_first bytes after digits rest minus is some)
     both (inr (after, digits, minus, is, some, value)) (inl (digits', is', some', value')) = absurd (minus_stands_first bytes after digits' rest' minus is' some')
     both (inr (after, digits, minus, is, some, value)) (inr (after', digits', minus', is', some', value')) =
-        let after_same : after ≡ after' = cc (minus, minus') in
-        let same = digits_unique after digits digits' rest rest' is (subst (λ bs. IsDigits bs digits' rest') (sym after_same) is') in
+        let same = digits_unique after digits digits' rest rest' is (subst (λ bs. IsDigits bs digits' rest') (sym (cc (minus, minus'))) is') in
         (value ∙ ap (λ ds. neg_ℤ (pos (digits_value 10 ds))) same.0 ∙ sym value', same.1)
 
 -- a number begins with a digit, or with a minus and a digit
@@ -95,14 +84,12 @@ number_front_whole text n is = record { text = text; whole = sym (append-nil tex
 
 pub no_number_before_more : (text rest : List ℕ) (n : ℤ) → IsNumberFront text n rest → 0 < length rest → (n' : ℤ) → ¬ IsNumber text n'
 no_number_before_more text rest n front more n' is =
-    let same : rest ≡ [] = (number_front_unique text n n' rest [] front (number_front_whole text n' is)).1 in
-    omega (arith, more, ap length same)
+    omega (arith, more, ap length ((number_front_unique text n n' rest [] front (number_front_whole text n' is)).1))
 
 -- the number after a space, and what follows it, are these alone
 pub part_unique : (bytes : List ℕ) (n n' : ℤ) (rest rest' : List ℕ) → IsPartFront bytes n rest → IsPartFront bytes n' rest' → (n ≡ n') × (rest ≡ rest')
 part_unique bytes n n' rest rest' (after, spaced, front) (after', spaced', front') =
-    let same : after' ≡ after = cc (spaced, spaced') in
-    number_front_unique after n n' rest rest' front (subst (λ bs. IsNumberFront bs n' rest') same front')
+    number_front_unique after n n' rest rest' front (subst (λ bs. IsNumberFront bs n' rest') (cc (spaced, spaced')) front')
 
 -- so are as many numbers
 pub parts_unique : (bytes : List ℕ) (numbers others : List ℤ) (rest rest' : List ℕ) → length numbers ≡ length others → ArePartsFront bytes numbers rest → ArePartsFront bytes others rest' → (numbers ≡ others) × (rest ≡ rest')
@@ -112,17 +99,14 @@ parts_unique bytes (n ∷ numbers) [] rest rest' same are are' = absurd (omega (
 parts_unique bytes (n ∷ numbers) (m ∷ others) rest rest' same (after, first, are) (after', first', are') =
     let one = part_unique bytes n m after after' first first' in
     let more = parts_unique after numbers others rest rest' (omega (arith, same)) are (subst (λ bs. ArePartsFront bs others rest') (sym one.1) are') in
-    let head = one.0 in
-    let tail = more.0 in
-    (cc (head, tail), more.1)
+    (cc (one.0, more.0), more.1)
 
 -- what follows some of the numbers is the others
 pub parts_after : (bytes : List ℕ) (numbers others : List ℤ) (rest tail : List ℕ) → length numbers ≤ length others → ArePartsFront bytes numbers rest → ArePartsFront bytes others tail → ArePartsFront rest (drop (length numbers) others) tail
 parts_after bytes [] others rest tail few are are' = subst (λ bs. ArePartsFront bs others tail) are are'
 parts_after bytes (n ∷ numbers) [] rest tail few are are' = absurd (omega (arith, few))
 parts_after bytes (n ∷ numbers) (m ∷ others) rest tail few (after, first, are) (after', first', are') =
-    let one = part_unique bytes n m after after' first first' in
-    parts_after after numbers others rest tail (omega (arith, few)) are (subst (λ bs. ArePartsFront bs others tail) (sym one.1) are')
+    parts_after after numbers others rest tail (omega (arith, few)) are (subst (λ bs. ArePartsFront bs others tail) (sym (part_unique bytes n m after after' first first').1) are')
 
 -- one more number
 pub parts_more : (bytes : List ℕ) (numbers : List ℤ) (rest : List ℕ) (n : ℤ) (after : List ℕ) → ArePartsFront bytes numbers rest → IsPartFront rest n after → ArePartsFront bytes (numbers ++ n ∷ []) after

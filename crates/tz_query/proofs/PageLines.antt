@@ -14,7 +14,6 @@ pub line_text : (f : Fields) (n : ℕ) (t : LocalTimeType) (u : ℤ) →
     signed_decimal f.year ++ (middle_text f ++ (nine_digits n ++ suffix_text t)) ≡ moment_text (record { fields = record f { nanoseconds = n }; local_time_type = t; unix_time = u }) ++ 10 ∷ []
 unfolding middle_text suffix_text moment_text printed_text date_text time_text two_digits nine_digits
 line_text f n t u =
-    let day = 45 ∷ two_digits f.month ++ (45 ∷ two_digits f.month_day) in
     let date = date_text f in
     let offset = offset_text t.ut_offset in
     let time = time_text (record f { nanoseconds = n }) in
@@ -22,7 +21,7 @@ line_text f n t u =
     sym (ap (λ line. line ++ 10 ∷ []) (append_assoc date (84 ∷ time ++ offset) name)
     ∙ append_assoc date ((84 ∷ time ++ offset) ++ name) (10 ∷ [])
     ∙ ap (λ line. date ++ (84 ∷ time ++ line)) (append_assoc offset name (10 ∷ []))
-    ∙ append_assoc (signed_decimal f.year) day (84 ∷ time ++ (offset ++ (name ++ 10 ∷ []))))
+    ∙ append_assoc (signed_decimal f.year) (45 ∷ two_digits f.month ++ (45 ∷ two_digits f.month_day)) (84 ∷ time ++ (offset ++ (name ++ 10 ∷ []))))
 
 -- three pieces that are copied one after the other
 pub three_pieces : (page prefix nine suffix : List ℕ) (at len : ℕ) → at + 57 ≤ length page → length prefix ≡ 16 → length nine ≡ 9 → length suffix ≡ 32 → len ≤ 32 →
@@ -38,8 +37,7 @@ three_pieces page prefix nine suffix at len room prefix_len nine_len suffix_len 
     let second_is : take (at + 25) second ≡ take (at + 16) first ++ nine = take-put_mid (at + 16) 9 first nine (at + 25) (omega (arith, nine_len)) (omega (arith, first_size, kept, prefix_len)) in
     let written : length (take (at + 25) second) ≡ at + 25 = ap length second_is ∙ length-append (take (at + 16) first) nine ∙ omega (arith, begun, nine_len) in
     let beyond = drop 32 (drop (at + 25) second) in
-    let place : at + 25 + len ≡ length (take (at + 25) second) + len = omega (arith, written) in
-    ap (λ n. take n (take (at + 25) second ++ (suffix ++ beyond))) place
+    ap (λ n. take n (take (at + 25) second ++ (suffix ++ beyond))) (omega (arith, written))
     ∙ take-append-add (take (at + 25) second) (suffix ++ beyond) len
     ∙ ap (λ bytes. take (at + 25) second ++ bytes) (take-append-le len suffix beyond (omega (arith, few, suffix_len)))
     ∙ ap (λ bytes. bytes ++ take len suffix) (second_is ∙ ap (λ bytes. bytes ++ nine) first_is)

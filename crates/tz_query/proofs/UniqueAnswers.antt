@@ -1,26 +1,25 @@
 -- Bytes have one cut into lines, a line has a group of answer lines, and one answer.
-use Rattle.std.proofs.Common.{◌≡◌, ◌≢◌, ℕ, ◌+◌, ◌≤◌, ◌⊎◌, inl, inr, Bool, ℤ, pos, negsuc, List, [], ◌∷◌, ◌++◌, length, get_or, refl, sym, ap, ◌∙◌, subst, arith, append_assoc, length-append}
+use Rattle.std.proofs.Common.{◌≡◌, ◌≢◌, ℕ, ◌+◌, ◌⊎◌, inl, inr, ℤ, pos, negsuc, List, [], ◌∷◌, ◌++◌, length, get_or, refl, sym, ap, ◌∙◌, subst, arith, append_assoc, length-append}
 use Rattle.std.specs.Prelude.{codes, map}
 use Rattle.std.specs.Fmt.{decimal}
 use Rattle.std.specs.List.{All, AllZip, flat_map}
 use Rattle.std.proofs.Math.Seq.{get_or-append_seam}
-use Rattle.std.proofs.lemmas.Bool.Decides.{nat_tests}
 use Rattle.std.proofs.lemmas.Int.{ints}
 use Rattle.std.proofs.lemmas.List.{length-map}
 use Rattle.std.proofs.lemmas.List.Elements.{All-nil, All-cons, All-head, All-tail}
-use Rattle.tz_base.specs.Days.{is_leap, month_length, IsDateOf}
+use Rattle.tz_base.specs.Days.{is_leap, IsDateOf}
 use Rattle.tz_base.specs.declared.fields.Fields.{Fields}
 use Rattle.tz_base.specs.declared.error.tz_error.TzError.{TzError}
 use Rattle.tz_base.specs.declared.error.tz_error.TzError.TheVariants.{DateTime as FieldFault, OutOfRange, NoAvailableLocalTimeType}
-use Rattle.tz_base.specs.declared.error.datetime.DateTimeError.{DateTimeError}
-use Rattle.tz_base.specs.Fields.{IsCivil, IsFirstFault, IsReading, IsValid, reading}
+use Rattle.tz_base.specs.Fields.{IsCivil}
 use Rattle.tz_zone.specs.Table.{Zone}
 use Rattle.tz_zone.specs.Clock.{IsClock}
-use Rattle.tz.specs.DateTimes.{DateTime, ShowsByClock, IsClockFault}
-use Rattle.tz.specs.FindFaults.{IsFindFault}
-use Rattle.tz.specs.Found.{EachCanBeMade, IsFound}
-use Rattle.tz.specs.declared.datetime.found.FoundDateTimeKind.{FoundDateTimeKind}
 use Rattle.tz.specs.PrintedText.{moment_text}
+use Rattle.tz_base.proofs.CivilReadings.{month_length-le}
+use Rattle.tz_base.proofs.DateOrder.{civil_unique}
+use Rattle.tz.proofs.PromisedLists.{valid_without_fault}
+use Rattle.tz.proofs.UniqueLists.{found_unique}
+use Rattle.tz.proofs.UniqueResults.{clock_fault_unique, first_fault_unique, no_fault_where_made, no_fault_where_shown, search_fault_unique, shown_unique}
 use Rattle.tz_query.specs.Lines.{line_feed, IsLine, IsCut, AreLines, ended}
 use Rattle.tz_query.specs.Numbers.{AreNumbers}
 use Rattle.tz_query.specs.declared.query.lines.Query.{Query}
@@ -44,8 +43,7 @@ first_line_unique [] (x ∷ line') rest rest' is is' e = let same : x ≡ line_f
 first_line_unique (b ∷ line) [] rest rest' is is' e = let same : b ≡ line_feed = cc in absurd (All-head (λ x. x ≢ line_feed) b line is same)
 first_line_unique (b ∷ line) (x ∷ line') rest rest' is is' e =
     let first : b ≡ x = cc in
-    let beyond : line ++ line_feed ∷ rest ≡ line' ++ line_feed ∷ rest' = cc in
-    let more = first_line_unique line line' rest rest' (All-tail (λ y. y ≢ line_feed) b line is) (All-tail (λ y. y ≢ line_feed) x line' is') beyond in
+    let more = first_line_unique line line' rest rest' (All-tail (λ y. y ≢ line_feed) b line is) (All-tail (λ y. y ≢ line_feed) x line' is') cc in
     let front = more.0 in
     (cc, more.1)
 
@@ -59,13 +57,9 @@ IsLast bytes line lines = (lines ≡ []) × (bytes ≡ line)
 first_of_cut : (bytes line : List ℕ) (lines : List (List ℕ)) → IsCut bytes (line ∷ lines) → IsEnded bytes line lines ⊎ IsLast bytes line lines
 first_of_cut bytes line lines (inl is) = inl (ended lines, is, inl refl)
 first_of_cut bytes line lines (inr ([], last, split, full, is)) =
-    let none : lines ≡ [] = cc in
-    let same : last ≡ line = cc in
-    inr (none, is ∙ same)
+    inr (cc, is ∙ cc)
 first_of_cut bytes line lines (inr (x ∷ front, last, split, full, is)) =
-    let same : x ≡ line = cc in
-    let beyond : lines ≡ front ++ last ∷ [] = cc in
-    inl (ended front ++ last, is ∙ append_assoc x (line_feed ∷ ended front) last ∙ ap (λ l. l ++ line_feed ∷ (ended front ++ last)) same, inr (front, last, beyond, full, refl))
+    inl (ended front ++ last, is ∙ append_assoc x (line_feed ∷ ended front) last ∙ ap (λ l. l ++ line_feed ∷ (ended front ++ last)) cc, inr (front, last, cc, full, refl))
 
 nothing_of_cut : (bytes : List ℕ) → IsCut bytes [] → bytes ≡ []
 nothing_of_cut bytes (inl is) = is
@@ -191,23 +185,6 @@ fault_text_unique OutOfRange text text' is is' = is ∙ sym is'
 fault_text_unique NoAvailableLocalTimeType text text' is is' = is ∙ sym is'
 fault_text_unique _ text text' is is' = absurd is
 
--- what laws of `tz_base` and `tz` say: civil fields, lookups, errors of fields and searches are unique
-pub record Laws : Type 0 where
-  pub civil : (x : ℤ) (n : ℕ) (f g : Fields) → IsCivil x n f → IsCivil x n g → f ≡ g
-  pub shown : (z : Zone) (u : ℤ) (n : ℕ) (d e : DateTime) → ShowsByClock z u n d → ShowsByClock z u n e → d ≡ e
-  pub not_shown : (z : Zone) (u : ℤ) (n : ℕ) (e e' : TzError) → IsClockFault z u n e → IsClockFault z u n e' → e ≡ e'
-  pub shown_or_not : (z : Zone) (u : ℤ) (n : ℕ) (d : DateTime) (e : TzError) → ShowsByClock z u n d → IsReading (reading d.fields) → ¬ IsClockFault z u n e
-  pub first_fault : (f : Fields) (a b : DateTimeError) → IsFirstFault f a → IsFirstFault f b → a ≡ b
-  pub valid_or_fault : (f : Fields) (a : DateTimeError) → IsValid f → ¬ IsFirstFault f a
-  pub found : (z : Zone) (f : Fields) (found others : List FoundDateTimeKind) → IsFound (IsClock z) f found → IsFound (IsClock z) f others → found ≡ others
-  pub not_found : (z : Zone) (f : Fields) (e e' : TzError) → IsFindFault ⊥ (IsClock z) f e → IsFindFault ⊥ (IsClock z) f e' → e ≡ e'
-  pub found_or_not : (z : Zone) (f : Fields) (e : TzError) → IsValid f → EachCanBeMade (IsClock z) f → ¬ IsFindFault ⊥ (IsClock z) f e
-
--- no month has more than 31 days
-short_month : (leap : Bool) (month : ℕ) → month_length leap month ≤ 31
-unfolding month_length
-short_month leap month = grind (arith, nat_tests)
-
 -- the first fields of a day
 abbrev at_midnight : Fields → Fields
 at_midnight g = record { year = g.year; month = g.month; month_day = g.month_day; hour = 0; minute = 0; second = 0; nanoseconds = 0 }
@@ -217,7 +194,7 @@ day_begins day g is = record {
   valid = record {
     in_range = record {
       month = is.month_is;
-      month_day = (is.month_day_is.0, omega (arith, is.month_day_is.1, short_month (is_leap g.year) g.month));
+      month_day = (is.month_day_is.0, omega (arith, is.month_day_is.1, month_length-le (is_leap g.year) g.month));
       hour = omega arith;
       minute = omega arith;
       second = omega arith;
@@ -230,29 +207,29 @@ day_begins day g is = record {
   nanoseconds_are = refl;
 }
 
-module _ (laws : Laws) (z : Zone) where
+module _ (z : Zone) where
   -- an instant has one answer
   time_answer_unique : (u : ℤ) (n : ℕ) (answer other : List ℕ) → IsTimeAnswer z u n answer → IsTimeAnswer z u n other → answer ≡ other
-  time_answer_unique u n answer other (inl (d, shows, in_range, same)) (inl (d', shows', in_range', same')) = same ∙ ap moment_text (laws.shown z u n d d' shows shows') ∙ sym same'
-  time_answer_unique u n answer other (inl (d, shows, in_range, same)) (inr (e, text, fault, is, same')) = absurd (laws.shown_or_not z u n d e shows in_range fault)
-  time_answer_unique u n answer other (inr (e, text, fault, is, same)) (inl (d, shows, in_range, same')) = absurd (laws.shown_or_not z u n d e shows in_range fault)
+  time_answer_unique u n answer other (inl (d, shows, in_range, same)) (inl (d', shows', in_range', same')) = same ∙ ap moment_text (shown_unique z u n d d' shows shows') ∙ sym same'
+  time_answer_unique u n answer other (inl (d, shows, in_range, same)) (inr (e, text, fault, is, same')) = absurd (no_fault_where_shown z u n d e shows in_range fault)
+  time_answer_unique u n answer other (inr (e, text, fault, is, same)) (inl (d, shows, in_range, same')) = absurd (no_fault_where_shown z u n d e shows in_range fault)
   time_answer_unique u n answer other (inr (e, text, fault, is, same)) (inr (e', text', fault', is', same')) =
-      let one = fault_text_unique e text text' is (subst (λ x. IsFaultText x text') (sym (laws.not_shown z u n e e' fault fault')) is') in
+      let one = fault_text_unique e text text' is (subst (λ x. IsFaultText x text') (sym (clock_fault_unique z u n e e' fault fault')) is') in
       same ∙ ap (λ t. codes "E " ++ t) one ∙ sym same'
 
   -- fields have one answer
   search_answer_unique : (f : Fields) (answer other : List (List ℕ)) → IsSearchAnswer z f answer → IsSearchAnswer z f other → answer ≡ other
-  search_answer_unique f answer other (inl (found, valid, list, made, same)) (inl (others, valid', list', made', same')) = same ∙ ap found_lines (laws.found z f found others list list') ∙ sym same'
-  search_answer_unique f answer other (inl (found, valid, list, made, same)) (inr (e, text, fault, told, same')) = absurd (laws.found_or_not z f e valid made fault)
-  search_answer_unique f answer other (inr (e, text, fault, told, same)) (inl (found, valid, list, made, same')) = absurd (laws.found_or_not z f e valid made fault)
+  search_answer_unique f answer other (inl (found, valid, list, made, same)) (inl (others, valid', list', made', same')) = same ∙ ap found_lines (found_unique (IsClock z) f found others list list') ∙ sym same'
+  search_answer_unique f answer other (inl (found, valid, list, made, same)) (inr (e, text, fault, told, same')) = absurd (no_fault_where_made z f valid made e fault)
+  search_answer_unique f answer other (inr (e, text, fault, told, same)) (inl (found, valid, list, made, same')) = absurd (no_fault_where_made z f valid made e fault)
   search_answer_unique f answer other (inr (e, text, fault, told, same)) (inr (e', text', fault', told', same')) =
-      let one = fault_text_unique e text text' told (subst (λ x. IsFaultText x text') (sym (laws.not_found z f e e' fault fault')) told') in
+      let one = fault_text_unique e text text' told (subst (λ x. IsFaultText x text') (sym (search_fault_unique z f e e' fault fault')) told') in
       same ∙ ap (λ t. (codes "E " ++ t) ∷ []) one ∙ sym same'
 
   -- a week has one list of fields, and one answer
   week_unique : (f : Fields) (k : ℕ) (g h : Fields) → IsWeekOf f k g → IsWeekOf f k h → g ≡ h
   week_unique f k g h is is' =
-      let same = laws.civil (midnight (day_after f k)) 0 (at_midnight g) (at_midnight h) (day_begins (day_after f k) g is.date) (day_begins (day_after f k) h is'.date) in
+      let same = civil_unique (midnight (day_after f k)) 0 (at_midnight g) (at_midnight h) (day_begins (day_after f k) g is.date) (day_begins (day_after f k) h is'.date) in
       is.time ∙ ap (λ (m : Fields). record f { year = m.year; month = m.month; month_day = m.month_day }) same ∙ sym is'.time
 
   week_answer_unique : (f : Fields) (k : ℕ) (answer other : List (List ℕ)) → IsWeekAnswer z f k answer → IsWeekAnswer z f k other → answer ≡ other
@@ -275,10 +252,10 @@ module _ (laws : Laws) (z : Zone) where
   meeting_answer_unique : (count : ℕ) (f : Fields) (answer other : List (List ℕ)) → IsMeetingAnswer z count f answer → IsMeetingAnswer z count f other → answer ≡ other
   meeting_answer_unique count f answer other (inl (valid, weeks, many, are, same)) (inl (valid', others, many', are', same')) =
       same ∙ ap meeting_lines (weeks_unique f 0 weeks others (many ∙ sym many') are are') ∙ sym same'
-  meeting_answer_unique count f answer other (inl (valid, weeks, many, are, same)) (inr (fault, first, same')) = absurd (laws.valid_or_fault f fault valid first)
-  meeting_answer_unique count f answer other (inr (fault, first, same)) (inl (valid, weeks, many, are, same')) = absurd (laws.valid_or_fault f fault valid first)
+  meeting_answer_unique count f answer other (inl (valid, weeks, many, are, same)) (inr (fault, first, same')) = absurd (valid_without_fault f valid fault first)
+  meeting_answer_unique count f answer other (inr (fault, first, same)) (inl (valid, weeks, many, are, same')) = absurd (valid_without_fault f valid fault first)
   meeting_answer_unique count f answer other (inr (fault, first, same)) (inr (fault', first', same')) =
-      same ∙ ap (λ x. (codes "E " ++ field_fault_text x) ∷ []) (laws.first_fault f fault fault' first first') ∙ sym same'
+      same ∙ ap (λ x. (codes "E " ++ field_fault_text x) ∷ []) (first_fault_unique f fault fault' first first') ∙ sym same'
 
   -- what a line asks for has one answer
   query_answer_unique : (query : Query) (answer other : List (List ℕ)) → IsQueryAnswer z query answer → IsQueryAnswer z query other → answer ≡ other

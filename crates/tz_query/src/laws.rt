@@ -13,11 +13,6 @@ ghost use Rattle.tz_query.specs.Lines.{line_feed, IsLine, AreLines, ended};
 ghost use Rattle.tz_query.specs.Answers.{AreAnswers, IsAnswer, IsGroup};
 
 use tz::TimeZoneRef;
-use tz::laws::{
-    field_errors_are_unique, found_lists_are_unique, lookups_have_one_result,
-    search_errors_are_unique,
-};
-use tz_base::laws::civil_fields_are_unique;
 use tz_zone::laws::shown_types_are_sound;
 
 /// Bytes are cut into lines in one way.
@@ -58,10 +53,4 @@ pub fn pieces_are_answered_apart()
 pub fn answers_are_unique()
     ensures line { (z : Zone) (line : List ℕ) (answer other : List (List ℕ)) → IsAnswer z line answer → IsAnswer z line other → answer ≡ other }
     ensures all { (z : Zone) (queries bytes others : List ℕ) → AreAnswers z queries bytes → AreAnswers z queries others → bytes ≡ others }
-{
-    civil_fields_are_unique();
-    lookups_have_one_result();
-    field_errors_are_unique();
-    found_lists_are_unique();
-    search_errors_are_unique();
-}
+{}

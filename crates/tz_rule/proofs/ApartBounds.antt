@@ -15,9 +15,7 @@ module _ (a b : List ℤ) (a_low a_high b_low b_high : ℤ) (in_a : AreBounds a 
   -- a year has at least 365 days
   never_after_next : a_high ≤ℤ (b_low +ℤ pos 31536000) → ¬ ComesAfterNext a b
   never_after_next near (pair, below, h) =
-      let first = in_a (first_kind pair) (first_kind-below pair below) in
-      let second = in_b (second_kind pair) (second_kind-below pair below) in
-      omega (arith, ints, first.1, second.0, first_days-least pair, near, h)
+      omega (arith, ints, (in_a (first_kind pair) (first_kind-below pair below)).1, (in_b (second_kind pair) (second_kind-below pair below)).0, first_days-least pair, near, h)
 
 module _ (a b : List ℤ) (a_low a_high b_low b_high : ℤ) (in_a : AreBounds a a_low a_high) (in_b : AreBounds b b_low b_high) where
   pub no_order_changes : a_high ≤ℤ (b_low +ℤ pos 31536000) → b_high ≤ℤ (a_low +ℤ pos 31536000) → (¬ ComesFirst a b) ⊎ (¬ ComesFirst b a) → ¬ ChangesOrder a b

@@ -30,8 +30,7 @@ unfolding days_from places_from
 filter-days_from day p q same zero k d e = refl
 filter-days_from day p q same (suc n) k d e =
     let rest = filter-days_from day p q same n (k + 1) (d +ℤ pos 1) (omega (arith, ints)) in
-    let test : p d ≡ q k = ap p e ∙ same k in
-    rw test (keep_both (λ i. day +ℤ pos i) (q k) d (filter p (days_from (d +ℤ pos 1) n)) k (filter q (places_from (k + 1) n)) e rest)
+    rw (ap p e ∙ same k) (keep_both (λ i. day +ℤ pos i) (q k) d (filter p (days_from (d +ℤ pos 1) n)) k (filter q (places_from (k + 1) n)) e rest)
 
 -- the number at an index of a list is the one that is meant
 is_entry : List ℕ → ℕ → ℕ → Bool
@@ -42,9 +41,7 @@ day_at-kept : (day : ℤ) (p : ℤ → Bool) (q : ℕ → Bool) (n at place : �
 unfolding is_entry
 day_at-kept day p q n at place same is =
     let kept = filter q (places_from 0 n) in
-    let within : at < length kept = grind (arith, nat_tests) in
-    let entry : get_or kept at 0 ≡ place = grind (arith, nat_tests) in
-    rw (filter-days_from day p q same n 0 day (omega (arith, ints))) (get_or-map (λ i. day +ℤ pos i) kept at 0 (pos 0) within ∙ ap (λ i. day +ℤ pos i) entry)
+    rw (filter-days_from day p q same n 0 day (omega (arith, ints))) (get_or-map (λ i. day +ℤ pos i) kept at 0 (pos 0) (grind (arith, nat_tests)) ∙ ap (λ i. day +ℤ pos i) (grind (arith, nat_tests)))
 
 length-kept : (day : ℤ) (p : ℤ → Bool) (q : ℕ → Bool) (n : ℕ) → ((i : ℕ) → p (day +ℤ pos i) ≡ q i) → length (filter p (days_from day n)) ≡ length (filter q (places_from 0 n))
 length-kept day p q n same =

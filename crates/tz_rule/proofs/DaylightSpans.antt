@@ -51,7 +51,6 @@ module _ (r : AlternateTime) (range : IsInRuleRange r) (days : AreRuleDays r) (b
   -- from the end of a span up to the next start
   pub no_daylight_between_spans : (u last next : ℤ) → next ≡ last +ℤ pos 1 → paired_end b (end_of r) last ≤ℤ u → u <ℤ start_of r next → ¬ IsDaylight (start_of r) (end_of r) u
   no_daylight_between_spans u last next follows from to (y, end, pair, start, before) =
-      let end_is = paired_end-unique (start_of r) (end_of r) b order y end pair in
       by_lt_z last y
       (λ more. omega (arith, ints, to, start, starts.rises next y (omega (arith, ints, follows, more))))
-      (λ up. omega (arith, ints, from, before, end_is, paired_end-rises (end_of r) ends b y last up))
+      (λ up. omega (arith, ints, from, before, paired_end-unique (start_of r) (end_of r) b order y end pair, paired_end-rises (end_of r) ends b y last up))

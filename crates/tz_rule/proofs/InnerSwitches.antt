@@ -18,13 +18,11 @@ use Rattle.tz_rule.proofs.PairKinds.{year_kind-below}
 module _ (f : ℤ → ℤ) (u year : ℤ) (likely : IsLikelyYear u year) (inner : (y : ℤ) → IsInnerSwitch (f y) y) where
   pub over_before_likely : f (year -ℤ pos 1) ≤ℤ u
   over_before_likely =
-      let last = inner (year -ℤ pos 1) in
-      omega (arith, ints, last.1, likely.0, first_day-mono (year -ℤ pos 1) year (omega (arith, ints)))
+      omega (arith, ints, (inner (year -ℤ pos 1)).1, likely.0, first_day-mono (year -ℤ pos 1) year (omega (arith, ints)))
 
   pub to_come_after_likely : u <ℤ f (year +ℤ pos 1)
   to_come_after_likely =
-      let next = inner (year +ℤ pos 1) in
-      omega (arith, ints, next.0, likely.1, first_day-mono year (year +ℤ pos 1) (omega (arith, ints)))
+      omega (arith, ints, (inner (year +ℤ pos 1)).0, likely.1, first_day-mono year (year +ℤ pos 1) (omega (arith, ints)))
 
 pub determining_if_likely : (r : AlternateTime) (b : Bool) (u year : ℤ) → IsLikelyYear u year → HasInnerSwitches r → IsDeterminingYear r b u year
 determining_if_likely r b u year likely inner =
@@ -62,9 +60,7 @@ inner_by_table f table is inner y =
     let here = is.entries y in
     let low : pos 864000 ≤ℤ least_entry table 14 = grind (arith, ints) in
     let high : greatest_entry table 14 <ℤ pos 30672000 = grind (arith, ints) in
-    let least = least_entry-le table 14 (year_kind y) (year_kind-below y) in
-    let greatest = greatest_entry-ge table 14 (year_kind y) (year_kind-below y) in
-    (omega (arith, ints, here, low, least), omega (arith, ints, here, high, greatest))
+    (omega (arith, ints, here, low, least_entry-le table 14 (year_kind y) (year_kind-below y)), omega (arith, ints, here, high, greatest_entry-ge table 14 (year_kind y) (year_kind-below y)))
 
 -- an average year later or earlier by less than one, the beginnings of years are less than two days apart
 pub IsLikelyYear-by_average : (u : ℤ) (n moved : ℕ) → u +ℤ pos 67768111675987200 ≡ pos moved → n ≡ moved / 31556952 → IsLikelyYear u (pos n -ℤ pos 2147484000)

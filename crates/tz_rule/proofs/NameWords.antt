@@ -47,8 +47,7 @@ AreBytes-kept d k =
 -- the bytes are the digits of the word
 digits : (d : Designation) → IsKept d → to_le_bytes w64 (word_of d) ≡ d.bytes ++ d.len ∷ []
 digits d k =
-    let size : length (d.bytes ++ d.len ∷ []) ≡ 8 = omega (arith, length-append d.bytes (d.len ∷ []), seven_bytes d k) in
-    le_bytes_8 (d.bytes ++ d.len ∷ []) (word_of d) size (AreBytes-kept d k) refl
+    le_bytes_8 (d.bytes ++ d.len ∷ []) (word_of d) (omega (arith, length-append d.bytes (d.len ∷ []), seven_bytes d k)) (AreBytes-kept d k) refl
 
 first_seven : (xs : List ℕ) (x : ℕ) → length xs ≡ 7 → take 7 (xs ++ x ∷ []) ≡ xs
 first_seven xs x l = ap (λ n. take n (xs ++ x ∷ [])) (sym l) ∙ take-append_seam xs (x ∷ [])

@@ -25,8 +25,7 @@ unfolding day_table
 IsTableOf-local d time offset valid = record {
   size = length-map-range_with_len (seconds_in_kind d (time -ℤ offset)) 0 14;
   entries = λ year. let read = get_or-map-range_with_len (seconds_in_kind d (time -ℤ offset)) 0 14 (year_kind year) (year_kind year) (pos 0) (year_kind-below year) (omega arith) in
-      let is = local_instant-is d time offset year valid in
-      omega (arith, ints, read, is.0, place_of-kind d year);
+      omega (arith, ints, read, (local_instant-is d time offset year valid).0, place_of-kind d year);
 }
 
 pub IsTableOf-start_of : (r : AlternateTime) (table : List ℤ) → table ≡ start_table r → IsRuleDay r.dst_start → IsTableOf (start_of r) table

@@ -74,7 +74,6 @@ unfolding year_of_pair
 pair_occurs pair below =
     let found = found_below (year_of_pair pair) 28 (passes_at (λ pair. any_below (year_of_pair pair) 28) 21 pair all_pairs_occur below) in
     let place = found.0 in
-    let next : pos (1972 + place) +ℤ pos 1 ≡ pos (1973 + place) = omega (arith, ints) in
     let first = eqb (kind_of (is_leap (pos (1972 + place))) (first_week_day (1972 + place))) (first_kind pair) in
     let second = eqb (kind_of (is_leap (pos (1973 + place))) (first_week_day (1973 + place))) (second_kind pair) in
     let days = eqb (cond (is_leap (pos (1972 + place))) 366 365) (first_days pair) in
@@ -83,7 +82,7 @@ pair_occurs pair below =
       record {
         below = below;
         first_is = year_kind-model (1972 + place) ∙ means.0;
-        second_is = ap year_kind next ∙ year_kind-model (1973 + place) ∙ means.1.0;
+        second_is = ap year_kind (omega (arith, ints)) ∙ year_kind-model (1973 + place) ∙ means.1.0;
         days_are = year_length-is (pos (1972 + place)) ∙ means.1.1;
       },
     )

@@ -3,7 +3,6 @@ use Rattle.std.proofs.Common.{◌≡◌, ◌≢◌, ◌∙◌, sym, arith, rules
 use Rattle.std.specs.Prelude.{MatchOption}
 use Rattle.std.specs.Borrow.{Bor}
 use Rattle.std.proofs.lemmas.Int.{ints, by_lt_z}
-use Rattle.tz_base.specs.Days.{first_day}
 use Rattle.tz_base.proofs.DaysOfYears.{first_day_bounds}
 use Rattle.tz_rule.specs.LocalTimeType.{LocalTimeType}
 use Rattle.tz_rule.specs.Alternate.{AlternateTime}
@@ -80,8 +79,7 @@ module _ (r : AlternateTime) (differ : r.std ≢ r.dst) (switch : ℤ) (is_start
   bound : IsRuleType (Alternate r) (switch -ℤ pos 1) before → negsuc 9223372036854775807 <ℤ switch
   unfolding IsRuleType
   bound here =
-      let first : negsuc 784353015832 ≤ℤ first_day (negsuc 2147483645) = (first_day_bounds (negsuc 2147483645) (search rules)).0 in
-      omega (arith, ints, (IsInRuleYears-bounds (switch -ℤ pos 1) here.0).0, first)
+      omega (arith, ints, (IsInRuleYears-bounds (switch -ℤ pos 1) here.0).0, (first_day_bounds (negsuc 2147483645) (search rules)).0)
 
   is_change : switch ≤ℤ pos 9223372036854775807 → IsRuleType (Alternate r) (switch -ℤ pos 1) (type_by r (not is_start)) → IsRuleType (Alternate r) switch (type_by r is_start) → IsTypeChange (Alternate r) change
   is_change up_to before_is after_is =

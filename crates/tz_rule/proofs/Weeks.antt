@@ -26,8 +26,7 @@ pub week_day_of-add : (day : ℤ) (w i : ℕ) → week_day_of day ≡ pos w → 
 week_day_of-add day w i e =
     let r = remainder day in
     let same : w ≡ r.0 % 7 = same_pos w (r.0 % 7) (sym e ∙ r.1) in
-    let later : (r.0 + i) % 7 ≡ (w + i) % 7 = omega arith in
-    r.2 i ∙ ap pos later
+    r.2 i ∙ ap pos (omega arith)
 
 pub week_day_of_year-is : (year : ℤ) → (week_day_of (first_day year) ≡ pos (week_day_of_year year)) × (week_day_of_year year < 7)
 unfolding week_day_of_year

@@ -35,8 +35,7 @@ place_of d y = place_in_year d (is_leap y) (week_day_of_year y)
 pub local_instant-is : (d : RuleDay) (time offset y : ℤ) → IsRuleDay d → (local_instant d time offset y ≡ year_start y +ℤ pos (86400 * place_of d y) +ℤ time -ℤ offset) × (place_of d y ≤ 365)
 unfolding place_of
 local_instant-is d time offset y valid =
-    let day = rule_day-place d y valid in
-    (omega (arith, ints, day), place_in_year-bound d (is_leap y) (week_day_of_year y) valid)
+    (omega (arith, ints, rule_day-place d y valid), place_in_year-bound d (is_leap y) (week_day_of_year y) valid)
 
 place_of-alike : (d : RuleDay) (x y : ℤ) → is_leap x ≡ is_leap y → week_day_of_year x ≡ week_day_of_year y → place_of d x ≡ place_of d y
 unfolding place_of

@@ -19,8 +19,7 @@ instant_in-is f table is year = omega (arith, ints, is.entries year)
 same_place : (table : List ℤ) (x y : ℤ) → is_leap x ≡ is_leap y → week_day_of_year x ≡ week_day_of_year y → instant_in table x -ℤ year_start x ≡ instant_in table y -ℤ year_start y
 unfolding instant_in year_kind
 same_place table x y leap week_day =
-    let kind = ap (λ b. kind_of b (week_day_of_year x)) leap ∙ ap (kind_of (is_leap y)) week_day in
-    omega (arith, ints, ap (entry table) kind)
+    omega (arith, ints, ap (entry table) (ap (λ b. kind_of b (week_day_of_year x)) leap ∙ ap (kind_of (is_leap y)) week_day))
 
 year_length-alike : (x y : ℤ) → is_leap x ≡ is_leap y → year_length x ≡ year_length y
 year_length-alike x y leap = year_length-is x ∙ ap (λ b. cond b 366 365) leap ∙ sym (year_length-is y)
@@ -30,8 +29,7 @@ same_place_next : (table : List ℤ) (x y : ℤ) → IsAlike x y → instant_in 
 same_place_next table x y a =
     let length = year_length-alike x y a.leap in
     let week_day = week_day_of_year-next x ∙ ap (λ w. (w + year_length x) % 7) a.week_day ∙ ap (λ n. (week_day_of_year y + n) % 7) length ∙ sym (week_day_of_year-next y) in
-    let place = same_place table (x +ℤ pos 1) (y +ℤ pos 1) a.next_leap week_day in
-    omega (arith, ints, place, length, first_day-next x, first_day-next y)
+    omega (arith, ints, same_place table (x +ℤ pos 1) (y +ℤ pos 1) a.next_leap week_day, length, first_day-next x, first_day-next y)
 
 -- how far the second instant is after the first, in a year that is at the distance
 abbrev apart : List ℤ → List ℤ → ℤ → ℤ → ℤ

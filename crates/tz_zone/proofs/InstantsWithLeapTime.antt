@@ -51,8 +51,7 @@ module _ (leaps : List LeapSecond) (are : AreLeapSeconds leaps) where
   pub leap_time_low : (u l : ℤ) → IsInstant u → IsLeapTime leaps u l → negsuc 9223372036854775807 ≤ℤ l
   leap_time_low u l fits leap =
       let count = count_exists leaps are u in
-      let bounds = instant_bounds _ (leap_time_fits leaps are u count.0 count.1 fits leap.not_refused) in
-      omega (arith, ints, bounds.0, leap_time_from_count leaps are u l count.0 count.1 leap)
+      omega (arith, ints, (instant_bounds _ (leap_time_fits leaps are u count.0 count.1 fits leap.not_refused)).0, leap_time_from_count leaps are u l count.0 count.1 leap)
 
   pub past_from : (u v : ℤ) → ¬ IsBeforeStart leaps u → IsLeapTimeRefused leaps u → u ≤ℤ v → IsLeapTimeRefused leaps v
   past_from u v begun (inl before) h = absurd (begun before)

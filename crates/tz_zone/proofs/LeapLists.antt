@@ -96,20 +96,16 @@ AreSteps-from_leaps leaps are = record {
   start = start_bounds leaps are;
   first = λ h.
       let item = item_at leaps 0 h in
-      let first = are.first item.0 item.1 in
-      rw (time_at-is leaps 0 item.0 item.1) first.0;
+      rw (time_at-is leaps 0 item.0 item.1) (are.first item.0 item.1).0;
   step = step;
   rise = λ i h.
       let item = item_at leaps i (omega arith) in
       let next = item_at leaps (i + 1) h in
-      let follows = are.apart i item.0 next.0 item.1 next.1 in
-      rw (time_at-is leaps i item.0 item.1, time_at-is leaps (i + 1) next.0 next.1) follows.0;
+      rw (time_at-is leaps i item.0 item.1, time_at-is leaps (i + 1) next.0 next.1) (are.apart i item.0 next.0 item.1 next.1).0;
   apart = λ i h.
       let item = item_at leaps i (omega arith) in
       let next = item_at leaps (i + 1) (omega arith) in
-      let follows = are.apart i item.0 next.0 item.1 next.1 in
-      let apart = follows.1 (λ expiry. omega (arith, expiry.0)) in
-      rw (time_at-is leaps i item.0 item.1, time_at-is leaps (i + 1) next.0 next.1) apart.0;
+      rw (time_at-is leaps i item.0 item.1, time_at-is leaps (i + 1) next.0 next.1) ((are.apart i item.0 next.0 item.1 next.1).1 (λ expiry. omega (arith, expiry.0))).0;
 }
   where
     step : (i : ℕ) → i < length leaps → (negsuc 0 ≤ℤ (correction_before leaps (i + 1) -ℤ correction_before leaps i)) × ((correction_before leaps (i + 1) -ℤ correction_before leaps i) ≤ℤ pos 1)
@@ -230,8 +226,7 @@ IsReachedCount-from_items leaps u k within reached beyond = record {
   reached = λ i h.
       let item = item_at leaps i (omega arith) in
       let time = time_at-is leaps i item.0 item.1 in
-      let here = reached i item.0 h item.1 in
-      omega (arith, ints, here.1);
+      omega (arith, ints, (reached i item.0 h item.1).1);
   beyond = λ i low high.
       by_lt_z (u +ℤ correction_before leaps i) (time_at leaps i) (λ h. h) (λ r.
       let item = item_at leaps i high in

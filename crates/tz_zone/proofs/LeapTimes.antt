@@ -33,9 +33,7 @@ correction_unique leaps u c c' (inr (i, l, reached, is, later)) (inr (i', l', re
       | inr above ↦ elim (cases_lt i' i) [
         | inl below ↦ absurd (later' i l below reached)
         | inr above' ↦
-            let place : i' ≡ i = omega arith in
-            let same : l ≡ l' = same_Some l l' (sym reached.0 ∙ sym (ap (slice_get leaps) place) ∙ reached'.0) in
-            is ∙ ap (λ x. x.correction) same ∙ sym is'
+            is ∙ ap (λ x. x.correction) (same_Some l l' (sym reached.0 ∙ sym (ap (slice_get leaps) (omega arith)) ∙ reached'.0)) ∙ sym is'
       ]
     ]
 

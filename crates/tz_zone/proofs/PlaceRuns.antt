@@ -187,15 +187,13 @@ module _ (z : Zone) (sound : IsSoundTable z) where
         | inl less ↦ none_down z u m w none (one_type_of z m w (run.types less).0 (λ v s from to clock. one_type z v s (run.types less).0 clock (clock_since less v from to)))
         | inr over ↦
             let all : k ≡ length z.transitions = omega (arith, over, lies.0) in
-            let last : start - 1 ≡ length z.transitions - 1 = omega (arith, all, run.all all) in
-            seam all m (inr (run.change, subst (λ (i : ℕ). slice_get z.transitions i ≡ Some run.change) last run.change_is, run.effect))
+            seam all m (inr (run.change, subst (λ (i : ℕ). slice_get z.transitions i ≡ Some run.change) (omega (arith, all, run.all all)) run.change_is, run.effect))
       ]
 
 -- after a transition its type holds
 pub type_after : (z : Zone) (i : ℕ) (change : Transition) (t : LocalTimeType) → slice_get z.transitions i ≡ Some change → IsTypeAt z change.type_index t → IsTypeOfLast z (i + 1) t
 type_after z i change t at type =
-    let back : i ≡ i + 1 - 1 = omega arith in
-    inr ((λ none. absurd (omega (arith, none))), change, subst (λ (j : ℕ). slice_get z.transitions j ≡ Some change) back at, type)
+    inr ((λ none. absurd (omega (arith, none))), change, subst (λ (j : ℕ). slice_get z.transitions j ≡ Some change) (omega arith) at, type)
 
 -- what holds at places in turn, and at the next or the one before
 pub types_on : (z : Zone) (k end : ℕ) (t : LocalTimeType) → ((i : ℕ) → k ≤ i → i ≤ end → IsTypeOfLast z i t) → IsTypeOfLast z (end + 1) t → (i : ℕ) → k ≤ i → i ≤ end + 1 → IsTypeOfLast z i t

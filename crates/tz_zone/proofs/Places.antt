@@ -70,8 +70,7 @@ module _ (z : Zone) (sound : IsSoundTable z) where
     time_is = leap;
     reached = λ i change less at_i. omega (arith, ints, at.reached i change less at_i, leap_time_mono z.leap_seconds sound.leap_seconds_are low v at.time l order at.time_is leap);
     ahead = λ i change from at_i.
-        let inside = slice_get_within z.transitions i change at_i in
-        let next = slice_get-get_or z.transitions k change (omega (arith, from, inside)) in
+        let next = slice_get-get_or z.transitions k change (omega (arith, from, slice_get_within z.transitions i change at_i)) in
         ahead_from z.transitions (rising z sound) l k (get_or z.transitions k change) next (before (get_or z.transitions k change) next) i change from at_i;
   }
 
@@ -134,10 +133,8 @@ module _ (z : Zone) (sound : IsSoundTable z) where
           let here = leap_between v (omega (arith, ints, from, jump_above)) to in
           let there = reached_from z.leap_seconds sound.leap_seconds_are next.unix_leap_time jump v wide here.1.not_refused from in
           let since : next.unix_leap_time ≤ℤ here.0 = omega (arith, ints, there.2, one_leap_time z.leap_seconds v there.0 here.0 there.1 here.1) in
-          let back : k ≡ k + 1 - 1 = omega arith in
-          let here_next : slice_get z.transitions (k + 1 - 1) ≡ Some next = subst (λ (i : ℕ). slice_get z.transitions i ≡ Some next) back at_next in
           clock_at_place (k + 1) v after (slice_get_within z.transitions (k + 1) later at_later) (place_after k v here.0 next later here.1 at_next since at_later (omega (arith, ints, here.2, ahead)))
-          (inr ((λ none. absurd (omega (arith, none))), next, here_next, type))
+          (inr ((λ none. absurd (omega (arith, none))), next, (subst (λ (i : ℕ). slice_get z.transitions i ≡ Some next) (omega arith) at_next), type))
 
 -- the type after the table is that of the clock where all transitions are reached, and of one that has none
 pub clock_after_table : (list : List Transition) (parts : OtherParts) → IsSoundTable (zone_seen list parts) → (count : ℕ) → count ≡ length list → (v : ℤ) (t : LocalTimeType)
@@ -164,9 +161,8 @@ pub fault_after_table : (list : List Transition) (parts : OtherParts) → IsSoun
     → (0 < length list → IsReachedAt (zone_seen list parts) v (length list)) → MatchOption (zone_seen [] parts).extra_rule (e ≡ NoAvailableLocalTimeType) (λ rule. e ≡ OutOfRange)
     → ((t : LocalTimeType) → ¬ IsTypeAfterTable (eqb count 0) (zone_seen [] parts) v t) → IsLookupFault (zone_seen list parts) v e
 fault_after_table list parts sound zero is v e reached fault never =
-    let none = nil_from_length list (sym is) in
     let z = zone_seen [] parts in
-    rw none (fault_without z refl v e (fault_by_rule_without z sound.has_types z.extra_rule v e fault never) never)
+    rw (nil_from_length list (sym is)) (fault_without z refl v e (fault_by_rule_without z sound.has_types z.extra_rule v e fault never) never)
 fault_after_table list parts sound (suc before) is v e reached fault never =
     let z = zone_seen list parts in
     let some : 0 < length list = omega (arith, is) in

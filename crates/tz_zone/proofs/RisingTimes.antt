@@ -22,9 +22,7 @@ module _ {X : Type 0} (time : X → ℤ) (xs : List X) (rise : Rise time xs) (v 
       elim (cases_lt i (k - 1)) [
         | inl less ↦ omega (arith, ints, rise i (k - 1) x last.0 less at last.1, last.2)
         | inr more ↦
-            let place : i ≡ k - 1 = omega arith in
-            let same : x ≡ last.0 = same_Some x last.0 (sym at ∙ ap (slice_get xs) place ∙ last.1) in
-            rw same last.2
+            rw (same_Some x last.0 (sym at ∙ ap (slice_get xs) (omega arith) ∙ last.1)) last.2
       ]
 
   pub later_from_point : (k < length xs → ¬ ((x : X) × (slice_get xs k ≡ Some x) × (time x ≤ℤ v))) → (i : ℕ) (x : X) → k ≤ i → slice_get xs i ≡ Some x → v <ℤ time x
@@ -35,26 +33,22 @@ module _ {X : Type 0} (time : X → ℤ) (xs : List X) (rise : Rise time xs) (v 
       elim (cases_lt k i) [
         | inl less ↦ absurd (after (omega arith) (here.0, here.1, omega (arith, ints, rise k i here.0 x less here.1 at)))
         | inr more ↦
-            let place : k ≡ i = omega arith in
-            let same : here.0 ≡ x = same_Some here.0 x (sym here.1 ∙ ap (slice_get xs) place ∙ at) in
-            absurd (after (omega arith) (x, ap (slice_get xs) place ∙ at, not_later))
+            let same : here.0 ≡ x = same_Some here.0 x (sym here.1 ∙ ap (slice_get xs) (omega arith) ∙ at) in
+            absurd (after (omega arith) (x, ap (slice_get xs) (omega arith) ∙ at, not_later))
       ])
 
 -- the times of transitions rise
 pub transitions_rise : (transitions : List Transition) → IsRising transitions → Rise (λ (change : Transition). change.unix_leap_time) transitions
 transitions_rise transitions rising i j x y h at at' =
-    let place : i + suc (j - i - 1) ≡ j = omega arith in
-    by_steps (j - i - 1) i x y at (ap (slice_get transitions) place ∙ at')
+    by_steps (j - i - 1) i x y at (ap (slice_get transitions) (omega arith) ∙ at')
   where
     by_steps : (m i : ℕ) (x y : Transition) → slice_get transitions i ≡ Some x → slice_get transitions (i + suc m) ≡ Some y → x.unix_leap_time <ℤ y.unix_leap_time
     by_steps zero i x y at at' =
-        let next : i + 1 ≡ i + suc zero = omega arith in
-        rising i x y at (ap (slice_get transitions) next ∙ at')
+        rising i x y at (ap (slice_get transitions) (omega arith) ∙ at')
     by_steps (suc m) i x y at at' =
         let inside = slice_get_within transitions (i + suc (suc m)) y at' in
         let next : slice_get transitions (i + 1) ≡ Some (get_or transitions (i + 1) x) = slice_get-get_or transitions (i + 1) x (omega arith) in
-        let place : i + 1 + suc m ≡ i + suc (suc m) = omega arith in
-        omega (arith, ints, rising i x (get_or transitions (i + 1) x) at next, by_steps m (i + 1) (get_or transitions (i + 1) x) y next (ap (slice_get transitions) place ∙ at'))
+        omega (arith, ints, rising i x (get_or transitions (i + 1) x) at next, by_steps m (i + 1) (get_or transitions (i + 1) x) y next (ap (slice_get transitions) (omega arith) ∙ at'))
 
 pub rising : (z : Zone) → IsSoundTable z → IsRising z.transitions
 rising z sound i = (sound.transitions_are i).1
@@ -65,8 +59,7 @@ reached_through transitions rising v k change at reached i x h at' =
     elim (cases_lt i k) [
       | inl less ↦ omega (arith, ints, transitions_rise transitions rising i k x change less at' at, reached)
       | inr more ↦
-          let place : i ≡ k = omega arith in
-          rw (same_Some x change (sym at' ∙ ap (slice_get transitions) place ∙ at)) reached
+          rw (same_Some x change (sym at' ∙ ap (slice_get transitions) (omega arith) ∙ at)) reached
     ]
 
 -- where one is ahead, all after it are
@@ -75,8 +68,7 @@ ahead_from transitions rising v k change at ahead i x h at' =
     elim (cases_lt k i) [
       | inl less ↦ omega (arith, ints, transitions_rise transitions rising k i change x less at at', ahead)
       | inr more ↦
-          let place : i ≡ k = omega arith in
-          rw (same_Some x change (sym at' ∙ ap (slice_get transitions) place ∙ at)) ahead
+          rw (same_Some x change (sym at' ∙ ap (slice_get transitions) (omega arith) ∙ at)) ahead
     ]
 
 -- where the transition before a place is reached, all before it are

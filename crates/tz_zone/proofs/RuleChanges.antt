@@ -2,7 +2,6 @@
 use Rattle.std.proofs.Common.{◌≡◌, ◌≢◌, ◌∙◌, ◌-◌, inl, inr, refl, sym, ap, subst, arith, rules, ℤ, pos, negsuc, ◌+ℤ◌, ◌-ℤ◌, ◌≤ℤ◌, ◌<ℤ◌, ◌⊎◌, List, [], ◌∷◌, length, Option, Some, None}
 use Rattle.std.proofs.lemmas.Int.{ints, by_lt_z}
 use Rattle.std.proofs.lemmas.Option.{slice_get_within, same_Some}
-use Rattle.tz_base.specs.Days.{first_day}
 use Rattle.tz_base.proofs.DaysOfYears.{first_day_bounds}
 use Rattle.tz_rule.specs.LocalTimeType.{LocalTimeType}
 use Rattle.tz_rule.specs.Rule.{IsRuleType}
@@ -31,8 +30,7 @@ rule_change_bound : (rule : TransitionRule) (a b : LocalTimeType) (u : ℤ) → 
 unfolding IsRuleType
 rule_change_bound (Fixed fixed) a b u before after differ = absurd (differ (before ∙ sym after))
 rule_change_bound (Alternate rule) a b u before after differ =
-    let last : first_day (pos 2147483646) ≤ℤ pos 784351576777 = (first_day_bounds (pos 2147483645) (search rules)).1 in
-    omega (arith, ints, (IsInRuleYears-bounds u after.0).1, last)
+    omega (arith, ints, (IsInRuleYears-bounds u after.0).1, (first_day_bounds (pos 2147483645) (search rules)).1)
 
 -- there are transitions, or there are none
 pub none_or_some : (list : List Transition) → (list ≡ []) ⊎ (list ≢ [])

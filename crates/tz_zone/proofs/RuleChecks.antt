@@ -36,8 +36,7 @@ module _ (z : Zone) (rule : TransitionRule) (last : Transition) (is_rule : z.ext
 
   pub agrees_at : (t : LocalTimeType) → IsRuleTypeAt z.leap_seconds rule last.unix_leap_time t → IsTypeAt z last.type_index t → RuleAgrees z
   agrees_at t type at rule' last' e e' begun t' type' =
-      let with_rule = rw (sym (same_rule rule' e)) at type' in
-      let with_last = rw (sym (ap (λ l. l.unix_leap_time) (same_last last' e'))) at with_rule in
+      let with_last = rw (sym (ap (λ l. l.unix_leap_time) (same_last last' e'))) at (rw (sym (same_rule rule' e)) at type') in
       rw (ap (λ l. l.type_index) (sym (same_last last' e'))) (rw (sym (rule_type_at_unique z.leap_seconds rule last.unix_leap_time t t' type with_last)) at)
 
   pub not_agrees : HasBegunAt z.leap_seconds last.unix_leap_time → (t t' : LocalTimeType) → IsRuleTypeAt z.leap_seconds rule last.unix_leap_time t → IsTypeAt z last.type_index t' → t ≢ t' → ¬ RuleAgrees z

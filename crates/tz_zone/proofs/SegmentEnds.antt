@@ -79,8 +79,7 @@ module _ (z : Zone) (sound : IsSoundTable z) (u : ℤ) (k : ℕ) (fits : IsInsta
             let above : negsuc 9223372036854775807 <ℤ m = by_lt_z (negsuc 9223372036854775807) m (λ h. h) (λ h. absurd (not_least (omega (arith, ints, h, wide.low)))) in
             let instant = IsInstant-from_bounds (m -ℤ pos 1) (omega (arith, ints, above)) (omega (arith, ints, up_to, (instant_bounds u fits).1)) in
             let here = leap_unless_refused z.leap_seconds are (m -ℤ pos 1) (defined begun) in
-            let from = leap_time_low z.leap_seconds are (m -ℤ pos 1) here.0 instant here.1 in
-            absurd (omega (arith, ints, wide.least (m -ℤ pos 1) (here.0, here.1, omega (arith, ints, low, from))))
+            absurd (omega (arith, ints, wide.least (m -ℤ pos 1) (here.0, here.1, omega (arith, ints, low, leap_time_low z.leap_seconds are (m -ℤ pos 1) here.0 instant here.1))))
       ]
         where
           defined : ¬ IsBeforeStart z.leap_seconds (m -ℤ pos 1) → ¬ IsLeapTimeRefused z.leap_seconds (m -ℤ pos 1)

@@ -24,8 +24,7 @@ module _ (z : Zone) where
   pub no_change_of_same : (u : ℤ) (a b : LocalTimeType) → a ≡ b → IsClock z (u -ℤ pos 1) a → IsClock z u b → (c : Change) → c.unix_time ≡ u → ¬ IsChange z c
   no_change_of_same u a b same before after c at change =
       let before_is = subst (λ (v : ℤ). IsClock z (v -ℤ pos 1) c.before) at change.before_is in
-      let after_is = subst (λ (v : ℤ). IsClock z v c.after) at change.after_is in
-      change.differ (one_type z (u -ℤ pos 1) c.before a before_is before ∙ same ∙ one_type z u b c.after after after_is)
+      change.differ (one_type z (u -ℤ pos 1) c.before a before_is before ∙ same ∙ one_type z u b c.after after (subst (λ (v : ℤ). IsClock z v c.after) at change.after_is))
 
 pub match_none : {X : Type 0} (o : Option X) (P : Type 0) (Q : X → Type 0) → o ≡ None → P → MatchOption o P Q
 match_none None P Q e h = h

@@ -1,5 +1,5 @@
 -- Digits that are cut out of a text are text, and `parse` gives their number or says that none of its type stands there.
-use Rattle.std.proofs.Common.{◌≡◌, ℕ, leb, le-leb, ◌+◌, ◌*◌, ◌^◌, ◌<◌, ◌≤◌, ◌&&◌, Bool, true, false, cond, List, [], ◌∷◌, length, Result, sym, ap, ◌∙◌, subst, refl, inl, inr, arith, ℤ, pos}
+use Rattle.std.proofs.Common.{◌≡◌, ℕ, le-leb, ◌+◌, ◌*◌, ◌^◌, ◌<◌, ◌≤◌, ◌&&◌, Bool, true, false, cond, List, [], ◌∷◌, length, Result, sym, ap, ◌∙◌, subst, refl, inl, inr, arith, ℤ, pos}
 use Rattle.std.proofs.lemmas.Bool.{cases_lt}
 use Rattle.std.proofs.lemmas.List.{get_or_past}
 use Rattle.std.proofs.lemmas.List.Sums.{take_while-cons}
@@ -57,9 +57,7 @@ signed_number text digits rest r run h = parse_signed_digits own w32 digits r h 
 
 digit_passes : (d : ℕ) → d ≤ 9 → is_ascii_digit (d + 48) ≡ true
 digit_passes d small =
-    let low : leb 48 (d + 48) ≡ true = le-leb 48 (d + 48) (omega arith) in
-    let high : leb (d + 48) 57 ≡ true = le-leb (d + 48) 57 (omega (arith, small)) in
-    rw (low, high) refl
+    rw (le-leb 48 (d + 48) (omega arith), le-leb (d + 48) 57 (omega (arith, small))) refl
 
 digit_is : (d : ℕ) → d ≤ 9 → digit_value (d + 48) ≡ d
 digit_is d small = let told = digit_value_digit (d + 48) (omega arith, omega (arith, small)) in omega (arith, told)

@@ -151,8 +151,7 @@ unfolding rule_at
 rule_text_is_one extended text r s rest more a b =
     let day = day_is_one text r.day s.day a.0 b.0 a.1 b.1 in
     let time = time_of_rule_is_one extended b.0 r.time s.time rest more (rw day.1 at a.2) b.2 in
-    let same : rule_at r.day r.time ≡ rule_at s.day s.time = ap (λ x. rule_at x r.time) day.0 ∙ ap (λ x. rule_at s.day x) time.0 in
-    (same, time.1)
+    ((ap (λ x. rule_at x r.time) day.0 ∙ ap (λ x. rule_at s.day x) time.0), time.1)
 
 pub name_is_one : IsOne IsName
 name_is_one text x y rest more a b = elim a [

@@ -118,8 +118,7 @@ file_holds bytes z e f (inr (inr (inl (framed, there)))) = extra_rule_holds (is_
 file_holds bytes z e f (inr (inr (inr (framed, content, rule, is, inl (named, fails))))) = fails f.leap_seconds
 file_holds bytes z e f (inr (inr (inr (framed, content, rule, is, inr (holds, there))))) =
     let same : z.extra_rule ≡ rule = one_extra_rule (is_extended (part_of bytes)) (footer_of bytes) z.extra_rule rule f.rule is in
-    let zone : z ≡ zone_of_part (part_of bytes) rule = f.denotes ∙ ap (λ r. zone_of_part (part_of bytes) r) same in
-    zone_holds (zone_of_part (part_of bytes) rule) e (subst (λ (made : Zone). IsValidZone made) zone f.valid) there
+    zone_holds (zone_of_part (part_of bytes) rule) e (subst (λ (made : Zone). IsValidZone made) (f.denotes ∙ ap (λ r. zone_of_part (part_of bytes) r) same) f.valid) there
 
 -- so a reading of it is refused for memory alone
 pub refused_for_memory : (bytes : List ℕ) (z : Zone) (e : TzError) → IsTzFile bytes z → IsReadFault bytes e → e ≡ Memory alloc_error

@@ -44,5 +44,4 @@ no_name_there names index none = λ name.
     let end = name.0 in
     let below = slice_get_within names end 0 name.2 in
     let here : get_or rest (end - index) 0 ≡ 0 = get_or-drop index names (end - index) 0 ∙ get_or_at names (index + (end - index)) end (omega arith) (get_or_from_slice_get names end 0 0 name.2) in
-    let first : end - index < position_or_len (λ byte. byte == 0) rest = omega arith in
-    eqb-false (get_or rest (end - index) 0) 0 (fails_before_first (λ byte. byte == 0) rest (end - index) 0 first) here
+    eqb-false (get_or rest (end - index) 0) 0 (fails_before_first (λ byte. byte == 0) rest (end - index) 0 (omega arith)) here

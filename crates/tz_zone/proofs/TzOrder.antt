@@ -30,25 +30,21 @@ in_order_more change types n last next so_far last_is next_is later names = λ k
     rises = λ more. elim (cases_lt (k + 1) n) [
       | inl inside ↦ (so_far k h).rises inside
       | inr at ↦
-          let here : n - 1 ≡ k = omega (arith, h, at) in
-          let after : n ≡ k + 1 = omega (arith, h, at) in
-          let from : last ≡ change k = last_is (omega (arith, h)) ∙ ap change here in
-          let to : next ≡ change (k + 1) = next_is ∙ ap change after in
+          let from : last ≡ change k = last_is (omega (arith, h)) ∙ ap change (omega (arith, h, at)) in
+          let to : next ≡ change (k + 1) = next_is ∙ ap change (omega (arith, h, at)) in
           subst (λ (t : Transition). t.unix_leap_time <ℤ (change (k + 1)).unix_leap_time) from (subst (λ (t : Transition). last.unix_leap_time <ℤ t.unix_leap_time) to later)
     ];
   }
   | inr past ↦
-      let same : n ≡ k = omega (arith, below, past) in
       record {
-        type = subst (λ (t : Transition). t.type_index < types) (next_is ∙ ap change same) names;
+        type = subst (λ (t : Transition). t.type_index < types) (next_is ∙ ap change (omega (arith, below, past))) names;
         rises = λ more. absurd (omega (arith, past, more));
       }
 ]
 
 item_of : (change : ℕ → Transition) (n : ℕ) (items : List Transition) (i : ℕ) (y : Transition) → items ≡ map change (range_with_len 0 n) → slice_get items i ≡ Some y → (i < n) × (change i ≡ y)
 item_of change n items i y is at =
-    let long : length items ≡ n = ap length is ∙ length-map-range_with_len change 0 n in
-    let below : i < n = omega (arith, slice_get_within items i y at, long) in
+    let below : i < n = omega (arith, slice_get_within items i y at, (ap length is ∙ length-map-range_with_len change 0 n)) in
     (below, sym (get_or-map-range_with_len change 0 n i i y below (omega arith)) ∙ ap (λ xs. get_or xs i y) (sym is) ∙ get_or_from_slice_get items i y y at)
 
 pub places_in_order : (change : ℕ → Transition) (types n : ℕ) (items : List Transition) → items ≡ map change (range_with_len 0 n) → AreInOrder change types n → (i : ℕ) → HasTypeAtPlace items types i × RisesAtPlace items i
@@ -58,6 +54,5 @@ places_in_order change types n items is order i = (
   λ y next at at_next.
       let item = item_of change n items i y is at in
       let after = item_of change n items (i + 1) next is at_next in
-      let rises = (order i item.0).rises after.0 in
-      subst (λ (t : Transition). t.unix_leap_time <ℤ next.unix_leap_time) item.1 (subst (λ (t : Transition). (change i).unix_leap_time <ℤ t.unix_leap_time) after.1 rises),
+      subst (λ (t : Transition). t.unix_leap_time <ℤ next.unix_leap_time) item.1 (subst (λ (t : Transition). (change i).unix_leap_time <ℤ t.unix_leap_time) after.1 ((order i item.0).rises after.0)),
 )

@@ -1,11 +1,9 @@
 -- The civil fields of a total have this total.
-use Rattle.std.proofs.Common.{◌≡◌, ap, ◌∙◌, arith}
+use Rattle.std.proofs.Common.{ap, ◌∙◌, arith}
 use Rattle.std.proofs.lemmas.Int.{ints}
 use Rattle.tz_base.specs.Fields.{total_nanoseconds_of}
-use Rattle.tz.specs.DateTimes.{utc_total}
 use Rattle.tz.proofs.laws.added_durations_come_back.Goals as goal
 
 pub returns-clause-ok : goal.returns-clause-ok
 returns-clause-ok c f g d e (seconds, whole, civil) forwards =
-    let total : utc_total g ≡ total_nanoseconds_of seconds g.nanoseconds = ap (λ x. total_nanoseconds_of x g.nanoseconds) civil.reads in
-    omega (arith, ints, forwards, total ∙ whole.whole)
+    omega (arith, ints, forwards, (ap (λ x. total_nanoseconds_of x g.nanoseconds) civil.reads) ∙ whole.whole)

@@ -16,8 +16,7 @@ returns-in_err-text c =
 pub returns-in_err-fields : goal.returns-in_err-fields
 returns-in_err-fields c =
     let p = err_from_is_err_and c.from_residual-in_err-fields.result c.from_residual-in_err-fields.ensures.1 in
-    let separator = rw c.in_ok-text.ensures.ok at c.after_separator.ensures in
-    rw (p.1, p.2) (inr (c.in_ok-date.date, c.in_ok-date.text.now, c.in_ok-date.ensures, inr (tt, c.in_ok-text.text.now, separator, inl c.in_err-fields.ensures)))
+    rw (p.1, p.2) (inr (c.in_ok-date.date, c.in_ok-date.text.now, c.in_ok-date.ensures, inr (tt, c.in_ok-text.text.now, rw c.in_ok-text.ensures.ok at c.after_separator.ensures, inl c.in_err-fields.ensures)))
 
 pub returns-in_err-ut_offset : goal.returns-in_err-ut_offset
 returns-in_err-ut_offset c =
@@ -41,8 +40,7 @@ returns-in_err-expect c =
     let time = c.in_ok-fields in
     let offset = c.in_ok-ut_offset in
     let e = c.in_err-expect.ensures.err in
-    let more = sym c.is_empty.ensures ∙ not_empty c.is_empty.result (sym c.then_some.ensures ∙ e.0) in
-    let missing = inl (e.1, e.2, λ v after is. false≢true (sym more ∙ eq-eqb (length offset.text.now) 0 (ap length is.0))) in
+    let missing = inl (e.1, e.2, λ v after is. false≢true (sym (sym c.is_empty.ensures ∙ not_empty c.is_empty.result (sym c.then_some.ensures ∙ e.0)) ∙ eq-eqb (length offset.text.now) 0 (ap length is.0))) in
     rw (p.1, p.2) (inr (c.in_ok-date.date, c.in_ok-date.text.now, c.in_ok-date.ensures, inr (tt, c.in_ok-text.text.now, separator, inr (time.fields, time.text.now, time.ensures, inr (offset.ut_offset, offset.text.now, offset.ensures, missing)))))
 
 pub of_fields-requires : goal.of_fields-requires

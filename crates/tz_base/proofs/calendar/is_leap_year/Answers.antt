@@ -7,6 +7,4 @@ use Rattle.tz_base.proofs.calendar.is_leap_year.Goals as goal
 
 pub returns : goal.returns
 returns c =
-    let same = to_z-of_z w32 c.args.year c.ranges.year in
-    let moved = rw same at c.moved_year.ensures.value in
-    c.is_moved_year_leap.ensures ∙ sym (is_leap-moved c.args.year c.moved_year.result 5368710 (sym moved))
+    c.is_moved_year_leap.ensures ∙ sym (is_leap-moved c.args.year c.moved_year.result 5368710 (sym (rw (to_z-of_z w32 c.args.year c.ranges.year) at c.moved_year.ensures.value)))

@@ -34,7 +34,6 @@ returns-in_ok-from_timespec-in-Err-clause-ok c =
 pub returns-in_err-from_timespec-in-Err-clause-err : goal.returns-in_err-from_timespec-in-Err-clause-err
 returns-in_err-from_timespec-in-Err-clause-err c =
     let ok = c.in_ok-search_data.ensures.ok in
-    let entry = sym (c.entry.ensures ok.0 (ok.1 [] (omega (arith, ok.3)) refl)) ∙ c.in-Some.is in
     let p = err_from_is_err_and c.from_residual-in_err-from_timespec-in-Err.result c.from_residual-in_err-from_timespec-in-Err.ensures.1 in
     let fault = fault_is_meant (zone_of_data c.args.zone.now) c.args.disambiguation c.args.fields.now c.in-Some.entry c.in-Err.ensures.err (rw (to_z-of_z w64 c.in-Err.unix_time (search rules)) at c.in_err-from_timespec-in-Err.ensures.err) in
-    rw (p.1, p.2) (inr (ok.0, c.in-Some.entry, c.in_ok-check.ensures.ok, ok.2, c.in_ok-search_data.ensures.made, entry, fault))
+    rw (p.1, p.2) (inr (ok.0, c.in-Some.entry, c.in_ok-check.ensures.ok, ok.2, c.in_ok-search_data.ensures.made, (sym (c.entry.ensures ok.0 (ok.1 [] (omega (arith, ok.3)) refl)) ∙ c.in-Some.is), fault))

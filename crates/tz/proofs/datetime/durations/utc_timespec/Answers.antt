@@ -9,11 +9,10 @@ use Rattle.tz.proofs.datetime.durations.utc_timespec.Goals as goal
 
 pub returns-in_err-seconds-clause-in_range : goal.returns-in_err-seconds-clause-in_range
 returns-in_err-seconds-clause-in_range c =
-    let far = rw (to_z-of_z w128 c.args.total c.ranges.total) at c.in_err-seconds.ensures.none in
     rw c.from_residual.ensures (
       (λ some. absurd cc),
       (λ range.
           let is = timespec_exists c.args.total in
           let fits : SFits w64 is.0 = IsInstant-from_bounds is.0 (omega (arith, ints, range.0, is.2.whole, is.2.part)) (omega (arith, ints, range.1, is.2.whole, is.2.part)) in
-          absurd (far is.0 is.1 is.2 fits)),
+          absurd ((rw (to_z-of_z w128 c.args.total c.ranges.total) at c.in_err-seconds.ensures.none) is.0 is.1 is.2 fits)),
     )

@@ -64,21 +64,18 @@ returns-then-passes_over g c =
 
 pub shown-requires : goal.shown-requires
 shown-requires g c κs =
-    let reading_is = to_z-of_z w64 c.args.reading c.ranges.reading in
-    let second = rw reading_is at c.shown_at-second.ensures in
+    let second = rw (to_z-of_z w64 c.args.reading c.ranges.reading) at c.shown_at-second.ensures in
     ((refl, tt), rw (to_z-of_z w64 c.shown_at-second.result (search rules)) (subst (λ r. g.E.EntryTaker.takes c.args.entries.now r) (omega (arith, ints, second)) c.requires.takes.takes_reading))
 
 pub returns-then-since-first : goal.returns-then-since-first
 returns-then-since-first g c =
     let reading_is = to_z-of_z w64 c.args.reading c.ranges.reading in
     let since_is = to_z-of_z w64 c.args.since c.ranges.since in
-    let first_is = to_z-of_z w64 c.shown_at-first.result (search rules) in
     let second_is = to_z-of_z w64 c.shown_at-second.result (search rules) in
     let first = rw reading_is at c.shown_at-first.ensures in
     let second = rw reading_is at c.shown_at-second.ensures in
-    let not_over = rw (reading_is, since_is) at c.if-passes_over.ensures in
-    let late : c.args.since ≤ℤ c.shown_at-first.result = omega (arith, ints, c.if-since-first.true, first_is, since_is) in
-    let from = from_since c.args.before.now c.args.after.now first second not_over late in
+    let late : c.args.since ≤ℤ c.shown_at-first.result = omega (arith, ints, c.if-since-first.true, to_z-of_z w64 c.shown_at-first.result (search rules), since_is) in
+    let from = from_since c.args.before.now c.args.after.now first second (rw (reading_is, since_is) at c.if-passes_over.ensures) late in
     record {
       ok = on_ok_weaker c.shown.result (λ one. (Shown c.shown_at-second.result c.args.after.now ∷ [], one, λ z has. second_alone c.args.before.now c.args.after.now first second z has late from)) (rw second_is at c.shown.ensures.ok);
       err = IfErr-weaker c.shown.result _ _ (λ e refused. (Shown c.shown_at-second.result c.args.after.now, refused, λ z has. second_shown c.args.before.now c.args.after.now first second z has from)) (rw second_is at c.shown.ensures.err);
@@ -96,8 +93,7 @@ returns-in_err-shown-clause-err g c =
 
 pub shown-requires-then-since-second : goal.shown-requires-then-since-second
 shown-requires-then-since-second g c κs =
-    let reading_is = to_z-of_z w64 c.args.reading c.ranges.reading in
-    let second = rw reading_is at c.shown_at-second.ensures in
+    let second = rw (to_z-of_z w64 c.args.reading c.ranges.reading) at c.shown_at-second.ensures in
     let takes = c.requires.takes.is_taker.goes_on c.args.entries.now c.shown-2.new.self _ c.args.reading c.in_ok-shown.ensures.ok c.requires.takes.takes_reading in
     ((refl, tt), rw (to_z-of_z w64 c.shown_at-second.result (search rules)) (subst (λ r. g.E.EntryTaker.takes c.shown-2.new.self r) (omega (arith, ints, second)) takes))
 

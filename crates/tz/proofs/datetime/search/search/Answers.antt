@@ -60,9 +60,8 @@ returns g c =
     let low = c.window-low.result.0 in
     let high = c.window-low.result.1 in
     let greatest = c.args.greatest in
-    let fits_reading : SFits w64 c.reading-reading.result = search rules in
-    let low_is = end_is low r c.reading-reading.result greatest fits_reading c.ranges.greatest c.window-low.ensures.low c.reading-reading.ensures.value in
-    let high_is = end_is high r c.reading-reading.result c.args.least fits_reading c.ranges.least c.window-low.ensures.high c.reading-reading.ensures.value in
+    let low_is = end_is low r c.reading-reading.result greatest (search rules) c.ranges.greatest c.window-low.ensures.low c.reading-reading.ensures.value in
+    let high_is = end_is high r c.reading-reading.result c.args.least (search rules) c.ranges.least c.window-low.ensures.high c.reading-reading.ensures.value in
     let window = window_from_offsets z.types z.extra_rule r low high c.args.least greatest c.requires.offsets.0 c.requires.offsets.1 low_is high_is in
     let searched = rw (to_z-of_z w64 low (search rules), to_z-of_z w64 high (search rules)) at c.search_window.ensures.at_most in
     record {

@@ -1,5 +1,5 @@
 -- The clock has one type in the window, or two with a jump between them, or the segments determine what it has.
-use Rattle.std.proofs.Common.{◌≡◌, ◌∙◌, ℕ, zero, suc, ◌+◌, ◌*◌, ◌^◌, ◌<◌, ◌≤◌, Option, Some, None, [], ◌∷◌, length, inl, inr, refl, subst, arith, rules, ◌+ℤ◌, ◌-ℤ◌}
+use Rattle.std.proofs.Common.{◌≡◌, ◌∙◌, ℕ, zero, suc, ◌+◌, ◌*◌, ◌^◌, ◌<◌, ◌≤◌, Option, Some, None, [], ◌∷◌, length, inl, inr, refl, subst, arith, rules, ◌-ℤ◌}
 use Rattle.std.specs.Prelude.{MatchOption}
 use Rattle.std.proofs.lemmas.Bool.{cases_lt}
 use Rattle.std.proofs.lemmas.Int.{ints, to_z-of_z}
@@ -16,12 +16,9 @@ use Rattle.tz.proofs.datetime.search.search_window.Goals as goal
 
 pub shown-requires : goal.shown-requires
 shown-requires g c =
-    let r = c.args.reading in
-    let t = c.in-One.local_time_type.now in
     let u = c.shown_at.result in
-    let at : u ≡ r -ℤ t.ut_offset = rw (to_z-of_z w64 r c.ranges.reading) at c.shown_at.ensures in
-    let reads : r ≡ u +ℤ t.ut_offset = omega (arith, ints, at) in
-    rw (to_z-of_z w64 u (search rules)) (λ k. ((refl, tt), subst (g.E.EntryTaker.takes c.args.entries.now) reads c.requires.takes.takes_reading))
+    let at : u ≡ c.args.reading -ℤ c.in-One.local_time_type.now.ut_offset = rw (to_z-of_z w64 c.args.reading c.ranges.reading) at c.shown_at.ensures in
+    rw (to_z-of_z w64 u (search rules)) (λ k. ((refl, tt), subst (g.E.EntryTaker.takes c.args.entries.now) (omega (arith, ints, at)) c.requires.takes.takes_reading))
 
 pub walk-requires : goal.walk-requires
 walk-requires g c =
@@ -30,14 +27,13 @@ walk-requires g c =
 
 pub returns-in-One : goal.returns-in-One
 returns-in-One g c =
-    let z = zone_seen (g.V.Transitions.list c.args.view.now) c.args.parts in
     let r = c.args.reading in
     let s = c.requires.searchable in
     let t = c.in-One.local_time_type.now in
     let u = c.shown_at.result in
     let at : u ≡ r -ℤ t.ut_offset = rw (to_z-of_z w64 r c.ranges.reading) at c.shown_at.ensures in
     let types = rw (to_z-of_z w64 c.args.low c.ranges.low, to_z-of_z w64 c.args.high c.ranges.high) at c.in-One.ensures.types in
-    let once = entries_once z s.sound.leap_seconds_are r c.args.low c.args.high t u s.order s.offsets types at in
+    let once = entries_once (zone_seen (g.V.Transitions.list c.args.view.now) c.args.parts) s.sound.leap_seconds_are r c.args.low c.args.high t u s.order s.offsets types at in
     record {
       ok = on_ok_weaker c.shown.result (λ gains. (Shown u t ∷ [], gains, once, omega arith)) (rw (to_z-of_z w64 u (search rules)) at c.shown.ensures.ok);
       err = IfErr-weaker c.shown.result _ _ (λ e refused. (Shown u t, once.sound 0 (Shown u t) (omega arith), refused)) (rw (to_z-of_z w64 u (search rules)) at c.shown.ensures.err);
@@ -56,13 +52,12 @@ returns-in-Two g c =
     let jump = c.in-Two.unix_time in
     let reading_is = to_z-of_z w64 r c.ranges.reading in
     let jump_is = to_z-of_z w64 jump (search rules) in
-    let types = rw (to_z-of_z w64 low c.ranges.low, to_z-of_z w64 high c.ranges.high) at c.in-Two.ensures.types in
     let has : HasTwoTypes z r jump c.in-Two.before.now c.in-Two.after.now = record {
       leap_seconds_are = s.sound.leap_seconds_are;
       low = low;
       high = high;
       offsets_are = s.offsets;
-      types_are = types;
+      types_are = (rw (to_z-of_z w64 low c.ranges.low, to_z-of_z w64 high c.ranges.high) at c.in-Two.ensures.types);
     } in
     record {
       ok = on_ok_weaker c.give_around.result (λ given. (given.0, given.1, given.2 z has, few_entries (IsClock z) low high r s.offsets given.0 s.width (given.2 z has))) (rw (reading_is, jump_is) at c.give_around.ensures.ok);

@@ -42,8 +42,7 @@ span_from-span-requires-clause-stage g c =
     let first = c.in-Some.first in
     let high_is = to_z-of_z w64 c.args.high c.ranges.high in
     let so_far = rw (c.first_stage.ensures.same, high_is, to_z-of_z w64 first (search rules), c.loop-since.since-is) at c.loop-since.invariant in
-    let inside : c.loop-since.since ≤ℤ c.args.high = omega (arith, ints, c.loop-since-test.true, c.loop-since.since-is, high_is) in
-    rw (so_far.same, c.loop-since.since-is) (first, so_far.stage inside)
+    rw (so_far.same, c.loop-since.since-is) (first, so_far.stage (omega (arith, ints, c.loop-since-test.true, c.loop-since.since-is, high_is)))
 
 pub returns-in_err-give-clause-err : goal.returns-in_err-give-clause-err
 returns-in_err-give-clause-err g c =
@@ -54,8 +53,7 @@ returns-in_err-give-clause-err g c =
     let reading_is = to_z-of_z w64 c.args.reading c.ranges.reading in
     let last_is = to_z-of_z w64 span.last (search rules) in
     let so_far = rw (c.first_stage.ensures.same, reading_is, to_z-of_z w64 c.args.low c.ranges.low, c.loop-since.since-is) at c.loop-since.invariant in
-    let ensured = rw (so_far.same, c.loop-since.since-is) at c.span_from-span.ensures in
-    let holds = span_holds z s.sound.leap_seconds_are since span.last span.local_time_type ensured.holds in
+    let holds = span_holds z s.sound.leap_seconds_are since span.last span.local_time_type (rw (so_far.same, c.loop-since.since-is) at c.span_from-span.ensures).holds in
     let some : since ≤ℤ span.last = omega (arith, ints, c.if-since-span.true, c.loop-since.since-is, last_is) in
     let refused = rw (reading_is, c.loop-since.since-is, last_is) at c.in_err-give.ensures.err in
     let p = err_from_is_err_and c.from_residual.result c.from_residual.ensures.1 in
@@ -71,11 +69,10 @@ loop-since-smaller-then-since-span g c =
     let since = c.loop-since.since in
     let span = c.span_from-span in
     let last = span.result.last in
-    let last_fits : SFits w64 last = search rules in
     let high_is = to_z-of_z w64 high c.ranges.high in
-    let last_is = to_z-of_z w64 last last_fits in
+    let last_is = to_z-of_z w64 last (search rules) in
     let up_to = rw high_is at span.ensures.up_to in
-    let next_fits : SFits w64 (last +ℤ pos 1) = IsInstant-from_bounds (last +ℤ pos 1) (omega (arith, ints, (instant_bounds last last_fits).0)) (omega (arith, ints, up_to, c.requires.searchable.reach)) in
+    let next_fits : SFits w64 (last +ℤ pos 1) = IsInstant-from_bounds (last +ℤ pos 1) (omega (arith, ints, (instant_bounds last (search rules)).0)) (omega (arith, ints, up_to, c.requires.searchable.reach)) in
     let some : since ≤ℤ last = omega (arith, ints, c.if-since-span.true, c.loop-since.since-is, last_is) in
     let onward : c.loop-since.stage.place ≤ span.result.next.place = elim span.ensures.onward [
       | inl same ↦ omega (arith, same.0)
@@ -94,19 +91,18 @@ loop-since-preserved-then-since-span g c =
     let since = c.loop-since.since in
     let span = c.span_from-span.result in
     let last = span.last in
-    let last_fits : SFits w64 last = search rules in
     let reading_is = to_z-of_z w64 c.args.reading c.ranges.reading in
     let low_is = to_z-of_z w64 low c.ranges.low in
     let high_is = to_z-of_z w64 high c.ranges.high in
     let first_is = to_z-of_z w64 first (search rules) in
-    let last_is = to_z-of_z w64 last last_fits in
+    let last_is = to_z-of_z w64 last (search rules) in
     let since_is = c.loop-since.since-is in
     let begun = rw low_is at c.in-Some.ensures.stage in
     let so_far = rw (c.first_stage.ensures.same, reading_is, low_is, high_is, first_is, since_is) at c.loop-since.invariant in
     let ensured = rw (so_far.same, high_is, since_is) at c.span_from-span.ensures in
     let inside : since ≤ℤ high = omega (arith, ints, c.loop-since-test.true, since_is, high_is) in
     let some : since ≤ℤ last = omega (arith, ints, c.if-since-span.true, since_is, last_is) in
-    let next_fits : SFits w64 (last +ℤ pos 1) = IsInstant-from_bounds (last +ℤ pos 1) (omega (arith, ints, (instant_bounds last last_fits).0)) (omega (arith, ints, ensured.up_to, s.reach)) in
+    let next_fits : SFits w64 (last +ℤ pos 1) = IsInstant-from_bounds (last +ℤ pos 1) (omega (arith, ints, (instant_bounds last (search rules)).0)) (omega (arith, ints, ensured.up_to, s.reach)) in
     let given = rw (reading_is, since_is, last_is) at c.in_ok-give.ensures.ok in
     let holds = span_holds z s.sound.leap_seconds_are since last span.local_time_type ensured.holds in
     let stage = so_far.stage inside in
@@ -137,7 +133,6 @@ loop-since-smaller g c =
 
 pub loop-since-preserved : goal.loop-since-preserved
 loop-since-preserved g c =
-    let z = zone_seen (g.V.Transitions.list c.args.view.now) c.args.parts in
     let s = c.requires.searchable in
     let high = c.args.high in
     let first = c.in-Some.first in
@@ -152,14 +147,13 @@ loop-since-preserved g c =
     let so_far = rw (c.first_stage.ensures.same, reading_is, low_is, high_is, first_is, since_is) at c.loop-since.invariant in
     let ensured = rw (so_far.same, high_is, since_is) at c.span_from-span.ensures in
     let inside : since ≤ℤ high = omega (arith, ints, c.loop-since-test.true, since_is, high_is) in
-    let past : span.last <ℤ since = omega (arith, ints, c.if-since-span.false, since_is, to_z-of_z w64 span.last (search rules)) in
     let stage = so_far.stage inside in
     rw (c.first_stage.ensures.same, reading_is, low_is, high_is, first_is, since_is) (record {
       same = ensured.same;
       fits = so_far.fits;
-      stage = λ within. ensured.next first since stage (omega (arith, ints)) past within;
+      stage = λ within. ensured.next first since stage (omega (arith, ints)) (omega (arith, ints, c.if-since-span.false, since_is, to_z-of_z w64 span.last (search rules))) within;
       found = so_far.found;
-      looks = looks_on z s.sound c.args.low high s.reach first begun.0 c.in-Some.stage begun.1 since c.loop-since.stage stage inside
+      looks = looks_on (zone_seen (g.V.Transitions.list c.args.view.now) c.args.parts) s.sound c.args.low high s.reach first begun.0 c.in-Some.stage begun.1 since c.loop-since.stage stage inside
           (g.V.Transitions.looks c.first_stage.new.view) (g.V.Transitions.looks c.loop-since.view) (g.V.Transitions.looks c.span_from-span.new.view) span.next.place
           so_far.looks ensured.kept ensured.at_most ensured.onward ensured.within;
     })
@@ -171,9 +165,8 @@ returns-clause-ok g c =
     let r = c.args.reading in
     let low = c.args.low in
     let high = c.args.high in
-    let high_is = to_z-of_z w64 high c.ranges.high in
     let so_far = rw (c.first_stage.ensures.same, to_z-of_z w64 r c.ranges.reading, to_z-of_z w64 low c.ranges.low, c.loop-since.since-is) at c.loop-since.invariant in
-    let over : high <ℤ c.loop-since.since = omega (arith, ints, c.loop-since-test.false, c.loop-since.since-is, high_is) in
+    let over : high <ℤ c.loop-since.since = omega (arith, ints, c.loop-since-test.false, c.loop-since.since-is, to_z-of_z w64 high c.ranges.high) in
     let es = so_far.found.0 in
     let all = walked_to_end clock low high r s.offsets (lent_type c.loop-since.before) c.loop-since.since es so_far.found.2 over in
     (es, so_far.found.1, all, few_entries clock low high r s.offsets es s.width all)

@@ -2,7 +2,6 @@
 use Rattle.std.proofs.Common.{Some, arith, rules, subst, sym}
 use Rattle.std.proofs.lemmas.Int.{to_z-of_z}
 use Rattle.std.specs.Int.{w32}
-use Rattle.std.specs.Prelude.{FitsSigned}
 use Rattle.tz_base.proofs.LastSeconds.{valid_reading}
 use Rattle.tz.specs.DateTimeText.{IsDateTimeText}
 use Rattle.tz.proofs.ReadBack.{printed_is_read}
@@ -23,8 +22,7 @@ of_fields-requires c =
 pub returns-in-Some-clause-ok : goal.returns-in-Some-clause-ok
 returns-in-Some-clause-ok c =
     let (valid, below, offset) = c.in-Some.ensures.valid in
-    let fits : FitsSigned w32 c.in-Some.fields.year = search rules in
-    let read = printed_is_read c.in-Some.fields c.in-Some.ut_offset valid (λ past. omega (arith, past.5, below)) fits offset.0 offset.1 in
+    let read = printed_is_read c.in-Some.fields c.in-Some.ut_offset valid (λ past. omega (arith, past.5, below)) (search rules) offset.0 offset.1 in
     let here : IsDateTimeText c.args.text.now (record { local = c.in-Some.fields; ut_offset = Some c.in-Some.ut_offset }) =
     subst (λ text. IsDateTimeText text (record { local = c.in-Some.fields; ut_offset = Some c.in-Some.ut_offset })) (sym c.in-Some.ensures.text) read in
     subst (λ z. IsDateTimeText c.args.text.now (record { local = c.of_fields.result; ut_offset = Some z })) (sym (to_z-of_z w32 c.in-Some.ut_offset offset.0))

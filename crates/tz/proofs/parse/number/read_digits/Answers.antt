@@ -8,5 +8,4 @@ loop-place-preserved c =
     let bs = c.args.text.now in
     let loop = c.loop-place in
     let (digit, value) = c.value_of-digit.ensures.digit (omega arith) in
-    let more = digits_value_more 10 bs loop.place (omega arith) in
-    (digits_more 10 bs loop.place (omega arith) loop.invariant.0 digit, omega (arith, more, value, loop.invariant.1, c.min.ensures, c.from.ensures))
+    (digits_more 10 bs loop.place (omega arith) loop.invariant.0 digit, omega (arith, digits_value_more 10 bs loop.place (omega arith), value, loop.invariant.1, c.min.ensures, c.from.ensures))

@@ -9,11 +9,9 @@ returns-in_default c n rest is = absurd (omega (arith, bytes_of_pair rest is, c.
 pub returns-then-tens-ge10 : goal.returns-then-tens-ge10
 returns-then-tens-ge10 c n rest is =
     let bytes = bytes_of_pair rest is in
-    let tens = c.value_of-tens.ensures.only (n / 10) (omega (arith, is.0)) bytes.1 in
-    let ones = c.value_of-ones.ensures.only (n % 10) (omega arith) bytes.2 in
     elim c.then-tens-ge10.either [
-      | inl many ↦ omega (arith, many, tens, is.0)
-      | inr many ↦ omega (arith, many.1, ones)
+      | inl many ↦ omega (arith, many, c.value_of-tens.ensures.only (n / 10) (omega (arith, is.0)) bytes.1, is.0)
+      | inr many ↦ omega (arith, many.1, c.value_of-ones.ensures.only (n % 10) (omega arith) bytes.2)
     ]
 
 pub returns-then-number-least : goal.returns-then-number-least

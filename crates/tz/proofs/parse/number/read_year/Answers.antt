@@ -24,5 +24,4 @@ returns-in_err-ok-in-None c =
     let read = c.in_ok-size-in-None.ensures in
     let refused = unfit c.try_from-in-None.result _ _ c.try_from-in-None.ensures (sym c.ok-in-None.ensures.value ∙ c.in_err-ok-in-None.was) in
     rw c.from_residual-in_err-ok-in-None.ensures (no_year_without_minus c.args.text.now c.in-None.ensures (λ digits rest front are fits.
-    let same = digits_unique front read.1 in
-    refused (subst (FitsSigned w32) (omega (arith, ints, fits, read.3, ap (digits_value 10) same.0)) fits)))
+    refused (subst (FitsSigned w32) (omega (arith, ints, fits, read.3, ap (digits_value 10) (digits_unique front read.1).0)) fits)))

@@ -1,5 +1,5 @@
 -- The digits are these alone.
-use Rattle.std.proofs.Common.{◌≡◌, ◌∙◌, sym, ◌^◌, inl, inr, pos, ap, subst, arith}
+use Rattle.std.proofs.Common.{◌∙◌, sym, ◌^◌, inl, inr, pos, ap, subst, arith}
 use Rattle.std.proofs.lemmas.Bool.{cases_lt}
 use Rattle.std.proofs.lemmas.Int.{fits_signed_from_abs}
 use Rattle.std.specs.Int.{w64}
@@ -11,8 +11,7 @@ use Rattle.tz.proofs.parse.number.read_year_digits.Goals as goal
 
 pub returns-then-not-are_year_digits : goal.returns-then-not-are_year_digits
 returns-then-not-are_year_digits c digits rest front are =
-    let same = digits_unique front c.read_digits-size.ensures.digits in
-    absurd (c.if-not-are_year_digits.ensures (subst AreYearDigits same.0 are))
+    absurd (c.if-not-are_year_digits.ensures (subst AreYearDigits (digits_unique front c.read_digits-size.ensures.digits).0 are))
 
 pub returns-in_err-ok : goal.returns-in_err-ok
 returns-in_err-ok c =
@@ -22,7 +21,6 @@ returns-in_err-ok c =
     let same = digits_unique front read.ensures.digits in
     elim (cases_lt (digits_value 10 digits) (2 ^ 63)) [
       | inl few ↦
-          let size : digits_value 10 digits ≡ read.result.0 = omega (arith, few, ap (digits_value 10) same.0, read.ensures.size) in
-          absurd (refused (subst (λ n. FitsSigned w64 (pos n)) size (fits_signed_from_abs w64 (pos (digits_value 10 digits)) few)))
+          absurd (refused (subst (λ n. FitsSigned w64 (pos n)) (omega (arith, few, ap (digits_value 10) same.0, read.ensures.size)) (fits_signed_from_abs w64 (pos (digits_value 10 digits)) few)))
       | inr many ↦ many
     ])

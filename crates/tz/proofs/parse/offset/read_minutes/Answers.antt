@@ -5,5 +5,4 @@ use Rattle.tz.proofs.parse.offset.read_minutes.Goals as goal
 
 pub returns-then-hours-from-gt2147483647 : goal.returns-then-hours-from-gt2147483647
 returns-then-hours-from-gt2147483647 c minutes rest is =
-    let same = pair_unique rest c.in_ok-minutes.rest.now is.0 c.in_ok-minutes.ensures in
-    omega (arith, same.0, is.1, c.if-hours-from-gt2147483647.true, c.from.ensures)
+    omega (arith, (pair_unique rest c.in_ok-minutes.rest.now is.0 c.in_ok-minutes.ensures).0, is.1, c.if-hours-from-gt2147483647.true, c.from.ensures)

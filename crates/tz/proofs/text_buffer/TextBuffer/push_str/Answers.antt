@@ -1,5 +1,5 @@
 -- A text after a text is a text.
-use Rattle.std.proofs.Common.{◌≡◌, ◌+◌, ◌≤◌, ◌∙◌, ap, length, arith, rules}
+use Rattle.std.proofs.Common.{◌≡◌, ◌+◌, ◌∙◌, ap, length, arith, rules}
 use Rattle.std.proofs.lemmas.Slice.{take-put_mid}
 use Rattle.std.proofs.lemmas.Str.{IsUtf8-had, IsUtf8-append}
 use Rattle.tz.proofs.text_buffer.TextBuffer.push_str.Goals as goal
@@ -8,9 +8,8 @@ pub invariant_of-self : goal.invariant_of-self
 invariant_of-self c =
     let line = c.self.inside in
     let text = c.args.text.now in
-    let within : line.len ≤ length line.bytes = search rules in
     let copied : c.copy_from_slice.new.self ≡ text = c.copy_from_slice.ensures.after ∙ c.as_bytes.ensures.value in
     let end : line.len + length text ≡ line.len + length c.copy_from_slice.new.self = omega (arith, ap length copied) in (
       search rules,
-      ∣ rw (take-put_mid line.len _ line.bytes c.copy_from_slice.new.self (line.len + length text) end within, copied) (IsUtf8-append _ _ (IsUtf8-had _ c.self.invariant.1) c.utf8.text) ∣₁,
+      ∣ rw (take-put_mid line.len _ line.bytes c.copy_from_slice.new.self (line.len + length text) end (search rules), copied) (IsUtf8-append _ _ (IsUtf8-had _ c.self.invariant.1) c.utf8.text) ∣₁,
     )

@@ -9,20 +9,13 @@ use Rattle.tz_query.proofs.query.lines.fields_of.Goals as goal
 pub returns-clause-ok : goal.returns-clause-ok
 returns-clause-ok c =
     let ns = c.args.numbers.now in
-    let n0 : SFits w64 (get_or ns 0 (pos 0)) = search rules in
-    let n1 : SFits w64 (get_or ns 1 (pos 0)) = search rules in
-    let n2 : SFits w64 (get_or ns 2 (pos 0)) = search rules in
-    let n3 : SFits w64 (get_or ns 3 (pos 0)) = search rules in
-    let n4 : SFits w64 (get_or ns 4 (pos 0)) = search rules in
-    let n5 : SFits w64 (get_or ns 5 (pos 0)) = search rules in
-    let n6 : SFits w64 (get_or ns 6 (pos 0)) = search rules in
-    let year = rw (to_z-of_z w64 (get_or ns 0 (pos 0)) n0) at c.in_ok-try_from.ensures in
-    let month = unsigned_value 8 (get_or ns 1 (pos 0)) _ (rw (to_z-of_z w64 (get_or ns 1 (pos 0)) n1) at c.in_ok-try_from-2.ensures) in
-    let day = unsigned_value 8 (get_or ns 2 (pos 0)) _ (rw (to_z-of_z w64 (get_or ns 2 (pos 0)) n2) at c.in_ok-try_from-3.ensures) in
-    let hour = unsigned_value 8 (get_or ns 3 (pos 0)) _ (rw (to_z-of_z w64 (get_or ns 3 (pos 0)) n3) at c.in_ok-try_from-4.ensures) in
-    let minute = unsigned_value 8 (get_or ns 4 (pos 0)) _ (rw (to_z-of_z w64 (get_or ns 4 (pos 0)) n4) at c.in_ok-try_from-5.ensures) in
-    let second = unsigned_value 8 (get_or ns 5 (pos 0)) _ (rw (to_z-of_z w64 (get_or ns 5 (pos 0)) n5) at c.in_ok-try_from-6.ensures) in
-    let nanoseconds = unsigned_value 32 (get_or ns 6 (pos 0)) _ (rw (to_z-of_z w64 (get_or ns 6 (pos 0)) n6) at c.in_ok-try_from-7.ensures) in
+    let year = rw (to_z-of_z w64 (get_or ns 0 (pos 0)) (search rules)) at c.in_ok-try_from.ensures in
+    let month = unsigned_value 8 (get_or ns 1 (pos 0)) _ (rw (to_z-of_z w64 (get_or ns 1 (pos 0)) (search rules)) at c.in_ok-try_from-2.ensures) in
+    let day = unsigned_value 8 (get_or ns 2 (pos 0)) _ (rw (to_z-of_z w64 (get_or ns 2 (pos 0)) (search rules)) at c.in_ok-try_from-3.ensures) in
+    let hour = unsigned_value 8 (get_or ns 3 (pos 0)) _ (rw (to_z-of_z w64 (get_or ns 3 (pos 0)) (search rules)) at c.in_ok-try_from-4.ensures) in
+    let minute = unsigned_value 8 (get_or ns 4 (pos 0)) _ (rw (to_z-of_z w64 (get_or ns 4 (pos 0)) (search rules)) at c.in_ok-try_from-5.ensures) in
+    let second = unsigned_value 8 (get_or ns 5 (pos 0)) _ (rw (to_z-of_z w64 (get_or ns 5 (pos 0)) (search rules)) at c.in_ok-try_from-6.ensures) in
+    let nanoseconds = unsigned_value 32 (get_or ns 6 (pos 0)) _ (rw (to_z-of_z w64 (get_or ns 6 (pos 0)) (search rules)) at c.in_ok-try_from-7.ensures) in
     let year_fits : SFits w32 c.in_ok-try_from.field-0 = subst (SFits w32) (sym year.1) year.0 in
     rw (to_z-of_z w32 c.in_ok-try_from.field-0 year_fits) (
       record { year_fits = year_fits; month_fits = month.0; month_day_fits = day.0; hour_fits = hour.0; minute_fits = minute.0; second_fits = second.0; nanoseconds_fit = nanoseconds.0 },

@@ -16,8 +16,7 @@ returns-in_err-checked_add_unsigned-clause-none c =
     let bytes = c.args.bytes.now in
     let read = c.read_digits-size in
     let count = read.result.1 in
-    let some : 0 < length (take count bytes) = omega (arith, c.if-count-gt0.true, length-take-le count bytes read.ensures.count) in
-    let number = plain_number bytes (take count bytes) (drop count bytes) read.ensures.digits some in
+    let number = plain_number bytes (take count bytes) (drop count bytes) read.ensures.digits (omega (arith, c.if-count-gt0.true, length-take-le count bytes read.ensures.count)) in
     IfNone-anyway {P = NoNumber bytes} _ (no_other_number bytes (drop count bytes) _ number (λ fits. c.in_err-checked_add_unsigned.ensures (subst (FitsSigned w64) (omega (arith, ints, fits, read.ensures.size)) fits)))
 
 pub returns-in_err-digits-clause-none : goal.returns-in_err-digits-clause-none

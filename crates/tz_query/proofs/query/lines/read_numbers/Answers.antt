@@ -4,7 +4,6 @@ use Rattle.std.proofs.lemmas.Int.{to_z-of_z}
 use Rattle.std.proofs.lemmas.Grind.{take-set_at}
 use Rattle.std.proofs.lemmas.List.{nil_from_length, length-set, length-take-le, take_all}
 use mir.Syntax.{w64}
-use mir.Val.{SFits}
 use Rattle.tz_query.specs.Numbers.{IsNumberFront, ArePartsFront}
 use Rattle.tz_query.proofs.AnswerLines.{some_left}
 use Rattle.tz_query.proofs.NumberFronts.{parts_more, IfNone-anyway}
@@ -18,10 +17,9 @@ loop-place-preserved g c =
     let place = loop.place in
     let rest = c.in_ok-numbers.field-0-1.now in
     let n = c.in_ok-numbers.field-0-0 in
-    let fits : SFits w64 n = search rules in
     let within : place < length loop.numbers = omega (arith, loop.invariant.0, c.loop-place-test.true) in
     let parts = parts_more bytes (take place loop.numbers) loop.rest.now n rest loop.invariant.1 (c.in_ok-number.number.now, c.in_ok-number.ensures, c.in_ok-numbers.ensures.some) in
-    rw (to_z-of_z w64 n fits) (length-set loop.numbers place n ∙ loop.invariant.0, subst (λ ns. ArePartsFront bytes ns rest) (sym (take-set_at loop.numbers place (place + 1) n refl within)) parts)
+    rw (to_z-of_z w64 n (search rules)) (length-set loop.numbers place n ∙ loop.invariant.0, subst (λ ns. ArePartsFront bytes ns rest) (sym (take-set_at loop.numbers place (place + 1) n refl within)) parts)
 
 pub returns-in_err-number-clause-none : goal.returns-in_err-number-clause-none
 returns-in_err-number-clause-none g c =
@@ -39,8 +37,7 @@ returns-in_err-numbers-clause-none g c =
     let long : length read ≡ loop.place = length-take-le loop.place loop.numbers (omega (arith, loop.invariant.0, c.loop-place-test.true)) in
     IfNone-anyway {P = NoNumbers g.row.N c.args.bytes.now} _ (λ line numbers rest many fit first are.
     let (n, beyond, fits, (after, spaced, front)) = next_part c.args.bytes.now line rest loop.rest.now read numbers loop.invariant.1 (omega (arith, long, many, c.loop-place-test.true)) fit first are in
-    let same : after ≡ c.in_ok-number.number.now = cc (spaced, c.in_ok-number.ensures) in
-    c.in_err-numbers.ensures.none n beyond fits (subst (λ bs. IsNumberFront bs n beyond) same front))
+    c.in_err-numbers.ensures.none n beyond fits (subst (λ bs. IsNumberFront bs n beyond) (cc (spaced, c.in_ok-number.ensures)) front))
 
 pub returns-then-is_empty-clause-some : goal.returns-then-is_empty-clause-some
 returns-then-is_empty-clause-some g c =

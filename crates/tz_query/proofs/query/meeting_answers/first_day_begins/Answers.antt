@@ -1,9 +1,8 @@
 -- Midnight is a reading of the day less what is over of the day.
-use Rattle.std.proofs.Common.{◌≡◌, ◌<◌, ℕ, ◌+◌, ◌*◌, ◌%◌, ℤ, pos, negsuc, ◌+ℤ◌, ◌*ℤ◌, refl, ap, sym, subst, ◌∙◌, lit<, arith, rules}
+use Rattle.std.proofs.Common.{◌≡◌, ◌<◌, ℕ, ◌+◌, ◌*◌, ℤ, pos, negsuc, ◌+ℤ◌, ◌*ℤ◌, refl, ap, sym, subst, ◌∙◌, lit<, arith, rules}
 use Rattle.std.proofs.lemmas.Int.{ints, int_rem_euclid_is, to_z-of_z}
 use Rattle.std.specs.Int.{int_rem_euclid}
 use mir.Syntax.{w64}
-use mir.Val.{SFits}
 use Rattle.tz_base.specs.Fields.{day_of, reading}
 use Rattle.tz_base.specs.declared.fields.Fields.{Fields}
 use Rattle.tz.specs.DateTimes.{IsUtc}
@@ -12,11 +11,9 @@ use Rattle.tz_query.proofs.query.meeting_answers.first_day_begins.Goals.{then-fi
 
 remainder : (day : ℤ) (over : ℕ) → over < 86400 → int_rem_euclid (pos 86400 *ℤ day +ℤ pos over) (pos 86400) ≡ pos over
 remainder (pos day) over h =
-    let e : (86400 * day + over) % 86400 ≡ over = omega arith in
-    int_rem_euclid_is (pos 86400 *ℤ pos day +ℤ pos over) (pos 86400) 86400 0 (86400 * day + over) (lit< tt) refl (omega (arith, ints)) ∙ ap pos e
+    int_rem_euclid_is (pos 86400 *ℤ pos day +ℤ pos over) (pos 86400) 86400 0 (86400 * day + over) (lit< tt) refl (omega (arith, ints)) ∙ ap pos (omega arith)
 remainder (negsuc day) over h =
-    let e : over % 86400 ≡ over = omega arith in
-    int_rem_euclid_is (pos 86400 *ℤ negsuc day +ℤ pos over) (pos 86400) 86400 (day + 1) over (lit< tt) refl (omega (arith, ints)) ∙ ap pos e
+    int_rem_euclid_is (pos 86400 *ℤ negsuc day +ℤ pos over) (pos 86400) 86400 (day + 1) over (lit< tt) refl (omega (arith, ints)) ∙ ap pos (omega arith)
 
 -- what is over of the day of fields whose second is not 60
 over_of : (d : Fields) (x : ℤ) → IsUtc d → d.second < 60 → x ≡ reading d → (over : ℕ) × (over < 86400) × (int_rem_euclid x (pos 86400) ≡ pos over) × (x ≡ pos 86400 *ℤ day_of d +ℤ pos over)
@@ -40,7 +37,6 @@ returns-in-Ok-clause-ok c =
     ] in
     let x = c.unix_time-unix_time.result in
     let over = over_of date_time x utc below c.unix_time-unix_time.ensures in
-    let fits : SFits w64 x = search rules in
-    let rest = c.rem_euclid.ensures.value ∙ ap (λ y. int_rem_euclid y (pos 86400)) (to_z-of_z w64 x fits) ∙ over.2 in
+    let rest = c.rem_euclid.ensures.value ∙ ap (λ y. int_rem_euclid y (pos 86400)) (to_z-of_z w64 x (search rules)) ∙ over.2 in
     let reads = utc.reads in
     (omega (arith, ints, over, rest, same), (omega (arith, ints, over, rest, reads, c.unix_time-unix_time.ensures), omega (arith, ints, over, rest, reads, c.unix_time-unix_time.ensures)))

@@ -71,19 +71,16 @@ returns-in_err-fixed-in-text-clause-refused g c =
 
 pub returns-in-Ok-clause-ok : goal.returns-in-Ok-clause-ok
 returns-in-Ok-clause-ok g c =
-    let bytes = c.in-Ok.bytes in
-    let zone = c.in_ok-from_tz_data-in-Ok.field-0 in
-    let IsFile : List ℕ → Type 0 = λ bs. IsTzFile bs (own_zone_of zone) in
+    let IsFile : List ℕ → Type 0 = λ bs. IsTzFile bs (own_zone_of c.in_ok-from_tz_data-in-Ok.field-0) in
     names c.args.arguments.now _ c.in-text-2.len_at_least c.in-text-2.len_below
-    (inr (inl (c.in-text-2.is-text, (bytes, says_at g.F.Fn c.reader.ensures c.in-Ok.is, subst IsFile c.deref.ensures.value c.in_ok-from_tz_data-in-Ok.ensures.ok))))
+    (inr (inl (c.in-text-2.is-text, (c.in-Ok.bytes, says_at g.F.Fn c.reader.ensures c.in-Ok.is, subst IsFile c.deref.ensures.value c.in_ok-from_tz_data-in-Ok.ensures.ok))))
 
 pub returns-in_err-from_tz_data-in-Ok-clause-refused : goal.returns-in_err-from_tz_data-in-Ok-clause-refused
 returns-in_err-from_tz_data-in-Ok-clause-refused g c =
-    let bytes = c.in-Ok.bytes in
     let p = err_from_is_err_and c.from_residual-in_err-from_tz_data-in-Ok.result c.from_residual-in_err-from_tz_data-in-Ok.ensures.1 in
     let IsNone : List ℕ → Type 0 = λ bs. (zone : Zone) → ¬ IsTzFile bs zone in
     rw p.1 (λ e is. refuses c.args.arguments.now _ c.in-text-2.len_at_least c.in-text-2.len_below
-    (inr (inl (c.in-text-2.is-text, (bytes, says_at g.F.Fn c.reader.ensures c.in-Ok.is, subst IsNone c.deref.ensures.value (file_refused _ _ e c.in_err-from_tz_data-in-Ok.ensures.only (p.2 e is)))))))
+    (inr (inl (c.in-text-2.is-text, (c.in-Ok.bytes, says_at g.F.Fn c.reader.ensures c.in-Ok.is, subst IsNone c.deref.ensures.value (file_refused _ _ e c.in_err-from_tz_data-in-Ok.ensures.only (p.2 e is)))))))
 
 pub returns-in-Ok-from_posix_tz-clause-ok : goal.returns-in-Ok-from_posix_tz-clause-ok
 returns-in-Ok-from_posix_tz-clause-ok g c =
@@ -92,6 +89,5 @@ returns-in-Ok-from_posix_tz-clause-ok g c =
 pub returns-in-text-3-clause-refused : goal.returns-in-text-3-clause-refused
 returns-in-text-3-clause-refused g c = λ e is.
     let (same, other) = c.from.ensures e is in
-    let error : c.in-Err-Tz.field-0 ≡ Tz c.in-Err-Tz.error = search rules in
     refuses c.args.arguments.now _ c.in-text-3.len_at_least c.in-text-3.len_below
-    (inr (inr (c.in-text-3.is-text, text_refused _ _ _ e c.in-Err-Tz.ensures (error ∙ ap Tz same, other))))
+    (inr (inr (c.in-text-3.is-text, text_refused _ _ _ e c.in-Err-Tz.ensures ((search rules) ∙ ap Tz same, other))))

@@ -3,8 +3,6 @@ use Rattle.std.proofs.Common.{◌≡◌, ◌++◌, [], eqb-true, length, take, r
 use Rattle.std.specs.Io.KnownBytes.{Appends}
 use Rattle.std.proofs.KnownBytes.{Appends-nil, Appends-trans}
 use Rattle.std.proofs.lemmas.List.{take_rest, nil_from_length}
-use Rattle.tz_query.specs.Streams.{AreAnswersOf}
-use Rattle.tz_zone.specs.ZoneRef.{zone_of}
 use Rattle.tz_query.proofs.query.streams.run.Goals as goal
 
 pub loop-rest-init : goal.loop-rest-init
@@ -25,5 +23,4 @@ returns-clause-ok g c =
     let (done, whole, wrote) = c.loop-rest.invariant in
     let none = nil_from_length c.loop-rest.rest.now (eqb-true (length c.loop-rest.rest.now) 0 (sym c.loop-rest-test.ensures)) in
     let all : done ≡ c.in_ok-answers.answers.items = sym (whole ∙ ap (λ bs. done ++ bs) none ∙ append-nil done) ∙ c.as_slice-rest.ensures.value in
-    let are : AreAnswersOf (zone_of c.args.zone) (g.R.Read.remaining c.args.input.now) (g.R.Read.remaining c.read_to_end.new.input) c.in_ok-answers.answers.items = search rules in
-    (c.in_ok-answers.answers.items, are, subst (Appends (g.W.Write.contents c.args.out.now) (g.W.Write.contents c.loop-rest.out)) all wrote)
+    (c.in_ok-answers.answers.items, search rules, subst (Appends (g.W.Write.contents c.args.out.now) (g.W.Write.contents c.loop-rest.out)) all wrote)

@@ -1,5 +1,5 @@
 -- The digits are those up to the place that was read to.
-use Rattle.std.proofs.Common.{◌<◌, ◌≤◌, ◌+◌, length, refl, arith}
+use Rattle.std.proofs.Common.{◌<◌, ◌≤◌, ◌+◌, refl, arith}
 use Rattle.tz_query.proofs.FastNumbers.{number_at, byte_at, few_in_window, end_before, value_in_window}
 use Rattle.tz_query.proofs.query.usual_lines.read_few_digits.Goals as goal
 
@@ -18,7 +18,6 @@ returns-then-bytes-place-eq32 c =
 pub returns : goal.returns
 returns c =
     let read = c.read_digits-end in
-    let within : c.args.place ≤ length c.args.bytes.now = omega (arith, c.requires) in
     let some : c.args.place < read.result.0 = omega (arith, read.ensures.end, c.if-end-place.false) in
-    let (number, below) = number_at c.args.bytes.now c.args.place read.result.0 within read.ensures.end read.result.1 some c.if-end-place-2.false read.ensures.value in
+    let (number, below) = number_at c.args.bytes.now c.args.place read.result.0 (omega (arith, c.requires)) read.ensures.end read.result.1 some c.if-end-place-2.false read.ensures.value in
     record { number = number; bound = (below, c.if-end-place-2.false, read.ensures.within) }

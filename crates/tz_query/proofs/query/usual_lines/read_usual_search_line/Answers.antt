@@ -1,5 +1,5 @@
 -- `F`, seven numbers and LF are the first line.
-use Rattle.std.proofs.Common.{◌≡◌, ◌∷◌, ◌∙◌, ◌+◌, ℤ, drop, inl, refl, sym, subst, arith, rules}
+use Rattle.std.proofs.Common.{◌∷◌, ◌∙◌, ◌+◌, ℤ, drop, inl, refl, sym, subst, arith, rules}
 use Rattle.std.proofs.lemmas.Int.{to_z-of_z}
 use Rattle.std.proofs.lemmas.List.{take_rest}
 use mir.Syntax.{w32, w64}
@@ -20,8 +20,6 @@ returns c =
     let digits = c.in_ok-next.ensures.number in
     let n = digits.0 in
     let after = c.in_ok-number.after_year in
-    let number = c.in_ok-number.number in
-    let number_fits : SFits w64 number = search rules in
     let year = c.in_ok-year.year in
     let year_fits : SFits w32 year = search rules in
     let month = c.in_ok-month in
@@ -33,11 +31,10 @@ returns c =
     let letter = byte_at q 0 70 (omega (arith, c.if-queries-lt48.false)) c.if-queries-ne70.false in
     let space = byte_at q after 32 (omega (arith, c.if-queries-lt48.false, c.in_ok-number.ensures.end)) c.if-queries-after_year-ne32.false in
     let given = some_if {T = ℤ} {E = TryFromIntError} c.try_from.result _ _ year c.try_from.ensures (sym c.ok.ensures.value ∙ c.in_ok-year.was) in
-    let same : number ≡ year = sym (rw (to_z-of_z w64 number number_fits) at given).1 in
     let tail = line_feed ∷ drop next q in
     let parts : ArePartsFront (drop 1 q) (numbers_of f) tail = (
       drop after q,
-      subst (λ y. IsPartFront (drop 1 q) y (drop after q)) same c.in_ok-number.ensures.number,
+      subst (λ y. IsPartFront (drop 1 q) y (drop after q)) (sym (rw (to_z-of_z w64 c.in_ok-number.number (search rules)) at given).1) c.in_ok-number.ensures.number,
       (
         drop month.after_month q,
         (drop (after + 1) q, space, month.ensures.number),
@@ -66,5 +63,4 @@ returns c =
       nanoseconds_fit = omega (arith, digits.1);
     } in
     let line = line_from_front search_letter (numbers_of f) q (drop 1 q) tail (drop next q) (λ e. absurd (omega (arith, e))) letter parts (inl refl) in
-    let first = subst (IsFirstLine q line.0) (sym (take_rest q next)) line.1 in
-    rw (c.new-fields.ensures, to_z-of_z w32 year year_fits) (n, digits.1, digits.2, (line.0, first, record { line_is = line.2; fields_fit = fit }))
+    rw (c.new-fields.ensures, to_z-of_z w32 year year_fits) (n, digits.1, digits.2, (line.0, subst (IsFirstLine q line.0) (sym (take_rest q next)) line.1, record { line_is = line.2; fields_fit = fit }))

@@ -22,5 +22,4 @@ returns-clause-line c =
     let letter = byte_at q 0 84 (omega (arith, c.if-queries-lt48.false)) c.if-queries-ne84.false in
     let tail = line_feed ∷ drop next q in
     let line = line_from_front 84 (u ∷ pos n ∷ []) q (drop 1 q) tail (drop next q) (λ e. absurd (omega (arith, e))) letter (drop after q, c.in_ok-unix_time.ensures.number, (tail, digits.3, refl)) (inl refl) in
-    let first = subst (IsFirstLine q line.0) (sym (take_rest q next)) line.1 in
-    rw (to_z-of_z w64 u fits) (n, digits.1, digits.2, (line.0, first, record { line_is = line.2; seconds_fit = fits; nanoseconds_fit = few }))
+    rw (to_z-of_z w64 u fits) (n, digits.1, digits.2, (line.0, subst (IsFirstLine q line.0) (sym (take_rest q next)) line.1, record { line_is = line.2; seconds_fit = fits; nanoseconds_fit = few }))

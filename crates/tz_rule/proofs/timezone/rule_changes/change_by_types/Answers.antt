@@ -11,7 +11,5 @@ returns-then-eq c = λ rule low before after change at is.
     let a = c.in_ok-before.before in
     let b = c.in_ok-after.after in
     let same = (Decides-same_type a.now b.now).0 (sym c.eq.ensures ∙ c.if-eq.true) in
-    let before_is = subst (λ (v : ℤ). IsRuleType rule (v -ℤ pos 1) change.before) at is.before_is in
-    let after_is = subst (λ (v : ℤ). IsRuleType rule v change.after) at is.after_is in
-    is.differ (rule_type_unique rule (u -ℤ pos 1) change.before a.now before_is (rw c.in_ok-before.was at before) ∙ same
-    ∙ sym (rule_type_unique rule u change.after b.now after_is (rw c.in_ok-after.was at after)))
+    is.differ (rule_type_unique rule (u -ℤ pos 1) change.before a.now (subst (λ (v : ℤ). IsRuleType rule (v -ℤ pos 1) change.before) at is.before_is) (rw c.in_ok-before.was at before) ∙ same
+    ∙ sym (rule_type_unique rule u change.after b.now (subst (λ (v : ℤ). IsRuleType rule v change.after) at is.after_is) (rw c.in_ok-after.was at after)))

@@ -13,8 +13,7 @@ pub returns-then-year-lt-FIRST_YEAR-clause-none : goal.returns-then-year-lt-FIRS
 returns-then-year-lt-FIRST_YEAR-clause-none c =
     let u = c.args.unix_time in
     let civil = rw (to_z-of_z w64 u c.ranges.unix_time) at c.from_reading-year.ensures in
-    let here = IsUtcYear-from_civil u 0 c.from_reading-year.result civil in
-    λ (y, is, h). let same = utc_year_unique u y c.from_reading-year.result.year is here in
+    λ (y, is, h). let same = utc_year_unique u y c.from_reading-year.result.year is (IsUtcYear-from_civil u 0 c.from_reading-year.result civil) in
     elim c.then-year-lt-FIRST_YEAR.branch [
       | then-year-lt-FIRST_YEAR-via-then-year-lt-FIRST_YEAR w ↦ absurd (omega (arith, ints, h.0, w.if-year-lt-FIRST_YEAR.true))
       | then-year-lt-FIRST_YEAR-via-else-year-lt-FIRST_YEAR+then-year-gt-LAST_YEAR w ↦ absurd (omega (arith, ints, h.1, w.if-year-gt-LAST_YEAR.true))
@@ -24,5 +23,4 @@ pub returns-clause-some : goal.returns-clause-some
 returns-clause-some c =
     let u = c.args.unix_time in
     let civil = rw (to_z-of_z w64 u c.ranges.unix_time) at c.from_reading-year.ensures in
-    let here = IsUtcYear-from_civil u 0 c.from_reading-year.result civil in
-    rw (to_z-of_z w32 c.from_reading-year.result.year (search rules)) (here, (omega (arith, ints), omega (arith, ints)))
+    rw (to_z-of_z w32 c.from_reading-year.result.year (search rules)) (IsUtcYear-from_civil u 0 c.from_reading-year.result civil, (omega (arith, ints), omega (arith, ints)))

@@ -11,9 +11,7 @@ use Rattle.tz_rule.proofs.timezone.year_kinds.moved_year_start.Goals as goal
 pub returns-clause-start : goal.returns-clause-start
 returns-clause-start c =
     let n = c.args.moved_year in
-    let year = pos n -ℤ pos 2147484000 in
-    let moved = first_day-moved year n 5368710 (omega (arith, ints)) in
-    omega (arith, ints, moved, c.days_before_moved_year-days.ensures.value, c.days_before_moved_year-days.ensures.bound)
+    omega (arith, ints, first_day-moved (pos n -ℤ pos 2147484000) n 5368710 (omega (arith, ints)), c.days_before_moved_year-days.ensures.value, c.days_before_moved_year-days.ensures.bound)
 
 pub returns-clause-kind : goal.returns-clause-kind
 unfolding year_kind
@@ -21,9 +19,8 @@ returns-clause-kind c =
     let n = c.args.moved_year in
     let year = pos n -ℤ pos 2147484000 in
     let moved : year +ℤ pos 2147484000 ≡ pos n = omega (arith, ints) in
-    let leap = c.is_moved_year_leap.ensures ∙ sym (is_leap-moved year n 5368710 moved) in
     let week_day = c.days_over_weeks.ensures.value ∙ ap (λ d. (d + 6) % 7) c.days_before_moved_year-days.ensures.value ∙ sym (week_day_of_year-moved year n 5368710 moved) in
-    c.kind_of-kind.ensures.value ∙ ap (λ b. kind_of b c.days_over_weeks.result) leap ∙ ap (kind_of (is_leap year)) week_day
+    c.kind_of-kind.ensures.value ∙ ap (λ b. kind_of b c.days_over_weeks.result) (c.is_moved_year_leap.ensures ∙ sym (is_leap-moved year n 5368710 moved)) ∙ ap (kind_of (is_leap year)) week_day
 
 pub returns-clause-bound : goal.returns-clause-bound
 returns-clause-bound c =

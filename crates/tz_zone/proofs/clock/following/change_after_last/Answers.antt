@@ -1,5 +1,5 @@
 -- Without leap seconds the transition before the place takes effect at its time, and so the instant lies at the place.
-use Rattle.std.proofs.Common.{◌≡◌, ◌∙◌, ℕ, ◌+◌, ◌-◌, ◌<◌, refl, sym, ap, subst, arith, rules, ℤ, length, to_z}
+use Rattle.std.proofs.Common.{◌≡◌, ◌∙◌, ℕ, ◌-◌, ◌<◌, refl, sym, ap, subst, arith, rules, ℤ, length, to_z}
 use Rattle.std.proofs.lemmas.Int.{to_z-of_z}
 use Rattle.std.proofs.lemmas.Option.{slice_get_read}
 use mir.Syntax.{w64}
@@ -25,9 +25,7 @@ change_at_next-requires-clause-at c =
     let at_last = slice_get_read list _ (k - 1) last refl (omega (arith, inside)) c.index-transitions-place.is in
     let time : SFits w64 c.unix_leap_time.result = search rules in
     let m = last.unix_leap_time in
-    let fits : SFits w64 m = rw c.unix_leap_time.ensures at time in
     let same : m ≡ u = sym c.unix_leap_time.ensures ∙ sym (to_z-of_z w64 c.unix_leap_time.result time) ∙ ap (to_z w64) c.if-unix_leap_time-unix_time.false ∙ to_z-of_z w64 u c.ranges.unix_time in
-    let wide = plain_effect leaps none m (instant_bounds m fits).0 in
-    let back : k - 1 + 1 ≡ k = omega (arith, c.if-place-eq0.false) in
-    let here : IsReachedAt z m k = subst (λ (i : ℕ). IsReachedAt z m i) back (plain_place z c.requires none (k - 1) m last at_last wide) in
+    let wide = plain_effect leaps none m (instant_bounds m (rw c.unix_leap_time.ensures at time)).0 in
+    let here : IsReachedAt z m k = subst (λ (i : ℕ). IsReachedAt z m i) (omega (arith, c.if-place-eq0.false)) (plain_place z c.requires none (k - 1) m last at_last wide) in
     rw (to_z-of_z w64 u c.ranges.unix_time) (omega (arith, inside), λ _. subst (λ (v : ℤ). IsReachedAt z v k) same here)

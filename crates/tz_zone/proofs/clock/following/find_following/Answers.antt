@@ -12,12 +12,10 @@ use Rattle.tz_zone.proofs.clock.following.find_following.Goals as goal
 
 pub returns-in-Some : goal.returns-in-Some
 returns-in-Some c =
-    let z = zone_seen c.args.transitions.now c.args.parts in
     let u = c.args.unix_time in
     let since = c.in_ok-since.since in
     let walked = rw (to_z-of_z w64 u c.ranges.unix_time) at c.in_ok-since.ensures in
-    let found = rw (to_z-of_z w64 since (search rules)) at c.in-Some.ensures in
-    following_later z u since (change_of c.in-Some.change) walked.0 walked.2 found
+    following_later (zone_seen c.args.transitions.now c.args.parts) u since (change_of c.in-Some.change) walked.0 walked.2 (rw (to_z-of_z w64 since (search rules)) at c.in-Some.ensures)
 
 pub returns : goal.returns
 returns c =
@@ -37,9 +35,8 @@ returns-in_err-change c =
     let since = c.in_ok-since.since in
     let walked = rw (to_z-of_z w64 u c.ranges.unix_time) at c.in_ok-since.ensures in
     let at : list ≢ [] → IsReachedAt z since (length list) = λ some. subst (λ (j : ℕ). IsReachedAt z since j) (omega (arith, c.if-place-transitions.true)) (walked.1.1 some) in
-    let none = rw (to_z-of_z w64 since (search rules)) at c.in_err-change.ensures in
     match_none c.from_residual-in_err-change.result _ _ c.from_residual-in_err-change.ensures
-    (no_following_later z u since walked.2 (no_following_from_rule list c.args.parts c.requires since at none))
+    (no_following_later z u since walked.2 (no_following_from_rule list c.args.parts c.requires since at (rw (to_z-of_z w64 since (search rules)) at c.in_err-change.ensures)))
 
 pub returns-then-place-transitions : goal.returns-then-place-transitions
 returns-then-place-transitions c =

@@ -11,17 +11,14 @@ use Rattle.tz_zone.proofs.clock.following.following_by_rule.Goals as goal
 
 pub returns-in_err-change : goal.returns-in_err-change
 returns-in_err-change c =
-    let z = zone_seen [] c.args.parts in
-    let rule = rule_seen c.in_ok-rule.rule in
     let is = sym c.lent.ensures ∙ ap (option_map rule_seen) c.in_ok-rule.was in
     let none = rw (to_z-of_z w64 c.args.unix_time c.ranges.unix_time) at c.in_err-change.ensures in
-    match_none c.from_residual-in_err-change.result _ _ c.from_residual-in_err-change.ensures (no_following_of_rule z refl rule is c.args.unix_time none)
+    match_none c.from_residual-in_err-change.result _ _ c.from_residual-in_err-change.ensures (no_following_of_rule (zone_seen [] c.args.parts) refl (rule_seen c.in_ok-rule.rule) is c.args.unix_time none)
 
 pub returns : goal.returns
 returns c =
     let z = zone_seen [] c.args.parts in
     let rule = rule_seen c.in_ok-rule.rule in
-    let is = sym c.lent.ensures ∙ ap (option_map rule_seen) c.in_ok-rule.was in
     let k = c.in_ok-change.change in
     let found = rw (to_z-of_z w64 c.args.unix_time c.ranges.unix_time) at c.in_ok-change.ensures in
-    rw (c.new.ensures, to_z-of_z w64 k.unix_time (search rules)) (following_of_rule z refl rule is c.args.unix_time (type_change_of k) found)
+    rw (c.new.ensures, to_z-of_z w64 k.unix_time (search rules)) (following_of_rule z refl rule (sym c.lent.ensures ∙ ap (option_map rule_seen) c.in_ok-rule.was) c.args.unix_time (type_change_of k) found)

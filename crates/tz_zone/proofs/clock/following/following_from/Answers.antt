@@ -1,5 +1,5 @@
 -- From place to place, to the first change or to the last transition, and then by the rule.
-use Rattle.std.proofs.Common.{◌≡◌, ◌≢◌, ◌≤◌, ℕ, refl, subst, arith, rules, ℤ, pos, negsuc, ◌-ℤ◌, ◌<ℤ◌, [], length}
+use Rattle.std.proofs.Common.{◌≢◌, ◌≤◌, ℕ, refl, subst, arith, rules, ℤ, pos, negsuc, ◌-ℤ◌, ◌<ℤ◌, [], length}
 use Rattle.std.proofs.lemmas.Int.{ints, to_z-of_z}
 use Rattle.std.proofs.lemmas.Option.{slice_get_read}
 use mir.Syntax.{w64}
@@ -21,8 +21,7 @@ use Rattle.tz_zone.proofs.clock.following.following_from.Goals as goal
 
 at_end : (z : Zone) (k : ℕ) (v : ℤ) → LiesAt z v k → length z.transitions ≤ k → z.transitions ≢ [] → IsReachedAt z v (length z.transitions)
 at_end z k v lies end some =
-    let all : k ≡ length z.transitions = omega (arith, end, lies.0) in
-    subst (λ (j : ℕ). IsReachedAt z v j) all (lies.1 some)
+    subst (λ (j : ℕ). IsReachedAt z v j) (omega (arith, end, lies.0)) (lies.1 some)
 
 pub returns-in_err-effect : goal.returns-in_err-effect
 returns-in_err-effect c =
@@ -55,8 +54,7 @@ place_at_effect-next-requires-clause-defined c =
 
 pub type_at-after-requires-clause-before : goal.type_at-after-requires-clause-before
 type_at-after-requires-clause-before c = λ inside s type.
-    let z = zone_seen c.args.transitions.now c.args.parts in
-    clock_at_place z c.requires.sound c.place_at_effect-next.result _ s inside c.place_at_effect-next.ensures.at type
+    clock_at_place (zone_seen c.args.transitions.now c.args.parts) c.requires.sound c.place_at_effect-next.result _ s inside c.place_at_effect-next.ensures.at type
 
 -- up to the effect of the run's last transition no change comes, and right before it the clock has the type of the run
 until : (c : After-type_at-after) → (c.args.unix_time <ℤ c.in_ok-effect.effect) × (negsuc 9223372036854775807 <ℤ c.in_ok-effect.effect)
@@ -80,9 +78,8 @@ pub returns-in-Some : goal.returns-in-Some
 returns-in-Some c =
     let z = zone_seen c.args.transitions.now c.args.parts in
     let m = c.in_ok-effect.effect in
-    let fits : SFits w64 m = search rules in
     let (later, low, none, before) = until (goal.at.returns-in-Some c).After-type_at-after in
-    let found = (rw (to_z-of_z w64 m fits) at c.in-Some.ensures.change) z low before (rw (to_z-of_z w64 m fits) at c.type_at-after.ensures) in
+    let found = (rw (to_z-of_z w64 m (search rules)) at c.in-Some.ensures.change) z low before (rw (to_z-of_z w64 m (search rules)) at c.type_at-after.ensures) in
     is_following z c.args.unix_time m (change_of c.in-Some.change) later none found.0 found.1
 
 pub loop-place-preserved : goal.loop-place-preserved
@@ -103,9 +100,8 @@ returns-in_err-change c =
     let u = c.args.unix_time in
     let since = to_z w64 c.loop-place.since-bits in
     let walked = rw (to_z-of_z w64 u c.ranges.unix_time) at c.loop-place.invariant in
-    let at = at_end z c.loop-place.place since walked.1 c.loop-place-test.false in
     match_none c.from_residual-in_err-change.result _ _ c.from_residual-in_err-change.ensures
-    (no_following_later z u since walked.2 (no_following_from_rule list c.args.parts c.requires.sound since at c.in_err-change.ensures))
+    (no_following_later z u since walked.2 (no_following_from_rule list c.args.parts c.requires.sound since (at_end z c.loop-place.place since walked.1 c.loop-place-test.false) c.in_err-change.ensures))
 
 pub returns : goal.returns
 returns c =

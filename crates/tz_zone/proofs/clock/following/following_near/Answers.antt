@@ -17,5 +17,4 @@ pub returns-then-is_after_all : goal.returns-then-is_after_all
 returns-then-is_after_all c =
     let u = c.args.unix_time in
     let lies = rw (to_z-of_z w64 u c.ranges.unix_time) at (c.is_after_all.ensures c.if-is_after_all.true) in
-    let found = rw (to_z-of_z w64 u c.ranges.unix_time) at c.in_ok-change.ensures in
-    following_from_rule c.args.transitions.now c.args.parts c.requires u lies.1 (change_of c.in_ok-change.change) found
+    following_from_rule c.args.transitions.now c.args.parts c.requires u lies.1 (change_of c.in_ok-change.change) (rw (to_z-of_z w64 u c.ranges.unix_time) at c.in_ok-change.ensures)

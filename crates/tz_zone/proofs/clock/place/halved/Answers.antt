@@ -1,5 +1,5 @@
 -- A power of two that is not another one up to it is twice a power of two, which is not less than that one.
-use Rattle.std.proofs.Common.{◌≡◌, ◌∙◌, ℕ, ◌+◌, ◌/◌, sym, subst, arith}
+use Rattle.std.proofs.Common.{◌∙◌, ℕ, sym, subst, arith}
 use Rattle.std.proofs.lemmas.Int.{to_z-of_z}
 use Rattle.std.proofs.Math.Pow.{pow_mono}
 use mir.Syntax.{w64}
@@ -20,8 +20,7 @@ half-place-requires-clause-among g c =
     let (e, f, count_is, least_is, order) = c.requires.powers in
     let (k, left_is, least_within, looks) = c.loop-left.invariant.steps e f count_is least_is order in
     let half = half_power c.loop-left.left k f left_is (λ same. c.loop-left-test.true (same ∙ sym least_is)) least_within in
-    let whole : c.loop-left.left ≡ c.loop-left.left / 2 + c.loop-left.left / 2 = omega (arith, half.2, half.3) in
-    rw time_is (subst (λ (n : ℕ). IsAmongPlaces (g.V.Transitions.list c.loop-left.view) c.args.unix_leap_time c.loop-left.place n) whole (rw time_is at c.loop-left.invariant.among))
+    rw time_is (subst (λ (n : ℕ). IsAmongPlaces (g.V.Transitions.list c.loop-left.view) c.args.unix_leap_time c.loop-left.place n) (omega (arith, half.2, half.3)) (rw time_is at c.loop-left.invariant.among))
 
 pub loop-left-preserved : goal.loop-left-preserved
 loop-left-preserved g c =
@@ -43,5 +42,4 @@ returns-clause-among g c =
     let (e, f, count_is, least_is, order) = c.requires.powers in
     let (k, left_is, least_within, looks) = c.loop-left.invariant.steps e f count_is least_is order in
     let time_is = to_z-of_z w64 c.args.unix_leap_time c.ranges.unix_leap_time in
-    let all : c.loop-left.left ≡ c.args.least = omega (arith, c.loop-left-test.false) in
-    subst (λ (n : ℕ). IsAmongPlaces (g.V.Transitions.list c.loop-left.view) c.args.unix_leap_time c.loop-left.place n) all (rw time_is at c.loop-left.invariant.among)
+    subst (λ (n : ℕ). IsAmongPlaces (g.V.Transitions.list c.loop-left.view) c.args.unix_leap_time c.loop-left.place n) (omega (arith, c.loop-left-test.false)) (rw time_is at c.loop-left.invariant.among)

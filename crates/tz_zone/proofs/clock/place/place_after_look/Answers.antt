@@ -15,7 +15,6 @@ returns-then-unix_leap_time-clause-place g c =
 
 pub returns-else-unix_leap_time-clause-place : goal.returns-else-unix_leap_time-clause-place
 returns-else-unix_leap_time-clause-place g c =
-    let list = g.V.Transitions.list c.args.view.now in
     let l = c.args.unix_leap_time in
     let ahead : l <ℤ c.look.result.unix_leap_time = omega (arith, ints, c.if-unix_leap_time.false, c.unix_leap_time.ensures, to_z-of_z w64 c.unix_leap_time.result (search rules), to_z-of_z w64 l c.ranges.unix_leap_time) in
-    inr (refl, ahead_from list c.requires.rising l (c.args.later - 1) c.look.result c.look.ensures.value ahead)
+    inr (refl, ahead_from (g.V.Transitions.list c.args.view.now) c.requires.rising l (c.args.later - 1) c.look.result c.look.ensures.value ahead)

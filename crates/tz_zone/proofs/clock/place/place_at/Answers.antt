@@ -10,6 +10,5 @@ place_of-requires-clause-rising g c = rw c.look-last.ensures.same (λ i. (c.requ
 pub returns-clause-place : goal.returns-clause-place
 returns-clause-place g c =
     let l = c.in-Some.unix_leap_time in
-    let leap = rw (to_z-of_z w64 c.args.unix_time c.ranges.unix_time) at c.in-Some.ensures in
     let found = rw (c.look-last.ensures.same, to_z-of_z w64 l (search rules)) at c.place_of.ensures in
-    (found.within, record { time = l; time_is = leap; reached = found.at.0; ahead = found.at.1 })
+    (found.within, record { time = l; time_is = (rw (to_z-of_z w64 c.args.unix_time c.ranges.unix_time) at c.in-Some.ensures); reached = found.at.0; ahead = found.at.1 })

@@ -1,5 +1,5 @@
 -- Without leap seconds the last transition has taken effect at its time, and the second before lies at the place before it.
-use Rattle.std.proofs.Common.{◌≡◌, ℕ, ◌+◌, ◌-◌, ◌<◌, ◌≤◌, refl, subst, arith, rules, pos, negsuc, ◌-ℤ◌, ◌<ℤ◌, length}
+use Rattle.std.proofs.Common.{◌≡◌, ℕ, ◌-◌, ◌<◌, ◌≤◌, refl, subst, arith, rules, pos, negsuc, ◌-ℤ◌, ◌<ℤ◌, length}
 use Rattle.std.proofs.lemmas.Int.{ints, to_z-of_z}
 use Rattle.std.proofs.lemmas.Option.{slice_get_read}
 use mir.Syntax.{w64}
@@ -42,14 +42,12 @@ returns-clause-change c =
     let low : negsuc 9223372036854775807 <ℤ m = omega (arith, ints, c.if-time.false, c.unix_leap_time-time.ensures, to_z-of_z w64 c.unix_leap_time-time.result time, (instant_bounds m fits).0) in
     let wide = plain_effect leaps none m (instant_bounds m fits).0 in
     let s = c.type_of-after.result.now in
-    let back : k - 1 + 1 ≡ k = omega (arith, some) in
-    let type : IsTypeOfLast z k s = subst (λ (i : ℕ). IsTypeOfLast z i s) back (type_after z (k - 1) last s at_last c.type_of-after.ensures) in
+    let type : IsTypeOfLast z k s = subst (λ (i : ℕ). IsTypeOfLast z i s) (omega (arith, some)) (type_after z (k - 1) last s at_last c.type_of-after.ensures) in
     let types : (j : ℕ) → k ≤ j → j ≤ k → IsTypeOfLast z j s = λ j from to. let e : k ≡ j = omega (arith, from, to) in subst (λ (i : ℕ). IsTypeOfLast z i s) e type in
     let run : IsRunStart z k k m = record { some = some; up_to = omega arith; change = last; change_is = at_last; effect = wide; types = λ less. (s, types); all = λ e. refl } in
     let earlier : LiesAt z (m -ℤ pos 1) (k - 1) = (omega (arith, inside), λ more. plain_place_before z sound none (k - 1) last at_last) in
     let before = clock_before_start z sound k k m run (k - 1) earlier c.type_before-before.result.now (rw c.new.ensures at c.type_before-before.ensures.value) in
     let after = clock_at_start z sound k k m run u c.requires.at inside s type in
-    let up_to = effect_up_to z sound k k m run u c.requires.at in
     let no_change = none_since z sound k k m run u c.requires.at until (λ d above below. absurd (omega (arith, ints, above, below))) (λ all. absurd (omega (arith, all, inside))) in
     let found = (rw (to_z-of_z w64 c.unix_leap_time-time.result time, c.unix_leap_time-time.ensures) at c.change_at.ensures.change) z low before after in
-    if_some_held c.change_at.result _ _ _ found (λ x is. is_preceding z until m (change_of x) (omega (arith, ints, up_to)) no_change is.0 is.1)
+    if_some_held c.change_at.result _ _ _ found (λ x is. is_preceding z until m (change_of x) (omega (arith, ints, effect_up_to z sound k k m run u c.requires.at)) no_change is.0 is.1)

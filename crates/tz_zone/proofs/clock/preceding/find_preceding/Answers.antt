@@ -35,10 +35,7 @@ change_at_last-requires-clause-at c =
 pub preceding_from-requires-clause-walked : goal.preceding_from-requires-clause-walked
 preceding_from-requires-clause-walked c =
     let u = c.args.unix_time in
-    let last = c.in_ok-last.last in
-    let fits : SFits w64 last = search rules in
-    let walked = rw (to_z-of_z w64 u c.ranges.unix_time) at c.in_ok-last.ensures in
-    rw (to_z-of_z w64 u c.ranges.unix_time, to_z-of_z w64 last fits) walked
+    rw (to_z-of_z w64 u c.ranges.unix_time, to_z-of_z w64 c.in_ok-last.last (search rules)) (rw (to_z-of_z w64 u c.ranges.unix_time) at c.in_ok-last.ensures)
 
 one_before : (u : ℤ) → SFits w64 u → negsuc 9223372036854775807 <ℤ u → to_z w64 (of_z w64 (to_z w64 (of_z w64 u) -ℤ pos 1)) +ℤ pos 1 ≡ u
 one_before u fits low = omega (arith, ints)

@@ -19,19 +19,17 @@ one_before u fits low = omega (arith, ints)
 pub returns-in-Some : goal.returns-in-Some
 returns-in-Some c =
     let z = zone_seen c.args.transitions.now c.args.parts in
-    let last = c.args.last in
     let walked = c.requires.walked in
-    let found = rw (to_z-of_z w64 last c.ranges.last) at c.in-Some.ensures in
-    preceding_earlier z c.args.unix_time (last +ℤ pos 1) (change_of c.in-Some.change) (omega (arith, ints, walked.0)) (λ d above below. walked.2 d (omega (arith, ints, above)) below) found
+    let found = rw (to_z-of_z w64 c.args.last c.ranges.last) at c.in-Some.ensures in
+    preceding_earlier z c.args.unix_time (c.args.last +ℤ pos 1) (change_of c.in-Some.change) (omega (arith, ints, walked.0)) (λ d above below. walked.2 d (omega (arith, ints, above)) below) found
 
 pub loop-place-init : goal.loop-place-init
 loop-place-init c =
-    let z = zone_seen c.args.transitions.now c.args.parts in
     let u = c.args.unix_time in
     let last = c.args.last in
     let walked = c.requires.walked in
     let after = rw (to_z-of_z w64 last c.ranges.last) at c.in_default.ensures in
-    rw (to_z-of_z w64 u c.ranges.unix_time) (record { walked = (last, walked); seam = λ all m seam. none_joined z m last u (after all m seam) walked.2 })
+    rw (to_z-of_z w64 u c.ranges.unix_time) (record { walked = (last, walked); seam = λ all m seam. none_joined (zone_seen c.args.transitions.now c.args.parts) m last u (after all m seam) walked.2 })
 
 pub run_start-start-requires-clause-at : goal.run_start-start-requires-clause-at
 run_start-start-requires-clause-at c =
@@ -57,13 +55,11 @@ returns-in_err-earlier c =
     let (w, walked) = so_far.walked in
     let (start, m) = c.run_start-start.result in
     let run = c.run_start-start.ensures in
-    let fits : SFits w64 m = search rules in
-    let low : negsuc 9223372036854775807 <ℤ m = omega (arith, ints, c.if-effect.false, to_z-of_z w64 m fits, run.effect.low) in
-    let refused = rw (one_before m fits low) at c.in_err-earlier.ensures in
+    let low : negsuc 9223372036854775807 <ℤ m = omega (arith, ints, c.if-effect.false, to_z-of_z w64 m (search rules), run.effect.low) in
     let some = some_transitions z.transitions (start - 1) (omega (arith, run.some, run.up_to, walked.1.0)) in
     let none = none_since z c.requires.sound start _ m run w walked.1 u walked.2 so_far.seam in
     match_none c.from_residual.result _ _ c.from_residual.ensures
-    (none_before_first z c.requires.sound.leap_seconds_are some m u none (defined_at_start z c.requires.sound start _ m run w walked.1) refused.1)
+    (none_before_first z c.requires.sound.leap_seconds_are some m u none (defined_at_start z c.requires.sound start _ m run w walked.1) (rw (one_before m (search rules) low) at c.in_err-earlier.ensures).1)
 
 pub type_at-after-requires-clause-before : goal.type_at-after-requires-clause-before
 type_at-after-requires-clause-before c = λ inside s type.
@@ -100,9 +96,7 @@ loop-place-smaller c =
     let (start, m) = c.run_start-start.result in
     let run = c.run_start-start.ensures in
     let fits : SFits w64 m = search rules in
-    let low : negsuc 9223372036854775807 <ℤ m = omega (arith, ints, c.if-effect.false, to_z-of_z w64 m fits, run.effect.low) in
-    let place = rw (one_before m fits low) at c.in_ok-earlier.ensures in
-    omega (arith, run.up_to, place_earlier z c.requires.sound start _ m run _ place)
+    omega (arith, run.up_to, place_earlier z c.requires.sound start _ m run _ (rw (one_before m fits (omega (arith, ints, c.if-effect.false, to_z-of_z w64 m fits, run.effect.low))) at c.in_ok-earlier.ensures))
 
 pub loop-place-preserved : goal.loop-place-preserved
 loop-place-preserved c =
@@ -118,9 +112,8 @@ loop-place-preserved c =
     let before = clock_before_start z c.requires.sound start _ m run _ place c.type_before-before.result.now (rw c.new.ensures at c.type_before-before.ensures.value) in
     let none_at_m = (rw (to_z-of_z w64 m fits) at c.in_default-change_at.ensures.change) z low before (rw (to_z-of_z w64 m fits) at c.type_at-after.ensures) in
     let none = none_since z c.requires.sound start _ m run w walked.1 u walked.2 so_far.seam in
-    let up_to = effect_up_to z c.requires.sound start _ m run w walked.1 in
     rw (to_z-of_z w64 u c.ranges.unix_time) (record {
-      walked = (m -ℤ pos 1, (omega (arith, ints, up_to, walked.0), place, none_back z u m none none_at_m));
+      walked = (m -ℤ pos 1, (omega (arith, ints, effect_up_to z c.requires.sound start _ m run w walked.1, walked.0), place, none_back z u m none none_at_m));
       seam = λ all. absurd (omega (arith, all, place_earlier z c.requires.sound start _ m run _ place, run.up_to, walked.1.0));
     })
 

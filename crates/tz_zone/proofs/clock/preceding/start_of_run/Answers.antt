@@ -1,5 +1,5 @@
 -- The type at the place before is that of the transition before it.
-use Rattle.std.proofs.Common.{◌≡◌, ◌∙◌, ◌+◌, ◌-◌, ℕ, refl, sym, subst, arith}
+use Rattle.std.proofs.Common.{◌∙◌, ◌-◌, ℕ, refl, sym, subst, arith}
 use Rattle.std.proofs.lemmas.Option.{slice_get_read}
 use Rattle.tz_rule.specs.LocalTimeType.{LocalTimeType}
 use Rattle.tz_rule.specs.Same.{Decides-same_type}
@@ -24,9 +24,8 @@ loop-start-preserved c =
     let at = slice_get_read c.args.transitions.now _ (start - 2) change refl (omega (arith, c.loop-start-test.true, c.loop-start.invariant.up_to, c.requires.place.1)) c.index-transitions-start.is in
     let same = (Decides-same_type c.type_of.result.now t).0 (sym c.eq.ensures ∙ c.if-eq.true) in
     let type = type_after z (start - 2) change t at (subst (λ (x : LocalTimeType). IsTypeAt z change.type_index x) same c.type_of.ensures) in
-    let place : start - 2 + 1 ≡ start - 1 = omega (arith, c.loop-start-test.true) in
     record {
       some = omega (arith, c.loop-start-test.true);
       up_to = omega (arith, c.loop-start.invariant.up_to);
-      types = types_back z start c.args.place t c.loop-start.invariant.types (subst (λ (k : ℕ). IsTypeOfLast z k t) place type);
+      types = types_back z start c.args.place t c.loop-start.invariant.types (subst (λ (k : ℕ). IsTypeOfLast z k t) (omega (arith, c.loop-start-test.true)) type);
     }

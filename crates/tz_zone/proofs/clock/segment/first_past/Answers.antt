@@ -35,10 +35,8 @@ pub overflow_add-result : goal.overflow_add-result
 overflow_add-result c =
     let last = c.last_instant.result in
     let u = c.args.unix_time in
-    let fits : SFits w64 last = search rules in
-    let past = past_if_begun c.args.leap_seconds.now c.requires.leaps u c.requires.begun c.requires.refused in
-    let before = after_last c.args.leap_seconds.now c.requires.leaps last u c.last_instant.ensures.within past in
-    rw (to_z-of_z w64 last fits) (IsInstant-from_bounds (last +ℤ pos 1) (omega (arith, ints, instant_bounds last fits)) (omega (arith, ints, before, instant_bounds u c.ranges.unix_time)))
+    let before = after_last c.args.leap_seconds.now c.requires.leaps last u c.last_instant.ensures.within (past_if_begun c.args.leap_seconds.now c.requires.leaps u c.requires.begun c.requires.refused) in
+    rw (to_z-of_z w64 last (search rules)) (IsInstant-from_bounds (last +ℤ pos 1) (omega (arith, ints, instant_bounds last (search rules))) (omega (arith, ints, before, instant_bounds u c.ranges.unix_time)))
 
 pub returns : goal.returns
 returns c =

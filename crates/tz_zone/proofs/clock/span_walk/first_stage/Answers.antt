@@ -21,7 +21,6 @@ returns-in_err-place-clause-stage g c =
 
 pub returns-clause-stage : goal.returns-clause-stage
 returns-clause-stage g c =
-    let z = zone_seen (g.V.Transitions.list c.args.view.now) c.args.parts in
     let first = c.in_ok-first.first in
     let fits : SFits w64 first = search rules in
     let some = (MatchOption-at_none {o = c.args.place} _ _ c.in_default.is c.requires.place).0 in
@@ -36,5 +35,5 @@ returns-clause-stage g c =
         ahead = λ some. (at.time, at.time_is, at.ahead);
         reached = λ some. (at.time, at.time_is, at.reached);
       },
-      λ v low before. no_type_refused z some v (inl (begun.2 v low before)),
+      λ v low before. no_type_refused (zone_seen (g.V.Transitions.list c.args.view.now) c.args.parts) some v (inl (begun.2 v low before)),
     )

@@ -1,5 +1,5 @@
 -- Before the last transition the type is that of the one before the place; from there on it is the rule's.
-use Rattle.std.proofs.Common.{◌<◌, ℕ, subst, arith, length}
+use Rattle.std.proofs.Common.{ℕ, subst, arith}
 use Rattle.std.proofs.lemmas.Int.{to_z-of_z}
 use mir.Syntax.{w64}
 use Rattle.tz_zone.specs.ClockSegments.{IsReachedAt}
@@ -16,5 +16,4 @@ returns-then-place-transitions c =
 
 pub returns : goal.returns
 returns c =
-    let inside : c.args.place < length c.args.transitions.now = omega (arith, c.if-place-transitions.false, c.requires.within) in
-    c.requires.before inside c.type_before.result.now (rw c.new.ensures at c.type_before.ensures.value)
+    c.requires.before (omega (arith, c.if-place-transitions.false, c.requires.within)) c.type_before.result.now (rw c.new.ensures at c.type_before.ensures.value)

@@ -1,5 +1,5 @@
 -- The wide effect is the effect, unless it lies past 64 bits or has no leap time.
-use Rattle.std.proofs.Common.{◌≢◌, refl, sym, negsuc, rules}
+use Rattle.std.proofs.Common.{refl, sym, rules}
 use Rattle.std.proofs.lemmas.Int.{to_z-of_z}
 use mir.Syntax.{w64, w128}
 use mir.Val.{SFits}
@@ -11,14 +11,12 @@ use Rattle.tz_zone.proofs.leap.from_leap_time.effect.Goals as goal
 pub returns-in_default-clause-err : goal.returns-in_default-clause-err
 returns-in_default-clause-err c =
     let outside = rw (to_z-of_z w128 c.wide_effect.result (search rules)) at c.in_default.ensures in
-    let wide = rw (to_z-of_z w64 c.args.unix_leap_time c.ranges.unix_leap_time) at c.wide_effect.ensures in
-    (refl, effect_none c.args.leap_seconds.now c.args.unix_leap_time c.wide_effect.result wide outside)
+    (refl, effect_none c.args.leap_seconds.now c.args.unix_leap_time c.wide_effect.result (rw (to_z-of_z w64 c.args.unix_leap_time c.ranges.unix_leap_time) at c.wide_effect.ensures) outside)
 
 -- the number that is an instant
 of_effect : (c : In-Ok) → IsWideEffect c.args.leap_seconds.now c.args.unix_leap_time c.in-Ok.unix_time
 of_effect c =
-    let found = rw (to_z-of_z w128 c.wide_effect.result (search rules)) at c.in-Ok.ensures in
-    rw (to_z-of_z w64 c.args.unix_leap_time c.ranges.unix_leap_time, sym found.1) at c.wide_effect.ensures
+    rw (to_z-of_z w64 c.args.unix_leap_time c.ranges.unix_leap_time, sym (rw (to_z-of_z w128 c.wide_effect.result (search rules)) at c.in-Ok.ensures).1) at c.wide_effect.ensures
 
 pub returns-then-not-has_leap_time-clause-err : goal.returns-then-not-has_leap_time-clause-err
 returns-then-not-has_leap_time-clause-err c =
@@ -31,6 +29,4 @@ returns-clause-ok c =
     let v = c.args.unix_leap_time in
     let m = c.in-Ok.unix_time in
     let fits : SFits w64 m = search rules in
-    let defined = rw (to_z-of_z w64 m fits) at c.if-not-has_leap_time.ensures in
-    let high : v ≢ negsuc 9223372036854775807 = search rules in
-    rw (to_z-of_z w64 m fits) (effect_found c.args.leap_seconds.now v m high (of_effect (goal.at.returns-clause-ok c).In-Ok) fits defined)
+    rw (to_z-of_z w64 m fits) (effect_found c.args.leap_seconds.now v m (search rules) (of_effect (goal.at.returns-clause-ok c).In-Ok) fits (rw (to_z-of_z w64 m fits) at c.if-not-has_leap_time.ensures))

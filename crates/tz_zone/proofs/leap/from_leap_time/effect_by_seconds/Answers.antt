@@ -12,30 +12,25 @@ use Rattle.tz_zone.proofs.leap.from_leap_time.effect_by_seconds.Goals as goal
 pub returns-in_default : goal.returns-in_default
 returns-in_default c = λ u high reached.
     let m = c.wide_effect.result in
-    let outside = rw (to_z-of_z w128 m (search rules)) at c.in_default.ensures in
     let wide = rw (to_z-of_z w64 c.args.unix_leap_time c.ranges.unix_leap_time) at c.wide_effect.ensures in
-    outside (IsInstant-from_bounds m wide.low (omega (arith, ints, high, wide.least u reached)))
+    (rw (to_z-of_z w128 m (search rules)) at c.in_default.ensures) (IsInstant-from_bounds m wide.low (omega (arith, ints, high, wide.least u reached)))
 
 -- the number that is an instant
 of_effect : (c : In-Ok) → IsWideEffect c.args.leap_seconds.now c.args.unix_leap_time c.in-Ok.effect
 of_effect c =
-    let found = rw (to_z-of_z w128 c.wide_effect.result (search rules)) at c.in-Ok.ensures in
-    rw (to_z-of_z w64 c.args.unix_leap_time c.ranges.unix_leap_time, sym found.1) at c.wide_effect.ensures
+    rw (to_z-of_z w64 c.args.unix_leap_time c.ranges.unix_leap_time, sym (rw (to_z-of_z w128 c.wide_effect.result (search rules)) at c.in-Ok.ensures).1) at c.wide_effect.ensures
 
 pub returns-then-last_instant_up_to-effect : goal.returns-then-last_instant_up_to-effect
 returns-then-last_instant_up_to-effect c = λ u high reached.
     let m = c.in-Ok.effect in
-    let fits : SFits w64 m = search rules in
-    let wide = of_effect (goal.at.returns-then-last_instant_up_to-effect c).In-Ok in
-    let last = rw (to_z-of_z w64 m fits) at c.last_instant_up_to.ensures in
-    let past = last.past m (omega (arith, ints, c.if-last_instant_up_to-effect.true, to_z-of_z w64 m fits, to_z-of_z w64 c.last_instant_up_to.result (search rules))) (omega (arith, ints)) in
-    reached.1.not_refused (inr (past_later c.args.leap_seconds.now c.requires m u (wide.least u reached) past))
+    let last = rw (to_z-of_z w64 m (search rules)) at c.last_instant_up_to.ensures in
+    let past = last.past m (omega (arith, ints, c.if-last_instant_up_to-effect.true, to_z-of_z w64 m (search rules), to_z-of_z w64 c.last_instant_up_to.result (search rules))) (omega (arith, ints)) in
+    reached.1.not_refused (inr (past_later c.args.leap_seconds.now c.requires m u ((of_effect (goal.at.returns-then-last_instant_up_to-effect c).In-Ok).least u reached) past))
 
 pub returns : goal.returns
 returns c =
     let m = c.in-Ok.effect in
     let fits : SFits w64 m = search rules in
     let wide = of_effect (goal.at.returns c).In-Ok in
-    let last = rw (to_z-of_z w64 m fits) at c.last_instant_up_to.ensures in
     let up_to : m ≤ℤ c.last_instant_up_to.result = omega (arith, ints, c.if-last_instant_up_to-effect.false, to_z-of_z w64 m fits, to_z-of_z w64 c.last_instant_up_to.result (search rules)) in
-    rw (to_z-of_z w64 m fits) (wide, λ refused. last.within m up_to (past_if_begun c.args.leap_seconds.now c.requires m wide.begun refused))
+    rw (to_z-of_z w64 m fits) (wide, λ refused. (rw (to_z-of_z w64 m fits) at c.last_instant_up_to.ensures).within m up_to (past_if_begun c.args.leap_seconds.now c.requires m wide.begun refused))

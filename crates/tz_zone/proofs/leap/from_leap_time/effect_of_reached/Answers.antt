@@ -13,8 +13,7 @@ effect_of c = rw (to_z-of_z w64 c.args.unix_leap_time c.ranges.unix_leap_time) a
 
 effect_fits : (c : goal.After-wide_effect) → IsInstant c.wide_effect.result
 effect_fits c =
-    let wide = effect_of c in
-    IsInstant-from_bounds c.wide_effect.result wide.low (omega (arith, ints, wide.least c.requires.reached.0 c.requires.reached.2, c.requires.reached.1))
+    IsInstant-from_bounds c.wide_effect.result (effect_of c).low (omega (arith, ints, (effect_of c).least c.requires.reached.0 c.requires.reached.2, c.requires.reached.1))
 
 pub returns-then-is_empty : goal.returns-then-is_empty
 returns-then-is_empty c =

@@ -1,5 +1,5 @@
 -- The comparison is the one that the definition makes, in numbers of 128 bits.
-use Rattle.std.proofs.Common.{◌≡◌, refl, arith, sym, ◌∙◌, ap}
+use Rattle.std.proofs.Common.{refl, arith, sym, ◌∙◌, ap}
 use Rattle.std.proofs.lemmas.Int.{ints}
 use Rattle.std.proofs.lemmas.Option.{slice_get_read, same_Some, get_or_from_slice_get}
 use mir.Syntax.{w64, w128}
@@ -17,11 +17,9 @@ returns c =
     let at = slice_get_read leaps _ c.args.place item refl c.requires c.index-leap_seconds-place.is in
     let time = c.unix_leap_time-time.ensures in
     let correction = c.correction_before-correction.ensures in
-    let read = get_or_from_slice_get leaps c.args.place item item at in
-    let read_time = ap (λ (l : LeapSecond). l.unix_leap_time) read in
+    let read_time = ap (λ (l : LeapSecond). l.unix_leap_time) (get_or_from_slice_get leaps c.args.place item item at) in
     by_comparison (to_z w128 (of_z w128 c.from.result)) _ ((l : LeapSecond) × IsReached leaps c.args.place l c.args.unix_time)
     (λ order. (item, (at, omega (arith, ints))))
     (λ r.
-    let same : r.0 ≡ item = same_Some r.0 item (sym r.1.0 ∙ at) in
-    let moved = ap (λ (l : LeapSecond). l.unix_leap_time) same in
+    let moved = ap (λ (l : LeapSecond). l.unix_leap_time) (same_Some r.0 item (sym r.1.0 ∙ at)) in
     omega (arith, ints, r.1.1))

@@ -1,5 +1,5 @@
 -- Each leap second leaves the instants up to the last one so far, or fewer.
-use Rattle.std.proofs.Common.{◌≡◌, inl, inr, subst, arith, rules, ℕ}
+use Rattle.std.proofs.Common.{inl, inr, subst, arith, rules, ℕ}
 use Rattle.std.proofs.lemmas.Int.{ints, by_lt_z, to_z-of_z}
 use Rattle.std.proofs.lemmas.Bool.{cases_lt}
 use Rattle.std.proofs.lemmas.Option.{slice_get_within}
@@ -18,8 +18,7 @@ loop-place-preserved c =
       within = λ i x u less up_to r. elim (cases_lt i k) [
         | inl before ↦ inv.within i x u before (omega (arith, ints, up_to, next.up_to)) r
         | inr here ↦
-            let same : i ≡ k = omega (arith, less, here) in
-            next.within x u up_to (subst (λ (j : ℕ). IsReached c.args.leap_seconds.now j x u) same r)
+            next.within x u up_to (subst (λ (j : ℕ). IsReached c.args.leap_seconds.now j x u) (omega (arith, less, here)) r)
       ];
       past = λ u after up_to. by_lt_z (to_z w64 c.loop-place.last-bits) u
           (λ h. inv.past u h up_to)
@@ -29,5 +28,4 @@ loop-place-preserved c =
 pub returns-clause-within : goal.returns-clause-within
 returns-clause-within c =
     λ u up_to past.
-    let inside = slice_get_within c.args.leap_seconds.now past.0 past.1 past.2.0 in
-    past.3 (c.loop-place.invariant.within past.0 past.1 u (omega (arith, inside, c.loop-place-test.false)) up_to past.2)
+    past.3 (c.loop-place.invariant.within past.0 past.1 u (omega (arith, slice_get_within c.args.leap_seconds.now past.0 past.1 past.2.0, c.loop-place-test.false)) up_to past.2)

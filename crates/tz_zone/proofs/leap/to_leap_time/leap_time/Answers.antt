@@ -1,5 +1,4 @@
 -- Without leap seconds the leap time is the instant.
-use Rattle.std.proofs.Common.{◌≡◌, []}
 use Rattle.std.proofs.lemmas.Int.{to_z-of_z}
 use mir.Syntax.{w64}
 use Rattle.tz_zone.proofs.EmptyLists.{none_if_empty}
@@ -9,5 +8,4 @@ use Rattle.tz_zone.proofs.leap.to_leap_time.leap_time.Goals as goal
 pub returns-then-is_empty : goal.returns-then-is_empty
 returns-then-is_empty c =
     let leaps = c.args.leap_seconds.now in
-    let none : leaps ≡ [] = none_if_empty leaps c.if-is_empty.ensures in
-    rw (to_z-of_z w64 c.args.unix_time c.ranges.unix_time) (plain_leap leaps none c.args.unix_time)
+    rw (to_z-of_z w64 c.args.unix_time c.ranges.unix_time) (plain_leap leaps (none_if_empty leaps c.if-is_empty.ensures) c.args.unix_time)

@@ -11,9 +11,7 @@ returns-then-is_empty c =
 
 pub returns : goal.returns
 returns c =
-    let name = c.in_ok-name in
-    let offset = c.in_ok-offset in
-    ((name.rest.now, name.ensures, rw c.in_ok-switches.ensures at offset.ensures.0), offset.ensures.1)
+    ((c.in_ok-name.rest.now, c.in_ok-name.ensures, rw c.in_ok-switches.ensures at c.in_ok-offset.ensures.0), c.in_ok-offset.ensures.1)
 
 pub returns-in_err-offset : goal.returns-in_err-offset
 returns-in_err-offset c =

@@ -1,5 +1,5 @@
 -- One more type.
-use Rattle.std.proofs.Common.{◌≡◌, ◌<◌, ◌⊎◌, ◌∙◌, inl, inr, sym, ap, arith, rules, Some, ℕ, ℤ, List}
+use Rattle.std.proofs.Common.{◌≡◌, ◌⊎◌, ◌∙◌, inl, inr, sym, ap, arith, rules, Some, ℕ, ℤ, List}
 use Rattle.std.specs.Prelude.{slice_get}
 use Rattle.std.proofs.lemmas.Int.{ints, to_z-of_z}
 use Rattle.std.proofs.lemmas.Bool.{cases_lt}
@@ -29,8 +29,7 @@ loop-local_time_type-preserved c =
       between = λ i t until at_i. elim (cases_lt i k) [
         | inl before ↦ (omega (arith, ints, (so_far.between i t before at_i).0, ends.least), omega (arith, ints, (so_far.between i t before at_i).1, ends.greatest))
         | inr not_before ↦
-            let place : i ≡ k = omega (arith, until, not_before) in
-            let same = ap (λ (x : LocalTimeType). x.ut_offset) (same_Some item t (sym at ∙ ap (slice_get types) (sym place) ∙ at_i)) in
+            let same = ap (λ (x : LocalTimeType). x.ut_offset) (same_Some item t (sym at ∙ ap (slice_get types) (sym (omega (arith, until, not_before))) ∙ at_i)) in
             (omega (arith, ints, same, is, ends.between.0), omega (arith, ints, same, is, ends.between.1))
       ];
     })
@@ -38,6 +37,5 @@ loop-local_time_type-preserved c =
 pub returns-clause-between : goal.returns-clause-between
 returns-clause-between c = λ o of_type.
     let inside = slice_get_within c.args.local_time_types.now of_type.0 of_type.1 of_type.2 in
-    let before : of_type.0 < c.loop-local_time_type.local_time_type-index = omega (arith, inside, c.loop-local_time_type-test.false) in
-    let between = c.loop-local_time_type.invariant.between of_type.0 of_type.1 before of_type.2 in
+    let between = c.loop-local_time_type.invariant.between of_type.0 of_type.1 (omega (arith, inside, c.loop-local_time_type-test.false)) of_type.2 in
     (omega (arith, ints, between.0, of_type.3), omega (arith, ints, between.1, of_type.3))

@@ -14,10 +14,9 @@ use Rattle.tz_zone.proofs.timezone.zone_of_file.parse_tz_file.Goals as goal
 pub returns-in_err-tables-clause-err : goal.returns-in_err-tables-clause-err
 returns-in_err-tables-clause-err g c =
     let p = err_from_is_err_and c.from_residual-in_err-tables.result c.from_residual-in_err-tables.ensures.1 in
-    let same : unit_view c.in_ok-frame.frame.unit ≡ part_of c.args.bytes.now = c.in_ok-frame.ensures.unit in
     rw (p.1, p.2) (elim (c.in_err-tables.ensures.err) [
       | inl memory ↦ inl memory
-      | inr fails ↦ inr (inr (inl (c.in_ok-frame.ensures.ok, subst (λ (p : Part). ContentFails p.block p.counts.local_type c.in_err-tables.field-0.0) same fails)))
+      | inr fails ↦ inr (inr (inl (c.in_ok-frame.ensures.ok, subst (λ (p : Part). ContentFails p.block p.counts.local_type c.in_err-tables.field-0.0) c.in_ok-frame.ensures.unit fails)))
     ])
 
 pub returns-then-not-may_hold-clause-err : goal.returns-then-not-may_hold-clause-err
@@ -26,12 +25,11 @@ returns-then-not-may_hold-clause-err g c =
     let frame = c.in_ok-frame.frame in
     let unit = unit_view frame.unit in
     let same : unit ≡ part_of bytes = c.in_ok-frame.ensures.unit in
-    let content : IsContent (part_of bytes).block (part_of bytes).counts.local_type = subst (λ (p : Part). IsContent p.block p.counts.local_type) same c.in_ok-tables.ensures.ok in
     let rule = c.in_ok-extra_rule.extra_rule in
     let of_file = rule_of_file bytes unit (option_copied frame.footer) c.is_extended.result rule same c.is_extended.ensures c.in_ok-frame.ensures.footer c.in_ok-extra_rule.ensures.ok in
     let may_not = rw c.deref.ensures.value at c.if-not-may_hold.ensures in
     let holds_not = subst (λ (p : Part). ¬ HoldsLeapSeconds p) same (λ holds. may_not (tables_from_holds unit c.in_ok-tables.tables c.in_ok-tables.ensures.value holds)) in
-    inr (inr (inr (inr (c.in_ok-frame.ensures.ok, content, rule, of_file, inl (refl, holds_not)))))
+    inr (inr (inr (inr (c.in_ok-frame.ensures.ok, (subst (λ (p : Part). IsContent p.block p.counts.local_type) same c.in_ok-tables.ensures.ok), rule, of_file, inl (refl, holds_not)))))
 
 pub returns : goal.returns
 returns g c =

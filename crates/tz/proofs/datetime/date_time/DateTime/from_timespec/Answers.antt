@@ -1,5 +1,5 @@
 -- The zone's clock shows the date time, or its lookup is refused, or the year is out of range.
-use Rattle.std.proofs.Common.{◌<◌, inl, inr, rules}
+use Rattle.std.proofs.Common.{inl, inr, rules}
 use Rattle.std.proofs.lemmas.Int.{to_z-of_z}
 use Rattle.std.proofs.lemmas.Result.{err_from_is_err_and, IfErr-weaker, IfOk-weaker}
 use mir.Syntax.{w64}
@@ -7,19 +7,16 @@ use Rattle.tz.proofs.datetime.date_time.DateTime.from_timespec.Goals as goal
 
 pub returns-in_err-local_time_type-clause-err : goal.returns-in_err-local_time_type-clause-err
 returns-in_err-local_time_type-clause-err c =
-    let few : c.args.nanoseconds < 1000000000 = search rules in
-    let fault = rw (to_z-of_z w64 c.args.unix_time c.ranges.unix_time) at c.in_err-local_time_type.ensures.err in
     let p = err_from_is_err_and c.from_residual.result c.from_residual.ensures.1 in
-    rw (p.1, p.2) (inr (inl (few, fault)))
+    rw (p.1, p.2) (inr (inl (search rules, rw (to_z-of_z w64 c.args.unix_time c.ranges.unix_time) at c.in_err-local_time_type.ensures.err)))
 
 pub returns : goal.returns
 returns c =
-    let few : c.args.nanoseconds < 1000000000 = search rules in
     let fits = to_z-of_z w64 c.args.unix_time c.ranges.unix_time in
     let found = rw fits at c.in_ok-local_time_type.ensures.ok in
     let t = c.in_ok-local_time_type.local_time_type.now in
     record {
       ok = IfOk-weaker c.shown_by.result _ _ (λ d h. (t, found, rw fits at h)) c.shown_by.ensures.ok;
       reads = search rules;
-      err = IfErr-weaker c.shown_by.result _ _ (λ e h. inr (inr (h.0, few, (t, found, rw fits at h.1)))) c.shown_by.ensures.err;
+      err = IfErr-weaker c.shown_by.result _ _ (λ e h. inr (inr (h.0, search rules, (t, found, rw fits at h.1)))) c.shown_by.ensures.err;
     }

@@ -7,9 +7,7 @@ use Rattle.tz.proofs.datetime.date_time.DateTime.listed_counted.Goals as goal
 
 pub returns-clause-at_most : goal.returns-clause-at_most
 returns-clause-at_most c b w bits around =
-    let listed = rw (c.new-fields.ensures, to_z-of_z w32 c.args.year c.ranges.year) at c.in_ok-list.ensures in
-    let bound = listed.looks.at_most b w bits around in
-    omega (arith, bound, c.new-view.ensures.looks, c.looks.ensures)
+    omega (arith, (rw (c.new-fields.ensures, to_z-of_z w32 c.args.year c.ranges.year) at c.in_ok-list.ensures).looks.at_most b w bits around, c.new-view.ensures.looks, c.looks.ensures)
 
 pub returns-in_err-list-clause-outcome : goal.returns-in_err-list-clause-outcome
 returns-in_err-list-clause-outcome c =

@@ -8,9 +8,8 @@ use Rattle.tz.proofs.datetime.disambiguation.SummaryDateTimeList.push.Goals as g
 pub returns-in-Several-clause-ok : goal.returns-in-Several-clause-ok
 returns-in-Several-clause-ok c before fits of =
     let e = c.args.found in
-    let size = length-append before (e ∷ []) in
     let (several, first, last, shown) = subst (IsSummaryOf before) c.in-Several.is of in (
-      omega (arith, size, several),
+      omega (arith, length-append before (e ∷ []), several),
       first_of_grown before e ∙ ap (λ x. option_or x (Some e)) first,
       last_of_grown before e,
       shown_of_grown before e ∙ ap (λ x. option_or x (shown_entry_of e)) shown ∙ sym (c.or-in-Several.ensures ∙ ap (λ x. option_or c.in-Several.shown x) c.shown_entry-in-Several.ensures),

@@ -1,16 +1,11 @@
 -- Valid fields that are not past the end make a UTC date time.
 use Rattle.std.proofs.Common.{rules}
-use mir.Syntax.{w32}
-use mir.Val.{SFits}
 use Rattle.tz_base.specs.Fields.{IsValid}
 use Rattle.tz_base.proofs.LastSeconds.{valid_reading}
-use Rattle.tz.specs.DateTimes.{IsPastTheEnd}
 use Rattle.tz.proofs.datetime.utc_date_time.UtcDateTime.new.Goals as goal
 
 pub of_fields-requires : goal.of_fields-requires
 of_fields-requires c =
     let fields = c.new-fields.result in
     let valid : IsValid fields = search rules in
-    let fits : SFits w32 fields.year = search rules in
-    let before : IsPastTheEnd fields → ⊥ = search rules in
-    record { valid = valid; reads = valid_reading fields valid fits before }
+    record { valid = valid; reads = valid_reading fields valid (search rules) (search rules) }

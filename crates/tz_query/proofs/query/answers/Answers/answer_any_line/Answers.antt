@@ -3,7 +3,6 @@ use Rattle.std.proofs.Common.{ℕ, List, [], ◌∷◌, refl, inl, inr, rules}
 use Rattle.std.specs.Prelude.{codes}
 use Rattle.std.proofs.lemmas.Int.{to_z-of_z}
 use mir.Syntax.{w64}
-use mir.Val.{SFits}
 use Rattle.tz_zone.specs.ZoneRef.{zone_of}
 use Rattle.tz_query.specs.Answers.{IsAnswer}
 use Rattle.tz_query.specs.Lines.{ended}
@@ -29,8 +28,7 @@ returns-clause-answer g c =
     let answered : (answer : List (List ℕ)) × IsAnswer (zone_of c.args.self.now.zone) line answer × Adds c.args.self.now c.match-query.self (ended answer) = elim c.match-query.branch [
       | in-Time+in_ok-answer_any_time-in-Time w ↦
           let query = w.in-Time in
-          let fits : SFits w64 query.unix_time = search rules in
-          let (answer, is, adds) = rw (to_z-of_z w64 query.unix_time fits) at w.in_ok-answer_any_time-in-Time.ensures in
+          let (answer, is, adds) = rw (to_z-of_z w64 query.unix_time (search rules)) at w.in_ok-answer_any_time-in-Time.ensures in
           rw w.self-is (answer, inl (Time query.unix_time query.nanoseconds, rw query.is at is_query, is), adds)
       | in-Search+in_ok-answer_any_search-in-Search w ↦
           let query = w.in-Search in

@@ -3,7 +3,7 @@ use Rattle.std.proofs.Common.{◌++◌, ◌∷◌, [], inl, inr, refl, sym, subs
 use Rattle.std.specs.Prelude.{codes}
 use Rattle.std.proofs.lemmas.Int.{to_z-of_z}
 use mir.Syntax.{w64}
-use Rattle.tz_zone.specs.Clock.{IsClock, IsLookupFault}
+use Rattle.tz_zone.specs.Clock.{IsClock}
 use Rattle.tz_zone.specs.ZoneRef.{zone_of}
 use Rattle.tz_query.specs.Nanoseconds.{number_of}
 use Rattle.tz_query.proofs.AnswerLines.{clock_fault_text}
@@ -13,10 +13,8 @@ use Rattle.tz_query.proofs.query.answers.Answers.answer_by_lookup.Goals as goal
 
 pub fault_name-requires : goal.fault_name-requires
 fault_name-requires g c =
-    let z = zone_of c.args.self.now.zone in
     let u = c.args.unix_time in
-    let fault : IsLookupFault z u c.in-Err.error = rw (to_z-of_z w64 u c.ranges.unix_time) at c.in-Err.ensures.err in
-    clock_fault_text z u 0 c.in-Err.error (inr (inl (omega arith, fault)))
+    clock_fault_text (zone_of c.args.self.now.zone) u 0 c.in-Err.error (inr (inl (omega arith, rw (to_z-of_z w64 u c.ranges.unix_time) at c.in-Err.ensures.err)))
 
 pub returns-in-Ok : goal.returns-in-Ok
 returns-in-Ok g c =
@@ -28,8 +26,7 @@ returns-in-Ok g c =
 pub returns-in-Err : goal.returns-in-Err
 returns-in-Err g c =
     let u = c.args.unix_time in
-    let fault : IsLookupFault (zone_of c.args.self.now.zone) u c.in-Err.error = rw (to_z-of_z w64 u c.ranges.unix_time) at c.in-Err.ensures.err in
     let name = c.fault_name.result.now in
     let text = codes "E " ++ name in
     answer_written (Time u (number_of c.args.nanoseconds)) c.args.self.now c.push_error.new.self c.push_error.result (text ∷ [])
-    (text, inr (c.in-Err.error, name, inr (inl (c.args.nanoseconds.below, fault)), c.fault_name.ensures.text, refl), refl) c.push_error.ensures
+    (text, inr (c.in-Err.error, name, inr (inl (c.args.nanoseconds.below, rw (to_z-of_z w64 u c.ranges.unix_time) at c.in-Err.ensures.err)), c.fault_name.ensures.text, refl), refl) c.push_error.ensures

@@ -23,9 +23,8 @@ returns-in-Ok g c =
     let valid = rw c.number.ensures at c.in-Ok.ensures.outcome.valid in
     let is = rw c.number.ensures at c.in-Ok.ensures.ok in
     let made = rw c.number.ensures at c.in-Ok.ensures.outcome.made in
-    let same : c.deref.result.now ≡ found = c.deref.ensures.value ∙ c.into_inner.ensures in
     IfOk-weaker c.push_found.result _ _
-    (λ done adds. (found_lines found, inl (found, valid, is, made, refl), with_text (ap (λ es. ended (found_lines es)) same) adds))
+    (λ done adds. (found_lines found, inl (found, valid, is, made, refl), with_text (ap (λ es. ended (found_lines es)) (c.deref.ensures.value ∙ c.into_inner.ensures)) adds))
     c.push_found.ensures
 
 pub returns-in-Err-DateTime : goal.returns-in-Err-DateTime
@@ -34,9 +33,8 @@ returns-in-Err-DateTime g c =
     let fault = c.in-Err-DateTime.fault in
     let error : c.in-Err-DateTime.field-0 ≡ DateTime fault = search rules in
     let refused = told_field_fault (IsClock (zone_of c.args.self.now.zone)) f fault (rw (c.in-Err-DateTime.is, error, c.number.ensures) at c.find_fields.ensures.outcome.err) in
-    let name : c.field_fault_name.result.now ≡ field_fault_text fault = rw error at c.field_fault_name.ensures.text in
     answer_written (Search f) c.args.self.now c.push_error.new.self c.push_error.result ((codes "E " ++ field_fault_text fault) ∷ [])
-    (inr (DateTime fault, field_fault_text fault, refused, refl, refl)) (rw name at c.push_error.ensures)
+    (inr (DateTime fault, field_fault_text fault, refused, refl, refl)) (rw (rw error at c.field_fault_name.ensures.text) at c.push_error.ensures)
 
 pub returns-in-Err-OutOfRange : goal.returns-in-Err-OutOfRange
 returns-in-Err-OutOfRange g c =
@@ -48,7 +46,5 @@ returns-in-Err-OutOfRange g c =
 
 pub push_found-requires : goal.push_found-requires
 push_found-requires g c =
-    let is = rw c.number.ensures at c.in-Ok.ensures.ok in
-    let found = found_of c.in-Ok.list in
-    let all = found_nanoseconds (IsClock (zone_of c.args.self.now.zone)) (with_nanoseconds c.args.fields c.args.nanoseconds) found is in
+    let all = found_nanoseconds (IsClock (zone_of c.args.self.now.zone)) (with_nanoseconds c.args.fields c.args.nanoseconds) (found_of c.in-Ok.list) (rw c.number.ensures at c.in-Ok.ensures.ok) in
     subst (All (HasNanoseconds (number_of c.args.nanoseconds))) (sym (c.deref.ensures.value ∙ c.into_inner.ensures)) all

@@ -1,11 +1,9 @@
 -- A line of usual numbers is answered as it is read, and every other one by what it holds.
-use Rattle.std.proofs.Common.{◌≡◌, inl, sym, subst, rules}
+use Rattle.std.proofs.Common.{inl, sym, subst, rules}
 use Rattle.std.proofs.lemmas.Int.{to_z-of_z}
 use Rattle.std.proofs.lemmas.List.{take_rest}
 use mir.Syntax.{w64}
-use mir.Val.{SFits}
 use Rattle.tz_query.specs.Lines.{IsFirstLine}
-use Rattle.tz_query.specs.Nanoseconds.{number_of}
 use Rattle.tz_query.specs.declared.query.lines.Query.TheVariants.{Time, Search}
 use Rattle.tz_query.proofs.query.answers.Answers.answer_line.Goals as goal
 
@@ -13,19 +11,15 @@ pub returns-in-Some : goal.returns-in-Some
 returns-in-Some g c =
     let u = c.in-Some.unix_time in
     let (n, few, digits, front) = c.in-Some.ensures.line in
-    let fits : SFits w64 u = search rules in
-    let number : number_of c.of_digits.result ≡ n = c.of_digits.ensures n few digits in
-    let (answer, is, adds) = rw (to_z-of_z w64 u fits, number) at c.in_ok-answer_time.ensures in
+    let (answer, is, adds) = rw (to_z-of_z w64 u (search rules), c.of_digits.ensures n few digits) at c.in_ok-answer_time.ensures in
     (front.0, answer, front.1, inl (Time u n, front.2, is), adds)
 
 pub returns-in-Some-read_usual_search_line : goal.returns-in-Some-read_usual_search_line
 returns-in-Some-read_usual_search_line g c =
-    let f = c.in-Some-read_usual_search_line.fields in
     let (n, few, digits, front) = c.in-Some-read_usual_search_line.ensures in
     let nanoseconds = c.of_digits-in-Some-read_usual_search_line in
-    let number : number_of nanoseconds.result ≡ n = nanoseconds.ensures n few digits in
-    let (answer, is, adds) = rw number at c.in_ok-answer_search.ensures in
-    (front.0, answer, front.1, inl (Search (record f { nanoseconds = n }), front.2, is), adds)
+    let (answer, is, adds) = rw (nanoseconds.ensures n few digits) at c.in_ok-answer_search.ensures in
+    (front.0, answer, front.1, inl (Search (record c.in-Some-read_usual_search_line.fields { nanoseconds = n }), front.2, is), adds)
 
 pub of_digits-requires : goal.of_digits-requires
 of_digits-requires g c = let (n, few, digits, front) = c.in-Some.ensures.line in (n, few, digits)

@@ -1,5 +1,5 @@
 -- The number of weeks and then one more week at a time: by a search for its fields, or that it lies past the years of 32 bits.
-use Rattle.std.proofs.Common.{◌≡◌, ℕ, ◌+◌, ◌++◌, ◌∷◌, [], List, length, inl, inr, refl, sym, subst, ap, ◌∙◌, arith, length-append, append-nil}
+use Rattle.std.proofs.Common.{◌≡◌, ℕ, ◌++◌, ◌∷◌, [], List, length, inl, inr, refl, sym, subst, ap, ◌∙◌, arith, length-append, append-nil}
 use Rattle.std.specs.Prelude.{codes}
 use Rattle.std.specs.List.{flat_map}
 use Rattle.std.proofs.lemmas.List.{flat_map_more}
@@ -35,11 +35,10 @@ loop-weeks-preserved g c =
       | in-None+in_ok-push_error-in-None w ↦
           rw (w.self-is) (codes "E OutOfRange" ∷ [], inr (w.in-None.ensures.none, refl), record { zone_is = refl; sound = λ s. s; text_is = w.in_ok-push_error-in-None.ensures })
     ] in
-    let place : c.loop-weeks.weeks ≡ 0 + length weeks = omega (arith, many) in
     let answer = week.0 in (
       weeks ++ answer ∷ [],
       omega (arith, length-append weeks (answer ∷ []), many),
-      weeks_more z f 0 weeks answer are (subst (λ n. IsWeekAnswer z f n answer) place week.1),
+      weeks_more z f 0 weeks answer are (subst (λ n. IsWeekAnswer z f n answer) (omega (arith, many)) week.1),
       with_text (flat_map_more ended [] weeks answer) (adds_both adds week.2),
     )
 

@@ -1,5 +1,5 @@
 -- The clock has the type that is kept throughout the window, or what the search finds there is printed.
-use Rattle.std.proofs.Common.{◌≤ℤ◌, ◌-ℤ◌, ◌∷◌, [], refl, sym, subst, rules, arith}
+use Rattle.std.proofs.Common.{◌-ℤ◌, ◌∷◌, [], refl, sym, subst, rules, arith}
 use Rattle.std.proofs.lemmas.Int.{ints, to_z-of_z}
 use Rattle.std.proofs.lemmas.Result.{IfOk-weaker}
 use mir.Syntax.{w64}
@@ -18,22 +18,17 @@ use Rattle.tz_query.proofs.query.answers.Answers.answer_search.Goals as goal
 pub returns-then-has : goal.returns-then-has
 returns-then-has g c =
     let z = zone_of c.args.self.now.zone in
-    let f = c.args.fields.now in
     let r = c.reading-reading.result in
     let fits : SFits w64 r = record { sfits = c.reading-reading.type_inv } in
     let t = c.args.self.now.segment.suffix.local_time_type in
     let u = r -ℤ t.ut_offset in
     let low = c.window_of-low.result.0 in
     let high = c.window_of-low.result.1 in
-    let fits_low : SFits w64 low = search rules in
-    let fits_high : SFits w64 high = search rules in
     let window = rw (to_z-of_z w64 r fits) at c.window_of-low.ensures in
-    let within = rw (to_z-of_z w64 low fits_low, to_z-of_z w64 high fits_high) at (c.if-has.ensures refl) in
-    let after : c.args.self.now.segment.from ≤ℤ low = within.0 in
-    let before : high ≤ℤ c.args.self.now.segment.last = within.1 in
-    let all : AreEntries (IsClock z) r (Shown u t ∷ []) = entries_once z window.sound.leap_seconds_are r low high t u window.order window.offsets (λ v from until. c.requires v (omega (arith, ints, after, from)) (omega (arith, ints, before, until))) refl in
+    let within = rw (to_z-of_z w64 low (search rules), to_z-of_z w64 high (search rules)) at (c.if-has.ensures refl) in
+    let all : AreEntries (IsClock z) r (Shown u t ∷ []) = entries_once z window.sound.leap_seconds_are r low high t u window.order window.offsets (λ v from until. c.requires v (omega (arith, ints, within.0, from)) (omega (arith, ints, within.1, until))) refl in
     IfOk-weaker c.push_shown.result _ _
-    (λ done adds. shown_once f c.args.nanoseconds.now r t u c.in-Ok.ensures.ok (sym c.reading-reading.ensures.value) all (record { zone_is = refl; sound = λ s. s; text_is = adds u }))
+    (λ done adds. shown_once c.args.fields.now c.args.nanoseconds.now r t u c.in-Ok.ensures.ok (sym c.reading-reading.ensures.value) all (record { zone_is = refl; sound = λ s. s; text_is = adds u }))
     c.push_shown.ensures.text
 
 pub push_meaning-requires : goal.push_meaning-requires
@@ -41,8 +36,7 @@ push_meaning-requires g c =
     let r = c.reading-reading.result in
     let fits : SFits w64 r = record { sfits = c.reading-reading.type_inv } in
     let (es, are, of) = rw (to_z-of_z w64 r fits) at c.type_in_window.ensures.means in
-    let z = zone_of c.type_in_window.new.self.zone in
-    record { valid = c.in-Ok.ensures.ok; means = (es, subst (λ x. AreEntries (IsClock z) x es) c.reading-reading.ensures.value are, of) }
+    record { valid = c.in-Ok.ensures.ok; means = (es, subst (λ x. AreEntries (IsClock (zone_of c.type_in_window.new.self.zone)) x es) c.reading-reading.ensures.value are, of) }
 
 pub returns : goal.returns
 returns g c =

@@ -1,9 +1,8 @@
 -- The clock has the segment's type throughout it.
-use Rattle.std.proofs.Common.{◌≡◌, refl, ◌∙◌, sym, ap, subst, rules, ℤ, ◌≤ℤ◌}
-use Rattle.std.specs.Prelude.{Some, option_copied}
+use Rattle.std.proofs.Common.{refl, ◌∙◌, sym, ap, subst, rules, ℤ, ◌≤ℤ◌}
+use Rattle.std.specs.Prelude.{option_copied}
 use Rattle.std.proofs.lemmas.Int.{to_z-of_z}
 use mir.Syntax.{w64}
-use mir.Val.{SFits}
 use Rattle.tz_zone.specs.Changes.{HasTypeOrNone, segment_of}
 use Rattle.tz_zone.specs.Clock.{IsClock}
 use Rattle.tz_zone.specs.ZoneRef.{zone_of}
@@ -14,14 +13,10 @@ returns-in-Some g c =
     let z = zone_of c.args.self.now.zone in
     let segment = segment_of c.segment_at-segment.result in
     let t = c.in-Some.local_time_type in
-    let from_fits : SFits w64 c.from-self.result = search rules in
-    let last_fits : SFits w64 c.last-self.result = search rules in
-    let from_is = to_z-of_z w64 c.from-self.result from_fits ∙ c.from-self.ensures in
-    let last_is = to_z-of_z w64 c.last-self.result last_fits ∙ c.last-self.ensures in
-    let has : segment.local_time_type ≡ Some t.now = sym c.local_time_type.ensures ∙ ap option_copied c.in-Some.is in
+    let from_is = to_z-of_z w64 c.from-self.result (search rules) ∙ c.from-self.ensures in
     record {
       zone_is = refl;
-      sound = λ was u after before. subst (IsClock z u) (sym c.of.ensures) (subst (λ type. HasTypeOrNone z u type) has
-          (c.segment_at-segment.ensures.segment.holds u (subst (λ (x : ℤ). x ≤ℤ u) from_is after) (subst (λ (x : ℤ). u ≤ℤ x) last_is before)));
+      sound = λ was u after before. subst (IsClock z u) (sym c.of.ensures) (subst (λ type. HasTypeOrNone z u type) (sym c.local_time_type.ensures ∙ ap option_copied c.in-Some.is)
+          (c.segment_at-segment.ensures.segment.holds u (subst (λ (x : ℤ). x ≤ℤ u) from_is after) (subst (λ (x : ℤ). u ≤ℤ x) (to_z-of_z w64 c.last-self.result (search rules) ∙ c.last-self.ensures) before)));
       output_is = refl;
     }

@@ -1,5 +1,5 @@
 -- How much is found, and a line for each: one more entry is there after each turn.
-use Rattle.std.proofs.Common.{◌≡◌, ◌<◌, ◌++◌, ◌∷◌, [], length, take, arith, refl, sym, ap, subst, ◌∙◌, append-nil, append_assoc, rules}
+use Rattle.std.proofs.Common.{◌≡◌, ◌++◌, ◌∷◌, [], length, take, arith, refl, sym, ap, subst, ◌∙◌, append-nil, append_assoc, rules}
 use Rattle.std.proofs.Math.Seq.{take-length}
 use Rattle.std.specs.Prelude.{map, codes}
 use Rattle.std.specs.Fmt.{decimal}
@@ -17,29 +17,20 @@ loop-entry-init g c = record { zone_is = refl; sound = λ s. s; text_is = sym (a
 
 pub push_entry-requires : goal.push_entry-requires
 push_entry-requires g c =
-    let e = c.entry-item.result in
-    let within : c.loop-entry.entry-index < length c.args.found.now = search rules in
-    subst (HasNanoseconds (number_of c.args.nanoseconds.now)) (sym c.entry-item.is) (c.requires c.loop-entry.entry-index e within)
+    subst (HasNanoseconds (number_of c.args.nanoseconds.now)) (sym c.entry-item.is) (c.requires c.loop-entry.entry-index c.entry-item.result (search rules))
 
 pub loop-entry-smaller : goal.loop-entry-smaller
 loop-entry-smaller g c = omega (arith, c.loop-entry-test.true)
 
 pub loop-entry-preserved : goal.loop-entry-preserved
 loop-entry-preserved g c =
-    let found = c.args.found.now in
-    let i = c.loop-entry.entry-index in
-    let e = c.entry-item.result in
-    let within : i < length found = search rules in
     let line = with_text (ap (λ (x : FoundDateTimeKind). entry_text x ++ line_feed ∷ []) c.entry-item.is) c.in_ok-push_entry.ensures in
-    with_text (sym (entries_more found i e within)) (adds_both c.loop-entry.invariant line)
+    with_text (sym (entries_more c.args.found.now c.loop-entry.entry-index c.entry-item.result (search rules))) (adds_both c.loop-entry.invariant line)
 
 pub returns : goal.returns
 returns g c =
     let found = c.args.found.now in
     let count = codes "F " ++ decimal (length found) in
-    let entries = ended (map entry_text found) in
-    let end : c.loop-entry.entry-index ≡ length found = omega (arith, c.loop-entry-test.false, c.loop-entry.auto.entry-index-end) in
-    let all : take c.loop-entry.entry-index found ≡ found = ap (λ n. take n found) end ∙ take-length found in
-    let lines = with_text (ap (λ es. ended (map entry_text es)) all) c.loop-entry.invariant in
+    let all : take c.loop-entry.entry-index found ≡ found = ap (λ n. take n found) (omega (arith, c.loop-entry-test.false, c.loop-entry.auto.entry-index-end)) ∙ take-length found in
     let counted : Adds c.args.self.now (record c.args.self.now { output = c.push_count.new.self }) (ended (count ∷ [])) = record { zone_is = refl; sound = λ s. s; text_is = c.in_ok-push_count.ensures } in
-    with_text (append_assoc count (line_feed ∷ []) entries) (adds_both counted lines)
+    with_text (append_assoc count (line_feed ∷ []) (ended (map entry_text found))) (adds_both counted (with_text (ap (λ es. ended (map entry_text es)) all) c.loop-entry.invariant))

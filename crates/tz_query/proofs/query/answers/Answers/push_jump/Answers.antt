@@ -3,7 +3,6 @@ use Rattle.std.proofs.Common.{◌+ℤ◌, ◌∷◌, inl, refl, sym, subst, rule
 use Rattle.std.proofs.lemmas.Int.{to_z-of_z}
 use Rattle.std.proofs.lemmas.Result.{IfOk-weaker}
 use mir.Syntax.{w32, w64}
-use mir.Val.{SFits}
 use Rattle.tz_base.specs.Fields.{IsReading}
 use Rattle.tz.specs.DateTimes.{DateTime, ShowsInstant, moment_of}
 use Rattle.tz.specs.PrintedText.{moment_text}
@@ -21,10 +20,8 @@ returns g c =
     let b = c.args.after.now in
     let first = c.in-Some.first in
     let second = c.in-Some-shown_fields.second in
-    let fits_a : SFits w32 c.ut_offset.result = search rules in
-    let fits_b : SFits w32 c.ut_offset-2.result = search rules in
-    let (civil_a, reads_a) = rw (to_z-of_z w64 u c.ranges.unix_time, to_z-of_z w32 c.ut_offset.result fits_a, c.ut_offset.ensures.value) at c.in-Some.ensures.some in
-    let (civil_b, reads_b) = rw (to_z-of_z w64 u c.ranges.unix_time, to_z-of_z w32 c.ut_offset-2.result fits_b, c.ut_offset-2.ensures.value) at c.in-Some-shown_fields.ensures.some in
+    let (civil_a, reads_a) = rw (to_z-of_z w64 u c.ranges.unix_time, to_z-of_z w32 c.ut_offset.result (search rules), c.ut_offset.ensures.value) at c.in-Some.ensures.some in
+    let (civil_b, reads_b) = rw (to_z-of_z w64 u c.ranges.unix_time, to_z-of_z w32 c.ut_offset-2.result (search rules), c.ut_offset-2.ensures.value) at c.in-Some-shown_fields.ensures.some in
     let x : DateTime = moment_of (record first { nanoseconds = n }) a u in
     let y : DateTime = moment_of (record second { nanoseconds = n }) b u in
     let few = c.args.nanoseconds.below in

@@ -4,7 +4,6 @@ use Rattle.std.proofs.Math.Logic.{⊎_elim}
 use Rattle.std.proofs.lemmas.Int.{to_z-of_z}
 use Rattle.std.proofs.lemmas.Result.{IfOk-weaker}
 use mir.Syntax.{w64}
-use mir.Val.{SFits}
 use Rattle.tz_base.specs.Fields.{reading}
 use Rattle.tz_zone.specs.Clock.{IsClock}
 use Rattle.tz_zone.specs.ZoneRef.{zone_of}
@@ -27,9 +26,8 @@ returns-in-Nothing g c =
     let nanoseconds = c.args.nanoseconds in
     let (es, are, of) = c.requires.means in
     let is = subst (IsMeaningOf es) c.in-Nothing.is of in
-    let all : AreEntries (IsClock z) (reading f) [] = subst (AreEntries (IsClock z) (reading f)) is are in
     answer_written (Search (with_nanoseconds f nanoseconds)) c.args.self.now c.push_count.new.self c.push_count.result (found_lines [])
-    (answered_by z f (number_of nanoseconds) (reading f) [] [] nanoseconds.below c.requires.valid refl all tt) c.push_count.ensures
+    (answered_by z f (number_of nanoseconds) (reading f) [] [] nanoseconds.below c.requires.valid refl (subst (AreEntries (IsClock z) (reading f)) is are) tt) c.push_count.ensures
 
 pub returns-in-Once : goal.returns-in-Once
 returns-in-Once g c =
@@ -67,12 +65,10 @@ returns-in-Skipped g c =
     let f = c.args.fields in
     let nanoseconds = c.args.nanoseconds in
     let u = c.in-Skipped.unix_time in
-    let unix_time_fits : SFits w64 u = search rules in
     let a = c.in-Skipped.before.now in
     let b = c.in-Skipped.after.now in
     let (es, are, of) = c.requires.means in
-    let is = subst (IsMeaningOf es) c.in-Skipped.is of in
-    let all : AreEntries (IsClock z) (reading f) (Jump u a b ∷ []) = subst (AreEntries (IsClock z) (reading f)) is are in
+    let all : AreEntries (IsClock z) (reading f) (Jump u a b ∷ []) = subst (AreEntries (IsClock z) (reading f)) (subst (IsMeaningOf es) c.in-Skipped.is of) are in
     IfOk-weaker c.push_jump.result _ _
     (λ done. ⊎_elim
     (λ (x, y, shows_x, shows_y, made, adds). (
@@ -81,4 +77,4 @@ returns-in-Skipped g c =
       adds,
     ))
     (λ answered. answered))
-    (rw (to_z-of_z w64 u unix_time_fits) at c.push_jump.ensures)
+    (rw (to_z-of_z w64 u (search rules)) at c.push_jump.ensures)

@@ -4,7 +4,6 @@ use Rattle.std.specs.Prelude.{codes}
 use Rattle.std.proofs.lemmas.Int.{to_z-of_z}
 use Rattle.std.proofs.lemmas.Result.{IfOk-weaker}
 use mir.Syntax.{w32, w64}
-use mir.Val.{SFits}
 use Rattle.tz_base.specs.Fields.{IsCivil, IsReading}
 use Rattle.tz_base.specs.declared.error.tz_error.TzError.TheVariants.{OutOfRange}
 use Rattle.tz.specs.DateTimes.{DateTime, moment_of}
@@ -17,8 +16,7 @@ pub returns-in_default : goal.returns-in_default
 returns-in_default g c z clock =
     let u = c.args.unix_time in
     let t = c.args.suffix.now.local_time_type in
-    let offset : SFits w32 c.ut_offset.result = search rules in
-    let outside : ¬ IsReading (u +ℤ t.ut_offset) = rw (to_z-of_z w64 u c.ranges.unix_time, to_z-of_z w32 c.ut_offset.result offset, c.ut_offset.ensures.value) at c.in_default.ensures.none in
+    let outside : ¬ IsReading (u +ℤ t.ut_offset) = rw (to_z-of_z w64 u c.ranges.unix_time, to_z-of_z w32 c.ut_offset.result (search rules), c.ut_offset.ensures.value) at c.in_default.ensures.none in
     IfOk-weaker c.push_error.result _ _
     (λ done text. (codes "E OutOfRange", inr (OutOfRange, codes "OutOfRange", inr (inr (refl, c.args.nanoseconds.now.below, (t, clock, outside))), refl, refl), text))
     c.push_error.ensures
@@ -29,8 +27,7 @@ returns g c z clock =
     let n = number_of c.args.nanoseconds.now in
     let t = c.args.suffix.now.local_time_type in
     let f = c.in-Some.fields in
-    let offset : SFits w32 c.ut_offset.result = search rules in
-    let (civil, reads) : IsCivil (u +ℤ t.ut_offset) 0 f × IsReading (u +ℤ t.ut_offset) = rw (to_z-of_z w64 u c.ranges.unix_time, to_z-of_z w32 c.ut_offset.result offset, c.ut_offset.ensures.value) at c.in-Some.ensures.some in
+    let (civil, reads) : IsCivil (u +ℤ t.ut_offset) 0 f × IsReading (u +ℤ t.ut_offset) = rw (to_z-of_z w64 u c.ranges.unix_time, to_z-of_z w32 c.ut_offset.result (search rules), c.ut_offset.ensures.value) at c.in-Some.ensures.some in
     let d : DateTime = moment_of (record f { nanoseconds = n }) t u in
     IfOk-weaker c.push_shown.result _ _
     (λ done text. (

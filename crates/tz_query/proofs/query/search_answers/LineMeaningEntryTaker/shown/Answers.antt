@@ -7,8 +7,7 @@ use Rattle.tz_query.proofs.query.search_answers.LineMeaningEntryTaker.shown.Goal
 pub returns-in-Nothing-clause-ok : goal.returns-in-Nothing-clause-ok
 returns-in-Nothing-clause-ok c before of =
     let u = c.args._unix_time in
-    let is = subst (λ meaning. IsMeaningOf before meaning) c.in-Nothing.is of in
-    (u, ap (λ (es : List Entry). es ++ Shown u c.args.local_time_type.now ∷ []) is)
+    (u, ap (λ (es : List Entry). es ++ Shown u c.args.local_time_type.now ∷ []) (subst (λ meaning. IsMeaningOf before meaning) c.in-Nothing.is of))
 
 pub returns-in-Once-clause-ok : goal.returns-in-Once-clause-ok
 returns-in-Once-clause-ok c before of =

@@ -7,6 +7,5 @@ use Rattle.tz_rule.proofs.timezone.alternate_data.AlternateData.find_local_time_
 pub returns-in-Some-clause-ok : goal.returns-in-Some-clause-ok
 unfolding IsRuleType
 returns-in-Some-clause-ok c =
-    let unix = to_z-of_z w64 c.args.unix_time c.ranges.unix_time in
-    let within = rw unix at c.in-Some.ensures.within in
+    let within = rw (to_z-of_z w64 c.args.unix_time c.ranges.unix_time) at c.in-Some.ensures.within in
     rw c.type_by.ensures (c.in-Some.ensures.of.one_type c.args.unix_time within.0 within.1)

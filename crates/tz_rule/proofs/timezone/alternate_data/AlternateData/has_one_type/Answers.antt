@@ -7,8 +7,7 @@ use Rattle.tz_rule.proofs.timezone.alternate_data.AlternateData.has_one_type.Goa
 
 pub returns-then-eq : goal.returns-then-eq
 returns-then-eq c =
-    let r = c.args.self.now in
-    one_type_of_equal r (sym c.std.ensures ∙ (Decides-same_type c.std.result.now c.dst.result.now).0 (sym c.eq.ensures ∙ c.if-eq.true) ∙ c.dst.ensures)
+    one_type_of_equal c.args.self.now (sym c.std.ensures ∙ (Decides-same_type c.std.result.now c.dst.result.now).0 (sym c.eq.ensures ∙ c.if-eq.true) ∙ c.dst.ensures)
 
 pub returns-then-ends_next_year : goal.returns-then-ends_next_year
 returns-then-ends_next_year c =

@@ -9,13 +9,12 @@ use Rattle.tz_rule.proofs.timezone.alternate_data.AlternateData.outer_change_aft
 
 pub loop-segment-init : goal.loop-segment-init
 loop-segment-init c =
-    let rule = Alternate c.args.self.now in
     let s = c.segment-segment.result in
     let is = c.segment-segment.ensures in
     record {
       order = is.within.1;
       fits = search rules;
-      none = none_within rule (to_z w64 (of_z w64 c.args.unix_time)) s.last s.local_time_type (λ v low high. is.holds v (omega (arith, ints, is.within.0, low)) high);
+      none = none_within (Alternate c.args.self.now) (to_z w64 (of_z w64 c.args.unix_time)) s.last s.local_time_type (λ v low high. is.holds v (omega (arith, ints, is.within.0, low)) high);
       type = is.holds s.last (omega (arith, ints, is.within.0, is.within.1)) (omega (arith, ints));
     }
 
@@ -34,7 +33,6 @@ returns-in-Some c =
 pub loop-segment-preserved : goal.loop-segment-preserved
 loop-segment-preserved c =
     let rule = Alternate c.args.self.now in
-    let u = to_z w64 (of_z w64 c.args.unix_time) in
     let s = c.loop-segment.segment in
     let a = c.segment-after.result in
     let so_far = c.loop-segment.invariant in
@@ -46,7 +44,7 @@ loop-segment-preserved c =
     record {
       order = omega (arith, ints, so_far.order, after.within.1);
       fits = search rules;
-      none = none_joined rule u s.last (s.last +ℤ pos 1) a.last refl so_far.none none
+      none = none_joined rule (to_z w64 (of_z w64 c.args.unix_time)) s.last (s.last +ℤ pos 1) a.last refl so_far.none none
           (none_within rule (s.last +ℤ pos 1) a.last a.local_time_type (λ v low high. after.holds v (omega (arith, ints, after.within.0, low)) high));
       type = after.holds a.last (omega (arith, ints, after.within.0, after.within.1)) (omega (arith, ints));
     }

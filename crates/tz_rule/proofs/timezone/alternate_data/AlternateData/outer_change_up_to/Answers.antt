@@ -9,13 +9,12 @@ use Rattle.tz_rule.proofs.timezone.alternate_data.AlternateData.outer_change_up_
 
 pub loop-segment-init : goal.loop-segment-init
 loop-segment-init c =
-    let rule = Alternate c.args.self.now in
     let s = c.segment-segment.result in
     let is = c.segment-segment.ensures in
     record {
       order = is.within.0;
       fits = search rules;
-      none = none_within rule s.from (to_z w64 (of_z w64 c.args.unix_time)) s.local_time_type (λ v low high. is.holds v low (omega (arith, ints, is.within.1, high)));
+      none = none_within (Alternate c.args.self.now) s.from (to_z w64 (of_z w64 c.args.unix_time)) s.local_time_type (λ v low high. is.holds v low (omega (arith, ints, is.within.1, high)));
       type = is.holds s.from (omega (arith, ints)) (omega (arith, ints, is.within.0, is.within.1));
     }
 

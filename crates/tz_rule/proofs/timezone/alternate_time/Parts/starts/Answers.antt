@@ -7,5 +7,4 @@ use Rattle.tz_rule.proofs.timezone.alternate_time.Parts.starts.Goals as goal
 pub returns-clause-table : goal.returns-clause-table
 unfolding start_table
 returns-clause-table c =
-    let p = c.args.self.now in
-    (rw c.requires.day at c.of_day.ensures.table) ∙ ap (day_table p.dst_start) (omega (arith, ints, c.requires.range))
+    (rw c.requires.day at c.of_day.ensures.table) ∙ ap (day_table c.args.self.now.dst_start) (omega (arith, ints, c.requires.range))

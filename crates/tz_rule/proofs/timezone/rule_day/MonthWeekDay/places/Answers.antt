@@ -39,12 +39,11 @@ loop-week_day-preserved c =
     let days = c.days_of_month-days.result in
     let low : 28 ≤ days = omega (arith, c.days_of_month-days.ensures, month_length-ge c.args.leap c.self.inside.month) in
     let high : days ≤ 31 = omega (arith, c.days_of_month-days.ensures, month_length-le c.args.leap c.self.inside.month) in
-    let week : c.self.inside.week ≡ d.week = ap (λ (w : MonthWeek). w.week) c.self.view_is in
     let i = c.loop-week_day.week_day in
     let kept = c.loop-week_day.invariant in
     let first = (d.week_day + 7 - (i + before) % 7) % 7 in
     let next = (d.week_day + 7 - (i + 1 + before) % 7) % 7 in
-    let least : before + c.from.result ≡ before + least_place days d.week = rw (c.from.ensures, c.min.ensures, week) refl in
+    let least : before + c.from.result ≡ before + least_place days d.week = rw (c.from.ensures, c.min.ensures, (ap (λ (w : MonthWeek). w.week) c.self.view_is)) refl in
     let is : c.place_before-place.result ≡ before + nth_place next days d.week =
     place_before first next days d.week before c.loop-week_day.place (before + c.from.result) c.place_before-place.result (omega arith) low high valid.week_is.0 valid.week_is.1
     (first_before d.week_day before i valid.week_day_is) kept.next least c.place_before-place.ensures.first c.place_before-place.ensures.other in

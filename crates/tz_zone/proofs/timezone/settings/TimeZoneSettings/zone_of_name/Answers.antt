@@ -21,5 +21,4 @@ returns-in-Some g c =
 
 pub returns-in-None : goal.returns-in-None
 returns-in-None g c =
-    let missing = rw c.in-None.is at c.in_ok-found.ensures in
-    inr (inr (c.if-not-is_zone_name.ensures.0 refl, Err (Failed unseen_fault), missing unseen_fault, (c.no_such_zone.result, c.no_such_zone.ensures, refl)))
+    inr (inr (c.if-not-is_zone_name.ensures.0 refl, Err (Failed unseen_fault), (rw c.in-None.is at c.in_ok-found.ensures) unseen_fault, (c.no_such_zone.result, c.no_such_zone.ensures, refl)))

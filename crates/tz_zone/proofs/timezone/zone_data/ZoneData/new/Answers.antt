@@ -9,9 +9,8 @@ invariant_of-result c =
     let ends = c.offset_range-least_offset in
     let ok = rw c.rule_of-rule.ensures at c.in_ok-check_parts.ensures.ok in
     let least = rw c.rule_of-rule.ensures at ends.ensures.least in
-    let greatest = rw c.rule_of-rule.ensures at ends.ensures.greatest in
     record {
       sound = ok.table;
       valid = ∣ ok ∣₁;
-      offsets = rw (to_z-of_z w32 ends.result.0 (search rules), to_z-of_z w32 ends.result.1 (search rules)) (∣ (least, greatest) ∣₁);
+      offsets = rw (to_z-of_z w32 ends.result.0 (search rules), to_z-of_z w32 ends.result.1 (search rules)) (∣ (least, rw c.rule_of-rule.ensures at ends.ensures.greatest) ∣₁);
     }

@@ -12,9 +12,8 @@ use Rattle.tz_zone.proofs.timezone.zone_data.ZoneData.of.Goals as goal
 pub invariant_of-result : goal.invariant_of-result
 invariant_of-result c =
     let z = c.args.zone in
-    let rule = c.lists_of.ensures ∙ c.extra_rule.ensures in
     let same : zone_of z ≡ zone_with c.transitions.result.now c.local_time_types.result.now c.leap_seconds.result.now (rule_of_lists c.lists_of.result.0.now c.lists_of.result.1.now) =
-    rw (c.transitions.ensures, c.local_time_types.ensures, c.leap_seconds.ensures, rule) refl in
+    rw (c.transitions.ensures, c.local_time_types.ensures, c.leap_seconds.ensures, (c.lists_of.ensures ∙ c.extra_rule.ensures)) refl in
     let ends = c.offsets-least_offset in
     record {
       sound = subst IsSoundTable same z.sound;
