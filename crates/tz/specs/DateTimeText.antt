@@ -16,7 +16,7 @@ use Rattle.tz.specs.declared.parse.error.DateTimePart.TheVariants as parts
 use Rattle.tz.specs.declared.parse.error.ParseDateTimeError.{ParseDateTimeError}
 use Rattle.tz.specs.declared.parse.offset.OffsetMark.{OffsetMark}
 use Rattle.tz.specs.declared.parse.offset.OffsetMark.TheVariants.{Absent, Utc, Ahead, Behind}
-use Rattle.tz.specs.declared.parse.ParsedDateTime.{ParsedDateTime}
+use Rattle.tz.specs.declared.parse.parsed_date_time.ParsedDateTime.{ParsedDateTime}
 
 -- no digit stands first
 abbrev pub EndsDigits : List ℕ → Type 0

@@ -25,7 +25,7 @@ ghost use Rattle.tz.specs.Meanings.{IsMeaning, IsMeaningFault};
 ghost use Rattle.tz.specs.Windows.{IsWindow, TakesEffectIn, AreRising, AtMostTakeEffectIn};
 ghost use Rattle.tz.specs.PrintedText.{printed_text};
 ghost use Rattle.tz.specs.DateTimeText.{IsDateTimeText, IsDateTimeTextFault};
-ghost use Rattle.tz.specs.declared.parse.ParsedDateTime.{ParsedDateTime};
+ghost use Rattle.tz.specs.declared.parse.parsed_date_time.ParsedDateTime.{ParsedDateTime};
 ghost use Rattle.tz.specs.declared.parse.error.ParseDateTimeError.{ParseDateTimeError};
 ghost use Rattle.tz.specs.declared.datetime.disambiguation.Disambiguation.{Disambiguation};
 ghost use Rattle.tz.specs.declared.datetime.found.FoundDateTimeKind.{FoundDateTimeKind};

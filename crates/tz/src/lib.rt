@@ -63,8 +63,8 @@
 //! A zone's clock is ahead of UTC by the offset of its [`LocalTimeType`]. When the offset grows, clocks are set forward and skip the local times of
 //! a gap. When it shrinks, they are set back and show the local times of a fold twice. [`DateTime::find`] returns an entry for each instant at which
 //! clocks show a local time and for each jump over it. Lookup and search use the same clock: before the last transition it has the type of the last
-//! transition that has been reached, from there on that of the zone's rule. The times of transitions count the leap
-//! seconds of a zone that has them; Unix times and durations never do.
+//! transition that has been reached, or the zone's first type if none has, and from there on that of the zone's rule. The times of transitions count
+//! the leap seconds of a zone that has them; Unix times and durations never do.
 //!
 //! # What is proved
 //!

@@ -168,7 +168,7 @@ impl<'a> FoundDateTimeListRefMut<'a> {
     ghost use Rattle.tz.specs.Lists.{slots_of, count_of, reference_of};
     ghost use Rattle.tz.specs.Slots.{written_of, unique_slot, earliest_slot, latest_slot};
 
-    /// A list with nothing found yet. It writes to the slots in order, and leaves the others as they are.
+    /// A list of these slots with nothing found: its count is 0, and the slots stay as they are.
     pub fn new(buf: &'a mut [Option<FoundDateTimeKind>]) -> Self
         ensures same_reference { reference_of result ≡ buf.entry.ghost_name }
         ensures slots { slots_of result ≡ buf.old }

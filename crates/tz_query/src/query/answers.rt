@@ -24,8 +24,8 @@ pub struct Answers<'a, A: Allocator + Copy> {
     pub zone: TimeZoneRef<'a>,
     pub segment: KeptSegment,
     pub suffixes: Suffixes,
-    /// The last instant that had to be looked up because the kept segment did not hold it, or the first instant of the last window that had to be
-    /// searched for that; at first 0.
+    /// The last instant that was looked up because the kept segment did not hold it, or the first instant of the last window that was searched for
+    /// the same reason; at first 0. `follow` compares the next one with it.
     pub missed: i64,
     pub output: Output<A>,
 }

@@ -15,7 +15,7 @@ use tz::inner::{Fields, TextBuffer};
 /// What writing returns: nothing, or that an allocation failed.
 pub type Written = Result<(), AllocError>;
 
-/// Where answers are written: onto a page, which is appended to the answers before it when it has no room for one more piece.
+/// Where answers are written: onto a page, which is appended to the answers before it when it has no room for one more line, with its front.
 #[derive(Drop)]
 pub struct Output<A: Allocator> {
     pub answers: Vec<u8, A>,
@@ -43,7 +43,7 @@ impl<A: Allocator> Output<A> {
         Ok(())
     }
 
-    /// Makes room for one more piece on the page.
+    /// Makes room for one more line, with its front, on the page.
     #[inline(always)]
     pub fn make_room(&mut self) -> Written
         ensures room { IfOk result (λ _. HasRoom self.new.page) }

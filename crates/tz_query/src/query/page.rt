@@ -16,7 +16,7 @@ use tz::inner::{Fields, TextBuffer, middle_of, two_pairs};
 /// The number of bytes that a page holds.
 const SIZE: usize = 2040;
 
-/// Room that is made before each piece: a short line, or a front and the line of a date time. None is longer.
+/// Room that is made at once: for a short line, or for a front and the line of a date time. None is longer.
 const LONGEST: usize = 160;
 
 /// Printed text of at most 2040 bytes, which is kept without an allocation.
@@ -49,7 +49,7 @@ impl Page {
         }
     }
 
-    /// Whether one more piece fits onto the page.
+    /// Whether one more line, with its front, fits onto the page.
     #[inline(always)]
     pub fn has_room(&self) -> bool
         ensures { MatchBool result (HasRoom self.now) (¬ HasRoom self.now) }

@@ -38,7 +38,7 @@ fn push_type_name(line: &mut TextBuffer, local_time_type: &LocalTimeType)
     line.push_str(if name.is_empty() { "-" } else { name });
 }
 
-/// The index of a type's suffix: four bits of a product that mixes the bits of the type's offset.
+/// The index of a type's suffix: four bits of a product that mixes the bits of the type's offset and its daylight flag.
 #[inline(always)]
 fn index_of(local_time_type: &LocalTimeType) -> usize
     ensures { result < 16 }

@@ -60,7 +60,8 @@ impl Parts {
         Ok(())
     }
 
-    /// How many seconds after 00:00 UTC of January 1st daylight saving time starts, on this day, by the kind of the year.
+    /// How many seconds after 00:00 UTC of January 1st daylight saving time starts, by the kind of the year. `day` is the part `dst_start` as a
+    /// `RuleDay`, which saves its conversion.
     #[inline(always)]
     pub(super) fn starts(&self, day: &RuleDay) -> YearTable
         requires range { IsInRuleRange (rule_of self.now) }
@@ -71,7 +72,7 @@ impl Parts {
         YearTable::of_day(day, self.dst_start_time - self.std.ut_offset())
     }
 
-    /// How many seconds after 00:00 UTC of January 1st it ends, on this day, by the kind of the year.
+    /// How many seconds after 00:00 UTC of January 1st it ends, by the kind of the year. `day` is the part `dst_end`.
     #[inline(always)]
     pub(super) fn ends(&self, day: &RuleDay) -> YearTable
         requires range { IsInRuleRange (rule_of self.now) }

@@ -40,7 +40,7 @@ struct Switch {
     is_start: bool,
 }
 
-/// The switch, unless another one comes at the same instant.
+/// The switch, if of two that are neighbours, of which it is one, the second comes later than the first; none if both come at one instant.
 #[inline(always)]
 fn switch_between(unix_time: i64, is_start: bool, earlier: i64, later: i64) -> Option<Switch>
     ensures { IfSome result (λ switch. (switch.unix_time ≡ unix_time) × (switch.is_start ≡ is_start) × (earlier <ℤ later)) }

@@ -15,7 +15,8 @@ pub(super) const FIRST_YEAR: i32 = i32::MIN + 2;
 /// The last year over which a rule is defined.
 pub(super) const LAST_YEAR: i32 = i32::MAX - 2;
 
-/// How far from 1970 an instant may be: the two years before its year and the two after it are years over which a rule is defined.
+/// How far from 1970 `likely_year` has an answer: up to there the year of an instant, the two before it and the two after it are years over which a
+/// rule is defined.
 const GREATEST_DISTANCE: i64 = 60_000_000_000_000_000;
 
 /// The seconds of a year, on the average of 400 years.

@@ -96,7 +96,7 @@ pub(super) fn place_at_near(
     Some(place_near(transitions, unix_leap_time, likely))
 }
 
-/// Whether an instant comes after all transitions, if there are no leap seconds or no transitions.
+/// Whether it is known that an instant comes after all transitions. If there are transitions and leap seconds, it is not.
 #[inline(always)]
 pub(super) fn is_after_all(
     transitions: &[Transition],

@@ -49,7 +49,7 @@ fn place_after_look<V: Transitions>(
     }
 }
 
-/// Of twice `count` places from one on, the first of the `count` among which the leap time's place is, by a look at the transition in the middle.
+/// Of twice `count` places from `place` on, the first of the `count` among which the leap time's place is, by a look at the transition in the middle.
 #[inline(always)]
 fn half<V: Transitions>(view: &mut V, place: usize, count: usize, unix_leap_time: i64) -> usize
     requires rising { IsRising (V.list view.old) }
@@ -66,9 +66,9 @@ fn half<V: Transitions>(view: &mut V, place: usize, count: usize, unix_leap_time
     place_after_look(view, place, place + count, unix_leap_time)
 }
 
-/// Halves `count` places from one on until `least` of them are left, both powers of two, and returns the first of these.
+/// Halves `count` places from `place` on until `least` of them are left, both powers of two, and returns the first of these.
 ///
-/// A step compares once, needs no branch for the last step, and changes one number.
+/// A step compares once, and changes `place` by that alone; no step needs a branch of its own.
 #[inline(always)]
 fn halved<V: Transitions>(
     view: &mut V,

@@ -138,8 +138,8 @@ fn types_at_place<'a, V: Transitions>(
 
 /// The types of the clock in a window.
 ///
-/// They are known if they are one or two: by the place at which the first instant lies and the one or two transitions that come next, or by the
-/// rule. Two are not known if the last transition lies in the window.
+/// One or two types are known by the place at which the first instant lies and the one or two transitions that come next, or by the rule; but not two
+/// if the last transition lies in the window. Otherwise the answer is `More`.
 #[inline(always)]
 pub fn window_types<'a, V: Transitions>(
     view: &mut V,

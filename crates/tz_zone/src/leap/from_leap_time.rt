@@ -15,7 +15,7 @@ use super::to_leap_time::{
 use tz_base::error::TzError;
 
 /// The effect of a leap time that is not before a truncated start, in 128 bits: the leap time less the correction in force, but not before the
-/// first instant at which the leap second of that correction is reached. (`to_leap_time.rt`)
+/// first instant at which the leap second of that correction is reached: its time less the correction before it.
 fn wide_effect_from_start(leap_seconds: &[LeapSecond], unix_leap_time: i64) -> i128
     requires leaps { AreLeapSeconds leap_seconds.now }
     requires begun { HasBegunAt leap_seconds.now unix_leap_time }
@@ -48,7 +48,7 @@ pub(crate) fn wide_effect(leap_seconds: &[LeapSecond], unix_leap_time: i64) -> i
     }
 }
 
-/// The effect of a leap time that is reached at some instant: then it is itself an instant, of 64 bits.
+/// The effect of a leap time that is reached at some instant: then the effect is an instant, and fits 64 bits.
 #[inline(always)]
 pub(crate) fn effect_of_reached(leap_seconds: &[LeapSecond], unix_leap_time: i64) -> i64
     requires leaps { AreLeapSeconds leap_seconds.now }

@@ -1,7 +1,8 @@
 //! Leap times. (RFC 8536, section 2)
 //!
 //! The leap time of an instant is its Unix time plus the correction of the last leap second that is reached there, and before the first one the Unix
-//! time itself. A leap second is reached if the Unix time plus the correction before it is not below its time.
+//! time itself. A leap second is reached if the Unix time plus the correction before it is not below its time. An instant before a truncated start has
+//! no leap time, nor has one whose leap time would leave 64 bits.
 
 ghost use Rattle.std.specs.Prelude.{◌≡◌, ◌<◌, ◌≤◌, ◌+◌, ◌+ℤ◌, ◌≤ℤ◌, ◌<ℤ◌, ◌-ℤ◌, ℕ, length, slice_get, ℤ, pos, negsuc, IfOk, IfErr, MatchBool, MatchOption, Some};
 ghost use Rattle.std.specs.Bool.{OnTrue};
@@ -87,7 +88,7 @@ fn is_reached(leap_seconds: &[LeapSecond], place: usize, unix_time: i64) -> bool
     i128::from(time) <= i128::from(unix_time) + i128::from(correction)
 }
 
-/// The first place from one on at which no leap second is reached.
+/// The first place, from `from` on, at which no leap second is reached.
 fn first_not_reached(leap_seconds: &[LeapSecond], from: usize, unix_time: i64) -> usize
     requires { from ≤ length leap_seconds.now }
     ensures within { result ≤ length leap_seconds.now }
@@ -117,8 +118,8 @@ fn after_last_reached(leap_seconds: &[LeapSecond], until: usize, unix_time: i64)
 
 /// How many leap seconds are reached at an instant.
 ///
-/// Corrections change by a second in four weeks at most. So in any real table these are the leap seconds up to the instant plus the correction at the
-/// start of the table, with at most one more or one fewer.
+/// Corrections change by a second in four weeks at most. So in any real table these are the leap seconds whose time is at most the sum of the
+/// instant and the correction at the start of the table, or one more or one fewer.
 fn leap_seconds_reached(leap_seconds: &[LeapSecond], unix_time: i64) -> usize
     requires { AreLeapSeconds leap_seconds.now }
     ensures within { result ≤ length leap_seconds.now }
@@ -243,7 +244,8 @@ pub fn leap(leap_seconds: &[LeapSecond], unix_time: i64) -> Result<i64, TzError>
 /// Whether all instants of a window have a leap time before a given one, by the leap time of the window's first instant alone.
 ///
 /// From one instant to another a leap time grows by no more than three times the seconds between them, and mostly by just these. So a window that
-/// ends long before the given leap time needs no second search of the leap seconds.
+/// ends long before the given leap time needs no second search of the leap seconds. A correction changes by a second at a time, and by no more than
+/// one in four weeks, so the bound is generous.
 #[inline(always)]
 pub(crate) fn stay_before(
     leap_seconds: &[LeapSecond],

@@ -1,4 +1,4 @@
-//! The reader of the machine's files.
+//! Readers of an input to its end, and of the machine's files.
 
 ghost use Rattle.std.specs.Prelude.{◌≡◌, ◌+◌, ◌≤◌, ◌++◌, length, IfOk, IfErr, alloc_error};
 ghost use Rattle.std.specs.Io.{ReadsAtMost};

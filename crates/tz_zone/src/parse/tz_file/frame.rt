@@ -9,7 +9,7 @@ use super::time_size::TimeSize;
 use super::unit::{Unit, read_unit};
 use tz_base::error::parse::TzFileError;
 
-/// What is read of a file.
+/// The unit of a file whose tables are read, which is the first in version 1 and otherwise the second, and the footer after the second.
 #[derive(Clone, Copy)]
 pub(crate) struct Frame<'a> {
     pub(crate) unit: Unit<'a>,
@@ -25,6 +25,7 @@ pub(crate) fn read_frame(bytes: &[u8]) -> Result<Frame<'_>, TzFileError>
     ensures ok { OnOk result (IsFramed bytes.now) }
     ensures err { IfErr result (FrameFails bytes.now) }
 {
+    // In later versions the first unit is for readers of version 1: of its block only the length is used.
     let first = read_unit(TimeSize::Four, bytes)?;
     // Version 1, whose byte is 0.
     if first.version == 0 {
@@ -36,7 +37,6 @@ pub(crate) fn read_frame(bytes: &[u8]) -> Result<Frame<'_>, TzFileError>
             footer: None,
         });
     }
-    // The first unit is for readers of version 1: of its block only the length is used.
     let second = read_unit(TimeSize::Eight, first.after)?;
     Ok(Frame {
         unit: second,

@@ -7,9 +7,9 @@ ghost use Rattle.tz_zone.specs.TzParts.{width_of};
 /// How many bytes a time of a block has.
 #[derive(Clone, Copy)]
 pub(super) enum TimeSize {
-    /// Four bytes, in version 1.
+    /// Four bytes, in the first block, which is all that version 1 has.
     Four,
-    /// Eight bytes, in the block that later versions add.
+    /// Eight bytes, in the second block, which later versions add.
     Eight,
 }
 

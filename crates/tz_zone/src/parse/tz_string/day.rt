@@ -8,8 +8,8 @@ ghost use Rattle.tz_rule.specs.RuleDays.{IsRuleDay};
 ghost use Rattle.tz_zone.specs.TzText.{IsNumber, IsMonthWeekText, IsDay};
 ghost use Rattle.tz_zone.specs.TzTextFault.{IsDayNumberFault, IsMonthWeekDayFault, IsDayFault};
 
+use super::expect_byte::expect_byte;
 use super::number::{read_short_number, read_two_digits, read_year_day};
-use super::text_front::expect_byte;
 use crate::parse::after_byte::after_byte;
 use tz_base::error::TzError;
 use tz_rule::timezone::{Julian0WithLeap, Julian1WithoutLeap, MonthWeekDay, RuleDay};

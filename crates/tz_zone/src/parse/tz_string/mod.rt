@@ -1,95 +1,12 @@
 //! TZ strings. (POSIX.1-2017, Base Definitions, 8.3)
 
 mod day;
+mod expect_byte;
 mod name;
 mod number;
 mod offset;
+mod rule_text;
 mod start_and_end;
-mod text_front;
 mod time;
 
-ghost use Rattle.std.specs.Prelude.{◌≡◌, ◌∷◌, ℕ, List, Bool, false, Some, IfSome, IfOk, IfErr, MatchResult, pos};
-ghost use Rattle.tz_base.specs.declared.error.tz_error.TzError.TheVariants.{TzString};
-ghost use Rattle.tz_rule.specs.Alternate.{IsRuleOffset};
-ghost use Rattle.tz_rule.specs.declared.timezone.transition_rule.TransitionRule.{TransitionRule};
-ghost use Rattle.tz_rule.specs.LocalTimeType.{IsDesignation, IsFirstTypeFault, type_of};
-ghost use Rattle.tz_zone.specs.Bytes.{comma};
-ghost use Rattle.tz_zone.specs.TzText.{IsName, IsDaylightOffset, IsTimeUpTo, offset_hours, IsTzText};
-ghost use Rattle.tz_zone.specs.TzTextFault.{IsDaylightFault, IsTzTextFault};
-
-use name::read_name;
-use offset::{read_daylight_offset, read_offset};
-use start_and_end::read_switches;
-use text_front::expect_byte;
-use time::WrittenTime;
-use tz_base::error::TzError;
-use tz_base::error::parse::TzStringError;
-use tz_base::error::timezone::LocalTimeTypeError;
-use tz_rule::timezone::{AlternateTime, LocalTimeType, TransitionRule};
-
-/// The daylight name, its offset, and the switches after a comma.
-#[inline(always)]
-fn read_daylight(text: &[u8]) -> Result<(&[u8], Option<WrittenTime>, &[u8]), TzStringError>
-    ensures { MatchResult result
-        (λ p. ((after_name : List ℕ) × IsName text.now p.0.now after_name × IsDaylightOffset after_name p.1 (comma ∷ p.2.now)) × IfSome p.1 (IsTimeUpTo offset_hours))
-        (λ e. (extended : Bool) → IsDaylightFault extended text.now (TzString e)) }
-{
-    let (name, rest) = read_name(text)?;
-    if rest.is_empty() {
-        return Err(TzStringError::MissingDstStartEndRules);
-    }
-    let (offset, rest) = read_daylight_offset(rest)?;
-    if rest.is_empty() {
-        return Err(TzStringError::MissingDstStartEndRules);
-    }
-    let switches = expect_byte(rest, b',')?;
-    Ok((name, offset, switches))
-}
-
-/// The local time type with this name.
-#[inline(always)]
-fn named_type(
-    name: &[u8],
-    ut_offset: i32,
-    is_dst: bool,
-) -> Result<LocalTimeType, LocalTimeTypeError>
-    requires { IsRuleOffset ut_offset }
-    ensures { MatchResult result
-        (λ t. (t ≡ type_of ut_offset is_dst (Some name.now)) × IsDesignation name.now)
-        (IsFirstTypeFault (type_of (pos 0) false (Some name.now))) }
-{
-    LocalTimeType::new(ut_offset, is_dst, Some(name))
-}
-
-/// What the string denotes.
-#[inline(never)]
-fn read_text(text: &[u8], extended: bool) -> Result<TransitionRule, TzError>
-    ensures { MatchResult result (IsTzText extended text.now) (IsTzTextFault extended text.now) }
-{
-    let (std_name, rest) = read_name(text)?;
-    let (std_offset, rest) = read_offset(rest)?;
-    if rest.is_empty() {
-        let fixed = named_type(std_name, std_offset.ut_offset(), false)?;
-        return Ok(TransitionRule::Fixed(fixed));
-    }
-    let (dst_name, dst_offset, switches) = read_daylight(rest)?;
-    let (start, end) = read_switches(switches, extended)?;
-    let std = named_type(std_name, std_offset.ut_offset(), false)?;
-    let dst = named_type(dst_name, std_offset.daylight_ut_offset(dst_offset), true)?;
-    let start_time = start.time.total_seconds();
-    let end_time = end.time.total_seconds();
-    let rule = AlternateTime::new(std, dst, start.day, start_time, end.day, end_time)?;
-    Ok(TransitionRule::Alternate(rule))
-}
-
-/// The rule that a TZ string denotes. (POSIX.1-2017, Base Definitions, 8.3)
-///
-/// An extended string may have day times from -167 to 167 hours. (RFC 8536, section 3.3.1)
-#[inline(always)]
-pub fn parse_posix_tz(text: &[u8], extended: bool) -> Result<TransitionRule, TzError>
-    ensures ok { IfOk result (IsTzText extended text.now) }
-    ensures err { IfErr result (IsTzTextFault extended text.now) }
-    ensures only { (rule : TransitionRule) → IsTzText extended text.now rule → result ≡ Ok rule }
-{
-    read_text(text, extended)
-}
+pub use rule_text::parse_posix_tz;

@@ -6,9 +6,16 @@ ghost use Rattle.std.specs.Char.{is_ascii_digit};
 ghost use Rattle.tz_zone.specs.TzText.{IsNumber, IsRun};
 ghost use Rattle.tz_zone.specs.TzTextFault.{IsParseInt, HasNoNumber};
 
-use super::text_front::split_digits;
 use std::str;
 use tz_base::error::parse::TzStringError;
+
+/// The longest run of digits at the beginning, and the rest of the bytes.
+fn split_digits(text: &[u8]) -> (&[u8], &[u8])
+    ensures { IsRun is_ascii_digit text.now result.0.now result.1.now }
+{
+    let len = text.iter().take_while(|byte| byte.is_ascii_digit()).count();
+    text.split_at(len)
+}
 
 /// The value of the first byte, if it is a digit, and the rest of the bytes.
 #[inline(always)]

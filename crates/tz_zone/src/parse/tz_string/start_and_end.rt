@@ -6,7 +6,7 @@ ghost use Rattle.tz_zone.specs.TzText.{IsRuleText, IsRuleInRange, IsTimeOfRule, 
 ghost use Rattle.tz_zone.specs.TzTextFault.{IsDayTimeFault, IsRuleTextFault, IsLastRuleFault, IsRulesFault};
 
 use super::day::read_rule_day;
-use super::text_front::expect_byte;
+use super::expect_byte::expect_byte;
 use super::time::{WrittenTime, read_day_time};
 use crate::parse::after_byte::after_byte;
 use tz_base::error::TzError;

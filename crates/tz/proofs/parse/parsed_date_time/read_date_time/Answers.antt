@@ -5,7 +5,7 @@ use Rattle.std.specs.Bool.{then_some}
 use Rattle.std.proofs.lemmas.List.{nil_from_length}
 use Rattle.std.proofs.lemmas.Result.{err_from_is_err_and}
 use Rattle.tz.proofs.TextValues.{fields_are_utc}
-use Rattle.tz.proofs.parse.read_date_time.Goals as goal
+use Rattle.tz.proofs.parse.parsed_date_time.read_date_time.Goals as goal
 
 pub returns-in_err-text : goal.returns-in_err-text
 returns-in_err-text c =

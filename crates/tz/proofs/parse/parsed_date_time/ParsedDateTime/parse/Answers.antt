@@ -6,7 +6,7 @@ use Rattle.tz_base.proofs.LastSeconds.{valid_reading}
 use Rattle.tz.specs.DateTimeText.{IsDateTimeText}
 use Rattle.tz.proofs.ReadBack.{printed_is_read}
 use Rattle.tz.proofs.UniqueTexts.{missing_within}
-use Rattle.tz.proofs.parse.ParsedDateTime.parse.Goals as goal
+use Rattle.tz.proofs.parse.parsed_date_time.ParsedDateTime.parse.Goals as goal
 
 pub overflow_sub-result : goal.overflow_sub-result
 overflow_sub-result c = missing_within c.args.text.now c.in-Err.missing.part c.in-Err.missing.rest.now c.in-Err.ensures

@@ -6,7 +6,7 @@ use Rattle.std.proofs.lemmas.Iterator.Search.{YieldsList-from_take_while}
 use Rattle.std.specs.List.{take_while}
 use Rattle.tz_zone.specs.TzText.{is_in_brackets}
 use Rattle.tz_zone.proofs.TextRuns.{run_of_split}
-use Rattle.tz_zone.proofs.parse.tz_string.text_front.split_at_bracket.Goals as goal
+use Rattle.tz_zone.proofs.parse.tz_string.name.split_at_bracket.Goals as goal
 
 pub returns : goal.returns
 returns c =

@@ -2,7 +2,7 @@ use Rattle.std.proofs.Common.{refl, ap, inl, inr}
 use Rattle.tz_base.specs.declared.error.tz_error.TzError.TheVariants.{TzString}
 use Rattle.tz_zone.proofs.EmptyLists.{none_if_empty, some_unless_empty}
 use Rattle.tz_zone.proofs.QuestionMarkExits.{exit}
-use Rattle.tz_zone.proofs.parse.tz_string.read_daylight.Goals as goal
+use Rattle.tz_zone.proofs.parse.tz_string.rule_text.read_daylight.Goals as goal
 
 pub returns-then-is_empty : goal.returns-then-is_empty
 returns-then-is_empty c =

@@ -6,7 +6,7 @@ use Rattle.std.proofs.lemmas.Iterator.Search.{YieldsList-from_take_while}
 use Rattle.std.specs.List.{take_while}
 use Rattle.std.specs.Char.{is_ascii_digit}
 use Rattle.tz_zone.proofs.TextRuns.{run_of_split}
-use Rattle.tz_zone.proofs.parse.tz_string.text_front.split_digits.Goals as goal
+use Rattle.tz_zone.proofs.parse.tz_string.number.split_digits.Goals as goal
 
 pub returns : goal.returns
 returns c =

@@ -8,8 +8,8 @@ use Rattle.tz_zone.specs.TzText.{AlternateText, IsAlternateText, IsAlternateInRa
 use Rattle.tz_zone.proofs.EmptyLists.{none_if_empty, some_unless_empty}
 use Rattle.tz_zone.proofs.QuestionMarkExits.{exit}
 use Rattle.tz_zone.proofs.TextAnswers.{bad_name, offset_fails, daylight_fails, rules_fail, whole_text, same_rule_of, same_type_of, passed}
-use Rattle.tz_zone.proofs.parse.tz_string.read_text.Goals.{After-total_seconds-end_time}
-use Rattle.tz_zone.proofs.parse.tz_string.read_text.Goals as goal
+use Rattle.tz_zone.proofs.parse.tz_string.rule_text.read_text.Goals.{After-total_seconds-end_time}
+use Rattle.tz_zone.proofs.parse.tz_string.rule_text.read_text.Goals as goal
 
 pub returns-in_err-std_name : goal.returns-in_err-std_name
 returns-in_err-std_name c =
