@@ -9,7 +9,7 @@ use std::str;
 
 /// Text of at most 128 bytes, which is made without an allocation.
 ///
-/// A TZ string has at most 114 bytes, and a printed date time 53.
+/// By the bounds of the contracts a TZ string has at most 114 bytes, and a printed date time 53.
 #[derive(Drop)]
 pub struct TextBuffer {
     bytes: [u8; 128],

@@ -162,7 +162,8 @@ fn days_from_march(month: u8) -> u64
     u64::from(DAYS_FROM_MARCH[index])
 }
 
-/// The year, moved as by `moved_year`, on whose March 1st the year begins in which the month is.
+/// The year, moved as by `moved_year`, whose March 1st is the last one up to the month: the year itself from March on, and the one before in January
+/// and February.
 fn moved_march_year(year: i32, month: u8) -> u64
     ensures early { month < 3 → pos result +ℤ pos 1 ≡ year +ℤ pos 2147484000 }
     ensures late { 3 ≤ month → pos result ≡ year +ℤ pos 2147484000 }
@@ -205,7 +206,8 @@ pub fn week_day_of_day(day: i64) -> u8
     (day + 4).rem_euclid(7) as u8
 }
 
-/// The year that begins on March 1st, and the day of it, from 0. Both are counted from March 1st of a year that 400 divides.
+/// The year, of those that begin on March 1st, in which a day lies, and the day's place in it, from 0. The given day and the year are counted from
+/// March 1st of a year that 400 divides.
 fn march_year(day: u64) -> (u64, u64)
     requires { day < 2 ^ 42 }
     ensures value { closed_march_days result.0 + result.1 ≡ day }

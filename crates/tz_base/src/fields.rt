@@ -46,13 +46,13 @@ pub fn is_reading(reading: i64) -> bool
     (FIRST_READING..=LAST_READING).contains(&reading)
 }
 
-/// What a clock with this offset from UTC shows at a Unix time, if it is a reading.
+/// The reading of a clock with this offset from UTC at a Unix time, if it is in a year of 32 bits.
 #[inline(always)]
 pub fn local_reading(unix_time: i64, ut_offset: i32) -> Option<i64>
     ensures some { IfSome result (λ x. (x ≡ unix_time +ℤ ut_offset) × IsReading x) }
     ensures none { IfNone result (¬ IsReading (unix_time +ℤ ut_offset)) }
 {
-    // A sum that wraps is no reading, as the true one is none.
+    // A sum that wraps is in no year of 32 bits, and nor is the true one.
     let reading = unix_time.wrapping_add(i64::from(ut_offset));
     is_reading(reading).then_some(reading)
 }

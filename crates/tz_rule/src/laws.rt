@@ -47,7 +47,8 @@ pub fn starts_and_ends_are_near(rule: &AlternateTime)
     rule.plain().parts_are_sound();
 }
 
-/// For an instant only the starts and ends of its year in UTC and of the two neighbours matter: earlier ones are over, and later ones are yet to come.
+/// For an instant only the starts and ends of its year in UTC and of the two neighbours matter: earlier ones are over, and later ones are yet to
+/// come.
 pub fn far_starts_and_ends_are_over_or_to_come(rule: &AlternateTime)
     ensures over { (u year y : ℤ) → IsUtcYear u year → (y +ℤ pos 2) ≤ℤ year → (start_of rule.now y ≤ℤ u) × (end_of rule.now y ≤ℤ u) }
     ensures to_come { (u year y : ℤ) → IsUtcYear u year → (year +ℤ pos 2) ≤ℤ y → (u <ℤ start_of rule.now y) × (u <ℤ end_of rule.now y) }

@@ -98,7 +98,7 @@ pub fn shown_types_are_sound(zone: &TimeZoneRef<'_>)
     }
 }
 
-/// The directories in which [`TimeZone::local`] and [`TimeZone::from_posix_tz`] look for files, in their order.
+/// The directories in which [`TimeZone::from_posix_tz`] and [`TimeZone::named`] look for files, in their order.
 pub fn default_directories_have_their_values()
     ensures { map (λ directory. directory.now) DEFAULT_DIRECTORIES.now ≡ codes "/usr/share/zoneinfo" ∷ codes "/share/zoneinfo" ∷ codes "/etc/zoneinfo" ∷ [] }
 {}

@@ -28,7 +28,7 @@ use tz_zone::timezone::TimeZoneRef;
 /// | `Reject` | none | none |
 ///
 /// If clocks show a local time exactly once and are not set forward over it, all choices mean that. If they do both, as when they are set back soon
-/// after, `Compatible` means an instant at which they show it, `Earlier` and `Later` the first and the last entry of
+/// after, `Compatible` means the first instant at which they show it, `Earlier` and `Later` the first and the last entry of
 /// [`DateTime::find`](super::DateTime::find), and `Reject` none.
 #[derive(Clone, Copy, Debug, PartialEq, Eq)]
 pub enum Disambiguation {

@@ -19,7 +19,7 @@ pub(super) fn utc_timespec(total: i128) -> Option<(i64, u32)>
     is_reading(seconds).then_some((seconds, nanoseconds))
 }
 
-/// The seconds of all UTC date times.
+/// The seconds from the first reading of UTC date times to the last.
 const ALL_SECONDS: u64 = 135_536_076_801_503_999;
 
 /// The seconds with the whole ones of the nanoseconds, and the nanoseconds that remain, if the seconds are those of a UTC date time.

@@ -1,4 +1,4 @@
-//! Takers of the entries that a search finds, which are instants that show a reading and jumps over it, and a list that takes them as date times.
+//! What takes the entries of a search, which are instants that show a reading and jumps over it, and the lists to which they go as date times.
 
 use super::FoundDateTimeKind;
 use std::alloc::AllocError;

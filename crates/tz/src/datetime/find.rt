@@ -236,8 +236,9 @@ impl DateTime {
 
     /// What [`DateTime::find_n`] returns, and how many transitions were read.
     ///
-    /// If a zone has n transitions, of which w take effect in the window of the local time, a search reads at most 2 b + w + 4, where b is the number
-    /// of binary digits of n. The count saturates at `u64::MAX`.
+    /// If a zone has n transitions, of which w take effect in the window of the local time (from the local time less the zone's greatest offset to
+    /// the local time less its least one), a search reads at most 2 b + w + 4, where b is the number of binary digits of n. The count saturates at
+    /// `u64::MAX`.
     ///
     /// # Errors
     ///

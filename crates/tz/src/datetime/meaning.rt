@@ -62,7 +62,7 @@ fn meaning_with(meaning: &Meaning, found: &FoundDateTimeKind) -> Meaning
         },
         Meaning::Skipped { .. } => Meaning::More(2),
         Meaning::Twice { .. } => Meaning::More(3),
-        // A list has less than 2^33 entries, so the count never comes to its end.
+        // A list has at most 2^33 entries, so the count never comes to its end.
         Meaning::More(count) => Meaning::More(count.saturating_add(1)),
     }
 }

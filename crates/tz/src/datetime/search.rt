@@ -75,7 +75,8 @@ fn give<'a, E: EntryTaker<'a>>(
     }
 }
 
-/// Gives what a reading has in its window if the clock has one type before an instant, and another from there on.
+/// Gives what a reading has in its window if the clock has one type before an instant, and another from there on. The offsets of both are between the
+/// least and the greatest one, so what shows the reading is in the window.
 #[inline(always)]
 fn give_around<'a, E: EntryTaker<'a>>(
     entries: &mut E,
@@ -133,13 +134,14 @@ fn walk<'a, E: EntryTaker<'a>, V: Transitions>(
     let Some((first, stage)) = first_stage(view, parts, place, low) else {
         return Ok(());
     };
-    // A jump at `first` does not pass over the reading: before `low` no type shows it, and from `low` up to a later `first` the clock has no type.
+    // A jump at `first` is no entry. It would pass over the reading only if the type after it showed the reading before `first`, but before `low` no
+    // type does; and if `first` is later than `low`, there is no type before it.
     let mut before = None;
     let (mut since, mut stage) = (first, stage);
     while since <= high {
         let span = span_from(view, parts, stage, since, high);
         stage = span.next;
-        // If two transitions take effect at the same instant, the span between them is empty.
+        // If two transitions take effect at the same instant, as around an inserted second, the span between them is empty.
         if since <= span.last {
             let after = span.local_time_type;
             give(entries, reading, before, since, after, span.last)?;
@@ -185,6 +187,7 @@ fn search_window<'a, E: EntryTaker<'a>, V: Transitions>(
 }
 
 /// The first and the last instant at which a clock with offsets from the least to the greatest one can show a reading, or be set forward over it.
+/// Both are so near that no leap second takes a leap time out of 64 bits before them.
 fn window(reading: i64, least: i32, greatest: i32) -> (i64, i64)
     requires small { IsSmall reading }
     requires order { least ≤ℤ greatest }

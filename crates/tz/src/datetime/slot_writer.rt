@@ -71,7 +71,7 @@ impl<'a, S: Slot> SlotWriter<'a, S> {
                 self.slots[place].set(found);
             }
         }
-        // A list has less than 2^33 entries, so the count never comes to its end.
+        // A list has at most 2^33 entries, so the count never comes to its end.
         self.count = self.count.saturating_add(1);
     }
 }

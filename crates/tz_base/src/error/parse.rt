@@ -75,7 +75,7 @@ pub enum TzFileError {
     /// The counts of the header do not fit together.
     #[error("invalid header")]
     InvalidHeader,
-    /// The footer is not between line feeds, or not a text.
+    /// The footer is not between line feeds, or its text begins with a colon or has a zero byte.
     #[error("invalid footer")]
     InvalidFooter,
     /// A daylight byte is neither 0 nor 1.

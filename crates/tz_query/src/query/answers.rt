@@ -24,8 +24,8 @@ pub struct Answers<'a, A: Allocator + Copy> {
     pub zone: TimeZoneRef<'a>,
     pub segment: KeptSegment,
     pub suffixes: Suffixes,
-    /// The last instant that was looked up because the kept segment did not hold it, or the first instant of the last window that was searched for
-    /// the same reason; at first 0. `follow` compares the next one with it.
+    /// The last instant that the kept segment did not serve (of a search, the first one of its window), with which `follow` compares the next such
+    /// instant; at first 0.
     pub missed: i64,
     pub output: Output<A>,
 }
@@ -83,9 +83,9 @@ impl<'a, A: Allocator + Copy> Answers<'a, A> {
 /// A query is a letter and numbers, separated by exactly one space. `T u n` is the date time at the Unix time u with n nanoseconds: its answer
 /// is the date time and the name of its type, `-` if it has none. `F y mo d h mi s n` is the search of [`DateTime::find`] for these fields: its
 /// answer is `F` and how many entries there are, and a line for each, `N` with a date time and its name, or `S` with those before and after
-/// a jump. `W c y mo d h mi s n` is that search in each of c weeks, for the date that lies as many weeks later: its answer is `W` and c, and
-/// that of an `F` line for each week. A query that fails is answered by `E ` and the name of the error, any other line by `E Line`. Lines and
-/// answers end in LF; the last line may lack it.
+/// a jump. `W c y mo d h mi s n` is that search in each of c weeks: for i from 0 to c - 1, for the date 7 i days later. Its answer is `W` and
+/// c, and that of an `F` line for each week. A query that fails is answered by `E ` and the name of the error, and a line that is no query by
+/// `E Line`. Lines and answers end in LF; the last line may lack it.
 ///
 /// A number is an optional minus sign and one or more digits; leading zeros are allowed, and so is `-0`, even for an unsigned type. Its value
 /// must fit its type: `i64` for u, `i32` for y, `u32` for n, and `u8` for all others.

@@ -48,7 +48,8 @@ impl<'a, A: Allocator + Copy> Answers<'a, A> {
         }
     }
 
-    /// Keeps the segment around an instant that is looked up, if the lines seem to be in order: if the lookup before was for an instant near it.
+    /// Keeps the segment around an instant that is looked up, if the lines seem to be in order: if the lookup before was for an instant near it. It
+    /// serves the lines after this one.
     #[inline(always)]
     pub fn follow(&mut self, unix_time: i64)
         requires { IsSound self.old }

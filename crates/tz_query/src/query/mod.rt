@@ -4,7 +4,6 @@ mod answers;
 mod error_names;
 mod kept_segment;
 mod lines;
-mod meeting_answers;
 mod nanoseconds;
 mod output;
 mod page;
@@ -14,6 +13,7 @@ mod streams;
 mod time_answers;
 mod type_suffixes;
 mod usual_lines;
+mod weekly_answers;
 
 pub use answers::{answer, answer_tzif};
 pub use program::tool;

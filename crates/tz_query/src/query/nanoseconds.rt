@@ -1,4 +1,4 @@
-//! Nanoseconds as digits. The answers of a program are printed onto a page line by line, and most have nanoseconds whose digits are already known.
+//! Nanoseconds as digits. Most lines show the digits of their query, so these are copied, and no number is computed.
 
 ghost use Rattle.std.specs.Prelude.{◌≡◌, ◌<◌, ℕ};
 ghost use Rattle.std.specs.Str.Parse.{digits_value};

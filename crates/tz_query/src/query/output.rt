@@ -15,7 +15,8 @@ use tz::inner::{Fields, TextBuffer};
 /// What writing returns: nothing, or that an allocation failed.
 pub type Written = Result<(), AllocError>;
 
-/// Where answers are written: onto a page, which is appended to the answers before it when it has no room for one more line, with its front.
+/// Where answers are written: onto a page. If the page has no room for one more line and its front (what stands before the date time, such as `N `),
+/// it is first appended to the answers before it.
 #[derive(Drop)]
 pub struct Output<A: Allocator> {
     pub answers: Vec<u8, A>,

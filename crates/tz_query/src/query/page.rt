@@ -16,7 +16,8 @@ use tz::inner::{Fields, TextBuffer, middle_of, two_pairs};
 /// The number of bytes that a page holds.
 const SIZE: usize = 2040;
 
-/// Room that is made at once: for a short line, or for a front and the line of a date time. None is longer.
+/// Room that is made at once: for a short line, or for a front (what stands before a date time, such as `N `) and the line of the date time. Neither
+/// is longer.
 const LONGEST: usize = 160;
 
 /// Printed text of at most 2040 bytes, which is kept without an allocation.

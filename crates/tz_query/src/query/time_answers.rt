@@ -13,7 +13,8 @@ use tz::LocalTimeType;
 use tz::constants::NANOSECONDS_PER_SECOND;
 use tz::inner::{Fields, local_reading};
 
-/// What a clock with this offset from UTC shows at a Unix time, if its year is one of 32 bits.
+/// What a clock with this offset from UTC shows at a Unix time, if its year is one of 32 bits. The nanoseconds are 0: a line shows those of its
+/// query.
 #[inline(always)]
 pub fn shown_fields(unix_time: i64, ut_offset: i32) -> Option<Fields>
     ensures some { IfSome result (λ f. IsCivil (unix_time +ℤ ut_offset) 0 f × IsReading (unix_time +ℤ ut_offset)) }
@@ -87,7 +88,8 @@ impl<'a, A: Allocator + Copy> Answers<'a, A> {
         self.output.push_instant(unix_time, nanoseconds, suffix)
     }
 
-    /// Looks an instant up once more, for the error: [`Answers::type_at`] keeps none.
+    /// Looks an instant up once more, for the error, which [`Answers::type_at`] drops. It finds no type then: the arm for one is there since
+    /// `type_at` promises nothing of `None`.
     #[cold]
     #[inline(never)]
     fn answer_by_lookup(&mut self, unix_time: i64, nanoseconds: Nanoseconds) -> Written

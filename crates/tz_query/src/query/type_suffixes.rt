@@ -7,13 +7,13 @@ ghost use Rattle.tz.specs.PrintedText.{type_name_text, suffix_text};
 use tz::LocalTimeType;
 use tz::inner::TextBuffer;
 
-/// How many suffixes are kept. More types share these indices.
+/// How many suffixes are kept. Of several types with the same index only the last one's is.
 const COUNT: usize = 16;
 
 /// What a line has after its nanoseconds if a local time type shows the date time: the offset, a space, the type's name and LF.
 #[derive(Clone, Copy)]
 pub struct Suffix {
-    /// The suffix is their front. All 32 are copied at once.
+    /// The suffix is the first `len` of them. All 32 are copied at once.
     pub bytes: [u8; 32],
     pub len: usize,
     pub local_time_type: LocalTimeType,

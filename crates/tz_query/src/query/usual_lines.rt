@@ -58,7 +58,7 @@ pub fn read_usual_search_line<'a>(
 
 /// The number of the digits at a place, if there are 1 to 18, and the place after them.
 ///
-/// Eleven digits hold the Unix times up to November 5138. Of a slice of this length the first eight bytes are read at once, the others one at a time.
+/// Eleven digits hold the Unix times up to November 5138. Of eleven bytes `read_digits` reads the first eight at once, and the others one at a time.
 #[inline(always)]
 fn read_few_digits(bytes: &[u8], place: usize) -> Option<(u64, usize)>
     requires { place + 12 ≤ length bytes.now }
@@ -66,6 +66,7 @@ fn read_few_digits(bytes: &[u8], place: usize) -> Option<(u64, usize)>
         × (r.0 ≡ digits_value 10 digits)) }
     ensures bound { IfSome result (λ r. (r.0 < 1000000000000000000) × (r.1 ≤ place + 18) × (r.1 ≤ length bytes.now)) }
 {
+    // The place after the digits, which is how many they are if they are read from place 0, and their value.
     let (count, number) = dec2flt::read_digits(&bytes[place..place + 11], 0, 0);
     if count == 0 {
         return None;
@@ -100,6 +101,9 @@ fn read_usual_number(bytes: &[u8], place: usize) -> Option<(i64, usize)>
 }
 
 /// Copies the number of up to nine digits after a space at a place and before LF to `nine`, left-padded with zeros. Returns the place after LF.
+///
+/// The nine bytes before LF are copied, and those before the digits overwritten: so a number that ends within the first nine bytes is left to
+/// `read_query`.
 #[inline(always)]
 fn read_nanoseconds(bytes: &[u8], place: usize, nine: &mut [u8; 9]) -> Option<usize>
     requires { place + 11 ≤ length bytes.now }

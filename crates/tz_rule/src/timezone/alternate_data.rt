@@ -214,7 +214,7 @@ impl AlternateData {
         self.table(is_end).in_year(year)
     }
 
-    /// Whether the end comes before the start in some year, so that daylight saving time lasts from each start to the end of the next year.
+    /// Whether the end comes before the start in some year, so that daylight saving time lasts from each start to its end in the next year.
     #[inline(always)]
     pub(crate) fn ends_next_year(&self) -> bool
         ensures { MatchBool result (EndsNextYear (start_of self.now) (end_of self.now)) (¬ EndsNextYear (start_of self.now) (end_of self.now)) }

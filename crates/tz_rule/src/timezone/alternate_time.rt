@@ -87,7 +87,7 @@ impl Parts {
 /// Standard time and daylight saving time, and when each begins in every year.
 ///
 /// A start and an end never change their order from one year to another, at any distance in years. If some year's end comes before its start,
-/// daylight saving time lasts from each start to the next year's end, and otherwise to the end of the same year.
+/// daylight saving time lasts from each start to its end in the next year, and otherwise to its end in the same year.
 #[derive(Clone, Copy)]
 pub struct AlternateTime {
     plain: AlternateData,

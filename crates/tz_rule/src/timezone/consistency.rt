@@ -114,14 +114,15 @@ impl YearTable {
         self.comes_before_next(other) && self.comes_after_next(other)
     }
 
-    /// Whether ends come before starts (`self` is the table of starts), if the bounds of both tables show that their order never changes.
+    /// Whether ends come before starts (`self` is the table of starts), if the bounds of both tables show that their order never changes; `None` if
+    /// they do not show it.
     fn order_of_bounds(&self, ends: &YearTable) -> Option<bool>
         ensures { IfSome result (λ first. (¬ ChangesOrder self.now.0 ends.now.0)
             × MatchBool first (ComesFirst ends.now.0 self.now.0) (¬ ComesFirst ends.now.0 self.now.0)) }
     {
         let (first_start, last_start) = self.bounds();
         let (first_end, last_end) = ends.bounds();
-        // No start may come after the next year's end, and no end after the next year's start.
+        // The bounds show an order only if no start comes after the next year's end, and no end after the next year's start.
         if i64::from(last_start) > i64::from(first_end) + SECONDS_PER_NORMAL_YEAR {
             return None;
         }
@@ -152,7 +153,8 @@ impl YearTable {
         Some(ends.comes_first(self))
     }
 
-    /// Whether starts, of which this is the table, and ends change their order at some distance in years.
+    /// Whether starts, of which this is the table, and ends change their order at some distance in years. Only the distances 0, 1 and -1 need a look:
+    /// a start or an end lies less than ten days outside its year, so from two years on the order never changes.
     fn changes_order(&self, ends: &YearTable) -> bool
         ensures { MatchBool result (ChangesOrder self.now.0 ends.now.0) (¬ ChangesOrder self.now.0 ends.now.0) }
     {

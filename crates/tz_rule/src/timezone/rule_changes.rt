@@ -1,8 +1,8 @@
 //! The changes of a rule's type: the first one after an instant, and the last one up to it.
 //!
 //! Mostly that is the start or the end of daylight saving time next to the instant, which the tables' entries of its likely year, or of that year and
-//! one neighbour, determine. Otherwise, as near some New Years, if a start and an end coincide, or at the ends of the rule's years, a walk goes on from
-//! segment to segment. A rule without a change is known by its types and tables, and is not walked over.
+//! one neighbour, determine. Otherwise, as near some New Years, if a start and an end coincide, or at the ends of the rule's years, a walk goes on
+//! from segment to segment. A rule without a change is known by its types and tables, and is not walked over.
 
 ghost use Rattle.std.specs.Prelude.{◌≡◌, ◌≢◌, not, ℤ, pos, negsuc, ◌+ℤ◌, ◌-ℤ◌, ◌≤ℤ◌, ◌<ℤ◌, IfSome, MatchBool, MatchOption};
 ghost use Rattle.std.specs.Bool.{OnTrue};
@@ -40,7 +40,7 @@ struct Switch {
     is_start: bool,
 }
 
-/// The switch, if of two that are neighbours, of which it is one, the second comes later than the first; none if both come at one instant.
+/// The switch at this instant. `earlier` and `later` are it and its neighbour; `None` if both come at one instant.
 #[inline(always)]
 fn switch_between(unix_time: i64, is_start: bool, earlier: i64, later: i64) -> Option<Switch>
     ensures { IfSome result (λ switch. (switch.unix_time ≡ unix_time) × (switch.is_start ≡ is_start) × (earlier <ℤ later)) }
@@ -79,7 +79,8 @@ fn change_by_types<'a>(
 }
 
 impl AlternateData {
-    /// The last start or end up to an instant near the moved year, and the next one after it. `end_is_first` is as in `segment_by_order`.
+    /// The last start or end up to an instant near the moved year, and the next one after it. Either is `None` if it meets the other one of its year.
+    /// `end_is_first` is as in `segment_by_order`.
     ///
     /// The second one of a year never meets the first one of the next year, since both are far inside their years.
     #[inline(always)]

@@ -1,9 +1,9 @@
 //! The segment of an alternate rule around an instant, from one start or end of daylight saving time up to the next, and the type there.
 //!
-//! If all starts and ends are ten days or more from the ends of their years, two or three of them, of the likely year and its neighbours, determine
-//! the segment; otherwise they mostly do too. Near some New Years, and more than 1.9 billion years from 1970, those of the instant's year in UTC or
-//! of a neighbour do, with those of the years beside that one: the last start or end up to the instant can be that of two years before, and the next
-//! one that of two years after.
+//! The switches (starts and ends) of the likely year, which is the instant's or a neighbour near a New Year, and of its neighbours determine the
+//! segment: always if all lie ten days or more inside their years, and otherwise mostly. If they do not, as near some New Years and more than 1.9
+//! billion years from 1970, the determining year is taken instead: the instant's year in UTC or a neighbour, chosen by the first switches of that
+//! year and the next.
 
 ghost use Rattle.std.specs.Prelude.{◌≡◌, ◌≢◌, ◌≤◌, ℤ, pos, negsuc, ◌+ℤ◌, ◌-ℤ◌, ◌≤ℤ◌, ◌<ℤ◌, IfOk, IfErr, IfSome, IfNone, MatchBool, MatchOption};
 ghost use Rattle.tz_rule.specs.Alternate.{AlternateTime, start_of, end_of, switch_of, IsUtcYear, IsRuleYear, IsInRuleYears, IsAlternateType};
@@ -36,7 +36,7 @@ pub struct RuleSegment<'a> {
 struct AlternateSegment {
     /// The first instant.
     from: i64,
-    /// The first instant after it.
+    /// The first instant after the span.
     until: i64,
     /// Whether its type is that of daylight saving time.
     is_daylight: bool,

@@ -1,6 +1,7 @@
 //! The parts of UTC's zone, in statics.
 //!
-//! A static holds no type with a model. So the statics are of plain types whose fields lie as those of the types with a model do, and are lent as these.
+//! A static holds no type with a model. So the statics are of plain types whose fields lie as those of the types with a model do, and are lent as
+//! these.
 
 ghost use Rattle.std.specs.Prelude.{◌≡◌, [], ◌∷◌, false, pos};
 ghost use Rattle.tz_rule.specs.Designation.{kept};

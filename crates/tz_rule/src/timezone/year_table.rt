@@ -14,7 +14,8 @@ use tz_base::calendar;
 #[derive(Clone, Copy)]
 pub(super) struct YearTable([i32; KINDS]);
 
-/// Ten days after New Year. A start or an end lies less than ten days outside its year, so from here on none of an earlier year is yet to come.
+/// Ten days after New Year. If no start and no end lies before it, or in the last ten days of its year, the likely year determines the segment: it is
+/// another one than the instant's only within two days of a New Year, where then no start or end lies.
 const INNER_START: i32 = 864_000;
 
 /// Ten days before the end of the shortest year.

@@ -1,4 +1,5 @@
-//! The clock from the last transition on, and that of a zone without transitions: the types of the rule, or none.
+//! The clock from the last transition on, and that of a zone without transitions: the types of the rule. Without a rule there is none, but in a zone
+//! without transitions type number 0.
 
 ghost use Rattle.std.specs.Prelude.{◌≡◌, ◌≢◌, ℤ, pos, negsuc, ◌+ℤ◌, ◌≤ℤ◌, [], MatchOption};
 ghost use Rattle.tz_rule.specs.LocalTimeType.{LocalTimeType};

@@ -1,5 +1,5 @@
 //! The clock's type at an instant, over a view of the transitions: that of the transition before the instant's place, type number 0 before the first
-//! transition, and after the last one that of the rule, or none.
+//! transition, and from the last one on, or in a zone without transitions, that of `after_table`, or none.
 
 ghost use Rattle.std.specs.Prelude.{◌≡◌, ℕ, ◌+◌, ◌^◌, ◌<◌, ◌≤◌, [], length, IfOk, IfErr, MatchOption};
 ghost use Rattle.tz_zone.specs.Clock.{IsClock, IsLookupFault};
@@ -13,7 +13,7 @@ use crate::table::{OtherParts, Transitions};
 use tz_base::error::TzError;
 use tz_rule::timezone::LocalTimeType;
 
-/// Why there is no type after the last transition: there is no rule, or it is not defined at the instant.
+/// Why there is no type from the last transition on, or in a zone without transitions: there is no rule, or it is not defined at the instant.
 #[inline(always)]
 fn fault_after(parts: OtherParts<'_>) -> TzError
     ensures { MatchOption (zone_seen [] parts.entry).extra_rule (result ≡ TzError.NoAvailableLocalTimeType) (λ rule. result ≡ TzError.OutOfRange) }

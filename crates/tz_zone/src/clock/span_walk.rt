@@ -18,13 +18,14 @@ use tz_rule::timezone::LocalTimeType;
 /// How far a walk along a clock has come.
 #[derive(Clone, Copy)]
 pub struct Stage<'a> {
-    /// So many transitions are reached. The next one is reached too if two take effect at one instant: the span between them is empty.
+    /// How many transitions are passed. The next one may take effect at the same instant; then the span between them is empty.
     pub place: usize,
-    /// The type of the last of them, or the first type.
+    /// The type of the last of them, or the first type. After all transitions it is not used: there the rule has the types.
     pub local_time_type: &'a LocalTimeType,
 }
 
-/// A span of time through which a clock has one type, or none.
+/// A span of time through which a clock has one type, or none: a piece of a `Segment`, from where a walk has come to up to the segment's end or the
+/// walk's last instant.
 #[derive(Clone, Copy)]
 pub struct Span<'a> {
     /// The last instant, which is before the first one in an empty span.
@@ -35,8 +36,8 @@ pub struct Span<'a> {
     pub next: Stage<'a>,
 }
 
-/// The first instant from `unix_time` on that has a leap time, and the stage of a walk that begins there. `place` is that of `unix_time`, if it has a
-/// leap time itself.
+/// The first instant from `unix_time` on that has a leap time, and the stage of a walk that begins there. `place` is that of `unix_time`, or
+/// `None` if there are transitions and it has no leap time. In a zone without transitions the first instant is `unix_time` itself.
 #[inline(always)]
 pub fn first_stage<'a, V: Transitions>(
     view: &mut V,
@@ -77,7 +78,8 @@ pub fn first_stage<'a, V: Transitions>(
     ))
 }
 
-/// The span of a clock from where a walk has come to, up to an instant at most.
+/// The span of a clock from where a walk has come to, up to `high` at most. `high` is not above `ALWAYS_DEFINED_UP_TO`, so every instant from `since`
+/// to it has a leap time.
 #[inline(always)]
 pub fn span_from<'a, V: Transitions>(
     view: &mut V,

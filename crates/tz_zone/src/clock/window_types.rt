@@ -34,8 +34,8 @@ pub enum WindowTypes<'a> {
     More(Option<usize>),
 }
 
-/// The type after the last transition from one instant up to another, if it is one. Not inlined, so that the callers of a window with one type stay
-/// small.
+/// The type that the clock has throughout, from one instant up to another, both from the last transition on or in a zone without transitions; `None`
+/// if it has none or several. Not inlined, so that the callers of a window with one type stay small.
 #[inline(never)]
 fn type_through<'a>(
     parts: OtherParts<'a>,
@@ -168,6 +168,7 @@ pub fn window_types<'a, V: Transitions>(
         if place < count {
             return types_at_place(view, parts, place, low, low_leap_time, high);
         }
+        // A window may end after the last instant that has a leap time; that of a search never does.
         let Some(_) = leap_time(parts.leap_seconds, high) else {
             return WindowTypes::More(Some(place));
         };

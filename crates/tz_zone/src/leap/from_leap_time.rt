@@ -1,7 +1,7 @@
 //! The way back from leap times: when a transition takes effect. (RFC 8536, section 2)
 //!
-//! A leap time is reached at an instant if that of the instant is not below it, and takes effect at the first such instant. A leap time within an
-//! inserted second is that of no instant, and takes effect when the second is over.
+//! A leap time is reached at an instant if the instant's own leap time is not below it, and takes effect at the first such instant. A leap time
+//! within an inserted second is that of no instant, and takes effect when the second is over.
 
 ghost use Rattle.std.specs.Prelude.{◌≡◌, ℤ, pos, negsuc, ◌≤ℤ◌, IfOk, IfErr, MatchOption};
 ghost use Rattle.tz_zone.specs.LeapTime.{IsLeapTimeRefused, IsTimeReached, IsWideEffect, IsEffect, IsEffectRefused, IsLastBefore};
@@ -23,6 +23,7 @@ fn wide_effect_from_start(leap_seconds: &[LeapSecond], unix_leap_time: i64) -> i
 {
     let count = leap_seconds_up_to(leap_seconds, unix_leap_time);
     if count == 0 {
+        // Before the first leap second of a table that is not truncated there is no correction.
         return without_correction(unix_leap_time, 0);
     }
     let last = &leap_seconds[count - 1];

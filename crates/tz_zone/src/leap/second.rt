@@ -23,7 +23,7 @@ impl Model for LeapSecond {
 }
 
 impl LeapSecond {
-    /// The leap second at this leap time, after which the corrections add up to this one.
+    /// The leap second at this leap time, from which on leap time is ahead of Unix time by this correction.
     pub fn new(unix_leap_time: i64, correction: i32) -> Self
         ensures { result ≡ record { unix_leap_time = unix_leap_time; correction = correction } }
     {

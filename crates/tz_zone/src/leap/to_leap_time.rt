@@ -1,8 +1,8 @@
 //! Leap times. (RFC 8536, section 2)
 //!
 //! The leap time of an instant is its Unix time plus the correction of the last leap second that is reached there, and before the first one the Unix
-//! time itself. A leap second is reached if the Unix time plus the correction before it is not below its time. An instant before a truncated start has
-//! no leap time, nor has one whose leap time would leave 64 bits.
+//! time itself. A leap second is reached if the Unix time plus the correction before it is not below its time. An instant before a truncated start
+//! has no leap time, nor has one whose leap time would leave 64 bits.
 
 ghost use Rattle.std.specs.Prelude.{◌≡◌, ◌<◌, ◌≤◌, ◌+◌, ◌+ℤ◌, ◌≤ℤ◌, ◌<ℤ◌, ◌-ℤ◌, ℕ, length, slice_get, ℤ, pos, negsuc, IfOk, IfErr, MatchBool, MatchOption, Some};
 ghost use Rattle.std.specs.Bool.{OnTrue};
@@ -14,7 +14,8 @@ use super::LeapSecond;
 use super::table::{correction_at_start, correction_before, truncated_start};
 use tz_base::error::TzError;
 
-/// Up to this instant no leap second takes the leap time out of 64 bits, whatever the table.
+/// Up to this instant no leap second takes the leap time out of 64 bits, whatever the table. It is past all years of 32 bits, and far below 2^63 less
+/// any correction.
 const ALWAYS_DEFINED_UP_TO: i64 = 80_000_000_000_000_000;
 
 /// A leap time less a correction, as a wide number.
@@ -243,9 +244,8 @@ pub fn leap(leap_seconds: &[LeapSecond], unix_time: i64) -> Result<i64, TzError>
 
 /// Whether all instants of a window have a leap time before a given one, by the leap time of the window's first instant alone.
 ///
-/// From one instant to another a leap time grows by no more than three times the seconds between them, and mostly by just these. So a window that
-/// ends long before the given leap time needs no second search of the leap seconds. A correction changes by a second at a time, and by no more than
-/// one in four weeks, so the bound is generous.
+/// Leap time grows as fast as Unix time, but by one second more or less at a leap second, of which there is at most one in about four weeks. So three
+/// times the seconds of a window are a generous bound, and one that ends long before the given leap time needs no second search of the leap seconds.
 #[inline(always)]
 pub(crate) fn stay_before(
     leap_seconds: &[LeapSecond],

@@ -9,7 +9,7 @@ use crate::timezone::TimeZoneRef;
 use tz_rule::inner::{AlternateData, RuleRef};
 use tz_rule::timezone::{LocalTimeType, TransitionRule};
 
-/// A zone's rule as the zone keeps it. It is not examined for instants before the last transition.
+/// A zone's rule in the form in which the zone keeps it. `lent` brings it to one form, and is called only for instants that the rule decides.
 #[derive(Clone, Copy)]
 pub enum KeptRule<'a> {
     /// There is no rule.

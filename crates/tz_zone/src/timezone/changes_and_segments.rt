@@ -74,8 +74,8 @@ impl<'a> TimeZoneRef<'a> {
         Some(change)
     }
 
-    /// The first change after an instant, and a place among the transitions that is likely to be the one after it. The given one is likely to be that
-    /// after a change at the instant.
+    /// The first change after an instant, and the likely place after that change, for the next call. `place` is the likely place after a change at
+    /// the instant; a wrong one costs time and no more.
     #[inline(always)]
     pub(crate) fn following_from(&self, unix_time: i64, place: usize) -> Option<(Change<'a>, usize)>
         ensures { MatchOption result (HasNoFollowing (zone_of self.now) unix_time)
@@ -127,8 +127,8 @@ impl<'a> TimeZoneRef<'a> {
         Some(change)
     }
 
-    /// The last change before an instant, and a place among the transitions that is likely to be the one before it. The given one is likely to be
-    /// that before a change at the instant.
+    /// The last change before an instant, and the likely place before that change, for the next call. `place` is the likely place before a change at
+    /// the instant; a wrong one costs time and no more.
     #[inline(always)]
     pub(crate) fn preceding_from(&self, unix_time: i64, place: usize) -> Option<(Change<'a>, usize)>
         ensures { MatchOption result (HasNoPreceding (zone_of self.now) unix_time)

@@ -31,7 +31,8 @@ impl<A: Allocator + Copy> TimeZone<A> {
     ///
     /// # Errors
     ///
-    /// - [`TzError::TzFile`] if the bytes are not a file of version 1 to 4, of which headers and blocks are checked first;
+    /// - [`TzError::TzFile`] if the bytes are not a file of version 1 to 4. Headers and the lengths of blocks are checked first, then types, then
+    ///   indicators, then the footer;
     /// - [`TzError::LocalTimeType`] if a record does not make a local time type;
     /// - [`TzError::TzString`], [`TzError::LocalTimeType`] or [`TzError::TransitionRule`] if the text of the footer is not a TZ string, or does not
     ///   make a rule;

@@ -10,7 +10,7 @@ use tz_base::error::TzError;
 use tz_base::error::parse::TzFileError;
 use tz_rule::timezone::TransitionRule;
 
-/// Whether the first and the last byte are line feeds.
+/// Whether the first and the last byte are line feeds. A single line feed is both, and is a footer without a text.
 fn is_between_line_feeds(footer: &[u8]) -> bool
     ensures { MatchBool result (IsBetweenLineFeeds footer.now) (¬ IsBetweenLineFeeds footer.now) }
 {
@@ -24,7 +24,7 @@ fn has_zero(bytes: &[u8]) -> bool
     bytes.contains(&0)
 }
 
-/// Whether a TZ string may stand in a footer.
+/// Whether a text may stand in a footer: it does not begin with a colon, and has no zero byte.
 fn may_be_text(text: &[u8]) -> bool
     ensures { MatchBool result (MayBeText text.now) (¬ MayBeText text.now) }
 {

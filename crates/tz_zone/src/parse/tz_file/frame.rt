@@ -9,7 +9,8 @@ use super::time_size::TimeSize;
 use super::unit::{Unit, read_unit};
 use tz_base::error::parse::TzFileError;
 
-/// The unit of a file whose tables are read, which is the first in version 1 and otherwise the second, and the footer after the second.
+/// Of a file: the unit whose tables are read, which is the first in version 1 and otherwise the second, and the footer after the second.
+/// The version in this unit's own header counts; the two headers are not compared.
 #[derive(Clone, Copy)]
 pub(crate) struct Frame<'a> {
     pub(crate) unit: Unit<'a>,

@@ -12,7 +12,7 @@ use tz_base::error::parse::{ParseDataError, TzFileError};
 /// How many bytes a header has.
 pub(super) const HEADER_LEN: usize = 44;
 
-/// How many of each the block has.
+/// The six counts of a header: how many indicators of both kinds, leap seconds, transitions, types and name bytes the block has.
 #[derive(Clone, Copy)]
 pub(super) struct Counts {
     pub(super) ut_local: u32,

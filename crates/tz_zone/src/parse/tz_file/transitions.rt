@@ -26,7 +26,7 @@ fn transition_at(size: TimeSize, unit: &Unit<'_>, index: u32) -> Transition
     Transition::new(unix_leap_time, usize::from(local_time_type_index))
 }
 
-/// Whether those before it are in order, and the transition comes after the last of them and names one of so many types.
+/// Whether a transition is in order too: all before it are, it comes after the last of these, and it names one of `types` types.
 #[inline(always)]
 fn is_in_order(are_in_order: bool, last: Transition, transition: Transition, types: usize) -> bool
     ensures { IsTrue result → IsTrue are_in_order × (last.unix_leap_time <ℤ transition.unix_leap_time) × (transition.type_index < types) }
@@ -57,6 +57,7 @@ fn read_transitions_of<A: Allocator + Copy>(
 {
     let mut items = Vec::with_capacity(alloc, unit.counts.transition as usize)?;
     let types = unit.counts.local_type as usize;
+    // A first transition at the least time is not known to be in order, so the check of the zone then looks at each.
     let mut last = Transition::new(i64::MIN, 0);
     let mut are_in_order = true;
     for i in 0..unit.counts.transition {

@@ -26,7 +26,8 @@ impl WrittenTime {
         -self.total_seconds()
     }
 
-    /// The seconds that daylight saving time adds to UTC: an hour more than standard time, where the string has no offset.
+    /// The offset of daylight saving time from UTC in seconds, if `self` is that of standard time: the written one, or an hour more than that of
+    /// standard time if none is written.
     #[inline(always)]
     pub(super) fn daylight_ut_offset(self, daylight: Option<WrittenTime>) -> i32
         requires std { IsTimeUpTo offset_hours self }

@@ -1,4 +1,5 @@
-//! The text of a rule: a name and an offset, or two of each and both switches. (POSIX.1-2017, Base Definitions, 8.3)
+//! The text of a rule: a name and an offset, or two of each, and the start and the end of daylight saving time (the switches). (POSIX.1-2017, Base
+//! Definitions, 8.3)
 
 ghost use Rattle.std.specs.Prelude.{◌≡◌, ◌∷◌, ℕ, List, Bool, false, Some, IfSome, IfOk, IfErr, MatchResult, pos};
 ghost use Rattle.tz_base.specs.declared.error.tz_error.TzError.TheVariants.{TzString};
@@ -76,7 +77,7 @@ fn read_text(text: &[u8], extended: bool) -> Result<TransitionRule, TzError>
 
 /// The rule that a TZ string denotes. (POSIX.1-2017, Base Definitions, 8.3)
 ///
-/// An extended string may have day times from -167 to 167 hours. (RFC 8536, section 3.3.1)
+/// An extended string may have signed day times, of at most 167 hours, 59 minutes and 59 seconds either way. (RFC 8536, section 3.3.1)
 #[inline(always)]
 pub fn parse_posix_tz(text: &[u8], extended: bool) -> Result<TransitionRule, TzError>
     ensures ok { IfOk result (IsTzText extended text.now) }

@@ -30,7 +30,7 @@ pub(super) struct WrittenTime {
 impl WrittenTime {
     ghost use Rattle.tz_zone.specs.TzText.{IsTimeUpTo, seconds_of};
 
-    /// The time in seconds, at most a week.
+    /// The time in seconds, less than a week either way.
     #[inline(always)]
     pub(super) fn total_seconds(self) -> i32
         requires { IsTimeUpTo 167 self }

@@ -6,8 +6,8 @@ use mir.Syntax.{w64}
 use Rattle.tz_base.specs.Fields.{day_of, reading}
 use Rattle.tz_base.specs.declared.fields.Fields.{Fields}
 use Rattle.tz.specs.DateTimes.{IsUtc}
-use Rattle.tz_query.proofs.query.meeting_answers.first_day_begins.Goals as goal
-use Rattle.tz_query.proofs.query.meeting_answers.first_day_begins.Goals.{then-first-eq60, else-first-eq60}
+use Rattle.tz_query.proofs.query.weekly_answers.first_day_begins.Goals as goal
+use Rattle.tz_query.proofs.query.weekly_answers.first_day_begins.Goals.{then-first-eq60, else-first-eq60}
 
 remainder : (day : ℤ) (over : ℕ) → over < 86400 → int_rem_euclid (pos 86400 *ℤ day +ℤ pos over) (pos 86400) ≡ pos over
 remainder (pos day) over h =

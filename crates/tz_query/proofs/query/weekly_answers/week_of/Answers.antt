@@ -10,7 +10,7 @@ use Rattle.tz_base.specs.Fields.{IsCivil, IsReading}
 use Rattle.tz_base.specs.declared.fields.Fields.{Fields}
 use Rattle.tz_query.specs.MeetingDates.{day_after, midnight}
 use Rattle.tz_query.proofs.MeetingAnswers.{date_of_day}
-use Rattle.tz_query.proofs.query.meeting_answers.week_of.Goals as goal
+use Rattle.tz_query.proofs.query.weekly_answers.week_of.Goals as goal
 
 -- the date time of a day's first second has its date
 week : {E : Type 0} (day x : ℤ) (r : Result Fields E) (d : Fields) → Some d ≡ result_ok r → IfOk r (IsCivil x 0) → OnOk r (IsReading x) → x ≡ midnight day →
