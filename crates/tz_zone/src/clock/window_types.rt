@@ -118,6 +118,7 @@ fn types_at_place<'a, V: Transitions>(
     if high_leap_time < next_leap_time {
         return WindowTypes::One(type_before(view, parts, place));
     }
+    // From the last transition on the rule has the types: a walk finds them.
     if place + 1 == count {
         return WindowTypes::More(Some(place));
     }
