@@ -1,19 +1,38 @@
+#![forbid(unsafe_code)]
 #![deny(missing_docs)]
-#![deny(unsafe_code)]
-#![deny(clippy::undocumented_unsafe_blocks)]
+#![cfg_attr(not(feature = "std"), no_std)]
 #![doc = include_str!("../README.md")]
 
-mod codes;
+// A file whose counts add up to more than a `usize` is refused by sums that the proofs know to be of 64 bits.
+#[cfg(not(target_pointer_width = "64"))]
+compile_error!("the proofs of this crate are for a `usize` of 64 bits: docs/WIDTHS.md lists where");
+
+#[cfg(feature = "alloc")]
+extern crate alloc;
+
 pub mod datetime;
 pub mod error;
-#[allow(unsafe_code)]
-mod ffi;
-mod plain;
-mod system_time;
 pub mod timezone;
-mod tz_string;
+
+// The program and the C library are made over the crate's inner calls. These have conditions that only proofs check, and may change at any time.
+#[cfg(not(feature = "inner"))]
+#[allow(dead_code, unused_imports)]
+mod proved;
+#[cfg(feature = "inner")]
+#[doc(hidden)]
+#[allow(missing_docs)]
+pub mod proved;
+#[cfg(not(feature = "inner"))]
+#[allow(dead_code)]
+mod shim;
+#[cfg(feature = "inner")]
+#[doc(hidden)]
+#[allow(missing_docs)]
+pub mod shim;
 
 pub use datetime::{DateTime, UtcDateTime};
 pub use error::{Error, TzError};
-pub use timezone::{LocalTimeType, TimeZone, TimeZoneRef, TimeZoneSettings};
-pub use tz_string::TzString;
+pub use proved::tz::{DateTimePart, ParseDateTimeError, ParsedDateTime, TzString};
+pub use timezone::{Change, ChangesAfter, ChangesBefore, LocalTimeType, Segment, TimeZoneRef};
+#[cfg(feature = "alloc")]
+pub use timezone::{TimeZone, TimeZoneSettings};

@@ -1,14 +1,14 @@
-//! Date times, and what local times mean.
+//! Date times.
 
-mod date_time;
-mod disambiguation;
-mod fields;
-mod found;
-mod utc_date_time;
+#[cfg(feature = "alloc")]
+mod find;
+#[cfg(feature = "std")]
+mod system_time;
 
-pub use date_time::DateTime;
-pub use disambiguation::Disambiguation;
-pub use found::{FoundDateTimeKind, FoundDateTimeList, FoundDateTimeListRefMut};
-pub use utc_date_time::UtcDateTime;
-
-pub(crate) use fields::Fields;
+pub use crate::proved::tz::datetime::{
+    DateTime, Disambiguation, FoundDateTimeKind, FoundDateTimeListRefMut, Meaning, UtcDateTime,
+};
+#[cfg(feature = "alloc")]
+pub use find::FoundDateTimeList;
+#[cfg(feature = "std")]
+pub(crate) use system_time::whole_seconds;

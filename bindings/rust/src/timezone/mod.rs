@@ -1,22 +1,19 @@
-//! Local time types, rules and time zones.
+//! Time zones.
 
-mod changes;
-mod designation;
-mod local_time_type;
-mod rule;
-mod rule_day;
-mod segment;
+mod columns;
+#[cfg(feature = "alloc")]
 mod settings;
-mod transition;
+#[cfg(feature = "alloc")]
 mod zone;
-mod zone_ref;
 
-pub use changes::{Change, ChangesAfter, ChangesBefore};
-pub use local_time_type::LocalTimeType;
-pub use rule::{AlternateTime, TransitionRule};
-pub use rule_day::{Julian0WithLeap, Julian1WithoutLeap, MonthWeekDay, RuleDay};
-pub use segment::Segment;
+pub use crate::proved::tz_zone::timezone::{
+    AlternateTime, Change, ChangesAfter, ChangesBefore, Julian0WithLeap, Julian1WithoutLeap,
+    LeapSecond, LocalTimeType, MonthWeekDay, RuleDay, Segment, TimeZoneRef, Transition,
+    TransitionRule,
+};
+#[cfg(feature = "std")]
+pub use settings::read_file_up_to;
+#[cfg(feature = "alloc")]
 pub use settings::TimeZoneSettings;
-pub use transition::{LeapSecond, Transition};
+#[cfg(feature = "alloc")]
 pub use zone::TimeZone;
-pub use zone_ref::TimeZoneRef;

@@ -1,19 +1,25 @@
 //! Settings by which the time zone of a string is found.
 
-use super::{TimeZone, TransitionRule};
-use crate::error::parse::TzStringError;
-use crate::error::{Error, TzError};
-use crate::ffi::{self, Setting};
-use std::error;
-use std::fs;
+use super::TimeZone;
+use crate::error::{Error, ReadFault};
+use crate::proved::tz_zone::timezone::TimeZoneSettings as Settings;
+use crate::shim::Vec as Items;
+use crate::shim::alloc::Global;
+use alloc::boxed::Box;
+use alloc::vec::Vec;
+use core::error;
 
-/// The file of the machine's local time.
-const LOCAL_TIME_FILE: &str = "/etc/localtime";
+#[cfg(feature = "std")]
+use crate::proved::tz_zone::timezone::{DEFAULT_DIRECTORIES, TimeZone as Zone};
+#[cfg(feature = "std")]
+use crate::shim::rt::Machine;
 
 /// A function that returns the bytes of the file at a path.
 type ReadFileFn = fn(path: &str) -> Result<Vec<u8>, Box<dyn error::Error + Send + Sync + 'static>>;
 
 /// How a time zone is found: the directories of files, and the function that reads one.
+///
+/// The function is called with each path in turn until it returns bytes.
 #[derive(Debug)]
 pub struct TimeZoneSettings<'a> {
     directories: &'a [&'a str],
@@ -22,13 +28,15 @@ pub struct TimeZoneSettings<'a> {
 
 impl<'a> TimeZoneSettings<'a> {
     /// The directories in which systems keep their time zone files.
-    pub const DEFAULT_DIRECTORIES: &'static [&'static str] =
-        &["/usr/share/zoneinfo", "/share/zoneinfo", "/etc/zoneinfo"];
+    #[cfg(feature = "std")]
+    pub const DEFAULT_DIRECTORIES: &'static [&'static str] = DEFAULT_DIRECTORIES;
 
     /// The function that reads a file of the machine.
-    pub const DEFAULT_READ_FILE_FN: ReadFileFn = |path| Ok(fs::read(path)?);
+    #[cfg(feature = "std")]
+    pub const DEFAULT_READ_FILE_FN: ReadFileFn = |path| Ok(std::fs::read(path)?);
 
-    /// The settings with these directories and this function.
+    /// The usual directories, and the machine's files.
+    #[cfg(feature = "std")]
     pub const DEFAULT: TimeZoneSettings<'static> = TimeZoneSettings {
         directories: Self::DEFAULT_DIRECTORIES,
         read_file_fn: Self::DEFAULT_READ_FILE_FN,
@@ -36,69 +44,99 @@ impl<'a> TimeZoneSettings<'a> {
 
     /// The settings with these directories, of which earlier ones come first, and this function.
     pub const fn new(directories: &'a [&'a str], read_file_fn: ReadFileFn) -> TimeZoneSettings<'a> {
-        Self {
+        TimeZoneSettings {
             directories,
             read_file_fn,
         }
+    }
+
+    /// The settings of the proved library.
+    fn proved(&self) -> Settings<'a, impl Fn(&str) -> Result<Items<u8>, ReadFault>> {
+        let read_file_fn = self.read_file_fn;
+        Settings::new(self.directories, move |path: &str| match read_file_fn(path) {
+            Ok(bytes) => Ok(Items::from_std(bytes)),
+            Err(error) => Err(ReadFault::Failed(error)),
+        })
     }
 
     /// The machine's local time zone: that of the TZif file at `/etc/localtime`.
     ///
     /// # Errors
     ///
-    /// `Io` if the file cannot be read, and those of [`TimeZone::from_tz_data`].
+    /// - [`Error::Io`] if that file cannot be read;
+    /// - [`Error::Tz`] with an error of [`TimeZone::from_tz_data`] if the file is not a TZif file.
     pub fn parse_local(&self) -> Result<TimeZone, Error> {
-        let bytes = self.read(LOCAL_TIME_FILE)?;
-        Ok(TimeZone::from_tz_data(&bytes)?)
+        Ok(TimeZone::of(self.proved().parse_local(Global)?))
     }
 
-    /// The time zone of a setting, as the environment variable `TZ` has one. (POSIX.1-2017, Base Definitions, 8.3)
+    /// The time zone of a string, as the environment variable `TZ` has one. (POSIX.1-2017, Base Definitions, 8.3)
     ///
-    /// `localtime` is the machine's local time. A string that begins with `:` names a file. Any other string names a file, or is a TZ string if
-    /// there is no such file. A name that begins with `/` is the path of the file, and any other name is that of a file in one of the
-    /// directories. No call reads `TZ` itself.
+    /// `localtime` is the machine's local time. What follows a `:` names a file. Any other string names a file too, or is a TZ string if no such file
+    /// can be read. A name that begins with `/` is the path of the file, and any other name is that of a file in one of the directories. No call
+    /// reads the variable itself.
     ///
     /// # Errors
     ///
-    /// `Io` if the file of `localtime` or of a name after `:` cannot be read; those of [`TimeZone::from_tz_data`] if there is a file; else
-    /// `TzString`, `LocalTimeType` and `TransitionRule`.
+    /// - [`Error::Io`] if the file of `localtime` or of a name after `:` cannot be read;
+    /// - [`Error::Tz`] with an error of [`TimeZone::from_tz_data`] if the file is not a TZif file, and otherwise with one of the TZ string.
     pub fn parse_posix_tz(&self, tz_string: &str) -> Result<TimeZone, Error> {
-        match ffi::setting(tz_string)? {
-            Setting::LocalTime => self.parse_local(),
-            Setting::File(name) => Ok(TimeZone::from_tz_data(&self.find(name)?)?),
-            Setting::FileOrText(name) => match self.find(name) {
-                Ok(bytes) => Ok(TimeZone::from_tz_data(&bytes)?),
-                Err(_) => Ok(zone_of_text(name)?),
-            },
-        }
-    }
-
-    /// The bytes of the file at a path.
-    fn read(&self, path: &str) -> Result<Vec<u8>, Error> {
-        (self.read_file_fn)(path).map_err(Error::Io)
-    }
-
-    /// The bytes of the first file with a name.
-    fn find(&self, name: &str) -> Result<Vec<u8>, Error> {
-        if name.starts_with('/') {
-            return self.read(name);
-        }
-        for directory in self.directories {
-            if let Ok(bytes) = self.read(&format!("{directory}/{name}")) {
-                return Ok(bytes);
-            }
-        }
-        Err(Error::Io("file was not found".into()))
+        Ok(TimeZone::of(self.proved().parse_posix_tz(Global, tz_string)?))
     }
 }
 
-/// The zone of a TZ string, with white space at its ends or without.
-fn zone_of_text(text: &str) -> Result<TimeZone, TzError> {
-    let rule = ffi::rule_of_text(text.trim_ascii())?;
-    let types = match &rule {
-        None => return Err(TzStringError::Empty.into()),
-        Some(TransitionRule::Fixed(fixed)) => vec![*fixed],
-        Some(TransitionRule::Alternate(rule)) => vec![*rule.std(), *rule.dst()],
-    };
-    TimeZone::new(Vec::new(), types, Vec::new(), rule)
+#[cfg(feature = "std")]
+impl TimeZone {
+    /// The machine's local time zone: that of the TZif file at `/etc/localtime`.
+    ///
+    /// # Errors
+    ///
+    /// Those of [`TimeZoneSettings::parse_local`].
+    pub fn local() -> Result<Self, Error> {
+        TimeZoneSettings::DEFAULT.parse_local()
+    }
+
+    /// The time zone of a string, with the [usual directories](TimeZoneSettings::DEFAULT_DIRECTORIES). (POSIX.1-2017, Base Definitions, 8.3)
+    ///
+    /// A string that a user chose may be a path, or a TZ string: `UTC+3` is three hours *behind* UTC. [`TimeZone::named`] takes names alone.
+    ///
+    /// # Errors
+    ///
+    /// Those of [`TimeZoneSettings::parse_posix_tz`].
+    pub fn from_posix_tz(tz_string: &str) -> Result<Self, Error> {
+        TimeZoneSettings::DEFAULT.parse_posix_tz(tz_string)
+    }
+
+    /// The time zone with the name, such as `Europe/Paris`, in the database of the system. (tz database, Timezone identifiers)
+    ///
+    /// A name has parts of ASCII letters, digits, `.`, `_`, `+` and `-`, with `/` between them; no part is `.` or `..`. A file is only looked for in
+    /// the [usual directories](TimeZoneSettings::DEFAULT_DIRECTORIES), and for a text that is no name none is. A name is never read as a TZ string.
+    ///
+    /// # Errors
+    ///
+    /// - [`Error::Io`] if the text is not a name, or if no directory has a file with it that can be read; the error's text says which, and has the
+    ///   name;
+    /// - [`Error::Tz`] with an error of [`TimeZone::from_tz_data`] if the file is not a TZif file.
+    pub fn named(name: &str) -> Result<Self, Error> {
+        let reader = |path: &str| match TimeZoneSettings::DEFAULT_READ_FILE_FN(path) {
+            Ok(bytes) => Ok(Items::from_std(bytes)),
+            Err(error) => Err(ReadFault::Failed(error)),
+        };
+        Ok(TimeZone::of(Zone::named(Global, reader, name)?))
+    }
+}
+
+/// The bytes of the file at the path, read to its end, if there are at most `limit` of them.
+///
+/// So a file that someone else chooses takes no more memory than the limit needs. Files of time zones are shorter than 10000 bytes, or with leap
+/// seconds and all their history than 100000.
+///
+/// # Errors
+///
+/// - [`ReadFault::Failed`] if the file cannot be opened or read, or, with a text that says so, if it is longer: after one byte more than the limit
+///   was read;
+/// - [`ReadFault::Memory`] if an allocation for its bytes fails.
+#[cfg(feature = "std")]
+pub fn read_file_up_to(limit: usize, path: &str) -> Result<Vec<u8>, ReadFault> {
+    use crate::proved::tz_zone::timezone::read_file_up_to;
+    Ok(read_file_up_to(&Machine, Global, limit, path)?.into_std())
 }

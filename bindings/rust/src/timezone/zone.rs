@@ -1,22 +1,23 @@
 //! Time zones that own their parts.
 
-use super::TimeZoneSettings;
-use super::changes::{Change, ChangesAfter, ChangesBefore};
-use super::zone_ref::write_parts;
-use super::{LeapSecond, LocalTimeType, Segment, TimeZoneRef, Transition, TransitionRule};
+use super::{
+    Change, ChangesAfter, ChangesBefore, LeapSecond, LocalTimeType, Segment, TimeZoneRef,
+    Transition, TransitionRule,
+};
+use crate::error::TzError;
 use crate::error::timezone::LocalTimeTypeError;
-use crate::error::{Error, TzError};
-use crate::ffi::Tables;
-use crate::system_time;
-use std::fmt;
-use std::time::SystemTime;
+use crate::proved::tz_zone::timezone::TimeZone as Zone;
+use crate::shim::Vec as Items;
+use crate::shim::alloc::Global;
+use alloc::vec;
+use alloc::vec::Vec;
+use core::fmt;
 
-/// A time zone, with its own parts.
-#[derive(Clone)]
-pub struct TimeZone(Tables);
+/// A time zone that owns its parts.
+pub struct TimeZone(Zone<Global>);
 
 impl TimeZone {
-    /// The zone with these parts.
+    /// The zone with these parts. (RFC 8536, section 3.2)
     ///
     /// # Errors
     ///
@@ -27,7 +28,54 @@ impl TimeZone {
         leap_seconds: Vec<LeapSecond>,
         extra_rule: Option<TransitionRule>,
     ) -> Result<Self, TzError> {
-        Tables::new(transitions, local_time_types, leap_seconds, extra_rule).map(Self)
+        let zone = Zone::new(
+            Items::from_std(transitions),
+            Items::from_std(local_time_types),
+            Items::from_std(leap_seconds),
+            extra_rule,
+        );
+        Ok(TimeZone(zone?))
+    }
+
+    /// The zone of the proved library.
+    pub(super) const fn of(zone: Zone<Global>) -> Self {
+        TimeZone(zone)
+    }
+
+    /// The zone that has one type alone.
+    fn of_type(local_time_type: LocalTimeType) -> Self {
+        let zone = TimeZone::new(Vec::new(), vec![local_time_type], Vec::new(), None);
+        zone.expect("one type makes a zone")
+    }
+
+    /// The zone that has UTC's type alone. [`TimeZoneRef::utc`] makes it without allocating.
+    pub fn utc() -> Self {
+        TimeZone::of_type(LocalTimeType::utc())
+    }
+
+    /// The zone that has one type alone, with this offset from UTC in seconds.
+    ///
+    /// # Errors
+    ///
+    /// [`LocalTimeTypeError::InvalidUtcOffset`] if the offset is `i32::MIN`.
+    pub fn fixed(ut_offset: i32) -> Result<Self, LocalTimeTypeError> {
+        Ok(TimeZone::of_type(LocalTimeType::with_ut_offset(ut_offset)?))
+    }
+
+    /// The zone that the bytes of a TZif file of version 1 to 4 denote. (RFC 9636)
+    ///
+    /// All parts of the file are located before anything is allocated, so a count that exceeds the file allocates nothing.
+    ///
+    /// # Errors
+    ///
+    /// - [`TzError::TzFile`] if the bytes are not a file of version 1 to 4;
+    /// - [`TzError::LocalTimeType`] if a record does not make a local time type;
+    /// - [`TzError::TzString`], [`TzError::LocalTimeType`] or [`TzError::TransitionRule`] if the text of the footer is not a TZ string, or does not
+    ///   make a rule;
+    /// - [`TzError::TimeZone`] if the parts do not make a zone;
+    /// - [`TzError::Memory`] if an allocation fails.
+    pub fn from_tz_data(bytes: &[u8]) -> Result<Self, TzError> {
+        Ok(TimeZone(Zone::from_tz_data(Global, bytes)?))
     }
 
     /// The zone, borrowed.
@@ -35,83 +83,41 @@ impl TimeZone {
     #[allow(clippy::should_implement_trait)]
     #[inline]
     pub fn as_ref(&self) -> TimeZoneRef<'_> {
-        TimeZoneRef::of_view(self.0.view())
+        self.0.as_ref()
     }
 
-    /// UTC.
-    pub fn utc() -> Self {
-        Self(Tables::of_type(LocalTimeType::utc()))
-    }
-
-    /// The zone of standard time with an offset in seconds at all times, without a name.
-    ///
-    /// # Errors
-    ///
-    /// `InvalidUtcOffset` for `i32::MIN`.
-    pub fn fixed(ut_offset: i32) -> Result<Self, LocalTimeTypeError> {
-        LocalTimeType::with_ut_offset(ut_offset).map(|fixed| Self(Tables::of_type(fixed)))
-    }
-
-    /// The local time type of the clock at an instant, in Unix seconds.
+    /// The clock's type at an instant, in Unix seconds, as [`TimeZoneRef::find_local_time_type`] returns it.
     ///
     /// # Errors
     ///
     /// Those of [`TimeZoneRef::find_local_time_type`].
     #[inline]
     pub fn find_local_time_type(&self, unix_time: i64) -> Result<&LocalTimeType, TzError> {
-        self.as_ref().find_local_time_type(unix_time)
+        self.0.find_local_time_type(unix_time)
     }
 
-    /// The zone of the bytes of a TZif file of version 1 to 4. (RFC 9636)
-    ///
-    /// Any bytes are safe: they make a valid zone or return an error.
-    ///
-    /// # Errors
-    ///
-    /// `TzFile`, `TzString` for the footer, and those of the parts.
-    pub fn from_tz_data(bytes: &[u8]) -> Result<Self, TzError> {
-        Tables::read(bytes).map(Self)
-    }
-
-    /// The machine's local time zone: that of the TZif file at `/etc/localtime`.
-    ///
-    /// # Errors
-    ///
-    /// `Io` if the file cannot be read, and those of [`from_tz_data`](Self::from_tz_data).
-    pub fn local() -> Result<Self, Error> {
-        TimeZoneSettings::DEFAULT.parse_local()
-    }
-
-    /// The time zone of a setting, with the [usual directories](TimeZoneSettings::DEFAULT_DIRECTORIES). (POSIX.1-2017, Base Definitions, 8.3)
-    ///
-    /// # Errors
-    ///
-    /// Those of [`TimeZoneSettings::parse_posix_tz`].
-    pub fn from_posix_tz(tz_string: &str) -> Result<Self, Error> {
-        TimeZoneSettings::DEFAULT.parse_posix_tz(tz_string)
-    }
-
-    /// The local time type of the clock now. A time before 1970 is rounded up to a second.
+    /// The clock's type now. A time before 1970 is rounded up to a second.
     ///
     /// # Errors
     ///
     /// Those of [`TimeZoneRef::find_local_time_type`].
+    #[cfg(feature = "std")]
     pub fn find_current_local_time_type(&self) -> Result<&LocalTimeType, TzError> {
-        self.find_local_time_type(system_time::whole_seconds(SystemTime::now()))
+        self.find_local_time_type(crate::datetime::whole_seconds(std::time::SystemTime::now()))
     }
 
     /// The segment around an instant, as [`TimeZoneRef::segment_at`] returns it.
-    pub fn segment_at(&self, unix_time: i64) -> Segment {
+    pub fn segment_at(&self, unix_time: i64) -> Segment<'_> {
         self.as_ref().segment_at(unix_time)
     }
 
     /// The first change after an instant, as [`TimeZoneRef::following`] returns it.
-    pub fn following(&self, unix_time: i64) -> Option<Change> {
+    pub fn following(&self, unix_time: i64) -> Option<Change<'_>> {
         self.as_ref().following(unix_time)
     }
 
     /// The last change before an instant, as [`TimeZoneRef::preceding`] returns it.
-    pub fn preceding(&self, unix_time: i64) -> Option<Change> {
+    pub fn preceding(&self, unix_time: i64) -> Option<Change<'_>> {
         self.as_ref().preceding(unix_time)
     }
 
@@ -126,9 +132,15 @@ impl TimeZone {
     }
 }
 
+impl Clone for TimeZone {
+    fn clone(&self) -> Self {
+        TimeZone(self.0.try_clone().expect("out of memory"))
+    }
+}
+
 impl PartialEq for TimeZone {
     fn eq(&self, other: &Self) -> bool {
-        self.as_ref() == other.as_ref()
+        self.0 == other.0
     }
 }
 
@@ -136,6 +148,6 @@ impl Eq for TimeZone {}
 
 impl fmt::Debug for TimeZone {
     fn fmt(&self, f: &mut fmt::Formatter<'_>) -> fmt::Result {
-        write_parts(f, "TimeZone", &self.as_ref())
+        self.0.fmt(f)
     }
 }

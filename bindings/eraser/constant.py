@@ -1,0 +1,191 @@
+"""Makes functions `const fn`: erasure.py names them. In them what rustc does not take in constants is written otherwise:
+
+    i64::from(x)                    x as i64                   and other integers that lose nothing
+    let x = call()?;                let x = match call() { Ok(value) => value, Err(error) => return Err(error) };
+    for i in 0..n { .. }            let mut i = 0; while i < n { .. i += 1; }
+    a.min(b), a.max(b)              least!(a, b), greatest!(a, b)   macros of the shim
+    &bytes[a..b]                    bytes.split_at(b).0.split_at(a).1
+    i64::try_from(x)                a call of the shim
+"""
+import re
+
+from . import erasure
+from .structure import functions_of
+from .tokens import OPEN, Stop, closing, edited, line_of, tokens_of
+
+INTEGERS = {"u8", "u16", "u32", "u64", "u128", "i16", "i32", "i64", "i128", "usize"}
+
+
+def made_constant(path, text):
+    names = set(erasure.CONST.get(path, ()))
+    if not names:
+        return text
+    edits = []
+    for function in functions_of(path, text):
+        if function.name not in names:
+            continue
+        names.discard(function.name)
+        whole = text[function.head : function.end]
+        for step in (with_casts, with_narrowings, with_slices, with_comparisons, with_returns, with_whiles):
+            try:
+                whole = step(path, function.name, whole)
+            except Stop as stop:
+                raise Stop(f"{path}: in {function.name}: {stop}") from None
+        whole = re.sub(r"\bfn\b", "const fn", whole, count=1)
+        edits.append((function.head, function.end, whole))
+    if names:
+        raise Stop(f"{path}: there is no function {sorted(names)[0]}")
+    return edited(text, edits)
+
+
+def is_simple(tokens):
+    """Whether an expression binds more tightly than a cast: a path, fields, calls, an index."""
+    at = 0
+    while at < len(tokens):
+        text = tokens[at].text
+        if text in OPEN and at and text != "{":
+            at = closing("", tokens, at)
+        elif tokens[at].kind not in ("word", "number") and text not in (".", "::"):
+            return False
+        at += 1
+    return True
+
+
+def with_casts(path, name, text):
+    while True:
+        tokens = tokens_of(path, text)
+        for at in range(len(tokens) - 4):
+            if tokens[at].text in INTEGERS and tokens[at + 1].text == "::" and tokens[at + 2].text == "from" and tokens[at + 3].text == "(":
+                break
+        else:
+            return text
+        end = closing(path, tokens, at + 3)
+        inner = text[tokens[at + 3].end : tokens[end].start].strip().rstrip(",")
+        if not is_simple(tokens[at + 4 : end]):
+            inner = f"({inner})"
+        before, after = tokens[at - 1].text, tokens[end + 1].text
+        new = f"{inner} as {tokens[at].text}"
+        is_unary = tokens[at - 2].kind == "mark" and tokens[at - 2].text not in OPEN.values()
+        if before == "!" or before in ("-", "*", "&") and is_unary or after in (".", "<", "?", "["):
+            new = f"({new})"
+        text = edited(text, [(tokens[at].start, tokens[end].end, new)])
+
+
+def chain_start(tokens, at):
+    """The number of the first token of the path, fields, calls and indexes that end before a token."""
+    while True:
+        at -= 1
+        if tokens[at].text in OPEN.values():
+            wanted, depth = at, 0
+            while True:
+                depth += (tokens[at].text in OPEN.values()) - (tokens[at].text in OPEN)
+                if depth == 0:
+                    break
+                at -= 1
+            # A bracket of its own begins the chain; one after a word or a bracket is a call or an index.
+            if tokens[at - 1].text == "!" and tokens[at - 2].kind == "word":
+                at -= 1
+                continue
+            if tokens[at - 1].text == ">":
+                raise Stop("types in a call")
+            if tokens[at - 1].kind == "word" and tokens[at - 1].text not in KEYWORDS or tokens[at - 1].text in OPEN.values():
+                continue
+            return at
+        if tokens[at - 1].text not in (".", "::"):
+            return at
+        at -= 1
+
+
+KEYWORDS = {"return", "match", "if", "else", "in", "let", "while", "mut"}
+
+
+def with_returns(path, name, text):
+    while True:
+        tokens = tokens_of(path, text)
+        at = next((at for at, it in enumerate(tokens) if it.text == "?"), None)
+        if at is None:
+            return text
+        arrow = next(at for at, it in enumerate(tokens) if it.text == "->")
+        ok, err = {
+            "Option": ("Some(value) => value", "None => return None"),
+            "Result": ("Ok(value) => value", "Err(error) => return Err(error)"),
+        }[tokens[arrow + 1].text]
+        start = tokens[chain_start(tokens, at)].start
+        new = f"match {text[start : tokens[at].start]} {{ {ok}, {err} }}"
+        if tokens[at + 1].text in (".", "?", "["):
+            new = f"({new})"
+        text = edited(text, [(start, tokens[at].end, new)])
+
+
+def with_comparisons(path, name, text):
+    """The lesser or the greater of two numbers."""
+    while True:
+        tokens = tokens_of(path, text)
+        for at in range(len(tokens) - 2):
+            if tokens[at].text == "." and tokens[at + 1].text in ("min", "max") and tokens[at + 2].text == "(":
+                break
+        else:
+            return text
+        start = tokens[chain_start(tokens, at)].start
+        end = closing(path, tokens, at + 2)
+        left = text[start : tokens[at].start]
+        right = text[tokens[at + 2].end : tokens[end].start]
+        macro = "least" if tokens[at + 1].text == "min" else "greatest"
+        new = f"crate::shim::{macro}!({left}, {right})"
+        text = edited(text, [(start, tokens[end].end, new)])
+
+
+def with_slices(path, name, text):
+    """A piece of a slice."""
+    while True:
+        tokens = tokens_of(path, text)
+        for at, token in enumerate(tokens):
+            if token.text != "[" or at == 0 or not (tokens[at - 1].kind == "word" or tokens[at - 1].text in OPEN.values()):
+                continue
+            end = closing(path, tokens, at)
+            depth, dots = 0, None
+            for inner in range(at + 1, end):
+                depth += (tokens[inner].text in OPEN) - (tokens[inner].text in OPEN.values())
+                if depth == 0 and tokens[inner].text == "..":
+                    dots = inner
+            if dots is not None:
+                break
+        else:
+            return text
+        first = chain_start(tokens, at)
+        if tokens[first - 1].text != "&":
+            raise Stop(f"a piece of a slice in a form that is not known")
+        low = text[token.end : tokens[dots].start].strip()
+        high = text[tokens[dots].end : tokens[end].start].strip()
+        new = text[tokens[first].start : token.start]
+        if high:
+            new += f".split_at({high}).0"
+        if low:
+            new += f".split_at({low}).1"
+        text = edited(text, [(tokens[first - 1].start, tokens[end].end, new)])
+
+
+def with_narrowings(path, name, text):
+    """A number of 128 bits as one of 64, if it fits."""
+    return re.sub(r"\bi64::try_from\(", "crate::shim::narrow(", text)
+
+
+FOR = re.compile(r"\bfor (\w+) in ([^{};]+?)\.\.([^{};=]+?) \{")
+
+
+def with_whiles(path, name, text):
+    while True:
+        found = FOR.search(text)
+        if not found:
+            return text
+        tokens = tokens_of(path, text)
+        opening = next(at for at, it in enumerate(tokens) if it.end == found.end())
+        end = tokens[closing(path, tokens, opening)].start
+        index, low, high = found.groups()
+        if re.search(r"\bcontinue\b", text[found.end() : end]):
+            raise Stop("a loop that continues")
+        index_name = index if index != "_" else "turn"
+        text = (
+            f"{text[: found.start()]}let mut {index_name} = {low};\nwhile {index_name} < {high} {{{text[found.end() : end]}"
+            f"{index_name} += 1;\n{text[end:]}"
+        )

@@ -1,0 +1,110 @@
+"""What bindings/erase needs to know of this repository: packages, items that are left out, paths, and functions that are const."""
+import re
+from dataclasses import dataclass, field
+
+
+@dataclass
+class Package:
+    """A package of generated Rust: some crates, each a module of it."""
+
+    # The folder of the generated files.
+    folder: str
+    crates: tuple
+    # The path of the modules.
+    root: str
+    # Sources that make no file.
+    skipped: tuple = ()
+    # Sources in whose place a file by hand stands.
+    by_hand: dict = field(default_factory=dict)
+    # Crates of another package, and where they are.
+    others: dict = field(default_factory=dict)
+    std_paths: tuple = ()
+
+    @property
+    def modules(self):
+        return {*self.crates, *self.others}
+
+    def target(self, source):
+        """The file that is made of a source, or None."""
+        if source in self.skipped or source in self.by_hand or not source.endswith(".rt"):
+            return None
+        crate, rest = re.fullmatch(r"crates/(\w+)/src/(.*)\.rt", source).groups()
+        return f"{self.folder}/{crate}/{'mod' if rest == 'lib' else rest}.rs"
+
+    def path_of(self, crate):
+        return f"{self.root}::{crate}"
+
+    def path_of_crate(self, name):
+        """The path that stands for a crate's name at the beginning of a path, or None if it stays."""
+        if name in self.crates:
+            return f"{self.root}::{name}"
+        return self.others.get(name)
+
+
+STD = (
+    (r"^use std::marker::Model;\n", ""),
+    (r"\bstd::(alloc|fs|io|rt)\b", r"crate::shim::\1"),
+    (r"\buse anyhow::anyhow;", "use crate::shim::anyhow;"),
+    (r"(?<![\w:])anyhow::Error\b", "crate::shim::anyhow::Error"),
+    (r"\barrayvec::ArrayString\b", "crate::shim::ArrayString"),
+    (r"\bstd::(cmp|fmt|iter|num|ops|slice|str|time)\b", r"core::\1"),
+    (r"\buse std::\{fmt, str\};", "use core::{fmt, str};"),
+)
+
+PACKAGES = (
+    Package(
+        folder="bindings/rust/src/proved",
+        crates=("tz_base", "tz_rule", "tz_zone", "tz"),
+        root="crate::proved",
+        skipped=(
+            "crates/tz_base/src/laws.rt",
+            "crates/tz_rule/src/laws.rt",
+            "crates/tz_zone/src/laws.rt",
+            "crates/tz/src/laws.rt",
+        ),
+        by_hand={
+            "crates/tz_rule/src/timezone/utc_statics.rt": "bindings/rust/src/proved/tz_rule/timezone/utc_statics.rs",
+            "crates/tz_zone/src/table/transition_view.rt": "bindings/rust/src/proved/tz_zone/table/transition_view.rs",
+            "": "bindings/rust/src/proved/mod.rs",
+        },
+        std_paths=STD,
+    ),
+)
+
+# Exact texts that are replaced before anything else.
+EXACT = {
+    "crates/tz/src/datetime/utc_date_time.rt": (
+        ("self.checked_add(duration).unwrap()", 'self.checked_add(duration).expect("attempt to add with overflow")'),
+        ("self.checked_sub(duration).unwrap()", 'self.checked_sub(duration).expect("attempt to subtract with overflow")'),
+    ),
+}
+
+# Items that are left out: Rust has them otherwise, or only proofs need them.
+LEFT_OUT = {
+    "crates/tz_base/src/lib.rt": {"laws"},
+    "crates/tz_rule/src/lib.rt": {"laws"},
+    "crates/tz_zone/src/lib.rt": {"laws"},
+    "crates/tz/src/lib.rt": {"laws"},
+    # In Rust one implementation is for all that is a `TzError`.
+    "crates/tz_base/src/error/conversions.rt": {"From for Error"},
+    # In Rust the current time is no argument.
+    "crates/tz/src/datetime/date_time.rt": {"DateTime::now"},
+    "crates/tz/src/datetime/utc_date_time.rt": {"UtcDateTime::now"},
+    # In Rust these have no allocator, and nothing counts.
+    "crates/tz/src/datetime/find.rt": {
+        "DateTime::find",
+        "DateTime::find_local",
+        "DateTime::find_n_counted",
+        "DateTime::listed_counted",
+    },
+    "crates/tz_zone/src/timezone/zone_ref.rt": {"TimeZoneRef::find_local_time_type_counted"},
+}
+
+# Errors to which variants are never added.
+EXHAUSTIVE = {"ReadFault"}
+
+# What examples of docs import, hidden.
+EXAMPLE_IMPORTS = ("# use tz::{datetime::*, error::*, timezone::*, *};",)
+
+# Functions that are const.
+CONST = {}

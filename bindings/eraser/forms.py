@@ -1,0 +1,252 @@
+"""Rewrites what is left of a source, after the cut, to Rust: each function is a form, and erasure.py has the names to which forms apply."""
+import re
+
+from . import erasure
+from .constant import made_constant
+from .cut import without_ghosts
+from .structure import functions_of, items_of
+from .tokens import OPEN, Stop, closing, edited, line_of, tokens_of
+
+# Those of the shim are the eraser's own.
+KNOWN_MACROS = {"anyhow", "matches", "write", "writeln", "unreachable", "format", "vec"}
+KNOWN_ATTRIBUTES = {"derive", "derive_where", "error", "inline", "cold", "repr", "unsafe", "doc", "allow", "non_exhaustive", "default"}
+
+
+def erased(package, path, text):
+    """What a source is in Rust."""
+    for old, new in erasure.EXACT.get(path, ()):
+        if text.count(old) != 1:
+            raise Stop(f"{path}: {old!r} stands {text.count(old)} times, not once")
+        text = text.replace(old, new)
+    text = without_ghosts(path, text)
+    known(path, text)
+    text = left_out(package, path, text)
+    text = without_laws(path, text)
+    text = with_errors(path, text)
+    text = with_derives(path, text)
+    text = with_formatters(path, text)
+    text = with_views(path, text)
+    text = with_safe_text(path, text)
+    text = made_constant(path, text)
+    text = with_bounds(path, text)
+    text = with_paths(package, path, text)
+    return with_examples(path, text)
+
+
+def known(path, text):
+    """Stops at a macro or an attribute that is not known."""
+    tokens = tokens_of(path, text)
+    for at, token in enumerate(tokens[:-1]):
+        if any(ord(letter) > 127 for letter in token.text) and token.kind != "string":
+            raise Stop(f"{path}:{line_of(text, token.start)}: a letter that is not ASCII")
+        if token.kind == "word" and tokens[at + 1].text == "!" and tokens[at + 2].text in OPEN:
+            if token.text not in KNOWN_MACROS:
+                raise Stop(f"{path}:{line_of(text, token.start)}: a macro that is not known: {token.text}!")
+        if token.text == "#":
+            name = at + 1 + (tokens[at + 1].text == "!") + 1
+            if tokens[name].text not in KNOWN_ATTRIBUTES:
+                raise Stop(f"{path}:{line_of(text, token.start)}: an attribute that is not known: {tokens[name].text}")
+
+
+def left_out(package, path, text):
+    """Leaves out the items that Rust has otherwise, or that only proofs need."""
+    names = erasure.LEFT_OUT.get(path, ())
+    if not names:
+        return text
+    found, edits = set(), []
+    for item in items_of(path, text):
+        if item.name in names:
+            found.add(item.name)
+            edits.append((item.start, item.end, ""))
+    if set(names) - found:
+        raise Stop(f"{path}: there is no {sorted(set(names) - found)[0]}")
+    return edited(text, edits)
+
+
+LAW = re.compile(r"^use (?:\w+|crate)::laws::(\w+);\n", re.M)
+
+
+def without_laws(path, text):
+    """Laws do nothing: they are called for their contracts."""
+    for found in list(LAW.finditer(text)):
+        text = text.replace(found[0], "")
+        text, count = re.subn(rf"^\s*{found[1]}\([^;]*\);\n", "", text, flags=re.M)
+        if not count or re.search(rf"\b{found[1]}\b", without_comments(text)):
+            raise Stop(f"{path}: a law in a form that is not known: {found[1]}")
+    return text
+
+
+# A variant's text, or that of a struct, as thiserror takes it.
+ERROR_TEXT = re.compile(r'#\[error\((transparent|"(?:[^"\\]|\\.)*")\)\]\s*')
+VARIANT = re.compile(r"([A-Z]\w*)\s*(\(([^()]*)\))?\s*,")
+
+
+def with_errors(path, text):
+    """Writes out what thiserror's derive makes: `Display`, by the texts, and `Error`."""
+    if "thiserror::Error" not in text:
+        return text
+    text = text.replace("use thiserror::Error;\n", "")
+    made = []
+    for item, body in [(it, text[it.start : it.end]) for it in items_of(path, text)]:
+        if item.kind not in ("enum", "struct") or not re.search(r"derive\([^)]*\bError\b[^)]*\)", body):
+            continue
+        name = item.name
+        if item.kind == "struct":
+            said = ERROR_TEXT.search(body)
+            fields = re.findall(r"\{([a-z_]+)\}", said[1])
+            arms = f"let {name} {{ {', '.join(fields)}, .. }} = self; write!(f, {said[1]})"
+        else:
+            arms = "match self {"
+            lines = re.sub(r"//[^\n]*", "", body)
+            for said in ERROR_TEXT.finditer(lines):
+                variant = VARIANT.match(lines, said.end())
+                if not variant:
+                    raise Stop(f"{path}: a variant of {name} in a form that is not known")
+                if said[1] == "transparent":
+                    arms += f"{name}::{variant[1]}(error) => error.fmt(f),"
+                elif variant[2] and "{0}" in said[1]:
+                    arms += f"{name}::{variant[1]}(error) => write!(f, {said[1].replace('{0}', '{error}')}),"
+                elif variant[2]:
+                    arms += f"{name}::{variant[1]}(_) => f.write_str({said[1]}),"
+                else:
+                    arms += f"{name}::{variant[1]} => f.write_str({said[1]}),"
+            arms += "}"
+            if lines.count("#[error(") != len(ERROR_TEXT.findall(lines)):
+                raise Stop(f"{path}: a text of {name} in a form that is not known")
+        made.append(
+            f"\n\nimpl fmt::Display for {name} {{ fn fmt(&self, f: &mut fmt::Formatter<'_>) -> fmt::Result {{ {arms} }} }}"
+            f"\n\nimpl error::Error for {name} {{}}\n"
+        )
+        if item.kind == "enum" and name not in erasure.EXHAUSTIVE:
+            at = re.search(rf"pub enum {name}\b", text).start()
+            text = text[:at] + "#[non_exhaustive]\n" + text[at:]
+    text = ERROR_TEXT.sub("", text)
+    # Imports come after the docs of the module.
+    found = re.search(r"^(?!//!|\n)", text, re.M)
+    uses = "use core::{error, fmt};\n"
+    if re.search(r"^use std::(\{fmt|fmt)\b", text, re.M):
+        uses = "use core::error;\n"
+    return text[: found.start()] + uses + text[found.start() :] + "".join(made)
+
+
+def with_derives(path, text):
+    """`Drop` and `Error` are no derives of Rust; `derive_where` is `derive`, as all parameters that it spares are cut."""
+
+    def derived(found):
+        names = [it.strip() for it in found[1].split(",") if it.strip() not in ("Drop", "Error")]
+        return f"#[derive({', '.join(names)})]" if names else ""
+
+    text = re.sub(r"#\[derive_where\(skip\(EqHashOrd\)\)\]\n?", "", text)
+    text = text.replace("#[derive_where(", "#[derive(")
+    return re.sub(r"#\[derive\(([^)]*)\)\]", derived, text)
+
+
+def with_formatters(path, text):
+    """`fmt` is generic over its output in Rattle, and not in Rust."""
+    text = text.replace("fn fmt<W: fmt::Write>(", "fn fmt(")
+    return text.replace("fmt::Formatter<W>", "fmt::Formatter<'_>")
+
+
+def with_bounds(path, text):
+    """`Drop` as a bound says in Rattle that a value may be dropped, as each may in Rust."""
+    text = re.sub(r"\s*\+\s*Drop\b", "", text)
+    return re.sub(r"<([A-Z]): Drop>", r"<\1>", text)
+
+
+def with_views(path, text):
+    """Functions over any view of transitions are of the one that does not count: methods of a trait are not const."""
+    edits = []
+    if re.search(r"\bV: Transitions\b", text):
+        text = re.sub(r"<V: Transitions>", "", text)
+        text = re.sub(r", V: Transitions\b", "", text)
+        text = re.sub(r"\bV: Transitions, ", "", text)
+        text = re.sub(r"&mut V\b", "&mut Uncounted<'_>", text)
+        if re.search(r"\bV\b", "\n".join(it for it in text.splitlines() if not it.strip().startswith("//"))):
+            raise Stop(f"{path}: a view in a form that is not known")
+    for found in re.finditer(r"^(?:pub )?use [^;]*;", text, re.M):
+        line = found[0]
+        if re.search(r"\bTransitions\b", line):
+            new = re.sub(r"\bTransitions\b", "", line) if re.search(r"\bUncounted\b", line) else re.sub(r"\bTransitions\b", "Uncounted", line)
+            new = re.sub(r",\s*,", ",", new)
+            new = re.sub(r"\{\s*,", "{", new)
+            edits.append((found.start(), found.end(), new))
+        if re.search(r"\bCounted\b", line):
+            if edits and edits[-1][0] == found.start():
+                edits.pop()
+                line = new
+            new = re.sub(r"\bCounted,\s*|,\s*Counted\b", "", line)
+            edits.append((found.start(), found.end(), new))
+    return edited(text, edits)
+
+
+def with_safe_text(path, text):
+    """A checked conversion in the place of one that the proof makes safe."""
+    edits = []
+    tokens = tokens_of(path, text)
+    for at, token in enumerate(tokens):
+        if token.text == "unsafe" and tokens[at + 1].text == "{":
+            end = closing(path, tokens, at + 1)
+            inner = text[tokens[at + 1].end : tokens[end].start].strip()
+            found = re.fullmatch(r"str::from_utf8_unchecked\((.*)\)", inner, re.S)
+            if not found:
+                raise Stop(f"{path}:{line_of(text, token.start)}: unsafe code that is not known")
+            edits.append((token.start, tokens[end].end, f"crate::shim::text({found[1]})"))
+    text = edited(text, edits)
+    if edits and not re.search(r"\bstr::", text):
+        text = re.sub(r"^use std::str;\n", "", text, flags=re.M)
+        text = text.replace("use std::{fmt, str};", "use std::fmt;")
+    return text
+
+
+def with_paths(package, path, text):
+    """Paths: of crates that are modules here, and of what the kit's std has and Rust's has not."""
+    crate = path.split("/")[1]
+    edits = []
+    tokens = tokens_of(path, text)
+    for at, token in enumerate(tokens):
+        if token.kind != "word":
+            continue
+        before = tokens[at - 1].text if at else ""
+        next_text = tokens[at + 1].text if at + 1 < len(tokens) else ""
+        if before in ("::", "."):
+            continue
+        in_use = before == "use" or (before == "{" and at > 1 and tokens[at - 2].text == "use")
+        if token.text == "crate" and next_text == "::":
+            if tokens[at + 2].text == "shim":
+                continue
+            edits.append((token.start, token.end, package.path_of(crate)))
+        elif next_text == "::" or in_use:
+            new = package.path_of_crate(token.text)
+            if new:
+                edits.append((token.start, token.end, new))
+            elif in_use and before == "{" and token.text in package.modules:
+                raise Stop(f"{path}:{line_of(text, token.start)}: an import in a form that is not known")
+    text = edited(text, edits)
+    for found in re.finditer(r"^(\s*(?:pub )?use )\{([^}]*)\};", text, re.M):
+        pass
+    for pattern, new in package.std_paths:
+        text = re.sub(pattern, new, text, flags=re.M)
+    left = re.search(r"^(?:pub )?use std::[^;]*;|[^:\w]std::\w+", "\n".join(it for it in text.split("\n") if not it.lstrip().startswith("//")), re.M)
+    if left:
+        raise Stop(f"{path}: a path of std that is not known: {left[0]}")
+    names = [name for name in ("Vec", "String") if re.search(rf"(?<![\w:]){name}\b(?=[:<(]|\s*\{{)", without_comments(text))]
+    if names:
+        use = f"use crate::shim::{{{', '.join(names)}}};\n"
+        at = re.search(r"^(?!//!|\n)", text, re.M).start()
+        text = text[:at] + use + text[at:]
+    return text
+
+
+def without_comments(text):
+    return "\n".join(it for it in text.split("\n") if not it.lstrip().startswith("//"))
+
+
+def with_examples(path, text):
+    """Examples of docs are compiled by rustdoc, which does not know the names that they import."""
+    lines, made, opens = text.split("\n"), [], False
+    for line in lines:
+        found = re.fullmatch(r"(\s*//[/!] )```rust", line)
+        made.append(line if not found else f"{found[1]}```")
+        if found:
+            made += [f"{found[1]}{it}" for it in erasure.EXAMPLE_IMPORTS]
+    return "\n".join(made)

@@ -1,0 +1,104 @@
+//! Searches into a list.
+
+use super::{DateTime, FoundDateTimeKind, UtcDateTime};
+use crate::error::TzError;
+use crate::proved::tz::datetime::FoundDateTimeList as FoundList;
+use crate::proved::tz::inner::find_fields;
+use crate::proved::tz_base::fields::Fields;
+use crate::shim::alloc::Global;
+use crate::timezone::TimeZoneRef;
+use alloc::vec::Vec;
+
+/// The date times that a search found, by rising Unix time: the list that [`DateTime::find`] returns. It may be empty.
+#[derive(Debug, Default, Clone, PartialEq)]
+pub struct FoundDateTimeList(Vec<FoundDateTimeKind>);
+
+impl FoundDateTimeList {
+    /// The date time, if exactly one was found and no jump, and otherwise `None`.
+    pub fn unique(&self) -> Option<DateTime> {
+        match self.0.as_slice() {
+            [FoundDateTimeKind::Normal(date_time)] => Some(*date_time),
+            _ => None,
+        }
+    }
+
+    /// The earliest date time; of a jump the side before it. `None` if nothing was found.
+    pub fn earliest(&self) -> Option<DateTime> {
+        Some(*self.0.first()?.sides().0)
+    }
+
+    /// The latest date time; of a jump the side after it. `None` if nothing was found.
+    pub fn latest(&self) -> Option<DateTime> {
+        Some(*self.0.last()?.sides().1)
+    }
+
+    /// What was found.
+    pub fn into_inner(self) -> Vec<FoundDateTimeKind> {
+        self.0
+    }
+}
+
+impl From<FoundList<Global>> for FoundDateTimeList {
+    #[inline]
+    fn from(list: FoundList<Global>) -> Self {
+        FoundDateTimeList(list.into_inner().into_std())
+    }
+}
+
+impl DateTime {
+    /// All date times at which the zone's clock shows the fields, and the forward jumps over them, in order of Unix time.
+    ///
+    /// The month is from 1 to 12, the day of the month from 1, the hour from 0 to 23, the minute from 0 to 59, the second from 0 to 60 and the
+    /// nanoseconds below 10^9. A date time keeps the fields that were passed, second 60 included.
+    ///
+    /// # Errors
+    ///
+    /// - [`TzError::DateTime`] with the first field that is out of range, in the order of the arguments, or else with `InvalidMonthDay` if the month
+    ///   does not have the day;
+    /// - [`TzError::OutOfRange`] if an entry is outside the years of an `i32`, as only the local time before or after a jump can be;
+    /// - [`TzError::Memory`] if an allocation for the list fails.
+    ///
+    /// ```
+    /// use tz::{DateTime, TimeZone};
+    ///
+    /// # #[cfg(feature = "std")] {
+    /// let zone = TimeZone::from_posix_tz("CET-1CEST,M3.5.0,M10.5.0/3")?;
+    /// // Clocks are set back from 3:00 to 2:00, and show half past two twice.
+    /// let found = DateTime::find(2000, 10, 29, 2, 30, 0, 0, zone.as_ref())?;
+    /// assert_eq!(found.unique(), None);
+    /// assert_eq!(found.earliest().unwrap().unix_time(), 972_779_400);
+    /// assert_eq!(found.latest().unwrap().unix_time(), 972_783_000);
+    /// # }
+    /// # Ok::<(), tz::Error>(())
+    /// ```
+    // tz-rs has these arguments.
+    #[allow(clippy::too_many_arguments)]
+    #[inline]
+    pub fn find(
+        year: i32,
+        month: u8,
+        month_day: u8,
+        hour: u8,
+        minute: u8,
+        second: u8,
+        nanoseconds: u32,
+        time_zone_ref: TimeZoneRef<'_>,
+    ) -> Result<FoundDateTimeList, TzError> {
+        let fields = Fields::new(year, month, month_day, hour, minute, second, nanoseconds);
+        Ok(find_fields(Global, &fields, time_zone_ref)?.into())
+    }
+
+    /// What [`DateTime::find`] returns for the fields of the local time. The `UtcDateTime` is read as a local time, without an offset.
+    ///
+    /// # Errors
+    ///
+    /// - [`TzError::OutOfRange`] as for [`DateTime::find`];
+    /// - [`TzError::Memory`] if an allocation for the list fails.
+    #[inline]
+    pub fn find_local(
+        local: UtcDateTime,
+        time_zone_ref: TimeZoneRef<'_>,
+    ) -> Result<FoundDateTimeList, TzError> {
+        Ok(find_fields(Global, local.fields(), time_zone_ref)?.into())
+    }
+}

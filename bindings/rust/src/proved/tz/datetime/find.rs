@@ -1,0 +1,145 @@
+//! The date times at which the clock of a zone shows given fields.
+
+use super::entry_takers::DateTimeList;
+use super::search::search;
+use super::slot_writer::SlotWriter;
+use super::{DateTime, FoundDateTimeKind, FoundDateTimeList, FoundDateTimeListRefMut, UtcDateTime};
+use crate::proved::tz_base::error::TzError;
+use crate::proved::tz_base::fields::Fields;
+use crate::proved::tz_zone::inner::{Uncounted, offsets, other_parts_of};
+use crate::proved::tz_zone::timezone::TimeZoneRef;
+use crate::shim::alloc::Allocator;
+
+/// A search that failed, and the buffer as it left it.
+
+pub(super) struct Refused<'a> {
+    buf: &'a mut [Option<FoundDateTimeKind>],
+    pub(super) fault: TzError,
+}
+
+/// What [`DateTime::find`] finds of the fields.
+pub fn find_fields<A: Allocator + Copy>(
+    alloc: A,
+    fields: &Fields,
+    time_zone_ref: TimeZoneRef<'_>,
+) -> Result<FoundDateTimeList<A>, TzError> {
+    let mut list = FoundDateTimeList::new_in(alloc);
+    let mut view = Uncounted::new(time_zone_ref.transitions());
+    find_in(&mut list, fields, &mut view, time_zone_ref)?;
+    Ok(list)
+}
+
+/// Adds what [`DateTime::find`] finds of the fields to a list, through a view of the zone's transitions.
+#[inline(always)]
+pub(super) fn find_in<L: DateTimeList>(
+    list: &mut L,
+    fields: &Fields,
+    view: &mut Uncounted<'_>,
+    time_zone_ref: TimeZoneRef<'_>,
+) -> Result<(), TzError> {
+    fields.check()?;
+    let (least, greatest) = offsets(&time_zone_ref);
+    let parts = other_parts_of(&time_zone_ref);
+    search(list, fields, view, parts, least, greatest)
+}
+
+impl DateTime {
+    /// Writes what [`DateTime::find`] returns to the slots of a buffer, as far as they go, and counts all entries. The other slots stay as they are.
+    /// This call does not allocate.
+    ///
+    /// The month is from 1 to 12, the day of the month from 1, the hour from 0 to 23, the minute from 0 to 59, the second from 0 to 60 and the
+    /// nanoseconds below 10^9. A date time keeps the fields that were passed, second 60 included.
+    ///
+    /// # Errors
+    ///
+    /// Those of [`DateTime::find`] but `Memory`. If a field is invalid, nothing is written.
+    pub fn find_n<'a>(
+        buf: &'a mut [Option<FoundDateTimeKind>],
+        year: i32,
+        month: u8,
+        month_day: u8,
+        hour: u8,
+        minute: u8,
+        second: u8,
+        nanoseconds: u32,
+        time_zone_ref: TimeZoneRef<'_>,
+    ) -> Result<FoundDateTimeListRefMut<'a>, TzError> {
+        // A call and a match: the proof of `untouched` follows these statements.
+        match DateTime::listed(
+            buf,
+            year,
+            month,
+            month_day,
+            hour,
+            minute,
+            second,
+            nanoseconds,
+            time_zone_ref,
+        ) {
+            Ok(list) => Ok(list),
+            Err(refused) => Err(refused.fault),
+        }
+    }
+
+    /// What [`DateTime::find_n`] returns for the fields of the local time. The `UtcDateTime` is read as a local time, without an offset.
+    ///
+    /// How many instants and jumps a local time has, without allocating: almost always 1, and 2 if clocks show it twice.
+    ///
+    /// ```
+    /// # use tz::{datetime::*, error::*, timezone::*, *};
+    /// pub fn count_meanings(zone: TimeZoneRef<'_>, local: UtcDateTime) -> Result<usize, TzError> {
+    ///     let mut slots = [None; 2];
+    ///     Ok(DateTime::find_n_local(&mut slots, local, zone)?.count())
+    /// }
+    /// ```
+    ///
+    /// # Errors
+    ///
+    /// [`TzError::OutOfRange`] as for [`DateTime::find`].
+    pub fn find_n_local<'a>(
+        buf: &'a mut [Option<FoundDateTimeKind>],
+        local: UtcDateTime,
+        time_zone_ref: TimeZoneRef<'_>,
+    ) -> Result<FoundDateTimeListRefMut<'a>, TzError> {
+        let mut view = Uncounted::new(time_zone_ref.transitions());
+        match DateTime::listed_in(buf, local.fields(), &mut view, time_zone_ref) {
+            Ok(list) => Ok(list),
+            Err(refused) => Err(refused.fault),
+        }
+    }
+
+    /// What [`DateTime::find_n`] returns, or the buffer and the error.
+    fn listed<'a>(
+        buf: &'a mut [Option<FoundDateTimeKind>],
+        year: i32,
+        month: u8,
+        month_day: u8,
+        hour: u8,
+        minute: u8,
+        second: u8,
+        nanoseconds: u32,
+        time_zone_ref: TimeZoneRef<'_>,
+    ) -> Result<FoundDateTimeListRefMut<'a>, Refused<'a>> {
+        let fields = Fields::new(year, month, month_day, hour, minute, second, nanoseconds);
+        let mut view = Uncounted::new(time_zone_ref.transitions());
+        DateTime::listed_in(buf, &fields, &mut view, time_zone_ref)
+    }
+
+    /// What [`DateTime::find_n`] returns for the fields, through a view of the zone's transitions, or the buffer and the error.
+    #[inline(always)]
+    pub(super) fn listed_in<'a>(
+        buf: &'a mut [Option<FoundDateTimeKind>],
+        fields: &Fields,
+        view: &mut Uncounted<'_>,
+        time_zone_ref: TimeZoneRef<'_>,
+    ) -> Result<FoundDateTimeListRefMut<'a>, Refused<'a>> {
+        let mut writer = SlotWriter::new(buf, 0);
+        match find_in(&mut writer, fields, view, time_zone_ref) {
+            Ok(()) => {
+                let count = writer.count;
+                Ok(FoundDateTimeListRefMut::counted(buf, count))
+            }
+            Err(fault) => Err(Refused { buf, fault }),
+        }
+    }
+}

@@ -1,0 +1,73 @@
+//! Date times and searches in zones of plain data.
+
+use super::DateTime;
+use super::date_time_data::FoundData;
+use super::disambiguation::Summary;
+use super::entry_takers::DateTimeList;
+use super::search::search;
+use super::slot_writer::SlotWriter;
+use crate::proved::tz_base::constants::NANOSECONDS_PER_SECOND;
+use crate::proved::tz_base::error::TzError;
+use crate::proved::tz_base::error::datetime::DateTimeError;
+use crate::proved::tz_base::fields::Fields;
+use crate::proved::tz_zone::inner::{Uncounted, ZoneData};
+
+/// What the zone's clock shows at a Unix time, as [`DateTime::from_timespec`] answers it.
+#[inline(always)]
+pub fn from_timespec(
+    unix_time: i64,
+    nanoseconds: u32,
+    zone: &ZoneData<'_>,
+) -> Result<DateTime, TzError> {
+    if nanoseconds >= NANOSECONDS_PER_SECOND {
+        return Err(TzError::DateTime(DateTimeError::InvalidNanoseconds));
+    }
+    let local_time_type = zone.find_local_time_type(unix_time)?;
+    DateTime::shown_by(unix_time, nanoseconds, *local_time_type)
+}
+
+/// Adds the entries for valid fields to the list, in order.
+#[inline(always)]
+pub(super) fn search_data<L: DateTimeList>(
+    list: &mut L,
+    fields: &Fields,
+    zone: &ZoneData<'_>,
+) -> Result<(), TzError> {
+    let mut view = Uncounted::new(zone.transitions());
+    let (least, greatest) = zone.offsets();
+    let parts = zone.other_parts();
+    search(list, fields, &mut view, parts, least, greatest)
+}
+
+/// Searches without writing anything. Not inlined, so that the search that writes stays small.
+#[cold]
+#[inline(never)]
+fn check_by_search(fields: &Fields, zone: &ZoneData<'_>) -> Result<(), TzError> {
+    search_data(&mut Summary::Nothing, fields, zone)
+}
+
+/// Searches for fields near the ends of the years, so that a search that is refused is refused before anything is written.
+#[inline(always)]
+fn check_entries(fields: &Fields, zone: &ZoneData<'_>) -> Result<(), TzError> {
+    // For the proof, which bounds the entries by these offsets.
+    let (_least, _greatest) = zone.offsets();
+    // 200 years or more from both ends of 32 bits.
+    if -2_147_483_448 <= fields.year && fields.year <= 2_147_483_447 {
+        return Ok(());
+    }
+    check_by_search(fields, zone)
+}
+
+/// Writes the entries for the fields, from one of them on, to the slots, as far as they go, and counts all.
+pub fn find_into(
+    slots: &mut [FoundData],
+    skip: usize,
+    fields: &Fields,
+    zone: &ZoneData<'_>,
+) -> Result<usize, TzError> {
+    fields.check()?;
+    check_entries(fields, zone)?;
+    let mut writer = SlotWriter::new(slots, skip);
+    search_data(&mut writer, fields, zone)?;
+    Ok(writer.count)
+}

@@ -1,0 +1,83 @@
+//! How dates, times and offsets are printed.
+
+use crate::proved::tz::text_buffer::{TextBuffer, pair_of};
+use crate::proved::tz_base::fields::Fields;
+
+/// What stands between the year and the nanoseconds: month and day, and the time of day up to the point.
+#[inline(always)]
+pub const fn middle_of(fields: &Fields) -> [u8; 16] {
+    let (month, day) = (pair_of(fields.month), pair_of(fields.month_day));
+    let hour = pair_of(fields.hour);
+    let (minute, second) = (pair_of(fields.minute), pair_of(fields.second));
+    [
+        b'-', month[0], month[1], b'-', day[0], day[1], b'T', hour[0], hour[1], b':', minute[0],
+        minute[1], b':', second[0], second[1], b'.',
+    ]
+}
+
+impl TextBuffer {
+    /// Appends a year.
+    #[inline(always)]
+    pub fn push_year(&mut self, year: i32) {
+        if year < 0 {
+            self.push(b'-');
+        }
+        self.push_decimal(year.unsigned_abs());
+    }
+
+    /// Appends hours, with two digits at least.
+
+    fn push_hours(&mut self, hours: u32) {
+        if hours < 100 {
+            self.push_two_digits(hours as u8);
+        } else {
+            self.push_decimal(hours);
+        }
+    }
+
+    /// Appends :ss unless the seconds are zero.
+    pub(crate) fn push_seconds(&mut self, seconds: u8) {
+        if seconds != 0 {
+            self.push(b':');
+            self.push_two_digits(seconds);
+        }
+    }
+
+    /// Appends hh:mm, and :ss unless the seconds are zero.
+    fn push_duration(&mut self, seconds: u32) {
+        let hours = seconds / 3600;
+        let minutes = (seconds / 60 % 60) as u8;
+        let rest = (seconds % 60) as u8;
+        if hours < 100 && rest == 0 {
+            let (hours, minutes) = (pair_of(hours as u8), pair_of(minutes));
+            self.push_ascii(&[hours[0], hours[1], b':', minutes[0], minutes[1]]);
+        } else {
+            self.push_hours(hours);
+            self.push(b':');
+            self.push_two_digits(minutes);
+            self.push_seconds(rest);
+        }
+    }
+
+    /// Appends `Z`, or the sign and the size of an offset in seconds.
+    pub fn push_offset(&mut self, ut_offset: i32) {
+        if ut_offset == 0 {
+            self.push(b'Z');
+        } else if ut_offset < 0 {
+            self.push(b'-');
+            self.push_duration(ut_offset.unsigned_abs());
+        } else {
+            self.push(b'+');
+            self.push_duration(ut_offset.unsigned_abs());
+        }
+    }
+
+    /// Appends the printed date time of the fields and an offset in seconds.
+    #[inline(always)]
+    pub fn push_date_time(&mut self, fields: &Fields, ut_offset: i32) {
+        self.push_year(fields.year);
+        self.push_ascii(&middle_of(fields));
+        self.push_nine_digits(fields.nanoseconds);
+        self.push_offset(ut_offset);
+    }
+}

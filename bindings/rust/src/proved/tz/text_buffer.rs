@@ -1,0 +1,134 @@
+//! Text that is made without an allocation.
+
+/// Text of at most 128 bytes, which is made without an allocation.
+///
+/// By the bounds of the contracts a TZ string has at most 114 bytes, and a printed date time 53.
+
+pub struct TextBuffer {
+    bytes: [u8; 128],
+    len: usize,
+}
+
+/// The two digits of each number below 100, in order.
+static PAIRS: [u8; 200] =
+    *b"00010203040506070809101112131415161718192021222324252627282930313233343536373839404142434445464748495051525354555657585960616263646566676869707172737475767778798081828384858687888990919293949596979899";
+
+/// The two digits of a number below 100.
+#[inline(always)]
+pub const fn pair_of(number: u8) -> [u8; 2] {
+    let place = number as usize * 2;
+    let mut pair = [0; 2];
+    pair.copy_from_slice(PAIRS.split_at(place + 2).0.split_at(place).1);
+    pair
+}
+
+/// The digits of a number that has four: the first two, and the last two.
+#[inline(always)]
+pub const fn two_pairs(number: u32) -> ([u8; 2], [u8; 2]) {
+    (pair_of((number / 100) as u8), pair_of((number % 100) as u8))
+}
+
+impl TextBuffer {
+    /// An empty text.
+    pub const fn new() -> Self {
+        TextBuffer {
+            bytes: [0; 128],
+            len: 0,
+        }
+    }
+
+    /// Clears the text.
+    #[inline]
+    pub const fn clear(&mut self) {
+        self.len = 0;
+    }
+
+    /// The text's bytes.
+    #[inline]
+    pub const fn as_bytes(&self) -> &[u8] {
+        self.bytes.split_at(self.len).0
+    }
+
+    /// The text.
+    #[inline]
+    pub const fn as_str(&self) -> &str {
+        crate::shim::text(self.as_bytes())
+    }
+
+    /// Appends an ASCII byte.
+    #[inline(always)]
+    pub const fn push(&mut self, byte: u8) {
+        self.bytes[self.len] = byte;
+        self.len += 1;
+    }
+
+    /// Appends a text.
+    #[inline]
+    pub fn push_str(&mut self, text: &str) {
+        let end = self.len + text.len();
+        self.bytes[self.len..end].copy_from_slice(text.as_bytes());
+        self.len = end;
+    }
+
+    /// Appends ASCII bytes.
+    #[inline(always)]
+    pub(crate) fn push_ascii(&mut self, bytes: &[u8]) {
+        let end = self.len + bytes.len();
+        self.bytes[self.len..end].copy_from_slice(bytes);
+        self.len = end;
+    }
+
+    /// Appends a number below 100 as two digits.
+    #[inline(always)]
+    pub(crate) fn push_two_digits(&mut self, number: u8) {
+        self.push_ascii(&pair_of(number));
+    }
+
+    /// Appends nanoseconds as nine digits.
+    #[inline(always)]
+    pub fn push_nine_digits(&mut self, number: u32) {
+        let high = number / 10_000;
+        let low = number % 10_000;
+        let first = b'0' + (high / 10_000) as u8;
+        let (second, third) = (
+            pair_of((high % 10_000 / 100) as u8),
+            pair_of((high % 100) as u8),
+        );
+        let (fourth, fifth) = (pair_of((low / 100) as u8), pair_of((low % 100) as u8));
+        self.push_ascii(&[
+            first, second[0], second[1], third[0], third[1], fourth[0], fourth[1], fifth[0],
+            fifth[1],
+        ]);
+    }
+
+    /// Appends the digits of a number.
+
+    pub(crate) fn push_digits(&mut self, number: u64) {
+        if number < 10 {
+            self.push(b'0' + number as u8);
+        } else if number < 100 {
+            self.push_two_digits(number as u8);
+        } else {
+            self.push_digits(number / 100);
+            self.push_two_digits((number % 100) as u8);
+        }
+    }
+
+    /// Appends the digits of a number, of which there are ten at most.
+
+    pub fn push_decimal(&mut self, number: u32) {
+        if number >= 1000 && number < 10_000 {
+            let (front, back) = two_pairs(number);
+            self.push_ascii(&front);
+            self.push_ascii(&back);
+        } else {
+            self.push_digits(u64::from(number));
+        }
+    }
+
+    /// Appends the digits of a count, of which there are twenty at most.
+
+    pub fn push_count(&mut self, count: u64) {
+        self.push_digits(count);
+    }
+}

@@ -1,0 +1,9 @@
+//! The error types, and what `?` makes of an error.
+
+mod conversions;
+pub mod datetime;
+pub mod parse;
+pub mod timezone;
+mod tz_error;
+
+pub use tz_error::{Error, ReadFault, TzError};

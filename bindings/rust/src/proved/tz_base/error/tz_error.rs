@@ -1,0 +1,92 @@
+//! `TzError` and `Error`, for errors of any kind, and `ReadFault`, for those of a file reader, with their texts.
+
+use super::datetime::DateTimeError;
+use super::parse::{TzFileError, TzStringError};
+use super::timezone::{LocalTimeTypeError, TimeZoneError, TransitionRuleError};
+use crate::shim::alloc::AllocError;
+use core::{error, fmt};
+
+/// Any error but that of a file that cannot be read.
+#[derive(Debug)]
+#[non_exhaustive]
+pub enum TzError {
+    /// The bytes are not a TZif file.
+    TzFile(TzFileError),
+    /// The string is not a TZ string.
+    TzString(TzStringError),
+    /// The parts do not make a local time type.
+    LocalTimeType(LocalTimeTypeError),
+    /// The parts do not make a transition rule.
+    TransitionRule(TransitionRuleError),
+    /// The parts do not make a time zone.
+    TimeZone(TimeZoneError),
+    /// The fields do not make a date time.
+    DateTime(DateTimeError),
+    /// A value is outside the range of its type, or an instant outside the years of a zone's rule, or before a leap-second table that begins late.
+    OutOfRange,
+    /// The zone's last transition has taken effect, and the zone has no rule for later instants.
+    NoAvailableLocalTimeType,
+    /// Out of memory: an allocation failed.
+    Memory(AllocError),
+}
+
+/// Any error.
+#[derive(Debug)]
+#[non_exhaustive]
+pub enum Error {
+    /// A file could not be read.
+    Io(crate::shim::anyhow::Error),
+    /// Every other error.
+    Tz(TzError),
+}
+
+/// Why a file reader returned no bytes.
+#[derive(Debug)]
+pub enum ReadFault {
+    /// Out of memory: an allocation failed.
+    Memory(AllocError),
+    /// The file could not be read.
+    Failed(crate::shim::anyhow::Error),
+}
+
+impl fmt::Display for TzError {
+    fn fmt(&self, f: &mut fmt::Formatter<'_>) -> fmt::Result {
+        match self {
+            TzError::TzFile(error) => write!(f, "invalid TZ file: {error}"),
+            TzError::TzString(error) => write!(f, "invalid TZ string: {error}"),
+            TzError::LocalTimeType(error) => write!(f, "invalid local time type: {error}"),
+            TzError::TransitionRule(error) => write!(f, "invalid transition rule: {error}"),
+            TzError::TimeZone(error) => write!(f, "invalid time zone: {error}"),
+            TzError::DateTime(error) => write!(f, "invalid date time: {error}"),
+            TzError::OutOfRange => f.write_str("out of range operation"),
+            TzError::NoAvailableLocalTimeType => {
+                f.write_str("no local time type is available for the specified timestamp")
+            }
+            TzError::Memory(_) => f.write_str("no memory"),
+        }
+    }
+}
+
+impl error::Error for TzError {}
+
+impl fmt::Display for Error {
+    fn fmt(&self, f: &mut fmt::Formatter<'_>) -> fmt::Result {
+        match self {
+            Error::Io(error) => error.fmt(f),
+            Error::Tz(error) => error.fmt(f),
+        }
+    }
+}
+
+impl error::Error for Error {}
+
+impl fmt::Display for ReadFault {
+    fn fmt(&self, f: &mut fmt::Formatter<'_>) -> fmt::Result {
+        match self {
+            ReadFault::Memory(_) => f.write_str("no memory"),
+            ReadFault::Failed(error) => error.fmt(f),
+        }
+    }
+}
+
+impl error::Error for ReadFault {}

@@ -1,0 +1,17 @@
+//! Instants as one total of nanoseconds, and as seconds and nanoseconds.
+
+use crate::proved::tz_base::constants::NANOSECONDS_PER_SECOND;
+
+/// Nanoseconds from 1970-01-01T00:00:00Z on.
+pub const fn total_nanoseconds(unix_time: i64, nanoseconds: u32) -> i128 {
+    NANOSECONDS_PER_SECOND as i128 * unix_time as i128 + nanoseconds as i128
+}
+
+/// The seconds of a total of nanoseconds, rounded down, and the nanoseconds that remain, if the seconds fit 64 bits.
+pub fn timespec(total: i128) -> Option<(i64, u32)> {
+    let nanoseconds_per_second = i128::from(NANOSECONDS_PER_SECOND);
+    let seconds = total.div_euclid(nanoseconds_per_second);
+    let nanoseconds = total.rem_euclid(nanoseconds_per_second) as u32;
+    let seconds = i64::try_from(seconds).ok()?;
+    Some((seconds, nanoseconds))
+}

@@ -1,0 +1,217 @@
+//! Alternate rules: their parts, the ranges of these, and when daylight saving time starts and ends.
+
+use super::alternate_data::AlternateData;
+use super::day_data::DayData;
+use super::year_table::YearTable;
+use super::{LocalTimeType, RuleDay};
+use crate::proved::tz_base::error::timezone::TransitionRuleError;
+use core::fmt;
+
+/// Whether the offset is above -25 and below 26 hours.
+const fn is_rule_offset(offset: i32) -> bool {
+    -90_000 < offset && offset < 93_600
+}
+
+/// Whether the time is less than a week either way.
+const fn is_rule_time(time: i32) -> bool {
+    -604_800 < time && time < 604_800
+}
+
+/// The six parts of an alternate rule.
+#[repr(C)]
+#[derive(Clone, Copy)]
+pub(super) struct Parts {
+    pub(super) std: LocalTimeType,
+    pub(super) dst: LocalTimeType,
+    pub(super) dst_start: DayData,
+    pub(super) dst_start_time: i32,
+    pub(super) dst_end: DayData,
+    pub(super) dst_end_time: i32,
+}
+
+impl Parts {
+    /// Checks the offsets and the times, in the order of their errors.
+    pub(super) const fn check_range(&self) -> Result<(), TransitionRuleError> {
+        if !is_rule_offset(self.std.ut_offset()) {
+            return Err(TransitionRuleError::InvalidStdUtcOffset);
+        }
+        if !is_rule_offset(self.dst.ut_offset()) {
+            return Err(TransitionRuleError::InvalidDstUtcOffset);
+        }
+        if !is_rule_time(self.dst_start_time) || !is_rule_time(self.dst_end_time) {
+            return Err(TransitionRuleError::InvalidDstStartEndTime);
+        }
+        Ok(())
+    }
+
+    /// How many seconds after 00:00 UTC of January 1st daylight saving time starts, by the kind of the year. `day` is the part `dst_start` as a
+    /// `RuleDay`, which saves its conversion.
+    #[inline(always)]
+    pub(super) const fn starts(&self, day: &RuleDay) -> YearTable {
+        YearTable::of_day(day, self.dst_start_time - self.std.ut_offset())
+    }
+
+    /// How many seconds after 00:00 UTC of January 1st it ends, by the kind of the year. `day` is the part `dst_end`.
+    #[inline(always)]
+    pub(super) const fn ends(&self, day: &RuleDay) -> YearTable {
+        YearTable::of_day(day, self.dst_end_time - self.dst.ut_offset())
+    }
+}
+
+/// Standard time and daylight saving time, and when each begins in every year.
+///
+/// A start and an end never change their order from one year to another, at any distance in years. If some year's end comes before its start,
+/// daylight saving time lasts from each start to its end in the next year, and otherwise to its end in the same year.
+#[derive(Clone, Copy)]
+pub struct AlternateTime {
+    plain: AlternateData,
+    // Both days once more: `dst_start()` and `dst_end()` lend a `RuleDay`, which the plain data has as numbers (`DayData`).
+    dst_start: RuleDay,
+    dst_end: RuleDay,
+}
+
+impl AlternateTime {
+    /// The rule with these parts. Times are seconds from 00:00 of the local day; the start's is in standard time and the end's in daylight saving
+    /// time. (POSIX.1-2017, Base Definitions, 8.3)
+    ///
+    /// Offsets are above -25 and below 26 hours, and times less than a week either way.
+    ///
+    /// The rule of New York, with daylight saving time from 2:00 on the second Sunday of March to 2:00 on the first Sunday of November:
+    ///
+    /// ```
+    /// # use tz::{datetime::*, error::*, timezone::*, *};
+    /// pub fn new_york_rule() -> Result<AlternateTime, TzError> {
+    ///     let std = LocalTimeType::new(-18_000, false, Some(b"EST"))?;
+    ///     let dst = LocalTimeType::new(-14_400, true, Some(b"EDT"))?;
+    ///     let start = RuleDay::MonthWeekDay(MonthWeekDay::new(3, 2, 0)?);
+    ///     let end = RuleDay::MonthWeekDay(MonthWeekDay::new(11, 1, 0)?);
+    ///     Ok(AlternateTime::new(std, dst, start, 7200, end, 7200)?)
+    /// }
+    /// ```
+    ///
+    /// # Errors
+    ///
+    /// The first of these:
+    ///
+    /// - [`TransitionRuleError::InvalidStdUtcOffset`] if the offset of standard time is out of range;
+    /// - [`TransitionRuleError::InvalidDstUtcOffset`] if that of daylight saving time is;
+    /// - [`TransitionRuleError::InvalidDstStartEndTime`] if one of the two times is;
+    /// - [`TransitionRuleError::InconsistentRule`] if start and end change their order from one year to another.
+    pub const fn new(
+        std: LocalTimeType,
+        dst: LocalTimeType,
+        dst_start: RuleDay,
+        dst_start_time: i32,
+        dst_end: RuleDay,
+        dst_end_time: i32,
+    ) -> Result<Self, TransitionRuleError> {
+        let parts = Parts {
+            std,
+            dst,
+            dst_start: DayData::of(&dst_start),
+            dst_start_time,
+            dst_end: DayData::of(&dst_end),
+            dst_end_time,
+        };
+        match parts.check_range() {
+            Ok(value) => value,
+            Err(error) => return Err(error),
+        };
+        let starts = parts.starts(&dst_start);
+        let ends = parts.ends(&dst_end);
+        let Some(ends_next_year) = starts.order(&ends) else {
+            return Err(TransitionRuleError::InconsistentRule);
+        };
+        Ok(AlternateTime {
+            plain: AlternateData::of_tables(parts, starts, ends, ends_next_year),
+            dst_start,
+            dst_end,
+        })
+    }
+
+    /// Why parts in range make no rule: two years x and y and a distance k in years, such that the start of x comes after the end of x + k, and the
+    /// start of y before the end of y + k. `None` if they make one, or are out of range.
+    pub fn conflict(
+        std: LocalTimeType,
+        dst: LocalTimeType,
+        dst_start: RuleDay,
+        dst_start_time: i32,
+        dst_end: RuleDay,
+        dst_end_time: i32,
+    ) -> Option<(i32, i32, i32)> {
+        let start = DayData::of(&dst_start);
+        let end = DayData::of(&dst_end);
+        AlternateData::conflict(std, dst, start, dst_start_time, end, dst_end_time)
+    }
+
+    /// The type of standard time.
+    pub const fn std(&self) -> &LocalTimeType {
+        self.plain.std()
+    }
+
+    /// The type of daylight saving time.
+    pub const fn dst(&self) -> &LocalTimeType {
+        self.plain.dst()
+    }
+
+    /// The day on which daylight saving time starts.
+    pub const fn dst_start(&self) -> &RuleDay {
+        &self.dst_start
+    }
+
+    /// When it starts on that day, in seconds from 00:00 of standard time, less than a week either way.
+    pub const fn dst_start_time(&self) -> i32 {
+        self.plain.dst_start_time()
+    }
+
+    /// The day on which daylight saving time ends.
+    pub const fn dst_end(&self) -> &RuleDay {
+        &self.dst_end
+    }
+
+    /// When it ends on that day, in seconds from 00:00 of daylight saving time, less than a week either way.
+    pub const fn dst_end_time(&self) -> i32 {
+        self.plain.dst_end_time()
+    }
+
+    /// The rule of its data.
+    pub(crate) const fn of_plain(plain: &AlternateData) -> Self {
+        AlternateTime {
+            plain: *plain,
+            dst_start: plain.dst_start().day(),
+            dst_end: plain.dst_end().day(),
+        }
+    }
+
+    /// The rule as plain data, with its tables.
+    pub(crate) const fn plain(&self) -> &AlternateData {
+        &self.plain
+    }
+}
+
+impl PartialEq for AlternateTime {
+    fn eq(&self, other: &AlternateTime) -> bool {
+        let (a, b) = (&self.plain, &other.plain);
+        a.std() == b.std()
+            && (a.dst() == b.dst()
+                && (self.dst_start == other.dst_start
+                    && (a.dst_start_time() == b.dst_start_time()
+                        && (self.dst_end == other.dst_end
+                            && a.dst_end_time() == b.dst_end_time()))))
+    }
+}
+
+impl Eq for AlternateTime {}
+
+impl fmt::Debug for AlternateTime {
+    fn fmt(&self, f: &mut fmt::Formatter<'_>) -> fmt::Result {
+        f.debug_struct("AlternateTime")
+            .field("std", self.std())
+            .field("dst", self.dst())
+            .field("dst_start", self.dst_start())
+            .field("dst_start_time", &self.dst_start_time())
+            .field("dst_end", self.dst_end())
+            .field("dst_end_time", &self.dst_end_time())
+            .finish()
+    }
+}

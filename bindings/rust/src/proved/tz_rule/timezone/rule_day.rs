@@ -1,0 +1,179 @@
+//! The days of a year that a rule can name.
+
+use crate::proved::tz_base::calendar;
+use crate::proved::tz_base::error::timezone::TransitionRuleError;
+
+/// The day of a month of this length, counted from 0, on which a week day falls for the w-th time, or for week 5 for the last time, if it first falls
+/// on day `first`.
+#[inline(always)]
+const fn nth_place(first: u8, days: u8, week: u8) -> u8 {
+    let place = first + 7 * (week - 1);
+    if place < days { place } else { place - 7 }
+}
+
+/// The place in a year that begins one week day later: a day earlier, or the last of the seven places if it was the first.
+#[inline(always)]
+const fn place_before(place: u16, least: u16) -> u16 {
+    if place == least { least + 6 } else { place - 1 }
+}
+
+/// The n-th of a year's days that are not February 29th, from 1 to 365. (POSIX.1-2017, 8.3: `Jn`.)
+#[derive(Clone, Copy, Debug, PartialEq, Eq)]
+pub struct Julian1WithoutLeap(pub(super) u16);
+
+impl Julian1WithoutLeap {
+    /// The day with this number, from 1 to 365.
+    ///
+    /// # Errors
+    ///
+    /// [`TransitionRuleError::InvalidRuleDayJulianDay`] for any other number.
+    pub const fn new(julian_day_1: u16) -> Result<Self, TransitionRuleError> {
+        if julian_day_1 < 1 || julian_day_1 > 365 {
+            return Err(TransitionRuleError::InvalidRuleDayJulianDay);
+        }
+        Ok(Julian1WithoutLeap(julian_day_1))
+    }
+
+    /// The number of the day.
+    pub const fn get(&self) -> u16 {
+        self.0
+    }
+
+    /// How many days after January 1st the day is, in a leap year or another one.
+
+    const fn place(&self, leap: bool) -> u16 {
+        let day = self.0;
+        if leap && day > 59 { day } else { day - 1 }
+    }
+}
+
+/// The day n days after January 1st, from 0 to 365. In a year that is not leap 365 is the next January 1st. (POSIX.1-2017, 8.3: `n`.)
+#[derive(Clone, Copy, Debug, PartialEq, Eq)]
+pub struct Julian0WithLeap(pub(super) u16);
+
+impl Julian0WithLeap {
+    /// The day with this number, from 0 to 365.
+    ///
+    /// # Errors
+    ///
+    /// [`TransitionRuleError::InvalidRuleDayJulianDay`] for any other number.
+    pub const fn new(julian_day_0: u16) -> Result<Self, TransitionRuleError> {
+        if julian_day_0 > 365 {
+            return Err(TransitionRuleError::InvalidRuleDayJulianDay);
+        }
+        Ok(Julian0WithLeap(julian_day_0))
+    }
+
+    /// The number of the day.
+    pub const fn get(&self) -> u16 {
+        self.0
+    }
+}
+
+/// The first, second, third, fourth or last (5) of a month's days with a given week day. (POSIX.1-2017, 8.3: `Mm.w.d`.)
+#[derive(Clone, Copy, Debug, PartialEq, Eq)]
+pub struct MonthWeekDay {
+    pub(super) month: u8,
+    pub(super) week: u8,
+    pub(super) week_day: u8,
+}
+
+impl MonthWeekDay {
+    /// The week day of a month: the month from 1 to 12, the week from 1 to 5, where 5 is the last, and the week day from 0 (Sunday) to 6.
+    ///
+    /// The second Sunday of March is the day 3, 2, 0. See the example at [`AlternateTime::new`](super::AlternateTime::new).
+    ///
+    /// # Errors
+    ///
+    /// The first of these:
+    ///
+    /// - [`TransitionRuleError::InvalidRuleDayMonth`] if the month is out of range;
+    /// - [`TransitionRuleError::InvalidRuleDayWeek`] if the week is;
+    /// - [`TransitionRuleError::InvalidRuleDayWeekDay`] if the week day is.
+    pub const fn new(month: u8, week: u8, week_day: u8) -> Result<Self, TransitionRuleError> {
+        if month < 1 || month > 12 {
+            return Err(TransitionRuleError::InvalidRuleDayMonth);
+        }
+        if week < 1 || week > 5 {
+            return Err(TransitionRuleError::InvalidRuleDayWeek);
+        }
+        if week_day > 6 {
+            return Err(TransitionRuleError::InvalidRuleDayWeekDay);
+        }
+        Ok(MonthWeekDay {
+            month,
+            week,
+            week_day,
+        })
+    }
+
+    /// The month, from 1 to 12.
+    pub const fn month(&self) -> u8 {
+        self.month
+    }
+
+    /// The week of the month, from 1 to 5, where 5 means the last.
+    pub const fn week(&self) -> u8 {
+        self.week
+    }
+
+    /// The week day, from Sunday = 0 to 6.
+    pub const fn week_day(&self) -> u8 {
+        self.week_day
+    }
+
+    /// How many days after January 1st the day is in leap years or in the others, for each week day of January 1st.
+    ///
+    /// The place is found for a year that begins on a Sunday. If January 1st is one week day later, the day is one day earlier, or the last of its
+    /// seven places if it was the first.
+    const fn places(&self, leap: bool) -> [u16; 7] {
+        let before = calendar::days_before_month(leap, self.month);
+        let days = calendar::days_of_month(leap, self.month);
+        let least = before + (crate::shim::least!((7 * (self.week - 1)), days - 7)) as u16;
+        let first = (self.week_day + 7 - (before % 7) as u8) % 7;
+        let mut place = before + nth_place(first, days, self.week) as u16;
+        let mut places = [0; 7];
+        let mut week_day = 0;
+        while week_day < 7 {
+            places[week_day] = place;
+            place = place_before(place, least);
+            week_day += 1;
+        }
+        places
+    }
+}
+
+/// A day of each year.
+#[derive(Clone, Copy, Debug)]
+pub enum RuleDay {
+    /// The n-th of the days that are not February 29th.
+    Julian1WithoutLeap(Julian1WithoutLeap),
+    /// n days after January 1st.
+    Julian0WithLeap(Julian0WithLeap),
+    /// A week day of a month.
+    MonthWeekDay(MonthWeekDay),
+}
+
+impl PartialEq for RuleDay {
+    fn eq(&self, other: &RuleDay) -> bool {
+        match (self, other) {
+            (RuleDay::Julian1WithoutLeap(a), RuleDay::Julian1WithoutLeap(b)) => a == b,
+            (RuleDay::Julian0WithLeap(a), RuleDay::Julian0WithLeap(b)) => a == b,
+            (RuleDay::MonthWeekDay(a), RuleDay::MonthWeekDay(b)) => a == b,
+            _ => false,
+        }
+    }
+}
+
+impl Eq for RuleDay {}
+
+impl RuleDay {
+    /// How many days after January 1st the day is in leap years or in the others, for each week day of January 1st.
+    pub(super) const fn places(&self, leap: bool) -> [u16; 7] {
+        match self {
+            RuleDay::Julian1WithoutLeap(day) => [day.place(leap); 7],
+            RuleDay::Julian0WithLeap(day) => [day.get(); 7],
+            RuleDay::MonthWeekDay(day) => day.places(leap),
+        }
+    }
+}

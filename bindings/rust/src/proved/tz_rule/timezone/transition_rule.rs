@@ -1,0 +1,24 @@
+//! Transition rules: one type for all time, or an alternate rule.
+
+use super::{AlternateTime, LocalTimeType};
+
+/// The local time of a zone after its last transition.
+#[derive(Clone, Copy, Debug)]
+pub enum TransitionRule {
+    /// One type for all time.
+    Fixed(LocalTimeType),
+    /// Two types that alternate.
+    Alternate(AlternateTime),
+}
+
+impl PartialEq for TransitionRule {
+    fn eq(&self, other: &TransitionRule) -> bool {
+        match (self, other) {
+            (TransitionRule::Fixed(a), TransitionRule::Fixed(b)) => a == b,
+            (TransitionRule::Alternate(a), TransitionRule::Alternate(b)) => a == b,
+            _ => false,
+        }
+    }
+}
+
+impl Eq for TransitionRule {}

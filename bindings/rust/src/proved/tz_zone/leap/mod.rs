@@ -1,0 +1,8 @@
+//! Leap seconds: their table, leap time, and the way back from it.
+
+pub(crate) mod from_leap_time;
+mod second;
+pub(crate) mod table;
+pub(crate) mod to_leap_time;
+
+pub use second::LeapSecond;

@@ -1,0 +1,9 @@
+//! Time zones: transitions, leap seconds and an extra rule, and the clock that they make.
+
+mod clock;
+pub mod inner;
+
+mod leap;
+mod parse;
+mod table;
+pub mod timezone;

@@ -1,0 +1,48 @@
+//! Numbers of a file: the most significant byte comes first. (RFC 8536, section 3)
+
+use super::time_size::TimeSize;
+
+/// The four bytes at a place.
+const fn four_at(bytes: &[u8], at: usize) -> [u8; 4] {
+    [bytes[at], bytes[at + 1], bytes[at + 2], bytes[at + 3]]
+}
+
+/// The eight bytes at a place.
+const fn eight_at(bytes: &[u8], at: usize) -> [u8; 8] {
+    [
+        bytes[at],
+        bytes[at + 1],
+        bytes[at + 2],
+        bytes[at + 3],
+        bytes[at + 4],
+        bytes[at + 5],
+        bytes[at + 6],
+        bytes[at + 7],
+    ]
+}
+
+/// The count at a place.
+
+pub(super) const fn count_at(bytes: &[u8], at: usize) -> u32 {
+    u32::from_be_bytes(four_at(bytes, at))
+}
+
+/// The signed number of four bytes at a place.
+
+pub(super) const fn signed_at(bytes: &[u8], at: usize) -> i32 {
+    i32::from_be_bytes(four_at(bytes, at))
+}
+
+/// The signed number of eight bytes at a place.
+
+const fn long_signed_at(bytes: &[u8], at: usize) -> i64 {
+    i64::from_be_bytes(eight_at(bytes, at))
+}
+
+/// The time at a place.
+pub(super) const fn time_at(size: TimeSize, bytes: &[u8], at: usize) -> i64 {
+    match size {
+        TimeSize::Four => signed_at(bytes, at) as i64,
+        TimeSize::Eight => long_signed_at(bytes, at),
+    }
+}

@@ -1,0 +1,36 @@
+//! The size of times in a block, four bytes or eight, and of tables that have times. (RFC 8536, section 3.1)
+
+/// How many bytes a time of a block has.
+#[derive(Clone, Copy)]
+pub(super) enum TimeSize {
+    /// Four bytes, in the first block, which is all that version 1 has.
+    Four,
+    /// Eight bytes, in the second block, which later versions add.
+    Eight,
+}
+
+impl TimeSize {
+    /// How many bytes one time has.
+    pub(super) const fn len(self) -> usize {
+        match self {
+            TimeSize::Four => 4,
+            TimeSize::Eight => 8,
+        }
+    }
+
+    /// How many bytes a number of times has.
+    pub(super) const fn times_len(self, count: u32) -> usize {
+        match self {
+            TimeSize::Four => count as usize * 4,
+            TimeSize::Eight => count as usize * 8,
+        }
+    }
+
+    /// How many bytes a number of leap seconds has, each a time and a correction of four bytes.
+    pub(super) const fn leaps_len(self, count: u32) -> usize {
+        match self {
+            TimeSize::Four => count as usize * 8,
+            TimeSize::Eight => count as usize * 12,
+        }
+    }
+}

@@ -1,0 +1,100 @@
+//! A unit of a file: a header and its block. (RFC 8536, sections 3.1 and 3.2)
+
+use super::header::{Counts, HEADER_LEN, read_header};
+use super::time_size::TimeSize;
+use crate::proved::tz_base::error::parse::{ParseDataError, TzFileError};
+
+/// Places in a unit, from the first byte of its header: where each part of the block begins, and where the block ends.
+#[derive(Clone, Copy)]
+struct Layout {
+    indexes: usize,
+    types: usize,
+    names: usize,
+    leaps: usize,
+    std_walls: usize,
+    ut_locals: usize,
+    end: usize,
+}
+
+impl Layout {
+    /// The layout of a block with these counts.
+    const fn new(size: TimeSize, counts: Counts) -> Self {
+        let indexes = HEADER_LEN + size.times_len(counts.transition);
+        let types = indexes + counts.transition as usize;
+        let names = types + counts.local_type as usize * 6;
+        let leaps = names + counts.char as usize;
+        let std_walls = leaps + size.leaps_len(counts.leap);
+        let ut_locals = std_walls + counts.std_wall as usize;
+        let end = ut_locals + counts.ut_local as usize;
+        Layout {
+            indexes,
+            types,
+            names,
+            leaps,
+            std_walls,
+            ut_locals,
+            end,
+        }
+    }
+}
+
+/// The parts of a block.
+#[derive(Clone, Copy)]
+pub(super) struct Block<'a> {
+    pub(super) times: &'a [u8],
+    pub(super) indexes: &'a [u8],
+    pub(super) types: &'a [u8],
+    pub(super) names: &'a [u8],
+    pub(super) leaps: &'a [u8],
+    pub(super) std_walls: &'a [u8],
+    pub(super) ut_locals: &'a [u8],
+}
+
+/// A unit: the version and the counts of its header, its block, and the bytes after the unit.
+#[derive(Clone, Copy)]
+pub(crate) struct Unit<'a> {
+    pub(super) size: TimeSize,
+    pub(crate) version: u8,
+    pub(super) counts: Counts,
+    pub(super) block: Block<'a>,
+    pub(super) after: &'a [u8],
+}
+
+/// Cuts the block after the header into its parts.
+#[inline(always)]
+
+const fn cut_block(size: TimeSize, counts: Counts, bytes: &[u8]) -> Block<'_> {
+    let layout = Layout::new(size, counts);
+    Block {
+        times: bytes.split_at(layout.indexes).0.split_at(HEADER_LEN).1,
+        indexes: bytes.split_at(layout.types).0.split_at(layout.indexes).1,
+        types: bytes.split_at(layout.names).0.split_at(layout.types).1,
+        names: bytes.split_at(layout.leaps).0.split_at(layout.names).1,
+        leaps: bytes.split_at(layout.std_walls).0.split_at(layout.leaps).1,
+        std_walls: bytes
+            .split_at(layout.ut_locals)
+            .0
+            .split_at(layout.std_walls)
+            .1,
+        ut_locals: bytes.split_at(layout.end).0.split_at(layout.ut_locals).1,
+    }
+}
+
+/// Reads the header at the front, and cuts its block.
+#[inline(always)]
+
+pub(super) fn read_unit(size: TimeSize, bytes: &[u8]) -> Result<Unit<'_>, TzFileError> {
+    let counts = read_header(bytes)?;
+    let end = Layout::new(size, counts).end;
+    if bytes.len() < end {
+        return Err(TzFileError::ParseData(ParseDataError::UnexpectedEof));
+    }
+    Ok(Unit {
+        size,
+        // The fifth byte of a header is its version.
+        version: bytes[4],
+        counts,
+        block: cut_block(size, counts, bytes),
+        after: &bytes[end..],
+    })
+}

@@ -1,0 +1,12 @@
+//! TZ strings. (POSIX.1-2017, Base Definitions, 8.3)
+
+mod day;
+mod expect_byte;
+mod name;
+mod number;
+mod offset;
+mod rule_text;
+mod start_and_end;
+mod time;
+
+pub use rule_text::parse_posix_tz;

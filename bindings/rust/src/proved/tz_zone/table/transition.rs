@@ -1,0 +1,29 @@
+//! Transitions.
+
+/// A leap time from which on a local time type holds.
+#[repr(C)]
+#[derive(Clone, Copy, Debug, PartialEq, Eq)]
+pub struct Transition {
+    unix_leap_time: i64,
+    local_time_type_index: usize,
+}
+
+impl Transition {
+    /// The transition at this leap time to the type with this number.
+    pub const fn new(unix_leap_time: i64, local_time_type_index: usize) -> Self {
+        Transition {
+            unix_leap_time,
+            local_time_type_index,
+        }
+    }
+
+    /// The leap time: Unix time with the leap seconds so far counted in.
+    pub const fn unix_leap_time(&self) -> i64 {
+        self.unix_leap_time
+    }
+
+    /// The number of the type in the zone's list.
+    pub const fn local_time_type_index(&self) -> usize {
+        self.local_time_type_index
+    }
+}

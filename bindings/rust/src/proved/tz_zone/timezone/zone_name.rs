@@ -1,0 +1,40 @@
+//! Names of time zones.
+
+use crate::shim::anyhow;
+
+/// Whether a name may have the byte.
+const fn is_name_byte(byte: u8) -> bool {
+    matches!(byte, b'0'..=b'9' | b'A'..=b'Z' | b'a'..=b'z' | b'.' | b'_' | b'+' | b'-')
+}
+
+/// Whether all of the bytes may stand in a name.
+fn are_name_bytes(part: &[u8]) -> bool {
+    for byte in part {
+        if !is_name_byte(*byte) {
+            return false;
+        }
+    }
+    true
+}
+
+/// Whether a name may have the part.
+fn is_name_part(part: &[u8]) -> bool {
+    !matches!(part, [] | [b'.'] | [b'.', b'.']) && are_name_bytes(part)
+}
+
+/// Whether the text is a name.
+pub(super) fn is_zone_name(name: &str) -> bool {
+    name.as_bytes()
+        .split(|byte| *byte == b'/')
+        .all(is_name_part)
+}
+
+/// The error of a text that is no name.
+pub(super) const fn not_a_name(text: &str) -> crate::shim::anyhow::Error {
+    anyhow!("not a time zone name: {text}")
+}
+
+/// The error of a name that no zone has.
+pub(super) const fn no_such_zone(name: &str) -> crate::shim::anyhow::Error {
+    anyhow!("no time zone has the name {name}")
+}

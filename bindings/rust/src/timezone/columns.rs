@@ -1,0 +1,102 @@
+//! Calls over whole columns.
+
+use super::TimeZoneRef;
+use crate::datetime::{DateTime, Disambiguation, UtcDateTime};
+use crate::error::{ColumnError, TzError};
+
+/// Answers each place, and returns the first error. The places of errors stay as they are.
+#[inline(always)]
+fn answer<I, T>(
+    asked: impl Iterator<Item = I>,
+    answers: &mut [T],
+    mut call: impl FnMut(I) -> Result<T, TzError>,
+) -> Result<(), ColumnError> {
+    let mut first = Ok(());
+    for (place, (asked, slot)) in asked.zip(answers).enumerate() {
+        match call(asked) {
+            Ok(answer) => *slot = answer,
+            Err(error) if first.is_ok() => first = Err(ColumnError::new(place, error)),
+            Err(_) => {}
+        }
+    }
+    first
+}
+
+impl TimeZoneRef<'_> {
+    /// Writes the offsets of the clock at instants, in Unix seconds, into a column: as many as the shorter of both has. Instants in order are
+    /// fastest.
+    ///
+    /// # Errors
+    ///
+    /// The first place at which the clock has no offset, with the errors of [`find_local_time_type`](Self::find_local_time_type). All other
+    /// offsets are written, and where there is none the column stays as it is. No offset is `i32::MIN`.
+    ///
+    /// ```
+    /// # #[cfg(feature = "std")] {
+    /// let zone = tz::TimeZone::from_posix_tz("CET-1CEST,M3.5.0,M10.5.0/3")?;
+    /// let mut offsets = [0; 2];
+    /// zone.as_ref().offsets_at(&[954_032_399, 954_032_400], &mut offsets)?;
+    /// assert_eq!(offsets, [3600, 7200]);
+    /// # }
+    /// # Ok::<(), Box<dyn std::error::Error>>(())
+    /// ```
+    pub fn offsets_at(&self, unix_times: &[i64], offsets: &mut [i32]) -> Result<(), ColumnError> {
+        let mut segment = self.segment_at(unix_times.first().copied().unwrap_or_default());
+        answer(unix_times.iter(), offsets, |&unix_time| {
+            if !segment.contains(unix_time) {
+                segment = self.segment_at(unix_time);
+            }
+            match segment.local_time_type() {
+                Some(local_time_type) => Ok(local_time_type.ut_offset()),
+                None => Ok(self.find_local_time_type(unix_time)?.ut_offset()),
+            }
+        })
+    }
+
+    /// Writes what clocks show at instants, in Unix seconds and nanoseconds, into a column: as many date times as the shortest of the three has.
+    /// Instants in order are fastest.
+    ///
+    /// # Errors
+    ///
+    /// The first place at which clocks show no date time, with the errors of [`DateTime::from_timespec`]. All other date times are written, and
+    /// where there is none the column stays as it is.
+    pub fn date_times_at(
+        &self,
+        unix_times: &[i64],
+        nanoseconds: &[u32],
+        date_times: &mut [DateTime],
+    ) -> Result<(), ColumnError> {
+        let mut segment = self.segment_at(unix_times.first().copied().unwrap_or_default());
+        let asked = unix_times.iter().zip(nanoseconds);
+        answer(asked, date_times, |(&unix_time, &nanoseconds)| {
+            if !segment.contains(unix_time) {
+                segment = self.segment_at(unix_time);
+            }
+            match segment.local_time_type() {
+                Some(local_time_type) => {
+                    DateTime::from_timespec_and_local(unix_time, nanoseconds, *local_time_type)
+                }
+                None => DateTime::from_timespec(unix_time, nanoseconds, *self),
+            }
+        })
+    }
+
+    /// Writes the instants that local times mean, in Unix seconds, into a column: as many as the shorter of both has. There is `None` where
+    /// [`DateTime::from_local`] returns it.
+    ///
+    /// # Errors
+    ///
+    /// The first place at which there is an error, with those of [`DateTime::from_local`]. All other instants are written, and where there is an
+    /// error the column stays as it is.
+    pub fn instants_of(
+        &self,
+        local: &[UtcDateTime],
+        disambiguation: Disambiguation,
+        unix_times: &mut [Option<i64>],
+    ) -> Result<(), ColumnError> {
+        answer(local.iter(), unix_times, |local| {
+            let date_time = DateTime::from_local(*local, disambiguation, *self)?;
+            Ok(date_time.map(|date_time| date_time.unix_time()))
+        })
+    }
+}
