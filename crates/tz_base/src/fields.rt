@@ -43,7 +43,7 @@ const LAST_READING: i64 = 67_767_976_233_532_799;
 pub fn is_reading(reading: i64) -> bool
     ensures { MatchBool result (IsReading reading) (¬ IsReading reading) }
 {
-    (FIRST_READING..=LAST_READING).contains(&reading)
+    FIRST_READING <= reading && reading <= LAST_READING
 }
 
 /// The reading of a clock with this offset from UTC at a Unix time, if it is in a year of 32 bits.
@@ -54,7 +54,11 @@ pub fn local_reading(unix_time: i64, ut_offset: i32) -> Option<i64>
 {
     // A sum that wraps is in no year of 32 bits, and nor is the true one.
     let reading = unix_time.wrapping_add(i64::from(ut_offset));
-    is_reading(reading).then_some(reading)
+    if is_reading(reading) {
+        Some(reading)
+    } else {
+        None
+    }
 }
 
 impl Fields {

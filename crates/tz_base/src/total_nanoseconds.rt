@@ -21,6 +21,8 @@ pub fn timespec(total: i128) -> Option<(i64, u32)>
     let nanoseconds_per_second = i128::from(NANOSECONDS_PER_SECOND);
     let seconds = total.div_euclid(nanoseconds_per_second);
     let nanoseconds = total.rem_euclid(nanoseconds_per_second) as u32;
-    let seconds = i64::try_from(seconds).ok()?;
-    Some((seconds, nanoseconds))
+    if seconds < i128::from(i64::MIN) || seconds > i128::from(i64::MAX) {
+        return None;
+    }
+    Some((seconds as i64, nanoseconds))
 }

@@ -15,28 +15,6 @@ pub(super) struct Designation {
     pub(super) len: u8,
 }
 
-impl PartialEq for Designation {
-    ghost use Rattle.std.specs.Cmp.{on_equiv, nat_eq_equiv, partial_equiv_from_equiv};
-    ghost use Rattle.tz_rule.specs.Designation.{word_of, same_designation};
-
-    ghost eq = { same_designation };
-
-    ghost laws = { partial_equiv_from_equiv (on_equiv word_of nat_eq_equiv) };
-
-    // Compares the eight bytes at once.
-    #[inline(always)]
-    fn eq(&self, other: &Designation) -> bool {
-        self.word() == other.word()
-    }
-}
-
-impl Eq for Designation {
-    ghost use Rattle.std.specs.Cmp.{on_equiv, nat_eq_equiv};
-    ghost use Rattle.tz_rule.specs.Designation.{word_of};
-
-    ghost laws = { on_equiv word_of nat_eq_equiv };
-}
-
 /// A local time type: an offset that is added to UTC, a daylight flag and a name.
 #[repr(C)]
 #[derive(Clone, Copy)]
@@ -72,9 +50,7 @@ impl PartialEq for LocalTimeType {
 
     #[inline(always)]
     fn eq(&self, other: &LocalTimeType) -> bool {
-        self.ut_offset == other.ut_offset
-            && self.is_dst == other.is_dst
-            && self.time_zone_designation == other.time_zone_designation
+        self.is_same(other)
     }
 }
 
@@ -165,6 +141,7 @@ impl Designation {
 
 impl LocalTimeType {
     ghost use Rattle.tz_rule.specs.LocalTimeType.{LocalTimeType, IsLocalTimeType, IsFirstTypeFault, type_of, plain_type, designation_text, IsOffset, IsDesignation};
+    ghost use Rattle.tz_rule.specs.Same.{same_type};
     ghost use Rattle.std.specs.Option.{option_copied};
     ghost use Rattle.std.specs.Prelude.{pos, IfSome};
     ghost use Rattle.tz_base.specs.declared.error.timezone.LocalTimeTypeError.TheVariants as faults;
@@ -254,6 +231,17 @@ impl LocalTimeType {
         ensures name { IfSome self.now.designation IsDesignation }
     {
         self.time_zone_designation.as_str()
+    }
+
+    /// Whether the other type has the same offset, daylight flag and name. This is what `==` returns, in a form that Rust can compute in a constant.
+    #[inline(always)]
+    pub fn is_same(&self, other: &LocalTimeType) -> bool
+        ensures { result ≡ same_type self.now other.now }
+    {
+        // The words compare the eight bytes of each name at once.
+        self.ut_offset == other.ut_offset
+            && self.is_dst == other.is_dst
+            && self.time_zone_designation.word() == other.time_zone_designation.word()
     }
 
     /// The name, if there is one.

@@ -68,7 +68,7 @@ fn change_by_types<'a>(
 {
     let before = before?;
     let after = after?;
-    if before == after {
+    if before.is_same(after) {
         return None;
     }
     Some(RuleChange {
@@ -134,7 +134,7 @@ impl AlternateData {
         ensures last { IfSome result (λ around. IfSome around.0 (λ switch. IsSwitchUpTo self.now unix_time switch.unix_time switch.is_start)) }
         ensures next { IfSome result (λ around. IfSome around.1 (λ switch. IsSwitchAfter self.now unix_time switch.unix_time switch.is_start)) }
     {
-        if !self.has_inner_switches() || self.std() == self.dst() {
+        if !self.has_inner_switches() || self.std().is_same(self.dst()) {
             return None;
         }
         let moved_year = likely_year(unix_time)?;
@@ -164,7 +164,7 @@ impl AlternateData {
         ensures { OnTrue result (HasOneType (Alternate self.now)) }
     {
         self.parts_are_sound();
-        if self.std() == self.dst() {
+        if self.std().is_same(self.dst()) {
             return true;
         }
         let (starts, ends) = (self.table(false), self.table(true));

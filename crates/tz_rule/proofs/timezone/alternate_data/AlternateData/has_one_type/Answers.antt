@@ -5,9 +5,9 @@ use Rattle.tz_rule.proofs.RulesOfOneType.{one_type_of_equal, one_type_across_yea
 use Rattle.tz_rule.proofs.WeakerClauses.{OnTrue-not}
 use Rattle.tz_rule.proofs.timezone.alternate_data.AlternateData.has_one_type.Goals as goal
 
-pub returns-then-eq : goal.returns-then-eq
-returns-then-eq c =
-    one_type_of_equal c.args.self.now (sym c.std.ensures ∙ (Decides-same_type c.std.result.now c.dst.result.now).0 (sym c.eq.ensures ∙ c.if-eq.true) ∙ c.dst.ensures)
+pub returns-then-is_same : goal.returns-then-is_same
+returns-then-is_same c =
+    one_type_of_equal c.args.self.now (sym c.std.ensures ∙ (Decides-same_type c.std.result.now c.dst.result.now).0 (sym c.is_same.ensures ∙ c.if-is_same.true) ∙ c.dst.ensures)
 
 pub returns-then-ends_next_year : goal.returns-then-ends_next_year
 returns-then-ends_next_year c =

@@ -5,8 +5,8 @@ use Rattle.std.proofs.lemmas.Int.{ints, to_z-of_z}
 use mir.Syntax.{w32}
 use Rattle.tz_rule.specs.Same.{Decides-beq}
 use Rattle.tz_rule.proofs.KeptEquality.{same_type-shown}
-use Rattle.tz_rule.proofs.timezone.local_time_type.LocalTimeTypePartialEq.eq.Goals as goal
-use Rattle.tz_rule.proofs.timezone.local_time_type.LocalTimeTypePartialEq.eq.Goals.{then-self-other, else-self-other}
+use Rattle.tz_rule.proofs.timezone.local_time_type.LocalTimeType.is_same.Goals as goal
+use Rattle.tz_rule.proofs.timezone.local_time_type.LocalTimeType.is_same.Goals.{then-self-other, else-self-other}
 
 pub returns-then-self-other-2 : goal.returns-then-self-other-2
 returns-then-self-other-2 c =
@@ -16,6 +16,6 @@ returns-then-self-other-2 c =
       | then-self-other w ↦
           let same_bits = w.if-self-other.true in
           let offset : a.ut_offset ≡ b.ut_offset = omega (arith, ints, to_z-of_z w32 a.ut_offset (search rules), to_z-of_z w32 b.ut_offset (search rules)) in
-          rw (c.eq.ensures, ← c.self.view_is, ← c.other.view_is) (same_type-shown a b c.self.invariant c.other.invariant offset ((Decides-beq a.is_dst b.is_dst).0 (sym w.value-is ∙ c.if-self-other-2.true)))
+          rw (c.word-then-self-other-2.ensures, c.word.ensures, ← c.self.view_is, ← c.other.view_is) (same_type-shown a b c.self.invariant c.other.invariant offset ((Decides-beq a.is_dst b.is_dst).0 (sym w.value-is ∙ c.if-self-other-2.true)))
       | else-self-other w ↦ absurd (w.if-self-other.false (eqb-true _ _ (sym w.value-is ∙ c.if-self-other-2.true)))
     ]
