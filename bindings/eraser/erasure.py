@@ -1,4 +1,5 @@
 """What bindings/erase needs to know of this repository: packages, items that are left out, paths, and functions that are const."""
+import os
 import re
 from dataclasses import dataclass, field
 
@@ -106,5 +107,17 @@ EXHAUSTIVE = {"ReadFault"}
 # What examples of docs import, hidden.
 EXAMPLE_IMPORTS = ("# use tz::{datetime::*, error::*, timezone::*, *};",)
 
-# Functions that are const.
-CONST = {}
+
+def constants():
+    """The functions that are const, by source."""
+    made, names = {}, set()
+    with open(os.path.join(os.path.dirname(__file__), "constants.txt"), encoding="utf-8") as file:
+        for line in file:
+            if line.startswith(" "):
+                names.add(line.strip())
+            elif not line.startswith("#"):
+                names = made.setdefault(line.strip(), set())
+    return made
+
+
+CONST = constants()

@@ -1,3 +1,4 @@
+// Generated from crates/tz/src/inner.rt by bindings/erase: its contracts are cut. Change that file instead.
 //! For the crates above and their tests, and no part of the public surface: fields, text, the search for them, date times as plain data, and how
 //! bytes are read.
 

@@ -1,3 +1,4 @@
+// Generated from crates/tz/src/lib.rt by bindings/erase: its contracts are cut. Change that file instead.
 //! Unix time to the local date and time of a time zone, and back. This is a port of the Rust crate tz-rs 0.7.3 in which every answer is proved.
 //!
 //! # Four tasks

@@ -1,3 +1,4 @@
+// Generated from crates/tz/src/print.rt by bindings/erase: its contracts are cut. Change that file instead.
 //! How dates, times and offsets are printed.
 
 use crate::proved::tz::text_buffer::{TextBuffer, pair_of};
@@ -5,7 +6,7 @@ use crate::proved::tz_base::fields::Fields;
 
 /// What stands between the year and the nanoseconds: month and day, and the time of day up to the point.
 #[inline(always)]
-pub const fn middle_of(fields: &Fields) -> [u8; 16] {
+pub fn middle_of(fields: &Fields) -> [u8; 16] {
     let (month, day) = (pair_of(fields.month), pair_of(fields.month_day));
     let hour = pair_of(fields.hour);
     let (minute, second) = (pair_of(fields.minute), pair_of(fields.second));

@@ -1,3 +1,4 @@
+// Generated from crates/tz/src/text_buffer.rt by bindings/erase: its contracts are cut. Change that file instead.
 //! Text that is made without an allocation.
 
 /// Text of at most 128 bytes, which is made without an allocation.
@@ -15,16 +16,16 @@ static PAIRS: [u8; 200] =
 
 /// The two digits of a number below 100.
 #[inline(always)]
-pub const fn pair_of(number: u8) -> [u8; 2] {
-    let place = number as usize * 2;
+pub fn pair_of(number: u8) -> [u8; 2] {
+    let place = usize::from(number) * 2;
     let mut pair = [0; 2];
-    pair.copy_from_slice(PAIRS.split_at(place + 2).0.split_at(place).1);
+    pair.copy_from_slice(&PAIRS[place..place + 2]);
     pair
 }
 
 /// The digits of a number that has four: the first two, and the last two.
 #[inline(always)]
-pub const fn two_pairs(number: u32) -> ([u8; 2], [u8; 2]) {
+pub fn two_pairs(number: u32) -> ([u8; 2], [u8; 2]) {
     (pair_of((number / 100) as u8), pair_of((number % 100) as u8))
 }
 
@@ -39,7 +40,7 @@ impl TextBuffer {
 
     /// Clears the text.
     #[inline]
-    pub const fn clear(&mut self) {
+    pub fn clear(&mut self) {
         self.len = 0;
     }
 
@@ -57,7 +58,7 @@ impl TextBuffer {
 
     /// Appends an ASCII byte.
     #[inline(always)]
-    pub const fn push(&mut self, byte: u8) {
+    pub fn push(&mut self, byte: u8) {
         self.bytes[self.len] = byte;
         self.len += 1;
     }

@@ -1,3 +1,4 @@
+// Generated from crates/tz/src/tz_string_writer.rt by bindings/erase: its contracts are cut. Change that file instead.
 //! Writes the TZ strings of rules.
 
 use crate::proved::tz::text_buffer::TextBuffer;
@@ -54,7 +55,7 @@ fn push_time(buffer: &mut TextBuffer, seconds: i32) {
 }
 
 /// Whether the offset is at most 24:59:59 either way.
-const fn is_short_offset(ut_offset: i32) -> bool {
+fn is_short_offset(ut_offset: i32) -> bool {
     -LONG_OFFSET < ut_offset && ut_offset < LONG_OFFSET
 }
 
@@ -133,14 +134,14 @@ fn push_daylight(buffer: &mut TextBuffer, rule: &AlternateTime) {
 }
 
 /// Whether a TZ string can begin with the type.
-const fn is_standard(local_time_type: &LocalTimeType) -> bool {
+fn is_standard(local_time_type: &LocalTimeType) -> bool {
     !local_time_type.is_dst()
         && !local_time_type.time_zone_designation().is_empty()
         && is_short_offset(local_time_type.ut_offset())
 }
 
 /// Whether the type can follow standard time with this offset.
-const fn is_daylight(std: i32, local_time_type: &LocalTimeType) -> bool {
+fn is_daylight(std: i32, local_time_type: &LocalTimeType) -> bool {
     local_time_type.is_dst()
         && !local_time_type.time_zone_designation().is_empty()
         && (is_short_offset(local_time_type.ut_offset())
@@ -148,7 +149,7 @@ const fn is_daylight(std: i32, local_time_type: &LocalTimeType) -> bool {
 }
 
 /// Whether there is a TZ string of the rule.
-const fn is_writable(rule: &TransitionRule) -> bool {
+fn is_writable(rule: &TransitionRule) -> bool {
     match rule {
         TransitionRule::Fixed(fixed) => is_standard(fixed),
         TransitionRule::Alternate(rule) => {

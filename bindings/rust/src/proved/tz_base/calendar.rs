@@ -1,3 +1,4 @@
+// Generated from crates/tz_base/src/calendar.rt by bindings/erase: its contracts are cut. Change that file instead.
 //! The proleptic Gregorian calendar over all years of 32 bits: leap years, the lengths of months, week days, and days by number and back.
 //!
 //! Years are moved by cycles of 400 years, so that none is negative. A cycle has 146097 days, which are whole weeks, so a moved year has the months
@@ -82,12 +83,12 @@ pub const fn days_of_month(leap: bool, month: u8) -> u8 {
 }
 
 /// How many days the month of a year has.
-pub const fn days_in_month(year: i32, month: u8) -> u8 {
+pub fn days_in_month(year: i32, month: u8) -> u8 {
     days_of_month(is_leap_year(year), month)
 }
 
 /// Whether the month of a year has the day; a day up to the 28th is not looked up.
-pub(crate) const fn has_month_day(year: i32, month: u8, month_day: u8) -> bool {
+pub(crate) fn has_month_day(year: i32, month: u8, month_day: u8) -> bool {
     if month_day <= 28 {
         return true;
     }

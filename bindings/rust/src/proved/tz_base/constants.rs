@@ -1,3 +1,4 @@
+// Generated from crates/tz_base/src/constants.rt by bindings/erase: its contracts are cut. Change that file instead.
 //! The numbers of the calendar, as literals.
 
 /// Nanoseconds in one second.

@@ -1,3 +1,4 @@
+// Generated from crates/tz_base/src/fields.rt by bindings/erase: its contracts are cut. Change that file instead.
 //! The seven fields of a date time: their check, their reading, and the fields of a reading.
 //!
 //! A reading counts the seconds from 1970-01-01 00:00:00 to the fields of a date time, whatever clock shows them.
@@ -36,8 +37,8 @@ const FIRST_READING: i64 = -67_768_100_567_971_200;
 const LAST_READING: i64 = 67_767_976_233_532_799;
 
 /// Whether the reading is in a year of 32 bits.
-pub fn is_reading(reading: i64) -> bool {
-    (FIRST_READING..=LAST_READING).contains(&reading)
+pub const fn is_reading(reading: i64) -> bool {
+    FIRST_READING <= reading && reading <= LAST_READING
 }
 
 /// The reading of a clock with this offset from UTC at a Unix time, if it is in a year of 32 bits.
@@ -45,7 +46,11 @@ pub fn is_reading(reading: i64) -> bool {
 pub fn local_reading(unix_time: i64, ut_offset: i32) -> Option<i64> {
     // A sum that wraps is in no year of 32 bits, and nor is the true one.
     let reading = unix_time.wrapping_add(i64::from(ut_offset));
-    is_reading(reading).then_some(reading)
+    if is_reading(reading) {
+        Some(reading)
+    } else {
+        None
+    }
 }
 
 impl Fields {
@@ -77,7 +82,7 @@ impl Fields {
     ///
     /// The variant of the first field that is out of range, in the order of the fields, or else [`DateTimeError::InvalidMonthDay`] if the month does
     /// not have the day.
-    pub const fn check(&self) -> Result<(), DateTimeError> {
+    pub fn check(&self) -> Result<(), DateTimeError> {
         if self.month < 1 || self.month > 12 {
             return Err(DateTimeError::InvalidMonth);
         }
@@ -103,9 +108,10 @@ impl Fields {
     }
 
     /// The seconds from 1970-01-01 00:00:00 to the fields. Second 60 reads as the next minute's first second.
-    pub const fn reading(&self) -> i64 {
-        let second_of_day = 3600 * self.hour as u32 + 60 * self.minute as u32 + self.second as u32;
-        SECONDS_PER_DAY * self.day() + second_of_day as i64
+    pub fn reading(&self) -> i64 {
+        let second_of_day =
+            3600 * u32::from(self.hour) + 60 * u32::from(self.minute) + u32::from(self.second);
+        SECONDS_PER_DAY * self.day() + i64::from(second_of_day)
     }
 
     /// The number of the day of the fields, where 1970-01-01 has the number 0.

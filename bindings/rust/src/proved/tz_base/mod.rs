@@ -1,3 +1,4 @@
+// Generated from crates/tz_base/src/lib.rt by bindings/erase: its contracts are cut. Change that file instead.
 //! What the crates above share: the constants, the error types, the proleptic Gregorian calendar both ways, the fields of date times, and instants
 //! as totals of nanoseconds.
 

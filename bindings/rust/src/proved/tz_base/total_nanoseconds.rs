@@ -1,3 +1,4 @@
+// Generated from crates/tz_base/src/total_nanoseconds.rt by bindings/erase: its contracts are cut. Change that file instead.
 //! Instants as one total of nanoseconds, and as seconds and nanoseconds.
 
 use crate::proved::tz_base::constants::NANOSECONDS_PER_SECOND;
@@ -12,6 +13,8 @@ pub fn timespec(total: i128) -> Option<(i64, u32)> {
     let nanoseconds_per_second = i128::from(NANOSECONDS_PER_SECOND);
     let seconds = total.div_euclid(nanoseconds_per_second);
     let nanoseconds = total.rem_euclid(nanoseconds_per_second) as u32;
-    let seconds = i64::try_from(seconds).ok()?;
-    Some((seconds, nanoseconds))
+    if seconds < i128::from(i64::MIN) || seconds > i128::from(i64::MAX) {
+        return None;
+    }
+    Some((seconds as i64, nanoseconds))
 }

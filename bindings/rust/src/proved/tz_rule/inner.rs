@@ -1,3 +1,4 @@
+// Generated from crates/tz_rule/src/inner.rt by bindings/erase: its contracts are cut. Change that file instead.
 //! For the crates above and their tests, and not part of the public API: references to rules and what is asked of them, rules as plain data,
 //! and the parts of UTC's zone.
 

@@ -1,3 +1,4 @@
+// Generated from crates/tz_zone/src/inner.rt by bindings/erase: its contracts are cut. Change that file instead.
 //! For the crates above and their tests, and no part of the public surface: the clock of a zone over a view of its transitions, leap times, and what
 //! is read of a zone.
 

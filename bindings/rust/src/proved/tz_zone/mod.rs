@@ -1,3 +1,4 @@
+// Generated from crates/tz_zone/src/lib.rt by bindings/erase: its contracts are cut. Change that file instead.
 //! Time zones: transitions, leap seconds and an extra rule, and the clock that they make.
 
 mod clock;

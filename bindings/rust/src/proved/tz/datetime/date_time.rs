@@ -1,3 +1,4 @@
+// Generated from crates/tz/src/datetime/date_time.rt by bindings/erase: its contracts are cut. Change that file instead.
 //! Date times of a local time type.
 
 use super::durations::duration_between;
@@ -85,7 +86,7 @@ impl DateTime {
 
     /// The date time with valid fields, which the type shows at a Unix time.
     #[inline(always)]
-    pub(super) const fn of_fields(
+    pub(super) fn of_fields(
         fields: &Fields,
         local_time_type: LocalTimeType,
         unix_time: i64,
@@ -310,6 +311,6 @@ impl fmt::Display for DateTime {
 
 /// The fields of a date time, which are valid.
 #[inline(always)]
-pub const fn fields_of(date_time: &DateTime) -> &Fields {
+pub fn fields_of(date_time: &DateTime) -> &Fields {
     date_time.fields()
 }

@@ -1,3 +1,4 @@
+// Generated from crates/tz/src/datetime/date_time_data.rt by bindings/erase: its contracts are cut. Change that file instead.
 //! Date times, and what a search finds, as plain data in C's layout. All zeros are valid data.
 
 use super::slot_writer::Slot;

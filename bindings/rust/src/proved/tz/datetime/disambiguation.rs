@@ -1,3 +1,4 @@
+// Generated from crates/tz/src/datetime/disambiguation.rt by bindings/erase: its contracts are cut. Change that file instead.
 //! Which date time a local time means, by a choice for gaps and folds.
 
 use super::entry_takers::DateTimeList;
@@ -86,7 +87,7 @@ impl DateTimeList for Summary {
 }
 
 /// The entry, if the clock shows its date time.
-const fn shown_entry(found: &FoundDateTimeKind) -> Option<FoundDateTimeKind> {
+fn shown_entry(found: &FoundDateTimeKind) -> Option<FoundDateTimeKind> {
     match found {
         FoundDateTimeKind::Normal(_) => Some(*found),
         FoundDateTimeKind::Skipped { .. } => None,
@@ -94,7 +95,7 @@ const fn shown_entry(found: &FoundDateTimeKind) -> Option<FoundDateTimeKind> {
 }
 
 /// What an entry means: its date time, or else, in a gap, the instant at which the clock is to be looked up.
-pub(super) const fn resolved(
+pub(super) fn resolved(
     entry: &FoundDateTimeKind,
     fields: &Fields,
     disambiguation: Disambiguation,
@@ -106,7 +107,7 @@ pub(super) const fn resolved(
         Disambiguation::Earlier => entry.sides().1,
         _ => entry.sides().0,
     };
-    Err(fields.reading() - side.local_time_type().ut_offset() as i64)
+    Err(fields.reading() - i64::from(side.local_time_type().ut_offset()))
 }
 
 /// The one date time that fields mean, as [`DateTime::find_one`] answers it.

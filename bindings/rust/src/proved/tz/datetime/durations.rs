@@ -1,3 +1,4 @@
+// Generated from crates/tz/src/datetime/durations.rt by bindings/erase: its contracts are cut. Change that file instead.
 //! Date times moved by durations, and durations between totals.
 
 use crate::proved::tz_base::constants::NANOSECONDS_PER_SECOND;

@@ -1,3 +1,4 @@
+// Generated from crates/tz/src/datetime/entry_takers.rt by bindings/erase: its contracts are cut. Change that file instead.
 //! What takes the entries of a search, which are instants that show a reading and jumps over it, and the lists to which they go as date times.
 
 use super::FoundDateTimeKind;

@@ -1,3 +1,4 @@
+// Generated from crates/tz/src/datetime/find.rt by bindings/erase: its contracts are cut. Change that file instead.
 //! The date times at which the clock of a zone shows given fields.
 
 use super::entry_takers::DateTimeList;

@@ -1,3 +1,4 @@
+// Generated from crates/tz/src/datetime/found.rt by bindings/erase: its contracts are cut. Change that file instead.
 //! What a search of date times finds: an entry, and lists of entries in memory of their own or in a buffer of the caller.
 
 use super::DateTime;
@@ -137,7 +138,7 @@ impl<'a> FoundDateTimeListRefMut<'a> {
     }
 
     /// The list of `count` date times, the first of which are in the slots already.
-    pub(super) const fn counted(buf: &'a mut [Option<FoundDateTimeKind>], count: usize) -> Self {
+    pub(super) fn counted(buf: &'a mut [Option<FoundDateTimeKind>], count: usize) -> Self {
         FoundDateTimeListRefMut { buf, count }
     }
 

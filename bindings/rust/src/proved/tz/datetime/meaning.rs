@@ -1,3 +1,4 @@
+// Generated from crates/tz/src/datetime/meaning.rt by bindings/erase: its contracts are cut. Change that file instead.
 //! What a local time means in a zone, without a list.
 
 use super::entry_takers::DateTimeList;
@@ -36,7 +37,7 @@ pub enum Meaning {
 
 /// The meaning of a list that has one more entry.
 #[inline(always)]
-const fn meaning_with(meaning: &Meaning, found: &FoundDateTimeKind) -> Meaning {
+fn meaning_with(meaning: &Meaning, found: &FoundDateTimeKind) -> Meaning {
     match *meaning {
         Meaning::Nothing => match *found {
             FoundDateTimeKind::Normal(date_time) => Meaning::Once(date_time),

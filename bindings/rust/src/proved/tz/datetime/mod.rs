@@ -1,3 +1,4 @@
+// Generated from crates/tz/src/datetime/mod.rt by bindings/erase: its contracts are cut. Change that file instead.
 //! Date times.
 
 pub(crate) mod date_time;

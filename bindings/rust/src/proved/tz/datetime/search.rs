@@ -1,3 +1,4 @@
+// Generated from crates/tz/src/datetime/search.rt by bindings/erase: its contracts are cut. Change that file instead.
 //! The search for a reading in the clock of a zone: in its window, the instants among which it finds all that the reading means.
 
 use super::dated_entries::Dated;
@@ -12,13 +13,13 @@ use crate::proved::tz_zone::timezone::{LocalTimeType, TimeZoneRef};
 
 /// The instant at which a type shows a reading.
 #[inline(always)]
-const fn shown_at(reading: i64, local_time_type: &LocalTimeType) -> i64 {
-    reading - local_time_type.ut_offset() as i64
+fn shown_at(reading: i64, local_time_type: &LocalTimeType) -> i64 {
+    reading - i64::from(local_time_type.ut_offset())
 }
 
 /// Whether clocks that change at an instant from one type to another are set forward over a reading.
 #[inline(always)]
-const fn passes_over(
+fn passes_over(
     reading: i64,
     unix_time: i64,
     before: &LocalTimeType,
@@ -137,13 +138,13 @@ fn search_window<'a, E: EntryTaker<'a>>(
 
 /// The first and the last instant at which a clock with offsets from the least to the greatest one can show a reading, or be set forward over it.
 /// Both are so near that no leap second takes a leap time out of 64 bits before them.
-const fn window(reading: i64, least: i32, greatest: i32) -> (i64, i64) {
-    (reading - greatest as i64, reading - least as i64)
+fn window(reading: i64, least: i32, greatest: i32) -> (i64, i64) {
+    (reading - i64::from(greatest), reading - i64::from(least))
 }
 
 /// The first and the last instant of a reading's window, by the least and the greatest offset of a zone.
 #[inline(always)]
-pub const fn window_of(zone: TimeZoneRef<'_>, reading: i64) -> (i64, i64) {
+pub fn window_of(zone: TimeZoneRef<'_>, reading: i64) -> (i64, i64) {
     let (least, greatest) = offsets(&zone);
     window(reading, least, greatest)
 }

@@ -1,3 +1,4 @@
+// Generated from crates/tz/src/datetime/slot_writer.rt by bindings/erase: its contracts are cut. Change that file instead.
 //! Slots of a caller while a search writes to them.
 
 use super::FoundDateTimeKind;

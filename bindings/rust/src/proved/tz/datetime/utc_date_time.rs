@@ -1,3 +1,4 @@
+// Generated from crates/tz/src/datetime/utc_date_time.rt by bindings/erase: its contracts are cut. Change that file instead.
 //! Date times of UTC.
 
 use super::DateTime;
@@ -26,7 +27,7 @@ pub struct UtcDateTime {
 }
 
 /// Whether the fields are second 60 of the last minute, which reads as a second past the years of 32 bits.
-pub(crate) const fn is_past_the_end(fields: &Fields) -> bool {
+pub(crate) fn is_past_the_end(fields: &Fields) -> bool {
     fields.year == i32::MAX
         && fields.month == 12
         && fields.month_day == 31
@@ -114,7 +115,7 @@ impl UtcDateTime {
 
     /// The date time with these fields, which have one.
     #[inline(always)]
-    pub(crate) const fn of_fields(fields: Fields) -> Self {
+    pub(crate) fn of_fields(fields: Fields) -> Self {
         UtcDateTime {
             fields,
             unix_time: fields.reading(),
@@ -135,7 +136,7 @@ impl UtcDateTime {
     ///
     /// - [`TzError::DateTime`] with [`DateTimeError::InvalidNanoseconds`] if there are 10^9 nanoseconds or more;
     /// - [`TzError::OutOfRange`] if the year does not fit an `i32`.
-    pub fn from_timespec(unix_time: i64, nanoseconds: u32) -> Result<Self, TzError> {
+    pub const fn from_timespec(unix_time: i64, nanoseconds: u32) -> Result<Self, TzError> {
         if nanoseconds >= NANOSECONDS_PER_SECOND {
             return Err(TzError::DateTime(DateTimeError::InvalidNanoseconds));
         }

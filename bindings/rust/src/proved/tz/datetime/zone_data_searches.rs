@@ -1,3 +1,4 @@
+// Generated from crates/tz/src/datetime/zone_data_searches.rt by bindings/erase: its contracts are cut. Change that file instead.
 //! Date times and searches in zones of plain data.
 
 use super::DateTime;

@@ -1,3 +1,4 @@
+// Generated from crates/tz/src/parse/date_and_time.rt by bindings/erase: its contracts are cut. Change that file instead.
 //! The date and the time of a text.
 
 use super::error::{DateTimePart, Missing, expect};
@@ -21,7 +22,7 @@ pub(super) fn read_date(text: &[u8]) -> Result<(Fields, &[u8]), Missing<'_>> {
 
 /// The bytes after the separator of date and time.
 #[inline(always)]
-pub(super) const fn after_separator(text: &[u8]) -> Option<&[u8]> {
+pub(super) fn after_separator(text: &[u8]) -> Option<&[u8]> {
     match text {
         [b'T' | b't' | b' ', rest @ ..] => Some(rest),
         _ => None,

@@ -1,3 +1,4 @@
+// Generated from crates/tz/src/parse/error.rt by bindings/erase: its contracts are cut. Change that file instead.
 //! Why a text is not read as a date time.
 
 use core::error;

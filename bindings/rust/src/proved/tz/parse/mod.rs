@@ -1,3 +1,4 @@
+// Generated from crates/tz/src/parse/mod.rt by bindings/erase: its contracts are cut. Change that file instead.
 //! Printed date times read back. (RFC 3339, section 5.6)
 
 mod date_and_time;

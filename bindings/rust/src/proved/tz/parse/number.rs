@@ -1,10 +1,11 @@
+// Generated from crates/tz/src/parse/number.rt by bindings/erase: its contracts are cut. Change that file instead.
 //! Numbers at the beginning of bytes.
 
 use crate::proved::tz_zone::inner::after_byte;
 
 /// The value of a digit, which is below 10; for every other byte it is 10 or more.
 #[inline(always)]
-pub const fn value_of(byte: u8) -> u8 {
+pub fn value_of(byte: u8) -> u8 {
     byte.wrapping_sub(b'0')
 }
 
@@ -42,7 +43,7 @@ pub(super) fn read_pair(text: &[u8], least: u8, greatest: u8) -> Option<(u8, &[u
 
 /// Whether digits can be those of a year: four or more, or those of a number as it is printed.
 #[inline(always)]
-const fn are_year_digits(digits: &[u8]) -> bool {
+fn are_year_digits(digits: &[u8]) -> bool {
     match digits {
         [] => false,
         [_] => true,

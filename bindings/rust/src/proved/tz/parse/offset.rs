@@ -1,3 +1,4 @@
+// Generated from crates/tz/src/parse/offset.rt by bindings/erase: its contracts are cut. Change that file instead.
 //! Offsets at the end of texts.
 
 use super::error::{DateTimePart, Missing, expect};
@@ -19,7 +20,7 @@ pub(super) enum OffsetMark {
 
 /// The mark at the beginning, and the bytes after it.
 #[inline(always)]
-const fn read_mark(text: &[u8]) -> Option<(OffsetMark, &[u8])> {
+fn read_mark(text: &[u8]) -> Option<(OffsetMark, &[u8])> {
     match text {
         [] => Some((OffsetMark::Absent, text)),
         [b'Z' | b'z', rest @ ..] => Some((OffsetMark::Utc, rest)),

@@ -1,3 +1,4 @@
+// Generated from crates/tz/src/parse/parsed_date_time.rt by bindings/erase: its contracts are cut. Change that file instead.
 //! The date time of a text. (RFC 3339, section 5.6)
 
 use super::date_and_time::{after_separator, read_date, read_time};

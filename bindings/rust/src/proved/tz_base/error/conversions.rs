@@ -1,3 +1,4 @@
+// Generated from crates/tz_base/src/error/conversions.rt by bindings/erase: its contracts are cut. Change that file instead.
 //! What `?` makes of an error. Each conversion names its variant, so that a caller's contract can.
 
 use super::datetime::DateTimeError;

@@ -1,3 +1,4 @@
+// Generated from crates/tz_base/src/error/datetime.rt by bindings/erase: its contracts are cut. Change that file instead.
 //! Why fields do not make a date time.
 
 use core::{error, fmt};

@@ -1,3 +1,4 @@
+// Generated from crates/tz_base/src/error/parse.rt by bindings/erase: its contracts are cut. Change that file instead.
 //! Why bytes or a string do not make a time zone.
 
 use crate::proved::tz_base::error::timezone::{LocalTimeTypeError, TransitionRuleError};

@@ -1,3 +1,4 @@
+// Generated from crates/tz_base/src/error/timezone.rt by bindings/erase: its contracts are cut. Change that file instead.
 //! Why parts do not make a local time type, a transition rule or a time zone.
 
 use core::{error, fmt};

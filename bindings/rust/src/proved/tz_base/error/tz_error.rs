@@ -1,3 +1,4 @@
+// Generated from crates/tz_base/src/error/tz_error.rt by bindings/erase: its contracts are cut. Change that file instead.
 //! `TzError` and `Error`, for errors of any kind, and `ReadFault`, for those of a file reader, with their texts.
 
 use super::datetime::DateTimeError;

@@ -1,3 +1,4 @@
+// Generated from crates/tz_rule/src/timezone/alternate_data.rt by bindings/erase: its contracts are cut. Change that file instead.
 //! An alternate rule as plain data: its parts, and the tables of its starts and ends, which lookups read.
 //!
 //! A caller in another language can hold it. All zeros are a valid one.
@@ -113,7 +114,7 @@ impl AlternateData {
     }
 
     /// The day on which daylight saving time starts.
-    pub const fn dst_start(&self) -> &DayData {
+    pub fn dst_start(&self) -> &DayData {
         &self.parts.dst_start
     }
 
@@ -123,7 +124,7 @@ impl AlternateData {
     }
 
     /// The day on which daylight saving time ends.
-    pub const fn dst_end(&self) -> &DayData {
+    pub fn dst_end(&self) -> &DayData {
         &self.parts.dst_end
     }
 

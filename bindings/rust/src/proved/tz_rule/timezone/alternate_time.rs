@@ -1,3 +1,4 @@
+// Generated from crates/tz_rule/src/timezone/alternate_time.rt by bindings/erase: its contracts are cut. Change that file instead.
 //! Alternate rules: their parts, the ranges of these, and when daylight saving time starts and ends.
 
 use super::alternate_data::AlternateData;
@@ -175,7 +176,7 @@ impl AlternateTime {
     }
 
     /// The rule of its data.
-    pub(crate) const fn of_plain(plain: &AlternateData) -> Self {
+    pub(crate) fn of_plain(plain: &AlternateData) -> Self {
         AlternateTime {
             plain: *plain,
             dst_start: plain.dst_start().day(),

@@ -1,3 +1,4 @@
+// Generated from crates/tz_rule/src/timezone/day_data.rt by bindings/erase: its contracts are cut. Change that file instead.
 //! Rule days as plain data.
 
 use super::{Julian0WithLeap, Julian1WithoutLeap, MonthWeekDay, RuleDay};

@@ -1,3 +1,4 @@
+// Generated from crates/tz_rule/src/timezone/local_time_type.rt by bindings/erase: its contracts are cut. Change that file instead.
 //! Local time types.
 
 use crate::proved::tz_base::error::timezone::LocalTimeTypeError;
@@ -11,16 +12,6 @@ pub(super) struct Designation {
     pub(super) len: u8,
 }
 
-impl PartialEq for Designation {
-    // Compares the eight bytes at once.
-    #[inline(always)]
-    fn eq(&self, other: &Designation) -> bool {
-        self.word() == other.word()
-    }
-}
-
-impl Eq for Designation {}
-
 /// A local time type: an offset that is added to UTC, a daylight flag and a name.
 #[repr(C)]
 #[derive(Clone, Copy)]
@@ -33,9 +24,7 @@ pub struct LocalTimeType {
 impl PartialEq for LocalTimeType {
     #[inline(always)]
     fn eq(&self, other: &LocalTimeType) -> bool {
-        self.ut_offset == other.ut_offset
-            && self.is_dst == other.is_dst
-            && self.time_zone_designation == other.time_zone_designation
+        self.is_same(other)
     }
 }
 
@@ -93,7 +82,7 @@ impl Designation {
 
     /// The bytes and the length, as one number.
     #[inline(always)]
-    const fn word(&self) -> u64 {
+    fn word(&self) -> u64 {
         let [b0, b1, b2, b3, b4, b5, b6] = self.bytes;
         u64::from_le_bytes([b0, b1, b2, b3, b4, b5, b6, self.len])
     }
@@ -178,8 +167,17 @@ impl LocalTimeType {
         self.time_zone_designation.as_str()
     }
 
+    /// Whether the other type has the same offset, daylight flag and name. This is what `==` returns, in a form that Rust can compute in a constant.
+    #[inline(always)]
+    pub fn is_same(&self, other: &LocalTimeType) -> bool {
+        // The words compare the eight bytes of each name at once.
+        self.ut_offset == other.ut_offset
+            && self.is_dst == other.is_dst
+            && self.time_zone_designation.word() == other.time_zone_designation.word()
+    }
+
     /// The name, if there is one.
-    const fn designation(&self) -> Option<&str> {
+    fn designation(&self) -> Option<&str> {
         if self.time_zone_designation.len == 0 {
             return None;
         }

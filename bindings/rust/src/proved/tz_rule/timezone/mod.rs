@@ -1,3 +1,4 @@
+// Generated from crates/tz_rule/src/timezone/mod.rt by bindings/erase: its contracts are cut. Change that file instead.
 //! Local time types, rule days and alternate rules.
 
 pub(crate) mod alternate_data;

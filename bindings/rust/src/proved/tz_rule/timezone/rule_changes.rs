@@ -1,3 +1,4 @@
+// Generated from crates/tz_rule/src/timezone/rule_changes.rt by bindings/erase: its contracts are cut. Change that file instead.
 //! The changes of a rule's type: the first one after an instant, and the last one up to it.
 //!
 //! Mostly that is the start or the end of daylight saving time next to the instant, which the tables' entries of its likely year, or of that year and
@@ -29,12 +30,7 @@ struct Switch {
 
 /// The switch at this instant. `earlier` and `later` are it and its neighbour; `None` if both come at one instant.
 #[inline(always)]
-const fn switch_between(
-    unix_time: i64,
-    is_start: bool,
-    earlier: i64,
-    later: i64,
-) -> Option<Switch> {
+fn switch_between(unix_time: i64, is_start: bool, earlier: i64, later: i64) -> Option<Switch> {
     if earlier < later {
         return Some(Switch {
             unix_time,
@@ -53,7 +49,7 @@ fn change_by_types<'a>(
 ) -> Option<RuleChange<'a>> {
     let before = before?;
     let after = after?;
-    if before == after {
+    if before.is_same(after) {
         return None;
     }
     Some(RuleChange {
@@ -69,7 +65,7 @@ impl AlternateData {
     ///
     /// The second one of a year never meets the first one of the next year, since both are far inside their years.
     #[inline(always)]
-    const fn switches_by_order(
+    fn switches_by_order(
         &self,
         end_is_first: bool,
         unix_time: i64,
@@ -108,7 +104,7 @@ impl AlternateData {
     /// The last switch up to an instant and the next one after it, if the types differ and the likely year determines them.
     #[inline(always)]
     fn switches_around(&self, unix_time: i64) -> Option<(Option<Switch>, Option<Switch>)> {
-        if !self.has_inner_switches() || self.std() == self.dst() {
+        if !self.has_inner_switches() || self.std().is_same(self.dst()) {
             return None;
         }
         let moved_year = likely_year(unix_time)?;
@@ -120,7 +116,7 @@ impl AlternateData {
 
     /// The change at a switch.
     #[inline(always)]
-    const fn change_at(&self, switch: Switch) -> RuleChange<'_> {
+    fn change_at(&self, switch: Switch) -> RuleChange<'_> {
         RuleChange {
             unix_time: switch.unix_time,
             before: self.type_by(!switch.is_start),
@@ -132,7 +128,7 @@ impl AlternateData {
     /// begins again.
     fn has_one_type(&self) -> bool {
         self.parts_are_sound();
-        if self.std() == self.dst() {
+        if self.std().is_same(self.dst()) {
             return true;
         }
         let (starts, ends) = (self.table(false), self.table(true));

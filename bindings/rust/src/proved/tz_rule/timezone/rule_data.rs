@@ -1,3 +1,4 @@
+// Generated from crates/tz_rule/src/timezone/rule_data.rt by bindings/erase: its contracts are cut. Change that file instead.
 //! At most one rule as plain data.
 
 use super::alternate_data::AlternateData;

@@ -1,3 +1,4 @@
+// Generated from crates/tz_rule/src/timezone/rule_day.rt by bindings/erase: its contracts are cut. Change that file instead.
 //! The days of a year that a rule can name.
 
 use crate::proved::tz_base::calendar;

@@ -1,3 +1,4 @@
+// Generated from crates/tz_rule/src/timezone/rule_ref.rt by bindings/erase: its contracts are cut. Change that file instead.
 //! References to rules: the type of a rule at an instant and around it, and when daylight saving time starts and ends.
 
 use super::alternate_data::AlternateData;
@@ -25,7 +26,7 @@ impl<'a> RuleRef<'a> {
     }
 
     /// The rule that is lent.
-    pub const fn rule(self) -> TransitionRule {
+    pub fn rule(self) -> TransitionRule {
         match self {
             RuleRef::Fixed(local_time_type) => TransitionRule::Fixed(*local_time_type),
             RuleRef::Alternate(plain) => TransitionRule::Alternate(AlternateTime::of_plain(plain)),
@@ -36,7 +37,7 @@ impl<'a> RuleRef<'a> {
 /// The type of the rule at an instant. An alternate rule has one in the UTC years that are two or more from both ends of `i32`.
 
 #[inline(always)]
-pub fn find_local_time_type<'a>(
+pub const fn find_local_time_type<'a>(
     rule: RuleRef<'a>,
     unix_time: i64,
 ) -> Result<&'a LocalTimeType, TzError> {
@@ -47,19 +48,19 @@ pub fn find_local_time_type<'a>(
 }
 
 /// The instant at which daylight saving time starts in a year.
-pub const fn start(rule: &AlternateTime, year: i32) -> i64 {
+pub fn start(rule: &AlternateTime, year: i32) -> i64 {
     rule.plain().switch_in(false, year)
 }
 
 /// The instant at which daylight saving time ends in a year.
-pub const fn end(rule: &AlternateTime, year: i32) -> i64 {
+pub fn end(rule: &AlternateTime, year: i32) -> i64 {
     rule.plain().switch_in(true, year)
 }
 
 /// The segment of the rule around an instant: the first and the last instant through which it has one type, or none.
 
 #[inline(always)]
-pub fn segment_at<'a>(rule: RuleRef<'a>, unix_time: i64) -> RuleSegment<'a> {
+pub const fn segment_at<'a>(rule: RuleRef<'a>, unix_time: i64) -> RuleSegment<'a> {
     match rule {
         RuleRef::Fixed(local_time_type) => RuleSegment {
             from: i64::MIN,

@@ -1,3 +1,4 @@
+// Generated from crates/tz_rule/src/timezone/rule_segments.rt by bindings/erase: its contracts are cut. Change that file instead.
 //! The segment of an alternate rule around an instant, from one start or end of daylight saving time up to the next, and the type there.
 //!
 //! The switches (starts and ends) of the likely year, which is the instant's or a neighbour near a New Year, and of its neighbours determine the
@@ -143,14 +144,17 @@ impl AlternateData {
     }
 
     /// The segment around an instant by its year in UTC, within the years over which the rule is defined.
-    fn segment_in_year(&self, unix_time: i64) -> Option<AlternateSegment> {
-        let year = rule_year(unix_time)?;
+    const fn segment_in_year(&self, unix_time: i64) -> Option<AlternateSegment> {
+        let year = match rule_year(unix_time) {
+            Some(value) => value,
+            None => return None,
+        };
         let end_is_first = self.ends_next_year();
         let moved_year = calendar::moved_year(self.determining_year(end_is_first, unix_time, year));
         let segment = self.segment_by_order(end_is_first, unix_time, moved_year);
         Some(AlternateSegment {
-            from: segment.from.max(new_year(FIRST_YEAR)),
-            until: segment.until.min(new_year(LAST_YEAR + 1)),
+            from: crate::shim::greatest!(segment.from, new_year(FIRST_YEAR)),
+            until: crate::shim::least!(segment.until, new_year(LAST_YEAR + 1)),
             is_daylight: segment.is_daylight,
         })
     }
@@ -173,7 +177,7 @@ impl AlternateData {
 
     /// The segment around an instant that the likely year does not always determine.
     #[inline(never)]
-    fn outer_segment(&self, unix_time: i64) -> RuleSegment<'_> {
+    const fn outer_segment(&self, unix_time: i64) -> RuleSegment<'_> {
         if let Some(segment) = self.likely_segment(unix_time) {
             return self.rule_segment(unix_time, segment);
         }
@@ -185,7 +189,7 @@ impl AlternateData {
 
     /// The segment around an instant: from one start or end of daylight saving time up to the next, or outside the years of rules.
     #[inline(always)]
-    pub(crate) fn segment(&self, unix_time: i64) -> RuleSegment<'_> {
+    pub(crate) const fn segment(&self, unix_time: i64) -> RuleSegment<'_> {
         match self.inner_segment(unix_time) {
             Some(segment) => self.rule_segment(unix_time, segment),
             None => self.outer_segment(unix_time),
@@ -194,7 +198,7 @@ impl AlternateData {
 
     /// The type at an instant that the likely year does not always determine.
     #[inline(never)]
-    fn outer_type(&self, unix_time: i64) -> Result<&LocalTimeType, TzError> {
+    const fn outer_type(&self, unix_time: i64) -> Result<&LocalTimeType, TzError> {
         if let Some(segment) = self.likely_segment(unix_time) {
             return Ok(self.type_by(segment.is_daylight));
         }
@@ -206,7 +210,10 @@ impl AlternateData {
 
     /// The type at an instant.
     #[inline(always)]
-    pub(crate) fn find_local_time_type(&self, unix_time: i64) -> Result<&LocalTimeType, TzError> {
+    pub(crate) const fn find_local_time_type(
+        &self,
+        unix_time: i64,
+    ) -> Result<&LocalTimeType, TzError> {
         match self.inner_segment(unix_time) {
             Some(segment) => Ok(self.type_by(segment.is_daylight)),
             None => self.outer_type(unix_time),

@@ -1,3 +1,4 @@
+// Generated from crates/tz_rule/src/timezone/rule_years.rt by bindings/erase: its contracts are cut. Change that file instead.
 //! The years over which a rule is defined, the year of an instant, and its likely year, which is estimated without a calendar.
 
 use crate::proved::tz_base::calendar::{first_day_of_year, moved_seconds};
@@ -23,7 +24,7 @@ pub(super) const fn new_year(year: i32) -> i64 {
 }
 
 /// The year of an instant in UTC, if rules are defined over it.
-pub(super) fn rule_year(unix_time: i64) -> Option<i32> {
+pub(super) const fn rule_year(unix_time: i64) -> Option<i32> {
     if !is_reading(unix_time) {
         return None;
     }

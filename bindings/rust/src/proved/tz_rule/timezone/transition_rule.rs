@@ -1,3 +1,4 @@
+// Generated from crates/tz_rule/src/timezone/transition_rule.rt by bindings/erase: its contracts are cut. Change that file instead.
 //! Transition rules: one type for all time, or an alternate rule.
 
 use super::{AlternateTime, LocalTimeType};

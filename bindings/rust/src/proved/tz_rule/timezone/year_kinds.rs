@@ -1,3 +1,4 @@
+// Generated from crates/tz_rule/src/timezone/year_kinds.rt by bindings/erase: its contracts are cut. Change that file instead.
 //! Kinds of years, by number: the week day of January 1st, and 7 more for a leap year. All years of a kind have the same calendar.
 
 use crate::proved::tz_base::calendar::{ADDED_DAYS, days_before_moved_year, is_moved_year_leap};

@@ -1,3 +1,4 @@
+// Generated from crates/tz_rule/src/timezone/year_table.rt by bindings/erase: its contracts are cut. Change that file instead.
 //! Tables of an instant of each year, by the kind of the year. Their order, and how it changes, is in `consistency.rt`.
 
 use super::RuleDay;

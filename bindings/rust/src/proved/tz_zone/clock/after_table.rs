@@ -1,3 +1,4 @@
+// Generated from crates/tz_zone/src/clock/after_table.rt by bindings/erase: its contracts are cut. Change that file instead.
 //! The clock from the last transition on, and that of a zone without transitions: the types of the rule. Without a rule there is none, but in a zone
 //! without transitions type number 0.
 
@@ -8,7 +9,7 @@ use crate::proved::tz_zone::table::OtherParts;
 /// The segment around an instant of a clock whose transitions are all reached, or of one that has none: that of the extra rule. Without a rule
 /// the segment is all time, with type number 0 if the zone has no transitions, and otherwise with none.
 #[inline(always)]
-pub(super) fn after_table<'a>(
+pub(super) const fn after_table<'a>(
     parts: OtherParts<'a>,
     is_empty: bool,
     unix_time: i64,

@@ -1,3 +1,4 @@
+// Generated from crates/tz_zone/src/clock/change.rt by bindings/erase: its contracts are cut. Change that file instead.
 //! Changes: instants at which a clock has another type than a second before.
 
 use crate::proved::tz_rule::timezone::LocalTimeType;

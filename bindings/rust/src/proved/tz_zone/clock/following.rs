@@ -1,3 +1,4 @@
+// Generated from crates/tz_zone/src/clock/following.rt by bindings/erase: its contracts are cut. Change that file instead.
 //! The first change of a zone's clock after an instant.
 //!
 //! Up to the last transition a walk goes from place to place. It reads the types of transitions, and looks for the instant at which one takes
@@ -22,7 +23,7 @@ fn following_by_rule<'a>(parts: OtherParts<'a>, unix_time: i64) -> Option<Change
 
 /// The place at which the effect of a transition lies. It is not right after the transition where the next one takes effect at the same instant.
 #[inline(always)]
-const fn place_at_effect(
+fn place_at_effect(
     transitions: &[Transition],
     parts: OtherParts<'_>,
     index: usize,
@@ -58,7 +59,7 @@ fn end_of_run(
 /// The first instant from another one on that has a leap time, and the place at which it lies. In a zone without transitions it is the other one
 /// itself.
 #[inline(always)]
-const fn first_place(
+fn first_place(
     transitions: &[Transition],
     parts: OtherParts<'_>,
     unix_time: i64,
@@ -67,14 +68,8 @@ const fn first_place(
     if transitions.is_empty() {
         return Some((unix_time, 0));
     }
-    let first = match first_begun(parts.leap_seconds, unix_time) {
-        Some(value) => value,
-        None => return None,
-    };
-    let place = match place_at_near(transitions, parts, first, likely) {
-        Some(value) => value,
-        None => return None,
-    };
+    let first = first_begun(parts.leap_seconds, unix_time)?;
+    let place = place_at_near(transitions, parts, first, likely)?;
     Some((first, place))
 }
 

@@ -1,3 +1,4 @@
+// Generated from crates/tz_zone/src/clock/lookup.rt by bindings/erase: its contracts are cut. Change that file instead.
 //! The clock's type at an instant, over a view of the transitions: that of the transition before the instant's place, type number 0 before the first
 //! transition, and from the last one on, or in a zone without transitions, that of `after_table`, or none.
 
@@ -19,7 +20,7 @@ const fn fault_after(parts: OtherParts<'_>) -> TzError {
 
 /// The clock's type at an instant. (RFC 8536, section 3.2)
 #[inline(always)]
-pub fn find_local_time_type<'a>(
+pub const fn find_local_time_type<'a>(
     view: &mut Uncounted<'_>,
     parts: OtherParts<'a>,
     unix_time: i64,

@@ -1,3 +1,4 @@
+// Generated from crates/tz_zone/src/clock/mod.rt by bindings/erase: its contracts are cut. Change that file instead.
 //! The clock of a zone: its type at an instant, its segments, and where it changes.
 
 mod after_table;

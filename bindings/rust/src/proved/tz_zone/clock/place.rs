@@ -1,3 +1,4 @@
+// Generated from crates/tz_zone/src/clock/place.rt by bindings/erase: its contracts are cut. Change that file instead.
 //! Places among a zone's transitions: how many of them are reached.
 
 use crate::proved::tz_zone::leap::to_leap_time::leap_time;

@@ -1,3 +1,4 @@
+// Generated from crates/tz_zone/src/clock/preceding.rt by bindings/erase: its contracts are cut. Change that file instead.
 //! The last change of a zone's clock before an instant.
 //!
 //! After the last transition the rule has the changes. Up to it a walk goes back from place to place, as the one of `following.rt` goes forward.
@@ -38,7 +39,7 @@ fn start_of_run(
 /// The last instant before another one that has a leap time, and the place at which it lies. In a zone without transitions it is the one right
 /// before.
 #[inline(always)]
-const fn last_place(
+fn last_place(
     transitions: &[Transition],
     parts: OtherParts<'_>,
     unix_time: i64,
@@ -49,16 +50,13 @@ const fn last_place(
         return Some((before, 0));
     }
     let last = last_instant_up_to(parts.leap_seconds, before);
-    let place = match place_at_near(transitions, parts, last, likely) {
-        Some(value) => value,
-        None => return None,
-    };
+    let place = place_at_near(transitions, parts, last, likely)?;
     Some((last, place))
 }
 
 /// The seam: the instant at which the last transition takes effect, or the least one where there are none. From there on the rule has the types.
 #[inline(always)]
-const fn seam(transitions: &[Transition], leap_seconds: &[LeapSecond]) -> i64 {
+fn seam(transitions: &[Transition], leap_seconds: &[LeapSecond]) -> i64 {
     let count = transitions.len();
     if count == 0 {
         return i64::MIN;

@@ -1,3 +1,4 @@
+// Generated from crates/tz_zone/src/clock/segment.rt by bindings/erase: its contracts are cut. Change that file instead.
 //! Segments: spans of time through which a clock keeps its type, and the one around an instant.
 
 use super::after_table::after_table;
@@ -76,11 +77,15 @@ const fn undefined_segment<'a>(leap_seconds: &[LeapSecond], unix_time: i64) -> S
 
 /// The segment around an instant at which the last transition is reached.
 #[inline(always)]
-fn segment_from_last<'a>(parts: OtherParts<'a>, last: Transition, unix_time: i64) -> Segment<'a> {
+const fn segment_from_last<'a>(
+    parts: OtherParts<'a>,
+    last: Transition,
+    unix_time: i64,
+) -> Segment<'a> {
     let from = effect_of_reached(parts.leap_seconds, last.unix_leap_time());
     let segment = after_table(parts, false, unix_time);
     Segment {
-        from: from.max(segment.from),
+        from: crate::shim::greatest!(from, segment.from),
         last: last_instant_up_to(parts.leap_seconds, segment.last),
         local_time_type: segment.local_time_type,
     }
@@ -88,7 +93,7 @@ fn segment_from_last<'a>(parts: OtherParts<'a>, last: Transition, unix_time: i64
 
 /// The segment around an instant that lies at a place.
 #[inline(always)]
-fn segment_at_place<'a>(
+const fn segment_at_place<'a>(
     view: &mut Uncounted<'_>,
     parts: OtherParts<'a>,
     place: usize,
@@ -108,7 +113,7 @@ fn segment_at_place<'a>(
 
 /// The segment of the clock around an instant.
 #[inline(always)]
-pub fn clock_segment_at<'a>(
+pub const fn clock_segment_at<'a>(
     view: &mut Uncounted<'_>,
     parts: OtherParts<'a>,
     unix_time: i64,

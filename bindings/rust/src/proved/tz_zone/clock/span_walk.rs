@@ -1,3 +1,4 @@
+// Generated from crates/tz_zone/src/clock/span_walk.rt by bindings/erase: its contracts are cut. Change that file instead.
 //! The spans of a zone's clock, one after the other.
 
 use super::after_table::after_table;
@@ -32,7 +33,7 @@ pub struct Span<'a> {
 /// The first instant from `unix_time` on that has a leap time, and the stage of a walk that begins there. `place` is that of `unix_time`, or
 /// `None` if there are transitions and it has no leap time. In a zone without transitions the first instant is `unix_time` itself.
 #[inline(always)]
-pub const fn first_stage<'a>(
+pub fn first_stage<'a>(
     view: &mut Uncounted<'_>,
     parts: OtherParts<'a>,
     place: Option<usize>,
@@ -48,14 +49,8 @@ pub const fn first_stage<'a>(
             },
         ));
     }
-    let first = match first_begun(parts.leap_seconds, unix_time) {
-        Some(value) => value,
-        None => return None,
-    };
-    let place = match place_at(view, parts, first) {
-        Some(value) => value,
-        None => return None,
-    };
+    let first = first_begun(parts.leap_seconds, unix_time)?;
+    let place = place_at(view, parts, first)?;
     let local_time_type = type_before(view, parts, place);
     Some((
         first,

@@ -1,3 +1,4 @@
+// Generated from crates/tz_zone/src/clock/types_at_places.rt by bindings/erase: its contracts are cut. Change that file instead.
 //! The transition before a place, and the type of the clock there.
 
 use super::after_table::type_from_last;

@@ -1,3 +1,4 @@
+// Generated from crates/tz_zone/src/clock/window_types.rt by bindings/erase: its contracts are cut. Change that file instead.
 //! The types that the clock has in a window of instants, where these are one or two.
 
 use super::after_table::after_table;
@@ -71,7 +72,7 @@ fn types_after_table<'a>(
 
 /// The types in a window that begins at a place before the last transition, whose first instant has a leap time.
 #[inline(always)]
-const fn types_at_place<'a>(
+fn types_at_place<'a>(
     view: &mut Uncounted<'_>,
     parts: OtherParts<'a>,
     place: usize,

@@ -1,3 +1,4 @@
+// Generated from crates/tz_zone/src/leap/from_leap_time.rt by bindings/erase: its contracts are cut. Change that file instead.
 //! The way back from leap times: when a transition takes effect. (RFC 8536, section 2)
 //!
 //! A leap time is reached at an instant if the instant's own leap time is not below it, and takes effect at the first such instant. A leap time
@@ -48,12 +49,12 @@ pub(crate) const fn effect_of_reached(leap_seconds: &[LeapSecond], unix_leap_tim
 }
 
 /// The instant at which a leap time takes effect: the least one whose leap time is not below it.
-pub const fn effect(leap_seconds: &[LeapSecond], unix_leap_time: i64) -> Result<i64, TzError> {
+pub fn effect(leap_seconds: &[LeapSecond], unix_leap_time: i64) -> Result<i64, TzError> {
     // As in tz-rs, the least leap time is refused.
     if unix_leap_time == i64::MIN {
         return Err(TzError::OutOfRange);
     }
-    let Ok(unix_time) = crate::shim::narrow(wide_effect(leap_seconds, unix_leap_time)) else {
+    let Ok(unix_time) = i64::try_from(wide_effect(leap_seconds, unix_leap_time)) else {
         return Err(TzError::OutOfRange);
     };
     if !has_leap_time(leap_seconds, unix_time) {
@@ -64,8 +65,8 @@ pub const fn effect(leap_seconds: &[LeapSecond], unix_leap_time: i64) -> Result<
 
 /// The instant at which a leap time takes effect, if it is reached at any, by the leap seconds.
 #[inline(never)]
-const fn effect_by_seconds(leap_seconds: &[LeapSecond], unix_leap_time: i64) -> Option<i64> {
-    let Ok(effect) = crate::shim::narrow(wide_effect(leap_seconds, unix_leap_time)) else {
+fn effect_by_seconds(leap_seconds: &[LeapSecond], unix_leap_time: i64) -> Option<i64> {
+    let Ok(effect) = i64::try_from(wide_effect(leap_seconds, unix_leap_time)) else {
         return None;
     };
     if last_instant_up_to(leap_seconds, effect) < effect {
@@ -76,10 +77,7 @@ const fn effect_by_seconds(leap_seconds: &[LeapSecond], unix_leap_time: i64) -> 
 
 /// The instant at which a leap time takes effect, if it is reached at any. Mostly there are no leap seconds, and it is the leap time itself.
 #[inline(always)]
-pub(crate) const fn effect_if_reached(
-    leap_seconds: &[LeapSecond],
-    unix_leap_time: i64,
-) -> Option<i64> {
+pub(crate) fn effect_if_reached(leap_seconds: &[LeapSecond], unix_leap_time: i64) -> Option<i64> {
     if leap_seconds.is_empty() {
         return Some(unix_leap_time);
     }

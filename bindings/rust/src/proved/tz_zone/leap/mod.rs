@@ -1,3 +1,4 @@
+// Generated from crates/tz_zone/src/leap/mod.rt by bindings/erase: its contracts are cut. Change that file instead.
 //! Leap seconds: their table, leap time, and the way back from it.
 
 pub(crate) mod from_leap_time;

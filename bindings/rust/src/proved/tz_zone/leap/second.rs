@@ -1,3 +1,4 @@
+// Generated from crates/tz_zone/src/leap/second.rt by bindings/erase: its contracts are cut. Change that file instead.
 //! Leap seconds.
 
 /// A leap time from which on leap time is ahead of Unix time by a correction.

@@ -1,3 +1,4 @@
+// Generated from crates/tz_zone/src/leap/to_leap_time.rt by bindings/erase: its contracts are cut. Change that file instead.
 //! Leap times. (RFC 8536, section 2)
 //!
 //! The leap time of an instant is its Unix time plus the correction of the last leap second that is reached there, and before the first one the Unix
@@ -160,7 +161,7 @@ pub(crate) const fn leap_time(leap_seconds: &[LeapSecond], unix_time: i64) -> Op
 }
 
 /// The leap time of an instant. (RFC 8536, section 2)
-pub const fn leap(leap_seconds: &[LeapSecond], unix_time: i64) -> Result<i64, TzError> {
+pub fn leap(leap_seconds: &[LeapSecond], unix_time: i64) -> Result<i64, TzError> {
     match leap_time_by_seconds(leap_seconds, unix_time) {
         Some(unix_leap_time) => Ok(unix_leap_time),
         None => Err(TzError::OutOfRange),
@@ -172,7 +173,7 @@ pub const fn leap(leap_seconds: &[LeapSecond], unix_time: i64) -> Result<i64, Tz
 /// Leap time grows as fast as Unix time, but by one second more or less at a leap second, of which there is at most one in about four weeks. So three
 /// times the seconds of a window are a generous bound, and one that ends long before the given leap time needs no second search of the leap seconds.
 #[inline(always)]
-pub(crate) const fn stay_before(
+pub(crate) fn stay_before(
     leap_seconds: &[LeapSecond],
     low: i64,
     low_leap_time: i64,
@@ -182,6 +183,6 @@ pub(crate) const fn stay_before(
     if high > ALWAYS_DEFINED_UP_TO {
         return false;
     }
-    let seconds = high as i128 - low as i128;
-    low_leap_time as i128 + 3 * seconds < unix_leap_time as i128
+    let seconds = i128::from(high) - i128::from(low);
+    i128::from(low_leap_time) + 3 * seconds < i128::from(unix_leap_time)
 }

@@ -1,3 +1,4 @@
+// Generated from crates/tz_zone/src/table/other_parts.rt by bindings/erase: its contracts are cut. Change that file instead.
 //! What a zone has beside its transitions, borrowed.
 
 use crate::proved::tz_rule::inner::{AlternateData, RuleRef};

@@ -1,3 +1,4 @@
+// Generated from crates/tz_zone/src/table/transition.rt by bindings/erase: its contracts are cut. Change that file instead.
 //! Transitions.
 
 /// A leap time from which on a local time type holds.

@@ -1,3 +1,4 @@
+// Generated from crates/tz_zone/src/timezone/change_iterators.rt by bindings/erase: its contracts are cut. Change that file instead.
 //! The changes of a zone's clock after an instant or before it, one after the other.
 
 use super::{Change, TimeZoneRef};

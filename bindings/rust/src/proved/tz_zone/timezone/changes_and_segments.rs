@@ -1,3 +1,4 @@
+// Generated from crates/tz_zone/src/timezone/changes_and_segments.rt by bindings/erase: its contracts are cut. Change that file instead.
 //! The segments of a zone's clock, and where it changes.
 
 use super::{Change, ChangesAfter, ChangesBefore, Segment, TimeZone, TimeZoneRef};
@@ -28,7 +29,7 @@ impl<'a> TimeZoneRef<'a> {
     ///     DateTime::from_timespec_and_local(unix_time, 0, *local_time_type)
     /// }
     /// ```
-    pub fn segment_at(&self, unix_time: i64) -> Segment<'a> {
+    pub const fn segment_at(&self, unix_time: i64) -> Segment<'a> {
         let mut view = Uncounted::new(self.transitions());
         clock::clock_segment_at(&mut view, other_parts_of(self), unix_time)
     }

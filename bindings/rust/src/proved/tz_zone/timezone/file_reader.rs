@@ -1,3 +1,4 @@
+// Generated from crates/tz_zone/src/timezone/file_reader.rt by bindings/erase: its contracts are cut. Change that file instead.
 //! Readers of an input to its end, and of the machine's files.
 
 use crate::proved::tz_base::error::ReadFault;

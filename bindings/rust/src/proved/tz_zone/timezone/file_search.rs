@@ -1,3 +1,4 @@
+// Generated from crates/tz_zone/src/timezone/file_search.rt by bindings/erase: its contracts are cut. Change that file instead.
 //! The search of a time zone file by its name, in directories.
 
 use super::TimeZoneSettings;
@@ -11,7 +12,7 @@ use crate::shim::{String, Vec};
 const USUAL_LEN: usize = 96;
 
 /// Whether the name is a path of its own.
-const fn is_absolute(name: &str) -> bool {
+fn is_absolute(name: &str) -> bool {
     matches!(name.as_bytes(), [b'/', ..])
 }
 

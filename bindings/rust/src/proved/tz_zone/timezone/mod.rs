@@ -1,3 +1,4 @@
+// Generated from crates/tz_zone/src/timezone/mod.rt by bindings/erase: its contracts are cut. Change that file instead.
 //! Transitions, leap seconds and time zones.
 
 mod change_iterators;

@@ -1,3 +1,4 @@
+// Generated from crates/tz_zone/src/timezone/offset_range.rt by bindings/erase: its contracts are cut. Change that file instead.
 //! The offsets between which those of all types of a zone lie.
 
 use super::{LocalTimeType, TimeZoneRef};
@@ -5,11 +6,8 @@ use crate::proved::tz_rule::inner::RuleRef;
 
 /// The range of offsets from `least` to `greatest`, widened just enough to have another one.
 #[inline(always)]
-const fn with_offset(least: i32, greatest: i32, offset: i32) -> (i32, i32) {
-    (
-        crate::shim::least!(least, offset),
-        crate::shim::greatest!(greatest, offset),
-    )
+fn with_offset(least: i32, greatest: i32, offset: i32) -> (i32, i32) {
+    (least.min(offset), greatest.max(offset))
 }
 
 /// The least and the greatest offset of the types.
@@ -25,7 +23,7 @@ fn offsets_of_types(local_time_types: &[LocalTimeType]) -> (i32, i32) {
 }
 
 /// Two offsets, moved apart until those of the rule lie between them, and no further.
-const fn with_rule(rule: RuleRef<'_>, least: i32, greatest: i32) -> (i32, i32) {
+fn with_rule(rule: RuleRef<'_>, least: i32, greatest: i32) -> (i32, i32) {
     match rule {
         RuleRef::Fixed(local_time_type) => {
             with_offset(least, greatest, local_time_type.ut_offset())

@@ -1,3 +1,4 @@
+// Generated from crates/tz_zone/src/timezone/settings.rt by bindings/erase: its contracts are cut. Change that file instead.
 //! Settings by which the time zone of a string is found.
 
 use super::TimeZone;

@@ -1,3 +1,4 @@
+// Generated from crates/tz_zone/src/timezone/zone.rt by bindings/erase: its contracts are cut. Change that file instead.
 //! Time zones that own their parts.
 
 use super::offset_range::offset_range;

@@ -1,3 +1,4 @@
+// Generated from crates/tz_zone/src/timezone/zone_checks.rt by bindings/erase: its contracts are cut. Change that file instead.
 //! The checks of a zone: transitions in order and to types of the zone, its table of leap seconds, and a rule that agrees with the last transition.
 
 use super::{LeapSecond, LocalTimeType, Transition};
@@ -8,12 +9,12 @@ use crate::proved::tz_zone::leap::from_leap_time::effect;
 use crate::proved::tz_zone::leap::table::{are_leap_seconds, has_begun_at};
 
 /// Whether the type index of the transition at a place is below `types`, the number of types.
-const fn has_type_at(transitions: &[Transition], types: usize, place: usize) -> bool {
+fn has_type_at(transitions: &[Transition], types: usize, place: usize) -> bool {
     transitions[place].local_time_type_index() < types
 }
 
 /// Whether the transition at a place comes before the next one.
-const fn rises_at(transitions: &[Transition], place: usize) -> bool {
+fn rises_at(transitions: &[Transition], place: usize) -> bool {
     if place + 1 == transitions.len() {
         return true;
     }
@@ -21,23 +22,21 @@ const fn rises_at(transitions: &[Transition], place: usize) -> bool {
 }
 
 /// Each transition names one of the types, whose number is given, and comes before the next one.
-const fn check_transitions(transitions: &[Transition], types: usize) -> Result<(), TimeZoneError> {
-    let mut i = 0;
-    while i < transitions.len() {
+fn check_transitions(transitions: &[Transition], types: usize) -> Result<(), TimeZoneError> {
+    for i in 0..transitions.len() {
         if !has_type_at(transitions, types, i) {
             return Err(TimeZoneError::InvalidLocalTimeTypeIndex);
         }
         if !rises_at(transitions, i) {
             return Err(TimeZoneError::InvalidTransition);
         }
-        i += 1;
     }
     Ok(())
 }
 
 /// Checks the transitions, unless they are known to come in order, and each to name a type.
 #[inline(always)]
-const fn check_unknown_transitions(
+fn check_unknown_transitions(
     transitions: &[Transition],
     types: usize,
     are_in_order: bool,

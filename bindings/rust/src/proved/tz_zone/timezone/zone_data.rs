@@ -1,3 +1,4 @@
+// Generated from crates/tz_zone/src/timezone/zone_data.rt by bindings/erase: its contracts are cut. Change that file instead.
 //! Zones as plain data, in tables that another language may own.
 
 use super::offset_range::offset_range;
@@ -112,13 +113,13 @@ impl<'a> ZoneData<'a> {
 
     /// The clock's type at an instant, as `TimeZoneRef::find_local_time_type` answers it.
     #[inline(always)]
-    pub fn find_local_time_type(&self, unix_time: i64) -> Result<&'a LocalTimeType, TzError> {
+    pub const fn find_local_time_type(&self, unix_time: i64) -> Result<&'a LocalTimeType, TzError> {
         let mut view = Uncounted::new(self.transitions);
         clock::find_local_time_type(&mut view, self.other_parts(), unix_time)
     }
 
     /// The segment around an instant, as `TimeZoneRef::segment_at` answers it.
-    pub fn segment_at(&self, unix_time: i64) -> Segment<'a> {
+    pub const fn segment_at(&self, unix_time: i64) -> Segment<'a> {
         let mut view = Uncounted::new(self.transitions);
         clock::clock_segment_at(&mut view, self.other_parts(), unix_time)
     }

@@ -1,9 +1,10 @@
+// Generated from crates/tz_zone/src/timezone/zone_name.rt by bindings/erase: its contracts are cut. Change that file instead.
 //! Names of time zones.
 
 use crate::shim::anyhow;
 
 /// Whether a name may have the byte.
-const fn is_name_byte(byte: u8) -> bool {
+fn is_name_byte(byte: u8) -> bool {
     matches!(byte, b'0'..=b'9' | b'A'..=b'Z' | b'a'..=b'z' | b'.' | b'_' | b'+' | b'-')
 }
 
@@ -30,11 +31,11 @@ pub(super) fn is_zone_name(name: &str) -> bool {
 }
 
 /// The error of a text that is no name.
-pub(super) const fn not_a_name(text: &str) -> crate::shim::anyhow::Error {
+pub(super) fn not_a_name(text: &str) -> crate::shim::anyhow::Error {
     anyhow!("not a time zone name: {text}")
 }
 
 /// The error of a name that no zone has.
-pub(super) const fn no_such_zone(name: &str) -> crate::shim::anyhow::Error {
+pub(super) fn no_such_zone(name: &str) -> crate::shim::anyhow::Error {
     anyhow!("no time zone has the name {name}")
 }

@@ -1,3 +1,4 @@
+// Generated from crates/tz_zone/src/timezone/zone_of_file.rt by bindings/erase: its contracts are cut. Change that file instead.
 //! Zones from the bytes of TZif files.
 
 use super::TimeZone;

@@ -1,3 +1,4 @@
+// Generated from crates/tz_zone/src/timezone/zone_of_tz_string.rt by bindings/erase: its contracts are cut. Change that file instead.
 //! Zones from TZ strings.
 
 use super::{LocalTimeType, TimeZone, TransitionRule};

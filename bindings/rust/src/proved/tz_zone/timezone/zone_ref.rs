@@ -1,3 +1,4 @@
+// Generated from crates/tz_zone/src/timezone/zone_ref.rt by bindings/erase: its contracts are cut. Change that file instead.
 //! Borrowed time zones.
 
 use super::offset_range::offset_range;
@@ -85,7 +86,7 @@ impl<'a> TimeZoneRef<'a> {
     }
 
     /// The zone with parts that are known to make one, and with its least and its greatest offset.
-    pub(crate) const fn from_valid_parts(
+    pub(crate) fn from_valid_parts(
         transitions: &'a [Transition],
         local_time_types: &'a [LocalTimeType],
         leap_seconds: &'a [LeapSecond],
@@ -132,7 +133,7 @@ impl<'a> TimeZoneRef<'a> {
 
     /// The leap time at which the leap-second table expires: that of a last record that repeats the correction before it. `None` if there is no such
     /// record.
-    pub const fn leap_expiry(&self) -> Option<i64> {
+    pub fn leap_expiry(&self) -> Option<i64> {
         expiry(self.leap_seconds)
     }
 
@@ -153,7 +154,7 @@ impl<'a> TimeZoneRef<'a> {
     ///   `i32::MAX - 2` in UTC; or if the zone has transitions and the instant has no leap time, because it is before a leap-second table that begins
     ///   late, or because the leap time does not fit an `i64`.
     #[inline(always)]
-    pub fn find_local_time_type(&self, unix_time: i64) -> Result<&'a LocalTimeType, TzError> {
+    pub const fn find_local_time_type(&self, unix_time: i64) -> Result<&'a LocalTimeType, TzError> {
         let mut view = Uncounted::new(self.transitions);
         clock::find_local_time_type(&mut view, other_parts_of(self), unix_time)
     }

@@ -1,3 +1,4 @@
+// Generated from crates/tz_zone/src/parse/tz_file/footer.rt by bindings/erase: its contracts are cut. Change that file instead.
 //! The footer after the second block: a TZ string between two line feeds. (RFC 8536, section 3.3)
 
 use crate::proved::tz_base::error::TzError;
@@ -22,7 +23,7 @@ fn may_be_text(text: &[u8]) -> bool {
 }
 
 /// The bytes without white space at their ends.
-const fn trim(bytes: &[u8]) -> &[u8] {
+fn trim(bytes: &[u8]) -> &[u8] {
     bytes.trim_ascii()
 }
 

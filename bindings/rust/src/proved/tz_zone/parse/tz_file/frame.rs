@@ -1,3 +1,4 @@
+// Generated from crates/tz_zone/src/parse/tz_file/frame.rt by bindings/erase: its contracts are cut. Change that file instead.
 //! The frame of a file: its units, one or two, and the footer. (RFC 8536, section 3)
 
 use super::time_size::TimeSize;

@@ -1,3 +1,4 @@
+// Generated from crates/tz_zone/src/parse/tz_file/header.rt by bindings/erase: its contracts are cut. Change that file instead.
 //! The header before a block. (RFC 8536, section 3.1)
 
 use super::number::count_at;
@@ -19,14 +20,14 @@ pub(super) struct Counts {
 }
 
 /// Whether a header with this number of types may have this number of indicators.
-const fn is_indicator_count(count: u32, local_types: u32) -> bool {
+fn is_indicator_count(count: u32, local_types: u32) -> bool {
     count == 0 || count == local_types
 }
 
 impl Counts {
     /// The counts of a header.
 
-    const fn read(bytes: &[u8]) -> Self {
+    fn read(bytes: &[u8]) -> Self {
         Counts {
             ut_local: count_at(bytes, 20),
             std_wall: count_at(bytes, 24),
@@ -38,7 +39,7 @@ impl Counts {
     }
 
     /// Whether the counts fit together.
-    const fn are_counts(self) -> bool {
+    fn are_counts(self) -> bool {
         self.local_type != 0
             && self.char != 0
             && is_indicator_count(self.ut_local, self.local_type)

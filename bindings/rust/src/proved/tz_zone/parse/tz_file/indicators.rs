@@ -1,3 +1,4 @@
+// Generated from crates/tz_zone/src/parse/tz_file/indicators.rt by bindings/erase: its contracts are cut. Change that file instead.
 //! The indicators of a block: whether transition times were given as standard time or as UT. (RFC 8536, section 3.2)
 
 use super::unit::Unit;
@@ -9,7 +10,7 @@ fn indicator_at(indicators: &[u8], index: u32) -> u8 {
 }
 
 /// Whether a type may have these indicators.
-const fn is_pair(std_wall: u8, ut_local: u8) -> bool {
+fn is_pair(std_wall: u8, ut_local: u8) -> bool {
     matches!((std_wall, ut_local), (0, 0) | (1, 0) | (1, 1))
 }
 

@@ -1,3 +1,4 @@
+// Generated from crates/tz_zone/src/parse/tz_file/leap_seconds.rt by bindings/erase: its contracts are cut. Change that file instead.
 //! The leap seconds of a block. (RFC 8536, section 3.2)
 
 use super::number::{signed_at, time_at};
@@ -8,7 +9,7 @@ use crate::shim::alloc::{AllocError, Allocator};
 
 /// The leap second of a record.
 
-const fn leap_second_at(unit: &Unit<'_>, index: u32) -> LeapSecond {
+fn leap_second_at(unit: &Unit<'_>, index: u32) -> LeapSecond {
     let at = unit.size.leaps_len(index);
     let unix_leap_time = time_at(unit.size, unit.block.leaps, at);
     let correction = signed_at(unit.block.leaps, at + unit.size.len());

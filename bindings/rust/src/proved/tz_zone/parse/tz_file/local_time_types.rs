@@ -1,3 +1,4 @@
+// Generated from crates/tz_zone/src/parse/tz_file/local_time_types.rt by bindings/erase: its contracts are cut. Change that file instead.
 //! The local time types of a block, and their designations. (RFC 8536, section 3.2)
 
 use super::number::signed_at;
@@ -9,7 +10,7 @@ use crate::shim::Vec;
 use crate::shim::alloc::Allocator;
 
 /// The daylight flag of a type.
-const fn read_daylight_flag(byte: u8) -> Result<bool, TzFileError> {
+fn read_daylight_flag(byte: u8) -> Result<bool, TzFileError> {
     match byte {
         0 => Ok(false),
         1 => Ok(true),
@@ -36,7 +37,7 @@ fn name_at(names: &[u8], index: usize) -> Option<&[u8]> {
 
 /// The name, where it is not empty.
 
-const fn non_empty(name: &[u8]) -> Option<&[u8]> {
+fn non_empty(name: &[u8]) -> Option<&[u8]> {
     if name.is_empty() { None } else { Some(name) }
 }
 

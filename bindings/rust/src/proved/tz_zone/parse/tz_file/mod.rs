@@ -1,3 +1,4 @@
+// Generated from crates/tz_zone/src/parse/tz_file/mod.rt by bindings/erase: its contracts are cut. Change that file instead.
 //! TZif files. (RFC 8536)
 
 pub(crate) mod footer;

@@ -1,14 +1,15 @@
+// Generated from crates/tz_zone/src/parse/tz_file/number.rt by bindings/erase: its contracts are cut. Change that file instead.
 //! Numbers of a file: the most significant byte comes first. (RFC 8536, section 3)
 
 use super::time_size::TimeSize;
 
 /// The four bytes at a place.
-const fn four_at(bytes: &[u8], at: usize) -> [u8; 4] {
+fn four_at(bytes: &[u8], at: usize) -> [u8; 4] {
     [bytes[at], bytes[at + 1], bytes[at + 2], bytes[at + 3]]
 }
 
 /// The eight bytes at a place.
-const fn eight_at(bytes: &[u8], at: usize) -> [u8; 8] {
+fn eight_at(bytes: &[u8], at: usize) -> [u8; 8] {
     [
         bytes[at],
         bytes[at + 1],
@@ -23,26 +24,26 @@ const fn eight_at(bytes: &[u8], at: usize) -> [u8; 8] {
 
 /// The count at a place.
 
-pub(super) const fn count_at(bytes: &[u8], at: usize) -> u32 {
+pub(super) fn count_at(bytes: &[u8], at: usize) -> u32 {
     u32::from_be_bytes(four_at(bytes, at))
 }
 
 /// The signed number of four bytes at a place.
 
-pub(super) const fn signed_at(bytes: &[u8], at: usize) -> i32 {
+pub(super) fn signed_at(bytes: &[u8], at: usize) -> i32 {
     i32::from_be_bytes(four_at(bytes, at))
 }
 
 /// The signed number of eight bytes at a place.
 
-const fn long_signed_at(bytes: &[u8], at: usize) -> i64 {
+fn long_signed_at(bytes: &[u8], at: usize) -> i64 {
     i64::from_be_bytes(eight_at(bytes, at))
 }
 
 /// The time at a place.
-pub(super) const fn time_at(size: TimeSize, bytes: &[u8], at: usize) -> i64 {
+pub(super) fn time_at(size: TimeSize, bytes: &[u8], at: usize) -> i64 {
     match size {
-        TimeSize::Four => signed_at(bytes, at) as i64,
+        TimeSize::Four => i64::from(signed_at(bytes, at)),
         TimeSize::Eight => long_signed_at(bytes, at),
     }
 }

@@ -1,3 +1,4 @@
+// Generated from crates/tz_zone/src/parse/tz_file/sizes.rt by bindings/erase: its contracts are cut. Change that file instead.
 //! The sizes of a file.
 
 use super::frame::read_frame;

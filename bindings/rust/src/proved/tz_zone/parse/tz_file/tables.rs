@@ -1,3 +1,4 @@
+// Generated from crates/tz_zone/src/parse/tz_file/tables.rt by bindings/erase: its contracts are cut. Change that file instead.
 //! The tables of a unit: transitions, local time types and leap seconds. (RFC 8536, section 3.2)
 
 use super::indicators::check_indicators;

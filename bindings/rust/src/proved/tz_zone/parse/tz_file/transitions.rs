@@ -1,3 +1,4 @@
+// Generated from crates/tz_zone/src/parse/tz_file/transitions.rt by bindings/erase: its contracts are cut. Change that file instead.
 //! The transitions of a block. (RFC 8536, section 3.2)
 
 use super::number::time_at;
@@ -10,21 +11,16 @@ use crate::shim::alloc::{AllocError, Allocator};
 /// The transition of a record. The size of its time is an argument, so that a caller with a constant has a loop of its own without a test.
 #[inline(always)]
 
-const fn transition_at(size: TimeSize, unit: &Unit<'_>, index: u32) -> Transition {
+fn transition_at(size: TimeSize, unit: &Unit<'_>, index: u32) -> Transition {
     let at = size.times_len(index);
     let unix_leap_time = time_at(size, unit.block.times, at);
     let local_time_type_index = unit.block.indexes[index as usize];
-    Transition::new(unix_leap_time, local_time_type_index as usize)
+    Transition::new(unix_leap_time, usize::from(local_time_type_index))
 }
 
 /// Whether a transition is in order too: all before it are, it comes after the last of these, and it names one of `types` types.
 #[inline(always)]
-const fn is_in_order(
-    are_in_order: bool,
-    last: Transition,
-    transition: Transition,
-    types: usize,
-) -> bool {
+fn is_in_order(are_in_order: bool, last: Transition, transition: Transition, types: usize) -> bool {
     are_in_order
         && last.unix_leap_time() < transition.unix_leap_time()
         && transition.local_time_type_index() < types

@@ -1,3 +1,4 @@
+// Generated from crates/tz_zone/src/parse/tz_file/unit.rt by bindings/erase: its contracts are cut. Change that file instead.
 //! A unit of a file: a header and its block. (RFC 8536, sections 3.1 and 3.2)
 
 use super::header::{Counts, HEADER_LEN, read_header};
@@ -63,20 +64,16 @@ pub(crate) struct Unit<'a> {
 /// Cuts the block after the header into its parts.
 #[inline(always)]
 
-const fn cut_block(size: TimeSize, counts: Counts, bytes: &[u8]) -> Block<'_> {
+fn cut_block(size: TimeSize, counts: Counts, bytes: &[u8]) -> Block<'_> {
     let layout = Layout::new(size, counts);
     Block {
-        times: bytes.split_at(layout.indexes).0.split_at(HEADER_LEN).1,
-        indexes: bytes.split_at(layout.types).0.split_at(layout.indexes).1,
-        types: bytes.split_at(layout.names).0.split_at(layout.types).1,
-        names: bytes.split_at(layout.leaps).0.split_at(layout.names).1,
-        leaps: bytes.split_at(layout.std_walls).0.split_at(layout.leaps).1,
-        std_walls: bytes
-            .split_at(layout.ut_locals)
-            .0
-            .split_at(layout.std_walls)
-            .1,
-        ut_locals: bytes.split_at(layout.end).0.split_at(layout.ut_locals).1,
+        times: &bytes[HEADER_LEN..layout.indexes],
+        indexes: &bytes[layout.indexes..layout.types],
+        types: &bytes[layout.types..layout.names],
+        names: &bytes[layout.names..layout.leaps],
+        leaps: &bytes[layout.leaps..layout.std_walls],
+        std_walls: &bytes[layout.std_walls..layout.ut_locals],
+        ut_locals: &bytes[layout.ut_locals..layout.end],
     }
 }
 

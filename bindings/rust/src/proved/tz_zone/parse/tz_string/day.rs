@@ -1,3 +1,4 @@
+// Generated from crates/tz_zone/src/parse/tz_string/day.rt by bindings/erase: its contracts are cut. Change that file instead.
 //! The days of the year at which daylight saving time starts or ends.
 
 use super::expect_byte::expect_byte;
@@ -24,27 +25,12 @@ fn read_zero_based_day(text: &[u8]) -> Result<(Julian0WithLeap, &[u8]), TzError>
 
 /// The month, the week and the week day after an `M`, each of one digit or two, as strings usually have them, and the rest of the bytes.
 #[inline(always)]
-const fn read_usual_month_week_day(text: &[u8]) -> Option<(u8, u8, u8, &[u8])> {
-    let (month, rest) = match read_two_digits(text) {
-        Some(value) => value,
-        None => return None,
-    };
-    let rest = match after_byte(rest, b'.') {
-        Some(value) => value,
-        None => return None,
-    };
-    let (week, rest) = match read_two_digits(rest) {
-        Some(value) => value,
-        None => return None,
-    };
-    let rest = match after_byte(rest, b'.') {
-        Some(value) => value,
-        None => return None,
-    };
-    let (week_day, rest) = match read_two_digits(rest) {
-        Some(value) => value,
-        None => return None,
-    };
+fn read_usual_month_week_day(text: &[u8]) -> Option<(u8, u8, u8, &[u8])> {
+    let (month, rest) = read_two_digits(text)?;
+    let rest = after_byte(rest, b'.')?;
+    let (week, rest) = read_two_digits(rest)?;
+    let rest = after_byte(rest, b'.')?;
+    let (week_day, rest) = read_two_digits(rest)?;
     Some((month, week, week_day, rest))
 }
 

@@ -1,3 +1,4 @@
+// Generated from crates/tz_zone/src/parse/tz_string/expect_byte.rt by bindings/erase: its contracts are cut. Change that file instead.
 //! A byte that must come next.
 
 use crate::proved::tz_base::error::parse::{ParseDataError, TzStringError};
@@ -5,7 +6,7 @@ use crate::proved::tz_zone::parse::after_byte::after_byte;
 
 /// The bytes after a byte, which must come first.
 #[inline(always)]
-pub(super) const fn expect_byte(text: &[u8], byte: u8) -> Result<&[u8], TzStringError> {
+pub(super) fn expect_byte(text: &[u8], byte: u8) -> Result<&[u8], TzStringError> {
     if text.is_empty() {
         return Err(TzStringError::ParseData(ParseDataError::UnexpectedEof));
     }

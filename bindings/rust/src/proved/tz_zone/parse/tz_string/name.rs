@@ -1,3 +1,4 @@
+// Generated from crates/tz_zone/src/parse/tz_string/name.rt by bindings/erase: its contracts are cut. Change that file instead.
 //! Names of local time types.
 
 use crate::proved::tz_base::error::parse::{ParseDataError, TzStringError};

@@ -1,3 +1,4 @@
+// Generated from crates/tz_zone/src/parse/tz_string/number.rt by bindings/erase: its contracts are cut. Change that file instead.
 //! Decimal numbers.
 
 use crate::proved::tz_base::error::parse::TzStringError;
@@ -10,7 +11,7 @@ fn split_digits(text: &[u8]) -> (&[u8], &[u8]) {
 
 /// The value of the first byte, if it is a digit, and the rest of the bytes.
 #[inline(always)]
-const fn after_digit(text: &[u8]) -> Option<(u8, &[u8])> {
+fn after_digit(text: &[u8]) -> Option<(u8, &[u8])> {
     match text {
         [first, rest @ ..] if first.is_ascii_digit() => Some((*first - b'0', rest)),
         _ => None,
@@ -19,11 +20,8 @@ const fn after_digit(text: &[u8]) -> Option<(u8, &[u8])> {
 
 /// The number at the beginning, where it has one digit or two, as most numbers of a string have, and the rest of the bytes.
 #[inline(always)]
-pub(super) const fn read_two_digits(text: &[u8]) -> Option<(u8, &[u8])> {
-    let (first, rest) = match after_digit(text) {
-        Some(value) => value,
-        None => return None,
-    };
+pub(super) fn read_two_digits(text: &[u8]) -> Option<(u8, &[u8])> {
+    let (first, rest) = after_digit(text)?;
     let Some((second, after)) = after_digit(rest) else {
         return Some((first, rest));
     };

@@ -1,3 +1,4 @@
+// Generated from crates/tz_zone/src/parse/tz_string/offset.rt by bindings/erase: its contracts are cut. Change that file instead.
 //! Offsets from UTC of standard time and of daylight saving time.
 
 use super::time::{DAY_HOURS, LAST_OF_SIXTY, WrittenTime, read_hms, read_sign};
@@ -17,7 +18,7 @@ impl WrittenTime {
     /// The offset of daylight saving time from UTC in seconds, if `self` is that of standard time: the written one, or an hour more than that of
     /// standard time if none is written.
     #[inline(always)]
-    pub(super) const fn daylight_ut_offset(self, daylight: Option<WrittenTime>) -> i32 {
+    pub(super) fn daylight_ut_offset(self, daylight: Option<WrittenTime>) -> i32 {
         match daylight {
             Some(offset) => offset.ut_offset(),
             None => self.ut_offset() + DEFAULT_SAVING,
@@ -27,7 +28,7 @@ impl WrittenTime {
 
 /// The numbers of an offset are in range.
 #[inline(always)]
-const fn check_offset(time: &WrittenTime) -> Result<(), TzStringError> {
+fn check_offset(time: &WrittenTime) -> Result<(), TzStringError> {
     if time.hours > DAY_HOURS {
         return Err(TzStringError::InvalidOffsetHour);
     }

@@ -1,3 +1,4 @@
+// Generated from crates/tz_zone/src/parse/tz_string/rule_text.rt by bindings/erase: its contracts are cut. Change that file instead.
 //! The text of a rule: a name and an offset, or two of each, and the start and the end of daylight saving time (the switches). (POSIX.1-2017, Base
 //! Definitions, 8.3)
 
@@ -28,7 +29,7 @@ fn read_daylight(text: &[u8]) -> Result<(&[u8], Option<WrittenTime>, &[u8]), TzS
 
 /// The local time type with this name.
 #[inline(always)]
-const fn named_type(
+fn named_type(
     name: &[u8],
     ut_offset: i32,
     is_dst: bool,

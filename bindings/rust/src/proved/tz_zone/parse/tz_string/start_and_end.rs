@@ -1,3 +1,4 @@
+// Generated from crates/tz_zone/src/parse/tz_string/start_and_end.rt by bindings/erase: its contracts are cut. Change that file instead.
 //! Switches: where in the year daylight saving time starts, or ends.
 
 use super::day::read_rule_day;
@@ -17,7 +18,7 @@ pub(super) struct DayAndTime {
 
 /// Two o'clock, the time of a switch that has none.
 #[inline(always)]
-const fn two_o_clock() -> WrittenTime {
+fn two_o_clock() -> WrittenTime {
     WrittenTime {
         minus: false,
         hours: 2,

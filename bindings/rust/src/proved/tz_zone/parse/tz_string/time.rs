@@ -1,3 +1,4 @@
+// Generated from crates/tz_zone/src/parse/tz_string/time.rt by bindings/erase: its contracts are cut. Change that file instead.
 //! Times as they are written, of an offset or of a day.
 
 use super::number::read_time_number;
@@ -59,7 +60,7 @@ pub(super) fn read_hms(text: &[u8], minus: bool) -> Result<(WrittenTime, &[u8]),
 
 /// Whether a minus comes first, and the bytes after it or after a plus.
 #[inline(always)]
-pub(super) const fn read_sign(text: &[u8]) -> (bool, &[u8]) {
+pub(super) fn read_sign(text: &[u8]) -> (bool, &[u8]) {
     if let Some(rest) = after_byte(text, b'-') {
         return (true, rest);
     }
@@ -71,7 +72,7 @@ pub(super) const fn read_sign(text: &[u8]) -> (bool, &[u8]) {
 
 /// The sign of a day time, which an ordinary string does not have.
 #[inline(always)]
-const fn read_day_time_sign(text: &[u8], extended: bool) -> (bool, &[u8]) {
+fn read_day_time_sign(text: &[u8], extended: bool) -> (bool, &[u8]) {
     if extended {
         return read_sign(text);
     }
@@ -80,13 +81,13 @@ const fn read_day_time_sign(text: &[u8], extended: bool) -> (bool, &[u8]) {
 
 /// The greatest hour of a day time.
 #[inline(always)]
-const fn greatest_hour(extended: bool) -> u32 {
+fn greatest_hour(extended: bool) -> u32 {
     if extended { EXTENDED_HOURS } else { DAY_HOURS }
 }
 
 /// The numbers of a day time are in range.
 #[inline(always)]
-const fn check_day_time(time: &WrittenTime, extended: bool) -> Result<(), TzStringError> {
+fn check_day_time(time: &WrittenTime, extended: bool) -> Result<(), TzStringError> {
     if time.hours > greatest_hour(extended) {
         return Err(TzStringError::InvalidDayTimeHour);
     }
