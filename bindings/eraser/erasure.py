@@ -70,6 +70,16 @@ PACKAGES = (
         },
         std_paths=STD,
     ),
+    # The program's library, over the crate's inner calls.
+    Package(
+        folder="bindings/tzq/src/proved",
+        crates=("tz_query",),
+        root="crate::proved",
+        skipped=("crates/tz_query/src/laws.rt",),
+        by_hand={"": "bindings/tzq/src/proved/mod.rs"},
+        others={name: f"tz::proved::{name}" for name in ("tz_base", "tz_zone", "tz")},
+        std_paths=((r"\bcore::dec2flt\b", "crate::shim::dec2flt"), *STD),
+    ),
 )
 
 # Exact texts that are replaced before anything else.
@@ -86,6 +96,7 @@ LEFT_OUT = {
     "crates/tz_rule/src/lib.rt": {"laws"},
     "crates/tz_zone/src/lib.rt": {"laws"},
     "crates/tz/src/lib.rt": {"laws"},
+    "crates/tz_query/src/lib.rt": {"laws"},
     # In Rust one implementation is for all that is a `TzError`.
     "crates/tz_base/src/error/conversions.rt": {"From for Error"},
     # In Rust the current time is no argument.
@@ -102,7 +113,7 @@ LEFT_OUT = {
 }
 
 # Errors to which variants are never added.
-EXHAUSTIVE = {"ReadFault"}
+EXHAUSTIVE = {"ReadFault", "RunFault"}
 
 # What examples of docs import, hidden.
 EXAMPLE_IMPORTS = ("# use tz::{datetime::*, error::*, timezone::*, *};",)

@@ -78,6 +78,8 @@ def without_laws(path, text):
 
 # A variant's text, or that of a struct, as thiserror takes it.
 ERROR_TEXT = re.compile(r'#\[error\((transparent|"(?:[^"\\]|\\.)*")\)\]\s*')
+# The packages of this repository know all variants.
+NON_EXHAUSTIVE = '#[cfg_attr(not(feature = "inner"), non_exhaustive)]\n'
 VARIANT = re.compile(r"([A-Z]\w*)\s*(\(([^()]*)\))?\s*,")
 
 
@@ -117,9 +119,9 @@ def with_errors(path, text):
             f"\n\nimpl fmt::Display for {name} {{ fn fmt(&self, f: &mut fmt::Formatter<'_>) -> fmt::Result {{ {arms} }} }}"
             f"\n\nimpl error::Error for {name} {{}}\n"
         )
-        if item.kind == "enum" and name not in erasure.EXHAUSTIVE:
-            at = re.search(rf"pub enum {name}\b", text).start()
-            text = text[:at] + "#[non_exhaustive]\n" + text[at:]
+        public = re.search(rf"^pub enum {name}\b", text, re.M)
+        if public and name not in erasure.EXHAUSTIVE:
+            text = text[: public.start()] + NON_EXHAUSTIVE + text[public.start() :]
     text = ERROR_TEXT.sub("", text)
     # Imports come after the docs of the module.
     found = re.search(r"^(?!//!|\n)", text, re.M)
