@@ -1,5 +1,6 @@
-//! Answers query lines about date times: `tzq -o OFFSET` over the zone with this offset from UTC in seconds, `tzq -f FILE` over that of
-//! a TZif file, `tzq -z STRING` over that of a TZ string or a name.
+//! Answers query lines about date times: `tzq -o OFFSET` over the zone with this offset from UTC in
+//! seconds, `tzq -f FILE` over that of a TZif file, `tzq -z STRING` over that of a TZ string or of
+//! a name.
 #![forbid(unsafe_code)]
 
 #[allow(dead_code, unused_imports)]

@@ -13,7 +13,8 @@ const POWERS: [u64; 9] = [
     100_000_000,
 ];
 
-/// The place after the digits from a place on, and a number with these digits after its own, modulo 2^64.
+/// The place after the digits from a place on, and a number with these digits after its own, modulo
+/// 2^64.
 #[inline(always)]
 pub fn read_digits(bytes: &[u8], from: usize, number: u64) -> (usize, u64) {
     let (mut place, mut number) = (from, number);
@@ -38,12 +39,14 @@ pub fn read_digits(bytes: &[u8], from: usize, number: u64) -> (usize, u64) {
     (place, number)
 }
 
-/// How many of eight bytes are digits before any other byte, and the number of these digits. The first byte is the lowest.
+/// How many of eight bytes are digits before any other byte, and the number of these digits. The
+/// first byte is the lowest.
 #[inline(always)]
 fn digits_of_eight(bytes: u64) -> (usize, u64) {
     // Of a digit its value is left, and of any other byte 10 or more.
     let values = bytes ^ 0x3030_3030_3030_3030;
-    // The highest bit of each byte that is 10 or more. No sum of seven bits and 0x76 reaches the next byte.
+    // The highest bit of each byte that is 10 or more. No sum of seven bits and 0x76 reaches the
+    // next byte.
     let others =
         ((values & 0x7f7f_7f7f_7f7f_7f7f) + 0x7676_7676_7676_7676 | values) & 0x8080_8080_8080_8080;
     if others == 0 {
