@@ -1,8 +1,8 @@
 //! The streams with which the program was started: without a buffer, and with every error of the
 //! system.
 //!
-//! Those of std read nothing from a stream that cannot be read, and drop what is written to one that
-//! cannot be written.
+//! Those of std read nothing from a stream that cannot be read, and drop what is written to one
+//! that cannot be written.
 
 use std::fs::File;
 use std::io::{self, Read, Write};
