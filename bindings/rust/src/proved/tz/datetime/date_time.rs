@@ -53,6 +53,7 @@ impl DateTime {
     /// The date time that clocks nine hours ahead of UTC show on 2024-05-01 at 8:30:
     ///
     /// ```
+    /// # use std::time::Duration;
     /// # use tz::{datetime::*, error::*, timezone::*, *};
     /// pub fn morning_in_tokyo() -> Result<DateTime, TzError> {
     ///     let tokyo = LocalTimeType::with_ut_offset(32_400)?;
@@ -136,15 +137,15 @@ impl DateTime {
     /// What clocks of a zone show at a Unix time, and the name of their time:
     ///
     /// ```
+    /// # use std::time::Duration;
     /// # use tz::{datetime::*, error::*, timezone::*, *};
     /// pub fn print_instant(
-    ///     alloc: Global,
     ///     zone: TimeZoneRef<'_>,
     ///     unix_time: i64,
     /// ) -> Result<String, TzError> {
     ///     let date_time = DateTime::from_timespec(unix_time, 0, zone)?;
     ///     let name = date_time.local_time_type().time_zone_designation();
-    ///     Ok(format!(in alloc; "{date_time} {name}")?)
+    ///     Ok(format!("{date_time} {name}"))
     /// }
     /// ```
     ///

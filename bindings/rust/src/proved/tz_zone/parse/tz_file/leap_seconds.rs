@@ -8,7 +8,6 @@ use crate::shim::Vec;
 use crate::shim::alloc::{AllocError, Allocator};
 
 /// The leap second of a record.
-
 fn leap_second_at(unit: &Unit<'_>, index: u32) -> LeapSecond {
     let at = unit.size.leaps_len(index);
     let unix_leap_time = time_at(unit.size, unit.block.leaps, at);
@@ -17,7 +16,6 @@ fn leap_second_at(unit: &Unit<'_>, index: u32) -> LeapSecond {
 }
 
 /// The leap seconds, in their order.
-
 pub(super) fn read_leap_seconds<A: Allocator + Copy>(
     alloc: A,
     unit: &Unit<'_>,

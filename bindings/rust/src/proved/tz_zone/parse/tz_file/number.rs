@@ -23,19 +23,16 @@ fn eight_at(bytes: &[u8], at: usize) -> [u8; 8] {
 }
 
 /// The count at a place.
-
 pub(super) fn count_at(bytes: &[u8], at: usize) -> u32 {
     u32::from_be_bytes(four_at(bytes, at))
 }
 
 /// The signed number of four bytes at a place.
-
 pub(super) fn signed_at(bytes: &[u8], at: usize) -> i32 {
     i32::from_be_bytes(four_at(bytes, at))
 }
 
 /// The signed number of eight bytes at a place.
-
 fn long_signed_at(bytes: &[u8], at: usize) -> i64 {
     i64::from_be_bytes(eight_at(bytes, at))
 }

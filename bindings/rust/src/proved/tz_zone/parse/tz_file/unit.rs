@@ -63,7 +63,6 @@ pub(crate) struct Unit<'a> {
 
 /// Cuts the block after the header into its parts.
 #[inline(always)]
-
 fn cut_block(size: TimeSize, counts: Counts, bytes: &[u8]) -> Block<'_> {
     let layout = Layout::new(size, counts);
     Block {
@@ -79,7 +78,6 @@ fn cut_block(size: TimeSize, counts: Counts, bytes: &[u8]) -> Block<'_> {
 
 /// Reads the header at the front, and cuts its block.
 #[inline(always)]
-
 pub(super) fn read_unit(size: TimeSize, bytes: &[u8]) -> Result<Unit<'_>, TzFileError> {
     let counts = read_header(bytes)?;
     let end = Layout::new(size, counts).end;
