@@ -116,7 +116,25 @@ LEFT_OUT = {
 EXHAUSTIVE = {"ReadFault", "RunFault"}
 
 # What examples of docs import, hidden.
-EXAMPLE_IMPORTS = ("# use tz::{datetime::*, error::*, timezone::*, *};",)
+EXAMPLE_IMPORTS = ("# use std::time::Duration;", "# use tz::{datetime::*, error::*, timezone::*, *};")
+
+# Examples have no allocator in Rust, and no error of one.
+EXAMPLE_FORMS = (
+    (r"\balloc: Global(,\s|,$|(?=\)))", ""),
+    (r"\b(in )?alloc[,;] ", ""),
+    (r"\(alloc\)", "()"),
+    (r"\bformat!\((.*)\)\?", r"format!(\1)"),
+    (r"(\.push\(\w+\))\?;", r"\1;"),
+)
+
+# Sources whose items are not the public ones of the crate: their examples are of Rattle.
+OTHER_EXAMPLES = {
+    "crates/tz/src/lib.rt",
+    "crates/tz_zone/src/timezone/file_reader.rt",
+    "crates/tz_zone/src/timezone/settings.rt",
+    "crates/tz_zone/src/timezone/zone.rt",
+    "crates/tz_zone/src/timezone/zone_of_file.rt",
+}
 
 
 def constants():

@@ -244,11 +244,24 @@ def without_comments(text):
 
 
 def with_examples(path, text):
-    """Examples of docs are compiled by rustdoc, which does not know the names that they import."""
-    lines, made, opens = text.split("\n"), [], False
-    for line in lines:
-        found = re.fullmatch(r"(\s*//[/!] )```rust", line)
-        made.append(line if not found else f"{found[1]}```")
-        if found:
+    """Examples of docs are compiled by rustdoc, which does not know the names that they import. In Rust no call has an allocator."""
+    made, inside = [], False
+    for line in text.split("\n"):
+        found = re.fullmatch(r"(\s*//[/!] ?)```(rust)?", line)
+        if found and not inside:
+            inside = True
+            if path in erasure.OTHER_EXAMPLES:
+                made.append(f"{found[1]}```text")
+                continue
+            made.append(f"{found[1]}```")
             made += [f"{found[1]}{it}" for it in erasure.EXAMPLE_IMPORTS]
+            continue
+        if found:
+            inside = False
+        elif inside and path not in erasure.OTHER_EXAMPLES:
+            for old, new in erasure.EXAMPLE_FORMS:
+                line = re.sub(old, new, line)
+            if re.fullmatch(r"\s*//[/!]\s*", line):
+                continue
+        made.append(line)
     return "\n".join(made)

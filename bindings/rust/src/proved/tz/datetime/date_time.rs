@@ -53,6 +53,7 @@ impl DateTime {
     /// The date time that clocks nine hours ahead of UTC show on 2024-05-01 at 8:30:
     ///
     /// ```
+    /// # use std::time::Duration;
     /// # use tz::{datetime::*, error::*, timezone::*, *};
     /// pub fn morning_in_tokyo() -> Result<DateTime, TzError> {
     ///     let tokyo = LocalTimeType::with_ut_offset(32_400)?;
@@ -76,7 +77,9 @@ impl DateTime {
         local_time_type: LocalTimeType,
     ) -> Result<Self, TzError> {
         let fields = Fields::new(year, month, month_day, hour, minute, second, nanoseconds);
-        fields.check()?;
+        if let Err(error) = fields.check() {
+            return Err(TzError::DateTime(error));
+        }
         let unix_time = fields.reading() - i64::from(local_time_type.ut_offset());
         if !is_reading(unix_time) {
             return Err(TzError::OutOfRange);
@@ -122,8 +125,9 @@ impl DateTime {
         nanoseconds: u32,
         local_time_type: LocalTimeType,
     ) -> Result<Self, TzError> {
-        let reading = local_reading(unix_time, local_time_type.ut_offset());
-        let reading = reading.ok_or(TzError::OutOfRange)?;
+        let Some(reading) = local_reading(unix_time, local_time_type.ut_offset()) else {
+            return Err(TzError::OutOfRange);
+        };
         Ok(DateTime {
             fields: Fields::from_reading(reading, nanoseconds),
             local_time_type,
@@ -136,15 +140,15 @@ impl DateTime {
     /// What clocks of a zone show at a Unix time, and the name of their time:
     ///
     /// ```
+    /// # use std::time::Duration;
     /// # use tz::{datetime::*, error::*, timezone::*, *};
     /// pub fn print_instant(
-    ///     alloc: Global,
     ///     zone: TimeZoneRef<'_>,
     ///     unix_time: i64,
     /// ) -> Result<String, TzError> {
     ///     let date_time = DateTime::from_timespec(unix_time, 0, zone)?;
     ///     let name = date_time.local_time_type().time_zone_designation();
-    ///     Ok(format!(in alloc; "{date_time} {name}")?)
+    ///     Ok(format!("{date_time} {name}"))
     /// }
     /// ```
     ///
@@ -177,7 +181,9 @@ impl DateTime {
         local_time_type: LocalTimeType,
     ) -> Result<Self, TzError> {
         let total = timespec(total_nanoseconds);
-        let (unix_time, nanoseconds) = total.ok_or(TzError::OutOfRange)?;
+        let Some((unix_time, nanoseconds)) = total else {
+            return Err(TzError::OutOfRange);
+        };
         DateTime::shown_by(unix_time, nanoseconds, local_time_type)
     }
 

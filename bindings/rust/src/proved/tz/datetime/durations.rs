@@ -9,7 +9,10 @@ use core::time::Duration;
 /// The seconds of the total, rounded down, and the nanoseconds that remain, if the seconds are those of a UTC date time.
 pub(super) fn utc_timespec(total: i128) -> Option<(i64, u32)> {
     let (seconds, nanoseconds) = timespec(total)?;
-    is_reading(seconds).then_some((seconds, nanoseconds))
+    if !is_reading(seconds) {
+        return None;
+    }
+    Some((seconds, nanoseconds))
 }
 
 /// The seconds from the first reading of UTC date times to the last.
@@ -18,7 +21,10 @@ const ALL_SECONDS: u64 = 135_536_076_801_503_999;
 /// The seconds with the whole ones of the nanoseconds, and the nanoseconds that remain, if the seconds are those of a UTC date time.
 fn carried(seconds: i64, nanoseconds: u32) -> Option<(i64, u32)> {
     let whole = seconds + i64::from(nanoseconds / NANOSECONDS_PER_SECOND);
-    is_reading(whole).then_some((whole, nanoseconds % NANOSECONDS_PER_SECOND))
+    if !is_reading(whole) {
+        return None;
+    }
+    Some((whole, nanoseconds % NANOSECONDS_PER_SECOND))
 }
 
 /// The seconds and nanoseconds a duration after others, if the seconds are those of a UTC date time.
@@ -48,7 +54,9 @@ pub(super) fn time_before(
 /// The duration between two totals: `Ok` if the later one is not below the earlier one, and otherwise `Err` with the way back.
 pub(super) const fn duration_between(earlier: i128, later: i128) -> Result<Duration, Duration> {
     let difference = later - earlier;
-    let duration = Duration::from_nanos_u128(difference.unsigned_abs());
+    let nanoseconds = difference.unsigned_abs();
+    let (whole, part) = (nanoseconds / 1_000_000_000, nanoseconds % 1_000_000_000);
+    let duration = Duration::new(whole as u64, part as u32);
     if difference >= 0 {
         Ok(duration)
     } else {

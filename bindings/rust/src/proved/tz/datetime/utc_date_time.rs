@@ -85,6 +85,7 @@ impl UtcDateTime {
     /// The Moon landing, in UTC:
     ///
     /// ```
+    /// # use std::time::Duration;
     /// # use tz::{datetime::*, error::*, timezone::*, *};
     /// pub fn moon_landing() -> Result<UtcDateTime, TzError> {
     ///     UtcDateTime::new(1969, 7, 20, 20, 17, 40, 0)
@@ -109,7 +110,9 @@ impl UtcDateTime {
         if is_past_the_end(&fields) {
             return Err(TzError::OutOfRange);
         }
-        fields.check()?;
+        if let Err(error) = fields.check() {
+            return Err(TzError::DateTime(error));
+        }
         Ok(UtcDateTime::of_fields(fields))
     }
 
@@ -152,8 +155,9 @@ impl UtcDateTime {
     ///
     /// [`TzError::OutOfRange`] if its year does not fit an `i32`.
     pub fn from_total_nanoseconds(total_nanoseconds: i128) -> Result<Self, TzError> {
-        let (unix_time, nanoseconds) =
-            utc_timespec(total_nanoseconds).ok_or(TzError::OutOfRange)?;
+        let Some((unix_time, nanoseconds)) = utc_timespec(total_nanoseconds) else {
+            return Err(TzError::OutOfRange);
+        };
         Ok(UtcDateTime::at(unix_time, nanoseconds))
     }
 
@@ -207,6 +211,7 @@ impl UtcDateTime {
     /// The next Monday at 9:00 in a zone:
     ///
     /// ```
+    /// # use std::time::Duration;
     /// # use tz::{datetime::*, error::*, timezone::*, *};
     /// pub fn next_monday_at_nine(zone: TimeZoneRef<'_>, now: i64) -> Result<Option<DateTime>, TzError> {
     ///     let today = DateTime::from_timespec(now, 0, zone)?;
@@ -244,9 +249,10 @@ impl UtcDateTime {
     /// What clocks an hour behind UTC show at the beginning of 2024 in UTC:
     ///
     /// ```
+    /// # use std::time::Duration;
     /// # use tz::{datetime::*, error::*, timezone::*, *};
-    /// pub fn new_year_an_hour_behind(alloc: Global) -> Result<DateTime, TzError> {
-    ///     let zone = TimeZone::fixed(alloc, -3600)?;
+    /// pub fn new_year_an_hour_behind() -> Result<DateTime, TzError> {
+    ///     let zone = TimeZone::fixed(-3600)?;
     ///     UtcDateTime::new(2024, 1, 1, 0, 0, 0, 0)?.project(zone.as_ref())
     /// }
     /// ```
@@ -264,19 +270,19 @@ impl UtcDateTime {
     /// gained between.
     ///
     /// ```
+    /// # use std::time::Duration;
     /// # use tz::{datetime::*, error::*, timezone::*, *};
     /// pub fn weekly_meetings(
-    ///     alloc: Global,
     ///     zone: TimeZoneRef<'_>,
     ///     first: UtcDateTime,
     ///     weeks: u32,
     /// ) -> Result<Vec<DateTime>, TzError> {
-    ///     let mut meetings = Vec::new(alloc);
+    ///     let mut meetings = Vec::new();
     ///     for week in 0..weeks {
     ///         let after_first = Duration::from_secs(604_800 * u64::from(week));
     ///         let local = first.checked_add(after_first).ok_or(TzError::OutOfRange)?;
     ///         if let Some(meeting) = DateTime::from_local(local, Disambiguation::Compatible, zone)? {
-    ///             meetings.push(meeting)?;
+    ///             meetings.push(meeting);
     ///         }
     ///     }
     ///     Ok(meetings)

@@ -80,6 +80,7 @@ impl AlternateTime {
     /// The rule of New York, with daylight saving time from 2:00 on the second Sunday of March to 2:00 on the first Sunday of November:
     ///
     /// ```
+    /// # use std::time::Duration;
     /// # use tz::{datetime::*, error::*, timezone::*, *};
     /// pub fn new_york_rule() -> Result<AlternateTime, TzError> {
     ///     let std = LocalTimeType::new(-18_000, false, Some(b"EST"))?;

@@ -41,7 +41,6 @@ const fn second_kind(pair: usize) -> usize {
 
 /// The days of the first year of a pair kind.
 #[inline(always)]
-
 const fn first_days(pair: usize) -> u16 {
     if pair < 14 { 365 } else { 366 }
 }

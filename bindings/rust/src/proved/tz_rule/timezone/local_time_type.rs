@@ -99,6 +99,7 @@ impl LocalTimeType {
     /// Central European summer time, two hours ahead of UTC:
     ///
     /// ```
+    /// # use std::time::Duration;
     /// # use tz::{datetime::*, error::*, timezone::*, *};
     /// pub fn summer_time() -> Result<LocalTimeType, TzError> {
     ///     Ok(LocalTimeType::new(7200, true, Some(b"CEST"))?)

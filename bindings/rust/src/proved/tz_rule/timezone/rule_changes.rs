@@ -198,7 +198,6 @@ impl AlternateData {
 }
 
 /// The first change of a rule after an instant.
-
 #[inline(always)]
 pub fn change_after<'a>(rule: RuleRef<'a>, unix_time: i64) -> Option<RuleChange<'a>> {
     match rule {
@@ -208,7 +207,6 @@ pub fn change_after<'a>(rule: RuleRef<'a>, unix_time: i64) -> Option<RuleChange<
 }
 
 /// The last change of a rule up to an instant.
-
 #[inline(always)]
 pub fn change_up_to<'a>(rule: RuleRef<'a>, unix_time: i64) -> Option<RuleChange<'a>> {
     match rule {

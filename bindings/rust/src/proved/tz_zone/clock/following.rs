@@ -50,7 +50,7 @@ fn end_of_run(
     local_time_type: &LocalTimeType,
 ) -> usize {
     let mut end = place;
-    while end + 1 < transitions.len() && type_of(parts, transitions[end]) == local_time_type {
+    while end + 1 < transitions.len() && type_of(parts, transitions[end]).is_same(local_time_type) {
         end += 1;
     }
     end

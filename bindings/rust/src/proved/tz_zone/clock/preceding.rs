@@ -30,7 +30,7 @@ fn start_of_run(
     local_time_type: &LocalTimeType,
 ) -> usize {
     let mut start = place;
-    while start > 1 && type_of(parts, transitions[start - 2]) == local_time_type {
+    while start > 1 && type_of(parts, transitions[start - 2]).is_same(local_time_type) {
         start -= 1;
     }
     start

@@ -14,6 +14,7 @@ impl<'a> TimeZoneRef<'a> {
     /// What clocks show at a Unix time of a log, with the segment cached for the next entry:
     ///
     /// ```
+    /// # use std::time::Duration;
     /// # use tz::{datetime::*, error::*, timezone::*, *};
     /// pub fn show_entry<'a>(
     ///     zone: TimeZoneRef<'a>,
@@ -45,6 +46,7 @@ impl<'a> TimeZoneRef<'a> {
     /// When clocks are set next, and by how many seconds forward:
     ///
     /// ```
+    /// # use std::time::Duration;
     /// # use tz::{datetime::*, error::*, timezone::*, *};
     /// pub fn next_change(zone: TimeZoneRef<'_>, now: i64) -> Result<Option<(DateTime, i64)>, TzError> {
     ///     let Some(change) = zone.following(now) else {
@@ -92,6 +94,7 @@ impl<'a> TimeZoneRef<'a> {
     /// How many seconds ago clocks changed last:
     ///
     /// ```
+    /// # use std::time::Duration;
     /// # use tz::{datetime::*, error::*, timezone::*, *};
     /// pub fn since_last_change(zone: TimeZoneRef<'_>, now: i64) -> Option<u64> {
     ///     let change = zone.preceding(now)?;
@@ -135,23 +138,23 @@ impl<'a> TimeZoneRef<'a> {
     /// The changes of a zone in the 20 years before an instant and at it, and the next two after it:
     ///
     /// ```
+    /// # use std::time::Duration;
     /// # use tz::{datetime::*, error::*, timezone::*, *};
     /// pub fn changes_around(
-    ///     alloc: Global,
     ///     zone: TimeZoneRef<'_>,
     ///     now: i64,
     /// ) -> Result<Vec<Change<'_>>, TzError> {
     ///     // 20 years of 365.2425 days.
     ///     let start = now.saturating_sub(20 * 31_556_952);
-    ///     let mut changes = Vec::new(alloc);
+    ///     let mut changes = Vec::new();
     ///     for change in zone.changes_after(start) {
     ///         if now < change.unix_time() {
     ///             break;
     ///         }
-    ///         changes.push(change)?;
+    ///         changes.push(change);
     ///     }
     ///     for change in zone.changes_after(now).take(2) {
-    ///         changes.push(change)?;
+    ///         changes.push(change);
     ///     }
     ///     Ok(changes)
     /// }
@@ -168,6 +171,7 @@ impl<'a> TimeZoneRef<'a> {
     /// When clocks were last set forward before an instant:
     ///
     /// ```
+    /// # use std::time::Duration;
     /// # use tz::{datetime::*, error::*, timezone::*, *};
     /// pub fn last_set_forward(zone: TimeZoneRef<'_>, now: i64) -> Option<i64> {
     ///     for change in zone.changes_before(now) {

@@ -149,8 +149,7 @@ impl<A: Allocator + Copy> TimeZone<A> {
     ///
     /// With the reader of the machine's files:
     ///
-    /// ```
-    /// # use tz::{datetime::*, error::*, timezone::*, *};
+    /// ```text
     /// pub fn local_zone<R: Files>(rt: &R, alloc: Global) -> Result<TimeZone, Error> {
     ///     TimeZone::local(alloc, |path: &str| timezone::read_file(rt, alloc, path))
     /// }
@@ -175,8 +174,7 @@ impl<A: Allocator + Copy> TimeZone<A> {
     ///
     /// The zone of a name such as `Europe/Paris`, or of a TZ string such as `CET-1CEST,M3.5.0,M10.5.0/3`:
     ///
-    /// ```
-    /// # use tz::{datetime::*, error::*, timezone::*, *};
+    /// ```text
     /// pub fn zone_of_setting<R: Files>(rt: &R, alloc: Global, setting: &str) -> Result<TimeZone, Error> {
     ///     let reader = |path: &str| timezone::read_file(rt, alloc, path);
     ///     TimeZone::from_posix_tz(alloc, reader, setting)

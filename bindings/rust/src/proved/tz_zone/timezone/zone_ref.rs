@@ -40,6 +40,7 @@ impl<'a> TimeZoneRef<'a> {
     /// A zone from parts, without allocating: clocks were an hour ahead of UTC until the year 2000, and are two hours ahead from then on.
     ///
     /// ```
+    /// # use std::time::Duration;
     /// # use tz::{datetime::*, error::*, timezone::*, *};
     /// pub fn moved_ahead_in_2000(unix_time: i64) -> Result<DateTime, TzError> {
     ///     let before = LocalTimeType::new(3600, false, Some(b"EARLY"))?;

@@ -108,9 +108,10 @@ pub fn answer<A: Allocator + Copy>(
 /// Answers query bytes over the zone that the bytes of a TZif file denote, as [`answer`] does. (RFC 8536)
 ///
 /// ```
+/// # use std::time::Duration;
 /// # use tz::{datetime::*, error::*, timezone::*, *};
-/// pub fn answer_lines(alloc: Global, file: &[u8], lines: &[u8]) -> Result<Vec<u8>, TzError> {
-///     query::answer_tzif(alloc, file, lines)
+/// pub fn answer_lines(file: &[u8], lines: &[u8]) -> Result<Vec<u8>, TzError> {
+///     query::answer_tzif(file, lines)
 /// }
 /// ```
 ///

@@ -41,7 +41,6 @@ fn index_of(local_time_type: &LocalTimeType) -> usize {
 impl Suffix {
     /// The suffix of a type.
     #[inline(never)]
-
     pub fn new(local_time_type: LocalTimeType) -> Suffix {
         let mut line = TextBuffer::new();
         line.push_offset(local_time_type.ut_offset());
