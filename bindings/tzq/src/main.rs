@@ -23,12 +23,16 @@ fn arguments() -> Vec<String> {
     arguments.collect::<Result<_, _>>().unwrap_or_default()
 }
 
+/// Answers the lines of the input over the zone that the arguments name, among the machine's files
+/// if by a name, and returns the program's status.
+fn answer_lines(arguments: &[&str]) -> u8 {
+    let reader = |path: &str| read_file(&Machine, Global, path);
+    let (mut input, mut out, mut err) = (Stream::input(), Stream::output(), io::stderr());
+    query::tool(Global, arguments, reader, &mut input, &mut out, &mut err)
+}
+
 fn main() -> ExitCode {
     let arguments = arguments();
     let texts: Vec<&str> = arguments.iter().map(String::as_str).collect();
-    let reader = |path: &str| read_file(&Machine, Global, path);
-    let (mut input, mut out, mut err) = (Stream::input(), Stream::output(), io::stderr());
-    ExitCode::from(query::tool(
-        Global, &texts, reader, &mut input, &mut out, &mut err,
-    ))
+    ExitCode::from(answer_lines(&texts))
 }

@@ -7,7 +7,7 @@
 use std::fs::File;
 use std::io::{self, Read, Write};
 
-#[cfg(unix)]
+#[cfg(not(windows))]
 use std::os::fd::AsFd;
 #[cfg(windows)]
 use std::os::windows::io::AsHandle;
@@ -15,23 +15,27 @@ use std::os::windows::io::AsHandle;
 /// A stream of bytes, or why there is none.
 pub struct Stream(io::Result<File>);
 
+/// A file that is this stream.
+#[cfg(not(windows))]
+fn file_of(stream: impl AsFd) -> io::Result<File> {
+    stream.as_fd().try_clone_to_owned().map(File::from)
+}
+
+/// A file that is this stream.
+#[cfg(windows)]
+fn file_of(stream: impl AsHandle) -> io::Result<File> {
+    stream.as_handle().try_clone_to_owned().map(File::from)
+}
+
 impl Stream {
     /// Standard input.
     pub fn input() -> Stream {
-        #[cfg(unix)]
-        let file = io::stdin().as_fd().try_clone_to_owned();
-        #[cfg(windows)]
-        let file = io::stdin().as_handle().try_clone_to_owned();
-        Stream(file.map(File::from))
+        Stream(file_of(io::stdin()))
     }
 
     /// Standard output.
     pub fn output() -> Stream {
-        #[cfg(unix)]
-        let file = io::stdout().as_fd().try_clone_to_owned();
-        #[cfg(windows)]
-        let file = io::stdout().as_handle().try_clone_to_owned();
-        Stream(file.map(File::from))
+        Stream(file_of(io::stdout()))
     }
 
     /// The stream's file.

@@ -67,3 +67,51 @@ fn number_of_values(values: u64) -> u64 {
     let fours = pairs.wrapping_mul(100).wrapping_add(pairs >> 16) & 0x0000_ffff_0000_ffff;
     fours.wrapping_mul(10_000).wrapping_add(fours >> 32) & 0xffff_ffff
 }
+
+#[cfg(test)]
+mod tests {
+    use super::read_digits;
+
+    /// What `read_digits` returns, byte by byte.
+    fn by_bytes(bytes: &[u8], from: usize, number: u64) -> (usize, u64) {
+        let digits = bytes[from..]
+            .iter()
+            .take_while(|byte| byte.is_ascii_digit());
+        let append = |(place, number): (usize, u64), digit: &u8| {
+            (
+                place + 1,
+                number
+                    .wrapping_mul(10)
+                    .wrapping_add(u64::from(digit - b'0')),
+            )
+        };
+        digits.fold((from, number), append)
+    }
+
+    #[test]
+    fn digits_end_at_any_other_byte() {
+        for other in 0..=u8::MAX {
+            for len in 0..20 {
+                for place in 0..len {
+                    let mut bytes: Vec<u8> = (b'0'..=b'9').rev().cycle().take(len).collect();
+                    bytes[place] = other;
+                    for from in 0..=len {
+                        assert_eq!(read_digits(&bytes, from, 0), by_bytes(&bytes, from, 0));
+                    }
+                }
+            }
+        }
+    }
+
+    #[test]
+    fn digits_are_appended_modulo_2_to_the_64() {
+        for byte in b'0'..=b'9' {
+            for number in [0, 1, 9, 1_844_674_407_370_955_161, 1 << 63, u64::MAX] {
+                for len in 0..40 {
+                    let bytes = vec![byte; len];
+                    assert_eq!(read_digits(&bytes, 0, number), by_bytes(&bytes, 0, number));
+                }
+            }
+        }
+    }
+}
