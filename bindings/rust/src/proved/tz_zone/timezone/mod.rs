@@ -26,4 +26,5 @@ pub use change_iterators::{ChangesAfter, ChangesBefore};
 pub use file_reader::{read_file, read_file_up_to};
 pub use settings::{DEFAULT_DIRECTORIES, TimeZoneSettings};
 pub use zone::TimeZone;
+pub use zone_name::is_zone_name;
 pub use zone_ref::TimeZoneRef;
