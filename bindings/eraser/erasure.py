@@ -84,6 +84,9 @@ PACKAGES = (
 
 # Exact texts that are replaced before anything else.
 EXACT = {
+    "crates/tz_rule/src/timezone/alternate_data.rt": (
+        ("parts.check_range().ok()?;", "if parts.check_range().is_err() { return None; }"),
+    ),
     "crates/tz/src/datetime/utc_date_time.rt": (
         ("self.checked_add(duration).unwrap()", 'self.checked_add(duration).expect("attempt to add with overflow")'),
         ("self.checked_sub(duration).unwrap()", 'self.checked_sub(duration).expect("attempt to subtract with overflow")'),

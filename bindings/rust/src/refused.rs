@@ -1,15 +1,16 @@
 //! Constants that do not compile, since the check refuses them.
 //!
-//! A rule whose start and end swap order from one year to another:
+//! A rule whose start, March 1st at noon, comes after its end, the sixtieth day of the year at 18:00, in leap years alone:
 //!
 //! ```compile_fail
 //! use tz::LocalTimeType;
 //! use tz::timezone::{AlternateTime, Julian0WithLeap, Julian1WithoutLeap, RuleDay};
 //!
-//! const RULE: AlternateTime = match (Julian1WithoutLeap::new(365), Julian0WithLeap::new(364)) {
+//! const RULE: AlternateTime = match (Julian1WithoutLeap::new(60), Julian0WithLeap::new(59)) {
 //!     (Ok(start), Ok(end)) => {
 //!         let (start, end) = (RuleDay::Julian1WithoutLeap(start), RuleDay::Julian0WithLeap(end));
-//!         match AlternateTime::new(LocalTimeType::utc(), LocalTimeType::utc(), start, 0, end, 0) {
+//!         let utc = LocalTimeType::utc();
+//!         match AlternateTime::new(utc, utc, start, 43_200, end, 64_800) {
 //!             Ok(rule) => rule,
 //!             Err(_) => panic!("refused"),
 //!         }
@@ -61,10 +62,11 @@
 //!     Ok(zone) => zone,
 //!     Err(_) => panic!("refused"),
 //! };
-//! const RULE: AlternateTime = match (Julian1WithoutLeap::new(365), Julian0WithLeap::new(0)) {
+//! const RULE: AlternateTime = match (Julian1WithoutLeap::new(60), Julian0WithLeap::new(60)) {
 //!     (Ok(start), Ok(end)) => {
 //!         let (start, end) = (RuleDay::Julian1WithoutLeap(start), RuleDay::Julian0WithLeap(end));
-//!         match AlternateTime::new(LocalTimeType::utc(), LocalTimeType::utc(), start, 0, end, 0) {
+//!         let utc = LocalTimeType::utc();
+//!         match AlternateTime::new(utc, utc, start, 43_200, end, 64_800) {
 //!             Ok(rule) => rule,
 //!             Err(_) => panic!("refused"),
 //!         }

@@ -43,12 +43,12 @@ const RULE: AlternateTime = made!(AlternateTime::new(
     10_800,
 ));
 const EXTRA: Option<TransitionRule> = Some(TransitionRule::Alternate(RULE));
-const TRANSITIONS: &[Transition] = &[
-    Transition::new(0, 1),
-    Transition::new(954_032_400 + 22, 2),
-];
+const TRANSITIONS: &[Transition] = &[Transition::new(0, 1), Transition::new(954_032_400 + 22, 2)];
 const TYPES: &[LocalTimeType] = &[WET, CET, CEST];
-const LEAPS: &[LeapSecond] = &[LeapSecond::new(78_796_800, 22), LeapSecond::new(94_694_401, 23)];
+const LEAPS: &[LeapSecond] = &[
+    LeapSecond::new(78_796_800, 22),
+    LeapSecond::new(94_694_401, 23),
+];
 const ZONE: TimeZoneRef<'static> = made!(TimeZoneRef::new(
     &[Transition::new(0, 1), Transition::new(954_032_400, 2)],
     TYPES,
@@ -64,8 +64,11 @@ const PARTS: (i64, usize, i64, i32) = (
     LEAPS[1].unix_leap_time(),
     LEAPS[1].correction(),
 );
-const TYPE_PARTS: (i32, bool, &str) =
-    (CEST.ut_offset(), CEST.is_dst(), CEST.time_zone_designation());
+const TYPE_PARTS: (i32, bool, &str) = (
+    CEST.ut_offset(),
+    CEST.is_dst(),
+    CEST.time_zone_designation(),
+);
 const DAYS: (u8, u8, u8, u16, u16) = (
     START.month(),
     START.week(),
@@ -81,7 +84,12 @@ const RULE_PARTS: (&LocalTimeType, &LocalTimeType, &RuleDay, i32, &RuleDay, i32)
     RULE.dst_end(),
     RULE.dst_end_time(),
 );
-const ZONE_PARTS: (&[Transition], &[LocalTimeType], &[LeapSecond], &Option<TransitionRule>) = (
+const ZONE_PARTS: (
+    &[Transition],
+    &[LocalTimeType],
+    &[LeapSecond],
+    &Option<TransitionRule>,
+) = (
     ZONE.transitions(),
     ZONE.local_time_types(),
     ZONE.leap_seconds(),
@@ -92,7 +100,9 @@ const FOUND: &LocalTimeType = made!(ZONE.find_local_time_type(1_000_000_000));
 // Date times.
 const MOON: UtcDateTime = made!(UtcDateTime::new(1969, 7, 20, 20, 17, 40, 5));
 const LATER: UtcDateTime = made!(UtcDateTime::from_timespec(1_000_000_000, 7));
-const SAME: UtcDateTime = made!(UtcDateTime::from_total_nanoseconds(LATER.total_nanoseconds()));
+const SAME: UtcDateTime = made!(UtcDateTime::from_total_nanoseconds(
+    LATER.total_nanoseconds()
+));
 const SUM: UtcDateTime = there!(MOON.checked_add(Duration::from_secs(1)));
 const DIFFERENCE: UtcDateTime = there!(MOON.checked_sub(Duration::from_secs(1)));
 const BETWEEN: Duration = made!(LATER.duration_since(MOON));
@@ -143,13 +153,14 @@ const NEXT: Change<'static> = there!(ZONE.following(1_000_000_000));
 const PREVIOUS: Change<'static> = there!(ZONE.preceding(1_000_000_000));
 const CHANGE_PARTS: (i64, &LocalTimeType, &LocalTimeType) =
     (NEXT.unix_time(), NEXT.before(), NEXT.after());
+// March 1st at noon, and the sixtieth day of the year at 18:00, which comes before it in leap years.
 const CONFLICT: Option<(i32, i32, i32)> = AlternateTime::conflict(
     CET,
     CEST,
-    RuleDay::Julian1WithoutLeap(DAY),
-    0,
-    RuleDay::Julian0WithLeap(made!(Julian0WithLeap::new(364))),
-    0,
+    RuleDay::Julian1WithoutLeap(made!(Julian1WithoutLeap::new(60))),
+    43_200,
+    RuleDay::Julian0WithLeap(made!(Julian0WithLeap::new(59))),
+    64_800,
 );
 
 #[test]
@@ -160,8 +171,19 @@ fn constants_have_the_values_that_calls_have() {
     assert_eq!((RULE_PARTS.0, RULE_PARTS.1), (&CET, &CEST));
     assert_eq!(RULE_PARTS.2, &RuleDay::MonthWeekDay(START));
     assert_eq!((RULE_PARTS.3, RULE_PARTS.5), (7200, 10_800));
-    assert_eq!(format!("{:?}", RULE_PARTS.4), "MonthWeekDay(MonthWeekDay { month: 10, week: 5, week_day: 0 })");
-    assert_eq!((ZONE_PARTS.0.len(), ZONE_PARTS.1, ZONE_PARTS.2.len(), ZONE_PARTS.3), (2, TYPES, 0, &EXTRA));
+    assert_eq!(
+        format!("{:?}", RULE_PARTS.4),
+        "MonthWeekDay(MonthWeekDay { month: 10, week: 5, week_day: 0 })"
+    );
+    assert_eq!(
+        (
+            ZONE_PARTS.0.len(),
+            ZONE_PARTS.1,
+            ZONE_PARTS.2.len(),
+            ZONE_PARTS.3
+        ),
+        (2, TYPES, 0, &EXTRA)
+    );
     assert_eq!(FOUND, &CEST);
     assert_eq!(UTC_PARTS, (1969, 7, 20, 20, 17, 40, 5, 0, 200, -14_182_940));
     assert_eq!(SAME, LATER);
@@ -172,10 +194,19 @@ fn constants_have_the_values_that_calls_have() {
     }
     assert_eq!(IN_UTC.to_string(), "2001-09-09T01:46:40.000000007Z");
     assert_eq!(NO_TIME, Duration::ZERO);
-    assert_eq!(DATE_TIME_PARTS, (2001, 9, 9, 3, 46, 40, 7, 0, 251, 1_000_000_000, &CEST));
+    assert_eq!(
+        DATE_TIME_PARTS,
+        (2001, 9, 9, 3, 46, 40, 7, 0, 251, 1_000_000_000, &CEST)
+    );
     // 2001-03-25 and 2001-10-28, at 1:00 UTC.
-    assert_eq!(SEGMENT_PARTS, (985_482_000, 1_004_230_799, Some(&CEST), false));
+    assert_eq!(
+        SEGMENT_PARTS,
+        (985_482_000, 1_004_230_799, Some(&CEST), false)
+    );
     assert_eq!(CHANGE_PARTS, (1_004_230_800, &CEST, &CET));
-    assert_eq!((PREVIOUS.unix_time(), PREVIOUS.after()), (985_482_000, &CEST));
+    assert_eq!(
+        (PREVIOUS.unix_time(), PREVIOUS.after()),
+        (985_482_000, &CEST)
+    );
     assert!(CONFLICT.is_some());
 }

@@ -82,12 +82,12 @@ pub const fn days_of_month(leap: bool, month: u8) -> u8 {
 }
 
 /// How many days the month of a year has.
-pub fn days_in_month(year: i32, month: u8) -> u8 {
+pub const fn days_in_month(year: i32, month: u8) -> u8 {
     days_of_month(is_leap_year(year), month)
 }
 
 /// Whether the month of a year has the day; a day up to the 28th is not looked up.
-pub(crate) fn has_month_day(year: i32, month: u8, month_day: u8) -> bool {
+pub(crate) const fn has_month_day(year: i32, month: u8, month_day: u8) -> bool {
     if month_day <= 28 {
         return true;
     }

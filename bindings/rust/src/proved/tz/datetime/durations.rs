@@ -7,8 +7,11 @@ use crate::proved::tz_base::total_nanoseconds::timespec;
 use core::time::Duration;
 
 /// The seconds of the total, rounded down, and the nanoseconds that remain, if the seconds are those of a UTC date time.
-pub(super) fn utc_timespec(total: i128) -> Option<(i64, u32)> {
-    let (seconds, nanoseconds) = timespec(total)?;
+pub(super) const fn utc_timespec(total: i128) -> Option<(i64, u32)> {
+    let (seconds, nanoseconds) = match timespec(total) {
+        Some(value) => value,
+        None => return None,
+    };
     if !is_reading(seconds) {
         return None;
     }
@@ -19,8 +22,8 @@ pub(super) fn utc_timespec(total: i128) -> Option<(i64, u32)> {
 const ALL_SECONDS: u64 = 135_536_076_801_503_999;
 
 /// The seconds with the whole ones of the nanoseconds, and the nanoseconds that remain, if the seconds are those of a UTC date time.
-fn carried(seconds: i64, nanoseconds: u32) -> Option<(i64, u32)> {
-    let whole = seconds + i64::from(nanoseconds / NANOSECONDS_PER_SECOND);
+const fn carried(seconds: i64, nanoseconds: u32) -> Option<(i64, u32)> {
+    let whole = seconds + (nanoseconds / NANOSECONDS_PER_SECOND) as i64;
     if !is_reading(whole) {
         return None;
     }
@@ -28,7 +31,11 @@ fn carried(seconds: i64, nanoseconds: u32) -> Option<(i64, u32)> {
 }
 
 /// The seconds and nanoseconds a duration after others, if the seconds are those of a UTC date time.
-pub(super) fn time_after(seconds: i64, nanoseconds: u32, duration: Duration) -> Option<(i64, u32)> {
+pub(super) const fn time_after(
+    seconds: i64,
+    nanoseconds: u32,
+    duration: Duration,
+) -> Option<(i64, u32)> {
     let added = duration.as_secs();
     if added > ALL_SECONDS {
         return None;
@@ -38,7 +45,7 @@ pub(super) fn time_after(seconds: i64, nanoseconds: u32, duration: Duration) -> 
 }
 
 /// The seconds and nanoseconds a duration before others, if the seconds are those of a UTC date time.
-pub(super) fn time_before(
+pub(super) const fn time_before(
     seconds: i64,
     nanoseconds: u32,
     duration: Duration,

@@ -27,7 +27,7 @@ pub struct UtcDateTime {
 }
 
 /// Whether the fields are second 60 of the last minute, which reads as a second past the years of 32 bits.
-pub(crate) fn is_past_the_end(fields: &Fields) -> bool {
+pub(crate) const fn is_past_the_end(fields: &Fields) -> bool {
     fields.year == i32::MAX
         && fields.month == 12
         && fields.month_day == 31
@@ -97,7 +97,7 @@ impl UtcDateTime {
     /// - [`TzError::OutOfRange`] for second 60 of the last minute of the year `i32::MAX`, whatever the nanoseconds;
     /// - [`TzError::DateTime`] with the first field that is out of range, in the order of the arguments, or else with `InvalidMonthDay` if the month
     ///   does not have the day.
-    pub fn new(
+    pub const fn new(
         year: i32,
         month: u8,
         month_day: u8,
@@ -118,7 +118,7 @@ impl UtcDateTime {
 
     /// The date time with these fields, which have one.
     #[inline(always)]
-    pub(crate) fn of_fields(fields: Fields) -> Self {
+    pub(crate) const fn of_fields(fields: Fields) -> Self {
         UtcDateTime {
             fields,
             unix_time: fields.reading(),
@@ -154,7 +154,7 @@ impl UtcDateTime {
     /// # Errors
     ///
     /// [`TzError::OutOfRange`] if its year does not fit an `i32`.
-    pub fn from_total_nanoseconds(total_nanoseconds: i128) -> Result<Self, TzError> {
+    pub const fn from_total_nanoseconds(total_nanoseconds: i128) -> Result<Self, TzError> {
         let Some((unix_time, nanoseconds)) = utc_timespec(total_nanoseconds) else {
             return Err(TzError::OutOfRange);
         };
@@ -260,7 +260,7 @@ impl UtcDateTime {
     /// # Errors
     ///
     /// Those of [`DateTime::from_timespec`] at an instant with valid nanoseconds.
-    pub fn project(&self, time_zone_ref: TimeZoneRef<'_>) -> Result<DateTime, TzError> {
+    pub const fn project(&self, time_zone_ref: TimeZoneRef<'_>) -> Result<DateTime, TzError> {
         DateTime::from_timespec(self.unix_time(), self.fields.nanoseconds, time_zone_ref)
     }
 
@@ -288,16 +288,22 @@ impl UtcDateTime {
     ///     Ok(meetings)
     /// }
     /// ```
-    pub fn checked_add(&self, duration: Duration) -> Option<Self> {
+    pub const fn checked_add(&self, duration: Duration) -> Option<Self> {
         let moved = time_after(self.unix_time(), self.fields.nanoseconds, duration);
-        let (unix_time, nanoseconds) = moved?;
+        let (unix_time, nanoseconds) = match moved {
+            Some(value) => value,
+            None => return None,
+        };
         Some(UtcDateTime::at(unix_time, nanoseconds))
     }
 
     /// The date time earlier by a duration, or `None` if that is before [`UtcDateTime::MIN`].
-    pub fn checked_sub(&self, duration: Duration) -> Option<Self> {
+    pub const fn checked_sub(&self, duration: Duration) -> Option<Self> {
         let moved = time_before(self.unix_time(), self.fields.nanoseconds, duration);
-        let (unix_time, nanoseconds) = moved?;
+        let (unix_time, nanoseconds) = match moved {
+            Some(value) => value,
+            None => return None,
+        };
         Some(UtcDateTime::at(unix_time, nanoseconds))
     }
 

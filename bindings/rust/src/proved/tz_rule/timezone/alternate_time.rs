@@ -133,7 +133,7 @@ impl AlternateTime {
 
     /// Why parts in range make no rule: two years x and y and a distance k in years, such that the start of x comes after the end of x + k, and the
     /// start of y before the end of y + k. `None` if they make one, or are out of range.
-    pub fn conflict(
+    pub const fn conflict(
         std: LocalTimeType,
         dst: LocalTimeType,
         dst_start: RuleDay,

@@ -57,16 +57,19 @@ impl<'a> TimeZoneRef<'a> {
     ///     Ok(Some((shown, seconds)))
     /// }
     /// ```
-    pub fn following(&self, unix_time: i64) -> Option<Change<'a>> {
+    pub const fn following(&self, unix_time: i64) -> Option<Change<'a>> {
         let (change, _) =
-            find_following(self.transitions(), other_parts_of(self), unix_time, None)?;
+            match find_following(self.transitions(), other_parts_of(self), unix_time, None) {
+                Some(value) => value,
+                None => return None,
+            };
         Some(change)
     }
 
     /// The first change after an instant, and the likely place after that change, for the next call. `place` is the likely place after a change at
     /// the instant; a wrong one costs time and no more.
     #[inline(always)]
-    pub(crate) fn following_from(
+    pub(crate) const fn following_from(
         &self,
         unix_time: i64,
         place: usize,
@@ -82,7 +85,7 @@ impl<'a> TimeZoneRef<'a> {
     /// What `following_from` returns, if the next change is not simply the next transition. Not inlined, so that a step from one transition to
     /// the next stays small.
     #[inline(never)]
-    fn following_near(&self, unix_time: i64, place: usize) -> Option<(Change<'a>, usize)> {
+    const fn following_near(&self, unix_time: i64, place: usize) -> Option<(Change<'a>, usize)> {
         clock::following_near(self.transitions(), other_parts_of(self), unix_time, place)
     }
 
@@ -101,16 +104,19 @@ impl<'a> TimeZoneRef<'a> {
     ///     Some(now.abs_diff(change.unix_time()))
     /// }
     /// ```
-    pub fn preceding(&self, unix_time: i64) -> Option<Change<'a>> {
+    pub const fn preceding(&self, unix_time: i64) -> Option<Change<'a>> {
         let (change, _) =
-            find_preceding(self.transitions(), other_parts_of(self), unix_time, None)?;
+            match find_preceding(self.transitions(), other_parts_of(self), unix_time, None) {
+                Some(value) => value,
+                None => return None,
+            };
         Some(change)
     }
 
     /// The last change before an instant, and the likely place before that change, for the next call. `place` is the likely place before a change at
     /// the instant; a wrong one costs time and no more.
     #[inline(always)]
-    pub(crate) fn preceding_from(
+    pub(crate) const fn preceding_from(
         &self,
         unix_time: i64,
         place: usize,
@@ -125,7 +131,7 @@ impl<'a> TimeZoneRef<'a> {
 
     /// What `preceding_from` returns, if the last change is not simply the transition before. Not inlined, for the same reason.
     #[inline(never)]
-    fn preceding_near(&self, unix_time: i64, place: usize) -> Option<(Change<'a>, usize)> {
+    const fn preceding_near(&self, unix_time: i64, place: usize) -> Option<(Change<'a>, usize)> {
         clock::preceding_near(self.transitions(), other_parts_of(self), unix_time, place)
     }
 
