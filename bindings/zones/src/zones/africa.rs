@@ -4,8 +4,8 @@
 
 use crate::parts::*;
 use crate::zones::rules;
-use tz::{LocalTimeType, TimeZoneRef};
 use tz::timezone::Transition;
+use tz::{LocalTimeType, TimeZoneRef};
 
 /// `Africa/Abidjan`: 1 transition, then `GMT0`.
 pub const ABIDJAN: TimeZoneRef<'static> = zone(&ABIDJAN_TABLE, &ABIDJAN_TYPES, &rules::GMT0);

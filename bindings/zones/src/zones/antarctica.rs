@@ -4,8 +4,8 @@
 
 use crate::parts::*;
 use crate::zones::rules;
-use tz::{LocalTimeType, TimeZoneRef};
 use tz::timezone::Transition;
+use tz::{LocalTimeType, TimeZoneRef};
 
 /// `Antarctica/Casey`: 17 transitions, then `<+08>-8`.
 pub const CASEY: TimeZoneRef<'static> = zone(&CASEY_TABLE, &CASEY_TYPES, &rules::PLUS_08_MINUS_8);

@@ -4,8 +4,8 @@
 
 use crate::parts::*;
 use crate::zones::rules;
-use tz::{LocalTimeType, TimeZoneRef};
 use tz::timezone::Transition;
+use tz::{LocalTimeType, TimeZoneRef};
 
 /// `Arctic/Longyearbyen`: 60 transitions, then `CET-1CEST,M3.5.0,M10.5.0/3`.
 pub const LONGYEARBYEN: TimeZoneRef<'static> = zone(

@@ -4,8 +4,8 @@
 
 use crate::parts::*;
 use crate::zones::rules;
-use tz::{LocalTimeType, TimeZoneRef};
 use tz::timezone::Transition;
+use tz::{LocalTimeType, TimeZoneRef};
 
 /// `Asia/Aden`: 1 transition, then `<+03>-3`.
 pub const ADEN: TimeZoneRef<'static> = zone(&ADEN_TABLE, &ADEN_TYPES, &rules::PLUS_03_MINUS_3);

@@ -4,8 +4,8 @@
 
 use crate::parts::*;
 use crate::zones::rules;
-use tz::{LocalTimeType, TimeZoneRef};
 use tz::timezone::Transition;
+use tz::{LocalTimeType, TimeZoneRef};
 
 /// `Atlantic/Azores`: 133 transitions, then `<-01>1<+00>,M3.5.0/0,M10.5.0/1`.
 pub const AZORES: TimeZoneRef<'static> = zone(

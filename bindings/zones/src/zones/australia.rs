@@ -4,8 +4,8 @@
 
 use crate::parts::*;
 use crate::zones::rules;
-use tz::{LocalTimeType, TimeZoneRef};
 use tz::timezone::Transition;
+use tz::{LocalTimeType, TimeZoneRef};
 
 /// `Australia/ACT`: 82 transitions, then `AEST-10AEDT,M10.1.0,M4.1.0/3`.
 pub const ACT: TimeZoneRef<'static> = zone(

@@ -4,8 +4,8 @@
 
 use crate::parts::*;
 use crate::zones::rules;
-use tz::{LocalTimeType, TimeZoneRef};
 use tz::timezone::Transition;
+use tz::{LocalTimeType, TimeZoneRef};
 
 /// `Chile/Continental`, the same as [`America/Santiago`](crate::america::SANTIAGO).
 pub const CONTINENTAL: TimeZoneRef<'static> = crate::america::SANTIAGO;

@@ -4,8 +4,8 @@
 
 use crate::parts::*;
 use crate::zones::rules;
-use tz::{LocalTimeType, TimeZoneRef};
 use tz::timezone::Transition;
+use tz::{LocalTimeType, TimeZoneRef};
 
 /// `Indian/Antananarivo`: 3 transitions, then `EAT-3`.
 pub const ANTANANARIVO: TimeZoneRef<'static> = zone(

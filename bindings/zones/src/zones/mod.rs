@@ -1,8 +1,8 @@
 // Made by `generate`, of version 2025b of the tz database.
 
 use crate::parts::*;
-use tz::{LocalTimeType, TimeZoneRef};
 use tz::timezone::Transition;
+use tz::{LocalTimeType, TimeZoneRef};
 
 pub mod africa;
 pub mod america;

@@ -1,6 +1,6 @@
 // Made by `generate`, of version 2025b of the tz database.
 
-/// The version of the tz database that the zones are of.
+/// The version of the tz database, as its own files say it.
 pub const VERSION: &str = "2025b";
 
 // Each name with its zone, in the order of names.

@@ -4,8 +4,8 @@
 
 use crate::parts::*;
 use crate::zones::rules;
-use tz::{LocalTimeType, TimeZoneRef};
 use tz::timezone::Transition;
+use tz::{LocalTimeType, TimeZoneRef};
 
 /// `Pacific/Apia`: 26 transitions, then `<+13>-13`.
 pub const APIA: TimeZoneRef<'static> = zone(&APIA_TABLE, &APIA_TYPES, &rules::PLUS_13_MINUS_13);

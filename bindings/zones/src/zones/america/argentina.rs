@@ -4,8 +4,8 @@
 
 use crate::parts::*;
 use crate::zones::rules;
-use tz::{LocalTimeType, TimeZoneRef};
 use tz::timezone::Transition;
+use tz::{LocalTimeType, TimeZoneRef};
 
 /// `America/Argentina/Buenos_Aires`: 61 transitions, then `<-03>3`.
 pub const BUENOS_AIRES: TimeZoneRef<'static> = zone(

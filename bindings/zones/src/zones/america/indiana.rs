@@ -4,8 +4,8 @@
 
 use crate::parts::*;
 use crate::zones::rules;
-use tz::{LocalTimeType, TimeZoneRef};
 use tz::timezone::Transition;
+use tz::{LocalTimeType, TimeZoneRef};
 
 /// `America/Indiana/Indianapolis`, the same as [`America/Fort_Wayne`](crate::america::FORT_WAYNE).
 pub const INDIANAPOLIS: TimeZoneRef<'static> = crate::america::FORT_WAYNE;

@@ -4,8 +4,8 @@
 
 use crate::parts::*;
 use crate::zones::rules;
-use tz::{LocalTimeType, TimeZoneRef};
 use tz::timezone::Transition;
+use tz::{LocalTimeType, TimeZoneRef};
 
 /// `America/Kentucky/Louisville`: 117 transitions, then `EST5EDT,M3.2.0,M11.1.0`.
 pub const LOUISVILLE: TimeZoneRef<'static> = zone(

@@ -4,8 +4,8 @@
 
 use crate::parts::*;
 use crate::zones::rules;
-use tz::{LocalTimeType, TimeZoneRef};
 use tz::timezone::Transition;
+use tz::{LocalTimeType, TimeZoneRef};
 
 /// `America/North_Dakota/Beulah`: 96 transitions, then `CST6CDT,M3.2.0,M11.1.0`.
 pub const BEULAH: TimeZoneRef<'static> = zone(
