@@ -1,4 +1,4 @@
-// Made by `generate`, of version 2025b of the tz database.
+// Made by `generate` of the tz database, which is in the public domain.
 
 //! Zones of `Brazil`.
 
