@@ -11,35 +11,33 @@ use tz::timezone::{AlternateTime, MonthWeekDay, RuleDay, Transition, TransitionR
 use tz::{LocalTimeType, TimeZone, TimeZoneRef};
 use tz_zones::america::OJINAGA;
 
-/// A copy of this package that can be altered and compiled.
-struct Copy(PathBuf);
+/// A file of the package's zones.
+const FILE: &str = "src/zones/asia.rs";
 
-impl Copy {
-    fn new(name: &str) -> Copy {
+/// A copy of this package, in which that file can be altered.
+struct Package(PathBuf);
+
+impl Package {
+    fn new() -> Package {
         let from = Path::new(env!("CARGO_MANIFEST_DIR"));
-        let folder = Path::new(env!("CARGO_TARGET_TMPDIR")).join(name);
-        copy_folder(&from.join("src"), &folder.join("src"));
-        fs::copy(from.join("README.md"), folder.join("README.md")).unwrap();
+        let to = Path::new(env!("CARGO_TARGET_TMPDIR")).join("altered");
+        copy_folder(&from.join("src"), &to.join("src"));
+        fs::copy(from.join("README.md"), to.join("README.md")).unwrap();
         let tz = from.with_file_name("rust");
         let manifest = format!(
             "[package]\nname = \"tz-zones\"\nedition = \"2024\"\n[workspace]\n\
              [dependencies]\ntz-rs = {{ path = {tz:?}, default-features = false }}\n"
         );
-        fs::write(folder.join("Cargo.toml"), manifest).unwrap();
-        Copy(folder)
+        fs::write(to.join("Cargo.toml"), manifest).unwrap();
+        Package(to)
     }
 
-    /// What the compiler says of the copy in which one text of a file is another.
-    fn compile(&self, file: &str, old: &str, new: &str) -> Output {
-        let path = self.0.join("src/zones").join(file);
-        let text = fs::read_to_string(&path).unwrap();
-        assert_eq!(text.matches(old).count(), 1, "{old}");
-        fs::write(&path, text.replace(old, new)).unwrap();
+    /// Compiles it with this text of the file.
+    fn compile(&self, text: &str) -> Output {
+        fs::write(self.0.join(FILE), text).unwrap();
         let mut cargo = Command::new(env::var_os("CARGO").unwrap_or_else(|| "cargo".into()));
         cargo.args(["check", "--offline", "--quiet", "--target-dir", "target"]);
-        let output = cargo.current_dir(&self.0).output().unwrap();
-        fs::write(&path, text).unwrap();
-        output
+        cargo.current_dir(&self.0).output().unwrap()
     }
 }
 
@@ -56,64 +54,50 @@ fn copy_folder(from: &Path, to: &Path) {
     }
 }
 
-/// The text of a constant, from its name to the end of its table.
-fn table_of(file: &str, name: &str) -> String {
-    let path = Path::new(env!("CARGO_MANIFEST_DIR"))
-        .join("src/zones")
-        .join(file);
+/// The text of the file up to the table of Tokyo, from it on, and the pairs of the table.
+fn tokyo() -> (String, String, Vec<(i64, usize)>) {
+    let path = Path::new(env!("CARGO_MANIFEST_DIR")).join(FILE);
     let text = fs::read_to_string(path).unwrap();
-    let start = text.find(&format!("static {name}_TABLE")).unwrap();
-    let end = start + text[start..].find("]);").unwrap();
-    text[start..end].to_string()
+    let (start, rest) = text.split_at(text.find("static TOKYO_TABLE: ").unwrap());
+    let (_, pairs) = rest.split_once("table([").unwrap();
+    let (pairs, _) = pairs.split_once("]);").unwrap();
+    let pairs = pairs.split_terminator("),").filter_map(|pair| {
+        let (time, index) = pair.trim().strip_prefix('(')?.split_once(", ")?;
+        Some((time.parse().ok()?, index.parse().ok()?))
+    });
+    (start.to_string(), rest.to_string(), pairs.collect())
 }
 
 #[test]
 fn altered_constants_do_not_compile() {
-    let copy = Copy::new("altered");
-    let table = table_of("asia.rs", "TOKYO");
-    let pairs: Vec<_> = table
-        .split('(')
-        .skip(2)
-        .map(|pair| pair.split(')').next().unwrap())
-        .collect();
-    let same = copy.compile("asia.rs", &table, &table);
+    let (start, rest, pairs) = tokyo();
+    let last = pairs.len() - 1;
+    let package = Package::new();
+    let same = package.compile(&format!("{start}{rest}"));
     assert!(same.status.success(), "{}", first_lines(&same));
 
-    let (first, second, last) = (pairs[0], pairs[1], pairs[pairs.len() - 1]);
-    let first_time = first.split(',').next().unwrap();
-    let second_time = second.split(',').next().unwrap();
-    let last_time = last.split(',').next().unwrap();
-    for (what, old, new) in [
-        (
-            "not in order",
-            second,
-            second.replace(second_time, first_time),
-        ),
-        ("no such type", first, format!("{first_time}, 99")),
-        ("not the type of the rule", last, format!("{last_time}, 0")),
+    for (what, place, pair) in [
+        ("not after the one before", 1, (pairs[0].0, pairs[1].1)),
+        ("to a type that is not there", 0, (pairs[0].0, 99)),
+        ("not to the type of the rule", last, (pairs[last].0, 0)),
     ] {
-        let altered = table.replace(old, &new);
-        let output = copy.compile("asia.rs", &table, &altered);
-        let text = first_lines(&output);
-        assert!(
-            !output.status.success(),
-            "compiles, with a transition {what}"
-        );
-        assert!(text.contains("E0080"), "{what}: {text}");
-        assert!(
-            text.contains("the check refuses this zone"),
-            "{what}: {text}"
-        );
+        let [old, new] = [pairs[place], pair].map(|(time, index)| format!("({time}, {index}),"));
+        let altered = rest.replacen(&old, &new, 1);
+        assert_ne!(altered, rest, "{what}");
+        let output = package.compile(&format!("{start}{altered}"));
+        let lines = first_lines(&output);
+        assert!(!output.status.success(), "a transition {what} compiles");
+        assert!(lines.contains("E0080"), "{what}: {lines}");
+        assert!(lines.contains("the check refuses"), "{what}: {lines}");
     }
 }
 
-/// The first lines of what the compiler writes, which goes on for each constant.
+/// The first lines of the compiler's first error: there is one for each constant.
 fn first_lines(output: &Output) -> String {
     let text = String::from_utf8_lossy(&output.stderr);
-    let lines = text.lines().take(12);
-    lines
-        .map(|line| line.chars().take(120).collect::<String>() + "\n")
-        .collect()
+    let lines = text.lines().skip_while(|line| !line.starts_with("error"));
+    let lines = lines.take(12).map(|line| line.chars().take(120));
+    lines.map(|line| line.collect::<String>() + "\n").collect()
 }
 
 fn is_refused<T>(zone: Result<T, TzError>) -> bool {
