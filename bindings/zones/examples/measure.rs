@@ -1,20 +1,21 @@
-//! Prints how long `named` takes, the least of eleven rounds over all names:
-//! `cargo run --release --example measure`.
+//! Prints how long `named` takes: `cargo run --release --example measure`.
 
 use std::hint::black_box;
 use std::time::Instant;
 
 use tz_zones::{NAMES, named};
 
-const CALLS: usize = 1000;
+/// Rounds over all names, of which the least time is taken, since other programs run meanwhile.
+const ROUNDS: usize = 10_000;
 
 fn main() {
-    let nanoseconds = (0..11).map(|_| {
+    let times = (0..ROUNDS).map(|_| {
         let start = Instant::now();
-        for name in NAMES.iter().cycle().take(CALLS * NAMES.len()) {
+        for name in NAMES {
             black_box(named(black_box(name)));
         }
-        start.elapsed().as_nanos() / (CALLS * NAMES.len()) as u128
+        start.elapsed().as_nanos()
     });
-    println!("named: {} ns", nanoseconds.min().unwrap_or_default());
+    let least = times.min().unwrap_or_default();
+    println!("named: {} ns", least / NAMES.len() as u128);
 }
