@@ -108,9 +108,9 @@ fn is_refused<T>(zone: Result<T, TzError>) -> bool {
     )
 }
 
-/// America/Ojinaga from 2022-04-03 on, in which `zic -b slim` of Debian 12 leaves a week of the rule
-/// that the zone does not have: at 2022-10-30T08:00:00Z clocks go to CST, and stay on it until
-/// 2023-03-12. But the rule, which its table leaves the clock to, has CDT until 2022-11-06.
+/// The end of America/Ojinaga as `zic -b slim` of Debian 12 writes it: at 2022-10-30T08:00:00Z
+/// clocks go to CST, and the rule follows, which has CDT until 2022-11-06. But the zone stays on
+/// CST until 2023-03-12.
 #[test]
 fn slim_ojinaga_is_refused() {
     let local = |ut_offset, is_dst, name: &str| {
