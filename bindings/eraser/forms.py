@@ -4,6 +4,7 @@ import re
 from . import erasure
 from .constant import made_constant
 from .cut import without_ghosts
+from .exports import with_open_fields, with_open_modules
 from .structure import functions_of, items_of
 from .tokens import OPEN, Stop, closing, edited, line_of, tokens_of
 
@@ -30,6 +31,9 @@ def erased(package, path, text):
     text = made_constant(path, text)
     text = with_bounds(path, text)
     text = with_paths(package, path, text)
+    text = with_open_fields(text, erasure.OPEN_FIELDS.get(path, ()))
+    if package.exports and path.endswith("/src/lib.rt"):
+        text = with_open_modules(text)
     return with_examples(path, text)
 
 
@@ -76,6 +80,9 @@ def without_laws(path, text):
     return text
 
 
+# The packages of this repository match all variants.
+NON_EXHAUSTIVE = '#[cfg_attr(not(feature = "inner"), non_exhaustive)]\n'
+
 # A variant's text, or that of a struct, as thiserror takes it.
 ERROR_TEXT = re.compile(r'#\[error\((transparent|"(?:[^"\\]|\\.)*")\)\]\s*')
 VARIANT = re.compile(r"([A-Z]\w*)\s*(\(([^()]*)\))?\s*,")
@@ -119,7 +126,7 @@ def with_errors(path, text):
         )
         if item.kind == "enum" and name not in erasure.EXHAUSTIVE:
             at = re.search(rf"pub enum {name}\b", text).start()
-            text = text[:at] + "#[non_exhaustive]\n" + text[at:]
+            text = text[:at] + NON_EXHAUSTIVE + text[at:]
     text = ERROR_TEXT.sub("", text)
     # Imports come after the docs of the module.
     found = re.search(r"^(?!//!|\n)", text, re.M)

@@ -4,7 +4,7 @@
 use core::{error, fmt};
 /// The field that is out of range.
 #[derive(Clone, Copy, Debug, PartialEq, Eq)]
-#[non_exhaustive]
+#[cfg_attr(not(feature = "inner"), non_exhaustive)]
 pub enum DateTimeError {
     /// The month is not in 1 to 12.
     InvalidMonth,

@@ -8,7 +8,7 @@ use core::{error, fmt};
 
 /// Why the next bytes are not what is expected.
 #[derive(Clone, Copy, Debug, PartialEq, Eq)]
-#[non_exhaustive]
+#[cfg_attr(not(feature = "inner"), non_exhaustive)]
 pub enum ParseDataError {
     /// The bytes end too early.
     UnexpectedEof,
@@ -18,7 +18,7 @@ pub enum ParseDataError {
 
 /// Why a string is not a TZ string.
 #[derive(Debug, PartialEq, Eq)]
-#[non_exhaustive]
+#[cfg_attr(not(feature = "inner"), non_exhaustive)]
 pub enum TzStringError {
     /// The bytes are not UTF-8. No call returns this, since only digits are converted.
     Utf8(Utf8Error),
@@ -48,7 +48,7 @@ pub enum TzStringError {
 
 /// Why bytes are not a TZif file.
 #[derive(Debug, PartialEq, Eq)]
-#[non_exhaustive]
+#[cfg_attr(not(feature = "inner"), non_exhaustive)]
 pub enum TzFileError {
     /// The footer is not UTF-8.
     Utf8(Utf8Error),

@@ -4,7 +4,7 @@
 use core::{error, fmt};
 /// Why parts do not make a local time type.
 #[derive(Clone, Copy, Debug, PartialEq, Eq)]
-#[non_exhaustive]
+#[cfg_attr(not(feature = "inner"), non_exhaustive)]
 pub enum LocalTimeTypeError {
     /// The designation does not have 1 to 7 bytes.
     // The text is that of tz-rs. POSIX wants 3 characters or more, but names of 1 and 2 are accepted, as tz-rs accepts them.
@@ -17,7 +17,7 @@ pub enum LocalTimeTypeError {
 
 /// Why parts do not make a transition rule.
 #[derive(Clone, Copy, Debug, PartialEq, Eq)]
-#[non_exhaustive]
+#[cfg_attr(not(feature = "inner"), non_exhaustive)]
 pub enum TransitionRuleError {
     /// The number of the day is outside its range.
     InvalidRuleDayJulianDay,
@@ -39,7 +39,7 @@ pub enum TransitionRuleError {
 
 /// Why parts do not make a time zone.
 #[derive(Clone, Copy, Debug, PartialEq, Eq)]
-#[non_exhaustive]
+#[cfg_attr(not(feature = "inner"), non_exhaustive)]
 pub enum TimeZoneError {
     /// There is no local time type.
     NoLocalTimeType,

@@ -9,7 +9,7 @@ use core::{error, fmt};
 
 /// Any error but that of a file that cannot be read.
 #[derive(Debug)]
-#[non_exhaustive]
+#[cfg_attr(not(feature = "inner"), non_exhaustive)]
 pub enum TzError {
     /// The bytes are not a TZif file.
     TzFile(TzFileError),
@@ -33,7 +33,7 @@ pub enum TzError {
 
 /// Any error.
 #[derive(Debug)]
-#[non_exhaustive]
+#[cfg_attr(not(feature = "inner"), non_exhaustive)]
 pub enum Error {
     /// A file could not be read.
     Io(crate::shim::anyhow::Error),
