@@ -1,7 +1,8 @@
-//! Gives the shared library the name by which programs load it: one for each layout of what crosses, TZ_ABI of tz.h.
+//! Gives the shared library the name by which programs load it, which has the number of its layout.
 
 use std::env;
 
+/// TZ_ABI of tz.h.
 const ABI: u32 = 1;
 
 fn main() {

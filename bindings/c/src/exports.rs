@@ -1,5 +1,6 @@
-// Generated from the exports of crates/tz_c by bindings/erase: its contracts are cut. Change that file instead.
-//! The functions of tz.h, each by one pattern: what C passes is made what the function of a source takes, and that is called.
+// Generated from crates/tz_c/src by bindings/erase: its contracts are cut. Change that file instead.
+//! The functions of tz.h, each by one pattern: from what C passes it makes what the function of a
+//! source takes, and calls that.
 #![allow(unsafe_code)]
 
 use crate::pointers::{Parts, Zone, list, list_mut};

@@ -1,8 +1,9 @@
 //! From what C passes to what Rust's functions take.
 //!
-//! What tz.h asks of a caller is what the functions here require: a pointer is aligned, and points to values of its type, as many as the
-//! length says; nothing writes to them while the call runs, but the call itself, and then it alone uses them. With length 0 a pointer is not
-//! looked at, so it may be null. A parameter that is a pointer to one value is a reference in Rust, which is passed alike.
+//! They require what tz.h asks of a caller. A pointer is aligned, and points to as many values of
+//! its type as the length says. While a call runs nothing else writes to what it reads, and nothing
+//! else reads or writes what it writes to. With length 0 the pointer is not used, so it may be null.
+//! A pointer to one value is a reference in Rust, which crosses alike.
 #![allow(unsafe_code)]
 
 use crate::proved::tz_c::zones::{OffsetsData, PartsData};
@@ -16,7 +17,8 @@ use tz_rs::proved::tz_zone::timezone::{LeapSecond, Transition};
 ///
 /// # Safety
 ///
-/// If the length is not 0, the pointer is aligned and points to so many values, which nothing writes to while the list is used.
+/// The length is 0, or the pointer is aligned and points to so many values, and nothing writes to
+/// these while the list is used.
 #[inline(always)]
 pub(crate) unsafe fn list<'a, T>(first: *const T, length: usize) -> &'a [T] {
     if length == 0 {
@@ -30,7 +32,8 @@ pub(crate) unsafe fn list<'a, T>(first: *const T, length: usize) -> &'a [T] {
 ///
 /// # Safety
 ///
-/// If the length is not 0, the pointer is aligned and points to so many values, which nothing else reads or writes while the list is used.
+/// The length is 0, or the pointer is aligned and points to so many values, and nothing else reads
+/// or writes these while the list is used.
 #[inline(always)]
 pub(crate) unsafe fn list_mut<'a, T>(first: *mut T, length: usize) -> &'a mut [T] {
     if length == 0 {
