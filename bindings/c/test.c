@@ -684,6 +684,7 @@ int main(int argc, char **argv) {
   test_many_entries();
   test_searches();
   test_columns();
+  test_null();
   test_damaged_files();
   if (argc == 2) test_files(argv[1]);
   test_reached();

@@ -27,6 +27,10 @@
 extern "C" {
 #endif
 
+/* The version, and as a number that can be compared: 1000000 * major + 1000 * minor + patch. */
+#define TZ_VERSION "0.7.3"
+#define TZ_VERSION_NUMBER 7003
+
 /* The number of this header's layout: the first number of `tz_layout`. */
 #define TZ_ABI 1
 
