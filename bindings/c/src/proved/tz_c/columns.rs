@@ -148,6 +148,7 @@ fn instant_of(
 }
 
 /// The offsets of the zone's clock at instants.
+#[inline(always)]
 pub fn tz_column_offsets(
     unix_times: &[i64],
     zone: &ZoneData<'_>,
@@ -166,6 +167,7 @@ pub fn tz_column_offsets(
 }
 
 /// What the zone's clock shows at instants.
+#[inline(always)]
 pub fn tz_column_date_times(
     unix_times: &[i64],
     nanoseconds: &[u32],
@@ -196,6 +198,7 @@ pub fn tz_column_date_times(
 }
 
 /// The instants that fields mean by a choice.
+#[inline(always)]
 pub fn tz_column_instants(
     fields: &[Fields],
     choice: u8,

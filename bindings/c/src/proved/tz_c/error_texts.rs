@@ -135,6 +135,7 @@ fn error_of(code: u32) -> Option<TzError> {
 }
 
 /// What a code says: the text of its error, as `Display` prints it.
+#[inline(always)]
 pub fn tz_error_text(code: u32, text: &mut [u8], len: &mut usize) -> u32 {
     if let Some(own) = own_text(code) {
         return write_text(own.as_bytes(), text, len);

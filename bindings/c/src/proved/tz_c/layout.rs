@@ -35,6 +35,7 @@ const LAYOUT: [usize; 19] = [
 ];
 
 /// The number of the layout, and the sizes of the types that cross.
+#[inline(always)]
 pub fn tz_layout(out: &mut [usize]) -> u32 {
     if out.len() != LAYOUT.len() {
         return BUFFER_LENGTH;

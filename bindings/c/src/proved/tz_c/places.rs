@@ -42,6 +42,7 @@ fn place_of(zone: &ZoneData<'_>, local_time_type: &LocalTimeType) -> usize {
 }
 
 /// The place of the type of a zone's clock at an instant.
+#[inline(always)]
 pub fn tz_zone_place_at(zone: &ZoneData<'_>, unix_time: i64, out: &mut usize) -> u32 {
     match zone.find_local_time_type(unix_time) {
         Ok(local_time_type) => {

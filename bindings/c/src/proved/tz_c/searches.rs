@@ -7,6 +7,7 @@ use tz_rs::proved::tz::inner::{DateTimeData, Fields, FoundData, find_into, find_
 use tz_rs::proved::tz_zone::inner::ZoneData;
 
 /// What is found of the fields from one of the entries on, and how many entries there are.
+#[inline(always)]
 pub fn tz_find_n(
     fields: &Fields,
     zone: &ZoneData<'_>,
@@ -35,6 +36,7 @@ pub(crate) fn choice_of(choice: u8) -> Option<Disambiguation> {
 }
 
 /// The one date time that the fields mean by a choice.
+#[inline(always)]
 pub fn tz_find_one(
     fields: &Fields,
     choice: u8,
