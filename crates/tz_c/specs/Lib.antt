@@ -2,6 +2,7 @@ pub mod Codes
 pub mod Columns
 pub mod DateTimeTexts
 pub mod DateTimes
+pub mod ErrorTexts
 pub mod Files
 pub mod Layout
 pub mod Places
