@@ -5,13 +5,13 @@ use crate::proved::tz_c::codes::{
     BUFFER_LENGTH, INVALID_NANOSECONDS, NO_DATE_TIME, OK, OUT_OF_RANGE, UNKNOWN_CHOICE, code_of,
 };
 use crate::proved::tz_c::searches::choice_of;
-use tz_rs::proved::tz::datetime::Disambiguation;
-use tz_rs::proved::tz::inner::{DateTimeData, Fields, find_one, local_reading};
-use tz_rs::proved::tz_base::constants::{NANOSECONDS_PER_SECOND, SECONDS_PER_DAY};
-use tz_rs::proved::tz_base::error::TzError;
-use tz_rs::proved::tz_rule::timezone::LocalTimeType;
-use tz_rs::proved::tz_zone::inner::ZoneData;
-use tz_rs::proved::tz_zone::timezone::Segment;
+use tz::proved::tz::datetime::Disambiguation;
+use tz::proved::tz::inner::{DateTimeData, Fields, find_one, local_reading};
+use tz::proved::tz_base::constants::{NANOSECONDS_PER_SECOND, SECONDS_PER_DAY};
+use tz::proved::tz_base::error::TzError;
+use tz::proved::tz_rule::timezone::LocalTimeType;
+use tz::proved::tz_zone::inner::ZoneData;
+use tz::proved::tz_zone::timezone::Segment;
 
 /// The segment of the zone's clock that holds an instant: the one before, if it holds the instant too.
 #[inline(always)]

@@ -2,11 +2,11 @@
 //! Date times of local time types and of zones.
 
 use crate::proved::tz_c::codes::{INVALID_NANOSECONDS, OK, OUT_OF_RANGE, code_of};
-use tz_rs::proved::tz::inner::{DateTimeData, Fields, UtcData, local_reading};
-use tz_rs::proved::tz::{DateTime, UtcDateTime};
-use tz_rs::proved::tz_base::constants::NANOSECONDS_PER_SECOND;
-use tz_rs::proved::tz_rule::timezone::LocalTimeType;
-use tz_rs::proved::tz_zone::inner::ZoneData;
+use tz::proved::tz::inner::{DateTimeData, Fields, UtcData, local_reading};
+use tz::proved::tz::{DateTime, UtcDateTime};
+use tz::proved::tz_base::constants::NANOSECONDS_PER_SECOND;
+use tz::proved::tz_rule::timezone::LocalTimeType;
+use tz::proved::tz_zone::inner::ZoneData;
 
 /// The date time with the fields, which the type shows.
 #[inline(always)]

@@ -3,11 +3,11 @@
 
 use crate::proved::tz_c::codes::{BUFFER_LENGTH, OK, code_of, file_code};
 use crate::proved::tz_c::zones::OffsetsData;
-use tz_rs::proved::tz_rule::inner::RuleData;
-use tz_rs::proved::tz_rule::timezone::LocalTimeType;
-use tz_rs::proved::tz_zone::inner::{FileSizes, file_sizes, offsets, parse_posix_tz};
-use tz_rs::proved::tz_zone::timezone::{LeapSecond, TimeZone, Transition};
-use tz_rs::shim::alloc::Global;
+use tz::proved::tz_rule::inner::RuleData;
+use tz::proved::tz_rule::timezone::LocalTimeType;
+use tz::proved::tz_zone::inner::{FileSizes, file_sizes, offsets, parse_posix_tz};
+use tz::proved::tz_zone::timezone::{LeapSecond, TimeZone, Transition};
+use tz::shim::alloc::Global;
 
 /// The sizes of a TZif file, by its headers alone.
 #[inline(always)]

@@ -2,7 +2,7 @@
 //! Leap times of zones.
 
 use crate::proved::tz_c::codes::{OK, code_of};
-use tz_rs::proved::tz_zone::inner::{ZoneData, effect, leap};
+use tz::proved::tz_zone::inner::{ZoneData, effect, leap};
 
 /// The leap time of an instant.
 #[inline(always)]

@@ -2,8 +2,8 @@
 //! Local time types and rule days.
 
 use crate::proved::tz_c::codes::{OK, rule_code, type_code};
-use tz_rs::proved::tz_rule::inner::DayData;
-use tz_rs::proved::tz_rule::timezone::{
+use tz::proved::tz_rule::inner::DayData;
+use tz::proved::tz_rule::timezone::{
     Julian0WithLeap, Julian1WithoutLeap, LocalTimeType, MonthWeekDay, RuleDay,
 };
 

@@ -2,8 +2,8 @@
 //! Rules.
 
 use crate::proved::tz_c::codes::{NO_CONFLICT, NO_RULE, OK, OUT_OF_RANGE, rule_code};
-use tz_rs::proved::tz_rule::inner::{AlternateData, DayData, RuleRef, find_local_time_type};
-use tz_rs::proved::tz_rule::timezone::LocalTimeType;
+use tz::proved::tz_rule::inner::{AlternateData, DayData, RuleRef, find_local_time_type};
+use tz::proved::tz_rule::timezone::LocalTimeType;
 
 /// Years that show why parts make no rule.
 #[repr(C)]

@@ -2,9 +2,9 @@
 //! Searches for date times.
 
 use crate::proved::tz_c::codes::{NO_DATE_TIME, OK, UNKNOWN_CHOICE, code_of};
-use tz_rs::proved::tz::datetime::Disambiguation;
-use tz_rs::proved::tz::inner::{DateTimeData, Fields, FoundData, find_into, find_one};
-use tz_rs::proved::tz_zone::inner::ZoneData;
+use tz::proved::tz::datetime::Disambiguation;
+use tz::proved::tz::inner::{DateTimeData, Fields, FoundData, find_into, find_one};
+use tz::proved::tz_zone::inner::ZoneData;
 
 /// What is found of the fields from one of the entries on, and how many entries there are.
 #[inline(always)]

@@ -3,10 +3,10 @@
 
 use crate::proved::tz_c::codes::{BUFFER_LENGTH, NO_RULE, NO_TZ_STRING, OK};
 use crate::proved::tz_c::rules::rule_of_lists;
-use tz_rs::proved::tz::inner::{TextBuffer, UtcData, fields_of};
-use tz_rs::proved::tz::{DateTime, TzString, UtcDateTime};
-use tz_rs::proved::tz_rule::inner::AlternateData;
-use tz_rs::proved::tz_rule::timezone::LocalTimeType;
+use tz::proved::tz::inner::{TextBuffer, UtcData, fields_of};
+use tz::proved::tz::{DateTime, TzString, UtcDateTime};
+use tz::proved::tz_rule::inner::AlternateData;
+use tz::proved::tz_rule::timezone::LocalTimeType;
 
 /// Copies a text to a buffer and stores its length, if there is room.
 #[inline(always)]

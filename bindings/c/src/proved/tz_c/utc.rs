@@ -3,9 +3,9 @@
 
 use crate::proved::tz_c::codes::{INVALID_NANOSECONDS, OK, OUT_OF_RANGE, code_of};
 use core::time::Duration;
-use tz_rs::proved::tz::UtcDateTime;
-use tz_rs::proved::tz::inner::{Fields, UtcData};
-use tz_rs::proved::tz_base::constants::NANOSECONDS_PER_SECOND;
+use tz::proved::tz::UtcDateTime;
+use tz::proved::tz::inner::{Fields, UtcData};
+use tz::proved::tz_base::constants::NANOSECONDS_PER_SECOND;
 
 /// The date time of UTC with the fields.
 #[inline(always)]

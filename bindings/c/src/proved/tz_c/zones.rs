@@ -2,10 +2,10 @@
 //! Zones.
 
 use crate::proved::tz_c::codes::{NO_CHANGE, OK, code_of};
-use tz_rs::proved::tz_rule::inner::AlternateData;
-use tz_rs::proved::tz_rule::timezone::LocalTimeType;
-use tz_rs::proved::tz_zone::inner::ZoneData;
-use tz_rs::proved::tz_zone::timezone::{Change, LeapSecond, Segment, Transition};
+use tz::proved::tz_rule::inner::AlternateData;
+use tz::proved::tz_rule::timezone::LocalTimeType;
+use tz::proved::tz_zone::inner::ZoneData;
+use tz::proved::tz_zone::timezone::{Change, LeapSecond, Segment, Transition};
 
 /// Parts that may make a zone.
 #[repr(C)]
