@@ -6,7 +6,6 @@ use core::num::TryFromIntError;
 use tz::proved::tz::inner::{Fields, after_byte, read_digits};
 
 /// What a line asks for: the date time of an instant, with nanoseconds, the date times of fields, or those of fields in a number of weeks.
-
 pub enum Query {
     Time(i64, u32),
     Search(Fields),

@@ -18,7 +18,6 @@ pub struct Suffix {
 }
 
 /// The suffixes of the types that lines showed before, each at the index of its type.
-
 pub struct Suffixes {
     kept: [Suffix; COUNT],
 }
