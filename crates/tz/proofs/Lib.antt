@@ -23,6 +23,7 @@ pub mod TimespecTotals
 pub mod Summaries
 pub mod UniqueResults
 pub mod UniqueMeanings
+pub mod LocalMeaningLaws
 pub mod TextFronts
 pub mod TextValues
 pub mod UniqueTexts
