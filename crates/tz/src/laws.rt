@@ -160,6 +160,14 @@ pub fn shown_date_times_are_found()
         → EachCanBeMade (IsClock z) f }
 {}
 
+/// Each date time that [`crate::DateTime::find`] lists, [`crate::DateTime::from_timespec`] shows at
+/// its Unix time, unless its second is 60.
+pub fn found_date_times_are_shown()
+    ensures { (z : Zone) (f : Fields) (d : DateTime) (found : List FoundDateTimeKind)
+        → IsValid f → f.second < 60 → IsFound (IsClock z) f found → Contains found (normal d)
+        → ShowsByClock z d.unix_time f.nanoseconds d }
+{}
+
 /// If the list of a search in a zone is promised, each of its entries can be made.
 pub fn promised_entries_can_be_made(zone: &TimeZoneRef<'_>)
     ensures { (f : Fields) → IsValid f → IsPromised (zone_of zone.now) f.year → EachCanBeMade (IsClock (zone_of zone.now)) f }
