@@ -28,4 +28,5 @@ pub mod TextFronts
 pub mod TextValues
 pub mod UniqueTexts
 pub mod ReadBack
+pub mod PrintedForms
 pub mod PrintedBytes

@@ -25,7 +25,7 @@ ghost use Rattle.tz.specs.Meanings.{IsMeaning, IsMeaningFault};
 ghost use Rattle.tz.specs.LocalMeanings.{ChoicesAgree, HasMeaning};
 ghost use Rattle.tz.specs.Windows.{IsWindow, TakesEffectIn, AreRising, AtMostTakeEffectIn};
 ghost use Rattle.tz.specs.PrintedText.{printed_text};
-ghost use Rattle.tz.specs.DateTimeText.{IsDateTimeText, IsDateTimeTextFault};
+ghost use Rattle.tz.specs.DateTimeText.{IsDateTimeText, IsDateTimeTextFault, IsTextOf};
 ghost use Rattle.tz.specs.declared.parse.parsed_date_time.ParsedDateTime.{ParsedDateTime};
 ghost use Rattle.tz.specs.declared.parse.error.ParseDateTimeError.{ParseDateTimeError};
 ghost use Rattle.tz.specs.declared.datetime.disambiguation.Disambiguation.{Disambiguation};
@@ -38,7 +38,7 @@ ghost use Rattle.tz.specs.contracts.datetime.utc_date_time.UtcDateTimeOrd.TheImp
 ghost use Rattle.tz.specs.DateTimes.{DateTime, IsDateTime, IsUtc, IsUtcAt, IsPastTheEnd, IsShowFault, IsClockFault, IsForwards, IsBackwards, ShowsByClock, utc_total, total_of, moment_eq, moment_cmp};
 
 use crate::{DateTime, TimeZoneRef};
-use tz_zone::laws::shown_types_are_sound;
+use tz_zone::laws::{shown_types_are_sound, type_parts_are_sound};
 
 /// [`UtcDateTime::from_timespec`] of a date time's Unix time and nanoseconds is that date time again, unless its second is 60.
 pub fn utc_date_times_come_back()
@@ -196,4 +196,24 @@ pub fn printed_texts_are_read()
     ensures read { (f : Fields) (offset : ℤ) → IsValid f → ¬ IsPastTheEnd f → FitsSigned w32 f.year → FitsSigned w32 offset → IsOffset offset
         → IsDateTimeText (printed_text f offset) (record { local = f; ut_offset = Some offset }) }
     ensures utc { (f : Fields) → IsUtc f → ¬ IsPastTheEnd f }
+{}
+
+/// What [`DateTime`] prints, [`crate::ParsedDateTime::parse`] reads as its fields, its offset and
+/// its Unix time, unless it has second 60 of the last minute of all.
+pub fn printed_date_times_are_read(date_time: &DateTime)
+    ensures { ¬ IsPastTheEnd date_time.now.fields
+        → IsTextOf (printed_text date_time.now.fields date_time.now.local_time_type.ut_offset)
+        date_time.now }
+{
+    date_time_parts_are_sound(date_time);
+    type_parts_are_sound(date_time.local_time_type());
+    let _ = date_time.year();
+}
+
+/// What [`crate::ParsedDateTime::parse`] reads of a text with an offset has a printed form, which a
+/// date time with this local time and this offset prints. It is read as the same.
+pub fn read_texts_have_a_printed_form()
+    ensures { (text : List ℕ) (p : ParsedDateTime) (offset : ℤ)
+        → IsDateTimeText text p → p.ut_offset ≡ Some offset
+        → IsDateTimeText (printed_text p.local offset) p }
 {}
