@@ -2,18 +2,16 @@
 
 use std::env;
 
-/// TZ_ABI of tz.h.
-const ABI: u32 = 1;
+const HEADER: &str = include_str!("tz.h");
 
 fn main() {
-    println!("cargo::rerun-if-changed=build.rs");
-    let system = env::var("CARGO_CFG_TARGET_OS").unwrap_or_default();
-    let argument = match system.as_str() {
-        "linux" | "android" | "freebsd" | "netbsd" | "openbsd" | "dragonfly" | "illumos" => {
-            format!("-Wl,-soname,libtz.so.{ABI}")
-        }
-        "macos" => format!("-Wl,-install_name,@rpath/libtz.{ABI}.dylib"),
-        _ => return,
-    };
-    println!("cargo::rustc-cdylib-link-arg={argument}");
+    println!("cargo::rerun-if-changed=tz.h");
+    let mut lines = HEADER.lines();
+    let layout = lines.find_map(|line| line.strip_prefix("#define TZ_ABI "));
+    let layout = layout.expect("tz.h has the number of its layout");
+    let is_apple = env::var("CARGO_CFG_TARGET_VENDOR").is_ok_and(|vendor| vendor == "apple");
+    // The systems with libraries of ELF.
+    if env::var_os("CARGO_CFG_UNIX").is_some() && !is_apple {
+        println!("cargo::rustc-cdylib-link-arg=-Wl,-soname,libtz.so.{layout}");
+    }
 }

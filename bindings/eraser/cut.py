@@ -23,7 +23,8 @@ def group_end(path, text, at, opening, closing):
         elif text[place] == closing:
             depth -= 1
             if depth == 0:
-                found = BRACE_IN_TEXT.search(text, at, place)
+                line_end = text.find("\n", place)
+                found = BRACE_IN_TEXT.search(text, at, max(line_end, place))
                 if found:
                     raise Stop(f"{path}:{line_of(text, found.start())}: a brace in a text of ghost code")
                 return place + 1
@@ -111,6 +112,11 @@ def without_ghosts(path, text):
                 if token.kind != "comment":
                     before = token
                 continue
+        # A line on which nothing else stands goes whole, so that docs stay beside their item.
+        line = text.rfind("\n", 0, start) + 1
+        newline = text.find("\n", end)
+        if not text[line:start].strip() and not text[end : max(newline, end)].strip() and line >= kept:
+            start, end = line, max(newline + 1, end)
         pieces.append(text[kept:start])
         kept = at = end
         before = None

@@ -77,20 +77,33 @@ PACKAGES = (
         },
         std_paths=STD,
     ),
-    # The C library. Its own crate is one of the two, and the others are modules of the Rust crate.
+    # The C library, over the crate's inner calls.
     Package(
         folder="bindings/c/src/proved",
         crates=("tz_c",),
         root="crate::proved",
         by_hand={"": "bindings/c/src/proved/mod.rs"},
-        others={it: f"tz_rs::proved::{it}" for it in ("tz_base", "tz_rule", "tz_zone", "tz")},
-        std_paths=tuple((old, new.replace("crate::", "tz_rs::")) for old, new in STD),
+        others={name: f"tz::proved::{name}" for name in ("tz_base", "tz_rule", "tz_zone", "tz")},
+        std_paths=tuple((old, new.replace("crate::", "tz::")) for old, new in STD),
         exports="bindings/c/src/exports.rs",
+    ),
+    # The program's library, over the crate's inner calls.
+    Package(
+        folder="bindings/tzq/src/proved",
+        crates=("tz_query",),
+        root="crate::proved",
+        skipped=("crates/tz_query/src/laws.rt",),
+        by_hand={"": "bindings/tzq/src/proved/mod.rs"},
+        others={name: f"tz::proved::{name}" for name in ("tz_base", "tz_zone", "tz")},
+        std_paths=((r"\bcore::dec2flt\b", "crate::shim::dec2flt"), *STD),
     ),
 )
 
 # Exact texts that are replaced before anything else.
 EXACT = {
+    "crates/tz_rule/src/timezone/alternate_data.rt": (
+        ("parts.check_range().ok()?;", "if parts.check_range().is_err() { return None; }"),
+    ),
     "crates/tz/src/datetime/utc_date_time.rt": (
         ("self.checked_add(duration).unwrap()", 'self.checked_add(duration).expect("attempt to add with overflow")'),
         ("self.checked_sub(duration).unwrap()", 'self.checked_sub(duration).expect("attempt to subtract with overflow")'),
@@ -103,6 +116,7 @@ LEFT_OUT = {
     "crates/tz_rule/src/lib.rt": {"laws"},
     "crates/tz_zone/src/lib.rt": {"laws"},
     "crates/tz/src/lib.rt": {"laws"},
+    "crates/tz_query/src/lib.rt": {"laws"},
     # In Rust one implementation is for all that is a `TzError`.
     "crates/tz_base/src/error/conversions.rt": {"From for Error"},
     # In Rust the current time is no argument.
@@ -125,10 +139,28 @@ OPEN_FIELDS = {
 }
 
 # Errors to which variants are never added.
-EXHAUSTIVE = {"ReadFault"}
+EXHAUSTIVE = {"ReadFault", "RunFault"}
 
 # What examples of docs import, hidden.
-EXAMPLE_IMPORTS = ("# use tz::{datetime::*, error::*, timezone::*, *};",)
+EXAMPLE_IMPORTS = ("# use std::time::Duration;", "# use tz::{datetime::*, error::*, timezone::*, *};")
+
+# Examples have no allocator in Rust, and no error of one.
+EXAMPLE_FORMS = (
+    (r"\balloc: Global(,\s|,$|(?=\)))", ""),
+    (r"\b(in )?alloc[,;] ", ""),
+    (r"\(alloc\)", "()"),
+    (r"\bformat!\((.*)\)\?", r"format!(\1)"),
+    (r"(\.push\(\w+\))\?;", r"\1;"),
+)
+
+# Sources whose items are not the public ones of the crate: their examples are of Rattle.
+OTHER_EXAMPLES = {
+    "crates/tz/src/lib.rt",
+    "crates/tz_zone/src/timezone/file_reader.rt",
+    "crates/tz_zone/src/timezone/settings.rt",
+    "crates/tz_zone/src/timezone/zone.rt",
+    "crates/tz_zone/src/timezone/zone_of_file.rt",
+}
 
 
 def constants():

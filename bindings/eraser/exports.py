@@ -47,8 +47,8 @@ pub unsafe extern "C" fn {name}({taken}) {answer} {{
 
 
 def without_exports(path, text):
-    """The source's own functions, which C does not see."""
-    text = EXPORT.sub(r"pub fn \1", text)
+    """The source's own functions, which C does not see: each has one caller."""
+    text = EXPORT.sub(r"#[inline(always)]\npub fn \1", text)
     if re.search(r"\b(?:extern|no_mangle)\b", text):
         raise Stop(f"{path}: an export in a form that is not known")
     return text

@@ -80,11 +80,10 @@ def without_laws(path, text):
     return text
 
 
-# The packages of this repository match all variants.
-NON_EXHAUSTIVE = '#[cfg_attr(not(feature = "inner"), non_exhaustive)]\n'
-
 # A variant's text, or that of a struct, as thiserror takes it.
 ERROR_TEXT = re.compile(r'#\[error\((transparent|"(?:[^"\\]|\\.)*")\)\]\s*')
+# The packages of this repository know all variants.
+NON_EXHAUSTIVE = '#[cfg_attr(not(feature = "inner"), non_exhaustive)]\n'
 VARIANT = re.compile(r"([A-Z]\w*)\s*(\(([^()]*)\))?\s*,")
 
 
@@ -124,9 +123,9 @@ def with_errors(path, text):
             f"\n\nimpl fmt::Display for {name} {{ fn fmt(&self, f: &mut fmt::Formatter<'_>) -> fmt::Result {{ {arms} }} }}"
             f"\n\nimpl error::Error for {name} {{}}\n"
         )
-        if item.kind == "enum" and name not in erasure.EXHAUSTIVE:
-            at = re.search(rf"pub enum {name}\b", text).start()
-            text = text[:at] + NON_EXHAUSTIVE + text[at:]
+        public = re.search(rf"^pub enum {name}\b", text, re.M)
+        if public and name not in erasure.EXHAUSTIVE:
+            text = text[: public.start()] + NON_EXHAUSTIVE + text[public.start() :]
     text = ERROR_TEXT.sub("", text)
     # Imports come after the docs of the module.
     found = re.search(r"^(?!//!|\n)", text, re.M)
@@ -249,11 +248,24 @@ def without_comments(text):
 
 
 def with_examples(path, text):
-    """Examples of docs are compiled by rustdoc, which does not know the names that they import."""
-    lines, made, opens = text.split("\n"), [], False
-    for line in lines:
-        found = re.fullmatch(r"(\s*//[/!] )```rust", line)
-        made.append(line if not found else f"{found[1]}```")
-        if found:
+    """Examples of docs are compiled by rustdoc, which does not know the names that they import. In Rust no call has an allocator."""
+    made, inside = [], False
+    for line in text.split("\n"):
+        found = re.fullmatch(r"(\s*//[/!] ?)```(rust)?", line)
+        if found and not inside:
+            inside = True
+            if path in erasure.OTHER_EXAMPLES:
+                made.append(f"{found[1]}```text")
+                continue
+            made.append(f"{found[1]}```")
             made += [f"{found[1]}{it}" for it in erasure.EXAMPLE_IMPORTS]
+            continue
+        if found:
+            inside = False
+        elif inside and path not in erasure.OTHER_EXAMPLES:
+            for old, new in erasure.EXAMPLE_FORMS:
+                line = re.sub(old, new, line)
+            if re.fullmatch(r"\s*//[/!]\s*", line):
+                continue
+        made.append(line)
     return "\n".join(made)

@@ -4,20 +4,21 @@
 #![allow(unsafe_code)]
 
 use crate::pointers::{Parts, Zone, list, list_mut};
+use crate::proved::tz_c::date_time_texts::ParsedData;
 use crate::proved::tz_c::rules::ConflictData;
 use crate::proved::tz_c::settings::SettingData;
 use crate::proved::tz_c::zones::{ChangeData, OffsetsData, SegmentData};
 use crate::proved::tz_c::{
-    columns, date_times, error_texts, files, layout, leap_times, local_time_types, places, rules,
-    searches, settings, texts, utc, zones,
+    columns, date_time_texts, date_times, error_texts, files, layout, leap_times, local_time_types,
+    places, rules, searches, settings, texts, utc, zones,
 };
-use tz_rs::proved::tz::inner::{DateTimeData, Fields, FoundData, UtcData};
-use tz_rs::proved::tz::{DateTime, UtcDateTime};
-use tz_rs::proved::tz_rule::inner::{AlternateData, DayData, RuleData};
-use tz_rs::proved::tz_rule::timezone::LocalTimeType;
-use tz_rs::proved::tz_zone::inner::FileSizes;
-use tz_rs::proved::tz_zone::timezone::{LeapSecond, Transition};
-use tz_rs::shim::alloc::Global;
+use tz::proved::tz::inner::{DateTimeData, Fields, FoundData, UtcData};
+use tz::proved::tz::{DateTime, UtcDateTime};
+use tz::proved::tz_rule::inner::{AlternateData, DayData, RuleData};
+use tz::proved::tz_rule::timezone::LocalTimeType;
+use tz::proved::tz_zone::inner::FileSizes;
+use tz::proved::tz_zone::timezone::{LeapSecond, Transition};
+use tz::shim::alloc::Global;
 
 /// The offsets of the zone's clock at instants.
 ///
@@ -104,6 +105,22 @@ pub unsafe extern "C" fn tz_column_instants(
     columns::tz_column_instants(fields, choice, &zone, unix_times, codes)
 }
 
+/// The local time and the offset of a text, as `ParsedDateTime::parse` reads it.
+///
+/// # Safety
+///
+/// What tz.h asks of a caller.
+#[unsafe(no_mangle)]
+pub unsafe extern "C" fn tz_date_time_read(
+    text: *const u8,
+    text_length: usize,
+    out: &mut ParsedData,
+) -> u32 {
+    // SAFETY: tz.h asks of a caller what these require.
+    let text = unsafe { list(text, text_length) };
+    date_time_texts::tz_date_time_read(text, out)
+}
+
 /// The date time with the fields, which the type shows.
 #[unsafe(no_mangle)]
 pub extern "C" fn tz_date_time_new(
@@ -160,7 +177,7 @@ pub extern "C" fn tz_date_time_year_day(date_time: &DateTime) -> u16 {
     date_times::tz_date_time_year_day(date_time)
 }
 
-/// What a code says: the text of its error, as `Display` prints it.
+/// What a code says.
 ///
 /// # Safety
 ///

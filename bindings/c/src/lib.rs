@@ -10,4 +10,5 @@
 
 mod exports;
 mod pointers;
+#[allow(clippy::all)]
 mod proved;

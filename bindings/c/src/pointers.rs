@@ -8,10 +8,10 @@
 
 use crate::proved::tz_c::zones::{OffsetsData, PartsData};
 use core::slice;
-use tz_rs::proved::tz_rule::inner::AlternateData;
-use tz_rs::proved::tz_rule::timezone::LocalTimeType;
-use tz_rs::proved::tz_zone::inner::ZoneData;
-use tz_rs::proved::tz_zone::timezone::{LeapSecond, Transition};
+use tz::proved::tz_rule::inner::AlternateData;
+use tz::proved::tz_rule::timezone::LocalTimeType;
+use tz::proved::tz_zone::inner::ZoneData;
+use tz::proved::tz_zone::timezone::{LeapSecond, Transition};
 
 /// A list, by its first value and its length.
 ///

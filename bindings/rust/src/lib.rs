@@ -14,20 +14,27 @@ pub mod datetime;
 pub mod error;
 pub mod timezone;
 
+#[cfg(doctest)]
+mod refused;
+
 // The program and the C library are made over the crate's inner calls. These have conditions that only proofs check, and may change at any time.
 #[cfg(not(feature = "inner"))]
-#[allow(dead_code, unused_imports)]
+#[allow(dead_code, unused_imports, unused_variables)]
+#[allow(clippy::all)]
+#[deny(clippy::incompatible_msrv)]
 mod proved;
 #[cfg(feature = "inner")]
 #[doc(hidden)]
-#[allow(missing_docs)]
+#[allow(dead_code, missing_docs, unused_imports, unused_variables)]
+#[allow(clippy::all)]
+#[deny(clippy::incompatible_msrv)]
 pub mod proved;
 #[cfg(not(feature = "inner"))]
 #[allow(dead_code)]
 mod shim;
 #[cfg(feature = "inner")]
 #[doc(hidden)]
-#[allow(missing_docs)]
+#[allow(missing_docs, clippy::new_without_default)]
 pub mod shim;
 
 pub use datetime::{DateTime, UtcDateTime};

@@ -1,6 +1,6 @@
 -- What the extra rule answers at the last transition decides whether the zone is consistent.
-use Rattle.std.proofs.Common.{true, false, not, ◌≡◌, ◌≢◌, ◌∙◌, sym, ap, ℤ, List, Some}
-use Rattle.std.proofs.lemmas.Bool.{false≢true, not-true, not-false}
+use Rattle.std.proofs.Common.{true, false, ◌≡◌, ◌≢◌, ◌∙◌, sym, ap, ℤ, List, Some}
+use Rattle.std.proofs.lemmas.Bool.{false≢true}
 use Rattle.std.proofs.lemmas.Option.{same_Some}
 use Rattle.tz_rule.specs.LocalTimeType.{LocalTimeType}
 use Rattle.tz_rule.specs.Rule.{IsRuleType}
@@ -43,8 +43,8 @@ module _ (z : Zone) (rule : TransitionRule) (last : Transition) (is_rule : z.ext
   not_agrees begun t t' type at other agrees = other (same_Some t t' (sym (agrees rule last is_rule is_last begun t type) ∙ at))
 
 -- what a test of two types has told
-pub same_from_test : (t t' : LocalTimeType) → false ≡ not (same_type t t') → t ≡ t'
-same_from_test t t' e = (Decides-same_type t t').0 (not-false (same_type t t') (sym e))
+pub same_from_test : (t t' : LocalTimeType) → true ≡ same_type t t' → t ≡ t'
+same_from_test t t' e = (Decides-same_type t t').0 (sym e)
 
-pub other_from_test : (t t' : LocalTimeType) → true ≡ not (same_type t t') → t ≢ t'
-other_from_test t t' e p = false≢true (sym (not-true (same_type t t') (sym e)) ∙ (Decides-same_type t t').1 p)
+pub other_from_test : (t t' : LocalTimeType) → false ≡ same_type t t' → t ≢ t'
+other_from_test t t' e p = false≢true (e ∙ (Decides-same_type t t').1 p)

@@ -9,6 +9,6 @@ pub use crate::parse::after_byte::after_byte;
 pub use crate::parse::tz_file::sizes::{FileSizes, file_sizes};
 pub use crate::parse::tz_string::parse_posix_tz;
 pub use crate::table::{Counted, OtherParts, Transitions, Uncounted, other_parts_of};
-pub use crate::timezone::file_reader::{read_to_end, read_up_to};
+pub use crate::timezone::file_reader::{open_fault, read_to_end};
 pub use crate::timezone::offset_range::offsets;
 pub use crate::timezone::zone_data::ZoneData;

@@ -4,9 +4,12 @@ mod failing;
 
 use crate::expect::{expect_eq, expect_eq_at};
 use std::alloc::{AllocError, Global};
+use std::fs::Files;
+use std::process::Abort;
 use std::test::Fail;
-use std::{env, fs, process};
+use std::{env, fs, io, process};
 use tz_base::error::{Error, ReadFault};
+use tz_zone::inner::open_fault;
 use tz_zone::timezone::{LocalTimeType, TimeZone, TimeZoneSettings, read_file, read_file_up_to};
 
 /// Some MiB, of which the last piece of 2000 bytes is not whole.
@@ -66,6 +69,26 @@ fn a_fault_has_the_text_of_the_system(rt: HostRuntime) -> Result<(), Fail> {
     Ok(())
 }
 
+/// Only the error of a missing file has a text of its own here, which is that of the system; a file that may not be read is not missing.
+#[test]
+fn each_error_of_opening_has_its_own_text(rt: HostRuntime) -> Result<(), Fail> {
+    static ROWS: [(i32, &str); 6] = [
+        (1, "Operation not permitted (os error 1)"),
+        (2, "No such file or directory (os error 2)"),
+        (3, "No such process (os error 3)"),
+        (13, "Permission denied (os error 13)"),
+        (24, "Too many open files (os error 24)"),
+        (40, "Too many levels of symbolic links (os error 40)"),
+    ];
+    let alloc = rt.alloc();
+    for (number, text) in &ROWS {
+        let fault = open_fault(io::Error::from_raw_os_error(*number));
+        let printed = format!(in alloc; "{fault}")?;
+        expect_eq_at(&rt, number, &printed.as_str(), text);
+    }
+    Ok(())
+}
+
 #[test]
 fn the_settings_take_it(rt: HostRuntime) -> Result<(), Fail> {
     let alloc = rt.alloc();
@@ -78,10 +101,42 @@ fn the_settings_take_it(rt: HostRuntime) -> Result<(), Fail> {
     Ok(())
 }
 
-/// A file of 6003 bytes, at a limit from the first: read whole, or refused.
+/// A limit, and the text that refuses a file at it; none where the file is read whole.
+type Limit = (usize, Option<&'static str>);
+
+/// A file at the path, of this many lines of three bytes, is read whole or refused, at each of the limits.
+fn expect_up_to<R: Files + Abort>(
+    rt: &R,
+    alloc: Global,
+    path: &str,
+    lines: u64,
+    rows: &[Limit],
+) -> Result<(), Fail> {
+    let mut bytes = Vec::new(alloc);
+    for _ in 0..lines {
+        bytes.extend_from_slice(b"tz\n")?;
+    }
+    fs::write(rt, path, bytes.as_slice())?;
+    for (limit, refusal) in rows {
+        match read_file_up_to(rt, alloc, *limit, path) {
+            Ok(read) => {
+                expect_eq_at(rt, limit, &None, refusal);
+                expect_eq_at(rt, limit, &read, &bytes);
+            }
+            Err(fault) => {
+                let text = format!(in alloc; "{fault}")?;
+                expect_eq_at(rt, limit, &Some(text.as_str()), refusal);
+            }
+        }
+    }
+    fs::remove_file(rt, path)?;
+    Ok(())
+}
+
+/// A file of 6003 bytes.
 #[test]
 fn a_file_is_read_up_to_a_limit(rt: HostRuntime) -> Result<(), Fail> {
-    static ROWS: [(usize, Option<&str>); 8] = [
+    static ROWS: [Limit; 8] = [
         (0, Some("file is longer than 0 bytes")),
         (1, Some("file is longer than 1 bytes")),
         (1999, Some("file is longer than 1999 bytes")),
@@ -92,27 +147,25 @@ fn a_file_is_read_up_to_a_limit(rt: HostRuntime) -> Result<(), Fail> {
         (usize::MAX, None),
     ];
     let alloc = rt.alloc();
-    let mut bytes = Vec::new(alloc);
-    for _ in 0..2001 {
-        bytes.extend_from_slice(b"tz\n")?;
-    }
     let name = format!(in alloc; "tz-read-file-up-to-{}", process::id(rt.process()))?;
     let path = env::temp_dir(&rt)?.join(alloc, name.as_str())?;
-    fs::write(&rt, path.as_str(), bytes.as_slice())?;
-    for (limit, refusal) in &ROWS {
-        match read_file_up_to(&rt, alloc, *limit, path.as_str()) {
-            Ok(read) => {
-                expect_eq_at(&rt, limit, &None, refusal);
-                expect_eq_at(&rt, limit, &read, &bytes);
-            }
-            Err(fault) => {
-                let text = format!(in alloc; "{fault}")?;
-                expect_eq_at(&rt, limit, &Some(text.as_str()), refusal);
-            }
-        }
-    }
-    fs::remove_file(&rt, path.as_str())?;
-    Ok(())
+    expect_up_to(&rt, alloc, path.as_str(), 2001, &ROWS)
+}
+
+/// A file of 70,002 bytes, which is longer than a number of 16 bits.
+#[test]
+fn a_long_file_is_read_up_to_a_longer_limit(rt: HostRuntime) -> Result<(), Fail> {
+    static ROWS: [Limit; 5] = [
+        (65_536, Some("file is longer than 65536 bytes")),
+        (70_001, Some("file is longer than 70001 bytes")),
+        (70_002, None),
+        (70_003, None),
+        (100_000, None),
+    ];
+    let alloc = rt.alloc();
+    let name = format!(in alloc; "tz-read-long-file-up-to-{}", process::id(rt.process()))?;
+    let path = env::temp_dir(&rt)?.join(alloc, name.as_str())?;
+    expect_up_to(&rt, alloc, path.as_str(), 23_334, &ROWS)
 }
 
 #[test]

@@ -316,9 +316,24 @@ fn footers_are_refused(rt: HostRuntime) -> Result<(), Fail> {
         let bytes = with_footer(rt.alloc(), b'3', footer)?;
         expect_eq(&rt, &fault_of(rt.alloc(), &bytes), expected);
     }
-    let bytes = with_footer(rt.alloc(), b'3', b"\n\xff\n")?;
-    let refused = fault_of(rt.alloc(), &bytes);
-    assert!(rt; matches!(refused, Some(Fault::File(Utf8(_)))));
+    Ok(())
+}
+
+/// A footer that is not UTF-8 is refused for that, whatever else is wrong with it.
+#[test]
+fn footers_that_are_not_utf_8_are_refused_first(rt: HostRuntime) -> Result<(), Fail> {
+    static ROWS: [&[u8]; 5] = [
+        b"\n\xff\n",
+        b"\xff",
+        b"\xffIST-2\n",
+        b"\n:\xff\n",
+        b"\n\0\xff\n",
+    ];
+    for footer in &ROWS {
+        let bytes = with_footer(rt.alloc(), b'3', footer)?;
+        let refused = fault_of(rt.alloc(), &bytes);
+        assert!(rt; matches!(refused, Some(Fault::File(Utf8(_)))), "{footer:?}");
+    }
     Ok(())
 }
 

@@ -202,11 +202,17 @@ fn bytes_stand_where_they_have_to(rt: HostRuntime) {
 #[test]
 fn the_first_fault_that_is_met_is_named(rt: HostRuntime) {
     const CUT: Fault = Fault::Text(ParseData(UnexpectedEof));
-    static ROWS: [(&str, Fault); 7] = [
+    static ROWS: [(&str, Fault); 13] = [
         ("<A_B>0C,0", CUT),
         ("A_B0", Fault::Number),
         ("A25:60:60", Fault::Text(InvalidOffsetHour)),
+        ("A25:0:60", Fault::Text(InvalidOffsetHour)),
         ("A0:60:60", Fault::Text(InvalidOffsetMinute)),
+        ("A25:60:", Fault::Number),
+        ("A25:60:60B", Fault::Text(InvalidOffsetHour)),
+        ("A0B25:60:60", Fault::Text(InvalidOffsetHour)),
+        ("A0B0:60:60,0,1", Fault::Text(InvalidOffsetMinute)),
+        ("A25B25,x", Fault::Text(InvalidOffsetHour)),
         ("A0B,0/25:0:60,1", Fault::Text(InvalidDayTimeHour)),
         ("A0B,0/0:60:60,1", Fault::Text(InvalidDayTimeMinute)),
         ("A0B,M13.6.7,1x", Fault::Rule(InvalidRuleDayMonth)),

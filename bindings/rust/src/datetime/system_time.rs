@@ -35,7 +35,10 @@ pub(crate) fn whole_seconds(time: SystemTime) -> i64 {
 /// The duration of nanoseconds since 1970, as an error if it is one until then. They are of a date time, so the seconds fit 64 bits.
 const fn duration_of(total_nanoseconds: i128) -> Result<Duration, Duration> {
     let apart = total_nanoseconds.unsigned_abs();
-    let duration = Duration::new((apart / 1_000_000_000) as u64, (apart % 1_000_000_000) as u32);
+    let duration = Duration::new(
+        (apart / 1_000_000_000) as u64,
+        (apart % 1_000_000_000) as u32,
+    );
     if total_nanoseconds < 0 {
         Err(duration)
     } else {

@@ -10,8 +10,8 @@ pub mod io;
 pub mod rt;
 
 pub use alloc::{String, Vec};
-pub use array_string::ArrayString;
 pub(crate) use anyhow::anyhow;
+pub use array_string::ArrayString;
 
 /// The text of bytes that the proof shows to be text.
 #[inline]

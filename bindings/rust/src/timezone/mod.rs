@@ -11,9 +11,9 @@ pub use crate::proved::tz_zone::timezone::{
     LeapSecond, LocalTimeType, MonthWeekDay, RuleDay, Segment, TimeZoneRef, Transition,
     TransitionRule,
 };
-#[cfg(feature = "std")]
-pub use settings::read_file_up_to;
 #[cfg(feature = "alloc")]
 pub use settings::TimeZoneSettings;
+#[cfg(feature = "std")]
+pub use settings::read_file_up_to;
 #[cfg(feature = "alloc")]
 pub use zone::TimeZone;

@@ -53,9 +53,11 @@ impl<'a> TimeZoneSettings<'a> {
     /// The settings of the proved library.
     fn proved(&self) -> Settings<'a, impl Fn(&str) -> Result<Items<u8>, ReadFault>> {
         let read_file_fn = self.read_file_fn;
-        Settings::new(self.directories, move |path: &str| match read_file_fn(path) {
-            Ok(bytes) => Ok(Items::from_std(bytes)),
-            Err(error) => Err(ReadFault::Failed(error)),
+        Settings::new(self.directories, move |path: &str| {
+            match read_file_fn(path) {
+                Ok(bytes) => Ok(Items::from_std(bytes)),
+                Err(error) => Err(ReadFault::Failed(error)),
+            }
         })
     }
 
@@ -80,7 +82,9 @@ impl<'a> TimeZoneSettings<'a> {
     /// - [`Error::Io`] if the file of `localtime` or of a name after `:` cannot be read;
     /// - [`Error::Tz`] with an error of [`TimeZone::from_tz_data`] if the file is not a TZif file, and otherwise with one of the TZ string.
     pub fn parse_posix_tz(&self, tz_string: &str) -> Result<TimeZone, Error> {
-        Ok(TimeZone::of(self.proved().parse_posix_tz(Global, tz_string)?))
+        Ok(TimeZone::of(
+            self.proved().parse_posix_tz(Global, tz_string)?,
+        ))
     }
 }
 

@@ -141,7 +141,9 @@ impl DateTime {
         ensures err { IfErr result (IsLocalFault (fields_of year month month_day hour minute second nanoseconds) local_time_type.ut_offset) }
     {
         let fields = Fields::new(year, month, month_day, hour, minute, second, nanoseconds);
-        fields.check()?;
+        if let Err(error) = fields.check() {
+            return Err(TzError::DateTime(error));
+        }
         let unix_time = fields.reading() - i64::from(local_time_type.ut_offset());
         if !is_reading(unix_time) {
             return Err(TzError::OutOfRange);
@@ -196,8 +198,9 @@ impl DateTime {
         ensures reads { OnOk result (IsReading (unix_time +ℤ local_time_type.ut_offset)) }
         ensures err { IfErr result (λ e. (e ≡ TzError.OutOfRange) × ¬ IsReading (unix_time +ℤ local_time_type.ut_offset)) }
     {
-        let reading = local_reading(unix_time, local_time_type.ut_offset());
-        let reading = reading.ok_or(TzError::OutOfRange)?;
+        let Some(reading) = local_reading(unix_time, local_time_type.ut_offset()) else {
+            return Err(TzError::OutOfRange);
+        };
         Ok(DateTime {
             fields: Fields::from_reading(reading, nanoseconds),
             local_time_type,
@@ -257,7 +260,9 @@ impl DateTime {
         ensures err { IfErr result (IsTotalFault total_nanoseconds local_time_type.ut_offset) }
     {
         let total = timespec(total_nanoseconds);
-        let (unix_time, nanoseconds) = total.ok_or(TzError::OutOfRange)?;
+        let Some((unix_time, nanoseconds)) = total else {
+            return Err(TzError::OutOfRange);
+        };
         DateTime::shown_by(unix_time, nanoseconds, local_time_type)
     }
 

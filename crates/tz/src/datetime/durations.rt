@@ -16,7 +16,10 @@ pub(super) fn utc_timespec(total: i128) -> Option<(i64, u32)>
     ensures in_range { IsSome result ↔ IsUtcTotal total }
 {
     let (seconds, nanoseconds) = timespec(total)?;
-    is_reading(seconds).then_some((seconds, nanoseconds))
+    if !is_reading(seconds) {
+        return None;
+    }
+    Some((seconds, nanoseconds))
 }
 
 /// The seconds from the first reading of UTC date times to the last.
@@ -29,7 +32,10 @@ fn carried(seconds: i64, nanoseconds: u32) -> Option<(i64, u32)>
     ensures in_range { IsSome result ↔ IsUtcTotal (total_nanoseconds_of seconds nanoseconds) }
 {
     let whole = seconds + i64::from(nanoseconds / NANOSECONDS_PER_SECOND);
-    is_reading(whole).then_some((whole, nanoseconds % NANOSECONDS_PER_SECOND))
+    if !is_reading(whole) {
+        return None;
+    }
+    Some((whole, nanoseconds % NANOSECONDS_PER_SECOND))
 }
 
 /// The seconds and nanoseconds a duration after others, if the seconds are those of a UTC date time.
@@ -72,7 +78,9 @@ pub(super) fn duration_between(earlier: i128, later: i128) -> Result<Duration, D
     ensures err { IfErr result (IsBackwards earlier later) }
 {
     let difference = later - earlier;
-    let duration = Duration::from_nanos_u128(difference.unsigned_abs());
+    let nanoseconds = difference.unsigned_abs();
+    let (whole, part) = (nanoseconds / 1_000_000_000, nanoseconds % 1_000_000_000);
+    let duration = Duration::new(whole as u64, part as u32);
     if difference >= 0 {
         Ok(duration)
     } else {

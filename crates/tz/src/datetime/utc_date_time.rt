@@ -174,7 +174,9 @@ impl UtcDateTime {
         if is_past_the_end(&fields) {
             return Err(TzError::OutOfRange);
         }
-        fields.check()?;
+        if let Err(error) = fields.check() {
+            return Err(TzError::DateTime(error));
+        }
         Ok(UtcDateTime::of_fields(fields))
     }
 
@@ -231,7 +233,9 @@ impl UtcDateTime {
         ensures ok { IfOk result (IsUtcAt total_nanoseconds) }
         ensures err { IfErr result (λ e. (e ≡ TzError.OutOfRange) × ¬ IsUtcTotal total_nanoseconds) }
     {
-        let (unix_time, nanoseconds) = utc_timespec(total_nanoseconds).ok_or(TzError::OutOfRange)?;
+        let Some((unix_time, nanoseconds)) = utc_timespec(total_nanoseconds) else {
+            return Err(TzError::OutOfRange);
+        };
         Ok(UtcDateTime::at(unix_time, nanoseconds))
     }
 

@@ -66,7 +66,7 @@ pub(super) fn change_at<'a>(
 {
     let before = before?;
     let after = after?;
-    if before == after {
+    if before.is_same(after) {
         return None;
     }
     Some(Change::new(unix_time, before, after))

@@ -76,7 +76,7 @@ fn end_of_run(
     ensures types { (i : ℕ) → place ≤ i → i ≤ result → IsTypeOfLast (zone_seen transitions.now parts.entry) i local_time_type.now }
 {
     let mut end = place;
-    while end + 1 < transitions.len() && type_of(parts, transitions[end]) == local_time_type {
+    while end + 1 < transitions.len() && type_of(parts, transitions[end]).is_same(local_time_type) {
         end += 1;
     }
     end

@@ -49,7 +49,7 @@ fn start_of_run(
     ensures types { (i : ℕ) → result ≤ i → i ≤ place → IsTypeOfLast (zone_seen transitions.now parts.entry) i local_time_type.now }
 {
     let mut start = place;
-    while start > 1 && type_of(parts, transitions[start - 2]) == local_time_type {
+    while start > 1 && type_of(parts, transitions[start - 2]).is_same(local_time_type) {
         start -= 1;
     }
     start

@@ -18,11 +18,12 @@ pub use crate::clock::{Change, Segment};
 pub use crate::leap::LeapSecond;
 pub use crate::table::Transition;
 pub use change_iterators::{ChangesAfter, ChangesBefore};
-pub use file_reader::{read_file, read_file_up_to};
+pub use file_reader::{read_file, read_file_up_to, read_up_to};
 pub use settings::{DEFAULT_DIRECTORIES, TimeZoneSettings};
 pub use tz_rule::timezone::{
     AlternateTime, Julian0WithLeap, Julian1WithoutLeap, LocalTimeType, MonthWeekDay, RuleDay,
     TransitionRule,
 };
 pub use zone::TimeZone;
+pub use zone_name::is_zone_name;
 pub use zone_ref::TimeZoneRef;

@@ -28,8 +28,8 @@ fn offsets_of_types(local_time_types: &[LocalTimeType]) -> (i32, i32)
 {
     let first = local_time_types[0].ut_offset();
     let (mut least, mut greatest) = (first, first);
-    for local_time_type in local_time_types {
-        let ends = with_offset(least, greatest, local_time_type.ut_offset());
+    for place in 0..local_time_types.len() {
+        let ends = with_offset(least, greatest, local_time_types[place].ut_offset());
         least = ends.0;
         greatest = ends.1;
     }

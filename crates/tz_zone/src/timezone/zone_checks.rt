@@ -105,7 +105,7 @@ fn check_extra_rule(
         return Ok(());
     }
     let rule_type = rule_type_at(rule, leap_seconds, last_time)?;
-    if *rule_type != local_time_types[last.local_time_type_index()] {
+    if !rule_type.is_same(&local_time_types[last.local_time_type_index()]) {
         return Err(TzError::TimeZone(TimeZoneError::InconsistentExtraRule));
     }
     Ok(())
@@ -146,7 +146,13 @@ pub(crate) fn check_read_parts(
     if local_time_types.is_empty() {
         return Err(TzError::TimeZone(TimeZoneError::NoLocalTimeType));
     }
-    check_unknown_transitions(transitions, local_time_types.len(), are_in_order)?;
+    if let Err(error) = check_unknown_transitions(
+        transitions,
+        local_time_types.len(),
+        are_in_order,
+    ) {
+        return Err(TzError::TimeZone(error));
+    }
     if !are_leap_seconds(leap_seconds) {
         return Err(TzError::TimeZone(TimeZoneError::InvalidLeapSecond));
     }

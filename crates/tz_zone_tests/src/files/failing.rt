@@ -7,7 +7,8 @@ use std::process::Abort;
 use std::test::Fail;
 use tz_base::error::ReadFault;
 use tz_samples::refusing::Refusing;
-use tz_zone::inner::{read_to_end, read_up_to};
+use tz_zone::inner::read_to_end;
+use tz_zone::timezone::read_up_to;
 
 /// A reader over bytes, which gives ten of them at most at once and fails when it was called a number of times.
 #[derive(Drop)]
@@ -63,7 +64,7 @@ fn a_reader_is_read_to_its_end_or_fails(rt: HostRuntime) -> Result<(), Fail> {
 #[test]
 fn a_reader_is_read_up_to_a_limit(rt: HostRuntime) -> Result<(), Fail> {
     const TEXT: &str = "three and twenty bytes.";
-    static ROWS: [(usize, u64, usize, &str); 9] = [
+    static ROWS: [(usize, u64, usize, &str); 10] = [
         (0, 9, 22, "failed: file is longer than 0 bytes"),
         (1, 9, 21, "failed: file is longer than 1 bytes"),
         (9, 9, 13, "failed: file is longer than 9 bytes"),
@@ -71,6 +72,7 @@ fn a_reader_is_read_up_to_a_limit(rt: HostRuntime) -> Result<(), Fail> {
         (22, 9, 0, "failed: file is longer than 22 bytes"),
         (22, 2, 3, "failed: the disk is gone"),
         (23, 3, 0, "failed: the disk is gone"),
+        (23, 4, 0, TEXT),
         (23, 9, 0, TEXT),
         (24, 9, 0, TEXT),
     ];

@@ -2,10 +2,10 @@
 //! Codes of errors.
 
 use core::num::{IntErrorKind, ParseIntError};
-use tz_rs::proved::tz_base::error::TzError;
-use tz_rs::proved::tz_base::error::datetime::DateTimeError;
-use tz_rs::proved::tz_base::error::parse::{ParseDataError, TzFileError, TzStringError};
-use tz_rs::proved::tz_base::error::timezone::{
+use tz::proved::tz_base::error::TzError;
+use tz::proved::tz_base::error::datetime::DateTimeError;
+use tz::proved::tz_base::error::parse::{ParseDataError, TzFileError, TzStringError};
+use tz::proved::tz_base::error::timezone::{
     LocalTimeTypeError, TimeZoneError, TransitionRuleError,
 };
 

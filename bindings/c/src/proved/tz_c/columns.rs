@@ -5,13 +5,13 @@ use crate::proved::tz_c::codes::{
     BUFFER_LENGTH, INVALID_NANOSECONDS, NO_DATE_TIME, OK, OUT_OF_RANGE, UNKNOWN_CHOICE, code_of,
 };
 use crate::proved::tz_c::searches::choice_of;
-use tz_rs::proved::tz::datetime::Disambiguation;
-use tz_rs::proved::tz::inner::{DateTimeData, Fields, find_one, local_reading};
-use tz_rs::proved::tz_base::constants::{NANOSECONDS_PER_SECOND, SECONDS_PER_DAY};
-use tz_rs::proved::tz_base::error::TzError;
-use tz_rs::proved::tz_rule::timezone::LocalTimeType;
-use tz_rs::proved::tz_zone::inner::ZoneData;
-use tz_rs::proved::tz_zone::timezone::Segment;
+use tz::proved::tz::datetime::Disambiguation;
+use tz::proved::tz::inner::{DateTimeData, Fields, find_one, local_reading};
+use tz::proved::tz_base::constants::{NANOSECONDS_PER_SECOND, SECONDS_PER_DAY};
+use tz::proved::tz_base::error::TzError;
+use tz::proved::tz_rule::timezone::LocalTimeType;
+use tz::proved::tz_zone::inner::ZoneData;
+use tz::proved::tz_zone::timezone::Segment;
 
 /// The segment of the zone's clock that holds an instant: the one before, if it holds the instant too.
 #[inline(always)]
@@ -148,6 +148,7 @@ fn instant_of(
 }
 
 /// The offsets of the zone's clock at instants.
+#[inline(always)]
 pub fn tz_column_offsets(
     unix_times: &[i64],
     zone: &ZoneData<'_>,
@@ -166,6 +167,7 @@ pub fn tz_column_offsets(
 }
 
 /// What the zone's clock shows at instants.
+#[inline(always)]
 pub fn tz_column_date_times(
     unix_times: &[i64],
     nanoseconds: &[u32],
@@ -196,6 +198,7 @@ pub fn tz_column_date_times(
 }
 
 /// The instants that fields mean by a choice.
+#[inline(always)]
 pub fn tz_column_instants(
     fields: &[Fields],
     choice: u8,

@@ -2,13 +2,14 @@
 //! Date times of local time types and of zones.
 
 use crate::proved::tz_c::codes::{INVALID_NANOSECONDS, OK, OUT_OF_RANGE, code_of};
-use tz_rs::proved::tz::inner::{DateTimeData, Fields, UtcData, local_reading};
-use tz_rs::proved::tz::{DateTime, UtcDateTime};
-use tz_rs::proved::tz_base::constants::NANOSECONDS_PER_SECOND;
-use tz_rs::proved::tz_rule::timezone::LocalTimeType;
-use tz_rs::proved::tz_zone::inner::ZoneData;
+use tz::proved::tz::inner::{DateTimeData, Fields, UtcData, local_reading};
+use tz::proved::tz::{DateTime, UtcDateTime};
+use tz::proved::tz_base::constants::NANOSECONDS_PER_SECOND;
+use tz::proved::tz_rule::timezone::LocalTimeType;
+use tz::proved::tz_zone::inner::ZoneData;
 
 /// The date time with the fields, which the type shows.
+#[inline(always)]
 pub fn tz_date_time_new(
     fields: &Fields,
     local_time_type: &LocalTimeType,
@@ -33,6 +34,7 @@ pub fn tz_date_time_new(
 }
 
 /// What the type shows at an instant.
+#[inline(always)]
 pub fn tz_date_time_from_timespec_and_local(
     unix_time: i64,
     nanoseconds: u32,
@@ -49,6 +51,7 @@ pub fn tz_date_time_from_timespec_and_local(
 }
 
 /// What the zone's clock shows at an instant.
+#[inline(always)]
 pub fn tz_date_time_from_timespec(
     unix_time: i64,
     nanoseconds: u32,
@@ -74,6 +77,7 @@ pub fn tz_date_time_from_timespec(
 }
 
 /// The date time of UTC at the same instant.
+#[inline(always)]
 pub fn tz_date_time_to_utc(date_time: &DateTime, out: &mut UtcData) -> u32 {
     match UtcDateTime::try_from(*date_time) {
         Ok(utc) => {
@@ -85,11 +89,13 @@ pub fn tz_date_time_to_utc(date_time: &DateTime, out: &mut UtcData) -> u32 {
 }
 
 /// The week day, from Sunday = 0 to 6.
+#[inline(always)]
 pub fn tz_date_time_week_day(date_time: &DateTime) -> u8 {
     date_time.week_day()
 }
 
 /// Days since January 1st, from 0 to 365.
+#[inline(always)]
 pub fn tz_date_time_year_day(date_time: &DateTime) -> u16 {
     date_time.year_day()
 }

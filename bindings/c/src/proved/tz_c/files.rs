@@ -3,13 +3,14 @@
 
 use crate::proved::tz_c::codes::{BUFFER_LENGTH, OK, code_of, file_code};
 use crate::proved::tz_c::zones::OffsetsData;
-use tz_rs::proved::tz_rule::inner::RuleData;
-use tz_rs::proved::tz_rule::timezone::LocalTimeType;
-use tz_rs::proved::tz_zone::inner::{FileSizes, file_sizes, offsets, parse_posix_tz};
-use tz_rs::proved::tz_zone::timezone::{LeapSecond, TimeZone, Transition};
-use tz_rs::shim::alloc::Global;
+use tz::proved::tz_rule::inner::RuleData;
+use tz::proved::tz_rule::timezone::LocalTimeType;
+use tz::proved::tz_zone::inner::{FileSizes, file_sizes, offsets, parse_posix_tz};
+use tz::proved::tz_zone::timezone::{LeapSecond, TimeZone, Transition};
+use tz::shim::alloc::Global;
 
 /// The sizes of a TZif file, by its headers alone.
+#[inline(always)]
 pub fn tz_file_sizes(bytes: &[u8], out: &mut FileSizes) -> u32 {
     match file_sizes(bytes) {
         Ok(sizes) => {
@@ -21,6 +22,7 @@ pub fn tz_file_sizes(bytes: &[u8], out: &mut FileSizes) -> u32 {
 }
 
 /// The parts of a TZif file and the end offsets of its zone.
+#[inline(always)]
 pub fn tz_file_read(
     alloc: Global,
     bytes: &[u8],
@@ -52,6 +54,7 @@ pub fn tz_file_read(
 }
 
 /// The rule of a TZ string, ordinary or extended, without white space at its ends.
+#[inline(always)]
 pub fn tz_string_read(text: &[u8], is_extended: bool, out: &mut RuleData) -> u32 {
     match parse_posix_tz(text, is_extended) {
         Ok(rule) => {

@@ -2,18 +2,19 @@
 //! The sizes of the types that cross.
 
 use crate::proved::tz_c::codes::{BUFFER_LENGTH, OK};
+use crate::proved::tz_c::date_time_texts::ParsedData;
 use crate::proved::tz_c::rules::ConflictData;
 use crate::proved::tz_c::settings::SettingData;
 use crate::proved::tz_c::zones::{ChangeData, OffsetsData, PartsData, SegmentData};
-use tz_rs::proved::tz::inner::{DateTimeData, Fields, FoundData, UtcData};
-use tz_rs::proved::tz_rule::inner::{AlternateData, DayData, RuleData};
-use tz_rs::proved::tz_rule::timezone::LocalTimeType;
-use tz_rs::proved::tz_zone::inner::{FileSizes, ZoneData};
-use tz_rs::proved::tz_zone::timezone::{LeapSecond, Transition};
+use tz::proved::tz::inner::{DateTimeData, Fields, FoundData, UtcData};
+use tz::proved::tz_rule::inner::{AlternateData, DayData, RuleData};
+use tz::proved::tz_rule::timezone::LocalTimeType;
+use tz::proved::tz_zone::inner::{FileSizes, ZoneData};
+use tz::proved::tz_zone::timezone::{LeapSecond, Transition};
 
 /// The number of the layout, and the sizes in the order of the header.
-const LAYOUT: [usize; 19] = [
-    1,
+const LAYOUT: [usize; 20] = [
+    2,
     size_of::<LocalTimeType>(),
     size_of::<DayData>(),
     size_of::<AlternateData>(),
@@ -32,9 +33,11 @@ const LAYOUT: [usize; 19] = [
     size_of::<ChangeData>(),
     size_of::<FileSizes>(),
     size_of::<SettingData>(),
+    size_of::<ParsedData>(),
 ];
 
 /// The number of the layout, and the sizes of the types that cross.
+#[inline(always)]
 pub fn tz_layout(out: &mut [usize]) -> u32 {
     if out.len() != LAYOUT.len() {
         return BUFFER_LENGTH;

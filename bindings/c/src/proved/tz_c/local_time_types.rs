@@ -2,12 +2,13 @@
 //! Local time types and rule days.
 
 use crate::proved::tz_c::codes::{OK, rule_code, type_code};
-use tz_rs::proved::tz_rule::inner::DayData;
-use tz_rs::proved::tz_rule::timezone::{
+use tz::proved::tz_rule::inner::DayData;
+use tz::proved::tz_rule::timezone::{
     Julian0WithLeap, Julian1WithoutLeap, LocalTimeType, MonthWeekDay, RuleDay,
 };
 
 /// The local time type with these parts, as `LocalTimeType::new` makes it.
+#[inline(always)]
 pub fn tz_local_time_type_new(
     ut_offset: i32,
     is_dst: bool,
@@ -26,6 +27,7 @@ pub fn tz_local_time_type_new(
 }
 
 /// The day with this number of the days that are not February 29th, as `Julian1WithoutLeap::new` makes it.
+#[inline(always)]
 pub fn tz_julian_1_new(julian_day_1: u16, out: &mut DayData) -> u32 {
     match Julian1WithoutLeap::new(julian_day_1) {
         Ok(day) => {
@@ -37,6 +39,7 @@ pub fn tz_julian_1_new(julian_day_1: u16, out: &mut DayData) -> u32 {
 }
 
 /// The day this many days after January 1st, as `Julian0WithLeap::new` makes it.
+#[inline(always)]
 pub fn tz_julian_0_new(julian_day_0: u16, out: &mut DayData) -> u32 {
     match Julian0WithLeap::new(julian_day_0) {
         Ok(day) => {
@@ -48,6 +51,7 @@ pub fn tz_julian_0_new(julian_day_0: u16, out: &mut DayData) -> u32 {
 }
 
 /// The week day of a month, as `MonthWeekDay::new` makes it.
+#[inline(always)]
 pub fn tz_month_week_day_new(month: u8, week: u8, week_day: u8, out: &mut DayData) -> u32 {
     match MonthWeekDay::new(month, week, week_day) {
         Ok(day) => {

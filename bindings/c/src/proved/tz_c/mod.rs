@@ -3,6 +3,7 @@
 
 pub(crate) mod codes;
 pub(crate) mod columns;
+pub(crate) mod date_time_texts;
 pub(crate) mod date_times;
 pub(crate) mod error_texts;
 pub(crate) mod files;

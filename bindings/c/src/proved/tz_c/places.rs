@@ -2,9 +2,9 @@
 //! The place of the type that a zone's clock has.
 
 use crate::proved::tz_c::codes::{OK, code_of};
-use tz_rs::proved::tz_rule::inner::RuleRef;
-use tz_rs::proved::tz_rule::timezone::LocalTimeType;
-use tz_rs::proved::tz_zone::inner::ZoneData;
+use tz::proved::tz_rule::inner::RuleRef;
+use tz::proved::tz_rule::timezone::LocalTimeType;
+use tz::proved::tz_zone::inner::ZoneData;
 
 /// The first place of a type in a list.
 fn place_in(types: &[LocalTimeType], local_time_type: &LocalTimeType) -> Option<usize> {
@@ -16,7 +16,7 @@ fn place_in(types: &[LocalTimeType], local_time_type: &LocalTimeType) -> Option<
     None
 }
 
-/// The place of one of a rule's types among them.
+/// The first place of one of a rule's types among them.
 fn place_in_rule(rule: Option<RuleRef<'_>>, local_time_type: &LocalTimeType) -> usize {
     match rule {
         Some(RuleRef::Alternate(rule)) => {
@@ -30,7 +30,7 @@ fn place_in_rule(rule: Option<RuleRef<'_>>, local_time_type: &LocalTimeType) -> 
     }
 }
 
-/// The place of one of a zone's types among those of its list and of its rule.
+/// The first place of one of a zone's types among those of its list and of its rule.
 fn place_of(zone: &ZoneData<'_>, local_time_type: &LocalTimeType) -> usize {
     let parts = zone.other_parts();
     match place_in(parts.local_time_types, local_time_type) {
@@ -42,6 +42,7 @@ fn place_of(zone: &ZoneData<'_>, local_time_type: &LocalTimeType) -> usize {
 }
 
 /// The place of the type of a zone's clock at an instant.
+#[inline(always)]
 pub fn tz_zone_place_at(zone: &ZoneData<'_>, unix_time: i64, out: &mut usize) -> u32 {
     match zone.find_local_time_type(unix_time) {
         Ok(local_time_type) => {

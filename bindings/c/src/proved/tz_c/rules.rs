@@ -2,8 +2,8 @@
 //! Rules.
 
 use crate::proved::tz_c::codes::{NO_CONFLICT, NO_RULE, OK, OUT_OF_RANGE, rule_code};
-use tz_rs::proved::tz_rule::inner::{AlternateData, DayData, RuleRef, find_local_time_type};
-use tz_rs::proved::tz_rule::timezone::LocalTimeType;
+use tz::proved::tz_rule::inner::{AlternateData, DayData, RuleRef, find_local_time_type};
+use tz::proved::tz_rule::timezone::LocalTimeType;
 
 /// Years that show why parts make no rule.
 #[repr(C)]
@@ -15,6 +15,7 @@ pub struct ConflictData {
 }
 
 /// The rule with these parts, as `AlternateTime::new` makes it.
+#[inline(always)]
 pub fn tz_alternate_new(
     std: &LocalTimeType,
     dst: &LocalTimeType,
@@ -41,6 +42,7 @@ pub fn tz_alternate_new(
 }
 
 /// Why parts in range make no rule, as `AlternateTime::conflict` says it.
+#[inline(always)]
 pub fn tz_alternate_conflict(
     std: &LocalTimeType,
     dst: &LocalTimeType,
@@ -86,6 +88,7 @@ pub(crate) fn rule_of_lists<'a>(
 }
 
 /// The type of a rule at an instant.
+#[inline(always)]
 pub fn tz_rule_type_at(
     fixed: &[LocalTimeType],
     alternate: &[AlternateData],

@@ -2,11 +2,12 @@
 //! Searches for date times.
 
 use crate::proved::tz_c::codes::{NO_DATE_TIME, OK, UNKNOWN_CHOICE, code_of};
-use tz_rs::proved::tz::datetime::Disambiguation;
-use tz_rs::proved::tz::inner::{DateTimeData, Fields, FoundData, find_into, find_one};
-use tz_rs::proved::tz_zone::inner::ZoneData;
+use tz::proved::tz::datetime::Disambiguation;
+use tz::proved::tz::inner::{DateTimeData, Fields, FoundData, find_into, find_one};
+use tz::proved::tz_zone::inner::ZoneData;
 
 /// What is found of the fields from one of the entries on, and how many entries there are.
+#[inline(always)]
 pub fn tz_find_n(
     fields: &Fields,
     zone: &ZoneData<'_>,
@@ -35,6 +36,7 @@ pub(crate) fn choice_of(choice: u8) -> Option<Disambiguation> {
 }
 
 /// The one date time that the fields mean by a choice.
+#[inline(always)]
 pub fn tz_find_one(
     fields: &Fields,
     choice: u8,

@@ -21,6 +21,7 @@ fn is_local_time(text: &[u8]) -> bool {
 }
 
 /// What a setting asks for.
+#[inline(always)]
 pub fn tz_setting_read(text: &[u8], out: &mut SettingData) -> u32 {
     if text.is_empty() {
         return EMPTY_STRING;

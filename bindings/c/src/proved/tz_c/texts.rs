@@ -3,10 +3,10 @@
 
 use crate::proved::tz_c::codes::{BUFFER_LENGTH, NO_RULE, NO_TZ_STRING, OK};
 use crate::proved::tz_c::rules::rule_of_lists;
-use tz_rs::proved::tz::inner::{TextBuffer, UtcData, fields_of};
-use tz_rs::proved::tz::{DateTime, TzString, UtcDateTime};
-use tz_rs::proved::tz_rule::inner::AlternateData;
-use tz_rs::proved::tz_rule::timezone::LocalTimeType;
+use tz::proved::tz::inner::{TextBuffer, UtcData, fields_of};
+use tz::proved::tz::{DateTime, TzString, UtcDateTime};
+use tz::proved::tz_rule::inner::AlternateData;
+use tz::proved::tz_rule::timezone::LocalTimeType;
 
 /// Copies a text to a buffer and stores its length, if there is room.
 #[inline(always)]
@@ -20,6 +20,7 @@ pub(crate) fn write_text(given: &[u8], text: &mut [u8], len: &mut usize) -> u32 
 }
 
 /// The date time of UTC as its `Display` prints it.
+#[inline(always)]
 pub fn tz_utc_text(utc: &UtcDateTime, text: &mut [u8], len: &mut usize) -> u32 {
     let mut line = TextBuffer::new();
     line.push_date_time(&UtcData::of(utc).fields, 0);
@@ -27,6 +28,7 @@ pub fn tz_utc_text(utc: &UtcDateTime, text: &mut [u8], len: &mut usize) -> u32 {
 }
 
 /// The date time as its `Display` prints it.
+#[inline(always)]
 pub fn tz_date_time_text(date_time: &DateTime, text: &mut [u8], len: &mut usize) -> u32 {
     let mut line = TextBuffer::new();
     let ut_offset = date_time.local_time_type().ut_offset();
@@ -35,6 +37,7 @@ pub fn tz_date_time_text(date_time: &DateTime, text: &mut [u8], len: &mut usize)
 }
 
 /// The TZ string of a rule, as `TzString::from_rule` writes it.
+#[inline(always)]
 pub fn tz_rule_text(
     fixed: &[LocalTimeType],
     alternate: &[AlternateData],

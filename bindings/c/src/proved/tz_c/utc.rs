@@ -3,11 +3,12 @@
 
 use crate::proved::tz_c::codes::{INVALID_NANOSECONDS, OK, OUT_OF_RANGE, code_of};
 use core::time::Duration;
-use tz_rs::proved::tz::UtcDateTime;
-use tz_rs::proved::tz::inner::{Fields, UtcData};
-use tz_rs::proved::tz_base::constants::NANOSECONDS_PER_SECOND;
+use tz::proved::tz::UtcDateTime;
+use tz::proved::tz::inner::{Fields, UtcData};
+use tz::proved::tz_base::constants::NANOSECONDS_PER_SECOND;
 
 /// The date time of UTC with the fields.
+#[inline(always)]
 pub fn tz_utc_new(fields: &Fields, out: &mut UtcData) -> u32 {
     match UtcDateTime::new(
         fields.year,
@@ -27,6 +28,7 @@ pub fn tz_utc_new(fields: &Fields, out: &mut UtcData) -> u32 {
 }
 
 /// The date time of UTC at an instant.
+#[inline(always)]
 pub fn tz_utc_from_timespec(unix_time: i64, nanoseconds: u32, out: &mut UtcData) -> u32 {
     match UtcDateTime::from_timespec(unix_time, nanoseconds) {
         Ok(date_time) => {
@@ -38,6 +40,7 @@ pub fn tz_utc_from_timespec(unix_time: i64, nanoseconds: u32, out: &mut UtcData)
 }
 
 /// The date time of UTC a duration later.
+#[inline(always)]
 pub fn tz_utc_add(utc: &UtcDateTime, seconds: u64, nanoseconds: u32, out: &mut UtcData) -> u32 {
     if nanoseconds >= NANOSECONDS_PER_SECOND {
         return INVALID_NANOSECONDS;
@@ -52,6 +55,7 @@ pub fn tz_utc_add(utc: &UtcDateTime, seconds: u64, nanoseconds: u32, out: &mut U
 }
 
 /// The date time of UTC a duration earlier.
+#[inline(always)]
 pub fn tz_utc_sub(utc: &UtcDateTime, seconds: u64, nanoseconds: u32, out: &mut UtcData) -> u32 {
     if nanoseconds >= NANOSECONDS_PER_SECOND {
         return INVALID_NANOSECONDS;
@@ -66,11 +70,13 @@ pub fn tz_utc_sub(utc: &UtcDateTime, seconds: u64, nanoseconds: u32, out: &mut U
 }
 
 /// The week day, from Sunday = 0 to 6.
+#[inline(always)]
 pub fn tz_utc_week_day(utc: &UtcDateTime) -> u8 {
     utc.week_day()
 }
 
 /// Days since January 1st, from 0 to 365.
+#[inline(always)]
 pub fn tz_utc_year_day(utc: &UtcDateTime) -> u16 {
     utc.year_day()
 }

@@ -2,10 +2,10 @@
 //! Zones.
 
 use crate::proved::tz_c::codes::{NO_CHANGE, OK, code_of};
-use tz_rs::proved::tz_rule::inner::AlternateData;
-use tz_rs::proved::tz_rule::timezone::LocalTimeType;
-use tz_rs::proved::tz_zone::inner::ZoneData;
-use tz_rs::proved::tz_zone::timezone::{Change, LeapSecond, Segment, Transition};
+use tz::proved::tz_rule::inner::AlternateData;
+use tz::proved::tz_rule::timezone::LocalTimeType;
+use tz::proved::tz_zone::inner::ZoneData;
+use tz::proved::tz_zone::timezone::{Change, LeapSecond, Segment, Transition};
 
 /// Parts that may make a zone.
 #[repr(C)]
@@ -78,6 +78,7 @@ impl ChangeData {
 }
 
 /// Whether parts make a zone, as `TimeZoneRef::new` checks them, and its end offsets.
+#[inline(always)]
 pub fn tz_zone_check(parts: &PartsData<'_>, out: &mut OffsetsData) -> u32 {
     match ZoneData::new(
         parts.transitions,
@@ -96,6 +97,7 @@ pub fn tz_zone_check(parts: &PartsData<'_>, out: &mut OffsetsData) -> u32 {
 }
 
 /// The type of a zone's clock at an instant, as `TimeZoneRef::find_local_time_type` finds it.
+#[inline(always)]
 pub fn tz_zone_type_at(zone: &ZoneData<'_>, unix_time: i64, out: &mut LocalTimeType) -> u32 {
     match zone.find_local_time_type(unix_time) {
         Ok(local_time_type) => {
@@ -107,12 +109,14 @@ pub fn tz_zone_type_at(zone: &ZoneData<'_>, unix_time: i64, out: &mut LocalTimeT
 }
 
 /// The segment around an instant, as `TimeZoneRef::segment_at` finds it.
+#[inline(always)]
 pub fn tz_zone_segment_at(zone: &ZoneData<'_>, unix_time: i64, out: &mut SegmentData) -> u32 {
     *out = SegmentData::of(&zone.segment_at(unix_time));
     OK
 }
 
 /// The first change after an instant, as `TimeZoneRef::following` finds it.
+#[inline(always)]
 pub fn tz_zone_following(zone: &ZoneData<'_>, unix_time: i64, out: &mut ChangeData) -> u32 {
     match zone.following(unix_time) {
         Some(change) => {
@@ -124,6 +128,7 @@ pub fn tz_zone_following(zone: &ZoneData<'_>, unix_time: i64, out: &mut ChangeDa
 }
 
 /// The last change before an instant, as `TimeZoneRef::preceding` finds it.
+#[inline(always)]
 pub fn tz_zone_preceding(zone: &ZoneData<'_>, unix_time: i64, out: &mut ChangeData) -> u32 {
     match zone.preceding(unix_time) {
         Some(change) => {

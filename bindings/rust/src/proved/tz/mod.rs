@@ -5,8 +5,7 @@
 //!
 //! Make a zone, from the machine's files by a name, from a TZ string, or from the bytes of a TZif file:
 //!
-//! ```
-//! # use tz::{datetime::*, error::*, timezone::*, *};
+//! ```text
 //! let zone = TimeZone::from_posix_tz(alloc, reader, "Europe/Paris")?;
 //! let zone = TimeZone::from_posix_tz(alloc, reader, "CET-1CEST,M3.5.0,M10.5.0/3")?;
 //! let zone = TimeZone::from_tz_data(alloc, bytes)?;
@@ -14,24 +13,21 @@
 //!
 //! See what clocks show at a Unix time:
 //!
-//! ```
-//! # use tz::{datetime::*, error::*, timezone::*, *};
+//! ```text
 //! let date_time = DateTime::from_timespec(946_684_800, 0, zone.as_ref())?;
 //! ```
 //!
 //! Find the instant that a local time means, by a choice for gaps and folds ([`Disambiguation`](datetime::Disambiguation)), or everything that it can
 //! mean:
 //!
-//! ```
-//! # use tz::{datetime::*, error::*, timezone::*, *};
+//! ```text
 //! let date_time = DateTime::from_local(local, Disambiguation::Compatible, zone.as_ref())?;
 //! let found = DateTime::find(alloc, 2000, 10, 29, 2, 30, 0, 0, zone.as_ref())?;
 //! ```
 //!
 //! See when clocks change next:
 //!
-//! ```
-//! # use tz::{datetime::*, error::*, timezone::*, *};
+//! ```text
 //! let change = zone.following(946_684_800);
 //! ```
 //!

@@ -27,7 +27,6 @@ impl TextBuffer {
     }
 
     /// Appends hours, with two digits at least.
-
     fn push_hours(&mut self, hours: u32) {
         if hours < 100 {
             self.push_two_digits(hours as u8);

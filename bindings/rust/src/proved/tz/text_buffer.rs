@@ -103,7 +103,6 @@ impl TextBuffer {
     }
 
     /// Appends the digits of a number.
-
     pub(crate) fn push_digits(&mut self, number: u64) {
         if number < 10 {
             self.push(b'0' + number as u8);
@@ -116,7 +115,6 @@ impl TextBuffer {
     }
 
     /// Appends the digits of a number, of which there are ten at most.
-
     pub fn push_decimal(&mut self, number: u32) {
         if number >= 1000 && number < 10_000 {
             let (front, back) = two_pairs(number);
@@ -128,7 +126,6 @@ impl TextBuffer {
     }
 
     /// Appends the digits of a count, of which there are twenty at most.
-
     pub fn push_count(&mut self, count: u64) {
         self.push_digits(count);
     }

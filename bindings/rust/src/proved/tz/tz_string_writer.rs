@@ -24,13 +24,11 @@ const DEFAULT_SAVING: i32 = 3600;
 const LONG_OFFSET: i32 = 90_000;
 
 /// Appends a number of at most three digits.
-
 fn push_number(buffer: &mut TextBuffer, number: u16) {
     buffer.push_digits(u64::from(number));
 }
 
 /// Appends :mm or :mm:ss of seconds of an hour, unless there are none.
-
 fn push_minutes(buffer: &mut TextBuffer, seconds: u16) {
     if seconds != 0 {
         buffer.push(b':');
@@ -40,7 +38,6 @@ fn push_minutes(buffer: &mut TextBuffer, seconds: u16) {
 }
 
 /// Appends h, h:mm or h:mm:ss.
-
 fn push_plain_time(buffer: &mut TextBuffer, seconds: u32) {
     buffer.push_decimal(seconds / HOUR);
     push_minutes(buffer, (seconds % HOUR) as u16);
@@ -70,13 +67,11 @@ fn are_letters(bytes: &[u8]) -> bool {
 }
 
 /// Whether a name needs no angle brackets.
-
 fn is_bare_name(name: &str) -> bool {
     name.len() > 2 && are_letters(name.as_bytes())
 }
 
 /// Appends a name, in angle brackets if it needs them.
-
 fn push_name(buffer: &mut TextBuffer, name: &str) {
     if is_bare_name(name) {
         buffer.push_str(name);
@@ -88,7 +83,6 @@ fn push_name(buffer: &mut TextBuffer, name: &str) {
 }
 
 /// Appends Jn, n or Mm.w.d.
-
 fn push_day(buffer: &mut TextBuffer, day: &RuleDay) {
     match day {
         RuleDay::Julian1WithoutLeap(day) => {
@@ -169,6 +163,7 @@ impl TzString {
     /// The TZ string of the rule of a zone, if it has one:
     ///
     /// ```
+    /// # use std::time::Duration;
     /// # use tz::{datetime::*, error::*, timezone::*, *};
     /// pub fn rule_text(zone: TimeZoneRef<'_>) -> Option<TzString> {
     ///     match zone.extra_rule() {

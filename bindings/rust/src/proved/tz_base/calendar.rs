@@ -67,7 +67,6 @@ const fn centuries_before(years: u64) -> u64 {
 }
 
 /// How many days a month of a leap year or of another one has.
-
 pub const fn days_of_month(leap: bool, month: u8) -> u8 {
     match month {
         2 => {
@@ -83,12 +82,12 @@ pub const fn days_of_month(leap: bool, month: u8) -> u8 {
 }
 
 /// How many days the month of a year has.
-pub fn days_in_month(year: i32, month: u8) -> u8 {
+pub const fn days_in_month(year: i32, month: u8) -> u8 {
     days_of_month(is_leap_year(year), month)
 }
 
 /// Whether the month of a year has the day; a day up to the 28th is not looked up.
-pub(crate) fn has_month_day(year: i32, month: u8, month_day: u8) -> bool {
+pub(crate) const fn has_month_day(year: i32, month: u8, month_day: u8) -> bool {
     if month_day <= 28 {
         return true;
     }
@@ -131,7 +130,6 @@ const fn moved_march_year(year: i32, month: u8) -> u64 {
 /// The days of a number of years, the first of which begins on March 1st of a year that 400 divides.
 ///
 /// A multiplication and a shift stand for a division by 100.
-
 const fn days_of_march_years(years: u64) -> u64 {
     let centuries = 1_374_389_535 * years / 137_438_953_472;
     1461 * years / 4 - centuries + centuries / 4
@@ -144,7 +142,6 @@ pub const fn days_since_unix_epoch(year: i32, month: u8, month_day: u8) -> i64 {
 }
 
 /// The week day of a day by its number, from Sunday = 0.
-
 pub const fn week_day_of_day(day: i64) -> u8 {
     (day + 4).rem_euclid(7) as u8
 }
@@ -160,7 +157,6 @@ const fn march_year(day: u64) -> (u64, u64) {
 }
 
 /// The month of a day of a year that begins on March 1st, from 3 to 14, and the day of that month, from 0.
-
 const fn month_of_march_day(day: u32) -> (u8, u8) {
     let parts = 2141 * day + 197_913;
     ((parts / 65_536) as u8, (parts % 65_536 / 2141) as u8)

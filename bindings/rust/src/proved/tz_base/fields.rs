@@ -43,9 +43,9 @@ pub const fn is_reading(reading: i64) -> bool {
 
 /// The reading of a clock with this offset from UTC at a Unix time, if it is in a year of 32 bits.
 #[inline(always)]
-pub fn local_reading(unix_time: i64, ut_offset: i32) -> Option<i64> {
+pub const fn local_reading(unix_time: i64, ut_offset: i32) -> Option<i64> {
     // A sum that wraps is in no year of 32 bits, and nor is the true one.
-    let reading = unix_time.wrapping_add(i64::from(ut_offset));
+    let reading = unix_time.wrapping_add(ut_offset as i64);
     if is_reading(reading) {
         Some(reading)
     } else {
@@ -82,7 +82,7 @@ impl Fields {
     ///
     /// The variant of the first field that is out of range, in the order of the fields, or else [`DateTimeError::InvalidMonthDay`] if the month does
     /// not have the day.
-    pub fn check(&self) -> Result<(), DateTimeError> {
+    pub const fn check(&self) -> Result<(), DateTimeError> {
         if self.month < 1 || self.month > 12 {
             return Err(DateTimeError::InvalidMonth);
         }
@@ -108,10 +108,9 @@ impl Fields {
     }
 
     /// The seconds from 1970-01-01 00:00:00 to the fields. Second 60 reads as the next minute's first second.
-    pub fn reading(&self) -> i64 {
-        let second_of_day =
-            3600 * u32::from(self.hour) + 60 * u32::from(self.minute) + u32::from(self.second);
-        SECONDS_PER_DAY * self.day() + i64::from(second_of_day)
+    pub const fn reading(&self) -> i64 {
+        let second_of_day = 3600 * self.hour as u32 + 60 * self.minute as u32 + self.second as u32;
+        SECONDS_PER_DAY * self.day() + second_of_day as i64
     }
 
     /// The number of the day of the fields, where 1970-01-01 has the number 0.

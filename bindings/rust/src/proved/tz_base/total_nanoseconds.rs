@@ -9,11 +9,11 @@ pub const fn total_nanoseconds(unix_time: i64, nanoseconds: u32) -> i128 {
 }
 
 /// The seconds of a total of nanoseconds, rounded down, and the nanoseconds that remain, if the seconds fit 64 bits.
-pub fn timespec(total: i128) -> Option<(i64, u32)> {
-    let nanoseconds_per_second = i128::from(NANOSECONDS_PER_SECOND);
+pub const fn timespec(total: i128) -> Option<(i64, u32)> {
+    let nanoseconds_per_second = NANOSECONDS_PER_SECOND as i128;
     let seconds = total.div_euclid(nanoseconds_per_second);
     let nanoseconds = total.rem_euclid(nanoseconds_per_second) as u32;
-    if seconds < i128::from(i64::MIN) || seconds > i128::from(i64::MAX) {
+    if seconds < i64::MIN as i128 || seconds > i64::MAX as i128 {
         return None;
     }
     Some((seconds as i64, nanoseconds))

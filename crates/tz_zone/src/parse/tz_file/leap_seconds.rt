@@ -16,7 +16,7 @@ fn leap_second_at(unit: &Unit<'_>, index: u32) -> LeapSecond
     requires within { index < unit.now.counts.leap }
     ensures { result ≡ leap_at (width_of unit.now.size) (block_view unit.now.block) index }
 {
-    let at = unit.size.leaps_len(index);
+    let at = unit.size.leaps_len(index) as usize;
     let unix_leap_time = time_at(unit.size, unit.block.leaps, at);
     let correction = signed_at(unit.block.leaps, at + unit.size.len());
     LeapSecond::new(unix_leap_time, correction)

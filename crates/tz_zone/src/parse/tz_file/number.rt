@@ -12,7 +12,8 @@ fn four_at(bytes: &[u8], at: usize) -> [u8; 4]
     requires { at + 4 ≤ length bytes.now }
     ensures { result ≡ take 4 (drop at bytes.now) }
 {
-    [bytes[at], bytes[at + 1], bytes[at + 2], bytes[at + 3]]
+    let four = &bytes[at..at + 4];
+    [four[0], four[1], four[2], four[3]]
 }
 
 /// The eight bytes at a place.
@@ -20,15 +21,10 @@ fn eight_at(bytes: &[u8], at: usize) -> [u8; 8]
     requires { at + 8 ≤ length bytes.now }
     ensures { result ≡ take 8 (drop at bytes.now) }
 {
+    // One slice, so that the bounds are checked once.
+    let eight = &bytes[at..at + 8];
     [
-        bytes[at],
-        bytes[at + 1],
-        bytes[at + 2],
-        bytes[at + 3],
-        bytes[at + 4],
-        bytes[at + 5],
-        bytes[at + 6],
-        bytes[at + 7],
+        eight[0], eight[1], eight[2], eight[3], eight[4], eight[5], eight[6], eight[7],
     ]
 }
 

@@ -1,4 +1,6 @@
 //! The size of times in a block, four bytes or eight, and of tables that have times. (RFC 8536, section 3.1)
+//!
+//! Lengths that a file's counts ask for have 64 bits, and so no sum of them wraps, whatever the width of a `usize`.
 
 ghost use Rattle.std.specs.Prelude.{◌≡◌, ◌+◌, ◌*◌, ◌≤◌};
 ghost use Rattle.std.specs.Int.{byte_len};
@@ -26,24 +28,24 @@ impl TimeSize {
     }
 
     /// How many bytes a number of times has.
-    pub(super) fn times_len(self, count: u32) -> usize
+    pub(super) fn times_len(self, count: u32) -> u64
         ensures value { result ≡ count * byte_len (width_of self) }
         ensures small { result ≤ 8 * count }
     {
         match self {
-            TimeSize::Four => count as usize * 4,
-            TimeSize::Eight => count as usize * 8,
+            TimeSize::Four => u64::from(count) * 4,
+            TimeSize::Eight => u64::from(count) * 8,
         }
     }
 
     /// How many bytes a number of leap seconds has, each a time and a correction of four bytes.
-    pub(super) fn leaps_len(self, count: u32) -> usize
+    pub(super) fn leaps_len(self, count: u32) -> u64
         ensures value { result ≡ count * (byte_len (width_of self) + 4) }
         ensures small { result ≤ 12 * count }
     {
         match self {
-            TimeSize::Four => count as usize * 8,
-            TimeSize::Eight => count as usize * 12,
+            TimeSize::Four => u64::from(count) * 8,
+            TimeSize::Eight => u64::from(count) * 12,
         }
     }
 }

@@ -20,7 +20,7 @@ fn transition_at(size: TimeSize, unit: &Unit<'_>, index: u32) -> Transition
     requires within { index < unit.now.counts.transition }
     ensures { result ≡ change_at (width_of unit.now.size) (block_view unit.now.block) index }
 {
-    let at = size.times_len(index);
+    let at = size.times_len(index) as usize;
     let unix_leap_time = time_at(size, unit.block.times, at);
     let local_time_type_index = unit.block.indexes[index as usize];
     Transition::new(unix_leap_time, usize::from(local_time_type_index))

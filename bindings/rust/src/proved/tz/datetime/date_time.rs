@@ -53,6 +53,7 @@ impl DateTime {
     /// The date time that clocks nine hours ahead of UTC show on 2024-05-01 at 8:30:
     ///
     /// ```
+    /// # use std::time::Duration;
     /// # use tz::{datetime::*, error::*, timezone::*, *};
     /// pub fn morning_in_tokyo() -> Result<DateTime, TzError> {
     ///     let tokyo = LocalTimeType::with_ut_offset(32_400)?;
@@ -65,7 +66,7 @@ impl DateTime {
     /// - [`TzError::DateTime`] with the first field that is out of range, in the order of the arguments, or else with `InvalidMonthDay` if the month
     ///   does not have the day;
     /// - [`TzError::OutOfRange`] if the year in UTC does not fit an `i32`.
-    pub fn new(
+    pub const fn new(
         year: i32,
         month: u8,
         month_day: u8,
@@ -76,8 +77,10 @@ impl DateTime {
         local_time_type: LocalTimeType,
     ) -> Result<Self, TzError> {
         let fields = Fields::new(year, month, month_day, hour, minute, second, nanoseconds);
-        fields.check()?;
-        let unix_time = fields.reading() - i64::from(local_time_type.ut_offset());
+        if let Err(error) = fields.check() {
+            return Err(TzError::DateTime(error));
+        }
+        let unix_time = fields.reading() - local_time_type.ut_offset() as i64;
         if !is_reading(unix_time) {
             return Err(TzError::OutOfRange);
         }
@@ -86,7 +89,7 @@ impl DateTime {
 
     /// The date time with valid fields, which the type shows at a Unix time.
     #[inline(always)]
-    pub(super) fn of_fields(
+    pub(super) const fn of_fields(
         fields: &Fields,
         local_time_type: LocalTimeType,
         unix_time: i64,
@@ -104,7 +107,7 @@ impl DateTime {
     ///
     /// - [`TzError::DateTime`] with [`DateTimeError::InvalidNanoseconds`] if there are 10^9 nanoseconds or more;
     /// - [`TzError::OutOfRange`] if the year that the type shows does not fit an `i32`.
-    pub fn from_timespec_and_local(
+    pub const fn from_timespec_and_local(
         unix_time: i64,
         nanoseconds: u32,
         local_time_type: LocalTimeType,
@@ -117,13 +120,14 @@ impl DateTime {
 
     /// The date time that the type shows at a Unix time.
     #[inline(always)]
-    pub(super) fn shown_by(
+    pub(super) const fn shown_by(
         unix_time: i64,
         nanoseconds: u32,
         local_time_type: LocalTimeType,
     ) -> Result<Self, TzError> {
-        let reading = local_reading(unix_time, local_time_type.ut_offset());
-        let reading = reading.ok_or(TzError::OutOfRange)?;
+        let Some(reading) = local_reading(unix_time, local_time_type.ut_offset()) else {
+            return Err(TzError::OutOfRange);
+        };
         Ok(DateTime {
             fields: Fields::from_reading(reading, nanoseconds),
             local_time_type,
@@ -136,15 +140,15 @@ impl DateTime {
     /// What clocks of a zone show at a Unix time, and the name of their time:
     ///
     /// ```
+    /// # use std::time::Duration;
     /// # use tz::{datetime::*, error::*, timezone::*, *};
     /// pub fn print_instant(
-    ///     alloc: Global,
     ///     zone: TimeZoneRef<'_>,
     ///     unix_time: i64,
     /// ) -> Result<String, TzError> {
     ///     let date_time = DateTime::from_timespec(unix_time, 0, zone)?;
     ///     let name = date_time.local_time_type().time_zone_designation();
-    ///     Ok(format!(in alloc; "{date_time} {name}")?)
+    ///     Ok(format!("{date_time} {name}"))
     /// }
     /// ```
     ///
@@ -155,7 +159,7 @@ impl DateTime {
     ///   instant;
     /// - [`TzError::OutOfRange`] if the year that the clock shows does not fit an `i32`.
     #[inline(always)]
-    pub fn from_timespec(
+    pub const fn from_timespec(
         unix_time: i64,
         nanoseconds: u32,
         time_zone_ref: TimeZoneRef<'_>,
@@ -163,7 +167,10 @@ impl DateTime {
         if nanoseconds >= NANOSECONDS_PER_SECOND {
             return Err(TzError::DateTime(DateTimeError::InvalidNanoseconds));
         }
-        let local_time_type = time_zone_ref.find_local_time_type(unix_time)?;
+        let local_time_type = match time_zone_ref.find_local_time_type(unix_time) {
+            Ok(value) => value,
+            Err(error) => return Err(error),
+        };
         DateTime::shown_by(unix_time, nanoseconds, *local_time_type)
     }
 
@@ -172,12 +179,14 @@ impl DateTime {
     /// # Errors
     ///
     /// [`TzError::OutOfRange`] if the year that the type shows does not fit an `i32`.
-    pub fn from_total_nanoseconds_and_local(
+    pub const fn from_total_nanoseconds_and_local(
         total_nanoseconds: i128,
         local_time_type: LocalTimeType,
     ) -> Result<Self, TzError> {
         let total = timespec(total_nanoseconds);
-        let (unix_time, nanoseconds) = total.ok_or(TzError::OutOfRange)?;
+        let Some((unix_time, nanoseconds)) = total else {
+            return Err(TzError::OutOfRange);
+        };
         DateTime::shown_by(unix_time, nanoseconds, local_time_type)
     }
 
@@ -187,7 +196,7 @@ impl DateTime {
     ///
     /// - [`TzError::OutOfRange`] if the seconds do not fit an `i64`;
     /// - those of [`DateTime::from_timespec`] at an instant with valid nanoseconds.
-    pub fn from_total_nanoseconds(
+    pub const fn from_total_nanoseconds(
         total_nanoseconds: i128,
         time_zone_ref: TimeZoneRef<'_>,
     ) -> Result<Self, TzError> {
@@ -202,7 +211,7 @@ impl DateTime {
     /// # Errors
     ///
     /// Those of [`DateTime::from_timespec`] at an instant with valid nanoseconds.
-    pub fn project(&self, time_zone_ref: TimeZoneRef<'_>) -> Result<Self, TzError> {
+    pub const fn project(&self, time_zone_ref: TimeZoneRef<'_>) -> Result<Self, TzError> {
         DateTime::from_timespec(self.unix_time, self.fields.nanoseconds, time_zone_ref)
     }
 

@@ -139,6 +139,7 @@ impl DateTime {
     /// Noon of a date in a zone:
     ///
     /// ```
+    /// # use std::time::Duration;
     /// # use tz::{datetime::*, error::*, timezone::*, *};
     /// pub fn noon(
     ///     zone: TimeZoneRef<'_>,
@@ -178,6 +179,7 @@ impl DateTime {
     /// When a daily job at a local time runs next after an instant:
     ///
     /// ```
+    /// # use std::time::Duration;
     /// # use tz::{datetime::*, error::*, timezone::*, *};
     /// pub fn next_daily_run(
     ///     zone: TimeZoneRef<'_>,

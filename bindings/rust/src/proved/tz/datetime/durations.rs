@@ -7,22 +7,35 @@ use crate::proved::tz_base::total_nanoseconds::timespec;
 use core::time::Duration;
 
 /// The seconds of the total, rounded down, and the nanoseconds that remain, if the seconds are those of a UTC date time.
-pub(super) fn utc_timespec(total: i128) -> Option<(i64, u32)> {
-    let (seconds, nanoseconds) = timespec(total)?;
-    is_reading(seconds).then_some((seconds, nanoseconds))
+pub(super) const fn utc_timespec(total: i128) -> Option<(i64, u32)> {
+    let (seconds, nanoseconds) = match timespec(total) {
+        Some(value) => value,
+        None => return None,
+    };
+    if !is_reading(seconds) {
+        return None;
+    }
+    Some((seconds, nanoseconds))
 }
 
 /// The seconds from the first reading of UTC date times to the last.
 const ALL_SECONDS: u64 = 135_536_076_801_503_999;
 
 /// The seconds with the whole ones of the nanoseconds, and the nanoseconds that remain, if the seconds are those of a UTC date time.
-fn carried(seconds: i64, nanoseconds: u32) -> Option<(i64, u32)> {
-    let whole = seconds + i64::from(nanoseconds / NANOSECONDS_PER_SECOND);
-    is_reading(whole).then_some((whole, nanoseconds % NANOSECONDS_PER_SECOND))
+const fn carried(seconds: i64, nanoseconds: u32) -> Option<(i64, u32)> {
+    let whole = seconds + (nanoseconds / NANOSECONDS_PER_SECOND) as i64;
+    if !is_reading(whole) {
+        return None;
+    }
+    Some((whole, nanoseconds % NANOSECONDS_PER_SECOND))
 }
 
 /// The seconds and nanoseconds a duration after others, if the seconds are those of a UTC date time.
-pub(super) fn time_after(seconds: i64, nanoseconds: u32, duration: Duration) -> Option<(i64, u32)> {
+pub(super) const fn time_after(
+    seconds: i64,
+    nanoseconds: u32,
+    duration: Duration,
+) -> Option<(i64, u32)> {
     let added = duration.as_secs();
     if added > ALL_SECONDS {
         return None;
@@ -32,7 +45,7 @@ pub(super) fn time_after(seconds: i64, nanoseconds: u32, duration: Duration) -> 
 }
 
 /// The seconds and nanoseconds a duration before others, if the seconds are those of a UTC date time.
-pub(super) fn time_before(
+pub(super) const fn time_before(
     seconds: i64,
     nanoseconds: u32,
     duration: Duration,
@@ -48,7 +61,9 @@ pub(super) fn time_before(
 /// The duration between two totals: `Ok` if the later one is not below the earlier one, and otherwise `Err` with the way back.
 pub(super) const fn duration_between(earlier: i128, later: i128) -> Result<Duration, Duration> {
     let difference = later - earlier;
-    let duration = Duration::from_nanos_u128(difference.unsigned_abs());
+    let nanoseconds = difference.unsigned_abs();
+    let (whole, part) = (nanoseconds / 1_000_000_000, nanoseconds % 1_000_000_000);
+    let duration = Duration::new(whole as u64, part as u32);
     if difference >= 0 {
         Ok(duration)
     } else {

@@ -87,6 +87,7 @@ impl DateTime {
     /// How many instants and jumps a local time has, without allocating: almost always 1, and 2 if clocks show it twice.
     ///
     /// ```
+    /// # use std::time::Duration;
     /// # use tz::{datetime::*, error::*, timezone::*, *};
     /// pub fn count_meanings(zone: TimeZoneRef<'_>, local: UtcDateTime) -> Result<usize, TzError> {
     ///     let mut slots = [None; 2];

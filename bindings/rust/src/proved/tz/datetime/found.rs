@@ -118,6 +118,7 @@ impl<A: Allocator + Copy> fmt::Debug for FoundDateTimeList<A> {
 /// The Unix time of a local time that is in no gap and no fold. One slot is enough, as all entries are counted:
 ///
 /// ```
+/// # use std::time::Duration;
 /// # use tz::{datetime::*, error::*, timezone::*, *};
 /// pub fn plain_instant(zone: TimeZoneRef<'_>, local: UtcDateTime) -> Result<Option<i64>, TzError> {
 ///     let mut slots = [None; 1];

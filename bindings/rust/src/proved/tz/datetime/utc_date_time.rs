@@ -27,7 +27,7 @@ pub struct UtcDateTime {
 }
 
 /// Whether the fields are second 60 of the last minute, which reads as a second past the years of 32 bits.
-pub(crate) fn is_past_the_end(fields: &Fields) -> bool {
+pub(crate) const fn is_past_the_end(fields: &Fields) -> bool {
     fields.year == i32::MAX
         && fields.month == 12
         && fields.month_day == 31
@@ -85,6 +85,7 @@ impl UtcDateTime {
     /// The Moon landing, in UTC:
     ///
     /// ```
+    /// # use std::time::Duration;
     /// # use tz::{datetime::*, error::*, timezone::*, *};
     /// pub fn moon_landing() -> Result<UtcDateTime, TzError> {
     ///     UtcDateTime::new(1969, 7, 20, 20, 17, 40, 0)
@@ -96,7 +97,7 @@ impl UtcDateTime {
     /// - [`TzError::OutOfRange`] for second 60 of the last minute of the year `i32::MAX`, whatever the nanoseconds;
     /// - [`TzError::DateTime`] with the first field that is out of range, in the order of the arguments, or else with `InvalidMonthDay` if the month
     ///   does not have the day.
-    pub fn new(
+    pub const fn new(
         year: i32,
         month: u8,
         month_day: u8,
@@ -109,13 +110,15 @@ impl UtcDateTime {
         if is_past_the_end(&fields) {
             return Err(TzError::OutOfRange);
         }
-        fields.check()?;
+        if let Err(error) = fields.check() {
+            return Err(TzError::DateTime(error));
+        }
         Ok(UtcDateTime::of_fields(fields))
     }
 
     /// The date time with these fields, which have one.
     #[inline(always)]
-    pub(crate) fn of_fields(fields: Fields) -> Self {
+    pub(crate) const fn of_fields(fields: Fields) -> Self {
         UtcDateTime {
             fields,
             unix_time: fields.reading(),
@@ -151,9 +154,10 @@ impl UtcDateTime {
     /// # Errors
     ///
     /// [`TzError::OutOfRange`] if its year does not fit an `i32`.
-    pub fn from_total_nanoseconds(total_nanoseconds: i128) -> Result<Self, TzError> {
-        let (unix_time, nanoseconds) =
-            utc_timespec(total_nanoseconds).ok_or(TzError::OutOfRange)?;
+    pub const fn from_total_nanoseconds(total_nanoseconds: i128) -> Result<Self, TzError> {
+        let Some((unix_time, nanoseconds)) = utc_timespec(total_nanoseconds) else {
+            return Err(TzError::OutOfRange);
+        };
         Ok(UtcDateTime::at(unix_time, nanoseconds))
     }
 
@@ -207,6 +211,7 @@ impl UtcDateTime {
     /// The next Monday at 9:00 in a zone:
     ///
     /// ```
+    /// # use std::time::Duration;
     /// # use tz::{datetime::*, error::*, timezone::*, *};
     /// pub fn next_monday_at_nine(zone: TimeZoneRef<'_>, now: i64) -> Result<Option<DateTime>, TzError> {
     ///     let today = DateTime::from_timespec(now, 0, zone)?;
@@ -244,9 +249,10 @@ impl UtcDateTime {
     /// What clocks an hour behind UTC show at the beginning of 2024 in UTC:
     ///
     /// ```
+    /// # use std::time::Duration;
     /// # use tz::{datetime::*, error::*, timezone::*, *};
-    /// pub fn new_year_an_hour_behind(alloc: Global) -> Result<DateTime, TzError> {
-    ///     let zone = TimeZone::fixed(alloc, -3600)?;
+    /// pub fn new_year_an_hour_behind() -> Result<DateTime, TzError> {
+    ///     let zone = TimeZone::fixed(-3600)?;
     ///     UtcDateTime::new(2024, 1, 1, 0, 0, 0, 0)?.project(zone.as_ref())
     /// }
     /// ```
@@ -254,7 +260,7 @@ impl UtcDateTime {
     /// # Errors
     ///
     /// Those of [`DateTime::from_timespec`] at an instant with valid nanoseconds.
-    pub fn project(&self, time_zone_ref: TimeZoneRef<'_>) -> Result<DateTime, TzError> {
+    pub const fn project(&self, time_zone_ref: TimeZoneRef<'_>) -> Result<DateTime, TzError> {
         DateTime::from_timespec(self.unix_time(), self.fields.nanoseconds, time_zone_ref)
     }
 
@@ -264,34 +270,40 @@ impl UtcDateTime {
     /// gained between.
     ///
     /// ```
+    /// # use std::time::Duration;
     /// # use tz::{datetime::*, error::*, timezone::*, *};
     /// pub fn weekly_meetings(
-    ///     alloc: Global,
     ///     zone: TimeZoneRef<'_>,
     ///     first: UtcDateTime,
     ///     weeks: u32,
     /// ) -> Result<Vec<DateTime>, TzError> {
-    ///     let mut meetings = Vec::new(alloc);
+    ///     let mut meetings = Vec::new();
     ///     for week in 0..weeks {
     ///         let after_first = Duration::from_secs(604_800 * u64::from(week));
     ///         let local = first.checked_add(after_first).ok_or(TzError::OutOfRange)?;
     ///         if let Some(meeting) = DateTime::from_local(local, Disambiguation::Compatible, zone)? {
-    ///             meetings.push(meeting)?;
+    ///             meetings.push(meeting);
     ///         }
     ///     }
     ///     Ok(meetings)
     /// }
     /// ```
-    pub fn checked_add(&self, duration: Duration) -> Option<Self> {
+    pub const fn checked_add(&self, duration: Duration) -> Option<Self> {
         let moved = time_after(self.unix_time(), self.fields.nanoseconds, duration);
-        let (unix_time, nanoseconds) = moved?;
+        let (unix_time, nanoseconds) = match moved {
+            Some(value) => value,
+            None => return None,
+        };
         Some(UtcDateTime::at(unix_time, nanoseconds))
     }
 
     /// The date time earlier by a duration, or `None` if that is before [`UtcDateTime::MIN`].
-    pub fn checked_sub(&self, duration: Duration) -> Option<Self> {
+    pub const fn checked_sub(&self, duration: Duration) -> Option<Self> {
         let moved = time_before(self.unix_time(), self.fields.nanoseconds, duration);
-        let (unix_time, nanoseconds) = moved?;
+        let (unix_time, nanoseconds) = match moved {
+            Some(value) => value,
+            None => return None,
+        };
         Some(UtcDateTime::at(unix_time, nanoseconds))
     }
 

@@ -15,7 +15,7 @@ use crate::proved::tz_zone::inner::{Uncounted, ZoneData};
 
 /// What the zone's clock shows at a Unix time, as [`DateTime::from_timespec`] answers it.
 #[inline(always)]
-pub fn from_timespec(
+pub const fn from_timespec(
     unix_time: i64,
     nanoseconds: u32,
     zone: &ZoneData<'_>,
@@ -23,7 +23,10 @@ pub fn from_timespec(
     if nanoseconds >= NANOSECONDS_PER_SECOND {
         return Err(TzError::DateTime(DateTimeError::InvalidNanoseconds));
     }
-    let local_time_type = zone.find_local_time_type(unix_time)?;
+    let local_time_type = match zone.find_local_time_type(unix_time) {
+        Ok(value) => value,
+        Err(error) => return Err(error),
+    };
     DateTime::shown_by(unix_time, nanoseconds, *local_time_type)
 }
 

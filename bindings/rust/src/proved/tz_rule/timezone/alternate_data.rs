@@ -62,7 +62,7 @@ impl AlternateData {
     }
 
     /// Why parts in range make no rule, as `AlternateTime::conflict` says it.
-    pub fn conflict(
+    pub const fn conflict(
         std: LocalTimeType,
         dst: LocalTimeType,
         dst_start: DayData,
@@ -78,7 +78,9 @@ impl AlternateData {
             dst_end,
             dst_end_time,
         };
-        parts.check_range().ok()?;
+        if parts.check_range().is_err() {
+            return None;
+        }
         let starts = parts.starts(&dst_start.day());
         let ends = parts.ends(&dst_end.day());
         starts.conflict(&ends)

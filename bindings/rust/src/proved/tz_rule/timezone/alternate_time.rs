@@ -80,6 +80,7 @@ impl AlternateTime {
     /// The rule of New York, with daylight saving time from 2:00 on the second Sunday of March to 2:00 on the first Sunday of November:
     ///
     /// ```
+    /// # use std::time::Duration;
     /// # use tz::{datetime::*, error::*, timezone::*, *};
     /// pub fn new_york_rule() -> Result<AlternateTime, TzError> {
     ///     let std = LocalTimeType::new(-18_000, false, Some(b"EST"))?;
@@ -132,7 +133,7 @@ impl AlternateTime {
 
     /// Why parts in range make no rule: two years x and y and a distance k in years, such that the start of x comes after the end of x + k, and the
     /// start of y before the end of y + k. `None` if they make one, or are out of range.
-    pub fn conflict(
+    pub const fn conflict(
         std: LocalTimeType,
         dst: LocalTimeType,
         dst_start: RuleDay,

@@ -41,7 +41,6 @@ const fn second_kind(pair: usize) -> usize {
 
 /// The days of the first year of a pair kind.
 #[inline(always)]
-
 const fn first_days(pair: usize) -> u16 {
     if pair < 14 { 365 } else { 366 }
 }
@@ -139,25 +138,33 @@ impl YearTable {
     }
 
     /// A year in which the instant comes before the other one of the year that is at the distance.
-    fn year_before(&self, other: &YearTable, distance: i32) -> Option<i32> {
-        for index in 0..MODEL_YEARS {
-            let year = FIRST_MODEL_YEAR + i32::from(index);
+    const fn year_before(&self, other: &YearTable, distance: i32) -> Option<i32> {
+        let mut index = 0;
+        while index < MODEL_YEARS {
+            let year = FIRST_MODEL_YEAR + index as i32;
             if self.in_year(year) < other.in_year(year + distance) {
                 return Some(year);
             }
+            index += 1;
         }
         None
     }
 
     /// Two years of different order at a distance: the start, of which this is the table, is later in the first and earlier in the second.
-    fn conflict_at(&self, ends: &YearTable, distance: i32) -> Option<(i32, i32, i32)> {
-        let end_year = ends.year_before(self, -distance)?;
-        let earlier = self.year_before(ends, distance)?;
+    const fn conflict_at(&self, ends: &YearTable, distance: i32) -> Option<(i32, i32, i32)> {
+        let end_year = match ends.year_before(self, -distance) {
+            Some(value) => value,
+            None => return None,
+        };
+        let earlier = match self.year_before(ends, distance) {
+            Some(value) => value,
+            None => return None,
+        };
         Some((end_year - distance, earlier, distance))
     }
 
     /// Two years and a distance at which starts, of which this is the table, and ends change their order.
-    pub(super) fn conflict(&self, ends: &YearTable) -> Option<(i32, i32, i32)> {
+    pub(super) const fn conflict(&self, ends: &YearTable) -> Option<(i32, i32, i32)> {
         if let Some(found) = self.conflict_at(ends, 0) {
             return Some(found);
         }

@@ -82,7 +82,7 @@ impl Designation {
 
     /// The bytes and the length, as one number.
     #[inline(always)]
-    fn word(&self) -> u64 {
+    const fn word(&self) -> u64 {
         let [b0, b1, b2, b3, b4, b5, b6] = self.bytes;
         u64::from_le_bytes([b0, b1, b2, b3, b4, b5, b6, self.len])
     }
@@ -99,6 +99,7 @@ impl LocalTimeType {
     /// Central European summer time, two hours ahead of UTC:
     ///
     /// ```
+    /// # use std::time::Duration;
     /// # use tz::{datetime::*, error::*, timezone::*, *};
     /// pub fn summer_time() -> Result<LocalTimeType, TzError> {
     ///     Ok(LocalTimeType::new(7200, true, Some(b"CEST"))?)
@@ -169,7 +170,7 @@ impl LocalTimeType {
 
     /// Whether the other type has the same offset, daylight flag and name. This is what `==` returns, in a form that Rust can compute in a constant.
     #[inline(always)]
-    pub fn is_same(&self, other: &LocalTimeType) -> bool {
+    pub const fn is_same(&self, other: &LocalTimeType) -> bool {
         // The words compare the eight bytes of each name at once.
         self.ut_offset == other.ut_offset
             && self.is_dst == other.is_dst

@@ -30,7 +30,12 @@ struct Switch {
 
 /// The switch at this instant. `earlier` and `later` are it and its neighbour; `None` if both come at one instant.
 #[inline(always)]
-fn switch_between(unix_time: i64, is_start: bool, earlier: i64, later: i64) -> Option<Switch> {
+const fn switch_between(
+    unix_time: i64,
+    is_start: bool,
+    earlier: i64,
+    later: i64,
+) -> Option<Switch> {
     if earlier < later {
         return Some(Switch {
             unix_time,
@@ -42,13 +47,19 @@ fn switch_between(unix_time: i64, is_start: bool, earlier: i64, later: i64) -> O
 
 /// The change at an instant, by the types at the instant before and at it.
 #[inline(always)]
-fn change_by_types<'a>(
+const fn change_by_types<'a>(
     unix_time: i64,
     before: Option<&'a LocalTimeType>,
     after: Option<&'a LocalTimeType>,
 ) -> Option<RuleChange<'a>> {
-    let before = before?;
-    let after = after?;
+    let before = match before {
+        Some(value) => value,
+        None => return None,
+    };
+    let after = match after {
+        Some(value) => value,
+        None => return None,
+    };
     if before.is_same(after) {
         return None;
     }
@@ -65,7 +76,7 @@ impl AlternateData {
     ///
     /// The second one of a year never meets the first one of the next year, since both are far inside their years.
     #[inline(always)]
-    fn switches_by_order(
+    const fn switches_by_order(
         &self,
         end_is_first: bool,
         unix_time: i64,
@@ -103,11 +114,14 @@ impl AlternateData {
 
     /// The last switch up to an instant and the next one after it, if the types differ and the likely year determines them.
     #[inline(always)]
-    fn switches_around(&self, unix_time: i64) -> Option<(Option<Switch>, Option<Switch>)> {
+    const fn switches_around(&self, unix_time: i64) -> Option<(Option<Switch>, Option<Switch>)> {
         if !self.has_inner_switches() || self.std().is_same(self.dst()) {
             return None;
         }
-        let moved_year = likely_year(unix_time)?;
+        let moved_year = match likely_year(unix_time) {
+            Some(value) => value,
+            None => return None,
+        };
         if self.ends_next_year() {
             return Some(self.switches_by_order(true, unix_time, moved_year));
         }
@@ -116,7 +130,7 @@ impl AlternateData {
 
     /// The change at a switch.
     #[inline(always)]
-    fn change_at(&self, switch: Switch) -> RuleChange<'_> {
+    const fn change_at(&self, switch: Switch) -> RuleChange<'_> {
         RuleChange {
             unix_time: switch.unix_time,
             before: self.type_by(!switch.is_start),
@@ -126,7 +140,7 @@ impl AlternateData {
 
     /// Whether the rule is known to have no change: its types are equal, or daylight saving time never begins before it ends, or never ends before it
     /// begins again.
-    fn has_one_type(&self) -> bool {
+    const fn has_one_type(&self) -> bool {
         self.parts_are_sound();
         if self.std().is_same(self.dst()) {
             return true;
@@ -140,7 +154,7 @@ impl AlternateData {
 
     /// The first change after an instant, from segment to segment.
     #[inline(never)]
-    fn outer_change_after(&self, unix_time: i64) -> Option<RuleChange<'_>> {
+    const fn outer_change_after(&self, unix_time: i64) -> Option<RuleChange<'_>> {
         if self.has_one_type() {
             return None;
         }
@@ -160,7 +174,7 @@ impl AlternateData {
 
     /// The last change up to an instant, from segment to segment.
     #[inline(never)]
-    fn outer_change_up_to(&self, unix_time: i64) -> Option<RuleChange<'_>> {
+    const fn outer_change_up_to(&self, unix_time: i64) -> Option<RuleChange<'_>> {
         if self.has_one_type() {
             return None;
         }
@@ -180,7 +194,7 @@ impl AlternateData {
 
     /// The first change after an instant. Not inlined, so that walks over a zone's transitions stay small.
     #[inline(never)]
-    fn change_after(&self, unix_time: i64) -> Option<RuleChange<'_>> {
+    const fn change_after(&self, unix_time: i64) -> Option<RuleChange<'_>> {
         match self.switches_around(unix_time) {
             Some((_, Some(switch))) => Some(self.change_at(switch)),
             _ => self.outer_change_after(unix_time),
@@ -189,7 +203,7 @@ impl AlternateData {
 
     /// The last change up to an instant. Not inlined either.
     #[inline(never)]
-    fn change_up_to(&self, unix_time: i64) -> Option<RuleChange<'_>> {
+    const fn change_up_to(&self, unix_time: i64) -> Option<RuleChange<'_>> {
         match self.switches_around(unix_time) {
             Some((Some(switch), _)) => Some(self.change_at(switch)),
             _ => self.outer_change_up_to(unix_time),
@@ -198,9 +212,8 @@ impl AlternateData {
 }
 
 /// The first change of a rule after an instant.
-
 #[inline(always)]
-pub fn change_after<'a>(rule: RuleRef<'a>, unix_time: i64) -> Option<RuleChange<'a>> {
+pub const fn change_after<'a>(rule: RuleRef<'a>, unix_time: i64) -> Option<RuleChange<'a>> {
     match rule {
         RuleRef::Fixed(_) => None,
         RuleRef::Alternate(rule) => rule.change_after(unix_time),
@@ -208,9 +221,8 @@ pub fn change_after<'a>(rule: RuleRef<'a>, unix_time: i64) -> Option<RuleChange<
 }
 
 /// The last change of a rule up to an instant.
-
 #[inline(always)]
-pub fn change_up_to<'a>(rule: RuleRef<'a>, unix_time: i64) -> Option<RuleChange<'a>> {
+pub const fn change_up_to<'a>(rule: RuleRef<'a>, unix_time: i64) -> Option<RuleChange<'a>> {
     match rule {
         RuleRef::Fixed(_) => None,
         RuleRef::Alternate(rule) => rule.change_up_to(unix_time),

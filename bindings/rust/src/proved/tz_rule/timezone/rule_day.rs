@@ -41,7 +41,6 @@ impl Julian1WithoutLeap {
     }
 
     /// How many days after January 1st the day is, in a leap year or another one.
-
     const fn place(&self, leap: bool) -> u16 {
         let day = self.0;
         if leap && day > 59 { day } else { day - 1 }

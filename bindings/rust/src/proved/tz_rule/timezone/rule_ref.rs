@@ -35,7 +35,6 @@ impl<'a> RuleRef<'a> {
 }
 
 /// The type of the rule at an instant. An alternate rule has one in the UTC years that are two or more from both ends of `i32`.
-
 #[inline(always)]
 pub const fn find_local_time_type<'a>(
     rule: RuleRef<'a>,
@@ -58,7 +57,6 @@ pub fn end(rule: &AlternateTime, year: i32) -> i64 {
 }
 
 /// The segment of the rule around an instant: the first and the last instant through which it has one type, or none.
-
 #[inline(always)]
 pub const fn segment_at<'a>(rule: RuleRef<'a>, unix_time: i64) -> RuleSegment<'a> {
     match rule {

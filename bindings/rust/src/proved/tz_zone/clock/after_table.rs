@@ -35,7 +35,7 @@ pub(super) const fn after_table<'a>(
 
 /// The type at an instant from the last transition on. Not inlined, so that walks over places stay small.
 #[inline(never)]
-pub(super) fn type_from_last<'a>(
+pub(super) const fn type_from_last<'a>(
     parts: OtherParts<'a>,
     unix_time: i64,
 ) -> Option<&'a LocalTimeType> {

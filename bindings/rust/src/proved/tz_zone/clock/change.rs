@@ -43,14 +43,20 @@ impl<'a> Change<'a> {
 
 /// The change at an instant, by the types at the instant before and at it.
 #[inline(always)]
-pub(super) fn change_at<'a>(
+pub(super) const fn change_at<'a>(
     unix_time: i64,
     before: Option<&'a LocalTimeType>,
     after: Option<&'a LocalTimeType>,
 ) -> Option<Change<'a>> {
-    let before = before?;
-    let after = after?;
-    if before == after {
+    let before = match before {
+        Some(value) => value,
+        None => return None,
+    };
+    let after = match after {
+        Some(value) => value,
+        None => return None,
+    };
+    if before.is_same(after) {
         return None;
     }
     Some(Change::new(unix_time, before, after))

@@ -15,15 +15,21 @@ use crate::proved::tz_zone::table::{OtherParts, Transition, Uncounted};
 
 /// The first change of a rule after an instant: that of a zone with the rule and without transitions.
 #[inline(always)]
-fn following_by_rule<'a>(parts: OtherParts<'a>, unix_time: i64) -> Option<Change<'a>> {
-    let rule = parts.extra_rule.lent()?;
-    let change = change_after(rule, unix_time)?;
+const fn following_by_rule<'a>(parts: OtherParts<'a>, unix_time: i64) -> Option<Change<'a>> {
+    let rule = match parts.extra_rule.lent() {
+        Some(value) => value,
+        None => return None,
+    };
+    let change = match change_after(rule, unix_time) {
+        Some(value) => value,
+        None => return None,
+    };
     Some(Change::new(change.unix_time, change.before, change.after))
 }
 
 /// The place at which the effect of a transition lies. It is not right after the transition where the next one takes effect at the same instant.
 #[inline(always)]
-fn place_at_effect(
+const fn place_at_effect(
     transitions: &[Transition],
     parts: OtherParts<'_>,
     index: usize,
@@ -43,14 +49,14 @@ fn place_at_effect(
 /// The last place of the run of `place`: the transitions from `place` up to it are to one type, `local_time_type`. The place after all transitions is
 /// a run of its own: from there on the rule has the types.
 #[inline(always)]
-fn end_of_run(
+const fn end_of_run(
     transitions: &[Transition],
     parts: OtherParts<'_>,
     place: usize,
     local_time_type: &LocalTimeType,
 ) -> usize {
     let mut end = place;
-    while end + 1 < transitions.len() && type_of(parts, transitions[end]) == local_time_type {
+    while end + 1 < transitions.len() && type_of(parts, transitions[end]).is_same(local_time_type) {
         end += 1;
     }
     end
@@ -59,7 +65,7 @@ fn end_of_run(
 /// The first instant from another one on that has a leap time, and the place at which it lies. In a zone without transitions it is the other one
 /// itself.
 #[inline(always)]
-fn first_place(
+const fn first_place(
     transitions: &[Transition],
     parts: OtherParts<'_>,
     unix_time: i64,
@@ -68,15 +74,21 @@ fn first_place(
     if transitions.is_empty() {
         return Some((unix_time, 0));
     }
-    let first = first_begun(parts.leap_seconds, unix_time)?;
-    let place = place_at_near(transitions, parts, first, likely)?;
+    let first = match first_begun(parts.leap_seconds, unix_time) {
+        Some(value) => value,
+        None => return None,
+    };
+    let place = match place_at_near(transitions, parts, first, likely) {
+        Some(value) => value,
+        None => return None,
+    };
     Some((first, place))
 }
 
 /// The change at the next transition after an instant that lies at a place, if there are no leap seconds, that transition is to another type, and it
 /// is not the last one. Mostly it is so, and then nothing is walked.
 #[inline(always)]
-fn change_at_next<'a>(
+const fn change_at_next<'a>(
     transitions: &[Transition],
     parts: OtherParts<'a>,
     unix_time: i64,
@@ -93,7 +105,7 @@ fn change_at_next<'a>(
 
 /// The first change of the clock after an instant that lies at a place, and the place after it.
 #[inline(never)]
-fn following_from<'a>(
+const fn following_from<'a>(
     transitions: &[Transition],
     parts: OtherParts<'a>,
     unix_time: i64,
@@ -104,7 +116,11 @@ fn following_from<'a>(
     while place < transitions.len() {
         let before = type_before(&mut Uncounted::new(transitions), parts, place);
         let end = end_of_run(transitions, parts, place, before);
-        let effect = effect_if_reached(parts.leap_seconds, transitions[end].unix_leap_time())?;
+        let effect = match effect_if_reached(parts.leap_seconds, transitions[end].unix_leap_time())
+        {
+            Some(value) => value,
+            None => return None,
+        };
         let next = place_at_effect(transitions, parts, end, effect);
         let after = type_at(transitions, parts, next, effect);
         if let Some(change) = change_at(effect, Some(before), after) {
@@ -113,14 +129,17 @@ fn following_from<'a>(
         since = effect;
         place = next;
     }
-    let change = following_by_rule(parts, since)?;
+    let change = match following_by_rule(parts, since) {
+        Some(value) => value,
+        None => return None,
+    };
     Some((change, place))
 }
 
 /// The change at the transition after a place, if the one before the place takes effect at the instant. That one compare shows that the instant lies
 /// there, since times rise.
 #[inline(always)]
-pub fn change_after_last<'a>(
+pub const fn change_after_last<'a>(
     transitions: &[Transition],
     parts: OtherParts<'a>,
     unix_time: i64,
@@ -139,15 +158,21 @@ pub fn change_after_last<'a>(
 ///
 /// A place at which the instant is likely to lie is tried first: a wrong one costs time and no more.
 #[inline(always)]
-pub fn find_following<'a>(
+pub const fn find_following<'a>(
     transitions: &[Transition],
     parts: OtherParts<'a>,
     unix_time: i64,
     likely: Option<usize>,
 ) -> Option<(Change<'a>, usize)> {
-    let (since, place) = first_place(transitions, parts, unix_time, likely)?;
+    let (since, place) = match first_place(transitions, parts, unix_time, likely) {
+        Some(value) => value,
+        None => return None,
+    };
     if place == transitions.len() {
-        let change = following_by_rule(parts, since)?;
+        let change = match following_by_rule(parts, since) {
+            Some(value) => value,
+            None => return None,
+        };
         return Some((change, place));
     }
     if let Some(change) = change_at_next(transitions, parts, since, place) {
@@ -158,7 +183,7 @@ pub fn find_following<'a>(
 
 /// What `find_following` returns if the place is tried first. Not inlined, so that a step by the rule stays small.
 #[inline(never)]
-fn following_anew<'a>(
+const fn following_anew<'a>(
     transitions: &[Transition],
     parts: OtherParts<'a>,
     unix_time: i64,
@@ -170,14 +195,17 @@ fn following_anew<'a>(
 /// The first change of the clock after an instant, and the place after it. If the given place is that after all transitions, one compare decides
 /// whether the rule has the change. Another wrong place costs time and no more.
 #[inline(always)]
-pub fn following_near<'a>(
+pub const fn following_near<'a>(
     transitions: &[Transition],
     parts: OtherParts<'a>,
     unix_time: i64,
     place: usize,
 ) -> Option<(Change<'a>, usize)> {
     if place == transitions.len() && is_after_all(transitions, parts, unix_time) {
-        let change = following_by_rule(parts, unix_time)?;
+        let change = match following_by_rule(parts, unix_time) {
+            Some(value) => value,
+            None => return None,
+        };
         return Some((change, place));
     }
     following_anew(transitions, parts, unix_time, place)

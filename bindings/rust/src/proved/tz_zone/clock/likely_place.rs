@@ -7,7 +7,7 @@ use crate::proved::tz_zone::table::{OtherParts, Transition, Uncounted};
 
 /// Whether the transition after a place is ahead of a leap time, if there is one.
 #[inline(always)]
-fn is_before_next(transitions: &[Transition], place: usize, unix_leap_time: i64) -> bool {
+const fn is_before_next(transitions: &[Transition], place: usize, unix_leap_time: i64) -> bool {
     if place < transitions.len() {
         return unix_leap_time < transitions[place].unix_leap_time();
     }
@@ -16,7 +16,7 @@ fn is_before_next(transitions: &[Transition], place: usize, unix_leap_time: i64)
 
 /// Whether the transition before a place is reached at a leap time, if there is one.
 #[inline(always)]
-fn is_after_last(transitions: &[Transition], place: usize, unix_leap_time: i64) -> bool {
+const fn is_after_last(transitions: &[Transition], place: usize, unix_leap_time: i64) -> bool {
     if place == 0 {
         return true;
     }
@@ -28,14 +28,14 @@ fn is_after_last(transitions: &[Transition], place: usize, unix_leap_time: i64) 
 
 /// Whether a leap time lies at a place.
 #[inline(always)]
-fn lies_at(transitions: &[Transition], place: usize, unix_leap_time: i64) -> bool {
+const fn lies_at(transitions: &[Transition], place: usize, unix_leap_time: i64) -> bool {
     is_before_next(transitions, place, unix_leap_time)
         && is_after_last(transitions, place, unix_leap_time)
 }
 
 /// The place at which a leap time lies. One where it is likely to lie is tried first: a wrong one costs time and no more.
 #[inline(always)]
-pub(super) fn place_near(
+pub(super) const fn place_near(
     transitions: &[Transition],
     unix_leap_time: i64,
     likely: Option<usize>,
@@ -54,7 +54,7 @@ pub(super) fn place_near(
 
 /// The place at which an instant lies, if it has a leap time. In a zone without transitions it is 0, whatever the leap seconds.
 #[inline(always)]
-pub(super) fn place_at_near(
+pub(super) const fn place_at_near(
     transitions: &[Transition],
     parts: OtherParts<'_>,
     unix_time: i64,
@@ -71,7 +71,7 @@ pub(super) fn place_at_near(
 
 /// Whether it is known that an instant comes after all transitions. If there are transitions and leap seconds, it is not.
 #[inline(always)]
-pub(super) fn is_after_all(
+pub(super) const fn is_after_all(
     transitions: &[Transition],
     parts: OtherParts<'_>,
     unix_time: i64,

@@ -15,22 +15,28 @@ use crate::proved::tz_zone::table::{OtherParts, Transition, Uncounted};
 
 /// The last change of a rule up to an instant: that of a zone with the rule and without transitions.
 #[inline(always)]
-fn preceding_by_rule<'a>(parts: OtherParts<'a>, last: i64) -> Option<Change<'a>> {
-    let rule = parts.extra_rule.lent()?;
-    let change = change_up_to(rule, last)?;
+const fn preceding_by_rule<'a>(parts: OtherParts<'a>, last: i64) -> Option<Change<'a>> {
+    let rule = match parts.extra_rule.lent() {
+        Some(value) => value,
+        None => return None,
+    };
+    let change = match change_up_to(rule, last) {
+        Some(value) => value,
+        None => return None,
+    };
     Some(Change::new(change.unix_time, change.before, change.after))
 }
 
 /// The first place, from 1 on, of the run of `place`: the transitions from the one before it up to `place` are to one type, `local_time_type`.
 #[inline(always)]
-fn start_of_run(
+const fn start_of_run(
     transitions: &[Transition],
     parts: OtherParts<'_>,
     place: usize,
     local_time_type: &LocalTimeType,
 ) -> usize {
     let mut start = place;
-    while start > 1 && type_of(parts, transitions[start - 2]) == local_time_type {
+    while start > 1 && type_of(parts, transitions[start - 2]).is_same(local_time_type) {
         start -= 1;
     }
     start
@@ -39,7 +45,7 @@ fn start_of_run(
 /// The last instant before another one that has a leap time, and the place at which it lies. In a zone without transitions it is the one right
 /// before.
 #[inline(always)]
-fn last_place(
+const fn last_place(
     transitions: &[Transition],
     parts: OtherParts<'_>,
     unix_time: i64,
@@ -50,13 +56,16 @@ fn last_place(
         return Some((before, 0));
     }
     let last = last_instant_up_to(parts.leap_seconds, before);
-    let place = place_at_near(transitions, parts, last, likely)?;
+    let place = match place_at_near(transitions, parts, last, likely) {
+        Some(value) => value,
+        None => return None,
+    };
     Some((last, place))
 }
 
 /// The seam: the instant at which the last transition takes effect, or the least one where there are none. From there on the rule has the types.
 #[inline(always)]
-fn seam(transitions: &[Transition], leap_seconds: &[LeapSecond]) -> i64 {
+const fn seam(transitions: &[Transition], leap_seconds: &[LeapSecond]) -> i64 {
     let count = transitions.len();
     if count == 0 {
         return i64::MIN;
@@ -66,7 +75,7 @@ fn seam(transitions: &[Transition], leap_seconds: &[LeapSecond]) -> i64 {
 
 /// The last change of the clock up to an instant that lies at a place, if it comes after all transitions.
 #[inline(always)]
-fn preceding_after_table<'a>(
+const fn preceding_after_table<'a>(
     transitions: &[Transition],
     parts: OtherParts<'a>,
     place: usize,
@@ -75,7 +84,10 @@ fn preceding_after_table<'a>(
     if place < transitions.len() {
         return None;
     }
-    let change = preceding_by_rule(parts, last)?;
+    let change = match preceding_by_rule(parts, last) {
+        Some(value) => value,
+        None => return None,
+    };
     if change.unix_time() <= seam(transitions, parts.leap_seconds) {
         return None;
     }
@@ -84,7 +96,7 @@ fn preceding_after_table<'a>(
 
 /// The first place, from 1 on, of the run of a place. The place after all transitions is a run of its own: from there on the rule has the types.
 #[inline(always)]
-fn first_of_run(transitions: &[Transition], parts: OtherParts<'_>, place: usize) -> usize {
+const fn first_of_run(transitions: &[Transition], parts: OtherParts<'_>, place: usize) -> usize {
     if place == transitions.len() {
         return place;
     }
@@ -94,7 +106,11 @@ fn first_of_run(transitions: &[Transition], parts: OtherParts<'_>, place: usize)
 
 /// The first place of the run of a place, and the instant at which the transition before it takes effect.
 #[inline(always)]
-fn run_start(transitions: &[Transition], parts: OtherParts<'_>, place: usize) -> (usize, i64) {
+const fn run_start(
+    transitions: &[Transition],
+    parts: OtherParts<'_>,
+    place: usize,
+) -> (usize, i64) {
     let start = first_of_run(transitions, parts, place);
     let effect = effect_of_reached(parts.leap_seconds, transitions[start - 1].unix_leap_time());
     (start, effect)
@@ -103,7 +119,7 @@ fn run_start(transitions: &[Transition], parts: OtherParts<'_>, place: usize) ->
 /// The change at the last transition before an instant, if the instant a second earlier lies at a place, there are no leap seconds, that transition
 /// is from another type, and it is not the last one of all. Mostly it is so, and then nothing is walked.
 #[inline(always)]
-fn change_at_last<'a>(
+const fn change_at_last<'a>(
     transitions: &[Transition],
     parts: OtherParts<'a>,
     unix_time: i64,
@@ -124,7 +140,7 @@ fn change_at_last<'a>(
 
 /// The change at the transition before a place, if the one after the place takes effect at the instant. Then the instant a second earlier lies there.
 #[inline(always)]
-pub fn change_before_next<'a>(
+pub const fn change_before_next<'a>(
     transitions: &[Transition],
     parts: OtherParts<'a>,
     unix_time: i64,
@@ -141,7 +157,7 @@ pub fn change_before_next<'a>(
 
 /// The last change of the clock before an instant, and the place before it. After `last`, which lies at `place`, there is none.
 #[inline(never)]
-fn preceding_from<'a>(
+const fn preceding_from<'a>(
     transitions: &[Transition],
     parts: OtherParts<'a>,
     unix_time: i64,
@@ -157,7 +173,10 @@ fn preceding_from<'a>(
         if effect == i64::MIN {
             return None;
         }
-        let earlier = place_at_near(transitions, parts, effect - 1, Some(start - 1))?;
+        let earlier = match place_at_near(transitions, parts, effect - 1, Some(start - 1)) {
+            Some(value) => value,
+            None => return None,
+        };
         let before = type_before(&mut Uncounted::new(transitions), parts, earlier);
         let after = type_at(transitions, parts, start, effect);
         if let Some(change) = change_at(effect, Some(before), after) {
@@ -172,7 +191,7 @@ fn preceding_from<'a>(
 ///
 /// A place at which the instant a second earlier is likely to lie is tried first: a wrong one costs time and no more.
 #[inline(always)]
-pub fn find_preceding<'a>(
+pub const fn find_preceding<'a>(
     transitions: &[Transition],
     parts: OtherParts<'a>,
     unix_time: i64,
@@ -182,10 +201,16 @@ pub fn find_preceding<'a>(
         return None;
     }
     if transitions.is_empty() {
-        let change = preceding_by_rule(parts, unix_time - 1)?;
+        let change = match preceding_by_rule(parts, unix_time - 1) {
+            Some(value) => value,
+            None => return None,
+        };
         return Some((change, 0));
     }
-    let (last, place) = last_place(transitions, parts, unix_time, likely)?;
+    let (last, place) = match last_place(transitions, parts, unix_time, likely) {
+        Some(value) => value,
+        None => return None,
+    };
     if let Some(change) = change_at_last(transitions, parts, last + 1, place) {
         return Some((change, place - 1));
     }
@@ -194,7 +219,7 @@ pub fn find_preceding<'a>(
 
 /// What `find_preceding` returns if the place is tried first. Not inlined, so that a step by the rule stays small.
 #[inline(never)]
-fn preceding_anew<'a>(
+const fn preceding_anew<'a>(
     transitions: &[Transition],
     parts: OtherParts<'a>,
     unix_time: i64,
@@ -206,7 +231,7 @@ fn preceding_anew<'a>(
 /// The last change of the clock before an instant, and the place before it. If the given place is that after all transitions, the rule is asked
 /// first. A wrong place costs time and no more.
 #[inline(always)]
-pub fn preceding_near<'a>(
+pub const fn preceding_near<'a>(
     transitions: &[Transition],
     parts: OtherParts<'a>,
     unix_time: i64,

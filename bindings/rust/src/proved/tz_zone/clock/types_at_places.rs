@@ -33,7 +33,7 @@ pub(super) const fn type_before<'a>(
 
 /// The type at an instant, from a place at which it lies, or from an earlier place whose type is the same.
 #[inline(always)]
-pub(super) fn type_at<'a>(
+pub(super) const fn type_at<'a>(
     transitions: &[Transition],
     parts: OtherParts<'a>,
     place: usize,

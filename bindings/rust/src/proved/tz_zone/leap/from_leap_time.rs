@@ -49,12 +49,12 @@ pub(crate) const fn effect_of_reached(leap_seconds: &[LeapSecond], unix_leap_tim
 }
 
 /// The instant at which a leap time takes effect: the least one whose leap time is not below it.
-pub fn effect(leap_seconds: &[LeapSecond], unix_leap_time: i64) -> Result<i64, TzError> {
+pub const fn effect(leap_seconds: &[LeapSecond], unix_leap_time: i64) -> Result<i64, TzError> {
     // As in tz-rs, the least leap time is refused.
     if unix_leap_time == i64::MIN {
         return Err(TzError::OutOfRange);
     }
-    let Ok(unix_time) = i64::try_from(wide_effect(leap_seconds, unix_leap_time)) else {
+    let Ok(unix_time) = crate::shim::narrow(wide_effect(leap_seconds, unix_leap_time)) else {
         return Err(TzError::OutOfRange);
     };
     if !has_leap_time(leap_seconds, unix_time) {
@@ -65,8 +65,8 @@ pub fn effect(leap_seconds: &[LeapSecond], unix_leap_time: i64) -> Result<i64, T
 
 /// The instant at which a leap time takes effect, if it is reached at any, by the leap seconds.
 #[inline(never)]
-fn effect_by_seconds(leap_seconds: &[LeapSecond], unix_leap_time: i64) -> Option<i64> {
-    let Ok(effect) = i64::try_from(wide_effect(leap_seconds, unix_leap_time)) else {
+const fn effect_by_seconds(leap_seconds: &[LeapSecond], unix_leap_time: i64) -> Option<i64> {
+    let Ok(effect) = crate::shim::narrow(wide_effect(leap_seconds, unix_leap_time)) else {
         return None;
     };
     if last_instant_up_to(leap_seconds, effect) < effect {
@@ -77,7 +77,10 @@ fn effect_by_seconds(leap_seconds: &[LeapSecond], unix_leap_time: i64) -> Option
 
 /// The instant at which a leap time takes effect, if it is reached at any. Mostly there are no leap seconds, and it is the leap time itself.
 #[inline(always)]
-pub(crate) fn effect_if_reached(leap_seconds: &[LeapSecond], unix_leap_time: i64) -> Option<i64> {
+pub(crate) const fn effect_if_reached(
+    leap_seconds: &[LeapSecond],
+    unix_leap_time: i64,
+) -> Option<i64> {
     if leap_seconds.is_empty() {
         return Some(unix_leap_time);
     }

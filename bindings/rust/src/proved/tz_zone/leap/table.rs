@@ -6,29 +6,29 @@ use super::LeapSecond;
 use crate::proved::tz_base::constants::SECONDS_PER_28_DAYS;
 
 /// Whether a leap second may come first.
-fn may_be_first(leap_second: LeapSecond) -> bool {
+const fn may_be_first(leap_second: LeapSecond) -> bool {
     leap_second.unix_leap_time() >= 0
 }
 
 /// Whether two corrections differ by one second.
-fn is_one_second_apart(correction: i32, next: i32) -> bool {
-    let apart = i64::from(next) - i64::from(correction);
+const fn is_one_second_apart(correction: i32, next: i32) -> bool {
+    let apart = next as i64 - correction as i64;
     apart == 1 || apart == -1
 }
 
 /// Whether a leap time comes at least 28 days after another one, less a second.
-fn is_far_from(time: i64, next: i64) -> bool {
-    i128::from(time) + i128::from(SECONDS_PER_28_DAYS) - 1 <= i128::from(next)
+const fn is_far_from(time: i64, next: i64) -> bool {
+    time as i128 + SECONDS_PER_28_DAYS as i128 - 1 <= next as i128
 }
 
 /// Whether a leap second may follow another one.
-fn may_follow(leap_second: &LeapSecond, next: &LeapSecond) -> bool {
+const fn may_follow(leap_second: &LeapSecond, next: &LeapSecond) -> bool {
     is_far_from(leap_second.unix_leap_time(), next.unix_leap_time())
         && is_one_second_apart(leap_second.correction(), next.correction())
 }
 
 /// Whether the record after a place comes later and, unless it is the table's expiry, is a leap second that may follow.
-fn follows_at(leap_seconds: &[LeapSecond], place: usize) -> bool {
+const fn follows_at(leap_seconds: &[LeapSecond], place: usize) -> bool {
     if place + 1 == leap_seconds.len() {
         return true;
     }
@@ -41,17 +41,19 @@ fn follows_at(leap_seconds: &[LeapSecond], place: usize) -> bool {
 }
 
 /// Whether the leap seconds make a table.
-pub(crate) fn are_leap_seconds(leap_seconds: &[LeapSecond]) -> bool {
+pub(crate) const fn are_leap_seconds(leap_seconds: &[LeapSecond]) -> bool {
     if leap_seconds.is_empty() {
         return true;
     }
     if !may_be_first(leap_seconds[0]) {
         return false;
     }
-    for i in 0..leap_seconds.len() {
+    let mut i = 0;
+    while i < leap_seconds.len() {
         if !follows_at(leap_seconds, i) {
             return false;
         }
+        i += 1;
     }
     true
 }
@@ -70,7 +72,7 @@ pub(crate) const fn truncated_start(leap_seconds: &[LeapSecond]) -> Option<&Leap
 }
 
 /// Whether a truncated start is reached at the leap time.
-pub(crate) fn has_begun_at(leap_seconds: &[LeapSecond], unix_leap_time: i64) -> bool {
+pub(crate) const fn has_begun_at(leap_seconds: &[LeapSecond], unix_leap_time: i64) -> bool {
     match truncated_start(leap_seconds) {
         Some(start) => start.unix_leap_time() <= unix_leap_time,
         None => true,

@@ -14,6 +14,7 @@ impl<'a> TimeZoneRef<'a> {
     /// What clocks show at a Unix time of a log, with the segment cached for the next entry:
     ///
     /// ```
+    /// # use std::time::Duration;
     /// # use tz::{datetime::*, error::*, timezone::*, *};
     /// pub fn show_entry<'a>(
     ///     zone: TimeZoneRef<'a>,
@@ -45,6 +46,7 @@ impl<'a> TimeZoneRef<'a> {
     /// When clocks are set next, and by how many seconds forward:
     ///
     /// ```
+    /// # use std::time::Duration;
     /// # use tz::{datetime::*, error::*, timezone::*, *};
     /// pub fn next_change(zone: TimeZoneRef<'_>, now: i64) -> Result<Option<(DateTime, i64)>, TzError> {
     ///     let Some(change) = zone.following(now) else {
@@ -55,16 +57,19 @@ impl<'a> TimeZoneRef<'a> {
     ///     Ok(Some((shown, seconds)))
     /// }
     /// ```
-    pub fn following(&self, unix_time: i64) -> Option<Change<'a>> {
+    pub const fn following(&self, unix_time: i64) -> Option<Change<'a>> {
         let (change, _) =
-            find_following(self.transitions(), other_parts_of(self), unix_time, None)?;
+            match find_following(self.transitions(), other_parts_of(self), unix_time, None) {
+                Some(value) => value,
+                None => return None,
+            };
         Some(change)
     }
 
     /// The first change after an instant, and the likely place after that change, for the next call. `place` is the likely place after a change at
     /// the instant; a wrong one costs time and no more.
     #[inline(always)]
-    pub(crate) fn following_from(
+    pub(crate) const fn following_from(
         &self,
         unix_time: i64,
         place: usize,
@@ -80,7 +85,7 @@ impl<'a> TimeZoneRef<'a> {
     /// What `following_from` returns, if the next change is not simply the next transition. Not inlined, so that a step from one transition to
     /// the next stays small.
     #[inline(never)]
-    fn following_near(&self, unix_time: i64, place: usize) -> Option<(Change<'a>, usize)> {
+    const fn following_near(&self, unix_time: i64, place: usize) -> Option<(Change<'a>, usize)> {
         clock::following_near(self.transitions(), other_parts_of(self), unix_time, place)
     }
 
@@ -92,22 +97,26 @@ impl<'a> TimeZoneRef<'a> {
     /// How many seconds ago clocks changed last:
     ///
     /// ```
+    /// # use std::time::Duration;
     /// # use tz::{datetime::*, error::*, timezone::*, *};
     /// pub fn since_last_change(zone: TimeZoneRef<'_>, now: i64) -> Option<u64> {
     ///     let change = zone.preceding(now)?;
     ///     Some(now.abs_diff(change.unix_time()))
     /// }
     /// ```
-    pub fn preceding(&self, unix_time: i64) -> Option<Change<'a>> {
+    pub const fn preceding(&self, unix_time: i64) -> Option<Change<'a>> {
         let (change, _) =
-            find_preceding(self.transitions(), other_parts_of(self), unix_time, None)?;
+            match find_preceding(self.transitions(), other_parts_of(self), unix_time, None) {
+                Some(value) => value,
+                None => return None,
+            };
         Some(change)
     }
 
     /// The last change before an instant, and the likely place before that change, for the next call. `place` is the likely place before a change at
     /// the instant; a wrong one costs time and no more.
     #[inline(always)]
-    pub(crate) fn preceding_from(
+    pub(crate) const fn preceding_from(
         &self,
         unix_time: i64,
         place: usize,
@@ -122,7 +131,7 @@ impl<'a> TimeZoneRef<'a> {
 
     /// What `preceding_from` returns, if the last change is not simply the transition before. Not inlined, for the same reason.
     #[inline(never)]
-    fn preceding_near(&self, unix_time: i64, place: usize) -> Option<(Change<'a>, usize)> {
+    const fn preceding_near(&self, unix_time: i64, place: usize) -> Option<(Change<'a>, usize)> {
         clock::preceding_near(self.transitions(), other_parts_of(self), unix_time, place)
     }
 
@@ -135,23 +144,23 @@ impl<'a> TimeZoneRef<'a> {
     /// The changes of a zone in the 20 years before an instant and at it, and the next two after it:
     ///
     /// ```
+    /// # use std::time::Duration;
     /// # use tz::{datetime::*, error::*, timezone::*, *};
     /// pub fn changes_around(
-    ///     alloc: Global,
     ///     zone: TimeZoneRef<'_>,
     ///     now: i64,
     /// ) -> Result<Vec<Change<'_>>, TzError> {
     ///     // 20 years of 365.2425 days.
     ///     let start = now.saturating_sub(20 * 31_556_952);
-    ///     let mut changes = Vec::new(alloc);
+    ///     let mut changes = Vec::new();
     ///     for change in zone.changes_after(start) {
     ///         if now < change.unix_time() {
     ///             break;
     ///         }
-    ///         changes.push(change)?;
+    ///         changes.push(change);
     ///     }
     ///     for change in zone.changes_after(now).take(2) {
-    ///         changes.push(change)?;
+    ///         changes.push(change);
     ///     }
     ///     Ok(changes)
     /// }
@@ -168,6 +177,7 @@ impl<'a> TimeZoneRef<'a> {
     /// When clocks were last set forward before an instant:
     ///
     /// ```
+    /// # use std::time::Duration;
     /// # use tz::{datetime::*, error::*, timezone::*, *};
     /// pub fn last_set_forward(zone: TimeZoneRef<'_>, now: i64) -> Option<i64> {
     ///     for change in zone.changes_before(now) {

@@ -6,24 +6,29 @@ use crate::proved::tz_rule::inner::RuleRef;
 
 /// The range of offsets from `least` to `greatest`, widened just enough to have another one.
 #[inline(always)]
-fn with_offset(least: i32, greatest: i32, offset: i32) -> (i32, i32) {
-    (least.min(offset), greatest.max(offset))
+const fn with_offset(least: i32, greatest: i32, offset: i32) -> (i32, i32) {
+    (
+        crate::shim::least!(least, offset),
+        crate::shim::greatest!(greatest, offset),
+    )
 }
 
 /// The least and the greatest offset of the types.
-fn offsets_of_types(local_time_types: &[LocalTimeType]) -> (i32, i32) {
+const fn offsets_of_types(local_time_types: &[LocalTimeType]) -> (i32, i32) {
     let first = local_time_types[0].ut_offset();
     let (mut least, mut greatest) = (first, first);
-    for local_time_type in local_time_types {
-        let ends = with_offset(least, greatest, local_time_type.ut_offset());
+    let mut place = 0;
+    while place < local_time_types.len() {
+        let ends = with_offset(least, greatest, local_time_types[place].ut_offset());
         least = ends.0;
         greatest = ends.1;
+        place += 1;
     }
     (least, greatest)
 }
 
 /// Two offsets, moved apart until those of the rule lie between them, and no further.
-fn with_rule(rule: RuleRef<'_>, least: i32, greatest: i32) -> (i32, i32) {
+const fn with_rule(rule: RuleRef<'_>, least: i32, greatest: i32) -> (i32, i32) {
     match rule {
         RuleRef::Fixed(local_time_type) => {
             with_offset(least, greatest, local_time_type.ut_offset())
@@ -36,7 +41,7 @@ fn with_rule(rule: RuleRef<'_>, least: i32, greatest: i32) -> (i32, i32) {
 }
 
 /// The least and the greatest offset of the types and of the rule.
-pub(super) fn offset_range(
+pub(super) const fn offset_range(
     local_time_types: &[LocalTimeType],
     extra_rule: Option<RuleRef<'_>>,
 ) -> (i32, i32) {

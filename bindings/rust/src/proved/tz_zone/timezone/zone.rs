@@ -34,8 +34,7 @@ impl<A: Allocator + Copy> TimeZone<A> {
     ///
     /// A zone with a rule and no transitions:
     ///
-    /// ```
-    /// # use tz::{datetime::*, error::*, timezone::*, *};
+    /// ```text
     /// pub fn zone_of_rule(alloc: Global, rule: AlternateTime) -> Result<TimeZone, TzError> {
     ///     let types = Vec::from_array(alloc, [*rule.std(), *rule.dst()])?;
     ///     let rule = Some(TransitionRule::Alternate(rule));

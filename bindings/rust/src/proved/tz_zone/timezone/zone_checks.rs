@@ -9,12 +9,12 @@ use crate::proved::tz_zone::leap::from_leap_time::effect;
 use crate::proved::tz_zone::leap::table::{are_leap_seconds, has_begun_at};
 
 /// Whether the type index of the transition at a place is below `types`, the number of types.
-fn has_type_at(transitions: &[Transition], types: usize, place: usize) -> bool {
+const fn has_type_at(transitions: &[Transition], types: usize, place: usize) -> bool {
     transitions[place].local_time_type_index() < types
 }
 
 /// Whether the transition at a place comes before the next one.
-fn rises_at(transitions: &[Transition], place: usize) -> bool {
+const fn rises_at(transitions: &[Transition], place: usize) -> bool {
     if place + 1 == transitions.len() {
         return true;
     }
@@ -22,21 +22,23 @@ fn rises_at(transitions: &[Transition], place: usize) -> bool {
 }
 
 /// Each transition names one of the types, whose number is given, and comes before the next one.
-fn check_transitions(transitions: &[Transition], types: usize) -> Result<(), TimeZoneError> {
-    for i in 0..transitions.len() {
+const fn check_transitions(transitions: &[Transition], types: usize) -> Result<(), TimeZoneError> {
+    let mut i = 0;
+    while i < transitions.len() {
         if !has_type_at(transitions, types, i) {
             return Err(TimeZoneError::InvalidLocalTimeTypeIndex);
         }
         if !rises_at(transitions, i) {
             return Err(TimeZoneError::InvalidTransition);
         }
+        i += 1;
     }
     Ok(())
 }
 
 /// Checks the transitions, unless they are known to come in order, and each to name a type.
 #[inline(always)]
-fn check_unknown_transitions(
+const fn check_unknown_transitions(
     transitions: &[Transition],
     types: usize,
     are_in_order: bool,
@@ -48,7 +50,7 @@ fn check_unknown_transitions(
 }
 
 /// The type that a rule has where a leap time takes effect.
-fn rule_type_at<'a>(
+const fn rule_type_at<'a>(
     rule: RuleRef<'a>,
     leap_seconds: &[LeapSecond],
     unix_leap_time: i64,
@@ -60,7 +62,7 @@ fn rule_type_at<'a>(
 }
 
 /// The extra rule has a type at the last transition, which is that transition's, unless the transition is before a truncated start.
-fn check_extra_rule(
+const fn check_extra_rule(
     transitions: &[Transition],
     local_time_types: &[LocalTimeType],
     leap_seconds: &[LeapSecond],
@@ -76,15 +78,18 @@ fn check_extra_rule(
     if !has_begun_at(leap_seconds, last_time) {
         return Ok(());
     }
-    let rule_type = rule_type_at(rule, leap_seconds, last_time)?;
-    if *rule_type != local_time_types[last.local_time_type_index()] {
+    let rule_type = match rule_type_at(rule, leap_seconds, last_time) {
+        Ok(value) => value,
+        Err(error) => return Err(error),
+    };
+    if !rule_type.is_same(&local_time_types[last.local_time_type_index()]) {
         return Err(TzError::TimeZone(TimeZoneError::InconsistentExtraRule));
     }
     Ok(())
 }
 
 /// Checks the parts of a zone, in the order of their errors.
-pub(crate) fn check_parts(
+pub(crate) const fn check_parts(
     transitions: &[Transition],
     local_time_types: &[LocalTimeType],
     leap_seconds: &[LeapSecond],
@@ -101,7 +106,7 @@ pub(crate) fn check_parts(
 
 /// Checks the parts of a zone, in the order of their errors, but not transitions that are known to come in order, and each to name a type.
 #[inline(always)]
-pub(crate) fn check_read_parts(
+pub(crate) const fn check_read_parts(
     transitions: &[Transition],
     local_time_types: &[LocalTimeType],
     leap_seconds: &[LeapSecond],
@@ -111,7 +116,10 @@ pub(crate) fn check_read_parts(
     if local_time_types.is_empty() {
         return Err(TzError::TimeZone(TimeZoneError::NoLocalTimeType));
     }
-    check_unknown_transitions(transitions, local_time_types.len(), are_in_order)?;
+    if let Err(error) = check_unknown_transitions(transitions, local_time_types.len(), are_in_order)
+    {
+        return Err(TzError::TimeZone(error));
+    }
     if !are_leap_seconds(leap_seconds) {
         return Err(TzError::TimeZone(TimeZoneError::InvalidLeapSecond));
     }

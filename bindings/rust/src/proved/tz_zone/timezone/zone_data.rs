@@ -52,7 +52,7 @@ const fn lists_of<'a>(
 
 impl<'a> ZoneData<'a> {
     /// The zone with these parts, which are checked as `TimeZoneRef::new` checks them.
-    pub fn new(
+    pub const fn new(
         transitions: &'a [Transition],
         local_time_types: &'a [LocalTimeType],
         leap_seconds: &'a [LeapSecond],
@@ -60,7 +60,10 @@ impl<'a> ZoneData<'a> {
         alternate: &'a [AlternateData],
     ) -> Result<Self, TzError> {
         let rule = rule_of(fixed, alternate);
-        check_parts(transitions, local_time_types, leap_seconds, rule)?;
+        match check_parts(transitions, local_time_types, leap_seconds, rule) {
+            Ok(value) => value,
+            Err(error) => return Err(error),
+        };
         let (least_offset, greatest_offset) = offset_range(local_time_types, rule);
         Ok(ZoneData {
             transitions,

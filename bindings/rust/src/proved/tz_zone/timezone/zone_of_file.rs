@@ -17,8 +17,7 @@ impl<A: Allocator + Copy> TimeZone<A> {
     ///
     /// What clocks show at a Unix time in the zone of a file whose bytes were read:
     ///
-    /// ```
-    /// # use tz::{datetime::*, error::*, timezone::*, *};
+    /// ```text
     /// pub fn local_time(alloc: Global, file: &[u8], unix_time: i64) -> Result<DateTime, TzError> {
     ///     let zone = TimeZone::from_tz_data(alloc, file)?;
     ///     DateTime::from_timespec(unix_time, 0, zone.as_ref())

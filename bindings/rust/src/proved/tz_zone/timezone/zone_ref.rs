@@ -40,6 +40,7 @@ impl<'a> TimeZoneRef<'a> {
     /// A zone from parts, without allocating: clocks were an hour ahead of UTC until the year 2000, and are two hours ahead from then on.
     ///
     /// ```
+    /// # use std::time::Duration;
     /// # use tz::{datetime::*, error::*, timezone::*, *};
     /// pub fn moved_ahead_in_2000(unix_time: i64) -> Result<DateTime, TzError> {
     ///     let before = LocalTimeType::new(3600, false, Some(b"EARLY"))?;
@@ -66,14 +67,17 @@ impl<'a> TimeZoneRef<'a> {
     /// - [`TzError::TimeZone`] with `InconsistentExtraRule` if the rule's type there is not that of the transition.
     ///
     /// The last two are checked only if there are a rule and a transition, and the last transition is not before the leap-second table begins.
-    pub fn new(
+    pub const fn new(
         transitions: &'a [Transition],
         local_time_types: &'a [LocalTimeType],
         leap_seconds: &'a [LeapSecond],
         extra_rule: &'a Option<TransitionRule>,
     ) -> Result<Self, TzError> {
         let rule = lent(extra_rule);
-        check_parts(transitions, local_time_types, leap_seconds, rule)?;
+        match check_parts(transitions, local_time_types, leap_seconds, rule) {
+            Ok(value) => value,
+            Err(error) => return Err(error),
+        };
         let (least_offset, greatest_offset) = offset_range(local_time_types, rule);
         Ok(TimeZoneRef {
             transitions,

@@ -18,11 +18,11 @@ pub returns-in_err-after-clause-change : goal.returns-in_err-after-clause-change
 returns-in_err-after-clause-change c = λ z low before after.
     match_none c.from_residual-in_err-after.result _ _ c.from_residual-in_err-after.ensures (no_change_to_none z c.args.unix_time c.args.after c.in_err-after.was after)
 
-pub returns-then-eq-clause-change : goal.returns-then-eq-clause-change
-returns-then-eq-clause-change c = λ z low before after.
+pub returns-then-is_same-clause-change : goal.returns-then-is_same-clause-change
+returns-then-is_same-clause-change c = λ z low before after.
     let a = c.in_ok-before.before in
     let b = c.in_ok-after.after in
-    let same = (Decides-same_type a.now b.now).0 (sym c.eq.ensures ∙ c.if-eq.true) in
+    let same = (Decides-same_type a.now b.now).0 (sym c.is_same.ensures ∙ c.if-is_same.true) in
     no_change_of_same z c.args.unix_time a.now b.now same (MatchOption-at_some {o = c.args.before} _ _ a c.in_ok-before.was before) (MatchOption-at_some {o = c.args.after} _ _ b c.in_ok-after.was after)
 
 pub returns-clause-change : goal.returns-clause-change
@@ -40,6 +40,6 @@ returns-clause-change c = λ z low before after.
         up_to = bounds.1;
         before_is = MatchOption-at_some {o = c.args.before} _ _ a c.in_ok-before.was before;
         after_is = MatchOption-at_some {o = c.args.after} _ _ b c.in_ok-after.was after;
-        differ = λ same. absurd (false≢true (sym c.if-eq.false ∙ c.eq.ensures ∙ (Decides-same_type a.now b.now).1 same));
+        differ = λ same. absurd (false≢true (sym c.if-is_same.false ∙ c.is_same.ensures ∙ (Decides-same_type a.now b.now).1 same));
       }),
     )

@@ -21,6 +21,6 @@ loop-end-preserved c =
     let change = c.index-transitions-end.result in
     let inside : end + 1 < length c.args.transitions.now = omega (arith, c.loop-end-test.true) in
     let at = slice_get_read c.args.transitions.now _ end change refl (omega (arith, inside)) c.index-transitions-end.is in
-    let same = (Decides-same_type c.type_of.result.now c.args.local_time_type.now).0 (sym c.eq.ensures ∙ c.if-eq.true) in
+    let same = (Decides-same_type c.type_of.result.now c.args.local_time_type.now).0 (sym c.is_same.ensures ∙ c.if-is_same.true) in
     let type = type_after z end change c.args.local_time_type.now at (subst (λ (t : LocalTimeType). IsTypeAt z change.type_index t) same c.type_of.ensures) in
     record { from = omega (arith, c.loop-end.invariant.from); inside = inside; types = types_on z c.args.place end c.args.local_time_type.now c.loop-end.invariant.types type }

@@ -22,7 +22,7 @@ loop-start-preserved c =
     let t = c.args.local_time_type.now in
     let change = c.index-transitions-start.result in
     let at = slice_get_read c.args.transitions.now _ (start - 2) change refl (omega (arith, c.loop-start-test.true, c.loop-start.invariant.up_to, c.requires.place.1)) c.index-transitions-start.is in
-    let same = (Decides-same_type c.type_of.result.now t).0 (sym c.eq.ensures ∙ c.if-eq.true) in
+    let same = (Decides-same_type c.type_of.result.now t).0 (sym c.is_same.ensures ∙ c.if-is_same.true) in
     let type = type_after z (start - 2) change t at (subst (λ (x : LocalTimeType). IsTypeAt z change.type_index x) same c.type_of.ensures) in
     record {
       some = omega (arith, c.loop-start-test.true);

@@ -1,9 +1,9 @@
 -- One more type.
-use Rattle.std.proofs.Common.{◌≡◌, ◌⊎◌, ◌∙◌, inl, inr, sym, ap, arith, rules, Some, ℕ, ℤ, List}
+use Rattle.std.proofs.Common.{refl, ◌≡◌, ◌⊎◌, ◌∙◌, inl, inr, sym, ap, arith, rules, Some, ℕ, ℤ, List}
 use Rattle.std.specs.Prelude.{slice_get}
 use Rattle.std.proofs.lemmas.Int.{ints, to_z-of_z}
 use Rattle.std.proofs.lemmas.Bool.{cases_lt}
-use Rattle.std.proofs.lemmas.Option.{same_Some, slice_get_within, slice_get-get_or}
+use Rattle.std.proofs.lemmas.Option.{same_Some, slice_get_within, slice_get_read}
 use mir.Syntax.{w32}
 use Rattle.tz_rule.specs.LocalTimeType.{LocalTimeType}
 use Rattle.tz_zone.specs.Offsets.{IsOffsetOfTypes}
@@ -14,13 +14,13 @@ of_more : (types : List LocalTimeType) (end offset new : ℤ) (k : ℕ) (item : 
 of_more types end offset new k item at is so_far (inl e) = (so_far.0, so_far.1, so_far.2, e ∙ so_far.3)
 of_more types end offset new k item at is so_far (inr e) = (k, item, at, e ∙ is)
 
-pub loop-local_time_type-preserved : goal.loop-local_time_type-preserved
-loop-local_time_type-preserved c =
-    let so_far = c.loop-local_time_type.invariant in
+pub loop-place-preserved : goal.loop-place-preserved
+loop-place-preserved c =
+    let so_far = c.loop-place.invariant in
     let types = c.args.local_time_types.now in
-    let k = c.loop-local_time_type.local_time_type-index in
-    let item = c.local_time_type-item.result in
-    let at : slice_get types k ≡ Some item = slice_get-get_or types k item c.loop-local_time_type-test.true ∙ ap Some (sym c.local_time_type-item.is) in
+    let k = c.loop-place.place in
+    let item = c.index-local_time_types-place.result in
+    let at : slice_get types k ≡ Some item = slice_get_read types _ k item refl c.loop-place-test.true c.index-local_time_types-place.is in
     let offset = c.ut_offset.result in
     let is = c.ut_offset.ensures.value in
     let ends = rw (to_z-of_z w32 offset (search rules)) at c.with_offset-ends.ensures in
@@ -37,5 +37,5 @@ loop-local_time_type-preserved c =
 pub returns-clause-between : goal.returns-clause-between
 returns-clause-between c = λ o of_type.
     let inside = slice_get_within c.args.local_time_types.now of_type.0 of_type.1 of_type.2 in
-    let between = c.loop-local_time_type.invariant.between of_type.0 of_type.1 (omega (arith, inside, c.loop-local_time_type-test.false)) of_type.2 in
+    let between = c.loop-place.invariant.between of_type.0 of_type.1 (omega (arith, inside, c.loop-place-test.false)) of_type.2 in
     (omega (arith, ints, between.0, of_type.3), omega (arith, ints, between.1, of_type.3))

@@ -5,8 +5,8 @@ use Rattle.tz_rule.specs.LocalTimeType.{LocalTimeType}
 use Rattle.tz_zone.specs.Offsets.{IsOffsetOfTypes}
 use Rattle.tz_zone.proofs.timezone.offset_range.offsets_of_types.Given as goal
 
-abbrev pub invariant-loop-local_time_type : goal.invariant-loop-local_time_type
-invariant-loop-local_time_type l = record {
+abbrev pub invariant-loop-place : goal.invariant-loop-place
+invariant-loop-place l = record {
   of_types : IsOffsetOfTypes l.local_time_types l.least × IsOffsetOfTypes l.local_time_types l.greatest;
-  between : (i : ℕ) (t : LocalTimeType) → i < l.local_time_type-index → slice_get l.local_time_types i ≡ Some t → (l.least ≤ℤ t.ut_offset) × (t.ut_offset ≤ℤ l.greatest);
+  between : (i : ℕ) (t : LocalTimeType) → i < l.place → slice_get l.local_time_types i ≡ Some t → (l.least ≤ℤ t.ut_offset) × (t.ut_offset ≤ℤ l.greatest);
 }

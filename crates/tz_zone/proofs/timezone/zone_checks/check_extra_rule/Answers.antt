@@ -30,8 +30,8 @@ pub bounds-local_time_types-local_time_type_index : goal.bounds-local_time_types
 bounds-local_time_types-local_time_type_index c =
     rw c.local_time_type_index.ensures ((c.requires.transitions_are (length c.args.transitions.now - 1)).0 c.in-Some-last.last.now (sym c.in-Some-last.ensures.value))
 
-pub returns-then-ne-clause-err : goal.returns-then-ne-clause-err
-returns-then-ne-clause-err c =
+pub returns-then-not-is_same-clause-err : goal.returns-then-not-is_same-clause-err
+returns-then-not-is_same-clause-err c =
     let z = zone_with c.args.transitions.now c.args.local_time_types.now c.args.leap_seconds.now (lent_rule c.args.extra_rule) in
     let last = c.in-Some-last.last.now in
     let is_last = sym c.in-Some-last.ensures.value in
@@ -41,7 +41,7 @@ returns-then-ne-clause-err c =
     let at = slice_get_read c.args.local_time_types.now _ last.type_index stored refl within (rw c.local_time_type_index.ensures at c.index-local_time_types-local_time_type_index.is) in
     let type = rw (to_z-of_z w64 c.unix_leap_time-last_time.result (search rules), c.unix_leap_time-last_time.ensures) at c.in_ok-rule_type.ensures.ok in
     let begun = rw (to_z-of_z w64 c.unix_leap_time-last_time.result (search rules), c.unix_leap_time-last_time.ensures) at c.if-not-has_begun_at.ensures in
-    inr (refl, answers_at z (rule_seen c.in-Some.rule) last (ap (option_map rule_seen) c.in-Some.is) is_last answer type, not_agrees z (rule_seen c.in-Some.rule) last (ap (option_map rule_seen) c.in-Some.is) is_last begun answer stored type at (other_from_test answer stored c.if-ne.ensures))
+    inr (refl, answers_at z (rule_seen c.in-Some.rule) last (ap (option_map rule_seen) c.in-Some.is) is_last answer type, not_agrees z (rule_seen c.in-Some.rule) last (ap (option_map rule_seen) c.in-Some.is) is_last begun answer stored type at (other_from_test answer stored c.if-not-is_same.ensures))
 
 pub returns-clause-agrees : goal.returns-clause-agrees
 returns-clause-agrees c =
@@ -53,4 +53,4 @@ returns-clause-agrees c =
     let within : last.type_index < length c.args.local_time_types.now = (c.requires.transitions_are (length c.args.transitions.now - 1)).0 last is_last in
     let at = slice_get_read c.args.local_time_types.now _ last.type_index stored refl within (rw c.local_time_type_index.ensures at c.index-local_time_types-local_time_type_index.is) in
     let type = rw (to_z-of_z w64 c.unix_leap_time-last_time.result (search rules), c.unix_leap_time-last_time.ensures) at c.in_ok-rule_type.ensures.ok in
-    agrees_at z (rule_seen c.in-Some.rule) last (ap (option_map rule_seen) c.in-Some.is) is_last answer type (rw (same_from_test answer stored c.if-ne.ensures) at)
+    agrees_at z (rule_seen c.in-Some.rule) last (ap (option_map rule_seen) c.in-Some.is) is_last answer type (rw (same_from_test answer stored c.if-not-is_same.ensures) at)

@@ -26,7 +26,6 @@ fn is_indicator_count(count: u32, local_types: u32) -> bool {
 
 impl Counts {
     /// The counts of a header.
-
     fn read(bytes: &[u8]) -> Self {
         Counts {
             ut_local: count_at(bytes, 20),

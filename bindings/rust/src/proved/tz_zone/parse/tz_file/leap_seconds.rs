@@ -8,16 +8,14 @@ use crate::shim::Vec;
 use crate::shim::alloc::{AllocError, Allocator};
 
 /// The leap second of a record.
-
 fn leap_second_at(unit: &Unit<'_>, index: u32) -> LeapSecond {
-    let at = unit.size.leaps_len(index);
+    let at = unit.size.leaps_len(index) as usize;
     let unix_leap_time = time_at(unit.size, unit.block.leaps, at);
     let correction = signed_at(unit.block.leaps, at + unit.size.len());
     LeapSecond::new(unix_leap_time, correction)
 }
 
 /// The leap seconds, in their order.
-
 pub(super) fn read_leap_seconds<A: Allocator + Copy>(
     alloc: A,
     unit: &Unit<'_>,

@@ -36,13 +36,11 @@ fn name_at(names: &[u8], index: usize) -> Option<&[u8]> {
 }
 
 /// The name, where it is not empty.
-
 fn non_empty(name: &[u8]) -> Option<&[u8]> {
     if name.is_empty() { None } else { Some(name) }
 }
 
 /// The type of a record.
-
 fn read_type(unit: &Unit<'_>, index: u32) -> Result<LocalTimeType, TzError> {
     let at = index as usize * 6;
     let ut_offset = signed_at(unit.block.types, at);
@@ -57,7 +55,6 @@ fn read_type(unit: &Unit<'_>, index: u32) -> Result<LocalTimeType, TzError> {
 }
 
 /// The types, in their order.
-
 pub(super) fn read_types<A: Allocator + Copy>(
     alloc: A,
     unit: &Unit<'_>,

@@ -5,37 +5,30 @@ use super::time_size::TimeSize;
 
 /// The four bytes at a place.
 fn four_at(bytes: &[u8], at: usize) -> [u8; 4] {
-    [bytes[at], bytes[at + 1], bytes[at + 2], bytes[at + 3]]
+    let four = &bytes[at..at + 4];
+    [four[0], four[1], four[2], four[3]]
 }
 
 /// The eight bytes at a place.
 fn eight_at(bytes: &[u8], at: usize) -> [u8; 8] {
+    // One slice, so that the bounds are checked once.
+    let eight = &bytes[at..at + 8];
     [
-        bytes[at],
-        bytes[at + 1],
-        bytes[at + 2],
-        bytes[at + 3],
-        bytes[at + 4],
-        bytes[at + 5],
-        bytes[at + 6],
-        bytes[at + 7],
+        eight[0], eight[1], eight[2], eight[3], eight[4], eight[5], eight[6], eight[7],
     ]
 }
 
 /// The count at a place.
-
 pub(super) fn count_at(bytes: &[u8], at: usize) -> u32 {
     u32::from_be_bytes(four_at(bytes, at))
 }
 
 /// The signed number of four bytes at a place.
-
 pub(super) fn signed_at(bytes: &[u8], at: usize) -> i32 {
     i32::from_be_bytes(four_at(bytes, at))
 }
 
 /// The signed number of eight bytes at a place.
-
 fn long_signed_at(bytes: &[u8], at: usize) -> i64 {
     i64::from_be_bytes(eight_at(bytes, at))
 }

@@ -1,5 +1,7 @@
 // Generated from crates/tz_zone/src/parse/tz_file/time_size.rt by bindings/erase: its contracts are cut. Change that file instead.
 //! The size of times in a block, four bytes or eight, and of tables that have times. (RFC 8536, section 3.1)
+//!
+//! Lengths that a file's counts ask for have 64 bits, and so no sum of them wraps, whatever the width of a `usize`.
 
 /// How many bytes a time of a block has.
 #[derive(Clone, Copy)]
@@ -20,18 +22,18 @@ impl TimeSize {
     }
 
     /// How many bytes a number of times has.
-    pub(super) const fn times_len(self, count: u32) -> usize {
+    pub(super) const fn times_len(self, count: u32) -> u64 {
         match self {
-            TimeSize::Four => count as usize * 4,
-            TimeSize::Eight => count as usize * 8,
+            TimeSize::Four => count as u64 * 4,
+            TimeSize::Eight => count as u64 * 8,
         }
     }
 
     /// How many bytes a number of leap seconds has, each a time and a correction of four bytes.
-    pub(super) const fn leaps_len(self, count: u32) -> usize {
+    pub(super) const fn leaps_len(self, count: u32) -> u64 {
         match self {
-            TimeSize::Four => count as usize * 8,
-            TimeSize::Eight => count as usize * 12,
+            TimeSize::Four => count as u64 * 8,
+            TimeSize::Eight => count as u64 * 12,
         }
     }
 }

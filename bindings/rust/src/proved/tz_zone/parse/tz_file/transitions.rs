@@ -10,9 +10,8 @@ use crate::shim::alloc::{AllocError, Allocator};
 
 /// The transition of a record. The size of its time is an argument, so that a caller with a constant has a loop of its own without a test.
 #[inline(always)]
-
 fn transition_at(size: TimeSize, unit: &Unit<'_>, index: u32) -> Transition {
-    let at = size.times_len(index);
+    let at = size.times_len(index) as usize;
     let unix_leap_time = time_at(size, unit.block.times, at);
     let local_time_type_index = unit.block.indexes[index as usize];
     Transition::new(unix_leap_time, usize::from(local_time_type_index))

@@ -5,28 +5,29 @@ use super::header::{Counts, HEADER_LEN, read_header};
 use super::time_size::TimeSize;
 use crate::proved::tz_base::error::parse::{ParseDataError, TzFileError};
 
-/// Places in a unit, from the first byte of its header: where each part of the block begins, and where the block ends.
+/// Places in a unit, from the first byte of its header: where each part of the block begins, and where the block ends. The counts determine them, so
+/// they may be past the end of the file, and past what a `usize` holds on a machine of 32 bits.
 #[derive(Clone, Copy)]
 struct Layout {
-    indexes: usize,
-    types: usize,
-    names: usize,
-    leaps: usize,
-    std_walls: usize,
-    ut_locals: usize,
-    end: usize,
+    indexes: u64,
+    types: u64,
+    names: u64,
+    leaps: u64,
+    std_walls: u64,
+    ut_locals: u64,
+    end: u64,
 }
 
 impl Layout {
     /// The layout of a block with these counts.
     const fn new(size: TimeSize, counts: Counts) -> Self {
-        let indexes = HEADER_LEN + size.times_len(counts.transition);
-        let types = indexes + counts.transition as usize;
-        let names = types + counts.local_type as usize * 6;
-        let leaps = names + counts.char as usize;
+        let indexes = HEADER_LEN as u64 + size.times_len(counts.transition);
+        let types = indexes + counts.transition as u64;
+        let names = types + counts.local_type as u64 * 6;
+        let leaps = names + counts.char as u64;
         let std_walls = leaps + size.leaps_len(counts.leap);
-        let ut_locals = std_walls + counts.std_wall as usize;
-        let end = ut_locals + counts.ut_local as usize;
+        let ut_locals = std_walls + counts.std_wall as u64;
+        let end = ut_locals + counts.ut_local as u64;
         Layout {
             indexes,
             types,
@@ -63,27 +64,25 @@ pub(crate) struct Unit<'a> {
 
 /// Cuts the block after the header into its parts.
 #[inline(always)]
-
 fn cut_block(size: TimeSize, counts: Counts, bytes: &[u8]) -> Block<'_> {
     let layout = Layout::new(size, counts);
     Block {
-        times: &bytes[HEADER_LEN..layout.indexes],
-        indexes: &bytes[layout.indexes..layout.types],
-        types: &bytes[layout.types..layout.names],
-        names: &bytes[layout.names..layout.leaps],
-        leaps: &bytes[layout.leaps..layout.std_walls],
-        std_walls: &bytes[layout.std_walls..layout.ut_locals],
-        ut_locals: &bytes[layout.ut_locals..layout.end],
+        times: &bytes[HEADER_LEN..layout.indexes as usize],
+        indexes: &bytes[layout.indexes as usize..layout.types as usize],
+        types: &bytes[layout.types as usize..layout.names as usize],
+        names: &bytes[layout.names as usize..layout.leaps as usize],
+        leaps: &bytes[layout.leaps as usize..layout.std_walls as usize],
+        std_walls: &bytes[layout.std_walls as usize..layout.ut_locals as usize],
+        ut_locals: &bytes[layout.ut_locals as usize..layout.end as usize],
     }
 }
 
 /// Reads the header at the front, and cuts its block.
 #[inline(always)]
-
 pub(super) fn read_unit(size: TimeSize, bytes: &[u8]) -> Result<Unit<'_>, TzFileError> {
     let counts = read_header(bytes)?;
     let end = Layout::new(size, counts).end;
-    if bytes.len() < end {
+    if (bytes.len() as u64) < end {
         return Err(TzFileError::ParseData(ParseDataError::UnexpectedEof));
     }
     Ok(Unit {
@@ -92,6 +91,6 @@ pub(super) fn read_unit(size: TimeSize, bytes: &[u8]) -> Result<Unit<'_>, TzFile
         version: bytes[4],
         counts,
         block: cut_block(size, counts, bytes),
-        after: &bytes[end..],
+        after: &bytes[end as usize..],
     })
 }

@@ -1,5 +1,5 @@
 -- Checked fields are refused for their instant alone.
-use Rattle.std.proofs.Common.{◌≡◌, ◌<◌, ◌∙◌, inr, refl, sym, ap, subst, arith, ℕ, ℤ, pos, negsuc, ◌-ℤ◌, ◌≤ℤ◌}
+use Rattle.std.proofs.Common.{◌≡◌, ◌<◌, ◌∙◌, inr, refl, rules, sym, ap, subst, arith, ℕ, ℤ, pos, negsuc, ◌-ℤ◌, ◌≤ℤ◌}
 use Rattle.std.proofs.lemmas.Int.{ints, to_z-of_z}
 use lib.Signed.{mag}
 use mir.Syntax.{w32, w64}
@@ -24,20 +24,22 @@ passed year {month} {month_day} {hour} {minute} {second} {nanoseconds} fits is =
 pub returns-then-not-is_reading : goal.returns-then-not-is_reading
 returns-then-not-is_reading c =
     let same = passed c.args.year c.ranges.year c.new-fields.ensures in
+    let valid : IsValid c.new-fields.result = search rules in
     let read = subst (λ (f : Fields). c.reading.result ≡ reading f) same c.reading.ensures.value in
     let instant = instant_is c.reading.result _ c.ut_offset.result _ c.from.result c.reading.ensures.bound read c.ut_offset.type_inv c.ut_offset.ensures.value c.from.ensures in
-    record { value = tt; ok = tt; instant = tt; err = inr (refl, subst IsValid same c.in_ok-check.ensures.ok, λ reads. c.if-not-is_reading.ensures (subst IsReading (sym instant) reads)) }
+    record { value = tt; ok = tt; instant = tt; err = inr (refl, subst IsValid same valid, λ reads. c.if-not-is_reading.ensures (subst IsReading (sym instant) reads)) }
 
 pub returns : goal.returns
 returns c =
     let same = passed c.args.year c.ranges.year c.new-fields.ensures in
+    let valid : IsValid c.new-fields.result = search rules in
     let read = subst (λ (f : Fields). c.reading.result ≡ reading f) same c.reading.ensures.value in
     let instant = instant_is c.reading.result _ c.ut_offset.result _ c.from.result c.reading.ensures.bound read c.ut_offset.type_inv c.ut_offset.ensures.value c.from.ensures in
     let a = c.args in
     let unix_time = reading (fields_of a.year a.month a.month_day a.hour a.minute a.second a.nanoseconds) -ℤ a.local_time_type.ut_offset in
     record {
       value = c.of_fields.ensures ∙ ap (moment_of c.new-fields.result c.args.local_time_type) instant ∙ ap (λ (f : Fields). moment_of f c.args.local_time_type unix_time) same;
-      ok = subst IsValid same c.in_ok-check.ensures.ok;
+      ok = subst IsValid same valid;
       instant = subst IsReading instant c.if-not-is_reading.ensures;
       err = tt;
     }

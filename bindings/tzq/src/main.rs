@@ -1,0 +1,38 @@
+//! Answers query lines about date times: `tzq -o OFFSET` over the zone with this offset from UTC in
+//! seconds, `tzq -f FILE` over that of a TZif file, `tzq -z STRING` over that of a TZ string or of
+//! a name.
+#![forbid(unsafe_code)]
+
+#[allow(dead_code, unused_imports)]
+mod proved;
+mod shim;
+mod streams;
+
+use proved::tz_query::query;
+use std::ffi::OsString;
+use std::process::ExitCode;
+use std::{env, io};
+use streams::Stream;
+use tz::proved::tz::timezone::read_file;
+use tz::shim::alloc::Global;
+use tz::shim::rt::Machine;
+
+/// The arguments after the program's name, or none if one of them is not text.
+fn arguments() -> Vec<String> {
+    let arguments = env::args_os().skip(1).map(OsString::into_string);
+    arguments.collect::<Result<_, _>>().unwrap_or_default()
+}
+
+/// Answers the lines of the input over the zone that the arguments name, among the machine's files
+/// if by a name, and returns the program's status.
+fn answer_lines(arguments: &[&str]) -> u8 {
+    let reader = |path: &str| read_file(&Machine, Global, path);
+    let (mut input, mut out, mut err) = (Stream::input(), Stream::output(), io::stderr());
+    query::tool(Global, arguments, reader, &mut input, &mut out, &mut err)
+}
+
+fn main() -> ExitCode {
+    let arguments = arguments();
+    let texts: Vec<&str> = arguments.iter().map(String::as_str).collect();
+    ExitCode::from(answer_lines(&texts))
+}

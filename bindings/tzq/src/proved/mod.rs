@@ -1,0 +1,3 @@
+//! The proved sources, generated but for this file.
+
+pub mod tz_query;

@@ -1,0 +1,112 @@
+// Generated from crates/tz_query/src/query/program.rt by bindings/erase: its contracts are cut. Change that file instead.
+//! The program over arguments, a file reader, an input and outputs that are passed in.
+
+use crate::proved::tz_query::query::lines::read_number;
+use crate::proved::tz_query::query::streams::{RunFault, run};
+use crate::shim::Vec;
+use crate::shim::alloc::Allocator;
+use crate::shim::io::{Read, Write};
+use core::{error, fmt};
+use tz::proved::tz::error::ReadFault;
+use tz::proved::tz::{TimeZone, TzError};
+
+/// Why the program ends without all answers.
+#[derive(Debug)]
+enum Fault {
+    Arguments,
+    File,
+    Memory,
+    Zone(TzError),
+    Run(RunFault),
+}
+
+impl From<TzError> for Fault {
+    fn from(error: TzError) -> Self {
+        match error {
+            TzError::Memory(_) => Fault::Memory,
+            error => Fault::Zone(error),
+        }
+    }
+}
+
+/// The offset that an argument has, if it is a number of 32 bits.
+fn read_offset(value: &str) -> Option<i32> {
+    match read_number(value.as_bytes())? {
+        (number, []) => i32::try_from(number).ok(),
+        _ => None,
+    }
+}
+
+/// The zone that the arguments name.
+fn zone_of_arguments<A: Allocator + Copy, F: Fn(&str) -> Result<Vec<u8>, ReadFault>>(
+    alloc: A,
+    arguments: &[&str],
+    reader: F,
+) -> Result<TimeZone<A>, Fault> {
+    match arguments {
+        ["-o", number] => {
+            let ut_offset = read_offset(number).ok_or(Fault::Arguments)?;
+            Ok(TimeZone::fixed(alloc, ut_offset)?)
+        }
+        ["-f", path] => match reader(path) {
+            Ok(bytes) => Ok(TimeZone::from_tz_data(alloc, &bytes)?),
+            Err(ReadFault::Memory(_)) => Err(Fault::Memory),
+            Err(ReadFault::Failed(_)) => Err(Fault::File),
+        },
+        ["-z", text] => match TimeZone::from_posix_tz(alloc, reader, text) {
+            Ok(zone) => Ok(zone),
+            Err(tz::proved::tz::Error::Io(_)) => Err(Fault::File),
+            Err(tz::proved::tz::Error::Tz(error)) => Err(Fault::from(error)),
+        },
+        _ => Err(Fault::Arguments),
+    }
+}
+
+/// Runs the program and returns its status.
+///
+/// `arguments` are an option and its value, which name a zone: `-o` that of an offset from UTC in seconds, `-f` that of the TZif
+/// file which the reader finds at a path, `-z` that of a string, as [`TimeZone::from_posix_tz`] returns it. The zone is made first, then the
+/// input is read to its end, and then the answers of its lines are written. An error prints one line to `err`, if that can be written, and
+/// the status is 1, or 2 if the zone is invalid. Whatever the status, what was appended to `out` is empty or a prefix of the answers.
+pub fn tool<A, F, R, W, E>(
+    alloc: A,
+    arguments: &[&str],
+    reader: F,
+    input: &mut R,
+    out: &mut W,
+    err: &mut E,
+) -> u8
+where
+    A: Allocator + Copy,
+    F: Fn(&str) -> Result<Vec<u8>, ReadFault>,
+    R: Read,
+    W: Write,
+    E: Write,
+{
+    let fault = match zone_of_arguments(alloc, arguments, reader) {
+        Ok(zone) => match run(alloc, zone.as_ref(), input, out) {
+            Ok(()) => return 0,
+            Err(fault) => Fault::Run(fault),
+        },
+        Err(fault) => fault,
+    };
+    let _ = writeln!(err, "tzq: {fault}");
+    match fault {
+        Fault::Zone(_) => 2,
+        _ => 1,
+    }
+}
+
+impl fmt::Display for Fault {
+    fn fmt(&self, f: &mut fmt::Formatter<'_>) -> fmt::Result {
+        match self {
+            Fault::Arguments => f.write_str("bad arguments"),
+            Fault::File => f.write_str("cannot read file"),
+            Fault::Memory => f.write_str("no memory"),
+            Fault::Zone(error) => write!(f, "zone refused: {error}"),
+            Fault::Run(error) => error.fmt(f),
+        }
+    }
+}
+
+impl error::Error for Fault {}

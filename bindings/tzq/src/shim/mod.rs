@@ -1,0 +1,6 @@
+//! What the proved sources use of their standard library.
+
+pub mod dec2flt;
+pub mod io;
+
+pub use tz::shim::{Vec, alloc};
