@@ -6,6 +6,7 @@ import io
 import os
 import pickle
 import random
+import re
 import shutil
 import subprocess
 import sys
@@ -91,7 +92,7 @@ class Names(unittest.TestCase):
                 del sys.modules[name]
             with search_path(), mock.patch.object(sys, "path", [room, *sys.path]):
                 self.assertEqual(ZoneInfo("Mars/Base").tzname(datetime(2020, 1, 1)), "CET")
-                for name in ("Mars/Bases", "Mars", "Moon/Base"):
+                for name in ("Mars/Bases", "Mars", "Moon/Base", "..../Base", "Mars./Base", "..."):
                     with self.subTest(name), self.assertRaises(ZoneInfoNotFoundError):
                         ZoneInfo(name)
             for name in [name for name in sys.modules if name.startswith("tzdata")]:
@@ -323,6 +324,27 @@ class Module(unittest.TestCase):
         layout = {**_library.LAYOUT, 14: _library.Zone, 10: _library.Sizes}
         with mock.patch.object(_library, "LAYOUT", layout), self.assertRaises(ImportError):
             _library.check_layout()
+
+    def test_header(self):
+        """The constants are those of tz.h."""
+        header = Path(__file__).resolve().parents[2] / "c" / "tz.h"
+        defined = re.findall(r"(?:#define )?TZ_(\w+)(?: =)? (\d+)\b", header.read_text("utf-8"))
+        constants = {name: int(number) for name, number in defined}
+        strings = [value for name, value in constants.items() if name.startswith("STRING_")]
+        self.assertEqual(sorted(strings), list(_library.STRING_CODES))
+        for name, value in {
+            "ABI": _library.ABI,
+            "LAYOUT_LENGTH": _library.LAYOUT_LENGTH,
+            "OK": _library.OK,
+            "NO_AVAILABLE_LOCAL_TIME_TYPE": _library.NO_TYPE,
+            "NO_CHANGE": _library.NO_CHANGE,
+            "MEMORY": _library.MEMORY,
+            "NONE": _library.NONE,
+            "FIXED": _library.FIXED,
+            "ALTERNATE": _library.ALTERNATE,
+            **{choice.upper(): number for choice, number in _library.CHOICES.items()},
+        }.items():
+            self.assertEqual(constants[name], value, name)
 
     def test_without_the_library(self):
         with tempfile.TemporaryDirectory() as room:

@@ -122,25 +122,26 @@ check(_library.zone_check(_utc.parts, _utc.offsets))
 def _local_times_of(seconds: _Column) -> Tuple[_Column, "array[int]"]:
     """The local times of a column of seconds, and the code of each that is out of range.
 
-    They are what a clock of UTC shows at these seconds: the first bytes of its date times. Some
-    thousands at a time are copied, which a processor's cache holds.
+    They are the first words of the date times of UTC at these seconds, and are copied some
+    thousands at a time, which a processor's cache holds.
     """
-    size, step = sizeof(LocalTime), sizeof(DateTime)
-    local_times, codes = bytearray(seconds.length * size), _new("I", seconds.length)
-    copied = bytearray(_AT_A_TIME * step)
+    to, step = sizeof(LocalTime) // 8, sizeof(DateTime) // 8
+    local_times = bytearray(seconds.length * sizeof(LocalTime))
+    date_times = bytearray(_AT_A_TIME * sizeof(DateTime))
+    words, shown = memoryview(local_times).cast("Q"), memoryview(date_times).cast("Q")
+    codes = _new("I", seconds.length)
     nanoseconds = _Column("", _new("I", _AT_A_TIME), _UINT32)
-    date_times, answers = _Column("", copied, _BYTES), _Column("", codes, _UINT32)
+    slots, answers = _Column("", date_times, _BYTES), _Column("", codes, _UINT32)
     for start in range(0, seconds.length, _AT_A_TIME):
         count = min(_AT_A_TIME, seconds.length - start)
         check(
             _library.column_date_times(
                 seconds.address + 8 * start, count, nanoseconds.address, count, byref(_utc),
-                date_times.address, count, answers.address + 4 * start, count,
+                slots.address, count, answers.address + 4 * start, count,
             )
         )  # fmt: skip
-        for at in range(LocalTime.nanoseconds.offset):
-            end = (start + count) * size
-            local_times[start * size + at : end : size] = copied[at : count * step : step]
+        for word in range(to):
+            words[start * to + word : (start + count) * to : to] = shown[word : count * step : step]
     for index in _refused(codes):
-        local_times[index * size + LocalTime.month.offset] = 0  # no month
+        local_times[index * sizeof(LocalTime) + LocalTime.month.offset] = 0  # no month
     return _Column("", local_times, _BYTES), codes

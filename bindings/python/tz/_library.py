@@ -6,7 +6,7 @@ from ctypes import c_int64, c_size_t, c_uint8, c_uint32, c_void_p, create_string
 from pathlib import Path
 from typing import Optional
 
-ABI = 1
+ABI = 2
 NONE, FIXED, ALTERNATE = range(3)  # kinds of rules
 OK, NO_TYPE, NO_CHANGE, MEMORY = 0, 2, 4, 255
 STRING_CODES = range(80, 94)  # a TZ string is refused
@@ -20,6 +20,10 @@ class LocalTimeType(Structure):
         ("designation", c_char * 7),
         ("designation_length", c_uint8),
     ]
+
+
+def same(one: LocalTimeType, other: LocalTimeType) -> bool:
+    return all(getattr(one, name) == getattr(other, name) for name, _ in LocalTimeType._fields_)
 
 
 class Alternate(Structure):
@@ -126,7 +130,7 @@ LAYOUT = {
     16: Change,
     17: Sizes,
 }
-LAYOUT_LENGTH = 19
+LAYOUT_LENGTH = 20
 
 FILE = {"win32": "tz.dll", "darwin": "libtz.dylib"}.get(sys.platform, "libtz.so")
 _path = Path(__file__).with_name(FILE)

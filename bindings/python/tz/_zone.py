@@ -314,6 +314,7 @@ class ZoneInfo(tzinfo):
             check(_library.segment_at(self._zone, instant, segment))
             if not segment.has_type:
                 check(_library.type_at(self._zone, instant, segment.local_time_type), str(self))
+                segment.first = segment.last = instant
             span = _Span(segment)
             self._keep(instant, span)
         return span
@@ -365,9 +366,8 @@ class ZoneInfo(tzinfo):
         if not kind.is_dst:
             return 0
         offsets = [self._standard_before(span.first), self._standard_after(span.last)]
-        standard, saving = rule.alternate.types
-        if rule.kind == _library.ALTERNATE and bytes(kind) == bytes(saving):
-            offsets.append(standard.ut_offset)
+        if rule.kind == _library.ALTERNATE and _library.same(kind, rule.alternate.types[1]):
+            offsets.append(rule.alternate.types[0].ut_offset)
         amounts = [kind.ut_offset - offset for offset in offsets if offset is not None]
         likely = [amount for amount in amounts if amount and abs(amount) <= _MOST_SAVING]
         return min(likely, key=lambda amount: abs(amount - _USUAL_SAVING), default=_USUAL_SAVING)
