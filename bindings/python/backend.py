@@ -58,7 +58,7 @@ def prepare_metadata_for_build_wheel(metadata_directory, config_settings=None):
 
 
 def build_wheel(wheel_directory, config_settings=None, metadata_directory=None):
-    sources = [path for path in sorted((HERE / "tz").iterdir()) if path.suffix in (".py", ".typed")]
+    sources = [*sorted((HERE / "src" / "tz").glob("*.py")), HERE / "src" / "tz" / "py.typed"]
     files = {f"tz/{path.name}": path.read_bytes() for path in [*sources, shared_library()]}
     files.update(metadata())
     record = []

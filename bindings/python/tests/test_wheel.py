@@ -31,7 +31,7 @@ class Wheel(unittest.TestCase):
         expected = {*(f"tz/{file}" for file in module), *(f"{info}/{file}" for file in about)}
         self.assertEqual(set(files), expected)
         for file in module[:-1]:
-            self.assertEqual(files[f"tz/{file}"], (HERE / "tz" / file).read_bytes())
+            self.assertEqual(files[f"tz/{file}"], (HERE / "src" / "tz" / file).read_bytes())
         recorded = {}
         for file, digest, length in csv.reader(io.StringIO(files[f"{info}/RECORD"].decode())):
             recorded[file] = digest, length
