@@ -16,7 +16,9 @@ pub fn zone_without_file(
     reader: impl Fn(&str) -> Result<Vec<u8>, ReadFault>,
 ) -> Option<TimeZoneRef<'static>> {
     let zone = tz_zones::named(text)?;
-    match TimeZone::named(Global, reader, text) {
+    // A file is only looked for here: that it is one of a zone is seen when the zone is made of it.
+    let finder = |path: &str| reader(path).map(|_| Vec::new(Global));
+    match TimeZone::named(Global, finder, text) {
         Err(Error::Io(_)) => Some(zone),
         _ => None,
     }
