@@ -31,6 +31,10 @@ __all__ = [
     "InvalidTZPathWarning",
 ]
 
+# Their names, in pickles and in messages, are those by which programs import them.
+for _class in (ZoneInfo, LocalTime, TzError):
+    _class.__module__ = __name__
+
 
 def __getattr__(name: str) -> Any:
     if name == "TZPATH":

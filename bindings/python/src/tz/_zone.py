@@ -395,10 +395,6 @@ class ZoneInfo(tzinfo):
         return None
 
 
-# Where programs import it from, as they do for pickles.
-ZoneInfo.__module__ = "tz"
-
-
 def _seconds(dt: datetime) -> int:
     """The seconds from 1970-01-01 00:00:00 to a date and time, both without a zone."""
     days = dt.toordinal() - _EPOCH_DAY
