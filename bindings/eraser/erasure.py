@@ -108,6 +108,18 @@ EXACT = {
         ("self.checked_add(duration).unwrap()", 'self.checked_add(duration).expect("attempt to add with overflow")'),
         ("self.checked_sub(duration).unwrap()", 'self.checked_sub(duration).expect("attempt to subtract with overflow")'),
     ),
+    # Rust 1.85 has no condition with a pattern beside others, and no method for this cast.
+    "crates/tz_query/src/query/lines.rt": (
+        (
+            "bytes.len() >= 3\n        && let Some((number, end)) = read_small(bytes, 0)\n    {\n"
+            "        return Some((i64::from(number), &bytes[end..]));\n    }",
+            "bytes.len() >= 3 { if let Some((number, end)) = read_small(bytes, 0) {\n"
+            "        return Some((i64::from(number), &bytes[end..]));\n    } }",
+        ),
+    ),
+    "crates/tz_query/src/query/type_suffixes.rt": (
+        ("local_time_type.ut_offset().cast_unsigned()", "local_time_type.ut_offset() as u32"),
+    ),
 }
 
 # Items that are left out: Rust has them otherwise, or only proofs need them.

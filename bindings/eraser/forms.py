@@ -140,11 +140,11 @@ def with_derives(path, text):
 
     def derived(found):
         names = [it.strip() for it in found[1].split(",") if it.strip() not in ("Drop", "Error")]
-        return f"#[derive({', '.join(names)})]" if names else ""
+        return f"#[derive({', '.join(names)})]\n" if names else ""
 
     text = re.sub(r"#\[derive_where\(skip\(EqHashOrd\)\)\]\n?", "", text)
     text = text.replace("#[derive_where(", "#[derive(")
-    return re.sub(r"#\[derive\(([^)]*)\)\]", derived, text)
+    return re.sub(r"#\[derive\(([^)]*)\)\]\n", derived, text)
 
 
 def with_formatters(path, text):

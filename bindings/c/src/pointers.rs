@@ -2,11 +2,13 @@
 //!
 //! They require what tz.h asks of a caller. A pointer is aligned, and points to as many values of
 //! its type as the length says. While a call runs nothing else writes to what it reads, and nothing
-//! else reads or writes what it writes to. With length 0 the pointer is not used, so it may be null.
-//! A pointer to one value is a reference in Rust, which crosses alike.
+//! else reads or writes what it writes to. With length 0 a pointer is not used, and may be null. A
+//! pointer to one value is a reference in Rust, which crosses alike.
 #![allow(unsafe_code)]
 
 use crate::proved::tz_c::zones::{OffsetsData, PartsData};
+#[cfg(feature = "zones")]
+use core::ptr;
 use core::slice;
 use tz::proved::tz_rule::inner::AlternateData;
 use tz::proved::tz_rule::timezone::LocalTimeType;
@@ -90,7 +92,44 @@ impl Parts {
     }
 }
 
+/// A list of the library's own memory, as C sees it.
+#[cfg(feature = "zones")]
+fn lent<T>(list: &'static [T]) -> (*const T, usize) {
+    if list.is_empty() {
+        return (ptr::null(), 0);
+    }
+    (list.as_ptr(), list.len())
+}
+
 impl Zone {
+    /// A zone of the library's own memory.
+    #[cfg(feature = "zones")]
+    pub(crate) fn of(zone: &ZoneData<'static>) -> Self {
+        let (transitions, transitions_length) = lent(zone.transitions);
+        let (types, types_length) = lent(zone.local_time_types);
+        let (leap_seconds, leap_seconds_length) = lent(zone.leap_seconds);
+        let (fixed, fixed_length) = lent(zone.fixed);
+        let (alternate, alternate_length) = lent(zone.alternate);
+        Zone {
+            parts: Parts {
+                transitions,
+                transitions_length,
+                types,
+                types_length,
+                leap_seconds,
+                leap_seconds_length,
+                fixed,
+                fixed_length,
+                alternate,
+                alternate_length,
+            },
+            offsets: OffsetsData {
+                least: zone.least_offset,
+                greatest: zone.greatest_offset,
+            },
+        }
+    }
+
     /// The zone over slices.
     ///
     /// # Safety
