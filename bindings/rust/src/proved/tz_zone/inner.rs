@@ -10,6 +10,6 @@ pub use crate::proved::tz_zone::parse::after_byte::after_byte;
 pub use crate::proved::tz_zone::parse::tz_file::sizes::{FileSizes, file_sizes};
 pub use crate::proved::tz_zone::parse::tz_string::parse_posix_tz;
 pub use crate::proved::tz_zone::table::{OtherParts, Uncounted, other_parts_of};
-pub use crate::proved::tz_zone::timezone::file_reader::{read_to_end, read_up_to};
+pub use crate::proved::tz_zone::timezone::file_reader::{open_fault, read_to_end};
 pub use crate::proved::tz_zone::timezone::offset_range::offsets;
 pub use crate::proved::tz_zone::timezone::zone_data::ZoneData;

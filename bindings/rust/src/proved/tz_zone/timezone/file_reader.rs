@@ -63,7 +63,14 @@ fn read_piece_up_to<I: Read>(
     read_piece(input, &mut buffer[..most])
 }
 
-/// Reads the input to its end, or refuses it once one byte more than the limit was read.
+/// The bytes of the input, read to its end, if there are at most `limit` of them. At most one byte more than that is read.
+///
+/// [`read_file_up_to`] opens a file and calls this.
+///
+/// # Errors
+///
+/// - [`ReadFault::Failed`] if the input cannot be read, or with a text that says so if it is longer, after one byte more than the limit was read;
+/// - [`ReadFault::Memory`] if an allocation for its bytes fails.
 pub fn read_up_to<A: Allocator, I: Read>(
     alloc: A,
     input: &mut I,
@@ -88,7 +95,7 @@ pub fn read_up_to<A: Allocator, I: Read>(
 }
 
 /// Why a file could not be opened. Most paths of a search have no file, so the system's text of that error is not looked up.
-fn open_fault(error: io::Error) -> ReadFault {
+pub fn open_fault(error: io::Error) -> ReadFault {
     if error.raw_os_error() == Some(NO_SUCH_FILE) {
         return ReadFault::Failed(anyhow!("No such file or directory (os error 2)"));
     }

@@ -23,7 +23,7 @@ pub use crate::proved::tz_zone::clock::{Change, Segment};
 pub use crate::proved::tz_zone::leap::LeapSecond;
 pub use crate::proved::tz_zone::table::Transition;
 pub use change_iterators::{ChangesAfter, ChangesBefore};
-pub use file_reader::{read_file, read_file_up_to};
+pub use file_reader::{read_file, read_file_up_to, read_up_to};
 pub use settings::{DEFAULT_DIRECTORIES, TimeZoneSettings};
 pub use zone::TimeZone;
 pub use zone_name::is_zone_name;

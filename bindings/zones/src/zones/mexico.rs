@@ -1,0 +1,14 @@
+// Made by `generate` of the tz database, which is in the public domain.
+
+//! Zones of `Mexico`.
+
+use tz::TimeZoneRef;
+
+/// `Mexico/BajaNorte`, the same as [`America/Ensenada`](crate::america::ENSENADA).
+pub const BAJANORTE: TimeZoneRef<'static> = crate::america::ENSENADA;
+
+/// `Mexico/BajaSur`, the same as [`America/Mazatlan`](crate::america::MAZATLAN).
+pub const BAJASUR: TimeZoneRef<'static> = crate::america::MAZATLAN;
+
+/// `Mexico/General`, the same as [`America/Mexico_City`](crate::america::MEXICO_CITY).
+pub const GENERAL: TimeZoneRef<'static> = crate::america::MEXICO_CITY;
