@@ -49,7 +49,7 @@ static void test_layout(void) {
       TZ_ABI,           sizeof(tz_local_time_type), sizeof(tz_day),        sizeof(tz_alternate), sizeof(tz_rule),
       sizeof(tz_conflict), sizeof(tz_transition),   sizeof(tz_leap_second), sizeof(tz_parts),    sizeof(tz_offsets),
       sizeof(tz_zone),  sizeof(tz_fields),          sizeof(tz_utc),        sizeof(tz_date_time), sizeof(tz_found),
-      sizeof(tz_segment), sizeof(tz_change),        sizeof(tz_sizes),      sizeof(tz_setting)};
+      sizeof(tz_segment), sizeof(tz_change),        sizeof(tz_sizes),      sizeof(tz_setting),   sizeof(tz_parsed)};
   CODE(tz_layout(layout, TZ_LAYOUT_LENGTH), TZ_OK);
   for (size_t i = 0; i < TZ_LAYOUT_LENGTH; i++) EXPECT(layout[i], sizes[i]);
   REFUSED(tz_layout(layout, TZ_LAYOUT_LENGTH - 1), TZ_BUFFER_LENGTH, layout);
@@ -146,6 +146,7 @@ static void test_utc(void) {
   REFUSED(tz_utc_new(&fields, &utc), TZ_OUT_OF_RANGE, utc);
   REFUSED(tz_utc_from_timespec(0, 1000000000, &utc), TZ_INVALID_NANOSECONDS, utc);
   REFUSED(tz_utc_from_timespec(INT64_MAX, 0, &utc), TZ_OUT_OF_RANGE, utc);
+  REFUSED(tz_utc_from_timespec(INT64_MAX, 1000000000, &utc), TZ_INVALID_NANOSECONDS, utc);
   CODE(tz_utc_from_timespec(-1, 7, &utc), TZ_OK);
   EXPECT(utc.fields.year, 1969);
   EXPECT(utc.fields.second, 59);
@@ -156,6 +157,7 @@ static void test_utc(void) {
   CODE(tz_utc_sub(&other, 2, 0, &utc), TZ_OK);
   EXPECT(utc.unix_time, -1);
   REFUSED(tz_utc_add(&utc, 0, 1000000000, &other), TZ_INVALID_NANOSECONDS, other);
+  REFUSED(tz_utc_sub(&utc, UINT64_MAX, 1000000000, &other), TZ_INVALID_NANOSECONDS, other);
   REFUSED(tz_utc_sub(&utc, UINT64_MAX, 0, &other), TZ_OUT_OF_RANGE, other);
   tz_utc epoch = TZ_UTC_EPOCH;
   EXPECT(tz_utc_week_day(&epoch), 4);
@@ -178,10 +180,14 @@ static void test_date_times(void) {
   REFUSED(tz_date_time_new(&fields, &type, &shown), TZ_INVALID_HOUR, shown);
   fields = fields_of(INT32_MIN, 1, 1, 0, 0, 0, 0);
   REFUSED(tz_date_time_new(&fields, &type, &shown), TZ_OUT_OF_RANGE, shown);
+  fields = fields_of(INT32_MAX, 12, 31, 23, 30, 0, 0);
+  const tz_local_time_type behind = type_of(-3600, false, NULL);
+  REFUSED(tz_date_time_new(&fields, &behind, &shown), TZ_OUT_OF_RANGE, shown);
   CODE(tz_date_time_from_timespec_and_local(0, 0, &type, &shown), TZ_OK);
   EXPECT(shown.fields.hour, 1);
   REFUSED(tz_date_time_from_timespec_and_local(INT64_MIN, 0, &type, &shown), TZ_OUT_OF_RANGE, shown);
   REFUSED(tz_date_time_from_timespec_and_local(0, UINT32_MAX, &type, &shown), TZ_INVALID_NANOSECONDS, shown);
+  REFUSED(tz_date_time_from_timespec_and_local(INT64_MIN, UINT32_MAX, &type, &shown), TZ_INVALID_NANOSECONDS, shown);
   /* The clock shows a year of 32 bits, and UTC is a year before. */
   CODE(tz_date_time_from_timespec_and_local(INT64_C(-67768100567971201), 0, &type, &shown), TZ_OK);
   REFUSED(tz_date_time_to_utc(&shown, &utc), TZ_OUT_OF_RANGE, utc);
@@ -214,13 +220,11 @@ static tz_utc the_utc;
 static tz_date_time the_date_time;
 static tz_alternate the_rule;
 static tz_local_time_type the_type;
-static tz_code the_code;
 
 static tz_code utc_text(char *text, size_t n, size_t *length) { return tz_utc_text(&the_utc, text, n, length); }
 static tz_code date_time_text(char *text, size_t n, size_t *length) { return tz_date_time_text(&the_date_time, text, n, length); }
 static tz_code rule_text(char *text, size_t n, size_t *length) { return tz_rule_text(NULL, 0, &the_rule, 1, text, n, length); }
 static tz_code fixed_text(char *text, size_t n, size_t *length) { return tz_rule_text(&the_type, 1, NULL, 0, text, n, length); }
-static tz_code error_text(char *text, size_t n, size_t *length) { return tz_error_text(the_code, text, n, length); }
 
 static void test_texts(void) {
   CODE(tz_utc_from_timespec(946684800, 5, &the_utc), TZ_OK);
@@ -238,36 +242,165 @@ static void test_texts(void) {
   REFUSED(tz_rule_text(&the_type, 1, NULL, 0, text, sizeof text, &length), TZ_NO_TZ_STRING, length);
 }
 
-#define ERROR_TEXT(code, wanted) \
-  do {                           \
-    the_code = code;             \
-    TEXT(error_text, wanted);    \
-  } while (0)
+static tz_parsed parsed_of(const char *text) {
+  tz_parsed parsed;
+  memset(&parsed, 0, sizeof parsed);
+  CODE(tz_date_time_read(text, strlen(text), &parsed), TZ_OK);
+  return parsed;
+}
+
+static void test_parsed_texts(void) {
+  tz_parsed parsed = parsed_of("2000-02-29T23:59:60.5+01:00");
+  EXPECT(parsed.local.fields.year, 2000);
+  EXPECT(parsed.local.fields.month_day, 29);
+  EXPECT(parsed.local.fields.second, 60);
+  EXPECT(parsed.local.fields.nanoseconds, 500000000);
+  EXPECT(parsed.local.unix_time, 951868800);
+  EXPECT(parsed.has_offset, true);
+  EXPECT(parsed.ut_offset, 3600);
+  parsed = parsed_of("1999-12-31 20:30:00z");
+  EXPECT(parsed.local.unix_time, 946672200);
+  EXPECT(parsed.has_offset, true);
+  EXPECT(parsed.ut_offset, 0);
+  parsed = parsed_of("1970-01-01T00:00:00");
+  EXPECT(parsed.local.unix_time, 0);
+  EXPECT(parsed.has_offset, false);
+  EXPECT(parsed.ut_offset, 0);
+  static const struct { const char *text; tz_code code; } rows[] = {
+      {"", TZ_EXPECTED_YEAR},
+      {"2000", TZ_EXPECTED_HYPHEN},
+      {"2000-13", TZ_EXPECTED_MONTH},
+      {"2001-02-29", TZ_EXPECTED_MONTH_DAY},
+      {"2000-02-29_", TZ_EXPECTED_SEPARATOR},
+      {"2000-02-29T24", TZ_EXPECTED_HOUR},
+      {"2000-02-29T23", TZ_EXPECTED_COLON},
+      {"2000-02-29T23:60", TZ_EXPECTED_MINUTE},
+      {"2000-02-29T23:59:61", TZ_EXPECTED_SECOND},
+      {"2000-02-29T23:59:60.", TZ_EXPECTED_FRACTION},
+      {"2000-02-29T23:59:60 ", TZ_EXPECTED_OFFSET},
+      {"2000-02-29T23:59:60+1", TZ_EXPECTED_OFFSET_HOUR},
+      {"2000-02-29T23:59:60+01:60", TZ_EXPECTED_OFFSET_MINUTE},
+      {"2000-02-29T23:59:60+01:00:60", TZ_EXPECTED_OFFSET_SECOND},
+      {"2000-02-29T23:59:60+01:00 ", TZ_EXPECTED_END},
+  };
+  for (size_t i = 0; i < sizeof rows / sizeof *rows; i++) REFUSED(tz_date_time_read(rows[i].text, strlen(rows[i].text), &parsed), rows[i].code, parsed);
+  REFUSED(tz_date_time_read(NULL, 0, &parsed), TZ_EXPECTED_YEAR, parsed);
+  /* What is written is read. */
+  char text[53];
+  size_t length = 0;
+  CODE(tz_date_time_text(&the_date_time, text, sizeof text, &length), TZ_OK);
+  CODE(tz_date_time_read(text, length, &parsed), TZ_OK);
+  EXPECT(parsed.local.unix_time - parsed.ut_offset, the_date_time.unix_time);
+  EXPECT(parsed.ut_offset, the_date_time.local_time_type.ut_offset);
+}
+
+/* Each code that there is, and its text. */
+static const struct { tz_code code; const char *text; } code_texts[] = {
+    {TZ_OK, "no error"},
+    {TZ_OUT_OF_RANGE, "out of range operation"},
+    {TZ_NO_AVAILABLE_LOCAL_TIME_TYPE, "no local time type is available for the specified timestamp"},
+    {TZ_NO_RULE, "no rule is given"},
+    {TZ_NO_CHANGE, "the clock does not change"},
+    {TZ_NO_DATE_TIME, "the local time means no date time"},
+    {TZ_NO_TZ_STRING, "no TZ string denotes the rule"},
+    {TZ_NO_CONFLICT, "the parts show no conflict"},
+    {TZ_BUFFER_LENGTH, "a buffer has the wrong length"},
+    {TZ_UNKNOWN_CHOICE, "unknown choice"},
+    {TZ_UNKNOWN_CODE, "unknown code"},
+    {TZ_INVALID_MONTH, "invalid date time: invalid month"},
+    {TZ_INVALID_MONTH_DAY, "invalid date time: invalid month day"},
+    {TZ_INVALID_HOUR, "invalid date time: invalid hour"},
+    {TZ_INVALID_MINUTE, "invalid date time: invalid minute"},
+    {TZ_INVALID_SECOND, "invalid date time: invalid second"},
+    {TZ_INVALID_NANOSECONDS, "invalid date time: invalid nanoseconds"},
+    {TZ_INVALID_TIME_ZONE_DESIGNATION_LENGTH, "invalid local time type: time zone designation must have between 3 and 7 characters"},
+    {TZ_INVALID_TIME_ZONE_DESIGNATION_CHAR, "invalid local time type: invalid characters in time zone designation"},
+    {TZ_INVALID_UTC_OFFSET, "invalid local time type: invalid UTC offset"},
+    {TZ_INVALID_RULE_DAY_JULIAN_DAY, "invalid transition rule: invalid rule day julian day"},
+    {TZ_INVALID_RULE_DAY_MONTH, "invalid transition rule: invalid rule day month"},
+    {TZ_INVALID_RULE_DAY_WEEK, "invalid transition rule: invalid rule day week"},
+    {TZ_INVALID_RULE_DAY_WEEK_DAY, "invalid transition rule: invalid rule day week day"},
+    {TZ_INVALID_STD_UTC_OFFSET, "invalid transition rule: invalid standard time UTC offset"},
+    {TZ_INVALID_DST_UTC_OFFSET, "invalid transition rule: invalid Daylight Saving Time UTC offset"},
+    {TZ_INVALID_DST_START_END_TIME, "invalid transition rule: invalid DST start or end time"},
+    {TZ_INCONSISTENT_RULE, "invalid transition rule: DST transition rules are not consistent from one year to another"},
+    {TZ_NO_LOCAL_TIME_TYPE, "invalid time zone: list of local time types must not be empty"},
+    {TZ_INVALID_LOCAL_TIME_TYPE_INDEX, "invalid time zone: invalid local time type index"},
+    {TZ_INVALID_TRANSITION, "invalid time zone: invalid transition"},
+    {TZ_INVALID_LEAP_SECOND, "invalid time zone: invalid leap second"},
+    {TZ_INCONSISTENT_EXTRA_RULE, "invalid time zone: extra transition rule is inconsistent with the last transition"},
+    {TZ_STRING_UTF8, "invalid TZ string: invalid UTF-8"},
+    {TZ_STRING_PARSE_INT_EMPTY, "invalid TZ string: cannot parse integer from empty string"},
+    {TZ_STRING_UNEXPECTED_EOF, "invalid TZ string: unexpected end of data"},
+    {TZ_STRING_INVALID_DATA, "invalid TZ string: invalid data"},
+    {TZ_STRING_INVALID_OFFSET_HOUR, "invalid TZ string: invalid offset hour"},
+    {TZ_STRING_INVALID_OFFSET_MINUTE, "invalid TZ string: invalid offset minute"},
+    {TZ_STRING_INVALID_OFFSET_SECOND, "invalid TZ string: invalid offset second"},
+    {TZ_STRING_INVALID_DAY_TIME_HOUR, "invalid TZ string: invalid day time hour"},
+    {TZ_STRING_INVALID_DAY_TIME_MINUTE, "invalid TZ string: invalid day time minute"},
+    {TZ_STRING_INVALID_DAY_TIME_SECOND, "invalid TZ string: invalid day time second"},
+    {TZ_STRING_MISSING_DST_START_END_RULES, "invalid TZ string: missing DST start and end rules"},
+    {TZ_STRING_REMAINING_DATA, "invalid TZ string: remaining data after parsing TZ string"},
+    {TZ_STRING_EMPTY, "invalid TZ string: empty TZ string"},
+    {TZ_STRING_PARSE_INT_OVERFLOW, "invalid TZ string: number too large to fit in target type"},
+    {TZ_FILE_UTF8, "invalid TZ file: invalid UTF-8"},
+    {TZ_FILE_UNEXPECTED_EOF, "invalid TZ file: unexpected end of data"},
+    {TZ_FILE_INVALID_DATA, "invalid TZ file: invalid data"},
+    {TZ_FILE_INVALID_MAGIC_NUMBER, "invalid TZ file: invalid magic number"},
+    {TZ_FILE_UNSUPPORTED_VERSION, "invalid TZ file: unsupported TZ file version"},
+    {TZ_FILE_INVALID_HEADER, "invalid TZ file: invalid header"},
+    {TZ_FILE_INVALID_FOOTER, "invalid TZ file: invalid footer"},
+    {TZ_FILE_INVALID_DST_INDICATOR, "invalid TZ file: invalid DST indicator"},
+    {TZ_FILE_INVALID_DESIGNATION_CHAR_INDEX, "invalid TZ file: invalid time zone designation char index"},
+    {TZ_FILE_INVALID_STD_WALL_UT_LOCAL, "invalid TZ file: invalid couple of standard/wall and UT/local indicators"},
+    {TZ_FILE_REMAINING_DATA_V1, "invalid TZ file: remaining data after the end of a TZif v1 data block"},
+    {TZ_EXPECTED_YEAR, "expected a year of four digits or more"},
+    {TZ_EXPECTED_HYPHEN, "expected `-`"},
+    {TZ_EXPECTED_MONTH, "expected a month from 01 to 12"},
+    {TZ_EXPECTED_MONTH_DAY, "expected a day of the month"},
+    {TZ_EXPECTED_SEPARATOR, "expected `T` or a space"},
+    {TZ_EXPECTED_HOUR, "expected an hour from 00 to 23"},
+    {TZ_EXPECTED_COLON, "expected `:`"},
+    {TZ_EXPECTED_MINUTE, "expected a minute from 00 to 59"},
+    {TZ_EXPECTED_SECOND, "expected a second from 00 to 60"},
+    {TZ_EXPECTED_FRACTION, "expected a fraction of one to nine digits"},
+    {TZ_EXPECTED_OFFSET, "expected `Z`, the sign of an offset or the end"},
+    {TZ_EXPECTED_OFFSET_HOUR, "expected the hours of an offset in two digits"},
+    {TZ_EXPECTED_OFFSET_MINUTE, "expected the minutes of an offset from 00 to 59"},
+    {TZ_EXPECTED_OFFSET_SECOND, "expected the seconds of an offset from 00 to 59"},
+    {TZ_EXPECTED_END, "expected the end"},
+    {TZ_MEMORY, "no memory"},
+};
+
+/* The code has the text, and a buffer that is one byte short is refused. */
+static void expect_error_text(tz_code code, const char *wanted) {
+  char text[129];
+  const size_t n = strlen(wanted);
+  size_t length = 77;
+  memset(text, '?', sizeof text);
+  CODE(tz_error_text(code, text, n - 1, &length), TZ_BUFFER_LENGTH);
+  EXPECT(length, 77);
+  EXPECT(text[0], '?');
+  CODE(tz_error_text(code, NULL, 0, &length), TZ_BUFFER_LENGTH);
+  CODE(tz_error_text(code, text, n, &length), TZ_OK);
+  EXPECT(length, n);
+  EXPECT(text[n], '?');
+  memset(text, '?', sizeof text);
+  CODE(tz_error_text(code, text, 128, &length), TZ_OK);
+  EXPECT(length, n);
+  EXPECT(text[n], '?');
+  if (memcmp(text, wanted, n) != 0) fail(__FILE__, __LINE__, "the text of a code", code, code);
+}
 
 static void test_error_texts(void) {
-  ERROR_TEXT(TZ_OUT_OF_RANGE, "out of range operation");
-  ERROR_TEXT(TZ_NO_AVAILABLE_LOCAL_TIME_TYPE, "no local time type is available for the specified timestamp");
-  ERROR_TEXT(TZ_INVALID_MONTH, "invalid date time: invalid month");
-  ERROR_TEXT(TZ_INVALID_NANOSECONDS, "invalid date time: invalid nanoseconds");
-  ERROR_TEXT(TZ_INVALID_UTC_OFFSET, "invalid local time type: invalid UTC offset");
-  ERROR_TEXT(TZ_INCONSISTENT_RULE, "invalid transition rule: DST transition rules are not consistent from one year to another");
-  ERROR_TEXT(TZ_INCONSISTENT_EXTRA_RULE, "invalid time zone: extra transition rule is inconsistent with the last transition");
-  ERROR_TEXT(TZ_STRING_PARSE_INT_EMPTY, "invalid TZ string: cannot parse integer from empty string");
-  ERROR_TEXT(TZ_STRING_PARSE_INT_OVERFLOW, "invalid TZ string: number too large to fit in target type");
-  ERROR_TEXT(TZ_STRING_REMAINING_DATA, "invalid TZ string: remaining data after parsing TZ string");
-  ERROR_TEXT(TZ_STRING_EMPTY, "invalid TZ string: empty TZ string");
-  ERROR_TEXT(TZ_FILE_UNEXPECTED_EOF, "invalid TZ file: unexpected end of data");
-  ERROR_TEXT(TZ_FILE_REMAINING_DATA_V1, "invalid TZ file: remaining data after the end of a TZif v1 data block");
-  ERROR_TEXT(TZ_MEMORY, "no memory");
   char text[128];
-  size_t length = 7;
-  int known = 0;
+  size_t length = 7, row = 0;
   for (tz_code code = 0; code < 300; code++) {
-    tz_code answer = code_of(tz_error_text(code, text, sizeof text, &length));
-    if (answer == TZ_OK) known++;
-    else EXPECT(answer, TZ_UNKNOWN_CODE);
+    if (row < sizeof code_texts / sizeof *code_texts && code_texts[row].code == code) expect_error_text(code, code_texts[row++].text);
+    else REFUSED(tz_error_text(code, text, sizeof text, &length), TZ_UNKNOWN_CODE, length);
   }
-  EXPECT(known, 59);
+  EXPECT(row, sizeof code_texts / sizeof *code_texts);
+  EXPECT(row, 74);
   REFUSED(tz_error_text(UINT32_MAX, text, sizeof text, &length), TZ_UNKNOWN_CODE, length);
 }
 
@@ -395,6 +528,8 @@ static void test_zones(void) {
   EXPECT(segment.local_time_type.ut_offset, 7200);
   CODE(tz_zone_segment_at(zone, INT64_MAX, &segment), TZ_OK);
   EXPECT(segment.has_type, false);
+  static const unsigned char no_type[sizeof segment.local_time_type] = {0};
+  EXPECT(memcmp(&segment.local_time_type, no_type, sizeof no_type), 0);
   CODE(tz_zone_following(zone, 0, &change), TZ_OK);
   EXPECT(change.unix_time, 946684800);
   EXPECT(change.before.ut_offset, 7200);
@@ -422,6 +557,21 @@ static void test_zones(void) {
   EXPECT(place, 1);
   CODE(tz_zone_place_at(&by_rule, 954032400, &place), TZ_OK);
   EXPECT(place, 2);
+
+  /* Of two equal types of the list and the rule the first is named: transitions name the second and the third. */
+  tz_local_time_type equal_types[3] = {made.types[1], made.types[2], made.types[1]};
+  tz_transition to_equal[2] = {{0, 1}, {946684800, 2}};
+  tz_parts equal_parts = {to_equal, 2, equal_types, 3, NULL, 0, NULL, 0, &made.rule, 1};
+  tz_zone of_equal = {equal_parts, {0, 0}};
+  CODE(tz_zone_check(&of_equal.parts, &of_equal.offsets), TZ_OK);
+  CODE(tz_zone_place_at(&of_equal, -1, &place), TZ_OK);
+  EXPECT(place, 0);
+  CODE(tz_zone_place_at(&of_equal, 0, &place), TZ_OK);
+  EXPECT(place, 1);
+  CODE(tz_zone_place_at(&of_equal, 946684800, &place), TZ_OK);
+  EXPECT(place, 0);
+  CODE(tz_zone_place_at(&of_equal, 954032400, &place), TZ_OK);
+  EXPECT(place, 1);
 
   /* A zone that is over. */
   tz_parts over = made.zone.parts;
@@ -501,6 +651,9 @@ static void test_searches(void) {
   REFUSED(tz_find_one(&twice, TZ_REJECT, &made.zone, &meant), TZ_NO_DATE_TIME, meant);
   REFUSED(tz_find_one(&twice, 4, &made.zone, &meant), TZ_UNKNOWN_CHOICE, meant);
   REFUSED(tz_find_one(&none, TZ_REJECT, &made.zone, &meant), TZ_INVALID_MONTH_DAY, meant);
+  const tz_fields no_hour = fields_of(2001, 10, 28, 24, 0, 0, 0);
+  REFUSED(tz_find_n(&no_hour, &made.zone, 0, slots, 2, &count), TZ_INVALID_HOUR, slots);
+  REFUSED(tz_find_one(&no_hour, TZ_REJECT, &made.zone, &meant), TZ_INVALID_HOUR, meant);
 }
 
 /* A file of version 1 with one type. */
@@ -676,6 +829,7 @@ int main(int argc, char **argv) {
   test_utc();
   test_date_times();
   test_texts();
+  test_parsed_texts();
   test_error_texts();
   test_strings();
   test_settings();
@@ -684,6 +838,7 @@ int main(int argc, char **argv) {
   test_many_entries();
   test_searches();
   test_columns();
+  test_null();
   test_damaged_files();
   if (argc == 2) test_files(argv[1]);
   test_reached();

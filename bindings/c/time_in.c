@@ -6,15 +6,17 @@
 #include <time.h>
 
 int main(int argc, char **argv) {
-  static uint8_t bytes[65536];
+  static uint8_t bytes[1 << 20];
   char path[256];
   if (argc != 2) return fprintf(stderr, "usage: time_in NAME\n"), 2;
   int path_length = snprintf(path, sizeof path, "%s%s", argv[1][0] == '/' ? "" : "/usr/share/zoneinfo/", argv[1]);
   if (path_length < 0 || (size_t)path_length >= sizeof path) return fprintf(stderr, "too long a name\n"), 2;
   FILE *file = fopen(path, "rb");
   if (file == NULL) return perror(path), 1;
-  size_t length = fread(bytes, 1, sizeof bytes, file); /* a longer file is cut, and refused */
+  size_t length = fread(bytes, 1, sizeof bytes, file);
+  const bool is_whole = ferror(file) == 0 && fgetc(file) == EOF && ferror(file) == 0;
   fclose(file);
+  if (!is_whole) return fprintf(stderr, "%s cannot be read, or has more than %zu bytes\n", path, sizeof bytes), 1;
 
   tz_sizes sizes = {0};
   tz_rule rule = {0};

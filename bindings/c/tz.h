@@ -1,20 +1,24 @@
 /*
  * tz: Unix time to the local date and time of a time zone, and back.
  *
- * ABI number 1 (TZ_ABI).
+ * ABI number 2 (TZ_ABI).
  * Every call is proved against its contract (crates/tz_c). What a proof cannot see is that a caller keeps what is asked here:
  *
- * - Pointers. A pointer parameter is not null, aligned, and points to one value, or, if a length follows it, to that many. With length 0 it
- *   may be null. What a call writes overlaps nothing else that the call is given.
+ * - Pointers. A pointer, as a parameter or in a `tz_parts`, is not null, is aligned, and points to one value, or, if a length follows it, to that
+ *   many. With length 0 it may be null, in a `tz_parts` too.
+ * - Overlap. What a call writes overlaps nothing else that the call is given: no other parameter, and no table of a zone. What it only reads may
+ *   overlap.
  * - Values. A `bool` is 0 or 1. A `tz_local_time_type`, `tz_day`, `tz_alternate`, `tz_rule`, `tz_utc` or `tz_date_time` that a call reads is
  *   as a call wrote it, or a copy. All zeros are valid too, but for `tz_utc` and `tz_date_time`: there TZ_UTC_EPOCH and TZ_DATE_TIME_EPOCH are.
  * - What a call writes to holds all zeros or such a value before the call, so `= {0}` serves for every out parameter and every buffer. Texts,
  *   transitions, leap seconds, and columns of numbers may hold anything.
  * - Zones. The offsets of a `tz_zone` are those that `tz_zone_check` or `tz_file_read` wrote for its very parts, which stay as they are while
- *   the zone is used. Parts may lie in read-only memory, and any number of threads may read one zone.
+ *   the zone is used. If a table changes, or the offsets are others, a call that is given the zone has undefined behaviour: no call checks the parts
+ *   again. Parts may lie in read-only memory, and any number of threads may read one zone.
  *
- * A call returns TZ_OK or the code of an error. After an error everything that it was to write to is as it was. No call allocates but
- * `tz_file_read`, no call prints, blocks, calls back, or keeps a pointer.
+ * A call returns TZ_OK or the code of an error. After an error everything that it was to write to is as it was. Bytes of padding that a call writes
+ * have no meaning, and may be bytes of its stack: compare values by their fields, and write out none as bytes. No call allocates but `tz_file_read`,
+ * no call prints, blocks, calls back, or keeps a pointer.
  */
 #ifndef TZ_H
 #define TZ_H
@@ -27,8 +31,12 @@
 extern "C" {
 #endif
 
+/* The version, and as a number that can be compared: 1000000 * major + 1000 * minor + patch. */
+#define TZ_VERSION "0.7.3"
+#define TZ_VERSION_NUMBER 7003
+
 /* The number of this header's layout: the first number of `tz_layout`. */
-#define TZ_ABI 1
+#define TZ_ABI 2
 
 /* ---- Codes ---------------------------------------------------------------------------------------------------------------------------- */
 
@@ -116,6 +124,23 @@ enum {
   TZ_FILE_INVALID_DESIGNATION_CHAR_INDEX = 120,
   TZ_FILE_INVALID_STD_WALL_UT_LOCAL = 121,
   TZ_FILE_REMAINING_DATA_V1 = 122,
+
+  /* ParseDateTimeError, by the first part that the text does not have */
+  TZ_EXPECTED_YEAR = 128,               /* that fits an int32_t */
+  TZ_EXPECTED_HYPHEN = 129,
+  TZ_EXPECTED_MONTH = 130,
+  TZ_EXPECTED_MONTH_DAY = 131,
+  TZ_EXPECTED_SEPARATOR = 132,          /* `T`, `t` or a space */
+  TZ_EXPECTED_HOUR = 133,
+  TZ_EXPECTED_COLON = 134,
+  TZ_EXPECTED_MINUTE = 135,
+  TZ_EXPECTED_SECOND = 136,
+  TZ_EXPECTED_FRACTION = 137,           /* one to nine digits after a point */
+  TZ_EXPECTED_OFFSET = 138,             /* `Z`, `z`, a sign, or the end */
+  TZ_EXPECTED_OFFSET_HOUR = 139,
+  TZ_EXPECTED_OFFSET_MINUTE = 140,
+  TZ_EXPECTED_OFFSET_SECOND = 141,
+  TZ_EXPECTED_END = 142,
 
   /* Out of memory */
   TZ_MEMORY = 255
@@ -281,6 +306,13 @@ enum {
   TZ_FILE_OR_STRING = 2 /* that file, and if there is none the TZ string, which `tz_string_read` reads without white space at its ends */
 };
 
+/* What a text of a date time says. 32 bytes. With an offset it says an instant: `local.unix_time - ut_offset` in Unix seconds. */
+typedef struct tz_parsed {
+  tz_utc local;      /* the local time, as the date time of UTC with its fields */
+  int32_t ut_offset; /* in seconds, 0 for `Z` */
+  bool has_offset;   /* if not, `ut_offset` is 0 */
+} tz_parsed;
+
 /* Which date time a local time means. In a fold, where clocks go back: the first by TZ_COMPATIBLE and TZ_EARLIER, the last by TZ_LATER. In a gap, over
    which they jump: as much later as they jump by TZ_COMPATIBLE and TZ_LATER, as much earlier by TZ_EARLIER. By TZ_REJECT none, TZ_NO_DATE_TIME, in both. */
 enum { TZ_COMPATIBLE = 0, TZ_EARLIER = 1, TZ_LATER = 2, TZ_REJECT = 3 };
@@ -347,7 +379,7 @@ tz_code tz_zone_check(const tz_parts *parts, tz_offsets *offsets);
 tz_code tz_zone_type_at(const tz_zone *zone, int64_t unix_time, tz_local_time_type *out);
 
 /* The place of that type: below `types_length` that of a type of the list, `types_length` for the fixed type or standard time of the rule, and
-   one more for its daylight saving time. TZ_NO_AVAILABLE_LOCAL_TIME_TYPE, TZ_OUT_OF_RANGE. */
+   one more for its daylight saving time. If equal types stand at several places it is the first of these. TZ_NO_AVAILABLE_LOCAL_TIME_TYPE, TZ_OUT_OF_RANGE. */
 tz_code tz_zone_place_at(const tz_zone *zone, int64_t unix_time, size_t *place);
 
 /* The segment around an instant. Returns TZ_OK. */
@@ -359,7 +391,8 @@ tz_code tz_zone_following(const tz_zone *zone, int64_t unix_time, tz_change *out
 /* The last change before an instant. TZ_NO_CHANGE. */
 tz_code tz_zone_preceding(const tz_zone *zone, int64_t unix_time, tz_change *out);
 
-/* The leap time of an instant, and the least instant at which a leap time is reached. TZ_OUT_OF_RANGE. */
+/* The leap time of an instant, and the least instant at which a leap time is reached. TZ_OUT_OF_RANGE; of INT64_MIN `tz_zone_effect` always returns
+   that. */
 tz_code tz_zone_leap_time(const tz_zone *zone, int64_t unix_time, int64_t *leap_time);
 tz_code tz_zone_effect(const tz_zone *zone, int64_t leap_time, int64_t *unix_time);
 
@@ -369,10 +402,10 @@ tz_code tz_zone_effect(const tz_zone *zone, int64_t leap_time, int64_t *unix_tim
    TZ_INVALID_MONTH_DAY. */
 tz_code tz_utc_new(const tz_fields *fields, tz_utc *out);
 
-/* The date time of UTC at an instant. TZ_INVALID_NANOSECONDS, TZ_OUT_OF_RANGE. */
+/* The date time of UTC at an instant. TZ_INVALID_NANOSECONDS, or else TZ_OUT_OF_RANGE. */
 tz_code tz_utc_from_timespec(int64_t unix_time, uint32_t nanoseconds, tz_utc *out);
 
-/* The date time a duration later, or earlier. TZ_INVALID_NANOSECONDS, TZ_OUT_OF_RANGE. */
+/* The date time a duration later, or earlier. TZ_INVALID_NANOSECONDS, or else TZ_OUT_OF_RANGE. */
 tz_code tz_utc_add(const tz_utc *utc, uint64_t seconds, uint32_t nanoseconds, tz_utc *out);
 tz_code tz_utc_sub(const tz_utc *utc, uint64_t seconds, uint32_t nanoseconds, tz_utc *out);
 
@@ -387,11 +420,11 @@ uint16_t tz_date_time_year_day(const tz_date_time *date_time);
 /* The date time with these fields, which the type shows. The first field out of range by its code, TZ_INVALID_MONTH_DAY, TZ_OUT_OF_RANGE. */
 tz_code tz_date_time_new(const tz_fields *fields, const tz_local_time_type *local_time_type, tz_date_time *out);
 
-/* What the type shows at an instant. TZ_INVALID_NANOSECONDS, TZ_OUT_OF_RANGE. */
+/* What the type shows at an instant. TZ_INVALID_NANOSECONDS, or else TZ_OUT_OF_RANGE. */
 tz_code tz_date_time_from_timespec_and_local(int64_t unix_time, uint32_t nanoseconds, const tz_local_time_type *local_time_type,
                                              tz_date_time *out);
 
-/* What the zone's clock shows at an instant. TZ_INVALID_NANOSECONDS, the codes of `tz_zone_type_at`, TZ_OUT_OF_RANGE. */
+/* What the zone's clock shows at an instant. TZ_INVALID_NANOSECONDS, or else the codes of `tz_zone_type_at`, or else TZ_OUT_OF_RANGE. */
 tz_code tz_date_time_from_timespec(int64_t unix_time, uint32_t nanoseconds, const tz_zone *zone, tz_date_time *out);
 
 /* The date time of UTC at the same instant. TZ_OUT_OF_RANGE. */
@@ -412,7 +445,7 @@ tz_code tz_find_one(const tz_fields *fields, uint8_t choice, const tz_zone *zone
 
 /* Each of these calls answers a whole column. Place i of `codes` gets the code that the call for one value would return: if it is TZ_OK, place i of
    the column that is written to gets the value, and else stays as it is. All columns have one length: if they differ the call returns
-   TZ_BUFFER_LENGTH, and nothing is written. Instants may come in any order. Those in order are fastest, since a span of instants in which the clock
+   TZ_BUFFER_LENGTH, or TZ_UNKNOWN_CHOICE if the choice is unknown too, and nothing is written. Instants may come in any order. Those in order are fastest, since a span of instants in which the clock
    does not change is searched once, and the date of a day is found once. */
 
 /* The offsets of the zone's clock at instants, in seconds. Returns TZ_OK or TZ_BUFFER_LENGTH, and writes the codes of `tz_zone_type_at`. */
@@ -435,6 +468,10 @@ tz_code tz_column_instants(const tz_fields *fields, size_t fields_length, uint8_
 tz_code tz_utc_text(const tz_utc *utc, char *text, size_t text_length, size_t *length);
 tz_code tz_date_time_text(const tz_date_time *date_time, char *text, size_t text_length, size_t *length);
 
+/* What a text of a date time says, in the form of RFC 3339 (section 5.6), with years and offsets as these calls write them, and with or without an
+   offset: `2000-02-29T23:59:60.5+01:00`. The text is the whole, without white space at its ends. TZ_EXPECTED_... */
+tz_code tz_date_time_read(const char *text, size_t text_length, tz_parsed *out);
+
 /* What a code says, and its length: at most 128 bytes, and no zero follows them. TZ_UNKNOWN_CODE, TZ_BUFFER_LENGTH. */
 tz_code tz_error_text(tz_code code, char *text, size_t text_length, size_t *length);
 
@@ -442,8 +479,8 @@ tz_code tz_error_text(tz_code code, char *text, size_t text_length, size_t *leng
 
 /* TZ_ABI, and the sizes in bytes of the types above in their order: tz_local_time_type, tz_day, tz_alternate, tz_rule, tz_conflict,
    tz_transition, tz_leap_second, tz_parts, tz_offsets, tz_zone, tz_fields, tz_utc, tz_date_time, tz_found, tz_segment, tz_change, tz_sizes,
-   tz_setting. They are 19 numbers, TZ_LAYOUT_LENGTH. TZ_BUFFER_LENGTH if the buffer has another length. */
-#define TZ_LAYOUT_LENGTH 19
+   tz_setting, tz_parsed. They are 20 numbers, TZ_LAYOUT_LENGTH. TZ_BUFFER_LENGTH if the buffer has another length. */
+#define TZ_LAYOUT_LENGTH 20
 tz_code tz_layout(size_t *out, size_t out_length);
 
 #ifdef __cplusplus

@@ -20,6 +20,8 @@ class Package:
     # Crates of another package, and where they are.
     others: dict = field(default_factory=dict)
     std_paths: tuple = ()
+    # The file of the functions that C calls, if there are some.
+    exports: str = ""
 
     @property
     def modules(self):
@@ -31,6 +33,11 @@ class Package:
             return None
         crate, rest = re.fullmatch(r"crates/(\w+)/src/(.*)\.rt", source).groups()
         return f"{self.folder}/{crate}/{'mod' if rest == 'lib' else rest}.rs"
+
+    def module(self, source):
+        """The path of the module that is made of a source."""
+        crate, rest = re.fullmatch(r"crates/(\w+)/src/(.*)\.rt", source).groups()
+        return f"{self.path_of(crate)}::{rest.replace('/', '::')}"
 
     def path_of(self, crate):
         return f"{self.root}::{crate}"
@@ -70,6 +77,16 @@ PACKAGES = (
         },
         std_paths=STD,
     ),
+    # The C library, over the crate's inner calls.
+    Package(
+        folder="bindings/c/src/proved",
+        crates=("tz_c",),
+        root="crate::proved",
+        by_hand={"": "bindings/c/src/proved/mod.rs"},
+        others={name: f"tz::proved::{name}" for name in ("tz_base", "tz_rule", "tz_zone", "tz")},
+        std_paths=tuple((old, new.replace("crate::", "tz::")) for old, new in STD),
+        exports="bindings/c/src/exports.rs",
+    ),
     # The program's library, over the crate's inner calls.
     Package(
         folder="bindings/tzq/src/proved",
@@ -90,6 +107,18 @@ EXACT = {
     "crates/tz/src/datetime/utc_date_time.rt": (
         ("self.checked_add(duration).unwrap()", 'self.checked_add(duration).expect("attempt to add with overflow")'),
         ("self.checked_sub(duration).unwrap()", 'self.checked_sub(duration).expect("attempt to subtract with overflow")'),
+    ),
+    # Rust 1.85 has no condition with a pattern beside others, and no method for this cast.
+    "crates/tz_query/src/query/lines.rt": (
+        (
+            "bytes.len() >= 3\n        && let Some((number, end)) = read_small(bytes, 0)\n    {\n"
+            "        return Some((i64::from(number), &bytes[end..]));\n    }",
+            "bytes.len() >= 3 { if let Some((number, end)) = read_small(bytes, 0) {\n"
+            "        return Some((i64::from(number), &bytes[end..]));\n    } }",
+        ),
+    ),
+    "crates/tz_query/src/query/type_suffixes.rt": (
+        ("local_time_type.ut_offset().cast_unsigned()", "local_time_type.ut_offset() as u32"),
     ),
 }
 
@@ -113,6 +142,12 @@ LEFT_OUT = {
         "DateTime::listed_counted",
     },
     "crates/tz_zone/src/timezone/zone_ref.rt": {"TimeZoneRef::find_local_time_type_counted"},
+}
+
+# Structs whose fields the C library writes, from pointers.
+OPEN_FIELDS = {
+    "crates/tz_zone/src/timezone/zone_data.rt": ("ZoneData",),
+    "crates/tz_c/src/zones.rt": ("PartsData",),
 }
 
 # Errors to which variants are never added.

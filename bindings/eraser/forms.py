@@ -4,6 +4,7 @@ import re
 from . import erasure
 from .constant import made_constant
 from .cut import without_ghosts
+from .exports import with_open_fields, with_open_modules
 from .structure import functions_of, items_of
 from .tokens import OPEN, Stop, closing, edited, line_of, tokens_of
 
@@ -30,6 +31,9 @@ def erased(package, path, text):
     text = made_constant(path, text)
     text = with_bounds(path, text)
     text = with_paths(package, path, text)
+    text = with_open_fields(text, erasure.OPEN_FIELDS.get(path, ()))
+    if package.exports and path.endswith("/src/lib.rt"):
+        text = with_open_modules(text)
     return with_examples(path, text)
 
 
@@ -136,11 +140,11 @@ def with_derives(path, text):
 
     def derived(found):
         names = [it.strip() for it in found[1].split(",") if it.strip() not in ("Drop", "Error")]
-        return f"#[derive({', '.join(names)})]" if names else ""
+        return f"#[derive({', '.join(names)})]\n" if names else ""
 
     text = re.sub(r"#\[derive_where\(skip\(EqHashOrd\)\)\]\n?", "", text)
     text = text.replace("#[derive_where(", "#[derive(")
-    return re.sub(r"#\[derive\(([^)]*)\)\]", derived, text)
+    return re.sub(r"#\[derive\(([^)]*)\)\]\n", derived, text)
 
 
 def with_formatters(path, text):

@@ -34,7 +34,7 @@ pub mod proved;
 mod shim;
 #[cfg(feature = "inner")]
 #[doc(hidden)]
-#[allow(missing_docs)]
+#[allow(missing_docs, clippy::new_without_default)]
 pub mod shim;
 
 pub use datetime::{DateTime, UtcDateTime};

@@ -4,6 +4,7 @@
 #![forbid(unsafe_code)]
 
 #[allow(dead_code, unused_imports)]
+#[allow(clippy::all)]
 mod proved;
 mod shim;
 mod streams;

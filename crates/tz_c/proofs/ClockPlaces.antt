@@ -1,13 +1,14 @@
--- The type of a zone's clock stands in its list or in its rule.
-use Rattle.std.proofs.Common.{◌≡◌, ℕ, zero, suc, ◌+◌, ◌⊎◌, inl, inr, ℤ, sym, ap, refl, arith, List, [], ◌∷◌, ◌++◌, Option, Some, None, length}
+-- The type of a zone's clock stands in its list or in its rule, and where it stands first in both.
+use Rattle.std.proofs.Common.{◌≡◌, ◌≢◌, ℕ, zero, suc, ◌+◌, ◌<◌, ◌⊎◌, inl, inr, ℤ, sym, ap, refl, arith, List, [], ◌∷◌, ◌++◌, Option, Some, None, length}
 use Rattle.std.specs.Prelude.{slice_get}
+use Rattle.std.proofs.lemmas.Option.{slice_get_within}
 use Rattle.tz_rule.specs.LocalTimeType.{LocalTimeType}
 use Rattle.tz_rule.specs.Rule.{IsRuleType, types_of}
 use Rattle.tz_rule.specs.declared.timezone.transition_rule.TransitionRule.{TransitionRule}
 use Rattle.tz_rule.specs.declared.timezone.transition_rule.TransitionRule.TheVariants.{Fixed, Alternate}
 use Rattle.tz_zone.specs.Clock.{IsClock, IsTypeAfter, IsTypeWithout}
 use Rattle.tz_zone.specs.Table.{Zone}
-use Rattle.tz_c.specs.Places.{rule_types, Stands}
+use Rattle.tz_c.specs.Places.{IsFirstPlace, rule_types, Stands}
 
 rule_type : (rule : TransitionRule) (u : ℤ) (t : LocalTimeType) → IsRuleType rule u t → Stands (types_of rule) t
 unfolding IsRuleType
@@ -33,11 +34,41 @@ clock_type z u t = by_clock
     by_clock (inr (last, is_last, (l, leap, inr (reached, is)))) = inr (after z.extra_rule u t is)
 
 -- places in two lists, one after the other
-pub place_in_first : (xs ys : List LocalTimeType) (i : ℕ) (t : LocalTimeType) → slice_get xs i ≡ Some t → slice_get (xs ++ ys) i ≡ Some t
+place_in_first : (xs ys : List LocalTimeType) (i : ℕ) (t : LocalTimeType) → slice_get xs i ≡ Some t → slice_get (xs ++ ys) i ≡ Some t
 place_in_first [] ys i t at = absurd (cc)
 place_in_first (x ∷ xs) ys zero t at = at
 place_in_first (x ∷ xs) ys (suc i) t at = place_in_first xs ys i t at
 
-pub place_in_second : (xs ys : List LocalTimeType) (i : ℕ) (t : LocalTimeType) → slice_get ys i ≡ Some t → slice_get (xs ++ ys) (length xs + i) ≡ Some t
+place_in_second : (xs ys : List LocalTimeType) (i : ℕ) (t : LocalTimeType) → slice_get ys i ≡ Some t → slice_get (xs ++ ys) (length xs + i) ≡ Some t
 place_in_second [] ys i t at = let e : 0 + i ≡ i = omega arith in rw e at
 place_in_second (x ∷ xs) ys i t at = let e : length (x ∷ xs) + i ≡ suc (length xs + i) = omega arith in rw e (place_in_second xs ys i t at)
+
+-- a place of the first list is one in it alone
+back : (xs ys : List LocalTimeType) (k : ℕ) (t : LocalTimeType) → k < length xs
+    → slice_get (xs ++ ys) k ≡ Some t → slice_get xs k ≡ Some t
+back [] ys k t within at = absurd (omega (arith, within))
+back (x ∷ xs) ys zero t within at = at
+back (x ∷ xs) ys (suc k) t within at = back xs ys k t (omega (arith, within)) at
+
+pub first_in_first : (xs ys : List LocalTimeType) (i : ℕ) (t : LocalTimeType)
+    → IsFirstPlace xs t i → IsFirstPlace (xs ++ ys) t i
+first_in_first xs ys i t is = record {
+  at = place_in_first xs ys i t is.at;
+  first = λ k less at. is.first k less
+      (back xs ys k t (omega (arith, less, slice_get_within xs i t is.at)) at);
+}
+
+-- no place of the first list has the type, nor one of the second before the first there
+none_before : (xs ys : List LocalTimeType) (i : ℕ) (t : LocalTimeType) → ((k : ℕ) → slice_get xs k ≢ Some t)
+    → ((k : ℕ) → k < i → slice_get ys k ≢ Some t) → (k : ℕ) → k < length xs + i → slice_get (xs ++ ys) k ≢ Some t
+none_before [] ys i t none first k less at = first k (omega (arith, less)) at
+none_before (x ∷ xs) ys i t none first zero less at = none 0 at
+none_before (x ∷ xs) ys i t none first (suc k) less at =
+    none_before xs ys i t (λ j. none (suc j)) first k (omega (arith, less)) at
+
+pub first_in_second : (xs ys : List LocalTimeType) (i : ℕ) (t : LocalTimeType) → ((k : ℕ) → slice_get xs k ≢ Some t)
+    → IsFirstPlace ys t i → IsFirstPlace (xs ++ ys) t (length xs + i)
+first_in_second xs ys i t none is = record {
+  at = place_in_second xs ys i t is.at;
+  first = none_before xs ys i t none is.first;
+}

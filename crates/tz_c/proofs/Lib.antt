@@ -1,3 +1,4 @@
 pub mod AnswersInTurn
 pub mod ClockPlaces
 pub mod DaySeconds
+pub mod CodeTexts

@@ -12,7 +12,7 @@ use Rattle.tz.specs.Meanings.{IsMeaning, IsMeaningFault}
 use Rattle.tz.specs.declared.datetime.disambiguation.Disambiguation.{Disambiguation}
 use Rattle.tz.specs.declared.datetime.date_time_data.DateTimeData.{DateTimeData}
 use Rattle.tz_c.specs.Codes.{IsAnswer, IsAnswerOr, buffer_length, code_of, no_date_time, unknown_choice}
-use Rattle.tz_c.specs.DateTimes.{IsDateTimeDataOf}
+use Rattle.tz_c.specs.DateTimes.{CanBeSearched, IsDateTimeDataOf}
 use Rattle.tz_c.specs.declared.columns.Day.{Day}
 
 -- a day, by its date, and its first reading
@@ -54,8 +54,9 @@ IsDateTimeAt z unix_times nanoseconds i code written =
 -- the instant of the date time that fields mean by a choice, or none is meant, or there is a fault
 abbrev pub IsInstantAnswer : Zone → Disambiguation → Fields → ℕ → ℤ → Type 0
 IsInstantAnswer z choice f code u =
-    ((code ≡ 0) × ((d : DateTime) × IsMeaning z choice f (Some d) × (u ≡ d.unix_time)))
-    ⊎ ((code ≡ no_date_time) × IsMeaning z choice f None)
+    ((code ≡ 0) × CanBeSearched z f
+    × ((d : DateTime) × IsMeaning z choice f (Some d) × (u ≡ d.unix_time)))
+    ⊎ ((code ≡ no_date_time) × CanBeSearched z f × IsMeaning z choice f None)
     ⊎ ((e : TzError) × (code ≡ code_of e) × IsMeaningFault z choice f e)
 
 -- the instant that the fields of the place mean

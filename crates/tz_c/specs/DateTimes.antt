@@ -4,10 +4,12 @@ use Rattle.tz_base.specs.declared.fields.Fields.{Fields}
 use Rattle.tz_base.specs.declared.error.tz_error.TzError.{TzError}
 use Rattle.tz_base.specs.declared.error.tz_error.TzError.TheVariants as faults
 use Rattle.tz_base.specs.declared.error.datetime.DateTimeError.TheVariants as field_faults
-use Rattle.tz_base.specs.Fields.{reading}
+use Rattle.tz_base.specs.Fields.{reading, IsValid}
 use Rattle.tz_rule.specs.LocalTimeType.{LocalTimeType}
+use Rattle.tz_zone.specs.Clock.{IsClock}
 use Rattle.tz_zone.specs.Table.{Zone}
 use Rattle.tz.specs.DateTimes.{DateTime, IsDateTime, IsUtcTotal}
+use Rattle.tz.specs.Found.{EachCanBeMade}
 use Rattle.tz.specs.Meanings.{IsMeaning, IsMeaningFault}
 use Rattle.tz.specs.Plain.{IsUtcData, date_time_of}
 use Rattle.tz.specs.declared.datetime.disambiguation.Disambiguation.{Disambiguation}
@@ -42,11 +44,15 @@ choice_of (suc (suc zero)) = Some Later
 choice_of (suc (suc (suc zero))) = Some Reject
 choice_of (suc (suc (suc (suc _)))) = None
 
+-- a search for the fields is not refused: they are valid, and each entry that they have can be made
+abbrev pub CanBeSearched : Zone → Fields → Type 0
+CanBeSearched z f = IsValid f × EachCanBeMade (IsClock z) f
+
 -- what fields mean by a choice: a date time is written, or none is meant, or there is a fault
 abbrev pub IsMeaningAnswer : Zone → Disambiguation → Fields → ℕ → DateTimeData → Type 0
 IsMeaningAnswer z choice f code written =
-    ((code ≡ 0) × IsDateTimeDataOf (λ d. IsMeaning z choice f (Some d)) written)
-    ⊎ ((code ≡ no_date_time) × IsMeaning z choice f None)
+    ((code ≡ 0) × CanBeSearched z f × IsDateTimeDataOf (λ d. IsMeaning z choice f (Some d)) written)
+    ⊎ ((code ≡ no_date_time) × CanBeSearched z f × IsMeaning z choice f None)
     ⊎ ((e : TzError) × (code ≡ code_of e) × IsMeaningFault z choice f e)
 
 -- the same by the number of a choice

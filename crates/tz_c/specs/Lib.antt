@@ -1,7 +1,10 @@
 pub mod Codes
 pub mod Columns
+pub mod DateTimeTexts
 pub mod DateTimes
+pub mod ErrorTexts
 pub mod Files
+pub mod Layout
 pub mod Places
 pub mod Rules
 pub mod Settings

@@ -1,5 +1,5 @@
 -- Where a type of a zone stands among its types: those of the list, and after them those of its rule.
-use Rattle.std.specs.Prelude.{◌≡◌, ℕ, ℤ, List, [], ◌++◌, Option, Some, None, slice_get}
+use Rattle.std.specs.Prelude.{◌≡◌, ◌≢◌, ℕ, ◌<◌, ℤ, List, [], ◌++◌, Option, Some, None, slice_get}
 use Rattle.tz_rule.specs.LocalTimeType.{LocalTimeType}
 use Rattle.tz_rule.specs.Rule.{types_of}
 use Rattle.tz_rule.specs.declared.timezone.transition_rule.TransitionRule.{TransitionRule}
@@ -15,6 +15,12 @@ rule_types (Some rule) = types_of rule
 abbrev pub Stands : List LocalTimeType → LocalTimeType → Type 0
 Stands types t = (i : ℕ) × (slice_get types i ≡ Some t)
 
--- the type at the place is that of the zone's clock at an instant
+-- the first place of the type in a list
+pub record IsFirstPlace (types : List LocalTimeType) (t : LocalTimeType) (place : ℕ) : Type 0 where
+  pub at : slice_get types place ≡ Some t
+  pub first : (k : ℕ) → k < place → slice_get types k ≢ Some t
+
+-- the place is the first of the type that the zone's clock has at an instant
 abbrev pub IsClockPlace : Zone → ℤ → ℕ → Type 0
-IsClockPlace z u place = (t : LocalTimeType) × IsClock z u t × (slice_get (z.types ++ rule_types z.extra_rule) place ≡ Some t)
+IsClockPlace z u place =
+    (t : LocalTimeType) × IsClock z u t × IsFirstPlace (z.types ++ rule_types z.extra_rule) t place

@@ -1,6 +1,7 @@
 -- What the reader of TZif files answers.
-use Rattle.std.specs.Prelude.{◌≡◌, ◌⊎◌, ℕ, List, length}
+use Rattle.std.specs.Prelude.{◌≡◌, ◌⊎◌, ℕ, List, length, alloc_error}
 use Rattle.tz_base.specs.declared.error.tz_error.TzError.{TzError}
+use Rattle.tz_base.specs.declared.error.tz_error.TzError.TheVariants.{Memory}
 use Rattle.tz_rule.specs.LocalTimeType.{LocalTimeType}
 use Rattle.tz_rule.specs.RuleData.{rule_given}
 use Rattle.tz_rule.specs.declared.timezone.rule_data.RuleData.{RuleData}
@@ -27,3 +28,10 @@ IsReadAnswer bytes code z offsets =
     ((code ≡ 0) × IsTzFile bytes z × AreEndOffsets z offsets.least offsets.greatest)
     ⊎ ((code ≡ buffer_length) × ((zone : Zone) × IsTzFile bytes zone × ¬ HaveSameLengths zone z))
     ⊎ ((e : TzError) × (code ≡ code_of e) × IsReadFault bytes e)
+
+-- nothing but this is answered for a file of a zone: it is written, or its tables have other lengths than the slices, or memory is out
+abbrev pub IsOnlyReadAnswer : Zone → ℕ → Zone → Type 0
+IsOnlyReadAnswer zone code z =
+    ((code ≡ 0) × (z ≡ zone))
+    ⊎ ((code ≡ buffer_length) × ¬ HaveSameLengths zone z)
+    ⊎ (code ≡ code_of (Memory alloc_error))

@@ -1,5 +1,6 @@
 -- Zones, segments and changes as plain data.
-use Rattle.std.specs.Prelude.{Some, None, if◌then◌else◌}
+use Rattle.std.specs.Prelude.{◌≡◌, false, pos, Some, None, if◌then◌else◌}
+use Rattle.tz_rule.specs.LocalTimeType.{plain_type}
 use Rattle.tz_zone.specs.Changes.{Segment, Change}
 use Rattle.tz_zone.specs.Table.{Zone, zone_with}
 use Rattle.tz_zone.specs.ZoneSeen.{rule_of_lists}
@@ -14,6 +15,10 @@ zone_of_parts p = zone_with p.transitions.now p.local_time_types.now p.leap_seco
 -- the segment that is written
 abbrev pub segment_written : SegmentData → Segment
 segment_written s = record { from = s.from; last = s.last; local_time_type = if s.has_type then Some s.local_time_type else None }
+
+-- a segment without a type has UTC's without a name, whose bytes are zero
+abbrev pub HasZerosWithoutType : SegmentData → Type 0
+HasZerosWithoutType s = s.has_type ≡ false → s.local_time_type ≡ plain_type (pos 0)
 
 -- the change that is written
 abbrev pub change_written : ChangeData → Change

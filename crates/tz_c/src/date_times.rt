@@ -2,7 +2,7 @@
 
 ghost use Rattle.std.specs.Prelude.{◌≡◌, ◌≢◌, ◌+ℤ◌, ◌-ℤ◌, pos};
 ghost use Rattle.tz_base.specs.Days.{week_day_of, first_day};
-ghost use Rattle.tz_base.specs.Fields.{IsCivil, IsReading, day_of};
+ghost use Rattle.tz_base.specs.Fields.{IsCivil, IsReading, day_of, reading};
 ghost use Rattle.tz_base.specs.declared.error.tz_error.TzError.TheVariants as faults;
 ghost use Rattle.tz.specs.DateTimes.{IsLocalFault, IsShowFault, IsClockFault, ShowsByClock, ShowsInstant};
 ghost use Rattle.tz_zone.specs.ZoneOfData.{zone_of_data};
@@ -24,6 +24,7 @@ pub extern "C" fn tz_date_time_new(
     out: &mut DateTimeData,
 ) -> u32
     ensures answer { IsAnswer result (IsDateTimeDataOf (λ d. d ≡ shown_by fields.now local_time_type.now) out.new) (IsLocalFault fields.now local_time_type.now.ut_offset) }
+    ensures instant { result ≡ 0 → IsReading (reading fields.now -ℤ local_time_type.now.ut_offset) }
     ensures kept { result ≢ 0 → out.new ≡ out.old }
 {
     match DateTime::new(

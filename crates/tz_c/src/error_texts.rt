@@ -1,21 +1,24 @@
 //! Texts of codes.
 
-ghost use Rattle.std.specs.Prelude.{◌≡◌, ◌≢◌, ◌≤◌, ◌++◌, ℕ, List, drop, length};
+ghost use Rattle.std.specs.Prelude.{◌≡◌, ◌≢◌, ◌≤◌, List, ℕ, MatchOption, None, Some, length};
+ghost use Rattle.tz_base.specs.declared.error.tz_error.TzError.{TzError};
+ghost use Rattle.tz.specs.declared.parse.error.DateTimePart.{DateTimePart};
+ghost use Rattle.tz_c.specs.Codes.{code_of};
+ghost use Rattle.tz_c.specs.DateTimeTexts.{part_code};
+ghost use Rattle.tz_c.specs.ErrorTexts.{IsCodeTextAnswer, error_text, expected_text, text_of_code};
+ghost use Rattle.tz_c.specs.Texts.{IsTextAnswer};
 
-use crate::codes::{BUFFER_LENGTH, UNKNOWN_CODE};
+use crate::codes::UNKNOWN_CODE;
 use crate::texts::write_text;
-use arrayvec::ArrayString;
-use std::alloc::AllocError;
-use std::fmt::Write;
-use tz_base::error::TzError;
-use tz_base::error::datetime::DateTimeError;
-use tz_base::error::parse::{ParseDataError, TzFileError, TzStringError};
-use tz_base::error::timezone::{LocalTimeTypeError, TimeZoneError, TransitionRuleError};
 
-/// The text of a code that is none of an error of the library, or of an error that holds more than the code says.
-fn own_text(code: u32) -> Option<&'static str> {
+/// The text of a code. That of an error is what `Display` prints, without a place: a code has none.
+fn text_of(code: u32) -> Option<&'static str>
+    ensures { MatchOption result (text_of_code code ≡ None) (λ text. text_of_code code ≡ Some text.now) }
+{
     match code {
         0 => Some("no error"),
+        1 => Some("out of range operation"),
+        2 => Some("no local time type is available for the specified timestamp"),
         3 => Some("no rule is given"),
         4 => Some("the clock does not change"),
         5 => Some("the local time means no date time"),
@@ -24,131 +27,99 @@ fn own_text(code: u32) -> Option<&'static str> {
         8 => Some("a buffer has the wrong length"),
         9 => Some("unknown choice"),
         10 => Some("unknown code"),
+        16 => Some("invalid date time: invalid month"),
+        17 => Some("invalid date time: invalid month day"),
+        18 => Some("invalid date time: invalid hour"),
+        19 => Some("invalid date time: invalid minute"),
+        20 => Some("invalid date time: invalid second"),
+        21 => Some("invalid date time: invalid nanoseconds"),
+        32 => {
+            Some(
+                "invalid local time type: time zone designation must have between 3 and 7 characters",
+            )
+        }
+        33 => Some("invalid local time type: invalid characters in time zone designation"),
+        34 => Some("invalid local time type: invalid UTC offset"),
+        48 => Some("invalid transition rule: invalid rule day julian day"),
+        49 => Some("invalid transition rule: invalid rule day month"),
+        50 => Some("invalid transition rule: invalid rule day week"),
+        51 => Some("invalid transition rule: invalid rule day week day"),
+        52 => Some("invalid transition rule: invalid standard time UTC offset"),
+        53 => Some("invalid transition rule: invalid Daylight Saving Time UTC offset"),
+        54 => Some("invalid transition rule: invalid DST start or end time"),
+        55 => {
+            Some(
+                "invalid transition rule: DST transition rules are not consistent from one year to another",
+            )
+        }
+        64 => Some("invalid time zone: list of local time types must not be empty"),
+        65 => Some("invalid time zone: invalid local time type index"),
+        66 => Some("invalid time zone: invalid transition"),
+        67 => Some("invalid time zone: invalid leap second"),
+        68 => {
+            Some(
+                "invalid time zone: extra transition rule is inconsistent with the last transition",
+            )
+        }
         80 => Some("invalid TZ string: invalid UTF-8"),
+        81 => Some("invalid TZ string: cannot parse integer from empty string"),
+        82 => Some("invalid TZ string: unexpected end of data"),
+        83 => Some("invalid TZ string: invalid data"),
+        84 => Some("invalid TZ string: invalid offset hour"),
+        85 => Some("invalid TZ string: invalid offset minute"),
+        86 => Some("invalid TZ string: invalid offset second"),
+        87 => Some("invalid TZ string: invalid day time hour"),
+        88 => Some("invalid TZ string: invalid day time minute"),
+        89 => Some("invalid TZ string: invalid day time second"),
+        90 => Some("invalid TZ string: missing DST start and end rules"),
+        91 => Some("invalid TZ string: remaining data after parsing TZ string"),
+        92 => Some("invalid TZ string: empty TZ string"),
+        93 => Some("invalid TZ string: number too large to fit in target type"),
         112 => Some("invalid TZ file: invalid UTF-8"),
+        113 => Some("invalid TZ file: unexpected end of data"),
+        114 => Some("invalid TZ file: invalid data"),
+        115 => Some("invalid TZ file: invalid magic number"),
+        116 => Some("invalid TZ file: unsupported TZ file version"),
+        117 => Some("invalid TZ file: invalid header"),
+        118 => Some("invalid TZ file: invalid footer"),
+        119 => Some("invalid TZ file: invalid DST indicator"),
+        120 => Some("invalid TZ file: invalid time zone designation char index"),
+        121 => Some("invalid TZ file: invalid couple of standard/wall and UT/local indicators"),
+        122 => Some("invalid TZ file: remaining data after the end of a TZif v1 data block"),
+        128 => Some("expected a year of four digits or more"),
+        129 => Some("expected `-`"),
+        130 => Some("expected a month from 01 to 12"),
+        131 => Some("expected a day of the month"),
+        132 => Some("expected `T` or a space"),
+        133 => Some("expected an hour from 00 to 23"),
+        134 => Some("expected `:`"),
+        135 => Some("expected a minute from 00 to 59"),
+        136 => Some("expected a second from 00 to 60"),
+        137 => Some("expected a fraction of one to nine digits"),
+        138 => Some("expected `Z`, the sign of an offset or the end"),
+        139 => Some("expected the hours of an offset in two digits"),
+        140 => Some("expected the minutes of an offset from 00 to 59"),
+        141 => Some("expected the seconds of an offset from 00 to 59"),
+        142 => Some("expected the end"),
+        255 => Some("no memory"),
         _ => None,
     }
 }
 
-/// The error of fields with a code.
-fn fields_error(code: u32) -> Option<DateTimeError> {
-    match code {
-        16 => Some(DateTimeError::InvalidMonth),
-        17 => Some(DateTimeError::InvalidMonthDay),
-        18 => Some(DateTimeError::InvalidHour),
-        19 => Some(DateTimeError::InvalidMinute),
-        20 => Some(DateTimeError::InvalidSecond),
-        21 => Some(DateTimeError::InvalidNanoseconds),
-        _ => None,
-    }
-}
-
-/// The error of a local time type with a code.
-fn type_error(code: u32) -> Option<LocalTimeTypeError> {
-    match code {
-        32 => Some(LocalTimeTypeError::InvalidTimeZoneDesignationLength),
-        33 => Some(LocalTimeTypeError::InvalidTimeZoneDesignationChar),
-        34 => Some(LocalTimeTypeError::InvalidUtcOffset),
-        _ => None,
-    }
-}
-
-/// The error of a rule with a code.
-fn rule_error(code: u32) -> Option<TransitionRuleError> {
-    match code {
-        48 => Some(TransitionRuleError::InvalidRuleDayJulianDay),
-        49 => Some(TransitionRuleError::InvalidRuleDayMonth),
-        50 => Some(TransitionRuleError::InvalidRuleDayWeek),
-        51 => Some(TransitionRuleError::InvalidRuleDayWeekDay),
-        52 => Some(TransitionRuleError::InvalidStdUtcOffset),
-        53 => Some(TransitionRuleError::InvalidDstUtcOffset),
-        54 => Some(TransitionRuleError::InvalidDstStartEndTime),
-        55 => Some(TransitionRuleError::InconsistentRule),
-        _ => None,
-    }
-}
-
-/// The error of a zone with a code.
-fn zone_error(code: u32) -> Option<TimeZoneError> {
-    match code {
-        64 => Some(TimeZoneError::NoLocalTimeType),
-        65 => Some(TimeZoneError::InvalidLocalTimeTypeIndex),
-        66 => Some(TimeZoneError::InvalidTransition),
-        67 => Some(TimeZoneError::InvalidLeapSecond),
-        68 => Some(TimeZoneError::InconsistentExtraRule),
-        _ => None,
-    }
-}
-
-/// The error of a TZ string with a code.
-fn string_error(code: u32) -> Option<TzStringError> {
-    match code {
-        81 => Some(TzStringError::ParseInt("".parse::<u8>().err()?)),
-        82 => Some(TzStringError::ParseData(ParseDataError::UnexpectedEof)),
-        83 => Some(TzStringError::ParseData(ParseDataError::InvalidData)),
-        84 => Some(TzStringError::InvalidOffsetHour),
-        85 => Some(TzStringError::InvalidOffsetMinute),
-        86 => Some(TzStringError::InvalidOffsetSecond),
-        87 => Some(TzStringError::InvalidDayTimeHour),
-        88 => Some(TzStringError::InvalidDayTimeMinute),
-        89 => Some(TzStringError::InvalidDayTimeSecond),
-        90 => Some(TzStringError::MissingDstStartEndRules),
-        91 => Some(TzStringError::RemainingData),
-        92 => Some(TzStringError::Empty),
-        93 => Some(TzStringError::ParseInt("256".parse::<u8>().err()?)),
-        _ => None,
-    }
-}
-
-/// The error of a file with a code.
-fn file_error(code: u32) -> Option<TzFileError> {
-    match code {
-        113 => Some(TzFileError::ParseData(ParseDataError::UnexpectedEof)),
-        114 => Some(TzFileError::ParseData(ParseDataError::InvalidData)),
-        115 => Some(TzFileError::InvalidMagicNumber),
-        116 => Some(TzFileError::UnsupportedTzFileVersion),
-        117 => Some(TzFileError::InvalidHeader),
-        118 => Some(TzFileError::InvalidFooter),
-        119 => Some(TzFileError::InvalidDstIndicator),
-        120 => Some(TzFileError::InvalidTimeZoneDesignationCharIndex),
-        121 => Some(TzFileError::InvalidStdWallUtLocal),
-        122 => Some(TzFileError::RemainingDataV1),
-        _ => None,
-    }
-}
-
-/// The error of the library with a code.
-fn error_of(code: u32) -> Option<TzError> {
-    match code {
-        1 => Some(TzError::OutOfRange),
-        2 => Some(TzError::NoAvailableLocalTimeType),
-        16..=21 => Some(TzError::DateTime(fields_error(code)?)),
-        32..=34 => Some(TzError::LocalTimeType(type_error(code)?)),
-        48..=55 => Some(TzError::TransitionRule(rule_error(code)?)),
-        64..=68 => Some(TzError::TimeZone(zone_error(code)?)),
-        80..=93 => Some(TzError::TzString(string_error(code)?)),
-        112..=122 => Some(TzError::TzFile(file_error(code)?)),
-        255 => Some(TzError::Memory(AllocError)),
-        _ => None,
-    }
-}
-
-/// What a code says: the text of its error, as `Display` prints it.
+/// What a code says.
 #[unsafe(no_mangle)]
 pub extern "C" fn tz_error_text(code: u32, text: &mut [u8], len: &mut usize) -> u32
-    ensures given { result ≡ 0 → (given : List ℕ) × (length given ≤ length text.old) × (text.new ≡ given ++ drop (length given) text.old) × (len.new ≡ length given) }
+    ensures answer { IsCodeTextAnswer (text_of_code code) result text.old text.new len.new }
+    ensures error { (e : TzError) → code_of e ≡ code
+        → IsTextAnswer (error_text e) result text.old text.new len.new }
+    ensures part { (p : DateTimePart) → part_code p ≡ code
+        → IsTextAnswer (expected_text p) result text.old text.new len.new }
+    ensures most { (given : List ℕ) → text_of_code code ≡ Some given → length given ≤ 128 }
     ensures text_kept { result ≢ 0 → text.new ≡ text.old }
     ensures len_kept { result ≢ 0 → len.new ≡ len.old }
 {
-    if let Some(own) = own_text(code) {
-        return write_text(own.as_bytes(), text, len);
-    }
-    let Some(error) = error_of(code) else {
-        return UNKNOWN_CODE;
-    };
-    let mut line = ArrayString::<128>::new();
-    match write!(line, "{error}") {
-        Ok(()) => write_text(line.as_str().as_bytes(), text, len),
-        Err(_) => BUFFER_LENGTH,
+    match text_of(code) {
+        Some(given) => write_text(given.as_bytes(), text, len),
+        None => UNKNOWN_CODE,
     }
 }

@@ -1,14 +1,17 @@
 //! TZif files and TZ strings.
 
-ghost use Rattle.std.specs.Prelude.{◌≡◌, ◌≢◌};
+ghost use Rattle.std.specs.Prelude.{◌≡◌, ◌≢◌, Some};
+ghost use Rattle.tz_rule.specs.RuleData.{rule_given};
+ghost use Rattle.tz_rule.specs.declared.timezone.transition_rule.TransitionRule.{TransitionRule};
 ghost use Rattle.tz_zone.specs.FileSizes.{AreSizesOf};
-ghost use Rattle.tz_zone.specs.TzFile.{IsFramed};
+ghost use Rattle.tz_zone.specs.Table.{Zone};
+ghost use Rattle.tz_zone.specs.TzFile.{IsFramed, IsTzFile};
 ghost use Rattle.tz_zone.specs.TzFileFault.{FrameFails};
 ghost use Rattle.tz_zone.specs.TzText.{IsTzText};
 ghost use Rattle.tz_zone.specs.TzTextFault.{IsTzTextFault};
 ghost use Rattle.tz_c.specs.Codes.{IsAnswer, IsAnswerBy, file_code};
 ghost use Rattle.tz_c.specs.Files.{GivesTextRule};
-ghost use Rattle.tz_c.specs.Tables.{IsReadAnswer, zone_written};
+ghost use Rattle.tz_c.specs.Tables.{IsOnlyReadAnswer, IsReadAnswer, zone_written};
 
 use crate::codes::{BUFFER_LENGTH, OK, code_of, file_code};
 use crate::zones::OffsetsData;
@@ -45,6 +48,8 @@ pub extern "C" fn tz_file_read(
     out: &mut OffsetsData,
 ) -> u32
     ensures answer { IsReadAnswer bytes.now result (zone_written transitions.new local_time_types.new leap_seconds.new rule.new) out.new }
+    ensures only { (zone : Zone) → IsTzFile bytes.now zone
+        → IsOnlyReadAnswer zone result (zone_written transitions.new local_time_types.new leap_seconds.new rule.new) }
     ensures transitions_kept { result ≢ 0 → transitions.new ≡ transitions.old }
     ensures types_kept { result ≢ 0 → local_time_types.new ≡ local_time_types.old }
     ensures leap_seconds_kept { result ≢ 0 → leap_seconds.new ≡ leap_seconds.old }
@@ -76,6 +81,8 @@ pub extern "C" fn tz_file_read(
 #[unsafe(no_mangle)]
 pub extern "C" fn tz_string_read(text: &[u8], is_extended: bool, out: &mut RuleData) -> u32
     ensures answer { IsAnswer result (GivesTextRule is_extended text.now out.new) (IsTzTextFault is_extended text.now) }
+    ensures only { (rule : TransitionRule) → IsTzText is_extended text.now rule
+        → (result ≡ 0) × (rule_given out.new ≡ Some rule) }
     ensures kept { result ≢ 0 → out.new ≡ out.old }
 {
     match parse_posix_tz(text, is_extended) {

@@ -2,8 +2,10 @@
 
 ghost use Rattle.std.specs.Prelude.{◌≡◌, ◌≢◌, length};
 ghost use Rattle.tz_c.specs.Codes.{buffer_length};
+ghost use Rattle.tz_c.specs.Layout.{layout};
 
 use crate::codes::{BUFFER_LENGTH, OK};
+use crate::date_time_texts::ParsedData;
 use crate::rules::ConflictData;
 use crate::settings::SettingData;
 use crate::zones::{ChangeData, OffsetsData, PartsData, SegmentData};
@@ -14,8 +16,8 @@ use tz_zone::inner::{FileSizes, ZoneData};
 use tz_zone::timezone::{LeapSecond, Transition};
 
 /// The number of the layout, and the sizes in the order of the header.
-const LAYOUT: [usize; 19] = [
-    1,
+const LAYOUT: [usize; 20] = [
+    2,
     size_of::<LocalTimeType>(),
     size_of::<DayData>(),
     size_of::<AlternateData>(),
@@ -34,13 +36,14 @@ const LAYOUT: [usize; 19] = [
     size_of::<ChangeData>(),
     size_of::<FileSizes>(),
     size_of::<SettingData>(),
+    size_of::<ParsedData>(),
 ];
 
 /// The number of the layout, and the sizes of the types that cross.
 #[unsafe(no_mangle)]
 pub extern "C" fn tz_layout(out: &mut [usize]) -> u32
-    ensures ok { result ≡ 0 → out.new ≡ LAYOUT }
-    ensures other { result ≢ 0 → (result ≡ buffer_length) × (length out.old ≢ 19) × (out.new ≡ out.old) }
+    ensures ok { result ≡ 0 → out.new ≡ layout }
+    ensures other { result ≢ 0 → (result ≡ buffer_length) × (length out.old ≢ 20) × (out.new ≡ out.old) }
 {
     if out.len() != LAYOUT.len() {
         return BUFFER_LENGTH;

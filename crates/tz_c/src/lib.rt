@@ -3,6 +3,7 @@
 
 mod codes;
 mod columns;
+mod date_time_texts;
 mod date_times;
 mod error_texts;
 mod files;

@@ -5,7 +5,7 @@ ghost use Rattle.tz_zone.specs.Clock.{IsLookupFault};
 ghost use Rattle.tz_zone.specs.ZoneSeen.{lent_rule};
 ghost use Rattle.tz_zone.specs.ZoneOfData.{zone_of_data};
 ghost use Rattle.tz_c.specs.Codes.{IsAnswer};
-ghost use Rattle.tz_c.specs.Places.{IsClockPlace, Stands, rule_types};
+ghost use Rattle.tz_c.specs.Places.{IsClockPlace, IsFirstPlace, Stands, rule_types};
 
 use crate::codes::{OK, code_of};
 use tz_rule::inner::RuleRef;
@@ -14,7 +14,8 @@ use tz_zone::inner::ZoneData;
 
 /// The first place of a type in a list.
 fn place_in(types: &[LocalTimeType], local_time_type: &LocalTimeType) -> Option<usize>
-    ensures { MatchOption result ((k : ℕ) → slice_get types.now k ≢ Some local_time_type.now) (λ i. slice_get types.now i ≡ Some local_time_type.now) }
+    ensures { MatchOption result ((k : ℕ) → slice_get types.now k ≢ Some local_time_type.now)
+        (IsFirstPlace types.now local_time_type.now) }
 {
     for place in 0..types.len() {
         if types[place] == *local_time_type {
@@ -24,10 +25,10 @@ fn place_in(types: &[LocalTimeType], local_time_type: &LocalTimeType) -> Option<
     None
 }
 
-/// The place of one of a rule's types among them.
+/// The first place of one of a rule's types among them.
 fn place_in_rule(rule: Option<RuleRef<'_>>, local_time_type: &LocalTimeType) -> usize
     requires { Stands (rule_types (lent_rule rule)) local_time_type.now }
-    ensures place { slice_get (rule_types (lent_rule rule.entry)) result ≡ Some local_time_type.now }
+    ensures place { IsFirstPlace (rule_types (lent_rule rule.entry)) local_time_type.now result }
     ensures bound { result < 2 }
 {
     match rule {
@@ -36,10 +37,11 @@ fn place_in_rule(rule: Option<RuleRef<'_>>, local_time_type: &LocalTimeType) -> 
     }
 }
 
-/// The place of one of a zone's types among those of its list and of its rule.
+/// The first place of one of a zone's types among those of its list and of its rule.
 fn place_of(zone: &ZoneData<'_>, local_time_type: &LocalTimeType) -> usize
     requires { Stands (zone_of_data zone.now).types local_time_type.now ⊎ Stands (rule_types (zone_of_data zone.now).extra_rule) local_time_type.now }
-    ensures { slice_get ((zone_of_data zone.now).types ++ rule_types (zone_of_data zone.now).extra_rule) result ≡ Some local_time_type.now }
+    ensures { IsFirstPlace ((zone_of_data zone.now).types ++ rule_types (zone_of_data zone.now).extra_rule)
+        local_time_type.now result }
 {
     let parts = zone.other_parts();
     match place_in(parts.local_time_types, local_time_type) {

@@ -8,7 +8,7 @@ ghost use Rattle.tz.specs.Found.{IsFound};
 ghost use Rattle.tz.specs.Plain.{entries_from, placed};
 ghost use Rattle.tz.specs.declared.datetime.found.FoundDateTimeKind.{FoundDateTimeKind};
 ghost use Rattle.tz_c.specs.Codes.{IsAnswer};
-ghost use Rattle.tz_c.specs.DateTimes.{IsChoiceAnswer, choice_of};
+ghost use Rattle.tz_c.specs.DateTimes.{CanBeSearched, IsChoiceAnswer, choice_of};
 
 use crate::codes::{NO_DATE_TIME, OK, UNKNOWN_CHOICE, code_of};
 use tz::datetime::Disambiguation;
@@ -28,6 +28,7 @@ pub extern "C" fn tz_find_n(
         ((found : List FoundDateTimeKind) × IsFound (IsClock (zone_of_data zone.now)) fields.now found
         × (count.new ≡ length found) × (slots.new ≡ placed slots.old (entries_from skip found)))
         (IsFindFault ⊥ (IsClock (zone_of_data zone.now)) fields.now) }
+    ensures searched { result ≡ 0 → CanBeSearched (zone_of_data zone.now) fields.now }
     ensures slots_kept { result ≢ 0 → slots.new ≡ slots.old }
     ensures count_kept { result ≢ 0 → count.new ≡ count.old }
 {

@@ -1,6 +1,6 @@
 //! Printed text.
 
-ghost use Rattle.std.specs.Prelude.{◌≡◌, ◌≢◌, pos};
+ghost use Rattle.std.specs.Prelude.{◌≡◌, ◌≢◌, ◌≤◌, length, pos};
 ghost use Rattle.tz.specs.PrintedText.{printed_text};
 ghost use Rattle.tz_zone.specs.ZoneSeen.{rule_of_lists};
 ghost use Rattle.tz_c.specs.Texts.{IsTextAnswer, IsRuleTextAnswer};
@@ -31,6 +31,7 @@ pub(crate) fn write_text(given: &[u8], text: &mut [u8], len: &mut usize) -> u32
 #[unsafe(no_mangle)]
 pub extern "C" fn tz_utc_text(utc: &UtcDateTime, text: &mut [u8], len: &mut usize) -> u32
     ensures answer { IsTextAnswer (printed_text utc.now (pos 0)) result text.old text.new len.new }
+    ensures most { length (printed_text utc.now (pos 0)) ≤ 53 }
     ensures text_kept { result ≢ 0 → text.new ≡ text.old }
     ensures len_kept { result ≢ 0 → len.new ≡ len.old }
 {
@@ -43,6 +44,7 @@ pub extern "C" fn tz_utc_text(utc: &UtcDateTime, text: &mut [u8], len: &mut usiz
 #[unsafe(no_mangle)]
 pub extern "C" fn tz_date_time_text(date_time: &DateTime, text: &mut [u8], len: &mut usize) -> u32
     ensures answer { IsTextAnswer (printed_text date_time.now.fields date_time.now.local_time_type.ut_offset) result text.old text.new len.new }
+    ensures most { length (printed_text date_time.now.fields date_time.now.local_time_type.ut_offset) ≤ 53 }
     ensures text_kept { result ≢ 0 → text.new ≡ text.old }
     ensures len_kept { result ≢ 0 → len.new ≡ len.old }
 {

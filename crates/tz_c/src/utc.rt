@@ -1,6 +1,6 @@
 //! Date times of UTC.
 
-ghost use Rattle.std.specs.Prelude.{◌≡◌, ◌≢◌, ◌*◌, ◌+◌, ◌+ℤ◌, ◌-ℤ◌, pos};
+ghost use Rattle.std.specs.Prelude.{◌≡◌, ◌≢◌, ◌*◌, ◌+◌, ◌<◌, ◌+ℤ◌, ◌-ℤ◌, pos};
 ghost use Rattle.tz_base.specs.Days.{week_day_of, first_day};
 ghost use Rattle.tz_base.specs.Fields.{IsCivil, day_of};
 ghost use Rattle.tz.specs.DateTimes.{IsUtcAt, IsUtcFault, IsShowFault, utc_total};
@@ -61,6 +61,7 @@ pub extern "C" fn tz_utc_add(
 ) -> u32
     ensures answer { let total = utc_total utc.now +ℤ pos (1000000000 * seconds + nanoseconds) in
         IsAnswer result (IsUtcDataOf (IsUtcAt total) out.new) (IsMoveFault total nanoseconds) }
+    ensures part { result ≡ 0 → nanoseconds < 1000000000 }
     ensures kept { result ≢ 0 → out.new ≡ out.old }
 {
     if nanoseconds >= NANOSECONDS_PER_SECOND {
@@ -85,6 +86,7 @@ pub extern "C" fn tz_utc_sub(
 ) -> u32
     ensures answer { let total = utc_total utc.now -ℤ pos (1000000000 * seconds + nanoseconds) in
         IsAnswer result (IsUtcDataOf (IsUtcAt total) out.new) (IsMoveFault total nanoseconds) }
+    ensures part { result ≡ 0 → nanoseconds < 1000000000 }
     ensures kept { result ≢ 0 → out.new ≡ out.old }
 {
     if nanoseconds >= NANOSECONDS_PER_SECOND {

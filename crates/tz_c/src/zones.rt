@@ -8,7 +8,7 @@ ghost use Rattle.tz_zone.specs.TableChanges.{HasTableEnds};
 ghost use Rattle.tz_zone.specs.ValidZone.{IsValidZone, IsFirstZoneFault};
 ghost use Rattle.tz_zone.specs.ZoneOfData.{zone_of_data};
 ghost use Rattle.tz_c.specs.Codes.{IsAnswer, IsAnswerOr, no_change};
-ghost use Rattle.tz_c.specs.Zones.{zone_of_parts, segment_written, change_written};
+ghost use Rattle.tz_c.specs.Zones.{HasZerosWithoutType, zone_of_parts, segment_written, change_written};
 
 use crate::codes::{NO_CHANGE, OK, code_of};
 use tz_rule::inner::AlternateData;
@@ -59,7 +59,8 @@ impl SegmentData {
 
     /// The data of a segment.
     fn of(segment: &Segment<'_>) -> Self
-        ensures { segment_written result ≡ segment_of segment.now }
+        ensures segment { segment_written result ≡ segment_of segment.now }
+        ensures zeros { HasZerosWithoutType result }
     {
         let (from, last) = (segment.from(), segment.last());
         match segment.local_time_type() {
@@ -147,6 +148,7 @@ pub extern "C" fn tz_zone_segment_at(
     ensures within { (out.new.from ≤ℤ unix_time) × (unix_time ≤ℤ out.new.last) }
     ensures segment { IsTrueSegment (zone_of_data zone.now) (segment_written out.new) }
     ensures ends { HasTableEnds (zone_of_data zone.now) out.new.from out.new.last }
+    ensures zeros { HasZerosWithoutType out.new }
 {
     *out = SegmentData::of(&zone.segment_at(unix_time));
     OK

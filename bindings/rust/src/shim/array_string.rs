@@ -1,5 +1,7 @@
 //! Text in an array.
 
+use core::fmt;
+
 /// Text of at most `N` bytes.
 pub struct ArrayString<const N: usize> {
     bytes: [u8; N],
@@ -36,5 +38,11 @@ impl<const N: usize> ArrayString<N> {
     /// The text.
     pub fn as_str(&self) -> &str {
         super::text(&self.bytes[..self.len])
+    }
+}
+
+impl<const N: usize> fmt::Write for ArrayString<N> {
+    fn write_str(&mut self, text: &str) -> fmt::Result {
+        self.try_push_str(text).map_err(|Full| fmt::Error)
     }
 }

@@ -47,8 +47,8 @@ fn digits_of_eight(bytes: u64) -> (usize, u64) {
     let values = bytes ^ 0x3030_3030_3030_3030;
     // The highest bit of each byte that is 10 or more. No sum of seven bits and 0x76 reaches the
     // next byte.
-    let others =
-        ((values & 0x7f7f_7f7f_7f7f_7f7f) + 0x7676_7676_7676_7676 | values) & 0x8080_8080_8080_8080;
+    let others = (((values & 0x7f7f_7f7f_7f7f_7f7f) + 0x7676_7676_7676_7676) | values)
+        & 0x8080_8080_8080_8080;
     if others == 0 {
         return (8, number_of_values(values));
     }

@@ -4,7 +4,6 @@
 /// Text of at most 128 bytes, which is made without an allocation.
 ///
 /// By the bounds of the contracts a TZ string has at most 114 bytes, and a printed date time 53.
-
 pub struct TextBuffer {
     bytes: [u8; 128],
     len: usize,

@@ -6,7 +6,6 @@ use crate::proved::tz_zone::timezone::{AlternateTime, LocalTimeType, RuleDay, Tr
 use core::fmt;
 
 /// The TZ string of a rule, which is made without an allocation. (POSIX.1-2017, Base Definitions, 8.3)
-
 pub struct TzString {
     text: TextBuffer,
 }

@@ -12,7 +12,8 @@ returns-then-eq c =
     let stored = c.index-types-place.result in
     let within : c.loop-place.place < length types = search rules in
     let same = (Decides-same_type stored c.args.local_time_type.now).0 (sym c.eq.ensures ∙ c.if-eq.true) in
-    slice_get_read types _ c.loop-place.place stored refl within c.index-types-place.is ∙ ap Some same
+    let at = slice_get_read types _ c.loop-place.place stored refl within c.index-types-place.is ∙ ap Some same in
+    record { at = at; first = c.loop-place.invariant }
 
 pub loop-place-preserved : goal.loop-place-preserved
 loop-place-preserved c k h e =

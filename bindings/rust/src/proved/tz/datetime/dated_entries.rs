@@ -8,7 +8,6 @@ use crate::proved::tz_base::fields::Fields;
 use crate::proved::tz_zone::timezone::LocalTimeType;
 
 /// A list that takes the entries of fields as date times.
-
 pub(super) struct Dated<'l, L> {
     pub(super) fields: &'l Fields,
     pub(super) list: &'l mut L,

@@ -12,7 +12,6 @@ use crate::proved::tz_zone::timezone::TimeZoneRef;
 use crate::shim::alloc::Allocator;
 
 /// A search that failed, and the buffer as it left it.
-
 pub(super) struct Refused<'a> {
     buf: &'a mut [Option<FoundDateTimeKind>],
     pub(super) fault: TzError,

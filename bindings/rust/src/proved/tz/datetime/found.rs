@@ -41,7 +41,6 @@ impl FoundDateTimeKind {
 /// The date times that a search found, by rising Unix time.
 ///
 /// Lists are equal when their entries are, on whichever allocators.
-
 #[derive(PartialEq)]
 pub struct FoundDateTimeList<A: Allocator + Copy = Global> {
     pub(super) found: Vec<FoundDateTimeKind, A>,
@@ -126,7 +125,6 @@ impl<A: Allocator + Copy> fmt::Debug for FoundDateTimeList<A> {
 ///     Ok(found.unique().map(|date_time| date_time.unix_time()))
 /// }
 /// ```
-
 pub struct FoundDateTimeListRefMut<'a> {
     buf: &'a mut [Option<FoundDateTimeKind>],
     count: usize,

@@ -19,7 +19,6 @@ impl Slot for Option<FoundDateTimeKind> {
 }
 
 /// The slots that a search writes to in order from one of its entries on, and how many it found.
-
 pub(crate) struct SlotWriter<'a, S> {
     slots: &'a mut [S],
     skip: usize,

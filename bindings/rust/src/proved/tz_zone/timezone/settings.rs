@@ -51,7 +51,6 @@ fn zone_of_found<A: Allocator + Copy>(
 ///
 /// The function returns the bytes of the file at a path. It is called with each path in turn until it returns bytes or
 /// `ReadFault::Memory`.
-
 pub struct TimeZoneSettings<'a, F> {
     pub(super) directories: &'a [&'a str],
     pub(super) reader: F,

@@ -11,7 +11,6 @@ use crate::shim::alloc::{Allocator, Global};
 use core::fmt;
 
 /// A time zone that owns its parts, on one allocator.
-
 pub struct TimeZone<A: Allocator + Copy = Global> {
     transitions: Vec<Transition, A>,
     local_time_types: Vec<LocalTimeType, A>,

@@ -14,13 +14,13 @@ use core::slice::from_ref;
 #[repr(C)]
 #[derive(Clone, Copy)]
 pub struct ZoneData<'a> {
-    transitions: &'a [Transition],
-    local_time_types: &'a [LocalTimeType],
-    leap_seconds: &'a [LeapSecond],
-    fixed: &'a [LocalTimeType],
-    alternate: &'a [AlternateData],
-    least_offset: i32,
-    greatest_offset: i32,
+    pub transitions: &'a [Transition],
+    pub local_time_types: &'a [LocalTimeType],
+    pub leap_seconds: &'a [LeapSecond],
+    pub fixed: &'a [LocalTimeType],
+    pub alternate: &'a [AlternateData],
+    pub least_offset: i32,
+    pub greatest_offset: i32,
 }
 
 /// The rule that two lists give: the first type of the one, or else the first alternate rule of the other.

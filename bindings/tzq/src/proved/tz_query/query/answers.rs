@@ -13,7 +13,6 @@ use crate::shim::alloc::{AllocError, Allocator};
 use tz::proved::tz::{LocalTimeType, TimeZone, TimeZoneRef, TzError};
 
 /// The answers of lines over a zone, and what the lines share: a segment throughout which the clock has one type.
-
 pub struct Answers<'a, A: Allocator + Copy> {
     pub alloc: A,
     pub zone: TimeZoneRef<'a>,

@@ -10,7 +10,6 @@ use crate::shim::alloc::Allocator;
 const NEAR: u64 = 2_592_000;
 
 /// Instants throughout which a clock has one type.
-
 pub struct KeptSegment {
     /// The first instant. The segment is empty if this is after the last.
     pub from: i64,

@@ -6,7 +6,6 @@ use core::num::TryFromIntError;
 use tz::proved::tz::inner::{Fields, after_byte, read_digits};
 
 /// What a line asks for: the date time of an instant, with nanoseconds, the date times of fields, or those of fields in a number of weeks.
-
 pub enum Query {
     Time(i64, u32),
     Search(Fields),
@@ -27,10 +26,10 @@ pub fn after_line(bytes: &[u8]) -> &[u8] {
 #[inline(always)]
 pub fn read_number(bytes: &[u8]) -> Option<(i64, &[u8])> {
     // `read_small` may read three bytes, and returns only a number before a space, so never the last one of a line.
-    if bytes.len() >= 3
-        && let Some((number, end)) = read_small(bytes, 0)
-    {
-        return Some((i64::from(number), &bytes[end..]));
+    if bytes.len() >= 3 {
+        if let Some((number, end)) = read_small(bytes, 0) {
+            return Some((i64::from(number), &bytes[end..]));
+        }
     }
     let (size, count) = read_digits(bytes);
     if count > 0 {

@@ -13,7 +13,6 @@ pub type Written = Result<(), AllocError>;
 
 /// Where answers are written: onto a page. If the page has no room for one more line and its front (what stands before the date time, such as `N `),
 /// it is first appended to the answers before it.
-
 pub struct Output<A: Allocator> {
     pub answers: Vec<u8, A>,
     pub page: Page,

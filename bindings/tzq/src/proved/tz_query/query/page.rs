@@ -15,7 +15,6 @@ const LONGEST: usize = 160;
 /// Printed text of at most 2040 bytes, which is kept without an allocation.
 ///
 /// A line is put together from pieces that are copied whole: the year, the rest of the date and time, the nanoseconds and the suffix of the type.
-
 pub struct Page {
     bytes: [u8; SIZE],
     len: usize,

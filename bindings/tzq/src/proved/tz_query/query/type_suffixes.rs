@@ -18,7 +18,6 @@ pub struct Suffix {
 }
 
 /// The suffixes of the types that lines showed before, each at the index of its type.
-
 pub struct Suffixes {
     kept: [Suffix; COUNT],
 }
@@ -33,7 +32,7 @@ fn push_type_name(line: &mut TextBuffer, local_time_type: &LocalTimeType) {
 /// The index of a type's suffix: four bits of a product that mixes the bits of the type's offset and its daylight flag.
 #[inline(always)]
 fn index_of(local_time_type: &LocalTimeType) -> usize {
-    let offset = local_time_type.ut_offset().cast_unsigned();
+    let offset = local_time_type.ut_offset() as u32;
     let mixed = offset.wrapping_add(u32::from(local_time_type.is_dst()));
     (mixed.wrapping_mul(0x9E37_79B1) / 0x1000_0000) as usize
 }

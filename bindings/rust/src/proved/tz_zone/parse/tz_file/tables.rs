@@ -14,7 +14,6 @@ use crate::shim::Vec;
 use crate::shim::alloc::{Allocator, Global};
 
 /// The tables of a file.
-
 pub(crate) struct Tables<A: Allocator + Copy = Global> {
     pub(crate) transitions: Vec<Transition, A>,
     /// Whether the transitions are known to come in order, and each to name a type. If not, the check of the zone looks at each.

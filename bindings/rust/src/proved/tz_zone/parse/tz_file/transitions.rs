@@ -26,7 +26,6 @@ fn is_in_order(are_in_order: bool, last: Transition, transition: Transition, typ
 }
 
 /// Transitions, and whether they are known to name types and to come in order: if not, the check of the zone looks at each.
-
 pub(super) struct ReadTransitions<A: Allocator + Copy> {
     pub(super) items: Vec<Transition, A>,
     pub(super) are_in_order: bool,

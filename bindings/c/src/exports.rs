@@ -1,0 +1,654 @@
+// Generated from crates/tz_c/src by bindings/erase: its contracts are cut. Change that file instead.
+//! The functions of tz.h, each by one pattern: from what C passes it makes what the function of a
+//! source takes, and calls that.
+#![allow(unsafe_code)]
+
+use crate::pointers::{Parts, Zone, list, list_mut};
+use crate::proved::tz_c::date_time_texts::ParsedData;
+use crate::proved::tz_c::rules::ConflictData;
+use crate::proved::tz_c::settings::SettingData;
+use crate::proved::tz_c::zones::{ChangeData, OffsetsData, SegmentData};
+use crate::proved::tz_c::{
+    columns, date_time_texts, date_times, error_texts, files, layout, leap_times, local_time_types,
+    places, rules, searches, settings, texts, utc, zones,
+};
+use tz::proved::tz::inner::{DateTimeData, Fields, FoundData, UtcData};
+use tz::proved::tz::{DateTime, UtcDateTime};
+use tz::proved::tz_rule::inner::{AlternateData, DayData, RuleData};
+use tz::proved::tz_rule::timezone::LocalTimeType;
+use tz::proved::tz_zone::inner::FileSizes;
+use tz::proved::tz_zone::timezone::{LeapSecond, Transition};
+use tz::shim::alloc::Global;
+
+/// The offsets of the zone's clock at instants.
+///
+/// # Safety
+///
+/// What tz.h asks of a caller.
+#[unsafe(no_mangle)]
+pub unsafe extern "C" fn tz_column_offsets(
+    unix_times: *const i64,
+    unix_times_length: usize,
+    zone: &Zone,
+    offsets: *mut i32,
+    offsets_length: usize,
+    codes: *mut u32,
+    codes_length: usize,
+) -> u32 {
+    // SAFETY: tz.h asks of a caller what these require.
+    let (unix_times, zone, offsets, codes) = unsafe {
+        (
+            list(unix_times, unix_times_length),
+            zone.data(),
+            list_mut(offsets, offsets_length),
+            list_mut(codes, codes_length),
+        )
+    };
+    columns::tz_column_offsets(unix_times, &zone, offsets, codes)
+}
+
+/// What the zone's clock shows at instants.
+///
+/// # Safety
+///
+/// What tz.h asks of a caller.
+#[unsafe(no_mangle)]
+pub unsafe extern "C" fn tz_column_date_times(
+    unix_times: *const i64,
+    unix_times_length: usize,
+    nanoseconds: *const u32,
+    nanoseconds_length: usize,
+    zone: &Zone,
+    date_times: *mut DateTimeData,
+    date_times_length: usize,
+    codes: *mut u32,
+    codes_length: usize,
+) -> u32 {
+    // SAFETY: tz.h asks of a caller what these require.
+    let (unix_times, nanoseconds, zone, date_times, codes) = unsafe {
+        (
+            list(unix_times, unix_times_length),
+            list(nanoseconds, nanoseconds_length),
+            zone.data(),
+            list_mut(date_times, date_times_length),
+            list_mut(codes, codes_length),
+        )
+    };
+    columns::tz_column_date_times(unix_times, nanoseconds, &zone, date_times, codes)
+}
+
+/// The instants that fields mean by a choice.
+///
+/// # Safety
+///
+/// What tz.h asks of a caller.
+#[unsafe(no_mangle)]
+pub unsafe extern "C" fn tz_column_instants(
+    fields: *const Fields,
+    fields_length: usize,
+    choice: u8,
+    zone: &Zone,
+    unix_times: *mut i64,
+    unix_times_length: usize,
+    codes: *mut u32,
+    codes_length: usize,
+) -> u32 {
+    // SAFETY: tz.h asks of a caller what these require.
+    let (fields, zone, unix_times, codes) = unsafe {
+        (
+            list(fields, fields_length),
+            zone.data(),
+            list_mut(unix_times, unix_times_length),
+            list_mut(codes, codes_length),
+        )
+    };
+    columns::tz_column_instants(fields, choice, &zone, unix_times, codes)
+}
+
+/// The local time and the offset of a text, as `ParsedDateTime::parse` reads it.
+///
+/// # Safety
+///
+/// What tz.h asks of a caller.
+#[unsafe(no_mangle)]
+pub unsafe extern "C" fn tz_date_time_read(
+    text: *const u8,
+    text_length: usize,
+    out: &mut ParsedData,
+) -> u32 {
+    // SAFETY: tz.h asks of a caller what these require.
+    let text = unsafe { list(text, text_length) };
+    date_time_texts::tz_date_time_read(text, out)
+}
+
+/// The date time with the fields, which the type shows.
+#[unsafe(no_mangle)]
+pub extern "C" fn tz_date_time_new(
+    fields: &Fields,
+    local_time_type: &LocalTimeType,
+    out: &mut DateTimeData,
+) -> u32 {
+    date_times::tz_date_time_new(fields, local_time_type, out)
+}
+
+/// What the type shows at an instant.
+#[unsafe(no_mangle)]
+pub extern "C" fn tz_date_time_from_timespec_and_local(
+    unix_time: i64,
+    nanoseconds: u32,
+    local_time_type: &LocalTimeType,
+    out: &mut DateTimeData,
+) -> u32 {
+    date_times::tz_date_time_from_timespec_and_local(unix_time, nanoseconds, local_time_type, out)
+}
+
+/// What the zone's clock shows at an instant.
+///
+/// # Safety
+///
+/// What tz.h asks of a caller.
+#[unsafe(no_mangle)]
+pub unsafe extern "C" fn tz_date_time_from_timespec(
+    unix_time: i64,
+    nanoseconds: u32,
+    zone: &Zone,
+    out: &mut DateTimeData,
+) -> u32 {
+    // SAFETY: tz.h asks of a caller what these require.
+    let zone = unsafe { zone.data() };
+    date_times::tz_date_time_from_timespec(unix_time, nanoseconds, &zone, out)
+}
+
+/// The date time of UTC at the same instant.
+#[unsafe(no_mangle)]
+pub extern "C" fn tz_date_time_to_utc(date_time: &DateTime, out: &mut UtcData) -> u32 {
+    date_times::tz_date_time_to_utc(date_time, out)
+}
+
+/// The week day, from Sunday = 0 to 6.
+#[unsafe(no_mangle)]
+pub extern "C" fn tz_date_time_week_day(date_time: &DateTime) -> u8 {
+    date_times::tz_date_time_week_day(date_time)
+}
+
+/// Days since January 1st, from 0 to 365.
+#[unsafe(no_mangle)]
+pub extern "C" fn tz_date_time_year_day(date_time: &DateTime) -> u16 {
+    date_times::tz_date_time_year_day(date_time)
+}
+
+/// What a code says.
+///
+/// # Safety
+///
+/// What tz.h asks of a caller.
+#[unsafe(no_mangle)]
+pub unsafe extern "C" fn tz_error_text(
+    code: u32,
+    text: *mut u8,
+    text_length: usize,
+    len: &mut usize,
+) -> u32 {
+    // SAFETY: tz.h asks of a caller what these require.
+    let text = unsafe { list_mut(text, text_length) };
+    error_texts::tz_error_text(code, text, len)
+}
+
+/// The sizes of a TZif file, by its headers alone.
+///
+/// # Safety
+///
+/// What tz.h asks of a caller.
+#[unsafe(no_mangle)]
+pub unsafe extern "C" fn tz_file_sizes(
+    bytes: *const u8,
+    bytes_length: usize,
+    out: &mut FileSizes,
+) -> u32 {
+    // SAFETY: tz.h asks of a caller what these require.
+    let bytes = unsafe { list(bytes, bytes_length) };
+    files::tz_file_sizes(bytes, out)
+}
+
+/// The parts of a TZif file and the end offsets of its zone.
+///
+/// # Safety
+///
+/// What tz.h asks of a caller.
+#[unsafe(no_mangle)]
+pub unsafe extern "C" fn tz_file_read(
+    bytes: *const u8,
+    bytes_length: usize,
+    transitions: *mut Transition,
+    transitions_length: usize,
+    local_time_types: *mut LocalTimeType,
+    local_time_types_length: usize,
+    leap_seconds: *mut LeapSecond,
+    leap_seconds_length: usize,
+    rule: &mut RuleData,
+    out: &mut OffsetsData,
+) -> u32 {
+    // SAFETY: tz.h asks of a caller what these require.
+    let (bytes, transitions, local_time_types, leap_seconds) = unsafe {
+        (
+            list(bytes, bytes_length),
+            list_mut(transitions, transitions_length),
+            list_mut(local_time_types, local_time_types_length),
+            list_mut(leap_seconds, leap_seconds_length),
+        )
+    };
+    files::tz_file_read(
+        Global,
+        bytes,
+        transitions,
+        local_time_types,
+        leap_seconds,
+        rule,
+        out,
+    )
+}
+
+/// The rule of a TZ string, ordinary or extended, without white space at its ends.
+///
+/// # Safety
+///
+/// What tz.h asks of a caller.
+#[unsafe(no_mangle)]
+pub unsafe extern "C" fn tz_string_read(
+    text: *const u8,
+    text_length: usize,
+    is_extended: bool,
+    out: &mut RuleData,
+) -> u32 {
+    // SAFETY: tz.h asks of a caller what these require.
+    let text = unsafe { list(text, text_length) };
+    files::tz_string_read(text, is_extended, out)
+}
+
+/// The number of the layout, and the sizes of the types that cross.
+///
+/// # Safety
+///
+/// What tz.h asks of a caller.
+#[unsafe(no_mangle)]
+pub unsafe extern "C" fn tz_layout(out: *mut usize, out_length: usize) -> u32 {
+    // SAFETY: tz.h asks of a caller what these require.
+    let out = unsafe { list_mut(out, out_length) };
+    layout::tz_layout(out)
+}
+
+/// The leap time of an instant.
+///
+/// # Safety
+///
+/// What tz.h asks of a caller.
+#[unsafe(no_mangle)]
+pub unsafe extern "C" fn tz_zone_leap_time(zone: &Zone, unix_time: i64, out: &mut i64) -> u32 {
+    // SAFETY: tz.h asks of a caller what these require.
+    let zone = unsafe { zone.data() };
+    leap_times::tz_zone_leap_time(&zone, unix_time, out)
+}
+
+/// The least instant at which a leap time is reached.
+///
+/// # Safety
+///
+/// What tz.h asks of a caller.
+#[unsafe(no_mangle)]
+pub unsafe extern "C" fn tz_zone_effect(zone: &Zone, leap_time: i64, out: &mut i64) -> u32 {
+    // SAFETY: tz.h asks of a caller what these require.
+    let zone = unsafe { zone.data() };
+    leap_times::tz_zone_effect(&zone, leap_time, out)
+}
+
+/// The local time type with these parts, as `LocalTimeType::new` makes it.
+///
+/// # Safety
+///
+/// What tz.h asks of a caller.
+#[unsafe(no_mangle)]
+pub unsafe extern "C" fn tz_local_time_type_new(
+    ut_offset: i32,
+    is_dst: bool,
+    has_name: bool,
+    name: *const u8,
+    name_length: usize,
+    out: &mut LocalTimeType,
+) -> u32 {
+    // SAFETY: tz.h asks of a caller what these require.
+    let name = unsafe { list(name, name_length) };
+    local_time_types::tz_local_time_type_new(ut_offset, is_dst, has_name, name, out)
+}
+
+/// The day with this number of the days that are not February 29th, as `Julian1WithoutLeap::new` makes it.
+#[unsafe(no_mangle)]
+pub extern "C" fn tz_julian_1_new(julian_day_1: u16, out: &mut DayData) -> u32 {
+    local_time_types::tz_julian_1_new(julian_day_1, out)
+}
+
+/// The day this many days after January 1st, as `Julian0WithLeap::new` makes it.
+#[unsafe(no_mangle)]
+pub extern "C" fn tz_julian_0_new(julian_day_0: u16, out: &mut DayData) -> u32 {
+    local_time_types::tz_julian_0_new(julian_day_0, out)
+}
+
+/// The week day of a month, as `MonthWeekDay::new` makes it.
+#[unsafe(no_mangle)]
+pub extern "C" fn tz_month_week_day_new(
+    month: u8,
+    week: u8,
+    week_day: u8,
+    out: &mut DayData,
+) -> u32 {
+    local_time_types::tz_month_week_day_new(month, week, week_day, out)
+}
+
+/// The place of the type of a zone's clock at an instant.
+///
+/// # Safety
+///
+/// What tz.h asks of a caller.
+#[unsafe(no_mangle)]
+pub unsafe extern "C" fn tz_zone_place_at(zone: &Zone, unix_time: i64, out: &mut usize) -> u32 {
+    // SAFETY: tz.h asks of a caller what these require.
+    let zone = unsafe { zone.data() };
+    places::tz_zone_place_at(&zone, unix_time, out)
+}
+
+/// The rule with these parts, as `AlternateTime::new` makes it.
+#[unsafe(no_mangle)]
+pub extern "C" fn tz_alternate_new(
+    std: &LocalTimeType,
+    dst: &LocalTimeType,
+    dst_start: &DayData,
+    dst_start_time: i32,
+    dst_end: &DayData,
+    dst_end_time: i32,
+    out: &mut AlternateData,
+) -> u32 {
+    rules::tz_alternate_new(
+        std,
+        dst,
+        dst_start,
+        dst_start_time,
+        dst_end,
+        dst_end_time,
+        out,
+    )
+}
+
+/// Why parts in range make no rule, as `AlternateTime::conflict` says it.
+#[unsafe(no_mangle)]
+pub extern "C" fn tz_alternate_conflict(
+    std: &LocalTimeType,
+    dst: &LocalTimeType,
+    dst_start: &DayData,
+    dst_start_time: i32,
+    dst_end: &DayData,
+    dst_end_time: i32,
+    out: &mut ConflictData,
+) -> u32 {
+    rules::tz_alternate_conflict(
+        std,
+        dst,
+        dst_start,
+        dst_start_time,
+        dst_end,
+        dst_end_time,
+        out,
+    )
+}
+
+/// The type of a rule at an instant.
+///
+/// # Safety
+///
+/// What tz.h asks of a caller.
+#[unsafe(no_mangle)]
+pub unsafe extern "C" fn tz_rule_type_at(
+    fixed: *const LocalTimeType,
+    fixed_length: usize,
+    alternate: *const AlternateData,
+    alternate_length: usize,
+    unix_time: i64,
+    out: &mut LocalTimeType,
+) -> u32 {
+    // SAFETY: tz.h asks of a caller what these require.
+    let (fixed, alternate) =
+        unsafe { (list(fixed, fixed_length), list(alternate, alternate_length)) };
+    rules::tz_rule_type_at(fixed, alternate, unix_time, out)
+}
+
+/// What is found of the fields from one of the entries on, and how many entries there are.
+///
+/// # Safety
+///
+/// What tz.h asks of a caller.
+#[unsafe(no_mangle)]
+pub unsafe extern "C" fn tz_find_n(
+    fields: &Fields,
+    zone: &Zone,
+    skip: usize,
+    slots: *mut FoundData,
+    slots_length: usize,
+    count: &mut usize,
+) -> u32 {
+    // SAFETY: tz.h asks of a caller what these require.
+    let (zone, slots) = unsafe { (zone.data(), list_mut(slots, slots_length)) };
+    searches::tz_find_n(fields, &zone, skip, slots, count)
+}
+
+/// The one date time that the fields mean by a choice.
+///
+/// # Safety
+///
+/// What tz.h asks of a caller.
+#[unsafe(no_mangle)]
+pub unsafe extern "C" fn tz_find_one(
+    fields: &Fields,
+    choice: u8,
+    zone: &Zone,
+    out: &mut DateTimeData,
+) -> u32 {
+    // SAFETY: tz.h asks of a caller what these require.
+    let zone = unsafe { zone.data() };
+    searches::tz_find_one(fields, choice, &zone, out)
+}
+
+/// What a setting asks for.
+///
+/// # Safety
+///
+/// What tz.h asks of a caller.
+#[unsafe(no_mangle)]
+pub unsafe extern "C" fn tz_setting_read(
+    text: *const u8,
+    text_length: usize,
+    out: &mut SettingData,
+) -> u32 {
+    // SAFETY: tz.h asks of a caller what these require.
+    let text = unsafe { list(text, text_length) };
+    settings::tz_setting_read(text, out)
+}
+
+/// The date time of UTC as its `Display` prints it.
+///
+/// # Safety
+///
+/// What tz.h asks of a caller.
+#[unsafe(no_mangle)]
+pub unsafe extern "C" fn tz_utc_text(
+    utc: &UtcDateTime,
+    text: *mut u8,
+    text_length: usize,
+    len: &mut usize,
+) -> u32 {
+    // SAFETY: tz.h asks of a caller what these require.
+    let text = unsafe { list_mut(text, text_length) };
+    texts::tz_utc_text(utc, text, len)
+}
+
+/// The date time as its `Display` prints it.
+///
+/// # Safety
+///
+/// What tz.h asks of a caller.
+#[unsafe(no_mangle)]
+pub unsafe extern "C" fn tz_date_time_text(
+    date_time: &DateTime,
+    text: *mut u8,
+    text_length: usize,
+    len: &mut usize,
+) -> u32 {
+    // SAFETY: tz.h asks of a caller what these require.
+    let text = unsafe { list_mut(text, text_length) };
+    texts::tz_date_time_text(date_time, text, len)
+}
+
+/// The TZ string of a rule, as `TzString::from_rule` writes it.
+///
+/// # Safety
+///
+/// What tz.h asks of a caller.
+#[unsafe(no_mangle)]
+pub unsafe extern "C" fn tz_rule_text(
+    fixed: *const LocalTimeType,
+    fixed_length: usize,
+    alternate: *const AlternateData,
+    alternate_length: usize,
+    text: *mut u8,
+    text_length: usize,
+    len: &mut usize,
+) -> u32 {
+    // SAFETY: tz.h asks of a caller what these require.
+    let (fixed, alternate, text) = unsafe {
+        (
+            list(fixed, fixed_length),
+            list(alternate, alternate_length),
+            list_mut(text, text_length),
+        )
+    };
+    texts::tz_rule_text(fixed, alternate, text, len)
+}
+
+/// The date time of UTC with the fields.
+#[unsafe(no_mangle)]
+pub extern "C" fn tz_utc_new(fields: &Fields, out: &mut UtcData) -> u32 {
+    utc::tz_utc_new(fields, out)
+}
+
+/// The date time of UTC at an instant.
+#[unsafe(no_mangle)]
+pub extern "C" fn tz_utc_from_timespec(unix_time: i64, nanoseconds: u32, out: &mut UtcData) -> u32 {
+    utc::tz_utc_from_timespec(unix_time, nanoseconds, out)
+}
+
+/// The date time of UTC a duration later.
+#[unsafe(no_mangle)]
+pub extern "C" fn tz_utc_add(
+    utc: &UtcDateTime,
+    seconds: u64,
+    nanoseconds: u32,
+    out: &mut UtcData,
+) -> u32 {
+    utc::tz_utc_add(utc, seconds, nanoseconds, out)
+}
+
+/// The date time of UTC a duration earlier.
+#[unsafe(no_mangle)]
+pub extern "C" fn tz_utc_sub(
+    utc: &UtcDateTime,
+    seconds: u64,
+    nanoseconds: u32,
+    out: &mut UtcData,
+) -> u32 {
+    utc::tz_utc_sub(utc, seconds, nanoseconds, out)
+}
+
+/// The week day, from Sunday = 0 to 6.
+#[unsafe(no_mangle)]
+pub extern "C" fn tz_utc_week_day(utc: &UtcDateTime) -> u8 {
+    utc::tz_utc_week_day(utc)
+}
+
+/// Days since January 1st, from 0 to 365.
+#[unsafe(no_mangle)]
+pub extern "C" fn tz_utc_year_day(utc: &UtcDateTime) -> u16 {
+    utc::tz_utc_year_day(utc)
+}
+
+/// Whether parts make a zone, as `TimeZoneRef::new` checks them, and its end offsets.
+///
+/// # Safety
+///
+/// What tz.h asks of a caller.
+#[unsafe(no_mangle)]
+pub unsafe extern "C" fn tz_zone_check(parts: &Parts, out: &mut OffsetsData) -> u32 {
+    // SAFETY: tz.h asks of a caller what these require.
+    let parts = unsafe { parts.data() };
+    zones::tz_zone_check(&parts, out)
+}
+
+/// The type of a zone's clock at an instant, as `TimeZoneRef::find_local_time_type` finds it.
+///
+/// # Safety
+///
+/// What tz.h asks of a caller.
+#[unsafe(no_mangle)]
+pub unsafe extern "C" fn tz_zone_type_at(
+    zone: &Zone,
+    unix_time: i64,
+    out: &mut LocalTimeType,
+) -> u32 {
+    // SAFETY: tz.h asks of a caller what these require.
+    let zone = unsafe { zone.data() };
+    zones::tz_zone_type_at(&zone, unix_time, out)
+}
+
+/// The segment around an instant, as `TimeZoneRef::segment_at` finds it.
+///
+/// # Safety
+///
+/// What tz.h asks of a caller.
+#[unsafe(no_mangle)]
+pub unsafe extern "C" fn tz_zone_segment_at(
+    zone: &Zone,
+    unix_time: i64,
+    out: &mut SegmentData,
+) -> u32 {
+    // SAFETY: tz.h asks of a caller what these require.
+    let zone = unsafe { zone.data() };
+    zones::tz_zone_segment_at(&zone, unix_time, out)
+}
+
+/// The first change after an instant, as `TimeZoneRef::following` finds it.
+///
+/// # Safety
+///
+/// What tz.h asks of a caller.
+#[unsafe(no_mangle)]
+pub unsafe extern "C" fn tz_zone_following(
+    zone: &Zone,
+    unix_time: i64,
+    out: &mut ChangeData,
+) -> u32 {
+    // SAFETY: tz.h asks of a caller what these require.
+    let zone = unsafe { zone.data() };
+    zones::tz_zone_following(&zone, unix_time, out)
+}
+
+/// The last change before an instant, as `TimeZoneRef::preceding` finds it.
+///
+/// # Safety
+///
+/// What tz.h asks of a caller.
+#[unsafe(no_mangle)]
+pub unsafe extern "C" fn tz_zone_preceding(
+    zone: &Zone,
+    unix_time: i64,
+    out: &mut ChangeData,
+) -> u32 {
+    // SAFETY: tz.h asks of a caller what these require.
+    let zone = unsafe { zone.data() };
+    zones::tz_zone_preceding(&zone, unix_time, out)
+}

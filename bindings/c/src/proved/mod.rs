@@ -1,0 +1,3 @@
+//! The proved sources, generated but for this file.
+
+pub(crate) mod tz_c;

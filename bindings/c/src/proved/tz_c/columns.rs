@@ -1,0 +1,219 @@
+// Generated from crates/tz_c/src/columns.rt by bindings/erase: its contracts are cut. Change that file instead.
+//! Whole columns in one call.
+
+use crate::proved::tz_c::codes::{
+    BUFFER_LENGTH, INVALID_NANOSECONDS, NO_DATE_TIME, OK, OUT_OF_RANGE, UNKNOWN_CHOICE, code_of,
+};
+use crate::proved::tz_c::searches::choice_of;
+use tz::proved::tz::datetime::Disambiguation;
+use tz::proved::tz::inner::{DateTimeData, Fields, find_one, local_reading};
+use tz::proved::tz_base::constants::{NANOSECONDS_PER_SECOND, SECONDS_PER_DAY};
+use tz::proved::tz_base::error::TzError;
+use tz::proved::tz_rule::timezone::LocalTimeType;
+use tz::proved::tz_zone::inner::ZoneData;
+use tz::proved::tz_zone::timezone::Segment;
+
+/// The segment of the zone's clock that holds an instant: the one before, if it holds the instant too.
+#[inline(always)]
+fn segment_around<'a>(zone: &ZoneData<'a>, before: Segment<'a>, unix_time: i64) -> Segment<'a> {
+    if before.contains(unix_time) {
+        before
+    } else {
+        zone.segment_at(unix_time)
+    }
+}
+
+/// The type of the zone's clock at an instant of a segment.
+#[inline(always)]
+fn type_in<'a>(
+    zone: &ZoneData<'a>,
+    segment: &Segment<'a>,
+    unix_time: i64,
+) -> Result<&'a LocalTimeType, TzError> {
+    match segment.local_time_type() {
+        Some(local_time_type) => Ok(local_time_type),
+        None => zone.find_local_time_type(unix_time),
+    }
+}
+
+/// The offset of the zone's clock at an instant of a segment.
+#[inline(always)]
+fn offset_in(zone: &ZoneData<'_>, segment: &Segment<'_>, unix_time: i64, out: &mut i32) -> u32 {
+    match type_in(zone, segment, unix_time) {
+        Ok(local_time_type) => {
+            *out = local_time_type.ut_offset();
+            OK
+        }
+        Err(error) => code_of(&error),
+    }
+}
+
+/// A day, by its date, and its first reading.
+#[derive(Clone, Copy)]
+struct Day {
+    year: i32,
+    month: u8,
+    month_day: u8,
+    start: i64,
+}
+
+/// The day of a reading.
+#[inline(never)]
+fn day_of(reading: i64) -> Day {
+    let date = Fields::from_reading(reading, 0);
+    let second_of_day =
+        3600 * u32::from(date.hour) + 60 * u32::from(date.minute) + u32::from(date.second);
+    Day {
+        year: date.year,
+        month: date.month,
+        month_day: date.month_day,
+        start: reading - i64::from(second_of_day),
+    }
+}
+
+/// The day of a reading: the one before, if the reading is one of that.
+#[inline(always)]
+fn day_around(before: Day, reading: i64) -> Day {
+    if before.start <= reading && reading - before.start < SECONDS_PER_DAY {
+        before
+    } else {
+        day_of(reading)
+    }
+}
+
+/// The second of the day at a reading of it.
+#[inline(always)]
+fn second_in(day: &Day, reading: i64) -> u32 {
+    (reading - day.start) as u32
+}
+
+/// The fields at a second of a day.
+#[inline(always)]
+fn fields_in(day: &Day, second_of_day: u32, nanoseconds: u32) -> Fields {
+    Fields {
+        year: day.year,
+        month: day.month,
+        month_day: day.month_day,
+        hour: (second_of_day / 3600) as u8,
+        minute: (second_of_day % 3600 / 60) as u8,
+        second: (second_of_day % 60) as u8,
+        nanoseconds,
+    }
+}
+
+/// What the zone's clock shows at an instant of a segment. The day is that of the instant before, and then that of this one.
+#[inline(always)]
+fn date_time_in(
+    zone: &ZoneData<'_>,
+    segment: &Segment<'_>,
+    day: &mut Day,
+    unix_time: i64,
+    nanoseconds: u32,
+    out: &mut DateTimeData,
+) -> u32 {
+    if nanoseconds >= NANOSECONDS_PER_SECOND {
+        return INVALID_NANOSECONDS;
+    }
+    let local_time_type = match type_in(zone, segment, unix_time) {
+        Ok(local_time_type) => local_time_type,
+        Err(error) => return code_of(&error),
+    };
+    let Some(reading) = local_reading(unix_time, local_time_type.ut_offset()) else {
+        return OUT_OF_RANGE;
+    };
+    *day = day_around(*day, reading);
+    *out = DateTimeData {
+        fields: fields_in(day, second_in(day, reading), nanoseconds),
+        local_time_type: *local_time_type,
+        unix_time,
+    };
+    OK
+}
+
+/// The instant that fields mean by a choice.
+fn instant_of(
+    fields: &Fields,
+    disambiguation: Disambiguation,
+    zone: &ZoneData<'_>,
+    out: &mut i64,
+) -> u32 {
+    match find_one(fields, disambiguation, zone) {
+        Ok(Some(date_time)) => {
+            *out = date_time.unix_time();
+            OK
+        }
+        Ok(None) => NO_DATE_TIME,
+        Err(error) => code_of(&error),
+    }
+}
+
+/// The offsets of the zone's clock at instants.
+#[inline(always)]
+pub fn tz_column_offsets(
+    unix_times: &[i64],
+    zone: &ZoneData<'_>,
+    offsets: &mut [i32],
+    codes: &mut [u32],
+) -> u32 {
+    if offsets.len() != unix_times.len() || codes.len() != unix_times.len() {
+        return BUFFER_LENGTH;
+    }
+    let mut segment = zone.segment_at(unix_times.first().copied().unwrap_or(0));
+    for i in 0..unix_times.len() {
+        segment = segment_around(zone, segment, unix_times[i]);
+        codes[i] = offset_in(zone, &segment, unix_times[i], &mut offsets[i]);
+    }
+    OK
+}
+
+/// What the zone's clock shows at instants.
+#[inline(always)]
+pub fn tz_column_date_times(
+    unix_times: &[i64],
+    nanoseconds: &[u32],
+    zone: &ZoneData<'_>,
+    date_times: &mut [DateTimeData],
+    codes: &mut [u32],
+) -> u32 {
+    if nanoseconds.len() != unix_times.len()
+        || date_times.len() != unix_times.len()
+        || codes.len() != unix_times.len()
+    {
+        return BUFFER_LENGTH;
+    }
+    let mut segment = zone.segment_at(unix_times.first().copied().unwrap_or(0));
+    let mut day = day_of(0);
+    for i in 0..unix_times.len() {
+        segment = segment_around(zone, segment, unix_times[i]);
+        codes[i] = date_time_in(
+            zone,
+            &segment,
+            &mut day,
+            unix_times[i],
+            nanoseconds[i],
+            &mut date_times[i],
+        );
+    }
+    OK
+}
+
+/// The instants that fields mean by a choice.
+#[inline(always)]
+pub fn tz_column_instants(
+    fields: &[Fields],
+    choice: u8,
+    zone: &ZoneData<'_>,
+    unix_times: &mut [i64],
+    codes: &mut [u32],
+) -> u32 {
+    let Some(disambiguation) = choice_of(choice) else {
+        return UNKNOWN_CHOICE;
+    };
+    if unix_times.len() != fields.len() || codes.len() != fields.len() {
+        return BUFFER_LENGTH;
+    }
+    for i in 0..fields.len() {
+        codes[i] = instant_of(&fields[i], disambiguation, zone, &mut unix_times[i]);
+    }
+    OK
+}

@@ -1,0 +1,57 @@
+// Generated from crates/tz_c/src/searches.rt by bindings/erase: its contracts are cut. Change that file instead.
+//! Searches for date times.
+
+use crate::proved::tz_c::codes::{NO_DATE_TIME, OK, UNKNOWN_CHOICE, code_of};
+use tz::proved::tz::datetime::Disambiguation;
+use tz::proved::tz::inner::{DateTimeData, Fields, FoundData, find_into, find_one};
+use tz::proved::tz_zone::inner::ZoneData;
+
+/// What is found of the fields from one of the entries on, and how many entries there are.
+#[inline(always)]
+pub fn tz_find_n(
+    fields: &Fields,
+    zone: &ZoneData<'_>,
+    skip: usize,
+    slots: &mut [FoundData],
+    count: &mut usize,
+) -> u32 {
+    match find_into(slots, skip, fields, zone) {
+        Ok(found) => {
+            *count = found;
+            OK
+        }
+        Err(error) => code_of(&error),
+    }
+}
+
+/// The choice with a number.
+pub(crate) fn choice_of(choice: u8) -> Option<Disambiguation> {
+    match choice {
+        0 => Some(Disambiguation::Compatible),
+        1 => Some(Disambiguation::Earlier),
+        2 => Some(Disambiguation::Later),
+        3 => Some(Disambiguation::Reject),
+        _ => None,
+    }
+}
+
+/// The one date time that the fields mean by a choice.
+#[inline(always)]
+pub fn tz_find_one(
+    fields: &Fields,
+    choice: u8,
+    zone: &ZoneData<'_>,
+    out: &mut DateTimeData,
+) -> u32 {
+    let Some(disambiguation) = choice_of(choice) else {
+        return UNKNOWN_CHOICE;
+    };
+    match find_one(fields, disambiguation, zone) {
+        Ok(Some(date_time)) => {
+            *out = DateTimeData::of(&date_time);
+            OK
+        }
+        Ok(None) => NO_DATE_TIME,
+        Err(error) => code_of(&error),
+    }
+}

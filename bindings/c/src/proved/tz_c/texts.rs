@@ -1,0 +1,54 @@
+// Generated from crates/tz_c/src/texts.rt by bindings/erase: its contracts are cut. Change that file instead.
+//! Printed text.
+
+use crate::proved::tz_c::codes::{BUFFER_LENGTH, NO_RULE, NO_TZ_STRING, OK};
+use crate::proved::tz_c::rules::rule_of_lists;
+use tz::proved::tz::inner::{TextBuffer, UtcData, fields_of};
+use tz::proved::tz::{DateTime, TzString, UtcDateTime};
+use tz::proved::tz_rule::inner::AlternateData;
+use tz::proved::tz_rule::timezone::LocalTimeType;
+
+/// Copies a text to a buffer and stores its length, if there is room.
+#[inline(always)]
+pub(crate) fn write_text(given: &[u8], text: &mut [u8], len: &mut usize) -> u32 {
+    if given.len() > text.len() {
+        return BUFFER_LENGTH;
+    }
+    text[..given.len()].copy_from_slice(given);
+    *len = given.len();
+    OK
+}
+
+/// The date time of UTC as its `Display` prints it.
+#[inline(always)]
+pub fn tz_utc_text(utc: &UtcDateTime, text: &mut [u8], len: &mut usize) -> u32 {
+    let mut line = TextBuffer::new();
+    line.push_date_time(&UtcData::of(utc).fields, 0);
+    write_text(line.as_bytes(), text, len)
+}
+
+/// The date time as its `Display` prints it.
+#[inline(always)]
+pub fn tz_date_time_text(date_time: &DateTime, text: &mut [u8], len: &mut usize) -> u32 {
+    let mut line = TextBuffer::new();
+    let ut_offset = date_time.local_time_type().ut_offset();
+    line.push_date_time(fields_of(date_time), ut_offset);
+    write_text(line.as_bytes(), text, len)
+}
+
+/// The TZ string of a rule, as `TzString::from_rule` writes it.
+#[inline(always)]
+pub fn tz_rule_text(
+    fixed: &[LocalTimeType],
+    alternate: &[AlternateData],
+    text: &mut [u8],
+    len: &mut usize,
+) -> u32 {
+    let Some(rule) = rule_of_lists(fixed, alternate) else {
+        return NO_RULE;
+    };
+    match TzString::from_rule(&rule.rule()) {
+        Some(string) => write_text(string.as_str().as_bytes(), text, len),
+        None => NO_TZ_STRING,
+    }
+}

@@ -1,0 +1,140 @@
+// Generated from crates/tz_c/src/zones.rt by bindings/erase: its contracts are cut. Change that file instead.
+//! Zones.
+
+use crate::proved::tz_c::codes::{NO_CHANGE, OK, code_of};
+use tz::proved::tz_rule::inner::AlternateData;
+use tz::proved::tz_rule::timezone::LocalTimeType;
+use tz::proved::tz_zone::inner::ZoneData;
+use tz::proved::tz_zone::timezone::{Change, LeapSecond, Segment, Transition};
+
+/// Parts that may make a zone.
+#[repr(C)]
+#[derive(Clone, Copy)]
+pub struct PartsData<'a> {
+    pub transitions: &'a [Transition],
+    pub local_time_types: &'a [LocalTimeType],
+    pub leap_seconds: &'a [LeapSecond],
+    pub fixed: &'a [LocalTimeType],
+    pub alternate: &'a [AlternateData],
+}
+
+/// The least and the greatest offset of a zone.
+#[repr(C)]
+#[derive(Clone, Copy)]
+pub struct OffsetsData {
+    pub(crate) least: i32,
+    pub(crate) greatest: i32,
+}
+
+/// What a call writes of a segment. Without a type the type is UTC's, whose bytes are zero.
+#[repr(C)]
+#[derive(Clone, Copy)]
+pub struct SegmentData {
+    from: i64,
+    last: i64,
+    has_type: bool,
+    local_time_type: LocalTimeType,
+}
+
+/// What a call writes of a change.
+#[repr(C)]
+#[derive(Clone, Copy)]
+pub struct ChangeData {
+    unix_time: i64,
+    before: LocalTimeType,
+    after: LocalTimeType,
+}
+
+impl SegmentData {
+    /// The data of a segment.
+    fn of(segment: &Segment<'_>) -> Self {
+        let (from, last) = (segment.from(), segment.last());
+        match segment.local_time_type() {
+            Some(local_time_type) => SegmentData {
+                from,
+                last,
+                has_type: true,
+                local_time_type: *local_time_type,
+            },
+            None => SegmentData {
+                from,
+                last,
+                has_type: false,
+                local_time_type: LocalTimeType::utc(),
+            },
+        }
+    }
+}
+
+impl ChangeData {
+    /// The data of a change.
+    fn of(change: &Change<'_>) -> Self {
+        ChangeData {
+            unix_time: change.unix_time(),
+            before: *change.before(),
+            after: *change.after(),
+        }
+    }
+}
+
+/// Whether parts make a zone, as `TimeZoneRef::new` checks them, and its end offsets.
+#[inline(always)]
+pub fn tz_zone_check(parts: &PartsData<'_>, out: &mut OffsetsData) -> u32 {
+    match ZoneData::new(
+        parts.transitions,
+        parts.local_time_types,
+        parts.leap_seconds,
+        parts.fixed,
+        parts.alternate,
+    ) {
+        Ok(zone) => {
+            let (least, greatest) = zone.offsets();
+            *out = OffsetsData { least, greatest };
+            OK
+        }
+        Err(error) => code_of(&error),
+    }
+}
+
+/// The type of a zone's clock at an instant, as `TimeZoneRef::find_local_time_type` finds it.
+#[inline(always)]
+pub fn tz_zone_type_at(zone: &ZoneData<'_>, unix_time: i64, out: &mut LocalTimeType) -> u32 {
+    match zone.find_local_time_type(unix_time) {
+        Ok(local_time_type) => {
+            *out = *local_time_type;
+            OK
+        }
+        Err(error) => code_of(&error),
+    }
+}
+
+/// The segment around an instant, as `TimeZoneRef::segment_at` finds it.
+#[inline(always)]
+pub fn tz_zone_segment_at(zone: &ZoneData<'_>, unix_time: i64, out: &mut SegmentData) -> u32 {
+    *out = SegmentData::of(&zone.segment_at(unix_time));
+    OK
+}
+
+/// The first change after an instant, as `TimeZoneRef::following` finds it.
+#[inline(always)]
+pub fn tz_zone_following(zone: &ZoneData<'_>, unix_time: i64, out: &mut ChangeData) -> u32 {
+    match zone.following(unix_time) {
+        Some(change) => {
+            *out = ChangeData::of(&change);
+            OK
+        }
+        None => NO_CHANGE,
+    }
+}
+
+/// The last change before an instant, as `TimeZoneRef::preceding` finds it.
+#[inline(always)]
+pub fn tz_zone_preceding(zone: &ZoneData<'_>, unix_time: i64, out: &mut ChangeData) -> u32 {
+    match zone.preceding(unix_time) {
+        Some(change) => {
+            *out = ChangeData::of(&change);
+            OK
+        }
+        None => NO_CHANGE,
+    }
+}
