@@ -15,6 +15,7 @@ pub mod RuleChecks
 pub mod Clocks
 pub mod ShownTypes
 pub mod NearestChanges
+pub mod ChangeTurns
 pub mod InstantsWithLeapTime
 pub mod Places
 pub mod WindowTypes

@@ -14,7 +14,7 @@ same_change c d time before after =
     let by_after : LocalTimeType → Change = λ t. record { unix_time = d.unix_time; before = d.before; after = t } in
     ap by_time time ∙ ap by_before before ∙ ap by_after after
 
-one_change : (z : Zone) (c d : Change) → IsChange z c → IsChange z d → c.unix_time ≡ d.unix_time → c ≡ d
+pub one_change : (z : Zone) (c d : Change) → IsChange z c → IsChange z d → c.unix_time ≡ d.unix_time → c ≡ d
 one_change z c d is is' same =
     same_change c d same
     (one_type z (c.unix_time -ℤ pos 1) c.before d.before is.before_is (subst (λ (u : ℤ). IsClock z (u -ℤ pos 1) d.before) (sym same) is'.before_is))

@@ -68,7 +68,7 @@ frame_holds bytes e f (inr (inr (first, version, fault))) = unit_holds w64 (afte
 
 footer_holds : (footer : List ℕ) (e : TzFileError) → IsFooter footer → FooterFails footer e → ⊥
 footer_holds footer (Utf8 _) f fault = fault f.utf8
-footer_holds footer InvalidFooter f fault = fault (f.line_feeds, f.text)
+footer_holds footer InvalidFooter f fault = fault.1 (f.line_feeds, f.text)
 footer_holds footer _ f fault = fault
 
 extra_rule_holds : (extended : Bool) (footer : Option (List ℕ)) (rule : Option TransitionRule) (e : TzError) → IsExtraRule extended footer rule → ExtraRuleFails extended footer e → ⊥

@@ -1,8 +1,8 @@
 -- The changes of a clock one after the other, upwards from an instant and downwards from one.
-use Rattle.std.specs.Prelude.{◌≡◌, ℤ, Option, MatchOption}
+use Rattle.std.specs.Prelude.{◌≡◌, ℕ, zero, suc, ℤ, Option, MatchOption}
 use Rattle.tz_zone.specs.Table.{Zone}
 use Rattle.tz_zone.specs.ZoneRef.{zone_of}
-use Rattle.tz_zone.specs.Changes.{change_of, IsFollowing, IsPreceding, HasNoFollowing, HasNoPreceding}
+use Rattle.tz_zone.specs.Changes.{Change, change_of, IsFollowing, IsPreceding, HasNoFollowing, HasNoPreceding}
 use Rattle.tz_zone.specs.declared.clock.change.Change.{Change as KeptChange}
 use Rattle.tz_zone.specs.declared.timezone.change_iterators.ChangesAfter.{ChangesAfter}
 use Rattle.tz_zone.specs.declared.timezone.change_iterators.ChangesBefore.{ChangesBefore}
@@ -33,3 +33,13 @@ abbrev pub GivesPreceding : ChangesBefore → Option KeptChange → ChangesBefor
 GivesPreceding s r t = MatchOption r
     (HasNoPreceding (zone_of s.zone) s.unix_time × (place_before t ≡ place_before s))
     (λ c. IsPreceding (zone_of s.zone) s.unix_time (change_of c) × (place_before t ≡ moved_to (change_of c).unix_time (place_before s)))
+
+-- the change after an instant that has this many changes between: the first has none
+abbrev pub IsNthFollowing : Zone → ℤ → ℕ → Change → Type 0
+IsNthFollowing z u zero c = IsFollowing z u c
+IsNthFollowing z u (suc n) c = (d : Change) × IsFollowing z u d × IsNthFollowing z d.unix_time n c
+
+-- the change before an instant that has this many changes between: the last has none
+abbrev pub IsNthPreceding : Zone → ℤ → ℕ → Change → Type 0
+IsNthPreceding z u zero c = IsPreceding z u c
+IsNthPreceding z u (suc n) c = (d : Change) × IsPreceding z u d × IsNthPreceding z d.unix_time n c

@@ -52,10 +52,10 @@ IndicatorsFail block count = (i : ℕ) × (i < count) × ¬ HasIndicators block 
 abbrev pub ContentFails : Block → ℕ → TzError → Type 0
 ContentFails block count e = SomeTypeFails block count e ⊎ ((e ≡ TzFile InvalidStdWallUtLocal) × IndicatorsFail block count)
 
--- of a footer around its text
+-- of a footer around its text: bytes that are not UTF-8 are refused for that
 abbrev pub FooterFails : List ℕ → TzFileError → Type 0
 FooterFails footer (Utf8 _) = ¬ IsUtf8 footer
-FooterFails footer InvalidFooter = ¬ (IsBetweenLineFeeds footer × MayBeText (trimmed footer))
+FooterFails footer InvalidFooter = IsUtf8 footer × ¬ (IsBetweenLineFeeds footer × MayBeText (trimmed footer))
 FooterFails _ _ = ⊥
 
 -- of the rule after the tables
