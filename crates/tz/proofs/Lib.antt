@@ -23,8 +23,10 @@ pub mod TimespecTotals
 pub mod Summaries
 pub mod UniqueResults
 pub mod UniqueMeanings
+pub mod LocalMeaningLaws
 pub mod TextFronts
 pub mod TextValues
 pub mod UniqueTexts
 pub mod ReadBack
+pub mod PrintedForms
 pub mod PrintedBytes

@@ -1,18 +1,21 @@
 -- A search finds one list, of which a choice means one entry, and this gives one date time or one error.
-use Rattle.std.proofs.Common.{◌≡◌, ◌∙◌, inl, inr, refl, sym, ap, subst, List, Option, Some, None}
+use Rattle.std.proofs.Common.{◌≡◌, ◌∙◌, inl, inr, arith, refl, sym, ap, subst, List, Option, Some, None, IfSome, FitsSigned}
 use Rattle.std.proofs.lemmas.Option.{same_Some}
-use Rattle.tz_base.specs.Fields.{reading}
+use Rattle.std.specs.Int.{w32}
+use Rattle.tz_base.specs.Fields.{reading, IsValid}
+use Rattle.tz_base.proofs.LastSeconds.{valid_reading}
 use Rattle.tz_base.specs.declared.error.tz_error.TzError.{TzError}
 use Rattle.tz_base.specs.declared.fields.Fields.{Fields}
 use Rattle.tz_zone.specs.Clock.{IsClock}
 use Rattle.tz_zone.specs.Table.{Zone}
 use Rattle.tz.specs.DateTimes.{DateTime}
+use Rattle.tz.specs.Found.{EachCanBeMade}
 use Rattle.tz.specs.Meanings.{entry_meant, instant_meant, IsMeantFault, IsMeantIn, IsMeaning, IsMeaningFault}
 use Rattle.tz.specs.declared.datetime.disambiguation.Disambiguation.{Disambiguation}
 use Rattle.tz.specs.declared.datetime.found.FoundDateTimeKind.{FoundDateTimeKind}
 use Rattle.tz.specs.declared.datetime.found.FoundDateTimeKind.TheVariants.{Normal, Skipped}
 use Rattle.tz.proofs.UniqueLists.{found_unique}
-use Rattle.tz.proofs.UniqueResults.{clock_fault_unique, no_fault_where_made, search_fault_unique, shown_unique}
+use Rattle.tz.proofs.UniqueResults.{clock_fault_unique, no_fault_where_made, no_fault_where_shown, search_fault_unique, shown_unique}
 
 module _ (z : Zone) (choice : Disambiguation) (f : Fields) where
   meant_unique : (entry : Option FoundDateTimeKind) (d e : Option DateTime) → IsMeantIn z choice f entry d → IsMeantIn z choice f entry e → d ≡ e
@@ -39,3 +42,22 @@ module _ (z : Zone) (choice : Disambiguation) (f : Fields) where
   meaning_fault_unique e e' (inr (found, entry, valid, is, made, at, meant)) (inr (others, other, valid', is', made', at', meant')) =
       let same = found_unique (IsClock z) f others found is' is in
       meant_fault_unique entry e e' meant (subst (λ (x : FoundDateTimeKind). IsMeantFault z choice f x e') (same_Some other entry (sym at' ∙ ap (entry_meant choice) same ∙ at)) meant')
+
+  meant_or_fault : (entry : FoundDateTimeKind) (d : Option DateTime) (e : TzError) → IsMeantIn z choice f (Some entry) d
+      → IfSome d (λ shown. FitsSigned w32 shown.fields.year) → ¬ IsMeantFault z choice f entry e
+  meant_or_fault (Normal shown) d e meant fits fault = fault
+  meant_or_fault (Skipped before after) None e meant fits fault = meant
+  meant_or_fault (Skipped before after) (Some d) e (t, clock, shows) fits fault =
+      let reads = valid_reading d.fields shows.civil.valid fits (λ past. omega (arith, past.5, shows.civil.below_60)) in
+      let at = instant_meant choice (reading f) before after in
+      no_fault_where_shown z at f.nanoseconds d e (t, clock, shows) reads fault
+
+  -- what is meant is not refused
+  pub meaning_or_fault : (d : Option DateTime) (e : TzError) → IsMeaning z choice f d → IsValid f
+      → EachCanBeMade (IsClock z) f → IfSome d (λ shown. FitsSigned w32 shown.fields.year)
+      → ¬ IsMeaningFault z choice f e
+  meaning_or_fault d e is valid made fits (inl fault) = no_fault_where_made z f valid made e fault
+  meaning_or_fault d e (found, is, meant) valid made fits (inr (others, entry, _, is', _, at, fault)) =
+      let same = ap (entry_meant choice) (found_unique (IsClock z) f found others is is') ∙ at in
+      let meant_in = subst (λ (x : Option FoundDateTimeKind). IsMeantIn z choice f x d) same meant in
+      meant_or_fault entry d e meant_in fits fault

@@ -1,5 +1,5 @@
 -- Texts of date times: RFC 3339, section 5.6, with years and offsets as they are printed, and with or without an offset.
-use Rattle.std.specs.Prelude.{◌≡◌, ℕ, ◌+◌, ◌-◌, ◌*◌, ◌^◌, ◌<◌, ◌≤◌, ◌⊎◌, ℤ, pos, neg_ℤ, List, [], ◌∷◌, ◌++◌, length, Option, Some, None, FitsSigned}
+use Rattle.std.specs.Prelude.{◌≡◌, ℕ, ◌+◌, ◌-◌, ◌*◌, ◌^◌, ◌<◌, ◌≤◌, ◌⊎◌, ℤ, pos, neg_ℤ, ◌-ℤ◌, List, [], ◌∷◌, ◌++◌, length, Option, Some, None, FitsSigned}
 use Rattle.std.specs.Char.{digit_value}
 use Rattle.std.specs.Fmt.{decimal}
 use Rattle.std.specs.Int.{w32}
@@ -7,8 +7,8 @@ use Rattle.std.specs.Str.Parse.{AllDigits, digits_value}
 use Rattle.tz_base.specs.Days.{is_leap, month_length}
 use Rattle.tz_base.specs.declared.fields.Fields.{Fields}
 use Rattle.tz_zone.specs.TzText.{Begins}
-use Rattle.tz_base.specs.Fields.{fields_of}
-use Rattle.tz.specs.DateTimes.{IsPastTheEnd}
+use Rattle.tz_base.specs.Fields.{fields_of, reading}
+use Rattle.tz.specs.DateTimes.{DateTime, IsPastTheEnd}
 use Rattle.tz.specs.PrintedText.{two_digits}
 use Rattle.tz.specs.Grammars.{Grammar, one, ◌▸◌, done}
 use Rattle.tz.specs.declared.parse.error.DateTimePart.{DateTimePart}
@@ -145,6 +145,13 @@ date_time =
 -- the text is one of this date time
 abbrev pub IsDateTimeText : List ℕ → ParsedDateTime → Type 0
 IsDateTimeText text p = date_time.reads text p []
+
+-- the text is read as the fields, the offset and the Unix time of the date time
+abbrev pub IsTextOf : List ℕ → DateTime → Type 0
+IsTextOf text d =
+    (p : ParsedDateTime) × IsDateTimeText text p
+    × (p.local ≡ d.fields) × (p.ut_offset ≡ Some d.local_time_type.ut_offset)
+    × ((reading p.local -ℤ d.local_time_type.ut_offset) ≡ d.unix_time)
 
 -- the text is none, because of this part at this byte: as many bytes stand before its place
 abbrev pub IsDateTimeTextFault : List ℕ → ParseDateTimeError → Type 0

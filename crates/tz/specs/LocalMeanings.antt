@@ -1,10 +1,15 @@
 -- What a local time means in a zone: how often clocks show it, and whether they are set forward over it.
-use Rattle.std.specs.Prelude.{◌≡◌, List, [], ◌∷◌, ◌++◌, length}
+use Rattle.std.specs.Prelude.{◌≡◌, ◌≢◌, List, [], ◌∷◌, ◌++◌, length, Some, None}
 use Rattle.tz_base.specs.declared.fields.Fields.{Fields}
+use Rattle.tz_base.specs.Fields.{reading}
 use Rattle.tz_zone.specs.Clock.{IsClock}
 use Rattle.tz_zone.specs.Table.{Zone}
+use Rattle.tz.specs.DateTimes.{DateTime, ShowsByClock}
 use Rattle.tz.specs.Found.{IsFound}
 use Rattle.tz.specs.Growth.{HoldsMore, holds_more, holds_none}
+use Rattle.tz.specs.Meanings.{instant_meant, IsMeaning}
+use Rattle.tz.specs.declared.datetime.disambiguation.Disambiguation.{Disambiguation}
+use Rattle.tz.specs.declared.datetime.disambiguation.Disambiguation.TheVariants.{Compatible, Earlier, Later, Reject}
 use Rattle.tz.specs.declared.datetime.found.FoundDateTimeKind.{FoundDateTimeKind}
 use Rattle.tz.specs.declared.datetime.found.FoundDateTimeKind.TheVariants.{Normal, Skipped}
 use Rattle.tz.specs.declared.datetime.meaning.Meaning.{Meaning}
@@ -21,6 +26,20 @@ meaning_of found = More (length found)
 -- the meaning of fields is that of the list of all that is found
 abbrev pub HasMeaning : Zone → Fields → Meaning → Type 0
 HasMeaning z f meaning = (found : List FoundDateTimeKind) × IsFound (IsClock z) f found × (meaning ≡ meaning_of found)
+
+-- what each choice gives of fields with this meaning; in a gap, what clocks show at another instant
+abbrev pub ChoicesAgree : Zone → Fields → Meaning → Type 0
+ChoicesAgree z f Nothing = (choice : Disambiguation) → IsMeaning z choice f None
+ChoicesAgree z f (Once d) = (choice : Disambiguation) → IsMeaning z choice f (Some d)
+ChoicesAgree z f (Twice first last) =
+    IsMeaning z Compatible f (Some first) × IsMeaning z Earlier f (Some first)
+    × IsMeaning z Later f (Some last) × IsMeaning z Reject f None
+ChoicesAgree z f (Gap before after) =
+    IsMeaning z Reject f None
+    × ((choice : Disambiguation) (d : DateTime) → choice ≢ Reject
+    → ShowsByClock z (instant_meant choice (reading f) before after) f.nanoseconds d
+    → IsMeaning z choice f (Some d))
+ChoicesAgree z f (More count) = IsMeaning z Reject f None
 
 -- whatever list the first is the meaning of, the second is that of this list with these at its end
 abbrev pub MeansMore : Meaning → Meaning → List FoundDateTimeKind → Type 0

@@ -3,7 +3,7 @@
 //! A function here does nothing, or calls the laws on which it rests, or makes one call that the law is about. Its contract is the law, stated like
 //! the contracts of [`crate::UtcDateTime`] and [`crate::DateTime`].
 
-ghost use Rattle.std.specs.Prelude.{◌≡◌, ◌≢◌, ℕ, ◌<◌, true, pos, ℤ, Some, ◌+ℤ◌, ◌↔◌, ◌≤◌, ◌≤ℤ◌, length, List, [], Option, ⊤, alloc_error, FitsSigned};
+ghost use Rattle.std.specs.Prelude.{◌≡◌, ◌≢◌, ℕ, ◌<◌, true, pos, ℤ, Some, None, ◌+ℤ◌, ◌↔◌, ◌≤◌, ◌≤ℤ◌, length, List, [], ◌∷◌, Option, IfSome, ⊤, alloc_error, FitsSigned};
 ghost use Rattle.std.specs.List.{Contains};
 ghost use Rattle.std.specs.Duration.{as_nanos};
 ghost use Rattle.std.specs.Int.{w32};
@@ -22,19 +22,23 @@ ghost use Rattle.tz_zone.specs.ZoneRef.{zone_of};
 ghost use Rattle.tz.specs.FindFaults.{IsPromised, IsFindFault};
 ghost use Rattle.tz.specs.Found.{EachCanBeMade, IsFound};
 ghost use Rattle.tz.specs.Meanings.{IsMeaning, IsMeaningFault};
+ghost use Rattle.tz.specs.LocalMeanings.{ChoicesAgree, HasMeaning};
 ghost use Rattle.tz.specs.Windows.{IsWindow, TakesEffectIn, AreRising, AtMostTakeEffectIn};
 ghost use Rattle.tz.specs.PrintedText.{printed_text};
-ghost use Rattle.tz.specs.DateTimeText.{IsDateTimeText, IsDateTimeTextFault};
+ghost use Rattle.tz.specs.DateTimeText.{IsDateTimeText, IsDateTimeTextFault, IsTextOf};
 ghost use Rattle.tz.specs.declared.parse.parsed_date_time.ParsedDateTime.{ParsedDateTime};
 ghost use Rattle.tz.specs.declared.parse.error.ParseDateTimeError.{ParseDateTimeError};
 ghost use Rattle.tz.specs.declared.datetime.disambiguation.Disambiguation.{Disambiguation};
+ghost use Rattle.tz.specs.declared.datetime.disambiguation.Disambiguation.TheVariants.{Reject as reject};
 ghost use Rattle.tz.specs.declared.datetime.found.FoundDateTimeKind.{FoundDateTimeKind};
-ghost use Rattle.tz.specs.declared.datetime.found.FoundDateTimeKind.TheVariants.{Normal as normal};
+ghost use Rattle.tz.specs.declared.datetime.found.FoundDateTimeKind.TheVariants.{Normal as normal, Skipped as skipped};
+ghost use Rattle.tz.specs.declared.datetime.meaning.Meaning.{Meaning};
+ghost use Rattle.tz.specs.declared.datetime.meaning.Meaning.TheVariants.{Nothing as nothing, Once as once, Twice as twice, Skipped as gap, More as more};
 ghost use Rattle.tz.specs.contracts.datetime.utc_date_time.UtcDateTimeOrd.TheImpl as utc_order;
 ghost use Rattle.tz.specs.DateTimes.{DateTime, IsDateTime, IsUtc, IsUtcAt, IsPastTheEnd, IsShowFault, IsClockFault, IsForwards, IsBackwards, ShowsByClock, utc_total, total_of, moment_eq, moment_cmp};
 
 use crate::{DateTime, TimeZoneRef};
-use tz_zone::laws::shown_types_are_sound;
+use tz_zone::laws::{shown_types_are_sound, type_parts_are_sound};
 
 /// [`UtcDateTime::from_timespec`] of a date time's Unix time and nanoseconds is that date time again, unless its second is 60.
 pub fn utc_date_times_come_back()
@@ -98,6 +102,40 @@ pub fn search_errors_are_unique()
 pub fn meanings_are_unique()
     ensures meant { (z : Zone) (choice : Disambiguation) (f : Fields) (d e : Option DateTime) → IsMeaning z choice f d → IsMeaning z choice f e → d ≡ e }
     ensures refused { (z : Zone) (choice : Disambiguation) (f : Fields) (e e' : TzError) → IsMeaningFault z choice f e → IsMeaningFault z choice f e' → e ≡ e' }
+    ensures either { (z : Zone) (choice : Disambiguation) (f : Fields) (d : Option DateTime)
+        (e : TzError) → IsMeaning z choice f d → IsValid f → EachCanBeMade (IsClock z) f
+        → IfSome d (λ shown. FitsSigned w32 shown.fields.year) → ¬ IsMeaningFault z choice f e }
+{}
+
+/// [`crate::DateTime::meaning`] has one value for a zone and fields, by which the list of
+/// [`crate::DateTime::find`] is known, or its length if that is all. Its errors are the search's.
+pub fn local_meanings_are_unique()
+    ensures unique { (z : Zone) (f : Fields) (m m' : Meaning)
+        → HasMeaning z f m → HasMeaning z f m' → m ≡ m' }
+    ensures nothing { (z : Zone) (f : Fields) → HasMeaning z f nothing ↔ IsFound (IsClock z) f [] }
+    ensures once { (z : Zone) (f : Fields) (d : DateTime)
+        → HasMeaning z f (once d) ↔ IsFound (IsClock z) f (normal d ∷ []) }
+    ensures twice { (z : Zone) (f : Fields) (first last : DateTime)
+        → HasMeaning z f (twice first last)
+        ↔ IsFound (IsClock z) f (normal first ∷ normal last ∷ []) }
+    ensures skipped { (z : Zone) (f : Fields) (before after : DateTime)
+        → HasMeaning z f (gap before after) ↔ IsFound (IsClock z) f (skipped before after ∷ []) }
+    ensures more { (z : Zone) (f : Fields) (count : ℕ) (found : List FoundDateTimeKind)
+        → HasMeaning z f (more count) → IsFound (IsClock z) f found
+        → (count ≡ length found) × (2 ≤ count) }
+{}
+
+/// What each [`crate::datetime::Disambiguation`] gives of fields agrees with their meaning. This is
+/// `Once` exactly where every choice gives its date time, and `Nothing` exactly where a choice but
+/// `Reject` gives none. `Reject` gives none wherever it is not `Once`.
+pub fn choices_agree_with_meanings()
+    ensures agree { (z : Zone) (f : Fields) (m : Meaning) → HasMeaning z f m → ChoicesAgree z f m }
+    ensures once { (z : Zone) (f : Fields) (d : DateTime)
+        → HasMeaning z f (once d) ↔ ((choice : Disambiguation) → IsMeaning z choice f (Some d)) }
+    ensures nothing { (z : Zone) (f : Fields) (choice : Disambiguation)
+        → choice ≢ reject → HasMeaning z f nothing ↔ IsMeaning z choice f None }
+    ensures rejected { (z : Zone) (f : Fields) (m : Meaning)
+        → HasMeaning z f m → IsMeaning z reject f None ↔ ((d : DateTime) → m ≢ once d) }
 {}
 
 /// No local time is lost: if the clock has a type at each instant of a reading's window, it shows the reading there or is set forward over it.
@@ -120,6 +158,14 @@ pub fn shown_date_times_are_found()
         → IsFindFault ⊤ (IsClock z) d.fields e → e ≡ Memory alloc_error }
     ensures promised { (z : Zone) (f : Fields) → ((u : ℤ) (t : LocalTimeType) → IsClock z u t → FitsSigned w32 t.ut_offset) → IsValid f → IsPromised z f.year
         → EachCanBeMade (IsClock z) f }
+{}
+
+/// Each date time that [`crate::DateTime::find`] lists, [`crate::DateTime::from_timespec`] shows at
+/// its Unix time, unless its second is 60.
+pub fn found_date_times_are_shown()
+    ensures { (z : Zone) (f : Fields) (d : DateTime) (found : List FoundDateTimeKind)
+        → IsValid f → f.second < 60 → IsFound (IsClock z) f found → Contains found (normal d)
+        → ShowsByClock z d.unix_time f.nanoseconds d }
 {}
 
 /// If the list of a search in a zone is promised, each of its entries can be made.
@@ -150,4 +196,24 @@ pub fn printed_texts_are_read()
     ensures read { (f : Fields) (offset : ℤ) → IsValid f → ¬ IsPastTheEnd f → FitsSigned w32 f.year → FitsSigned w32 offset → IsOffset offset
         → IsDateTimeText (printed_text f offset) (record { local = f; ut_offset = Some offset }) }
     ensures utc { (f : Fields) → IsUtc f → ¬ IsPastTheEnd f }
+{}
+
+/// What [`DateTime`] prints, [`crate::ParsedDateTime::parse`] reads as its fields, its offset and
+/// its Unix time, unless it has second 60 of the last minute of all.
+pub fn printed_date_times_are_read(date_time: &DateTime)
+    ensures { ¬ IsPastTheEnd date_time.now.fields
+        → IsTextOf (printed_text date_time.now.fields date_time.now.local_time_type.ut_offset)
+        date_time.now }
+{
+    date_time_parts_are_sound(date_time);
+    type_parts_are_sound(date_time.local_time_type());
+    let _ = date_time.year();
+}
+
+/// What [`crate::ParsedDateTime::parse`] reads of a text with an offset has a printed form, which a
+/// date time with this local time and this offset prints. It is read as the same.
+pub fn read_texts_have_a_printed_form()
+    ensures { (text : List ℕ) (p : ParsedDateTime) (offset : ℤ)
+        → IsDateTimeText text p → p.ut_offset ≡ Some offset
+        → IsDateTimeText (printed_text p.local offset) p }
 {}

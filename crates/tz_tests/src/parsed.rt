@@ -59,6 +59,7 @@ fn reads_years_of_every_length(rt: HostRuntime) -> Result<(), Fail> {
 0-01-01T12:00:00 | (0, 1, 1, (12, 0, 0), 0) None
 0000-01-01T12:00:00 | (0, 1, 1, (12, 0, 0), 0) None
 -0000-02-29T12:00:00 | (0, 2, 29, (12, 0, 0), 0) None
+-0-02-29T12:00:00 | (0, 2, 29, (12, 0, 0), 0) None
 7-10-31T12:00:00 | (7, 10, 31, (12, 0, 0), 0) None
 42-10-31T12:00:00 | (42, 10, 31, (12, 0, 0), 0) None
 999-10-31T12:00:00 | (999, 10, 31, (12, 0, 0), 0) None
@@ -109,7 +110,7 @@ fn reads_fractions_of_every_length(rt: HostRuntime) -> Result<(), Fail> {
 /// Each place of a text at which something else stands, or nothing.
 #[test]
 fn says_what_is_missing_and_where(rt: HostRuntime) -> Result<(), Fail> {
-    static ROWS: [(&str, DateTimePart, usize); 48] = [
+    static ROWS: [(&str, DateTimePart, usize); 49] = [
         ("", Year, 0),
         ("-", Year, 0),
         ("+2024-05-06T07:08:09Z", Year, 0),
@@ -155,6 +156,7 @@ fn says_what_is_missing_and_where(rt: HostRuntime) -> Result<(), Fail> {
         ("2024-05-06T07:08:09+0100", Colon, 24),
         ("2024-05-06T07:08:09+01:60", OffsetMinute, 23),
         ("2024-05-06T07:08:09+01:00:", OffsetSecond, 25),
+        ("2024-05-06T07:08:09+596523:15", OffsetMinute, 27),
         ("2024-05-06T07:08:09+596523:14:08", OffsetSecond, 29),
         ("2024-05-06T07:08:09Z ", End, 20),
         ("2024-05-06T07:08:09+01:00:007", End, 28),

@@ -37,6 +37,7 @@ impl ParsedDateTime {
     ghost use Rattle.tz_base.specs.Fields.{reading};
 
     /// Reads a date and a time in the form of RFC 3339, with years and offsets as `Display` prints them, and with or without an offset.
+    /// RFC 3339 has fractions of any length; those of more than nine digits are refused.
     ///
     /// # Errors
     ///
