@@ -177,4 +177,5 @@ static void test_null_parameters(void) {
 void test_null(void) {
   test_null_parts();
   test_null_parameters();
+  EXPECT(tz_abi_2(), TZ_ABI);
 }

@@ -38,6 +38,14 @@ extern "C" {
 /* The number of this header's layout: the first number of `tz_layout`. */
 #define TZ_ABI 2
 
+/* Returns TZ_ABI. Each file that includes this header refers to it, and a library of another layout
+   has no function of this name: so the two are refused when they are linked or loaded. A program that
+   does not link the library, but loads it by `dlopen`, defines TZ_NO_ABI_CHECK before. */
+uint32_t tz_abi_2(void);
+#if defined(__GNUC__) && !defined(TZ_NO_ABI_CHECK)
+__attribute__((used)) static uint32_t (*const tz_abi_of_header)(void) = tz_abi_2;
+#endif
+
 /* ---- Codes ---------------------------------------------------------------------------------------------------------------------------- */
 
 typedef uint32_t tz_code;

@@ -5,7 +5,7 @@ import subprocess
 import tempfile
 import unittest
 
-from . import erasure, forms
+from . import erasure, exports, forms
 from .cut import without_ghosts
 from .tokens import Stop
 
@@ -89,6 +89,37 @@ class Cuts(unittest.TestCase):
             " Some(-((a + 1) as i64) + sum) }"
         )
         self.assertEqual("".join(made.split()), "".join(wanted.split()))
+
+
+class Exports(unittest.TestCase):
+    """A function for C, and the source's own."""
+
+    def both(self, given, imports="use tz_zone::{Global, ZoneData};\n"):
+        text = f'{imports}\n/// Docs.\n#[unsafe(no_mangle)]\npub extern "C" fn two({given}) -> u32 {{\n    3\n}}\n'
+        own = exports.without_exports(PATH, text)
+        return own, exports.exported([(PATH, "crate::one", text)])
+
+    def test_slices_and_structs_of_slices(self):
+        own, made = self.both("a: Global, b: &[i64], c: &ZoneData<'_>, d: &mut [u8], e: i8, f: &mut usize")
+        self.assertIn("/// Docs.\n#[inline(always)]\npub fn two(a: Global, b: &[i64], c:", own)
+        self.assertIn("use crate::{one};", made)
+        self.assertIn(
+            'pub unsafe extern "C" fn two(b: *const i64, b_length: usize, c: &Zone, d: *mut u8, d_length: usize, e: i8, f: &mut usize) -> u32',
+            made,
+        )
+        self.assertIn("let (b, c, d) = unsafe { (list(b, b_length), c.data(), list_mut(d, d_length)) };", made)
+        self.assertIn("one::two(Global, b, &c, d, e, f)", made)
+
+    def test_values_alone(self):
+        _, made = self.both("a: bool, b: &mut u64")
+        self.assertIn('#[unsafe(no_mangle)]\npub extern "C" fn two(a: bool, b: &mut u64) -> u32 {\n    one::two(a, b)\n}', made)
+
+    def test_stops(self):
+        for given in ("a: Two", "a: &Option<u8>", "a: &mut ZoneData<'_>", "a: ZoneData<'_>", "a: *const u8", "a: &[ZoneData<'_>]"):
+            with self.assertRaisesRegex(Stop, "two takes what is not known to cross"):
+                self.both(given)
+        with self.assertRaisesRegex(Stop, "an export in a form that is not known"):
+            exports.without_exports(PATH, 'extern "C" fn two() {}')
 
 
 class Checks(unittest.TestCase):

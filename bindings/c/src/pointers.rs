@@ -2,8 +2,8 @@
 //!
 //! They require what tz.h asks of a caller. A pointer is aligned, and points to as many values of
 //! its type as the length says. While a call runs nothing else writes to what it reads, and nothing
-//! else reads or writes what it writes to. With length 0 the pointer is not used, so it may be null.
-//! A pointer to one value is a reference in Rust, which crosses alike.
+//! else reads or writes what it writes to. With length 0 a pointer is not used, and may be null. A
+//! pointer to one value is a reference in Rust, which crosses alike.
 #![allow(unsafe_code)]
 
 use crate::proved::tz_c::zones::{OffsetsData, PartsData};

@@ -26,7 +26,8 @@ mod proved;
 #[cfg(feature = "inner")]
 #[doc(hidden)]
 #[allow(dead_code, missing_docs, unused_imports, unused_variables)]
-#[allow(clippy::all)]
+// Docs of what the crate does not have here name laws.
+#[allow(clippy::all, rustdoc::broken_intra_doc_links)]
 #[deny(clippy::incompatible_msrv)]
 pub mod proved;
 #[cfg(not(feature = "inner"))]

@@ -1,0 +1,147 @@
+"""Whole columns in one call each, over the buffers of the caller."""
+
+import re
+import sys
+from array import array
+from ctypes import addressof, byref, c_char, c_uint32, sizeof
+from itertools import combinations
+from typing import Any, Optional, Sequence, Tuple
+
+from . import _library
+from ._library import OK, DateTime, LocalTime, LocalTimeType, Parts, TzError, Zone, check
+
+_ORDER = "[@=<]?" if sys.byteorder == "little" else "[@=>!]?"
+# The fields of a LocalTime as numpy and ctypes describe them.
+_FIELDS = rf"T{{{_ORDER}[il]:\w+:({_ORDER}B:\w+:){{5}}(3x|xxx)?{_ORDER}[IL]:\w+:}}"
+_INT64, _INT32 = "64-bit signed integers", "32-bit signed integers"
+_UINT32, _BYTES = "32-bit unsigned integers", "bytes"
+# What columns hold: its formats, its size and its alignment.
+_KINDS = {
+    _INT64: (re.compile(_ORDER + "[qln]"), 8, 8),
+    _INT32: (re.compile(_ORDER + "[il]"), 4, 4),
+    _UINT32: (re.compile(_ORDER + "[IL]"), 4, 4),
+    LocalTime.__name__: (re.compile(_FIELDS), 16, 4),
+    _BYTES: (re.compile("B"), 1, 1),
+}
+_AT_A_TIME = 4096
+
+
+class _Column:
+    """The memory of a buffer, which is held, so that it stays where it is."""
+
+    def __init__(self, name: str, data: Any, *kinds: str, length: Optional[int] = None) -> None:
+        """A column to read, or with a length one to write, which must have it."""
+        view = memoryview(data)
+        self.kind = next((kind for kind in kinds if _is_of(view, kind)), None)
+        if self.kind is None:
+            raise TypeError(f"{name} has the format {view.format!r}, not {' or '.join(kinds)}")
+        if view.ndim != 1 or not view.c_contiguous:
+            raise ValueError(f"{name} is no contiguous column of one dimension")
+        self.name, self.length, self.bytes = name, len(view), view.nbytes
+        if length is not None and self.length != length:
+            raise ValueError(f"{name} has the length {self.length}, not {length}")
+        if length is not None and view.readonly:
+            raise ValueError(f"{name} is read-only")
+        if view.readonly:
+            view = memoryview(bytearray(view.tobytes()))
+        self._held = c_char.from_buffer(view) if self.length else None
+        self.address = addressof(self._held) if self.length else None
+        if self.length and self.address % _KINDS[self.kind][2]:
+            raise ValueError(f"{name} is not aligned")
+
+
+def _is_of(view: memoryview, kind: str) -> bool:
+    pattern, size, _ = _KINDS[kind]
+    return view.itemsize == size and pattern.fullmatch(view.format) is not None
+
+
+def _new(typecode: str, length: int) -> "array[int]":
+    return array(typecode, [0]) * length
+
+
+def _refuse_overlap(*columns: _Column) -> None:
+    for one, other in combinations((column for column in columns if column.length), 2):
+        if one.address < other.address + other.bytes and other.address < one.address + one.bytes:
+            raise ValueError(f"{one.name} and {other.name} overlap")
+
+
+def _refused(codes: "array[int]") -> Sequence[int]:
+    """The places of codes that are not TZ_OK."""
+    if codes.tobytes() == bytes(codes.itemsize * len(codes)):
+        return ()
+    return [index for index, code in enumerate(codes) if code != OK]
+
+
+def _raise_first(codes: "array[int]") -> None:
+    for index in _refused(codes):
+        raise TzError(codes[index], index=index)
+
+
+def offsets(zone: Zone, instants: Any, out: Any, codes: Any) -> Any:
+    """What `ZoneInfo.offsets` does."""
+    read = _Column("instants", instants, _INT64)
+    length = read.length
+    out = _new("i", length) if out is None else out
+    own = _new("I", length) if codes is None else codes
+    written = _Column("out", out, _INT32, length=length)
+    answers = _Column("codes", own, _UINT32, length=length)
+    _refuse_overlap(read, written, answers)
+    columns = written.address, length, answers.address, length
+    check(_library.column_offsets(read.address, length, byref(zone), *columns))
+    if codes is None:
+        _raise_first(own)
+    return out
+
+
+def instants(zone: Zone, local_times: Any, choice: int, out: Any, codes: Any) -> Any:
+    """What `ZoneInfo.instants` does."""
+    read = _Column("local_times", local_times, _INT64, LocalTime.__name__)
+    length = read.length
+    out = _new("q", length) if out is None else out
+    own = _new("I", length) if codes is None else codes
+    written = _Column("out", out, _INT64, length=length)
+    answers = _Column("codes", own, _UINT32, length=length)
+    _refuse_overlap(read, written, answers)
+    out_of_range = array("I")
+    if read.kind == _INT64:
+        read, out_of_range = _local_times_of(read)
+    columns = written.address, length, answers.address, length
+    check(_library.column_instants(read.address, length, choice, byref(zone), *columns))
+    for index in _refused(out_of_range):
+        c_uint32.from_address(answers.address + 4 * index).value = out_of_range[index]
+    if codes is None:
+        _raise_first(own)
+    return out
+
+
+_utc_type = LocalTimeType()
+_utc = Zone(Parts(types=addressof(_utc_type), types_length=1))
+check(_library.zone_check(_utc.parts, _utc.offsets))
+
+
+def _local_times_of(seconds: _Column) -> Tuple[_Column, "array[int]"]:
+    """The local times of a column of seconds, and the code of each that is out of range.
+
+    They are the first words of the date times of UTC at these seconds, and are copied some
+    thousands at a time, which a processor's cache holds.
+    """
+    to, step = sizeof(LocalTime) // 8, sizeof(DateTime) // 8
+    local_times = bytearray(seconds.length * sizeof(LocalTime))
+    date_times = bytearray(_AT_A_TIME * sizeof(DateTime))
+    words, shown = memoryview(local_times).cast("Q"), memoryview(date_times).cast("Q")
+    codes = _new("I", seconds.length)
+    nanoseconds = _Column("", _new("I", _AT_A_TIME), _UINT32)
+    slots, answers = _Column("", date_times, _BYTES), _Column("", codes, _UINT32)
+    for start in range(0, seconds.length, _AT_A_TIME):
+        count = min(_AT_A_TIME, seconds.length - start)
+        check(
+            _library.column_date_times(
+                seconds.address + 8 * start, count, nanoseconds.address, count, byref(_utc),
+                slots.address, count, answers.address + 4 * start, count,
+            )
+        )  # fmt: skip
+        for word in range(to):
+            words[start * to + word : (start + count) * to : to] = shown[word : count * step : step]
+    for index in _refused(codes):
+        local_times[index * sizeof(LocalTime) + LocalTime.month.offset] = 0  # no month
+    return _Column("", local_times, _BYTES), codes

@@ -1,0 +1,427 @@
+"""Time zones as `datetime` takes them."""
+
+import os
+import pickle
+import re
+import threading
+import weakref
+import zoneinfo
+from collections import OrderedDict
+from ctypes import addressof, byref, c_size_t
+from datetime import datetime, timedelta, tzinfo
+from importlib import resources
+from typing import TYPE_CHECKING, Any, BinaryIO, ClassVar, Dict, Iterable, List, Literal, Optional
+from typing import Tuple
+from zoneinfo import ZoneInfoNotFoundError
+
+from . import _columns, _library
+from ._library import check
+
+if TYPE_CHECKING:
+    from typing_extensions import Buffer, Self
+
+Choice = Literal["compatible", "earlier", "later", "reject"]
+
+_EPOCH_DAY = datetime(1970, 1, 1).toordinal()
+_LEAST_INSTANT = -(1 << 63)
+_PART = re.compile(r"[0-9A-Za-z._+-]+", re.ASCII)
+# How many zones are kept although nobody holds them, as `zoneinfo` keeps them.
+_MOST_RECENT = 8
+# A zone keeps spans by the 2^22 seconds, some 48 days, in which they were asked for.
+_SPAN_BITS, _MOST_SPANS = 22, 1024
+# For `dst`, in seconds: double summer time, the most in the tz database, and the usual amount.
+_MOST_SAVING, _USUAL_SAVING = 7200, 3600
+# How many changes away a standard time is looked for: wartime London had eleven without one.
+_MOST_CHANGES = 16
+
+
+class _Span:
+    """A span of instants in which a clock has one type."""
+
+    __slots__ = ("first", "last", "kind", "offset", "name", "saving")
+
+    def __init__(self, segment: _library.Segment) -> None:
+        self.first, self.last = segment.first, segment.last
+        self.kind = kind = _library.LocalTimeType.from_buffer_copy(segment.local_time_type)
+        self.offset = timedelta(seconds=kind.ut_offset)
+        self.name = kind.designation.decode() if kind.designation_length else None
+        self.saving: Optional[timedelta] = None
+
+
+class ZoneInfo(tzinfo):
+    """A time zone of the tz database, by its name, as `zoneinfo.ZoneInfo` is one.
+
+    >>> from datetime import datetime
+    >>> paris = ZoneInfo("Europe/Paris")
+    >>> datetime(2000, 7, 1, 12, tzinfo=paris).isoformat()
+    '2000-07-01T12:00:00+02:00'
+
+    The file is looked for in the directories of `zoneinfo.TZPATH`, then in the package ``tzdata``
+    if it is installed. One name gives one object as long as that is alive: zones are equal only
+    to themselves, and `datetime` takes two objects for two zones.
+
+    A local time in a fold, where clocks go back, means the first of its instants with ``fold=0``,
+    and the last with ``fold=1``. One in a gap, where they go forward, has the offset from before
+    the gap with ``fold=0``, and that from after it with ``fold=1`` (PEP 495).
+
+    Raises `ZoneInfoNotFoundError` if no zone has the name, `ValueError` if the name is a path or
+    the file is refused, and `OSError` if it cannot be read.
+    """
+
+    __slots__ = (
+        "_key", "_from_cache", "_text", "_source", "_zone", "_rule", "_tables", "_always", "_spans",
+        "_least", "_greatest", "__weakref__",
+    )  # fmt: skip
+
+    _lock: ClassVar[Any] = threading.RLock()
+    _alive: ClassVar[Any] = weakref.WeakValueDictionary()
+    _recent: ClassVar[Any] = OrderedDict()
+
+    def __init_subclass__(cls) -> None:
+        super().__init_subclass__()
+        cls._alive, cls._recent = weakref.WeakValueDictionary(), OrderedDict()
+
+    def __new__(cls, key: str) -> "Self":
+        with cls._lock:
+            zone = cls._alive.get(key)
+        if zone is None:
+            zone = cls._named(key, from_cache=True)
+        with cls._lock:
+            zone = cls._alive.setdefault(key, zone)
+            cls._recent[key] = cls._recent.pop(key, zone)
+            if len(cls._recent) > _MOST_RECENT:
+                cls._recent.popitem(last=False)
+        return zone
+
+    @classmethod
+    def no_cache(cls, key: str) -> "Self":
+        """A new object of the zone with a name."""
+        return cls._named(key, from_cache=False)
+
+    @classmethod
+    def clear_cache(cls, *, only_keys: Optional[Iterable[str]] = None) -> None:
+        """Forgets the objects of all names, or of these: the next one is read from its file."""
+        with cls._lock:
+            for key in list(cls._alive.keys()) if only_keys is None else only_keys:
+                cls._alive.pop(key, None)
+                cls._recent.pop(key, None)
+
+    @classmethod
+    def from_file(cls, fobj: BinaryIO, /, key: Optional[str] = None) -> "Self":
+        """The zone of a TZif file (RFC 8536, versions 1 to 4), which is read to its end.
+
+        Raises `ValueError` if it is refused.
+        """
+        return cls._of_file(fobj.read(), key, repr(fobj))
+
+    @classmethod
+    def from_tz_string(cls, text: str, /) -> "Self":
+        """The zone of a TZ string (RFC 8536, 3.3.1: its times of day are from -167 to 167 hours).
+
+        >>> zone = ZoneInfo.from_tz_string("CET-1CEST,M3.5.0,M10.5.0/3")
+
+        Raises `ValueError` if it is refused.
+        """
+        if not isinstance(text, str):
+            raise TypeError(f"a TZ string is a str, not {type(text).__name__}")
+        zone = super().__new__(cls)
+        zone._key, zone._from_cache, zone._text, zone._source = None, False, text, repr(text)
+        string, rule = text.encode(errors="surrogatepass"), _library.Rule()
+        check(_library.string_read(string, len(string), True, rule), repr(text))
+        standard = rule.fixed if rule.kind == _library.FIXED else rule.alternate.types[0]
+        types = (_library.LocalTimeType * 1)(standard)
+        zone._join([(_library.Transition * 0)(), types, (_library.LeapSecond * 0)()], rule)
+        return zone
+
+    @classmethod
+    def _named(cls, key: str, from_cache: bool) -> "Self":
+        zone = cls._of_file(_bytes_of_zone(key), key, None)
+        zone._from_cache = from_cache
+        return zone
+
+    @classmethod
+    def _of_file(cls, data: bytes, key: Optional[str], source: Optional[str]) -> "Self":
+        if not isinstance(data, bytes):
+            raise TypeError(f"a TZif file is read as bytes, not {type(data).__name__}")
+        zone = super().__new__(cls)
+        zone._key, zone._from_cache, zone._text, zone._source = key, False, None, source
+        name = source if key is None else key
+        sizes, rule, offsets = _library.Sizes(), _library.Rule(), _library.Offsets()
+        check(_library.file_sizes(data, len(data), sizes), name)
+        transitions = (_library.Transition * sizes.transitions)()
+        types = (_library.LocalTimeType * sizes.types)()
+        tables = [transitions, types, (_library.LeapSecond * sizes.leap_seconds)()]
+        slices = [part for table in tables for part in (table, len(table))]
+        code = _library.file_read(data, len(data), *slices, rule, offsets)
+        if code in _library.STRING_CODES:
+            footer = data[len(data) - sizes.footer :].strip().decode(errors="replace")
+            name = f"{name}: {footer}"
+        check(code, name)
+        if transitions and rule.kind == _library.NONE:
+            # The file does not determine what holds after its last transition. The type of that
+            # stays, as in `zoneinfo`, since a `datetime` needs an offset.
+            rule.kind = _library.FIXED
+            rule.fixed = types[transitions[-1].local_time_type_index]
+        zone._join(tables, rule)
+        return zone
+
+    def _join(self, tables: List[Any], rule: _library.Rule) -> None:
+        """Makes the zone of its tables and its rule, and checks it."""
+        self._zone, self._tables, self._rule = _library.Zone(), tables, rule
+        parts, offsets = self._zone.parts, self._zone.offsets
+        parts.transitions, parts.types, parts.leap_seconds = map(addressof, tables)
+        parts.transitions_length, parts.types_length, parts.leap_seconds_length = map(len, tables)
+        parts.fixed, parts.alternate = addressof(rule.fixed), addressof(rule.alternate)
+        parts.fixed_length = rule.kind == _library.FIXED
+        parts.alternate_length = rule.kind == _library.ALTERNATE
+        check(_library.zone_check(parts, offsets), self._source if self._key is None else self._key)
+        self._least, self._greatest = offsets.least, offsets.greatest
+        self._spans: Dict[int, _Span] = {}
+        # A time without a date has the type that holds at all instants, if there is one.
+        change = _library.Change()
+        code = _library.following(self._zone, _LEAST_INSTANT, change)
+        self._always = self._span_at(0) if code == _library.NO_CHANGE else None
+
+    @property
+    def key(self) -> Optional[str]:
+        """The name, or ``None`` for a zone of a TZ string, or of a file without a name."""
+        return self._key
+
+    def utcoffset(self, dt: Optional[datetime]) -> Optional[timedelta]:
+        """What is added to UTC. Of a time without a date ``None``, unless clocks never change."""
+        span = self._shown(dt)
+        return None if span is None else span.offset
+
+    def tzname(self, dt: Optional[datetime]) -> Optional[str]:
+        """The abbreviation, such as ``CEST``. ``None`` as for `utcoffset`, and if it has none."""
+        span = self._shown(dt)
+        return None if span is None else span.name
+
+    def dst(self, dt: Optional[datetime]) -> Optional[timedelta]:
+        """How far clocks are ahead of standard time: zero exactly in standard time.
+
+        Zones only have a flag for daylight saving time, so its amount is inferred: how far clocks
+        are ahead of the last standard time before it or of the first one after it, whichever is
+        nearer to an hour, and an hour if neither is within two. It is negative in Dublin in winter.
+        ``None`` as for `utcoffset`.
+        """
+        span = self._shown(dt)
+        if span is None:
+            return None
+        if span.saving is None:
+            span.saving = timedelta(seconds=self._saving(span))
+        return span.saving
+
+    def fromutc(self, dt: datetime) -> datetime:
+        """The local time of a date and time of UTC whose ``tzinfo`` is this zone.
+
+        Its ``fold`` is 1 if clocks showed the same before.
+        """
+        if not isinstance(dt, datetime):
+            raise TypeError("fromutc() requires a datetime argument")
+        if dt.tzinfo is not self:
+            raise ValueError("fromutc() requires a datetime whose tzinfo is the zone")
+        instant = _seconds(dt)
+        span = self._span_at(instant)
+        local = dt + span.offset
+        # Clocks may show the same twice only as far apart as their offsets differ.
+        if instant - span.first < self._greatest - self._least:
+            shown = (entry.before for entry in self._found(local) if not entry.is_skipped)
+            if any(earlier.unix_time < instant for earlier in shown):
+                return local.replace(fold=1)
+        return local
+
+    def offsets(
+        self,
+        instants: "Buffer",
+        *,
+        out: Optional["Buffer"] = None,
+        codes: Optional["Buffer"] = None,
+    ) -> Any:
+        """The offsets from UTC, in seconds, of a column of instants.
+
+        ``instants`` has Unix seconds, as 64-bit signed integers: an ``array("q")``, a `memoryview`,
+        a numpy array of int64 or any other contiguous buffer of one dimension.
+
+        The offsets are written to ``out``, 32-bit signed integers, which is returned: to a new
+        ``array("i")`` if it is left out.
+
+        ``codes``, 32-bit unsigned integers, gets 0 at each place, or the code of its error, and
+        ``out`` stays as it is there. Without ``codes`` the first error is raised, a `TzError` with
+        the place as ``index``.
+
+        No other thread may write to these buffers during the call.
+        """
+        return _columns.offsets(self._zone, instants, out, codes)
+
+    def instants(
+        self,
+        local_times: "Buffer",
+        choice: Choice = "compatible",
+        *,
+        out: Optional["Buffer"] = None,
+        codes: Optional["Buffer"] = None,
+    ) -> Any:
+        """The instants, in Unix seconds, that a column of local times means by a choice.
+
+        ``local_times`` has seconds since 1970-01-01 00:00:00 of the zone's clock, as 64-bit signed
+        integers (numpy's ``datetime64[s]`` has such), or `LocalTime`.
+
+        ==============  =========  ====================================
+        choice          in a fold  in a gap
+        ==============  =========  ====================================
+        ``compatible``  the first  as much later as clocks jump forward
+        ``earlier``     the first  as much earlier
+        ``later``       the last   as much later
+        ``reject``      none       none
+        ==============  =========  ====================================
+
+        ``compatible`` is what `datetime.timestamp` does with ``fold=0``.
+
+        The instants are written to ``out``, 64-bit signed integers, which is returned: to a new
+        ``array("q")`` if it is left out. For ``codes``, errors and threads see `offsets`. The code
+        of none is 5.
+        """
+        if choice not in _library.CHOICES:
+            raise ValueError(f"a choice is one of {', '.join(_library.CHOICES)}, not {choice!r}")
+        return _columns.instants(self._zone, local_times, _library.CHOICES[choice], out, codes)
+
+    def __str__(self) -> str:
+        return repr(self) if self._key is None else self._key
+
+    def __repr__(self) -> str:
+        if self._key is not None:
+            return f"{type(self).__name__}(key={self._key!r})"
+        maker = "from_file" if self._text is None else "from_tz_string"
+        return f"{type(self).__name__}.{maker}({self._source})"
+
+    def __reduce__(self) -> Tuple[Any, ...]:
+        if self._text is not None:
+            return type(self).from_tz_string, (self._text,)
+        if self._source is not None:
+            raise pickle.PicklingError("a ZoneInfo of a file cannot be pickled")
+        return type(self)._unpickle, (self._key, self._from_cache)
+
+    @classmethod
+    def _unpickle(cls, key: str, from_cache: bool, /) -> "Self":
+        return cls(key) if from_cache else cls.no_cache(key)
+
+    def _span_at(self, instant: int) -> _Span:
+        """The span around an instant."""
+        span = self._spans.get(instant >> _SPAN_BITS)
+        if span is None or not span.first <= instant <= span.last:
+            segment = _library.Segment()
+            check(_library.segment_at(self._zone, instant, segment))
+            if not segment.has_type:
+                check(_library.type_at(self._zone, instant, segment.local_time_type), str(self))
+                segment.first = segment.last = instant
+            span = _Span(segment)
+            self._keep(instant, span)
+        return span
+
+    def _keep(self, seconds: int, span: _Span) -> None:
+        if len(self._spans) >= _MOST_SPANS:
+            self._spans.clear()
+        self._spans[seconds >> _SPAN_BITS] = span
+
+    def _shown(self, dt: Optional[datetime]) -> Optional[_Span]:
+        """The span in which a local time lies, or of the side of a gap that its fold says."""
+        if dt is None:
+            return self._always
+        if not isinstance(dt, datetime):
+            raise TypeError(f"a datetime or None is required, not {type(dt).__name__}")
+        seconds = _seconds(dt)
+        span = self._spans.get(seconds >> _SPAN_BITS)
+        # Wherever clocks show or skip this local time, they are between these two instants.
+        first, last = seconds - self._greatest, seconds - self._least
+        if span is None or not (span.first < first and last <= span.last):
+            span = self._span_at(self._instant_of(dt))
+            self._keep(seconds, span)
+        return span
+
+    def _instant_of(self, dt: datetime) -> int:
+        """An instant at which clocks have the offset of a local time, by its fold."""
+        found = self._found(dt)
+        shown = [entry.before for entry in found if not entry.is_skipped]
+        if shown:
+            return shown[-1 if dt.fold else 0].unix_time
+        if not found:
+            raise _library.TzError(_library.NO_TYPE, f"{self}: {dt.replace(tzinfo=None)}")
+        return found[-1].after.unix_time if dt.fold else found[0].before.unix_time - 1
+
+    def _found(self, dt: datetime) -> List[_library.Found]:
+        """All that a local time means: the instants at which clocks show it, the jumps over it."""
+        fields = _library.LocalTime(dt.year, dt.month, dt.day, dt.hour, dt.minute, dt.second, 0)
+        length, count = 2, c_size_t()
+        while True:
+            slots = (_library.Found * length)()
+            check(_library.find_n(fields, self._zone, 0, slots, length, byref(count)))
+            if count.value <= length:
+                return slots[: count.value]
+            length = count.value
+
+    def _saving(self, span: _Span) -> int:
+        """How far the type of a span is ahead of standard time."""
+        kind, rule = span.kind, self._rule
+        if not kind.is_dst:
+            return 0
+        offsets = [self._standard_before(span.first), self._standard_after(span.last)]
+        if rule.kind == _library.ALTERNATE and _library.same(kind, rule.alternate.types[1]):
+            offsets.append(rule.alternate.types[0].ut_offset)
+        amounts = [kind.ut_offset - offset for offset in offsets if offset is not None]
+        likely = [amount for amount in amounts if amount and abs(amount) <= _MOST_SAVING]
+        return min(likely, key=lambda amount: abs(amount - _USUAL_SAVING), default=_USUAL_SAVING)
+
+    def _standard_before(self, first: int) -> Optional[int]:
+        """The offset of the last standard time before a span that begins at an instant, if near."""
+        change, at = _library.Change(), first + 1
+        for _ in range(_MOST_CHANGES):
+            if _library.preceding(self._zone, at, change) != _library.OK:
+                break
+            if not change.before.is_dst:
+                return change.before.ut_offset
+            at = change.unix_time
+        return None
+
+    def _standard_after(self, last: int) -> Optional[int]:
+        """The offset of the first standard time after a span that ends at an instant, if near."""
+        change, at = _library.Change(), last
+        for _ in range(_MOST_CHANGES):
+            if _library.following(self._zone, at, change) != _library.OK:
+                break
+            if not change.after.is_dst:
+                return change.after.ut_offset
+            at = change.unix_time
+        return None
+
+
+# Where programs import it from, as they do for pickles.
+ZoneInfo.__module__ = "tz"
+
+
+def _seconds(dt: datetime) -> int:
+    """The seconds from 1970-01-01 00:00:00 to a date and time, both without a zone."""
+    days = dt.toordinal() - _EPOCH_DAY
+    return days * 86400 + dt.hour * 3600 + dt.minute * 60 + dt.second
+
+
+def _bytes_of_zone(key: str) -> bytes:
+    """The file of a name of the tz database."""
+    if not isinstance(key, str):
+        raise TypeError(f"a name of a zone is a str, not {type(key).__name__}")
+    parts = key.split("/")
+    if any(part in ("", ".", "..") for part in parts):
+        raise ValueError(f"a path is no name of a zone: {key!r}")
+    # No name has other characters, and some of these make a path, such as a backslash.
+    if all(map(_PART.fullmatch, parts)):
+        for directory in zoneinfo.TZPATH:
+            path = os.path.join(directory, *parts)
+            if os.path.isfile(path):
+                with open(path, "rb") as file:
+                    return file.read()
+        package = ".".join(["tzdata.zoneinfo", *parts[:-1]])
+        try:
+            return resources.files(package).joinpath(parts[-1]).read_bytes()
+        except (ImportError, OSError):
+            pass
+    raise ZoneInfoNotFoundError(f"No time zone found with key {key}")
