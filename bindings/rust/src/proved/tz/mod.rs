@@ -70,8 +70,11 @@
 //! # What is proved
 //!
 //! Each function meets its contract for all arguments, terminates, and has no undefined behaviour. The contract is written at the function. It says
-//! which value is returned and when the call fails, by definitions in `specs/` that follow RFC 8536 and POSIX. A call that allocates has an allocator
-//! as its first argument, or uses that of its value, and returns [`TzError::Memory`] if an allocation fails. All other calls do not allocate.
+//! which value is returned and when the call fails, by definitions in `specs/` that follow RFC 8536 and POSIX.
+//!
+//! A call that allocates has an allocator among its arguments, or uses that of its value, and
+//! returns [`TzError::Memory`], or an error that holds it, if it is out of memory. The other calls
+//! do not allocate; what they are passed may, as the writer to which a date time is printed.
 
 pub mod datetime;
 pub mod inner;

@@ -5,10 +5,13 @@ use core::error;
 use core::fmt;
 
 /// A part of a printed date time, and what can stand in its place.
+///
+/// An offset is below 2^31 seconds. Where one is not, the part with which it reaches that number is
+/// missing, even if this part is in its own range.
 #[derive(Clone, Copy, Debug, PartialEq, Eq)]
 pub enum DateTimePart {
-    /// The year, which fits an `i32`: digits, after `-` if it is negative. There are four or more, or those of a shorter number without
-    /// leading zeros.
+    /// The year, which fits an `i32`: digits, after `-` if it is negative; `-0` is year 0 as well.
+    /// There are four digits or more, or those of a shorter number without leading zeros.
     Year,
     /// `-` before the month or the day of the month.
     Hyphen,

@@ -30,6 +30,7 @@ fn read_date_time(text: &[u8]) -> Result<ParsedDateTime, Missing<'_>> {
 
 impl ParsedDateTime {
     /// Reads a date and a time in the form of RFC 3339, with years and offsets as `Display` prints them, and with or without an offset.
+    /// RFC 3339 has fractions of any length; those of more than nine digits are refused.
     ///
     /// # Errors
     ///
