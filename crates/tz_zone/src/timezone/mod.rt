@@ -25,4 +25,5 @@ pub use tz_rule::timezone::{
     TransitionRule,
 };
 pub use zone::TimeZone;
+pub use zone_name::is_zone_name;
 pub use zone_ref::TimeZoneRef;
