@@ -68,7 +68,8 @@ IsTimeAbove hours faults t e =
 
 -- a number of a time is missing, or all are read and one is above its limit
 abbrev pub IsHmsFault : ℕ → TimeFaults → List ℕ → TzStringError → Type 0
-IsHmsFault hours faults text e = (IsParseInt e × LacksTime text) ⊎ Reached IsHms text (λ t rest. IsTimeAbove hours faults t e)
+IsHmsFault hours faults text e =
+    (IsParseInt e × LacksTime text) ⊎ Reached IsHms text (λ t rest. IsTimeAbove hours faults t e)
 
 abbrev pub IsOffsetFault : List ℕ → TzStringError → Type 0
 IsOffsetFault text e = Reached IsSign text (λ minus unsigned. IsHmsFault offset_hours offset_faults unsigned e)

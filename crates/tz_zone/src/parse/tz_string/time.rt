@@ -43,7 +43,9 @@ impl WrittenTime {
 /// The number after a colon, or 0 if there is no colon, and the rest of the bytes.
 #[inline(always)]
 fn read_part(text: &[u8]) -> Result<(u32, &[u8]), TzStringError>
-    ensures { MatchResult result (λ p. IsPart text.now p.0 p.1.now) (λ e. IsParseInt e × LacksPart text.now) }
+    ensures { MatchResult result
+        (λ p. IsPart text.now p.0 p.1.now)
+        (λ e. IsParseInt e × LacksPart text.now) }
 {
     match after_byte(text, b':') {
         Some(number) => read_time_number(number),
@@ -54,7 +56,9 @@ fn read_part(text: &[u8]) -> Result<(u32, &[u8]), TzStringError>
 /// Hours, minutes and seconds after a sign that is read, and the rest of the bytes.
 #[inline(always)]
 pub(super) fn read_hms(text: &[u8], minus: bool) -> Result<(WrittenTime, &[u8]), TzStringError>
-    ensures { MatchResult result (λ p. IsHms text.now p.0 p.1.now × (p.0.minus ≡ minus)) (λ e. IsParseInt e × LacksTime text.now) }
+    ensures { MatchResult result
+        (λ p. IsHms text.now p.0 p.1.now × (p.0.minus ≡ minus))
+        (λ e. IsParseInt e × LacksTime text.now) }
 {
     let (hours, rest) = read_time_number(text)?;
     let (minutes, rest) = read_part(rest)?;
