@@ -38,27 +38,35 @@ lacks_no_part text n rest part within fault = elim part [
   | inr h ↦ absurd (h.0 (fault.0, fault.1))
 ]
 
-lacks_no_time : (limit : ℕ) (text : List ℕ) (t : WrittenTime) (rest : List ℕ) → IsHms text t rest → IsTimeUpTo limit t → limit < 2 ^ 31 → LacksTime text → ⊥
+lacks_no_time : (limit : ℕ) (text : List ℕ) (t : WrittenTime) (rest : List ℕ) → IsHms text t rest
+    → IsTimeUpTo limit t → limit < 2 ^ 31 → LacksTime text → ⊥
 lacks_no_time limit text t rest time range fits fault = elim fault [
-  | inl f ↦ let above : 2 ^ 31 ≤ t.hours = f t.hours time.after_hours time.hours_are in let within = range.hours_are in absurd (omega arith)
-  | inr f ↦ after_hours (reached_once IsNumber number_is_one text t.hours time.after_hours time.hours_are (λ n after_hours. LacksPart after_hours ⊎ Reached IsPart after_hours (λ m after_minutes. LacksPart after_minutes)) f)
+  | inl f ↦
+      let above : 2 ^ 31 ≤ t.hours = f t.hours time.after_hours time.hours_are in
+      let within = range.hours_are in
+      absurd (omega arith)
+  | inr f ↦
+      let lacks = λ (n : ℕ) (after : List ℕ). LacksPart after ⊎ Reached IsPart after (λ m more. LacksPart more) in
+      after_hours (reached_once IsNumber number_is_one text t.hours time.after_hours time.hours_are lacks f)
 ]
   where
-    after_hours : LacksPart time.after_hours ⊎ Reached IsPart time.after_hours (λ m after_minutes. LacksPart after_minutes) → ⊥
+    after_hours : LacksPart time.after_hours ⊎ Reached IsPart time.after_hours (λ m more. LacksPart more) → ⊥
     after_hours p = elim p [
       | inl f ↦ lacks_no_part time.after_hours t.minutes time.after_minutes time.minutes_are range.minutes_are f
       | inr f ↦ lacks_no_part time.after_minutes t.seconds rest time.seconds_are range.seconds_are
-          (reached_once IsPart part_is_one time.after_hours t.minutes time.after_minutes time.minutes_are (λ m after_minutes. LacksPart after_minutes) f)
+          (reached_once IsPart part_is_one time.after_hours t.minutes time.after_minutes time.minutes_are (λ m after. LacksPart after) f)
     ]
 
-no_time_above : (limit : ℕ) (faults : TimeFaults) (t u : WrittenTime) (e : TzStringError) → t.hours ≡ u.hours → t.minutes ≡ u.minutes → t.seconds ≡ u.seconds → IsTimeUpTo limit t → IsTimeAbove limit faults u e → ⊥
+no_time_above : (limit : ℕ) (faults : TimeFaults) (t u : WrittenTime) (e : TzStringError) → t.hours ≡ u.hours
+    → t.minutes ≡ u.minutes → t.seconds ≡ u.seconds → IsTimeUpTo limit t → IsTimeAbove limit faults u e → ⊥
 no_time_above limit faults t u e hours minutes seconds range above = elim above [
   | inl h ↦ omega (arith, hours, range.hours_are, h.1)
   | inr (inl h) ↦ omega (arith, minutes, range.minutes_are, h.2)
   | inr (inr h) ↦ omega (arith, seconds, range.seconds_are, h.3)
 ]
 
-no_hms_fault : (limit : ℕ) (faults : TimeFaults) (text : List ℕ) (t : WrittenTime) (rest : List ℕ) (e : TzStringError) → IsHms text t rest → IsTimeUpTo limit t → limit < 2 ^ 31 → IsHmsFault limit faults text e → ⊥
+no_hms_fault : (limit : ℕ) (faults : TimeFaults) (text : List ℕ) (t : WrittenTime) (rest : List ℕ) (e : TzStringError)
+    → IsHms text t rest → IsTimeUpTo limit t → limit < 2 ^ 31 → IsHmsFault limit faults text e → ⊥
 no_hms_fault limit faults text t rest e time range fits (inl f) = lacks_no_time limit text t rest time range fits f.1
 no_hms_fault limit faults text t rest e time range fits (inr (u, more, other, above)) =
     let one = times_are_one text t u rest more time other in

@@ -89,14 +89,16 @@ same_time t u a b c d =
     let same : time_of t.minus t.hours t.minutes t.seconds ≡ time_of u.minus u.hours u.minutes u.seconds = cc in same
 
 -- the numbers of a time are read in one way, whatever its sign
-pub times_are_one : (text : List ℕ) (t u : WrittenTime) (rest more : List ℕ) → IsHms text t rest → IsHms text u more → (t.hours ≡ u.hours) × (t.minutes ≡ u.minutes) × (t.seconds ≡ u.seconds) × (rest ≡ more)
+pub times_are_one : (text : List ℕ) (t u : WrittenTime) (rest more : List ℕ) → IsHms text t rest → IsHms text u more
+    → (t.hours ≡ u.hours) × (t.minutes ≡ u.minutes) × (t.seconds ≡ u.seconds) × (rest ≡ more)
 times_are_one text t u rest more a b =
     let hours = number_is_one text t.hours u.hours a.after_hours b.after_hours a.hours_are b.hours_are in
     let minutes = part_is_one b.after_hours t.minutes u.minutes a.after_minutes b.after_minutes (rw hours.1 at a.minutes_are) b.minutes_are in
     let seconds = part_is_one b.after_minutes t.seconds u.seconds rest more (rw minutes.1 at a.seconds_are) b.seconds_are in
     (hours.0, minutes.0, seconds.0, seconds.1)
 
-pub hms_is_one : (text : List ℕ) (t u : WrittenTime) (rest more : List ℕ) → t.minus ≡ u.minus → IsHms text t rest → IsHms text u more → (t ≡ u) × (rest ≡ more)
+pub hms_is_one : (text : List ℕ) (t u : WrittenTime) (rest more : List ℕ) → t.minus ≡ u.minus → IsHms text t rest
+    → IsHms text u more → (t ≡ u) × (rest ≡ more)
 hms_is_one text t u rest more sign a b =
     let one = times_are_one text t u rest more a b in
     (same_time t u sign one.0 one.1 one.2, one.3)
