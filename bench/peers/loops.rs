@@ -73,6 +73,10 @@ pub trait Zone: Sized {
     fn column_instants(&self, _: &[Local]) -> Vec<u64> {
         refuse("no columns")
     }
+    /// A call of tz that others lack, by its name, for a word: the same sum as tz's own program makes.
+    fn own(&self, _: &str) -> impl FnMut(&Own<Self::Moment>) -> u64 {
+        |_: &Own<Self::Moment>| refuse("no such call")
+    }
     /// Makes a zone of a file's bytes.
     fn read(bytes: &[u8]) -> bool;
     /// Makes a zone of a setting: a file's name or a TZ string.
@@ -197,6 +201,14 @@ fn local_of(word: i64) -> Local {
     Local { year: (word / 10_000_000_000) as i32, month: part(100_000_000), day: part(1_000_000), hour: part(10_000), minute: part(100), second: part(1) }
 }
 
+/// A word as each kind of argument.
+pub struct Own<M> {
+    pub instant: i64,
+    pub local: Local,
+    pub moment: Option<M>,
+    pub printed: String,
+}
+
 /// Makes the call for each of these words, this many times in all, and prints the sum of what they returned; or, for no number, each answer.
 fn run<W>(name: &str, times: &str, words: &[W], mut call: impl FnMut(&W) -> u64) {
     let mut sum = |words: &[W]| {
@@ -274,6 +286,18 @@ fn make_calls<Z: Zone>(zone: &Z, argument: &str, call: &str, times: &str) {
         "failing_reader" => run(call, times, &words, |_| Z::set_by_reader(argument)),
         "parse_string" => run(call, times, &words, |_| u64::from(Z::parse(argument))),
         "rule" => run(call, times, &words, |_| u64::from(zone.made_rule())),
+        "find_one" | "meaning" => {
+            let words: Vec<_> = locals.iter().map(|local| Own { instant: 0, local: *local, moment: None, printed: String::new() }).collect();
+            run(call, times, &words, zone.own(call));
+        }
+        "from_local" | "preceding" | "segment_at" | "kept_segment" | "walk" | "walk_back" | "parse" | "from_rule" => {
+            let word_of = |word: &i64| {
+                let printed = zone.print(&zone.held(*word));
+                Own { instant: *word, local: local_of(0), moment: Some(Z::moment(*word)), printed }
+            };
+            let words: Vec<_> = words.iter().map(word_of).collect();
+            run(call, times, &words, zone.own(call));
+        }
         _ => refuse("no such call"),
     }
 }

@@ -2,6 +2,9 @@
 
 #[path = "../../../peers/loops.rs"]
 mod loops;
+#[cfg(feature = "own")]
+#[path = "../own.rs"]
+mod own;
 
 use loops::{Entry, Local, Shown, Zone, refuse};
 use std::error::Error;
@@ -118,6 +121,11 @@ impl Zone for Made {
 
     fn add(moment: UtcDateTime, seconds: u64) -> i64 {
         moment.checked_add(Duration::new(seconds, 7)).unwrap().unix_time()
+    }
+
+    #[cfg(feature = "own")]
+    fn own(&self, call: &str) -> impl FnMut(&loops::Own<UtcDateTime>) -> u64 {
+        own::call(call, self.0.as_ref())
     }
 
     #[cfg(feature = "own")]
