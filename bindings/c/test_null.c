@@ -151,7 +151,7 @@ static void test_null_parameters(void) {
   CODE(no_name, TZ_INVALID_TIME_ZONE_DESIGNATION_LENGTH);
   CODE(tz_local_time_type_new(0, false, false, NULL, 0, &type), TZ_OK);
   REFUSED(tz_rule_type_at(NULL, 0, NULL, 0, 0, &type), TZ_NO_RULE, type);
-  CODE(tz_rule_type_at(&type, 1, NULL, 0, 0, &type), TZ_OK);
+  CODE(tz_rule_type_at(&made.types[0], 1, NULL, 0, 0, &type), TZ_OK);
   CODE(tz_rule_type_at(NULL, 0, &made.rule, 1, 0, &type), TZ_OK);
   REFUSED(tz_rule_text(NULL, 0, NULL, 0, NULL, 0, &length), TZ_NO_RULE, length);
   REFUSED(tz_rule_text(NULL, 0, &made.rule, 1, NULL, 0, &length), TZ_BUFFER_LENGTH, length);

@@ -122,6 +122,27 @@ class Exports(unittest.TestCase):
             exports.without_exports(PATH, 'extern "C" fn two() {}')
 
 
+class Packages(unittest.TestCase):
+    """What is made for a package over the crate."""
+
+    PACKAGE = next(it for it in erasure.PACKAGES if "tz_query" in it.crates)
+
+    def made(self, text):
+        return forms.erased(self.PACKAGE, "crates/tz_query/src/example.rt", text)
+
+    def test_paths_of_crates(self):
+        made = self.made("use crate::query::answer;\nuse tz::inner::Fields;\nuse tz_zone::parse;\nfn one() { tz::two(tz.tz) }\n")
+        self.assertIn("use crate::proved::tz_query::query::answer;", made)
+        self.assertIn("use tz::proved::tz::inner::Fields;", made)
+        self.assertIn("use tz::proved::tz_zone::parse;", made)
+        self.assertIn("fn one() { tz::proved::tz::two(tz.tz) }", made)
+
+    def test_a_private_error(self):
+        made = self.made('use thiserror::Error;\n\n#[derive(Drop, Error)]\nenum One {\n    #[error("two")]\n    Two,\n}\n')
+        self.assertIn('One::Two => f.write_str("two")', made)
+        self.assertNotIn("non_exhaustive", made)
+
+
 class Checks(unittest.TestCase):
     """A source that is newer than the file that was made of it."""
 

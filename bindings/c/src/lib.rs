@@ -1,8 +1,8 @@
 //! The C library by cargo: the functions of tz.h over the proved sources without their contracts.
 //!
-//! Unsafe code stands in two modules. [`pointers`], by hand, makes references of C's pointers, and
-//! [`exports`], generated, calls it for each function by one pattern. In [`abi`] it is a name alone
-//! that counts as unsafe.
+//! Unsafe code stands in few modules. [`pointers`] makes references of C's pointers; [`exports`],
+//! which is generated, calls it for each function by one pattern, and `built_in` does for zones of
+//! the tz database. In [`abi`] it is a name alone that counts as unsafe.
 //!
 //! No panic crosses into C: one that leaves an `extern "C"` function ends the process. (Rust 1.81)
 #![deny(unsafe_code)]
@@ -10,6 +10,8 @@
 #![deny(clippy::undocumented_unsafe_blocks)]
 
 mod abi;
+#[cfg(feature = "zones")]
+mod built_in;
 mod exports;
 mod pointers;
 #[allow(clippy::all)]

@@ -7,6 +7,8 @@
 #![allow(unsafe_code)]
 
 use crate::proved::tz_c::zones::{OffsetsData, PartsData};
+#[cfg(feature = "zones")]
+use core::ptr;
 use core::slice;
 use tz::proved::tz_rule::inner::AlternateData;
 use tz::proved::tz_rule::timezone::LocalTimeType;
@@ -90,7 +92,44 @@ impl Parts {
     }
 }
 
+/// A list of the library's own memory, as C sees it.
+#[cfg(feature = "zones")]
+fn lent<T>(list: &'static [T]) -> (*const T, usize) {
+    if list.is_empty() {
+        return (ptr::null(), 0);
+    }
+    (list.as_ptr(), list.len())
+}
+
 impl Zone {
+    /// A zone of the library's own memory.
+    #[cfg(feature = "zones")]
+    pub(crate) fn of(zone: &ZoneData<'static>) -> Self {
+        let (transitions, transitions_length) = lent(zone.transitions);
+        let (types, types_length) = lent(zone.local_time_types);
+        let (leap_seconds, leap_seconds_length) = lent(zone.leap_seconds);
+        let (fixed, fixed_length) = lent(zone.fixed);
+        let (alternate, alternate_length) = lent(zone.alternate);
+        Zone {
+            parts: Parts {
+                transitions,
+                transitions_length,
+                types,
+                types_length,
+                leap_seconds,
+                leap_seconds_length,
+                fixed,
+                fixed_length,
+                alternate,
+                alternate_length,
+            },
+            offsets: OffsetsData {
+                least: zone.least_offset,
+                greatest: zone.greatest_offset,
+            },
+        }
+    }
+
     /// The zone over slices.
     ///
     /// # Safety

@@ -316,7 +316,8 @@ class Module(unittest.TestCase):
     def test_names(self):
         for name in tz.__all__:
             self.assertTrue(hasattr(tz, name))
-        self.assertEqual(ZoneInfo.__module__, "tz")
+        for item in (ZoneInfo, TzError, tz.LocalTime):
+            self.assertEqual(item.__module__, "tz")
 
     def test_layout_of_another_version(self):
         with mock.patch.object(_library, "ABI", 0), self.assertRaises(ImportError):

@@ -1,8 +1,10 @@
 //! Answers query lines about date times: `tzq -o OFFSET` over the zone with this offset from UTC in
 //! seconds, `tzq -f FILE` over that of a TZif file, `tzq -z STRING` over that of a TZ string or of
-//! a name.
+//! a name. With the feature `zones` it knows the names of the tz database without files.
 #![forbid(unsafe_code)]
 
+#[cfg(feature = "zones")]
+mod built_in;
 #[allow(dead_code, unused_imports)]
 #[allow(clippy::all)]
 mod proved;
@@ -29,6 +31,16 @@ fn arguments() -> Vec<String> {
 fn answer_lines(arguments: &[&str]) -> u8 {
     let reader = |path: &str| read_file(&Machine, Global, path);
     let (mut input, mut out, mut err) = (Stream::input(), Stream::output(), io::stderr());
+    #[cfg(feature = "zones")]
+    match arguments {
+        ["--help"] => return built_in::print_usage(&mut out, &mut err),
+        ["-z", name] => {
+            if let Some(zone) = built_in::zone_without_file(name, reader) {
+                return built_in::answer_lines(zone, &mut input, &mut out, &mut err);
+            }
+        }
+        _ => {}
+    }
     query::tool(Global, arguments, reader, &mut input, &mut out, &mut err)
 }
 

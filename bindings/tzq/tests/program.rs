@@ -174,7 +174,7 @@ fn lines_have_one_answer_wherever_they_stand() {
 
 #[test]
 fn bad_arguments_are_refused_before_input_is_read() {
-    let bad: [&[&str]; 14] = [
+    let bad: &[&[&str]] = &[
         &[],
         &["-o"],
         &["-f"],
@@ -187,10 +187,13 @@ fn bad_arguments_are_refused_before_input_is_read() {
         &["-o", "1 "],
         &["-o", "2147483648"],
         &["-o", "-2147483649"],
+        #[cfg(not(feature = "zones"))]
         &["--help"],
+        &["--help", "x"],
+        &["-h"],
         &["-o=1"],
     ];
-    for arguments in bad {
+    for &arguments in bad {
         expect(&run(arguments, b"T 0 0\n"), "", "tzq: bad arguments\n", 1);
     }
 }

@@ -8,15 +8,16 @@ instants to offsets, and local times to instants.
 >>> ZoneInfo("Europe/Paris").offsets(array("q", [946684800, 951782400, 962409600]))
 array('i', [3600, 3600, 7200])
 
-`TZPATH`, `available_timezones`, `reset_tzpath`, `ZoneInfoNotFoundError` and `InvalidTZPathWarning`
-are those of `zoneinfo`: both look in the same directories.
+`TZPATH`, `reset_tzpath`, `ZoneInfoNotFoundError` and `InvalidTZPathWarning` are those of
+`zoneinfo`: both look in the same directories. A zone without a file is that of the library's own
+database.
 """
 
 import zoneinfo as _zoneinfo
-from typing import Any, List
-from zoneinfo import InvalidTZPathWarning, ZoneInfoNotFoundError, available_timezones, reset_tzpath
+from typing import Any, List, Set
+from zoneinfo import InvalidTZPathWarning, ZoneInfoNotFoundError, reset_tzpath
 
-from ._library import LocalTime, TzError, error_text
+from ._library import LocalTime, TzError, built_in_names, built_in_version, error_text
 from ._zone import ZoneInfo
 
 __all__ = [
@@ -26,10 +27,20 @@ __all__ = [
     "error_text",
     "TZPATH",
     "available_timezones",
+    "built_in_version",
     "reset_tzpath",
     "ZoneInfoNotFoundError",
     "InvalidTZPathWarning",
 ]
+
+# Their names, in pickles and in messages, are those by which programs import them.
+for _class in (ZoneInfo, LocalTime, TzError):
+    _class.__module__ = __name__
+
+
+def available_timezones() -> Set[str]:
+    """The names of all zone files, as `zoneinfo` lists them, or if there is none the library's."""
+    return _zoneinfo.available_timezones() or built_in_names()
 
 
 def __getattr__(name: str) -> Any:

@@ -52,7 +52,9 @@ class _Column:
 
 def _is_of(view: memoryview, kind: str) -> bool:
     pattern, size, _ = _KINDS[kind]
-    return view.itemsize == size and pattern.fullmatch(view.format) is not None
+    # In Python 3.9 the items of an empty array of ctypes have the size 0.
+    has_size = view.itemsize == size or view.nbytes == 0
+    return has_size and pattern.fullmatch(view.format) is not None
 
 
 def _new(typecode: str, length: int) -> "array[int]":

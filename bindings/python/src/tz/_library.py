@@ -3,8 +3,9 @@
 import sys
 from ctypes import CDLL, POINTER, PyDLL, Structure, byref, c_bool, c_char, c_char_p, c_int32
 from ctypes import c_int64, c_size_t, c_uint8, c_uint32, c_void_p, create_string_buffer, sizeof
+from itertools import count, repeat, takewhile
 from pathlib import Path
-from typing import Optional
+from typing import Any, Optional, Set
 
 ABI = 2
 NONE, FIXED, ALTERNATE = range(3)  # kinds of rules
@@ -173,6 +174,14 @@ find_n = _call(
 column_offsets = _call("tz_column_offsets", *_COLUMN, POINTER(Zone), *(2 * _COLUMN))
 column_date_times = _call("tz_column_date_times", *(2 * _COLUMN), POINTER(Zone), *(2 * _COLUMN))
 column_instants = _call("tz_column_instants", *_COLUMN, c_uint8, POINTER(Zone), *(2 * _COLUMN))
+# Of tz_zones.h, which the library may be built without.
+if hasattr(_library, "tz_built_in"):
+    built_in = _call("tz_built_in", c_char_p, c_size_t, POINTER(Zone))
+    built_in.restype = c_bool
+    _built_in_name = _call("tz_built_in_name", c_size_t, *_COLUMN, POINTER(c_size_t))
+    _built_in_version = _call("tz_built_in_version", *_COLUMN, POINTER(c_size_t))
+else:
+    built_in = None
 
 
 def check_layout() -> None:
@@ -186,16 +195,35 @@ def check_layout() -> None:
 check_layout()
 
 
+def _text(call: Any, *arguments: int) -> Optional[str]:
+    """What a call writes into a buffer, if it succeeds."""
+    text, length = create_string_buffer(128), c_size_t()
+    if call(*arguments, text, len(text), byref(length)) != OK:
+        return None
+    return text.raw[: length.value].decode()
+
+
+def built_in_version() -> Optional[str]:
+    """The version of the tz database in the library, such as 2025b; ``None`` if it has none."""
+    return None if built_in is None else _text(_built_in_version)
+
+
+def built_in_names() -> Set[str]:
+    """The names of the zones in the library."""
+    texts = () if built_in is None else map(_text, repeat(_built_in_name), count())
+    return set(takewhile(bool, texts))
+
+
 def error_text(code: int) -> str:
     """What a code of the C library says.
 
     >>> error_text(17)
     'invalid date time: invalid month day'
     """
-    text, length = create_string_buffer(128), c_size_t()
-    if error_text_of(code, text, len(text), byref(length)) != OK:
+    text = _text(error_text_of, code)
+    if text is None:
         raise ValueError(f"no code of an error: {code}")
-    return text.raw[: length.value].decode()
+    return text
 
 
 class TzError(ValueError):

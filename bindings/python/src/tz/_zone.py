@@ -57,8 +57,9 @@ class ZoneInfo(tzinfo):
     '2000-07-01T12:00:00+02:00'
 
     The file is looked for in the directories of `zoneinfo.TZPATH`, then in the package ``tzdata``
-    if it is installed. One name gives one object as long as that is alive: zones are equal only
-    to themselves, and `datetime` takes two objects for two zones.
+    if it is installed. If there is none the zone is that of the library's own database. One name
+    gives one object as long as that is alive: zones are equal only to themselves, and `datetime`
+    takes two objects for two zones.
 
     A local time in a fold, where clocks go back, means the first of its instants with ``fold=0``,
     and the last with ``fold=1``. One in a gap, where they go forward, has the offset from before
@@ -69,8 +70,8 @@ class ZoneInfo(tzinfo):
     """
 
     __slots__ = (
-        "_key", "_from_cache", "_text", "_source", "_zone", "_rule", "_tables", "_always", "_spans",
-        "_least", "_greatest", "__weakref__",
+        "_key", "_from_cache", "_text", "_source", "_zone", "_held", "_spans", "_always", "_least",
+        "_greatest", "__weakref__",
     )  # fmt: skip
 
     _lock: ClassVar[Any] = threading.RLock()
@@ -112,7 +113,7 @@ class ZoneInfo(tzinfo):
 
         Raises `ValueError` if it is refused.
         """
-        return cls._of_file(fobj.read(), key, repr(fobj))
+        return cls._of_file(fobj.read(), key, False, repr(fobj))
 
     @classmethod
     def from_tz_string(cls, text: str, /) -> "Self":
@@ -124,35 +125,39 @@ class ZoneInfo(tzinfo):
         """
         if not isinstance(text, str):
             raise TypeError(f"a TZ string is a str, not {type(text).__name__}")
-        zone = super().__new__(cls)
-        zone._key, zone._from_cache, zone._text, zone._source = None, False, text, repr(text)
-        string, rule = text.encode(errors="surrogatepass"), _library.Rule()
+        string, rule, zone = text.encode(errors="surrogatepass"), _library.Rule(), _library.Zone()
         check(_library.string_read(string, len(string), True, rule), repr(text))
         standard = rule.fixed if rule.kind == _library.FIXED else rule.alternate.types[0]
-        types = (_library.LocalTimeType * 1)(standard)
-        zone._join([(_library.Transition * 0)(), types, (_library.LeapSecond * 0)()], rule)
-        return zone
+        held = [(_library.LocalTimeType * 1)(standard), rule]
+        zone.parts.types, zone.parts.types_length = addressof(held[0]), 1
+        _set_rule(zone.parts, rule)
+        return cls._of_zone(zone, held, None, False, text, repr(text))
 
     @classmethod
     def _named(cls, key: str, from_cache: bool) -> "Self":
-        zone = cls._of_file(_bytes_of_zone(key), key, None)
-        zone._from_cache = from_cache
-        return zone
+        data = _bytes_of_zone(key)
+        if data is not None:
+            return cls._of_file(data, key, from_cache, None)
+        zone, name = _library.Zone(), key.encode(errors="surrogatepass")
+        if _library.built_in is None or not _library.built_in(name, len(name), zone):
+            raise ZoneInfoNotFoundError(f"No time zone found with key {key}")
+        return cls._of_zone(zone, [], key, from_cache, None, None)
 
     @classmethod
-    def _of_file(cls, data: bytes, key: Optional[str], source: Optional[str]) -> "Self":
+    def _of_file(
+        cls, data: bytes, key: Optional[str], from_cache: bool, source: Optional[str]
+    ) -> "Self":
         if not isinstance(data, bytes):
             raise TypeError(f"a TZif file is read as bytes, not {type(data).__name__}")
-        zone = super().__new__(cls)
-        zone._key, zone._from_cache, zone._text, zone._source = key, False, None, source
         name = source if key is None else key
-        sizes, rule, offsets = _library.Sizes(), _library.Rule(), _library.Offsets()
+        sizes, rule, zone = _library.Sizes(), _library.Rule(), _library.Zone()
         check(_library.file_sizes(data, len(data), sizes), name)
         transitions = (_library.Transition * sizes.transitions)()
         types = (_library.LocalTimeType * sizes.types)()
-        tables = [transitions, types, (_library.LeapSecond * sizes.leap_seconds)()]
+        leap_seconds = (_library.LeapSecond * sizes.leap_seconds)()
+        tables = [transitions, types, leap_seconds]
         slices = [part for table in tables for part in (table, len(table))]
-        code = _library.file_read(data, len(data), *slices, rule, offsets)
+        code = _library.file_read(data, len(data), *slices, rule, zone.offsets)
         if code in _library.STRING_CODES:
             footer = data[len(data) - sizes.footer :].strip().decode(errors="replace")
             name = f"{name}: {footer}"
@@ -162,25 +167,32 @@ class ZoneInfo(tzinfo):
             # stays, as in `zoneinfo`, since a `datetime` needs an offset.
             rule.kind = _library.FIXED
             rule.fixed = types[transitions[-1].local_time_type_index]
-        zone._join(tables, rule)
-        return zone
-
-    def _join(self, tables: List[Any], rule: _library.Rule) -> None:
-        """Makes the zone of its tables and its rule, and checks it."""
-        self._zone, self._tables, self._rule = _library.Zone(), tables, rule
-        parts, offsets = self._zone.parts, self._zone.offsets
+        parts = zone.parts
         parts.transitions, parts.types, parts.leap_seconds = map(addressof, tables)
         parts.transitions_length, parts.types_length, parts.leap_seconds_length = map(len, tables)
-        parts.fixed, parts.alternate = addressof(rule.fixed), addressof(rule.alternate)
-        parts.fixed_length = rule.kind == _library.FIXED
-        parts.alternate_length = rule.kind == _library.ALTERNATE
-        check(_library.zone_check(parts, offsets), self._source if self._key is None else self._key)
-        self._least, self._greatest = offsets.least, offsets.greatest
-        self._spans: Dict[int, _Span] = {}
+        _set_rule(parts, rule)
+        return cls._of_zone(zone, [*tables, rule], key, from_cache, None, source)
+
+    @classmethod
+    def _of_zone(
+        cls,
+        zone: _library.Zone,
+        held: List[Any],
+        key: Optional[str],
+        from_cache: bool,
+        text: Optional[str],
+        source: Optional[str],
+    ) -> "Self":
+        """Makes an object of a zone, whose parts lie in what is held or in the library."""
+        made = super().__new__(cls)
+        made._key, made._from_cache, made._text, made._source = key, from_cache, text, source
+        made._zone, made._held, made._spans = zone, held, {}
+        check(_library.zone_check(zone.parts, zone.offsets), source if key is None else key)
+        made._least, made._greatest = zone.offsets.least, zone.offsets.greatest
         # A time without a date has the type that holds at all instants, if there is one.
-        change = _library.Change()
-        code = _library.following(self._zone, _LEAST_INSTANT, change)
-        self._always = self._span_at(0) if code == _library.NO_CHANGE else None
+        code = _library.following(zone, _LEAST_INSTANT, _library.Change())
+        made._always = made._span_at(0) if code == _library.NO_CHANGE else None
+        return made
 
     @property
     def key(self) -> Optional[str]:
@@ -362,12 +374,14 @@ class ZoneInfo(tzinfo):
 
     def _saving(self, span: _Span) -> int:
         """How far the type of a span is ahead of standard time."""
-        kind, rule = span.kind, self._rule
+        kind, parts = span.kind, self._zone.parts
         if not kind.is_dst:
             return 0
         offsets = [self._standard_before(span.first), self._standard_after(span.last)]
-        if rule.kind == _library.ALTERNATE and _library.same(kind, rule.alternate.types[1]):
-            offsets.append(rule.alternate.types[0].ut_offset)
+        if parts.alternate_length:
+            standard, saving = _library.Alternate.from_address(parts.alternate).types
+            if _library.same(kind, saving):
+                offsets.append(standard.ut_offset)
         amounts = [kind.ut_offset - offset for offset in offsets if offset is not None]
         likely = [amount for amount in amounts if amount and abs(amount) <= _MOST_SAVING]
         return min(likely, key=lambda amount: abs(amount - _USUAL_SAVING), default=_USUAL_SAVING)
@@ -395,33 +409,35 @@ class ZoneInfo(tzinfo):
         return None
 
 
-# Where programs import it from, as they do for pickles.
-ZoneInfo.__module__ = "tz"
-
-
 def _seconds(dt: datetime) -> int:
     """The seconds from 1970-01-01 00:00:00 to a date and time, both without a zone."""
     days = dt.toordinal() - _EPOCH_DAY
     return days * 86400 + dt.hour * 3600 + dt.minute * 60 + dt.second
 
 
-def _bytes_of_zone(key: str) -> bytes:
-    """The file of a name of the tz database."""
+def _set_rule(parts: _library.Parts, rule: _library.Rule) -> None:
+    parts.fixed, parts.alternate = addressof(rule.fixed), addressof(rule.alternate)
+    parts.fixed_length = rule.kind == _library.FIXED
+    parts.alternate_length = rule.kind == _library.ALTERNATE
+
+
+def _bytes_of_zone(key: str) -> Optional[bytes]:
+    """The file of a name of the tz database, if there is one."""
     if not isinstance(key, str):
         raise TypeError(f"a name of a zone is a str, not {type(key).__name__}")
     parts = key.split("/")
     if any(part in ("", ".", "..") for part in parts):
         raise ValueError(f"a path is no name of a zone: {key!r}")
     # No name has other characters, and some of these make a path, such as a backslash.
-    if all(map(_PART.fullmatch, parts)):
-        for directory in zoneinfo.TZPATH:
-            path = os.path.join(directory, *parts)
-            if os.path.isfile(path):
-                with open(path, "rb") as file:
-                    return file.read()
-        package = ".".join(["tzdata.zoneinfo", *parts[:-1]])
-        try:
-            return resources.files(package).joinpath(parts[-1]).read_bytes()
-        except (ImportError, OSError):
-            pass
-    raise ZoneInfoNotFoundError(f"No time zone found with key {key}")
+    if not all(map(_PART.fullmatch, parts)):
+        return None
+    for directory in zoneinfo.TZPATH:
+        path = os.path.join(directory, *parts)
+        if os.path.isfile(path):
+            with open(path, "rb") as file:
+                return file.read()
+    package = ".".join(["tzdata.zoneinfo", *parts[:-1]])
+    try:
+        return resources.files(package).joinpath(parts[-1]).read_bytes()
+    except (ImportError, OSError):
+        return None

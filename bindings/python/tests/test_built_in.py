@@ -1,0 +1,78 @@
+"""The zones in the library, which serve where the machine has no file."""
+
+import unittest
+import zoneinfo
+from pathlib import Path
+from unittest import mock
+
+import tz
+from test_zone import search_path
+from tz import ZoneInfo, ZoneInfoNotFoundError, _library
+
+YEAR_2200 = 7258118400
+
+
+def spans(zone):
+    """What the zone's clock shows from the first instant to 2200, each with its first instant."""
+    at, change = -(1 << 63), _library.Change()
+    first = zone._span_at(at)
+    yield at, first.offset, first.name, first.kind.is_dst
+    while _library.following(zone._zone, at, change) == _library.OK and at < YEAR_2200:
+        at, kind = change.unix_time, change.after
+        yield at, kind.ut_offset, kind.designation, kind.is_dst
+
+
+def version_of_files():
+    """The version of the machine's database, as the first line of its sources says."""
+    for directory in zoneinfo.TZPATH:
+        sources = Path(directory, "tzdata.zi")
+        if sources.is_file():
+            with sources.open(encoding="utf-8") as lines:
+                return next(lines).split()[-1]
+    return None
+
+
+def without_files(name):
+    with search_path():
+        return ZoneInfo.no_cache(name)
+
+
+class BuiltIn(unittest.TestCase):
+    def test_names(self):
+        with search_path():
+            names = tz.available_timezones()
+            self.assertEqual(names, _library.built_in_names())
+        self.assertGreater(len(names), 500)
+        self.assertTrue({"Europe/Paris", "UTC", "America/Argentina/Ushuaia"} <= names)
+        self.assertNotIn("Europe/Paris", names - tz.available_timezones())
+        for name in ("Europe/Pariss", "europe/paris", "Europe", "posixrules"):
+            with self.subTest(name), self.assertRaises(ZoneInfoNotFoundError):
+                without_files(name)
+
+    def test_a_file_comes_first(self):
+        zone, own = ZoneInfo.no_cache("Europe/Paris"), without_files("Europe/Paris")
+        self.assertTrue(zone._held)
+        self.assertFalse(own._held)
+        self.assertEqual(repr(own), "ZoneInfo(key='Europe/Paris')")
+
+    def test_without_zones(self):
+        with mock.patch.object(_library, "built_in", None):
+            with self.assertRaises(ZoneInfoNotFoundError):
+                without_files("Europe/Paris")
+            with search_path():
+                self.assertEqual(tz.available_timezones(), set())
+            self.assertIsNone(tz.built_in_version())
+
+    def test_files_say_the_same(self):
+        versions = tz.built_in_version(), version_of_files()
+        if versions[0] != versions[1]:
+            print("zones in the library and in files are not compared: {}, {}".format(*versions))
+            return
+        for name in _library.built_in_names():
+            zones = without_files(name), ZoneInfo.no_cache(name)
+            self.assertEqual(*(list(spans(zone)) for zone in zones), name)
+        print(f"{len(_library.built_in_names())} zones in the library are as their files")
+
+
+if __name__ == "__main__":
+    unittest.main()
