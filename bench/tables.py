@@ -128,7 +128,7 @@ def of_readme(kept):
     lookup, search, following = (span(kept, name) for name in ('DateTime::from_timespec', 'DateTime::find_n', 'TimeZoneRef::following'))
     return (f'In zones with transitions or a rule `DateTime::from_timespec` takes {lookup[0]} to {lookup[1]} instructions, and the best of eight other '
             f'libraries {lookup[2]} to {lookup[3]} times as many. `find_n`, a search that does not allocate, takes {search[0]} to {search[1]}, and the best of them '
-            f'{search[2]} to {search[3]} times as many; `following` takes {following[0]} to {following[1]}, and the best {following[2]} to {following[3]} times as many')
+            f'{search[2]} to {search[3]} times as many; `following` takes {following[0]} to {following[1]}, and the best of three {following[2]} to {following[3]} times as many')
 
 
 def of_scaling(kept):
