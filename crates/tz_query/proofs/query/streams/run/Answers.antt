@@ -1,1 +1,0 @@
--- What a run wrote are the answers of what it read, or a front of them.
