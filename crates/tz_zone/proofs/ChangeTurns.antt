@@ -1,5 +1,5 @@
 -- Changes that are given in turn are counted from the instant on, and neighbours are nearest to one another.
-use Rattle.std.proofs.Common.{◌≡◌, ◌∙◌, sym, subst, arith, ℕ, zero, suc, ◌<◌, ℤ, pos, ◌+ℤ◌, ◌-ℤ◌, ◌<ℤ◌, List, [], ◌∷◌, Some, None, length}
+use Rattle.std.proofs.Common.{◌≡◌, sym, subst, arith, ℕ, zero, suc, ◌<◌, ℤ, pos, ◌+ℤ◌, ◌-ℤ◌, ◌<ℤ◌, List, [], ◌∷◌, Some, None, length}
 use Rattle.std.specs.Iterator.{YieldsThen}
 use Rattle.std.proofs.lemmas.Int.{ints, by_lt_z}
 use Rattle.tz_zone.specs.Changes.{Change, change_of, IsChange, IsFollowing, IsPreceding, HasNoFollowing, HasNoPreceding}
@@ -10,31 +10,51 @@ use Rattle.tz_zone.specs.declared.timezone.change_iterators.ChangesAfter.{Change
 use Rattle.tz_zone.specs.declared.timezone.change_iterators.ChangesBefore.{ChangesBefore}
 use Rattle.tz_zone.proofs.NearestChanges.{one_change, one_following, one_preceding}
 
-pub nth_given_after : (s : ChangesAfter) (earlier : List KeptChange) (c : KeptChange) (t : ChangesAfter) → YieldsThen GivesFollowing s earlier (Some c) t → IsNthFollowing (place_after s).zone (place_after s).unix_time (length earlier) (change_of c)
-nth_given_after s [] c t (j, same, step) = subst (λ (x : ChangesAfter). IsFollowing (place_after x).zone (place_after x).unix_time (change_of c)) (sym same) step.0
+pub nth_given_after : (s : ChangesAfter) (earlier : List KeptChange) (c : KeptChange) (t : ChangesAfter)
+    → YieldsThen GivesFollowing s earlier (Some c) t
+    → IsNthFollowing (place_after s).zone (place_after s).unix_time (length earlier) (change_of c)
+nth_given_after s [] c t (j, same, step) =
+    let nearest = λ (x : ChangesAfter). IsFollowing (place_after x).zone (place_after x).unix_time (change_of c) in
+    subst nearest (sym same) step.0
 nth_given_after s (x ∷ xs) c t (j, (k, first, rest), step) =
-    (change_of x, first.0, subst (λ (p : Place). IsNthFollowing p.zone p.unix_time (length xs) (change_of c)) first.1 (nth_given_after k xs c t (j, rest, step)))
+    let moved = λ (p : Place). IsNthFollowing p.zone p.unix_time (length xs) (change_of c) in
+    (change_of x, first.0, subst moved first.1 (nth_given_after k xs c t (j, rest, step)))
 
-pub none_given_after : (s : ChangesAfter) (earlier : List KeptChange) (t : ChangesAfter) → YieldsThen GivesFollowing s earlier None t → (c : Change) → ¬ IsNthFollowing (place_after s).zone (place_after s).unix_time (length earlier) c
-none_given_after s [] t (j, same, step) c is = subst (λ (x : ChangesAfter). HasNoFollowing (place_after x).zone (place_after x).unix_time) (sym same) step.0 c is.above is.is
+pub none_given_after : (s : ChangesAfter) (earlier : List KeptChange) (t : ChangesAfter)
+    → YieldsThen GivesFollowing s earlier None t → (c : Change)
+    → ¬ IsNthFollowing (place_after s).zone (place_after s).unix_time (length earlier) c
+none_given_after s [] t (j, same, step) c is =
+    let none = λ (x : ChangesAfter). HasNoFollowing (place_after x).zone (place_after x).unix_time in
+    subst none (sym same) step.0 c is.above is.is
 none_given_after s (x ∷ xs) t (j, (k, first, rest), step) c (d, is, later) =
     let z = (place_after s).zone in
     let same = one_following z (place_after s).unix_time d (change_of x) is first.0 in
     let later' = subst (λ (e : Change). IsNthFollowing z e.unix_time (length xs) c) same later in
-    none_given_after k xs t (j, rest, step) c (subst (λ (p : Place). IsNthFollowing p.zone p.unix_time (length xs) c) (sym first.1) later')
+    let moved = λ (p : Place). IsNthFollowing p.zone p.unix_time (length xs) c in
+    none_given_after k xs t (j, rest, step) c (subst moved (sym first.1) later')
 
-pub nth_given_before : (s : ChangesBefore) (later : List KeptChange) (c : KeptChange) (t : ChangesBefore) → YieldsThen GivesPreceding s later (Some c) t → IsNthPreceding (place_before s).zone (place_before s).unix_time (length later) (change_of c)
-nth_given_before s [] c t (j, same, step) = subst (λ (x : ChangesBefore). IsPreceding (place_before x).zone (place_before x).unix_time (change_of c)) (sym same) step.0
+pub nth_given_before : (s : ChangesBefore) (later : List KeptChange) (c : KeptChange) (t : ChangesBefore)
+    → YieldsThen GivesPreceding s later (Some c) t
+    → IsNthPreceding (place_before s).zone (place_before s).unix_time (length later) (change_of c)
+nth_given_before s [] c t (j, same, step) =
+    let nearest = λ (x : ChangesBefore). IsPreceding (place_before x).zone (place_before x).unix_time (change_of c) in
+    subst nearest (sym same) step.0
 nth_given_before s (x ∷ xs) c t (j, (k, first, rest), step) =
-    (change_of x, first.0, subst (λ (p : Place). IsNthPreceding p.zone p.unix_time (length xs) (change_of c)) first.1 (nth_given_before k xs c t (j, rest, step)))
+    let moved = λ (p : Place). IsNthPreceding p.zone p.unix_time (length xs) (change_of c) in
+    (change_of x, first.0, subst moved first.1 (nth_given_before k xs c t (j, rest, step)))
 
-pub none_given_before : (s : ChangesBefore) (later : List KeptChange) (t : ChangesBefore) → YieldsThen GivesPreceding s later None t → (c : Change) → ¬ IsNthPreceding (place_before s).zone (place_before s).unix_time (length later) c
-none_given_before s [] t (j, same, step) c is = subst (λ (x : ChangesBefore). HasNoPreceding (place_before x).zone (place_before x).unix_time) (sym same) step.0 c is.below is.is
+pub none_given_before : (s : ChangesBefore) (later : List KeptChange) (t : ChangesBefore)
+    → YieldsThen GivesPreceding s later None t → (c : Change)
+    → ¬ IsNthPreceding (place_before s).zone (place_before s).unix_time (length later) c
+none_given_before s [] t (j, same, step) c is =
+    let none = λ (x : ChangesBefore). HasNoPreceding (place_before x).zone (place_before x).unix_time in
+    subst none (sym same) step.0 c is.below is.is
 none_given_before s (x ∷ xs) t (j, (k, first, rest), step) c (d, is, earlier) =
     let z = (place_before s).zone in
     let same = one_preceding z (place_before s).unix_time d (change_of x) is first.0 in
     let earlier' = subst (λ (e : Change). IsNthPreceding z e.unix_time (length xs) c) same earlier in
-    none_given_before k xs t (j, rest, step) c (subst (λ (p : Place). IsNthPreceding p.zone p.unix_time (length xs) c) (sym first.1) earlier')
+    let moved = λ (p : Place). IsNthPreceding p.zone p.unix_time (length xs) c in
+    none_given_before k xs t (j, rest, step) c (subst moved (sym first.1) earlier')
 
 module _ (z : Zone) where
   above_nth : (u : ℤ) (n : ℕ) (c : Change) → IsNthFollowing z u n c → u <ℤ c.unix_time
@@ -48,9 +68,11 @@ module _ (z : Zone) where
   pub one_nth : (u : ℤ) (n : ℕ) (c d : Change) → IsNthFollowing z u n c → IsNthFollowing z u n d → c ≡ d
   one_nth u zero c d is is' = one_following z u c d is is'
   one_nth u (suc n) c d (x, is, later) (y, is', later') =
-      one_nth x.unix_time n c d later (subst (λ (e : Change). IsNthFollowing z e.unix_time n d) (one_following z u y x is' is) later')
+      let moved = λ (e : Change). IsNthFollowing z e.unix_time n d in
+      one_nth x.unix_time n c d later (subst moved (one_following z u y x is' is) later')
 
-  pub between_is_earlier : (u : ℤ) (n : ℕ) (c d : Change) → IsNthFollowing z u n c → IsChange z d → u <ℤ d.unix_time → d.unix_time <ℤ c.unix_time → (m : ℕ) × (m < n) × IsNthFollowing z u m d
+  pub between_is_earlier : (u : ℤ) (n : ℕ) (c d : Change) → IsNthFollowing z u n c → IsChange z d → u <ℤ d.unix_time
+      → d.unix_time <ℤ c.unix_time → (m : ℕ) × (m < n) × IsNthFollowing z u m d
   between_is_earlier u zero c d is change above below = absurd (is.least d above below change)
   between_is_earlier u (suc n) c d (x, is, later) change above below =
       by_lt_z d.unix_time x.unix_time (λ less. absurd (is.least d above less change)) (λ not_less.
@@ -61,7 +83,8 @@ module _ (z : Zone) where
       let same = one_change z x d is.is change (omega (arith, ints, not_less, not_more)) in
       (0, omega arith, subst (λ (e : Change). IsFollowing z u e) same is)))
 
-  pub earlier_is_between : (u : ℤ) (n m : ℕ) (c : Change) → IsNthFollowing z u n c → m < n → (d : Change) × IsNthFollowing z u m d × (d.unix_time <ℤ c.unix_time)
+  pub earlier_is_between : (u : ℤ) (n m : ℕ) (c : Change) → IsNthFollowing z u n c → m < n
+      → (d : Change) × IsNthFollowing z u m d × (d.unix_time <ℤ c.unix_time)
   earlier_is_between u zero m c is less = absurd (omega (arith, less))
   earlier_is_between u (suc n) zero c (x, is, later) less = (x, is, above_nth x.unix_time n c later)
   earlier_is_between u (suc n) (suc m) c (x, is, later) less =
@@ -69,13 +92,17 @@ module _ (z : Zone) where
       (d, (x, is, nth), below)
 
 pub before_next_instant : (z : Zone) (c : Change) → IsChange z c → IsPreceding z (c.unix_time +ℤ pos 1) c
-before_next_instant z c is = record { is = is; below = omega (arith, ints); greatest = λ d above below there. omega (arith, ints, above, below) }
+before_next_instant z c is =
+    record { is = is; below = omega (arith, ints); greatest = λ d above below there. omega (arith, ints, above, below) }
 
 pub after_instant_before : (z : Zone) (c : Change) → IsChange z c → IsFollowing z (c.unix_time -ℤ pos 1) c
-after_instant_before z c is = record { is = is; above = omega (arith, ints); least = λ d above below there. omega (arith, ints, above, below) }
+after_instant_before z c is =
+    record { is = is; above = omega (arith, ints); least = λ d above below there. omega (arith, ints, above, below) }
 
-pub before_the_following : (z : Zone) (c d : Change) → IsChange z c → IsFollowing z c.unix_time d → IsPreceding z d.unix_time c
+pub before_the_following : (z : Zone) (c d : Change) → IsChange z c → IsFollowing z c.unix_time d
+    → IsPreceding z d.unix_time c
 before_the_following z c d is next = record { is = is; below = next.above; greatest = next.least }
 
-pub after_the_preceding : (z : Zone) (c d : Change) → IsChange z c → IsPreceding z c.unix_time d → IsFollowing z d.unix_time c
+pub after_the_preceding : (z : Zone) (c d : Change) → IsChange z c → IsPreceding z c.unix_time d
+    → IsFollowing z d.unix_time c
 after_the_preceding z c d is last = record { is = is; above = last.below; least = last.greatest }

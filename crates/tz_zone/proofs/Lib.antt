@@ -31,7 +31,6 @@ pub mod TextRuns
 pub mod TextNumbers
 pub mod QuestionMarkExits
 pub mod TextParts
-pub mod TextTimes
 pub mod TextDays
 pub mod TextReadings
 pub mod TextFaults

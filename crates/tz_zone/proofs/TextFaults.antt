@@ -23,8 +23,8 @@ use Rattle.tz_zone.specs.declared.parse.tz_string.start_and_end.DayAndTime.{DayA
 use Rattle.tz_zone.specs.declared.parse.tz_string.time.WrittenTime.{WrittenTime}
 use Rattle.tz_zone.specs.TzText.{Begins, IsNumber, IsName, IsPart, IsHms, IsSign, IsSignedTime, IsDayTimeSign, IsDayTime, IsMonthWeekText, IsDay, IsRuleText, IsDaylightOffset, IsTimeUpTo, offset_hours, day_time_hours, IsRuleInRange, IsNameAndOffset, AlternateText, IsAlternateText, IsAlternateInRange, std_type_of, rule_of, IsTzText}
 use Rattle.tz_rule.specs.RuleDays.{IsRuleDay}
-use Rattle.tz_zone.specs.TzTextFault.{Reached, IsMissingByte, TimeFaults, day_time_faults, offset_faults, IsNumberFault, IsPartFault, IsHmsFault, IsOffsetFault, IsDayTimeFault, FailsFrom, IsDayNumberFault, IsMonthWeekDayFault, IsDayFault, IsRuleTextFault, IsLastRuleFault, IsRulesFault, IsUnclosed, IsNameFault, LacksRules, IsDaylightFault, InText, IsTzTextFault}
-use Rattle.tz_zone.proofs.TextReadings.{IsOne, same_byte, same_rest, run_is_one, number_is_one, part_is_one, sign_is_one, day_time_sign_is_one, signed_time_is_one, day_is_one, rule_text_is_one, name_is_one, daylight_offset_is_one, name_and_offset_is_one, alternate_text_is_one, no_digit}
+use Rattle.tz_zone.specs.TzTextFault.{Reached, IsMissingByte, TimeFaults, day_time_faults, offset_faults, LacksPart, LacksTime, IsTimeAbove, IsHmsFault, IsOffsetFault, IsDayTimeFault, FailsFrom, IsDayNumberFault, IsMonthWeekDayFault, IsDayFault, IsRuleTextFault, IsLastRuleFault, IsRulesFault, IsUnclosed, IsNameFault, LacksRules, IsDaylightFault, InText, IsTzTextFault}
+use Rattle.tz_zone.proofs.TextReadings.{IsOne, same_byte, same_rest, run_is_one, number_is_one, part_is_one, sign_is_one, day_time_sign_is_one, signed_time_is_one, day_is_one, times_are_one, rule_text_is_one, name_is_one, daylight_offset_is_one, name_and_offset_is_one, alternate_text_is_one, no_digit}
 
 -- what is said of the one thing read
 pub reached_once : {A : Type 0} (reads : List ℕ → A → List ℕ → Type 0) → IsOne reads → (text : List ℕ) (x : A) (rest : List ℕ) → reads text x rest → (P : A → List ℕ → Type 0) → Reached reads text P → P x rest
@@ -32,30 +32,45 @@ reached_once {A} reads one text x rest r P h =
     let same = one text h.0 x h.1 rest h.2 r in
     rw (same.0, same.1) at h.3
 
-no_number_fault : (limit : ℕ) (named : TzStringError) (text : List ℕ) (n : ℕ) (rest : List ℕ) (e : TzStringError) → IsNumber text n rest → n ≤ limit → limit < 2 ^ 31 → IsNumberFault limit named text e → ⊥
-no_number_fault limit named text n rest e number within fits fault = elim fault [
-  | inl h ↦ let above : 2 ^ 31 ≤ n = h.1 n rest number in absurd (omega arith)
-  | inr h ↦ let above : limit < n = reached_once IsNumber number_is_one text n rest number (λ m more. limit < m) h.1 in absurd (omega arith)
-]
-
-no_part_fault : (named : TzStringError) (text : List ℕ) (n : ℕ) (rest : List ℕ) (e : TzStringError) → IsPart text n rest → n ≤ 59 → IsPartFault named text e → ⊥
-no_part_fault named text n rest e part within fault = elim part [
-  | inl h ↦ no_number_fault 59 named h.0 n rest e h.2 within (omega arith) (rw (same_rest fault.1 h.1) at fault.2)
+lacks_no_part : (text : List ℕ) (n : ℕ) (rest : List ℕ) → IsPart text n rest → n ≤ 59 → LacksPart text → ⊥
+lacks_no_part text n rest part within fault = elim part [
+  | inl h ↦ let above : 2 ^ 31 ≤ n = (rw (same_rest fault.1 h.1) at fault.2) n rest h.2 in absurd (omega arith)
   | inr h ↦ absurd (h.0 (fault.0, fault.1))
 ]
 
-no_hms_fault : (limit : ℕ) (faults : TimeFaults) (text : List ℕ) (t : WrittenTime) (rest : List ℕ) (e : TzStringError) → IsHms text t rest → IsTimeUpTo limit t → limit < 2 ^ 31 → IsHmsFault limit faults text e → ⊥
-no_hms_fault limit faults text t rest e time range fits fault = elim fault [
-  | inl f ↦ no_number_fault limit faults.hour text t.hours time.after_hours e time.hours_are range.hours_are fits f
-  | inr f ↦ after_hours (reached_once IsNumber number_is_one text t.hours time.after_hours time.hours_are (λ n after_hours. IsPartFault faults.minute after_hours e ⊎ Reached IsPart after_hours (λ m after_minutes. IsPartFault faults.second after_minutes e)) f)
+lacks_no_time : (limit : ℕ) (text : List ℕ) (t : WrittenTime) (rest : List ℕ) → IsHms text t rest
+    → IsTimeUpTo limit t → limit < 2 ^ 31 → LacksTime text → ⊥
+lacks_no_time limit text t rest time range fits fault = elim fault [
+  | inl f ↦
+      let above : 2 ^ 31 ≤ t.hours = f t.hours time.after_hours time.hours_are in
+      let within = range.hours_are in
+      absurd (omega arith)
+  | inr f ↦
+      let lacks = λ (n : ℕ) (after : List ℕ). LacksPart after ⊎ Reached IsPart after (λ m more. LacksPart more) in
+      after_hours (reached_once IsNumber number_is_one text t.hours time.after_hours time.hours_are lacks f)
 ]
   where
-    after_hours : IsPartFault faults.minute time.after_hours e ⊎ Reached IsPart time.after_hours (λ m after_minutes. IsPartFault faults.second after_minutes e) → ⊥
+    after_hours : LacksPart time.after_hours ⊎ Reached IsPart time.after_hours (λ m more. LacksPart more) → ⊥
     after_hours p = elim p [
-      | inl f ↦ no_part_fault faults.minute time.after_hours t.minutes time.after_minutes e time.minutes_are range.minutes_are f
-      | inr f ↦ no_part_fault faults.second time.after_minutes t.seconds rest e time.seconds_are range.seconds_are
-          (reached_once IsPart part_is_one time.after_hours t.minutes time.after_minutes time.minutes_are (λ m after_minutes. IsPartFault faults.second after_minutes e) f)
+      | inl f ↦ lacks_no_part time.after_hours t.minutes time.after_minutes time.minutes_are range.minutes_are f
+      | inr f ↦ lacks_no_part time.after_minutes t.seconds rest time.seconds_are range.seconds_are
+          (reached_once IsPart part_is_one time.after_hours t.minutes time.after_minutes time.minutes_are (λ m after. LacksPart after) f)
     ]
+
+no_time_above : (limit : ℕ) (faults : TimeFaults) (t u : WrittenTime) (e : TzStringError) → t.hours ≡ u.hours
+    → t.minutes ≡ u.minutes → t.seconds ≡ u.seconds → IsTimeUpTo limit t → IsTimeAbove limit faults u e → ⊥
+no_time_above limit faults t u e hours minutes seconds range above = elim above [
+  | inl h ↦ omega (arith, hours, range.hours_are, h.1)
+  | inr (inl h) ↦ omega (arith, minutes, range.minutes_are, h.2)
+  | inr (inr h) ↦ omega (arith, seconds, range.seconds_are, h.3)
+]
+
+no_hms_fault : (limit : ℕ) (faults : TimeFaults) (text : List ℕ) (t : WrittenTime) (rest : List ℕ) (e : TzStringError)
+    → IsHms text t rest → IsTimeUpTo limit t → limit < 2 ^ 31 → IsHmsFault limit faults text e → ⊥
+no_hms_fault limit faults text t rest e time range fits (inl f) = lacks_no_time limit text t rest time range fits f.1
+no_hms_fault limit faults text t rest e time range fits (inr (u, more, other, above)) =
+    let one = times_are_one text t u rest more time other in
+    no_time_above limit faults t u e one.0 one.1 one.2 range above
 
 no_signed_fault : (signs : List ℕ → Bool → List ℕ → Type 0) → IsOne signs → (limit : ℕ) (faults : TimeFaults) (text : List ℕ) (t : WrittenTime) (rest : List ℕ) (e : TzStringError)
     → (unsigned : List ℕ) × signs text t.minus unsigned × IsHms unsigned t rest → IsTimeUpTo limit t → limit < 2 ^ 31 → Reached signs text (λ minus unsigned. IsHmsFault limit faults unsigned e) → ⊥

@@ -88,12 +88,20 @@ unfolding time_of
 same_time t u a b c d =
     let same : time_of t.minus t.hours t.minutes t.seconds ≡ time_of u.minus u.hours u.minutes u.seconds = cc in same
 
-pub hms_is_one : (text : List ℕ) (t u : WrittenTime) (rest more : List ℕ) → t.minus ≡ u.minus → IsHms text t rest → IsHms text u more → (t ≡ u) × (rest ≡ more)
-hms_is_one text t u rest more sign a b =
+-- the numbers of a time are read in one way, whatever its sign
+pub times_are_one : (text : List ℕ) (t u : WrittenTime) (rest more : List ℕ) → IsHms text t rest → IsHms text u more
+    → (t.hours ≡ u.hours) × (t.minutes ≡ u.minutes) × (t.seconds ≡ u.seconds) × (rest ≡ more)
+times_are_one text t u rest more a b =
     let hours = number_is_one text t.hours u.hours a.after_hours b.after_hours a.hours_are b.hours_are in
     let minutes = part_is_one b.after_hours t.minutes u.minutes a.after_minutes b.after_minutes (rw hours.1 at a.minutes_are) b.minutes_are in
     let seconds = part_is_one b.after_minutes t.seconds u.seconds rest more (rw minutes.1 at a.seconds_are) b.seconds_are in
-    (same_time t u sign hours.0 minutes.0 seconds.0, seconds.1)
+    (hours.0, minutes.0, seconds.0, seconds.1)
+
+pub hms_is_one : (text : List ℕ) (t u : WrittenTime) (rest more : List ℕ) → t.minus ≡ u.minus → IsHms text t rest
+    → IsHms text u more → (t ≡ u) × (rest ≡ more)
+hms_is_one text t u rest more sign a b =
+    let one = times_are_one text t u rest more a b in
+    (same_time t u sign one.0 one.1 one.2, one.3)
 
 -- a sign, and the time after it
 pub after_sign_is_one : (text : List ℕ) (signs : List ℕ → Bool → List ℕ → Type 0) → IsOne signs → (t u : WrittenTime) (rest more : List ℕ)

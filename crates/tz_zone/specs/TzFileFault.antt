@@ -55,7 +55,8 @@ ContentFails block count e = SomeTypeFails block count e ⊎ ((e ≡ TzFile Inva
 -- of a footer around its text: bytes that are not UTF-8 are refused for that
 abbrev pub FooterFails : List ℕ → TzFileError → Type 0
 FooterFails footer (Utf8 _) = ¬ IsUtf8 footer
-FooterFails footer InvalidFooter = IsUtf8 footer × ¬ (IsBetweenLineFeeds footer × MayBeText (trimmed footer))
+FooterFails footer InvalidFooter =
+    IsUtf8 footer × ¬ (IsBetweenLineFeeds footer × MayBeText (trimmed footer))
 FooterFails _ _ = ⊥
 
 -- of the rule after the tables

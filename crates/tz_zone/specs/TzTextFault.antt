@@ -17,7 +17,7 @@ use Rattle.tz_rule.specs.MonthWeek.{IsRuleMonth, IsRuleWeek, IsRuleWeekDay}
 use Rattle.tz_rule.specs.Alternate.{IsFirstRuleFault}
 use Rattle.tz_zone.specs.Bytes.{capital_j, capital_m, colon, comma, dot, opening_bracket, slash}
 use Rattle.tz_zone.specs.declared.parse.tz_string.time.WrittenTime.{WrittenTime}
-use Rattle.tz_zone.specs.TzText.{Begins, IsRun, IsNumber, is_in_brackets, IsName, IsPart, IsSign, IsSignedTime, IsDayTimeSign, IsDay, IsRuleText, IsDaylightOffset, AlternateText, IsAlternateText, IsAlternateInRange, offset_hours, day_time_hours, rule_of}
+use Rattle.tz_zone.specs.TzText.{Begins, IsRun, IsNumber, is_in_brackets, IsName, IsPart, IsHms, IsSign, IsSignedTime, IsDayTimeSign, IsDay, IsRuleText, IsDaylightOffset, AlternateText, IsAlternateText, IsAlternateInRange, offset_hours, day_time_hours, rule_of}
 
 -- something is read at the front, and this holds of it and of the bytes after
 abbrev pub Reached : {A : Type 0} → (List ℕ → A → List ℕ → Type 0) → List ℕ → (A → List ℕ → Type 0) → Type 0
@@ -48,26 +48,28 @@ offset_faults = record { hour = InvalidOffsetHour; minute = InvalidOffsetMinute;
 abbrev pub day_time_faults : TimeFaults
 day_time_faults = record { hour = InvalidDayTimeHour; minute = InvalidDayTimeMinute; second = InvalidDayTimeSecond }
 
--- a number of a time is missing or does not fit 31 bits, or it is above a limit
-abbrev pub IsNumberFault : ℕ → TzStringError → List ℕ → TzStringError → Type 0
-IsNumberFault limit named text e =
-    (IsParseInt e × HasNoNumber 31 text)
-    ⊎ ((e ≡ named) × Reached IsNumber text (λ n rest. limit < n))
+-- no number of minutes or seconds follows a colon
+abbrev pub LacksPart : List ℕ → Type 0
+LacksPart text = (number : List ℕ) × (text ≡ colon ∷ number) × HasNoNumber 31 number
 
--- the same of minutes or seconds after a colon
-abbrev pub IsPartFault : TzStringError → List ℕ → TzStringError → Type 0
-IsPartFault named text e = (number : List ℕ) × (text ≡ colon ∷ number) × IsNumberFault 59 named number e
+-- a number of a time is missing or does not fit 31 bits
+abbrev pub LacksTime : List ℕ → Type 0
+LacksTime text =
+    HasNoNumber 31 text
+    ⊎ Reached IsNumber text (λ n after_hours. LacksPart after_hours
+    ⊎ Reached IsPart after_hours (λ n after_minutes. LacksPart after_minutes))
 
-abbrev pub IsHmsFault : ℕ → TimeFaults → List ℕ → TzStringError → Type 0
-IsHmsFault hours faults text e =
-    IsNumberFault hours faults.hour text e
-    ⊎ Reached IsNumber text (λ n after_hours. IsPartFault faults.minute after_hours e
-    ⊎ Reached IsPart after_hours (λ n after_minutes. IsPartFault faults.second after_minutes e))
-
--- a time that is read has a number above its limit
+-- a time that is read has a number above its limit, and the first such is named
 abbrev pub IsTimeAbove : ℕ → TimeFaults → WrittenTime → TzStringError → Type 0
 IsTimeAbove hours faults t e =
-    ((e ≡ faults.hour) × (hours < t.hours)) ⊎ ((e ≡ faults.minute) × (59 < t.minutes)) ⊎ ((e ≡ faults.second) × (59 < t.seconds))
+    ((e ≡ faults.hour) × (hours < t.hours))
+    ⊎ ((e ≡ faults.minute) × (t.hours ≤ hours) × (59 < t.minutes))
+    ⊎ ((e ≡ faults.second) × (t.hours ≤ hours) × (t.minutes ≤ 59) × (59 < t.seconds))
+
+-- a number of a time is missing, or all are read and one is above its limit
+abbrev pub IsHmsFault : ℕ → TimeFaults → List ℕ → TzStringError → Type 0
+IsHmsFault hours faults text e =
+    (IsParseInt e × LacksTime text) ⊎ Reached IsHms text (λ t rest. IsTimeAbove hours faults t e)
 
 abbrev pub IsOffsetFault : List ℕ → TzStringError → Type 0
 IsOffsetFault text e = Reached IsSign text (λ minus unsigned. IsHmsFault offset_hours offset_faults unsigned e)

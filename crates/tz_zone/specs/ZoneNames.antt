@@ -40,8 +40,9 @@ IsPathIn directories name path = (directory : List ℕ) × Contains directories 
 abbrev pub IsPathOfName : List (List ℕ) → List ℕ → List ℕ → Type 0
 IsPathOfName directories name path = IsZoneName name × IsPathIn directories name path
 
--- the text of an error: these words and the name, or any text that ends in three dots. `anyhow` says no more of a text, even if it is short, so
--- which of two refusals an error is `IsZoneName` decides, and not its text.
+-- the text of an error: these words and the name, or any text that ends in three dots. `anyhow`
+-- says no more of a text, even if it is short: `IsZoneName` decides which of two refusals an error
+-- is, and not its text
 abbrev pub SaysOfName : List ℕ → List ℕ → Fault → Type 0
 SaysOfName words name fault = IsTextOrCut text_room (words ++ name) (error_message fault)
 

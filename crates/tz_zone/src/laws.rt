@@ -8,7 +8,7 @@ ghost use Rattle.std.specs.Iterator.{YieldsThen};
 ghost use Rattle.tz_rule.specs.LocalTimeType.{LocalTimeType, IsLocalTimeType};
 ghost use Rattle.tz_rule.specs.Rule.{IsRuleType};
 ghost use Rattle.tz_zone.specs.Changes.{Change, change_of, IsChange, IsFollowing, IsPreceding, HasNoFollowing, HasNoPreceding};
-ghost use Rattle.tz_zone.specs.ChangesInTurn.{place_after, place_before, GivesFollowing, GivesPreceding, IsNthFollowing, IsNthPreceding};
+ghost use Rattle.tz_zone.specs.ChangesInTurn.{GivesFollowing, GivesPreceding, IsNthFollowing, IsNthPreceding};
 ghost use Rattle.tz_zone.specs.Table.{LeapSecond, Zone};
 ghost use Rattle.tz_zone.specs.LeapTime.{IsEffect, IsLeapTime};
 ghost use Rattle.tz_zone.specs.Clock.{IsClock};
@@ -61,36 +61,46 @@ pub fn nearest_changes_are_unique()
     ensures none_preceding { (z : Zone) (u : ℤ) (c : Change) → IsPreceding z u c → ¬ HasNoPreceding z u }
 {}
 
-/// The changes that an iterator returns one after the other are the first, the second and so on after its instant, or before it. If it returns `None`
-/// after some, there are no more.
+/// The changes that an iterator returns one after the other are the first, the second and so on
+/// after its instant, or before it. If it returns `None` after some, there are no more.
 pub fn iterators_return_changes_in_turn()
-    ensures after { (s t : ChangesAfter) (earlier : List KeptChange) (c : KeptChange) → YieldsThen GivesFollowing s earlier (Some c) t
-        → IsNthFollowing (place_after s).zone (place_after s).unix_time (length earlier) (change_of c) }
-    ensures none_after { (s t : ChangesAfter) (earlier : List KeptChange) → YieldsThen GivesFollowing s earlier None t
-        → (c : Change) → ¬ IsNthFollowing (place_after s).zone (place_after s).unix_time (length earlier) c }
-    ensures before { (s t : ChangesBefore) (later : List KeptChange) (c : KeptChange) → YieldsThen GivesPreceding s later (Some c) t
-        → IsNthPreceding (place_before s).zone (place_before s).unix_time (length later) (change_of c) }
-    ensures none_before { (s t : ChangesBefore) (later : List KeptChange) → YieldsThen GivesPreceding s later None t
-        → (c : Change) → ¬ IsNthPreceding (place_before s).zone (place_before s).unix_time (length later) c }
+    ensures after { (s t : ChangesAfter) (earlier : List KeptChange) (c : KeptChange)
+        → YieldsThen GivesFollowing s earlier (Some c) t
+        → IsNthFollowing (zone_of s.zone) s.unix_time (length earlier) (change_of c) }
+    ensures none_after { (s t : ChangesAfter) (earlier : List KeptChange)
+        → YieldsThen GivesFollowing s earlier None t
+        → (c : Change) → ¬ IsNthFollowing (zone_of s.zone) s.unix_time (length earlier) c }
+    ensures before { (s t : ChangesBefore) (later : List KeptChange) (c : KeptChange)
+        → YieldsThen GivesPreceding s later (Some c) t
+        → IsNthPreceding (zone_of s.zone) s.unix_time (length later) (change_of c) }
+    ensures none_before { (s t : ChangesBefore) (later : List KeptChange)
+        → YieldsThen GivesPreceding s later None t
+        → (c : Change) → ¬ IsNthPreceding (zone_of s.zone) s.unix_time (length later) c }
 {}
 
-/// At most one change is the n-th after an instant. Those before it are exactly the changes between.
+/// At most one change is the n-th after an instant. Those before it are exactly the changes
+/// between.
 pub fn changes_are_counted()
-    ensures unique { (z : Zone) (u : ℤ) (n : ℕ) (c d : Change) → IsNthFollowing z u n c → IsNthFollowing z u n d → c ≡ d }
+    ensures unique { (z : Zone) (u : ℤ) (n : ℕ) (c d : Change)
+        → IsNthFollowing z u n c → IsNthFollowing z u n d → c ≡ d }
     ensures changes { (z : Zone) (u : ℤ) (n : ℕ) (c : Change) → IsNthFollowing z u n c → IsChange z c }
-    ensures between { (z : Zone) (u : ℤ) (n : ℕ) (c d : Change) → IsNthFollowing z u n c → IsChange z d → u <ℤ d.unix_time → d.unix_time <ℤ c.unix_time
+    ensures between { (z : Zone) (u : ℤ) (n : ℕ) (c d : Change) → IsNthFollowing z u n c
+        → IsChange z d → u <ℤ d.unix_time → d.unix_time <ℤ c.unix_time
         → (m : ℕ) × (m < n) × IsNthFollowing z u m d }
     ensures earlier { (z : Zone) (u : ℤ) (n m : ℕ) (c : Change) → IsNthFollowing z u n c → m < n
         → (d : Change) × IsNthFollowing z u m d × (d.unix_time <ℤ c.unix_time) }
 {}
 
-/// A change is the last one before the instant after it, and the first one after the instant before it. The change that follows it is preceded by it,
-/// and the one that precedes it is followed by it.
+/// A change is the last one before the instant after it, and the first one after the instant
+/// before it. The change that follows it is preceded by it, and the one that precedes it is
+/// followed by it.
 pub fn changes_are_nearest_to_their_neighbours()
     ensures preceding { (z : Zone) (c : Change) → IsChange z c → IsPreceding z (c.unix_time +ℤ pos 1) c }
     ensures following { (z : Zone) (c : Change) → IsChange z c → IsFollowing z (c.unix_time -ℤ pos 1) c }
-    ensures before_the_following { (z : Zone) (c d : Change) → IsChange z c → IsFollowing z c.unix_time d → IsPreceding z d.unix_time c }
-    ensures after_the_preceding { (z : Zone) (c d : Change) → IsChange z c → IsPreceding z c.unix_time d → IsFollowing z d.unix_time c }
+    ensures before_the_following { (z : Zone) (c d : Change)
+        → IsChange z c → IsFollowing z c.unix_time d → IsPreceding z d.unix_time c }
+    ensures after_the_preceding { (z : Zone) (c d : Change)
+        → IsChange z c → IsPreceding z c.unix_time d → IsFollowing z d.unix_time c }
 {}
 
 /// The parts of a local time type pass the checks of the constructor.

@@ -69,7 +69,8 @@ fn a_fault_has_the_text_of_the_system(rt: HostRuntime) -> Result<(), Fail> {
     Ok(())
 }
 
-/// Only the error of a missing file has a text of its own here, which is that of the system; a file that may not be read is not missing.
+/// Only the error of a missing file has a text of its own here, which is that of the system; a file
+/// that may not be read is not missing.
 #[test]
 fn each_error_of_opening_has_its_own_text(rt: HostRuntime) -> Result<(), Fail> {
     static ROWS: [(i32, &str); 6] = [
@@ -104,7 +105,8 @@ fn the_settings_take_it(rt: HostRuntime) -> Result<(), Fail> {
 /// A limit, and the text that refuses a file at it; none where the file is read whole.
 type Limit = (usize, Option<&'static str>);
 
-/// A file at the path, of this many lines of three bytes, is read whole or refused, at each of the limits.
+/// A file at the path, of this many lines of three bytes, is read whole or refused, at each of the
+/// limits.
 fn expect_up_to<R: Files + Abort>(
     rt: &R,
     alloc: Global,

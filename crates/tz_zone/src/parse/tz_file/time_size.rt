@@ -1,6 +1,7 @@
 //! The size of times in a block, four bytes or eight, and of tables that have times. (RFC 8536, section 3.1)
 //!
-//! Lengths that a file's counts ask for have 64 bits, and so no sum of them wraps, whatever the width of a `usize`.
+//! Lengths that a file's counts ask for have 64 bits, and so no sum of them wraps, whatever the
+//! width of a `usize`.
 
 ghost use Rattle.std.specs.Prelude.{◌≡◌, ◌+◌, ◌*◌, ◌≤◌};
 ghost use Rattle.std.specs.Int.{byte_len};

@@ -1,9 +1,8 @@
 //! Times as they are written, of an offset or of a day.
 
-ghost use Rattle.std.specs.Prelude.{◌≡◌, ◌∷◌, ◌<◌, ℕ, List, MatchResult};
-ghost use Rattle.tz_zone.specs.Bytes.{colon};
+ghost use Rattle.std.specs.Prelude.{◌≡◌, ◌<◌, MatchResult};
 ghost use Rattle.tz_zone.specs.TzText.{IsPart, IsHms, IsSign, IsDayTimeSign, IsDayTime, IsTimeUpTo, day_time_hours};
-ghost use Rattle.tz_zone.specs.TzTextFault.{IsParseInt, HasNoNumber, IsHmsFault, IsTimeAbove, IsDayTimeFault, TimeFaults, day_time_faults};
+ghost use Rattle.tz_zone.specs.TzTextFault.{IsParseInt, HasNoNumber, LacksPart, LacksTime, IsTimeAbove, IsDayTimeFault, day_time_faults};
 
 use super::number::read_time_number;
 use crate::parse::after_byte::after_byte;
@@ -44,7 +43,9 @@ impl WrittenTime {
 /// The number after a colon, or 0 if there is no colon, and the rest of the bytes.
 #[inline(always)]
 fn read_part(text: &[u8]) -> Result<(u32, &[u8]), TzStringError>
-    ensures { MatchResult result (λ p. IsPart text.now p.0 p.1.now) (λ e. IsParseInt e × ((number : List ℕ) × (text.now ≡ colon ∷ number) × HasNoNumber 31 number)) }
+    ensures { MatchResult result
+        (λ p. IsPart text.now p.0 p.1.now)
+        (λ e. IsParseInt e × LacksPart text.now) }
 {
     match after_byte(text, b':') {
         Some(number) => read_time_number(number),
@@ -55,7 +56,9 @@ fn read_part(text: &[u8]) -> Result<(u32, &[u8]), TzStringError>
 /// Hours, minutes and seconds after a sign that is read, and the rest of the bytes.
 #[inline(always)]
 pub(super) fn read_hms(text: &[u8], minus: bool) -> Result<(WrittenTime, &[u8]), TzStringError>
-    ensures { MatchResult result (λ p. IsHms text.now p.0 p.1.now × (p.0.minus ≡ minus)) (λ e. (limit : ℕ) (faults : TimeFaults) → IsHmsFault limit faults text.now e) }
+    ensures { MatchResult result
+        (λ p. IsHms text.now p.0 p.1.now × (p.0.minus ≡ minus))
+        (λ e. IsParseInt e × LacksTime text.now) }
 {
     let (hours, rest) = read_time_number(text)?;
     let (minutes, rest) = read_part(rest)?;

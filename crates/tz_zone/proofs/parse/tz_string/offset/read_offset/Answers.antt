@@ -1,14 +1,12 @@
-use Rattle.tz_zone.specs.TzText.{offset_hours}
-use Rattle.tz_zone.specs.TzTextFault.{offset_faults}
+use Rattle.std.proofs.Common.{inl, inr}
 use Rattle.tz_zone.proofs.QuestionMarkExits.{exit}
-use Rattle.tz_zone.proofs.TextTimes.{time_above}
 use Rattle.tz_zone.proofs.parse.tz_string.offset.read_offset.Goals as goal
 
 pub returns-in_err-offset : goal.returns-in_err-offset
 returns-in_err-offset c =
     let sign = c.read_sign-minus in
     exit _ _ c.in_err-offset.field-0.0 _ c.from_residual.ensures.1
-    (sign.result.0, sign.result.1.now, sign.ensures, c.in_err-offset.ensures offset_hours offset_faults)
+    (sign.result.0, sign.result.1.now, sign.ensures, inl c.in_err-offset.ensures)
 
 pub returns-in_err-check_offset : goal.returns-in_err-check_offset
 returns-in_err-check_offset c =
@@ -16,4 +14,4 @@ returns-in_err-check_offset c =
     let read = c.in_ok-offset in
     let e = c.in_err-check_offset.field-0.0 in
     exit _ _ e _ c.from_residual-in_err-check_offset.ensures.1
-    (sign.result.0, sign.result.1.now, sign.ensures, time_above offset_hours offset_faults sign.result.1.now read.offset read.rest.now e read.ensures.0 c.in_err-check_offset.ensures)
+    (sign.result.0, sign.result.1.now, sign.ensures, inr (read.offset, read.rest.now, read.ensures.0, c.in_err-check_offset.ensures))

@@ -1,6 +1,5 @@
 use Rattle.std.proofs.Common.{inl, inr}
 use Rattle.tz_zone.proofs.QuestionMarkExits.{exit}
-use Rattle.tz_zone.proofs.TextTimes.{part_missing}
 use Rattle.tz_zone.proofs.parse.tz_string.time.read_hms.Goals as goal
 
 pub returns-in_err-minutes : goal.returns-in_err-minutes
@@ -8,7 +7,7 @@ returns-in_err-minutes c =
     let hours = c.in_ok-hours in
     let e = c.in_err-minutes.field-0.0 in
     exit _ _ e _ c.from_residual-in_err-minutes.ensures.1
-    (λ limit faults. inr (hours.hours, hours.rest.now, hours.ensures.0, inl (part_missing faults.minute hours.rest.now e c.in_err-minutes.ensures)))
+    (c.in_err-minutes.ensures.0, inr (hours.hours, hours.rest.now, hours.ensures.0, inl c.in_err-minutes.ensures.1))
 
 pub returns-in_err-seconds : goal.returns-in_err-seconds
 returns-in_err-seconds c =
@@ -16,4 +15,4 @@ returns-in_err-seconds c =
     let minutes = c.in_ok-minutes in
     let e = c.in_err-seconds.field-0.0 in
     exit _ _ e _ c.from_residual-in_err-seconds.ensures.1
-    (λ limit faults. inr (hours.hours, hours.rest.now, hours.ensures.0, inr (minutes.minutes, minutes.rest.now, minutes.ensures, part_missing faults.second minutes.rest.now e c.in_err-seconds.ensures)))
+    (c.in_err-seconds.ensures.0, inr (hours.hours, hours.rest.now, hours.ensures.0, inr (minutes.minutes, minutes.rest.now, minutes.ensures, c.in_err-seconds.ensures.1)))
