@@ -142,6 +142,7 @@ texts =
     (8, codes "a buffer has the wrong length") ∷
     (9, codes "unknown choice") ∷
     (10, codes "unknown code") ∷
+    (11, codes "not a time zone name") ∷
     (16, codes "invalid date time: invalid month") ∷
     (17, codes "invalid date time: invalid month day") ∷
     (18, codes "invalid date time: invalid hour") ∷

@@ -47,7 +47,7 @@ pub extern "C" fn tz_file_read(
     rule: &mut RuleData,
     out: &mut OffsetsData,
 ) -> u32
-    ensures answer { IsReadAnswer bytes.now result (zone_written transitions.new local_time_types.new leap_seconds.new rule.new) out.new }
+    ensures answer { IsReadAnswer bytes.now result (zone_written transitions.new local_time_types.new leap_seconds.new rule.new) rule.new.kind out.new }
     ensures only { (zone : Zone) → IsTzFile bytes.now zone
         → IsOnlyReadAnswer zone result (zone_written transitions.new local_time_types.new leap_seconds.new rule.new) }
     ensures transitions_kept { result ≢ 0 → transitions.new ≡ transitions.old }
