@@ -144,6 +144,45 @@ fn the_first_second_of_2000(rt: HostRuntime) -> Result<(), Fail> {
     Ok(expect_text(&rt, alloc, &before, "-1001-03-01T12:01:06.000000010Z")?)
 }
 
+/// The days from one date to the next that has the week day of another one. By the ranges that the calls promise nothing wraps here and below,
+/// without a proof of the caller's own.
+fn days_to_week_day(from: &UtcDateTime, to: &UtcDateTime) -> u8 {
+    (7 + to.week_day() - from.week_day()) % 7
+}
+
+fn local_days_to_week_day(from: &DateTime, to: &DateTime) -> u8 {
+    (7 + to.week_day() - from.week_day()) % 7
+}
+
+/// The days of a leap year that are left after a date of it.
+fn days_left_of_leap_year(date: &UtcDateTime) -> u16 {
+    365 - date.year_day()
+}
+
+fn local_days_left_of_leap_year(date: &DateTime) -> u16 {
+    365 - date.year_day()
+}
+
+/// The seconds that are added to what the date time shows for UTC.
+fn seconds_to_utc(date_time: &DateTime) -> i32 {
+    -date_time.local_time_type().ut_offset()
+}
+
+/// From a Saturday to a Thursday, which is the leap day of 2024.
+#[test]
+fn callers_count_by_the_ranges(rt: HostRuntime) -> Result<(), Fail> {
+    let new_year = utc_of((2000, 1, 1, (0, 0, 0), 0))?;
+    let leap_day = utc_of((2024, 2, 29, (0, 0, 0), 0))?;
+    expect_eq(&rt, &days_to_week_day(&new_year, &leap_day), &5);
+    expect_eq(&rt, &days_left_of_leap_year(&leap_day), &306);
+    let new_year = local_of(((2000, 1, 1, (0, 0, 0), 0), 3600))?;
+    let leap_day = local_of(((2024, 2, 29, (0, 0, 0), 0), i32::MIN + 1))?;
+    expect_eq(&rt, &local_days_to_week_day(&new_year, &leap_day), &5);
+    expect_eq(&rt, &local_days_left_of_leap_year(&leap_day), &306);
+    expect_eq(&rt, &seconds_to_utc(&leap_day), &i32::MAX);
+    Ok(())
+}
+
 /// The first and the last date time, and the one from which Unix time counts.
 #[tactic(auto, using(tz::specs::UtcConstants::unix_epoch_is_utc, tz::specs::UtcConstants::min_is_utc, tz::specs::UtcConstants::max_is_utc))]
 fn constants() -> [UtcDateTime; 3] {

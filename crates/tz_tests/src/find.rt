@@ -1,5 +1,7 @@
 //! Searches in zones whose date times are known.
 
+ghost use Rattle.std.specs.Prelude.{◌≡◌};
+
 use std::alloc::{AllocError, Allocator, Global};
 use std::process::Abort;
 use std::test::Fail;
@@ -139,6 +141,23 @@ fn a_rule_goes_on_after_the_last_transition(rt: HostRuntime) -> Result<(), Fail>
         let zone = plain_zone(rt.alloc(), &[3600], transitions, *rule)?;
         expect_row(&rt, rt.alloc(), zone.as_ref(), row)?;
     }
+    Ok(())
+}
+
+/// A list with nothing found leaves the slots as they are once it is gone.
+fn lend(buf: &mut [Option<FoundDateTimeKind>])
+    ensures { buf.new ≡ buf.old }
+{
+    let _list = FoundDateTimeListRefMut::new(buf);
+}
+
+#[test]
+fn an_empty_list_leaves_the_slots(rt: HostRuntime) -> Result<(), Fail> {
+    let utc = LocalTimeType::utc();
+    let held = FoundDateTimeKind::Normal(DateTime::new(1234, 5, 6, 7, 8, 9, 0, utc)?);
+    let mut buf = [None, Some(held)];
+    lend(&mut buf);
+    assert!(rt; buf[0].is_none() && buf[1] == Some(held));
     Ok(())
 }
 
