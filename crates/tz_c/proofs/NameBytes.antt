@@ -28,17 +28,20 @@ abbrev IsBelow128 : ℕ → Type 0
 IsBelow128 b = b < 128
 
 -- a byte before the first part, and the parts
-onto : (x : ℕ) (parts : List (List ℕ)) → All AreNameBytes (onto_first x parts) → IsZoneNameByte x × All AreNameBytes parts
+onto : (x : ℕ) (parts : List (List ℕ)) → All AreNameBytes (onto_first x parts)
+    → IsZoneNameByte x × All AreNameBytes parts
 onto x [] all = (All-head IsZoneNameByte x [] (All-head AreNameBytes (x ∷ []) [] all), All-nil AreNameBytes)
 onto x (part ∷ parts) all =
     let first = All-head AreNameBytes (x ∷ part) parts all in (
       All-head IsZoneNameByte x part first,
-      All-cons AreNameBytes part parts (All-tail IsZoneNameByte x part first) (All-tail AreNameBytes (x ∷ part) parts all),
+      All-cons AreNameBytes part parts (All-tail IsZoneNameByte x part first)
+          (All-tail AreNameBytes (x ∷ part) parts all),
     )
 
 -- a byte and those after it: a slash before more parts, or a byte of the first part
 step : (x : ℕ) (xs : List ℕ) (test : Bool) → (x == slash) ≡ test
-    → All AreNameBytes (cond test ([] ∷ parts_of xs) (onto_first x (parts_of xs))) → IsBelow128 x × All AreNameBytes (parts_of xs)
+    → All AreNameBytes (cond test ([] ∷ parts_of xs) (onto_first x (parts_of xs)))
+    → IsBelow128 x × All AreNameBytes (parts_of xs)
 step x xs true is all = (omega (arith, eqb-true x slash is), All-tail AreNameBytes [] (parts_of xs) all)
 step x xs false is all = let parts = onto x (parts_of xs) all in (below x parts.0, parts.1)
 

@@ -24,4 +24,5 @@ returns-else-leap_seconds-clause-answer c =
     let are = subst (λ (z : Zone). AreEndOffsets z ends.result.0 ends.result.1) (sym same) ends.ensures in
     let fits_least : SFits w32 ends.result.0 = search rules in
     let fits_greatest : SFits w32 ends.result.1 = search rules in
-    rw (to_z-of_z w32 ends.result.0 fits_least, to_z-of_z w32 ends.result.1 fits_greatest) (inl (refl, file, c.of.ensures.kind, are))
+    rw (to_z-of_z w32 ends.result.0 fits_least, to_z-of_z w32 ends.result.1 fits_greatest)
+    (inl (refl, file, c.of.ensures.kind, are))
