@@ -1,5 +1,6 @@
 """The zones in the library, which serve where the machine has no file."""
 
+import pickle
 import unittest
 import zoneinfo
 from pathlib import Path
@@ -55,10 +56,30 @@ class BuiltIn(unittest.TestCase):
         self.assertFalse(own._held)
         self.assertEqual(repr(own), "ZoneInfo(key='Europe/Paris')")
 
+    def test_it_can_be_chosen(self):
+        zone = ZoneInfo.built_in("Europe/Paris")
+        self.assertFalse(zone._held)
+        self.assertEqual((zone.key, str(zone)), ("Europe/Paris", "Europe/Paris"))
+        self.assertEqual(repr(zone), "ZoneInfo.built_in('Europe/Paris')")
+        self.assertEqual(list(spans(zone)), list(spans(without_files("Europe/Paris"))))
+        # It says nothing of what `ZoneInfo` returns, and stays what it is in a pickle.
+        self.assertIsNot(zone, ZoneInfo.built_in("Europe/Paris"))
+        self.assertTrue(ZoneInfo("Europe/Paris")._held)
+        again = pickle.loads(pickle.dumps(zone))
+        self.assertEqual((repr(again), again._held), (repr(zone), []))
+        self.assertEqual(tz.built_in_names(), _library.built_in_names())
+        for name in ("europe/paris", "../UTC", "/UTC", "", "\ud800"):
+            with self.subTest(name), self.assertRaises(ZoneInfoNotFoundError):
+                ZoneInfo.built_in(name)
+        with self.assertRaises(TypeError):
+            ZoneInfo.built_in(b"UTC")
+
     def test_without_zones(self):
         with mock.patch.object(_library, "built_in", None):
             with self.assertRaises(ZoneInfoNotFoundError):
                 without_files("Europe/Paris")
+            with self.assertRaises(ZoneInfoNotFoundError):
+                ZoneInfo.built_in("Europe/Paris")
             with search_path():
                 self.assertEqual(tz.available_timezones(), set())
             self.assertIsNone(tz.built_in_version())

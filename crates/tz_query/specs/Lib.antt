@@ -11,3 +11,4 @@ pub mod Streams
 pub mod Outputs
 pub mod LineMeanings
 pub mod Program
+pub mod Failures

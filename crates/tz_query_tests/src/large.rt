@@ -1,4 +1,4 @@
-//! Queries and answers of a megabyte: no proof says that there is memory for them.
+//! Two megabytes of queries, and more than one of answers: no proof says that there is memory for them.
 
 use crate::expect::expect_eq;
 use std::alloc::{AllocError, Global};
@@ -19,14 +19,16 @@ fn repeated(alloc: Global, bytes: &[u8], times: u16) -> Result<Vec<u8>, AllocErr
 }
 
 #[test]
-fn a_megabyte_is_answered(rt: HostRuntime) -> Result<(), Fail> {
+fn megabytes_are_answered(rt: HostRuntime) -> Result<(), Fail> {
     let zone = TimeZoneRef::utc();
     let of_meeting = answer(rt.alloc(), zone, MEETING)?;
     assert!(rt; of_meeting.len() > 9_000);
-    let mut queries = repeated(rt.alloc(), MEETING, 100)?;
-    queries.extend_from_slice(&repeated(rt.alloc(), &[b'x'; 1000], 1000)?)?;
-    let mut answers = repeated(rt.alloc(), &of_meeting, 100)?;
+    let mut queries = repeated(rt.alloc(), MEETING, 150)?;
+    queries.extend_from_slice(&repeated(rt.alloc(), &[b'x'; 1000], 2000)?)?;
+    assert!(rt; queries.len() > 2_000_001);
+    let mut answers = repeated(rt.alloc(), &of_meeting, 150)?;
     answers.extend_from_slice(b"E Line\n")?;
+    assert!(rt; answers.len() > 1_300_000);
     let found = answer(rt.alloc(), zone, &queries)?;
     expect_eq(&rt, &(found == answers), &true);
     let (mut input, mut out) = (queries.as_slice(), Vec::new(rt.alloc()));

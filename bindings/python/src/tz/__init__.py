@@ -27,6 +27,7 @@ __all__ = [
     "error_text",
     "TZPATH",
     "available_timezones",
+    "built_in_names",
     "built_in_version",
     "reset_tzpath",
     "ZoneInfoNotFoundError",

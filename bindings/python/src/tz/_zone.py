@@ -70,8 +70,8 @@ class ZoneInfo(tzinfo):
     """
 
     __slots__ = (
-        "_key", "_from_cache", "_text", "_source", "_zone", "_held", "_spans", "_always", "_least",
-        "_greatest", "__weakref__",
+        "_key", "_from_cache", "_is_built_in", "_text", "_source", "_zone", "_held", "_spans",
+        "_always", "_least", "_greatest", "__weakref__",
     )  # fmt: skip
 
     _lock: ClassVar[Any] = threading.RLock()
@@ -116,6 +116,23 @@ class ZoneInfo(tzinfo):
         return cls._of_file(fobj.read(), key, False, repr(fobj))
 
     @classmethod
+    def built_in(cls, key: str, /) -> "Self":
+        """A new object of the zone that the library's own database has by a name.
+
+        No file is looked for, so it is the same on all machines: as `built_in_version` has it.
+
+        >>> ZoneInfo.built_in("Europe/Paris")
+        ZoneInfo.built_in('Europe/Paris')
+
+        Raises `ZoneInfoNotFoundError` if no zone has the name.
+        """
+        if not isinstance(key, str):
+            raise TypeError(f"a name of a zone is a str, not {type(key).__name__}")
+        zone = cls._of_library(key, from_cache=False)
+        zone._is_built_in = True
+        return zone
+
+    @classmethod
     def from_tz_string(cls, text: str, /) -> "Self":
         """The zone of a TZ string (RFC 8536, 3.3.1: its times of day are from -167 to 167 hours).
 
@@ -136,8 +153,12 @@ class ZoneInfo(tzinfo):
     @classmethod
     def _named(cls, key: str, from_cache: bool) -> "Self":
         data = _bytes_of_zone(key)
-        if data is not None:
-            return cls._of_file(data, key, from_cache, None)
+        if data is None:
+            return cls._of_library(key, from_cache)
+        return cls._of_file(data, key, from_cache, None)
+
+    @classmethod
+    def _of_library(cls, key: str, from_cache: bool) -> "Self":
         zone, name = _library.Zone(), key.encode(errors="surrogatepass")
         if _library.built_in is None or not _library.built_in(name, len(name), zone):
             raise ZoneInfoNotFoundError(f"No time zone found with key {key}")
@@ -186,7 +207,7 @@ class ZoneInfo(tzinfo):
         """Makes an object of a zone, whose parts lie in what is held or in the library."""
         made = super().__new__(cls)
         made._key, made._from_cache, made._text, made._source = key, from_cache, text, source
-        made._zone, made._held, made._spans = zone, held, {}
+        made._zone, made._held, made._spans, made._is_built_in = zone, held, {}, False
         check(_library.zone_check(zone.parts, zone.offsets), source if key is None else key)
         made._least, made._greatest = zone.offsets.least, zone.offsets.greatest
         # A time without a date has the type that holds at all instants, if there is one.
@@ -302,12 +323,16 @@ class ZoneInfo(tzinfo):
         return repr(self) if self._key is None else self._key
 
     def __repr__(self) -> str:
+        if self._is_built_in:
+            return f"{type(self).__name__}.built_in({self._key!r})"
         if self._key is not None:
             return f"{type(self).__name__}(key={self._key!r})"
         maker = "from_file" if self._text is None else "from_tz_string"
         return f"{type(self).__name__}.{maker}({self._source})"
 
     def __reduce__(self) -> Tuple[Any, ...]:
+        if self._is_built_in:
+            return type(self).built_in, (self._key,)
         if self._text is not None:
             return type(self).from_tz_string, (self._text,)
         if self._source is not None:

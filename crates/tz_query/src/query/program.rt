@@ -1,6 +1,8 @@
 //! The program over arguments, a file reader, an input and outputs that are passed in.
 
 ghost use Rattle.std.specs.Prelude.{◌≡◌, ◌≤◌, ◌⊎◌, ℤ, IfSome, IfNone, IfOk, IfErr, FitsSigned};
+ghost use Rattle.tz_query.specs.Failures.{AreArguments, IsFailure, NamesUnreadFile, line_of};
+ghost use Rattle.tz_query.specs.Streams.{WritesFront};
 ghost use Rattle.std.specs.Fn.{FnReturnsAt};
 ghost use Rattle.std.specs.Int.{w32};
 ghost use Rattle.tz_query.specs.Numbers.{IsNumber};
@@ -10,35 +12,31 @@ ghost use Rattle.tz_zone.specs.Table.{Zone};
 ghost use Rattle.tz_zone.specs.ZoneRef.{own_zone_of};
 
 use crate::query::lines::read_number;
-use crate::query::streams::{RunFault, run};
+use crate::query::streams::{RunFault, run, write_front};
 use std::alloc::Allocator;
 use std::io::{Read, Write};
-use thiserror::Error;
 use tz::error::ReadFault;
 use tz::{TimeZone, TzError};
 
-/// Why the program ends without all answers.
-#[derive(Debug, Drop, Error)]
+/// Why the arguments name no zone.
+#[derive(Drop)]
 enum Fault {
-    #[error("bad arguments")]
+    /// They are not an option and its value.
     Arguments,
-    #[error("cannot read file")]
+    /// A file cannot be read.
     File,
-    #[error("no memory")]
+    /// Memory is out.
     Memory,
-    #[error("zone refused: {0}")]
+    /// The value makes no zone.
     Zone(TzError),
-    #[error(transparent)]
-    Run(RunFault),
 }
 
 impl From<TzError> for Fault {
-    ghost use Rattle.std.specs.Prelude.{◌≡◌, ◌≢◌, alloc_error};
-    ghost use Rattle.tz_base.specs.declared.error.tz_error.TzError.{TzError};
+    ghost use Rattle.std.specs.Prelude.{◌≡◌, ◌≢◌, ◌⊎◌, alloc_error};
     ghost use Rattle.tz_base.specs.declared.error.tz_error.TzError.TheVariants as refusals;
     ghost use Rattle.tz_query.specs.declared.query.program.Fault.TheVariants as faults;
 
-    ghost from_gives = { λ error fault. (refused : TzError) → fault ≡ faults.Zone refused → (error ≡ refused) × (refused ≢ refusals.Memory alloc_error) };
+    ghost from_gives = { λ error fault. ((fault ≡ faults.Zone error) × (error ≢ refusals.Memory alloc_error)) ⊎ (fault ≡ faults.Memory) };
 
     fn from(error: TzError) -> Self {
         match error {
@@ -67,6 +65,9 @@ fn zone_of_arguments<A: Allocator + Copy, F: Fn(&str) -> Result<Vec<u8>, ReadFau
 ) -> Result<TimeZone<A>, Fault>
     requires { F.IsAlwaysCallable reader }
     ensures ok { IfOk result (λ zone. NamesZone (FnReturnsAt F.Fn reader) (texts_of arguments.now) (own_zone_of zone)) }
+    ensures bad { IfErr result (λ fault. fault ≡ Fault.Arguments → ¬ AreArguments (texts_of arguments.now)) }
+    ensures unread { IfErr result (λ fault. fault ≡ Fault.File
+        → NamesUnreadFile (FnReturnsAt F.Fn reader) (texts_of arguments.now)) }
     ensures refused { IfErr result (λ fault. (e : TzError) → fault ≡ Fault.Zone e → NamesRefusedZone (FnReturnsAt F.Fn reader) (texts_of arguments.now)) }
 {
     match arguments {
@@ -85,6 +86,27 @@ fn zone_of_arguments<A: Allocator + Copy, F: Fn(&str) -> Result<Vec<u8>, ReadFau
             Err(tz::Error::Tz(error)) => Err(Fault::from(error)),
         },
         _ => Err(Fault::Arguments),
+    }
+}
+
+/// Prints the line of a failure, as far as it can be written, and returns its status.
+fn fail<E: Write>(err: &mut E, line: &str) -> u8
+    ensures status { result ≡ 1 }
+    ensures line { WritesFront line.now (E.contents err.old) (E.contents err.new) }
+{
+    // An error of the error output has no place where it could be told.
+    let _ = write_front(err, line.as_bytes());
+    1
+}
+
+/// The line of a run that ends without all answers.
+fn line_of(fault: RunFault) -> &'static str
+    ensures { result.now ≡ line_of fault }
+{
+    match fault {
+        RunFault::Read => "tzq: cannot read queries\n",
+        RunFault::Memory => "tzq: no memory\n",
+        RunFault::Write => "tzq: cannot write answers\n",
     }
 }
 
@@ -111,22 +133,24 @@ where
     requires { F.IsAlwaysCallable reader }
     ensures status { result ≤ 2 }
     ensures refused { result ≡ 2 → NamesRefusedZone (FnReturnsAt F.Fn reader) (texts_of arguments.now) }
+    ensures failed { result ≡ 1 → IsFailure (FnReturnsAt F.Fn reader) (texts_of arguments.now) (E.contents err.old) (E.contents err.new) }
     ensures unread { (result ≡ 2) ⊎ ((zone : Zone) → ¬ NamesZone (FnReturnsAt F.Fn reader) (texts_of arguments.now) zone)
         → (input.new ≡ input.old) × (out.new ≡ out.old) }
     ensures answered { result ≡ 0 → AnswersInput (FnReturnsAt F.Fn reader) (texts_of arguments.now) (R.remaining input.old) (R.remaining input.new) (W.contents out.old) (W.contents out.new) }
     ensures written { (out.new ≡ out.old)
         ⊎ BeginsAnswers (FnReturnsAt F.Fn reader) (texts_of arguments.now) (R.remaining input.old) (R.remaining input.new) (W.contents out.old) (W.contents out.new) }
 {
-    let fault = match zone_of_arguments(alloc, arguments, reader) {
+    match zone_of_arguments(alloc, arguments, reader) {
         Ok(zone) => match run(alloc, zone.as_ref(), input, out) {
-            Ok(()) => return 0,
-            Err(fault) => Fault::Run(fault),
+            Ok(()) => 0,
+            Err(fault) => fail(err, line_of(fault)),
         },
-        Err(fault) => fault,
-    };
-    let _ = writeln!(err, "tzq: {fault}");
-    match fault {
-        Fault::Zone(_) => 2,
-        _ => 1,
+        Err(Fault::Arguments) => fail(err, "tzq: bad arguments\n"),
+        Err(Fault::File) => fail(err, "tzq: cannot read file\n"),
+        Err(Fault::Memory) => fail(err, "tzq: no memory\n"),
+        Err(Fault::Zone(error)) => {
+            let _ = writeln!(err, "tzq: zone refused: {error}");
+            2
+        }
     }
 }

@@ -1,7 +1,8 @@
 //! Answers over a reader and a writer.
 
-ghost use Rattle.std.specs.Prelude.{◌≡◌, ◌≢◌, IfErr, OnOk};
-ghost use Rattle.tz_query.specs.Streams.{WritesAnswers, WritesFrontOfAnswers};
+ghost use Rattle.std.specs.Prelude.{◌≡◌, ◌≢◌, IfErr, MatchBool, OnOk};
+ghost use Rattle.std.specs.Io.KnownBytes.{Appends};
+ghost use Rattle.tz_query.specs.Streams.{WritesAnswers, WritesFront, WritesFrontOfAnswers};
 ghost use Rattle.tz_zone.specs.ZoneRef.{zone_of};
 
 use crate::query::answers::answer;
@@ -24,6 +25,21 @@ pub enum RunFault {
     /// A write of the answers failed, or accepted no byte.
     #[error("cannot write answers")]
     Write,
+}
+
+/// Writes the bytes as far as can be, and returns whether all are written.
+pub(super) fn write_front<W: Write>(out: &mut W, bytes: &[u8]) -> bool
+    ensures { MatchBool result (Appends (W.contents out.old) (W.contents out.new) bytes.now)
+        (WritesFront bytes.now (W.contents out.old) (W.contents out.new)) }
+{
+    let mut rest = bytes;
+    while !rest.is_empty() {
+        let Ok(count @ 1..) = out.write(rest) else {
+            return false;
+        };
+        rest = &rest[count..];
+    }
+    true
 }
 
 /// The initial capacity for input. Memory that is not written to costs little.
@@ -56,12 +72,9 @@ pub fn run<A: Allocator + Copy, R: Read, W: Write>(
         ReadFault::Failed(_) => RunFault::Read,
     })?;
     let answers = answer(alloc, zone, &queries).map_err(|_| RunFault::Memory)?;
-    let mut rest = answers.as_slice();
-    while !rest.is_empty() {
-        let Ok(count @ 1..) = out.write(rest) else {
-            return Err(RunFault::Write);
-        };
-        rest = &rest[count..];
+    if write_front(out, &answers) {
+        Ok(())
+    } else {
+        Err(RunFault::Write)
     }
-    Ok(())
 }

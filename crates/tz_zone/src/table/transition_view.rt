@@ -1,6 +1,6 @@
 //! A zone's transitions as a function may read them: one at a time. Each read is a look, which may be counted.
 
-ghost use Rattle.std.specs.Prelude.{◌≡◌, ℕ, ◌+◌, ◌<◌, ◌≤◌, length, slice_get, Some, refl};
+ghost use Rattle.std.specs.Prelude.{◌≡◌, ℕ, ◌+◌, ◌<◌, ◌≤◌, length, slice_get, Some, IsFalse, refl};
 
 use super::transition::Transition;
 
@@ -30,6 +30,10 @@ pub trait Transitions {
         ensures value { slice_get (list self.old) place ≡ Some result }
         ensures same { list self.new ≡ list self.old }
         ensures counted { looks self.new ≡ next (looks self.old) };
+
+    /// Whether looks are counted. If it is false, looks beyond a function's bound change no count.
+    fn is_counted(&self) -> bool
+        ensures { IsFalse result → (n : ℕ) → next n ≡ n };
 
     /// A look takes none back.
     ghost no_less: { (n : ℕ) → n ≤ next n };
@@ -83,6 +87,10 @@ impl Transitions for Counted<'_> {
         self.transitions[place]
     }
 
+    fn is_counted(&self) -> bool {
+        true
+    }
+
     ghost no_less = { one_look_more-no_less };
 
     ghost one_more = { one_look_more-one_more };
@@ -118,6 +126,10 @@ impl Transitions for Uncounted<'_> {
 
     fn look(&mut self, place: usize) -> Transition {
         self.transitions[place]
+    }
+
+    fn is_counted(&self) -> bool {
+        false
     }
 
     ghost no_less = { same_looks-no_less };

@@ -168,7 +168,8 @@ impl LocalTimeType {
         self.time_zone_designation.as_str()
     }
 
-    /// Whether the other type has the same offset, daylight flag and name. This is what `==` returns, in a form that Rust can compute in a constant.
+    /// Whether the other type has the same offset, daylight flag and name. This is what `==`
+    /// returns, in a form that Rust can compute in a constant.
     #[inline(always)]
     pub const fn is_same(&self, other: &LocalTimeType) -> bool {
         // The words compare the eight bytes of each name at once.

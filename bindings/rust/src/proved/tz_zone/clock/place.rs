@@ -7,6 +7,15 @@ use crate::proved::tz_zone::table::{OtherParts, Transition, Uncounted};
 /// How many places the last seven looks of a halving choose from.
 const BLOCK: usize = 128;
 
+/// Half a mean Gregorian year, in seconds: clocks with daylight saving time change twice a year.
+const HALF_YEAR: u64 = 15_778_476;
+
+/// The fewest transitions at which a place is guessed: fewer are halved as fast.
+const LEAST_GUESSED: usize = 9;
+
+/// The most transitions at which a place is guessed: more of them are hardly half a year apart.
+const MOST_GUESSED: usize = 1024;
+
 /// The greatest power of two up to a number.
 #[inline(always)]
 const fn power_up_to(number: usize) -> usize {
@@ -71,8 +80,8 @@ const fn place_in_block(view: &mut Uncounted<'_>, place: usize, unix_leap_time: 
 /// The place at which a leap time before the last transition lies, by halving.
 ///
 /// After the first look the number of places to choose from is a power of two.
-#[inline(always)]
-pub(super) const fn place_before(view: &mut Uncounted<'_>, unix_leap_time: i64) -> usize {
+#[inline]
+const fn place_by_halving(view: &mut Uncounted<'_>, unix_leap_time: i64) -> usize {
     let count = view.len();
     if count == 1 {
         return 0;
@@ -84,6 +93,66 @@ pub(super) const fn place_before(view: &mut Uncounted<'_>, unix_leap_time: i64) 
     }
     let block = halved(view, first, power, BLOCK, unix_leap_time);
     place_in_block(view, block, unix_leap_time)
+}
+
+/// The first of three places, at one of which a leap time before the last transition lies if two
+/// transitions come in each year.
+#[inline(always)]
+const fn first_by_time(view: &mut Uncounted<'_>, unix_leap_time: i64) -> usize {
+    let count = view.len();
+    let left = view
+        .look(count - 1)
+        .unix_leap_time()
+        .abs_diff(unix_leap_time);
+    let half_years = crate::shim::greatest!(
+        crate::shim::least!((left / HALF_YEAR), (count - 3) as u64),
+        1
+    );
+    count - 2 - half_years as usize
+}
+
+/// Whether a leap time lies at one of three places, by the transitions on either side of them.
+#[inline(always)]
+const fn is_among_three(view: &mut Uncounted<'_>, place: usize, unix_leap_time: i64) -> bool {
+    // By this read the proof knows that the sum fits.
+    let _len = view.len();
+    view.look(place - 1).unix_leap_time() <= unix_leap_time
+        && unix_leap_time < view.look(place + 2).unix_leap_time()
+}
+
+/// The place of a leap time among three.
+#[inline(always)]
+const fn place_among_three(view: &mut Uncounted<'_>, place: usize, unix_leap_time: i64) -> usize {
+    // By this read the proof knows that the sums fit.
+    let _len = view.len();
+    let next = place_after_look(view, place, place + 1, unix_leap_time);
+    place_after_look(view, next, place + 2, unix_leap_time)
+}
+
+/// The place of a leap time before the last transition, if it is one of the three places by time.
+#[inline(always)]
+const fn guessed(view: &mut Uncounted<'_>, unix_leap_time: i64) -> Option<usize> {
+    let first = first_by_time(view, unix_leap_time);
+    if is_among_three(view, first, unix_leap_time) {
+        Some(place_among_three(view, first, unix_leap_time))
+    } else {
+        None
+    }
+}
+
+/// The place at which a leap time before the last transition lies: by a guess, or else by halving.
+///
+/// A guess may take looks in vain, so there is none if looks are counted. It decides nothing by
+/// itself: it is taken only if the transitions around it show that it is right.
+#[inline(always)]
+pub(super) const fn place_before(view: &mut Uncounted<'_>, unix_leap_time: i64) -> usize {
+    let count = view.len();
+    if count >= LEAST_GUESSED && count <= MOST_GUESSED && !view.is_counted() {
+        if let Some(place) = guessed(view, unix_leap_time) {
+            return place;
+        }
+    }
+    place_by_halving(view, unix_leap_time)
 }
 
 /// The place at which a leap time lies. If the last transition is reached, no other one is looked at.

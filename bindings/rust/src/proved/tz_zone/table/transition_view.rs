@@ -25,4 +25,10 @@ impl<'a> Uncounted<'a> {
     pub const fn look(&mut self, place: usize) -> Transition {
         self.transitions[place]
     }
+
+    /// Whether looks are counted.
+    #[inline(always)]
+    pub const fn is_counted(&self) -> bool {
+        false
+    }
 }

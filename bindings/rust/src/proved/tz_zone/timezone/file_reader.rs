@@ -63,13 +63,15 @@ fn read_piece_up_to<I: Read>(
     read_piece(input, &mut buffer[..most])
 }
 
-/// The bytes of the input, read to its end, if there are at most `limit` of them. At most one byte more than that is read.
+/// The bytes of the input, read to its end, if there are at most `limit` of them. At most one byte
+/// more than that is read.
 ///
 /// [`read_file_up_to`] opens a file and calls this.
 ///
 /// # Errors
 ///
-/// - [`ReadFault::Failed`] if the input cannot be read, or with a text that says so if it is longer, after one byte more than the limit was read;
+/// - [`ReadFault::Failed`] if the input cannot be read, or with a text that says so if it is
+///   longer, after one byte more than the limit was read;
 /// - [`ReadFault::Memory`] if an allocation for its bytes fails.
 pub fn read_up_to<A: Allocator, I: Read>(
     alloc: A,

@@ -196,15 +196,17 @@ impl<A: Allocator + Copy> TimeZone<A> {
     ///
     /// A name has parts of ASCII letters, digits, `.`, `_`, `+` and `-`, with `/` between them; no part is `.` or `..`. For a name the reader is
     /// asked in each of the [usual directories](DEFAULT_DIRECTORIES) in turn until it returns bytes or `ReadFault::Memory`, and for any other text it
-    /// is not asked. So no path outside of these directories is opened, even if a user chooses the name; a link in them is followed, wherever it
-    /// leads. A name is never read as a TZ string.
+    /// is not asked. So no path outside of these directories is opened, even if a user chooses the
+    /// name; a link in them is followed, wherever it leads. A name is never read as a TZ string.
     ///
-    /// A file that the reader does not return counts as one that is not there, also if it may not be read, or is longer than the reader's limit.
+    /// A file that the reader does not return counts as one that is not there, also if it may not
+    /// be read, or is longer than the reader's limit.
     ///
     /// # Errors
     ///
-    /// - [`Error::Io`] if the text is not a name, as [`is_zone_name`](super::is_zone_name) returns, or if it is one and no directory has a file with it;
-    ///   the error's text says which, and has the name;
+    /// - [`Error::Io`] if the text is not a name, as [`is_zone_name`](super::is_zone_name) returns,
+    ///   or if it is one and no directory has a file with it; the error's text says which, and has
+    ///   the name;
     /// - [`Error::Tz`] with an error of [`TimeZone::from_tz_data`] if the file is not a TZif file;
     /// - [`Error::Tz`] of [`TzError::Memory`] if an allocation fails, in this call or in the reader.
     pub fn named<F: Fn(&str) -> Result<Vec<u8>, ReadFault>>(

@@ -23,9 +23,11 @@ fn is_name_part(part: &[u8]) -> bool {
     !matches!(part, [] | [b'.'] | [b'.', b'.']) && are_name_bytes(part)
 }
 
-/// Whether the text is a name of the form that [`TimeZone::named`](super::TimeZone::named) looks for. (tz database, Timezone identifiers)
+/// Whether the text is a name of the form that [`TimeZone::named`](super::TimeZone::named) looks
+/// for. (tz database, Timezone identifiers)
 ///
-/// A name has one part or several, with `/` between them. A part is one or more ASCII letters, digits, `.`, `_`, `+` and `-`, and neither `.` nor `..`.
+/// A name has one part or several, with `/` between them. A part is one or more ASCII letters,
+/// digits, `.`, `_`, `+` and `-`, and neither `.` nor `..`.
 pub fn is_zone_name(name: &str) -> bool {
     name.as_bytes()
         .split(|byte| *byte == b'/')

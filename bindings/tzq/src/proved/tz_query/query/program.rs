@@ -2,22 +2,23 @@
 //! The program over arguments, a file reader, an input and outputs that are passed in.
 
 use crate::proved::tz_query::query::lines::read_number;
-use crate::proved::tz_query::query::streams::{RunFault, run};
+use crate::proved::tz_query::query::streams::{RunFault, run, write_front};
 use crate::shim::Vec;
 use crate::shim::alloc::Allocator;
 use crate::shim::io::{Read, Write};
-use core::{error, fmt};
 use tz::proved::tz::error::ReadFault;
 use tz::proved::tz::{TimeZone, TzError};
 
-/// Why the program ends without all answers.
-#[derive(Debug)]
+/// Why the arguments name no zone.
 enum Fault {
+    /// They are not an option and its value.
     Arguments,
+    /// A file cannot be read.
     File,
+    /// Memory is out.
     Memory,
+    /// The value makes no zone.
     Zone(TzError),
-    Run(RunFault),
 }
 
 impl From<TzError> for Fault {
@@ -62,6 +63,22 @@ fn zone_of_arguments<A: Allocator + Copy, F: Fn(&str) -> Result<Vec<u8>, ReadFau
     }
 }
 
+/// Prints the line of a failure, as far as it can be written, and returns its status.
+fn fail<E: Write>(err: &mut E, line: &str) -> u8 {
+    // An error of the error output has no place where it could be told.
+    let _ = write_front(err, line.as_bytes());
+    1
+}
+
+/// The line of a run that ends without all answers.
+fn line_of(fault: RunFault) -> &'static str {
+    match fault {
+        RunFault::Read => "tzq: cannot read queries\n",
+        RunFault::Memory => "tzq: no memory\n",
+        RunFault::Write => "tzq: cannot write answers\n",
+    }
+}
+
 /// Runs the program and returns its status.
 ///
 /// `arguments` are an option and its value, which name a zone: `-o` that of an offset from UTC in seconds, `-f` that of the TZif
@@ -83,30 +100,17 @@ where
     W: Write,
     E: Write,
 {
-    let fault = match zone_of_arguments(alloc, arguments, reader) {
+    match zone_of_arguments(alloc, arguments, reader) {
         Ok(zone) => match run(alloc, zone.as_ref(), input, out) {
-            Ok(()) => return 0,
-            Err(fault) => Fault::Run(fault),
+            Ok(()) => 0,
+            Err(fault) => fail(err, line_of(fault)),
         },
-        Err(fault) => fault,
-    };
-    let _ = writeln!(err, "tzq: {fault}");
-    match fault {
-        Fault::Zone(_) => 2,
-        _ => 1,
-    }
-}
-
-impl fmt::Display for Fault {
-    fn fmt(&self, f: &mut fmt::Formatter<'_>) -> fmt::Result {
-        match self {
-            Fault::Arguments => f.write_str("bad arguments"),
-            Fault::File => f.write_str("cannot read file"),
-            Fault::Memory => f.write_str("no memory"),
-            Fault::Zone(error) => write!(f, "zone refused: {error}"),
-            Fault::Run(error) => error.fmt(f),
+        Err(Fault::Arguments) => fail(err, "tzq: bad arguments\n"),
+        Err(Fault::File) => fail(err, "tzq: cannot read file\n"),
+        Err(Fault::Memory) => fail(err, "tzq: no memory\n"),
+        Err(Fault::Zone(error)) => {
+            let _ = writeln!(err, "tzq: zone refused: {error}");
+            2
         }
     }
 }
-
-impl error::Error for Fault {}

@@ -20,6 +20,18 @@ pub enum RunFault {
     Write,
 }
 
+/// Writes the bytes as far as can be, and returns whether all are written.
+pub(super) fn write_front<W: Write>(out: &mut W, bytes: &[u8]) -> bool {
+    let mut rest = bytes;
+    while !rest.is_empty() {
+        let Ok(count @ 1..) = out.write(rest) else {
+            return false;
+        };
+        rest = &rest[count..];
+    }
+    true
+}
+
 /// The initial capacity for input. Memory that is not written to costs little.
 const FIRST_ROOM: usize = 262_144;
 
@@ -45,14 +57,11 @@ pub fn run<A: Allocator + Copy, R: Read, W: Write>(
         ReadFault::Failed(_) => RunFault::Read,
     })?;
     let answers = answer(alloc, zone, &queries).map_err(|_| RunFault::Memory)?;
-    let mut rest = answers.as_slice();
-    while !rest.is_empty() {
-        let Ok(count @ 1..) = out.write(rest) else {
-            return Err(RunFault::Write);
-        };
-        rest = &rest[count..];
+    if write_front(out, &answers) {
+        Ok(())
+    } else {
+        Err(RunFault::Write)
     }
-    Ok(())
 }
 
 impl fmt::Display for RunFault {

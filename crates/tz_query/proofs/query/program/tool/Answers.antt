@@ -6,7 +6,6 @@ use Rattle.tz_zone.specs.ZoneRef.{zone_of, own_zone_of}
 use Rattle.tz_query.specs.Program.{NamesZone, BeginsAnswers}
 use Rattle.tz_query.specs.Streams.{WritesAnswers, WritesFrontOfAnswers}
 use Rattle.tz_query.proofs.query.program.tool.Goals as goal
-use Rattle.tz_query.proofs.query.program.tool.Goals.{in-Ok+in-Err-run, in-Err}
 
 begun : {reads : List ℕ → Read → Type 0} {arguments : List (List ℕ)} (zone own : Zone) (unread left written now : Option (List ℕ)) → zone ≡ own → NamesZone reads arguments own →
     WritesAnswers zone unread left written now → BeginsAnswers reads arguments unread left written now
@@ -36,8 +35,6 @@ returns-in-Ok-run-clause-answered g c = λ done. record {
 pub returns-in-Ok-run-clause-unread : goal.returns-in-Ok-run-clause-unread
 returns-in-Ok-run-clause-unread g c = unread_never 0 (own_zone_of c.in-Ok.zone) (omega arith) c.in-Ok.ensures.ok
 
-pub returns-in_default-clause-unread : goal.returns-in_default-clause-unread
-returns-in_default-clause-unread g c = λ no. elim c.match-zone_of_arguments.branch [
-  | in-Ok+in-Err-run w ↦ unread_never 1 (own_zone_of w.in-Ok.zone) (omega arith) w.in-Ok.ensures.ok no
-  | in-Err w ↦ (w.input-is, w.out-is)
-]
+pub returns-in-Ok-clause-unread : goal.returns-in-Ok-clause-unread
+returns-in-Ok-clause-unread g c =
+    unread_never _ (own_zone_of c.in-Ok.zone) (omega (arith, c.fail.ensures.status)) c.in-Ok.ensures.ok

@@ -7,7 +7,8 @@ use Rattle.std.proofs.lemmas.Int.{to_z-of_z}
 use Rattle.std.proofs.lemmas.Result.{err_from_is_err_and}
 use mir.Syntax.{w32}
 use Rattle.tz_base.specs.declared.error.tz_error.Error.{Error}
-use Rattle.tz_base.specs.declared.error.tz_error.Error.TheVariants.{Tz}
+use Rattle.anyhow.specs.declared.error.Error.{Error as Failure}
+use Rattle.tz_base.specs.declared.error.tz_error.Error.TheVariants.{Io, Tz}
 use Rattle.tz_base.specs.declared.error.tz_error.TzError.{TzError}
 use Rattle.tz_base.specs.declared.error.tz_error.TzError.TheVariants.{Memory}
 use Rattle.tz_rule.specs.LocalTimeType.{IsOffset}
@@ -16,6 +17,8 @@ use Rattle.tz_zone.specs.Table.{Zone}
 use Rattle.tz_zone.specs.TzFile.{IsTzFile}
 use Rattle.tz_zone.specs.ZoneRef.{own_zone_of}
 use Rattle.tz_query.specs.Program.{texts_of, fixed_zone, usual_directories, IsZoneOfOption, IsRefusedOption, IsRefusedText, NamesZone, NamesRefusedZone}
+use Rattle.tz_query.specs.declared.query.program.Fault.{Fault}
+use Rattle.tz_query.specs.declared.query.program.Fault.TheVariants as faults
 use Rattle.tz_query.proofs.query.program.zone_of_arguments.Goals as goal
 
 -- two arguments are an option and its value
@@ -54,6 +57,31 @@ text_refused : (reads : List ℕ → Read → Type 0) (text : List ℕ) (error :
 text_refused reads text error e (inl memory) (is, not) = let same : e ≡ Memory alloc_error = cc in absurd (not same)
 text_refused reads text error e (inr answer) (is, not) = (e, subst (λ x. IsSettingsAnswer reads usual_directories text (Err x)) is answer, not)
 
+-- a failure to read is of a file that the settings ask for
+text_unread : (reads : List ℕ → Read → Type 0) (text : List ℕ) (error : Error) (fault : Failure) → (error ≡ Tz (Memory alloc_error)) ⊎ IsSettingsAnswer reads usual_directories text (Err error) →
+    error ≡ Io fault → (x : Failure) × IsSettingsAnswer reads usual_directories text (Err (Io x))
+text_unread reads text error fault (inl memory) is = let both : Tz (Memory alloc_error) ≡ Io fault = sym memory ∙ is in absurd (cc)
+text_unread reads text error fault (inr answer) is = (fault, subst (λ x. IsSettingsAnswer reads usual_directories text (Err x)) is answer)
+
+-- what an error becomes
+abbrev IsFaultOf : TzError → Fault → Type 0
+IsFaultOf error fault = ((fault ≡ faults.Zone error) × (error ≢ Memory alloc_error)) ⊎ (fault ≡ faults.Memory)
+
+refused_by : (error : TzError) (fault : Fault) → IsFaultOf error fault → (e : TzError) → fault ≡ faults.Zone e
+    → (error ≡ e) × (e ≢ Memory alloc_error)
+refused_by error fault (inl (zone, not)) e is =
+    let both : faults.Zone error ≡ faults.Zone e = sym zone ∙ is in
+    let same : error ≡ e = cc in (same, subst (λ x. x ≢ Memory alloc_error) same not)
+refused_by error fault (inr memory) e is = let both : faults.Memory ≡ faults.Zone e = sym memory ∙ is in absurd (cc)
+
+never_bad : (error : TzError) (fault : Fault) → IsFaultOf error fault → fault ≢ faults.Arguments
+never_bad error fault (inl (zone, not)) is = let both : faults.Zone error ≡ faults.Arguments = sym zone ∙ is in absurd (cc)
+never_bad error fault (inr memory) is = let both : faults.Memory ≡ faults.Arguments = sym memory ∙ is in absurd (cc)
+
+never_unread : (error : TzError) (fault : Fault) → IsFaultOf error fault → fault ≢ faults.File
+never_unread error fault (inl (zone, not)) is = let both : faults.Zone error ≡ faults.File = sym zone ∙ is in absurd (cc)
+never_unread error fault (inr memory) is = let both : faults.Memory ≡ faults.File = sym memory ∙ is in absurd (cc)
+
 pub returns-in-text-clause-ok : goal.returns-in-text-clause-ok
 returns-in-text-clause-ok g c =
     let offset = c.in_ok-ut_offset-in-text.ut_offset in
@@ -67,7 +95,7 @@ returns-in_err-fixed-in-text-clause-refused g c =
     let number = value_in c.read_offset.result offset _ c.in_ok-ut_offset-in-text.ensures.ok_part c.read_offset.ensures.some in
     let p = err_from_is_err_and c.from_residual-in_err-fixed-in-text.result c.from_residual-in_err-fixed-in-text.ensures.1 in
     rw p.1 (λ e is. refuses c.args.arguments.now _ c.in-text.len_at_least c.in-text.len_below
-    (inl (c.in-text.is-text, (offset, number.0, number.1, offset_refused offset _ _ e (to_z-of_z w32 offset number.1) c.in_err-fixed-in-text.ensures.err (p.2 e is)))))
+    (inl (c.in-text.is-text, (offset, number.0, number.1, offset_refused offset _ _ e (to_z-of_z w32 offset number.1) c.in_err-fixed-in-text.ensures.err (refused_by _ _ p.2 e is)))))
 
 pub returns-in-Ok-clause-ok : goal.returns-in-Ok-clause-ok
 returns-in-Ok-clause-ok g c =
@@ -80,7 +108,7 @@ returns-in_err-from_tz_data-in-Ok-clause-refused g c =
     let p = err_from_is_err_and c.from_residual-in_err-from_tz_data-in-Ok.result c.from_residual-in_err-from_tz_data-in-Ok.ensures.1 in
     let IsNone : List ℕ → Type 0 = λ bs. (zone : Zone) → ¬ IsTzFile bs zone in
     rw p.1 (λ e is. refuses c.args.arguments.now _ c.in-text-2.len_at_least c.in-text-2.len_below
-    (inr (inl (c.in-text-2.is-text, (c.in-Ok.bytes, says_at g.F.Fn c.reader.ensures c.in-Ok.is, subst IsNone c.deref.ensures.value (file_refused _ _ e c.in_err-from_tz_data-in-Ok.ensures.only (p.2 e is)))))))
+    (inr (inl (c.in-text-2.is-text, (c.in-Ok.bytes, says_at g.F.Fn c.reader.ensures c.in-Ok.is, subst IsNone c.deref.ensures.value (file_refused _ _ e c.in_err-from_tz_data-in-Ok.ensures.only (refused_by _ _ p.2 e is)))))))
 
 pub returns-in-Ok-from_posix_tz-clause-ok : goal.returns-in-Ok-from_posix_tz-clause-ok
 returns-in-Ok-from_posix_tz-clause-ok g c =
@@ -88,6 +116,44 @@ returns-in-Ok-from_posix_tz-clause-ok g c =
 
 pub returns-in-text-3-clause-refused : goal.returns-in-text-3-clause-refused
 returns-in-text-3-clause-refused g c = λ e is.
-    let (same, other) = c.from.ensures e is in
+    let (same, other) = refused_by _ _ c.from.ensures e is in
     refuses c.args.arguments.now _ c.in-text-3.len_at_least c.in-text-3.len_below
     (inr (inr (c.in-text-3.is-text, text_refused _ _ _ e c.in-Err-Tz.ensures ((search rules) ∙ ap Tz same, other))))
+
+pub returns-in_err-fixed-in-text-clause-bad : goal.returns-in_err-fixed-in-text-clause-bad
+returns-in_err-fixed-in-text-clause-bad g c =
+    let p = err_from_is_err_and c.from_residual-in_err-fixed-in-text.result c.from_residual-in_err-fixed-in-text.ensures.1 in
+    rw p.1 (λ is. absurd (never_bad _ _ p.2 is))
+
+pub returns-in_err-fixed-in-text-clause-unread : goal.returns-in_err-fixed-in-text-clause-unread
+returns-in_err-fixed-in-text-clause-unread g c =
+    let p = err_from_is_err_and c.from_residual-in_err-fixed-in-text.result c.from_residual-in_err-fixed-in-text.ensures.1 in
+    rw p.1 (λ is. absurd (never_unread _ _ p.2 is))
+
+pub returns-in_err-from_tz_data-in-Ok-clause-bad : goal.returns-in_err-from_tz_data-in-Ok-clause-bad
+returns-in_err-from_tz_data-in-Ok-clause-bad g c =
+    let p = err_from_is_err_and c.from_residual-in_err-from_tz_data-in-Ok.result c.from_residual-in_err-from_tz_data-in-Ok.ensures.1 in
+    rw p.1 (λ is. absurd (never_bad _ _ p.2 is))
+
+pub returns-in_err-from_tz_data-in-Ok-clause-unread : goal.returns-in_err-from_tz_data-in-Ok-clause-unread
+returns-in_err-from_tz_data-in-Ok-clause-unread g c =
+    let p = err_from_is_err_and c.from_residual-in_err-from_tz_data-in-Ok.result c.from_residual-in_err-from_tz_data-in-Ok.ensures.1 in
+    rw p.1 (λ is. absurd (never_unread _ _ p.2 is))
+
+pub returns-in-text-2-clause-unread : goal.returns-in-text-2-clause-unread
+returns-in-text-2-clause-unread g c = λ is.
+    let two = two_texts c.args.arguments.now _ c.in-text-2.len_at_least c.in-text-2.len_below in
+    let failed = says_at g.F.Fn c.reader.ensures (c.in-Err-Failed.is ∙ ap Err c.in-Err-Failed.field-0-is) in
+    (_, _, two, inl (c.in-text-2.is-text, (c.in-Err-Failed.field-0-0, failed)))
+
+pub returns-in-Err-Io-clause-unread : goal.returns-in-Err-Io-clause-unread
+returns-in-Err-Io-clause-unread g c = λ is.
+    let two = two_texts c.args.arguments.now _ c.in-text-3.len_at_least c.in-text-3.len_below in
+    let unread = text_unread _ _ c.in-Err-Io.field-0 c.in-Err-Io.field-0-0 c.in-Err-Io.ensures c.in-Err-Io.field-0-is in
+    (_, _, two, inr (c.in-text-3.is-text, unread))
+
+pub returns-in-text-3-clause-bad : goal.returns-in-text-3-clause-bad
+returns-in-text-3-clause-bad g c = λ is. absurd (never_bad _ _ c.from.ensures is)
+
+pub returns-in-text-3-clause-unread : goal.returns-in-text-3-clause-unread
+returns-in-text-3-clause-unread g c = λ is. absurd (never_unread _ _ c.from.ensures is)

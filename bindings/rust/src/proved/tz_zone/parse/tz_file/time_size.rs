@@ -1,7 +1,8 @@
 // Generated from crates/tz_zone/src/parse/tz_file/time_size.rt by bindings/erase: its contracts are cut. Change that file instead.
 //! The size of times in a block, four bytes or eight, and of tables that have times. (RFC 8536, section 3.1)
 //!
-//! Lengths that a file's counts ask for have 64 bits, and so no sum of them wraps, whatever the width of a `usize`.
+//! Lengths that a file's counts ask for have 64 bits, and so no sum of them wraps, whatever the
+//! width of a `usize`.
 
 /// How many bytes a time of a block has.
 #[derive(Clone, Copy)]

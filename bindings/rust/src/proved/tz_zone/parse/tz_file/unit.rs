@@ -5,8 +5,9 @@ use super::header::{Counts, HEADER_LEN, read_header};
 use super::time_size::TimeSize;
 use crate::proved::tz_base::error::parse::{ParseDataError, TzFileError};
 
-/// Places in a unit, from the first byte of its header: where each part of the block begins, and where the block ends. The counts determine them, so
-/// they may be past the end of the file, and past what a `usize` holds on a machine of 32 bits.
+/// Places in a unit, from the first byte of its header: where each part of the block begins, and
+/// where the block ends. The counts determine them, so they may be past the end of the file, and
+/// past what a `usize` holds on a machine of 32 bits.
 #[derive(Clone, Copy)]
 struct Layout {
     indexes: u64,

@@ -1,7 +1,7 @@
 -- The looks are one more than the exponent of the greatest power of two below the number of transitions.
 use Rattle.std.proofs.Common.{◌<◌, ◌^◌, refl, arith, length}
 use Rattle.tz_zone.proofs.PowerSteps.{exponent_less, exponent_up_to}
-use Rattle.tz_zone.proofs.clock.place.place_before.Goals as goal
+use Rattle.tz_zone.proofs.clock.place.place_by_halving.Goals as goal
 
 pub returns-then-power-lt-BLOCK-clause-at_most : goal.returns-then-power-lt-BLOCK-clause-at_most
 returns-then-power-lt-BLOCK-clause-at_most g c = λ b bits.

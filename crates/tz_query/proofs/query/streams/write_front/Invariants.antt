@@ -1,6 +1,6 @@
 use Rattle.std.proofs.Common.{◌≡◌, ℕ, List, ◌++◌, length}
 use Rattle.std.specs.Io.KnownBytes.{Appends}
-use Rattle.tz_query.proofs.query.streams.run.Given as goal
+use Rattle.tz_query.proofs.query.streams.write_front.Given as goal
 
 -- what is not left is written
 abbrev pub invariant-loop-rest : goal.invariant-loop-rest
