@@ -307,6 +307,7 @@ static const struct { tz_code code; const char *text; } code_texts[] = {
     {TZ_BUFFER_LENGTH, "a buffer has the wrong length"},
     {TZ_UNKNOWN_CHOICE, "unknown choice"},
     {TZ_UNKNOWN_CODE, "unknown code"},
+    {TZ_INVALID_NAME, "not a time zone name"},
     {TZ_INVALID_MONTH, "invalid date time: invalid month"},
     {TZ_INVALID_MONTH_DAY, "invalid date time: invalid month day"},
     {TZ_INVALID_HOUR, "invalid date time: invalid hour"},
@@ -400,7 +401,7 @@ static void test_error_texts(void) {
     else REFUSED(tz_error_text(code, text, sizeof text, &length), TZ_UNKNOWN_CODE, length);
   }
   EXPECT(row, sizeof code_texts / sizeof *code_texts);
-  EXPECT(row, 74);
+  EXPECT(row, 75);
   REFUSED(tz_error_text(UINT32_MAX, text, sizeof text, &length), TZ_UNKNOWN_CODE, length);
 }
 
@@ -439,6 +440,14 @@ static void test_strings(void) {
   CODE(tz_string_read(extended, strlen(extended), true, &rule), TZ_OK);
   EXPECT(rule.kind, TZ_ALTERNATE);
   EXPECT(rule.alternate.dst_start_time, -3600);
+}
+
+static void test_names(void) {
+  static const char *const names[] = {"Europe/Paris", "UTC", "Etc/GMT+5", "America/Argentina/Buenos_Aires"};
+  static const char *const others[] = {"", "/etc/localtime", "../Paris", "Europe/..", ":Europe/Paris", "Europe/../../etc/passwd"};
+  for (size_t i = 0; i < sizeof names / sizeof *names; i++) CODE(tz_name_check(names[i], strlen(names[i])), TZ_OK);
+  for (size_t i = 0; i < sizeof others / sizeof *others; i++) CODE(tz_name_check(others[i], strlen(others[i])), TZ_INVALID_NAME);
+  CODE(tz_name_check(NULL, 0), TZ_INVALID_NAME);
 }
 
 static void test_settings(void) {
@@ -832,6 +841,7 @@ int main(int argc, char **argv) {
   test_parsed_texts();
   test_error_texts();
   test_strings();
+  test_names();
   test_settings();
   test_zone_checks();
   test_zones();

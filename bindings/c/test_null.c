@@ -142,6 +142,7 @@ static void test_null_parameters(void) {
   tz_sizes sizes = {0};
   tz_rule rule = {0};
   tz_setting setting = {0};
+  tz_parsed parsed = {0};
   tz_offsets offsets = {7, 7};
   size_t length = 77, count = 77;
   const tz_utc utc = TZ_UTC_EPOCH;
@@ -163,6 +164,8 @@ static void test_null_parameters(void) {
   REFUSED(tz_string_read(NULL, 0, false, &rule), code, rule);
   REFUSED(tz_string_read(NULL, 0, true, &rule), code, rule);
   REFUSED(tz_setting_read(NULL, 0, &setting), TZ_STRING_EMPTY, setting);
+  CODE(tz_name_check(NULL, 0), TZ_INVALID_NAME);
+  REFUSED(tz_date_time_read(NULL, 0, &parsed), TZ_EXPECTED_YEAR, parsed);
   CODE(tz_find_n(&fields, &made.zone, 0, NULL, 0, &count), TZ_OK);
   EXPECT(count, 1);
   CODE(tz_column_offsets(NULL, 0, &made.zone, NULL, 0, NULL, 0), TZ_OK);

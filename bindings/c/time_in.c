@@ -3,12 +3,14 @@
 
 #include <stdio.h>
 #include <stdlib.h>
+#include <string.h>
 #include <time.h>
 
 int main(int argc, char **argv) {
   static uint8_t bytes[1 << 20];
   char path[256];
   if (argc != 2) return fprintf(stderr, "usage: time_in NAME\n"), 2;
+  if (argv[1][0] != '/' && tz_name_check(argv[1], strlen(argv[1])) != TZ_OK) return fprintf(stderr, "not a name of a time zone\n"), 2;
   int path_length = snprintf(path, sizeof path, "%s%s", argv[1][0] == '/' ? "" : "/usr/share/zoneinfo/", argv[1]);
   if (path_length < 0 || (size_t)path_length >= sizeof path) return fprintf(stderr, "too long a name\n"), 2;
   FILE *file = fopen(path, "rb");

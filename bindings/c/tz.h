@@ -73,6 +73,8 @@ enum {
   TZ_UNKNOWN_CHOICE = 9,
   /* The number is not a code. */
   TZ_UNKNOWN_CODE = 10,
+  /* The text is not a name of a time zone. */
+  TZ_INVALID_NAME = 11,
 
   /* DateTimeError */
   TZ_INVALID_MONTH = 16,
@@ -375,6 +377,10 @@ tz_code tz_string_read(const char *text, size_t text_length, bool is_extended, t
 
 /* What a setting asks for. TZ_STRING_EMPTY. */
 tz_code tz_setting_read(const char *text, size_t text_length, tz_setting *out);
+
+/* Whether a text, as one from a user, is a name of a time zone, so that a path made of a directory and the name leads to no other place than below the
+   directory, and the name means a file alone. TZ_INVALID_NAME. */
+tz_code tz_name_check(const char *name, size_t name_length);
 
 /* Checks that parts make a zone, and writes its least and greatest offset. A zone of a rule needs a type in `types`, too.
    TZ_NO_LOCAL_TIME_TYPE, for each transition in turn TZ_INVALID_LOCAL_TIME_TYPE_INDEX and TZ_INVALID_TRANSITION, TZ_INVALID_LEAP_SECOND,

@@ -10,7 +10,7 @@ use crate::proved::tz_c::settings::SettingData;
 use crate::proved::tz_c::zones::{ChangeData, OffsetsData, SegmentData};
 use crate::proved::tz_c::{
     columns, date_time_texts, date_times, error_texts, files, layout, leap_times, local_time_types,
-    places, rules, searches, settings, texts, utc, zones,
+    names, places, rules, searches, settings, texts, utc, zones,
 };
 use tz::proved::tz::inner::{DateTimeData, Fields, FoundData, UtcData};
 use tz::proved::tz::{DateTime, UtcDateTime};
@@ -341,6 +341,18 @@ pub extern "C" fn tz_month_week_day_new(
     out: &mut DayData,
 ) -> u32 {
     local_time_types::tz_month_week_day_new(month, week, week_day, out)
+}
+
+/// Whether the text is a name of a time zone, as `is_zone_name` returns.
+///
+/// # Safety
+///
+/// What tz.h asks of a caller.
+#[unsafe(no_mangle)]
+pub unsafe extern "C" fn tz_name_check(name: *const u8, name_length: usize) -> u32 {
+    // SAFETY: tz.h asks of a caller what these require.
+    let name = unsafe { list(name, name_length) };
+    names::tz_name_check(name)
 }
 
 /// The place of the type of a zone's clock at an instant.

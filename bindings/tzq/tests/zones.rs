@@ -33,8 +33,9 @@ impl Root {
             fs::copy(from, to).unwrap();
         };
         copy(PROGRAM, "/tzq");
-        let libraries = Command::new("ldd").arg(PROGRAM).output().unwrap();
-        let libraries = String::from_utf8(libraries.stdout).unwrap();
+        let libraries = Command::new("ldd").arg(PROGRAM).output();
+        let libraries = libraries.map_or_else(|_| Vec::new(), |it| it.stdout);
+        let libraries = String::from_utf8(libraries).unwrap();
         for path in libraries
             .split_whitespace()
             .filter(|it| it.starts_with('/'))

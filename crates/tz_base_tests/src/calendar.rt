@@ -3,11 +3,9 @@
 use crate::expect::expect_eq;
 use std::process::Abort;
 use std::test::Fail;
-use tz_base::calendar::is_leap_year;
 use tz_base::constants::NANOSECONDS_PER_SECOND;
 use tz_base::fields::Fields;
-use tz_base::total_nanoseconds::{timespec, total_nanoseconds};
-use tz_samples::date_times::{FAULTS, NOONS, Parts, fields_of};
+use tz_samples::date_times::{NOONS, Parts, fields_of};
 
 /// Fields at midnight.
 fn midnight(year: i32, month: u8, month_day: u8) -> Fields {
@@ -93,67 +91,6 @@ fn instants_have_their_days(rt: HostRuntime) {
         let fields = fields_of((year, month, month_day, (12, 1, 6), 7));
         expect_eq(&rt, &civil(instant, 7), &Some(fields));
         expect_eq(&rt, &facts(fields).map(|f| f.0), &Some(instant));
-    }
-}
-
-#[test]
-fn readings_end_with_the_years(rt: HostRuntime) {
-    const FIRST: i64 = -67_768_100_567_971_200;
-    const LAST: i64 = 67_767_976_233_532_799;
-    let first = midnight(i32::MIN, 1, 1);
-    let last = fields_of((i32::MAX, 12, 31, (23, 59, 59), 999_999_999));
-    let leap_second = Fields { second: 60, ..last };
-    expect_eq(&rt, &civil(FIRST, 0), &Some(first));
-    expect_eq(&rt, &civil(LAST, 999_999_999), &Some(last));
-    expect_eq(&rt, &facts(first), &Some((FIRST, 2, 0)));
-    expect_eq(&rt, &facts(last), &Some((LAST, 2, 364)));
-    expect_eq(&rt, &facts(leap_second), &Some((LAST + 1, 2, 364)));
-}
-
-#[test]
-fn the_first_fault_is_named(rt: HostRuntime) {
-    for (parts, fault) in &FAULTS {
-        expect_eq(&rt, &fields_of(*parts).check(), &Err(*fault));
-    }
-    expect_eq(&rt, &midnight(2000, 2, 29).check(), &Ok(()));
-}
-
-#[test]
-fn leap_years_are_multiples_of_4(rt: HostRuntime) {
-    static YEARS: [(i32, bool); 8] = [
-        (i32::MIN, true),
-        (-100, false),
-        (0, true),
-        (1999, false),
-        (2000, true),
-        (2004, true),
-        (2100, false),
-        (i32::MAX, false),
-    ];
-    for (year, is_leap) in &YEARS {
-        expect_eq(&rt, &(year, is_leap_year(*year)), &(year, *is_leap));
-    }
-}
-
-#[test]
-fn totals_go_both_ways(rt: HostRuntime) {
-    static BOTH_WAYS: [(i64, u32, i128); 3] = [
-        (-1, 999_999_999, -1),
-        (i64::MAX, 999_999_999, 9_223_372_036_854_775_807_999_999_999),
-        (i64::MIN, 0, -9_223_372_036_854_775_808_000_000_000),
-    ];
-    for &(seconds, nanoseconds, total) in BOTH_WAYS.iter() {
-        expect_eq(&rt, &total_nanoseconds(seconds, nanoseconds), &total);
-        expect_eq(&rt, &timespec(total), &Some((seconds, nanoseconds)));
-    }
-    static OUT_OF_RANGE: [i128; 4] = [
-        i128::MIN,
-        -9_223_372_036_854_775_808_000_000_001,
-        9_223_372_036_854_775_808_000_000_000,
-        i128::MAX,
-    ];
-    for total in &OUT_OF_RANGE {
-        expect_eq(&rt, &timespec(*total), &None);
     }
 }
 

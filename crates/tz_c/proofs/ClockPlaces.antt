@@ -34,12 +34,14 @@ clock_type z u t = by_clock
     by_clock (inr (last, is_last, (l, leap, inr (reached, is)))) = inr (after z.extra_rule u t is)
 
 -- places in two lists, one after the other
-place_in_first : (xs ys : List LocalTimeType) (i : ℕ) (t : LocalTimeType) → slice_get xs i ≡ Some t → slice_get (xs ++ ys) i ≡ Some t
+place_in_first : (xs ys : List LocalTimeType) (i : ℕ) (t : LocalTimeType)
+    → slice_get xs i ≡ Some t → slice_get (xs ++ ys) i ≡ Some t
 place_in_first [] ys i t at = absurd (cc)
 place_in_first (x ∷ xs) ys zero t at = at
 place_in_first (x ∷ xs) ys (suc i) t at = place_in_first xs ys i t at
 
-place_in_second : (xs ys : List LocalTimeType) (i : ℕ) (t : LocalTimeType) → slice_get ys i ≡ Some t → slice_get (xs ++ ys) (length xs + i) ≡ Some t
+place_in_second : (xs ys : List LocalTimeType) (i : ℕ) (t : LocalTimeType)
+    → slice_get ys i ≡ Some t → slice_get (xs ++ ys) (length xs + i) ≡ Some t
 place_in_second [] ys i t at = let e : 0 + i ≡ i = omega arith in rw e at
 place_in_second (x ∷ xs) ys i t at = let e : length (x ∷ xs) + i ≡ suc (length xs + i) = omega arith in rw e (place_in_second xs ys i t at)
 

@@ -59,7 +59,8 @@ pub short_text : (code : ℕ) (given : List ℕ) → text_of_code code ≡ Some 
 short_text code given = short_in texts code given refl
 
 -- the text of the error of a number
-number_text_of : (kind : IntErrorKind) → text_of_code (number_code kind) ≡ Some (codes "invalid TZ string: " ++ number_text kind)
+number_text_of : (kind : IntErrorKind)
+    → text_of_code (number_code kind) ≡ Some (codes "invalid TZ string: " ++ number_text kind)
 number_text_of kinds.Empty = refl
 number_text_of _ = refl
 

@@ -132,6 +132,9 @@ unknown_choice = 9
 abbrev pub unknown_code : ℕ
 unknown_code = 10
 
+abbrev pub invalid_name : ℕ
+invalid_name = 11
+
 -- 0 says that something holds of what was written; any other code is that of an error that is due
 abbrev pub IsAnswerBy : {E : Type 0} → (E → ℕ) → ℕ → Type 0 → (E → Type 0) → Type 0
 IsAnswerBy {E} code_by code done due = ((code ≡ 0) × done) ⊎ ((e : E) × (code ≡ code_by e) × due e)

@@ -1,4 +1,4 @@
--- What the reader of printed date times answers, and the code and the text of each part that it can miss.
+-- What the reader of printed date times answers, and the code of each part that it can miss.
 use Rattle.std.specs.Prelude.{◌≡◌, ◌⊎◌, ℕ, false, pos, List, Some, None, if◌then◌else◌}
 use Rattle.tz.specs.DateTimeText.{IsDateTimeText, IsDateTimeTextFault}
 use Rattle.tz.specs.Plain.{IsUtcData}
@@ -36,7 +36,7 @@ part_code parts.OffsetMinute = 140
 part_code parts.OffsetSecond = 141
 part_code parts.End = 142
 
--- the text is one of a date time, which is written, or the code is that of the first part that it does not have
+-- the text is one of a date time, which is written, or it lacks a part, whose code is returned
 abbrev pub IsParsedAnswer : List ℕ → ℕ → ParsedData → Type 0
 IsParsedAnswer text code written =
     ((code ≡ 0) × IsDateTimeText text (parsed_of written) × IsParsedData written)

@@ -34,7 +34,8 @@ fields_text fields.InvalidSecond = codes "invalid second"
 fields_text fields.InvalidNanoseconds = codes "invalid nanoseconds"
 
 abbrev pub type_text : LocalTimeTypeError → List ℕ
-type_text types.InvalidTimeZoneDesignationLength = codes "time zone designation must have between 3 and 7 characters"
+type_text types.InvalidTimeZoneDesignationLength =
+    codes "time zone designation must have between 3 and 7 characters"
 type_text types.InvalidTimeZoneDesignationChar = codes "invalid characters in time zone designation"
 type_text types.InvalidUtcOffset = codes "invalid UTC offset"
 
@@ -46,14 +47,16 @@ rule_text rules.InvalidRuleDayWeekDay = codes "invalid rule day week day"
 rule_text rules.InvalidStdUtcOffset = codes "invalid standard time UTC offset"
 rule_text rules.InvalidDstUtcOffset = codes "invalid Daylight Saving Time UTC offset"
 rule_text rules.InvalidDstStartEndTime = codes "invalid DST start or end time"
-rule_text rules.InconsistentRule = codes "DST transition rules are not consistent from one year to another"
+rule_text rules.InconsistentRule =
+    codes "DST transition rules are not consistent from one year to another"
 
 abbrev pub zone_text : TimeZoneError → List ℕ
 zone_text zones.NoLocalTimeType = codes "list of local time types must not be empty"
 zone_text zones.InvalidLocalTimeTypeIndex = codes "invalid local time type index"
 zone_text zones.InvalidTransition = codes "invalid transition"
 zone_text zones.InvalidLeapSecond = codes "invalid leap second"
-zone_text zones.InconsistentExtraRule = codes "extra transition rule is inconsistent with the last transition"
+zone_text zones.InconsistentExtraRule =
+    codes "extra transition rule is inconsistent with the last transition"
 
 -- digits are missing, or their number is too great
 abbrev pub number_text : IntErrorKind → List ℕ
@@ -86,11 +89,13 @@ file_text files.UnsupportedTzFileVersion = codes "unsupported TZ file version"
 file_text files.InvalidHeader = codes "invalid header"
 file_text files.InvalidFooter = codes "invalid footer"
 file_text files.InvalidDstIndicator = codes "invalid DST indicator"
-file_text files.InvalidTimeZoneDesignationCharIndex = codes "invalid time zone designation char index"
-file_text files.InvalidStdWallUtLocal = codes "invalid couple of standard/wall and UT/local indicators"
+file_text files.InvalidTimeZoneDesignationCharIndex =
+    codes "invalid time zone designation char index"
+file_text files.InvalidStdWallUtLocal =
+    codes "invalid couple of standard/wall and UT/local indicators"
 file_text files.RemainingDataV1 = codes "remaining data after the end of a TZif v1 data block"
 
--- what an error prints; of bytes that are no UTF-8 their place is left out, which a code does not have
+-- what an error prints; of bytes that are no UTF-8 without their place, which a code does not have
 abbrev pub error_text : TzError → List ℕ
 error_text (all.TzFile e) = codes "invalid TZ file: " ++ file_text e
 error_text (all.TzString e) = codes "invalid TZ string: " ++ string_text e
@@ -99,7 +104,8 @@ error_text (all.TransitionRule e) = codes "invalid transition rule: " ++ rule_te
 error_text (all.TimeZone e) = codes "invalid time zone: " ++ zone_text e
 error_text (all.DateTime e) = codes "invalid date time: " ++ fields_text e
 error_text all.OutOfRange = codes "out of range operation"
-error_text all.NoAvailableLocalTimeType = codes "no local time type is available for the specified timestamp"
+error_text all.NoAvailableLocalTimeType =
+    codes "no local time type is available for the specified timestamp"
 error_text (all.Memory _) = codes "no memory"
 
 -- what an error of a date time's text prints of the part that is missing
@@ -142,13 +148,16 @@ texts =
     (8, codes "a buffer has the wrong length") ∷
     (9, codes "unknown choice") ∷
     (10, codes "unknown code") ∷
+    (11, codes "not a time zone name") ∷
     (16, codes "invalid date time: invalid month") ∷
     (17, codes "invalid date time: invalid month day") ∷
     (18, codes "invalid date time: invalid hour") ∷
     (19, codes "invalid date time: invalid minute") ∷
     (20, codes "invalid date time: invalid second") ∷
-    (21, codes "invalid date time: invalid nanoseconds") ∷
-    (32, codes "invalid local time type: time zone designation must have between 3 and 7 characters") ∷
+    (21, codes "invalid date time: invalid nanoseconds") ∷ (
+      32,
+      codes "invalid local time type: time zone designation must have between 3 and 7 characters",
+    ) ∷
     (33, codes "invalid local time type: invalid characters in time zone designation") ∷
     (34, codes "invalid local time type: invalid UTC offset") ∷
     (48, codes "invalid transition rule: invalid rule day julian day") ∷
@@ -157,13 +166,17 @@ texts =
     (51, codes "invalid transition rule: invalid rule day week day") ∷
     (52, codes "invalid transition rule: invalid standard time UTC offset") ∷
     (53, codes "invalid transition rule: invalid Daylight Saving Time UTC offset") ∷
-    (54, codes "invalid transition rule: invalid DST start or end time") ∷
-    (55, codes "invalid transition rule: DST transition rules are not consistent from one year to another") ∷
+    (54, codes "invalid transition rule: invalid DST start or end time") ∷ (
+      55,
+      codes "invalid transition rule: DST transition rules are not consistent from one year to another",
+    ) ∷
     (64, codes "invalid time zone: list of local time types must not be empty") ∷
     (65, codes "invalid time zone: invalid local time type index") ∷
     (66, codes "invalid time zone: invalid transition") ∷
-    (67, codes "invalid time zone: invalid leap second") ∷
-    (68, codes "invalid time zone: extra transition rule is inconsistent with the last transition") ∷
+    (67, codes "invalid time zone: invalid leap second") ∷ (
+      68,
+      codes "invalid time zone: extra transition rule is inconsistent with the last transition",
+    ) ∷
     (80, codes "invalid TZ string: invalid UTF-8") ∷
     (81, codes "invalid TZ string: cannot parse integer from empty string") ∷
     (82, codes "invalid TZ string: unexpected end of data") ∷

@@ -1,5 +1,5 @@
 -- What the reader of TZif files answers.
-use Rattle.std.specs.Prelude.{◌≡◌, ◌⊎◌, ℕ, List, length, alloc_error}
+use Rattle.std.specs.Prelude.{◌≡◌, ◌⊎◌, ℕ, ◌≤◌, List, length, alloc_error}
 use Rattle.tz_base.specs.declared.error.tz_error.TzError.{TzError}
 use Rattle.tz_base.specs.declared.error.tz_error.TzError.TheVariants.{Memory}
 use Rattle.tz_rule.specs.LocalTimeType.{LocalTimeType}
@@ -22,14 +22,16 @@ pub record HaveSameLengths (a b : Zone) : Type 0 where
   pub types_are : length a.types ≡ length b.types
   pub leap_seconds_are : length a.leap_seconds ≡ length b.leap_seconds
 
--- the zone of the file and its end offsets are written, or the tables of the file have other lengths than the slices, or the bytes are no file
-abbrev pub IsReadAnswer : List ℕ → ℕ → Zone → OffsetsData → Type 0
-IsReadAnswer bytes code z offsets =
-    ((code ≡ 0) × IsTzFile bytes z × AreEndOffsets z offsets.least offsets.greatest)
+-- the zone of the file and its end offsets are written, with a kind of rule that there is, or the
+-- tables of the file have other lengths than the slices, or the bytes are no file
+abbrev pub IsReadAnswer : List ℕ → ℕ → Zone → ℕ → OffsetsData → Type 0
+IsReadAnswer bytes code z kind offsets =
+    ((code ≡ 0) × IsTzFile bytes z × (kind ≤ 2) × AreEndOffsets z offsets.least offsets.greatest)
     ⊎ ((code ≡ buffer_length) × ((zone : Zone) × IsTzFile bytes zone × ¬ HaveSameLengths zone z))
     ⊎ ((e : TzError) × (code ≡ code_of e) × IsReadFault bytes e)
 
--- nothing but this is answered for a file of a zone: it is written, or its tables have other lengths than the slices, or memory is out
+-- for a file of a zone nothing else is answered: the zone is written, or its tables have other
+-- lengths than the slices, or memory is out
 abbrev pub IsOnlyReadAnswer : Zone → ℕ → Zone → Type 0
 IsOnlyReadAnswer zone code z =
     ((code ≡ 0) × (z ≡ zone))

@@ -13,7 +13,8 @@ use crate::texts::write_text;
 
 /// The text of a code. That of an error is what `Display` prints, without a place: a code has none.
 fn text_of(code: u32) -> Option<&'static str>
-    ensures { MatchOption result (text_of_code code ≡ None) (λ text. text_of_code code ≡ Some text.now) }
+    ensures { MatchOption result (text_of_code code ≡ None)
+        (λ text. text_of_code code ≡ Some text.now) }
 {
     match code {
         0 => Some("no error"),
@@ -27,6 +28,7 @@ fn text_of(code: u32) -> Option<&'static str>
         8 => Some("a buffer has the wrong length"),
         9 => Some("unknown choice"),
         10 => Some("unknown code"),
+        11 => Some("not a time zone name"),
         16 => Some("invalid date time: invalid month"),
         17 => Some("invalid date time: invalid month day"),
         18 => Some("invalid date time: invalid hour"),

@@ -47,9 +47,10 @@ pub extern "C" fn tz_file_read(
     rule: &mut RuleData,
     out: &mut OffsetsData,
 ) -> u32
-    ensures answer { IsReadAnswer bytes.now result (zone_written transitions.new local_time_types.new leap_seconds.new rule.new) out.new }
-    ensures only { (zone : Zone) → IsTzFile bytes.now zone
-        → IsOnlyReadAnswer zone result (zone_written transitions.new local_time_types.new leap_seconds.new rule.new) }
+    ensures answer { let zone = zone_written transitions.new local_time_types.new leap_seconds.new rule.new in
+        IsReadAnswer bytes.now result zone rule.new.kind out.new }
+    ensures only { (zone : Zone) → IsTzFile bytes.now zone → IsOnlyReadAnswer zone result
+        (zone_written transitions.new local_time_types.new leap_seconds.new rule.new) }
     ensures transitions_kept { result ≢ 0 → transitions.new ≡ transitions.old }
     ensures types_kept { result ≢ 0 → local_time_types.new ≡ local_time_types.old }
     ensures leap_seconds_kept { result ≢ 0 → leap_seconds.new ≡ leap_seconds.old }

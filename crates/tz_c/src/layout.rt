@@ -43,7 +43,8 @@ const LAYOUT: [usize; 20] = [
 #[unsafe(no_mangle)]
 pub extern "C" fn tz_layout(out: &mut [usize]) -> u32
     ensures ok { result ≡ 0 → out.new ≡ layout }
-    ensures other { result ≢ 0 → (result ≡ buffer_length) × (length out.old ≢ 20) × (out.new ≡ out.old) }
+    ensures other { result ≢ 0
+        → (result ≡ buffer_length) × (length out.old ≢ 20) × (out.new ≡ out.old) }
 {
     if out.len() != LAYOUT.len() {
         return BUFFER_LENGTH;

@@ -10,6 +10,7 @@ mod files;
 mod layout;
 mod leap_times;
 mod local_time_types;
+mod names;
 mod places;
 mod rules;
 mod searches;

@@ -40,8 +40,8 @@ fn place_in_rule(rule: Option<RuleRef<'_>>, local_time_type: &LocalTimeType) -> 
 /// The first place of one of a zone's types among those of its list and of its rule.
 fn place_of(zone: &ZoneData<'_>, local_time_type: &LocalTimeType) -> usize
     requires { Stands (zone_of_data zone.now).types local_time_type.now ⊎ Stands (rule_types (zone_of_data zone.now).extra_rule) local_time_type.now }
-    ensures { IsFirstPlace ((zone_of_data zone.now).types ++ rule_types (zone_of_data zone.now).extra_rule)
-        local_time_type.now result }
+    ensures { let z = zone_of_data zone.now in
+        IsFirstPlace (z.types ++ rule_types z.extra_rule) local_time_type.now result }
 {
     let parts = zone.other_parts();
     match place_in(parts.local_time_types, local_time_type) {

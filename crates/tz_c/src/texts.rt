@@ -44,7 +44,8 @@ pub extern "C" fn tz_utc_text(utc: &UtcDateTime, text: &mut [u8], len: &mut usiz
 #[unsafe(no_mangle)]
 pub extern "C" fn tz_date_time_text(date_time: &DateTime, text: &mut [u8], len: &mut usize) -> u32
     ensures answer { IsTextAnswer (printed_text date_time.now.fields date_time.now.local_time_type.ut_offset) result text.old text.new len.new }
-    ensures most { length (printed_text date_time.now.fields date_time.now.local_time_type.ut_offset) ≤ 53 }
+    ensures most { let ut_offset = date_time.now.local_time_type.ut_offset in
+        length (printed_text date_time.now.fields ut_offset) ≤ 53 }
     ensures text_kept { result ≢ 0 → text.new ≡ text.old }
     ensures len_kept { result ≢ 0 → len.new ≡ len.old }
 {

@@ -19,11 +19,6 @@ pub(crate) fn expect_eq_at<T: Debug + PartialEq>(
     assert_eq!(rt; *found, *wanted, "{place:?}");
 }
 
-/// The values differ.
-pub(crate) fn expect_ne<T: Debug + PartialEq>(rt: &impl Abort, found: &T, other: &T) {
-    assert_ne!(rt; *found, *other);
-}
-
 /// The value is shown to programmers as the text.
 pub(crate) fn expect_debug(
     rt: &impl Abort,

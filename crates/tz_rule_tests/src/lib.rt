@@ -1,9 +1,7 @@
-//! Tests of local time types and of rules.
+//! Tests of rules and their local time types.
 #![tactic(auto)]
 
 #[cfg(test)]
 mod expect;
-#[cfg(test)]
-mod local_time_types;
 #[cfg(test)]
 mod rules;

@@ -70,14 +70,6 @@ pub static FAR_OFFSET: ZoneRow = ZoneRow {
     extra_rule: Some(ExtraRule::Alternate(FAR_RULE)),
 };
 
-/// A zone with that rule, but without the hour of the far offset.
-pub static WITHOUT_FAR_OFFSET: ZoneRow = ZoneRow {
-    types: FAR_TYPES,
-    transitions: &[(0, 0), (10_800, 2)],
-    leap_seconds: &[],
-    extra_rule: Some(ExtraRule::Alternate(FAR_RULE)),
-};
-
 /// A zone with two transitions that the leap second puts at one instant.
 pub static ONE_EFFECT: ZoneRow = ZoneRow {
     types: &[(0, false, None), (3600, false, None), (7200, false, None)],
@@ -105,7 +97,7 @@ pub fn transitions_of(alloc: Global, rows: &[(i64, usize)]) -> Result<Vec<Transi
 }
 
 /// The leap seconds with these leap times and corrections.
-pub fn leap_seconds_of(alloc: Global, rows: &[(i64, i32)]) -> Result<Vec<LeapSecond>, AllocError> {
+fn leap_seconds_of(alloc: Global, rows: &[(i64, i32)]) -> Result<Vec<LeapSecond>, AllocError> {
     let mut leap_seconds = Vec::new(alloc);
     for &(unix_leap_time, correction) in rows {
         leap_seconds.push(LeapSecond::new(unix_leap_time, correction))?;
@@ -114,7 +106,7 @@ pub fn leap_seconds_of(alloc: Global, rows: &[(i64, i32)]) -> Result<Vec<LeapSec
 }
 
 /// The rule after the last transition, if there is one.
-pub fn extra_rule_of(row: &Option<ExtraRule>) -> Result<Option<TransitionRule>, TzError> {
+fn extra_rule_of(row: &Option<ExtraRule>) -> Result<Option<TransitionRule>, TzError> {
     Ok(match row {
         None => None,
         Some(ExtraRule::Fixed(row)) => Some(TransitionRule::Fixed(type_of(row)?)),

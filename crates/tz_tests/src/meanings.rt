@@ -7,7 +7,6 @@ use std::process::Abort;
 use std::test::Fail;
 use tz::datetime::{DateTime, Disambiguation, Meaning, UtcDateTime};
 use tz_base::error::TzError;
-use tz_samples::date_times::FAULTS;
 use tz_samples::tz_strings::extended_zone;
 use tz_samples::utc;
 use tz_samples::zones::{CROSSING, plain_zone, two_hours_forward_at, zone_of};
@@ -248,44 +247,6 @@ fn date_times_past_the_ends_of_utc(rt: HostRuntime) -> Result<(), Fail> {
         let last = DateTime::find_one(i32::MAX, 12, 31, 23, 59, 60, 0, choice, utc)?;
         let last = last.map(|date_time| (date_time.unix_time(), date_time.second()));
         expect_eq(&rt, &last, &Some((PAST_ALL_YEARS, 60)));
-    }
-    Ok(())
-}
-
-/// The first fault of the fields is named, by the meaning and whatever the choice.
-#[test]
-fn refused_fields(rt: HostRuntime) -> Result<(), Fail> {
-    let utc = TimeZoneRef::utc();
-    for &((year, month, day, (hour, minute, second), fraction), fault) in FAULTS.iter() {
-        let refused = DateTime::meaning(
-            year, month, day, hour, minute, second, fraction, utc,
-        ).err();
-        assert!(rt; matches!(refused, Some(TzError::DateTime(named)) if named == fault));
-        for &choice in CHOICES.iter() {
-            let refused = DateTime::find_one(
-                year, month, day, hour, minute, second, fraction, choice, utc,
-            )
-            .err();
-            assert!(rt; matches!(refused, Some(TzError::DateTime(named)) if named == fault));
-        }
-    }
-    Ok(())
-}
-
-/// The calls by one value find what those by seven numbers find.
-#[test]
-fn searches_by_one_value(rt: HostRuntime) -> Result<(), Fail> {
-    let alloc = rt.alloc();
-    let zone = zone_of(alloc, &CROSSING)?;
-    for minute in 0..60u8 {
-        let local = UtcDateTime::new(1970, 1, 1, 2, minute, 0, 0)?;
-        let by_value = DateTime::find_local(alloc, local, zone.as_ref())?;
-        let by_fields = DateTime::find(alloc, 1970, 1, 1, 2, minute, 0, 0, zone.as_ref())?;
-        assert!(rt; by_value == by_fields);
-        let (mut slots, mut others) = ([None; 2], [None; 2]);
-        let by_value = DateTime::find_n_local(&mut slots, local, zone.as_ref())?;
-        let by_fields = DateTime::find_n(&mut others, 1970, 1, 1, 2, minute, 0, 0, zone.as_ref())?;
-        assert!(rt; by_value == by_fields);
     }
     Ok(())
 }

@@ -8,11 +8,6 @@ pub(crate) fn expect_eq<T: Debug + PartialEq>(rt: &impl Abort, found: &T, wanted
     assert_eq!(rt; *found, *wanted);
 }
 
-/// The values differ.
-pub(crate) fn expect_ne<T: Debug + PartialEq>(rt: &impl Abort, found: &T, other: &T) {
-    assert_ne!(rt; *found, *other);
-}
-
 /// The values at a place of a table are equal.
 pub(crate) fn expect_eq_at<T: Debug + PartialEq>(
     rt: &impl Abort,

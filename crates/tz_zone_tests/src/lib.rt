@@ -1,8 +1,6 @@
-//! Tests of zones, from TZif files, TZ strings, settings and parts: what is refused, lookups, leap times, segments and changes.
+//! Tests of zones, from TZif files, TZ strings, settings and parts: what is refused, looks, leap times, segments and changes.
 #![tactic(auto)]
 
-#[cfg(test)]
-mod borrowed_zones;
 #[cfg(test)]
 mod changes;
 #[cfg(test)]
@@ -13,6 +11,8 @@ mod expect;
 mod files;
 #[cfg(test)]
 mod leap_times;
+#[cfg(test)]
+mod looks;
 #[cfg(test)]
 mod owned_zones;
 #[cfg(test)]

@@ -1,15 +1,12 @@
 //! Zones that own their parts: with memory enough, and with each growth refused in turn.
 
-use crate::expect::{expect_eq, expect_eq_at};
-use std::alloc::{AllocError, Allocator, Global};
-use std::process::Abort;
+use crate::expect::expect_eq;
+use std::alloc::{AllocError, Allocator};
 use std::test::Fail;
 use tz_base::error::TzError;
 use tz_base::error::timezone::{LocalTimeTypeError, TimeZoneError};
 use tz_samples::refusing::Refusing;
-use tz_zone::timezone::{
-    LeapSecond, LocalTimeType, TimeZone, TimeZoneRef, Transition, TransitionRule,
-};
+use tz_zone::timezone::{LeapSecond, LocalTimeType, TimeZone, Transition, TransitionRule};
 
 /// Two transitions, two types and a leap second.
 fn parts<A: Allocator + Copy>(
@@ -40,62 +37,6 @@ fn two_transitions<A: Allocator + Copy>(alloc: A) -> Result<TimeZone<A>, TzError
 /// Whether a call was refused for an allocation failure.
 fn is_memory<T>(answer: &Result<T, TzError>) -> bool {
     matches!(answer, Err(TzError::Memory(AllocError)))
-}
-
-/// The zone has the type at each instant.
-fn expect_at_all_times(
-    rt: &impl Abort,
-    zone: &TimeZone,
-    local_time_type: &LocalTimeType,
-) -> Result<(), TzError> {
-    static UNIX_TIMES: [i64; 3] = [i64::MIN, 0, i64::MAX];
-    for unix_time in &UNIX_TIMES {
-        expect_eq(rt, zone.find_local_time_type(*unix_time)?, local_time_type);
-        expect_eq(
-            rt,
-            zone.find_current_local_time_type(*unix_time)?,
-            local_time_type,
-        );
-    }
-    Ok(())
-}
-
-#[test]
-fn zones_of_one_type(rt: HostRuntime) -> Result<(), Fail> {
-    static UT_OFFSETS: [i32; 4] = [i32::MIN + 1, -3600, 0, i32::MAX];
-    let none = None;
-    for ut_offset in &UT_OFFSETS {
-        let plain = LocalTimeType::with_ut_offset(*ut_offset)?;
-        let types = [plain];
-        let expected = TimeZoneRef::new(&[], &types, &[], &none)?;
-        let zone = TimeZone::fixed(rt.alloc(), *ut_offset)?;
-        expect_eq_at(&rt, ut_offset, &zone.as_ref(), &expected);
-        if *ut_offset == 0 {
-            let utc = TimeZone::utc(rt.alloc())?;
-            expect_eq(&rt, &utc.as_ref(), &expected);
-        }
-        expect_at_all_times(&rt, &zone, &plain)?;
-    }
-    Ok(())
-}
-
-#[test]
-fn the_current_type_is_that_of_the_moment_given(rt: HostRuntime) -> Result<(), Fail> {
-    static ROWS: [(i64, i32); 4] = [(-1, 0), (0, 3600), (7198, 3600), (7199, 0)];
-    let zone = two_transitions(rt.alloc())?;
-    for (unix_time, ut_offset) in &ROWS {
-        let local_time_type = zone.find_current_local_time_type(*unix_time)?;
-        expect_eq_at(&rt, unix_time, &local_time_type.ut_offset(), ut_offset);
-    }
-    let (transitions, local_time_types, leap_seconds) = parts(rt.alloc())?;
-    let over = TimeZone::new(transitions, local_time_types, leap_seconds, None)?;
-    assert!(rt;
-        matches!(
-            over.find_current_local_time_type(7199),
-            Err(TzError::NoAvailableLocalTimeType)
-        )
-    );
-    Ok(())
 }
 
 /// What the zone of the two transitions prints after the name of its type.
@@ -165,28 +106,6 @@ fn a_clone_with_each_growth_refused(rt: HostRuntime) -> Result<(), Fail> {
         expect_eq(&rt, &heap.held(), &0);
     }
     expect_eq(&rt, &blocks, &3);
-    Ok(())
-}
-
-/// A zone with this many transitions between two types.
-fn alternating(alloc: Global, len: u16) -> Result<TimeZone, TzError> {
-    let mut transitions = Vec::new(alloc);
-    for place in 0..len {
-        let unix_leap_time = 1000 * i64::from(place);
-        transitions.push(Transition::new(unix_leap_time, usize::from(place % 2)))?;
-    }
-    let summer = LocalTimeType::new(3600, true, Some(b"BST"))?;
-    let types = Vec::from_slice(alloc, &[LocalTimeType::utc(), summer])?;
-    TimeZone::new(transitions, types, Vec::new(alloc), None)
-}
-
-#[test]
-fn long_lists_are_cloned(rt: HostRuntime) -> Result<(), Fail> {
-    static LENGTHS: [u16; 4] = [1000, 1001, 1025, 10_000];
-    for len in &LENGTHS {
-        let zone = alternating(rt.alloc(), *len)?;
-        assert!(rt; zone.try_clone()? == zone, "{len} transitions");
-    }
     Ok(())
 }
 

@@ -440,4 +440,3 @@ fn refusals_with_each_growth_refused(rt: HostRuntime) {
 }
 
 mod names;
-mod texts;

@@ -9,7 +9,7 @@ mod zone;
 pub use crate::proved::tz_zone::timezone::{
     AlternateTime, Change, ChangesAfter, ChangesBefore, Julian0WithLeap, Julian1WithoutLeap,
     LeapSecond, LocalTimeType, MonthWeekDay, RuleDay, Segment, TimeZoneRef, Transition,
-    TransitionRule,
+    TransitionRule, is_zone_name,
 };
 #[cfg(feature = "alloc")]
 pub use settings::TimeZoneSettings;

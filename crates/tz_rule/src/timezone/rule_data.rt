@@ -1,6 +1,6 @@
 //! At most one rule as plain data.
 
-ghost use Rattle.std.specs.Prelude.{◌≡◌};
+ghost use Rattle.std.specs.Prelude.{◌≡◌, ◌≤◌};
 ghost use Rattle.tz_rule.specs.RuleData.{rule_given};
 
 use super::alternate_data::AlternateData;
@@ -21,7 +21,8 @@ pub struct RuleData {
 impl RuleData {
     /// The data of a rule, or of none.
     pub fn of(rule: &Option<TransitionRule>) -> Self
-        ensures { rule_given result ≡ rule.now }
+        ensures rule { rule_given result ≡ rule.now }
+        ensures kind { result.kind ≤ 2 }
     {
         match rule {
             None => RuleData {

@@ -131,21 +131,6 @@ fn both_ways(x: At, y: At) -> [Answers; 2] {
     [accepted(x, y, true), accepted(x, y, false)]
 }
 
-/// Start and end of rules that are near each other, within a year or at its end, and which of their three times are accepted.
-static NEAR: [(At, At, Answers); 4] = [
-    ((M(12, 5, 0), 3), (J(1), -4), NOT_EARLIER),
-    ((M(4, 4, 2), 0), (M(4, 5, 4), -2), ALL),
-    ((M(3, 5, 2), 0), (M(3, 5, 3), -1), NOT_EARLIER),
-    ((Z(365), 0), (Z(0), 0), NOT_LATER),
-];
-
-#[test]
-fn near_rows(rt: HostRuntime) {
-    for (start, end, answers) in NEAR.iter() {
-        expect_answers(&rt, start, end, true, answers);
-    }
-}
-
 /// A week and a week day of a month, with a day time in whole days.
 type Place = (u8, u8, i8);
 

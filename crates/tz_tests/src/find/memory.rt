@@ -86,18 +86,6 @@ fn jumps_that_cross_with_each_growth_refused(rt: HostRuntime) -> Result<(), Fail
     Ok(())
 }
 
-/// The zone is lent, and stays as it is whichever growth is refused.
-#[test]
-fn refused_growths_leave_the_zone(rt: HostRuntime) -> Result<(), Fail> {
-    let zone = zone_of(rt.alloc(), &CROSSING)?;
-    let same = zone_of(rt.alloc(), &CROSSING)?;
-    for left in 0..MOST {
-        found_with(rt.alloc(), left, zone.as_ref(), (1970, 1, 1, 2, 30, 0))?;
-        assert!(rt; zone == same, "after {left}");
-    }
-    Ok(())
-}
-
 /// A list that is found empty takes no memory.
 #[test]
 fn nothing_is_found_without_memory(rt: HostRuntime) -> Result<(), Fail> {
@@ -177,36 +165,5 @@ fn expect_copies(rt: &impl Abort, alloc: Global, zone: TimeZoneRef<'_>) -> Resul
 fn a_copy_with_each_growth_refused(rt: HostRuntime) -> Result<(), Fail> {
     let zone = zone_of(rt.alloc(), &CROSSING)?;
     expect_copies(&rt, rt.alloc(), zone.as_ref())?;
-    Ok(())
-}
-
-/// A clock that is set back by an hour at each of twenty hours shows half past midnight twenty times.
-fn twenty_entries(alloc: Global) -> Result<FoundDateTimeList<Global>, TzError> {
-    let mut types = Vec::new(alloc);
-    let mut transitions = Vec::new(alloc);
-    let (mut unix_leap_time, mut offset) = (0i64, 0i32);
-    for place in 0..21usize {
-        types.push(LocalTimeType::with_ut_offset(offset)?)?;
-        transitions.push(Transition::new(unix_leap_time, place))?;
-        unix_leap_time = unix_leap_time.saturating_add(3600);
-        offset = offset.saturating_sub(3600);
-    }
-    let zone = TimeZoneRef::new(&transitions, &types, &[], &None)?;
-    find(alloc, zone, (1970, 1, 1, 0, 30, 0))
-}
-
-#[test]
-fn a_copy_of_twenty_entries(rt: HostRuntime) -> Result<(), Fail> {
-    let list = twenty_entries(rt.alloc())?;
-    let copy = list.try_clone()?;
-    assert!(rt; copy == list);
-    let (mut unix_time, mut offset) = (1800i64, 0i32);
-    let copied = summaries(rt.alloc(), copy)?;
-    expect_eq(&rt, &copied.len(), &20);
-    for entry in &copied {
-        expect_eq(&rt, entry, &(unix_time, offset, offset));
-        unix_time = unix_time.saturating_add(3600);
-        offset = offset.saturating_sub(3600);
-    }
     Ok(())
 }

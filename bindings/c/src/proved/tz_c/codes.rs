@@ -39,6 +39,9 @@ pub(crate) const UNKNOWN_CHOICE: u32 = 9;
 /// The code of a number that is no code.
 pub(crate) const UNKNOWN_CODE: u32 = 10;
 
+/// The code of a text that is no name of a time zone.
+pub(crate) const INVALID_NAME: u32 = 11;
+
 /// The code of an empty setting.
 pub(crate) const EMPTY_STRING: u32 = 92;
 

@@ -18,6 +18,7 @@ fn text_of(code: u32) -> Option<&'static str> {
         8 => Some("a buffer has the wrong length"),
         9 => Some("unknown choice"),
         10 => Some("unknown code"),
+        11 => Some("not a time zone name"),
         16 => Some("invalid date time: invalid month"),
         17 => Some("invalid date time: invalid month day"),
         18 => Some("invalid date time: invalid hour"),

@@ -10,6 +10,7 @@ pub(crate) mod files;
 pub(crate) mod layout;
 pub(crate) mod leap_times;
 pub(crate) mod local_time_types;
+pub(crate) mod names;
 pub(crate) mod places;
 pub(crate) mod rules;
 pub(crate) mod searches;

@@ -17,11 +17,12 @@ returns-else-leap_seconds-clause-answer c =
     let transitions = c.copy_from_slice.ensures.after ∙ c.transitions-in-Ok.ensures in
     let types = c.copy_from_slice-in-Ok.ensures.after ∙ c.local_time_types-in-Ok.ensures in
     let leap_seconds = c.copy_from_slice-in-Ok-2.ensures.after ∙ c.leap_seconds-in-Ok.ensures in
-    let rule = c.of.ensures ∙ c.extra_rule.ensures in
+    let rule = c.of.ensures.rule ∙ c.extra_rule.ensures in
     let same : written ≡ zone_of read = rw (transitions, types, leap_seconds, rule) refl in
     let file = subst (λ (z : Zone). IsTzFile c.args.bytes.now z) (sym (same ∙ c.as_ref-read.ensures)) c.in-Ok.ensures.ok in
     let ends = c.offsets-least in
     let are = subst (λ (z : Zone). AreEndOffsets z ends.result.0 ends.result.1) (sym same) ends.ensures in
     let fits_least : SFits w32 ends.result.0 = search rules in
     let fits_greatest : SFits w32 ends.result.1 = search rules in
-    rw (to_z-of_z w32 ends.result.0 fits_least, to_z-of_z w32 ends.result.1 fits_greatest) (inl (refl, file, are))
+    rw (to_z-of_z w32 ends.result.0 fits_least, to_z-of_z w32 ends.result.1 fits_greatest)
+    (inl (refl, file, c.of.ensures.kind, are))
