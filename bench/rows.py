@@ -52,12 +52,12 @@ COLUMN_CALLS = {'column_offsets': None, 'column_date_times': 'from_timespec', 'c
 OWN_LINES = ('W, ten weeks, Paris',)
 
 
-# Why tz takes more than the best peer, and the rows in which it may: a row says so where it does.
+# Why tz takes more than the best peer, and the rows in which it may.
 REASONS = {
-    'a': 'checks the fields, and makes date times, two at a jump, with fields, offset and name, where the others return seconds (date without a check);',
-    'b': 'allocates a list of them: `find_n` uses slots of the caller, and the peers return one or two values;',
-    'c': 'looks for a file of that name in three directories, as tz-rs does, by a call of the kit that clears 4096 bytes each time;',
-    'd': 'makes tables of the starts and ends of a rule, which its lookups read; and jiff does not check that both keep their order in all years;',
+    'a': 'checks the fields, and makes date times with fields, offset and name, where the others return seconds;',
+    'b': 'allocates a list, where `find_n` uses slots of the caller, and the peers return one or two values;',
+    'c': 'looks for a file of that name in three directories, by a call of the kit that clears 4096 bytes each time;',
+    'd': 'makes tables for its lookups, and checks over all years that start and end keep their order, which jiff does not;',
     'e': 'checks that the transitions of a file rise, which glibc does not.',
 }
 BEHIND = {

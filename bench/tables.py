@@ -3,7 +3,8 @@
 
 usage: bench/tables.py
 
-The status is 1 where a row in which tz is behind has no reason in bench/rows.py, which it prints. Sizes are those of the repository's files.
+The status is 1 if a row in which tz is slower than a peer has no reason in bench/rows.py, or if a
+call takes more than its goal there; both are printed. Sizes are those of the repository's files.
 """
 import html
 import os
@@ -19,7 +20,7 @@ import rows
 TOP = pathlib.Path(__file__).resolve().parent.parent
 PAGE = TOP / 'docs' / 'BENCHMARKS.md'
 README = TOP / 'README.md'
-COLUMNS = 150
+COLUMNS = 100
 THROUGH = ('through-C', 'through-Rust')
 PEERS = ('tz-rs', 'glibc', 'Abseil', 'cctz', 'date', 'chrono-tz', 'Go', 'jiff')
 WIDTH, LEFT, BAR, HEAD, LONGEST = 900, 330, 11, 46, 4000
@@ -51,7 +52,7 @@ class Reasons:
         letters = rows.BEHIND.get(name, '')
         self.given |= set(letters)
         if not letters:
-            self.missing.append(f'tz is behind without a reason: {name}')
+            self.missing.append(f'tz is slower without a reason: {name}')
         return f' {", ".join(letters)}'
 
     def shown(self):
@@ -59,17 +60,35 @@ class Reasons:
         return '\n'.join(f'- {letter}: {reason}' for letter, reason in rows.REASONS.items() if letter in self.given)
 
 
-def of_instructions(section, kept, through, peers, goals, reasons):
-    """Instructions of tz, of tz through its bindings, and of the peers, and tz's over the least of these. A figure has a star where answers differ."""
+def of_instructions(section, kept, through, peers, reasons):
+    """Instructions of tz, of tz through its bindings, and of the peers, and tz's over the least of
+    these, in the rows that a peer has. A figure has a star where answers differ."""
     lines = []
     for name, row in kept.rows(section).items():
         best = best_of(row)
-        ratio = f'{row["tz"] / best:.2f}{reasons.of(name, row)}' if best and 'tz' in row else '–'
+        if best is None:
+            continue
+        ratio = f'{row["tz"] / best:.2f}{reasons.of(name, row)}' if 'tz' in row else '–'
         differing = kept.rows(f'differing {section}').get(rows.search_of(name), {})
         cells = [f'{row[peer]}{STAR * (peer in differing)}' if peer in row else '–' for peer in (*through, *peers)]
-        lines.append([name, row.get('tz', '–'), *([goals.get(name, '')] if goals else []), *cells, ratio])
+        lines.append([name, row.get('tz', '–'), *cells, ratio])
     names = [name.replace('-', ' ') for name in through]
-    return table(['row', 'tz', *(['goal'] if goals else []), *names, *peers, 'tz / best'], lines)
+    return table(['row', 'tz', *names, *peers, 'tz / best'], lines)
+
+
+def of_own(kept):
+    """Instructions of the rows that no peer has."""
+    found = [(name, row) for section in ('lines', 'calls') for name, row in kept.rows(section).items()
+             if best_of(row) is None]
+    names = [name.replace('-', ' ') for name in THROUGH]
+    return table(['row', 'tz', *names],
+                 [[name, *(row.get(program, '–') for program in ('tz', *THROUGH))] for name, row in found])
+
+
+def above_goals(kept):
+    """The calls that take more than their goals."""
+    return [f'{name} takes {row["tz"]}, more than its goal of {rows.GOALS[name]}'
+            for name, row in kept.rows('calls').items() if row.get('tz', 0) > rows.GOALS.get(name, row.get('tz', 0))]
 
 
 def of_times(kept, reasons):
@@ -99,7 +118,7 @@ def of_zones(versions):
         return f'Zones are those of tzdata {next(iter(named))}.'
     most = max(named, key=lambda version: len(named[version]))
     few = [f'tzdata {version} for {" and ".join(names)}' for version, names in named.items() if version != most]
-    return f'Zones are those of {", ".join(few)}, and tzdata {most} for the others, the versions that the machine had when each was counted; chrono-tz has its own.'
+    return f'Zones are of {", ".join(few)} and tzdata {most} for the others; chrono-tz has its own.'
 
 
 def of_versions(kept):
@@ -107,12 +126,12 @@ def of_versions(kept):
     version = {name: row['version'] for name, row in kept.rows('versions').items() if name != 'tzdata'}
     zones = of_zones(kept.rows('versions')['tzdata'])
     days = days_of(['tz'], kept) + days_of(PEERS, kept)
-    shown = 'The figures of tz are of {} (lines), {} (calls) and {} (times), those of the others of {}, {} and {}.'.format(*days)
+    shown = 'Lines, calls and times of tz were measured on {}, {} and {}, of the others on {}, {} and {}.'.format(*days)
     if len(set(days)) == 1:
         shown = f'All was measured on {days[0]}.'
-    text = (f'The peers are tz-rs {version["tz-rs"]}, then glibc {version["glibc"]}, Abseil {version["Abseil"]}, cctz {version["cctz"]}, Hinnant\'s date '
-            f'{version["date"]}, chrono-tz {version["chrono-tz"]} and Go {version["Go"]} as packaged in Debian {version["Debian"]}, and the Rattle kit\'s port of jiff '
-            f'0.2.39. {zones} {shown}')
+    text = (f'The peers are tz-rs {version["tz-rs"]}; from Debian {version["Debian"]} glibc {version["glibc"]}, Abseil {version["Abseil"]}, '
+            f'cctz {version["cctz"]}, Hinnant\'s date {version["date"]}, chrono-tz {version["chrono-tz"]} and Go {version["Go"]}; and the Rattle '
+            f'kit\'s port of jiff 0.2.39. {zones} {shown}')
     return textwrap.fill(text, COLUMNS, break_on_hyphens=False)
 
 
@@ -205,8 +224,9 @@ def write():
     reasons = Reasons()
     made = {
         'versions': of_versions(kept),
-        'lines': of_instructions('lines', kept, (), PEERS[:-1], {}, reasons),
-        'calls': of_instructions('calls', kept, THROUGH, PEERS, rows.GOALS, reasons),
+        'lines': of_instructions('lines', kept, (), PEERS[:-1], reasons),
+        'calls': of_instructions('calls', kept, THROUGH, PEERS, reasons),
+        'own': of_own(kept),
         'times': of_times(kept, reasons),
         'scaling': of_scaling(kept),
         'sizes': of_sizes(),
@@ -219,7 +239,7 @@ def write():
     put_into_readme(kept)
     (TOP / 'docs' / 'instructions.svg').write_text(picture('Instructions for a query line', kept, 'lines'))
     (TOP / 'docs' / 'calls.svg').write_text(picture('Instructions for a call', kept, 'calls'))
-    return reasons.missing
+    return reasons.missing + above_goals(kept)
 
 
 if __name__ == '__main__':
