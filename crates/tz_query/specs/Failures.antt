@@ -42,7 +42,8 @@ line_of runs.Memory = codes "tzq: no memory\n"
 line_of runs.Write = codes "tzq: cannot write answers\n"
 
 -- the reason for status 1, whose line is written to the error output, or a front of it
-abbrev pub IsFailure : (List ℕ → Read → Type 0) → List (List ℕ) → Option (List ℕ) → Option (List ℕ) → Type 0
+abbrev pub IsFailure :
+    (List ℕ → Read → Type 0) → List (List ℕ) → Option (List ℕ) → Option (List ℕ) → Type 0
 IsFailure reads arguments before now =
     (¬ AreArguments arguments × WritesFront (codes "tzq: bad arguments\n") before now)
     ⊎ (NamesUnreadFile reads arguments × WritesFront (codes "tzq: cannot read file\n") before now)

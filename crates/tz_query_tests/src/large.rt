@@ -1,4 +1,4 @@
-//! Two megabytes of queries, and more than one of answers: no proof says that there is memory for them.
+//! Two megabytes of queries, and one of answers: no proof says that there is memory for them.
 
 use crate::expect::expect_eq;
 use std::alloc::{AllocError, Global};

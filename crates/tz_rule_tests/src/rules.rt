@@ -1,4 +1,4 @@
-//! Rules: their types at instants, their changes and segments, which are refused, and what is printed.
+//! Rules: their types at instants, changes and segments, which are refused, and what is printed.
 
 mod consistency;
 

@@ -144,8 +144,8 @@ fn the_first_second_of_2000(rt: HostRuntime) -> Result<(), Fail> {
     Ok(expect_text(&rt, alloc, &before, "-1001-03-01T12:01:06.000000010Z")?)
 }
 
-/// The days from one date to the next that has the week day of another one. By the ranges that the calls promise nothing wraps here and below,
-/// without a proof of the caller's own.
+/// The days from one date to the next that has the week day of another one. By the ranges that the
+/// calls promise nothing wraps here and below, without a proof of the caller's own.
 fn days_to_week_day(from: &UtcDateTime, to: &UtcDateTime) -> u8 {
     (7 + to.week_day() - from.week_day()) % 7
 }

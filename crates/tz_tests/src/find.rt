@@ -144,6 +144,14 @@ fn a_rule_goes_on_after_the_last_transition(rt: HostRuntime) -> Result<(), Fail>
     Ok(())
 }
 
+/// A date time of a slot that no search of these tests finds, and its summary.
+fn held() -> Result<FoundDateTimeKind, TzError> {
+    let utc = LocalTimeType::utc();
+    Ok(FoundDateTimeKind::Normal(DateTime::new(1234, 5, 6, 7, 8, 9, 0, utc)?))
+}
+
+const HELD: Summary = (utc!(1234-05-06 07:08:09), 0, 0);
+
 /// A list with nothing found leaves the slots as they are once it is gone.
 fn lend(buf: &mut [Option<FoundDateTimeKind>])
     ensures { buf.new ≡ buf.old }
@@ -153,11 +161,10 @@ fn lend(buf: &mut [Option<FoundDateTimeKind>])
 
 #[test]
 fn an_empty_list_leaves_the_slots(rt: HostRuntime) -> Result<(), Fail> {
-    let utc = LocalTimeType::utc();
-    let held = FoundDateTimeKind::Normal(DateTime::new(1234, 5, 6, 7, 8, 9, 0, utc)?);
-    let mut buf = [None, Some(held)];
+    let held = Some(held()?);
+    let mut buf = [None, held];
     lend(&mut buf);
-    assert!(rt; buf[0].is_none() && buf[1] == Some(held));
+    assert!(rt; buf == [None, held]);
     Ok(())
 }
 

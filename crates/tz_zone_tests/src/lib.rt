@@ -1,4 +1,5 @@
-//! Tests of zones, from TZif files, TZ strings, settings and parts: what is refused, looks, leap times, segments and changes.
+//! Tests of zones, from TZif files, TZ strings, settings and parts: what is refused, looks, leap
+//! times, segments and changes.
 #![tactic(auto)]
 
 #[cfg(test)]

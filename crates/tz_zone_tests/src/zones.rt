@@ -1,4 +1,5 @@
-//! Zones and their clocks: lookups by rules of two types, which last transitions such a rule agrees with, and how long types are lent.
+//! Zones and their clocks: lookups by rules of two types, which last transitions such a rule agrees
+//! with, and how long types are lent.
 
 use crate::expect::{expect_eq, expect_eq_at};
 use std::test::Fail;

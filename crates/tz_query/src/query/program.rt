@@ -36,7 +36,9 @@ impl From<TzError> for Fault {
     ghost use Rattle.tz_base.specs.declared.error.tz_error.TzError.TheVariants as refusals;
     ghost use Rattle.tz_query.specs.declared.query.program.Fault.TheVariants as faults;
 
-    ghost from_gives = { λ error fault. ((fault ≡ faults.Zone error) × (error ≢ refusals.Memory alloc_error)) ⊎ (fault ≡ faults.Memory) };
+    ghost from_gives = { λ error fault.
+        ((fault ≡ faults.Zone error) × (error ≢ refusals.Memory alloc_error))
+        ⊎ (fault ≡ faults.Memory) };
 
     fn from(error: TzError) -> Self {
         match error {
@@ -65,7 +67,8 @@ fn zone_of_arguments<A: Allocator + Copy, F: Fn(&str) -> Result<Vec<u8>, ReadFau
 ) -> Result<TimeZone<A>, Fault>
     requires { F.IsAlwaysCallable reader }
     ensures ok { IfOk result (λ zone. NamesZone (FnReturnsAt F.Fn reader) (texts_of arguments.now) (own_zone_of zone)) }
-    ensures bad { IfErr result (λ fault. fault ≡ Fault.Arguments → ¬ AreArguments (texts_of arguments.now)) }
+    ensures bad { IfErr result (λ fault. fault ≡ Fault.Arguments
+        → ¬ AreArguments (texts_of arguments.now)) }
     ensures unread { IfErr result (λ fault. fault ≡ Fault.File
         → NamesUnreadFile (FnReturnsAt F.Fn reader) (texts_of arguments.now)) }
     ensures refused { IfErr result (λ fault. (e : TzError) → fault ≡ Fault.Zone e → NamesRefusedZone (FnReturnsAt F.Fn reader) (texts_of arguments.now)) }
@@ -133,7 +136,8 @@ where
     requires { F.IsAlwaysCallable reader }
     ensures status { result ≤ 2 }
     ensures refused { result ≡ 2 → NamesRefusedZone (FnReturnsAt F.Fn reader) (texts_of arguments.now) }
-    ensures failed { result ≡ 1 → IsFailure (FnReturnsAt F.Fn reader) (texts_of arguments.now) (E.contents err.old) (E.contents err.new) }
+    ensures failed { result ≡ 1 → IsFailure (FnReturnsAt F.Fn reader) (texts_of arguments.now)
+        (E.contents err.old) (E.contents err.new) }
     ensures unread { (result ≡ 2) ⊎ ((zone : Zone) → ¬ NamesZone (FnReturnsAt F.Fn reader) (texts_of arguments.now) zone)
         → (input.new ≡ input.old) × (out.new ≡ out.old) }
     ensures answered { result ≡ 0 → AnswersInput (FnReturnsAt F.Fn reader) (texts_of arguments.now) (R.remaining input.old) (R.remaining input.new) (W.contents out.old) (W.contents out.new) }

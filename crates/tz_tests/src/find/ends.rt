@@ -116,15 +116,48 @@ fn a_year_without_an_answer_of_the_rule(rt: HostRuntime) -> Result<(), Fail> {
     expect_texts_by_rule(&rt, rt.alloc(), "A5B,0/0,J365/23", ROW)
 }
 
-/// A search of a reading is refused as out of range.
+/// Whether each slot holds what it held, or the entry at its place of a list.
+fn are_untouched_or_listed(slots: &[Option<FoundDateTimeKind>], listed: &[Summary]) -> bool {
+    let mut places = slots.iter().enumerate();
+    places.all(|(place, slot)| {
+        let found = slot.as_ref().map(summary);
+        found == Some(HELD) || found == listed.get(place).copied()
+    })
+}
+
+/// Both searches into slots are refused as out of range, and write nothing but entries of the list.
+fn expect_out_of_range_in(
+    rt: &impl Abort,
+    slots: &mut [Option<FoundDateTimeKind>],
+    zone: TimeZoneRef<'_>,
+    reading: Reading,
+    listed: &[Summary],
+) {
+    let refused = find_n(slots, zone, reading).err();
+    assert!(rt; matches!(refused, Some(TzError::OutOfRange)));
+    assert!(rt; are_untouched_or_listed(slots, listed));
+    let (year, month, month_day, hour, minute, second) = reading;
+    let refused = DateTime::find_n_counted(
+        slots, year, month, month_day, hour, minute, second, 0, zone,
+    ).err();
+    assert!(rt; matches!(refused, Some(TzError::OutOfRange)));
+    assert!(rt; are_untouched_or_listed(slots, listed));
+}
+
+/// All searches of a reading are refused as out of range, whose list has these entries that can be made.
 fn expect_out_of_range(
     rt: &impl Abort,
     alloc: Global,
     zone: TimeZoneRef<'_>,
     reading: Reading,
+    listed: &[Summary],
 ) -> Result<(), TzError> {
     let refused = find(alloc, zone, reading).err();
     assert!(rt; matches!(refused, Some(TzError::OutOfRange)));
+    for count in 0..4usize {
+        let mut slots = [Some(held()?); 3];
+        expect_out_of_range_in(rt, &mut slots[..count], zone, reading, listed);
+    }
     Ok(())
 }
 
@@ -151,15 +184,16 @@ fn jumps_past_the_ends_are_out_of_range(rt: HostRuntime) -> Result<(), Fail> {
     ];
     for (forward, reading) in &REFUSED {
         let zone = two_hours_forward_at(rt.alloc(), *forward)?;
-        expect_out_of_range(&rt, rt.alloc(), zone.as_ref(), *reading)?;
+        expect_out_of_range(&rt, rt.alloc(), zone.as_ref(), *reading, &[])?;
     }
     // The clock shows the half hour, is set back by two hours and then forward by four.
     static BACK_AND_FORWARD: [(i64, usize); 2] = [
         (utc!(2147483647-12-31 23:45:00), 1),
         (utc!(2147483648-01-01 00:30:00), 2),
     ];
+    static SHOWN: [Summary; 1] = [(utc!(2147483647-12-31 23:30:00), 0, 0)];
     let zone = plain_zone(rt.alloc(), &[0, -7200, 7200], &BACK_AND_FORWARD, Some(7200))?;
-    expect_out_of_range(&rt, rt.alloc(), zone.as_ref(), LAST)?;
+    expect_out_of_range(&rt, rt.alloc(), zone.as_ref(), LAST, &SHOWN)?;
     Ok(())
 }
 

@@ -58,10 +58,13 @@ text_refused reads text error e (inl memory) (is, not) = let same : e ≡ Memory
 text_refused reads text error e (inr answer) (is, not) = (e, subst (λ x. IsSettingsAnswer reads usual_directories text (Err x)) is answer, not)
 
 -- a failure to read is of a file that the settings ask for
-text_unread : (reads : List ℕ → Read → Type 0) (text : List ℕ) (error : Error) (fault : Failure) → (error ≡ Tz (Memory alloc_error)) ⊎ IsSettingsAnswer reads usual_directories text (Err error) →
-    error ≡ Io fault → (x : Failure) × IsSettingsAnswer reads usual_directories text (Err (Io x))
-text_unread reads text error fault (inl memory) is = let both : Tz (Memory alloc_error) ≡ Io fault = sym memory ∙ is in absurd (cc)
-text_unread reads text error fault (inr answer) is = (fault, subst (λ x. IsSettingsAnswer reads usual_directories text (Err x)) is answer)
+text_unread : (reads : List ℕ → Read → Type 0) (text : List ℕ) (error : Error) (fault : Failure)
+    → (error ≡ Tz (Memory alloc_error)) ⊎ IsSettingsAnswer reads usual_directories text (Err error)
+    → error ≡ Io fault → (x : Failure) × IsSettingsAnswer reads usual_directories text (Err (Io x))
+text_unread reads text error fault (inl memory) is =
+    let both : Tz (Memory alloc_error) ≡ Io fault = sym memory ∙ is in absurd (cc)
+text_unread reads text error fault (inr answer) is =
+    (fault, subst (λ x. IsSettingsAnswer reads usual_directories text (Err x)) is answer)
 
 -- what an error becomes
 abbrev IsFaultOf : TzError → Fault → Type 0
@@ -75,11 +78,13 @@ refused_by error fault (inl (zone, not)) e is =
 refused_by error fault (inr memory) e is = let both : faults.Memory ≡ faults.Zone e = sym memory ∙ is in absurd (cc)
 
 never_bad : (error : TzError) (fault : Fault) → IsFaultOf error fault → fault ≢ faults.Arguments
-never_bad error fault (inl (zone, not)) is = let both : faults.Zone error ≡ faults.Arguments = sym zone ∙ is in absurd (cc)
+never_bad error fault (inl (zone, not)) is =
+    let both : faults.Zone error ≡ faults.Arguments = sym zone ∙ is in absurd (cc)
 never_bad error fault (inr memory) is = let both : faults.Memory ≡ faults.Arguments = sym memory ∙ is in absurd (cc)
 
 never_unread : (error : TzError) (fault : Fault) → IsFaultOf error fault → fault ≢ faults.File
-never_unread error fault (inl (zone, not)) is = let both : faults.Zone error ≡ faults.File = sym zone ∙ is in absurd (cc)
+never_unread error fault (inl (zone, not)) is =
+    let both : faults.Zone error ≡ faults.File = sym zone ∙ is in absurd (cc)
 never_unread error fault (inr memory) is = let both : faults.Memory ≡ faults.File = sym memory ∙ is in absurd (cc)
 
 pub returns-in-text-clause-ok : goal.returns-in-text-clause-ok
@@ -122,22 +127,26 @@ returns-in-text-3-clause-refused g c = λ e is.
 
 pub returns-in_err-fixed-in-text-clause-bad : goal.returns-in_err-fixed-in-text-clause-bad
 returns-in_err-fixed-in-text-clause-bad g c =
-    let p = err_from_is_err_and c.from_residual-in_err-fixed-in-text.result c.from_residual-in_err-fixed-in-text.ensures.1 in
+    let step = c.from_residual-in_err-fixed-in-text in
+    let p = err_from_is_err_and step.result step.ensures.1 in
     rw p.1 (λ is. absurd (never_bad _ _ p.2 is))
 
 pub returns-in_err-fixed-in-text-clause-unread : goal.returns-in_err-fixed-in-text-clause-unread
 returns-in_err-fixed-in-text-clause-unread g c =
-    let p = err_from_is_err_and c.from_residual-in_err-fixed-in-text.result c.from_residual-in_err-fixed-in-text.ensures.1 in
+    let step = c.from_residual-in_err-fixed-in-text in
+    let p = err_from_is_err_and step.result step.ensures.1 in
     rw p.1 (λ is. absurd (never_unread _ _ p.2 is))
 
 pub returns-in_err-from_tz_data-in-Ok-clause-bad : goal.returns-in_err-from_tz_data-in-Ok-clause-bad
 returns-in_err-from_tz_data-in-Ok-clause-bad g c =
-    let p = err_from_is_err_and c.from_residual-in_err-from_tz_data-in-Ok.result c.from_residual-in_err-from_tz_data-in-Ok.ensures.1 in
+    let step = c.from_residual-in_err-from_tz_data-in-Ok in
+    let p = err_from_is_err_and step.result step.ensures.1 in
     rw p.1 (λ is. absurd (never_bad _ _ p.2 is))
 
 pub returns-in_err-from_tz_data-in-Ok-clause-unread : goal.returns-in_err-from_tz_data-in-Ok-clause-unread
 returns-in_err-from_tz_data-in-Ok-clause-unread g c =
-    let p = err_from_is_err_and c.from_residual-in_err-from_tz_data-in-Ok.result c.from_residual-in_err-from_tz_data-in-Ok.ensures.1 in
+    let step = c.from_residual-in_err-from_tz_data-in-Ok in
+    let p = err_from_is_err_and step.result step.ensures.1 in
     rw p.1 (λ is. absurd (never_unread _ _ p.2 is))
 
 pub returns-in-text-2-clause-unread : goal.returns-in-text-2-clause-unread
