@@ -312,7 +312,9 @@ typedef struct tz_parsed {
 } tz_parsed;
 
 /* Which date time a local time means. In a fold, where clocks go back: the first by TZ_COMPATIBLE and TZ_EARLIER, the last by TZ_LATER. In a gap, over
-   which they jump: as much later as they jump by TZ_COMPATIBLE and TZ_LATER, as much earlier by TZ_EARLIER. By TZ_REJECT none, TZ_NO_DATE_TIME, in both. */
+   which they jump: as much later as they jump by TZ_COMPATIBLE and TZ_LATER, as much earlier by TZ_EARLIER. By TZ_REJECT none, TZ_NO_DATE_TIME, in both.
+   If clocks show it and also jump over it: the first that they show by TZ_COMPATIBLE, the first and the last entry of `tz_find_n` by TZ_EARLIER and
+   TZ_LATER, where a jump means what it means in a gap, and none by TZ_REJECT. */
 enum { TZ_COMPATIBLE = 0, TZ_EARLIER = 1, TZ_LATER = 2, TZ_REJECT = 3 };
 
 /* ---- Local time types and rules ------------------------------------------------------------------------------------------------------- */
@@ -366,8 +368,8 @@ tz_code tz_string_read(const char *text, size_t text_length, bool is_extended, t
 /* What a setting asks for. TZ_STRING_EMPTY. */
 tz_code tz_setting_read(const char *text, size_t text_length, tz_setting *out);
 
-/* Whether a text, as one from a user, is a name of a time zone, so that a path made of a directory and the name leads to no other place than below the
-   directory, and the name means a file alone. TZ_INVALID_NAME. */
+/* Whether a text, as one from a user, is a name of a time zone: parts of ASCII letters, digits, `.`, `_`, `+` and `-`, with `/` between them, and none of
+   them `.` or `..`. So it is the path of a file below a directory of zones; whether there is one it does not say. TZ_INVALID_NAME. */
 tz_code tz_name_check(const char *name, size_t name_length);
 
 /* Checks that parts make a zone, and writes its least and greatest offset. A zone of a rule needs a type in `types`, too.
@@ -470,8 +472,8 @@ tz_code tz_column_instants(const tz_fields *fields, size_t fields_length, uint8_
 tz_code tz_utc_text(const tz_utc *utc, char *text, size_t text_length, size_t *length);
 tz_code tz_date_time_text(const tz_date_time *date_time, char *text, size_t text_length, size_t *length);
 
-/* What a text of a date time says, in the form of RFC 3339 (section 5.6), with years and offsets as these calls write them, and with or without an
-   offset: `2000-02-29T23:59:60.5+01:00`. The text is the whole, without white space at its ends. TZ_EXPECTED_... */
+/* What a text of a date time says, in the form of RFC 3339 (section 5.6) with a fraction of nine digits at most, years and offsets as these calls write
+   them, and with or without an offset: `2000-02-29T23:59:60.5+01:00`. The text is the whole, without white space at its ends. TZ_EXPECTED_... */
 tz_code tz_date_time_read(const char *text, size_t text_length, tz_parsed *out);
 
 /* What a code says, and its length: at most 128 bytes, and no zero follows them. TZ_UNKNOWN_CODE, TZ_BUFFER_LENGTH. */
