@@ -38,6 +38,11 @@ def table(columns, lines):
     return '\n'.join(f'| {" | ".join(map(str, line))} |' for line in [columns, ['---'] * len(columns), *lines])
 
 
+def filled(text, indent=''):
+    """A paragraph in lines."""
+    return textwrap.fill(text, COLUMNS, subsequent_indent=indent, break_on_hyphens=False)
+
+
 class Reasons:
     """Which reasons the rows gave in which tz is behind the best peer, and the rows that have none."""
 
@@ -57,7 +62,8 @@ class Reasons:
 
     def shown(self):
         """The reasons that were given, a line each."""
-        return '\n'.join(f'- {letter}: {reason}' for letter, reason in rows.REASONS.items() if letter in self.given)
+        return '\n'.join(filled(f'- {letter}: {reason}', '  ') for letter, reason in rows.REASONS.items()
+                         if letter in self.given)
 
 
 def of_instructions(section, kept, through, peers, reasons):
@@ -132,7 +138,7 @@ def of_versions(kept):
     text = (f'The peers are tz-rs {version["tz-rs"]}; from Debian {version["Debian"]} glibc {version["glibc"]}, Abseil {version["Abseil"]}, '
             f'cctz {version["cctz"]}, Hinnant\'s date {version["date"]}, chrono-tz {version["chrono-tz"]} and Go {version["Go"]}; and the Rattle '
             f'kit\'s port of jiff 0.2.39. {zones} {shown}')
-    return textwrap.fill(text, COLUMNS, break_on_hyphens=False)
+    return filled(text)
 
 
 def span(kept, called):
@@ -153,7 +159,8 @@ def of_readme(kept):
 def of_scaling(kept):
     """The times of more and more lines."""
     counts, spent = zip(*((name.split()[0], str(row['tz'])) for name, row in kept.rows('scaling').items()))
-    return f'Times are linear in the number of lines: {", ".join(counts)} random `T` lines over Paris take {", ".join(spent)} milliseconds.'
+    return filled(f'Times are linear in the number of lines: {", ".join(counts)} random `T` lines '
+                  f'over Paris take {", ".join(spent)} milliseconds.')
 
 
 def lines_of(files):
@@ -212,7 +219,7 @@ def put_into_readme(kept):
     marks = {begin: '<!--calls-->', end: '<!--end-->'}
     for mark, word in marks.items():
         item = item.replace(mark, word)
-    item = textwrap.fill(' '.join(item.split()), COLUMNS, subsequent_indent='  ', break_on_hyphens=False)
+    item = filled(' '.join(item.split()), '  ')
     for mark, word in marks.items():
         item = item.replace(word, mark)
     README.write_text(text[:first] + item + text[last:])

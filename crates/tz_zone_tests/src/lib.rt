@@ -11,6 +11,8 @@ mod expect;
 #[cfg(test)]
 mod files;
 #[cfg(test)]
+mod guesses;
+#[cfg(test)]
 mod leap_times;
 #[cfg(test)]
 mod looks;

@@ -126,7 +126,7 @@ fn place_in_block<V: Transitions>(view: &mut V, place: usize, unix_leap_time: i6
 /// The place at which a leap time before the last transition lies, by halving.
 ///
 /// After the first look the number of places to choose from is a power of two.
-#[inline]
+#[inline(always)]
 fn place_by_halving<V: Transitions>(view: &mut V, unix_leap_time: i64) -> usize
     requires rising { IsRising (V.list view.old) }
     requires at_least_one { 0 < length (V.list view.old) }

@@ -80,7 +80,7 @@ const fn place_in_block(view: &mut Uncounted<'_>, place: usize, unix_leap_time: 
 /// The place at which a leap time before the last transition lies, by halving.
 ///
 /// After the first look the number of places to choose from is a power of two.
-#[inline]
+#[inline(always)]
 const fn place_by_halving(view: &mut Uncounted<'_>, unix_leap_time: i64) -> usize {
     let count = view.len();
     if count == 1 {
