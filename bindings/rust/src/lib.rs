@@ -15,6 +15,8 @@ pub mod error;
 pub mod timezone;
 
 #[cfg(doctest)]
+mod guide;
+#[cfg(doctest)]
 mod refused;
 
 // The program and the C library are made over the crate's inner calls. These have conditions that only proofs check, and may change at any time.

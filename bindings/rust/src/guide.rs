@@ -1,0 +1,2 @@
+//! The code of docs/GUIDE.md.
+#![doc = include_str!("../../../docs/GUIDE.md")]
