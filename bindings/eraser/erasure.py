@@ -108,6 +108,10 @@ EXACT = {
         ("self.checked_add(duration).unwrap()", 'self.checked_add(duration).expect("attempt to add with overflow")'),
         ("self.checked_sub(duration).unwrap()", 'self.checked_sub(duration).expect("attempt to subtract with overflow")'),
     ),
+    # The public type is by hand.
+    "crates/tz_zone/src/timezone/zone_name.rt": (
+        ("(super::TimeZone::named)", "(crate::timezone::TimeZone::named)"),
+    ),
     # Rust 1.85 has no condition with a pattern beside others, and no method for this cast.
     "crates/tz_query/src/query/lines.rt": (
         (

@@ -3,7 +3,7 @@
 #![cfg_attr(not(feature = "std"), no_std)]
 #![doc = include_str!("../README.md")]
 
-// A file whose counts add up to more than a `usize` is refused by sums that the proofs know to be of 64 bits.
+// Where the proofs know it, docs/WIDTHS.md says.
 #[cfg(not(target_pointer_width = "64"))]
 compile_error!("the proofs of this crate are for a `usize` of 64 bits: docs/WIDTHS.md lists where");
 

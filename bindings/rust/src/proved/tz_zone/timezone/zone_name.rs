@@ -23,7 +23,7 @@ fn is_name_part(part: &[u8]) -> bool {
     !matches!(part, [] | [b'.'] | [b'.', b'.']) && are_name_bytes(part)
 }
 
-/// Whether the text is a name of the form that [`TimeZone::named`](super::TimeZone::named) looks
+/// Whether the text is a name of the form that [`TimeZone::named`](crate::timezone::TimeZone::named) looks
 /// for. (tz database, Timezone identifiers)
 ///
 /// A name has one part or several, with `/` between them. A part is one or more ASCII letters,
